@@ -1,0 +1,20 @@
+//! What every crate stands on: lists, text, names, limits and constants, and the bytes of words and texts.
+#![tactic(auto)]
+
+mod breach;
+mod constant;
+mod limit;
+mod memory;
+mod name;
+mod row;
+mod source_file;
+mod text;
+
+pub use breach::Breach;
+pub use constant::Const;
+pub use limit::{Limit, LimitName};
+pub use memory::OutOfMemory;
+pub use name::{DottedName, Ident};
+pub use row::Row;
+pub use source_file::SourceFile;
+pub use text::Text;
