@@ -1,0 +1,5 @@
+pub mod Data
+pub mod Default
+pub mod HasType
+pub mod Sound
+pub mod View
