@@ -1,0 +1,12 @@
+-- What a carry does to the log that a link tells.
+use Rattle.std.specs.Prelude.{◌≡◌, ℕ, List, [], ◌∷◌, Option, Result, Ok, Err, Vec}
+use Rattle.std.specs.declared.alloc.Global.{Global}
+use Rattle.aidl_outside.specs.declared.link.Way.{Way}
+use Rattle.aidl_outside.specs.declared.link.Carried.{Carried}
+use Rattle.aidl_outside.specs.declared.link.CarryFault.{CarryFault}
+use Rattle.aidl_outside.specs.Told.{Adds}
+
+-- one entry with what was sent and delivered; on a fault the log is as it was
+abbrev pub Carries : Option (List Carried) → Option (List Carried) → Way → ℕ → List ℕ → Result (Vec ℕ Global) CarryFault → Type 0
+Carries before now way code sent (Ok delivered) = Adds before now (record { way = way; code = code; sent = sent; delivered = delivered.items } ∷ [])
+Carries before now way code sent (Err fault) = now ≡ before

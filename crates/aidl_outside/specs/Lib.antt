@@ -1,0 +1,7 @@
+pub mod Carries
+pub mod Causes
+pub mod Entries
+pub mod Files
+pub mod Mem
+pub mod Told
+pub mod Writes

@@ -1,0 +1,21 @@
+//! What the program meets outside itself: a store of files, a sink of bytes and a link that carries parcels.
+#![tactic(auto)]
+
+mod failures;
+mod folder_store;
+mod link;
+mod mem_sink;
+mod mem_store;
+mod pass_link;
+mod sink;
+mod stdout_sink;
+mod store;
+
+pub use folder_store::FolderStore;
+pub use link::{Carried, CarryFault, Link, Way};
+pub use mem_sink::MemSink;
+pub use mem_store::MemStore;
+pub use pass_link::PassLink;
+pub use sink::{Sink, SinkFault};
+pub use stdout_sink::StdoutSink;
+pub use store::{Store, StoreFault};
