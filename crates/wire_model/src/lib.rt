@@ -5,8 +5,11 @@
 //! that they speak of are exported again.
 #![tactic(auto)]
 
+mod laws;
+
 pub use aidl_schema::{
     AidlType, Arg, Backing, Base, Constant, Decl, Direction, Enumerator, Field, Kind, Method,
     Schema, Shape,
 };
 pub use aidl_values::{Answer, Value};
+pub use laws::law_spelled_reads;
