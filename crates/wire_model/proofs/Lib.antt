@@ -1,7 +1,10 @@
 mod Again
+mod AgainAll
 mod AgainTexts
+mod Forms
 mod Lists
 mod OneZero
 mod Parts
 mod Sizes
+mod Sound
 mod SpelledReads

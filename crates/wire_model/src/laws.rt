@@ -1,6 +1,8 @@
-ghost use Rattle.std.specs.Prelude.{◌≤◌, length};
+ghost use Rattle.std.specs.Prelude.{◌≡◌, ◌≤◌, ◌++◌, true, List, ℕ, length};
+ghost use Rattle.aidl_schema.specs.Types.{is_type};
 ghost use Rattle.aidl_values.specs.Data.{depth_of};
 ghost use Rattle.aidl_values.specs.HasType.{HasType};
+ghost use Rattle.aidl_values.specs.Sound.{IsSound};
 ghost use Rattle.aidl_values.specs.View.{view};
 ghost use Rattle.wire_model.specs.Reads.{Reads};
 ghost use Rattle.wire_model.specs.Spell.{spell};
@@ -17,4 +19,23 @@ pub fn law_spelled_reads(schema: &Schema, ty: &AidlType, levels: usize, value: &
     ensures {
         Reads schema.now.decls levels ty.now (spell schema.now.decls ty.now (view value.now)) (view value.now)
     }
+{}
+
+/// No reading is the front of a longer one of the same type and level, and a reading is of one value.
+pub fn law_one_reading(
+    schema: &Schema,
+    ty: &AidlType,
+    levels: usize,
+    b: &[u8],
+    c: &[u8],
+    first: &Value,
+    second: &Value,
+)
+    requires sound { IsSound schema.now.decls }
+    requires known { is_type schema.now.decls ty.now ≡ true }
+    requires one { Reads schema.now.decls levels ty.now b.now (view first.now) }
+    requires two { Reads schema.now.decls levels ty.now c.now (view second.now) }
+    requires front { (rest : List ℕ) × (c.now ≡ b.now ++ rest) }
+    ensures bytes { b.now ≡ c.now }
+    ensures values { view first.now ≡ view second.now }
 {}
