@@ -8,3 +8,5 @@ mod Parts
 mod Sizes
 mod Sound
 mod SpelledReads
+mod Stopped
+mod TextForms
