@@ -1,6 +1,7 @@
 mod Again
 mod AgainAll
 mod AgainTexts
+mod Defaults
 mod Forms
 mod Lists
 mod OneZero
@@ -10,3 +11,6 @@ mod Sound
 mod SpelledReads
 mod Stopped
 mod TextForms
+mod Told
+mod ToldRecords
+mod ToldTexts
