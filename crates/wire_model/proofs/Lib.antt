@@ -14,3 +14,4 @@ mod TextForms
 mod Told
 mod ToldRecords
 mod ToldTexts
+mod ToldUnions
