@@ -57,7 +57,7 @@ unit_bytes_append : (us vs : List ℕ) → unit_bytes (us ++ vs) ≡ unit_bytes 
 unit_bytes_append [] vs = refl
 unit_bytes_append (u ∷ us) vs = ap (λ bs. to_le_bytes w16 u ++ bs) (unit_bytes_append us vs)
 
-zeros : (n : ℕ) → all_zero (replicate n 0) ≡ true
+pub zeros : (n : ℕ) → all_zero (replicate n 0) ≡ true
 zeros zero = refl
 zeros (suc n) = zeros n
 

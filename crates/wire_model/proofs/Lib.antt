@@ -6,6 +6,7 @@ mod Forms
 mod Lists
 mod OneZero
 mod Parts
+mod RawForms
 mod Sizes
 mod Sound
 mod SpelledReads
@@ -13,5 +14,6 @@ mod Stopped
 mod TextForms
 mod Told
 mod ToldRecords
+mod ToldSequences
 mod ToldTexts
 mod ToldUnions

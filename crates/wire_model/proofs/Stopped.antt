@@ -20,6 +20,7 @@ use Rattle.wire_model.proofs.Lists.{both, take_len, no_rest, all_zero_is, IsByte
 use Rattle.wire_model.proofs.Forms.{elem_is_type}
 use Rattle.wire_model.proofs.Sound.{IsWhole, field_type}
 use Rattle.wire_model.proofs.TextForms.{text_form}
+use Rattle.wire_model.proofs.RawForms.{padded_is}
 use Rattle.std.proofs.lemmas.Option.{slice_get_past}
 use Rattle.aidl_schema.specs.declared.schema.Base.{Base}
 use Rattle.wire_model.proofs.AgainAll.{again}
@@ -157,20 +158,9 @@ raw_stops n inside b s (BlockStop.wrong_block le wrong) =
     ap (λ (x : Read (List ℕ)). x >>= λ x. cond {A = Read Items} (all_zero (drop n x.0)) (Ok (raw_items (take n x.0), x.1)) (Err bad_value)) (whole_bytes (n + padding n) inside b le)
     ∙ by_test (all_zero (drop n (take (n + padding n) b))) refl
   where
-    padded : all_zero (drop n (take (n + padding n) b)) ≡ true → IsPadded n (take (n + padding n) b)
-    padded h =
-        let c = take (n + padding n) b in
-        let len : length c ≡ n + padding n = take_len (n + padding n) b le in
-        let front : length (take n c) ≡ n = take_len n c (omega arith) in
-        let tail : length (drop n c) ≡ padding (length (take n c)) = tail_len c len front in
-        sym (take-append-drop n c) ∙ ap (λ x. take n c ++ x) (all_zero_is (drop n c) h ∙ ap (λ k. replicate k 0) tail)
-      where
-        tail_len : (c : List ℕ) → length c ≡ n + padding n → length (take n c) ≡ n → length (drop n c) ≡ padding (length (take n c))
-        tail_len c len front = let whole : length (take n c) + length (drop n c) ≡ length c = sym (length-append (take n c) (drop n c)) ∙ ap length (take-append-drop n c) in let e : length (drop n c) ≡ padding n = omega arith in e ∙ ap padding (sym front)
-
     by_test : (x : Bool) → all_zero (drop n (take (n + padding n) b)) ≡ x
         → cond {A = Read Items} (all_zero (drop n (take (n + padding n) b))) (Ok (raw_items (take n (take (n + padding n) b)), drop (n + padding n) b)) (Err bad_value) ≡ Err bad_value
-    by_test true e = elim (wrong (padded e)) [ ]
+    by_test true e = elim (wrong (padded_is n (take (n + padding n) b) (take_len (n + padding n) b le) e)) [ ]
     by_test false e = rw e refl
 
 module _ (S : List Decl) (sound : IsWhole S) (left : Bool) (R : AidlType → List ℕ → Data → Type 0) (St : AidlType → List ℕ → Bool → ℤ → Type 0) (read : AidlType → Bool → List ℕ → Read Data)
