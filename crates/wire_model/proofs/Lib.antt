@@ -13,6 +13,7 @@ mod SpelledReads
 mod Stopped
 mod TextForms
 mod Told
+mod ToldAll
 mod ToldRecords
 mod ToldSequences
 mod ToldTexts

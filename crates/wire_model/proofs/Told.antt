@@ -53,10 +53,10 @@ abbrev pub Told : {A : Type 0} → (List ℕ → A → Type 0) → (ℤ → Type
 Told R St b (Ok x) = (front : List ℕ) × (b ≡ front ++ x.1) × R front x.0
 Told R St b (Err s) = St s
 
--- the same in other words
-pub told_map : {A : Type 0} (R Q : List ℕ → A → Type 0) (St Su : ℤ → Type 0) (b : List ℕ) (x : Read A) → ((front : List ℕ) (v : A) → R front v → Q front v) → ((s : ℤ) → St s → Su s) → Told R St b x → Told Q Su b x
-told_map R Q St Su b (Ok x) reads stop h = (h.0, h.1, reads h.0 x.0 h.2)
-told_map R Q St Su b (Err s) reads stop h = stop s h
+-- the same reading in other words
+pub told_as : {A : Type 0} (R Q : List ℕ → A → Type 0) (St : ℤ → Type 0) (b : List ℕ) (x : Read A) → ((front : List ℕ) (v : A) → R front v → Q front v) → Told R St b x → Told Q St b x
+told_as R Q St b (Ok x) reads h = (h.0, h.1, reads h.0 x.0 h.2)
+told_as R Q St b (Err s) reads h = h
 
 -- one step of reading after another
 pub told_then : {A B : Type 0} (R : List ℕ → A → Type 0) (Q : List ℕ → B → Type 0) (St Su : ℤ → Type 0) (b : List ℕ) (k : A × List ℕ → Read B) (x : Read A) → Told R St b x → ((s : ℤ) → St s → Su s)

@@ -18,7 +18,7 @@ use Rattle.wire_model.specs.ReadOf.{Read, ◌>>=◌, bytes_at, all_zero, raw_ite
 use Rattle.wire_model.proofs.Lists.{take_len, IsBytes, taken, bytes_rest}
 use Rattle.wire_model.proofs.Forms.{raw_form}
 use Rattle.wire_model.proofs.RawForms.{padded_is, zero_padding, bytes_of_items, count_of_items, items_typed}
-use Rattle.wire_model.proofs.Told.{Told, told_then, told_map, CountReads, count_told, head_word, tail_word, whole_head}
+use Rattle.wire_model.proofs.Told.{Told, told_then, CountReads, count_told, head_word, tail_word, whole_head}
 
 module _ (R : List ℕ → Data → Type 0) (St : List ℕ → ℤ → Type 0) (read : List ℕ → Read Data) (law : (b : List ℕ) → IsBytes b → Told R (λ s. St b s) b (read b)) where
   abbrev pub CountRead : ℕ → List ℕ → Items → Type 0
