@@ -7,6 +7,7 @@ mod Lists
 mod OneZero
 mod Parts
 mod RawForms
+mod Reading
 mod Sizes
 mod Sound
 mod SpelledReads

@@ -130,3 +130,7 @@ StopBy S left PartReads PartStops t b inside s = MatchBool (is_one t.shape)
 unfoldable pub Stop : List Decl → ℕ → AidlType → List ℕ → Bool → ℤ → Type 0
 Stop S zero t b inside s = StopBy S false (λ u front v. ⊥) (λ u rest j s. ⊥) t b inside s
 Stop S (suc d) t b inside s = StopBy S true (λ u front v. Reads S d u front v) (λ u rest j s. Stop S d u rest j s) t b inside s
+
+-- the bytes begin no reading, whatever the status
+abbrev pub Stops : List Decl → ℕ → AidlType → List ℕ → Bool → Type 0
+Stops S d t b inside = (s : ℤ) × Stop S d t b inside s
