@@ -1,6 +1,6 @@
 -- What was spelled is read again, whatever follows it.
-use Rattle.std.proofs.Common.{◌≡◌, ◌≢◌, ℕ, zero, suc, ◌+◌, ◌-◌, ◌*◌, ◌%◌, ◌^◌, ◌≤◌, ◌<◌, ℤ, pos, negsuc, Bool, true, false, cond, List, [], ◌∷◌, ◌++◌, length, take, drop, nat_lt, Some, None, ◌⊎◌, inl, inr, Ok, Err, Result, refl, sym, ap, ◌∙◌, subst, arith, length-append, append_assoc}
-use Rattle.std.specs.Int.{w8, w32, w64, to_le_bytes, from_le_bytes, cast_unsigned, cast_signed}
+use Rattle.std.proofs.Common.{◌≡◌, ℕ, ◌+◌, ◌^◌, ◌≤◌, ◌<◌, ℤ, pos, negsuc, Bool, true, false, cond, List, ◌++◌, length, nat_lt, Some, None, Ok, Err, refl, ap, ◌∙◌, arith, append_assoc}
+use Rattle.std.specs.Int.{w8, w32, w64, cast_unsigned, cast_signed}
 use Rattle.std.specs.Prelude.{FitsSigned, ◌≤ℤ◌}
 use Rattle.std.proofs.lemmas.Nat.{from_le_bytes-to_le_bytes_4, from_le_bytes-to_le_bytes_8}
 use Rattle.std.proofs.lemmas.Int.{ints, to_z-of_z}
@@ -11,7 +11,7 @@ use Rattle.wire_model.specs.ReadOf.{Read, ◌>>=◌, word_at, long_at, count_of,
 use Rattle.wire_model.specs.Status.{is_permitted, bad_value}
 use Rattle.aidl_schema.specs.Types.{Form, form_of, is_type, is_raw, is_scalar}
 use Rattle.aidl_schema.specs.Types as form
-use Rattle.aidl_schema.specs.declared.schema.Decl.{Decl}
+use Rattle.aidl_schema.specs.declared.schema.Field.{Field}
 use Rattle.aidl_schema.specs.declared.schema.AidlType.{AidlType}
 use Rattle.aidl_values.specs.Data.{Data, truth, number, Items, none, item, count}
 use Rattle.aidl_values.specs.HasType.{InRange}
@@ -77,8 +77,8 @@ long_value_again : (n : ℤ) (inside : Bool) (r : List ℕ) → FitsSigned w64 n
 unfolding long_value_at
 long_value_again n inside r fits = ap (λ (w : Read ℤ). w >>= λ x. Ok (number x.0, x.1)) (long_again n inside r fits)
 
-module _ (left : Bool) (zero_value : AidlType → Data) (read : AidlType → Bool → List ℕ → Read Data) (nullable inside : Bool) (r : List ℕ) where
-  pub number_again : (f : Form) (n : ℤ) → InRange f n → one_at left zero_value read nullable f inside (spell_number f n ++ r) ≡ Ok (number n, r)
+module _ (left : Bool) (initial : Field → Data) (read : AidlType → Bool → List ℕ → Read Data) (nullable inside : Bool) (r : List ℕ) where
+  pub number_again : (f : Form) (n : ℤ) → InRange f n → one_at left initial read nullable f inside (spell_number f n ++ r) ≡ Ok (number n, r)
   number_again form.byte n h = word_value_again form.byte n inside r (omega (arith, ints)) (byte_permitted n h)
   number_again form.char n h = word_value_again form.char n inside r (omega (arith, ints, h.0, h.1)) (char_permitted n h.0 h.1)
   number_again form.int n h = word_value_again form.int n inside r h refl
@@ -90,12 +90,12 @@ module _ (left : Bool) (zero_value : AidlType → Data) (read : AidlType → Boo
   number_again form.nothing n h = elim h [ ]
 
 -- items, each of which is read again
-pub each_again : (R : List ℕ → Data → Type 0) (read : List ℕ → Read Data) → ((b r : List ℕ) (v : Data) → R b v → read (b ++ r) ≡ Ok (v, r))
-    → (vs : Items) (b r : List ℕ) → EachReads R b vs → items_at read (count vs) (b ++ r) ≡ Ok (vs, r)
-each_again R read law none b r h = ap (λ x. Ok (none, x ++ r)) h
-each_again R read law (item v vs) b r h =
+pub each_again : (PartReads : List ℕ → Data → Type 0) (read : List ℕ → Read Data) → ((b r : List ℕ) (v : Data) → PartReads b v → read (b ++ r) ≡ Ok (v, r))
+    → (vs : Items) (b r : List ℕ) → EachReads PartReads b vs → items_at read (count vs) (b ++ r) ≡ Ok (vs, r)
+each_again PartReads read law none b r h = ap (λ x. Ok (none, x ++ r)) h
+each_again PartReads read law (item v vs) b r h =
     let next = λ (y : Read Data). y >>= λ first. items_at read (count vs) first.1 >>= λ others. Ok (item first.0 others.0, others.1) in
     let front = h.0 in
     let rest = h.1 in
     ap (λ x. next (read (x ++ r))) h.2 ∙ ap (λ x. next (read x)) (append_assoc front rest r) ∙ ap next (law front (rest ++ r) v h.3)
-    ∙ ap (λ (y : Read Items). y >>= λ others. Ok (item v others.0, others.1)) (each_again R read law vs rest r h.4)
+    ∙ ap (λ (y : Read Items). y >>= λ others. Ok (item v others.0, others.1)) (each_again PartReads read law vs rest r h.4)

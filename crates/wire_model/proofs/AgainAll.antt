@@ -1,5 +1,5 @@
 -- What is read is read again, whatever follows it: every type of a sound schema.
-use Rattle.std.proofs.Common.{◌≡◌, ◌≢◌, ℕ, zero, suc, ◌+◌, ◌-◌, ◌%◌, ◌<◌, ◌≤◌, ◌^◌, max, ℤ, pos, negsuc, Bool, true, false, not, ◌&&◌, ◌||◌, ◌==◌, nat_le, List, [], ◌∷◌, ◌++◌, length, Option, Some, None, slice_get, Ok, Result, inl, inr, refl, sym, ap, ◌∙◌, subst, arith, length-append, true≢false}
+use Rattle.std.proofs.Common.{◌≡◌, ◌≢◌, ℕ, zero, suc, ◌+◌, ◌-◌, ◌%◌, ◌<◌, ◌≤◌, ◌^◌, max, ℤ, pos, negsuc, Bool, true, false, ◌&&◌, ◌==◌, nat_le, List, [], ◌∷◌, ◌++◌, length, Option, Some, None, slice_get, Ok, Result, inl, inr, refl, sym, ap, ◌∙◌, subst, arith, length-append, true≢false}
 use Rattle.std.specs.Prelude.{MatchBool, MatchOption}
 use Rattle.std.proofs.lemmas.List.{append-nil}
 use Rattle.std.proofs.lemmas.Bool.Decides.{nat_tests}
@@ -8,13 +8,10 @@ use Rattle.aidl_base.specs.declared.constant.Const.{Const}
 use Rattle.aidl_schema.specs.declared.schema.Decl.{Decl}
 use Rattle.aidl_schema.specs.declared.schema.Field.{Field}
 use Rattle.aidl_schema.specs.declared.schema.AidlType.{AidlType}
-use Rattle.aidl_schema.specs.declared.schema.Base.{Base}
-use Rattle.aidl_schema.specs.declared.schema.Shape.{Shape}
-use Rattle.aidl_schema.specs.declared.schema.Shape.TheVariants as shape
 use Rattle.aidl_schema.specs.Types.{Form, form_of, is_one, is_raw, is_array, is_byte, is_type, is_meant, is_well_shaped, is_nullable_form, elem}
 use Rattle.aidl_schema.specs.Types as form
 use Rattle.aidl_values.specs.Data.{Data, null, truth, number, text, seq, rec, alt, Items, none, item, count, depth_of}
-use Rattle.aidl_values.specs.Default.{IsZero, AreInitial, const_value, zero_within}
+use Rattle.aidl_values.specs.Default.{IsZero, AreInitial, const_value}
 use Rattle.aidl_values.specs.HasType.{InRange, HaveType}
 use Rattle.wire_model.proofs.OneZero.{one_zero}
 use Rattle.wire_model.specs.Spell.{null_word, raw_bytes, spell_number}
@@ -83,9 +80,9 @@ reads_some S (suc d) t b (seq vs) h k = starts (pos (count vs)) h.2 b h.3 k
 reads_some S (suc d) t b (rec vs) h k = starts (pos 1) h.3 b h.4 k
 reads_some S (suc d) t b (alt k v) h e = starts (pos 1) (word (pos k) ++ h.5) b h.6 e
 
-module _ (S : List Decl) (R : AidlType → List ℕ → Data → Type 0) (read : AidlType → List ℕ → Read Data)
-    (law : (t : AidlType) (b r : List ℕ) (v : Data) → is_type S t ≡ true → R t b v → read t (b ++ r) ≡ Ok (v, r)) (some : (t : AidlType) (b : List ℕ) (v : Data) → R t b v → b ≢ []) where
-  defaults_again : (fs : List Field) (vs : Items) → AreInitial S fs vs → HaveDefaults S fs → fields_at (λ u. zero_within 33 S u) read fs [] ≡ Ok vs
+module _ (S : List Decl) (PartReads : AidlType → List ℕ → Data → Type 0) (read : AidlType → List ℕ → Read Data)
+    (law : (t : AidlType) (b r : List ℕ) (v : Data) → is_type S t ≡ true → PartReads t b v → read t (b ++ r) ≡ Ok (v, r)) (some : (t : AidlType) (b : List ℕ) (v : Data) → PartReads t b v → b ≢ []) where
+  defaults_again : (fs : List Field) (vs : Items) → AreInitial S fs vs → HaveDefaults S fs → fields_at (λ f. initial_in S f) read fs [] ≡ Ok vs
   defaults_again [] none h all = refl
   defaults_again [] (item v vs) h all = elim h [ ]
   defaults_again (f ∷ fs) none h all = elim h [ ]
@@ -93,26 +90,26 @@ module _ (S : List Decl) (R : AidlType → List ℕ → Data → Type 0) (read :
       let head : v ≡ initial_in S f = unique_initial S f.ty f.initial v (initial_in S f) h.0 all.0.0 in
       ap (λ (y : Result Items ℤ). y >>= λ others. Ok (item (initial_in S f) others)) (defaults_again fs vs h.1 all.1) ∙ ap (λ d. Ok (item d vs)) (sym head)
 
-  field_there : (f : Field) (b : List ℕ) → b ≢ [] → field_at (λ u. zero_within 33 S u) read f b ≡ read f.ty b
+  field_there : (f : Field) (b : List ℕ) → b ≢ [] → field_at (λ f. initial_in S f) read f b ≡ read f.ty b
   field_there f [] some = absurd (some refl)
   field_there f (x ∷ b) some = refl
 
-  fields_again : (fs : List Field) (vs : Items) (b : List ℕ) → FieldsRead S R fs b vs → AreTypes S fs → HaveDefaults S fs → fields_at (λ u. zero_within 33 S u) read fs b ≡ Ok vs
+  fields_again : (fs : List Field) (vs : Items) (b : List ℕ) → FieldsRead S PartReads fs b vs → AreTypes S fs → HaveDefaults S fs → fields_at (λ f. initial_in S f) read fs b ≡ Ok vs
   fields_again [] none b h types all = refl
   fields_again [] (item v vs) b h types all = elim h [ ]
   fields_again (f ∷ fs) none b h types all = elim h [ ]
-  fields_again (f ∷ fs) (item v vs) b (inl h) types all = ap (λ c. fields_at (λ u. zero_within 33 S u) read (f ∷ fs) c) h.0 ∙ defaults_again (f ∷ fs) (item v vs) h.1 all
+  fields_again (f ∷ fs) (item v vs) b (inl h) types all = ap (λ c. fields_at (λ f. initial_in S f) read (f ∷ fs) c) h.0 ∙ defaults_again (f ∷ fs) (item v vs) h.1 all
   fields_again (f ∷ fs) (item v vs) b (inr h) types all =
       let front = h.0 in
       let rest = h.1 in
       let present : b ≢ [] = λ k. some f.ty front v h.3 (no_front front rest (sym h.2 ∙ k)) in
-      let first : field_at (λ u. zero_within 33 S u) read f b ≡ Ok (v, rest) = field_there f b present ∙ ap (read f.ty) h.2 ∙ law f.ty front rest v types.0 h.3 in
-      ap (λ (y : Read Data). y >>= λ first. fields_at (λ u. zero_within 33 S u) read fs first.1 >>= λ others. Ok (item first.0 others)) first
+      let first : field_at (λ f. initial_in S f) read f b ≡ Ok (v, rest) = field_there f b present ∙ ap (read f.ty) h.2 ∙ law f.ty front rest v types.0 h.3 in
+      ap (λ (y : Read Data). y >>= λ first. fields_at (λ f. initial_in S f) read fs first.1 >>= λ others. Ok (item first.0 others)) first
       ∙ ap (λ (y : Result Items ℤ). y >>= λ others. Ok (item v others)) (fields_again fs vs rest h.4 types.1 all.1)
 
 module _ (S : List Decl) (sound : IsWhole S) where
   one : (d : ℕ) (t : AidlType) (inside : Bool) (c : List ℕ) (x : Read Data) → is_one t.shape ≡ true
-      → one_at (has_levels d) (λ u. zero_within 33 S u) (λ u j e. read_parts S d u j e) t.nullable (form_of S t.base) inside c ≡ x → read_of S d t inside c ≡ x
+      → one_at (has_levels d) (λ f. initial_in S f) (λ u j e. read_parts S d u j e) t.nullable (form_of S t.base) inside c ≡ x → read_of S d t inside c ≡ x
   one d t inside c x is h = read_of-parts S d t inside c ∙ rw is h
 
   sequence : (d : ℕ) (t : AidlType) (inside : Bool) (c : List ℕ) (x : Read Data) → is_one t.shape ≡ false
@@ -120,18 +117,18 @@ module _ (S : List Decl) (sound : IsWhole S) where
   sequence d t inside c x is h = read_of-parts S d t inside c ∙ rw is h
 
   -- null of shape one: a text, a parcelable or a union
-  null_one : (left : Bool) (z : AidlType → Data) (read : AidlType → Bool → List ℕ → Read Data) (nullable inside : Bool) (f : Form) (r : List ℕ) → is_nullable_form f ≡ true → nullable ≡ true
-      → one_at left z read nullable f inside (word (null_word f) ++ r) ≡ Ok (null, r)
+  null_one : (left : Bool) (initial : Field → Data) (read : AidlType → Bool → List ℕ → Read Data) (nullable inside : Bool) (f : Form) (r : List ℕ) → is_nullable_form f ≡ true → nullable ≡ true
+      → one_at left initial read nullable f inside (word (null_word f) ++ r) ≡ Ok (null, r)
   unfolding text_at text_block_at record_at union_at
-  null_one left z read nullable inside form.text r may is = rw is (ap (λ (c : Read (Option ℕ)). c >>= λ n. text_block_at inside n.0 n.1) (count_null inside r))
-  null_one left z read nullable inside (form.parcelable fs) r may is = rw is (ap (λ (m : Read Bool). m >>= λ m. marked_at left (λ c. body_value_at z (λ u b. read u true b) fs inside c) m.0 m.1) (marker_null inside r))
-  null_one left z read nullable inside (form.union fs) r may is = rw is (ap (λ (m : Read Bool). m >>= λ m. marked_at left (λ c. tagged_at (λ u b. read u inside b) fs inside c) m.0 m.1) (marker_null inside r))
-  null_one left z read nullable inside form.truth r may is = absurd (true≢false (sym may))
-  null_one left z read nullable inside form.byte r may is = absurd (true≢false (sym may))
-  null_one left z read nullable inside form.char r may is = absurd (true≢false (sym may))
-  null_one left z read nullable inside form.int r may is = absurd (true≢false (sym may))
-  null_one left z read nullable inside form.long r may is = absurd (true≢false (sym may))
-  null_one left z read nullable inside form.nothing r may is = absurd (true≢false (sym may))
+  null_one left initial read nullable inside form.text r may is = rw is (ap (λ (c : Read (Option ℕ)). c >>= λ n. text_block_at inside n.0 n.1) (count_null inside r))
+  null_one left initial read nullable inside (form.parcelable fs) r may is = rw is (ap (λ (m : Read Bool). m >>= λ m. marked_at left (λ c. body_value_at initial (λ u b. read u true b) fs inside c) m.0 m.1) (marker_null inside r))
+  null_one left initial read nullable inside (form.union fs) r may is = rw is (ap (λ (m : Read Bool). m >>= λ m. marked_at left (λ c. tagged_at (λ u b. read u inside b) fs inside c) m.0 m.1) (marker_null inside r))
+  null_one left initial read nullable inside form.truth r may is = absurd (true≢false (sym may))
+  null_one left initial read nullable inside form.byte r may is = absurd (true≢false (sym may))
+  null_one left initial read nullable inside form.char r may is = absurd (true≢false (sym may))
+  null_one left initial read nullable inside form.int r may is = absurd (true≢false (sym may))
+  null_one left initial read nullable inside form.long r may is = absurd (true≢false (sym may))
+  null_one left initial read nullable inside form.nothing r may is = absurd (true≢false (sym may))
 
   null_of : (d : ℕ) (t : AidlType) (inside : Bool) (b r : List ℕ) (shape_one : Bool) → is_one t.shape ≡ shape_one → is_type S t ≡ true → Reads S d t b null → read_of S d t inside (b ++ r) ≡ Ok (null, r)
   unfolding sequence_at elements_at
@@ -139,7 +136,7 @@ module _ (S : List Decl) (sound : IsWhole S) where
       let spelled : b ≡ word (null_word (form_of S t.base)) = h.1 ∙ rw is refl in
       let shaped : is_well_shaped t.shape true (form_of S t.base) ≡ true = subst (λ n. is_well_shaped t.shape n (form_of S t.base) ≡ true) h.0 (both (is_meant (form_of S t.base)) (is_well_shaped t.shape t.nullable (form_of S t.base)) type).1 in
       let may = well_one t.shape (form_of S t.base) is shaped in
-      one d t inside (b ++ r) _ is (rw spelled (null_one (has_levels d) (λ u. zero_within 33 S u) (λ u j e. read_parts S d u j e) t.nullable inside (form_of S t.base) r may h.0))
+      one d t inside (b ++ r) _ is (rw spelled (null_one (has_levels d) (λ f. initial_in S f) (λ u j e. read_parts S d u j e) t.nullable inside (form_of S t.base) r may h.0))
   null_of d t inside b r false is type h =
       let spelled : b ≡ word (negsuc 0) = h.1 ∙ rw is refl in
       let counted : count_at t.nullable inside (b ++ r) ≡ Ok (None, r) = rw (h.0, spelled) (count_null inside r) in
@@ -175,7 +172,7 @@ module _ (S : List Decl) (sound : IsWhole S) where
   unfolding sequence_at record_at body_value_at union_at tagged_at tag_at
   again d t inside null b r type h = null_of d t inside b r (is_one t.shape) refl type h
   again d t inside (truth x) b r type h = one d t inside (b ++ r) _ h.0.0 (rw (h.0.1, h.1) (truth_again x inside r))
-  again d t inside (number n) b r type h = one d t inside (b ++ r) _ h.0.0 (rw h.1 (number_again (has_levels d) (λ u. zero_within 33 S u) (λ u j e. read_parts S d u j e) t.nullable inside r (form_of S t.base) n h.0.1))
+  again d t inside (number n) b r type h = one d t inside (b ++ r) _ h.0.0 (rw h.1 (number_again (has_levels d) (λ f. initial_in S f) (λ u j e. read_parts S d u j e) t.nullable inside r (form_of S t.base) n h.0.1))
   again d t inside (text x) b r type h = one d t inside (b ++ r) _ h.0.0 (rw (h.0.1, h.2) (text_again t.nullable inside x r h.0.2 h.1))
   again zero t inside (seq vs) b r type h = elim h [ ]
   again zero t inside (rec vs) b r type h = elim h [ ]
@@ -194,12 +191,12 @@ module _ (S : List Decl) (sound : IsWhole S) where
       let whole = sound.fields t.base fs h.2 in
       let marked : marker_at t.nullable inside (b ++ r) ≡ Ok (true, rest ++ r) = rw h.4 (marker_again t.nullable inside (rest ++ r)) in
       let bodied : body_at inside (rest ++ r) ≡ Ok (inner, r) = rw h.5.1 (body_again inside inner r h.5.2 h.5.3) in
-      let read : fields_at (λ u. zero_within 33 S u) (λ u e. read_of S d u true e) fs inner ≡ Ok vs =
-          fields_again S (λ u front v. Reads S d u front v) (λ u e. read_of S d u true e) (λ u c q v type f. again d u true v c q type f) (λ u c v f. reads_some S d u c v f) fs vs inner h.5.4 whole.0 whole.1 in
+      let read : fields_at (λ f. initial_in S f) (λ u e. read_of S d u true e) fs inner ≡ Ok vs =
+      fields_again S (λ u front v. Reads S d u front v) (λ u e. read_of S d u true e) (λ u c q v type f. again d u true v c q type f) (λ u c v f. reads_some S d u c v f) fs vs inner h.5.4 whole.0 whole.1 in
       one (suc d) t inside (b ++ r) _ h.0.0
       (rw h.2
-      (ap (λ (m : Read Bool). m >>= λ m. marked_at true (λ c. body_value_at (λ u. zero_within 33 S u) (λ u e. read_of S d u true e) fs inside c) m.0 m.1) marked
-      ∙ ap (λ (y : Read (List ℕ)). y >>= λ inner. fields_at (λ u. zero_within 33 S u) (λ u e. read_of S d u true e) fs inner.0 >>= λ vs. Ok (rec vs, inner.1)) bodied
+      (ap (λ (m : Read Bool). m >>= λ m. marked_at true (λ c. body_value_at (λ f. initial_in S f) (λ u e. read_of S d u true e) fs inside c) m.0 m.1) marked
+      ∙ ap (λ (y : Read (List ℕ)). y >>= λ inner. fields_at (λ f. initial_in S f) (λ u e. read_of S d u true e) fs inner.0 >>= λ vs. Ok (rec vs, inner.1)) bodied
       ∙ ap (λ (y : Result Items ℤ). y >>= λ vs. Ok (rec vs, r)) read))
   again (suc d) t inside (alt k v) b r type h =
       let fs = h.1 in

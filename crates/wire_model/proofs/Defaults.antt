@@ -1,5 +1,5 @@
 -- The defaults of the fields that are not there.
-use Rattle.std.proofs.Common.{◌≡◌, List, [], ◌∷◌, Some, refl, ap}
+use Rattle.std.proofs.Common.{List, [], ◌∷◌}
 use Rattle.aidl_schema.specs.declared.schema.Decl.{Decl}
 use Rattle.aidl_schema.specs.declared.schema.Field.{Field}
 use Rattle.aidl_values.specs.Data.{Items, none, item}

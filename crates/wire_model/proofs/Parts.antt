@@ -1,9 +1,9 @@
 -- Reading by levels, without cases on their number.
-use Rattle.std.proofs.Common.{◌≡◌, ℕ, zero, suc, ◌+◌, ◌<◌, ◌-◌, Bool, true, false, List, Some, Ok, slice_get, refl, sym, ap, ◌∙◌, arith}
+use Rattle.std.proofs.Common.{◌≡◌, ℕ, zero, suc, ◌<◌, ◌-◌, Bool, true, false, List, Some, Ok, slice_get, refl, sym, ap, ◌∙◌, arith}
 use Rattle.aidl_schema.specs.declared.schema.Shape.TheVariants as shape
 use Rattle.aidl_schema.specs.Types.{form_of, is_one, is_raw, elem}
 use Rattle.aidl_values.specs.Data.{Data, seq, alt}
-use Rattle.aidl_values.specs.Default.{zero_within}
+use Rattle.aidl_values.specs.Sound.{initial_in}
 use Rattle.aidl_schema.specs.declared.schema.Decl.{Decl}
 use Rattle.aidl_schema.specs.declared.schema.Field.{Field}
 use Rattle.aidl_schema.specs.declared.schema.AidlType.{AidlType}
@@ -23,7 +23,7 @@ has_levels-below zero lt = absurd (omega arith)
 has_levels-below (suc d) lt = refl
 
 module _ (S : List Decl) (d : ℕ) (t : AidlType) (inside : Bool) (b : List ℕ) where
-  pub read_of-one : t.shape ≡ shape.One → one_at (has_levels d) (λ u. zero_within 33 S u) (λ u j c. read_parts S d u j c) t.nullable (form_of S t.base) inside b ≡ read_of S d t inside b
+  pub read_of-one : t.shape ≡ shape.One → one_at (has_levels d) (λ f. initial_in S f) (λ u j c. read_parts S d u j c) t.nullable (form_of S t.base) inside b ≡ read_of S d t inside b
   read_of-one is = sym (read_of-parts S d t inside b ∙ rw is)
 
   pub read_of-sequence : is_one t.shape ≡ false → sequence_at (has_levels d) (is_raw S t) t.nullable (λ c. read_parts S d (elem S t) inside c) inside b ≡ read_of S d t inside b
@@ -36,11 +36,11 @@ module _ (left raw : Bool) (read : List ℕ → Read Data) (inside : Bool) (n : 
   elements_at-items = rw (has, apart)
 
 -- a record whose marker says that it is there
-pub record_at-there : (left nullable : Bool) (zero_value : AidlType → Data) (read : AidlType → List ℕ → Read Data) (fs : List Field) (inside : Bool) (b c : List ℕ) → left ≡ true → marker_at nullable inside b ≡ Ok (true, c)
-    → record_at left nullable zero_value read fs inside b ≡ body_value_at zero_value read fs inside c
+pub record_at-there : (left nullable : Bool) (initial : Field → Data) (read : AidlType → List ℕ → Read Data) (fs : List Field) (inside : Bool) (b c : List ℕ) → left ≡ true → marker_at nullable inside b ≡ Ok (true, c)
+    → record_at left nullable initial read fs inside b ≡ body_value_at initial read fs inside c
 unfolding record_at
-record_at-there left nullable zero_value read fs inside b c has there =
-    ap (λ (m : Read Bool). m >>= λ x. marked_at left (λ e. body_value_at zero_value read fs inside e) x.0 x.1) there ∙ rw has refl
+record_at-there left nullable initial read fs inside b c has there =
+    ap (λ (m : Read Bool). m >>= λ x. marked_at left (λ e. body_value_at initial read fs inside e) x.0 x.1) there ∙ rw has refl
 
 -- a union whose tag names a field
 pub tagged_at-field : (read : AidlType → List ℕ → Read Data) (fs : List Field) (inside : Bool) (b c after : List ℕ) (k : ℕ) (f : Field) (v : Data) → tag_at inside b ≡ Ok (k, c) → slice_get fs k ≡ Some f → read f.ty c ≡ Ok (v, after)

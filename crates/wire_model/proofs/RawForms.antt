@@ -1,5 +1,5 @@
 -- Raw bytes: their padding, and the numbers that they are read as.
-use Rattle.std.proofs.Common.{◌≡◌, ℕ, zero, suc, ◌+◌, ◌<◌, ◌≤◌, ◌^◌, Bool, true, List, [], ◌∷◌, ◌++◌, length, take, drop, replicate, refl, sym, ap, ◌∙◌, subst, arith, length-append}
+use Rattle.std.proofs.Common.{◌≡◌, ℕ, suc, ◌+◌, ◌<◌, true, List, [], ◌∷◌, ◌++◌, length, take, drop, replicate, refl, sym, ap, ◌∙◌, subst, arith, length-append}
 use Rattle.std.specs.Prelude.{FitsSigned}
 use Rattle.std.specs.Int.{w8, cast_signed, cast_unsigned}
 use Rattle.std.proofs.lemmas.Int.{ints, of_z-to_z}
@@ -9,7 +9,7 @@ use Rattle.aidl_schema.specs.declared.schema.Decl.{Decl}
 use Rattle.aidl_schema.specs.declared.schema.AidlType.{AidlType}
 use Rattle.aidl_schema.specs.Types.{form_of, is_one, elem}
 use Rattle.aidl_schema.specs.Types as form
-use Rattle.aidl_values.specs.Data.{Items, none, item, count}
+use Rattle.aidl_values.specs.Data.{count}
 use Rattle.aidl_values.specs.HasType.{HaveType, InRange}
 use Rattle.wire_model.specs.Spell.{raw_bytes}
 use Rattle.wire_model.specs.Stop.{IsPadded}

@@ -1,14 +1,14 @@
 -- Spellings are whole words, and have at least one.
-use Rattle.std.proofs.Common.{◌≡◌, ℕ, zero, suc, ◌+◌, ◌-◌, ◌*◌, ◌/◌, ◌%◌, ◌≤◌, ◌<◌, ℤ, pos, Bool, true, false, cond, List, [], ◌∷◌, ◌++◌, length, slice_get, replicate, refl, sym, ap, ◌∙◌, arith, length-append}
+use Rattle.std.proofs.Common.{◌≡◌, ℕ, suc, ◌+◌, ◌*◌, ◌/◌, ◌≤◌, ℤ, pos, Bool, true, false, cond, List, [], ◌∷◌, ◌++◌, length, slice_get, refl, ap, ◌∙◌, arith, length-append}
 use Rattle.std.proofs.lemmas.List.{length-replicate}
-use Rattle.aidl_base.specs.Words.{word, long_word, pad, padding, units, unit_bytes, block}
+use Rattle.aidl_base.specs.Words.{word, pad, padding, units, unit_bytes, block}
 use Rattle.aidl_schema.specs.declared.schema.Decl.{Decl}
 use Rattle.aidl_schema.specs.declared.schema.Field.{Field}
 use Rattle.aidl_schema.specs.declared.schema.AidlType.{AidlType}
 use Rattle.aidl_schema.specs.Types.{Form, form_of, is_one, is_raw, elem, type_of_field}
 use Rattle.aidl_schema.specs.Types as form
 use Rattle.aidl_values.specs.Data.{Data, null, truth, number, text, seq, rec, alt, Items, none, item, count}
-use Rattle.wire_model.specs.Spell.{spell, spell_items, spell_fields, spell_null, spell_truth, spell_number, spell_text, raw_bytes, body, parcelable_fields, union_fields}
+use Rattle.wire_model.specs.Spell.{spell, spell_items, spell_fields, spell_number, spell_text, raw_bytes, body, parcelable_fields, union_fields}
 
 -- so many words, at least one
 abbrev pub Whole : List ℕ → Type 0

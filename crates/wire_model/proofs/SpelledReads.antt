@@ -1,18 +1,16 @@
 -- what spells a value is a reading of it.
-use Rattle.std.proofs.Common.{◌≡◌, ◌≢◌, ℕ, zero, suc, ◌+◌, ◌-◌, ◌*◌, ◌%◌, ◌^◌, ◌≤◌, ◌<◌, max, ℤ, pos, Bool, true, false, cond, List, [], ◌∷◌, ◌++◌, length, Some, Option, slice_get, refl, sym, ap, ◌∙◌, subst, inl, inr, arith, length-append}
+use Rattle.std.proofs.Common.{◌≡◌, ℕ, zero, suc, ◌+◌, ◌*◌, ◌^◌, ◌≤◌, ◌<◌, pos, Bool, true, false, cond, List, [], ◌∷◌, ◌++◌, length, slice_get, refl, ap, ◌∙◌, inr, arith, length-append}
 use Rattle.std.specs.Prelude.{MatchBool}
-use Rattle.std.proofs.lemmas.List.{append-nil}
-use Rattle.aidl_base.specs.Words.{word, pad, padding, units, unit_bytes, block}
+use Rattle.aidl_base.specs.Words.{word, pad, units, unit_bytes, block}
 use Rattle.aidl_schema.specs.declared.schema.Decl.{Decl}
 use Rattle.aidl_schema.specs.declared.schema.Field.{Field}
 use Rattle.aidl_schema.specs.declared.schema.AidlType.{AidlType}
-use Rattle.aidl_schema.specs.Types.{Form, form_of, is_one, is_raw, elem, type_of_field}
-use Rattle.aidl_schema.specs.Types as form
+use Rattle.aidl_schema.specs.Types.{is_raw, elem, type_of_field}
 use Rattle.aidl_values.specs.Data.{Data, null, truth, number, text, seq, rec, alt, Items, none, item, count, depth_of, greatest}
 use Rattle.aidl_values.specs.HasType.{HasType, HaveType, FieldsHaveType}
 use Rattle.wire_model.specs.Spell.{spell, spell_items, spell_fields, spell_text, raw_bytes, body, parcelable_fields, union_fields}
-use Rattle.wire_model.specs.Reads.{Reads, EachReads, FieldsRead, BodyReads}
-use Rattle.wire_model.proofs.Sizes.{Whole, length-word, length-pad, pad_whole, length-raw_bytes, spell_whole, spell_items_whole, spell_fields_whole}
+use Rattle.wire_model.specs.Reads.{Reads, EachReads, FieldsRead}
+use Rattle.wire_model.proofs.Sizes.{length-word, pad_whole, length-raw_bytes, spell_items_whole, spell_fields_whole}
 
 -- every value of the type whose depth is at most d and whose spelling is small enough is read from it
 Lawful : List Decl → ℕ → Type 0

@@ -1,5 +1,5 @@
 -- Where the bytes stop, reading as a function answers that status.
-use Rattle.std.proofs.Common.{◌≡◌, ◌≢◌, ℕ, zero, suc, ◌+◌, ◌-◌, ◌%◌, ◌<◌, ◌≤◌, ℤ, pos, negsuc, Bool, true, false, ◌&&◌, ◌==◌, cond, nat_lt, nat_le, List, [], ◌∷◌, ◌++◌, length, take, drop, replicate, Option, Some, None, slice_get, Ok, Err, Result, refl, sym, ap, ◌∙◌, subst, arith, append_assoc, length-append}
+use Rattle.std.proofs.Common.{◌≡◌, ◌≢◌, ℕ, zero, suc, ◌+◌, ◌-◌, ◌%◌, ◌<◌, ◌≤◌, ℤ, pos, negsuc, Bool, true, false, ◌&&◌, ◌==◌, cond, nat_lt, nat_le, List, [], ◌∷◌, ◌++◌, length, take, drop, Option, Some, slice_get, Ok, Err, Result, refl, ap, ◌∙◌, subst, arith, append_assoc}
 use Rattle.std.proofs.lemmas.Bool.{le-ltb}
 use Rattle.std.proofs.lemmas.Bool.Decides.{nat_tests}
 use Rattle.aidl_base.specs.Words.{padding}
@@ -9,14 +9,14 @@ use Rattle.aidl_schema.specs.declared.schema.AidlType.{AidlType}
 use Rattle.aidl_schema.specs.Types.{Form, form_of, is_one, is_raw, is_type, is_meant, is_well_shaped, elem}
 use Rattle.aidl_schema.specs.Types as form
 use Rattle.aidl_values.specs.Data.{Data, rec, alt, seq, Items, none, item, count}
-use Rattle.aidl_values.specs.Default.{zero_within}
+use Rattle.aidl_values.specs.Sound.{initial_in}
 use Rattle.wire_model.specs.Status.{bad_value, past, is_permitted}
 use Rattle.wire_model.specs.Reads.{Reads, EachReads}
 use Rattle.aidl_values.specs.Sound.{AreTypes}
 use Rattle.wire_model.specs.Stop.{Stop, OneStop, StopBy, first_word, after_word, Passes, WordStop, CountStop, MarkerStop, BlockStop, TextStop, block_len, IsBlock, IsPadded, ElementsStop, SequenceStop, SizeStop, RecordStop, UnionStop, FieldsThere, fields_bytes}
 use Rattle.wire_model.specs.ReadOf.{Read, ◌>>=◌, data_of_word, word_at, scalar_at, long_value_at, count_of, count_at, marker_of, marker_at, marked_at, bytes_at, text_of, ok_text, text_block_at, text_at, all_zero, raw_items, raw_at, items_at, elements_at, sequence_at, field_at, fields_at, size_of, body_at, body_value_at, record_at, ok_field, tag_of, tag_at, tagged_at, union_at, one_at, read_by, read_of}
-use Rattle.std.proofs.lemmas.List.{length-drop, take-append-drop}
-use Rattle.wire_model.proofs.Lists.{both, take_len, no_rest, all_zero_is, IsBytes, taken, dropped, bytes_rest}
+use Rattle.std.proofs.lemmas.List.{length-drop}
+use Rattle.wire_model.proofs.Lists.{both, take_len, no_rest, IsBytes, taken, dropped, bytes_rest}
 use Rattle.wire_model.proofs.Forms.{elem_is_type}
 use Rattle.wire_model.proofs.Sound.{IsWhole, field_type}
 use Rattle.wire_model.proofs.TextForms.{text_form}
@@ -74,43 +74,43 @@ pub whole_bytes : (n : ℕ) (inside : Bool) (b : List ℕ) → n ≤ length b �
 whole_bytes n inside b le = let e : nat_lt (length b) n ≡ false = le-ltb _ _ le in rw e refl
 
 -- items: so many read, and the next one stops
-items_stop : (R : List ℕ → Data → Type 0) (St : List ℕ → ℤ → Type 0) (read : List ℕ → Read Data) → ((c q : List ℕ) (v : Data) → R c v → read (c ++ q) ≡ Ok (v, q)) → ((c : List ℕ) (s : ℤ) → St c s → read c ≡ Err s)
-    → (vs : Items) (n : ℕ) (b front rest : List ℕ) (s : ℤ) → count vs < n → b ≡ front ++ rest → EachReads R front vs → St rest s → items_at read n b ≡ Err s
-items_stop R St read law stop vs zero b front rest s lt e each h = absurd (omega arith)
-items_stop R St read law stop none (suc n) b front rest s lt e each h =
+items_stop : (PartReads : List ℕ → Data → Type 0) (PartStops : List ℕ → ℤ → Type 0) (read : List ℕ → Read Data) → ((c q : List ℕ) (v : Data) → PartReads c v → read (c ++ q) ≡ Ok (v, q)) → ((c : List ℕ) (s : ℤ) → PartStops c s → read c ≡ Err s)
+    → (vs : Items) (n : ℕ) (b front rest : List ℕ) (s : ℤ) → count vs < n → b ≡ front ++ rest → EachReads PartReads front vs → PartStops rest s → items_at read n b ≡ Err s
+items_stop PartReads PartStops read law stop vs zero b front rest s lt e each h = absurd (omega arith)
+items_stop PartReads PartStops read law stop none (suc n) b front rest s lt e each h =
     let at : b ≡ rest = e ∙ ap (λ x. x ++ rest) each in
     ap (λ (y : Read Data). y >>= λ first. items_at read n first.1 >>= λ others. Ok (item first.0 others.0, others.1)) (ap read at ∙ stop rest s h)
-items_stop R St read law stop (item v vs) (suc n) b front rest s lt e each h =
+items_stop PartReads PartStops read law stop (item v vs) (suc n) b front rest s lt e each h =
     let one = each.0 in
     let more = each.1 in
     let at : b ≡ one ++ (more ++ rest) = e ∙ ap (λ x. x ++ rest) each.2 ∙ append_assoc one more rest in
     ap (λ (y : Read Data). y >>= λ first. items_at read n first.1 >>= λ others. Ok (item first.0 others.0, others.1)) (ap read at ∙ law one (more ++ rest) v each.3)
-    ∙ ap (λ (y : Read Items). y >>= λ others. Ok (item v others.0, others.1)) (items_stop R St read law stop vs n (more ++ rest) more rest s (omega arith) refl each.4 h)
+    ∙ ap (λ (y : Read Items). y >>= λ others. Ok (item v others.0, others.1)) (items_stop PartReads PartStops read law stop vs n (more ++ rest) more rest s (omega arith) refl each.4 h)
 
-field_is : (z : AidlType → Data) (read : AidlType → List ℕ → Read Data) (g : Field) (c : List ℕ) → c ≢ [] → field_at z read g c ≡ read g.ty c
-field_is z read g [] some = absurd (some refl)
-field_is z read g (x ∷ c) some = refl
+field_is : (initial : Field → Data) (read : AidlType → List ℕ → Read Data) (g : Field) (c : List ℕ) → c ≢ [] → field_at initial read g c ≡ read g.ty c
+field_is initial read g [] some = absurd (some refl)
+field_is initial read g (x ∷ c) some = refl
 
 -- fields: so many there, something left, and the next one stops
-fields_stop : (S : List Decl) (z : AidlType → Data) (R : AidlType → List ℕ → Data → Type 0) (read : AidlType → List ℕ → Read Data) (law : (t : AidlType) (c q : List ℕ) (v : Data) → is_type S t ≡ true → R t c v → read t (c ++ q) ≡ Ok (v, q))
-    → (fs : List Field) (i : ℕ) (f : Field) (vs : Items) (b front rest : List ℕ) (s : ℤ) → AreTypes S fs → slice_get fs i ≡ Some f → b ≡ front ++ rest → FieldsThere R (take i fs) front vs → rest ≢ [] → read f.ty rest ≡ Err s
-    → fields_at z read fs b ≡ Err s
-fields_stop S z R read law [] i f vs b front rest s types at e there some h = absurd cc
-fields_stop S z R read law (g ∷ fs) zero f none b front rest s types at e there some h =
+fields_stop : (S : List Decl) (initial : Field → Data) (PartReads : AidlType → List ℕ → Data → Type 0) (read : AidlType → List ℕ → Read Data) (law : (t : AidlType) (c q : List ℕ) (v : Data) → is_type S t ≡ true → PartReads t c v → read t (c ++ q) ≡ Ok (v, q))
+    → (fs : List Field) (i : ℕ) (f : Field) (vs : Items) (b front rest : List ℕ) (s : ℤ) → AreTypes S fs → slice_get fs i ≡ Some f → b ≡ front ++ rest → FieldsThere PartReads (take i fs) front vs → rest ≢ [] → read f.ty rest ≡ Err s
+    → fields_at initial read fs b ≡ Err s
+fields_stop S initial PartReads read law [] i f vs b front rest s types at e there some h = absurd cc
+fields_stop S initial PartReads read law (g ∷ fs) zero f none b front rest s types at e there some h =
     let is : g ≡ f = cc in
     let left : b ≡ rest = e ∙ ap (λ x. x ++ rest) there in
-    let stops : field_at z read g b ≡ Err s = ap (field_at z read g) left ∙ field_is z read g rest some ∙ ap (λ x. read x.ty rest) is ∙ h in
-    ap (λ (y : Read Data). y >>= λ first. fields_at z read fs first.1 >>= λ others. Ok (item first.0 others)) stops
-fields_stop S z R read law (g ∷ fs) zero f (item v vs) b front rest s types at e there some h = elim there [ ]
-fields_stop S z R read law (g ∷ fs) (suc i) f none b front rest s types at e there some h = elim there [ ]
-fields_stop S z R read law (g ∷ fs) (suc i) f (item v vs) b front rest s types at e there some h =
+    let stops : field_at initial read g b ≡ Err s = ap (field_at initial read g) left ∙ field_is initial read g rest some ∙ ap (λ x. read x.ty rest) is ∙ h in
+    ap (λ (y : Read Data). y >>= λ first. fields_at initial read fs first.1 >>= λ others. Ok (item first.0 others)) stops
+fields_stop S initial PartReads read law (g ∷ fs) zero f (item v vs) b front rest s types at e there some h = elim there [ ]
+fields_stop S initial PartReads read law (g ∷ fs) (suc i) f none b front rest s types at e there some h = elim there [ ]
+fields_stop S initial PartReads read law (g ∷ fs) (suc i) f (item v vs) b front rest s types at e there some h =
     let one = there.0 in
     let more = there.1 in
     let left : b ≡ one ++ (more ++ rest) = e ∙ ap (λ x. x ++ rest) there.2 ∙ append_assoc one more rest in
     let present : one ++ (more ++ rest) ≢ [] = λ k. some (no_rest more rest (no_rest one (more ++ rest) k)) in
-    let first : field_at z read g b ≡ Ok (v, more ++ rest) = ap (field_at z read g) left ∙ field_is z read g (one ++ (more ++ rest)) present ∙ law g.ty one (more ++ rest) v types.0 there.3 in
-    ap (λ (y : Read Data). y >>= λ first. fields_at z read fs first.1 >>= λ others. Ok (item first.0 others)) first
-    ∙ ap (λ (y : Result Items ℤ). y >>= λ others. Ok (item v others)) (fields_stop S z R read law fs i f vs (more ++ rest) more rest s types.1 at refl there.4 some h)
+    let first : field_at initial read g b ≡ Ok (v, more ++ rest) = ap (field_at initial read g) left ∙ field_is initial read g (one ++ (more ++ rest)) present ∙ law g.ty one (more ++ rest) v types.0 there.3 in
+    ap (λ (y : Read Data). y >>= λ first. fields_at initial read fs first.1 >>= λ others. Ok (item first.0 others)) first
+    ∙ ap (λ (y : Result Items ℤ). y >>= λ others. Ok (item v others)) (fields_stop S initial PartReads read law fs i f vs (more ++ rest) more rest s types.1 at refl there.4 some h)
 
 -- a size word
 no_size : (w : ℤ) → ((z : ℕ) → w ≡ pos z → 4 ≤ z → z % 4 ≡ 0 → ⊥) → size_of w ≡ Err bad_value
@@ -163,36 +163,35 @@ raw_stops n inside b s (BlockStop.wrong_block le wrong) =
     by_test true e = elim (wrong (padded_is n (take (n + padding n) b) (take_len (n + padding n) b le) e)) [ ]
     by_test false e = rw e refl
 
-module _ (S : List Decl) (sound : IsWhole S) (left : Bool) (R : AidlType → List ℕ → Data → Type 0) (St : AidlType → List ℕ → Bool → ℤ → Type 0) (read : AidlType → Bool → List ℕ → Read Data)
-    (law : (t : AidlType) (j : Bool) (c q : List ℕ) (v : Data) → is_type S t ≡ true → R t c v → read t j (c ++ q) ≡ Ok (v, q))
-    (stop : (t : AidlType) (j : Bool) (c : List ℕ) (s : ℤ) → is_type S t ≡ true → IsBytes c → St t c j s → read t j c ≡ Err s) where
-
+module _ (S : List Decl) (sound : IsWhole S) (left : Bool) (PartReads : AidlType → List ℕ → Data → Type 0) (PartStops : AidlType → List ℕ → Bool → ℤ → Type 0) (read : AidlType → Bool → List ℕ → Read Data)
+    (law : (t : AidlType) (j : Bool) (c q : List ℕ) (v : Data) → is_type S t ≡ true → PartReads t c v → read t j (c ++ q) ≡ Ok (v, q))
+    (stop : (t : AidlType) (j : Bool) (c : List ℕ) (s : ℤ) → is_type S t ≡ true → IsBytes c → PartStops t c j s → read t j c ≡ Err s) where
   bytes_after : (front rest b : List ℕ) → b ≡ front ++ rest → IsBytes b → IsBytes rest
   bytes_after front rest b e bytes = bytes_rest front rest (subst IsBytes e bytes)
 
-  record_stops : (nullable inside : Bool) (fs : List Field) (base : Base) (b : List ℕ) (s : ℤ) → form_of S base ≡ form.parcelable fs → IsBytes b → RecordStop left nullable fs R St b inside s
-      → record_at left nullable (λ u. zero_within 33 S u) (λ u c. read u true c) fs inside b ≡ Err s
+  record_stops : (nullable inside : Bool) (fs : List Field) (base : Base) (b : List ℕ) (s : ℤ) → form_of S base ≡ form.parcelable fs → IsBytes b → RecordStop left nullable fs PartReads PartStops b inside s
+      → record_at left nullable (λ f. initial_in S f) (λ u c. read u true c) fs inside b ≡ Err s
   unfolding record_at body_value_at body_at
   record_stops nullable inside fs base b s is bytes (RecordStop.at_marker h) =
-      ap (λ (m : Read Bool). m >>= λ m. marked_at left (λ c. body_value_at (λ u. zero_within 33 S u) (λ u c. read u true c) fs inside c) m.0 m.1) (marker_stops nullable inside b s h)
+      ap (λ (m : Read Bool). m >>= λ m. marked_at left (λ c. body_value_at (λ f. initial_in S f) (λ u c. read u true c) fs inside c) m.0 m.1) (marker_stops nullable inside b s h)
   record_stops nullable inside fs base b s is bytes (RecordStop.too_deep le e no_left st) =
-      ap (λ (m : Read Bool). m >>= λ m. marked_at left (λ c. body_value_at (λ u. zero_within 33 S u) (λ u c. read u true c) fs inside c) m.0 m.1) (marked nullable inside b le e) ∙ rw (no_left, st) refl
+      ap (λ (m : Read Bool). m >>= λ m. marked_at left (λ c. body_value_at (λ f. initial_in S f) (λ u c. read u true c) fs inside c) m.0 m.1) (marked nullable inside b le e) ∙ rw (no_left, st) refl
   record_stops nullable inside fs base b s is bytes (RecordStop.at_size le e has h) =
-      ap (λ (m : Read Bool). m >>= λ m. marked_at left (λ c. body_value_at (λ u. zero_within 33 S u) (λ u c. read u true c) fs inside c) m.0 m.1) (marked nullable inside b le e)
-      ∙ rw has (ap (λ (y : Read (List ℕ)). y >>= λ inner. fields_at (λ u. zero_within 33 S u) (λ u c. read u true c) fs inner.0 >>= λ vs. Ok (rec vs, inner.1)) (size_stops inside (after_word b) s h))
+      ap (λ (m : Read Bool). m >>= λ m. marked_at left (λ c. body_value_at (λ f. initial_in S f) (λ u c. read u true c) fs inside c) m.0 m.1) (marked nullable inside b le e)
+      ∙ rw has (ap (λ (y : Read (List ℕ)). y >>= λ inner. fields_at (λ f. initial_in S f) (λ u c. read u true c) fs inner.0 >>= λ vs. Ok (rec vs, inner.1)) (size_stops inside (after_word b) s h))
   record_stops nullable inside fs base b s is bytes (RecordStop.at_field le e has le' z ze four rem within i f at vs front rest split there some st) =
       let aw = after_word b in
       let size : body_at inside aw ≡ Ok (fields_bytes z aw, drop (z - 4) (after_word aw)) =
-          ap (λ (w : Read ℤ). w >>= λ w. size_of w.0 >>= λ z. bytes_at (z - 4) inside w.1) (whole_word inside aw le')
-          ∙ ap (λ (z : Result ℕ ℤ). z >>= λ z. bytes_at (z - 4) inside (after_word aw)) (ap size_of ze ∙ a_size z four rem)
-          ∙ whole_bytes (z - 4) inside (after_word aw) (omega (arith, after_len aw le')) in
+      ap (λ (w : Read ℤ). w >>= λ w. size_of w.0 >>= λ z. bytes_at (z - 4) inside w.1) (whole_word inside aw le')
+      ∙ ap (λ (z : Result ℕ ℤ). z >>= λ z. bytes_at (z - 4) inside (after_word aw)) (ap size_of ze ∙ a_size z four rem)
+      ∙ whole_bytes (z - 4) inside (after_word aw) (omega (arith, after_len aw le')) in
       let inner_bytes : IsBytes (fields_bytes z aw) = taken (z - 4) (after_word aw) (dropped 4 aw (dropped 4 b bytes)) in
       let types = (sound.fields base fs is).0 in
       let stopped : read f.ty true rest ≡ Err s = stop f.ty true rest s (field_type S fs i f types at) (bytes_after front rest (fields_bytes z aw) split inner_bytes) st in
-      let all : fields_at (λ u. zero_within 33 S u) (λ u c. read u true c) fs (fields_bytes z aw) ≡ Err s =
-          fields_stop S (λ u. zero_within 33 S u) R (λ u c. read u true c) (λ t c q v type h. law t true c q v type h) fs i f vs (fields_bytes z aw) front rest s types at split there some stopped in
-      ap (λ (m : Read Bool). m >>= λ m. marked_at left (λ c. body_value_at (λ u. zero_within 33 S u) (λ u c. read u true c) fs inside c) m.0 m.1) (marked nullable inside b le e)
-      ∙ rw has (ap (λ (y : Read (List ℕ)). y >>= λ inner. fields_at (λ u. zero_within 33 S u) (λ u c. read u true c) fs inner.0 >>= λ vs. Ok (rec vs, inner.1)) size
+      let all : fields_at (λ f. initial_in S f) (λ u c. read u true c) fs (fields_bytes z aw) ≡ Err s =
+      fields_stop S (λ f. initial_in S f) PartReads (λ u c. read u true c) (λ t c q v type h. law t true c q v type h) fs i f vs (fields_bytes z aw) front rest s types at split there some stopped in
+      ap (λ (m : Read Bool). m >>= λ m. marked_at left (λ c. body_value_at (λ f. initial_in S f) (λ u c. read u true c) fs inside c) m.0 m.1) (marked nullable inside b le e)
+      ∙ rw has (ap (λ (y : Read (List ℕ)). y >>= λ inner. fields_at (λ f. initial_in S f) (λ u c. read u true c) fs inner.0 >>= λ vs. Ok (rec vs, inner.1)) size
       ∙ ap (λ (y : Result Items ℤ). y >>= λ vs. Ok (rec vs, drop (z - 4) (after_word aw))) all)
 
   abbrev tag_word : Read ℤ → Read ℕ
@@ -201,7 +200,7 @@ module _ (S : List Decl) (sound : IsWhole S) (left : Bool) (R : AidlType → Lis
   abbrev by_tag : Bool → List Field → Read ℕ → Read Data
   by_tag inside fs x = x >>= λ k. ok_field (slice_get fs k.0) >>= λ f. read f.ty inside k.1 >>= λ v. Ok (alt k.0 v.0, v.1)
 
-  union_stops : (nullable inside : Bool) (fs : List Field) (base : Base) (b : List ℕ) (s : ℤ) → form_of S base ≡ form.union fs → IsBytes b → UnionStop left nullable fs St b inside s
+  union_stops : (nullable inside : Bool) (fs : List Field) (base : Base) (b : List ℕ) (s : ℤ) → form_of S base ≡ form.union fs → IsBytes b → UnionStop left nullable fs PartStops b inside s
       → union_at left nullable (λ u c. read u inside c) fs inside b ≡ Err s
   unfolding union_at tagged_at tag_at
   union_stops nullable inside fs base b s is bytes (UnionStop.at_marker h) =
@@ -227,7 +226,7 @@ module _ (S : List Decl) (sound : IsWhole S) (left : Bool) (R : AidlType → Lis
       ∙ rw has (ap (λ (w : Read ℤ). by_tag inside fs (tag_word w)) (whole_word inside (after_word b) le')
       ∙ rw (te, at, stopped) refl)
 
-  sequence_stops : (t : AidlType) (inside : Bool) (b : List ℕ) (s : ℤ) → is_type S (elem S t) ≡ true → IsBytes b → SequenceStop left (is_raw S t) t.nullable (R (elem S t)) (λ rest s. St (elem S t) rest inside s) b inside s
+  sequence_stops : (t : AidlType) (inside : Bool) (b : List ℕ) (s : ℤ) → is_type S (elem S t) ≡ true → IsBytes b → SequenceStop left (is_raw S t) t.nullable (PartReads (elem S t)) (λ rest s. PartStops (elem S t) rest inside s) b inside s
       → sequence_at left (is_raw S t) t.nullable (λ c. read (elem S t) inside c) inside b ≡ Err s
   unfolding sequence_at elements_at
   sequence_stops t inside b s type bytes (SequenceStop.at_count h) =
@@ -242,9 +241,9 @@ module _ (S : List Decl) (sound : IsWhole S) (left : Bool) (R : AidlType → Lis
       let stopped : read (elem S t) inside rest ≡ Err s = stop (elem S t) inside rest s type (bytes_after front rest aw split (dropped 4 b bytes)) st in
       ap (λ (c : Read (Option ℕ)). c >>= λ n. elements_at left (is_raw S t) (λ c. read (elem S t) inside c) inside n.0 n.1) (counted t.nullable inside b n le e)
       ∙ rw (has, raw) (ap (λ (y : Read Items). y >>= λ vs. Ok (seq vs.0, vs.1))
-      (items_stop (R (elem S t)) (λ c s. read (elem S t) inside c ≡ Err s) (λ c. read (elem S t) inside c) (λ c q v h. law (elem S t) inside c q v type h) (λ c s h. h) vs n aw front rest s lt split each stopped))
+      (items_stop (PartReads (elem S t)) (λ c s. read (elem S t) inside c ≡ Err s) (λ c. read (elem S t) inside c) (λ c q v h. law (elem S t) inside c q v type h) (λ c s h. h) vs n aw front rest s lt split each stopped))
 
-  one_stops : (nullable inside : Bool) (base : Base) (f : Form) (b : List ℕ) (s : ℤ) → form_of S base ≡ f → IsBytes b → OneStop left R St nullable f b inside s → one_at left (λ u. zero_within 33 S u) read nullable f inside b ≡ Err s
+  one_stops : (nullable inside : Bool) (base : Base) (f : Form) (b : List ℕ) (s : ℤ) → form_of S base ≡ f → IsBytes b → OneStop left PartReads PartStops nullable f b inside s → one_at left (λ f. initial_in S f) read nullable f inside b ≡ Err s
   unfolding long_value_at
   one_stops nullable inside base form.truth b s is bytes h = scalar_stops form.truth inside b s h
   one_stops nullable inside base form.byte b s is bytes h = scalar_stops form.byte inside b s h
@@ -256,12 +255,12 @@ module _ (S : List Decl) (sound : IsWhole S) (left : Bool) (R : AidlType → Lis
   one_stops nullable inside base (form.union fs) b s is bytes h = union_stops nullable inside fs base b s is bytes h
   one_stops nullable inside base form.nothing b s is bytes h = elim h [ ]
 
-  by_stops : (t : AidlType) (inside : Bool) (b : List ℕ) (s : ℤ) (single : Bool) → is_one t.shape ≡ single → is_type S t ≡ true → IsBytes b → StopBy S left R St t b inside s → read_by S left read t inside b ≡ Err s
+  by_stops : (t : AidlType) (inside : Bool) (b : List ℕ) (s : ℤ) (single : Bool) → is_one t.shape ≡ single → is_type S t ≡ true → IsBytes b → StopBy S left PartReads PartStops t b inside s → read_by S left read t inside b ≡ Err s
   by_stops t inside b s true is type bytes h =
-      let one : OneStop left R St t.nullable (form_of S t.base) b inside s = rw is at h in
+      let one : OneStop left PartReads PartStops t.nullable (form_of S t.base) b inside s = rw is at h in
       rw is (one_stops t.nullable inside t.base (form_of S t.base) b s refl bytes one)
   by_stops t inside b s false is type bytes h =
-      let many : SequenceStop left (is_raw S t) t.nullable (R (elem S t)) (λ rest s. St (elem S t) rest inside s) b inside s = rw is at h in
+      let many : SequenceStop left (is_raw S t) t.nullable (PartReads (elem S t)) (λ rest s. PartStops (elem S t) rest inside s) b inside s = rw is at h in
       let elem_is = elem_is_type S t type in
       rw is (sequence_stops t inside b s elem_is bytes many)
 

@@ -1,5 +1,5 @@
 -- A block of which a text is read is the block of that text.
-use Rattle.std.proofs.Common.{◌≡◌, ℕ, zero, suc, ◌+◌, ◌-◌, ◌*◌, ◌/◌, ◌%◌, ◌^◌, ◌≤◌, ◌<◌, ℤ, Ok, Err, Bool, true, false, not, ◌&&◌, ◌||◌, List, [], ◌∷◌, ◌++◌, length, take, drop, replicate, nat_lt, nat_le, Some, None, Option, refl, sym, ap, ◌∙◌, subst, arith, length-append, true≢false}
+use Rattle.std.proofs.Common.{◌≡◌, ℕ, zero, suc, ◌+◌, ◌-◌, ◌*◌, ◌/◌, ◌%◌, ◌^◌, ◌≤◌, ◌<◌, Bool, true, false, not, ◌&&◌, ◌||◌, List, [], ◌∷◌, ◌++◌, length, take, drop, replicate, nat_lt, nat_le, Some, None, Option, refl, sym, ap, ◌∙◌, subst, arith, length-append, true≢false}
 use Rattle.std.specs.List.{list_any}
 use Rattle.std.specs.Option.{is_some}
 use Rattle.std.specs.Int.{w16, to_le_bytes, from_le_bytes}
@@ -122,10 +122,13 @@ module _ (n : ℕ) (b : List ℕ) (bytes : IsBytes b) (len : length b ≡ block_
       let head : unit_bytes (units x) ≡ take (2 * n) b = ap unit_bytes text.2 ∙ even.0 in
       let size : length (unit_bytes (units x ++ 0 ∷ [])) ≡ 2 * (n + 1) = omega (arith, length-unit_bytes (units x ++ 0 ∷ []), length-append (units x) (0 ∷ [])) in
       let rest_len : length (drop (2 * n) b) ≡ suc (suc (padding (2 * (n + 1)))) = tail_len (length (drop (2 * n) b)) (sym (length-append (take (2 * n) b) (drop (2 * n) b)) ∙ ap length (take-append-drop (2 * n) b)) in
-      let rest : drop (2 * n) b ≡ 0 ∷ (0 ∷ replicate (padding (2 * (n + 1))) 0) = all_zero_is (drop (2 * n) b) zero_tail ∙ ap (λ k. replicate k 0) rest_len in
-      (x, text.1, count,
-      sym (take-append-drop (2 * n) b) ∙ ap (λ r. take (2 * n) b ++ r) rest ∙ ap (λ h. h ++ (0 ∷ (0 ∷ replicate (padding (2 * (n + 1))) 0))) (sym head)
-      ∙ ap (λ k. unit_bytes (units x) ++ (0 ∷ (0 ∷ replicate (padding k) 0))) (sym size) ∙ sym (block_is x))
+      let rest : drop (2 * n) b ≡ 0 ∷ (0 ∷ replicate (padding (2 * (n + 1))) 0) = all_zero_is (drop (2 * n) b) zero_tail ∙ ap (λ k. replicate k 0) rest_len in (
+        x,
+        text.1,
+        count,
+        sym (take-append-drop (2 * n) b) ∙ ap (λ r. take (2 * n) b ++ r) rest ∙ ap (λ h. h ++ (0 ∷ (0 ∷ replicate (padding (2 * (n + 1))) 0))) (sym head)
+            ∙ ap (λ k. unit_bytes (units x) ++ (0 ∷ (0 ∷ replicate (padding k) 0))) (sym size) ∙ sym (block_is x),
+      )
     where
       tail_len : (m : ℕ) → length (take (2 * n) b) + m ≡ length b → m ≡ suc (suc (padding (2 * (n + 1))))
       tail_len m e = let f = front_len in omega arith

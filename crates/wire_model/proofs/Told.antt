@@ -1,15 +1,15 @@
 -- What reading as a function answers is a reading, or a stop.
-use Rattle.std.proofs.Common.{◌≡◌, ◌≢◌, ℕ, zero, suc, ◌+◌, ◌-◌, ◌*◌, ◌<◌, ◌≤◌, ◌^◌, ℤ, pos, negsuc, Bool, true, false, cond, List, [], ◌∷◌, ◌++◌, length, take, drop, get_or, nat_lt, Option, Some, None, Ok, Err, Result, refl, sym, ap, ◌∙◌, subst, arith, append_assoc, true≢false, length-take, length-drop, length-append}
+use Rattle.std.proofs.Common.{◌≡◌, ℕ, zero, suc, ◌<◌, ◌≤◌, ◌^◌, ℤ, pos, negsuc, Bool, true, false, List, ◌++◌, length, take, drop, nat_lt, Option, Some, None, Ok, Err, refl, sym, ap, ◌∙◌, arith, length-take, length-append}
 use Rattle.std.specs.Prelude.{FitsSigned}
-use Rattle.std.specs.Int.{w8, w32, w64, to_le_bytes, from_le_bytes, cast_unsigned, cast_signed}
-use Rattle.std.proofs.lemmas.Bool.{le-ltb, ltb-true, ltb-false}
+use Rattle.std.specs.Int.{w32, w64, to_le_bytes, from_le_bytes, cast_signed}
+use Rattle.std.proofs.lemmas.Bool.{ltb-true, ltb-false}
 use Rattle.std.proofs.lemmas.Int.{ints, of_z-to_z}
-use Rattle.std.proofs.lemmas.List.{take-append-drop, get_or-take}
+use Rattle.std.proofs.lemmas.List.{take-append-drop}
 use Rattle.std.proofs.lemmas.Nat.{le_bytes_4, le_bytes_8}
 use Rattle.aidl_base.specs.Words.{word, word_of, long_word, long_of}
 use Rattle.aidl_schema.specs.Types.{Form}
 use Rattle.aidl_values.specs.Data.{Data, number}
-use Rattle.wire_model.specs.Status.{is_permitted, past, bad_value}
+use Rattle.wire_model.specs.Status.{is_permitted}
 use Rattle.wire_model.specs.Stop.{first_word, after_word, WordStop, Passes, CountStop, MarkerStop}
 use Rattle.wire_model.specs.ReadOf.{Read, ◌>>=◌, data_of_word, scalar_at, long_value_at, count_of, count_at, marker_of, marker_at}
 use Rattle.wire_model.proofs.Lists.{IsBytes, taken}
@@ -50,29 +50,29 @@ module _ (b : List ℕ) (bytes : IsBytes b) where
 
 -- what was read is a reading of the front; a status is that of a stop
 abbrev pub Told : {A : Type 0} → (List ℕ → A → Type 0) → (ℤ → Type 0) → List ℕ → Read A → Type 0
-Told R St b (Ok x) = (front : List ℕ) × (b ≡ front ++ x.1) × R front x.0
-Told R St b (Err s) = St s
+Told IsRead IsStop b (Ok x) = (front : List ℕ) × (b ≡ front ++ x.1) × IsRead front x.0
+Told IsRead IsStop b (Err s) = IsStop s
 
 -- the same reading in other words
-pub told_as : {A : Type 0} (R Q : List ℕ → A → Type 0) (St : ℤ → Type 0) (b : List ℕ) (x : Read A) → ((front : List ℕ) (v : A) → R front v → Q front v) → Told R St b x → Told Q St b x
-told_as R Q St b (Ok x) reads h = (h.0, h.1, reads h.0 x.0 h.2)
-told_as R Q St b (Err s) reads h = h
+pub told_as : {A : Type 0} (One Other : List ℕ → A → Type 0) (IsStop : ℤ → Type 0) (b : List ℕ) (x : Read A) → ((front : List ℕ) (v : A) → One front v → Other front v) → Told One IsStop b x → Told Other IsStop b x
+told_as One Other IsStop b (Ok x) reads h = (h.0, h.1, reads h.0 x.0 h.2)
+told_as One Other IsStop b (Err s) reads h = h
 
 -- one step of reading after another
-pub told_then : {A B : Type 0} (R : List ℕ → A → Type 0) (Q : List ℕ → B → Type 0) (St Su : ℤ → Type 0) (b : List ℕ) (k : A × List ℕ → Read B) (x : Read A) → Told R St b x → ((s : ℤ) → St s → Su s)
-    → ((v : A) (front rest : List ℕ) → b ≡ front ++ rest → R front v → Told Q Su b (k (v, rest))) → Told Q Su b (x >>= k)
-told_then R Q St Su b k (Ok x) h stop next = next x.0 h.0 x.1 h.1 h.2
-told_then R Q St Su b k (Err s) h stop next = stop s h
+pub told_then : {A B : Type 0} (First : List ℕ → A → Type 0) (Next : List ℕ → B → Type 0) (FirstStops NextStops : ℤ → Type 0) (b : List ℕ) (k : A × List ℕ → Read B) (x : Read A) → Told First FirstStops b x → ((s : ℤ) → FirstStops s → NextStops s)
+    → ((v : A) (front rest : List ℕ) → b ≡ front ++ rest → First front v → Told Next NextStops b (k (v, rest))) → Told Next NextStops b (x >>= k)
+told_then First Next FirstStops NextStops b k (Ok x) h stop next = next x.0 h.0 x.1 h.1 h.2
+told_then First Next FirstStops NextStops b k (Err s) h stop next = stop s h
 
-module _ (R : List ℕ → Data → Type 0) (f : Form) (inside : Bool) (b : List ℕ) where
-  pub word_told : (is_permitted f (word_of (take 4 b)) ≡ true → 4 ≤ length b → R (take 4 b) (data_of_word f (word_of (take 4 b)))) → (short may : Bool) → nat_lt (length b) 4 ≡ short → is_permitted f (word_of (take 4 b)) ≡ may
-      → Told R (λ s. WordStop f b inside s) b (scalar_at f inside b)
+module _ (IsRead : List ℕ → Data → Type 0) (f : Form) (inside : Bool) (b : List ℕ) where
+  pub word_told : (is_permitted f (word_of (take 4 b)) ≡ true → 4 ≤ length b → IsRead (take 4 b) (data_of_word f (word_of (take 4 b)))) → (short may : Bool) → nat_lt (length b) 4 ≡ short → is_permitted f (word_of (take 4 b)) ≡ may
+      → Told IsRead (λ s. WordStop f b inside s) b (scalar_at f inside b)
   unfolding scalar_at
   word_told reads true may e g = rw e (WordStop.short (ltb-true _ _ e))
   word_told reads false true e g = let le : 4 ≤ length b = ltb-false _ _ e in rw (e, g) (take 4 b, sym (take-append-drop 4 b), reads g le)
   word_told reads false false e g = let le : 4 ≤ length b = ltb-false _ _ e in rw (e, g) (WordStop.not_permitted le g)
 
-  pub long_told : (8 ≤ length b → R (take 8 b) (number (long_of (take 8 b)))) → (short : Bool) → nat_lt (length b) 8 ≡ short → Told R (λ s. Passes 8 b inside s) b (long_value_at inside b)
+  pub long_told : (8 ≤ length b → IsRead (take 8 b) (number (long_of (take 8 b)))) → (short : Bool) → nat_lt (length b) 8 ≡ short → Told IsRead (λ s. Passes 8 b inside s) b (long_value_at inside b)
   unfolding long_value_at
   long_told reads true e = rw e (Passes.passes (ltb-true _ _ e))
   long_told reads false e = let le : 8 ≤ length b = ltb-false _ _ e in rw e (take 8 b, sym (take-append-drop 8 b), reads le)

@@ -1,5 +1,5 @@
 -- What reading a parcelable answers is a reading of a front, or the stop.
-use Rattle.std.proofs.Common.{◌≡◌, ◌≢◌, ℕ, zero, suc, ◌+◌, ◌-◌, ◌%◌, ◌<◌, ◌≤◌, ◌^◌, ℤ, pos, negsuc, Bool, true, false, ◌&&◌, ◌==◌, cond, nat_lt, nat_le, List, [], ◌∷◌, ◌++◌, length, take, drop, Some, slice_get, Ok, Err, Result, inl, inr, refl, sym, ap, ◌∙◌, subst, arith, append_assoc, length-append}
+use Rattle.std.proofs.Common.{◌≡◌, ◌≢◌, ℕ, suc, ◌+◌, ◌-◌, ◌%◌, ◌<◌, ◌≤◌, ◌^◌, ℤ, pos, negsuc, Bool, true, false, ◌&&◌, ◌==◌, cond, nat_lt, nat_le, List, [], ◌∷◌, ◌++◌, length, take, drop, Some, slice_get, Ok, Err, Result, inl, inr, refl, sym, ap, ◌∙◌, subst, arith, append_assoc}
 use Rattle.std.specs.Prelude.{FitsSigned}
 use Rattle.std.specs.Int.{w32}
 use Rattle.std.proofs.lemmas.List.{take-append-drop}
@@ -12,7 +12,6 @@ use Rattle.aidl_schema.specs.declared.schema.Field.{Field}
 use Rattle.aidl_schema.specs.declared.schema.AidlType.{AidlType}
 use Rattle.aidl_schema.specs.Types.{is_type}
 use Rattle.aidl_values.specs.Data.{Data, null, rec, Items, none, item}
-use Rattle.aidl_values.specs.Default.{zero_within}
 use Rattle.aidl_values.specs.HasType.{HasType, FieldsHaveType}
 use Rattle.aidl_values.specs.Sound.{AreTypes, HaveDefaults, initial_in}
 use Rattle.wire_model.specs.Status.{bad_value}
@@ -44,8 +43,8 @@ module _ (inside : Bool) (b : List ℕ) (bytes : IsBytes b) where
       let small : z < 2 ^ 31 = omega (arith, ints) in
       let head : word (pos (4 + length inner)) ≡ take 4 b = ap (λ m. word (pos m)) size ∙ ap word (sym e) ∙ spells_word b bytes le in
       let split : b ≡ (word (pos (4 + length inner)) ++ inner) ++ drop (z - 4) (after_word b) =
-          sym (take-append-drop 4 b) ∙ ap (λ c. take 4 b ++ c) (sym (take-append-drop (z - 4) (after_word b))) ∙ sym (append_assoc (take 4 b) inner (drop (z - 4) (after_word b)))
-          ∙ ap (λ h. (h ++ inner) ++ drop (z - 4) (after_word b)) (sym head) in
+      sym (take-append-drop 4 b) ∙ ap (λ c. take 4 b ++ c) (sym (take-append-drop (z - 4) (after_word b))) ∙ sym (append_assoc (take 4 b) inner (drop (z - 4) (after_word b)))
+      ∙ ap (λ h. (h ++ inner) ++ drop (z - 4) (after_word b)) (sym head) in
       rw is (z, le, e, four, rem, omega (arith, after_len b le), refl, split, omega arith, omega arith)
 
   size_told : (w : ℤ) → 4 ≤ length b → first_word b ≡ w → BodyTold b inside (size_of w >>= λ z. bytes_at (z - 4) inside (after_word b))
@@ -76,54 +75,53 @@ module _ (inside : Bool) (b : List ℕ) (bytes : IsBytes b) where
 
 -- the fields of a record whose bytes these are
 abbrev pub FieldsTold : List Decl → (AidlType → List ℕ → Data → Type 0) → (AidlType → List ℕ → Bool → ℤ → Type 0) → List Field → List ℕ → Result Items ℤ → Type 0
-FieldsTold S R St fs b (Ok vs) = FieldsRead S R fs b vs × FieldsHaveType S fs vs
-FieldsTold S R St fs b (Err s) = (i : ℕ) × (f : Field) × (slice_get fs i ≡ Some f) × (vs : Items) × (front : List ℕ) × (rest : List ℕ) × (b ≡ front ++ rest) × FieldsThere R (take i fs) front vs × (rest ≢ []) × St f.ty rest true s
+FieldsTold S PartReads PartStops fs b (Ok vs) = FieldsRead S PartReads fs b vs × FieldsHaveType S fs vs
+FieldsTold S PartReads PartStops fs b (Err s) = (i : ℕ) × (f : Field) × (slice_get fs i ≡ Some f) × (vs : Items) × (front : List ℕ) × (rest : List ℕ) × (b ≡ front ++ rest) × FieldsThere PartReads (take i fs) front vs × (rest ≢ []) × PartStops f.ty rest true s
 
-module _ (S : List Decl) (R : AidlType → List ℕ → Data → Type 0) (St : AidlType → List ℕ → Bool → ℤ → Type 0) (read : AidlType → List ℕ → Read Data)
-    (typed : (t : AidlType) (c : List ℕ) (v : Data) → R t c v → HasType S t v)
-    (law : (t : AidlType) (c : List ℕ) → is_type S t ≡ true → IsBytes c → Told (R t) (λ s. St t c true s) c (read t c)) where
-  at_end : (fs : List Field) → fields_at (λ u. zero_within 33 S u) read fs [] ≡ Ok (initials_in S fs)
+module _ (S : List Decl) (PartReads : AidlType → List ℕ → Data → Type 0) (PartStops : AidlType → List ℕ → Bool → ℤ → Type 0) (read : AidlType → List ℕ → Read Data)
+    (typed : (t : AidlType) (c : List ℕ) (v : Data) → PartReads t c v → HasType S t v)
+    (law : (t : AidlType) (c : List ℕ) → is_type S t ≡ true → IsBytes c → Told (PartReads t) (λ s. PartStops t c true s) c (read t c)) where
+  at_end : (fs : List Field) → fields_at (λ f. initial_in S f) read fs [] ≡ Ok (initials_in S fs)
   at_end [] = refl
   at_end (f ∷ fs) = ap (λ (y : Result Items ℤ). y >>= λ others. Ok (item (initial_in S f) others)) (at_end fs)
 
-  later : (f : Field) (fs : List Field) (b front rest : List ℕ) (v : Data) → b ≢ [] → b ≡ front ++ rest → R f.ty front v → (y : Result Items ℤ) → FieldsTold S R St fs rest y → FieldsTold S R St (f ∷ fs) b (y >>= λ others. Ok (item v others))
+  later : (f : Field) (fs : List Field) (b front rest : List ℕ) (v : Data) → b ≢ [] → b ≡ front ++ rest → PartReads f.ty front v → (y : Result Items ℤ) → FieldsTold S PartReads PartStops fs rest y → FieldsTold S PartReads PartStops (f ∷ fs) b (y >>= λ others. Ok (item v others))
   later f fs b front rest v some e h (Ok vs) k = (inr (front, rest, e, h, k.0), (typed f.ty front v h, k.1))
   later f fs b front rest v some e h (Err s) k =
       (suc k.0, k.1, k.2, item v k.3, front ++ k.4, k.5, e ∙ ap (λ c. front ++ c) k.6 ∙ sym (append_assoc front k.4 k.5), (front, k.4, refl, h, k.7), k.8, k.9)
 
-  pub fields_told : (fs : List Field) (b : List ℕ) → IsBytes b → AreTypes S fs → HaveDefaults S fs → FieldsTold S R St fs b (fields_at (λ u. zero_within 33 S u) read fs b)
+  pub fields_told : (fs : List Field) (b : List ℕ) → IsBytes b → AreTypes S fs → HaveDefaults S fs → FieldsTold S PartReads PartStops fs b (fields_at (λ f. initial_in S f) read fs b)
   fields_told [] b bytes types all = (tt, tt)
   fields_told (f ∷ fs) [] bytes types all =
-      subst (λ y. FieldsTold S R St (f ∷ fs) [] y) (sym (at_end (f ∷ fs))) (inl (refl, are_initial S (f ∷ fs) all), initials_typed S (f ∷ fs) all)
+      subst (λ y. FieldsTold S PartReads PartStops (f ∷ fs) [] y) (sym (at_end (f ∷ fs))) (inl (refl, are_initial S (f ∷ fs) all), initials_typed S (f ∷ fs) all)
   fields_told (f ∷ fs) (x ∷ b) bytes types all =
       one_told (read f.ty (x ∷ b)) (law f.ty (x ∷ b) types.0 bytes) (λ c h. fields_told fs c h types.1 all.1)
     where
-      one_told : (y : Read Data) → Told (R f.ty) (λ s. St f.ty (x ∷ b) true s) (x ∷ b) y → ((c : List ℕ) → IsBytes c → FieldsTold S R St fs c (fields_at (λ u. zero_within 33 S u) read fs c))
-          → FieldsTold S R St (f ∷ fs) (x ∷ b) (y >>= λ first. fields_at (λ u. zero_within 33 S u) read fs first.1 >>= λ others. Ok (item first.0 others))
-      one_told (Ok y) h ih = later f fs (x ∷ b) h.0 y.1 y.0 (λ k. absurd cc) h.1 h.2 (fields_at (λ u. zero_within 33 S u) read fs y.1) (ih y.1 (bytes_rest h.0 y.1 (subst IsBytes h.1 bytes)))
+      one_told : (y : Read Data) → Told (PartReads f.ty) (λ s. PartStops f.ty (x ∷ b) true s) (x ∷ b) y → ((c : List ℕ) → IsBytes c → FieldsTold S PartReads PartStops fs c (fields_at (λ f. initial_in S f) read fs c))
+          → FieldsTold S PartReads PartStops (f ∷ fs) (x ∷ b) (y >>= λ first. fields_at (λ f. initial_in S f) read fs first.1 >>= λ others. Ok (item first.0 others))
+      one_told (Ok y) h ih = later f fs (x ∷ b) h.0 y.1 y.0 (λ k. absurd cc) h.1 h.2 (fields_at (λ f. initial_in S f) read fs y.1) (ih y.1 (bytes_rest h.0 y.1 (subst IsBytes h.1 bytes)))
       one_told (Err s) h ih = (0, f, refl, none, [], x ∷ b, refl, refl, (λ k. absurd cc), h)
 
 -- what is read at a record's place; `left` says that a level is left
 abbrev pub RecordReads : Bool → List Decl → (AidlType → List ℕ → Data → Type 0) → Bool → List Field → List ℕ → Data → Type 0
-RecordReads left S R nullable fs front null = (nullable ≡ true) × (front ≡ word (pos 0))
-RecordReads left S R nullable fs front (rec vs) = (left ≡ true) × (rest : List ℕ) × (front ≡ word (pos 1) ++ rest) × BodyReads S R fs rest vs × FieldsHaveType S fs vs
-RecordReads left S R nullable fs front _ = ⊥
+RecordReads left S PartReads nullable fs front null = (nullable ≡ true) × (front ≡ word (pos 0))
+RecordReads left S PartReads nullable fs front (rec vs) = (left ≡ true) × (rest : List ℕ) × (front ≡ word (pos 1) ++ rest) × BodyReads S PartReads fs rest vs × FieldsHaveType S fs vs
+RecordReads left S PartReads nullable fs front _ = ⊥
 
-module _ (left : Bool) (S : List Decl) (R : AidlType → List ℕ → Data → Type 0) (St : AidlType → List ℕ → Bool → ℤ → Type 0) (read : AidlType → Bool → List ℕ → Read Data)
-    (typed : (t : AidlType) (c : List ℕ) (v : Data) → R t c v → HasType S t v)
-    (law : left ≡ true → (t : AidlType) (j : Bool) (c : List ℕ) → is_type S t ≡ true → IsBytes c → Told (R t) (λ s. St t c j s) c (read t j c))
+module _ (left : Bool) (S : List Decl) (PartReads : AidlType → List ℕ → Data → Type 0) (PartStops : AidlType → List ℕ → Bool → ℤ → Type 0) (read : AidlType → Bool → List ℕ → Read Data)
+    (typed : (t : AidlType) (c : List ℕ) (v : Data) → PartReads t c v → HasType S t v)
+    (law : left ≡ true → (t : AidlType) (j : Bool) (c : List ℕ) → is_type S t ≡ true → IsBytes c → Told (PartReads t) (λ s. PartStops t c j s) c (read t j c))
     (nullable inside : Bool) (fs : List Field) (types : AreTypes S fs) (b : List ℕ) (bytes : IsBytes b) where
-
   one : 1 < 2 ^ 31
   one = omega arith
 
   -- after the marker 1
   there_told : (rest : List ℕ) (has : left ≡ true) (all : HaveDefaults S fs) → b ≡ word (pos 1) ++ rest → (y : Read (List ℕ)) → BodyTold rest inside y
-      → Told (RecordReads left S R nullable fs) (λ s. RecordStop left nullable fs R St b inside s) b (y >>= λ inner. fields_at (λ u. zero_within 33 S u) (λ u c. read u true c) fs inner.0 >>= λ vs. Ok (rec vs, inner.1))
+      → Told (RecordReads left S PartReads nullable fs) (λ s. RecordStop left nullable fs PartReads PartStops b inside s) b (y >>= λ inner. fields_at (λ f. initial_in S f) (λ u c. read u true c) fs inner.0 >>= λ vs. Ok (rec vs, inner.1))
   there_told rest has all e (Err s) h =
       RecordStop.at_size (whole_head b rest 1 one e) (head_word b rest 1 one e) has (subst (λ c. SizeStop c inside s) (sym (tail_word b rest 1 one e)) h)
   there_told rest has all e (Ok y) h =
-      by_fields (fields_at (λ u. zero_within 33 S u) (λ u c. read u true c) fs y.0) (fields_told S R St (λ u c. read u true c) typed (λ t c type k. law has t true c type k) fs y.0 inner_bytes types all)
+      by_fields (fields_at (λ f. initial_in S f) (λ u c. read u true c) fs y.0) (fields_told S PartReads PartStops (λ u c. read u true c) typed (λ t c type k. law has t true c type k) fs y.0 inner_bytes types all)
     where
       rest_bytes : IsBytes rest
       rest_bytes = bytes_rest (word (pos 1)) rest (subst IsBytes e bytes)
@@ -131,7 +129,7 @@ module _ (left : Bool) (S : List Decl) (R : AidlType → List ℕ → Data → T
       inner_bytes : IsBytes y.0
       inner_bytes = subst IsBytes (sym h.6) (taken (h.0 - 4) (after_word rest) (dropped 4 rest rest_bytes))
 
-      by_fields : (x : Result Items ℤ) → FieldsTold S R St fs y.0 x → Told (RecordReads left S R nullable fs) (λ s. RecordStop left nullable fs R St b inside s) b (x >>= λ vs. Ok (rec vs, y.1))
+      by_fields : (x : Result Items ℤ) → FieldsTold S PartReads PartStops fs y.0 x → Told (RecordReads left S PartReads nullable fs) (λ s. RecordStop left nullable fs PartReads PartStops b inside s) b (x >>= λ vs. Ok (rec vs, y.1))
       by_fields (Ok vs) k =
           let front = word (pos (4 + length y.0)) ++ y.0 in
           (word (pos 1) ++ front, e ∙ ap (λ c. word (pos 1) ++ c) h.7, (has, front, refl, (y.0, refl, h.8, h.9, k.0), k.1))
@@ -140,20 +138,20 @@ module _ (left : Bool) (S : List Decl) (R : AidlType → List ℕ → Data → T
           RecordStop.at_field (whole_head b rest 1 one e) (head_word b rest 1 one e) has (subst (λ c. 4 ≤ length c) tail h.1) h.0 (subst (λ c. first_word c ≡ pos h.0) tail h.2) h.3 h.4 (subst (λ c. h.0 ≤ length c) tail h.5)
           k.0 k.1 k.2 k.3 k.4 k.5 (ap (fields_bytes h.0) (sym tail) ∙ sym h.6 ∙ k.6) k.7 k.8 k.9
 
-  pub record_told : HaveDefaults S fs → Told (RecordReads left S R nullable fs) (λ s. RecordStop left nullable fs R St b inside s) b (record_at left nullable (λ u. zero_within 33 S u) (λ u c. read u true c) fs inside b)
+  pub record_told : HaveDefaults S fs → Told (RecordReads left S PartReads nullable fs) (λ s. RecordStop left nullable fs PartReads PartStops b inside s) b (record_at left nullable (λ f. initial_in S f) (λ u c. read u true c) fs inside b)
   unfolding record_at body_value_at
-  record_told all = told_then (MarkerReads nullable) (RecordReads left S R nullable fs) (λ s. MarkerStop nullable b inside s) (λ s. RecordStop left nullable fs R St b inside s) b
-      (λ m. marked_at left (λ c. body_value_at (λ u. zero_within 33 S u) (λ u c. read u true c) fs inside c) m.0 m.1) (marker_at nullable inside b)
+  record_told all = told_then (MarkerReads nullable) (RecordReads left S PartReads nullable fs) (λ s. MarkerStop nullable b inside s) (λ s. RecordStop left nullable fs PartReads PartStops b inside s) b
+      (λ m. marked_at left (λ c. body_value_at (λ f. initial_in S f) (λ u c. read u true c) fs inside c) m.0 m.1) (marker_at nullable inside b)
       (marker_told nullable inside b bytes (nat_lt (length b) 4) refl) (λ s h. RecordStop.at_marker h) (λ m front rest e h. by_marker m front rest e h)
     where
       by_marker : (m : Bool) (front rest : List ℕ) → b ≡ front ++ rest → MarkerReads nullable front m
-          → Told (RecordReads left S R nullable fs) (λ s. RecordStop left nullable fs R St b inside s) b (marked_at left (λ c. body_value_at (λ u. zero_within 33 S u) (λ u c. read u true c) fs inside c) m rest)
+          → Told (RecordReads left S PartReads nullable fs) (λ s. RecordStop left nullable fs PartReads PartStops b inside s) b (marked_at left (λ c. body_value_at (λ f. initial_in S f) (λ u c. read u true c) fs inside c) m rest)
       by_marker false front rest e h = (front, e, h)
       by_marker true front rest e h =
           let split : b ≡ word (pos 1) ++ rest = e ∙ ap (λ c. c ++ rest) h in
           by_level left refl rest split (bytes_rest front rest (subst IsBytes e bytes))
         where
           by_level : (l : Bool) → left ≡ l → (rest : List ℕ) → b ≡ word (pos 1) ++ rest → IsBytes rest
-              → Told (RecordReads left S R nullable fs) (λ s. RecordStop left nullable fs R St b inside s) b (marked_at l (λ c. body_value_at (λ u. zero_within 33 S u) (λ u c. read u true c) fs inside c) true rest)
+              → Told (RecordReads left S PartReads nullable fs) (λ s. RecordStop left nullable fs PartReads PartStops b inside s) b (marked_at l (λ c. body_value_at (λ f. initial_in S f) (λ u c. read u true c) fs inside c) true rest)
           by_level false has rest split rest_bytes = RecordStop.too_deep (whole_head b rest 1 one split) (head_word b rest 1 one split) has refl
           by_level true has rest split rest_bytes = there_told rest has all split (body_at inside rest) (body_told inside rest rest_bytes (nat_lt (length rest) 4) refl)

@@ -1,5 +1,5 @@
 -- What reading a union answers is a reading of a front, or the stop.
-use Rattle.std.proofs.Common.{◌≡◌, ℕ, zero, suc, ◌+◌, ◌<◌, ◌≤◌, ◌^◌, ℤ, pos, negsuc, Bool, true, false, nat_lt, List, [], ◌∷◌, ◌++◌, length, take, Option, Some, None, slice_get, Ok, Err, Result, refl, sym, ap, ◌∙◌, subst, arith}
+use Rattle.std.proofs.Common.{◌≡◌, ℕ, zero, suc, ◌<◌, ◌≤◌, ◌^◌, ℤ, pos, negsuc, Bool, true, false, nat_lt, List, [], ◌∷◌, ◌++◌, length, take, Option, Some, None, slice_get, Ok, Err, refl, sym, ap, ◌∙◌, subst, arith}
 use Rattle.std.proofs.lemmas.List.{take-append-drop}
 use Rattle.std.proofs.lemmas.Bool.{ltb-true, ltb-false}
 use Rattle.aidl_base.specs.Words.{word}
@@ -8,7 +8,6 @@ use Rattle.aidl_schema.specs.declared.schema.Field.{Field}
 use Rattle.aidl_schema.specs.declared.schema.AidlType.{AidlType}
 use Rattle.aidl_schema.specs.Types.{is_type}
 use Rattle.aidl_values.specs.Data.{Data, null, alt}
-use Rattle.aidl_values.specs.HasType.{HasType}
 use Rattle.aidl_values.specs.Sound.{AreTypes}
 use Rattle.wire_model.specs.Status.{bad_value}
 use Rattle.wire_model.specs.Stop.{first_word, after_word, MarkerStop, UnionStop}
@@ -19,21 +18,20 @@ use Rattle.wire_model.proofs.Told.{Told, told_then, spells_word, MarkerReads, ma
 
 -- what is read at a union's place; `left` says that a level is left
 abbrev pub UnionReads : Bool → (AidlType → List ℕ → Data → Type 0) → Bool → List Field → List ℕ → Data → Type 0
-UnionReads left R nullable fs front null = (nullable ≡ true) × (front ≡ word (pos 0))
-UnionReads left R nullable fs front (alt k v) = (left ≡ true) × (f : Field) × (slice_get fs k ≡ Some f) × (rest : List ℕ) × (front ≡ word (pos 1) ++ word (pos k) ++ rest) × R f.ty rest v
-UnionReads left R nullable fs front _ = ⊥
+UnionReads left PartReads nullable fs front null = (nullable ≡ true) × (front ≡ word (pos 0))
+UnionReads left PartReads nullable fs front (alt k v) = (left ≡ true) × (f : Field) × (slice_get fs k ≡ Some f) × (rest : List ℕ) × (front ≡ word (pos 1) ++ word (pos k) ++ rest) × PartReads f.ty rest v
+UnionReads left PartReads nullable fs front _ = ⊥
 
 past_end : (fs : List Field) (k : ℕ) → slice_get fs k ≡ None → length fs ≤ k
 past_end [] k e = omega arith
 past_end (f ∷ fs) zero e = absurd cc
 past_end (f ∷ fs) (suc k) e = omega (arith, past_end fs k e)
 
-module _ (left : Bool) (S : List Decl) (R : AidlType → List ℕ → Data → Type 0) (St : AidlType → List ℕ → Bool → ℤ → Type 0) (read : AidlType → Bool → List ℕ → Read Data)
-    (law : left ≡ true → (t : AidlType) (j : Bool) (c : List ℕ) → is_type S t ≡ true → IsBytes c → Told (R t) (λ s. St t c j s) c (read t j c))
+module _ (left : Bool) (S : List Decl) (PartReads : AidlType → List ℕ → Data → Type 0) (PartStops : AidlType → List ℕ → Bool → ℤ → Type 0) (read : AidlType → Bool → List ℕ → Read Data)
+    (law : left ≡ true → (t : AidlType) (j : Bool) (c : List ℕ) → is_type S t ≡ true → IsBytes c → Told (PartReads t) (λ s. PartStops t c j s) c (read t j c))
     (nullable inside : Bool) (fs : List Field) (types : AreTypes S fs) (b : List ℕ) (bytes : IsBytes b) where
-
   abbrev Outcome : Read Data → Type 0
-  Outcome = λ x. Told (UnionReads left R nullable fs) (λ s. UnionStop left nullable fs St b inside s) b x
+  Outcome = λ x. Told (UnionReads left PartReads nullable fs) (λ s. UnionStop left nullable fs PartStops b inside s) b x
 
   abbrev by_tag : Read ℕ → Read Data
   by_tag x = x >>= λ k. ok_field (slice_get fs k.0) >>= λ f. read f.ty inside k.1 >>= λ v. Ok (alt k.0 v.0, v.1)
@@ -47,7 +45,7 @@ module _ (left : Bool) (S : List Decl) (R : AidlType → List ℕ → Data → T
     tail = sym (tail_word b rest 1 one e)
 
     -- the field of the tag k
-    value_told : (k : ℕ) (f : Field) → 4 ≤ length rest → first_word rest ≡ pos k → slice_get fs k ≡ Some f → (x : Read Data) → Told (R f.ty) (λ s. St f.ty (after_word rest) inside s) (after_word rest) x
+    value_told : (k : ℕ) (f : Field) → 4 ≤ length rest → first_word rest ≡ pos k → slice_get fs k ≡ Some f → (x : Read Data) → Told (PartReads f.ty) (λ s. PartStops f.ty (after_word rest) inside s) (after_word rest) x
         → Outcome (x >>= λ v. Ok (alt k v.0, v.1))
     value_told k f le is at (Ok x) h =
         let spelled : word (pos k) ≡ take 4 rest = ap word (sym is) ∙ spells_word rest rest_bytes le in
@@ -55,7 +53,7 @@ module _ (left : Bool) (S : List Decl) (R : AidlType → List ℕ → Data → T
         (word (pos 1) ++ (word (pos k) ++ h.0), e ∙ ap (λ c. word (pos 1) ++ c) split, (has, f, at, h.0, refl, h.2))
     value_told k f le is at (Err s) h =
         UnionStop.at_field (whole_head b rest 1 one e) (head_word b rest 1 one e) has (subst (λ c. 4 ≤ length c) tail le) k (subst (λ c. first_word c ≡ pos k) tail is) f at
-        (subst (λ c. St f.ty (after_word c) inside s) tail h)
+        (subst (λ c. PartStops f.ty (after_word c) inside s) tail h)
 
     no_tag : 4 ≤ length rest → ((k : ℕ) → first_word rest ≡ pos k → length fs ≤ k) → Outcome (Err bad_value)
     no_tag le none =
@@ -77,7 +75,7 @@ module _ (left : Bool) (S : List Decl) (R : AidlType → List ℕ → Data → T
 
   pub union_told : Outcome (union_at left nullable (λ u c. read u inside c) fs inside b)
   unfolding union_at
-  union_told = told_then (MarkerReads nullable) (UnionReads left R nullable fs) (λ s. MarkerStop nullable b inside s) (λ s. UnionStop left nullable fs St b inside s) b
+  union_told = told_then (MarkerReads nullable) (UnionReads left PartReads nullable fs) (λ s. MarkerStop nullable b inside s) (λ s. UnionStop left nullable fs PartStops b inside s) b
       (λ m. marked_at left (λ c. tagged_at (λ u c. read u inside c) fs inside c) m.0 m.1) (marker_at nullable inside b)
       (marker_told nullable inside b bytes (nat_lt (length b) 4) refl) (λ s h. UnionStop.at_marker h) (λ m front rest e h. by_marker m front rest e h)
     where

@@ -1,5 +1,5 @@
 -- Which bytes are a reading of which value (own, the strict profile). S is the schema's declarations, d the composite levels left, t the type.
-use Rattle.std.specs.Prelude.{◌≡◌, ℕ, zero, suc, ◌+◌, ◌%◌, ◌^◌, ◌<◌, ℤ, pos, Bool, true, false, List, [], ◌∷◌, ◌++◌, length, Option, Some, slice_get, ◌⊎◌, IsTrue, MatchBool}
+use Rattle.std.specs.Prelude.{◌≡◌, ℕ, zero, suc, ◌+◌, ◌%◌, ◌^◌, ◌<◌, pos, List, [], ◌∷◌, ◌++◌, length, Some, slice_get, ◌⊎◌, MatchBool}
 use Rattle.aidl_base.specs.Words.{word, pad, units}
 use Rattle.aidl_schema.specs.declared.schema.Decl.{Decl}
 use Rattle.aidl_schema.specs.declared.schema.Field.{Field}

@@ -1,5 +1,5 @@
 -- The bytes that spell a value. S is the schema's declarations, t the type. Words, `pad` and `block` are aidl_base's.
-use Rattle.std.specs.Prelude.{ℕ, suc, ◌+◌, ℤ, pos, negsuc, Bool, true, false, ◌&&◌, if◌then◌else◌, List, [], ◌∷◌, ◌++◌, length, Option, Some, None, slice_get}
+use Rattle.std.specs.Prelude.{ℕ, ◌+◌, ℤ, pos, negsuc, Bool, if◌then◌else◌, List, [], ◌∷◌, ◌++◌, length, slice_get}
 use Rattle.std.specs.Int.{w8, cast_unsigned}
 use Rattle.aidl_base.specs.Words.{word, long_word, pad, units, block}
 use Rattle.aidl_schema.specs.declared.schema.Decl.{Decl}

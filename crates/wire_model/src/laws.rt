@@ -17,9 +17,7 @@ pub fn law_spelled_reads(schema: &Schema, ty: &AidlType, levels: usize, value: &
     requires deep { depth_of (view value.now) ≤ levels }
     requires few { levels ≤ 64 }
     requires small { length (spell schema.now.decls ty.now (view value.now)) ≤ 1048576 }
-    ensures {
-        Reads schema.now.decls levels ty.now (spell schema.now.decls ty.now (view value.now)) (view value.now)
-    }
+    ensures { Reads schema.now.decls levels ty.now (spell schema.now.decls ty.now (view value.now)) (view value.now) }
 {}
 
 /// No reading is the front of a longer one of the same type and level, and a reading is of one value.
@@ -53,15 +51,9 @@ pub fn law_reads_or_stops(
 )
     requires sound { IsSound schema.now.decls }
     requires known { is_type schema.now.decls ty.now ≡ true }
-    ensures one {
-        FrontReads schema.now.decls levels ty.now b.now ⊎ Stops schema.now.decls levels ty.now b.now inside
-    }
-    ensures not_both {
-        FrontReads schema.now.decls levels ty.now b.now → Stops schema.now.decls levels ty.now b.now inside → ⊥
-    }
-    ensures one_status {
-        Stop schema.now.decls levels ty.now b.now inside first
-            → Stop schema.now.decls levels ty.now b.now inside second
-            → first ≡ second
-    }
+    ensures one { FrontReads schema.now.decls levels ty.now b.now ⊎ Stops schema.now.decls levels ty.now b.now inside }
+    ensures not_both { FrontReads schema.now.decls levels ty.now b.now → Stops schema.now.decls levels ty.now b.now inside → ⊥ }
+    ensures one_status { Stop schema.now.decls levels ty.now b.now inside first
+        → Stop schema.now.decls levels ty.now b.now inside second
+        → first ≡ second }
 {}
