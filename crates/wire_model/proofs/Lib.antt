@@ -2,6 +2,7 @@ mod Again
 mod AgainAll
 mod AgainTexts
 mod Defaults
+mod Examples
 mod Forms
 mod Lists
 mod OneZero
