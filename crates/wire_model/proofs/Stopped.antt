@@ -13,7 +13,7 @@ use Rattle.aidl_values.specs.Sound.{initial_in}
 use Rattle.wire_model.specs.Status.{bad_value, past, is_permitted}
 use Rattle.wire_model.specs.Reads.{Reads, EachReads}
 use Rattle.aidl_values.specs.Sound.{AreTypes}
-use Rattle.wire_model.specs.Stop.{Stop, OneStop, StopBy, first_word, after_word, Passes, WordStop, CountStop, MarkerStop, BlockStop, TextStop, block_len, IsBlock, IsPadded, ElementsStop, SequenceStop, SizeStop, RecordStop, UnionStop, FieldsThere, fields_bytes}
+use Rattle.wire_model.specs.Stop.{Stop, OneStop, StopBy, first_word, after_word, Begins, LongStop, WordStop, CountStop, MarkerStop, BlockStop, TextStop, block_len, IsBlock, IsPadded, ElementsStop, SequenceStop, SizeStop, FieldsStop, RecordStop, TagStop, UnionStop, FieldsThere, fields_bytes}
 use Rattle.wire_model.specs.ReadOf.{Read, ◌>>=◌, data_of_word, word_at, scalar_at, long_value_at, count_of, count_at, marker_of, marker_at, marked_at, bytes_at, text_of, ok_text, text_block_at, text_at, all_zero, raw_items, raw_at, items_at, elements_at, sequence_at, field_at, fields_at, size_of, body_at, body_value_at, record_at, ok_field, tag_of, tag_at, tagged_at, union_at, one_at, read_by, read_of}
 use Rattle.std.proofs.lemmas.List.{length-drop}
 use Rattle.wire_model.proofs.Lists.{both, take_len, no_rest, IsBytes, taken, dropped, bytes_rest}
@@ -39,14 +39,14 @@ scalar_stops f inside b s (WordStop.not_permitted le wrong) = ap (λ (w : Read �
 count_stops : (nullable inside : Bool) (b : List ℕ) (s : ℤ) → CountStop nullable b inside s → count_at nullable inside b ≡ Err s
 unfolding count_at
 count_stops nullable inside b s (CountStop.short lt) = ap (λ (w : Read ℤ). w >>= λ w. count_of nullable w.0 >>= λ n. Ok (n, w.1)) (short_word inside b lt)
-count_stops nullable inside b s (CountStop.null_count le e may) =
-    ap (λ (w : Read ℤ). w >>= λ w. count_of nullable w.0 >>= λ n. Ok (n, w.1)) (whole_word inside b le) ∙ rw (e, may) refl
-count_stops nullable inside b s (CountStop.negative le n e) =
-    ap (λ (w : Read ℤ). w >>= λ w. count_of nullable w.0 >>= λ n. Ok (n, w.1)) (whole_word inside b le) ∙ rw e refl
+count_stops nullable inside b s (CountStop.null_count begins may) =
+    ap (λ (w : Read ℤ). w >>= λ w. count_of nullable w.0 >>= λ n. Ok (n, w.1)) (whole_word inside b begins.0) ∙ rw (begins.1, may) refl
+count_stops nullable inside b s (CountStop.negative n begins) =
+    ap (λ (w : Read ℤ). w >>= λ w. count_of nullable w.0 >>= λ n. Ok (n, w.1)) (whole_word inside b begins.0) ∙ rw begins.1 refl
 
-counted : (nullable inside : Bool) (b : List ℕ) (n : ℕ) → 4 ≤ length b → first_word b ≡ pos n → count_at nullable inside b ≡ Ok (Some n, after_word b)
+counted : (nullable inside : Bool) (b : List ℕ) (n : ℕ) → Begins (pos n) b → count_at nullable inside b ≡ Ok (Some n, after_word b)
 unfolding count_at
-counted nullable inside b n le e = ap (λ (w : Read ℤ). w >>= λ w. count_of nullable w.0 >>= λ n. Ok (n, w.1)) (whole_word inside b le) ∙ rw e refl
+counted nullable inside b n begins = ap (λ (w : Read ℤ). w >>= λ w. count_of nullable w.0 >>= λ n. Ok (n, w.1)) (whole_word inside b begins.0) ∙ rw begins.1 refl
 
 pub no_marker : (nullable : Bool) (w : ℤ) → w ≢ pos 0 → w ≢ pos 1 → marker_of nullable w ≡ Err bad_value
 no_marker nullable (pos zero) a b = absurd (a refl)
@@ -57,15 +57,15 @@ no_marker nullable (negsuc n) a b = refl
 marker_stops : (nullable inside : Bool) (b : List ℕ) (s : ℤ) → MarkerStop nullable b inside s → marker_at nullable inside b ≡ Err s
 unfolding marker_at
 marker_stops nullable inside b s (MarkerStop.short lt) = ap (λ (w : Read ℤ). w >>= λ w. marker_of nullable w.0 >>= λ n. Ok (n, w.1)) (short_word inside b lt)
-marker_stops nullable inside b s (MarkerStop.null_marker le e may) =
-    ap (λ (w : Read ℤ). w >>= λ w. marker_of nullable w.0 >>= λ n. Ok (n, w.1)) (whole_word inside b le) ∙ rw (e, may) refl
+marker_stops nullable inside b s (MarkerStop.null_marker begins may) =
+    ap (λ (w : Read ℤ). w >>= λ w. marker_of nullable w.0 >>= λ n. Ok (n, w.1)) (whole_word inside b begins.0) ∙ rw (begins.1, may) refl
 marker_stops nullable inside b s (MarkerStop.not_marker le zero_not one_not) =
     ap (λ (w : Read ℤ). w >>= λ w. marker_of nullable w.0 >>= λ n. Ok (n, w.1)) (whole_word inside b le)
     ∙ ap (λ (m : Result Bool ℤ). m >>= λ n. Ok (n, after_word b)) (no_marker nullable (first_word b) zero_not one_not)
 
-marked : (nullable inside : Bool) (b : List ℕ) → 4 ≤ length b → first_word b ≡ pos 1 → marker_at nullable inside b ≡ Ok (true, after_word b)
+marked : (nullable inside : Bool) (b : List ℕ) → Begins (pos 1) b → marker_at nullable inside b ≡ Ok (true, after_word b)
 unfolding marker_at
-marked nullable inside b le e = ap (λ (w : Read ℤ). w >>= λ w. marker_of nullable w.0 >>= λ n. Ok (n, w.1)) (whole_word inside b le) ∙ rw e refl
+marked nullable inside b begins = ap (λ (w : Read ℤ). w >>= λ w. marker_of nullable w.0 >>= λ n. Ok (n, w.1)) (whole_word inside b begins.0) ∙ rw begins.1 refl
 
 pub short_bytes : (n : ℕ) (inside : Bool) (b : List ℕ) → length b < n → bytes_at n inside b ≡ Err (past inside)
 short_bytes n inside b lt = let e : nat_lt (length b) n ≡ true = grind (arith, nat_tests) in rw e refl
@@ -131,11 +131,13 @@ size_stops : (inside : Bool) (b : List ℕ) (s : ℤ) → SizeStop b inside s �
 unfolding body_at
 size_stops inside b s (SizeStop.short lt) = ap (λ (w : Read ℤ). w >>= λ w. size_of w.0 >>= λ z. bytes_at (z - 4) inside w.1) (short_word inside b lt)
 size_stops inside b s (SizeStop.no_size le h) = ap (λ (w : Read ℤ). w >>= λ w. size_of w.0 >>= λ z. bytes_at (z - 4) inside w.1) (whole_word inside b le)
-    ∙ ap (λ (z : Result ℕ ℤ). z >>= λ z. bytes_at (z - 4) inside (after_word b)) (no_size (first_word b) h)
-size_stops inside b s (SizeStop.long_record le z e four rem lt) =
+    ∙ ap (λ (z : Result ℕ ℤ). z >>= λ z. bytes_at (z - 4) inside (after_word b)) (no_size (first_word b) (λ z e four rem. h z ((le, e), four, rem)))
+size_stops inside b s (SizeStop.long_record z size lt) =
+    let le = size.0.0 in
     let len : length (after_word b) + 4 ≡ length b = after_len b le in
+    let four = size.1 in
     ap (λ (w : Read ℤ). w >>= λ w. size_of w.0 >>= λ z. bytes_at (z - 4) inside w.1) (whole_word inside b le)
-    ∙ ap (λ (z : Result ℕ ℤ). z >>= λ z. bytes_at (z - 4) inside (after_word b)) (ap size_of e ∙ a_size z four rem)
+    ∙ ap (λ (z : Result ℕ ℤ). z >>= λ z. bytes_at (z - 4) inside (after_word b)) (ap size_of size.0.1 ∙ a_size z size.1 size.2)
     ∙ short_bytes (z - 4) inside (after_word b) (omega arith)
 
 block_stops : (n : ℕ) (inside : Bool) (b : List ℕ) (s : ℤ) → IsBytes b → BlockStop (block_len n) (IsBlock n) b inside s → text_block_at inside (Some n) b ≡ Err s
@@ -148,8 +150,8 @@ block_stops n inside b s bytes (BlockStop.wrong_block le wrong) =
 text_stops : (nullable inside : Bool) (b : List ℕ) (s : ℤ) → IsBytes b → TextStop nullable b inside s → text_at nullable inside b ≡ Err s
 unfolding text_at
 text_stops nullable inside b s bytes (TextStop.at_count h) = ap (λ (c : Read (Option ℕ)). c >>= λ n. text_block_at inside n.0 n.1) (count_stops nullable inside b s h)
-text_stops nullable inside b s bytes (TextStop.at_block le n e h) =
-    ap (λ (c : Read (Option ℕ)). c >>= λ n. text_block_at inside n.0 n.1) (counted nullable inside b n le e) ∙ block_stops n inside (after_word b) s (dropped 4 b bytes) h
+text_stops nullable inside b s bytes (TextStop.at_block n begins h) =
+    ap (λ (c : Read (Option ℕ)). c >>= λ n. text_block_at inside n.0 n.1) (counted nullable inside b n begins) ∙ block_stops n inside (after_word b) s (dropped 4 b bytes) h
 
 raw_stops : (n : ℕ) (inside : Bool) (b : List ℕ) (s : ℤ) → BlockStop (n + padding n) (IsPadded n) b inside s → raw_at n inside b ≡ Err s
 unfolding raw_at
@@ -174,24 +176,24 @@ module _ (S : List Decl) (sound : IsWhole S) (left : Bool) (PartReads : AidlType
   unfolding record_at body_value_at body_at
   record_stops nullable inside fs base b s is bytes (RecordStop.at_marker h) =
       ap (λ (m : Read Bool). m >>= λ m. marked_at left (λ c. body_value_at (λ f. initial_in S f) (λ u c. read u true c) fs inside c) m.0 m.1) (marker_stops nullable inside b s h)
-  record_stops nullable inside fs base b s is bytes (RecordStop.too_deep le e no_left st) =
-      ap (λ (m : Read Bool). m >>= λ m. marked_at left (λ c. body_value_at (λ f. initial_in S f) (λ u c. read u true c) fs inside c) m.0 m.1) (marked nullable inside b le e) ∙ rw (no_left, st) refl
-  record_stops nullable inside fs base b s is bytes (RecordStop.at_size le e has h) =
-      ap (λ (m : Read Bool). m >>= λ m. marked_at left (λ c. body_value_at (λ f. initial_in S f) (λ u c. read u true c) fs inside c) m.0 m.1) (marked nullable inside b le e)
+  record_stops nullable inside fs base b s is bytes (RecordStop.too_deep begins no_left st) =
+      ap (λ (m : Read Bool). m >>= λ m. marked_at left (λ c. body_value_at (λ f. initial_in S f) (λ u c. read u true c) fs inside c) m.0 m.1) (marked nullable inside b begins) ∙ rw (no_left, st) refl
+  record_stops nullable inside fs base b s is bytes (RecordStop.at_size begins has h) =
+      ap (λ (m : Read Bool). m >>= λ m. marked_at left (λ c. body_value_at (λ f. initial_in S f) (λ u c. read u true c) fs inside c) m.0 m.1) (marked nullable inside b begins)
       ∙ rw has (ap (λ (y : Read (List ℕ)). y >>= λ inner. fields_at (λ f. initial_in S f) (λ u c. read u true c) fs inner.0 >>= λ vs. Ok (rec vs, inner.1)) (size_stops inside (after_word b) s h))
-  record_stops nullable inside fs base b s is bytes (RecordStop.at_field le e has le' z ze four rem within i f at vs front rest split there some st) =
+  record_stops nullable inside fs base b s is bytes (RecordStop.at_fields begins has z size within (FieldsStop.at_field i f at vs front rest split there some st)) =
       let aw = after_word b in
-      let size : body_at inside aw ≡ Ok (fields_bytes z aw, drop (z - 4) (after_word aw)) =
-      ap (λ (w : Read ℤ). w >>= λ w. size_of w.0 >>= λ z. bytes_at (z - 4) inside w.1) (whole_word inside aw le')
-      ∙ ap (λ (z : Result ℕ ℤ). z >>= λ z. bytes_at (z - 4) inside (after_word aw)) (ap size_of ze ∙ a_size z four rem)
-      ∙ whole_bytes (z - 4) inside (after_word aw) (omega (arith, after_len aw le')) in
+      let body : body_at inside aw ≡ Ok (fields_bytes z aw, drop (z - 4) (after_word aw)) =
+      ap (λ (w : Read ℤ). w >>= λ w. size_of w.0 >>= λ z. bytes_at (z - 4) inside w.1) (whole_word inside aw size.0.0)
+      ∙ ap (λ (z : Result ℕ ℤ). z >>= λ z. bytes_at (z - 4) inside (after_word aw)) (ap size_of size.0.1 ∙ a_size z size.1 size.2)
+      ∙ whole_bytes (z - 4) inside (after_word aw) (omega (arith, after_len aw size.0.0)) in
       let inner_bytes : IsBytes (fields_bytes z aw) = taken (z - 4) (after_word aw) (dropped 4 aw (dropped 4 b bytes)) in
       let types = (sound.fields base fs is).0 in
       let stopped : read f.ty true rest ≡ Err s = stop f.ty true rest s (field_type S fs i f types at) (bytes_after front rest (fields_bytes z aw) split inner_bytes) st in
       let all : fields_at (λ f. initial_in S f) (λ u c. read u true c) fs (fields_bytes z aw) ≡ Err s =
       fields_stop S (λ f. initial_in S f) PartReads (λ u c. read u true c) (λ t c q v type h. law t true c q v type h) fs i f vs (fields_bytes z aw) front rest s types at split there some stopped in
-      ap (λ (m : Read Bool). m >>= λ m. marked_at left (λ c. body_value_at (λ f. initial_in S f) (λ u c. read u true c) fs inside c) m.0 m.1) (marked nullable inside b le e)
-      ∙ rw has (ap (λ (y : Read (List ℕ)). y >>= λ inner. fields_at (λ f. initial_in S f) (λ u c. read u true c) fs inner.0 >>= λ vs. Ok (rec vs, inner.1)) size
+      ap (λ (m : Read Bool). m >>= λ m. marked_at left (λ c. body_value_at (λ f. initial_in S f) (λ u c. read u true c) fs inside c) m.0 m.1) (marked nullable inside b begins)
+      ∙ rw has (ap (λ (y : Read (List ℕ)). y >>= λ inner. fields_at (λ f. initial_in S f) (λ u c. read u true c) fs inner.0 >>= λ vs. Ok (rec vs, inner.1)) body
       ∙ ap (λ (y : Result Items ℤ). y >>= λ vs. Ok (rec vs, drop (z - 4) (after_word aw))) all)
 
   abbrev tag_word : Read ℤ → Read ℕ
@@ -205,41 +207,41 @@ module _ (S : List Decl) (sound : IsWhole S) (left : Bool) (PartReads : AidlType
   unfolding union_at tagged_at tag_at
   union_stops nullable inside fs base b s is bytes (UnionStop.at_marker h) =
       ap (λ (m : Read Bool). m >>= λ m. marked_at left (λ c. tagged_at (λ u c. read u inside c) fs inside c) m.0 m.1) (marker_stops nullable inside b s h)
-  union_stops nullable inside fs base b s is bytes (UnionStop.too_deep le e no_left st) =
-      ap (λ (m : Read Bool). m >>= λ m. marked_at left (λ c. tagged_at (λ u c. read u inside c) fs inside c) m.0 m.1) (marked nullable inside b le e) ∙ rw (no_left, st) refl
-  union_stops nullable inside fs base b s is bytes (UnionStop.at_tag le e has lt st) =
-      ap (λ (m : Read Bool). m >>= λ m. marked_at left (λ c. tagged_at (λ u c. read u inside c) fs inside c) m.0 m.1) (marked nullable inside b le e)
-      ∙ rw (has, st) (ap (λ (w : Read ℤ). by_tag inside fs (tag_word w)) (short_word inside (after_word b) lt))
-  union_stops nullable inside fs base b s is bytes (UnionStop.no_tag le e has le' h st) =
-      ap (λ (m : Read Bool). m >>= λ m. marked_at left (λ c. tagged_at (λ u c. read u inside c) fs inside c) m.0 m.1) (marked nullable inside b le e)
-      ∙ rw (has, st) (ap (λ (w : Read ℤ). by_tag inside fs (tag_word w)) (whole_word inside (after_word b) le')
+  union_stops nullable inside fs base b s is bytes (UnionStop.too_deep begins no_left st) =
+      ap (λ (m : Read Bool). m >>= λ m. marked_at left (λ c. tagged_at (λ u c. read u inside c) fs inside c) m.0 m.1) (marked nullable inside b begins) ∙ rw (no_left, st) refl
+  union_stops nullable inside fs base b s is bytes (UnionStop.at_tag begins has (TagStop.short lt)) =
+      ap (λ (m : Read Bool). m >>= λ m. marked_at left (λ c. tagged_at (λ u c. read u inside c) fs inside c) m.0 m.1) (marked nullable inside b begins)
+      ∙ rw has (ap (λ (w : Read ℤ). by_tag inside fs (tag_word w)) (short_word inside (after_word b) lt))
+  union_stops nullable inside fs base b s is bytes (UnionStop.at_tag begins has (TagStop.no_tag le h)) =
+      ap (λ (m : Read Bool). m >>= λ m. marked_at left (λ c. tagged_at (λ u c. read u inside c) fs inside c) m.0 m.1) (marked nullable inside b begins)
+      ∙ rw has (ap (λ (w : Read ℤ). by_tag inside fs (tag_word w)) (whole_word inside (after_word b) le)
       ∙ no_field (first_word (after_word b)) h)
     where
       no_field : (w : ℤ) → ((k : ℕ) → w ≡ pos k → length fs ≤ k)
           → by_tag inside fs (tag_word (Ok (w, after_word (after_word b)))) ≡ Err bad_value
       no_field (negsuc k) h = refl
       no_field (pos k) h = ap (λ o. ok_field o >>= λ f. read f.ty inside (after_word (after_word b)) >>= λ v. Ok (alt k v.0, v.1)) (slice_get_past fs k (h k refl))
-  union_stops nullable inside fs base b s is bytes (UnionStop.at_field le e has le' k te f at st) =
+  union_stops nullable inside fs base b s is bytes (UnionStop.at_field begins has k tag f at st) =
       let tail = after_word (after_word b) in
       let stopped : read f.ty inside tail ≡ Err s = stop f.ty inside tail s (field_type S fs k f (sound.tags base fs is).0 at) (dropped 4 (after_word b) (dropped 4 b bytes)) st in
-      ap (λ (m : Read Bool). m >>= λ m. marked_at left (λ c. tagged_at (λ u c. read u inside c) fs inside c) m.0 m.1) (marked nullable inside b le e)
-      ∙ rw has (ap (λ (w : Read ℤ). by_tag inside fs (tag_word w)) (whole_word inside (after_word b) le')
-      ∙ rw (te, at, stopped) refl)
+      ap (λ (m : Read Bool). m >>= λ m. marked_at left (λ c. tagged_at (λ u c. read u inside c) fs inside c) m.0 m.1) (marked nullable inside b begins)
+      ∙ rw has (ap (λ (w : Read ℤ). by_tag inside fs (tag_word w)) (whole_word inside (after_word b) tag.0)
+      ∙ rw (tag.1, at, stopped) refl)
 
   sequence_stops : (t : AidlType) (inside : Bool) (b : List ℕ) (s : ℤ) → is_type S (elem S t) ≡ true → IsBytes b → SequenceStop left (is_raw S t) t.nullable (PartReads (elem S t)) (λ rest s. PartStops (elem S t) rest inside s) b inside s
       → sequence_at left (is_raw S t) t.nullable (λ c. read (elem S t) inside c) inside b ≡ Err s
   unfolding sequence_at elements_at
   sequence_stops t inside b s type bytes (SequenceStop.at_count h) =
       ap (λ (c : Read (Option ℕ)). c >>= λ n. elements_at left (is_raw S t) (λ c. read (elem S t) inside c) inside n.0 n.1) (count_stops t.nullable inside b s h)
-  sequence_stops t inside b s type bytes (SequenceStop.too_deep le n e no_left st) =
-      ap (λ (c : Read (Option ℕ)). c >>= λ n. elements_at left (is_raw S t) (λ c. read (elem S t) inside c) inside n.0 n.1) (counted t.nullable inside b n le e) ∙ rw (no_left, st) refl
-  sequence_stops t inside b s type bytes (SequenceStop.at_bytes le n e has raw h) =
-      ap (λ (c : Read (Option ℕ)). c >>= λ n. elements_at left (is_raw S t) (λ c. read (elem S t) inside c) inside n.0 n.1) (counted t.nullable inside b n le e)
+  sequence_stops t inside b s type bytes (SequenceStop.too_deep n begins no_left st) =
+      ap (λ (c : Read (Option ℕ)). c >>= λ n. elements_at left (is_raw S t) (λ c. read (elem S t) inside c) inside n.0 n.1) (counted t.nullable inside b n begins) ∙ rw (no_left, st) refl
+  sequence_stops t inside b s type bytes (SequenceStop.at_bytes n begins has raw h) =
+      ap (λ (c : Read (Option ℕ)). c >>= λ n. elements_at left (is_raw S t) (λ c. read (elem S t) inside c) inside n.0 n.1) (counted t.nullable inside b n begins)
       ∙ rw (has, raw) (ap (λ (y : Read Items). y >>= λ vs. Ok (seq vs.0, vs.1)) (raw_stops n inside (after_word b) s h))
-  sequence_stops t inside b s type bytes (SequenceStop.at_elements le n e has raw (ElementsStop.at_element vs lt front rest split each st)) =
+  sequence_stops t inside b s type bytes (SequenceStop.at_elements n begins has raw (ElementsStop.at_element vs lt front rest split each st)) =
       let aw = after_word b in
       let stopped : read (elem S t) inside rest ≡ Err s = stop (elem S t) inside rest s type (bytes_after front rest aw split (dropped 4 b bytes)) st in
-      ap (λ (c : Read (Option ℕ)). c >>= λ n. elements_at left (is_raw S t) (λ c. read (elem S t) inside c) inside n.0 n.1) (counted t.nullable inside b n le e)
+      ap (λ (c : Read (Option ℕ)). c >>= λ n. elements_at left (is_raw S t) (λ c. read (elem S t) inside c) inside n.0 n.1) (counted t.nullable inside b n begins)
       ∙ rw (has, raw) (ap (λ (y : Read Items). y >>= λ vs. Ok (seq vs.0, vs.1))
       (items_stop (PartReads (elem S t)) (λ c s. read (elem S t) inside c ≡ Err s) (λ c. read (elem S t) inside c) (λ c q v h. law (elem S t) inside c q v type h) (λ c s h. h) vs n aw front rest s lt split each stopped))
 
@@ -249,7 +251,7 @@ module _ (S : List Decl) (sound : IsWhole S) (left : Bool) (PartReads : AidlType
   one_stops nullable inside base form.byte b s is bytes h = scalar_stops form.byte inside b s h
   one_stops nullable inside base form.char b s is bytes h = scalar_stops form.char inside b s h
   one_stops nullable inside base form.int b s is bytes h = scalar_stops form.int inside b s h
-  one_stops nullable inside base form.long b s is bytes (Passes.passes lt) = let e : nat_lt (length b) 8 ≡ true = grind (arith, nat_tests) in rw e refl
+  one_stops nullable inside base form.long b s is bytes (LongStop.short lt) = let e : nat_lt (length b) 8 ≡ true = grind (arith, nat_tests) in rw e refl
   one_stops nullable inside base form.text b s is bytes h = text_stops nullable inside b s bytes h
   one_stops nullable inside base (form.parcelable fs) b s is bytes h = record_stops nullable inside fs base b s is bytes h
   one_stops nullable inside base (form.union fs) b s is bytes h = union_stops nullable inside fs base b s is bytes h

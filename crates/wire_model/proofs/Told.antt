@@ -10,7 +10,7 @@ use Rattle.aidl_base.specs.Words.{word, word_of, long_word, long_of}
 use Rattle.aidl_schema.specs.Types.{Form}
 use Rattle.aidl_values.specs.Data.{Data, number}
 use Rattle.wire_model.specs.Status.{is_permitted}
-use Rattle.wire_model.specs.Stop.{first_word, after_word, WordStop, Passes, CountStop, MarkerStop}
+use Rattle.wire_model.specs.Stop.{first_word, after_word, WordStop, LongStop, Begins, CountStop, MarkerStop}
 use Rattle.wire_model.specs.ReadOf.{Read, ◌>>=◌, data_of_word, scalar_at, long_value_at, count_of, count_at, marker_of, marker_at}
 use Rattle.wire_model.proofs.Lists.{IsBytes, taken}
 use Rattle.wire_model.proofs.Again.{word_of-word, fits_pos}
@@ -72,9 +72,9 @@ module _ (IsRead : List ℕ → Data → Type 0) (f : Form) (inside : Bool) (b :
   word_told reads false true e g = let le : 4 ≤ length b = ltb-false _ _ e in rw (e, g) (take 4 b, sym (take-append-drop 4 b), reads g le)
   word_told reads false false e g = let le : 4 ≤ length b = ltb-false _ _ e in rw (e, g) (WordStop.not_permitted le g)
 
-  pub long_told : (8 ≤ length b → IsRead (take 8 b) (number (long_of (take 8 b)))) → (short : Bool) → nat_lt (length b) 8 ≡ short → Told IsRead (λ s. Passes 8 b inside s) b (long_value_at inside b)
+  pub long_told : (8 ≤ length b → IsRead (take 8 b) (number (long_of (take 8 b)))) → (short : Bool) → nat_lt (length b) 8 ≡ short → Told IsRead (λ s. LongStop b inside s) b (long_value_at inside b)
   unfolding long_value_at
-  long_told reads true e = rw e (Passes.passes (ltb-true _ _ e))
+  long_told reads true e = rw e (LongStop.short (ltb-true _ _ e))
   long_told reads false e = let le : 8 ≤ length b = ltb-false _ _ e in rw e (take 8 b, sym (take-append-drop 8 b), reads le)
 
 -- a count's word, and whether it is one
@@ -87,8 +87,8 @@ module _ (nullable inside : Bool) (b : List ℕ) (bytes : IsBytes b) where
       → Told (CountReads nullable) (λ s. CountStop nullable b inside s) b (count_of nullable w >>= λ m. Ok (m, drop 4 b))
   count_of_told (pos n) fits le is spelled may e = (take 4 b, sym (take-append-drop 4 b), (omega (arith, ints), sym spelled))
   count_of_told (negsuc zero) fits le is spelled true e = rw e (take 4 b, sym (take-append-drop 4 b), (refl, sym spelled))
-  count_of_told (negsuc zero) fits le is spelled false e = rw e (CountStop.null_count le is refl)
-  count_of_told (negsuc (suc n)) fits le is spelled may e = CountStop.negative le n is
+  count_of_told (negsuc zero) fits le is spelled false e = rw e (CountStop.null_count (le, is) refl)
+  count_of_told (negsuc (suc n)) fits le is spelled may e = CountStop.negative n (le, is)
 
   pub count_told : (short : Bool) → nat_lt (length b) 4 ≡ short → Told (CountReads nullable) (λ s. CountStop nullable b inside s) b (count_at nullable inside b)
   unfolding count_at
@@ -103,7 +103,7 @@ MarkerReads nullable front false = (nullable ≡ true) × (front ≡ word (pos 0
 module _ (nullable inside : Bool) (b : List ℕ) (bytes : IsBytes b) where
   marker_of_told : (w : ℤ) → 4 ≤ length b → first_word b ≡ w → word w ≡ take 4 b → (may : Bool) → nullable ≡ may → Told (MarkerReads nullable) (λ s. MarkerStop nullable b inside s) b (marker_of nullable w >>= λ m. Ok (m, drop 4 b))
   marker_of_told (pos zero) le is spelled true e = rw e (take 4 b, sym (take-append-drop 4 b), (refl, sym spelled))
-  marker_of_told (pos zero) le is spelled false e = rw e (MarkerStop.null_marker le is refl)
+  marker_of_told (pos zero) le is spelled false e = rw e (MarkerStop.null_marker (le, is) refl)
   marker_of_told (pos (suc zero)) le is spelled may e = (take 4 b, sym (take-append-drop 4 b), sym spelled)
   marker_of_told (pos (suc (suc n))) le is spelled may e = MarkerStop.not_marker le (λ k. let w : ◌≡◌ {A = ℤ} (pos (suc (suc n))) (pos 0) = sym is ∙ k in absurd cc) (λ k. let w : ◌≡◌ {A = ℤ} (pos (suc (suc n))) (pos 1) = sym is ∙ k in absurd cc)
   marker_of_told (negsuc n) le is spelled may e = MarkerStop.not_marker le (λ k. let w : ◌≡◌ {A = ℤ} (negsuc n) (pos 0) = sym is ∙ k in absurd cc) (λ k. let w : ◌≡◌ {A = ℤ} (negsuc n) (pos 1) = sym is ∙ k in absurd cc)
@@ -115,11 +115,8 @@ module _ (nullable inside : Bool) (b : List ℕ) (bytes : IsBytes b) where
 
 -- a word of a number and what follows it
 module _ (b rest : List ℕ) (n : ℕ) (lt : n < 2 ^ 31) (e : b ≡ word (pos n) ++ rest) where
-  pub head_word : first_word b ≡ pos n
-  head_word = ap first_word e ∙ word_of-word (pos n) (fits_pos n lt)
+  pub begins : Begins (pos n) b
+  begins = (omega (arith, ap length e, length-append (word (pos n)) rest), ap first_word e ∙ word_of-word (pos n) (fits_pos n lt))
 
   pub tail_word : after_word b ≡ rest
   tail_word = ap after_word e
-
-  pub whole_head : 4 ≤ length b
-  whole_head = omega (arith, ap length e, length-append (word (pos n)) rest)

@@ -18,7 +18,7 @@ use Rattle.wire_model.specs.ReadOf.{Read, ◌>>=◌, all_zero, raw_items, raw_at
 use Rattle.wire_model.proofs.Lists.{take_len, IsBytes, taken, bytes_rest}
 use Rattle.wire_model.proofs.Forms.{raw_form}
 use Rattle.wire_model.proofs.RawForms.{padded_is, zero_padding, bytes_of_items, count_of_items, items_typed}
-use Rattle.wire_model.proofs.Told.{Told, told_then, CountReads, count_told, head_word, tail_word, whole_head}
+use Rattle.wire_model.proofs.Told.{Told, told_then, CountReads, count_told, begins, tail_word}
 
 module _ (PartReads : List ℕ → Data → Type 0) (PartStops : List ℕ → ℤ → Type 0) (read : List ℕ → Read Data) (law : (b : List ℕ) → IsBytes b → Told PartReads (λ s. PartStops b s) b (read b)) where
   abbrev pub CountRead : ℕ → List ℕ → Items → Type 0
@@ -95,7 +95,7 @@ module _ (left : Bool) (S : List Decl) (t : AidlType) (PartReads : List ℕ → 
       (has, subst (λ m. m < 2 ^ 31) (sym h.2.0) lt, h.2.2, h.0, ap (λ m. word (pos m) ++ h.0) (sym h.2.0), rw raw h.2.1),
     )
     raw_outcome raw (Err s) h =
-        SequenceStop.at_bytes (whole_head b rest n lt e) n (head_word b rest n lt e) has raw (subst (λ c. BlockStop (n + padding n) (IsPadded n) c inside s) tail h)
+        SequenceStop.at_bytes n (begins b rest n lt e) has raw (subst (λ c. BlockStop (n + padding n) (IsPadded n) c inside s) tail h)
 
     items_outcome : is_raw S t ≡ false → (y : Read Items) → Told (CountRead PartReads PartStops read (law has) n) (λ s. ElementsStop PartReads PartStops n rest s) rest y → Outcome (y >>= λ vs. Ok (seq vs.0, vs.1))
     items_outcome apart (Ok x) h = (
@@ -104,7 +104,7 @@ module _ (left : Bool) (S : List Decl) (t : AidlType) (PartReads : List ℕ → 
       (has, subst (λ m. m < 2 ^ 31) (sym h.2.0) lt, read_types S (elem S t) PartReads typed x.0 h.0 h.2.1, h.0, ap (λ m. word (pos m) ++ h.0) (sym h.2.0), rw apart h.2.1),
     )
     items_outcome apart (Err s) h =
-        SequenceStop.at_elements (whole_head b rest n lt e) n (head_word b rest n lt e) has apart (subst (λ c. ElementsStop PartReads PartStops n c s) tail h)
+        SequenceStop.at_elements n (begins b rest n lt e) has apart (subst (λ c. ElementsStop PartReads PartStops n c s) tail h)
 
     parts_told : IsBytes rest → (raw : Bool) → is_raw S t ≡ raw → Outcome ((cond raw (raw_at n inside rest) (items_at read n rest)) >>= λ vs. Ok (seq vs.0, vs.1))
     parts_told rest_bytes true is = raw_outcome is (raw_at n inside rest) (raw_told S t (raw_form S t is) n inside rest rest_bytes (nat_lt (length rest) (n + padding n)) refl)
@@ -121,5 +121,5 @@ module _ (left : Bool) (S : List Decl) (t : AidlType) (PartReads : List ℕ → 
       by_count (Some n) front rest e h = by_level left refl (e ∙ ap (λ c. c ++ rest) h.1) (bytes_rest front rest (subst IsBytes e bytes))
         where
           by_level : (l : Bool) → left ≡ l → b ≡ word (pos n) ++ rest → IsBytes rest → Outcome (elements_at l (is_raw S t) read inside (Some n) rest)
-          by_level false has split rest_bytes = SequenceStop.too_deep (whole_head b rest n h.0 split) n (head_word b rest n h.0 split) has refl
+          by_level false has split rest_bytes = SequenceStop.too_deep n (begins b rest n h.0 split) has refl
           by_level true has split rest_bytes = parts_told has n h.0 rest split rest_bytes (is_raw S t) refl

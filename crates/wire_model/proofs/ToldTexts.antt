@@ -11,7 +11,7 @@ use Rattle.wire_model.specs.Status.{bad_value, past}
 use Rattle.wire_model.specs.Stop.{BlockStop, TextStop, CountStop, block_len, IsBlock}
 use Rattle.wire_model.specs.ReadOf.{count_at, text_of, ok_text, text_block_at, text_at, all_zero, units_of}
 use Rattle.wire_model.proofs.Lists.{take_len, IsBytes, taken, bytes_rest}
-use Rattle.wire_model.proofs.Told.{Told, told_then, CountReads, count_told, head_word, tail_word, whole_head}
+use Rattle.wire_model.proofs.Told.{Told, told_then, CountReads, count_told, begins, tail_word}
 use Rattle.wire_model.proofs.AgainTexts.{text_back}
 use Rattle.wire_model.proofs.TextForms.{block_of}
 
@@ -36,10 +36,8 @@ module _ (nullable inside : Bool) (b : List ℕ) (bytes : IsBytes b) where
       → Told (TextReads nullable) (λ s. TextStop nullable b inside s) b (text_block_at inside (Some n) rest)
   unfolding text_block_at
   block_told n rest lt e true is =
-      let le = whole_head b rest n lt e in
-      let first = head_word b rest n lt e in
       let tail = sym (tail_word b rest n lt e) in
-      rw is (TextStop.at_block le n first (subst (λ c. BlockStop (block_len n) (IsBlock n) c inside (past inside)) tail (BlockStop.long_block (ltb-true _ _ is))))
+      rw is (TextStop.at_block n (begins b rest n lt e) (subst (λ c. BlockStop (block_len n) (IsBlock n) c inside (past inside)) tail (BlockStop.long_block (ltb-true _ _ is))))
   block_told n rest lt e false is = rw is (by_block (is_block n (take (block_len n) rest) (taken (block_len n) rest rest_bytes) (take_len (block_len n) rest within)))
     where
       within : block_len n ≤ length rest
@@ -59,11 +57,9 @@ module _ (nullable inside : Bool) (b : List ℕ) (bytes : IsBytes b) where
           let spelled : front ≡ spell_text x = ap (λ c. word (pos n) ++ c) h.3 ∙ ap (λ m. word (pos m) ++ block x) (sym h.2) in
           rw found (front, split, (h.1, small, spelled))
       by_block (inr h) =
-          let le = whole_head b rest n lt e in
-          let first = head_word b rest n lt e in
           let tail = sym (tail_word b rest n lt e) in
           let wrong : IsBlock n (take (block_len n) rest) → ⊥ = λ k. no_text k in
-          rw h (TextStop.at_block le n first (subst (λ c. BlockStop (block_len n) (IsBlock n) c inside bad_value) tail (BlockStop.wrong_block within wrong)))
+          rw h (TextStop.at_block n (begins b rest n lt e) (subst (λ c. BlockStop (block_len n) (IsBlock n) c inside bad_value) tail (BlockStop.wrong_block within wrong)))
         where
           no_text : IsBlock n (take (block_len n) rest) → ⊥
           no_text k =

@@ -9,12 +9,12 @@ use Rattle.aidl_schema.specs.declared.schema.AidlType.{AidlType}
 use Rattle.aidl_schema.specs.Types.{is_type}
 use Rattle.aidl_values.specs.Data.{Data, null, alt}
 use Rattle.aidl_values.specs.Sound.{AreTypes}
-use Rattle.wire_model.specs.Status.{bad_value}
-use Rattle.wire_model.specs.Stop.{first_word, after_word, MarkerStop, UnionStop}
+use Rattle.wire_model.specs.Status.{bad_value, past}
+use Rattle.wire_model.specs.Stop.{first_word, after_word, Begins, MarkerStop, TagStop, UnionStop}
 use Rattle.wire_model.specs.ReadOf.{Read, ◌>>=◌, marker_at, marked_at, tag_of, tag_at, ok_field, tagged_at, union_at}
 use Rattle.wire_model.proofs.Lists.{IsBytes, dropped, bytes_rest}
 use Rattle.wire_model.proofs.Sound.{field_type}
-use Rattle.wire_model.proofs.Told.{Told, told_then, spells_word, MarkerReads, marker_told, head_word, tail_word, whole_head}
+use Rattle.wire_model.proofs.Told.{Told, told_then, spells_word, MarkerReads, marker_told, begins, tail_word}
 
 -- what is read at a union's place; `left` says that a level is left
 abbrev pub UnionReads : Bool → (AidlType → List ℕ → Data → Type 0) → Bool → List Field → List ℕ → Data → Type 0
@@ -52,12 +52,12 @@ module _ (left : Bool) (S : List Decl) (PartReads : AidlType → List ℕ → Da
         let split : rest ≡ word (pos k) ++ (h.0 ++ x.1) = sym (take-append-drop 4 rest) ∙ ap (λ c. take 4 rest ++ c) h.1 ∙ ap (λ w. w ++ (h.0 ++ x.1)) (sym spelled) in
         (word (pos 1) ++ (word (pos k) ++ h.0), e ∙ ap (λ c. word (pos 1) ++ c) split, (has, f, at, h.0, refl, h.2))
     value_told k f le is at (Err s) h =
-        UnionStop.at_field (whole_head b rest 1 one e) (head_word b rest 1 one e) has (subst (λ c. 4 ≤ length c) tail le) k (subst (λ c. first_word c ≡ pos k) tail is) f at
+        UnionStop.at_field (begins b rest 1 one e) has k (subst (λ c. Begins (pos k) c) tail (le, is)) f at
         (subst (λ c. PartStops f.ty (after_word c) inside s) tail h)
 
     no_tag : 4 ≤ length rest → ((k : ℕ) → first_word rest ≡ pos k → length fs ≤ k) → Outcome (Err bad_value)
     no_tag le none =
-        UnionStop.no_tag (whole_head b rest 1 one e) (head_word b rest 1 one e) has (subst (λ c. 4 ≤ length c) tail le) (subst (λ c. (k : ℕ) → first_word c ≡ pos k → length fs ≤ k) tail none) refl
+        UnionStop.at_tag (begins b rest 1 one e) has (subst (λ c. TagStop fs c inside bad_value) tail (TagStop.no_tag le none))
 
     field_told : (k : ℕ) → 4 ≤ length rest → first_word rest ≡ pos k → (o : Option Field) → slice_get fs k ≡ o
         → Outcome (ok_field o >>= λ f. read f.ty inside (after_word rest) >>= λ v. Ok (alt k v.0, v.1))
@@ -70,7 +70,7 @@ module _ (left : Bool) (S : List Decl) (PartReads : AidlType → List ℕ → Da
 
     there_told : (short : Bool) → nat_lt (length rest) 4 ≡ short → Outcome (tagged_at (λ u c. read u inside c) fs inside rest)
     unfolding tagged_at tag_at
-    there_told true is = rw is (UnionStop.at_tag (whole_head b rest 1 one e) (head_word b rest 1 one e) has (subst (λ c. length c < 4) tail (ltb-true _ _ is)) refl)
+    there_told true is = rw is (UnionStop.at_tag (begins b rest 1 one e) has (subst (λ c. TagStop fs c inside (past inside)) tail (TagStop.short (ltb-true _ _ is))))
     there_told false is = rw is (word_told (first_word rest) (ltb-false _ _ is) refl)
 
   pub union_told : Outcome (union_at left nullable (λ u c. read u inside c) fs inside b)
@@ -84,5 +84,5 @@ module _ (left : Bool) (S : List Decl) (PartReads : AidlType → List ℕ → Da
       by_marker true front rest e h = by_level left refl rest (e ∙ ap (λ c. c ++ rest) h) (bytes_rest front rest (subst IsBytes e bytes))
         where
           by_level : (l : Bool) → left ≡ l → (rest : List ℕ) → b ≡ word (pos 1) ++ rest → IsBytes rest → Outcome (marked_at l (λ c. tagged_at (λ u c. read u inside c) fs inside c) true rest)
-          by_level false has rest split rest_bytes = UnionStop.too_deep (whole_head b rest 1 one split) (head_word b rest 1 one split) has refl
+          by_level false has rest split rest_bytes = UnionStop.too_deep (begins b rest 1 one split) has refl
           by_level true has rest split rest_bytes = there_told has rest split rest_bytes (nat_lt (length rest) 4) refl

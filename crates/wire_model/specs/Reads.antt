@@ -11,13 +11,17 @@ use Rattle.aidl_values.specs.HasType.{HasType}
 use Rattle.aidl_values.specs.Default.{AreInitial}
 use Rattle.wire_model.specs.Spell.{spell, raw_bytes}
 
+-- of which bytes values of each type are read
+abbrev pub Readings : Type 1
+Readings = AidlType → List ℕ → Data → Type 0
+
 -- readings of the items, one after the other; `PartReads` says what one item's reading is
 abbrev pub EachReads : (List ℕ → Data → Type 0) → List ℕ → Items → Type 0
 EachReads PartReads b none = b ≡ []
 EachReads PartReads b (item v vs) = (front rest : List ℕ) × (b ≡ front ++ rest) × PartReads front v × EachReads PartReads rest vs
 
 -- readings of the first fields; then the end, where each later field has its default, or after the last field any rest
-abbrev pub FieldsRead : List Decl → (AidlType → List ℕ → Data → Type 0) → List Field → List ℕ → Items → Type 0
+abbrev pub FieldsRead : List Decl → Readings → List Field → List ℕ → Items → Type 0
 FieldsRead S PartReads [] b none = Unit {0}
 FieldsRead S PartReads [] b (item v vs) = ⊥
 FieldsRead S PartReads (f ∷ fs) b none = ⊥
@@ -25,7 +29,7 @@ FieldsRead S PartReads (f ∷ fs) b (item v vs) = ((b ≡ []) × AreInitial S (f
     ⊎ ((front rest : List ℕ) × (b ≡ front ++ rest) × PartReads f.ty front v × FieldsRead S PartReads fs rest vs)
 
 -- a record's body: a size, a multiple of 4 below 2 ^ 31, and as many bytes, the size word counted
-abbrev pub BodyReads : List Decl → (AidlType → List ℕ → Data → Type 0) → List Field → List ℕ → Items → Type 0
+abbrev pub BodyReads : List Decl → Readings → List Field → List ℕ → Items → Type 0
 BodyReads S PartReads fs b vs = (inner : List ℕ) × (b ≡ word (pos (4 + length inner)) ++ inner) × (length inner % 4 ≡ 0) × (4 + length inner < 2 ^ 31) × FieldsRead S PartReads fs inner vs
 
 -- The bytes b are one reading of the value. What has parts needs a level, and its parts are read with one less.

@@ -1,6 +1,7 @@
 -- Which bytes begin no reading, and the status of the first wrong item (own, the strict profile). One constructor is one way to stop.
--- S is the schema's declarations, d the composite levels left, t the type, b the bytes up to the limit; `inside` says that a record is being read.
-use Rattle.std.specs.Prelude.{◌≡◌, ◌≢◌, ℕ, zero, suc, ◌+◌, ◌-◌, ◌*◌, ◌%◌, ◌<◌, ◌≤◌, ℤ, pos, negsuc, Bool, true, false, List, [], ◌∷◌, ◌++◌, length, take, drop, Some, slice_get, IsTrue, MatchBool}
+-- S is the schema's declarations, d the composite levels left, t the type, b the bytes up to the limit, s the status; `inside` says that a
+-- record is being read. What is said of a part is an argument: `PartReads` says of which bytes it is read, `PartStops` where it stops.
+use Rattle.std.specs.Prelude.{◌≡◌, ◌≢◌, ℕ, zero, suc, ◌+◌, ◌-◌, ◌*◌, ◌%◌, ◌<◌, ◌≤◌, ℤ, pos, negsuc, Bool, true, false, List, [], ◌∷◌, ◌++◌, length, take, drop, Option, Some, slice_get, IsTrue, MatchBool}
 use Rattle.std.specs.Str.{all_scalars}
 use Rattle.aidl_base.specs.Words.{word_of, pad, padding, units, block}
 use Rattle.aidl_schema.specs.declared.schema.Decl.{Decl}
@@ -10,7 +11,11 @@ use Rattle.aidl_schema.specs.Types.{Form, form_of, is_one, is_raw, elem}
 use Rattle.aidl_schema.specs.Types as form
 use Rattle.aidl_values.specs.Data.{Data, Items, none, item, count}
 use Rattle.wire_model.specs.Status.{bad_value, unexpected_null, past, is_permitted}
-use Rattle.wire_model.specs.Reads.{EachReads, Reads}
+use Rattle.wire_model.specs.Reads.{Readings, EachReads, Reads}
+
+-- where values of each type stop, and with which status
+abbrev pub Stoppings : Type 1
+Stoppings = AidlType → List ℕ → Bool → ℤ → Type 0
 
 -- the first word (Parcel.cpp: `readInt32`), and what is left after it
 abbrev pub first_word : List ℕ → ℤ
@@ -19,26 +24,24 @@ first_word b = word_of (take 4 b)
 abbrev pub after_word : List ℕ → List ℕ
 after_word b = drop 4 b
 
--- a long (`readInt64`): an item of n bytes passes the limit
-pub data Passes (n : ℕ) (b : List ℕ) (inside : Bool) : ℤ → Type 0 where
-  passes : length b < n → Passes n b inside (past inside)
+-- the first word is there, and is n
+abbrev pub Begins : ℤ → List ℕ → Type 0
+Begins n b = (4 ≤ length b) × (first_word b ≡ n)
 
--- a boolean, byte, char, int or enum (`readBool`, `readByte`, `readChar`, `readInt32`)
+-- a boolean, byte, char, int or enum (`readBool`, `readByte`, `readChar`, `readInt32`): no word, or one that its type doesn't permit
 pub data WordStop (f : Form) (b : List ℕ) (inside : Bool) : ℤ → Type 0 where
   short : length b < 4 → WordStop f b inside (past inside)
   not_permitted : 4 ≤ length b → is_permitted f (first_word b) ≡ false → WordStop f b inside bad_value
 
--- the count of a text or of a sequence
+-- a long or an enum of long (`readInt64`)
+pub data LongStop (b : List ℕ) (inside : Bool) : ℤ → Type 0 where
+  short : length b < 8 → LongStop b inside (past inside)
+
+-- the count of a String or of a sequence
 pub data CountStop (nullable : Bool) (b : List ℕ) (inside : Bool) : ℤ → Type 0 where
   short : length b < 4 → CountStop nullable b inside (past inside)
-  null_count : 4 ≤ length b → first_word b ≡ negsuc 0 → nullable ≡ false → CountStop nullable b inside unexpected_null
-  negative : 4 ≤ length b → (n : ℕ) → first_word b ≡ negsuc (suc n) → CountStop nullable b inside bad_value
-
--- the marker of a parcelable or union (`readParcelable`)
-pub data MarkerStop (nullable : Bool) (b : List ℕ) (inside : Bool) : ℤ → Type 0 where
-  short : length b < 4 → MarkerStop nullable b inside (past inside)
-  null_marker : 4 ≤ length b → first_word b ≡ pos 0 → nullable ≡ false → MarkerStop nullable b inside unexpected_null
-  not_marker : 4 ≤ length b → first_word b ≢ pos 0 → first_word b ≢ pos 1 → MarkerStop nullable b inside bad_value
+  null_count : Begins (negsuc 0) b → nullable ≡ false → CountStop nullable b inside unexpected_null
+  negative : (n : ℕ) → Begins (negsuc (suc n)) b → CountStop nullable b inside bad_value
 
 -- an item of n bytes: beyond the limit, or inside it and not of the form that is asked
 pub data BlockStop (n : ℕ) (HasForm : List ℕ → Type 0) (b : List ℕ) (inside : Bool) : ℤ → Type 0 where
@@ -53,75 +56,90 @@ block_len n = let bytes = 2 * (n + 1) in bytes + padding bytes
 abbrev pub IsBlock : ℕ → List ℕ → Type 0
 IsBlock n b = (x : List ℕ) × IsTrue (all_scalars x) × (length (units x) ≡ n) × (b ≡ block x)
 
+-- a String (`readString16`): its count, or its block
+pub data TextStop (nullable : Bool) (b : List ℕ) (inside : Bool) (s : ℤ) : Type 0 where
+  at_count : CountStop nullable b inside s → TextStop nullable b inside s
+  at_block : (n : ℕ) → Begins (pos n) b → BlockStop (block_len n) (IsBlock n) (after_word b) inside s → TextStop nullable b inside s
+
 -- n raw bytes, padded with zeros
 abbrev pub IsPadded : ℕ → List ℕ → Type 0
 IsPadded n b = b ≡ pad (take n b)
 
--- a String (`readString16`)
-pub data TextStop (nullable : Bool) (b : List ℕ) (inside : Bool) (s : ℤ) : Type 0 where
-  at_count : CountStop nullable b inside s → TextStop nullable b inside s
-  at_block : 4 ≤ length b → (n : ℕ) → first_word b ≡ pos n → BlockStop (block_len n) (IsBlock n) (after_word b) inside s → TextStop nullable b inside s
-
--- the elements of a sequence: fewer than the count are read, and the next one stops
+-- n elements: fewer are read, and the next one stops on what is left
 pub data ElementsStop (PartReads : List ℕ → Data → Type 0) (PartStops : List ℕ → ℤ → Type 0) (n : ℕ) (b : List ℕ) (s : ℤ) : Type 0 where
   at_element : (vs : Items) → count vs < n → (front rest : List ℕ) → b ≡ front ++ rest → EachReads PartReads front vs → PartStops rest s → ElementsStop PartReads PartStops n b s
 
--- an array or a List: `left` says that a level is left, `raw` that the elements are raw bytes
+-- an array or a List: its count, its raw bytes (`readByteVector`), or an element; `left` says that a level is left
 pub data SequenceStop (left raw nullable : Bool) (PartReads : List ℕ → Data → Type 0) (PartStops : List ℕ → ℤ → Type 0) (b : List ℕ) (inside : Bool) (s : ℤ) : Type 0 where
   at_count : CountStop nullable b inside s → SequenceStop left raw nullable PartReads PartStops b inside s
-  too_deep : 4 ≤ length b → (n : ℕ) → first_word b ≡ pos n → left ≡ false → s ≡ bad_value → SequenceStop left raw nullable PartReads PartStops b inside s
-  at_bytes : 4 ≤ length b → (n : ℕ) → first_word b ≡ pos n → left ≡ true → raw ≡ true
-      → BlockStop (n + padding n) (IsPadded n) (after_word b) inside s → SequenceStop left raw nullable PartReads PartStops b inside s
-  at_elements : 4 ≤ length b → (n : ℕ) → first_word b ≡ pos n → left ≡ true → raw ≡ false
-      → ElementsStop PartReads PartStops n (after_word b) s → SequenceStop left raw nullable PartReads PartStops b inside s
+  too_deep : (n : ℕ) → Begins (pos n) b → left ≡ false → s ≡ bad_value → SequenceStop left raw nullable PartReads PartStops b inside s
+  at_bytes : (n : ℕ) → Begins (pos n) b → left ≡ true → raw ≡ true → BlockStop (n + padding n) (IsPadded n) (after_word b) inside s → SequenceStop left raw nullable PartReads PartStops b inside s
+  at_elements : (n : ℕ) → Begins (pos n) b → left ≡ true → raw ≡ false → ElementsStop PartReads PartStops n (after_word b) s → SequenceStop left raw nullable PartReads PartStops b inside s
 
--- a record's size word, and with it the record's end; b begins at the size word
+-- the marker of a parcelable or union (`readParcelable`)
+pub data MarkerStop (nullable : Bool) (b : List ℕ) (inside : Bool) : ℤ → Type 0 where
+  short : length b < 4 → MarkerStop nullable b inside (past inside)
+  null_marker : Begins (pos 0) b → nullable ≡ false → MarkerStop nullable b inside unexpected_null
+  not_marker : 4 ≤ length b → first_word b ≢ pos 0 → first_word b ≢ pos 1 → MarkerStop nullable b inside bad_value
+
+-- a size word: at least 4, for itself, and a multiple of 4
+abbrev pub HasSize : ℕ → List ℕ → Type 0
+HasSize z b = Begins (pos z) b × (4 ≤ z) × (z % 4 ≡ 0)
+
+-- the size of a record whose bytes begin with it: none, or one that passes the limit
 pub data SizeStop (b : List ℕ) (inside : Bool) : ℤ → Type 0 where
   short : length b < 4 → SizeStop b inside (past inside)
-  no_size : 4 ≤ length b → ((z : ℕ) → first_word b ≡ pos z → 4 ≤ z → z % 4 ≡ 0 → ⊥) → SizeStop b inside bad_value
-  long_record : 4 ≤ length b → (z : ℕ) → first_word b ≡ pos z → 4 ≤ z → z % 4 ≡ 0 → length b < z → SizeStop b inside (past inside)
+  no_size : 4 ≤ length b → ((z : ℕ) → HasSize z b → ⊥) → SizeStop b inside bad_value
+  long_record : (z : ℕ) → HasSize z b → length b < z → SizeStop b inside (past inside)
 
 -- the bytes of a record of size z after its size word
 abbrev pub fields_bytes : ℕ → List ℕ → List ℕ
 fields_bytes z b = take (z - 4) (after_word b)
 
 -- readings of these fields, each of them there
-abbrev pub FieldsThere : (AidlType → List ℕ → Data → Type 0) → List Field → List ℕ → Items → Type 0
+abbrev pub FieldsThere : Readings → List Field → List ℕ → Items → Type 0
 FieldsThere PartReads [] b none = b ≡ []
 FieldsThere PartReads [] b (item v vs) = ⊥
 FieldsThere PartReads (f ∷ fs) b none = ⊥
 FieldsThere PartReads (f ∷ fs) b (item v vs) = (front rest : List ℕ) × (b ≡ front ++ rest) × PartReads f.ty front v × FieldsThere PartReads fs rest vs
 
--- a parcelable: at a field the first fields are read, something is left, and the next field stops on it inside the record
-pub data RecordStop (left nullable : Bool) (fs : List Field) (PartReads : AidlType → List ℕ → Data → Type 0) (PartStops : AidlType → List ℕ → Bool → ℤ → Type 0) (b : List ℕ) (inside : Bool) (s : ℤ) : Type 0 where
-  at_marker : MarkerStop nullable b inside s → RecordStop left nullable fs PartReads PartStops b inside s
-  too_deep : 4 ≤ length b → first_word b ≡ pos 1 → left ≡ false → s ≡ bad_value → RecordStop left nullable fs PartReads PartStops b inside s
-  at_size : 4 ≤ length b → first_word b ≡ pos 1 → left ≡ true → SizeStop (after_word b) inside s → RecordStop left nullable fs PartReads PartStops b inside s
-  at_field : 4 ≤ length b → first_word b ≡ pos 1 → left ≡ true → 4 ≤ length (after_word b) → (z : ℕ) → first_word (after_word b) ≡ pos z → 4 ≤ z → z % 4 ≡ 0 → z ≤ length (after_word b)
-      → (i : ℕ) → (f : Field) → slice_get fs i ≡ Some f → (vs : Items) → (front rest : List ℕ) → fields_bytes z (after_word b) ≡ front ++ rest
-      → FieldsThere PartReads (take i fs) front vs → rest ≢ [] → PartStops f.ty rest true s → RecordStop left nullable fs PartReads PartStops b inside s
+-- the fields of a record whose bytes are b: the first i are read, something is left, and the next one stops on it, inside the record
+pub data FieldsStop (fs : List Field) (PartReads : Readings) (PartStops : Stoppings) (b : List ℕ) (s : ℤ) : Type 0 where
+  at_field : (i : ℕ) → (f : Field) → slice_get fs i ≡ Some f → (vs : Items) → (front rest : List ℕ) → b ≡ front ++ rest → FieldsThere PartReads (take i fs) front vs
+      → rest ≢ [] → PartStops f.ty rest true s → FieldsStop fs PartReads PartStops b s
 
--- a union: its tag is the position of a field
-pub data UnionStop (left nullable : Bool) (fs : List Field) (PartStops : AidlType → List ℕ → Bool → ℤ → Type 0) (b : List ℕ) (inside : Bool) (s : ℤ) : Type 0 where
+-- a parcelable: its marker, its size, or a field
+pub data RecordStop (left nullable : Bool) (fs : List Field) (PartReads : Readings) (PartStops : Stoppings) (b : List ℕ) (inside : Bool) (s : ℤ) : Type 0 where
+  at_marker : MarkerStop nullable b inside s → RecordStop left nullable fs PartReads PartStops b inside s
+  too_deep : Begins (pos 1) b → left ≡ false → s ≡ bad_value → RecordStop left nullable fs PartReads PartStops b inside s
+  at_size : Begins (pos 1) b → left ≡ true → SizeStop (after_word b) inside s → RecordStop left nullable fs PartReads PartStops b inside s
+  at_fields : Begins (pos 1) b → left ≡ true → (z : ℕ) → HasSize z (after_word b) → z ≤ length (after_word b) → FieldsStop fs PartReads PartStops (fields_bytes z (after_word b)) s
+      → RecordStop left nullable fs PartReads PartStops b inside s
+
+-- the tag of a union: none, or no position of a field
+pub data TagStop (fs : List Field) (b : List ℕ) (inside : Bool) : ℤ → Type 0 where
+  short : length b < 4 → TagStop fs b inside (past inside)
+  no_tag : 4 ≤ length b → ((k : ℕ) → first_word b ≡ pos k → length fs ≤ k) → TagStop fs b inside bad_value
+
+-- a union: its marker, its tag, or its field
+pub data UnionStop (left nullable : Bool) (fs : List Field) (PartStops : Stoppings) (b : List ℕ) (inside : Bool) (s : ℤ) : Type 0 where
   at_marker : MarkerStop nullable b inside s → UnionStop left nullable fs PartStops b inside s
-  too_deep : 4 ≤ length b → first_word b ≡ pos 1 → left ≡ false → s ≡ bad_value → UnionStop left nullable fs PartStops b inside s
-  at_tag : 4 ≤ length b → first_word b ≡ pos 1 → left ≡ true → length (after_word b) < 4 → s ≡ past inside → UnionStop left nullable fs PartStops b inside s
-  no_tag : 4 ≤ length b → first_word b ≡ pos 1 → left ≡ true → 4 ≤ length (after_word b) → ((k : ℕ) → first_word (after_word b) ≡ pos k → length fs ≤ k) → s ≡ bad_value
+  too_deep : Begins (pos 1) b → left ≡ false → s ≡ bad_value → UnionStop left nullable fs PartStops b inside s
+  at_tag : Begins (pos 1) b → left ≡ true → TagStop fs (after_word b) inside s → UnionStop left nullable fs PartStops b inside s
+  at_field : Begins (pos 1) b → left ≡ true → (k : ℕ) → Begins (pos k) (after_word b) → (f : Field) → slice_get fs k ≡ Some f → PartStops f.ty (after_word (after_word b)) inside s
       → UnionStop left nullable fs PartStops b inside s
-  at_field : 4 ≤ length b → first_word b ≡ pos 1 → left ≡ true → 4 ≤ length (after_word b) → (k : ℕ) → first_word (after_word b) ≡ pos k → (f : Field) → slice_get fs k ≡ Some f
-      → PartStops f.ty (after_word (after_word b)) inside s → UnionStop left nullable fs PartStops b inside s
 
 -- one value that is no sequence, by what its type means
-abbrev pub OneStop : Bool → (AidlType → List ℕ → Data → Type 0) → (AidlType → List ℕ → Bool → ℤ → Type 0) → Bool → Form → List ℕ → Bool → ℤ → Type 0
-OneStop left PartReads PartStops nullable form.long b inside s = Passes 8 b inside s
+abbrev pub OneStop : Bool → Readings → Stoppings → Bool → Form → List ℕ → Bool → ℤ → Type 0
+OneStop left PartReads PartStops nullable form.long b inside s = LongStop b inside s
 OneStop left PartReads PartStops nullable form.text b inside s = TextStop nullable b inside s
 OneStop left PartReads PartStops nullable (form.parcelable fs) b inside s = RecordStop left nullable fs PartReads PartStops b inside s
 OneStop left PartReads PartStops nullable (form.union fs) b inside s = UnionStop left nullable fs PartStops b inside s
 OneStop left PartReads PartStops nullable form.nothing b inside s = ⊥
 OneStop left PartReads PartStops nullable f b inside s = WordStop f b inside s
 
--- one level, with what its parts' readings and stops are
-abbrev pub StopBy : List Decl → Bool → (AidlType → List ℕ → Data → Type 0) → (AidlType → List ℕ → Bool → ℤ → Type 0) → AidlType → List ℕ → Bool → ℤ → Type 0
+-- one level
+abbrev pub StopBy : List Decl → Bool → Readings → Stoppings → AidlType → List ℕ → Bool → ℤ → Type 0
 StopBy S left PartReads PartStops t b inside s = MatchBool (is_one t.shape)
     (OneStop left PartReads PartStops t.nullable (form_of S t.base) b inside s)
     (SequenceStop left (is_raw S t) t.nullable (PartReads (elem S t)) (λ rest s. PartStops (elem S t) rest inside s) b inside s)
