@@ -1,0 +1,19 @@
+use Rattle.std.proofs.Common.{arith}
+use Rattle.wire_model.proofs.Lists.{IsBytes}
+use Rattle.wire_model.proofs.Reading.{reads_or_stops, not_both, one_status}
+use Rattle.wire_model.proofs.laws.law_reads_or_stops.Goals as goal
+
+pub returns : goal.returns
+returns c =
+    let S = c.args.schema.now.decls in
+    let sound = c.requires.sound in
+    let known = c.requires.known in
+    let d = c.args.levels in
+    let t = c.args.ty.now in
+    let b = c.args.b.now in
+    let bytes : IsBytes b = λ i. omega (arith, c.type_inv.b i) in
+    record {
+      one = reads_or_stops S sound d t known c.args.inside b bytes;
+      not_both = not_both S sound d t known c.args.inside b bytes;
+      one_status = one_status S sound d t known c.args.inside b bytes c.args.first c.args.second;
+    }

@@ -1,0 +1,5 @@
+pub mod ReadOf
+pub mod Reads
+pub mod Spell
+pub mod Status
+pub mod Stop

@@ -1,0 +1,59 @@
+ghost use Rattle.std.specs.Prelude.{◌≡◌, ◌≤◌, ◌++◌, ◌⊎◌, true, List, ℕ, length};
+ghost use Rattle.aidl_schema.specs.Types.{is_type};
+ghost use Rattle.aidl_values.specs.Data.{depth_of};
+ghost use Rattle.aidl_values.specs.HasType.{HasType};
+ghost use Rattle.aidl_values.specs.Sound.{IsSound};
+ghost use Rattle.aidl_values.specs.View.{view};
+ghost use Rattle.wire_model.specs.Reads.{FrontReads, Reads};
+ghost use Rattle.wire_model.specs.Spell.{spell};
+ghost use Rattle.wire_model.specs.Stop.{Stop, Stops};
+
+use aidl_schema::{AidlType, Schema};
+use aidl_values::Value;
+
+/// What spells a value is a reading of it.
+pub fn law_spelled_reads(schema: &Schema, ty: &AidlType, levels: usize, value: &Value)
+    requires typed { HasType schema.now.decls ty.now (view value.now) }
+    requires deep { depth_of (view value.now) ≤ levels }
+    requires few { levels ≤ 64 }
+    requires small { length (spell schema.now.decls ty.now (view value.now)) ≤ 1048576 }
+    ensures { Reads schema.now.decls levels ty.now (spell schema.now.decls ty.now (view value.now)) (view value.now) }
+{}
+
+/// No reading is the front of a longer one of the same type and level, and a reading is of one value.
+pub fn law_one_reading(
+    schema: &Schema,
+    ty: &AidlType,
+    levels: usize,
+    b: &[u8],
+    c: &[u8],
+    first: &Value,
+    second: &Value,
+)
+    requires sound { IsSound schema.now.decls }
+    requires known { is_type schema.now.decls ty.now ≡ true }
+    requires one { Reads schema.now.decls levels ty.now b.now (view first.now) }
+    requires two { Reads schema.now.decls levels ty.now c.now (view second.now) }
+    requires front { (rest : List ℕ) × (c.now ≡ b.now ++ rest) }
+    ensures bytes { b.now ≡ c.now }
+    ensures values { view first.now ≡ view second.now }
+{}
+
+/// Bytes begin a reading or stop, never both, and they stop with one status alone: `first` and `second` are two.
+pub fn law_reads_or_stops(
+    schema: &Schema,
+    ty: &AidlType,
+    levels: usize,
+    b: &[u8],
+    inside: bool,
+    first: i32,
+    second: i32,
+)
+    requires sound { IsSound schema.now.decls }
+    requires known { is_type schema.now.decls ty.now ≡ true }
+    ensures one { FrontReads schema.now.decls levels ty.now b.now ⊎ Stops schema.now.decls levels ty.now b.now inside }
+    ensures not_both { FrontReads schema.now.decls levels ty.now b.now → Stops schema.now.decls levels ty.now b.now inside → ⊥ }
+    ensures one_status { Stop schema.now.decls levels ty.now b.now inside first
+        → Stop schema.now.decls levels ty.now b.now inside second
+        → first ≡ second }
+{}

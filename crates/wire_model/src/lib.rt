@@ -1,0 +1,15 @@
+//! What the bytes of a Parcel mean: definitions in `specs/` and the laws about them. No code of this crate runs.
+//!
+//! Definitions: `Spell` (the bytes that spell a value), `Reads` (which bytes are a reading of which value), `Stop`
+//! (which bytes begin no reading, and with which status), and `ReadOf`, reading as one plain function. The types
+//! that they speak of are exported again.
+#![tactic(auto)]
+
+mod laws;
+
+pub use aidl_schema::{
+    AidlType, Arg, Backing, Base, Constant, Decl, Direction, Enumerator, Field, Kind, Method,
+    Schema, Shape,
+};
+pub use aidl_values::{Answer, Value};
+pub use laws::{law_one_reading, law_reads_or_stops, law_spelled_reads};
