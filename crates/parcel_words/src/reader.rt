@@ -1,5 +1,6 @@
-ghost use Rattle.std.specs.Prelude.{◌≡◌, ℕ, ◌<◌, ◌≤◌, [], ◌∷◌, true, IsTrue, ◌↔◌, length, MatchResult, IfOk, IfErr, OnOk, OnErr, drop};
-ghost use Rattle.aidl_base.specs.Readings.{bytes_at, word_at, long_at, raw_at, past};
+ghost use Rattle.std.specs.Prelude.{◌≡◌, ℕ, ◌+◌, ◌<◌, ◌≤◌, [], ◌∷◌, true, IsTrue, ◌↔◌, length, MatchResult, IfOk, IfErr, OnOk, OnErr, drop};
+ghost use Rattle.aidl_base.specs.Words.{padding};
+ghost use Rattle.aidl_base.specs.Readings.{bytes_at, word_at, long_at, raw_at, all_zero, past};
 ghost use Rattle.parcel_words.specs.Place.{left, moved, is_inside, size_of, size_at, Enters, closed, opened};
 ghost use Rattle.parcel_words.specs.Taken.{Takes, Fails, status_of};
 
@@ -76,6 +77,26 @@ impl<'a> WordReader<'a> {
         ]);
         self.pass(8);
         Ok(number)
+    }
+
+    /// Takes `count` raw bytes with their padding, and answers them without it. It refuses as `word` does, and by
+    /// `BadValue` where the item is inside the limit and its padding isn't zero. It takes no memory.
+    #[tactic(auto, unfolding(aidl_base::specs::Readings::raw_at))]
+    pub fn raw(&mut self, count: usize) -> Result<&'a [u8], ReadFault>
+        ensures taken { Takes (λ x. x.now) result (raw_at count (is_inside self.old) (left self.old)) (left self.new) }
+        ensures passed { OnOk result (self.new ≡ moved self.old (count + padding count)) }
+        ensures unchanged { OnErr result (self.new ≡ self.old) }
+    {
+        if self.rest().len() < count {
+            return Err(self.past());
+        }
+        let size = count + padding(count);
+        let (bytes, zeros) = self.item(size)?.split_at(count);
+        if !is_zero(zeros) {
+            return Err(ReadFault::BadValue);
+        }
+        self.pass(size);
+        Ok(bytes)
     }
 
     /// Takes a size word and opens its record. It refuses a word that passes the limit as `word` does, a size below 4
@@ -194,4 +215,18 @@ fn size_of(word: i32) -> Result<usize, ReadFault>
         return Err(ReadFault::BadValue);
     }
     Ok(word as usize)
+}
+
+/// The fewest zeros that make a length a multiple of 4.
+fn padding(len: usize) -> usize
+    ensures { result ≡ padding len }
+{
+    (4 - len % 4) % 4
+}
+
+/// Whether all bytes are zero.
+fn is_zero(bytes: &[u8]) -> bool
+    ensures { result ≡ all_zero bytes.now }
+{
+    bytes.iter().all(|byte| *byte == 0)
 }
