@@ -3,6 +3,7 @@
 
 mod fault;
 mod reader;
+mod units;
 
 pub use fault::ReadFault;
 pub use reader::WordReader;

@@ -1,10 +1,11 @@
 ghost use Rattle.std.specs.Prelude.{◌≡◌, ℕ, ◌+◌, ◌<◌, ◌≤◌, [], ◌∷◌, true, IsTrue, ◌↔◌, length, MatchResult, IfOk, IfErr, OnOk, OnErr, drop};
 ghost use Rattle.aidl_base.specs.Words.{padding};
-ghost use Rattle.aidl_base.specs.Readings.{bytes_at, word_at, long_at, raw_at, all_zero, past};
+ghost use Rattle.aidl_base.specs.Readings.{bytes_at, word_at, long_at, raw_at, past};
 ghost use Rattle.parcel_words.specs.Place.{left, moved, is_inside, size_of, size_at, Enters, closed, opened};
 ghost use Rattle.parcel_words.specs.Taken.{Takes, Fails, status_of};
 
 use crate::fault::ReadFault;
+use crate::units::is_zero;
 use std::marker::Model;
 
 /// A cursor over the bytes of a parcel, with the ends of the records that are open, at most 64. Contracts see the
@@ -222,11 +223,4 @@ fn padding(len: usize) -> usize
     ensures { result ≡ padding len }
 {
     (4 - len % 4) % 4
-}
-
-/// Whether all bytes are zero.
-fn is_zero(bytes: &[u8]) -> bool
-    ensures { result ≡ all_zero bytes.now }
-{
-    bytes.iter().all(|byte| *byte == 0)
 }
