@@ -38,6 +38,14 @@ is_inside p = is_some_open p.ends
 abbrev pub moved : Place → ℕ → Place
 moved p n = record { bytes = p.bytes; position = p.position + n; ends = p.ends }
 
+-- the place n bytes before
+abbrev pub moved_back : Place → ℕ → Place
+moved_back p n = record { bytes = p.bytes; position = p.position - n; ends = p.ends }
+
+-- the new place is further on by the bytes that are no longer left, in the same records
+abbrev pub MovesOn : Place → Place → Type 0
+MovesOn old new = new ≡ moved old (length (left old) - length (left new))
+
 -- the size of a record by its size word, which counts itself (own)
 abbrev pub size_of : ℤ → Result ℕ ℤ
 size_of (pos z) = if nat_le 4 z && (z % 4 == 0) then Ok z else Err bad_value

@@ -1,11 +1,14 @@
-ghost use Rattle.std.specs.Prelude.{◌≡◌, ℕ, ◌+◌, ◌<◌, ◌≤◌, [], ◌∷◌, true, IsTrue, ◌↔◌, length, MatchResult, IfOk, IfErr, OnOk, OnErr, drop};
+ghost use Rattle.std.specs.Prelude.{◌≡◌, ℕ, ◌+◌, ◌^◌, ◌<◌, ◌≤◌, [], ◌∷◌, true, IsTrue, ◌↔◌, length, MatchResult, IfOk, IfErr, OnOk, OnErr, IfSome, drop, string_bytes};
+ghost use Rattle.std.specs.Option.{option_map};
+ghost use Rattle.std.specs.Str.{chars};
 ghost use Rattle.aidl_base.specs.Words.{padding};
-ghost use Rattle.aidl_base.specs.Readings.{bytes_at, word_at, long_at, raw_at, past};
-ghost use Rattle.parcel_words.specs.Place.{left, moved, is_inside, size_of, size_at, Enters, closed, opened};
+ghost use Rattle.aidl_base.specs.Readings.{bytes_at, word_at, long_at, raw_at, count_of, count_at, block_at, text_at, past};
+ghost use Rattle.parcel_words.specs.Place.{left, moved, moved_back, MovesOn, is_inside, size_of, size_at, Enters, closed, opened};
 ghost use Rattle.parcel_words.specs.Taken.{Takes, Fails, status_of};
 
 use crate::fault::ReadFault;
-use crate::units::is_zero;
+use crate::units::{is_zero, text_of};
+use std::alloc::Global;
 use std::marker::Model;
 
 /// A cursor over the bytes of a parcel, with the ends of the records that are open, at most 64. Contracts see the
@@ -100,6 +103,28 @@ impl<'a> WordReader<'a> {
         Ok(bytes)
     }
 
+    /// Takes a text of at most 2147483647 units, where None is null. It refuses as `word` does; by `UnexpectedNull` a
+    /// count of -1 unless it may be null; and by `BadValue` another negative count, and a block inside the limit whose
+    /// units aren't well-formed UTF-16 or after whose units not all bytes are zero.
+    #[tactic(auto, using(crate::proofs::Moves::on_and_on), unfolding(aidl_base::specs::Readings::text_at))]
+    pub fn text(&mut self, alloc: Global, nullable: bool) -> Result<Option<String>, ReadFault>
+        ensures taken { Takes (option_map (λ x. chars (string_bytes x))) result
+            (text_at nullable (is_inside self.old) (left self.old)) (left self.new) }
+        ensures passed { OnOk result (MovesOn self.old self.new) }
+        ensures unchanged { OnErr result (self.new ≡ self.old) }
+    {
+        let Some(units) = self.count(nullable)? else {
+            return Ok(None);
+        };
+        match self.block(alloc, units) {
+            Ok(text) => Ok(Some(text)),
+            Err(fault) => {
+                self.go_back(4);
+                Err(fault)
+            }
+        }
+    }
+
     /// Takes a size word and opens its record. It refuses a word that passes the limit as `word` does, a size below 4
     /// or no multiple of 4 by `BadValue`, and a size that passes the limit as an item that does. It takes no memory.
     pub fn enter(&mut self) -> Result<(), ReadFault>
@@ -130,6 +155,46 @@ impl<'a> WordReader<'a> {
         self.open -= 1;
         self.position = self.end;
         self.end = self.outer[self.open];
+    }
+
+    /// Takes a count, where None is null. It refuses as `word` does, and by the rules for counts.
+    #[tactic(auto, unfolding(aidl_base::specs::Readings::count_at))]
+    pub(crate) fn count(&mut self, nullable: bool) -> Result<Option<usize>, ReadFault>
+        ensures taken { Takes (λ n. n) result (count_at nullable (is_inside self.old) (left self.old)) (left self.new) }
+        ensures small { IfOk result (λ n. IfSome n (λ k. k < 2 ^ 31)) }
+        ensures passed { OnOk result (self.new ≡ moved self.old 4) }
+        ensures on { OnOk result (MovesOn self.old self.new) }
+        ensures unchanged { OnErr result (self.new ≡ self.old) }
+    {
+        let word = self.next_word()?;
+        let count = count_of(word, nullable)?;
+        self.pass(4);
+        Ok(count)
+    }
+
+    /// Goes back by so many bytes.
+    pub(crate) fn go_back(&mut self, count: usize)
+        requires { count ≤ self.old.position }
+        ensures { self.new ≡ moved_back self.old count }
+    {
+        self.position -= count;
+    }
+
+    /// Takes the block of a text of so many units.
+    #[tactic(auto, unfolding(aidl_base::specs::Readings::block_at))]
+    fn block(&mut self, alloc: Global, units: usize) -> Result<String, ReadFault>
+        requires { units < 2 ^ 31 }
+        ensures taken { Takes (λ x. chars (string_bytes x)) result
+            (block_at units (is_inside self.old) (left self.old)) (left self.new) }
+        ensures passed { OnOk result (MovesOn self.old self.new) }
+        ensures unchanged { OnErr result (self.new ≡ self.old) }
+    {
+        let bytes = 2 * (units + 1);
+        let size = bytes + padding(bytes);
+        let item = self.item(size)?;
+        let text = text_of(alloc, units, item)?.ok_or(ReadFault::BadValue)?;
+        self.pass(size);
+        Ok(text)
     }
 
     /// The bytes up to the limit.
@@ -189,6 +254,7 @@ impl<'a> WordReader<'a> {
         requires { count ≤ length (left self.old) }
         ensures passed { self.new ≡ moved self.old count }
         ensures rest { left self.new ≡ drop count (left self.old) }
+        ensures on { MovesOn self.old self.new }
     {
         self.position += count;
     }
@@ -204,6 +270,24 @@ impl<'a> WordReader<'a> {
         self.open += 1;
         self.end = self.position + size;
         self.position += 4;
+    }
+}
+
+/// The count that a word means, where None is null.
+fn count_of(word: i32, nullable: bool) -> Result<Option<usize>, ReadFault>
+    ensures count { MatchResult result (λ n. count_of nullable word ≡ Ok n) (λ e. Fails e (count_of nullable word)) }
+    ensures small { IfOk result (λ n. IfSome n (λ k. k < 2 ^ 31)) }
+{
+    if word >= 0 {
+        return Ok(Some(word as usize));
+    }
+    if word < -1 {
+        return Err(ReadFault::BadValue);
+    }
+    if nullable {
+        Ok(None)
+    } else {
+        Err(ReadFault::UnexpectedNull)
     }
 }
 
