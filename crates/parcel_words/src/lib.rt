@@ -2,8 +2,11 @@
 #![tactic(auto)]
 
 mod fault;
+mod padding;
 mod reader;
 mod units;
+mod writer;
 
 pub use fault::ReadFault;
 pub use reader::WordReader;
+pub use writer::WordWriter;

@@ -7,7 +7,8 @@ ghost use Rattle.parcel_words.specs.Place.{left, moved, moved_back, MovesOn, is_
 ghost use Rattle.parcel_words.specs.Taken.{Takes, Fails, status_of};
 
 use crate::fault::ReadFault;
-use crate::units::{is_zero, text_of};
+use crate::padding::{is_zero, padding_of};
+use crate::units::text_of;
 use std::alloc::Global;
 use std::marker::Model;
 
@@ -94,7 +95,7 @@ impl<'a> WordReader<'a> {
         if self.rest().len() < count {
             return Err(self.past());
         }
-        let size = count + padding(count);
+        let size = count + padding_of(count);
         let (bytes, zeros) = self.item(size)?.split_at(count);
         if !is_zero(zeros) {
             return Err(ReadFault::BadValue);
@@ -190,7 +191,7 @@ impl<'a> WordReader<'a> {
         ensures unchanged { OnErr result (self.new ≡ self.old) }
     {
         let bytes = 2 * (units + 1);
-        let size = bytes + padding(bytes);
+        let size = bytes + padding_of(bytes);
         let item = self.item(size)?;
         let text = text_of(alloc, units, item)?.ok_or(ReadFault::BadValue)?;
         self.pass(size);
@@ -300,11 +301,4 @@ fn size_of(word: i32) -> Result<usize, ReadFault>
         return Err(ReadFault::BadValue);
     }
     Ok(word as usize)
-}
-
-/// The fewest zeros that make a length a multiple of 4.
-fn padding(len: usize) -> usize
-    ensures { result ≡ padding len }
-{
-    (4 - len % 4) % 4
 }

@@ -4,8 +4,9 @@ ghost use Rattle.std.specs.Int.{w16, from_le_bytes};
 ghost use Rattle.std.specs.Option.{option_map};
 ghost use Rattle.std.specs.Str.{chars};
 ghost use Rattle.std.specs.Char.Utf16.{has_unpaired_surrogate, utf16_lossy_chars};
-ghost use Rattle.aidl_base.specs.Readings.{all_zero, units_of, text_of};
+ghost use Rattle.aidl_base.specs.Readings.{units_of, text_of};
 
+use crate::padding::is_zero;
 use aidl_base::OutOfMemory;
 use std::alloc::Global;
 
@@ -33,13 +34,6 @@ fn well_formed(alloc: Global, units: &[u16]) -> Result<Option<String>, OutOfMemo
 {
     let decoded = String::from_utf16(alloc, units)?;
     Ok(decoded.ok())
-}
-
-/// Whether all bytes are zero.
-pub fn is_zero(bytes: &[u8]) -> bool
-    ensures { result ≡ all_zero bytes.now }
-{
-    bytes.iter().all(|byte| *byte == 0)
 }
 
 /// The units of bytes, two each, least first.
