@@ -7,10 +7,12 @@ use Rattle.std.specs.Simd.{first_chunks}
 use Rattle.std.specs.Str.{all_scalars, chars, encode_utf8_all}
 use Rattle.std.specs.Char.Utf16.{utf16_chars, utf16_lossy_chars, has_unpaired_surrogate, is_high_surrogate, is_low_surrogate, surrogate_pair_char, lone_unit_char}
 use Rattle.std.specs.Char.Escape.{encode_utf16}
+use Rattle.std.proofs.lemmas.List.{length-replicate}
 use Rattle.std.proofs.lemmas.Bool.Decides.{nat_tests}
 use Rattle.std.proofs.lemmas.Str.{chars-encodes}
 use lib.Utf8.{scalar}
-use Rattle.aidl_base.specs.Readings.{units_of}
+use Rattle.aidl_base.specs.Words.{padding, units, unit_bytes, block}
+use Rattle.aidl_base.specs.Readings.{units_of, block_len}
 
 -- the units of pairs of bytes
 pub units_of_pairs : (k : ℕ) (bytes : List ℕ) → k ≡ length bytes / 2 → map (from_le_bytes w16) (first_chunks 2 k bytes) ≡ units_of bytes
@@ -62,3 +64,29 @@ lossy_scalars (u ∷ v ∷ us) h = by_pair (is_high_surrogate u && is_low_surrog
 
 pub chars_of_units : (us : List ℕ) → AreUnits us → chars (encode_utf8_all (utf16_lossy_chars us)) ≡ utf16_lossy_chars us
 chars_of_units us h = chars-encodes (utf16_lossy_chars us) (lossy_scalars us h)
+
+pub unit_bytes_append : (us vs : List ℕ) → unit_bytes (us ++ vs) ≡ unit_bytes us ++ unit_bytes vs
+unit_bytes_append [] vs = refl
+unit_bytes_append (u ∷ us) vs = ap (λ bs. to_le_bytes w16 u ++ bs) (unit_bytes_append us vs)
+
+pub length-unit_bytes : (us : List ℕ) → length (unit_bytes us) ≡ 2 * length us
+length-unit_bytes [] = refl
+length-unit_bytes (u ∷ us) = omega (arith, length-unit_bytes us)
+
+-- a block is the units, a zero unit and zeros
+pub block_is : (x : List ℕ) → block x ≡ unit_bytes (units x) ++ replicate (2 + padding (2 * (length (units x) + 1))) 0
+block_is x =
+    let us = units x in
+    let n : length (unit_bytes (us ++ 0 ∷ [])) ≡ 2 * (length us + 1) = omega (arith, length-unit_bytes (us ++ 0 ∷ []), length-append us (0 ∷ [])) in
+    ap (λ k. unit_bytes (us ++ 0 ∷ []) ++ replicate (padding k) 0) n ∙ ap (λ bs. bs ++ replicate (padding (2 * (length us + 1))) 0) (unit_bytes_append us (0 ∷ []))
+    ∙ append_assoc (unit_bytes us) (0 ∷ (0 ∷ [])) _ ∙ ap (λ bs. unit_bytes us ++ bs) (two (padding (2 * (length us + 1))))
+  where
+    two : (k : ℕ) → ◌≡◌ {A = List ℕ} (0 ∷ (0 ∷ replicate k 0)) (replicate (2 + k) 0)
+    two k = let e : 2 + k ≡ suc (suc k) = omega arith in rw e refl
+
+-- the length of a block, by its parts and by the number of its units
+pub length_block_parts : (x : List ℕ) → length (block x) ≡ length (unit_bytes (units x)) + (2 + padding (2 * (length (units x) + 1)))
+length_block_parts x = ap length (block_is x) ∙ simp (length-append, length-replicate)
+
+pub length-block : (x : List ℕ) → length (block x) ≡ block_len (length (units x))
+length-block x = omega (arith, length_block_parts x, length-unit_bytes (units x))

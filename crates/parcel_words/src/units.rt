@@ -13,11 +13,7 @@ use std::alloc::Global;
 /// The text of a block of so many units. None where the units aren't well-formed UTF-16, or a byte after them isn't
 /// zero.
 #[tactic(auto, unfolding(aidl_base::specs::Readings::text_of))]
-pub fn text_of(
-    alloc: Global,
-    count: usize,
-    block: &[u8],
-) -> Result<Option<String>, OutOfMemory>
+pub fn text_of(alloc: Global, count: usize, block: &[u8]) -> Result<Option<String>, OutOfMemory>
     requires { 2 * count ≤ length block.now }
     ensures { IfOk result (λ text. option_map (λ x. chars (string_bytes x)) text ≡ text_of count block.now) }
 {
