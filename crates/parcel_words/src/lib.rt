@@ -5,8 +5,10 @@ mod fault;
 mod padding;
 mod reader;
 mod units;
+mod wire;
 mod writer;
 
 pub use fault::ReadFault;
 pub use reader::WordReader;
+pub use wire::Wire;
 pub use writer::WordWriter;

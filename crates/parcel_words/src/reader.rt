@@ -228,7 +228,7 @@ impl<'a> WordReader<'a> {
     }
 
     /// The next word.
-    fn next_word(&self) -> Result<i32, ReadFault>
+    pub(crate) fn next_word(&self) -> Result<i32, ReadFault>
         ensures { Takes (λ n. n) result (word_at (is_inside self.now) (left self.now)) (drop 4 (left self.now)) }
     {
         let item = self.item(4)?;
@@ -251,7 +251,7 @@ impl<'a> WordReader<'a> {
     }
 
     /// Goes on by so many bytes.
-    fn pass(&mut self, count: usize)
+    pub(crate) fn pass(&mut self, count: usize)
         requires { count ≤ length (left self.old) }
         ensures passed { self.new ≡ moved self.old count }
         ensures rest { left self.new ≡ drop count (left self.old) }

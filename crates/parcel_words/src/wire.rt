@@ -1,0 +1,96 @@
+ghost use Rattle.std.specs.Prelude.{◌≡◌, ◌^◌, ◌<◌, ◌≤◌, pos, ℤ, ℕ, List, [], ◌++◌, Bool, Ok, length, min, OnOk, OnErr, IsTrue, MatchResult, FitsSigned};
+ghost use Rattle.std.specs.Int.{w8, w32, w64};
+ghost use Rattle.std.specs.Str.{all_scalars};
+ghost use Rattle.aidl_base.specs.Words.{word, long_word, units};
+ghost use Rattle.aidl_base.specs.Spellings.{spell_truth, spell_text};
+ghost use Rattle.aidl_base.specs.Readings.{Read, truth_of, byte_of, char_of, truth_at, byte_at, char_at, word_at, long_at, present_text_at};
+ghost use Rattle.parcel_words.specs.Place.{left, is_inside, MovesOn};
+ghost use Rattle.parcel_words.specs.Taken.{Takes, Fails};
+ghost use Rattle.parcel_words.specs.Written.{with_bytes};
+
+use crate::fault::ReadFault;
+use crate::reader::WordReader;
+use crate::writer::{WordWriter, unit_count};
+use aidl_base::Text;
+use std::alloc::Global;
+
+/// A value of a built-in type, as words of a parcel.
+pub trait Wire: Sized + Drop {
+    // what every value of the type is: a number of its range, or a text of characters
+    ghost is_value: { Self → Type 0 };
+
+    // the values that can be put: all, but of texts those of at most 2147483647 units
+    ghost can_put: { Self → Type 0 };
+
+    // the bytes that spell a value
+    ghost spelling: { Self → List ℕ };
+
+    // the value at the front of bytes, where a record is open or none is
+    ghost reading: { Bool → List ℕ → Read Self };
+
+    /// The number of bytes of the spelling, or `usize::MAX` where they are more. It takes no memory.
+    fn length(&self) -> usize
+        ensures { result ≡ min (length (spelling self.now)) usize.MAX };
+
+    /// Appends the spelling. It takes no memory.
+    fn put(&self, to: &mut WordWriter)
+        requires can { can_put self.now }
+        requires room { length (spelling self.now) ≤ to.old.room }
+        ensures { to.new ≡ with_bytes to.old (spelling self.now) };
+
+    /// Takes a value. It refuses exactly by the rules of its type.
+    fn take(alloc: Global, from: &mut WordReader) -> Result<Self, ReadFault>
+        ensures taken { Takes (λ x. x) result (reading (is_inside from.old) (left from.old)) (left from.new) }
+        ensures passed { OnOk result (MovesOn from.old from.new) }
+        ensures unchanged { OnErr result (from.new ≡ from.old) };
+
+    // what was put is taken again, whatever follows it
+    ghost taken_again: { (x : Self) (inside : Bool) (rest : List ℕ) → is_value x → can_put x → reading inside (spelling x ++ rest) ≡ Ok (x, rest) };
+
+    // no spelling is a proper prefix of another
+    ghost no_prefix: { (x y : Self) (rest : List ℕ) → is_value x → can_put x → is_value y → can_put y → spelling x ++ rest ≡ spelling y → rest ≡ [] };
+}
+
+/// A boolean: one word, 0 or 1. Any other word is refused by `BadValue`.
+impl Wire for bool {
+    ghost is_value = { λ _. Unit {0} };
+
+    ghost can_put = { λ _. Unit {0} };
+
+    ghost spelling = { spell_truth };
+
+    ghost reading = { truth_at };
+
+    fn length(&self) -> usize {
+        4
+    }
+
+    fn put(&self, to: &mut WordWriter) {
+        to.word(i32::from(*self));
+    }
+
+    #[tactic(auto, unfolding(aidl_base::specs::Readings::truth_at))]
+    fn take(_alloc: Global, from: &mut WordReader) -> Result<bool, ReadFault> {
+        let word = from.next_word()?;
+        let truth = truth_of(word)?;
+        from.pass(4);
+        Ok(truth)
+    }
+
+    ghost use Rattle.aidl_base.proofs.Values.{truth_again, truth_prefix};
+
+    ghost taken_again = { truth_again };
+
+    ghost no_prefix = { truth_prefix };
+}
+
+/// The truth value of a word.
+fn truth_of(word: i32) -> Result<bool, ReadFault>
+    ensures { MatchResult result (λ t. truth_of word ≡ Ok t) (λ e. Fails e (truth_of word)) }
+{
+    match word {
+        0 => Ok(false),
+        1 => Ok(true),
+        _ => Err(ReadFault::BadValue),
+    }
+}
