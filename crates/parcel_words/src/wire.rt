@@ -84,6 +84,132 @@ impl Wire for bool {
     ghost no_prefix = { truth_prefix };
 }
 
+/// A byte: one word, the sign-extended byte. A word outside -128 to 127 is refused by `BadValue`.
+impl Wire for i8 {
+    ghost is_value = { λ n. FitsSigned w8 n };
+
+    ghost can_put = { λ _. Unit {0} };
+
+    ghost spelling = { word };
+
+    ghost reading = { byte_at };
+
+    fn length(&self) -> usize {
+        4
+    }
+
+    fn put(&self, to: &mut WordWriter) {
+        to.word(i32::from(*self));
+    }
+
+    #[tactic(auto, unfolding(aidl_base::specs::Readings::byte_at))]
+    fn take(_alloc: Global, from: &mut WordReader) -> Result<i8, ReadFault> {
+        let word = from.next_word()?;
+        let byte = byte_of(word)?;
+        from.pass(4);
+        Ok(byte)
+    }
+
+    ghost use Rattle.aidl_base.proofs.Values.{byte_again, byte_prefix};
+
+    ghost taken_again = { λ x inside rest value _. byte_again x inside rest value };
+
+    ghost no_prefix = { λ x y rest first _ second _. byte_prefix x y rest first second };
+}
+
+/// A char, as a code unit: one word. A word outside 0 to 65535 is refused by `BadValue`.
+impl Wire for u16 {
+    ghost is_value = { λ n. n < 2 ^ 16 };
+
+    ghost can_put = { λ _. Unit {0} };
+
+    ghost spelling = { λ n. word (pos n) };
+
+    ghost reading = { char_at };
+
+    fn length(&self) -> usize {
+        4
+    }
+
+    fn put(&self, to: &mut WordWriter) {
+        to.word(i32::from(*self));
+    }
+
+    #[tactic(auto, unfolding(aidl_base::specs::Readings::char_at))]
+    fn take(_alloc: Global, from: &mut WordReader) -> Result<u16, ReadFault> {
+        let word = from.next_word()?;
+        let unit = char_of(word)?;
+        from.pass(4);
+        Ok(unit)
+    }
+
+    ghost use Rattle.aidl_base.proofs.Values.{char_again, char_prefix};
+
+    ghost taken_again = { λ x inside rest value _. char_again x inside rest value };
+
+    ghost no_prefix = { λ x y rest first _ second _. char_prefix x y rest first second };
+}
+
+/// An int: one word.
+impl Wire for i32 {
+    ghost is_value = { λ n. FitsSigned w32 n };
+
+    ghost can_put = { λ _. Unit {0} };
+
+    ghost spelling = { word };
+
+    ghost reading = { word_at };
+
+    fn length(&self) -> usize {
+        4
+    }
+
+    fn put(&self, to: &mut WordWriter) {
+        to.word(*self);
+    }
+
+    fn take(_alloc: Global, from: &mut WordReader) -> Result<i32, ReadFault> {
+        from.word()
+    }
+
+    ghost use Rattle.aidl_base.proofs.Words.{word_again};
+    ghost use Rattle.aidl_base.proofs.Values.{word_prefix};
+
+    ghost taken_again = { λ x inside rest value _. word_again x inside rest value };
+
+    ghost no_prefix = { λ x y rest first _ second _. word_prefix x y rest first second };
+}
+
+/// A long: eight bytes.
+impl Wire for i64 {
+    ghost is_value = { λ n. FitsSigned w64 n };
+
+    ghost can_put = { λ _. Unit {0} };
+
+    ghost spelling = { long_word };
+
+    ghost reading = { long_at };
+
+    fn length(&self) -> usize {
+        8
+    }
+
+    fn put(&self, to: &mut WordWriter) {
+        to.long(*self);
+    }
+
+    fn take(_alloc: Global, from: &mut WordReader) -> Result<i64, ReadFault> {
+        from.long()
+    }
+
+    ghost use Rattle.aidl_base.proofs.Words.{long_again};
+    ghost use Rattle.aidl_base.proofs.Values.{long_prefix};
+
+    ghost taken_again = { λ x inside rest value _. long_again x inside rest value };
+
+    ghost no_prefix = { λ x y rest first _ second _. long_prefix x y rest first second };
+}
+
 /// The truth value of a word.
 fn truth_of(word: i32) -> Result<bool, ReadFault>
     ensures { MatchResult result (λ t. truth_of word ≡ Ok t) (λ e. Fails e (truth_of word)) }
@@ -93,4 +219,18 @@ fn truth_of(word: i32) -> Result<bool, ReadFault>
         1 => Ok(true),
         _ => Err(ReadFault::BadValue),
     }
+}
+
+/// The byte of a word.
+fn byte_of(word: i32) -> Result<i8, ReadFault>
+    ensures { MatchResult result (λ n. byte_of word ≡ Ok n) (λ e. Fails e (byte_of word)) }
+{
+    i8::try_from(word).map_err(|_| ReadFault::BadValue)
+}
+
+/// The code unit of a word.
+fn char_of(word: i32) -> Result<u16, ReadFault>
+    ensures { MatchResult result (λ n. char_of word ≡ Ok n) (λ e. Fails e (char_of word)) }
+{
+    u16::try_from(word).map_err(|_| ReadFault::BadValue)
 }
