@@ -4,11 +4,13 @@
 mod fault;
 mod padding;
 mod reader;
+mod sequence;
 mod units;
 mod wire;
 mod writer;
 
 pub use fault::ReadFault;
 pub use reader::WordReader;
+pub use sequence::{put_sequence, sequence_length};
 pub use wire::Wire;
 pub use writer::WordWriter;
