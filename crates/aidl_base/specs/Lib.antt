@@ -1,3 +1,5 @@
 pub mod formers
 pub mod Limits
+pub mod Readings
+pub mod Spellings
 pub mod Words

@@ -1,0 +1,92 @@
+-- The block of a text, there and back.
+use Rattle.std.proofs.Common.{◌≡◌, ℕ, zero, suc, ◌+◌, ◌-◌, ◌*◌, ◌/◌, ◌%◌, ◌^◌, ◌<◌, ◌≤◌, Bool, true, false, not, ◌&&◌, cond, List, [], ◌∷◌, ◌++◌, map, length, take, drop, get_or, replicate, Some, None, Option, nat_lt, nat_le, refl, sym, ap, ◌∙◌, arith, append_assoc, length-append, true≢false}
+use Rattle.std.specs.List.{list_any}
+use Rattle.std.specs.Option.{unwrap_or, is_some}
+use Rattle.std.specs.Int.{w16, to_le_bytes, from_le_bytes}
+use Rattle.std.specs.Simd.{first_chunks}
+use Rattle.std.specs.Str.{all_scalars, chars, encode_utf8_all}
+use Rattle.std.specs.Char.Utf16.{utf16_chars, utf16_lossy_chars, has_unpaired_surrogate, is_high_surrogate, is_low_surrogate, surrogate_pair_char, lone_unit_char}
+use Rattle.std.specs.Char.Escape.{encode_utf16}
+use Rattle.std.proofs.lemmas.List.{length-replicate}
+use Rattle.std.proofs.lemmas.Bool.Decides.{nat_tests}
+use Rattle.std.proofs.lemmas.Str.{chars-encodes}
+use lib.Utf8.{scalar}
+use Rattle.aidl_base.specs.Words.{padding, units, unit_bytes, block}
+use Rattle.aidl_base.specs.Readings.{units_of, block_len}
+
+-- the units of pairs of bytes
+pub units_of_pairs : (k : ℕ) (bytes : List ℕ) → k ≡ length bytes / 2 → map (from_le_bytes w16) (first_chunks 2 k bytes) ≡ units_of bytes
+units_of_pairs zero [] e = refl
+units_of_pairs zero (x ∷ []) e = refl
+units_of_pairs zero (x ∷ y ∷ bytes) e = absurd (omega arith)
+units_of_pairs (suc k) [] e = absurd (omega arith)
+units_of_pairs (suc k) (x ∷ []) e = absurd (omega arith)
+units_of_pairs (suc k) (x ∷ y ∷ bytes) e = ap (λ us. from_le_bytes w16 (x ∷ y ∷ []) ∷ us) (units_of_pairs k bytes (omega arith))
+
+-- each is a unit of UTF-16
+abbrev pub AreUnits : List ℕ → Type 0
+AreUnits us = (k : ℕ) → get_or us k 0 < 2 ^ 16
+
+lone_scalar : (u : ℕ) (b : Bool) → u < 2 ^ 16 → (nat_le 0xD800 u && nat_lt u 0xE000) ≡ b → scalar (unwrap_or (lone_unit_char u) 0xFFFD) ≡ true
+lone_scalar u true lt e = rw e refl
+lone_scalar u false lt e = rw e (grind (arith, nat_tests))
+
+pair_scalar : (c : ℕ) → 0x1_0000 ≤ c → c < 0x11_0000 → scalar c ≡ true
+pair_scalar c le lt = grind (arith, nat_tests)
+
+both : (a b : Bool) → (a && b) ≡ true → (a ≡ true) × (b ≡ true)
+both true true e = (refl, refl)
+both true false e = absurd (true≢false (sym e))
+both false b e = absurd (true≢false (sym e))
+
+surrogates_scalar : (u v : ℕ) → (is_high_surrogate u && is_low_surrogate v) ≡ true → scalar (surrogate_pair_char u v) ≡ true
+surrogates_scalar u v e =
+    let p = both (is_high_surrogate u) (is_low_surrogate v) e in
+    let a = both (nat_le 0xD800 u) (nat_lt u 0xDC00) p.0 in
+    let b = both (nat_le 0xDC00 v) (nat_lt v 0xE000) p.1 in
+    let u1 : 0xD800 ≤ u = grind (arith, nat_tests, a.0) in
+    let u2 : u < 0xDC00 = grind (arith, nat_tests, a.1) in
+    let v1 : 0xDC00 ≤ v = grind (arith, nat_tests, b.0) in
+    let v2 : v < 0xE000 = grind (arith, nat_tests, b.1) in
+    pair_scalar (surrogate_pair_char u v) (omega arith) (omega arith)
+
+-- what units spell is characters
+lossy_scalars : (us : List ℕ) → AreUnits us → all_scalars (utf16_lossy_chars us) ≡ true
+unfolding utf16_chars
+lossy_scalars [] h = refl
+lossy_scalars (u ∷ []) h = rw (lone_scalar u (nat_le 0xD800 u && nat_lt u 0xE000) (h 0) refl) refl
+lossy_scalars (u ∷ v ∷ us) h = by_pair (is_high_surrogate u && is_low_surrogate v) refl (lossy_scalars us (λ k. h (suc (suc k)))) (lossy_scalars (v ∷ us) (λ k. h (suc k)))
+  where
+    by_pair : (b : Bool) → (is_high_surrogate u && is_low_surrogate v) ≡ b → all_scalars (utf16_lossy_chars us) ≡ true
+        → all_scalars (utf16_lossy_chars (v ∷ us)) ≡ true → all_scalars (utf16_lossy_chars (u ∷ v ∷ us)) ≡ true
+    by_pair true e two one = rw (e, surrogates_scalar u v e) two
+    by_pair false e two one = rw (e, lone_scalar u (nat_le 0xD800 u && nat_lt u 0xE000) (h 0) refl) one
+
+pub chars_of_units : (us : List ℕ) → AreUnits us → chars (encode_utf8_all (utf16_lossy_chars us)) ≡ utf16_lossy_chars us
+chars_of_units us h = chars-encodes (utf16_lossy_chars us) (lossy_scalars us h)
+
+pub unit_bytes_append : (us vs : List ℕ) → unit_bytes (us ++ vs) ≡ unit_bytes us ++ unit_bytes vs
+unit_bytes_append [] vs = refl
+unit_bytes_append (u ∷ us) vs = ap (λ bs. to_le_bytes w16 u ++ bs) (unit_bytes_append us vs)
+
+pub length-unit_bytes : (us : List ℕ) → length (unit_bytes us) ≡ 2 * length us
+length-unit_bytes [] = refl
+length-unit_bytes (u ∷ us) = omega (arith, length-unit_bytes us)
+
+-- a block is the units, a zero unit and zeros
+pub block_is : (x : List ℕ) → block x ≡ unit_bytes (units x) ++ replicate (2 + padding (2 * (length (units x) + 1))) 0
+block_is x =
+    let us = units x in
+    let n : length (unit_bytes (us ++ 0 ∷ [])) ≡ 2 * (length us + 1) = omega (arith, length-unit_bytes (us ++ 0 ∷ []), length-append us (0 ∷ [])) in
+    ap (λ k. unit_bytes (us ++ 0 ∷ []) ++ replicate (padding k) 0) n ∙ ap (λ bs. bs ++ replicate (padding (2 * (length us + 1))) 0) (unit_bytes_append us (0 ∷ []))
+    ∙ append_assoc (unit_bytes us) (0 ∷ (0 ∷ [])) _ ∙ ap (λ bs. unit_bytes us ++ bs) (two (padding (2 * (length us + 1))))
+  where
+    two : (k : ℕ) → ◌≡◌ {A = List ℕ} (0 ∷ (0 ∷ replicate k 0)) (replicate (2 + k) 0)
+    two k = let e : 2 + k ≡ suc (suc k) = omega arith in rw e refl
+
+-- the length of a block, by its parts and by the number of its units
+pub length_block_parts : (x : List ℕ) → length (block x) ≡ length (unit_bytes (units x)) + (2 + padding (2 * (length (units x) + 1)))
+length_block_parts x = ap length (block_is x) ∙ simp (length-append, length-replicate)
+
+pub length-block : (x : List ℕ) → length (block x) ≡ block_len (length (units x))
+length-block x = omega (arith, length_block_parts x, length-unit_bytes (units x))

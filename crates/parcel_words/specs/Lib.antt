@@ -1,0 +1,5 @@
+pub mod Fields
+pub mod Place
+pub mod Room
+pub mod Taken
+pub mod Written

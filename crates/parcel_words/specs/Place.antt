@@ -1,0 +1,75 @@
+-- Where a reader of words stands.
+use Rattle.std.specs.Prelude.{◌≡◌, ℕ, zero, suc, ◌+◌, ◌-◌, ◌%◌, ℤ, pos, negsuc, Bool, true, false, ◌&&◌, List, [], ◌∷◌, length, take, drop, Result, Ok, Err, refl, nat_lt, nat_le, ◌==◌, if◌then◌else◌}
+use Rattle.std.specs.Coded.{Coded, code_by, coded×, coded_ℕ, coded_list}
+use Rattle.aidl_base.specs.Readings.{Read, ◌>>=◌, word_at, bad_value, past}
+
+-- the bytes, how many of them are passed, and the ends of the open records, the innermost first
+pub record Place : Type 0 where
+  pub bytes : List ℕ
+  pub position : ℕ
+  pub ends : List ℕ
+
+-- a place is stored as the tuple of its fields
+abbrev pub place_code : Coded Place
+place_code = code_by (List ℕ × (ℕ × List ℕ)) (coded× (coded_list coded_ℕ) (coded× coded_ℕ (coded_list coded_ℕ)))
+    (λ p. (p.bytes, (p.position, p.ends))) (λ q. record { bytes = q.0; position = q.1.0; ends = q.1.1 }) (λ _. refl)
+
+-- the reader's limit: the end of the innermost open record, or else that of the bytes (own)
+abbrev pub limit_of : List ℕ → ℕ → ℕ
+limit_of [] len = len
+limit_of (end ∷ ends) len = end
+
+abbrev pub limit : Place → ℕ
+limit p = limit_of p.ends (length p.bytes)
+
+-- the bytes from the position up to the limit
+abbrev pub left : Place → List ℕ
+left p = drop p.position (take (limit p) p.bytes)
+
+-- whether a record is open
+abbrev pub is_some_open : List ℕ → Bool
+is_some_open [] = false
+is_some_open (end ∷ ends) = true
+
+abbrev pub is_inside : Place → Bool
+is_inside p = is_some_open p.ends
+
+-- the place n bytes further on
+abbrev pub moved : Place → ℕ → Place
+moved p n = record { bytes = p.bytes; position = p.position + n; ends = p.ends }
+
+-- the place n bytes before
+abbrev pub moved_back : Place → ℕ → Place
+moved_back p n = record { bytes = p.bytes; position = p.position - n; ends = p.ends }
+
+-- the new place is further on by the bytes that are no longer left, in the same records
+abbrev pub MovesOn : Place → Place → Type 0
+MovesOn old new = new ≡ moved old (length (left old) - length (left new))
+
+-- the size of a record by its size word, which counts itself (own)
+abbrev pub size_of : ℤ → Result ℕ ℤ
+size_of (pos z) = if nat_le 4 z && (z % 4 == 0) then Ok z else Err bad_value
+size_of (negsuc z) = Err bad_value
+
+-- the size of the record that begins here with its size word: one that passes the limit is an item that does
+unfoldable pub size_at : Bool → List ℕ → Read ℕ
+size_at inside b = do
+  w ← word_at inside b
+  z ← size_of w.0
+  if nat_lt (length b) z then Err (past inside) else Ok (z, w.1)
+
+-- the place after the size word, in the record of that size
+abbrev pub opened : Place → ℕ → Place
+opened p size = record { bytes = p.bytes; position = p.position + 4; ends = (p.position + size) ∷ p.ends }
+
+-- a size word stands at the old place, and the new one is in its record
+abbrev pub Enters : Place → Place → Type 0
+Enters old new = (size : ℕ) × (size_at (is_inside old) (left old) ≡ Ok (size, drop 4 (left old))) × (new ≡ opened old size)
+
+abbrev pub outer_ends : List ℕ → List ℕ
+outer_ends [] = []
+outer_ends (end ∷ ends) = ends
+
+-- the place at the end of the innermost record, outside it
+abbrev pub closed : Place → Place
+closed p = record { bytes = p.bytes; position = limit p; ends = outer_ends p.ends }

@@ -1,0 +1,16 @@
+//! Words of a parcel: a writer and a reader of them, and the values of built-in types as words.
+#![tactic(auto)]
+
+mod fault;
+mod padding;
+mod reader;
+mod sequence;
+mod units;
+mod wire;
+mod writer;
+
+pub use fault::ReadFault;
+pub use reader::WordReader;
+pub use sequence::{put_sequence, sequence_length};
+pub use wire::Wire;
+pub use writer::WordWriter;

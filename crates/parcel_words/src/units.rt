@@ -1,0 +1,53 @@
+//! The text of a block: UTF-16 units, a zero unit and zero padding.
+ghost use Rattle.std.specs.Prelude.{◌≡◌, ◌*◌, ◌≤◌, length, map, IfOk, string_bytes, if◌then◌else◌};
+ghost use Rattle.std.specs.Int.{w16, from_le_bytes};
+ghost use Rattle.std.specs.Option.{option_map};
+ghost use Rattle.std.specs.Str.{chars};
+ghost use Rattle.std.specs.Char.Utf16.{has_unpaired_surrogate, utf16_lossy_chars};
+ghost use Rattle.aidl_base.specs.Readings.{units_of, text_of};
+
+use crate::padding::is_zero;
+use aidl_base::OutOfMemory;
+use std::alloc::Global;
+
+/// The text of a block of so many units. None where the units aren't well-formed UTF-16, or a byte after them isn't
+/// zero.
+#[tactic(auto, unfolding(aidl_base::specs::Readings::text_of))]
+pub fn text_of(alloc: Global, count: usize, block: &[u8]) -> Result<Option<String>, OutOfMemory>
+    requires { 2 * count ≤ length block.now }
+    ensures { IfOk result (λ text. option_map (λ x. chars (string_bytes x)) text ≡ text_of count block.now) }
+{
+    let (bytes, zeros) = block.split_at(2 * count);
+    let units = units_of(alloc, bytes)?;
+    let text = well_formed(alloc, units.as_slice())?;
+    Ok(text.filter(|_| is_zero(zeros)))
+}
+
+/// The text of well-formed units.
+fn well_formed(alloc: Global, units: &[u16]) -> Result<Option<String>, OutOfMemory>
+    ensures { IfOk result (λ text. option_map (λ x. chars (string_bytes x)) text
+        ≡ (if has_unpaired_surrogate units.now then None else Some (utf16_lossy_chars units.now))) }
+{
+    let decoded = String::from_utf16(alloc, units)?;
+    Ok(decoded.ok())
+}
+
+/// The units of bytes, two each, least first.
+#[tactic(auto, using(aidl_base::proofs::Blocks::units_of_pairs))]
+fn units_of(alloc: Global, bytes: &[u8]) -> Result<Vec<u16>, OutOfMemory>
+    ensures { IfOk result (λ units. units.items ≡ units_of bytes.now) }
+{
+    let (pairs, _) = bytes.as_chunks::<2>();
+    units_of_pairs(alloc, pairs)
+}
+
+/// The units of pairs of bytes.
+fn units_of_pairs(alloc: Global, pairs: &[[u8; 2]]) -> Result<Vec<u16>, OutOfMemory>
+    ensures { IfOk result (λ units. units.items ≡ map (from_le_bytes w16) pairs.now) }
+{
+    let units = pairs
+        .iter()
+        .map(|pair| u16::from_le_bytes(*pair))
+        .collect(alloc)?;
+    Ok(units)
+}

@@ -1,0 +1,236 @@
+ghost use Rattle.std.specs.Prelude.{◌≡◌, ◌^◌, ◌<◌, ◌≤◌, pos, ℤ, ℕ, List, [], ◌++◌, Bool, Ok, length, min, OnOk, OnErr, IsTrue, MatchResult, FitsSigned};
+ghost use Rattle.std.specs.Int.{w8, w32, w64};
+ghost use Rattle.std.specs.Str.{all_scalars};
+ghost use Rattle.aidl_base.specs.Words.{word, long_word, units};
+ghost use Rattle.aidl_base.specs.Spellings.{spell_truth, spell_text};
+ghost use Rattle.aidl_base.specs.Readings.{Read, truth_of, byte_of, char_of, truth_at, byte_at, char_at, word_at, long_at, present_text_at};
+ghost use Rattle.parcel_words.specs.Place.{left, is_inside, MovesOn};
+ghost use Rattle.parcel_words.specs.Taken.{Takes, Fails};
+ghost use Rattle.parcel_words.specs.Written.{with_bytes};
+
+use crate::fault::ReadFault;
+use crate::reader::WordReader;
+use crate::writer::{WordWriter, unit_count};
+use aidl_base::Text;
+use std::alloc::Global;
+
+/// A value of a built-in type, as words of a parcel.
+pub trait Wire: Sized + Drop {
+    // what every value of the type is: a number of its range, or a text of characters
+    ghost is_value: { Self → Type 0 };
+
+    // the values that can be put: all, but of texts those of at most 2147483647 units
+    ghost can_put: { Self → Type 0 };
+
+    // the bytes that spell a value
+    ghost spelling: { Self → List ℕ };
+
+    // the value at the front of bytes, where a record is open or none is
+    ghost reading: { Bool → List ℕ → Read Self };
+
+    /// The number of bytes of the spelling, or `usize::MAX` where they are more. It takes no memory.
+    fn length(&self) -> usize
+        ensures { result ≡ min (length (spelling self.now)) usize.MAX };
+
+    /// Appends the spelling. It takes no memory.
+    fn put(&self, to: &mut WordWriter)
+        requires can { can_put self.now }
+        requires room { length (spelling self.now) ≤ to.old.room }
+        ensures { to.new ≡ with_bytes to.old (spelling self.now) };
+
+    /// Takes a value. It refuses exactly by the rules of its type.
+    fn take(alloc: Global, from: &mut WordReader) -> Result<Self, ReadFault>
+        ensures taken { Takes (λ x. x) result (reading (is_inside from.old) (left from.old)) (left from.new) }
+        ensures passed { OnOk result (MovesOn from.old from.new) }
+        ensures unchanged { OnErr result (from.new ≡ from.old) };
+
+    // what was put is taken again, whatever follows it
+    ghost taken_again: { (x : Self) (inside : Bool) (rest : List ℕ) → is_value x → can_put x → reading inside (spelling x ++ rest) ≡ Ok (x, rest) };
+
+    // no spelling is a proper prefix of another
+    ghost no_prefix: { (x y : Self) (rest : List ℕ) → is_value x → can_put x → is_value y → can_put y → spelling x ++ rest ≡ spelling y → rest ≡ [] };
+}
+
+/// A boolean: one word, 0 or 1. Any other word is refused by `BadValue`.
+impl Wire for bool {
+    ghost is_value = { λ _. Unit {0} };
+
+    ghost can_put = { λ _. Unit {0} };
+
+    ghost spelling = { spell_truth };
+
+    ghost reading = { truth_at };
+
+    fn length(&self) -> usize {
+        4
+    }
+
+    fn put(&self, to: &mut WordWriter) {
+        to.word(i32::from(*self));
+    }
+
+    #[tactic(auto, unfolding(aidl_base::specs::Readings::truth_at))]
+    fn take(_alloc: Global, from: &mut WordReader) -> Result<bool, ReadFault> {
+        let word = from.next_word()?;
+        let truth = truth_of(word)?;
+        from.pass(4);
+        Ok(truth)
+    }
+
+    ghost use Rattle.aidl_base.proofs.Values.{truth_again, truth_prefix};
+
+    ghost taken_again = { truth_again };
+
+    ghost no_prefix = { truth_prefix };
+}
+
+/// A byte: one word, the sign-extended byte. A word outside -128 to 127 is refused by `BadValue`.
+impl Wire for i8 {
+    ghost is_value = { λ n. FitsSigned w8 n };
+
+    ghost can_put = { λ _. Unit {0} };
+
+    ghost spelling = { word };
+
+    ghost reading = { byte_at };
+
+    fn length(&self) -> usize {
+        4
+    }
+
+    fn put(&self, to: &mut WordWriter) {
+        to.word(i32::from(*self));
+    }
+
+    #[tactic(auto, unfolding(aidl_base::specs::Readings::byte_at))]
+    fn take(_alloc: Global, from: &mut WordReader) -> Result<i8, ReadFault> {
+        let word = from.next_word()?;
+        let byte = byte_of(word)?;
+        from.pass(4);
+        Ok(byte)
+    }
+
+    ghost use Rattle.aidl_base.proofs.Values.{byte_again, byte_prefix};
+
+    ghost taken_again = { λ x inside rest value _. byte_again x inside rest value };
+
+    ghost no_prefix = { λ x y rest first _ second _. byte_prefix x y rest first second };
+}
+
+/// A char, as a code unit: one word. A word outside 0 to 65535 is refused by `BadValue`.
+impl Wire for u16 {
+    ghost is_value = { λ n. n < 2 ^ 16 };
+
+    ghost can_put = { λ _. Unit {0} };
+
+    ghost spelling = { λ n. word (pos n) };
+
+    ghost reading = { char_at };
+
+    fn length(&self) -> usize {
+        4
+    }
+
+    fn put(&self, to: &mut WordWriter) {
+        to.word(i32::from(*self));
+    }
+
+    #[tactic(auto, unfolding(aidl_base::specs::Readings::char_at))]
+    fn take(_alloc: Global, from: &mut WordReader) -> Result<u16, ReadFault> {
+        let word = from.next_word()?;
+        let unit = char_of(word)?;
+        from.pass(4);
+        Ok(unit)
+    }
+
+    ghost use Rattle.aidl_base.proofs.Values.{char_again, char_prefix};
+
+    ghost taken_again = { λ x inside rest value _. char_again x inside rest value };
+
+    ghost no_prefix = { λ x y rest first _ second _. char_prefix x y rest first second };
+}
+
+/// An int: one word.
+impl Wire for i32 {
+    ghost is_value = { λ n. FitsSigned w32 n };
+
+    ghost can_put = { λ _. Unit {0} };
+
+    ghost spelling = { word };
+
+    ghost reading = { word_at };
+
+    fn length(&self) -> usize {
+        4
+    }
+
+    fn put(&self, to: &mut WordWriter) {
+        to.word(*self);
+    }
+
+    fn take(_alloc: Global, from: &mut WordReader) -> Result<i32, ReadFault> {
+        from.word()
+    }
+
+    ghost use Rattle.aidl_base.proofs.Words.{word_again};
+    ghost use Rattle.aidl_base.proofs.Values.{word_prefix};
+
+    ghost taken_again = { λ x inside rest value _. word_again x inside rest value };
+
+    ghost no_prefix = { λ x y rest first _ second _. word_prefix x y rest first second };
+}
+
+/// A long: eight bytes.
+impl Wire for i64 {
+    ghost is_value = { λ n. FitsSigned w64 n };
+
+    ghost can_put = { λ _. Unit {0} };
+
+    ghost spelling = { long_word };
+
+    ghost reading = { long_at };
+
+    fn length(&self) -> usize {
+        8
+    }
+
+    fn put(&self, to: &mut WordWriter) {
+        to.long(*self);
+    }
+
+    fn take(_alloc: Global, from: &mut WordReader) -> Result<i64, ReadFault> {
+        from.long()
+    }
+
+    ghost use Rattle.aidl_base.proofs.Words.{long_again};
+    ghost use Rattle.aidl_base.proofs.Values.{long_prefix};
+
+    ghost taken_again = { λ x inside rest value _. long_again x inside rest value };
+
+    ghost no_prefix = { λ x y rest first _ second _. long_prefix x y rest first second };
+}
+
+/// The truth value of a word.
+fn truth_of(word: i32) -> Result<bool, ReadFault>
+    ensures { MatchResult result (λ t. truth_of word ≡ Ok t) (λ e. Fails e (truth_of word)) }
+{
+    match word {
+        0 => Ok(false),
+        1 => Ok(true),
+        _ => Err(ReadFault::BadValue),
+    }
+}
+
+/// The byte of a word.
+fn byte_of(word: i32) -> Result<i8, ReadFault>
+    ensures { MatchResult result (λ n. byte_of word ≡ Ok n) (λ e. Fails e (byte_of word)) }
+{
+    i8::try_from(word).map_err(|_| ReadFault::BadValue)
+}
+
+/// The code unit of a word.
+fn char_of(word: i32) -> Result<u16, ReadFault>
+    ensures { MatchResult result (λ n. char_of word ≡ Ok n) (λ e. Fails e (char_of word)) }
+{
+    u16::try_from(word).map_err(|_| ReadFault::BadValue)
+}

@@ -1,0 +1,182 @@
+ghost use Rattle.std.specs.Prelude.{◌≡◌, ◌+◌, ◌^◌, ◌<◌, ◌≤◌, pos, [], length, IfOk, replicate};
+ghost use Rattle.std.specs.Str.{chars};
+ghost use Rattle.std.specs.Char.Escape.{encode_utf16};
+ghost use Rattle.aidl_base.specs.Words.{word, long_word, pad, units, unit_bytes, block};
+ghost use Rattle.aidl_base.specs.Spellings.{spell_text, spell_nullable_text};
+ghost use Rattle.parcel_words.specs.Written.{with_bytes, scalars, nullable_scalars};
+
+use crate::padding::padding_of;
+use aidl_base::OutOfMemory;
+use std::alloc::Global;
+use std::marker::Model;
+
+/// A row of words that is written into room which was taken before. Contracts see the bytes written, and the number
+/// of bytes for which room is left.
+#[derive(Drop)]
+pub struct WordWriter {
+    bytes: Vec<u8>,
+    room: usize,
+}
+
+impl Model for WordWriter {
+    ghost use Rattle.parcel_words.specs.Written.{Written, written_code};
+
+    ghost Value = { Written };
+
+    ghost coded = { written_code };
+
+    ghost use Rattle.parcel_words.specs.Room.{written_of, HasRoom};
+
+    ghost view = { written_of };
+
+    ghost invariant = { HasRoom };
+}
+
+impl WordWriter {
+    /// A writer of so many bytes, none of which is written yet. It takes the whole room.
+    pub fn with_room(alloc: Global, bytes: usize) -> Result<WordWriter, OutOfMemory>
+        ensures { IfOk result (λ w. w ≡ record { bytes = []; room = bytes }) }
+    {
+        Ok(WordWriter {
+            bytes: Vec::with_capacity(alloc, bytes)?,
+            room: bytes,
+        })
+    }
+
+    /// Appends a word, four bytes. It takes no memory.
+    pub fn word(&mut self, n: i32)
+        requires { 4 ≤ self.old.room }
+        ensures { self.new ≡ with_bytes self.old (word n) }
+    {
+        self.append(&n.to_le_bytes());
+    }
+
+    /// Appends a long, eight bytes. It takes no memory.
+    pub fn long(&mut self, n: i64)
+        requires { 8 ≤ self.old.room }
+        ensures { self.new ≡ with_bytes self.old (long_word n) }
+    {
+        self.append(&n.to_le_bytes());
+    }
+
+    /// Appends a text as the count of its UTF-16 units and its block, or null as the word -1. It takes no memory.
+    pub fn text(&mut self, text: Option<&str>)
+        requires few { length (units (scalars text)) ≤ 2147483647 }
+        requires room { length (spell_nullable_text (nullable_scalars text)) ≤ self.old.room }
+        ensures { self.new ≡ with_bytes self.old (spell_nullable_text (nullable_scalars text.entry)) }
+    {
+        match text {
+            None => self.word(-1),
+            Some(text) => self.present_text(text),
+        }
+    }
+
+    /// Appends raw bytes and their padding, without a count. It takes no memory.
+    pub fn raw(&mut self, bytes: &[u8])
+        requires { length (pad bytes.now) ≤ self.old.room }
+        ensures { self.new ≡ with_bytes self.old (pad bytes.now) }
+    {
+        self.append(bytes);
+        self.zeros(padding_of(bytes.len()));
+    }
+
+    /// The bytes written. It takes no memory.
+    pub fn finish(self) -> Vec<u8>
+        ensures { result.items ≡ self.bytes }
+    {
+        self.bytes
+    }
+
+    /// Appends a text that isn't null.
+    fn present_text(&mut self, text: &str)
+        requires few { length (units (chars text.now)) < 2 ^ 31 }
+        requires room { length (spell_text (chars text.now)) ≤ self.old.room }
+        ensures { self.new ≡ with_bytes self.old (spell_text (chars text.now)) }
+    {
+        let count = unit_count(text);
+        self.count(count);
+        self.block(text, count);
+    }
+
+    /// Appends the count of a text's units or of a sequence's items.
+    pub(crate) fn count(&mut self, count: usize)
+        requires few { count < 2 ^ 31 }
+        requires room { 4 ≤ self.old.room }
+        ensures { self.new ≡ with_bytes self.old (word (pos count)) }
+    {
+        self.word(count as i32);
+    }
+
+    /// Appends the block of a text of so many units: the units, a zero unit and the padding.
+    #[tactic(auto, using(aidl_base::proofs::Blocks::block_is, crate::proofs::Appends::with_more))]
+    fn block(&mut self, text: &str, count: usize)
+        requires units { count ≡ length (units (chars text.now)) }
+        requires few { count < 2 ^ 31 }
+        requires room { length (block (chars text.now)) ≤ self.old.room }
+        ensures { self.new ≡ with_bytes self.old (block (chars text.now)) }
+    {
+        self.units(text);
+        self.zeros(2 + padding_of(2 * (count + 1)));
+    }
+
+    /// Appends the units of a text.
+    fn units(&mut self, text: &str)
+        requires { length (unit_bytes (units (chars text.now))) ≤ self.old.room }
+        ensures { self.new ≡ with_bytes self.old (unit_bytes (units (chars text.now))) }
+    {
+        for c in text.chars() {
+            self.character(c);
+        }
+    }
+
+    /// Appends the units of a character, one or two.
+    fn character(&mut self, c: char)
+        requires { length (unit_bytes (encode_utf16 c)) ≤ self.old.room }
+        ensures { self.new ≡ with_bytes self.old (unit_bytes (encode_utf16 c)) }
+    {
+        let mut buffer = [0; 2];
+        self.row(c.encode_utf16(&mut buffer));
+    }
+
+    /// Appends a row of units.
+    fn row(&mut self, units: &[u16])
+        requires { length (unit_bytes units.now) ≤ self.old.room }
+        ensures { self.new ≡ with_bytes self.old (unit_bytes units.now) }
+    {
+        for unit in units {
+            self.append(&unit.to_le_bytes());
+        }
+    }
+
+    /// Appends so many zeros, at most five.
+    fn zeros(&mut self, count: usize)
+        requires few { count ≤ 5 }
+        requires room { count ≤ self.old.room }
+        ensures { self.new ≡ with_bytes self.old (replicate count 0) }
+    {
+        self.append(&[0; 5][..count]);
+    }
+
+    /// Appends bytes. The room for them was taken, so the vector has it.
+    fn append(&mut self, bytes: &[u8])
+        requires { length bytes.now ≤ self.old.room }
+        ensures { self.new ≡ with_bytes self.old bytes.now }
+    {
+        match self.bytes.extend_from_slice(bytes) {
+            Ok(()) => self.room -= bytes.len(),
+            Err(_) => unreachable!(),
+        }
+    }
+}
+
+/// The number of UTF-16 units of a text.
+pub fn unit_count(text: &str) -> usize
+    requires { length (units (chars text.now)) < 2 ^ 63 }
+    ensures { result ≡ length (units (chars text.now)) }
+{
+    let mut count = 0;
+    for c in text.chars() {
+        count += c.len_utf16();
+    }
+    count
+}
