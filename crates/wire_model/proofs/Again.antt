@@ -7,14 +7,14 @@ use Rattle.std.proofs.lemmas.Int.{ints, to_z-of_z}
 use Rattle.std.proofs.lemmas.Bool.{le-ltb}
 use Rattle.std.proofs.lemmas.Bool.Decides.{nat_tests}
 use Rattle.aidl_base.specs.Words.{word, word_of, long_word, long_of}
-use Rattle.wire_model.specs.ReadOf.{Read, ◌>>=◌, word_at, long_at, count_of, count_at, data_of_word, scalar_at, long_value_at, one_at, items_at}
-use Rattle.wire_model.specs.Status.{is_permitted, bad_value}
 use Rattle.aidl_schema.specs.Types.{Form, form_of, is_type, is_raw, is_scalar}
 use Rattle.aidl_schema.specs.Types as form
 use Rattle.aidl_schema.specs.declared.schema.Field.{Field}
 use Rattle.aidl_schema.specs.declared.schema.AidlType.{AidlType}
 use Rattle.aidl_values.specs.Data.{Data, truth, number, Items, none, item, count}
 use Rattle.aidl_values.specs.HasType.{InRange}
+use Rattle.wire_model.specs.ReadOf.{Read, ◌>>=◌, word_at, long_at, count_of, count_at, data_of_word, scalar_at, long_value_at, one_at, items_at}
+use Rattle.wire_model.specs.Status.{is_permitted, bad_value}
 use Rattle.wire_model.specs.Spell.{spell_truth, spell_number}
 use Rattle.wire_model.specs.Reads.{EachReads}
 

@@ -13,11 +13,11 @@ use Rattle.aidl_schema.specs.Types as form
 use Rattle.aidl_values.specs.Data.{Data, null, truth, number, text, seq, rec, alt, Items, none, item, count, depth_of}
 use Rattle.aidl_values.specs.Default.{IsZero, AreInitial, const_value}
 use Rattle.aidl_values.specs.HasType.{InRange, HaveType}
-use Rattle.wire_model.proofs.OneZero.{one_zero}
-use Rattle.wire_model.specs.Spell.{null_word, raw_bytes, spell_number}
-use Rattle.wire_model.specs.Reads.{Reads, EachReads, FieldsRead}
 use Rattle.aidl_values.specs.Sound.{initial_in, HaveDefaults, AreTypes}
+use Rattle.wire_model.specs.Reads.{Readings, Reads, EachReads, FieldsRead}
+use Rattle.wire_model.specs.Spell.{null_word, raw_bytes, spell_number}
 use Rattle.wire_model.specs.ReadOf.{Read, ◌>>=◌, one_at, count_at, text_at, sequence_at, elements_at, marker_of, marker_at, marked_at, size_of, body_at, bytes_at, field_at, fields_at, body_value_at, record_at, tag_of, tag_at, ok_field, tagged_at, union_at, read_of, read_parts, has_levels, text_block_at}
+use Rattle.wire_model.proofs.OneZero.{one_zero}
 use Rattle.wire_model.proofs.Parts.{read_of-parts}
 use Rattle.wire_model.proofs.Again.{word_again, fits_pos, truth_again, number_again, each_again, count_again, count_null}
 use Rattle.wire_model.proofs.AgainTexts.{bytes_again, text_again, AreBytes, raw_again}
@@ -80,7 +80,7 @@ reads_some S (suc d) t b (seq vs) h k = starts (pos (count vs)) h.2 b h.3 k
 reads_some S (suc d) t b (rec vs) h k = starts (pos 1) h.3 b h.4 k
 reads_some S (suc d) t b (alt k v) h e = starts (pos 1) (word (pos k) ++ h.5) b h.6 e
 
-module _ (S : List Decl) (PartReads : AidlType → List ℕ → Data → Type 0) (read : AidlType → List ℕ → Read Data)
+module _ (S : List Decl) (PartReads : Readings) (read : AidlType → List ℕ → Read Data)
     (law : (t : AidlType) (b r : List ℕ) (v : Data) → is_type S t ≡ true → PartReads t b v → read t (b ++ r) ≡ Ok (v, r)) (some : (t : AidlType) (b : List ℕ) (v : Data) → PartReads t b v → b ≢ []) where
   defaults_again : (fs : List Field) (vs : Items) → AreInitial S fs vs → HaveDefaults S fs → fields_at (λ f. initial_in S f) read fs [] ≡ Ok vs
   defaults_again [] none h all = refl

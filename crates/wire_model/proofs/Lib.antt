@@ -4,14 +4,15 @@ mod AgainTexts
 mod Defaults
 mod Examples
 mod Forms
-mod Lists
+pub mod Lists
 mod OneZero
-mod Parts
+pub mod Parts
 mod RawForms
-mod Reading
-mod Sizes
+pub mod Reading
+pub mod Sizes
 mod Sound
 mod SpelledReads
+mod Statuses
 mod Stopped
 mod TextForms
 mod Told

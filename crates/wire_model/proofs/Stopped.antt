@@ -2,27 +2,26 @@
 use Rattle.std.proofs.Common.{◌≡◌, ◌≢◌, ℕ, zero, suc, ◌+◌, ◌-◌, ◌%◌, ◌<◌, ◌≤◌, ℤ, pos, negsuc, Bool, true, false, ◌&&◌, ◌==◌, cond, nat_lt, nat_le, List, [], ◌∷◌, ◌++◌, length, take, drop, Option, Some, slice_get, Ok, Err, Result, refl, ap, ◌∙◌, subst, arith, append_assoc}
 use Rattle.std.proofs.lemmas.Bool.{le-ltb}
 use Rattle.std.proofs.lemmas.Bool.Decides.{nat_tests}
+use Rattle.std.proofs.lemmas.List.{length-drop}
+use Rattle.std.proofs.lemmas.Option.{slice_get_past}
 use Rattle.aidl_base.specs.Words.{padding}
 use Rattle.aidl_schema.specs.declared.schema.Decl.{Decl}
 use Rattle.aidl_schema.specs.declared.schema.Field.{Field}
 use Rattle.aidl_schema.specs.declared.schema.AidlType.{AidlType}
 use Rattle.aidl_schema.specs.Types.{Form, form_of, is_one, is_raw, is_type, is_meant, is_well_shaped, elem}
 use Rattle.aidl_schema.specs.Types as form
+use Rattle.aidl_schema.specs.declared.schema.Base.{Base}
 use Rattle.aidl_values.specs.Data.{Data, rec, alt, seq, Items, none, item, count}
-use Rattle.aidl_values.specs.Sound.{initial_in}
+use Rattle.aidl_values.specs.Sound.{initial_in, AreTypes}
+use Rattle.wire_model.specs.Stop.{Stoppings, Stop, OneStop, StopBy, first_word, after_word, Begins, LongStop, WordStop, CountStop, MarkerStop, BlockStop, TextStop, block_len, IsBlock, IsPadded, ElementsStop, SequenceStop, SizeStop, FieldsStop, RecordStop, TagStop, UnionStop, FieldsThere, fields_bytes}
+use Rattle.wire_model.specs.Reads.{Readings, Reads, EachReads}
 use Rattle.wire_model.specs.Status.{bad_value, past, is_permitted}
-use Rattle.wire_model.specs.Reads.{Reads, EachReads}
-use Rattle.aidl_values.specs.Sound.{AreTypes}
-use Rattle.wire_model.specs.Stop.{Stop, OneStop, StopBy, first_word, after_word, Begins, LongStop, WordStop, CountStop, MarkerStop, BlockStop, TextStop, block_len, IsBlock, IsPadded, ElementsStop, SequenceStop, SizeStop, FieldsStop, RecordStop, TagStop, UnionStop, FieldsThere, fields_bytes}
 use Rattle.wire_model.specs.ReadOf.{Read, ◌>>=◌, data_of_word, word_at, scalar_at, long_value_at, count_of, count_at, marker_of, marker_at, marked_at, bytes_at, text_of, ok_text, text_block_at, text_at, all_zero, raw_items, raw_at, items_at, elements_at, sequence_at, field_at, fields_at, size_of, body_at, body_value_at, record_at, ok_field, tag_of, tag_at, tagged_at, union_at, one_at, read_by, read_of}
-use Rattle.std.proofs.lemmas.List.{length-drop}
 use Rattle.wire_model.proofs.Lists.{both, take_len, no_rest, IsBytes, taken, dropped, bytes_rest}
 use Rattle.wire_model.proofs.Forms.{elem_is_type}
 use Rattle.wire_model.proofs.Sound.{IsWhole, field_type}
 use Rattle.wire_model.proofs.TextForms.{text_form}
 use Rattle.wire_model.proofs.RawForms.{padded_is}
-use Rattle.std.proofs.lemmas.Option.{slice_get_past}
-use Rattle.aidl_schema.specs.declared.schema.Base.{Base}
 use Rattle.wire_model.proofs.AgainAll.{again}
 
 pub short_word : (inside : Bool) (b : List ℕ) → length b < 4 → word_at inside b ≡ Err (past inside)
@@ -92,7 +91,7 @@ field_is initial read g [] some = absurd (some refl)
 field_is initial read g (x ∷ c) some = refl
 
 -- fields: so many there, something left, and the next one stops
-fields_stop : (S : List Decl) (initial : Field → Data) (PartReads : AidlType → List ℕ → Data → Type 0) (read : AidlType → List ℕ → Read Data) (law : (t : AidlType) (c q : List ℕ) (v : Data) → is_type S t ≡ true → PartReads t c v → read t (c ++ q) ≡ Ok (v, q))
+fields_stop : (S : List Decl) (initial : Field → Data) (PartReads : Readings) (read : AidlType → List ℕ → Read Data) (law : (t : AidlType) (c q : List ℕ) (v : Data) → is_type S t ≡ true → PartReads t c v → read t (c ++ q) ≡ Ok (v, q))
     → (fs : List Field) (i : ℕ) (f : Field) (vs : Items) (b front rest : List ℕ) (s : ℤ) → AreTypes S fs → slice_get fs i ≡ Some f → b ≡ front ++ rest → FieldsThere PartReads (take i fs) front vs → rest ≢ [] → read f.ty rest ≡ Err s
     → fields_at initial read fs b ≡ Err s
 fields_stop S initial PartReads read law [] i f vs b front rest s types at e there some h = absurd cc
@@ -165,7 +164,7 @@ raw_stops n inside b s (BlockStop.wrong_block le wrong) =
     by_test true e = elim (wrong (padded_is n (take (n + padding n) b) (take_len (n + padding n) b le) e)) [ ]
     by_test false e = rw e refl
 
-module _ (S : List Decl) (sound : IsWhole S) (left : Bool) (PartReads : AidlType → List ℕ → Data → Type 0) (PartStops : AidlType → List ℕ → Bool → ℤ → Type 0) (read : AidlType → Bool → List ℕ → Read Data)
+module _ (S : List Decl) (sound : IsWhole S) (left : Bool) (PartReads : Readings) (PartStops : Stoppings) (read : AidlType → Bool → List ℕ → Read Data)
     (law : (t : AidlType) (j : Bool) (c q : List ℕ) (v : Data) → is_type S t ≡ true → PartReads t c v → read t j (c ++ q) ≡ Ok (v, q))
     (stop : (t : AidlType) (j : Bool) (c : List ℕ) (s : ℤ) → is_type S t ≡ true → IsBytes c → PartStops t c j s → read t j c ≡ Err s) where
   bytes_after : (front rest b : List ℕ) → b ≡ front ++ rest → IsBytes b → IsBytes rest

@@ -1,5 +1,5 @@
 -- What reading a parcelable answers is a reading of a front, or the stop.
-use Rattle.std.proofs.Common.{◌≡◌, ◌≢◌, ℕ, suc, ◌+◌, ◌-◌, ◌%◌, ◌<◌, ◌≤◌, ◌^◌, ℤ, pos, negsuc, Bool, true, false, ◌&&◌, ◌==◌, cond, nat_lt, nat_le, List, [], ◌∷◌, ◌++◌, length, take, drop, Some, slice_get, Ok, Err, Result, inl, inr, refl, sym, ap, ◌∙◌, subst, arith, append_assoc}
+use Rattle.std.proofs.Common.{◌≡◌, ℕ, suc, ◌+◌, ◌-◌, ◌%◌, ◌<◌, ◌≤◌, ◌^◌, ℤ, pos, negsuc, Bool, true, false, ◌&&◌, ◌==◌, cond, nat_lt, nat_le, List, [], ◌∷◌, ◌++◌, length, take, drop, Ok, Err, Result, inl, inr, refl, sym, ap, ◌∙◌, subst, arith, append_assoc}
 use Rattle.std.specs.Prelude.{FitsSigned}
 use Rattle.std.specs.Int.{w32}
 use Rattle.std.proofs.lemmas.List.{take-append-drop}
@@ -14,9 +14,9 @@ use Rattle.aidl_schema.specs.Types.{is_type}
 use Rattle.aidl_values.specs.Data.{Data, null, rec, Items, none, item}
 use Rattle.aidl_values.specs.HasType.{HasType, FieldsHaveType}
 use Rattle.aidl_values.specs.Sound.{AreTypes, HaveDefaults, initial_in}
+use Rattle.wire_model.specs.Stop.{Stoppings, first_word, after_word, MarkerStop, HasSize, SizeStop, FieldsStop, RecordStop, fields_bytes}
+use Rattle.wire_model.specs.Reads.{Readings, BodyReads, FieldsRead}
 use Rattle.wire_model.specs.Status.{bad_value}
-use Rattle.wire_model.specs.Reads.{BodyReads, FieldsRead}
-use Rattle.wire_model.specs.Stop.{first_word, after_word, MarkerStop, HasSize, SizeStop, FieldsStop, RecordStop, fields_bytes}
 use Rattle.wire_model.specs.ReadOf.{Read, ◌>>=◌, marker_at, marked_at, bytes_at, fields_at, size_of, body_at, body_value_at, record_at}
 use Rattle.wire_model.proofs.Lists.{both, take_len, IsBytes, taken, dropped, bytes_rest}
 use Rattle.wire_model.proofs.Told.{Told, told_then, spells_word, word_fits, MarkerReads, marker_told, begins, tail_word}
@@ -81,11 +81,11 @@ module _ (inside : Bool) (b : List ℕ) (bytes : IsBytes b) where
   body_told false e = let le : 4 ≤ length b = ltb-false _ _ e in rw e (size_told (first_word b) le refl)
 
 -- the fields of a record whose bytes these are
-abbrev pub FieldsTold : List Decl → (AidlType → List ℕ → Data → Type 0) → (AidlType → List ℕ → Bool → ℤ → Type 0) → List Field → List ℕ → Result Items ℤ → Type 0
+abbrev pub FieldsTold : List Decl → Readings → Stoppings → List Field → List ℕ → Result Items ℤ → Type 0
 FieldsTold S PartReads PartStops fs b (Ok vs) = FieldsRead S PartReads fs b vs × FieldsHaveType S fs vs
 FieldsTold S PartReads PartStops fs b (Err s) = FieldsStop fs PartReads PartStops b s
 
-module _ (S : List Decl) (PartReads : AidlType → List ℕ → Data → Type 0) (PartStops : AidlType → List ℕ → Bool → ℤ → Type 0) (read : AidlType → List ℕ → Read Data)
+module _ (S : List Decl) (PartReads : Readings) (PartStops : Stoppings) (read : AidlType → List ℕ → Read Data)
     (typed : (t : AidlType) (c : List ℕ) (v : Data) → PartReads t c v → HasType S t v)
     (law : (t : AidlType) (c : List ℕ) → is_type S t ≡ true → IsBytes c → Told (PartReads t) (λ s. PartStops t c true s) c (read t c)) where
   at_end : (fs : List Field) → fields_at (λ f. initial_in S f) read fs [] ≡ Ok (initials_in S fs)
@@ -110,12 +110,12 @@ module _ (S : List Decl) (PartReads : AidlType → List ℕ → Data → Type 0)
       one_told (Err s) h ih = FieldsStop.at_field 0 f refl none [] (x ∷ b) refl refl (λ k. absurd cc) h
 
 -- what is read at a record's place; `left` says that a level is left
-abbrev pub RecordReads : Bool → List Decl → (AidlType → List ℕ → Data → Type 0) → Bool → List Field → List ℕ → Data → Type 0
+abbrev pub RecordReads : Bool → List Decl → Readings → Bool → List Field → List ℕ → Data → Type 0
 RecordReads left S PartReads nullable fs front null = (nullable ≡ true) × (front ≡ word (pos 0))
 RecordReads left S PartReads nullable fs front (rec vs) = (left ≡ true) × (rest : List ℕ) × (front ≡ word (pos 1) ++ rest) × BodyReads S PartReads fs rest vs × FieldsHaveType S fs vs
 RecordReads left S PartReads nullable fs front _ = ⊥
 
-module _ (left : Bool) (S : List Decl) (PartReads : AidlType → List ℕ → Data → Type 0) (PartStops : AidlType → List ℕ → Bool → ℤ → Type 0) (read : AidlType → Bool → List ℕ → Read Data)
+module _ (left : Bool) (S : List Decl) (PartReads : Readings) (PartStops : Stoppings) (read : AidlType → Bool → List ℕ → Read Data)
     (typed : (t : AidlType) (c : List ℕ) (v : Data) → PartReads t c v → HasType S t v)
     (law : left ≡ true → (t : AidlType) (j : Bool) (c : List ℕ) → is_type S t ≡ true → IsBytes c → Told (PartReads t) (λ s. PartStops t c j s) c (read t j c))
     (nullable inside : Bool) (fs : List Field) (types : AreTypes S fs) (b : List ℕ) (bytes : IsBytes b) where

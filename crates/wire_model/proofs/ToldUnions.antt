@@ -9,15 +9,16 @@ use Rattle.aidl_schema.specs.declared.schema.AidlType.{AidlType}
 use Rattle.aidl_schema.specs.Types.{is_type}
 use Rattle.aidl_values.specs.Data.{Data, null, alt}
 use Rattle.aidl_values.specs.Sound.{AreTypes}
+use Rattle.wire_model.specs.Stop.{Stoppings, first_word, after_word, Begins, MarkerStop, TagStop, UnionStop}
+use Rattle.wire_model.specs.Reads.{Readings}
 use Rattle.wire_model.specs.Status.{bad_value, past}
-use Rattle.wire_model.specs.Stop.{first_word, after_word, Begins, MarkerStop, TagStop, UnionStop}
 use Rattle.wire_model.specs.ReadOf.{Read, ◌>>=◌, marker_at, marked_at, tag_of, tag_at, ok_field, tagged_at, union_at}
 use Rattle.wire_model.proofs.Lists.{IsBytes, dropped, bytes_rest}
 use Rattle.wire_model.proofs.Sound.{field_type}
 use Rattle.wire_model.proofs.Told.{Told, told_then, spells_word, MarkerReads, marker_told, begins, tail_word}
 
 -- what is read at a union's place; `left` says that a level is left
-abbrev pub UnionReads : Bool → (AidlType → List ℕ → Data → Type 0) → Bool → List Field → List ℕ → Data → Type 0
+abbrev pub UnionReads : Bool → Readings → Bool → List Field → List ℕ → Data → Type 0
 UnionReads left PartReads nullable fs front null = (nullable ≡ true) × (front ≡ word (pos 0))
 UnionReads left PartReads nullable fs front (alt k v) = (left ≡ true) × (f : Field) × (slice_get fs k ≡ Some f) × (rest : List ℕ) × (front ≡ word (pos 1) ++ word (pos k) ++ rest) × PartReads f.ty rest v
 UnionReads left PartReads nullable fs front _ = ⊥
@@ -27,7 +28,7 @@ past_end [] k e = omega arith
 past_end (f ∷ fs) zero e = absurd cc
 past_end (f ∷ fs) (suc k) e = omega (arith, past_end fs k e)
 
-module _ (left : Bool) (S : List Decl) (PartReads : AidlType → List ℕ → Data → Type 0) (PartStops : AidlType → List ℕ → Bool → ℤ → Type 0) (read : AidlType → Bool → List ℕ → Read Data)
+module _ (left : Bool) (S : List Decl) (PartReads : Readings) (PartStops : Stoppings) (read : AidlType → Bool → List ℕ → Read Data)
     (law : left ≡ true → (t : AidlType) (j : Bool) (c : List ℕ) → is_type S t ≡ true → IsBytes c → Told (PartReads t) (λ s. PartStops t c j s) c (read t j c))
     (nullable inside : Bool) (fs : List Field) (types : AreTypes S fs) (b : List ℕ) (bytes : IsBytes b) where
   abbrev Outcome : Read Data → Type 0

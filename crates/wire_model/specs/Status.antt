@@ -1,5 +1,5 @@
 -- The statuses of a refused reading (libbinder, Errors.h), and the words that a type permits (own).
-use Rattle.std.specs.Prelude.{ℤ, pos, negsuc, int_le, ◌&&◌, Bool, true, false}
+use Rattle.std.specs.Prelude.{◌≡◌, ◌⊎◌, ℤ, pos, negsuc, int_le, ◌&&◌, Bool, true, false}
 use Rattle.aidl_schema.specs.Types.{Form}
 use Rattle.aidl_schema.specs.Types as form
 
@@ -14,6 +14,10 @@ not_enough_data = negsuc 60
 -- -2147483640
 abbrev pub unexpected_null : ℤ
 unexpected_null = negsuc 2147483639
+
+-- a status with which reading refuses
+abbrev pub IsStatus : ℤ → Type 0
+IsStatus s = (s ≡ bad_value) ⊎ ((s ≡ not_enough_data) ⊎ (s ≡ unexpected_null))
 
 -- the status of an item that passes the limit, inside a record or outside one (own)
 abbrev pub past : Bool → ℤ

@@ -1,7 +1,7 @@
 -- Which bytes begin no reading, and the status of the first wrong item (own, the strict profile). One constructor is one way to stop.
 -- S is the schema's declarations, d the composite levels left, t the type, b the bytes up to the limit, s the status; `inside` says that a
 -- record is being read. What is said of a part is an argument: `PartReads` says of which bytes it is read, `PartStops` where it stops.
-use Rattle.std.specs.Prelude.{◌≡◌, ◌≢◌, ℕ, zero, suc, ◌+◌, ◌-◌, ◌*◌, ◌%◌, ◌<◌, ◌≤◌, ℤ, pos, negsuc, Bool, true, false, List, [], ◌∷◌, ◌++◌, length, take, drop, Option, Some, slice_get, IsTrue, MatchBool}
+use Rattle.std.specs.Prelude.{◌≡◌, ◌≢◌, ℕ, zero, suc, ◌+◌, ◌-◌, ◌*◌, ◌%◌, ◌<◌, ◌≤◌, ℤ, pos, negsuc, Bool, true, false, List, [], ◌∷◌, ◌++◌, length, take, drop, Some, slice_get, IsTrue, MatchBool}
 use Rattle.std.specs.Str.{all_scalars}
 use Rattle.aidl_base.specs.Words.{word_of, pad, padding, units, block}
 use Rattle.aidl_schema.specs.declared.schema.Decl.{Decl}
