@@ -48,6 +48,9 @@ one b = record { base = b; shape = shape.One; nullable = false; heap = false; ut
 array : Base → AidlType
 array b = record { base = b; shape = shape.Array; nullable = false; heap = false; utf8 = false }
 
+list_of : Base → AidlType
+list_of b = record { base = b; shape = shape.List; nullable = false; heap = false; utf8 = false }
+
 or_null : AidlType → AidlType
 or_null t = record t { nullable = true }
 
@@ -72,10 +75,14 @@ tagged : List Decl
 unfolding declared field
 tagged = declared (codes "U") (Union (field (codes "a") base.Int None ∷ field (codes "b") base.Text None ∷ [])) ∷ []
 
--- enum E of bytes
+-- enum E of bytes, and one of longs
 small : List Decl
 unfolding declared
 small = declared (codes "E") (Enum backing.Byte []) ∷ []
+
+large : List Decl
+unfolding declared
+large = declared (codes "E") (Enum backing.Long []) ∷ []
 
 -- the one declaration of these
 it : AidlType
@@ -92,6 +99,19 @@ two_words : (spell [] (one base.Int) (number (pos 5)) ≡ hex (codes "05000000")
     × (decode [] (one base.Long) (hex (codes "ffffffff ffffffff")) ≡ Ok (number (negsuc 0), []))
 unfolding decode hex one
 two_words = (refl, refl, refl, refl)
+
+-- a word each; an enum as its backing type
+words : (spell [] (one base.Boolean) (truth true) ≡ hex (codes "01000000"))
+    × (spell [] (one base.Byte) (number (negsuc 127)) ≡ hex (codes "80ffffff"))
+    × (spell [] (one base.Char) (number (pos 65)) ≡ hex (codes "41000000"))
+    × (spell small it (number (negsuc 0)) ≡ hex (codes "ffffffff"))
+    × (spell large it (number (pos 2)) ≡ hex (codes "02000000 00000000"))
+    × (decode [] (one base.Boolean) (hex (codes "01000000")) ≡ Ok (truth true, []))
+    × (decode [] (one base.Char) (hex (codes "41000000")) ≡ Ok (number (pos 65), []))
+    × (decode small it (hex (codes "ffffffff")) ≡ Ok (number (negsuc 0), []))
+    × (decode large it (hex (codes "02000000 00000000")) ≡ Ok (number (pos 2), []))
+unfolding decode hex one it small large
+words = (refl, refl, refl, refl, refl, refl, refl, refl, refl)
 
 -- too few bytes, and bytes that are left
 too_few : (decode [] (one base.Long) (hex (codes "ffffffff ffffff")) ≡ Err not_enough_data)
@@ -117,7 +137,7 @@ some_bytes : Items
 unfolding numbers
 some_bytes = numbers (pos 1 ∷ pos 2 ∷ pos 3 ∷ negsuc 0 ∷ pos 5 ∷ [])
 
--- raw bytes, of byte and of an enum of byte; padding that isn't zero; the elements of a List would be words
+-- raw bytes, of byte and of an enum of byte; padding that isn't zero
 byte_arrays : (spell [] (array base.Byte) (seq some_bytes) ≡ hex (codes "05000000 010203ff 05000000"))
     × (spell [] (array base.Byte) (seq none) ≡ hex (codes "00000000"))
     × (spell small (array (base.Named 0)) (seq some_bytes) ≡ hex (codes "05000000 010203ff 05000000"))
@@ -127,11 +147,22 @@ byte_arrays : (spell [] (array base.Byte) (seq some_bytes) ≡ hex (codes "05000
 unfolding decode hex one array some_bytes small
 byte_arrays = (refl, refl, refl, refl, refl, refl)
 
--- a word for each element of the other arrays
+-- elements by their own spelling in the other arrays and in a List
 word_arrays : (spell [] (array base.Boolean) (seq (item (truth true) (item (truth false) none))) ≡ hex (codes "02000000 01000000 00000000"))
     × (spell [] (array base.Char) (seq (numbers (pos 65535 ∷ []))) ≡ hex (codes "01000000 ffff0000"))
-unfolding hex array numbers
-word_arrays = (refl, refl)
+    × (spell [] (array base.Int) (seq (numbers (pos 5 ∷ negsuc 0 ∷ []))) ≡ hex (codes "02000000 05000000 ffffffff"))
+    × (spell [] (list_of base.Text) (seq (item (text (codes "a")) none)) ≡ hex (codes "01000000 01000000 61000000"))
+    × (decode [] (array base.Int) (hex (codes "02000000 05000000 ffffffff")) ≡ Ok (seq (numbers (pos 5 ∷ negsuc 0 ∷ [])), []))
+    × (decode [] (list_of base.Text) (hex (codes "01000000 01000000 61000000")) ≡ Ok (seq (item (text (codes "a")) none), []))
+unfolding decode hex array list_of numbers
+word_arrays = (refl, refl, refl, refl, refl, refl)
+
+-- where no level is left, a sequence is refused at its count; null needs none
+too_deep : (read_of [] 0 (array base.Int) false (hex (codes "00000000")) ≡ Err bad_value)
+    × (read_of [] 0 (or_null (array base.Int)) false (hex (codes "ffffffff")) ≡ Ok (null, []))
+    × (read_of newer 0 it false (hex (codes "01000000")) ≡ Err bad_value)
+unfolding decode hex array or_null it newer
+too_deep = (refl, refl, refl)
 
 narrow : (decode [] (one base.Boolean) (hex (codes "02000000")) ≡ Err bad_value)
     × (decode [] (one base.Byte) (hex (codes "80ffffff")) ≡ Ok (number (negsuc 127), []))
@@ -167,6 +198,12 @@ null_elements = (refl, refl, refl, refl)
 written_record : spell newer it (record_of (pos 7) (codes "hi")) ≡ hex (codes "01000000 14000000 07000000 02000000 68006900 00000000")
 unfolding hex it newer record_of
 written_record = refl
+
+-- an array of records, and what is read of it
+written_records : (spell newer (array (base.Named 0)) (seq (item (record_of (pos 7) (codes "hi")) none)) ≡ hex (codes "01000000 01000000 14000000 07000000 02000000 68006900 00000000"))
+    × (decode newer (array (base.Named 0)) (hex (codes "01000000 01000000 14000000 07000000 02000000 68006900 00000000")) ≡ Ok (seq (item (record_of (pos 7) (codes "hi")) none), []))
+unfolding decode hex array newer record_of
+written_records = (refl, refl)
 
 -- an old reader passes over the fields that it lacks, and goes on after the record
 tail_skipped : decode older it (hex (codes "01000000 14000000 07000000 02000000 68006900 00000000 09000000")) ≡ Ok (rec (item (number (pos 7)) none), hex (codes "09000000"))

@@ -1,17 +1,17 @@
--- The statuses of a refused reading (libbinder, Errors.h), and the words that a type permits (own).
+-- The statuses of a refused reading (libutils, Errors.h), and the words that a type permits (own).
 use Rattle.std.specs.Prelude.{◌≡◌, ◌⊎◌, ℤ, pos, negsuc, int_le, ◌&&◌, Bool, true, false}
 use Rattle.aidl_schema.specs.Types.{Form}
 use Rattle.aidl_schema.specs.Types as form
 
--- -22
+-- BAD_VALUE, -22
 abbrev pub bad_value : ℤ
 bad_value = negsuc 21
 
--- -61
+-- NOT_ENOUGH_DATA, -61
 abbrev pub not_enough_data : ℤ
 not_enough_data = negsuc 60
 
--- -2147483640
+-- UNEXPECTED_NULL, -2147483640
 abbrev pub unexpected_null : ℤ
 unexpected_null = negsuc 2147483639
 
@@ -24,6 +24,7 @@ abbrev pub past : Bool → ℤ
 past true = bad_value
 past false = not_enough_data
 
+-- from low to high
 abbrev pub is_within : ℤ → ℤ → ℤ → Bool
 is_within low high n = int_le low n && int_le n high
 
