@@ -24,6 +24,7 @@ use Rattle.wire_model.proofs.Again.{count_again}
 use Rattle.wire_model.proofs.Lists.{both, take_front, drop_front}
 use Rattle.wire_model.proofs.Sizes.{length-pad, length-raw_bytes}
 use Rattle.wire_model.proofs.SpelledReads.{length-unit_bytes}
+use Rattle.wire_model.proofs.Steps.{then_block, then_raw, then_text}
 
 pub bytes_again : (n : ℕ) (inside : Bool) (xs r : List ℕ) → length xs ≡ n → bytes_at n inside (xs ++ r) ≡ Ok (xs, r)
 bytes_again n inside xs r e =
@@ -96,8 +97,8 @@ pub text_again : (nullable inside : Bool) (x r : List ℕ) → all_scalars x ≡
 unfolding text_at text_block_at
 text_again nullable inside x r ok small =
     let n = length (units x) in
-    ap (λ (c : Read (Option ℕ)). c >>= λ n. text_block_at inside n.0 n.1) (count_again nullable n inside (block x ++ r) small)
-    ∙ ap (λ (b : Read (List ℕ)). b >>= λ bytes. ok_text (text_of n bytes.0) bytes.1) (bytes_again (block_len n) inside (block x) r (length-block x))
+    ap (then_text inside) (count_again nullable n inside (block x ++ r) small)
+    ∙ ap (then_block n) (bytes_again (block_len n) inside (block x) r (length-block x))
     ∙ ap (λ o. ok_text o r) (text_back x ok)
 
 -- raw bytes
@@ -121,5 +122,5 @@ raw_again inside vs r h =
     let whole : length (pad bs) ≡ n + padding n = length-pad bs ∙ ap (λ k. k + padding k) len in
     let front : take n (pad bs) ≡ bs = take_front bs (replicate (padding (length bs)) 0) n len in
     let rest : all_zero (drop n (pad bs)) ≡ true = ap all_zero (drop_front bs (replicate (padding (length bs)) 0) n len) ∙ zeros (padding (length bs)) in
-    ap (λ (b : Read (List ℕ)). b >>= λ bytes. cond (all_zero (drop n bytes.0)) (Ok (raw_items (take n bytes.0), bytes.1)) (Err bad_value)) (bytes_again (n + padding n) inside (pad bs) r whole)
+    ap (then_raw n) (bytes_again (n + padding n) inside (pad bs) r whole)
     ∙ rw (rest, front, raw_back vs h) refl

@@ -13,6 +13,7 @@ pub mod Sizes
 mod Sound
 mod SpelledReads
 mod Statuses
+mod Steps
 mod Stopped
 mod TextForms
 mod Told

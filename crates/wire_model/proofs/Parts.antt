@@ -8,6 +8,7 @@ use Rattle.aidl_schema.specs.declared.schema.AidlType.{AidlType}
 use Rattle.aidl_values.specs.Data.{Data, seq, alt}
 use Rattle.aidl_values.specs.Sound.{initial_in}
 use Rattle.wire_model.specs.ReadOf.{tag_at, tagged_at, ok_field, marker_at, marked_at, record_at, body_value_at, Read, ◌>>=◌, one_at, items_at, elements_at, sequence_at, read_of, read_by, read_parts, has_levels}
+use Rattle.wire_model.proofs.Steps.{then_there}
 
 pub read_of-parts : (S : List Decl) (d : ℕ) (t : AidlType) (inside : Bool) (b : List ℕ) → read_of S d t inside b ≡ read_by S (has_levels d) (λ u j c. read_parts S d u j c) t inside b
 unfolding read_of
@@ -40,7 +41,7 @@ pub record_at-there : (left nullable : Bool) (initial : Field → Data) (read : 
     → record_at left nullable initial read fs inside b ≡ body_value_at initial read fs inside c
 unfolding record_at
 record_at-there left nullable initial read fs inside b c has there =
-    ap (λ (m : Read Bool). m >>= λ x. marked_at left (λ e. body_value_at initial read fs inside e) x.0 x.1) there ∙ rw has refl
+    ap (then_there left (λ e. body_value_at initial read fs inside e)) there ∙ rw has refl
 
 -- a union whose tag names a field
 pub tagged_at-field : (read : AidlType → List ℕ → Read Data) (fs : List Field) (inside : Bool) (b c after : List ℕ) (k : ℕ) (f : Field) (v : Data) → tag_at inside b ≡ Ok (k, c) → slice_get fs k ≡ Some f → read f.ty c ≡ Ok (v, after)

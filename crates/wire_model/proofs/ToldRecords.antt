@@ -22,6 +22,7 @@ use Rattle.wire_model.proofs.Lists.{both, take_len, IsBytes, taken, dropped, byt
 use Rattle.wire_model.proofs.Told.{Told, told_then, spells_word, word_fits, MarkerReads, marker_told, begins, tail_word}
 use Rattle.wire_model.proofs.Defaults.{initials_in, are_initial, initials_typed}
 use Rattle.wire_model.proofs.Stopped.{after_len, a_size}
+use Rattle.wire_model.proofs.Steps.{with_field}
 
 -- a size word, the bytes that it counts, and the rest
 abbrev pub BodySplit : List ℕ → List ℕ → List ℕ → Type 0
@@ -90,7 +91,7 @@ module _ (S : List Decl) (PartReads : Readings) (PartStops : Stoppings) (read : 
     (law : (t : AidlType) (c : List ℕ) → is_type S t ≡ true → IsBytes c → Told (PartReads t) (λ s. PartStops t c true s) c (read t c)) where
   at_end : (fs : List Field) → fields_at (λ f. initial_in S f) read fs [] ≡ Ok (initials_in S fs)
   at_end [] = refl
-  at_end (f ∷ fs) = ap (λ (y : Result Items ℤ). y >>= λ others. Ok (item (initial_in S f) others)) (at_end fs)
+  at_end (f ∷ fs) = ap (with_field (initial_in S f)) (at_end fs)
 
   later : (f : Field) (fs : List Field) (b front rest : List ℕ) (v : Data) → b ≡ front ++ rest → PartReads f.ty front v → (y : Result Items ℤ) → FieldsTold S PartReads PartStops fs rest y → FieldsTold S PartReads PartStops (f ∷ fs) b (y >>= λ others. Ok (item v others))
   later f fs b front rest v e h (Ok vs) k = (inr (front, rest, e, h, k.0), (typed f.ty front v h, k.1))
