@@ -24,7 +24,7 @@ use Rattle.wire_model.proofs.AgainTexts.{bytes_again, text_again, AreBytes, raw_
 use Rattle.wire_model.proofs.Lists.{both, below, no_front}
 use Rattle.wire_model.proofs.Forms.{elem_is_type, well_one, raw_form}
 use Rattle.wire_model.proofs.Sound.{IsWhole, field_type}
-use Rattle.wire_model.proofs.Steps.{then_elements, then_fields, then_marker, then_others, then_rec, then_seq, then_size, then_tag, then_text, then_there, with_field}
+use Rattle.wire_model.proofs.Steps.{then_marker, then_size, then_tag, then_text, then_elements, then_seq, then_there, then_fields, then_others, with_field, then_rec, then_alternative, then_field, with_tag}
 
 -- one default
 unique_zero : (S : List Decl) (t : AidlType) (v w : Data) → IsZero S t v → IsZero S t w → v ≡ w
@@ -212,9 +212,9 @@ module _ (S : List Decl) (sound : IsWhole S) where
       one (suc d) t inside (b ++ r) _ h.0.0
       (rw h.2
       (ap (then_there true (λ c. tagged_at (λ u e. read_of S d u inside e) fs inside c)) marked
-      ∙ ap (λ (y : Read ℕ). y >>= λ k. ok_field (slice_get fs k.0) >>= λ f. read_of S d f.ty inside k.1 >>= λ v. Ok (alt k.0 v.0, v.1)) tagged
-      ∙ ap (λ o. ok_field o >>= λ f. read_of S d f.ty inside (rest ++ r) >>= λ v. Ok (alt k v.0, v.1)) h.4
-      ∙ ap (λ (y : Read Data). y >>= λ v. Ok (alt k v.0, v.1)) read))
+      ∙ ap (then_alternative (λ u e. read_of S d u inside e) fs) tagged
+      ∙ ap (then_field (λ u e. read_of S d u inside e) k (rest ++ r)) h.4
+      ∙ ap (with_tag k) read))
 
   -- a reading and a longer one of the same type are one
   pub one_reading : (d : ℕ) (t : AidlType) (v w : Data) (b c rest : List ℕ) → is_type S t ≡ true → Reads S d t b v → Reads S d t c w → c ≡ b ++ rest → (b ≡ c) × (v ≡ w)

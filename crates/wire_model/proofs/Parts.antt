@@ -8,7 +8,7 @@ use Rattle.aidl_schema.specs.declared.schema.AidlType.{AidlType}
 use Rattle.aidl_values.specs.Data.{Data, seq, alt}
 use Rattle.aidl_values.specs.Sound.{initial_in}
 use Rattle.wire_model.specs.ReadOf.{tag_at, tagged_at, ok_field, marker_at, marked_at, record_at, body_value_at, Read, ◌>>=◌, one_at, items_at, elements_at, sequence_at, read_of, read_by, read_parts, has_levels}
-use Rattle.wire_model.proofs.Steps.{then_there}
+use Rattle.wire_model.proofs.Steps.{then_seq, then_there, then_alternative, then_field, with_tag}
 
 pub read_of-parts : (S : List Decl) (d : ℕ) (t : AidlType) (inside : Bool) (b : List ℕ) → read_of S d t inside b ≡ read_by S (has_levels d) (λ u j c. read_parts S d u j c) t inside b
 unfolding read_of
@@ -32,7 +32,7 @@ module _ (S : List Decl) (d : ℕ) (t : AidlType) (inside : Bool) (b : List ℕ)
 
 module _ (left raw : Bool) (read : List ℕ → Read Data) (inside : Bool) (n : ℕ) (b : List ℕ) (has : left ≡ true) (apart : raw ≡ false) where
   -- what a sequence gives, from its elements
-  pub elements_at-items : elements_at left raw read inside (Some n) b ≡ (items_at read n b >>= λ vs. Ok (seq vs.0, vs.1))
+  pub elements_at-items : elements_at left raw read inside (Some n) b ≡ then_seq (items_at read n b)
   unfolding elements_at
   elements_at-items = rw (has, apart)
 
@@ -48,6 +48,6 @@ pub tagged_at-field : (read : AidlType → List ℕ → Read Data) (fs : List Fi
     → tagged_at read fs inside b ≡ Ok (alt k v, after)
 unfolding tagged_at
 tagged_at-field read fs inside b c after k f v tag at h =
-    ap (λ (x : Read ℕ). x >>= λ k. ok_field (slice_get fs k.0) >>= λ f. read f.ty k.1 >>= λ v. Ok (alt k.0 v.0, v.1)) tag
-    ∙ ap (λ o. ok_field o >>= λ f. read f.ty c >>= λ v. Ok (alt k v.0, v.1)) at
-    ∙ ap (λ (x : Read Data). x >>= λ v. Ok (alt k v.0, v.1)) h
+    ap (then_alternative read fs) tag
+    ∙ ap (then_field read k c) at
+    ∙ ap (with_tag k) h

@@ -23,7 +23,7 @@ use Rattle.wire_model.proofs.Sound.{IsWhole, field_type}
 use Rattle.wire_model.proofs.TextForms.{text_form}
 use Rattle.wire_model.proofs.RawForms.{padded_is}
 use Rattle.wire_model.proofs.AgainAll.{again}
-use Rattle.wire_model.proofs.Steps.{then_block, then_count, then_elements, then_fields, then_inner, then_items, then_marker, then_others, then_raw, then_rec, then_scalar, then_seq, then_size, then_text, then_there, with_field, with_item}
+use Rattle.wire_model.proofs.Steps.{then_scalar, then_count, then_marker, then_size, then_tag, then_text, then_elements, then_block, then_raw, then_items, with_item, then_seq, then_there, then_inner, then_fields, then_others, with_field, then_rec, then_alternative, then_field}
 
 pub short_word : (inside : Bool) (b : List ℕ) → length b < 4 → word_at inside b ≡ Err (past inside)
 short_word inside b lt = let e : nat_lt (length b) 4 ≡ true = grind (arith, nat_tests) in rw e refl
@@ -196,12 +196,6 @@ module _ (S : List Decl) (sound : IsWhole S) (left : Bool) (PartReads : Readings
       ∙ rw has (ap (then_fields (λ f. initial_in S f) (λ u c. read u true c) fs) body
       ∙ ap (then_rec (drop (z - 4) (after_word aw))) all)
 
-  abbrev tag_word : Read ℤ → Read ℕ
-  tag_word w = w >>= λ w. tag_of w.0 >>= λ k. Ok (k, w.1)
-
-  abbrev by_tag : Bool → List Field → Read ℕ → Read Data
-  by_tag inside fs x = x >>= λ k. ok_field (slice_get fs k.0) >>= λ f. read f.ty inside k.1 >>= λ v. Ok (alt k.0 v.0, v.1)
-
   union_stops : (nullable inside : Bool) (fs : List Field) (base : Base) (b : List ℕ) (s : ℤ) → form_of S base ≡ form.union fs → IsBytes b → UnionStop left nullable fs PartStops b inside s
       → union_at left nullable (λ u c. read u inside c) fs inside b ≡ Err s
   unfolding union_at tagged_at tag_at
@@ -211,21 +205,21 @@ module _ (S : List Decl) (sound : IsWhole S) (left : Bool) (PartReads : Readings
       ap (then_there left (λ c. tagged_at (λ u c. read u inside c) fs inside c)) (marked nullable inside b begins) ∙ rw (no_left, st) refl
   union_stops nullable inside fs base b s is bytes (UnionStop.at_tag begins has (TagStop.short lt)) =
       ap (then_there left (λ c. tagged_at (λ u c. read u inside c) fs inside c)) (marked nullable inside b begins)
-      ∙ rw has (ap (λ (w : Read ℤ). by_tag inside fs (tag_word w)) (short_word inside (after_word b) lt))
+      ∙ rw has (ap (λ (w : Read ℤ). then_alternative (λ u c. read u inside c) fs (then_tag w)) (short_word inside (after_word b) lt))
   union_stops nullable inside fs base b s is bytes (UnionStop.at_tag begins has (TagStop.no_tag le h)) =
       ap (then_there left (λ c. tagged_at (λ u c. read u inside c) fs inside c)) (marked nullable inside b begins)
-      ∙ rw has (ap (λ (w : Read ℤ). by_tag inside fs (tag_word w)) (whole_word inside (after_word b) le)
+      ∙ rw has (ap (λ (w : Read ℤ). then_alternative (λ u c. read u inside c) fs (then_tag w)) (whole_word inside (after_word b) le)
       ∙ no_field (first_word (after_word b)) h)
     where
       no_field : (w : ℤ) → ((k : ℕ) → w ≡ pos k → length fs ≤ k)
-          → by_tag inside fs (tag_word (Ok (w, after_word (after_word b)))) ≡ Err bad_value
+          → then_alternative (λ u c. read u inside c) fs (then_tag (Ok (w, after_word (after_word b)))) ≡ Err bad_value
       no_field (negsuc k) h = refl
-      no_field (pos k) h = ap (λ o. ok_field o >>= λ f. read f.ty inside (after_word (after_word b)) >>= λ v. Ok (alt k v.0, v.1)) (slice_get_past fs k (h k refl))
+      no_field (pos k) h = ap (then_field (λ u c. read u inside c) k (after_word (after_word b))) (slice_get_past fs k (h k refl))
   union_stops nullable inside fs base b s is bytes (UnionStop.at_field begins has k tag f at st) =
       let tail = after_word (after_word b) in
       let stopped : read f.ty inside tail ≡ Err s = stop f.ty inside tail s (field_type S fs k f (sound.tags base fs is).0 at) (dropped 4 (after_word b) (dropped 4 b bytes)) st in
       ap (then_there left (λ c. tagged_at (λ u c. read u inside c) fs inside c)) (marked nullable inside b begins)
-      ∙ rw has (ap (λ (w : Read ℤ). by_tag inside fs (tag_word w)) (whole_word inside (after_word b) tag.0)
+      ∙ rw has (ap (λ (w : Read ℤ). then_alternative (λ u c. read u inside c) fs (then_tag w)) (whole_word inside (after_word b) tag.0)
       ∙ rw (tag.1, at, stopped) refl)
 
   sequence_stops : (t : AidlType) (inside : Bool) (b : List ℕ) (s : ℤ) → is_type S (elem S t) ≡ true → IsBytes b → SequenceStop left (is_raw S t) t.nullable (PartReads (elem S t)) (λ rest s. PartStops (elem S t) rest inside s) b inside s

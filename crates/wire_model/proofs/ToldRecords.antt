@@ -22,7 +22,7 @@ use Rattle.wire_model.proofs.Lists.{both, take_len, IsBytes, taken, dropped, byt
 use Rattle.wire_model.proofs.Told.{Told, told_then, spells_word, word_fits, MarkerReads, marker_told, begins, tail_word}
 use Rattle.wire_model.proofs.Defaults.{initials_in, are_initial, initials_typed}
 use Rattle.wire_model.proofs.Stopped.{after_len, a_size}
-use Rattle.wire_model.proofs.Steps.{with_field}
+use Rattle.wire_model.proofs.Steps.{then_inner, then_fields, then_others, with_field, then_rec}
 
 -- a size word, the bytes that it counts, and the rest
 abbrev pub BodySplit : List ℕ → List ℕ → List ℕ → Type 0
@@ -55,11 +55,11 @@ module _ (inside : Bool) (b : List ℕ) (bytes : IsBytes b) where
       ∙ ap (λ h. (h ++ inner) ++ drop (z - 4) (after_word b)) (sym head) in
       rw is (z, size, omega (arith, after_len b le), refl, split, omega arith, omega arith)
 
-  size_told : (w : ℤ) → 4 ≤ length b → first_word b ≡ w → BodyTold b inside (size_of w >>= λ z. bytes_at (z - 4) inside (after_word b))
+  size_told : (w : ℤ) → 4 ≤ length b → first_word b ≡ w → BodyTold b inside (then_inner inside (after_word b) (size_of w))
   size_told (negsuc z) le e = SizeStop.no_size le (λ y size. let w : ◌≡◌ {A = ℤ} (negsuc z) (pos y) = sym e ∙ size.0.1 in absurd cc)
   size_told (pos z) le e = by_test (nat_le 4 z && (z % 4 == 0)) refl
     where
-      by_test : (t : Bool) → (nat_le 4 z && (z % 4 == 0)) ≡ t → BodyTold b inside (cond (nat_le 4 z && (z % 4 == 0)) (Ok z) (Err bad_value) >>= λ z. bytes_at (z - 4) inside (after_word b))
+      by_test : (t : Bool) → (nat_le 4 z && (z % 4 == 0)) ≡ t → BodyTold b inside (then_inner inside (after_word b) (cond (nat_le 4 z && (z % 4 == 0)) (Ok z) (Err bad_value)))
       by_test true is =
           let two = both (nat_le 4 z) (z % 4 == 0) is in
           let four : 4 ≤ z = grind (arith, nat_tests, two.0) in
@@ -93,7 +93,7 @@ module _ (S : List Decl) (PartReads : Readings) (PartStops : Stoppings) (read : 
   at_end [] = refl
   at_end (f ∷ fs) = ap (with_field (initial_in S f)) (at_end fs)
 
-  later : (f : Field) (fs : List Field) (b front rest : List ℕ) (v : Data) → b ≡ front ++ rest → PartReads f.ty front v → (y : Result Items ℤ) → FieldsTold S PartReads PartStops fs rest y → FieldsTold S PartReads PartStops (f ∷ fs) b (y >>= λ others. Ok (item v others))
+  later : (f : Field) (fs : List Field) (b front rest : List ℕ) (v : Data) → b ≡ front ++ rest → PartReads f.ty front v → (y : Result Items ℤ) → FieldsTold S PartReads PartStops fs rest y → FieldsTold S PartReads PartStops (f ∷ fs) b (with_field v y)
   later f fs b front rest v e h (Ok vs) k = (inr (front, rest, e, h, k.0), (typed f.ty front v h, k.1))
   later f fs b front rest v e h (Err s) (FieldsStop.at_field i g at vs front' rest' e' there left stop) =
       FieldsStop.at_field (suc i) g at (item v vs) (front ++ front') rest' (e ∙ ap (λ c. front ++ c) e' ∙ sym (append_assoc front front' rest')) (front, front', refl, h, there) left stop
@@ -106,7 +106,7 @@ module _ (S : List Decl) (PartReads : Readings) (PartStops : Stoppings) (read : 
       one_told (read f.ty (x ∷ b)) (law f.ty (x ∷ b) types.0 bytes) (λ c h. fields_told fs c h types.1 all.1)
     where
       one_told : (y : Read Data) → Told (PartReads f.ty) (λ s. PartStops f.ty (x ∷ b) true s) (x ∷ b) y → ((c : List ℕ) → IsBytes c → FieldsTold S PartReads PartStops fs c (fields_at (λ f. initial_in S f) read fs c))
-          → FieldsTold S PartReads PartStops (f ∷ fs) (x ∷ b) (y >>= λ first. fields_at (λ f. initial_in S f) read fs first.1 >>= λ others. Ok (item first.0 others))
+          → FieldsTold S PartReads PartStops (f ∷ fs) (x ∷ b) (then_others (λ f. initial_in S f) read fs y)
       one_told (Ok y) h ih = later f fs (x ∷ b) h.0 y.1 y.0 h.1 h.2 (fields_at (λ f. initial_in S f) read fs y.1) (ih y.1 (bytes_rest h.0 y.1 (subst IsBytes h.1 bytes)))
       one_told (Err s) h ih = FieldsStop.at_field 0 f refl none [] (x ∷ b) refl refl (λ k. absurd cc) h
 
@@ -125,7 +125,7 @@ module _ (left : Bool) (S : List Decl) (PartReads : Readings) (PartStops : Stopp
 
   -- after the marker 1
   there_told : (rest : List ℕ) (has : left ≡ true) (all : HaveDefaults S fs) → b ≡ word (pos 1) ++ rest → (y : Read (List ℕ)) → BodyTold rest inside y
-      → Told (RecordReads left S PartReads nullable fs) (λ s. RecordStop left nullable fs PartReads PartStops b inside s) b (y >>= λ inner. fields_at (λ f. initial_in S f) (λ u c. read u true c) fs inner.0 >>= λ vs. Ok (rec vs, inner.1))
+      → Told (RecordReads left S PartReads nullable fs) (λ s. RecordStop left nullable fs PartReads PartStops b inside s) b (then_fields (λ f. initial_in S f) (λ u c. read u true c) fs y)
   there_told rest has all e (Err s) h =
       RecordStop.at_size (begins b rest 1 one e) has (subst (λ c. SizeStop c inside s) (sym (tail_word b rest 1 one e)) h)
   there_told rest has all e (Ok y) h =
@@ -137,7 +137,7 @@ module _ (left : Bool) (S : List Decl) (PartReads : Readings) (PartStops : Stopp
       inner_bytes : IsBytes y.0
       inner_bytes = subst IsBytes (sym h.3) (taken (h.0 - 4) (after_word rest) (dropped 4 rest rest_bytes))
 
-      by_fields : (x : Result Items ℤ) → FieldsTold S PartReads PartStops fs y.0 x → Told (RecordReads left S PartReads nullable fs) (λ s. RecordStop left nullable fs PartReads PartStops b inside s) b (x >>= λ vs. Ok (rec vs, y.1))
+      by_fields : (x : Result Items ℤ) → FieldsTold S PartReads PartStops fs y.0 x → Told (RecordReads left S PartReads nullable fs) (λ s. RecordStop left nullable fs PartReads PartStops b inside s) b (then_rec y.1 x)
       by_fields (Ok vs) k =
           let front = word (pos (4 + length y.0)) ++ y.0 in
           (word (pos 1) ++ front, e ∙ ap (λ c. word (pos 1) ++ c) h.4, (has, front, refl, (y.0, refl, h.5, h.6, k.0), k.1))

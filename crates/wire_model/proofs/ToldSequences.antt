@@ -19,20 +19,21 @@ use Rattle.wire_model.proofs.Lists.{take_len, IsBytes, taken, bytes_rest}
 use Rattle.wire_model.proofs.Forms.{raw_form}
 use Rattle.wire_model.proofs.RawForms.{padded_is, zero_padding, bytes_of_items, count_of_items, items_typed}
 use Rattle.wire_model.proofs.Told.{Told, told_then, CountReads, count_told, begins, tail_word}
+use Rattle.wire_model.proofs.Steps.{then_items, with_item, then_seq}
 
 module _ (PartReads : List ℕ → Data → Type 0) (PartStops : List ℕ → ℤ → Type 0) (read : List ℕ → Read Data) (law : (b : List ℕ) → IsBytes b → Told PartReads (λ s. PartStops b s) b (read b)) where
   abbrev pub CountRead : ℕ → List ℕ → Items → Type 0
   CountRead n front vs = (count vs ≡ n) × EachReads PartReads front vs
 
   later : (n : ℕ) (v : Data) (front rest b : List ℕ) → b ≡ front ++ rest → PartReads front v → (y : Read Items) → Told (CountRead n) (λ s. ElementsStop PartReads PartStops n rest s) rest y
-      → Told (CountRead (suc n)) (λ s. ElementsStop PartReads PartStops (suc n) b s) b (y >>= λ others. Ok (item v others.0, others.1))
+      → Told (CountRead (suc n)) (λ s. ElementsStop PartReads PartStops (suc n) b s) b (with_item v y)
   later n v front rest b e here (Ok x) h =
       (front ++ h.0, e ∙ ap (λ c. front ++ c) h.1 ∙ sym (append_assoc front h.0 x.1), (ap suc h.2.0, (front, h.0, refl, here, h.2.1)))
   later n v front rest b e here (Err s) (ElementsStop.at_element vs lt front' rest' e' each stop) =
       ElementsStop.at_element (item v vs) (omega arith) (front ++ front') rest' (e ∙ ap (λ c. front ++ c) e' ∙ sym (append_assoc front front' rest')) (front, front', refl, here, each) stop
 
   first_told : (n : ℕ) (b : List ℕ) → IsBytes b → (x : Read Data) → Told PartReads (λ s. PartStops b s) b x → ((c : List ℕ) → IsBytes c → Told (CountRead n) (λ s. ElementsStop PartReads PartStops n c s) c (items_at read n c))
-      → Told (CountRead (suc n)) (λ s. ElementsStop PartReads PartStops (suc n) b s) b (x >>= λ first. items_at read n first.1 >>= λ others. Ok (item first.0 others.0, others.1))
+      → Told (CountRead (suc n)) (λ s. ElementsStop PartReads PartStops (suc n) b s) b (then_items read n x)
   first_told n b bytes (Ok x) h ih = later n x.0 h.0 x.1 b h.1 h.2 (items_at read n x.1) (ih x.1 (bytes_rest h.0 x.1 (subst IsBytes h.1 bytes)))
   first_told n b bytes (Err s) h ih = ElementsStop.at_element none (omega arith) [] b refl refl h
 
@@ -88,7 +89,7 @@ module _ (left : Bool) (S : List Decl) (t : AidlType) (PartReads : List ℕ → 
     tail : rest ≡ after_word b
     tail = sym (tail_word b rest n lt e)
 
-    raw_outcome : is_raw S t ≡ true → (y : Read Items) → Told (RawRead S t n) (λ s. BlockStop (n + padding n) (IsPadded n) rest inside s) rest y → Outcome (y >>= λ vs. Ok (seq vs.0, vs.1))
+    raw_outcome : is_raw S t ≡ true → (y : Read Items) → Told (RawRead S t n) (λ s. BlockStop (n + padding n) (IsPadded n) rest inside s) rest y → Outcome (then_seq y)
     raw_outcome raw (Ok x) h = (
       word (pos n) ++ h.0,
       e ∙ ap (λ c. word (pos n) ++ c) h.1,
@@ -97,7 +98,7 @@ module _ (left : Bool) (S : List Decl) (t : AidlType) (PartReads : List ℕ → 
     raw_outcome raw (Err s) h =
         SequenceStop.at_bytes n (begins b rest n lt e) has raw (subst (λ c. BlockStop (n + padding n) (IsPadded n) c inside s) tail h)
 
-    items_outcome : is_raw S t ≡ false → (y : Read Items) → Told (CountRead PartReads PartStops read (law has) n) (λ s. ElementsStop PartReads PartStops n rest s) rest y → Outcome (y >>= λ vs. Ok (seq vs.0, vs.1))
+    items_outcome : is_raw S t ≡ false → (y : Read Items) → Told (CountRead PartReads PartStops read (law has) n) (λ s. ElementsStop PartReads PartStops n rest s) rest y → Outcome (then_seq y)
     items_outcome apart (Ok x) h = (
       word (pos n) ++ h.0,
       e ∙ ap (λ c. word (pos n) ++ c) h.1,
@@ -106,7 +107,7 @@ module _ (left : Bool) (S : List Decl) (t : AidlType) (PartReads : List ℕ → 
     items_outcome apart (Err s) h =
         SequenceStop.at_elements n (begins b rest n lt e) has apart (subst (λ c. ElementsStop PartReads PartStops n c s) tail h)
 
-    parts_told : IsBytes rest → (raw : Bool) → is_raw S t ≡ raw → Outcome ((cond raw (raw_at n inside rest) (items_at read n rest)) >>= λ vs. Ok (seq vs.0, vs.1))
+    parts_told : IsBytes rest → (raw : Bool) → is_raw S t ≡ raw → Outcome (then_seq (cond raw (raw_at n inside rest) (items_at read n rest)))
     parts_told rest_bytes true is = raw_outcome is (raw_at n inside rest) (raw_told S t (raw_form S t is) n inside rest rest_bytes (nat_lt (length rest) (n + padding n)) refl)
     parts_told rest_bytes false is = items_outcome is (items_at read n rest) (items_told PartReads PartStops read (law has) n rest rest_bytes)
 

@@ -16,6 +16,7 @@ use Rattle.wire_model.specs.ReadOf.{Read, ◌>>=◌, marker_at, marked_at, tag_o
 use Rattle.wire_model.proofs.Lists.{IsBytes, dropped, bytes_rest}
 use Rattle.wire_model.proofs.Sound.{field_type}
 use Rattle.wire_model.proofs.Told.{Told, told_then, spells_word, MarkerReads, marker_told, begins, tail_word}
+use Rattle.wire_model.proofs.Steps.{then_alternative, then_field, with_tag}
 
 -- what is read at a union's place; `left` says that a level is left
 abbrev pub UnionReads : Bool → Readings → Bool → List Field → List ℕ → Data → Type 0
@@ -34,9 +35,6 @@ module _ (left : Bool) (S : List Decl) (PartReads : Readings) (PartStops : Stopp
   abbrev Outcome : Read Data → Type 0
   Outcome = λ x. Told (UnionReads left PartReads nullable fs) (λ s. UnionStop left nullable fs PartStops b inside s) b x
 
-  abbrev by_tag : Read ℕ → Read Data
-  by_tag x = x >>= λ k. ok_field (slice_get fs k.0) >>= λ f. read f.ty inside k.1 >>= λ v. Ok (alt k.0 v.0, v.1)
-
   one : 1 < 2 ^ 31
   one = omega arith
 
@@ -47,7 +45,7 @@ module _ (left : Bool) (S : List Decl) (PartReads : Readings) (PartStops : Stopp
 
     -- the field of the tag k
     value_told : (k : ℕ) (f : Field) → 4 ≤ length rest → first_word rest ≡ pos k → slice_get fs k ≡ Some f → (x : Read Data) → Told (PartReads f.ty) (λ s. PartStops f.ty (after_word rest) inside s) (after_word rest) x
-        → Outcome (x >>= λ v. Ok (alt k v.0, v.1))
+        → Outcome (with_tag k x)
     value_told k f le is at (Ok x) h =
         let spelled : word (pos k) ≡ take 4 rest = ap word (sym is) ∙ spells_word rest rest_bytes le in
         let split : rest ≡ word (pos k) ++ (h.0 ++ x.1) = sym (take-append-drop 4 rest) ∙ ap (λ c. take 4 rest ++ c) h.1 ∙ ap (λ w. w ++ (h.0 ++ x.1)) (sym spelled) in
@@ -61,11 +59,11 @@ module _ (left : Bool) (S : List Decl) (PartReads : Readings) (PartStops : Stopp
         UnionStop.at_tag (begins b rest 1 one e) has (subst (λ c. TagStop fs c inside bad_value) tail (TagStop.no_tag le none))
 
     field_told : (k : ℕ) → 4 ≤ length rest → first_word rest ≡ pos k → (o : Option Field) → slice_get fs k ≡ o
-        → Outcome (ok_field o >>= λ f. read f.ty inside (after_word rest) >>= λ v. Ok (alt k v.0, v.1))
+        → Outcome (then_field (λ u c. read u inside c) k (after_word rest) o)
     field_told k le is None at = no_tag le (λ j j_is. let same : ◌≡◌ {A = ℤ} (pos k) (pos j) = sym is ∙ j_is in let k_is : k ≡ j = cc in subst (λ i. length fs ≤ i) k_is (past_end fs k at))
     field_told k le is (Some f) at = value_told k f le is at (read f.ty inside (after_word rest)) (law has f.ty inside (after_word rest) (field_type S fs k f types at) (dropped 4 rest rest_bytes))
 
-    word_told : (w : ℤ) → 4 ≤ length rest → first_word rest ≡ w → Outcome (by_tag (tag_of w >>= λ k. Ok (k, after_word rest)))
+    word_told : (w : ℤ) → 4 ≤ length rest → first_word rest ≡ w → Outcome (then_alternative (λ u c. read u inside c) fs (tag_of w >>= λ k. Ok (k, after_word rest)))
     word_told (negsuc k) le is = no_tag le (λ j j_is. let same : ◌≡◌ {A = ℤ} (negsuc k) (pos j) = sym is ∙ j_is in absurd cc)
     word_told (pos k) le is = field_told k le is (slice_get fs k) refl
 
