@@ -1,5 +1,5 @@
 -- What was spelled is read again, whatever follows it.
-use Rattle.std.proofs.Common.{◌≡◌, ℕ, ◌+◌, ◌^◌, ◌≤◌, ◌<◌, ℤ, pos, negsuc, Bool, true, false, cond, List, ◌++◌, length, nat_lt, Some, None, Ok, Err, refl, ap, ◌∙◌, arith, append_assoc}
+use Rattle.std.proofs.Common.{◌≡◌, ℕ, ◌+◌, ◌^◌, ◌≤◌, ◌<◌, ℤ, pos, negsuc, Bool, true, false, List, ◌++◌, length, nat_lt, Some, None, Ok, refl, ap, ◌∙◌, arith, append_assoc}
 use Rattle.std.specs.Int.{w8, w32, w64, cast_unsigned, cast_signed}
 use Rattle.std.specs.Prelude.{FitsSigned, ◌≤ℤ◌}
 use Rattle.std.proofs.lemmas.Nat.{from_le_bytes-to_le_bytes_4, from_le_bytes-to_le_bytes_8}
@@ -13,8 +13,8 @@ use Rattle.aidl_schema.specs.declared.schema.Field.{Field}
 use Rattle.aidl_schema.specs.declared.schema.AidlType.{AidlType}
 use Rattle.aidl_values.specs.Data.{Data, truth, number, Items, none, item, count}
 use Rattle.aidl_values.specs.HasType.{InRange}
-use Rattle.wire_model.specs.ReadOf.{Read, ◌>>=◌, word_at, long_at, count_of, count_at, data_of_word, scalar_at, long_value_at, one_at, items_at}
-use Rattle.wire_model.specs.Status.{is_permitted, bad_value}
+use Rattle.wire_model.specs.ReadOf.{Read, ◌>>=◌, word_at, long_at, count_at, data_of_word, scalar_at, long_value_at, one_at, items_at}
+use Rattle.wire_model.specs.Status.{is_permitted}
 use Rattle.wire_model.specs.Spell.{spell_truth, spell_number}
 use Rattle.wire_model.specs.Reads.{EachReads}
 use Rattle.wire_model.proofs.Steps.{then_count, then_items, then_scalar, with_item}

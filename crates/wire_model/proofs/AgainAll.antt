@@ -1,5 +1,5 @@
 -- What is read is read again, whatever follows it: every type of a sound schema.
-use Rattle.std.proofs.Common.{◌≡◌, ◌≢◌, ℕ, zero, suc, ◌+◌, ◌-◌, ◌%◌, ◌<◌, ◌≤◌, ◌^◌, max, ℤ, pos, negsuc, Bool, true, false, ◌&&◌, ◌==◌, nat_le, List, [], ◌∷◌, ◌++◌, length, Option, Some, None, slice_get, Ok, Result, inl, inr, refl, sym, ap, ◌∙◌, subst, arith, length-append, true≢false}
+use Rattle.std.proofs.Common.{◌≡◌, ◌≢◌, ℕ, zero, suc, ◌+◌, ◌-◌, ◌%◌, ◌<◌, ◌≤◌, ◌^◌, max, ℤ, pos, negsuc, Bool, true, false, ◌&&◌, ◌==◌, nat_le, List, [], ◌∷◌, ◌++◌, length, Option, Some, None, Ok, inl, inr, refl, sym, ap, ◌∙◌, subst, arith, length-append, true≢false}
 use Rattle.std.specs.Prelude.{MatchBool, MatchOption}
 use Rattle.std.proofs.lemmas.List.{append-nil}
 use Rattle.std.proofs.lemmas.Bool.Decides.{nat_tests}
@@ -16,7 +16,7 @@ use Rattle.aidl_values.specs.HasType.{InRange, HaveType}
 use Rattle.aidl_values.specs.Sound.{initial_in, HaveDefaults, AreTypes}
 use Rattle.wire_model.specs.Reads.{Readings, Reads, EachReads, FieldsRead}
 use Rattle.wire_model.specs.Spell.{null_word, raw_bytes, spell_number}
-use Rattle.wire_model.specs.ReadOf.{Read, ◌>>=◌, one_at, count_at, text_at, sequence_at, elements_at, marker_of, marker_at, marked_at, size_of, body_at, bytes_at, field_at, fields_at, body_value_at, record_at, tag_of, tag_at, ok_field, tagged_at, union_at, read_of, read_parts, has_levels, text_block_at}
+use Rattle.wire_model.specs.ReadOf.{Read, one_at, count_at, text_at, sequence_at, elements_at, marker_at, body_at, field_at, fields_at, body_value_at, record_at, tag_at, tagged_at, union_at, read_of, read_parts, has_levels, text_block_at}
 use Rattle.wire_model.proofs.OneZero.{one_zero}
 use Rattle.wire_model.proofs.Parts.{read_of-parts}
 use Rattle.wire_model.proofs.Again.{word_again, fits_pos, truth_again, number_again, each_again, count_again, count_null}

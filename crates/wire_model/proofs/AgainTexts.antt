@@ -1,5 +1,5 @@
 -- Text blocks and raw bytes, spelled and read again.
-use Rattle.std.proofs.Common.{◌≡◌, ℕ, zero, suc, ◌+◌, ◌-◌, ◌*◌, ◌^◌, ◌≤◌, ◌<◌, ℤ, Bool, true, false, not, cond, List, [], ◌∷◌, ◌++◌, map, length, take, drop, replicate, nat_lt, Some, Option, Ok, Err, refl, sym, ap, ◌∙◌, arith, append_assoc, length-append}
+use Rattle.std.proofs.Common.{◌≡◌, ℕ, zero, suc, ◌+◌, ◌-◌, ◌*◌, ◌^◌, ◌≤◌, ◌<◌, ℤ, Bool, true, false, not, List, [], ◌∷◌, ◌++◌, map, length, take, drop, replicate, nat_lt, Some, Ok, refl, sym, ap, ◌∙◌, arith, append_assoc, length-append}
 use Rattle.std.specs.Prelude.{FitsSigned}
 use Rattle.std.specs.List.{list_any}
 use Rattle.std.specs.Option.{unwrap_or, is_some}
@@ -18,8 +18,7 @@ use Rattle.aidl_base.proofs.Texts.{utf16_chars-units}
 use Rattle.aidl_values.specs.Data.{number, text, Items, none, item, count}
 use Rattle.wire_model.specs.Spell.{spell_text, raw_byte, raw_bytes}
 use Rattle.wire_model.specs.Stop.{block_len}
-use Rattle.wire_model.specs.ReadOf.{Read, ◌>>=◌, bytes_at, ok_text, text_of, text_block_at, text_at, units_of, all_zero, raw_items, raw_at}
-use Rattle.wire_model.specs.Status.{bad_value}
+use Rattle.wire_model.specs.ReadOf.{bytes_at, ok_text, text_of, text_block_at, text_at, units_of, all_zero, raw_items, raw_at}
 use Rattle.wire_model.proofs.Again.{count_again}
 use Rattle.wire_model.proofs.Lists.{both, take_front, drop_front}
 use Rattle.wire_model.proofs.Sizes.{length-pad, length-raw_bytes}

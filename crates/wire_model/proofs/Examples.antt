@@ -1,5 +1,6 @@
 -- Worked parcels: what they spell and what is read of them, computed. Bytes are written in hexadecimal, words apart.
-use Rattle.std.proofs.Common.{◌≡◌, ℕ, ◌+◌, ◌-◌, ◌*◌, ℤ, pos, negsuc, true, false, ◌==◌, cond, nat_lt, List, [], ◌∷◌, Option, Some, None, Ok, Err, refl, ap, rules}
+use Rattle.std.proofs.Common.{◌≡◌, ℕ, ◌+◌, ◌-◌, ◌*◌, ℤ, pos, negsuc, true, false, ◌==◌, cond, nat_lt, List, [], ◌∷◌, Option, Some, None, Ok, Err, refl, ap, rules, zero, suc, ◌≤◌, length, slice_get, sym, subst, arith}
+use Rattle.std.proofs.lemmas.Int.{ints}
 use Rattle.std.specs.Prelude.{codes}
 use Rattle.std.specs.Str.{chars}
 use Rattle.std.specs.Char.Utf16.{utf16_chars}
@@ -16,6 +17,8 @@ use Rattle.aidl_schema.specs.declared.schema.Shape.TheVariants as shape
 use Rattle.aidl_schema.specs.declared.schema.AidlType.{AidlType}
 use Rattle.aidl_values.specs.Data.{Data, null, truth, number, text, seq, rec, alt, Items, none, item}
 use Rattle.aidl_values.specs.Default.{const_value, zero_within}
+use Rattle.aidl_values.specs.HasType.{HasType}
+use Rattle.aidl_values.specs.Sound.{IsDeclared, fields_of, AreTypes, HaveDefaults, IsSound}
 use Rattle.wire_model.specs.Spell.{spell}
 use Rattle.wire_model.specs.Status.{bad_value, not_enough_data, unexpected_null}
 use Rattle.wire_model.specs.ReadOf.{Read, read_of, scalar_at, long_value_at, count_at, text_of, text_block_at, text_at, raw_at, elements_at, sequence_at, marker_at, body_at, body_value_at, record_at, tag_at, tagged_at, union_at}
@@ -246,3 +249,27 @@ written_union : (spell tagged it (alt 1 (text (codes "a"))) ≡ hex (codes "0100
     × (decode tagged it (hex (codes "01000000 02000000")) ≡ Err bad_value)
 unfolding decode hex it tagged
 written_union = (refl, refl, refl)
+
+-- The laws ask for a sound schema, and this is one: its fields have types and defaults.
+its_fields : List Field
+unfolding field
+its_fields = field (codes "a") base.Int None ∷ field (codes "s") base.Text (Some (Const.Text (codes "x"))) ∷ []
+
+of_each : (P : List Field → Type 0) → P its_fields → (d : Decl) → IsDeclared newer d → P (fields_of d.kind)
+unfolding newer its_fields
+of_each P h d at = by_place at.0 at.1
+  where
+    by_place : (n : ℕ) → slice_get newer n ≡ Some d → P (fields_of d.kind)
+    by_place zero e = let is : declared (codes "R") (Parcelable its_fields) ≡ d = cc in subst (λ x. P (fields_of x.kind)) is h
+    by_place (suc n) e = absurd cc
+
+newer_is_sound : IsSound newer
+unfolding its_fields zero_within one newer
+newer_is_sound = record {
+  types = λ d at. of_each (λ fs. AreTypes newer fs) (refl, (refl, tt)) d at;
+  defaults = λ d at. of_each (λ fs. HaveDefaults newer fs) (
+    ((refl, refl, refl), (refl, omega (arith, ints))),
+    ((refl, subst (λ v. HasType newer (one base.Text) v) (sym initial_text) (refl, refl, refl)), tt),
+  ) d at;
+  few = λ d at. of_each (λ fs. length fs ≤ 4096) (omega arith) d at;
+}

@@ -5,9 +5,9 @@ use Rattle.aidl_schema.specs.Types.{form_of, is_one, is_raw, elem}
 use Rattle.aidl_schema.specs.declared.schema.Decl.{Decl}
 use Rattle.aidl_schema.specs.declared.schema.Field.{Field}
 use Rattle.aidl_schema.specs.declared.schema.AidlType.{AidlType}
-use Rattle.aidl_values.specs.Data.{Data, seq, alt}
+use Rattle.aidl_values.specs.Data.{Data, alt}
 use Rattle.aidl_values.specs.Sound.{initial_in}
-use Rattle.wire_model.specs.ReadOf.{tag_at, tagged_at, ok_field, marker_at, marked_at, record_at, body_value_at, Read, ◌>>=◌, one_at, items_at, elements_at, sequence_at, read_of, read_by, read_parts, has_levels}
+use Rattle.wire_model.specs.ReadOf.{tag_at, tagged_at, marker_at, record_at, body_value_at, Read, one_at, items_at, elements_at, sequence_at, read_of, read_by, read_parts, has_levels}
 use Rattle.wire_model.proofs.Steps.{then_seq, then_there, then_alternative, then_field, with_tag}
 
 pub read_of-parts : (S : List Decl) (d : ℕ) (t : AidlType) (inside : Bool) (b : List ℕ) → read_of S d t inside b ≡ read_by S (has_levels d) (λ u j c. read_parts S d u j c) t inside b

@@ -1,5 +1,5 @@
 -- What reading does after each step, named: an equation of one step goes through what follows it.
-use Rattle.std.proofs.Common.{ℕ, ◌-◌, ◌+◌, ℤ, Bool, cond, List, length, take, drop, Option, slice_get, Result, Ok, Err}
+use Rattle.std.proofs.Common.{ℕ, ◌-◌, ℤ, Bool, cond, List, take, drop, Option, slice_get, Result, Ok, Err}
 use Rattle.aidl_schema.specs.declared.schema.Field.{Field}
 use Rattle.aidl_schema.specs.declared.schema.AidlType.{AidlType}
 use Rattle.aidl_schema.specs.Types.{Form}

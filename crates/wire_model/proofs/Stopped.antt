@@ -1,5 +1,5 @@
 -- Where the bytes stop, reading as a function answers that status.
-use Rattle.std.proofs.Common.{◌≡◌, ◌≢◌, ℕ, zero, suc, ◌+◌, ◌-◌, ◌%◌, ◌<◌, ◌≤◌, ℤ, pos, negsuc, Bool, true, false, ◌&&◌, ◌==◌, cond, nat_lt, nat_le, List, [], ◌∷◌, ◌++◌, length, take, drop, Option, Some, slice_get, Ok, Err, Result, refl, ap, ◌∙◌, subst, arith, append_assoc}
+use Rattle.std.proofs.Common.{◌≡◌, ◌≢◌, ℕ, zero, suc, ◌+◌, ◌-◌, ◌%◌, ◌<◌, ◌≤◌, ℤ, pos, negsuc, Bool, true, false, ◌&&◌, ◌==◌, cond, nat_lt, nat_le, List, [], ◌∷◌, ◌++◌, length, take, drop, Some, slice_get, Ok, Err, Result, refl, ap, ◌∙◌, subst, arith, append_assoc}
 use Rattle.std.proofs.lemmas.Bool.{le-ltb}
 use Rattle.std.proofs.lemmas.Bool.Decides.{nat_tests}
 use Rattle.std.proofs.lemmas.List.{length-drop}
@@ -11,12 +11,12 @@ use Rattle.aidl_schema.specs.declared.schema.AidlType.{AidlType}
 use Rattle.aidl_schema.specs.Types.{Form, form_of, is_one, is_raw, is_type, is_meant, is_well_shaped, elem}
 use Rattle.aidl_schema.specs.Types as form
 use Rattle.aidl_schema.specs.declared.schema.Base.{Base}
-use Rattle.aidl_values.specs.Data.{Data, rec, alt, seq, Items, none, item, count}
+use Rattle.aidl_values.specs.Data.{Data, Items, none, item, count}
 use Rattle.aidl_values.specs.Sound.{initial_in, AreTypes}
 use Rattle.wire_model.specs.Stop.{Stoppings, Stop, OneStop, StopBy, first_word, after_word, Begins, LongStop, WordStop, CountStop, MarkerStop, BlockStop, TextStop, block_len, IsBlock, IsPadded, ElementsStop, SequenceStop, SizeStop, FieldsStop, RecordStop, TagStop, UnionStop, FieldsThere, fields_bytes}
 use Rattle.wire_model.specs.Reads.{Readings, Reads, EachReads}
-use Rattle.wire_model.specs.Status.{bad_value, past, is_permitted}
-use Rattle.wire_model.specs.ReadOf.{Read, ◌>>=◌, data_of_word, word_at, scalar_at, long_value_at, count_of, count_at, marker_of, marker_at, marked_at, bytes_at, text_of, ok_text, text_block_at, text_at, all_zero, raw_items, raw_at, items_at, elements_at, sequence_at, field_at, fields_at, size_of, body_at, body_value_at, record_at, ok_field, tag_of, tag_at, tagged_at, union_at, one_at, read_by, read_of}
+use Rattle.wire_model.specs.Status.{bad_value, past}
+use Rattle.wire_model.specs.ReadOf.{Read, ◌>>=◌, word_at, scalar_at, long_value_at, count_at, marker_of, marker_at, bytes_at, ok_text, text_block_at, text_at, all_zero, raw_items, raw_at, items_at, elements_at, sequence_at, field_at, fields_at, size_of, body_at, body_value_at, record_at, tag_at, tagged_at, union_at, one_at, read_by, read_of}
 use Rattle.wire_model.proofs.Lists.{both, take_len, no_rest, IsBytes, taken, dropped, bytes_rest}
 use Rattle.wire_model.proofs.Forms.{elem_is_type}
 use Rattle.wire_model.proofs.Sound.{IsWhole, field_type}

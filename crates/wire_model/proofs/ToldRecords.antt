@@ -17,7 +17,7 @@ use Rattle.aidl_values.specs.Sound.{AreTypes, HaveDefaults, initial_in}
 use Rattle.wire_model.specs.Stop.{Stoppings, first_word, after_word, MarkerStop, HasSize, SizeStop, FieldsStop, RecordStop, fields_bytes}
 use Rattle.wire_model.specs.Reads.{Readings, BodyReads, FieldsRead}
 use Rattle.wire_model.specs.Status.{bad_value}
-use Rattle.wire_model.specs.ReadOf.{Read, ◌>>=◌, marker_at, marked_at, bytes_at, fields_at, size_of, body_at, body_value_at, record_at}
+use Rattle.wire_model.specs.ReadOf.{Read, marker_at, marked_at, bytes_at, fields_at, size_of, body_at, body_value_at, record_at}
 use Rattle.wire_model.proofs.Lists.{both, take_len, IsBytes, taken, dropped, bytes_rest}
 use Rattle.wire_model.proofs.Told.{Told, told_then, spells_word, word_fits, MarkerReads, marker_told, begins, tail_word}
 use Rattle.wire_model.proofs.Defaults.{initials_in, are_initial, initials_typed}

@@ -14,7 +14,7 @@ use Rattle.wire_model.specs.Spell.{raw_bytes}
 use Rattle.wire_model.specs.Status.{bad_value}
 use Rattle.wire_model.specs.Reads.{EachReads}
 use Rattle.wire_model.specs.Stop.{after_word, BlockStop, IsPadded, CountStop, ElementsStop, SequenceStop}
-use Rattle.wire_model.specs.ReadOf.{Read, ◌>>=◌, all_zero, raw_items, raw_at, items_at, count_at, elements_at, sequence_at}
+use Rattle.wire_model.specs.ReadOf.{Read, all_zero, raw_items, raw_at, items_at, count_at, elements_at, sequence_at}
 use Rattle.wire_model.proofs.Lists.{take_len, IsBytes, taken, bytes_rest}
 use Rattle.wire_model.proofs.Forms.{raw_form}
 use Rattle.wire_model.proofs.RawForms.{padded_is, zero_padding, bytes_of_items, count_of_items, items_typed}

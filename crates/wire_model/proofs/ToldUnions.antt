@@ -12,7 +12,7 @@ use Rattle.aidl_values.specs.Sound.{AreTypes}
 use Rattle.wire_model.specs.Stop.{Stoppings, first_word, after_word, Begins, MarkerStop, TagStop, UnionStop}
 use Rattle.wire_model.specs.Reads.{Readings}
 use Rattle.wire_model.specs.Status.{bad_value, past}
-use Rattle.wire_model.specs.ReadOf.{Read, ◌>>=◌, marker_at, marked_at, tag_of, tag_at, ok_field, tagged_at, union_at}
+use Rattle.wire_model.specs.ReadOf.{Read, ◌>>=◌, marker_at, marked_at, tag_of, tag_at, tagged_at, union_at}
 use Rattle.wire_model.proofs.Lists.{IsBytes, dropped, bytes_rest}
 use Rattle.wire_model.proofs.Sound.{field_type}
 use Rattle.wire_model.proofs.Told.{Told, told_then, spells_word, MarkerReads, marker_told, begins, tail_word}
