@@ -69,7 +69,8 @@ truth_again true inside r = ap (then_scalar form.truth) (word_again (pos 1) insi
 truth_again false inside r = ap (then_scalar form.truth) (word_again (pos 0) inside r (omega (arith, ints)))
 
 -- a word that its type permits
-word_value_again : (f : Form) (n : ℤ) (inside : Bool) (r : List ℕ) → FitsSigned w32 n → is_permitted f n ≡ true → scalar_at f inside (word n ++ r) ≡ Ok (data_of_word f n, r)
+word_value_again : (f : Form) (n : ℤ) (inside : Bool) (r : List ℕ) → FitsSigned w32 n → is_permitted f n ≡ true
+    → scalar_at f inside (word n ++ r) ≡ Ok (data_of_word f n, r)
 unfolding scalar_at
 word_value_again f n inside r fits may =
     ap (then_scalar f) (word_again n inside r fits) ∙ rw may

@@ -30,7 +30,8 @@ use Rattle.wire_model.proofs.Steps.{then_marker, then_size, then_tag, then_text,
 unique_zero : (S : List Decl) (t : AidlType) (v w : Data) → IsZero S t v → IsZero S t w → v ≡ w
 unique_zero S t v w h k = one_zero S (max (depth_of v) (depth_of w)) t v h (omega arith) ∙ sym (one_zero S (max (depth_of v) (depth_of w)) t w k (omega arith))
 
-unique_initial : (S : List Decl) (t : AidlType) (o : Option Const) (v w : Data) → MatchOption o (IsZero S t v) (λ c. v ≡ const_value c) → MatchOption o (IsZero S t w) (λ c. w ≡ const_value c) → v ≡ w
+unique_initial : (S : List Decl) (t : AidlType) (o : Option Const) (v w : Data) → MatchOption o (IsZero S t v) (λ c. v ≡ const_value c)
+    → MatchOption o (IsZero S t w) (λ c. w ≡ const_value c) → v ≡ w
 unique_initial S t None v w h k = unique_zero S t v w h k
 unique_initial S t (Some c) v w h k = h ∙ sym k
 
@@ -42,7 +43,8 @@ marker_null : (inside : Bool) (r : List ℕ) → marker_at true inside (word (po
 unfolding marker_at
 marker_null inside r = ap (then_marker true) (word_again (pos 0) inside r (fits_pos 0 (omega arith)))
 
-body_again : (inside : Bool) (inner r : List ℕ) → length inner % 4 ≡ 0 → 4 + length inner < 2 ^ 31 → body_at inside ((word (pos (4 + length inner)) ++ inner) ++ r) ≡ Ok (inner, r)
+body_again : (inside : Bool) (inner r : List ℕ) → length inner % 4 ≡ 0 → 4 + length inner < 2 ^ 31
+    → body_at inside ((word (pos (4 + length inner)) ++ inner) ++ r) ≡ Ok (inner, r)
 unfolding body_at
 body_again inside inner r whole small =
     let z = 4 + length inner in
@@ -95,7 +97,8 @@ module _ (S : List Decl) (PartReads : Readings) (read : AidlType → List ℕ �
   field_there f [] some = absurd (some refl)
   field_there f (x ∷ b) some = refl
 
-  fields_again : (fs : List Field) (vs : Items) (b : List ℕ) → FieldsRead S PartReads fs b vs → AreTypes S fs → HaveDefaults S fs → fields_at (λ f. initial_in S f) read fs b ≡ Ok vs
+  fields_again : (fs : List Field) (vs : Items) (b : List ℕ) → FieldsRead S PartReads fs b vs → AreTypes S fs → HaveDefaults S fs
+      → fields_at (λ f. initial_in S f) read fs b ≡ Ok vs
   fields_again [] none b h types all = refl
   fields_again [] (item v vs) b h types all = elim h [ ]
   fields_again (f ∷ fs) none b h types all = elim h [ ]
@@ -118,7 +121,8 @@ module _ (S : List Decl) (sound : IsWhole S) where
   sequence d t inside c x is h = read_of-parts S d t inside c ∙ rw is h
 
   -- null of shape one: a text, a parcelable or a union
-  null_one : (left : Bool) (initial : Field → Data) (read : AidlType → Bool → List ℕ → Read Data) (nullable inside : Bool) (f : Form) (r : List ℕ) → is_nullable_form f ≡ true → nullable ≡ true
+  null_one : (left : Bool) (initial : Field → Data) (read : AidlType → Bool → List ℕ → Read Data) (nullable inside : Bool) (f : Form) (r : List ℕ)
+      → is_nullable_form f ≡ true → nullable ≡ true
       → one_at left initial read nullable f inside (word (null_word f) ++ r) ≡ Ok (null, r)
   unfolding text_at text_block_at record_at union_at
   null_one left initial read nullable inside form.text r may is = rw is (ap (then_text inside) (count_null inside r))
@@ -131,7 +135,8 @@ module _ (S : List Decl) (sound : IsWhole S) where
   null_one left initial read nullable inside form.long r may is = absurd (true≢false (sym may))
   null_one left initial read nullable inside form.nothing r may is = absurd (true≢false (sym may))
 
-  null_of : (d : ℕ) (t : AidlType) (inside : Bool) (b r : List ℕ) (shape_one : Bool) → is_one t.shape ≡ shape_one → is_type S t ≡ true → Reads S d t b null → read_of S d t inside (b ++ r) ≡ Ok (null, r)
+  null_of : (d : ℕ) (t : AidlType) (inside : Bool) (b r : List ℕ) (shape_one : Bool) → is_one t.shape ≡ shape_one → is_type S t ≡ true
+      → Reads S d t b null → read_of S d t inside (b ++ r) ≡ Ok (null, r)
   unfolding sequence_at elements_at
   null_of d t inside b r true is type h =
       let spelled : b ≡ word (null_word (form_of S t.base)) = h.1 ∙ rw is refl in
@@ -169,7 +174,8 @@ module _ (S : List Decl) (sound : IsWhole S) where
   elements_again d t inside vs rest r false raw h law read =
       rw raw (ap (then_seq) (each_again (λ front v. Reads S d (elem S t) front v) (λ e. read_of S d (elem S t) inside e) law vs rest r read))
 
-  pub again : (d : ℕ) (t : AidlType) (inside : Bool) (v : Data) (b r : List ℕ) → is_type S t ≡ true → Reads S d t b v → read_of S d t inside (b ++ r) ≡ Ok (v, r)
+  pub again : (d : ℕ) (t : AidlType) (inside : Bool) (v : Data) (b r : List ℕ) → is_type S t ≡ true → Reads S d t b v
+      → read_of S d t inside (b ++ r) ≡ Ok (v, r)
   unfolding sequence_at record_at body_value_at union_at tagged_at tag_at
   again d t inside null b r type h = null_of d t inside b r (is_one t.shape) refl type h
   again d t inside (truth x) b r type h = one d t inside (b ++ r) _ h.0.0 (rw (h.0.1, h.1) (truth_again x inside r))
@@ -217,7 +223,8 @@ module _ (S : List Decl) (sound : IsWhole S) where
       ∙ ap (with_tag k) read))
 
   -- a reading and a longer one of the same type are one
-  pub one_reading : (d : ℕ) (t : AidlType) (v w : Data) (b c rest : List ℕ) → is_type S t ≡ true → Reads S d t b v → Reads S d t c w → c ≡ b ++ rest → (b ≡ c) × (v ≡ w)
+  pub one_reading : (d : ℕ) (t : AidlType) (v w : Data) (b c rest : List ℕ) → is_type S t ≡ true → Reads S d t b v → Reads S d t c w → c ≡ b ++ rest
+      → (b ≡ c) × (v ≡ w)
   one_reading d t v w b c rest type h k front =
       let first : read_of S d t false (b ++ rest) ≡ Ok (v, rest) = again d t false v b rest type h in
       let second : read_of S d t false (c ++ []) ≡ Ok (w, []) = again d t false w c [] type k in

@@ -92,7 +92,8 @@ text_back x ok =
     let same : chars (encode_utf8_all (utf16_lossy_chars (units x))) ≡ x = ap (λ os. chars (encode_utf8_all (map (λ o. unwrap_or o 0xFFFD) os))) (utf16_chars-units x ok) ∙ ap (λ y. chars (encode_utf8_all y)) (lossless x) ∙ chars-encodes x ok in
     rw (us, paired, zero_tail, same) refl
 
-pub text_again : (nullable inside : Bool) (x r : List ℕ) → all_scalars x ≡ true → length (units x) < 2 ^ 31 → text_at nullable inside (spell_text x ++ r) ≡ Ok (text x, r)
+pub text_again : (nullable inside : Bool) (x r : List ℕ) → all_scalars x ≡ true → length (units x) < 2 ^ 31
+    → text_at nullable inside (spell_text x ++ r) ≡ Ok (text x, r)
 unfolding text_at text_block_at
 text_again nullable inside x r ok small =
     let n = length (units x) in

@@ -217,7 +217,8 @@ tail_skipped = refl
 initial_text : const_value (Const.Text (codes "x")) ≡ text (codes "x")
 initial_text = search (rules, the_lemmas)
 
-defaulted : (n : ℤ) (rest : List ℕ) → ◌≡◌ {A = Read Data} (Ok (rec (item (number n) (item (const_value (Const.Text (codes "x"))) none)), rest)) (Ok (record_of n (codes "x"), rest))
+defaulted : (n : ℤ) (rest : List ℕ)
+    → ◌≡◌ {A = Read Data} (Ok (rec (item (number n) (item (const_value (Const.Text (codes "x"))) none)), rest)) (Ok (record_of n (codes "x"), rest))
 unfolding record_of
 defaulted n rest = ap (λ s. Ok (rec (item (number n) (item s none)), rest)) initial_text
 

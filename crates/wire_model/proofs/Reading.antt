@@ -52,7 +52,8 @@ module _ (S : List Decl) (sound : IsSound S) (d : ℕ) (t : AidlType) (type : is
         subst (λ c. Reads S d t c v) (sym front) h.2
 
     -- No other value is read, and no other number of bytes.
-    pub read_only : (v w : Data) (rest : List ℕ) (n : ℕ) → n ≤ length b → read_of S d t inside b ≡ Ok (v, rest) → Reads S d t (take n b) w → (w ≡ v) × (n ≡ length b - length rest)
+    pub read_only : (v w : Data) (rest : List ℕ) (n : ℕ) → n ≤ length b → read_of S d t inside b ≡ Ok (v, rest) → Reads S d t (take n b) w
+        → (w ≡ v) × (n ≡ length b - length rest)
     read_only v w rest n le e h =
         let same : ◌≡◌ {A = Read Data} (Ok (w, drop n b)) (Ok (v, rest)) = sym (take_read w n h) ∙ e in
         let pair : ◌≡◌ {A = Data × List ℕ} (w, drop n b) (v, rest) = cc in

@@ -74,8 +74,10 @@ pub whole_bytes : (n : ℕ) (inside : Bool) (b : List ℕ) → n ≤ length b �
 whole_bytes n inside b le = let e : nat_lt (length b) n ≡ false = le-ltb _ _ le in rw e refl
 
 -- items: so many read, and the next one stops
-items_stop : (PartReads : List ℕ → Data → Type 0) (PartStops : List ℕ → ℤ → Type 0) (read : List ℕ → Read Data) → ((c q : List ℕ) (v : Data) → PartReads c v → read (c ++ q) ≡ Ok (v, q)) → ((c : List ℕ) (s : ℤ) → PartStops c s → read c ≡ Err s)
-    → (vs : Items) (n : ℕ) (b front rest : List ℕ) (s : ℤ) → count vs < n → b ≡ front ++ rest → EachReads PartReads front vs → PartStops rest s → items_at read n b ≡ Err s
+items_stop : (PartReads : List ℕ → Data → Type 0) (PartStops : List ℕ → ℤ → Type 0) (read : List ℕ → Read Data)
+    → ((c q : List ℕ) (v : Data) → PartReads c v → read (c ++ q) ≡ Ok (v, q)) → ((c : List ℕ) (s : ℤ) → PartStops c s → read c ≡ Err s)
+    → (vs : Items) (n : ℕ) (b front rest : List ℕ) (s : ℤ) → count vs < n → b ≡ front ++ rest → EachReads PartReads front vs → PartStops rest s
+    → items_at read n b ≡ Err s
 items_stop PartReads PartStops read law stop vs zero b front rest s lt e each h = absurd (omega arith)
 items_stop PartReads PartStops read law stop none (suc n) b front rest s lt e each h =
     let at : b ≡ rest = e ∙ ap (λ x. x ++ rest) each in
@@ -93,7 +95,8 @@ field_is initial read g (x ∷ c) some = refl
 
 -- fields: so many there, something left, and the next one stops
 fields_stop : (S : List Decl) (initial : Field → Data) (PartReads : Readings) (read : AidlType → List ℕ → Read Data) (law : (t : AidlType) (c q : List ℕ) (v : Data) → is_type S t ≡ true → PartReads t c v → read t (c ++ q) ≡ Ok (v, q))
-    → (fs : List Field) (i : ℕ) (f : Field) (vs : Items) (b front rest : List ℕ) (s : ℤ) → AreTypes S fs → slice_get fs i ≡ Some f → b ≡ front ++ rest → FieldsThere PartReads (take i fs) front vs → rest ≢ [] → read f.ty rest ≡ Err s
+    → (fs : List Field) (i : ℕ) (f : Field) (vs : Items) (b front rest : List ℕ) (s : ℤ) → AreTypes S fs → slice_get fs i ≡ Some f → b ≡ front ++ rest
+    → FieldsThere PartReads (take i fs) front vs → rest ≢ [] → read f.ty rest ≡ Err s
     → fields_at initial read fs b ≡ Err s
 fields_stop S initial PartReads read law [] i f vs b front rest s types at e there some h = absurd cc
 fields_stop S initial PartReads read law (g ∷ fs) zero f none b front rest s types at e there some h =
@@ -140,7 +143,8 @@ size_stops inside b s (SizeStop.long_record z size lt) =
     ∙ ap (then_inner inside (after_word b)) (ap size_of size.0.1 ∙ a_size z size.1 size.2)
     ∙ short_bytes (z - 4) inside (after_word b) (omega arith)
 
-block_stops : (n : ℕ) (inside : Bool) (b : List ℕ) (s : ℤ) → IsBytes b → BlockStop (block_len n) (IsBlock n) b inside s → text_block_at inside (Some n) b ≡ Err s
+block_stops : (n : ℕ) (inside : Bool) (b : List ℕ) (s : ℤ) → IsBytes b → BlockStop (block_len n) (IsBlock n) b inside s
+    → text_block_at inside (Some n) b ≡ Err s
 unfolding text_block_at
 block_stops n inside b s bytes (BlockStop.long_block lt) = ap (then_block n) (short_bytes (block_len n) inside b lt)
 block_stops n inside b s bytes (BlockStop.wrong_block le wrong) =
@@ -171,7 +175,8 @@ module _ (S : List Decl) (sound : IsWhole S) (left : Bool) (PartReads : Readings
   bytes_after : (front rest b : List ℕ) → b ≡ front ++ rest → IsBytes b → IsBytes rest
   bytes_after front rest b e bytes = bytes_rest front rest (subst IsBytes e bytes)
 
-  record_stops : (nullable inside : Bool) (fs : List Field) (base : Base) (b : List ℕ) (s : ℤ) → form_of S base ≡ form.parcelable fs → IsBytes b → RecordStop left nullable fs PartReads PartStops b inside s
+  record_stops : (nullable inside : Bool) (fs : List Field) (base : Base) (b : List ℕ) (s : ℤ) → form_of S base ≡ form.parcelable fs → IsBytes b
+      → RecordStop left nullable fs PartReads PartStops b inside s
       → record_at left nullable (λ f. initial_in S f) (λ u c. read u true c) fs inside b ≡ Err s
   unfolding record_at body_value_at body_at
   record_stops nullable inside fs base b s is bytes (RecordStop.at_marker h) =
@@ -196,7 +201,8 @@ module _ (S : List Decl) (sound : IsWhole S) (left : Bool) (PartReads : Readings
       ∙ rw has (ap (then_fields (λ f. initial_in S f) (λ u c. read u true c) fs) body
       ∙ ap (then_rec (drop (z - 4) (after_word aw))) all)
 
-  union_stops : (nullable inside : Bool) (fs : List Field) (base : Base) (b : List ℕ) (s : ℤ) → form_of S base ≡ form.union fs → IsBytes b → UnionStop left nullable fs PartStops b inside s
+  union_stops : (nullable inside : Bool) (fs : List Field) (base : Base) (b : List ℕ) (s : ℤ) → form_of S base ≡ form.union fs → IsBytes b
+      → UnionStop left nullable fs PartStops b inside s
       → union_at left nullable (λ u c. read u inside c) fs inside b ≡ Err s
   unfolding union_at tagged_at tag_at
   union_stops nullable inside fs base b s is bytes (UnionStop.at_marker h) =
@@ -222,7 +228,8 @@ module _ (S : List Decl) (sound : IsWhole S) (left : Bool) (PartReads : Readings
       ∙ rw has (ap (λ (w : Read ℤ). then_alternative (λ u c. read u inside c) fs (then_tag w)) (whole_word inside (after_word b) tag.0)
       ∙ rw (tag.1, at, stopped) refl)
 
-  sequence_stops : (t : AidlType) (inside : Bool) (b : List ℕ) (s : ℤ) → is_type S (elem S t) ≡ true → IsBytes b → SequenceStop left (is_raw S t) t.nullable (PartReads (elem S t)) (λ rest s. PartStops (elem S t) rest inside s) b inside s
+  sequence_stops : (t : AidlType) (inside : Bool) (b : List ℕ) (s : ℤ) → is_type S (elem S t) ≡ true → IsBytes b
+      → SequenceStop left (is_raw S t) t.nullable (PartReads (elem S t)) (λ rest s. PartStops (elem S t) rest inside s) b inside s
       → sequence_at left (is_raw S t) t.nullable (λ c. read (elem S t) inside c) inside b ≡ Err s
   unfolding sequence_at elements_at
   sequence_stops t inside b s type bytes (SequenceStop.at_count h) =
@@ -239,7 +246,8 @@ module _ (S : List Decl) (sound : IsWhole S) (left : Bool) (PartReads : Readings
       ∙ rw (has, raw) (ap (then_seq)
       (items_stop (PartReads (elem S t)) (λ c s. read (elem S t) inside c ≡ Err s) (λ c. read (elem S t) inside c) (λ c q v h. law (elem S t) inside c q v type h) (λ c s h. h) vs n aw front rest s lt split each stopped))
 
-  one_stops : (nullable inside : Bool) (base : Base) (f : Form) (b : List ℕ) (s : ℤ) → form_of S base ≡ f → IsBytes b → OneStop left PartReads PartStops nullable f b inside s → one_at left (λ f. initial_in S f) read nullable f inside b ≡ Err s
+  one_stops : (nullable inside : Bool) (base : Base) (f : Form) (b : List ℕ) (s : ℤ) → form_of S base ≡ f → IsBytes b
+      → OneStop left PartReads PartStops nullable f b inside s → one_at left (λ f. initial_in S f) read nullable f inside b ≡ Err s
   unfolding long_value_at
   one_stops nullable inside base form.truth b s is bytes h = scalar_stops form.truth inside b s h
   one_stops nullable inside base form.byte b s is bytes h = scalar_stops form.byte inside b s h
@@ -251,7 +259,8 @@ module _ (S : List Decl) (sound : IsWhole S) (left : Bool) (PartReads : Readings
   one_stops nullable inside base (form.union fs) b s is bytes h = union_stops nullable inside fs base b s is bytes h
   one_stops nullable inside base form.nothing b s is bytes h = elim h [ ]
 
-  by_stops : (t : AidlType) (inside : Bool) (b : List ℕ) (s : ℤ) (single : Bool) → is_one t.shape ≡ single → is_type S t ≡ true → IsBytes b → StopBy S left PartReads PartStops t b inside s → read_by S left read t inside b ≡ Err s
+  by_stops : (t : AidlType) (inside : Bool) (b : List ℕ) (s : ℤ) (single : Bool) → is_one t.shape ≡ single → is_type S t ≡ true → IsBytes b
+      → StopBy S left PartReads PartStops t b inside s → read_by S left read t inside b ≡ Err s
   by_stops t inside b s true is type bytes h =
       let one : OneStop left PartReads PartStops t.nullable (form_of S t.base) b inside s = rw is at h in
       rw is (one_stops t.nullable inside t.base (form_of S t.base) b s refl bytes one)
@@ -261,7 +270,8 @@ module _ (S : List Decl) (sound : IsWhole S) (left : Bool) (PartReads : Readings
       rw is (sequence_stops t inside b s elem_is bytes many)
 
 -- The status of a stop is what reading answers: so there is one, and no front is a reading.
-pub stopped : (S : List Decl) → IsWhole S → (d : ℕ) (t : AidlType) (inside : Bool) (b : List ℕ) (s : ℤ) → is_type S t ≡ true → IsBytes b → Stop S d t b inside s → read_of S d t inside b ≡ Err s
+pub stopped : (S : List Decl) → IsWhole S → (d : ℕ) (t : AidlType) (inside : Bool) (b : List ℕ) (s : ℤ) → is_type S t ≡ true → IsBytes b
+    → Stop S d t b inside s → read_of S d t inside b ≡ Err s
 unfolding Stop read_of
 stopped S sound zero t inside b s type bytes h =
     by_stops S sound false (λ u front v. ⊥) (λ u rest j s. ⊥) (λ u j b. Err bad_value) (λ u j c q v type h. elim h [ ]) (λ u j c s type bytes h. elim h [ ]) t inside b s (is_one t.shape) refl type bytes h

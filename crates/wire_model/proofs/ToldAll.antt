@@ -94,7 +94,8 @@ module _ (S : List Decl) (left : Bool) (PartReads : Readings) (t : AidlType) whe
   of_text one is b (rec vs) h = elim h [ ]
   of_text one is b (alt k v) h = elim h [ ]
 
-  of_record : (fs : List Field) → is_one t.shape ≡ true → form_of S t.base ≡ form.parcelable fs → (b : List ℕ) (v : Data) → RecordReads left S PartReads t.nullable fs b v → LevelReads S left PartReads t b v
+  of_record : (fs : List Field) → is_one t.shape ≡ true → form_of S t.base ≡ form.parcelable fs → (b : List ℕ) (v : Data)
+      → RecordReads left S PartReads t.nullable fs b v → LevelReads S left PartReads t b v
   of_record fs one is b null h = (h.0, h.1 ∙ sym (rw (one, is) refl))
   of_record fs one is b (rec vs) h = (h.0, (one, fs, is, h.4), fs, is, h.1, h.2, h.3)
   of_record fs one is b (truth x) h = elim h [ ]
@@ -103,7 +104,8 @@ module _ (S : List Decl) (left : Bool) (PartReads : Readings) (t : AidlType) whe
   of_record fs one is b (seq vs) h = elim h [ ]
   of_record fs one is b (alt k v) h = elim h [ ]
 
-  of_union : (fs : List Field) → ((u : AidlType) (c : List ℕ) (v : Data) → PartReads u c v → HasType S u v) → is_one t.shape ≡ true → form_of S t.base ≡ form.union fs → (b : List ℕ) (v : Data) → UnionReads left PartReads t.nullable fs b v → LevelReads S left PartReads t b v
+  of_union : (fs : List Field) → ((u : AidlType) (c : List ℕ) (v : Data) → PartReads u c v → HasType S u v) → is_one t.shape ≡ true
+      → form_of S t.base ≡ form.union fs → (b : List ℕ) (v : Data) → UnionReads left PartReads t.nullable fs b v → LevelReads S left PartReads t b v
   of_union fs typed one is b null h = (h.0, h.1 ∙ sym (rw (one, is) refl))
   of_union fs typed one is b (alt k v) h = (h.0, (one, fs, is, h.1, h.2, typed h.1.ty h.3 v h.5), fs, is, h.1, h.2, h.3, h.4, h.5)
   of_union fs typed one is b (truth x) h = elim h [ ]
@@ -153,7 +155,8 @@ module _ (S : List Decl) (sound : IsWhole S) (left : Bool) (PartReads : Readings
       (sequence_at left (is_raw S t) t.nullable (λ c. read (elem S t) inside c) inside b) (λ c v h. of_sequence S left PartReads t many c v h)
       (sequence_told left S t (PartReads (elem S t)) (λ rest s. PartStops (elem S t) rest inside s) (λ c. read (elem S t) inside c) (λ c v h. typed (elem S t) c v h) (λ has c q. law has (elem S t) inside c (elem_is_type S t type) q) inside b bytes)
 
-  level_told : (single : Bool) → is_one t.shape ≡ single → Told (LevelReads S left PartReads t) (λ s. StopBy S left PartReads PartStops t b inside s) b (read_by S left read t inside b)
+  level_told : (single : Bool) → is_one t.shape ≡ single
+      → Told (LevelReads S left PartReads t) (λ s. StopBy S left PartReads PartStops t b inside s) b (read_by S left read t inside b)
   level_told true is = rw is (one_told (form_of S t.base) is refl)
   level_told false is = rw is (many_told is)
 

@@ -33,7 +33,8 @@ BodyTold b inside (Ok x) = BodySplit b x.0 x.1
 BodyTold b inside (Err s) = SizeStop b inside s
 
 module _ (inside : Bool) (b : List ℕ) (bytes : IsBytes b) where
-  split_told : (z : ℕ) → HasSize z b → (short : Bool) → nat_lt (length (after_word b)) (z - 4) ≡ short → BodyTold b inside (bytes_at (z - 4) inside (after_word b))
+  split_told : (z : ℕ) → HasSize z b → (short : Bool) → nat_lt (length (after_word b)) (z - 4) ≡ short
+      → BodyTold b inside (bytes_at (z - 4) inside (after_word b))
   split_told z size true is =
       let lt : length (after_word b) < z - 4 = ltb-true _ _ is in
       let four = size.1 in
@@ -59,7 +60,8 @@ module _ (inside : Bool) (b : List ℕ) (bytes : IsBytes b) where
   size_told (negsuc z) le e = SizeStop.no_size le (λ y size. let w : ◌≡◌ {A = ℤ} (negsuc z) (pos y) = sym e ∙ size.0.1 in absurd cc)
   size_told (pos z) le e = by_test (nat_le 4 z && (z % 4 == 0)) refl
     where
-      by_test : (t : Bool) → (nat_le 4 z && (z % 4 == 0)) ≡ t → BodyTold b inside (then_inner inside (after_word b) (cond (nat_le 4 z && (z % 4 == 0)) (Ok z) (Err bad_value)))
+      by_test : (t : Bool) → (nat_le 4 z && (z % 4 == 0)) ≡ t
+          → BodyTold b inside (then_inner inside (after_word b) (cond (nat_le 4 z && (z % 4 == 0)) (Ok z) (Err bad_value)))
       by_test true is =
           let two = both (nat_le 4 z) (z % 4 == 0) is in
           let four : 4 ≤ z = grind (arith, nat_tests, two.0) in
@@ -93,19 +95,22 @@ module _ (S : List Decl) (PartReads : Readings) (PartStops : Stoppings) (read : 
   at_end [] = refl
   at_end (f ∷ fs) = ap (with_field (initial_in S f)) (at_end fs)
 
-  later : (f : Field) (fs : List Field) (b front rest : List ℕ) (v : Data) → b ≡ front ++ rest → PartReads f.ty front v → (y : Result Items ℤ) → FieldsTold S PartReads PartStops fs rest y → FieldsTold S PartReads PartStops (f ∷ fs) b (with_field v y)
+  later : (f : Field) (fs : List Field) (b front rest : List ℕ) (v : Data) → b ≡ front ++ rest → PartReads f.ty front v → (y : Result Items ℤ)
+      → FieldsTold S PartReads PartStops fs rest y → FieldsTold S PartReads PartStops (f ∷ fs) b (with_field v y)
   later f fs b front rest v e h (Ok vs) k = (inr (front, rest, e, h, k.0), (typed f.ty front v h, k.1))
   later f fs b front rest v e h (Err s) (FieldsStop.at_field i g at vs front' rest' e' there left stop) =
       FieldsStop.at_field (suc i) g at (item v vs) (front ++ front') rest' (e ∙ ap (λ c. front ++ c) e' ∙ sym (append_assoc front front' rest')) (front, front', refl, h, there) left stop
 
-  pub fields_told : (fs : List Field) (b : List ℕ) → IsBytes b → AreTypes S fs → HaveDefaults S fs → FieldsTold S PartReads PartStops fs b (fields_at (λ f. initial_in S f) read fs b)
+  pub fields_told : (fs : List Field) (b : List ℕ) → IsBytes b → AreTypes S fs → HaveDefaults S fs
+      → FieldsTold S PartReads PartStops fs b (fields_at (λ f. initial_in S f) read fs b)
   fields_told [] b bytes types all = (tt, tt)
   fields_told (f ∷ fs) [] bytes types all =
       subst (λ y. FieldsTold S PartReads PartStops (f ∷ fs) [] y) (sym (at_end (f ∷ fs))) (inl (refl, are_initial S (f ∷ fs) all), initials_typed S (f ∷ fs) all)
   fields_told (f ∷ fs) (x ∷ b) bytes types all =
       one_told (read f.ty (x ∷ b)) (law f.ty (x ∷ b) types.0 bytes) (λ c h. fields_told fs c h types.1 all.1)
     where
-      one_told : (y : Read Data) → Told (PartReads f.ty) (λ s. PartStops f.ty (x ∷ b) true s) (x ∷ b) y → ((c : List ℕ) → IsBytes c → FieldsTold S PartReads PartStops fs c (fields_at (λ f. initial_in S f) read fs c))
+      one_told : (y : Read Data) → Told (PartReads f.ty) (λ s. PartStops f.ty (x ∷ b) true s) (x ∷ b) y
+          → ((c : List ℕ) → IsBytes c → FieldsTold S PartReads PartStops fs c (fields_at (λ f. initial_in S f) read fs c))
           → FieldsTold S PartReads PartStops (f ∷ fs) (x ∷ b) (then_others (λ f. initial_in S f) read fs y)
       one_told (Ok y) h ih = later f fs (x ∷ b) h.0 y.1 y.0 h.1 h.2 (fields_at (λ f. initial_in S f) read fs y.1) (ih y.1 (bytes_rest h.0 y.1 (subst IsBytes h.1 bytes)))
       one_told (Err s) h ih = FieldsStop.at_field 0 f refl none [] (x ∷ b) refl refl (λ k. absurd cc) h
@@ -137,7 +142,8 @@ module _ (left : Bool) (S : List Decl) (PartReads : Readings) (PartStops : Stopp
       inner_bytes : IsBytes y.0
       inner_bytes = subst IsBytes (sym h.3) (taken (h.0 - 4) (after_word rest) (dropped 4 rest rest_bytes))
 
-      by_fields : (x : Result Items ℤ) → FieldsTold S PartReads PartStops fs y.0 x → Told (RecordReads left S PartReads nullable fs) (λ s. RecordStop left nullable fs PartReads PartStops b inside s) b (then_rec y.1 x)
+      by_fields : (x : Result Items ℤ) → FieldsTold S PartReads PartStops fs y.0 x
+          → Told (RecordReads left S PartReads nullable fs) (λ s. RecordStop left nullable fs PartReads PartStops b inside s) b (then_rec y.1 x)
       by_fields (Ok vs) k =
           let front = word (pos (4 + length y.0)) ++ y.0 in
           (word (pos 1) ++ front, e ∙ ap (λ c. word (pos 1) ++ c) h.4, (has, front, refl, (y.0, refl, h.5, h.6, k.0), k.1))
@@ -146,7 +152,8 @@ module _ (left : Bool) (S : List Decl) (PartReads : Readings) (PartStops : Stopp
           RecordStop.at_fields (begins b rest 1 one e) has h.0 (subst (λ c. HasSize h.0 c) tail h.1) (subst (λ c. h.0 ≤ length c) tail h.2)
           (subst (λ c. FieldsStop fs PartReads PartStops c s) (h.3 ∙ ap (fields_bytes h.0) tail) k)
 
-  pub record_told : HaveDefaults S fs → Told (RecordReads left S PartReads nullable fs) (λ s. RecordStop left nullable fs PartReads PartStops b inside s) b (record_at left nullable (λ f. initial_in S f) (λ u c. read u true c) fs inside b)
+  pub record_told : HaveDefaults S fs
+      → Told (RecordReads left S PartReads nullable fs) (λ s. RecordStop left nullable fs PartReads PartStops b inside s) b (record_at left nullable (λ f. initial_in S f) (λ u c. read u true c) fs inside b)
   unfolding record_at body_value_at
   record_told all = told_then (MarkerReads nullable) (RecordReads left S PartReads nullable fs) (λ s. MarkerStop nullable b inside s) (λ s. RecordStop left nullable fs PartReads PartStops b inside s) b
       (λ m. marked_at left (λ c. body_value_at (λ f. initial_in S f) (λ u c. read u true c) fs inside c) m.0 m.1) (marker_at nullable inside b)

@@ -44,7 +44,8 @@ module _ (left : Bool) (S : List Decl) (PartReads : Readings) (PartStops : Stopp
     tail = sym (tail_word b rest 1 one e)
 
     -- the field of the tag k
-    value_told : (k : ℕ) (f : Field) → 4 ≤ length rest → first_word rest ≡ pos k → slice_get fs k ≡ Some f → (x : Read Data) → Told (PartReads f.ty) (λ s. PartStops f.ty (after_word rest) inside s) (after_word rest) x
+    value_told : (k : ℕ) (f : Field) → 4 ≤ length rest → first_word rest ≡ pos k → slice_get fs k ≡ Some f → (x : Read Data)
+        → Told (PartReads f.ty) (λ s. PartStops f.ty (after_word rest) inside s) (after_word rest) x
         → Outcome (with_tag k x)
     value_told k f le is at (Ok x) h =
         let spelled : word (pos k) ≡ take 4 rest = ap word (sym is) ∙ spells_word rest rest_bytes le in
@@ -63,7 +64,8 @@ module _ (left : Bool) (S : List Decl) (PartReads : Readings) (PartStops : Stopp
     field_told k le is None at = no_tag le (λ j j_is. let same : ◌≡◌ {A = ℤ} (pos k) (pos j) = sym is ∙ j_is in let k_is : k ≡ j = cc in subst (λ i. length fs ≤ i) k_is (past_end fs k at))
     field_told k le is (Some f) at = value_told k f le is at (read f.ty inside (after_word rest)) (law has f.ty inside (after_word rest) (field_type S fs k f types at) (dropped 4 rest rest_bytes))
 
-    word_told : (w : ℤ) → 4 ≤ length rest → first_word rest ≡ w → Outcome (then_alternative (λ u c. read u inside c) fs (tag_of w >>= λ k. Ok (k, after_word rest)))
+    word_told : (w : ℤ) → 4 ≤ length rest → first_word rest ≡ w
+        → Outcome (then_alternative (λ u c. read u inside c) fs (tag_of w >>= λ k. Ok (k, after_word rest)))
     word_told (negsuc k) le is = no_tag le (λ j j_is. let same : ◌≡◌ {A = ℤ} (negsuc k) (pos j) = sym is ∙ j_is in absurd cc)
     word_told (pos k) le is = field_told k le is (slice_get fs k) refl
 
@@ -78,10 +80,12 @@ module _ (left : Bool) (S : List Decl) (PartReads : Readings) (PartStops : Stopp
       (λ m. marked_at left (λ c. tagged_at (λ u c. read u inside c) fs inside c) m.0 m.1) (marker_at nullable inside b)
       (marker_told nullable inside b bytes (nat_lt (length b) 4) refl) (λ s h. UnionStop.at_marker h) (λ m front rest e h. by_marker m front rest e h)
     where
-      by_marker : (m : Bool) (front rest : List ℕ) → b ≡ front ++ rest → MarkerReads nullable front m → Outcome (marked_at left (λ c. tagged_at (λ u c. read u inside c) fs inside c) m rest)
+      by_marker : (m : Bool) (front rest : List ℕ) → b ≡ front ++ rest → MarkerReads nullable front m
+          → Outcome (marked_at left (λ c. tagged_at (λ u c. read u inside c) fs inside c) m rest)
       by_marker false front rest e h = (front, e, h)
       by_marker true front rest e h = by_level left refl rest (e ∙ ap (λ c. c ++ rest) h) (bytes_rest front rest (subst IsBytes e bytes))
         where
-          by_level : (l : Bool) → left ≡ l → (rest : List ℕ) → b ≡ word (pos 1) ++ rest → IsBytes rest → Outcome (marked_at l (λ c. tagged_at (λ u c. read u inside c) fs inside c) true rest)
+          by_level : (l : Bool) → left ≡ l → (rest : List ℕ) → b ≡ word (pos 1) ++ rest → IsBytes rest
+              → Outcome (marked_at l (λ c. tagged_at (λ u c. read u inside c) fs inside c) true rest)
           by_level false has rest split rest_bytes = UnionStop.too_deep (begins b rest 1 one split) has refl
           by_level true has rest split rest_bytes = there_told has rest split rest_bytes (nat_lt (length rest) 4) refl
