@@ -1,5 +1,5 @@
 -- What was spelled is read again, whatever follows it.
-use Rattle.std.proofs.Common.{◌≡◌, ℕ, ◌+◌, ◌^◌, ◌≤◌, ◌<◌, ℤ, pos, negsuc, Bool, true, false, cond, List, ◌++◌, length, nat_lt, Some, None, Ok, Err, refl, ap, ◌∙◌, arith, append_assoc}
+use Rattle.std.proofs.Common.{◌≡◌, ℕ, ◌+◌, ◌^◌, ◌≤◌, ◌<◌, ℤ, pos, negsuc, Bool, true, false, List, ◌++◌, length, nat_lt, Some, None, Ok, refl, ap, ◌∙◌, arith, append_assoc}
 use Rattle.std.specs.Int.{w8, w32, w64, cast_unsigned, cast_signed}
 use Rattle.std.specs.Prelude.{FitsSigned, ◌≤ℤ◌}
 use Rattle.std.proofs.lemmas.Nat.{from_le_bytes-to_le_bytes_4, from_le_bytes-to_le_bytes_8}
@@ -7,16 +7,17 @@ use Rattle.std.proofs.lemmas.Int.{ints, to_z-of_z}
 use Rattle.std.proofs.lemmas.Bool.{le-ltb}
 use Rattle.std.proofs.lemmas.Bool.Decides.{nat_tests}
 use Rattle.aidl_base.specs.Words.{word, word_of, long_word, long_of}
-use Rattle.wire_model.specs.ReadOf.{Read, ◌>>=◌, word_at, long_at, count_of, count_at, data_of_word, scalar_at, long_value_at, one_at, items_at}
-use Rattle.wire_model.specs.Status.{is_permitted, bad_value}
 use Rattle.aidl_schema.specs.Types.{Form, form_of, is_type, is_raw, is_scalar}
 use Rattle.aidl_schema.specs.Types as form
 use Rattle.aidl_schema.specs.declared.schema.Field.{Field}
 use Rattle.aidl_schema.specs.declared.schema.AidlType.{AidlType}
 use Rattle.aidl_values.specs.Data.{Data, truth, number, Items, none, item, count}
 use Rattle.aidl_values.specs.HasType.{InRange}
+use Rattle.wire_model.specs.ReadOf.{Read, ◌>>=◌, word_at, long_at, count_at, data_of_word, scalar_at, long_value_at, one_at, items_at}
+use Rattle.wire_model.specs.Status.{is_permitted}
 use Rattle.wire_model.specs.Spell.{spell_truth, spell_number}
 use Rattle.wire_model.specs.Reads.{EachReads}
+use Rattle.wire_model.proofs.Steps.{then_count, then_items, then_scalar, with_item}
 
 unsigned_below : (n : ℤ) → FitsSigned w32 n → cast_unsigned w32 n < 2 ^ 32
 unsigned_below (pos n) fits = omega (arith, ints)
@@ -47,11 +48,11 @@ fits_pos n lt = omega (arith, ints)
 
 pub count_again : (nullable : Bool) (n : ℕ) (inside : Bool) (r : List ℕ) → n < 2 ^ 31 → count_at nullable inside (word (pos n) ++ r) ≡ Ok (Some n, r)
 unfolding count_at
-count_again nullable n inside r lt = ap (λ (w : Read ℤ). w >>= λ x. count_of nullable x.0 >>= λ m. Ok (m, x.1)) (word_again (pos n) inside r (fits_pos n lt))
+count_again nullable n inside r lt = ap (then_count nullable) (word_again (pos n) inside r (fits_pos n lt))
 
 pub count_null : (inside : Bool) (r : List ℕ) → count_at true inside (word (negsuc 0) ++ r) ≡ Ok (None, r)
 unfolding count_at
-count_null inside r = ap (λ (w : Read ℤ). w >>= λ x. count_of true x.0 >>= λ m. Ok (m, x.1)) (word_again (negsuc 0) inside r (omega (arith, ints)))
+count_null inside r = ap (then_count true) (word_again (negsuc 0) inside r (omega (arith, ints)))
 
 -- the words of a type are permitted, and fit a word
 byte_permitted : (n : ℤ) → FitsSigned w8 n → is_permitted form.byte n ≡ true
@@ -64,14 +65,15 @@ char_permitted (negsuc n) low high = absurd (omega (arith, ints))
 
 pub truth_again : (b inside : Bool) (r : List ℕ) → scalar_at form.truth inside (spell_truth b ++ r) ≡ Ok (truth b, r)
 unfolding scalar_at
-truth_again true inside r = ap (λ (w : Read ℤ). w >>= λ x. cond (is_permitted form.truth x.0) (Ok (data_of_word form.truth x.0, x.1)) (Err bad_value)) (word_again (pos 1) inside r (omega (arith, ints)))
-truth_again false inside r = ap (λ (w : Read ℤ). w >>= λ x. cond (is_permitted form.truth x.0) (Ok (data_of_word form.truth x.0, x.1)) (Err bad_value)) (word_again (pos 0) inside r (omega (arith, ints)))
+truth_again true inside r = ap (then_scalar form.truth) (word_again (pos 1) inside r (omega (arith, ints)))
+truth_again false inside r = ap (then_scalar form.truth) (word_again (pos 0) inside r (omega (arith, ints)))
 
 -- a word that its type permits
-word_value_again : (f : Form) (n : ℤ) (inside : Bool) (r : List ℕ) → FitsSigned w32 n → is_permitted f n ≡ true → scalar_at f inside (word n ++ r) ≡ Ok (data_of_word f n, r)
+word_value_again : (f : Form) (n : ℤ) (inside : Bool) (r : List ℕ) → FitsSigned w32 n → is_permitted f n ≡ true
+    → scalar_at f inside (word n ++ r) ≡ Ok (data_of_word f n, r)
 unfolding scalar_at
 word_value_again f n inside r fits may =
-    ap (λ (w : Read ℤ). w >>= λ x. cond (is_permitted f x.0) (Ok (data_of_word f x.0, x.1)) (Err bad_value)) (word_again n inside r fits) ∙ rw may
+    ap (then_scalar f) (word_again n inside r fits) ∙ rw may
 
 long_value_again : (n : ℤ) (inside : Bool) (r : List ℕ) → FitsSigned w64 n → long_value_at inside (long_word n ++ r) ≡ Ok (number n, r)
 unfolding long_value_at
@@ -94,8 +96,8 @@ pub each_again : (PartReads : List ℕ → Data → Type 0) (read : List ℕ →
     → (vs : Items) (b r : List ℕ) → EachReads PartReads b vs → items_at read (count vs) (b ++ r) ≡ Ok (vs, r)
 each_again PartReads read law none b r h = ap (λ x. Ok (none, x ++ r)) h
 each_again PartReads read law (item v vs) b r h =
-    let next = λ (y : Read Data). y >>= λ first. items_at read (count vs) first.1 >>= λ others. Ok (item first.0 others.0, others.1) in
+    let next = then_items read (count vs) in
     let front = h.0 in
     let rest = h.1 in
     ap (λ x. next (read (x ++ r))) h.2 ∙ ap (λ x. next (read x)) (append_assoc front rest r) ∙ ap next (law front (rest ++ r) v h.3)
-    ∙ ap (λ (y : Read Items). y >>= λ others. Ok (item v others.0, others.1)) (each_again PartReads read law vs rest r h.4)
+    ∙ ap (with_item v) (each_again PartReads read law vs rest r h.4)

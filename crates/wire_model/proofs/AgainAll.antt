@@ -1,5 +1,5 @@
 -- What is read is read again, whatever follows it: every type of a sound schema.
-use Rattle.std.proofs.Common.{◌≡◌, ◌≢◌, ℕ, zero, suc, ◌+◌, ◌-◌, ◌%◌, ◌<◌, ◌≤◌, ◌^◌, max, ℤ, pos, negsuc, Bool, true, false, ◌&&◌, ◌==◌, nat_le, List, [], ◌∷◌, ◌++◌, length, Option, Some, None, slice_get, Ok, Result, inl, inr, refl, sym, ap, ◌∙◌, subst, arith, length-append, true≢false}
+use Rattle.std.proofs.Common.{◌≡◌, ◌≢◌, ℕ, zero, suc, ◌+◌, ◌-◌, ◌%◌, ◌<◌, ◌≤◌, ◌^◌, max, ℤ, pos, negsuc, Bool, true, false, ◌&&◌, ◌==◌, nat_le, List, [], ◌∷◌, ◌++◌, length, Option, Some, None, Ok, inl, inr, refl, sym, ap, ◌∙◌, subst, arith, length-append, true≢false}
 use Rattle.std.specs.Prelude.{MatchBool, MatchOption}
 use Rattle.std.proofs.lemmas.List.{append-nil}
 use Rattle.std.proofs.lemmas.Bool.Decides.{nat_tests}
@@ -13,41 +13,44 @@ use Rattle.aidl_schema.specs.Types as form
 use Rattle.aidl_values.specs.Data.{Data, null, truth, number, text, seq, rec, alt, Items, none, item, count, depth_of}
 use Rattle.aidl_values.specs.Default.{IsZero, AreInitial, const_value}
 use Rattle.aidl_values.specs.HasType.{InRange, HaveType}
-use Rattle.wire_model.proofs.OneZero.{one_zero}
-use Rattle.wire_model.specs.Spell.{null_word, raw_bytes, spell_number}
-use Rattle.wire_model.specs.Reads.{Reads, EachReads, FieldsRead}
 use Rattle.aidl_values.specs.Sound.{initial_in, HaveDefaults, AreTypes}
-use Rattle.wire_model.specs.ReadOf.{Read, ◌>>=◌, one_at, count_at, text_at, sequence_at, elements_at, marker_of, marker_at, marked_at, size_of, body_at, bytes_at, field_at, fields_at, body_value_at, record_at, tag_of, tag_at, ok_field, tagged_at, union_at, read_of, read_parts, has_levels, text_block_at}
+use Rattle.wire_model.specs.Reads.{Readings, Reads, EachReads, FieldsRead}
+use Rattle.wire_model.specs.Spell.{null_word, raw_bytes, spell_number}
+use Rattle.wire_model.specs.ReadOf.{Read, one_at, count_at, text_at, sequence_at, elements_at, marker_at, body_at, field_at, fields_at, body_value_at, record_at, tag_at, tagged_at, union_at, read_of, read_parts, has_levels, text_block_at}
+use Rattle.wire_model.proofs.OneZero.{one_zero}
 use Rattle.wire_model.proofs.Parts.{read_of-parts}
 use Rattle.wire_model.proofs.Again.{word_again, fits_pos, truth_again, number_again, each_again, count_again, count_null}
 use Rattle.wire_model.proofs.AgainTexts.{bytes_again, text_again, AreBytes, raw_again}
 use Rattle.wire_model.proofs.Lists.{both, below, no_front}
 use Rattle.wire_model.proofs.Forms.{elem_is_type, well_one, raw_form}
 use Rattle.wire_model.proofs.Sound.{IsWhole, field_type}
+use Rattle.wire_model.proofs.Steps.{then_marker, then_size, then_tag, then_text, then_elements, then_seq, then_there, then_fields, then_others, with_field, then_rec, then_alternative, then_field, with_tag}
 
 -- one default
 unique_zero : (S : List Decl) (t : AidlType) (v w : Data) → IsZero S t v → IsZero S t w → v ≡ w
 unique_zero S t v w h k = one_zero S (max (depth_of v) (depth_of w)) t v h (omega arith) ∙ sym (one_zero S (max (depth_of v) (depth_of w)) t w k (omega arith))
 
-unique_initial : (S : List Decl) (t : AidlType) (o : Option Const) (v w : Data) → MatchOption o (IsZero S t v) (λ c. v ≡ const_value c) → MatchOption o (IsZero S t w) (λ c. w ≡ const_value c) → v ≡ w
+unique_initial : (S : List Decl) (t : AidlType) (o : Option Const) (v w : Data) → MatchOption o (IsZero S t v) (λ c. v ≡ const_value c)
+    → MatchOption o (IsZero S t w) (λ c. w ≡ const_value c) → v ≡ w
 unique_initial S t None v w h k = unique_zero S t v w h k
 unique_initial S t (Some c) v w h k = h ∙ sym k
 
 marker_again : (nullable inside : Bool) (r : List ℕ) → marker_at nullable inside (word (pos 1) ++ r) ≡ Ok (true, r)
 unfolding marker_at
-marker_again nullable inside r = ap (λ (w : Read ℤ). w >>= λ x. marker_of nullable x.0 >>= λ m. Ok (m, x.1)) (word_again (pos 1) inside r (fits_pos 1 (omega arith)))
+marker_again nullable inside r = ap (then_marker nullable) (word_again (pos 1) inside r (fits_pos 1 (omega arith)))
 
 marker_null : (inside : Bool) (r : List ℕ) → marker_at true inside (word (pos 0) ++ r) ≡ Ok (false, r)
 unfolding marker_at
-marker_null inside r = ap (λ (w : Read ℤ). w >>= λ x. marker_of true x.0 >>= λ m. Ok (m, x.1)) (word_again (pos 0) inside r (fits_pos 0 (omega arith)))
+marker_null inside r = ap (then_marker true) (word_again (pos 0) inside r (fits_pos 0 (omega arith)))
 
-body_again : (inside : Bool) (inner r : List ℕ) → length inner % 4 ≡ 0 → 4 + length inner < 2 ^ 31 → body_at inside ((word (pos (4 + length inner)) ++ inner) ++ r) ≡ Ok (inner, r)
+body_again : (inside : Bool) (inner r : List ℕ) → length inner % 4 ≡ 0 → 4 + length inner < 2 ^ 31
+    → body_at inside ((word (pos (4 + length inner)) ++ inner) ++ r) ≡ Ok (inner, r)
 unfolding body_at
 body_again inside inner r whole small =
     let z = 4 + length inner in
     let four : (nat_le 4 z && (z % 4 == 0)) ≡ true = size_ok z (omega arith) (omega arith) in
     let cut : length inner ≡ z - 4 = omega arith in
-    ap (λ (w : Read ℤ). w >>= λ x. size_of x.0 >>= λ z. bytes_at (z - 4) inside x.1) (word_again (pos z) inside (inner ++ r) (fits_pos z small))
+    ap (then_size inside) (word_again (pos z) inside (inner ++ r) (fits_pos z small))
     ∙ rw four (bytes_again (z - 4) inside inner r cut)
   where
     size_ok : (z : ℕ) → 4 ≤ z → z % 4 ≡ 0 → (nat_le 4 z && (z % 4 == 0)) ≡ true
@@ -80,7 +83,7 @@ reads_some S (suc d) t b (seq vs) h k = starts (pos (count vs)) h.2 b h.3 k
 reads_some S (suc d) t b (rec vs) h k = starts (pos 1) h.3 b h.4 k
 reads_some S (suc d) t b (alt k v) h e = starts (pos 1) (word (pos k) ++ h.5) b h.6 e
 
-module _ (S : List Decl) (PartReads : AidlType → List ℕ → Data → Type 0) (read : AidlType → List ℕ → Read Data)
+module _ (S : List Decl) (PartReads : Readings) (read : AidlType → List ℕ → Read Data)
     (law : (t : AidlType) (b r : List ℕ) (v : Data) → is_type S t ≡ true → PartReads t b v → read t (b ++ r) ≡ Ok (v, r)) (some : (t : AidlType) (b : List ℕ) (v : Data) → PartReads t b v → b ≢ []) where
   defaults_again : (fs : List Field) (vs : Items) → AreInitial S fs vs → HaveDefaults S fs → fields_at (λ f. initial_in S f) read fs [] ≡ Ok vs
   defaults_again [] none h all = refl
@@ -88,13 +91,14 @@ module _ (S : List Decl) (PartReads : AidlType → List ℕ → Data → Type 0)
   defaults_again (f ∷ fs) none h all = elim h [ ]
   defaults_again (f ∷ fs) (item v vs) h all =
       let head : v ≡ initial_in S f = unique_initial S f.ty f.initial v (initial_in S f) h.0 all.0.0 in
-      ap (λ (y : Result Items ℤ). y >>= λ others. Ok (item (initial_in S f) others)) (defaults_again fs vs h.1 all.1) ∙ ap (λ d. Ok (item d vs)) (sym head)
+      ap (with_field (initial_in S f)) (defaults_again fs vs h.1 all.1) ∙ ap (λ d. Ok (item d vs)) (sym head)
 
   field_there : (f : Field) (b : List ℕ) → b ≢ [] → field_at (λ f. initial_in S f) read f b ≡ read f.ty b
   field_there f [] some = absurd (some refl)
   field_there f (x ∷ b) some = refl
 
-  fields_again : (fs : List Field) (vs : Items) (b : List ℕ) → FieldsRead S PartReads fs b vs → AreTypes S fs → HaveDefaults S fs → fields_at (λ f. initial_in S f) read fs b ≡ Ok vs
+  fields_again : (fs : List Field) (vs : Items) (b : List ℕ) → FieldsRead S PartReads fs b vs → AreTypes S fs → HaveDefaults S fs
+      → fields_at (λ f. initial_in S f) read fs b ≡ Ok vs
   fields_again [] none b h types all = refl
   fields_again [] (item v vs) b h types all = elim h [ ]
   fields_again (f ∷ fs) none b h types all = elim h [ ]
@@ -104,8 +108,8 @@ module _ (S : List Decl) (PartReads : AidlType → List ℕ → Data → Type 0)
       let rest = h.1 in
       let present : b ≢ [] = λ k. some f.ty front v h.3 (no_front front rest (sym h.2 ∙ k)) in
       let first : field_at (λ f. initial_in S f) read f b ≡ Ok (v, rest) = field_there f b present ∙ ap (read f.ty) h.2 ∙ law f.ty front rest v types.0 h.3 in
-      ap (λ (y : Read Data). y >>= λ first. fields_at (λ f. initial_in S f) read fs first.1 >>= λ others. Ok (item first.0 others)) first
-      ∙ ap (λ (y : Result Items ℤ). y >>= λ others. Ok (item v others)) (fields_again fs vs rest h.4 types.1 all.1)
+      ap (then_others (λ f. initial_in S f) read fs) first
+      ∙ ap (with_field v) (fields_again fs vs rest h.4 types.1 all.1)
 
 module _ (S : List Decl) (sound : IsWhole S) where
   one : (d : ℕ) (t : AidlType) (inside : Bool) (c : List ℕ) (x : Read Data) → is_one t.shape ≡ true
@@ -117,12 +121,13 @@ module _ (S : List Decl) (sound : IsWhole S) where
   sequence d t inside c x is h = read_of-parts S d t inside c ∙ rw is h
 
   -- null of shape one: a text, a parcelable or a union
-  null_one : (left : Bool) (initial : Field → Data) (read : AidlType → Bool → List ℕ → Read Data) (nullable inside : Bool) (f : Form) (r : List ℕ) → is_nullable_form f ≡ true → nullable ≡ true
+  null_one : (left : Bool) (initial : Field → Data) (read : AidlType → Bool → List ℕ → Read Data) (nullable inside : Bool) (f : Form) (r : List ℕ)
+      → is_nullable_form f ≡ true → nullable ≡ true
       → one_at left initial read nullable f inside (word (null_word f) ++ r) ≡ Ok (null, r)
   unfolding text_at text_block_at record_at union_at
-  null_one left initial read nullable inside form.text r may is = rw is (ap (λ (c : Read (Option ℕ)). c >>= λ n. text_block_at inside n.0 n.1) (count_null inside r))
-  null_one left initial read nullable inside (form.parcelable fs) r may is = rw is (ap (λ (m : Read Bool). m >>= λ m. marked_at left (λ c. body_value_at initial (λ u b. read u true b) fs inside c) m.0 m.1) (marker_null inside r))
-  null_one left initial read nullable inside (form.union fs) r may is = rw is (ap (λ (m : Read Bool). m >>= λ m. marked_at left (λ c. tagged_at (λ u b. read u inside b) fs inside c) m.0 m.1) (marker_null inside r))
+  null_one left initial read nullable inside form.text r may is = rw is (ap (then_text inside) (count_null inside r))
+  null_one left initial read nullable inside (form.parcelable fs) r may is = rw is (ap (then_there left (λ c. body_value_at initial (λ u b. read u true b) fs inside c)) (marker_null inside r))
+  null_one left initial read nullable inside (form.union fs) r may is = rw is (ap (then_there left (λ c. tagged_at (λ u b. read u inside b) fs inside c)) (marker_null inside r))
   null_one left initial read nullable inside form.truth r may is = absurd (true≢false (sym may))
   null_one left initial read nullable inside form.byte r may is = absurd (true≢false (sym may))
   null_one left initial read nullable inside form.char r may is = absurd (true≢false (sym may))
@@ -130,7 +135,8 @@ module _ (S : List Decl) (sound : IsWhole S) where
   null_one left initial read nullable inside form.long r may is = absurd (true≢false (sym may))
   null_one left initial read nullable inside form.nothing r may is = absurd (true≢false (sym may))
 
-  null_of : (d : ℕ) (t : AidlType) (inside : Bool) (b r : List ℕ) (shape_one : Bool) → is_one t.shape ≡ shape_one → is_type S t ≡ true → Reads S d t b null → read_of S d t inside (b ++ r) ≡ Ok (null, r)
+  null_of : (d : ℕ) (t : AidlType) (inside : Bool) (b r : List ℕ) (shape_one : Bool) → is_one t.shape ≡ shape_one → is_type S t ≡ true
+      → Reads S d t b null → read_of S d t inside (b ++ r) ≡ Ok (null, r)
   unfolding sequence_at elements_at
   null_of d t inside b r true is type h =
       let spelled : b ≡ word (null_word (form_of S t.base)) = h.1 ∙ rw is refl in
@@ -140,7 +146,7 @@ module _ (S : List Decl) (sound : IsWhole S) where
   null_of d t inside b r false is type h =
       let spelled : b ≡ word (negsuc 0) = h.1 ∙ rw is refl in
       let counted : count_at t.nullable inside (b ++ r) ≡ Ok (None, r) = rw (h.0, spelled) (count_null inside r) in
-      sequence d t inside (b ++ r) _ is (ap (λ (n : Read (Option ℕ)). n >>= λ m. elements_at (has_levels d) (is_raw S t) (λ e. read_parts S d (elem S t) inside e) inside m.0 m.1) counted)
+      sequence d t inside (b ++ r) _ is (ap (then_elements (has_levels d) (is_raw S t) (λ e. read_parts S d (elem S t) inside e) inside) counted)
 
   not_nullable : (b : Bool) → (b && false) ≡ false
   not_nullable true = refl
@@ -164,11 +170,12 @@ module _ (S : List Decl) (sound : IsWhole S) where
   unfolding elements_at
   elements_again d t inside vs rest r true raw h law read =
       let byte = raw_form S t raw in
-      rw (raw, read) (ap (λ (y : Read Items). y >>= λ vs. Ok (seq vs.0, vs.1)) (raw_again inside vs r (are_bytes t vs byte h)))
+      rw (raw, read) (ap (then_seq) (raw_again inside vs r (are_bytes t vs byte h)))
   elements_again d t inside vs rest r false raw h law read =
-      rw raw (ap (λ (y : Read Items). y >>= λ vs. Ok (seq vs.0, vs.1)) (each_again (λ front v. Reads S d (elem S t) front v) (λ e. read_of S d (elem S t) inside e) law vs rest r read))
+      rw raw (ap (then_seq) (each_again (λ front v. Reads S d (elem S t) front v) (λ e. read_of S d (elem S t) inside e) law vs rest r read))
 
-  pub again : (d : ℕ) (t : AidlType) (inside : Bool) (v : Data) (b r : List ℕ) → is_type S t ≡ true → Reads S d t b v → read_of S d t inside (b ++ r) ≡ Ok (v, r)
+  pub again : (d : ℕ) (t : AidlType) (inside : Bool) (v : Data) (b r : List ℕ) → is_type S t ≡ true → Reads S d t b v
+      → read_of S d t inside (b ++ r) ≡ Ok (v, r)
   unfolding sequence_at record_at body_value_at union_at tagged_at tag_at
   again d t inside null b r type h = null_of d t inside b r (is_one t.shape) refl type h
   again d t inside (truth x) b r type h = one d t inside (b ++ r) _ h.0.0 (rw (h.0.1, h.1) (truth_again x inside r))
@@ -182,7 +189,7 @@ module _ (S : List Decl) (sound : IsWhole S) where
       let elem_is = elem_is_type S t type in
       let counted : count_at t.nullable inside (b ++ r) ≡ Ok (Some (count vs), rest ++ r) = rw h.3 (count_again t.nullable (count vs) inside (rest ++ r) h.1) in
       sequence (suc d) t inside (b ++ r) _ h.0.0
-      (ap (λ (n : Read (Option ℕ)). n >>= λ m. elements_at true (is_raw S t) (λ e. read_of S d (elem S t) inside e) inside m.0 m.1) counted
+      (ap (then_elements true (is_raw S t) (λ e. read_of S d (elem S t) inside e) inside) counted
       ∙ elements_again d t inside vs rest r (is_raw S t) refl h.0.1 (λ c q v f. again d (elem S t) inside v c q elem_is f) h.4)
   again (suc d) t inside (rec vs) b r type h =
       let fs = h.1 in
@@ -195,9 +202,9 @@ module _ (S : List Decl) (sound : IsWhole S) where
       fields_again S (λ u front v. Reads S d u front v) (λ u e. read_of S d u true e) (λ u c q v type f. again d u true v c q type f) (λ u c v f. reads_some S d u c v f) fs vs inner h.5.4 whole.0 whole.1 in
       one (suc d) t inside (b ++ r) _ h.0.0
       (rw h.2
-      (ap (λ (m : Read Bool). m >>= λ m. marked_at true (λ c. body_value_at (λ f. initial_in S f) (λ u e. read_of S d u true e) fs inside c) m.0 m.1) marked
-      ∙ ap (λ (y : Read (List ℕ)). y >>= λ inner. fields_at (λ f. initial_in S f) (λ u e. read_of S d u true e) fs inner.0 >>= λ vs. Ok (rec vs, inner.1)) bodied
-      ∙ ap (λ (y : Result Items ℤ). y >>= λ vs. Ok (rec vs, r)) read))
+      (ap (then_there true (λ c. body_value_at (λ f. initial_in S f) (λ u e. read_of S d u true e) fs inside c)) marked
+      ∙ ap (then_fields (λ f. initial_in S f) (λ u e. read_of S d u true e) fs) bodied
+      ∙ ap (then_rec r) read))
   again (suc d) t inside (alt k v) b r type h =
       let fs = h.1 in
       let f = h.3 in
@@ -206,17 +213,18 @@ module _ (S : List Decl) (sound : IsWhole S) where
       let few : length fs ≤ 4096 = whole.1 in
       let lt : k < 2 ^ 31 = omega (arith, below fs k f h.4) in
       let marked : marker_at t.nullable inside (b ++ r) ≡ Ok (true, word (pos k) ++ (rest ++ r)) = rw h.6 (marker_again t.nullable inside (word (pos k) ++ (rest ++ r))) in
-      let tagged : tag_at inside (word (pos k) ++ (rest ++ r)) ≡ Ok (k, rest ++ r) = ap (λ (w : Read ℤ). w >>= λ x. tag_of x.0 >>= λ k. Ok (k, x.1)) (word_again (pos k) inside (rest ++ r) (fits_pos k lt)) in
+      let tagged : tag_at inside (word (pos k) ++ (rest ++ r)) ≡ Ok (k, rest ++ r) = ap (then_tag) (word_again (pos k) inside (rest ++ r) (fits_pos k lt)) in
       let read = again d f.ty inside v rest r (field_type S fs k f whole.0 h.4) h.7 in
       one (suc d) t inside (b ++ r) _ h.0.0
       (rw h.2
-      (ap (λ (m : Read Bool). m >>= λ m. marked_at true (λ c. tagged_at (λ u e. read_of S d u inside e) fs inside c) m.0 m.1) marked
-      ∙ ap (λ (y : Read ℕ). y >>= λ k. ok_field (slice_get fs k.0) >>= λ f. read_of S d f.ty inside k.1 >>= λ v. Ok (alt k.0 v.0, v.1)) tagged
-      ∙ ap (λ o. ok_field o >>= λ f. read_of S d f.ty inside (rest ++ r) >>= λ v. Ok (alt k v.0, v.1)) h.4
-      ∙ ap (λ (y : Read Data). y >>= λ v. Ok (alt k v.0, v.1)) read))
+      (ap (then_there true (λ c. tagged_at (λ u e. read_of S d u inside e) fs inside c)) marked
+      ∙ ap (then_alternative (λ u e. read_of S d u inside e) fs) tagged
+      ∙ ap (then_field (λ u e. read_of S d u inside e) k (rest ++ r)) h.4
+      ∙ ap (with_tag k) read))
 
   -- a reading and a longer one of the same type are one
-  pub one_reading : (d : ℕ) (t : AidlType) (v w : Data) (b c rest : List ℕ) → is_type S t ≡ true → Reads S d t b v → Reads S d t c w → c ≡ b ++ rest → (b ≡ c) × (v ≡ w)
+  pub one_reading : (d : ℕ) (t : AidlType) (v w : Data) (b c rest : List ℕ) → is_type S t ≡ true → Reads S d t b v → Reads S d t c w → c ≡ b ++ rest
+      → (b ≡ c) × (v ≡ w)
   one_reading d t v w b c rest type h k front =
       let first : read_of S d t false (b ++ rest) ≡ Ok (v, rest) = again d t false v b rest type h in
       let second : read_of S d t false (c ++ []) ≡ Ok (w, []) = again d t false w c [] type k in

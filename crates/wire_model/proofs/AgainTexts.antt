@@ -1,5 +1,5 @@
 -- Text blocks and raw bytes, spelled and read again.
-use Rattle.std.proofs.Common.{◌≡◌, ℕ, zero, suc, ◌+◌, ◌-◌, ◌*◌, ◌^◌, ◌≤◌, ◌<◌, ℤ, Bool, true, false, not, cond, List, [], ◌∷◌, ◌++◌, map, length, take, drop, replicate, nat_lt, Some, Option, Ok, Err, refl, sym, ap, ◌∙◌, arith, append_assoc, length-append}
+use Rattle.std.proofs.Common.{◌≡◌, ℕ, zero, suc, ◌+◌, ◌-◌, ◌*◌, ◌^◌, ◌≤◌, ◌<◌, ℤ, Bool, true, false, not, List, [], ◌∷◌, ◌++◌, map, length, take, drop, replicate, nat_lt, Some, Ok, refl, sym, ap, ◌∙◌, arith, append_assoc, length-append}
 use Rattle.std.specs.Prelude.{FitsSigned}
 use Rattle.std.specs.List.{list_any}
 use Rattle.std.specs.Option.{unwrap_or, is_some}
@@ -18,12 +18,12 @@ use Rattle.aidl_base.proofs.Texts.{utf16_chars-units}
 use Rattle.aidl_values.specs.Data.{number, text, Items, none, item, count}
 use Rattle.wire_model.specs.Spell.{spell_text, raw_byte, raw_bytes}
 use Rattle.wire_model.specs.Stop.{block_len}
-use Rattle.wire_model.specs.ReadOf.{Read, ◌>>=◌, bytes_at, ok_text, text_of, text_block_at, text_at, units_of, all_zero, raw_items, raw_at}
-use Rattle.wire_model.specs.Status.{bad_value}
+use Rattle.wire_model.specs.ReadOf.{bytes_at, ok_text, text_of, text_block_at, text_at, units_of, all_zero, raw_items, raw_at}
 use Rattle.wire_model.proofs.Again.{count_again}
 use Rattle.wire_model.proofs.Lists.{both, take_front, drop_front}
 use Rattle.wire_model.proofs.Sizes.{length-pad, length-raw_bytes}
 use Rattle.wire_model.proofs.SpelledReads.{length-unit_bytes}
+use Rattle.wire_model.proofs.Steps.{then_block, then_raw, then_text}
 
 pub bytes_again : (n : ℕ) (inside : Bool) (xs r : List ℕ) → length xs ≡ n → bytes_at n inside (xs ++ r) ≡ Ok (xs, r)
 bytes_again n inside xs r e =
@@ -92,12 +92,13 @@ text_back x ok =
     let same : chars (encode_utf8_all (utf16_lossy_chars (units x))) ≡ x = ap (λ os. chars (encode_utf8_all (map (λ o. unwrap_or o 0xFFFD) os))) (utf16_chars-units x ok) ∙ ap (λ y. chars (encode_utf8_all y)) (lossless x) ∙ chars-encodes x ok in
     rw (us, paired, zero_tail, same) refl
 
-pub text_again : (nullable inside : Bool) (x r : List ℕ) → all_scalars x ≡ true → length (units x) < 2 ^ 31 → text_at nullable inside (spell_text x ++ r) ≡ Ok (text x, r)
+pub text_again : (nullable inside : Bool) (x r : List ℕ) → all_scalars x ≡ true → length (units x) < 2 ^ 31
+    → text_at nullable inside (spell_text x ++ r) ≡ Ok (text x, r)
 unfolding text_at text_block_at
 text_again nullable inside x r ok small =
     let n = length (units x) in
-    ap (λ (c : Read (Option ℕ)). c >>= λ n. text_block_at inside n.0 n.1) (count_again nullable n inside (block x ++ r) small)
-    ∙ ap (λ (b : Read (List ℕ)). b >>= λ bytes. ok_text (text_of n bytes.0) bytes.1) (bytes_again (block_len n) inside (block x) r (length-block x))
+    ap (then_text inside) (count_again nullable n inside (block x ++ r) small)
+    ∙ ap (then_block n) (bytes_again (block_len n) inside (block x) r (length-block x))
     ∙ ap (λ o. ok_text o r) (text_back x ok)
 
 -- raw bytes
@@ -121,5 +122,5 @@ raw_again inside vs r h =
     let whole : length (pad bs) ≡ n + padding n = length-pad bs ∙ ap (λ k. k + padding k) len in
     let front : take n (pad bs) ≡ bs = take_front bs (replicate (padding (length bs)) 0) n len in
     let rest : all_zero (drop n (pad bs)) ≡ true = ap all_zero (drop_front bs (replicate (padding (length bs)) 0) n len) ∙ zeros (padding (length bs)) in
-    ap (λ (b : Read (List ℕ)). b >>= λ bytes. cond (all_zero (drop n bytes.0)) (Ok (raw_items (take n bytes.0), bytes.1)) (Err bad_value)) (bytes_again (n + padding n) inside (pad bs) r whole)
+    ap (then_raw n) (bytes_again (n + padding n) inside (pad bs) r whole)
     ∙ rw (rest, front, raw_back vs h) refl

@@ -1,11 +1,11 @@
 -- Worked parcels: what they spell and what is read of them, computed. Bytes are written in hexadecimal, words apart.
-use Rattle.std.proofs.Common.{◌≡◌, ℕ, ◌+◌, ◌-◌, ◌*◌, ℤ, pos, negsuc, Bool, true, false, not, ◌==◌, cond, nat_lt, List, [], ◌∷◌, ◌++◌, Option, Some, None, Ok, Err, refl, ap, rules}
+use Rattle.std.proofs.Common.{◌≡◌, ℕ, ◌+◌, ◌-◌, ◌*◌, ℤ, pos, negsuc, true, false, ◌==◌, cond, nat_lt, List, [], ◌∷◌, Option, Some, None, Ok, Err, refl, ap, rules, zero, suc, ◌≤◌, length, slice_get, sym, subst, arith}
+use Rattle.std.proofs.lemmas.Int.{ints}
 use Rattle.std.specs.Prelude.{codes}
 use Rattle.std.specs.Str.{chars}
 use Rattle.std.specs.Char.Utf16.{utf16_chars}
 use lib.Utf8.{encode}
 use Rattle.aidl_base.specs.declared.constant.Const.{Const, the_lemmas}
-use Rattle.aidl_base.specs.declared.constant.Const as Const
 use Rattle.aidl_schema.specs.declared.schema.Decl.{Decl}
 use Rattle.aidl_schema.specs.declared.schema.Field.{Field}
 use Rattle.aidl_schema.specs.declared.schema.Kind.{Kind}
@@ -13,11 +13,12 @@ use Rattle.aidl_schema.specs.declared.schema.Kind.TheVariants.{Parcelable, Union
 use Rattle.aidl_schema.specs.declared.schema.Backing.TheVariants as backing
 use Rattle.aidl_schema.specs.declared.schema.Base.{Base}
 use Rattle.aidl_schema.specs.declared.schema.Base.TheVariants as base
-use Rattle.aidl_schema.specs.declared.schema.Shape.{Shape}
 use Rattle.aidl_schema.specs.declared.schema.Shape.TheVariants as shape
 use Rattle.aidl_schema.specs.declared.schema.AidlType.{AidlType}
 use Rattle.aidl_values.specs.Data.{Data, null, truth, number, text, seq, rec, alt, Items, none, item}
 use Rattle.aidl_values.specs.Default.{const_value, zero_within}
+use Rattle.aidl_values.specs.HasType.{HasType}
+use Rattle.aidl_values.specs.Sound.{IsDeclared, fields_of, AreTypes, HaveDefaults, IsSound}
 use Rattle.wire_model.specs.Spell.{spell}
 use Rattle.wire_model.specs.Status.{bad_value, not_enough_data, unexpected_null}
 use Rattle.wire_model.specs.ReadOf.{Read, read_of, scalar_at, long_value_at, count_at, text_of, text_block_at, text_at, raw_at, elements_at, sequence_at, marker_at, body_at, body_value_at, record_at, tag_at, tagged_at, union_at}
@@ -50,6 +51,9 @@ one b = record { base = b; shape = shape.One; nullable = false; heap = false; ut
 array : Base → AidlType
 array b = record { base = b; shape = shape.Array; nullable = false; heap = false; utf8 = false }
 
+list_of : Base → AidlType
+list_of b = record { base = b; shape = shape.List; nullable = false; heap = false; utf8 = false }
+
 or_null : AidlType → AidlType
 or_null t = record t { nullable = true }
 
@@ -74,10 +78,14 @@ tagged : List Decl
 unfolding declared field
 tagged = declared (codes "U") (Union (field (codes "a") base.Int None ∷ field (codes "b") base.Text None ∷ [])) ∷ []
 
--- enum E of bytes
+-- enum E of bytes, and one of longs
 small : List Decl
 unfolding declared
 small = declared (codes "E") (Enum backing.Byte []) ∷ []
+
+large : List Decl
+unfolding declared
+large = declared (codes "E") (Enum backing.Long []) ∷ []
 
 -- the one declaration of these
 it : AidlType
@@ -94,6 +102,19 @@ two_words : (spell [] (one base.Int) (number (pos 5)) ≡ hex (codes "05000000")
     × (decode [] (one base.Long) (hex (codes "ffffffff ffffffff")) ≡ Ok (number (negsuc 0), []))
 unfolding decode hex one
 two_words = (refl, refl, refl, refl)
+
+-- a word each; an enum as its backing type
+words : (spell [] (one base.Boolean) (truth true) ≡ hex (codes "01000000"))
+    × (spell [] (one base.Byte) (number (negsuc 127)) ≡ hex (codes "80ffffff"))
+    × (spell [] (one base.Char) (number (pos 65)) ≡ hex (codes "41000000"))
+    × (spell small it (number (negsuc 0)) ≡ hex (codes "ffffffff"))
+    × (spell large it (number (pos 2)) ≡ hex (codes "02000000 00000000"))
+    × (decode [] (one base.Boolean) (hex (codes "01000000")) ≡ Ok (truth true, []))
+    × (decode [] (one base.Char) (hex (codes "41000000")) ≡ Ok (number (pos 65), []))
+    × (decode small it (hex (codes "ffffffff")) ≡ Ok (number (negsuc 0), []))
+    × (decode large it (hex (codes "02000000 00000000")) ≡ Ok (number (pos 2), []))
+unfolding decode hex one it small large
+words = (refl, refl, refl, refl, refl, refl, refl, refl, refl)
 
 -- too few bytes, and bytes that are left
 too_few : (decode [] (one base.Long) (hex (codes "ffffffff ffffff")) ≡ Err not_enough_data)
@@ -119,7 +140,7 @@ some_bytes : Items
 unfolding numbers
 some_bytes = numbers (pos 1 ∷ pos 2 ∷ pos 3 ∷ negsuc 0 ∷ pos 5 ∷ [])
 
--- raw bytes, of byte and of an enum of byte; padding that isn't zero; the elements of a List would be words
+-- raw bytes, of byte and of an enum of byte; padding that isn't zero
 byte_arrays : (spell [] (array base.Byte) (seq some_bytes) ≡ hex (codes "05000000 010203ff 05000000"))
     × (spell [] (array base.Byte) (seq none) ≡ hex (codes "00000000"))
     × (spell small (array (base.Named 0)) (seq some_bytes) ≡ hex (codes "05000000 010203ff 05000000"))
@@ -129,11 +150,22 @@ byte_arrays : (spell [] (array base.Byte) (seq some_bytes) ≡ hex (codes "05000
 unfolding decode hex one array some_bytes small
 byte_arrays = (refl, refl, refl, refl, refl, refl)
 
--- a word for each element of the other arrays
+-- elements by their own spelling in the other arrays and in a List
 word_arrays : (spell [] (array base.Boolean) (seq (item (truth true) (item (truth false) none))) ≡ hex (codes "02000000 01000000 00000000"))
     × (spell [] (array base.Char) (seq (numbers (pos 65535 ∷ []))) ≡ hex (codes "01000000 ffff0000"))
-unfolding hex array numbers
-word_arrays = (refl, refl)
+    × (spell [] (array base.Int) (seq (numbers (pos 5 ∷ negsuc 0 ∷ []))) ≡ hex (codes "02000000 05000000 ffffffff"))
+    × (spell [] (list_of base.Text) (seq (item (text (codes "a")) none)) ≡ hex (codes "01000000 01000000 61000000"))
+    × (decode [] (array base.Int) (hex (codes "02000000 05000000 ffffffff")) ≡ Ok (seq (numbers (pos 5 ∷ negsuc 0 ∷ [])), []))
+    × (decode [] (list_of base.Text) (hex (codes "01000000 01000000 61000000")) ≡ Ok (seq (item (text (codes "a")) none), []))
+unfolding decode hex array list_of numbers
+word_arrays = (refl, refl, refl, refl, refl, refl)
+
+-- where no level is left, a sequence is refused at its count; null needs none
+too_deep : (read_of [] 0 (array base.Int) false (hex (codes "00000000")) ≡ Err bad_value)
+    × (read_of [] 0 (or_null (array base.Int)) false (hex (codes "ffffffff")) ≡ Ok (null, []))
+    × (read_of newer 0 it false (hex (codes "01000000")) ≡ Err bad_value)
+unfolding decode hex array or_null it newer
+too_deep = (refl, refl, refl)
 
 narrow : (decode [] (one base.Boolean) (hex (codes "02000000")) ≡ Err bad_value)
     × (decode [] (one base.Byte) (hex (codes "80ffffff")) ≡ Ok (number (negsuc 127), []))
@@ -170,6 +202,12 @@ written_record : spell newer it (record_of (pos 7) (codes "hi")) ≡ hex (codes 
 unfolding hex it newer record_of
 written_record = refl
 
+-- an array of records, and what is read of it
+written_records : (spell newer (array (base.Named 0)) (seq (item (record_of (pos 7) (codes "hi")) none)) ≡ hex (codes "01000000 01000000 14000000 07000000 02000000 68006900 00000000"))
+    × (decode newer (array (base.Named 0)) (hex (codes "01000000 01000000 14000000 07000000 02000000 68006900 00000000")) ≡ Ok (seq (item (record_of (pos 7) (codes "hi")) none), []))
+unfolding decode hex array newer record_of
+written_records = (refl, refl)
+
 -- an old reader passes over the fields that it lacks, and goes on after the record
 tail_skipped : decode older it (hex (codes "01000000 14000000 07000000 02000000 68006900 00000000 09000000")) ≡ Ok (rec (item (number (pos 7)) none), hex (codes "09000000"))
 unfolding decode hex it older
@@ -179,7 +217,8 @@ tail_skipped = refl
 initial_text : const_value (Const.Text (codes "x")) ≡ text (codes "x")
 initial_text = search (rules, the_lemmas)
 
-defaulted : (n : ℤ) (rest : List ℕ) → ◌≡◌ {A = Read Data} (Ok (rec (item (number n) (item (const_value (Const.Text (codes "x"))) none)), rest)) (Ok (record_of n (codes "x"), rest))
+defaulted : (n : ℤ) (rest : List ℕ)
+    → ◌≡◌ {A = Read Data} (Ok (rec (item (number n) (item (const_value (Const.Text (codes "x"))) none)), rest)) (Ok (record_of n (codes "x"), rest))
 unfolding record_of
 defaulted n rest = ap (λ s. Ok (rec (item (number n) (item s none)), rest)) initial_text
 
@@ -211,3 +250,27 @@ written_union : (spell tagged it (alt 1 (text (codes "a"))) ≡ hex (codes "0100
     × (decode tagged it (hex (codes "01000000 02000000")) ≡ Err bad_value)
 unfolding decode hex it tagged
 written_union = (refl, refl, refl)
+
+-- The laws ask for a sound schema, and this is one: its fields have types and defaults.
+its_fields : List Field
+unfolding field
+its_fields = field (codes "a") base.Int None ∷ field (codes "s") base.Text (Some (Const.Text (codes "x"))) ∷ []
+
+of_each : (P : List Field → Type 0) → P its_fields → (d : Decl) → IsDeclared newer d → P (fields_of d.kind)
+unfolding newer its_fields
+of_each P h d at = by_place at.0 at.1
+  where
+    by_place : (n : ℕ) → slice_get newer n ≡ Some d → P (fields_of d.kind)
+    by_place zero e = let is : declared (codes "R") (Parcelable its_fields) ≡ d = cc in subst (λ x. P (fields_of x.kind)) is h
+    by_place (suc n) e = absurd cc
+
+newer_is_sound : IsSound newer
+unfolding its_fields zero_within one newer
+newer_is_sound = record {
+  types = λ d at. of_each (λ fs. AreTypes newer fs) (refl, (refl, tt)) d at;
+  defaults = λ d at. of_each (λ fs. HaveDefaults newer fs) (
+    ((refl, refl, refl), (refl, omega (arith, ints))),
+    ((refl, subst (λ v. HasType newer (one base.Text) v) (sym initial_text) (refl, refl, refl)), tt),
+  ) d at;
+  few = λ d at. of_each (λ fs. length fs ≤ 4096) (omega arith) d at;
+}

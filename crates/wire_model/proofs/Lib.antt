@@ -4,14 +4,16 @@ mod AgainTexts
 mod Defaults
 mod Examples
 mod Forms
-mod Lists
+pub mod Lists
 mod OneZero
-mod Parts
+pub mod Parts
 mod RawForms
-mod Reading
-mod Sizes
+pub mod Reading
+pub mod Sizes
 mod Sound
 mod SpelledReads
+mod Statuses
+mod Steps
 mod Stopped
 mod TextForms
 mod Told

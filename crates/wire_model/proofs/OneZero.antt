@@ -26,7 +26,8 @@ of_simple z (form.union fs) v e = cc
 of_simple z form.nothing v e = cc
 
 module _ (S : List Decl) where
-  one_by : (zero_value : AidlType → Data) (t : AidlType) (v : Data) → t.nullable ≡ false → is_one t.shape ≡ true → v ≡ zero_of_form zero_value (form_of S t.base) → v ≡ zero_by S zero_value t
+  one_by : (zero_value : AidlType → Data) (t : AidlType) (v : Data) → t.nullable ≡ false → is_one t.shape ≡ true
+      → v ≡ zero_of_form zero_value (form_of S t.base) → v ≡ zero_by S zero_value t
   one_by z t v e one same = same ∙ sym (rw (e, one) refl)
 
   simple : (n : ℕ) (t : AidlType) (v : Data) → t.nullable ≡ false → is_one t.shape ≡ true → simple_zero (form_of S t.base) ≡ Some v → v ≡ zero_within n S t

@@ -2,14 +2,16 @@
 use Rattle.std.proofs.Common.{◌≡◌, ℕ, zero, suc, ◌<◌, ◌-◌, Bool, true, false, List, Some, Ok, slice_get, refl, sym, ap, ◌∙◌, arith}
 use Rattle.aidl_schema.specs.declared.schema.Shape.TheVariants as shape
 use Rattle.aidl_schema.specs.Types.{form_of, is_one, is_raw, elem}
-use Rattle.aidl_values.specs.Data.{Data, seq, alt}
-use Rattle.aidl_values.specs.Sound.{initial_in}
 use Rattle.aidl_schema.specs.declared.schema.Decl.{Decl}
 use Rattle.aidl_schema.specs.declared.schema.Field.{Field}
 use Rattle.aidl_schema.specs.declared.schema.AidlType.{AidlType}
-use Rattle.wire_model.specs.ReadOf.{tag_at, tagged_at, ok_field, marker_at, marked_at, record_at, body_value_at, Read, ◌>>=◌, one_at, items_at, elements_at, sequence_at, read_of, read_by, read_parts, has_levels}
+use Rattle.aidl_values.specs.Data.{Data, alt}
+use Rattle.aidl_values.specs.Sound.{initial_in}
+use Rattle.wire_model.specs.ReadOf.{tag_at, tagged_at, marker_at, record_at, body_value_at, Read, one_at, items_at, elements_at, sequence_at, read_of, read_by, read_parts, has_levels}
+use Rattle.wire_model.proofs.Steps.{then_seq, then_there, then_alternative, then_field, with_tag}
 
-pub read_of-parts : (S : List Decl) (d : ℕ) (t : AidlType) (inside : Bool) (b : List ℕ) → read_of S d t inside b ≡ read_by S (has_levels d) (λ u j c. read_parts S d u j c) t inside b
+pub read_of-parts : (S : List Decl) (d : ℕ) (t : AidlType) (inside : Bool) (b : List ℕ)
+    → read_of S d t inside b ≡ read_by S (has_levels d) (λ u j c. read_parts S d u j c) t inside b
 unfolding read_of
 read_of-parts S zero t inside b = refl
 read_of-parts S (suc d) t inside b = refl
@@ -23,30 +25,34 @@ has_levels-below zero lt = absurd (omega arith)
 has_levels-below (suc d) lt = refl
 
 module _ (S : List Decl) (d : ℕ) (t : AidlType) (inside : Bool) (b : List ℕ) where
-  pub read_of-one : t.shape ≡ shape.One → one_at (has_levels d) (λ f. initial_in S f) (λ u j c. read_parts S d u j c) t.nullable (form_of S t.base) inside b ≡ read_of S d t inside b
+  pub read_of-one : t.shape ≡ shape.One
+      → one_at (has_levels d) (λ f. initial_in S f) (λ u j c. read_parts S d u j c) t.nullable (form_of S t.base) inside b ≡ read_of S d t inside b
   read_of-one is = sym (read_of-parts S d t inside b ∙ rw is)
 
-  pub read_of-sequence : is_one t.shape ≡ false → sequence_at (has_levels d) (is_raw S t) t.nullable (λ c. read_parts S d (elem S t) inside c) inside b ≡ read_of S d t inside b
+  pub read_of-sequence : is_one t.shape ≡ false
+      → sequence_at (has_levels d) (is_raw S t) t.nullable (λ c. read_parts S d (elem S t) inside c) inside b ≡ read_of S d t inside b
   read_of-sequence is = sym (read_of-parts S d t inside b ∙ rw is)
 
 module _ (left raw : Bool) (read : List ℕ → Read Data) (inside : Bool) (n : ℕ) (b : List ℕ) (has : left ≡ true) (apart : raw ≡ false) where
   -- what a sequence gives, from its elements
-  pub elements_at-items : elements_at left raw read inside (Some n) b ≡ (items_at read n b >>= λ vs. Ok (seq vs.0, vs.1))
+  pub elements_at-items : elements_at left raw read inside (Some n) b ≡ then_seq (items_at read n b)
   unfolding elements_at
   elements_at-items = rw (has, apart)
 
 -- a record whose marker says that it is there
-pub record_at-there : (left nullable : Bool) (initial : Field → Data) (read : AidlType → List ℕ → Read Data) (fs : List Field) (inside : Bool) (b c : List ℕ) → left ≡ true → marker_at nullable inside b ≡ Ok (true, c)
+pub record_at-there : (left nullable : Bool) (initial : Field → Data) (read : AidlType → List ℕ → Read Data) (fs : List Field) (inside : Bool) (b c : List ℕ)
+    → left ≡ true → marker_at nullable inside b ≡ Ok (true, c)
     → record_at left nullable initial read fs inside b ≡ body_value_at initial read fs inside c
 unfolding record_at
 record_at-there left nullable initial read fs inside b c has there =
-    ap (λ (m : Read Bool). m >>= λ x. marked_at left (λ e. body_value_at initial read fs inside e) x.0 x.1) there ∙ rw has refl
+    ap (then_there left (λ e. body_value_at initial read fs inside e)) there ∙ rw has refl
 
 -- a union whose tag names a field
-pub tagged_at-field : (read : AidlType → List ℕ → Read Data) (fs : List Field) (inside : Bool) (b c after : List ℕ) (k : ℕ) (f : Field) (v : Data) → tag_at inside b ≡ Ok (k, c) → slice_get fs k ≡ Some f → read f.ty c ≡ Ok (v, after)
+pub tagged_at-field : (read : AidlType → List ℕ → Read Data) (fs : List Field) (inside : Bool) (b c after : List ℕ) (k : ℕ) (f : Field) (v : Data)
+    → tag_at inside b ≡ Ok (k, c) → slice_get fs k ≡ Some f → read f.ty c ≡ Ok (v, after)
     → tagged_at read fs inside b ≡ Ok (alt k v, after)
 unfolding tagged_at
 tagged_at-field read fs inside b c after k f v tag at h =
-    ap (λ (x : Read ℕ). x >>= λ k. ok_field (slice_get fs k.0) >>= λ f. read f.ty k.1 >>= λ v. Ok (alt k.0 v.0, v.1)) tag
-    ∙ ap (λ o. ok_field o >>= λ f. read f.ty c >>= λ v. Ok (alt k v.0, v.1)) at
-    ∙ ap (λ (x : Read Data). x >>= λ v. Ok (alt k v.0, v.1)) h
+    ap (then_alternative read fs) tag
+    ∙ ap (then_field read k c) at
+    ∙ ap (with_tag k) h

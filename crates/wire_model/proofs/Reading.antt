@@ -1,5 +1,5 @@
 -- Reading as a function is what Reads and Stop say, for every type of a sound schema: what a reader's clauses cite.
-use Rattle.std.proofs.Common.{◌≡◌, ℕ, ◌-◌, ◌≤◌, ℤ, Bool, true, List, ◌++◌, length, take, drop, Ok, Err, ◌⊎◌, inl, inr, refl, sym, ap, ◌∙◌, subst, arith, length-append}
+use Rattle.std.proofs.Common.{◌≡◌, ℕ, ◌-◌, ◌≤◌, ℤ, Bool, true, List, ◌++◌, length, take, drop, Ok, Err, ◌⊎◌, inl, inr, refl, sym, ap, ◌∙◌, subst, arith, length-append, length-drop}
 use Rattle.std.proofs.lemmas.List.{take-append-drop}
 use Rattle.aidl_schema.specs.declared.schema.Decl.{Decl}
 use Rattle.aidl_schema.specs.declared.schema.AidlType.{AidlType}
@@ -50,6 +50,19 @@ module _ (S : List Decl) (sound : IsSound S) (d : ℕ) (t : AidlType) (type : is
         let len : length h.0 ≡ length b - length rest = omega (arith, ap length h.1, length-append h.0 rest) in
         let front : take (length b - length rest) b ≡ h.0 = ap (take (length b - length rest)) h.1 ∙ take_front h.0 rest (length b - length rest) len in
         subst (λ c. Reads S d t c v) (sym front) h.2
+
+    -- No other value is read, and no other number of bytes.
+    pub read_only : (v w : Data) (rest : List ℕ) (n : ℕ) → n ≤ length b → read_of S d t inside b ≡ Ok (v, rest) → Reads S d t (take n b) w
+        → (w ≡ v) × (n ≡ length b - length rest)
+    read_only v w rest n le e h =
+        let same : ◌≡◌ {A = Read Data} (Ok (w, drop n b)) (Ok (v, rest)) = sym (take_read w n h) ∙ e in
+        let pair : ◌≡◌ {A = Data × List ℕ} (w, drop n b) (v, rest) = cc in
+        let left : length (drop n b) ≡ length rest = ap (λ (q : Data × List ℕ). length q.1) pair in
+        (ap (λ (q : Data × List ℕ). q.0) pair, omega (arith, length-drop n b))
+
+    -- Where a status is answered, no front is a reading.
+    pub read_none : (s : ℤ) (w : Data) (n : ℕ) → read_of S d t inside b ≡ Err s → Reads S d t (take n b) w → ⊥
+    read_none s w n e h = let same : ◌≡◌ {A = Read Data} (Ok (w, drop n b)) (Err s) = sym (take_read w n h) ∙ e in absurd cc
 
     -- One or the other.
     pub reads_or_stops : FrontReads S d t b ⊎ Stops S d t b inside

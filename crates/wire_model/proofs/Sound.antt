@@ -9,8 +9,8 @@ use Rattle.aidl_schema.specs.declared.schema.Base.{Base}
 use Rattle.aidl_schema.specs.declared.schema.Base.TheVariants as base
 use Rattle.aidl_schema.specs.Types.{Form, form_of, form_of_decl, form_of_kind, is_type}
 use Rattle.aidl_schema.specs.Types as form
-use Rattle.wire_model.specs.Spell.{parcelable_fields, union_fields}
 use Rattle.aidl_values.specs.Sound.{IsDeclared, fields_of, AreTypes, HaveDefaults, IsSound}
+use Rattle.wire_model.specs.Spell.{parcelable_fields, union_fields}
 
 parcelable_kind : (k : Kind) (fs : List Field) → form_of_kind k ≡ form.parcelable fs → fields_of k ≡ fs
 parcelable_kind (Parcelable gs) fs e = ap parcelable_fields e

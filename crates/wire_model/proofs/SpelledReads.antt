@@ -25,7 +25,8 @@ each S d t (item v vs) law h le fits =
     let sum = length-append (spell S t v) (spell_items S t vs) in
     (spell S t v, spell_items S t vs, refl, law t v h.0 (omega arith) (omega arith), each S d t vs law h.1 (omega arith) (omega arith))
 
-fields : (S : List Decl) (d : ℕ) (fs : List Field) (vs : Items) → Lawful S d → FieldsHaveType S fs vs → greatest vs ≤ d → length (spell_fields S fs vs) ≤ 1048576
+fields : (S : List Decl) (d : ℕ) (fs : List Field) (vs : Items) → Lawful S d → FieldsHaveType S fs vs → greatest vs ≤ d
+    → length (spell_fields S fs vs) ≤ 1048576
     → FieldsRead S (λ u front v. Reads S d u front v) fs (spell_fields S fs vs) vs
 unfolding Lawful
 fields S d [] none law h le fits = tt
@@ -49,7 +50,8 @@ units_small x fits =
     let p = pad_whole (unit_bytes us) in
     omega (arith, p.1, p.2, length-unit_bytes us, length-append (units x) (0 ∷ []), length-append (word (pos (length (units x)))) (block x), length-word (pos (length (units x))))
 
-pub items_small : (S : List Decl) (t : AidlType) (vs : Items) → length (spell S t (seq vs)) ≤ 1048576 → (raw : Bool) → is_raw S t ≡ raw → (count vs ≤ 1048576) × (length (cond raw [] (spell_items S (elem S t) vs)) ≤ 1048576)
+pub items_small : (S : List Decl) (t : AidlType) (vs : Items) → length (spell S t (seq vs)) ≤ 1048576 → (raw : Bool) → is_raw S t ≡ raw
+    → (count vs ≤ 1048576) × (length (cond raw [] (spell_items S (elem S t) vs)) ≤ 1048576)
 items_small S t vs fits true e =
     let p = pad_whole (raw_bytes vs) in
     let whole : length (word (pos (count vs)) ++ pad (raw_bytes vs)) ≤ 1048576 = rw e at fits in
@@ -60,12 +62,14 @@ items_small S t vs fits false e =
     (omega (arith, p.1, p.2, length-append (word (pos (count vs))) (spell_items S (elem S t) vs)), omega (arith, length-append (word (pos (count vs))) (spell_items S (elem S t) vs)))
 
 -- the items of a sequence that isn't raw, read one by one
-sequence : (S : List Decl) (d : ℕ) (t : AidlType) (vs : Items) → Lawful S d → HaveType S (elem S t) vs → greatest vs ≤ d → (raw : Bool) → length (cond raw [] (spell_items S (elem S t) vs)) ≤ 1048576
+sequence : (S : List Decl) (d : ℕ) (t : AidlType) (vs : Items) → Lawful S d → HaveType S (elem S t) vs → greatest vs ≤ d → (raw : Bool)
+    → length (cond raw [] (spell_items S (elem S t) vs)) ≤ 1048576
     → MatchBool raw (cond raw (pad (raw_bytes vs)) (spell_items S (elem S t) vs) ≡ pad (raw_bytes vs)) (EachReads (λ front v. Reads S d (elem S t) front v) (cond raw (pad (raw_bytes vs)) (spell_items S (elem S t) vs)) vs)
 sequence S d t vs law h le true fits = refl
 sequence S d t vs law h le false fits = each S d (elem S t) vs law h le fits
 
-pub spelled_reads : (S : List Decl) (d : ℕ) (t : AidlType) (v : Data) → HasType S t v → depth_of v ≤ d → length (spell S t v) ≤ 1048576 → Reads S d t (spell S t v) v
+pub spelled_reads : (S : List Decl) (d : ℕ) (t : AidlType) (v : Data) → HasType S t v → depth_of v ≤ d → length (spell S t v) ≤ 1048576
+    → Reads S d t (spell S t v) v
 unfolding Lawful
 spelled_reads S d t null h le fits = (h, refl)
 spelled_reads S d t (truth b) h le fits = (h, refl)

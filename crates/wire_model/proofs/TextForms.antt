@@ -72,13 +72,15 @@ spelled (u ∷ []) h e = by_test (nat_le 0xD800 u && nat_lt u 0xE000) refl
     by_test false is = lone_unit u [] h.0 is ([], refl, refl)
 spelled (u ∷ v ∷ us) h e = by_pair (is_high_surrogate u && is_low_surrogate v) refl (λ k. spelled us h.1.1 k) (λ k. spelled (v ∷ us) h.1 k)
   where
-    by_lone : (b : Bool) → (nat_le 0xD800 u && nat_lt u 0xE000) ≡ b → AnyLone (lone_unit_char u ∷ utf16_chars (v ∷ us)) ≡ false → (AnyLone (utf16_chars (v ∷ us)) ≡ false → Spelled (v ∷ us)) → Spelled (u ∷ v ∷ us)
+    by_lone : (b : Bool) → (nat_le 0xD800 u && nat_lt u 0xE000) ≡ b → AnyLone (lone_unit_char u ∷ utf16_chars (v ∷ us)) ≡ false
+        → (AnyLone (utf16_chars (v ∷ us)) ≡ false → Spelled (v ∷ us)) → Spelled (u ∷ v ∷ us)
     by_lone true is k rest = let wrong : AnyLone (None ∷ utf16_chars (v ∷ us)) ≡ false = subst (λ o. AnyLone (o ∷ utf16_chars (v ∷ us)) ≡ false) (lone_none u is) k in absurd (true≢false wrong)
     by_lone false is k rest =
         let good : AnyLone (Some u ∷ utf16_chars (v ∷ us)) ≡ false = subst (λ o. AnyLone (o ∷ utf16_chars (v ∷ us)) ≡ false) (lone_some u is) k in
         lone_unit u (v ∷ us) h.0 is (rest good)
 
-    by_pair : (b : Bool) → (is_high_surrogate u && is_low_surrogate v) ≡ b → (AnyLone (utf16_chars us) ≡ false → Spelled us) → (AnyLone (utf16_chars (v ∷ us)) ≡ false → Spelled (v ∷ us)) → Spelled (u ∷ v ∷ us)
+    by_pair : (b : Bool) → (is_high_surrogate u && is_low_surrogate v) ≡ b → (AnyLone (utf16_chars us) ≡ false → Spelled us)
+        → (AnyLone (utf16_chars (v ∷ us)) ≡ false → Spelled (v ∷ us)) → Spelled (u ∷ v ∷ us)
     by_pair true is two one =
         let p = both (is_high_surrogate u) (is_low_surrogate v) is in
         let k : AnyLone (Some (surrogate_pair_char u v) ∷ utf16_chars us) ≡ false = rw is at e in

@@ -54,25 +54,29 @@ Told IsRead IsStop b (Ok x) = (front : List ℕ) × (b ≡ front ++ x.1) × IsRe
 Told IsRead IsStop b (Err s) = IsStop s
 
 -- the same reading in other words
-pub told_as : {A : Type 0} (One Other : List ℕ → A → Type 0) (IsStop : ℤ → Type 0) (b : List ℕ) (x : Read A) → ((front : List ℕ) (v : A) → One front v → Other front v) → Told One IsStop b x → Told Other IsStop b x
+pub told_as : {A : Type 0} (One Other : List ℕ → A → Type 0) (IsStop : ℤ → Type 0) (b : List ℕ) (x : Read A)
+    → ((front : List ℕ) (v : A) → One front v → Other front v) → Told One IsStop b x → Told Other IsStop b x
 told_as One Other IsStop b (Ok x) reads h = (h.0, h.1, reads h.0 x.0 h.2)
 told_as One Other IsStop b (Err s) reads h = h
 
 -- one step of reading after another
-pub told_then : {A B : Type 0} (First : List ℕ → A → Type 0) (Next : List ℕ → B → Type 0) (FirstStops NextStops : ℤ → Type 0) (b : List ℕ) (k : A × List ℕ → Read B) (x : Read A) → Told First FirstStops b x → ((s : ℤ) → FirstStops s → NextStops s)
+pub told_then : {A B : Type 0} (First : List ℕ → A → Type 0) (Next : List ℕ → B → Type 0) (FirstStops NextStops : ℤ → Type 0) (b : List ℕ) (k : A × List ℕ → Read B) (x : Read A)
+    → Told First FirstStops b x → ((s : ℤ) → FirstStops s → NextStops s)
     → ((v : A) (front rest : List ℕ) → b ≡ front ++ rest → First front v → Told Next NextStops b (k (v, rest))) → Told Next NextStops b (x >>= k)
 told_then First Next FirstStops NextStops b k (Ok x) h stop next = next x.0 h.0 x.1 h.1 h.2
 told_then First Next FirstStops NextStops b k (Err s) h stop next = stop s h
 
 module _ (IsRead : List ℕ → Data → Type 0) (f : Form) (inside : Bool) (b : List ℕ) where
-  pub word_told : (is_permitted f (word_of (take 4 b)) ≡ true → 4 ≤ length b → IsRead (take 4 b) (data_of_word f (word_of (take 4 b)))) → (short may : Bool) → nat_lt (length b) 4 ≡ short → is_permitted f (word_of (take 4 b)) ≡ may
+  pub word_told : (is_permitted f (word_of (take 4 b)) ≡ true → 4 ≤ length b → IsRead (take 4 b) (data_of_word f (word_of (take 4 b))))
+      → (short may : Bool) → nat_lt (length b) 4 ≡ short → is_permitted f (word_of (take 4 b)) ≡ may
       → Told IsRead (λ s. WordStop f b inside s) b (scalar_at f inside b)
   unfolding scalar_at
   word_told reads true may e g = rw e (WordStop.short (ltb-true _ _ e))
   word_told reads false true e g = let le : 4 ≤ length b = ltb-false _ _ e in rw (e, g) (take 4 b, sym (take-append-drop 4 b), reads g le)
   word_told reads false false e g = let le : 4 ≤ length b = ltb-false _ _ e in rw (e, g) (WordStop.not_permitted le g)
 
-  pub long_told : (8 ≤ length b → IsRead (take 8 b) (number (long_of (take 8 b)))) → (short : Bool) → nat_lt (length b) 8 ≡ short → Told IsRead (λ s. LongStop b inside s) b (long_value_at inside b)
+  pub long_told : (8 ≤ length b → IsRead (take 8 b) (number (long_of (take 8 b)))) → (short : Bool) → nat_lt (length b) 8 ≡ short
+      → Told IsRead (λ s. LongStop b inside s) b (long_value_at inside b)
   unfolding long_value_at
   long_told reads true e = rw e (LongStop.short (ltb-true _ _ e))
   long_told reads false e = let le : 8 ≤ length b = ltb-false _ _ e in rw e (take 8 b, sym (take-append-drop 8 b), reads le)
@@ -101,14 +105,16 @@ MarkerReads nullable front true = front ≡ word (pos 1)
 MarkerReads nullable front false = (nullable ≡ true) × (front ≡ word (pos 0))
 
 module _ (nullable inside : Bool) (b : List ℕ) (bytes : IsBytes b) where
-  marker_of_told : (w : ℤ) → 4 ≤ length b → first_word b ≡ w → word w ≡ take 4 b → (may : Bool) → nullable ≡ may → Told (MarkerReads nullable) (λ s. MarkerStop nullable b inside s) b (marker_of nullable w >>= λ m. Ok (m, drop 4 b))
+  marker_of_told : (w : ℤ) → 4 ≤ length b → first_word b ≡ w → word w ≡ take 4 b → (may : Bool) → nullable ≡ may
+      → Told (MarkerReads nullable) (λ s. MarkerStop nullable b inside s) b (marker_of nullable w >>= λ m. Ok (m, drop 4 b))
   marker_of_told (pos zero) le is spelled true e = rw e (take 4 b, sym (take-append-drop 4 b), (refl, sym spelled))
   marker_of_told (pos zero) le is spelled false e = rw e (MarkerStop.null_marker (le, is) refl)
   marker_of_told (pos (suc zero)) le is spelled may e = (take 4 b, sym (take-append-drop 4 b), sym spelled)
   marker_of_told (pos (suc (suc n))) le is spelled may e = MarkerStop.not_marker le (λ k. let w : ◌≡◌ {A = ℤ} (pos (suc (suc n))) (pos 0) = sym is ∙ k in absurd cc) (λ k. let w : ◌≡◌ {A = ℤ} (pos (suc (suc n))) (pos 1) = sym is ∙ k in absurd cc)
   marker_of_told (negsuc n) le is spelled may e = MarkerStop.not_marker le (λ k. let w : ◌≡◌ {A = ℤ} (negsuc n) (pos 0) = sym is ∙ k in absurd cc) (λ k. let w : ◌≡◌ {A = ℤ} (negsuc n) (pos 1) = sym is ∙ k in absurd cc)
 
-  pub marker_told : (short : Bool) → nat_lt (length b) 4 ≡ short → Told (MarkerReads nullable) (λ s. MarkerStop nullable b inside s) b (marker_at nullable inside b)
+  pub marker_told : (short : Bool) → nat_lt (length b) 4 ≡ short
+      → Told (MarkerReads nullable) (λ s. MarkerStop nullable b inside s) b (marker_at nullable inside b)
   unfolding marker_at
   marker_told true e = rw e (MarkerStop.short (ltb-true _ _ e))
   marker_told false e = let le : 4 ≤ length b = ltb-false _ _ e in rw e (marker_of_told (first_word b) le refl (spells_word b bytes le) nullable refl)

@@ -12,10 +12,10 @@ use Rattle.aidl_schema.specs.Types as form
 use Rattle.aidl_values.specs.Data.{Data, null, truth, number, text, seq, rec, alt, count}
 use Rattle.aidl_values.specs.Sound.{initial_in}
 use Rattle.aidl_values.specs.HasType.{HasType, InRange}
+use Rattle.wire_model.specs.Stop.{Stoppings, Stop, StopBy, OneStop, TextStop, SequenceStop, RecordStop, UnionStop}
+use Rattle.wire_model.specs.Reads.{Readings, Reads, EachReads, BodyReads}
 use Rattle.wire_model.specs.Spell.{spell, spell_truth, raw_bytes}
 use Rattle.wire_model.specs.Status.{is_permitted, bad_value}
-use Rattle.wire_model.specs.Reads.{Reads, EachReads, BodyReads}
-use Rattle.wire_model.specs.Stop.{Stop, StopBy, OneStop, TextStop, SequenceStop, RecordStop, UnionStop}
 use Rattle.wire_model.specs.ReadOf.{Read, is_truth, one_at, text_at, record_at, union_at, sequence_at, read_by, read_of}
 use Rattle.wire_model.proofs.Lists.{both, IsBytes}
 use Rattle.wire_model.proofs.Forms.{elem_is_type}
@@ -55,7 +55,7 @@ reads_type S (suc d) t b (rec vs) h = h.0
 reads_type S (suc d) t b (alt k v) h = h.0
 
 -- A reading, by what its parts' readings are; `left` says that a level is left.
-abbrev LevelReads : List Decl → Bool → (AidlType → List ℕ → Data → Type 0) → AidlType → List ℕ → Data → Type 0
+abbrev LevelReads : List Decl → Bool → Readings → AidlType → List ℕ → Data → Type 0
 LevelReads S left PartReads t b null = HasType S t null × (b ≡ spell S t null)
 LevelReads S left PartReads t b (truth x) = HasType S t (truth x) × (b ≡ spell S t (truth x))
 LevelReads S left PartReads t b (number n) = HasType S t (number n) × (b ≡ spell S t (number n))
@@ -66,7 +66,7 @@ LevelReads S left PartReads t b (rec vs) = (left ≡ true) × HasType S t (rec v
 LevelReads S left PartReads t b (alt k v) = (left ≡ true) × HasType S t (alt k v) × (fs : List Field) × (form_of S t.base ≡ form.union fs) × (f : Field) × (slice_get fs k ≡ Some f)
     × (rest : List ℕ) × (b ≡ word (pos 1) ++ word (pos k) ++ rest) × PartReads f.ty rest v
 
-no_level : (S : List Decl) (PartReads : AidlType → List ℕ → Data → Type 0) (t : AidlType) (b : List ℕ) (v : Data) → LevelReads S false PartReads t b v → Reads S zero t b v
+no_level : (S : List Decl) (PartReads : Readings) (t : AidlType) (b : List ℕ) (v : Data) → LevelReads S false PartReads t b v → Reads S zero t b v
 no_level S PartReads t b null h = h
 no_level S PartReads t b (truth x) h = h
 no_level S PartReads t b (number n) h = h
@@ -84,7 +84,7 @@ one_level S d t b (seq vs) h = (h.1, h.2, h.3, h.4, h.5)
 one_level S d t b (rec vs) h = (h.1, h.2, h.3, h.4, h.5, h.6)
 one_level S d t b (alt k v) h = (h.1, h.2, h.3, h.4, h.5, h.6, h.7, h.8)
 
-module _ (S : List Decl) (left : Bool) (PartReads : AidlType → List ℕ → Data → Type 0) (t : AidlType) where
+module _ (S : List Decl) (left : Bool) (PartReads : Readings) (t : AidlType) where
   of_text : is_one t.shape ≡ true → form_of S t.base ≡ form.text → (b : List ℕ) (v : Data) → TextReads t.nullable b v → LevelReads S left PartReads t b v
   of_text one is b null h = (h.0, h.1 ∙ sym (rw (one, is) refl))
   of_text one is b (text x) h = ((one, is, h.0), h.1, h.2)
@@ -94,7 +94,8 @@ module _ (S : List Decl) (left : Bool) (PartReads : AidlType → List ℕ → Da
   of_text one is b (rec vs) h = elim h [ ]
   of_text one is b (alt k v) h = elim h [ ]
 
-  of_record : (fs : List Field) → is_one t.shape ≡ true → form_of S t.base ≡ form.parcelable fs → (b : List ℕ) (v : Data) → RecordReads left S PartReads t.nullable fs b v → LevelReads S left PartReads t b v
+  of_record : (fs : List Field) → is_one t.shape ≡ true → form_of S t.base ≡ form.parcelable fs → (b : List ℕ) (v : Data)
+      → RecordReads left S PartReads t.nullable fs b v → LevelReads S left PartReads t b v
   of_record fs one is b null h = (h.0, h.1 ∙ sym (rw (one, is) refl))
   of_record fs one is b (rec vs) h = (h.0, (one, fs, is, h.4), fs, is, h.1, h.2, h.3)
   of_record fs one is b (truth x) h = elim h [ ]
@@ -103,7 +104,8 @@ module _ (S : List Decl) (left : Bool) (PartReads : AidlType → List ℕ → Da
   of_record fs one is b (seq vs) h = elim h [ ]
   of_record fs one is b (alt k v) h = elim h [ ]
 
-  of_union : (fs : List Field) → ((u : AidlType) (c : List ℕ) (v : Data) → PartReads u c v → HasType S u v) → is_one t.shape ≡ true → form_of S t.base ≡ form.union fs → (b : List ℕ) (v : Data) → UnionReads left PartReads t.nullable fs b v → LevelReads S left PartReads t b v
+  of_union : (fs : List Field) → ((u : AidlType) (c : List ℕ) (v : Data) → PartReads u c v → HasType S u v) → is_one t.shape ≡ true
+      → form_of S t.base ≡ form.union fs → (b : List ℕ) (v : Data) → UnionReads left PartReads t.nullable fs b v → LevelReads S left PartReads t b v
   of_union fs typed one is b null h = (h.0, h.1 ∙ sym (rw (one, is) refl))
   of_union fs typed one is b (alt k v) h = (h.0, (one, fs, is, h.1, h.2, typed h.1.ty h.3 v h.5), fs, is, h.1, h.2, h.3, h.4, h.5)
   of_union fs typed one is b (truth x) h = elim h [ ]
@@ -121,7 +123,7 @@ module _ (S : List Decl) (left : Bool) (PartReads : AidlType → List ℕ → Da
   of_sequence many b (rec vs) h = elim h [ ]
   of_sequence many b (alt k v) h = elim h [ ]
 
-module _ (S : List Decl) (sound : IsWhole S) (left : Bool) (PartReads : AidlType → List ℕ → Data → Type 0) (PartStops : AidlType → List ℕ → Bool → ℤ → Type 0) (read : AidlType → Bool → List ℕ → Read Data)
+module _ (S : List Decl) (sound : IsWhole S) (left : Bool) (PartReads : Readings) (PartStops : Stoppings) (read : AidlType → Bool → List ℕ → Read Data)
     (typed : (t : AidlType) (c : List ℕ) (v : Data) → PartReads t c v → HasType S t v)
     (law : left ≡ true → (t : AidlType) (j : Bool) (c : List ℕ) → is_type S t ≡ true → IsBytes c → Told (PartReads t) (λ s. PartStops t c j s) c (read t j c))
     (t : AidlType) (inside : Bool) (b : List ℕ) (bytes : IsBytes b) (type : is_type S t ≡ true) where
@@ -153,7 +155,8 @@ module _ (S : List Decl) (sound : IsWhole S) (left : Bool) (PartReads : AidlType
       (sequence_at left (is_raw S t) t.nullable (λ c. read (elem S t) inside c) inside b) (λ c v h. of_sequence S left PartReads t many c v h)
       (sequence_told left S t (PartReads (elem S t)) (λ rest s. PartStops (elem S t) rest inside s) (λ c. read (elem S t) inside c) (λ c v h. typed (elem S t) c v h) (λ has c q. law has (elem S t) inside c (elem_is_type S t type) q) inside b bytes)
 
-  level_told : (single : Bool) → is_one t.shape ≡ single → Told (LevelReads S left PartReads t) (λ s. StopBy S left PartReads PartStops t b inside s) b (read_by S left read t inside b)
+  level_told : (single : Bool) → is_one t.shape ≡ single
+      → Told (LevelReads S left PartReads t) (λ s. StopBy S left PartReads PartStops t b inside s) b (read_by S left read t inside b)
   level_told true is = rw is (one_told (form_of S t.base) is refl)
   level_told false is = rw is (many_told is)
 

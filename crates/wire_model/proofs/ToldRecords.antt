@@ -1,5 +1,5 @@
 -- What reading a parcelable answers is a reading of a front, or the stop.
-use Rattle.std.proofs.Common.{◌≡◌, ◌≢◌, ℕ, suc, ◌+◌, ◌-◌, ◌%◌, ◌<◌, ◌≤◌, ◌^◌, ℤ, pos, negsuc, Bool, true, false, ◌&&◌, ◌==◌, cond, nat_lt, nat_le, List, [], ◌∷◌, ◌++◌, length, take, drop, Some, slice_get, Ok, Err, Result, inl, inr, refl, sym, ap, ◌∙◌, subst, arith, append_assoc}
+use Rattle.std.proofs.Common.{◌≡◌, ℕ, suc, ◌+◌, ◌-◌, ◌%◌, ◌<◌, ◌≤◌, ◌^◌, ℤ, pos, negsuc, Bool, true, false, ◌&&◌, ◌==◌, cond, nat_lt, nat_le, List, [], ◌∷◌, ◌++◌, length, take, drop, Ok, Err, Result, inl, inr, refl, sym, ap, ◌∙◌, subst, arith, append_assoc}
 use Rattle.std.specs.Prelude.{FitsSigned}
 use Rattle.std.specs.Int.{w32}
 use Rattle.std.proofs.lemmas.List.{take-append-drop}
@@ -14,14 +14,15 @@ use Rattle.aidl_schema.specs.Types.{is_type}
 use Rattle.aidl_values.specs.Data.{Data, null, rec, Items, none, item}
 use Rattle.aidl_values.specs.HasType.{HasType, FieldsHaveType}
 use Rattle.aidl_values.specs.Sound.{AreTypes, HaveDefaults, initial_in}
+use Rattle.wire_model.specs.Stop.{Stoppings, first_word, after_word, MarkerStop, HasSize, SizeStop, FieldsStop, RecordStop, fields_bytes}
+use Rattle.wire_model.specs.Reads.{Readings, BodyReads, FieldsRead}
 use Rattle.wire_model.specs.Status.{bad_value}
-use Rattle.wire_model.specs.Reads.{BodyReads, FieldsRead}
-use Rattle.wire_model.specs.Stop.{first_word, after_word, MarkerStop, HasSize, SizeStop, FieldsStop, RecordStop, fields_bytes}
-use Rattle.wire_model.specs.ReadOf.{Read, ◌>>=◌, marker_at, marked_at, bytes_at, fields_at, size_of, body_at, body_value_at, record_at}
+use Rattle.wire_model.specs.ReadOf.{Read, marker_at, marked_at, bytes_at, fields_at, size_of, body_at, body_value_at, record_at}
 use Rattle.wire_model.proofs.Lists.{both, take_len, IsBytes, taken, dropped, bytes_rest}
 use Rattle.wire_model.proofs.Told.{Told, told_then, spells_word, word_fits, MarkerReads, marker_told, begins, tail_word}
 use Rattle.wire_model.proofs.Defaults.{initials_in, are_initial, initials_typed}
 use Rattle.wire_model.proofs.Stopped.{after_len, a_size}
+use Rattle.wire_model.proofs.Steps.{then_inner, then_fields, then_others, with_field, then_rec}
 
 -- a size word, the bytes that it counts, and the rest
 abbrev pub BodySplit : List ℕ → List ℕ → List ℕ → Type 0
@@ -32,7 +33,8 @@ BodyTold b inside (Ok x) = BodySplit b x.0 x.1
 BodyTold b inside (Err s) = SizeStop b inside s
 
 module _ (inside : Bool) (b : List ℕ) (bytes : IsBytes b) where
-  split_told : (z : ℕ) → HasSize z b → (short : Bool) → nat_lt (length (after_word b)) (z - 4) ≡ short → BodyTold b inside (bytes_at (z - 4) inside (after_word b))
+  split_told : (z : ℕ) → HasSize z b → (short : Bool) → nat_lt (length (after_word b)) (z - 4) ≡ short
+      → BodyTold b inside (bytes_at (z - 4) inside (after_word b))
   split_told z size true is =
       let lt : length (after_word b) < z - 4 = ltb-true _ _ is in
       let four = size.1 in
@@ -54,11 +56,12 @@ module _ (inside : Bool) (b : List ℕ) (bytes : IsBytes b) where
       ∙ ap (λ h. (h ++ inner) ++ drop (z - 4) (after_word b)) (sym head) in
       rw is (z, size, omega (arith, after_len b le), refl, split, omega arith, omega arith)
 
-  size_told : (w : ℤ) → 4 ≤ length b → first_word b ≡ w → BodyTold b inside (size_of w >>= λ z. bytes_at (z - 4) inside (after_word b))
+  size_told : (w : ℤ) → 4 ≤ length b → first_word b ≡ w → BodyTold b inside (then_inner inside (after_word b) (size_of w))
   size_told (negsuc z) le e = SizeStop.no_size le (λ y size. let w : ◌≡◌ {A = ℤ} (negsuc z) (pos y) = sym e ∙ size.0.1 in absurd cc)
   size_told (pos z) le e = by_test (nat_le 4 z && (z % 4 == 0)) refl
     where
-      by_test : (t : Bool) → (nat_le 4 z && (z % 4 == 0)) ≡ t → BodyTold b inside (cond (nat_le 4 z && (z % 4 == 0)) (Ok z) (Err bad_value) >>= λ z. bytes_at (z - 4) inside (after_word b))
+      by_test : (t : Bool) → (nat_le 4 z && (z % 4 == 0)) ≡ t
+          → BodyTold b inside (then_inner inside (after_word b) (cond (nat_le 4 z && (z % 4 == 0)) (Ok z) (Err bad_value)))
       by_test true is =
           let two = both (nat_le 4 z) (z % 4 == 0) is in
           let four : 4 ≤ z = grind (arith, nat_tests, two.0) in
@@ -81,41 +84,44 @@ module _ (inside : Bool) (b : List ℕ) (bytes : IsBytes b) where
   body_told false e = let le : 4 ≤ length b = ltb-false _ _ e in rw e (size_told (first_word b) le refl)
 
 -- the fields of a record whose bytes these are
-abbrev pub FieldsTold : List Decl → (AidlType → List ℕ → Data → Type 0) → (AidlType → List ℕ → Bool → ℤ → Type 0) → List Field → List ℕ → Result Items ℤ → Type 0
+abbrev pub FieldsTold : List Decl → Readings → Stoppings → List Field → List ℕ → Result Items ℤ → Type 0
 FieldsTold S PartReads PartStops fs b (Ok vs) = FieldsRead S PartReads fs b vs × FieldsHaveType S fs vs
 FieldsTold S PartReads PartStops fs b (Err s) = FieldsStop fs PartReads PartStops b s
 
-module _ (S : List Decl) (PartReads : AidlType → List ℕ → Data → Type 0) (PartStops : AidlType → List ℕ → Bool → ℤ → Type 0) (read : AidlType → List ℕ → Read Data)
+module _ (S : List Decl) (PartReads : Readings) (PartStops : Stoppings) (read : AidlType → List ℕ → Read Data)
     (typed : (t : AidlType) (c : List ℕ) (v : Data) → PartReads t c v → HasType S t v)
     (law : (t : AidlType) (c : List ℕ) → is_type S t ≡ true → IsBytes c → Told (PartReads t) (λ s. PartStops t c true s) c (read t c)) where
   at_end : (fs : List Field) → fields_at (λ f. initial_in S f) read fs [] ≡ Ok (initials_in S fs)
   at_end [] = refl
-  at_end (f ∷ fs) = ap (λ (y : Result Items ℤ). y >>= λ others. Ok (item (initial_in S f) others)) (at_end fs)
+  at_end (f ∷ fs) = ap (with_field (initial_in S f)) (at_end fs)
 
-  later : (f : Field) (fs : List Field) (b front rest : List ℕ) (v : Data) → b ≡ front ++ rest → PartReads f.ty front v → (y : Result Items ℤ) → FieldsTold S PartReads PartStops fs rest y → FieldsTold S PartReads PartStops (f ∷ fs) b (y >>= λ others. Ok (item v others))
+  later : (f : Field) (fs : List Field) (b front rest : List ℕ) (v : Data) → b ≡ front ++ rest → PartReads f.ty front v → (y : Result Items ℤ)
+      → FieldsTold S PartReads PartStops fs rest y → FieldsTold S PartReads PartStops (f ∷ fs) b (with_field v y)
   later f fs b front rest v e h (Ok vs) k = (inr (front, rest, e, h, k.0), (typed f.ty front v h, k.1))
   later f fs b front rest v e h (Err s) (FieldsStop.at_field i g at vs front' rest' e' there left stop) =
       FieldsStop.at_field (suc i) g at (item v vs) (front ++ front') rest' (e ∙ ap (λ c. front ++ c) e' ∙ sym (append_assoc front front' rest')) (front, front', refl, h, there) left stop
 
-  pub fields_told : (fs : List Field) (b : List ℕ) → IsBytes b → AreTypes S fs → HaveDefaults S fs → FieldsTold S PartReads PartStops fs b (fields_at (λ f. initial_in S f) read fs b)
+  pub fields_told : (fs : List Field) (b : List ℕ) → IsBytes b → AreTypes S fs → HaveDefaults S fs
+      → FieldsTold S PartReads PartStops fs b (fields_at (λ f. initial_in S f) read fs b)
   fields_told [] b bytes types all = (tt, tt)
   fields_told (f ∷ fs) [] bytes types all =
       subst (λ y. FieldsTold S PartReads PartStops (f ∷ fs) [] y) (sym (at_end (f ∷ fs))) (inl (refl, are_initial S (f ∷ fs) all), initials_typed S (f ∷ fs) all)
   fields_told (f ∷ fs) (x ∷ b) bytes types all =
       one_told (read f.ty (x ∷ b)) (law f.ty (x ∷ b) types.0 bytes) (λ c h. fields_told fs c h types.1 all.1)
     where
-      one_told : (y : Read Data) → Told (PartReads f.ty) (λ s. PartStops f.ty (x ∷ b) true s) (x ∷ b) y → ((c : List ℕ) → IsBytes c → FieldsTold S PartReads PartStops fs c (fields_at (λ f. initial_in S f) read fs c))
-          → FieldsTold S PartReads PartStops (f ∷ fs) (x ∷ b) (y >>= λ first. fields_at (λ f. initial_in S f) read fs first.1 >>= λ others. Ok (item first.0 others))
+      one_told : (y : Read Data) → Told (PartReads f.ty) (λ s. PartStops f.ty (x ∷ b) true s) (x ∷ b) y
+          → ((c : List ℕ) → IsBytes c → FieldsTold S PartReads PartStops fs c (fields_at (λ f. initial_in S f) read fs c))
+          → FieldsTold S PartReads PartStops (f ∷ fs) (x ∷ b) (then_others (λ f. initial_in S f) read fs y)
       one_told (Ok y) h ih = later f fs (x ∷ b) h.0 y.1 y.0 h.1 h.2 (fields_at (λ f. initial_in S f) read fs y.1) (ih y.1 (bytes_rest h.0 y.1 (subst IsBytes h.1 bytes)))
       one_told (Err s) h ih = FieldsStop.at_field 0 f refl none [] (x ∷ b) refl refl (λ k. absurd cc) h
 
 -- what is read at a record's place; `left` says that a level is left
-abbrev pub RecordReads : Bool → List Decl → (AidlType → List ℕ → Data → Type 0) → Bool → List Field → List ℕ → Data → Type 0
+abbrev pub RecordReads : Bool → List Decl → Readings → Bool → List Field → List ℕ → Data → Type 0
 RecordReads left S PartReads nullable fs front null = (nullable ≡ true) × (front ≡ word (pos 0))
 RecordReads left S PartReads nullable fs front (rec vs) = (left ≡ true) × (rest : List ℕ) × (front ≡ word (pos 1) ++ rest) × BodyReads S PartReads fs rest vs × FieldsHaveType S fs vs
 RecordReads left S PartReads nullable fs front _ = ⊥
 
-module _ (left : Bool) (S : List Decl) (PartReads : AidlType → List ℕ → Data → Type 0) (PartStops : AidlType → List ℕ → Bool → ℤ → Type 0) (read : AidlType → Bool → List ℕ → Read Data)
+module _ (left : Bool) (S : List Decl) (PartReads : Readings) (PartStops : Stoppings) (read : AidlType → Bool → List ℕ → Read Data)
     (typed : (t : AidlType) (c : List ℕ) (v : Data) → PartReads t c v → HasType S t v)
     (law : left ≡ true → (t : AidlType) (j : Bool) (c : List ℕ) → is_type S t ≡ true → IsBytes c → Told (PartReads t) (λ s. PartStops t c j s) c (read t j c))
     (nullable inside : Bool) (fs : List Field) (types : AreTypes S fs) (b : List ℕ) (bytes : IsBytes b) where
@@ -124,7 +130,7 @@ module _ (left : Bool) (S : List Decl) (PartReads : AidlType → List ℕ → Da
 
   -- after the marker 1
   there_told : (rest : List ℕ) (has : left ≡ true) (all : HaveDefaults S fs) → b ≡ word (pos 1) ++ rest → (y : Read (List ℕ)) → BodyTold rest inside y
-      → Told (RecordReads left S PartReads nullable fs) (λ s. RecordStop left nullable fs PartReads PartStops b inside s) b (y >>= λ inner. fields_at (λ f. initial_in S f) (λ u c. read u true c) fs inner.0 >>= λ vs. Ok (rec vs, inner.1))
+      → Told (RecordReads left S PartReads nullable fs) (λ s. RecordStop left nullable fs PartReads PartStops b inside s) b (then_fields (λ f. initial_in S f) (λ u c. read u true c) fs y)
   there_told rest has all e (Err s) h =
       RecordStop.at_size (begins b rest 1 one e) has (subst (λ c. SizeStop c inside s) (sym (tail_word b rest 1 one e)) h)
   there_told rest has all e (Ok y) h =
@@ -136,7 +142,8 @@ module _ (left : Bool) (S : List Decl) (PartReads : AidlType → List ℕ → Da
       inner_bytes : IsBytes y.0
       inner_bytes = subst IsBytes (sym h.3) (taken (h.0 - 4) (after_word rest) (dropped 4 rest rest_bytes))
 
-      by_fields : (x : Result Items ℤ) → FieldsTold S PartReads PartStops fs y.0 x → Told (RecordReads left S PartReads nullable fs) (λ s. RecordStop left nullable fs PartReads PartStops b inside s) b (x >>= λ vs. Ok (rec vs, y.1))
+      by_fields : (x : Result Items ℤ) → FieldsTold S PartReads PartStops fs y.0 x
+          → Told (RecordReads left S PartReads nullable fs) (λ s. RecordStop left nullable fs PartReads PartStops b inside s) b (then_rec y.1 x)
       by_fields (Ok vs) k =
           let front = word (pos (4 + length y.0)) ++ y.0 in
           (word (pos 1) ++ front, e ∙ ap (λ c. word (pos 1) ++ c) h.4, (has, front, refl, (y.0, refl, h.5, h.6, k.0), k.1))
@@ -145,7 +152,8 @@ module _ (left : Bool) (S : List Decl) (PartReads : AidlType → List ℕ → Da
           RecordStop.at_fields (begins b rest 1 one e) has h.0 (subst (λ c. HasSize h.0 c) tail h.1) (subst (λ c. h.0 ≤ length c) tail h.2)
           (subst (λ c. FieldsStop fs PartReads PartStops c s) (h.3 ∙ ap (fields_bytes h.0) tail) k)
 
-  pub record_told : HaveDefaults S fs → Told (RecordReads left S PartReads nullable fs) (λ s. RecordStop left nullable fs PartReads PartStops b inside s) b (record_at left nullable (λ f. initial_in S f) (λ u c. read u true c) fs inside b)
+  pub record_told : HaveDefaults S fs
+      → Told (RecordReads left S PartReads nullable fs) (λ s. RecordStop left nullable fs PartReads PartStops b inside s) b (record_at left nullable (λ f. initial_in S f) (λ u c. read u true c) fs inside b)
   unfolding record_at body_value_at
   record_told all = told_then (MarkerReads nullable) (RecordReads left S PartReads nullable fs) (λ s. MarkerStop nullable b inside s) (λ s. RecordStop left nullable fs PartReads PartStops b inside s) b
       (λ m. marked_at left (λ c. body_value_at (λ f. initial_in S f) (λ u c. read u true c) fs inside c) m.0 m.1) (marker_at nullable inside b)

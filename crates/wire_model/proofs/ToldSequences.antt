@@ -14,25 +14,28 @@ use Rattle.wire_model.specs.Spell.{raw_bytes}
 use Rattle.wire_model.specs.Status.{bad_value}
 use Rattle.wire_model.specs.Reads.{EachReads}
 use Rattle.wire_model.specs.Stop.{after_word, BlockStop, IsPadded, CountStop, ElementsStop, SequenceStop}
-use Rattle.wire_model.specs.ReadOf.{Read, ◌>>=◌, all_zero, raw_items, raw_at, items_at, count_at, elements_at, sequence_at}
+use Rattle.wire_model.specs.ReadOf.{Read, all_zero, raw_items, raw_at, items_at, count_at, elements_at, sequence_at}
 use Rattle.wire_model.proofs.Lists.{take_len, IsBytes, taken, bytes_rest}
 use Rattle.wire_model.proofs.Forms.{raw_form}
 use Rattle.wire_model.proofs.RawForms.{padded_is, zero_padding, bytes_of_items, count_of_items, items_typed}
 use Rattle.wire_model.proofs.Told.{Told, told_then, CountReads, count_told, begins, tail_word}
+use Rattle.wire_model.proofs.Steps.{then_items, with_item, then_seq}
 
 module _ (PartReads : List ℕ → Data → Type 0) (PartStops : List ℕ → ℤ → Type 0) (read : List ℕ → Read Data) (law : (b : List ℕ) → IsBytes b → Told PartReads (λ s. PartStops b s) b (read b)) where
   abbrev pub CountRead : ℕ → List ℕ → Items → Type 0
   CountRead n front vs = (count vs ≡ n) × EachReads PartReads front vs
 
-  later : (n : ℕ) (v : Data) (front rest b : List ℕ) → b ≡ front ++ rest → PartReads front v → (y : Read Items) → Told (CountRead n) (λ s. ElementsStop PartReads PartStops n rest s) rest y
-      → Told (CountRead (suc n)) (λ s. ElementsStop PartReads PartStops (suc n) b s) b (y >>= λ others. Ok (item v others.0, others.1))
+  later : (n : ℕ) (v : Data) (front rest b : List ℕ) → b ≡ front ++ rest → PartReads front v → (y : Read Items)
+      → Told (CountRead n) (λ s. ElementsStop PartReads PartStops n rest s) rest y
+      → Told (CountRead (suc n)) (λ s. ElementsStop PartReads PartStops (suc n) b s) b (with_item v y)
   later n v front rest b e here (Ok x) h =
       (front ++ h.0, e ∙ ap (λ c. front ++ c) h.1 ∙ sym (append_assoc front h.0 x.1), (ap suc h.2.0, (front, h.0, refl, here, h.2.1)))
   later n v front rest b e here (Err s) (ElementsStop.at_element vs lt front' rest' e' each stop) =
       ElementsStop.at_element (item v vs) (omega arith) (front ++ front') rest' (e ∙ ap (λ c. front ++ c) e' ∙ sym (append_assoc front front' rest')) (front, front', refl, here, each) stop
 
-  first_told : (n : ℕ) (b : List ℕ) → IsBytes b → (x : Read Data) → Told PartReads (λ s. PartStops b s) b x → ((c : List ℕ) → IsBytes c → Told (CountRead n) (λ s. ElementsStop PartReads PartStops n c s) c (items_at read n c))
-      → Told (CountRead (suc n)) (λ s. ElementsStop PartReads PartStops (suc n) b s) b (x >>= λ first. items_at read n first.1 >>= λ others. Ok (item first.0 others.0, others.1))
+  first_told : (n : ℕ) (b : List ℕ) → IsBytes b → (x : Read Data) → Told PartReads (λ s. PartStops b s) b x
+      → ((c : List ℕ) → IsBytes c → Told (CountRead n) (λ s. ElementsStop PartReads PartStops n c s) c (items_at read n c))
+      → Told (CountRead (suc n)) (λ s. ElementsStop PartReads PartStops (suc n) b s) b (then_items read n x)
   first_told n b bytes (Ok x) h ih = later n x.0 h.0 x.1 b h.1 h.2 (items_at read n x.1) (ih x.1 (bytes_rest h.0 x.1 (subst IsBytes h.1 bytes)))
   first_told n b bytes (Err s) h ih = ElementsStop.at_element none (omega arith) [] b refl refl h
 
@@ -60,7 +63,8 @@ module _ (S : List Decl) (t : AidlType) (byte : form_of S t.base ≡ form.byte) 
       wrong : all_zero (drop n (take (n + padding n) b)) ≡ true → ⊥
       wrong e = let both_ways : ◌≡◌ {A = Bool} true false = sym e ∙ is in absurd (true≢false both_ways)
 
-  pub raw_told : (short : Bool) → nat_lt (length b) (n + padding n) ≡ short → Told (RawRead S t n) (λ s. BlockStop (n + padding n) (IsPadded n) b inside s) b (raw_at n inside b)
+  pub raw_told : (short : Bool) → nat_lt (length b) (n + padding n) ≡ short
+      → Told (RawRead S t n) (λ s. BlockStop (n + padding n) (IsPadded n) b inside s) b (raw_at n inside b)
   unfolding raw_at
   raw_told true is = rw is (BlockStop.long_block (ltb-true _ _ is))
   raw_told false is = rw is (block_told (ltb-false _ _ is) (all_zero (drop n (take (n + padding n) b))) refl)
@@ -72,7 +76,8 @@ SequenceReads left S t PartReads front (seq vs) = (left ≡ true) × (count vs <
     × MatchBool (is_raw S t) (rest ≡ pad (raw_bytes vs)) (EachReads PartReads rest vs)
 SequenceReads left S t PartReads front _ = ⊥
 
-read_types : (S : List Decl) (u : AidlType) (PartReads : List ℕ → Data → Type 0) → ((c : List ℕ) (v : Data) → PartReads c v → HasType S u v) → (vs : Items) (b : List ℕ) → EachReads PartReads b vs → HaveType S u vs
+read_types : (S : List Decl) (u : AidlType) (PartReads : List ℕ → Data → Type 0) → ((c : List ℕ) (v : Data) → PartReads c v → HasType S u v)
+    → (vs : Items) (b : List ℕ) → EachReads PartReads b vs → HaveType S u vs
 read_types S u PartReads typed none b h = tt
 read_types S u PartReads typed (item v vs) b h = (typed h.0 v h.3, read_types S u PartReads typed vs h.1 h.4)
 
@@ -88,7 +93,8 @@ module _ (left : Bool) (S : List Decl) (t : AidlType) (PartReads : List ℕ → 
     tail : rest ≡ after_word b
     tail = sym (tail_word b rest n lt e)
 
-    raw_outcome : is_raw S t ≡ true → (y : Read Items) → Told (RawRead S t n) (λ s. BlockStop (n + padding n) (IsPadded n) rest inside s) rest y → Outcome (y >>= λ vs. Ok (seq vs.0, vs.1))
+    raw_outcome : is_raw S t ≡ true → (y : Read Items) → Told (RawRead S t n) (λ s. BlockStop (n + padding n) (IsPadded n) rest inside s) rest y
+        → Outcome (then_seq y)
     raw_outcome raw (Ok x) h = (
       word (pos n) ++ h.0,
       e ∙ ap (λ c. word (pos n) ++ c) h.1,
@@ -97,7 +103,8 @@ module _ (left : Bool) (S : List Decl) (t : AidlType) (PartReads : List ℕ → 
     raw_outcome raw (Err s) h =
         SequenceStop.at_bytes n (begins b rest n lt e) has raw (subst (λ c. BlockStop (n + padding n) (IsPadded n) c inside s) tail h)
 
-    items_outcome : is_raw S t ≡ false → (y : Read Items) → Told (CountRead PartReads PartStops read (law has) n) (λ s. ElementsStop PartReads PartStops n rest s) rest y → Outcome (y >>= λ vs. Ok (seq vs.0, vs.1))
+    items_outcome : is_raw S t ≡ false → (y : Read Items)
+        → Told (CountRead PartReads PartStops read (law has) n) (λ s. ElementsStop PartReads PartStops n rest s) rest y → Outcome (then_seq y)
     items_outcome apart (Ok x) h = (
       word (pos n) ++ h.0,
       e ∙ ap (λ c. word (pos n) ++ c) h.1,
@@ -106,7 +113,7 @@ module _ (left : Bool) (S : List Decl) (t : AidlType) (PartReads : List ℕ → 
     items_outcome apart (Err s) h =
         SequenceStop.at_elements n (begins b rest n lt e) has apart (subst (λ c. ElementsStop PartReads PartStops n c s) tail h)
 
-    parts_told : IsBytes rest → (raw : Bool) → is_raw S t ≡ raw → Outcome ((cond raw (raw_at n inside rest) (items_at read n rest)) >>= λ vs. Ok (seq vs.0, vs.1))
+    parts_told : IsBytes rest → (raw : Bool) → is_raw S t ≡ raw → Outcome (then_seq (cond raw (raw_at n inside rest) (items_at read n rest)))
     parts_told rest_bytes true is = raw_outcome is (raw_at n inside rest) (raw_told S t (raw_form S t is) n inside rest rest_bytes (nat_lt (length rest) (n + padding n)) refl)
     parts_told rest_bytes false is = items_outcome is (items_at read n rest) (items_told PartReads PartStops read (law has) n rest rest_bytes)
 
@@ -116,7 +123,8 @@ module _ (left : Bool) (S : List Decl) (t : AidlType) (PartReads : List ℕ → 
       (λ n. elements_at left (is_raw S t) read inside n.0 n.1) (count_at t.nullable inside b)
       (count_told t.nullable inside b bytes (nat_lt (length b) 4) refl) (λ s h. SequenceStop.at_count h) (λ o front rest e h. by_count o front rest e h)
     where
-      by_count : (o : Option ℕ) (front rest : List ℕ) → b ≡ front ++ rest → CountReads t.nullable front o → Outcome (elements_at left (is_raw S t) read inside o rest)
+      by_count : (o : Option ℕ) (front rest : List ℕ) → b ≡ front ++ rest → CountReads t.nullable front o
+          → Outcome (elements_at left (is_raw S t) read inside o rest)
       by_count None front rest e h = (front, e, h)
       by_count (Some n) front rest e h = by_level left refl (e ∙ ap (λ c. c ++ rest) h.1) (bytes_rest front rest (subst IsBytes e bytes))
         where

@@ -72,6 +72,7 @@ module _ (nullable inside : Bool) (b : List ℕ) (bytes : IsBytes b) where
   text_told = told_then (CountReads nullable) (TextReads nullable) (λ s. CountStop nullable b inside s) (λ s. TextStop nullable b inside s) b (λ n. text_block_at inside n.0 n.1) (count_at nullable inside b)
       (count_told nullable inside b bytes (nat_lt (length b) 4) refl) (λ s h. TextStop.at_count h) (λ o front rest e h. by_count o front rest e h)
     where
-      by_count : (o : Option ℕ) (front rest : List ℕ) → b ≡ front ++ rest → CountReads nullable front o → Told (TextReads nullable) (λ s. TextStop nullable b inside s) b (text_block_at inside o rest)
+      by_count : (o : Option ℕ) (front rest : List ℕ) → b ≡ front ++ rest → CountReads nullable front o
+          → Told (TextReads nullable) (λ s. TextStop nullable b inside s) b (text_block_at inside o rest)
       by_count None front rest e h = (front, e, h)
       by_count (Some n) front rest e h = block_told n rest h.0 (e ∙ ap (λ c. c ++ rest) h.1) (nat_lt (length rest) (block_len n)) refl

@@ -9,15 +9,17 @@ use Rattle.aidl_schema.specs.declared.schema.AidlType.{AidlType}
 use Rattle.aidl_schema.specs.Types.{is_type}
 use Rattle.aidl_values.specs.Data.{Data, null, alt}
 use Rattle.aidl_values.specs.Sound.{AreTypes}
+use Rattle.wire_model.specs.Stop.{Stoppings, first_word, after_word, Begins, MarkerStop, TagStop, UnionStop}
+use Rattle.wire_model.specs.Reads.{Readings}
 use Rattle.wire_model.specs.Status.{bad_value, past}
-use Rattle.wire_model.specs.Stop.{first_word, after_word, Begins, MarkerStop, TagStop, UnionStop}
-use Rattle.wire_model.specs.ReadOf.{Read, ◌>>=◌, marker_at, marked_at, tag_of, tag_at, ok_field, tagged_at, union_at}
+use Rattle.wire_model.specs.ReadOf.{Read, ◌>>=◌, marker_at, marked_at, tag_of, tag_at, tagged_at, union_at}
 use Rattle.wire_model.proofs.Lists.{IsBytes, dropped, bytes_rest}
 use Rattle.wire_model.proofs.Sound.{field_type}
 use Rattle.wire_model.proofs.Told.{Told, told_then, spells_word, MarkerReads, marker_told, begins, tail_word}
+use Rattle.wire_model.proofs.Steps.{then_alternative, then_field, with_tag}
 
 -- what is read at a union's place; `left` says that a level is left
-abbrev pub UnionReads : Bool → (AidlType → List ℕ → Data → Type 0) → Bool → List Field → List ℕ → Data → Type 0
+abbrev pub UnionReads : Bool → Readings → Bool → List Field → List ℕ → Data → Type 0
 UnionReads left PartReads nullable fs front null = (nullable ≡ true) × (front ≡ word (pos 0))
 UnionReads left PartReads nullable fs front (alt k v) = (left ≡ true) × (f : Field) × (slice_get fs k ≡ Some f) × (rest : List ℕ) × (front ≡ word (pos 1) ++ word (pos k) ++ rest) × PartReads f.ty rest v
 UnionReads left PartReads nullable fs front _ = ⊥
@@ -27,14 +29,11 @@ past_end [] k e = omega arith
 past_end (f ∷ fs) zero e = absurd cc
 past_end (f ∷ fs) (suc k) e = omega (arith, past_end fs k e)
 
-module _ (left : Bool) (S : List Decl) (PartReads : AidlType → List ℕ → Data → Type 0) (PartStops : AidlType → List ℕ → Bool → ℤ → Type 0) (read : AidlType → Bool → List ℕ → Read Data)
+module _ (left : Bool) (S : List Decl) (PartReads : Readings) (PartStops : Stoppings) (read : AidlType → Bool → List ℕ → Read Data)
     (law : left ≡ true → (t : AidlType) (j : Bool) (c : List ℕ) → is_type S t ≡ true → IsBytes c → Told (PartReads t) (λ s. PartStops t c j s) c (read t j c))
     (nullable inside : Bool) (fs : List Field) (types : AreTypes S fs) (b : List ℕ) (bytes : IsBytes b) where
   abbrev Outcome : Read Data → Type 0
   Outcome = λ x. Told (UnionReads left PartReads nullable fs) (λ s. UnionStop left nullable fs PartStops b inside s) b x
-
-  abbrev by_tag : Read ℕ → Read Data
-  by_tag x = x >>= λ k. ok_field (slice_get fs k.0) >>= λ f. read f.ty inside k.1 >>= λ v. Ok (alt k.0 v.0, v.1)
 
   one : 1 < 2 ^ 31
   one = omega arith
@@ -45,8 +44,9 @@ module _ (left : Bool) (S : List Decl) (PartReads : AidlType → List ℕ → Da
     tail = sym (tail_word b rest 1 one e)
 
     -- the field of the tag k
-    value_told : (k : ℕ) (f : Field) → 4 ≤ length rest → first_word rest ≡ pos k → slice_get fs k ≡ Some f → (x : Read Data) → Told (PartReads f.ty) (λ s. PartStops f.ty (after_word rest) inside s) (after_word rest) x
-        → Outcome (x >>= λ v. Ok (alt k v.0, v.1))
+    value_told : (k : ℕ) (f : Field) → 4 ≤ length rest → first_word rest ≡ pos k → slice_get fs k ≡ Some f → (x : Read Data)
+        → Told (PartReads f.ty) (λ s. PartStops f.ty (after_word rest) inside s) (after_word rest) x
+        → Outcome (with_tag k x)
     value_told k f le is at (Ok x) h =
         let spelled : word (pos k) ≡ take 4 rest = ap word (sym is) ∙ spells_word rest rest_bytes le in
         let split : rest ≡ word (pos k) ++ (h.0 ++ x.1) = sym (take-append-drop 4 rest) ∙ ap (λ c. take 4 rest ++ c) h.1 ∙ ap (λ w. w ++ (h.0 ++ x.1)) (sym spelled) in
@@ -60,11 +60,12 @@ module _ (left : Bool) (S : List Decl) (PartReads : AidlType → List ℕ → Da
         UnionStop.at_tag (begins b rest 1 one e) has (subst (λ c. TagStop fs c inside bad_value) tail (TagStop.no_tag le none))
 
     field_told : (k : ℕ) → 4 ≤ length rest → first_word rest ≡ pos k → (o : Option Field) → slice_get fs k ≡ o
-        → Outcome (ok_field o >>= λ f. read f.ty inside (after_word rest) >>= λ v. Ok (alt k v.0, v.1))
+        → Outcome (then_field (λ u c. read u inside c) k (after_word rest) o)
     field_told k le is None at = no_tag le (λ j j_is. let same : ◌≡◌ {A = ℤ} (pos k) (pos j) = sym is ∙ j_is in let k_is : k ≡ j = cc in subst (λ i. length fs ≤ i) k_is (past_end fs k at))
     field_told k le is (Some f) at = value_told k f le is at (read f.ty inside (after_word rest)) (law has f.ty inside (after_word rest) (field_type S fs k f types at) (dropped 4 rest rest_bytes))
 
-    word_told : (w : ℤ) → 4 ≤ length rest → first_word rest ≡ w → Outcome (by_tag (tag_of w >>= λ k. Ok (k, after_word rest)))
+    word_told : (w : ℤ) → 4 ≤ length rest → first_word rest ≡ w
+        → Outcome (then_alternative (λ u c. read u inside c) fs (tag_of w >>= λ k. Ok (k, after_word rest)))
     word_told (negsuc k) le is = no_tag le (λ j j_is. let same : ◌≡◌ {A = ℤ} (negsuc k) (pos j) = sym is ∙ j_is in absurd cc)
     word_told (pos k) le is = field_told k le is (slice_get fs k) refl
 
@@ -79,10 +80,12 @@ module _ (left : Bool) (S : List Decl) (PartReads : AidlType → List ℕ → Da
       (λ m. marked_at left (λ c. tagged_at (λ u c. read u inside c) fs inside c) m.0 m.1) (marker_at nullable inside b)
       (marker_told nullable inside b bytes (nat_lt (length b) 4) refl) (λ s h. UnionStop.at_marker h) (λ m front rest e h. by_marker m front rest e h)
     where
-      by_marker : (m : Bool) (front rest : List ℕ) → b ≡ front ++ rest → MarkerReads nullable front m → Outcome (marked_at left (λ c. tagged_at (λ u c. read u inside c) fs inside c) m rest)
+      by_marker : (m : Bool) (front rest : List ℕ) → b ≡ front ++ rest → MarkerReads nullable front m
+          → Outcome (marked_at left (λ c. tagged_at (λ u c. read u inside c) fs inside c) m rest)
       by_marker false front rest e h = (front, e, h)
       by_marker true front rest e h = by_level left refl rest (e ∙ ap (λ c. c ++ rest) h) (bytes_rest front rest (subst IsBytes e bytes))
         where
-          by_level : (l : Bool) → left ≡ l → (rest : List ℕ) → b ≡ word (pos 1) ++ rest → IsBytes rest → Outcome (marked_at l (λ c. tagged_at (λ u c. read u inside c) fs inside c) true rest)
+          by_level : (l : Bool) → left ≡ l → (rest : List ℕ) → b ≡ word (pos 1) ++ rest → IsBytes rest
+              → Outcome (marked_at l (λ c. tagged_at (λ u c. read u inside c) fs inside c) true rest)
           by_level false has rest split rest_bytes = UnionStop.too_deep (begins b rest 1 one split) has refl
           by_level true has rest split rest_bytes = there_told has rest split rest_bytes (nat_lt (length rest) 4) refl

@@ -83,7 +83,8 @@ all_zero bs = list_all (λ x. x == 0) bs
 -- the text of a block of n units, if it is of the form: well-formed UTF-16, and zeros after it
 unfoldable pub text_of : ℕ → List ℕ → Option (List ℕ)
 text_of n bytes = let us = units_of (take (2 * n) bytes) in
-    if has_unpaired_surrogate us then None else (if all_zero (drop (2 * n) bytes) then Some (chars (encode_utf8_all (utf16_lossy_chars us))) else None)
+    if has_unpaired_surrogate us then None
+    else (if all_zero (drop (2 * n) bytes) then Some (chars (encode_utf8_all (utf16_lossy_chars us))) else None)
 
 abbrev pub ok_text : Option (List ℕ) → List ℕ → Read Data
 ok_text None rest = Err bad_value

@@ -1,4 +1,5 @@
--- Which bytes are a reading of which value (own, the strict profile). S is the schema's declarations, d the composite levels left, t the type.
+-- Which bytes are a reading of which value (own, the strict profile).
+-- S is the schema's declarations, d the composite levels left, t the type.
 use Rattle.std.specs.Prelude.{◌≡◌, ℕ, zero, suc, ◌+◌, ◌%◌, ◌^◌, ◌<◌, pos, List, [], ◌∷◌, ◌++◌, length, Some, slice_get, ◌⊎◌, MatchBool}
 use Rattle.aidl_base.specs.Words.{word, pad, units}
 use Rattle.aidl_schema.specs.declared.schema.Decl.{Decl}
@@ -30,7 +31,8 @@ FieldsRead S PartReads (f ∷ fs) b (item v vs) = ((b ≡ []) × AreInitial S (f
 
 -- a record's body: a size, a multiple of 4 below 2 ^ 31, and as many bytes, the size word counted
 abbrev pub BodyReads : List Decl → Readings → List Field → List ℕ → Items → Type 0
-BodyReads S PartReads fs b vs = (inner : List ℕ) × (b ≡ word (pos (4 + length inner)) ++ inner) × (length inner % 4 ≡ 0) × (4 + length inner < 2 ^ 31) × FieldsRead S PartReads fs inner vs
+BodyReads S PartReads fs b vs = (inner : List ℕ) × (b ≡ word (pos (4 + length inner)) ++ inner)
+    × (length inner % 4 ≡ 0) × (4 + length inner < 2 ^ 31) × FieldsRead S PartReads fs inner vs
 
 -- The bytes b are one reading of the value. What has parts needs a level, and its parts are read with one less.
 abbrev pub Reads : List Decl → ℕ → AidlType → List ℕ → Data → Type 0
@@ -45,8 +47,8 @@ Reads S (suc d) t b (seq vs) = HasType S t (seq vs) × (count vs < 2 ^ 31) × (r
     × MatchBool (is_raw S t) (rest ≡ pad (raw_bytes vs)) (EachReads (λ front v. Reads S d (elem S t) front v) rest vs)
 Reads S (suc d) t b (rec vs) = HasType S t (rec vs) × (fs : List Field) × (form_of S t.base ≡ form.parcelable fs)
     × (rest : List ℕ) × (b ≡ word (pos 1) ++ rest) × BodyReads S (λ u front v. Reads S d u front v) fs rest vs
-Reads S (suc d) t b (alt k v) = HasType S t (alt k v) × (fs : List Field) × (form_of S t.base ≡ form.union fs) × (f : Field) × (slice_get fs k ≡ Some f)
-    × (rest : List ℕ) × (b ≡ word (pos 1) ++ word (pos k) ++ rest) × Reads S d f.ty rest v
+Reads S (suc d) t b (alt k v) = HasType S t (alt k v) × (fs : List Field) × (form_of S t.base ≡ form.union fs)
+    × (f : Field) × (slice_get fs k ≡ Some f) × (rest : List ℕ) × (b ≡ word (pos 1) ++ word (pos k) ++ rest) × Reads S d f.ty rest v
 
 -- some front of the bytes is a reading of some value
 abbrev pub FrontReads : List Decl → ℕ → AidlType → List ℕ → Type 0

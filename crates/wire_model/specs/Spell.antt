@@ -23,7 +23,8 @@ spell_number _ n = word n
 abbrev pub spell_text : List ℕ → List ℕ
 spell_text x = word (pos (length (units x))) ++ block x
 
--- null: of a String or a sequence the count -1 (`writeString16`, `writeByteVector`), of a parcelable or union the marker 0 (`writeNullableParcelable`)
+-- null: of a String or a sequence the count -1 (`writeString16`, `writeByteVector`),
+-- of a parcelable or union the marker 0 (Parcel.h: `writeNullableParcelable`)
 abbrev pub null_word : Form → ℤ
 null_word (form.parcelable fs) = pos 0
 null_word (form.union fs) = pos 0

@@ -1,7 +1,7 @@
 -- Which bytes begin no reading, and the status of the first wrong item (own, the strict profile). One constructor is one way to stop.
 -- S is the schema's declarations, d the composite levels left, t the type, b the bytes up to the limit, s the status; `inside` says that a
 -- record is being read. What is said of a part is an argument: `PartReads` says of which bytes it is read, `PartStops` where it stops.
-use Rattle.std.specs.Prelude.{◌≡◌, ◌≢◌, ℕ, zero, suc, ◌+◌, ◌-◌, ◌*◌, ◌%◌, ◌<◌, ◌≤◌, ℤ, pos, negsuc, Bool, true, false, List, [], ◌∷◌, ◌++◌, length, take, drop, Option, Some, slice_get, IsTrue, MatchBool}
+use Rattle.std.specs.Prelude.{◌≡◌, ◌≢◌, ℕ, zero, suc, ◌+◌, ◌-◌, ◌*◌, ◌%◌, ◌<◌, ◌≤◌, ℤ, pos, negsuc, Bool, true, false, List, [], ◌∷◌, ◌++◌, length, take, drop, Some, slice_get, IsTrue, MatchBool}
 use Rattle.std.specs.Str.{all_scalars}
 use Rattle.aidl_base.specs.Words.{word_of, pad, padding, units, block}
 use Rattle.aidl_schema.specs.declared.schema.Decl.{Decl}
@@ -67,14 +67,18 @@ IsPadded n b = b ≡ pad (take n b)
 
 -- n elements: fewer are read, and the next one stops on what is left
 pub data ElementsStop (PartReads : List ℕ → Data → Type 0) (PartStops : List ℕ → ℤ → Type 0) (n : ℕ) (b : List ℕ) (s : ℤ) : Type 0 where
-  at_element : (vs : Items) → count vs < n → (front rest : List ℕ) → b ≡ front ++ rest → EachReads PartReads front vs → PartStops rest s → ElementsStop PartReads PartStops n b s
+  at_element : (vs : Items) → count vs < n → (front rest : List ℕ) → b ≡ front ++ rest → EachReads PartReads front vs → PartStops rest s
+      → ElementsStop PartReads PartStops n b s
 
 -- an array or a List: its count, its raw bytes (`readByteVector`), or an element; `left` says that a level is left
-pub data SequenceStop (left raw nullable : Bool) (PartReads : List ℕ → Data → Type 0) (PartStops : List ℕ → ℤ → Type 0) (b : List ℕ) (inside : Bool) (s : ℤ) : Type 0 where
+pub data SequenceStop (left raw nullable : Bool) (PartReads : List ℕ → Data → Type 0) (PartStops : List ℕ → ℤ → Type 0)
+    (b : List ℕ) (inside : Bool) (s : ℤ) : Type 0 where
   at_count : CountStop nullable b inside s → SequenceStop left raw nullable PartReads PartStops b inside s
   too_deep : (n : ℕ) → Begins (pos n) b → left ≡ false → s ≡ bad_value → SequenceStop left raw nullable PartReads PartStops b inside s
-  at_bytes : (n : ℕ) → Begins (pos n) b → left ≡ true → raw ≡ true → BlockStop (n + padding n) (IsPadded n) (after_word b) inside s → SequenceStop left raw nullable PartReads PartStops b inside s
-  at_elements : (n : ℕ) → Begins (pos n) b → left ≡ true → raw ≡ false → ElementsStop PartReads PartStops n (after_word b) s → SequenceStop left raw nullable PartReads PartStops b inside s
+  at_bytes : (n : ℕ) → Begins (pos n) b → left ≡ true → raw ≡ true → BlockStop (n + padding n) (IsPadded n) (after_word b) inside s
+      → SequenceStop left raw nullable PartReads PartStops b inside s
+  at_elements : (n : ℕ) → Begins (pos n) b → left ≡ true → raw ≡ false → ElementsStop PartReads PartStops n (after_word b) s
+      → SequenceStop left raw nullable PartReads PartStops b inside s
 
 -- the marker of a parcelable or union (`readParcelable`)
 pub data MarkerStop (nullable : Bool) (b : List ℕ) (inside : Bool) : ℤ → Type 0 where
@@ -103,18 +107,19 @@ FieldsThere PartReads [] b (item v vs) = ⊥
 FieldsThere PartReads (f ∷ fs) b none = ⊥
 FieldsThere PartReads (f ∷ fs) b (item v vs) = (front rest : List ℕ) × (b ≡ front ++ rest) × PartReads f.ty front v × FieldsThere PartReads fs rest vs
 
--- the fields of a record whose bytes are b: the first i are read, something is left, and the next one stops on it, inside the record
+-- the fields of a record whose bytes are b: the first i are read, something is left, and the next one stops on it
 pub data FieldsStop (fs : List Field) (PartReads : Readings) (PartStops : Stoppings) (b : List ℕ) (s : ℤ) : Type 0 where
-  at_field : (i : ℕ) → (f : Field) → slice_get fs i ≡ Some f → (vs : Items) → (front rest : List ℕ) → b ≡ front ++ rest → FieldsThere PartReads (take i fs) front vs
-      → rest ≢ [] → PartStops f.ty rest true s → FieldsStop fs PartReads PartStops b s
+  at_field : (i : ℕ) → (f : Field) → slice_get fs i ≡ Some f → (vs : Items) → (front rest : List ℕ) → b ≡ front ++ rest
+      → FieldsThere PartReads (take i fs) front vs → rest ≢ [] → PartStops f.ty rest true s → FieldsStop fs PartReads PartStops b s
 
 -- a parcelable: its marker, its size, or a field
-pub data RecordStop (left nullable : Bool) (fs : List Field) (PartReads : Readings) (PartStops : Stoppings) (b : List ℕ) (inside : Bool) (s : ℤ) : Type 0 where
+pub data RecordStop (left nullable : Bool) (fs : List Field) (PartReads : Readings) (PartStops : Stoppings)
+    (b : List ℕ) (inside : Bool) (s : ℤ) : Type 0 where
   at_marker : MarkerStop nullable b inside s → RecordStop left nullable fs PartReads PartStops b inside s
   too_deep : Begins (pos 1) b → left ≡ false → s ≡ bad_value → RecordStop left nullable fs PartReads PartStops b inside s
   at_size : Begins (pos 1) b → left ≡ true → SizeStop (after_word b) inside s → RecordStop left nullable fs PartReads PartStops b inside s
-  at_fields : Begins (pos 1) b → left ≡ true → (z : ℕ) → HasSize z (after_word b) → z ≤ length (after_word b) → FieldsStop fs PartReads PartStops (fields_bytes z (after_word b)) s
-      → RecordStop left nullable fs PartReads PartStops b inside s
+  at_fields : Begins (pos 1) b → left ≡ true → (z : ℕ) → HasSize z (after_word b) → z ≤ length (after_word b)
+      → FieldsStop fs PartReads PartStops (fields_bytes z (after_word b)) s → RecordStop left nullable fs PartReads PartStops b inside s
 
 -- the tag of a union: none, or no position of a field
 pub data TagStop (fs : List Field) (b : List ℕ) (inside : Bool) : ℤ → Type 0 where
@@ -126,7 +131,8 @@ pub data UnionStop (left nullable : Bool) (fs : List Field) (PartStops : Stoppin
   at_marker : MarkerStop nullable b inside s → UnionStop left nullable fs PartStops b inside s
   too_deep : Begins (pos 1) b → left ≡ false → s ≡ bad_value → UnionStop left nullable fs PartStops b inside s
   at_tag : Begins (pos 1) b → left ≡ true → TagStop fs (after_word b) inside s → UnionStop left nullable fs PartStops b inside s
-  at_field : Begins (pos 1) b → left ≡ true → (k : ℕ) → Begins (pos k) (after_word b) → (f : Field) → slice_get fs k ≡ Some f → PartStops f.ty (after_word (after_word b)) inside s
+  at_field : Begins (pos 1) b → left ≡ true → (k : ℕ) → Begins (pos k) (after_word b) → (f : Field) → slice_get fs k ≡ Some f
+      → PartStops f.ty (after_word (after_word b)) inside s
       → UnionStop left nullable fs PartStops b inside s
 
 -- one value that is no sequence, by what its type means

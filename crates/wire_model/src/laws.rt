@@ -1,4 +1,4 @@
-ghost use Rattle.std.specs.Prelude.{◌≡◌, ◌≤◌, ◌++◌, ◌⊎◌, true, List, ℕ, length};
+ghost use Rattle.std.specs.Prelude.{◌≡◌, ◌≤◌, ◌++◌, ◌⊎◌, true, List, ℕ, ℤ, length};
 ghost use Rattle.aidl_schema.specs.Types.{is_type};
 ghost use Rattle.aidl_values.specs.Data.{depth_of};
 ghost use Rattle.aidl_values.specs.HasType.{HasType};
@@ -6,6 +6,7 @@ ghost use Rattle.aidl_values.specs.Sound.{IsSound};
 ghost use Rattle.aidl_values.specs.View.{view};
 ghost use Rattle.wire_model.specs.Reads.{FrontReads, Reads};
 ghost use Rattle.wire_model.specs.Spell.{spell};
+ghost use Rattle.wire_model.specs.Status.{IsStatus};
 ghost use Rattle.wire_model.specs.Stop.{Stop, Stops};
 
 use aidl_schema::{AidlType, Schema};
@@ -39,7 +40,8 @@ pub fn law_one_reading(
     ensures values { view first.now ≡ view second.now }
 {}
 
-/// Bytes begin a reading or stop, never both, and they stop with one status alone: `first` and `second` are two.
+/// Bytes begin a reading or stop, never both. They stop with one status alone, of which `first` and `second` are two,
+/// and it is BAD_VALUE, NOT_ENOUGH_DATA or UNEXPECTED_NULL.
 pub fn law_reads_or_stops(
     schema: &Schema,
     ty: &AidlType,
@@ -51,9 +53,11 @@ pub fn law_reads_or_stops(
 )
     requires sound { IsSound schema.now.decls }
     requires known { is_type schema.now.decls ty.now ≡ true }
-    ensures one { FrontReads schema.now.decls levels ty.now b.now ⊎ Stops schema.now.decls levels ty.now b.now inside }
-    ensures not_both { FrontReads schema.now.decls levels ty.now b.now → Stops schema.now.decls levels ty.now b.now inside → ⊥ }
+    ensures one { FrontReads schema.now.decls levels ty.now b.now
+        ⊎ Stops schema.now.decls levels ty.now b.now inside }
+    ensures not_both { FrontReads schema.now.decls levels ty.now b.now
+        → Stops schema.now.decls levels ty.now b.now inside → ⊥ }
     ensures one_status { Stop schema.now.decls levels ty.now b.now inside first
-        → Stop schema.now.decls levels ty.now b.now inside second
-        → first ≡ second }
+        → Stop schema.now.decls levels ty.now b.now inside second → first ≡ second }
+    ensures status { (s : ℤ) → Stop schema.now.decls levels ty.now b.now inside s → IsStatus s }
 {}

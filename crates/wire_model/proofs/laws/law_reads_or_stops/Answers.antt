@@ -1,6 +1,7 @@
 use Rattle.std.proofs.Common.{arith}
 use Rattle.wire_model.proofs.Lists.{IsBytes}
 use Rattle.wire_model.proofs.Reading.{reads_or_stops, not_both, one_status}
+use Rattle.wire_model.proofs.Statuses.{stop_status}
 use Rattle.wire_model.proofs.laws.law_reads_or_stops.Goals as goal
 
 pub returns : goal.returns
@@ -16,4 +17,5 @@ returns c =
       one = reads_or_stops S sound d t known c.args.inside b bytes;
       not_both = not_both S sound d t known c.args.inside b bytes;
       one_status = one_status S sound d t known c.args.inside b bytes c.args.first c.args.second;
+      status = stop_status S d t b c.args.inside;
     }
