@@ -2,4 +2,5 @@ pub mod Data
 pub mod Default
 pub mod HasType
 pub mod Sound
+pub mod TypeTest
 pub mod View

@@ -3,7 +3,7 @@ use Rattle.std.specs.Prelude.{◌≡◌, ℕ, ◌≤◌, true, List, [], ◌∷�
 use Rattle.aidl_schema.specs.declared.schema.Decl.{Decl}
 use Rattle.aidl_schema.specs.declared.schema.Field.{Field}
 use Rattle.aidl_schema.specs.declared.schema.Kind.{Kind}
-use Rattle.aidl_schema.specs.declared.schema.Kind.TheVariants.{Interface, Parcelable, Union, Enum}
+use Rattle.aidl_schema.specs.declared.schema.Kind.TheVariants.{Parcelable, Union}
 use Rattle.aidl_schema.specs.Types.{is_type}
 use Rattle.aidl_values.specs.Data.{Data}
 use Rattle.aidl_values.specs.Default.{IsInitial, initial_by, zero_within}

@@ -1,6 +1,8 @@
 //! Values of the types of a schema: which types they have, how deep they are, and their defaults.
 #![tactic(auto)]
 
+mod typing;
 mod value;
 
-pub use value::{Answer, Value};
+pub use typing::has_type;
+pub use value::{Answer, Value, depth};
