@@ -7,9 +7,10 @@ use Rattle.aidl_schema.specs.declared.schema.Field.{Field}
 use Rattle.aidl_schema.specs.declared.schema.AidlType.{AidlType}
 use Rattle.aidl_schema.specs.Types.{Form, form_of, is_one, elem}
 use Rattle.aidl_schema.specs.Types as form
+use Rattle.aidl_schema.specs.Constants.{in_range}
 use Rattle.aidl_values.specs.Data.{Data, null, truth, number, text, seq, rec, alt, Items, none, item}
 use Rattle.aidl_values.specs.HasType.{InRange, HasType, HaveType, FieldsHaveType}
-use Rattle.aidl_values.specs.TypeTest.{in_range, is_truth_form, is_text_form, of_parcelable, of_union, of_field, has_type_of, all_have_type, fields_have_type}
+use Rattle.aidl_values.specs.TypeTest.{is_truth_form, is_text_form, of_parcelable, of_union, of_field, has_type_of, all_have_type, fields_have_type}
 use Rattle.aidl_values.specs.View.{views}
 use Rattle.aidl_values.specs.declared.value.Value.{Value}
 

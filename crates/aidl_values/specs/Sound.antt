@@ -4,6 +4,7 @@ use Rattle.aidl_schema.specs.declared.schema.Decl.{Decl}
 use Rattle.aidl_schema.specs.declared.schema.Field.{Field}
 use Rattle.aidl_schema.specs.declared.schema.Kind.{Kind}
 use Rattle.aidl_schema.specs.declared.schema.Kind.TheVariants.{Parcelable, Union}
+pub use Rattle.aidl_schema.specs.Containment.{fields_of}
 use Rattle.aidl_schema.specs.Types.{is_type}
 use Rattle.aidl_values.specs.Data.{Data}
 use Rattle.aidl_values.specs.Default.{IsInitial, initial_by, zero_within}
@@ -12,12 +13,6 @@ use Rattle.aidl_values.specs.HasType.{HasType}
 -- the declaration stands in the schema
 abbrev pub IsDeclared : List Decl → Decl → Type 0
 IsDeclared S d = (n : ℕ) × (slice_get S n ≡ Some d)
-
--- of a parcelable or union
-abbrev pub fields_of : Kind → List Field
-fields_of (Parcelable fs) = fs
-fields_of (Union fs) = fs
-fields_of _ = []
 
 -- each field's type is one of the schema
 abbrev pub AreTypes : List Decl → List Field → Type 0

@@ -6,17 +6,8 @@ use Rattle.aidl_schema.specs.declared.schema.Field.{Field}
 use Rattle.aidl_schema.specs.declared.schema.AidlType.{AidlType}
 use Rattle.aidl_schema.specs.Types.{Form, form_of, is_one, elem, no_type}
 use Rattle.aidl_schema.specs.Types as form
+use Rattle.aidl_schema.specs.Constants.{in_range}
 use Rattle.aidl_values.specs.Data.{Data, null, truth, number, text, seq, rec, alt, Items, none, item}
-
-abbrev pub is_within : ℤ → ℤ → ℤ → Bool
-is_within low high n = int_le low n && int_le n high
-
-abbrev pub in_range : Form → ℤ → Bool
-in_range form.byte n = is_within (negsuc 127) (pos 127) n
-in_range form.char n = is_within (pos 0) (pos 65535) n
-in_range form.int n = is_within (negsuc 2147483647) (pos 2147483647) n
-in_range form.long n = is_within (negsuc 9223372036854775807) (pos 9223372036854775807) n
-in_range _ n = false
 
 abbrev pub is_truth_form : Form → Bool
 is_truth_form form.truth = true

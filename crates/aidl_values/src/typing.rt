@@ -1,8 +1,9 @@
 ghost use Rattle.std.specs.Prelude.{◌≡◌, ◌↔◌, IsTrue, slice_get};
+ghost use Rattle.aidl_schema.specs.Constants.{in_range};
 ghost use Rattle.aidl_schema.specs.Seen.{seen};
 ghost use Rattle.aidl_schema.specs.Types as types;
 ghost use Rattle.aidl_values.specs.HasType.{HasType};
-ghost use Rattle.aidl_values.specs.TypeTest.{in_range, has_type_of, of_field, all_have_type, fields_have_type};
+ghost use Rattle.aidl_values.specs.TypeTest.{has_type_of, of_field, all_have_type, fields_have_type};
 ghost use Rattle.aidl_values.specs.View.{view, views};
 
 use crate::value::Value;
