@@ -1,2 +1,4 @@
+pub mod ConstValues
 pub mod Greatest
+pub mod Typed
 pub mod TypeTests

@@ -8,6 +8,7 @@ use Rattle.aidl_schema.specs.declared.schema.AidlType.{AidlType}
 use Rattle.aidl_schema.specs.Types.{Form, form_of, is_one, elem}
 use Rattle.aidl_schema.specs.Types as form
 use Rattle.aidl_schema.specs.Constants.{in_range}
+use Rattle.aidl_schema.proofs.Tests.{both, flipped}
 use Rattle.aidl_values.specs.Data.{Data, null, truth, number, text, seq, rec, alt, Items, none, item}
 use Rattle.aidl_values.specs.HasType.{InRange, HasType, HaveType, FieldsHaveType}
 use Rattle.aidl_values.specs.TypeTest.{is_truth_form, is_text_form, of_parcelable, of_union, of_field, has_type_of, all_have_type, fields_have_type}
@@ -24,12 +25,7 @@ other_count S (f ∷ fs) (v ∷ vs) apart = sym (rw (sym (other_count S fs vs (�
     and_false true = refl
     and_false false = refl
 
-both : (a b : Bool) → (a && b) ≡ true → (a ≡ true) × (b ≡ true)
-both true true e = (refl, refl)
-both true false e = absurd (true≢false (sym e))
-both false b e = absurd (true≢false (sym e))
-
-ranged : (f : Form) (n : ℤ) → in_range f n ≡ true → InRange f n
+pub ranged : (f : Form) (n : ℤ) → in_range f n ≡ true → InRange f n
 ranged form.byte (pos n) e = let le : n ≤ 127 = grind (arith, nat_tests) in omega (arith, ints)
 ranged form.byte (negsuc n) e = let le : n ≤ 127 = grind (arith, nat_tests) in omega (arith, ints)
 ranged form.char (pos n) e = let le : n ≤ 65535 = grind (arith, nat_tests) in (omega (arith, ints), omega (arith, ints))
@@ -107,10 +103,6 @@ union_is form.nothing test e = absurd (true≢false (sym e))
 field_is : (o : Option Field) (test : AidlType → Bool) → of_field o test ≡ true → (f : Field) × (o ≡ Some f) × (test f.ty ≡ true)
 field_is None test e = absurd (true≢false (sym e))
 field_is (Some f) test e = (f, refl, e)
-
-flipped : (b : Bool) → not b ≡ true → b ≡ false
-flipped true e = absurd (true≢false (sym e))
-flipped false e = refl
 
 mutual
   pub tested : (S : List Decl) (t : AidlType) (v : Data) → has_type_of S t v ≡ true → HasType S t v
