@@ -1,4 +1,6 @@
 pub mod ConstValues
+pub mod Defaults
 pub mod Greatest
+pub mod OneZero
 pub mod Typed
 pub mod TypeTests
