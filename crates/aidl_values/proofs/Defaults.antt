@@ -69,7 +69,7 @@ kind_union (Enum backing.Int es) fs e = cc
 kind_union (Enum backing.Long es) fs e = cc
 
 module _ (S : List Decl) (valid : is_valid S ≡ true) where
-  kind_whole : (n : ℕ) (d : Decl) → slice_get S n ≡ Some d → AreWhole S (fields_of d.kind)
+  pub kind_whole : (n : ℕ) (d : Decl) → slice_get S n ≡ Some d → AreWhole S (fields_of d.kind)
   kind_whole n d is =
       let h = holds S valid n d is in
       ((both (list_all (λ f. is_field_type S f) (fields_of d.kind)) (list_all (λ m. has_method_types S m) (methods_of d.kind)) h.types).0, h.initializers)
@@ -101,7 +101,7 @@ module _ (S : List Decl) (valid : is_valid S ≡ true) where
   union_whole base.Text fs e = cc
   union_whole (base.Named n) fs e = decl_union (slice_get S n) fs (λ d is. (kind_whole n d is, (holds S valid n d is).union)) e
 
-  field_type : (f : Field) → is_field_type S f ≡ true → is_type S f.ty ≡ true
+  pub field_type : (f : Field) → is_field_type S f ≡ true → is_type S f.ty ≡ true
   field_type f h = (both _ _ (both _ _ h).0).0
 
   -- One level, from parts that have their defaults. A part's depth is less than k and at most m.
