@@ -5,3 +5,4 @@ pub mod OneZero
 pub mod Sounds
 pub mod Typed
 pub mod TypeTests
+pub mod Zero

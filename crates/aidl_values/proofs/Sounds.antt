@@ -1,5 +1,5 @@
 -- In a valid schema defaults are small, each type has one, and so the schema is sound.
-use Rattle.std.proofs.Common.{◌≡◌, ℕ, suc, ◌+◌, ◌<◌, ◌≤◌, Bool, true, false, List, [], ◌∷◌, length, Option, Some, None, slice_get, refl, sym, ◌∙◌, subst, arith, true≢false}
+use Rattle.std.proofs.Common.{◌≡◌, ℕ, zero, suc, ◌+◌, ◌<◌, ◌≤◌, Bool, true, false, List, [], ◌∷◌, length, Option, Some, None, slice_get, refl, sym, ◌∙◌, subst, arith, true≢false}
 use Rattle.std.specs.Prelude.{nat_le, min, MatchOption}
 use Rattle.std.specs.List.{list_all}
 use Rattle.std.proofs.lemmas.Bool.Decides.{nat_tests}
@@ -21,7 +21,7 @@ use Rattle.aidl_values.specs.Data.{Data, depth_of}
 use Rattle.aidl_values.specs.Default.{IsZero, const_value, zero_within, initial_or}
 use Rattle.aidl_values.specs.HasType.{HasType}
 use Rattle.aidl_values.specs.Nodes.{nodes_of}
-use Rattle.aidl_values.specs.Sound.{IsDeclared, AreTypes, HaveDefaults, IsSound}
+use Rattle.aidl_values.specs.Sound.{IsDeclared, IsFieldOf, AreTypes, HasDefault, HaveDefaults, IsSound}
 use Rattle.aidl_values.proofs.Defaults.{IsDefault, AreWhole, field_type, kind_whole, settled}
 use Rattle.aidl_values.proofs.OneZero.{one_zero}
 use Rattle.aidl_values.proofs.Typed.{typed}
@@ -80,10 +80,10 @@ module _ (S : List Decl) (valid : is_valid S ≡ true) where
 
   -- and no other
   pub one_default : (t : AidlType) (v : Data) → is_type S t ≡ true → IsZero S t v → v ≡ zero_within 33 S t
-  one_default t v is zero =
+  one_default t v is h =
       let d = default_there t is in
       let few = small t is in
-      one_zero S (depth_of v + 33) t v zero (omega arith)
+      one_zero S (depth_of v + 33) t v h (omega arith)
       ∙ sym (one_zero S (depth_of v + 33) t (zero_within 33 S t) d.zero_of (omega (arith, d.depth_is, few.0)))
 
   initial_there : (t : AidlType) (o : Option Const) → is_type S t ≡ true → has_initializer_of S t o ≡ true
@@ -113,3 +113,12 @@ module _ (S : List Decl) (valid : is_valid S ≡ true) where
         let fields = fields_few d.kind in
         omega arith
   }
+
+  fields_have : (fs : List Field) (k : ℕ) (f : Field) → HaveDefaults S fs → slice_get fs k ≡ Some f → HasDefault S f
+  fields_have [] k f have e = cc
+  fields_have (g ∷ fs) zero f have e = let same : g ≡ f = cc in subst (λ x. HasDefault S x) same have.0
+  fields_have (g ∷ fs) (suc k) f have e = fields_have fs k f have.1 e
+
+  -- a field of the schema has its default
+  pub has_default : (f : Field) → IsFieldOf S f → HasDefault S f
+  has_default f of = fields_have (fields_of of.0.kind) of.2 f (sound.defaults of.0 of.1) of.3

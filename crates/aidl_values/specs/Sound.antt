@@ -14,6 +14,10 @@ use Rattle.aidl_values.specs.HasType.{HasType}
 abbrev pub IsDeclared : List Decl → Decl → Type 0
 IsDeclared S d = (n : ℕ) × (slice_get S n ≡ Some d)
 
+-- the field is one of a declaration of the schema
+abbrev pub IsFieldOf : List Decl → Field → Type 0
+IsFieldOf S f = (d : Decl) × IsDeclared S d × (k : ℕ) × (slice_get (fields_of d.kind) k ≡ Some f)
+
 -- each field's type is one of the schema
 abbrev pub AreTypes : List Decl → List Field → Type 0
 AreTypes S [] = Unit {0}
