@@ -1,5 +1,5 @@
 -- What a valid schema gives of its declarations, rule by rule.
-use Rattle.std.proofs.Common.{◌≡◌, ℕ, Bool, true, false, List, [], Some, slice_get, refl, zero-add}
+use Rattle.std.proofs.Common.{◌≡◌, ℕ, Bool, true, List, [], Some, slice_get, refl, zero-add}
 use Rattle.aidl_schema.specs.declared.schema.Decl.{Decl}
 use Rattle.aidl_schema.specs.Valid.{is_valid, rules, each, each_at, has_distinct_fields, has_types, has_initializers, has_whole_union, has_whole_enum, is_grounded, is_small, has_few_members, has_few_arguments}
 use Rattle.aidl_schema.proofs.Tests.{all_at, all_numbered}
@@ -42,5 +42,5 @@ module _ (S : List Decl) (valid : is_valid S ≡ true) where
     grounded = of_each_at 6 is_grounded refl n d is;
     small = of_each_at 7 is_small refl n d is;
     few = of_each_at 8 has_few_members refl n d is;
-    arguments = of_each 9 has_few_arguments refl n d is
+    arguments = of_each 9 has_few_arguments refl n d is;
   }

@@ -1,5 +1,5 @@
 -- How deep defaults are, and how large, as numbers over types and initializers (own: E23).
-use Rattle.std.specs.Prelude.{ℕ, zero, suc, ◌+◌, max, min, nat_le, ◌&&◌, Bool, if◌then◌else◌, List, [], ◌∷◌, map, sum, length, Option, Some, None}
+use Rattle.std.specs.Prelude.{ℕ, zero, suc, max, min, nat_le, ◌&&◌, Bool, if◌then◌else◌, List, [], ◌∷◌, map, sum, length, Option, Some, None}
 use Rattle.aidl_base.specs.declared.constant.Const.{Const, fold-Const}
 use Rattle.aidl_base.specs.declared.constant.Const.TheOpen.{Const-F}
 use Rattle.aidl_schema.specs.declared.schema.Decl.{Decl}

@@ -1,5 +1,5 @@
 -- What a constant is as a value, one level at a time; and its size.
-use Rattle.std.proofs.Common.{◌≡◌, ℕ, suc, ◌+◌, max, Bool, true, false, List, [], ◌∷◌, map, refl, sym, ap, ◌∙◌, arith, true≢false}
+use Rattle.std.proofs.Common.{◌≡◌, ℕ, suc, ◌+◌, max, Bool, true, false, List, [], ◌∷◌, map, refl, sym, ap, ◌∙◌, true≢false}
 use Rattle.std.specs.Prelude.{sum}
 use Rattle.std.specs.List.{list_all}
 use Rattle.std.proofs.lemmas.List.Sums.{sum_by-cons}
@@ -42,15 +42,15 @@ pub record IsSized (c : Const) : Type 0 where
 single_sized : (S : List Decl) (b : Base) (c : Const) (o : Const-F Const) → out-Const c ≡ o → is_single S b o ≡ true → IsSized c
 single_sized S b c (Const-F.Truth x) e h = record {
   depth = ap depth_of (value_is c ∙ ap value_step e) ∙ sym (fold_out-Const ℕ const_depth_step c ∙ ap (λ p. const_depth_step (map-Const Const ℕ const_depth p)) e);
-  nodes = ap nodes_of (value_is c ∙ ap value_step e) ∙ sym (fold_out-Const ℕ const_nodes_step c ∙ ap (λ p. const_nodes_step (map-Const Const ℕ const_nodes p)) e)
+  nodes = ap nodes_of (value_is c ∙ ap value_step e) ∙ sym (fold_out-Const ℕ const_nodes_step c ∙ ap (λ p. const_nodes_step (map-Const Const ℕ const_nodes p)) e);
 }
 single_sized S b c (Const-F.Number n) e h = record {
   depth = ap depth_of (value_is c ∙ ap value_step e) ∙ sym (fold_out-Const ℕ const_depth_step c ∙ ap (λ p. const_depth_step (map-Const Const ℕ const_depth p)) e);
-  nodes = ap nodes_of (value_is c ∙ ap value_step e) ∙ sym (fold_out-Const ℕ const_nodes_step c ∙ ap (λ p. const_nodes_step (map-Const Const ℕ const_nodes p)) e)
+  nodes = ap nodes_of (value_is c ∙ ap value_step e) ∙ sym (fold_out-Const ℕ const_nodes_step c ∙ ap (λ p. const_nodes_step (map-Const Const ℕ const_nodes p)) e);
 }
 single_sized S b c (Const-F.Text x) e h = record {
   depth = ap depth_of (value_is c ∙ ap value_step e) ∙ sym (fold_out-Const ℕ const_depth_step c ∙ ap (λ p. const_depth_step (map-Const Const ℕ const_depth p)) e);
-  nodes = ap nodes_of (value_is c ∙ ap value_step e) ∙ sym (fold_out-Const ℕ const_nodes_step c ∙ ap (λ p. const_nodes_step (map-Const Const ℕ const_nodes p)) e)
+  nodes = ap nodes_of (value_is c ∙ ap value_step e) ∙ sym (fold_out-Const ℕ const_nodes_step c ∙ ap (λ p. const_nodes_step (map-Const Const ℕ const_nodes p)) e);
 }
 single_sized S b c (Const-F.Members cs) e h = absurd (true≢false (sym h))
 
@@ -80,7 +80,7 @@ list_sized S b c (Const-F.Members cs) e h = record {
   depth = ap depth_of (value_is c ∙ ap value_step e) ∙ ap suc (members_depth S b cs h)
       ∙ sym (fold_out-Const ℕ const_depth_step c ∙ ap (λ p. const_depth_step (map-Const Const ℕ const_depth p)) e);
   nodes = ap nodes_of (value_is c ∙ ap value_step e) ∙ ap suc (members_nodes S b cs h)
-      ∙ sym (fold_out-Const ℕ const_nodes_step c ∙ ap (λ p. const_nodes_step (map-Const Const ℕ const_nodes p)) e)
+      ∙ sym (fold_out-Const ℕ const_nodes_step c ∙ ap (λ p. const_nodes_step (map-Const Const ℕ const_nodes p)) e);
 }
 
 pub sized : (S : List Decl) (t : AidlType) (c : Const) → is_initializer_of S t c ≡ true → IsSized c

@@ -1,5 +1,5 @@
 -- In a valid schema each type has a default, of the size that the schema counts.
-use Rattle.std.proofs.Common.{◌≡◌, ℕ, zero, suc, ◌+◌, ◌<◌, ◌≤◌, max, Bool, true, false, not, ◌&&◌, ◌||◌, List, [], ◌∷◌, map, Option, Some, None, slice_get, refl, sym, ap, ◌∙◌, subst, arith, true≢false}
+use Rattle.std.proofs.Common.{◌≡◌, ℕ, zero, suc, ◌+◌, ◌<◌, ◌≤◌, max, Bool, true, false, List, [], ◌∷◌, map, Option, Some, None, slice_get, refl, sym, ap, ◌∙◌, subst, arith, true≢false}
 use Rattle.std.specs.Prelude.{MatchOption, sum}
 use Rattle.std.specs.List.{list_all}
 use Rattle.std.proofs.lemmas.Int.{ints}
@@ -17,11 +17,11 @@ use Rattle.aidl_schema.specs.Containment.{fields_of}
 use Rattle.aidl_schema.specs.Sizes.{greatest_of, const_depth, const_nodes, initial_size, field_size, form_depth, form_nodes, depth_by, nodes_by, depth_within, nodes_within}
 use Rattle.aidl_schema.specs.Types.{Form, form_of, form_of_kind, form_of_decl, is_one, is_type, is_meant, is_well_shaped}
 use Rattle.aidl_schema.specs.Types as form
-use Rattle.aidl_schema.specs.Valid.{is_valid, is_field_type, is_whole_type, has_initializer_of, has_method_types, methods_of, is_union_whole, are_union_fields}
+use Rattle.aidl_schema.specs.Valid.{is_valid, is_field_type, has_initializer_of, has_method_types, methods_of, is_union_whole, are_union_fields}
 use Rattle.aidl_schema.proofs.Tests.{both}
-use Rattle.aidl_schema.proofs.Valids.{Holds, holds}
+use Rattle.aidl_schema.proofs.Valids.{holds}
 use Rattle.aidl_values.specs.Data.{Data, null, seq, Items, none, depth_of, greatest}
-use Rattle.aidl_values.specs.Default.{IsZero, AreInitial, const_value, zero_by, zero_of_form, zero_within, initial_or, initial_by, initials_by}
+use Rattle.aidl_values.specs.Default.{IsZero, AreInitial, const_value, zero_by, zero_of_form, zero_within, initial_or, initials_by}
 use Rattle.aidl_values.specs.HasType.{HasType, FieldsHaveType}
 use Rattle.aidl_values.specs.Nodes.{nodes_of, nodes_in}
 use Rattle.aidl_values.proofs.ConstValues.{sized}
@@ -127,7 +127,7 @@ module _ (S : List Decl) (valid : is_valid S ≡ true) where
           typed_as = (first.typed_as, others.typed_as);
           depth_is = ap (λ d. max d (greatest (initials_by Z fs))) first.depth_is ∙ ap (λ d. max (field_size const_depth D f) d) others.depth_is;
           nodes_are = ap (λ d. d + nodes_in (initials_by Z fs)) first.nodes_are ∙ ap (λ d. field_size const_nodes N f + d) others.nodes_are
-              ∙ sym (sum_by-cons (λ x. x) (field_size const_nodes N f) (map (λ g. field_size const_nodes N g) fs))
+              ∙ sym (sum_by-cons (λ x. x) (field_size const_nodes N f) (map (λ g. field_size const_nodes N g) fs));
         }
 
     by_form : (t : AidlType) (f : Form) → form_of S t.base ≡ f → is_meant f ≡ true → t.nullable ≡ false → is_one t.shape ≡ true

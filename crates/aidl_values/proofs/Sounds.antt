@@ -1,6 +1,6 @@
 -- In a valid schema defaults are small, each type has one, and so the schema is sound.
-use Rattle.std.proofs.Common.{◌≡◌, ℕ, zero, suc, ◌+◌, ◌<◌, ◌≤◌, Bool, true, false, List, [], ◌∷◌, length, Option, Some, None, slice_get, refl, sym, ◌∙◌, subst, arith, true≢false}
-use Rattle.std.specs.Prelude.{nat_le, min, MatchOption}
+use Rattle.std.proofs.Common.{◌≡◌, ℕ, zero, suc, ◌+◌, ◌≤◌, Bool, true, false, List, [], ◌∷◌, length, Option, Some, None, slice_get, refl, sym, ◌∙◌, subst, arith, true≢false}
+use Rattle.std.specs.Prelude.{nat_le, MatchOption}
 use Rattle.std.specs.List.{list_all}
 use Rattle.std.proofs.lemmas.Bool.Decides.{nat_tests}
 use Rattle.aidl_base.specs.declared.constant.Const.{Const}
@@ -12,7 +12,7 @@ use Rattle.aidl_schema.specs.declared.schema.Base.{Base}
 use Rattle.aidl_schema.specs.declared.schema.Base.TheVariants as base
 use Rattle.aidl_schema.specs.declared.schema.AidlType.{AidlType}
 use Rattle.aidl_schema.specs.Containment.{fields_of}
-use Rattle.aidl_schema.specs.Sizes.{depth_by, nodes_by, depth_within, nodes_within, default_depth, default_nodes, has_small_default}
+use Rattle.aidl_schema.specs.Sizes.{depth_by, nodes_by, depth_within, nodes_within, default_depth, default_nodes}
 use Rattle.aidl_schema.specs.Types.{form_of, form_of_decl, is_one, is_type, is_meant}
 use Rattle.aidl_schema.specs.Valid.{is_valid, one_of, is_field_type, has_initializer_of, part_count, member_count}
 use Rattle.aidl_schema.proofs.Tests.{both}
@@ -21,10 +21,18 @@ use Rattle.aidl_values.specs.Data.{Data, depth_of}
 use Rattle.aidl_values.specs.Default.{IsZero, const_value, zero_within, initial_or}
 use Rattle.aidl_values.specs.HasType.{HasType}
 use Rattle.aidl_values.specs.Nodes.{nodes_of}
-use Rattle.aidl_values.specs.Sound.{IsDeclared, IsFieldOf, AreTypes, HasDefault, HaveDefaults, IsSound}
+use Rattle.aidl_values.specs.Sound.{IsFieldOf, AreTypes, HasDefault, HaveDefaults, IsSound}
 use Rattle.aidl_values.proofs.Defaults.{IsDefault, AreWhole, field_type, kind_whole, settled}
 use Rattle.aidl_values.proofs.OneZero.{one_zero}
 use Rattle.aidl_values.proofs.Typed.{typed}
+
+-- a value of the type, of the sizes that the schema counts for the type's default
+pub record Fits (S : List Decl) (t : AidlType) (v : Data) : Type 0 where
+  pub typed_as : HasType S t v
+  pub depth_is : depth_of v ≡ default_depth S t
+  pub nodes_are : nodes_of v ≡ default_nodes S t
+  pub shallow : depth_of v ≤ 32
+  pub small : nodes_of v ≤ 512
 
 depth_within-suc : (k : ℕ) (S : List Decl) (t : AidlType) → depth_within (suc k) S t ≡ depth_by S (λ u. depth_within k S u) t
 unfolding depth_within
@@ -86,6 +94,21 @@ module _ (S : List Decl) (valid : is_valid S ≡ true) where
       one_zero S (depth_of v + 33) t v h (omega arith)
       ∙ sym (one_zero S (depth_of v + 33) t (zero_within 33 S t) d.zero_of (omega (arith, d.depth_is, few.0)))
 
+  -- a default's type and its sizes
+  pub default_fits : (t : AidlType) → is_type S t ≡ true → Fits S t (zero_within 33 S t)
+  default_fits t is =
+      let d = default_there t is in
+      let few = small t is in
+      let shallow : default_depth S t ≡ depth_within 33 S t = omega (arith, few.0) in
+      let less : default_nodes S t ≡ nodes_within 33 S t = omega (arith, few.1) in
+      record {
+        typed_as = d.typed_as;
+        depth_is = d.depth_is ∙ sym shallow;
+        nodes_are = d.nodes_are ∙ sym less;
+        shallow = omega (arith, d.depth_is, few.0);
+        small = omega (arith, d.nodes_are, few.1);
+      }
+
   initial_there : (t : AidlType) (o : Option Const) → is_type S t ≡ true → has_initializer_of S t o ≡ true
       → MatchOption o (IsZero S t (initial_or o (zero_within 33 S t))) (λ c. initial_or o (zero_within 33 S t) ≡ const_value c) × HasType S t (initial_or o (zero_within 33 S t))
   initial_there t None is h = let d = default_there t is in (d.zero_of, d.typed_as)
@@ -111,7 +134,7 @@ module _ (S : List Decl) (valid : is_valid S ≡ true) where
         let members = (holds S valid declared.0 d declared.1).few in
         let bound : member_count S declared.0 d ≤ 4096 = grind (arith, nat_tests) in
         let fields = fields_few d.kind in
-        omega arith
+        omega arith;
   }
 
   fields_have : (fs : List Field) (k : ℕ) (f : Field) → HaveDefaults S fs → slice_get fs k ≡ Some f → HasDefault S f

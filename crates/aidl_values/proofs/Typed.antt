@@ -1,19 +1,16 @@
 -- In a valid schema an initializer, as a value, has its field's type.
-use Rattle.std.proofs.Common.{◌≡◌, ℕ, ℤ, pos, negsuc, ◌<◌, ◌≤◌, Bool, true, false, not, ◌&&◌, List, [], ◌∷◌, map, Option, Some, None, slice_get, refl, sym, ap, ◌∙◌, subst, arith, true≢false}
+use Rattle.std.proofs.Common.{◌≡◌, ℕ, ℤ, pos, negsuc, ◌≤◌, Bool, true, false, not, ◌&&◌, List, [], ◌∷◌, map, Option, Some, None, slice_get, refl, sym, subst, arith, true≢false}
 use Rattle.std.specs.Prelude.{nat_le, ◌==◌}
 use Rattle.std.specs.List.{list_all, list_any}
 use Rattle.std.specs.Ordering.{int_eq}
 use Rattle.std.specs.Char.{IsScalar}
 use Rattle.std.specs.Str.{all_scalars}
-use Rattle.std.proofs.lemmas.Int.{ints}
 use Rattle.std.proofs.lemmas.Bool.Decides.{nat_tests, Decides-int_eq}
 use Rattle.aidl_base.specs.declared.constant.Const.{Const, out-Const}
 use Rattle.aidl_base.specs.declared.constant.Const.TheOpen.{Const-F}
 use Rattle.aidl_schema.specs.declared.schema.Decl.{Decl}
 use Rattle.aidl_schema.specs.declared.schema.Kind.{Kind}
 use Rattle.aidl_schema.specs.declared.schema.Kind.TheVariants.{Interface, Parcelable, Union, Enum}
-use Rattle.aidl_schema.specs.declared.schema.Backing.{Backing}
-use Rattle.aidl_schema.specs.declared.schema.Backing.TheVariants as backing
 use Rattle.aidl_schema.specs.declared.schema.Enumerator.{Enumerator}
 use Rattle.aidl_schema.specs.declared.schema.Base.{Base}
 use Rattle.aidl_schema.specs.declared.schema.Base.TheVariants as base
@@ -21,7 +18,7 @@ use Rattle.aidl_schema.specs.declared.schema.AidlType.{AidlType}
 use Rattle.aidl_schema.specs.Constants.{in_range, is_between, is_char_literal, is_string_character, is_enumerator, is_enumerator_of, is_number_of, is_boolean, is_string, is_single, is_constant_of, are_members, is_initializer_of}
 use Rattle.aidl_schema.specs.Types.{form_of, form_of_kind, form_of_decl, is_one, elem}
 use Rattle.aidl_schema.specs.Types as form
-use Rattle.aidl_schema.specs.Valid.{is_valid, is_enum_whole, are_enumerators}
+use Rattle.aidl_schema.specs.Valid.{is_valid, is_enum_whole}
 use Rattle.aidl_schema.proofs.Tests.{both}
 use Rattle.aidl_schema.proofs.Valids.{holds}
 use Rattle.aidl_values.specs.Default.{const_value}
