@@ -30,7 +30,7 @@ pub fn initial_of(alloc: Global, schema: &Schema, field: &Field) -> Result<Value
     ensures value { IfOk result (λ v. view v ≡ initial_in schema.now.decls field.now) }
 {
     match &field.initial {
-        Some(constant) => value_of(alloc, constant),
+        Some(initializer) => value_of(alloc, initializer),
         None => default_within(alloc, schema, field.ty, LEVELS),
     }
 }
