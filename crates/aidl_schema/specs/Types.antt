@@ -1,5 +1,5 @@
 -- what a type is, in a schema.
-use Rattle.std.specs.Prelude.{◌≡◌, ℕ, Bool, true, false, not, ◌&&◌, ◌||◌, if◌then◌else◌, List, Option, Some, None, slice_get}
+use Rattle.std.specs.Prelude.{Bool, true, false, not, ◌&&◌, ◌||◌, List, Option, Some, None, slice_get}
 use Rattle.aidl_schema.specs.declared.schema.Decl.{Decl}
 use Rattle.aidl_schema.specs.declared.schema.Field.{Field}
 use Rattle.aidl_schema.specs.declared.schema.Kind.{Kind}

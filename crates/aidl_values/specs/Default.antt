@@ -1,5 +1,5 @@
 -- the defaults. E22 makes them end: a type that reaches itself has none.
-use Rattle.std.specs.Prelude.{◌≡◌, ℕ, zero, suc, ℤ, pos, Bool, true, false, if◌then◌else◌, List, [], ◌∷◌, Option, Some, None, map, IsTrue, MatchOption}
+use Rattle.std.specs.Prelude.{◌≡◌, ℕ, zero, suc, pos, false, if◌then◌else◌, List, [], ◌∷◌, Option, Some, None, map, IsTrue, MatchOption}
 use Rattle.aidl_base.specs.declared.constant.Const.{Const, fold-Const}
 use Rattle.aidl_base.specs.declared.constant.Const.TheOpen.{Const-F}
 use Rattle.aidl_schema.specs.declared.schema.Decl.{Decl}

@@ -1,5 +1,5 @@
 -- which values a type has.
-use Rattle.std.specs.Prelude.{◌≡◌, ℕ, ℤ, pos, ◌≤ℤ◌, List, [], ◌∷◌, Option, Some, slice_get, IsTrue, Bool, true, false, FitsSigned}
+use Rattle.std.specs.Prelude.{◌≡◌, ℤ, pos, ◌≤ℤ◌, List, [], ◌∷◌, Some, slice_get, IsTrue, false, FitsSigned}
 use Rattle.std.specs.Int.{w8, w32, w64}
 use Rattle.std.specs.Str.{all_scalars}
 use Rattle.aidl_schema.specs.declared.schema.Decl.{Decl}

@@ -1,5 +1,7 @@
 pub mod Data
 pub mod Default
 pub mod HasType
+pub mod Nodes
 pub mod Sound
+pub mod TypeTest
 pub mod View

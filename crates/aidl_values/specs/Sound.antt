@@ -2,8 +2,7 @@
 use Rattle.std.specs.Prelude.{◌≡◌, ℕ, ◌≤◌, true, List, [], ◌∷◌, length, Some, slice_get}
 use Rattle.aidl_schema.specs.declared.schema.Decl.{Decl}
 use Rattle.aidl_schema.specs.declared.schema.Field.{Field}
-use Rattle.aidl_schema.specs.declared.schema.Kind.{Kind}
-use Rattle.aidl_schema.specs.declared.schema.Kind.TheVariants.{Interface, Parcelable, Union, Enum}
+pub use Rattle.aidl_schema.specs.Containment.{fields_of}
 use Rattle.aidl_schema.specs.Types.{is_type}
 use Rattle.aidl_values.specs.Data.{Data}
 use Rattle.aidl_values.specs.Default.{IsInitial, initial_by, zero_within}
@@ -13,11 +12,9 @@ use Rattle.aidl_values.specs.HasType.{HasType}
 abbrev pub IsDeclared : List Decl → Decl → Type 0
 IsDeclared S d = (n : ℕ) × (slice_get S n ≡ Some d)
 
--- of a parcelable or union
-abbrev pub fields_of : Kind → List Field
-fields_of (Parcelable fs) = fs
-fields_of (Union fs) = fs
-fields_of _ = []
+-- the field is one of a declaration of the schema
+abbrev pub IsFieldOf : List Decl → Field → Type 0
+IsFieldOf S f = (d : Decl) × IsDeclared S d × (k : ℕ) × (slice_get (fields_of d.kind) k ≡ Some f)
 
 -- each field's type is one of the schema
 abbrev pub AreTypes : List Decl → List Field → Type 0

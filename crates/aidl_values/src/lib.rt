@@ -1,6 +1,15 @@
 //! Values of the types of a schema: which types they have, how deep they are, and their defaults.
 #![tactic(auto)]
 
+mod default;
+mod laws;
+mod typing;
 mod value;
 
-pub use value::{Answer, Value};
+pub use default::{default_of, initial_of};
+pub use laws::{law_default_fits, law_one_default, law_sound};
+pub use typing::has_type;
+pub use value::{Answer, Value, depth};
+
+#[cfg(test)]
+mod tests;

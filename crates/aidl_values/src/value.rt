@@ -1,4 +1,9 @@
-use aidl_base::{Row, Text};
+ghost use Rattle.std.specs.Prelude.{◌≡◌, min, map, IfOk};
+ghost use Rattle.aidl_values.specs.Data.{depth_of, greatest};
+ghost use Rattle.aidl_values.specs.View.{view, views};
+
+use aidl_base::{OutOfMemory, Row, Text};
+use std::alloc::Global;
 
 /// A value of a type.
 #[derive(Debug, Drop)]
@@ -16,6 +21,49 @@ pub enum Value {
     Alt(u32, Box<Value>),
 }
 
+impl Value {
+    /// A value equal to this one.
+    pub fn try_clone(&self, alloc: Global) -> Result<Value, OutOfMemory>
+        ensures { IfOk result (λ v. view v ≡ view self.now) }
+    {
+        copy(alloc, self)
+    }
+}
+
+#[cycle(copy)]
+fn copy(alloc: Global, value: &Value) -> Result<Value, OutOfMemory>
+    ensures { IfOk result (λ v. view v ≡ view value.now) }
+{
+    match value {
+        Value::Null => Ok(Value::Null),
+        Value::Truth(b) => Ok(Value::Truth(*b)),
+        Value::Number(n) => Ok(Value::Number(*n)),
+        Value::Text(text) => Ok(Value::Text(text.try_clone(alloc)?)),
+        Value::Seq(items) => Ok(Value::Seq(copy_items(alloc, items.as_slice())?)),
+        Value::Rec(items) => Ok(Value::Rec(copy_items(alloc, items.as_slice())?)),
+        Value::Alt(tag, inner) => Ok(Value::Alt(*tag, copy_inner(alloc, inner)?)),
+    }
+}
+
+#[cycle(copy)]
+fn copy_inner(alloc: Global, inner: &Box<Value>) -> Result<Box<Value>, OutOfMemory>
+    ensures { IfOk result (λ b. view b.value ≡ view inner.now.value) }
+{
+    let value = copy(alloc, inner)?;
+    Ok(Box::new(alloc, value)?)
+}
+
+#[cycle(copy)]
+fn copy_items(alloc: Global, values: &[Value]) -> Result<Row<Value>, OutOfMemory>
+    ensures { IfOk result (λ vs. views vs ≡ views values.now) }
+{
+    let mut copies = Vec::with_capacity(alloc, values.len())?;
+    for value in values {
+        copies.push(copy(alloc, value)?)?;
+    }
+    Ok(Row::from_vec(copies))
+}
+
 /// What a handler answers. `error` is 0 unless `code` is -8, the service specific exception.
 #[derive(Debug, Drop)]
 pub enum Answer {
@@ -28,4 +76,32 @@ pub enum Answer {
         message: Text,
         error: i32,
     },
+}
+
+/// The composite depth of a value, in levels: 0 of null, a truth value, a number or a text, and one more than the
+/// greatest depth inside for a sequence, a record or an alternative. It is at most `usize::MAX`, and takes no memory.
+#[cycle(depth)]
+pub fn depth(value: &Value) -> usize
+    ensures { result ≡ min (depth_of (view value.now)) usize.MAX }
+{
+    match value {
+        Value::Null | Value::Truth(_) | Value::Number(_) | Value::Text(_) => 0,
+        Value::Seq(items) => greatest_depth(items.as_slice()).saturating_add(1),
+        Value::Rec(items) => greatest_depth(items.as_slice()).saturating_add(1),
+        Value::Alt(_, inner) => depth(inner).saturating_add(1),
+    }
+}
+
+#[cycle(depth)]
+fn greatest_depth(values: &[Value]) -> usize
+    ensures { result ≡ min (greatest (views values.now)) usize.MAX }
+{
+    let mut most = 0;
+    for value in values {
+        let here = depth(value);
+        if most < here {
+            most = here;
+        }
+    }
+    most
 }

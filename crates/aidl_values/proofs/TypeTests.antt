@@ -1,0 +1,149 @@
+-- The test of a type decides whether the value has it.
+use Rattle.std.proofs.Common.{◌≡◌, suc, ℤ, pos, negsuc, ◌≤◌, Bool, true, false, ◌&&◌, List, [], ◌∷◌, length, Option, Some, None, slice_get, refl, sym, ap, arith, true≢false}
+use Rattle.std.proofs.lemmas.Int.{ints}
+use Rattle.std.proofs.lemmas.Bool.Decides.{nat_tests}
+use Rattle.aidl_schema.specs.declared.schema.Decl.{Decl}
+use Rattle.aidl_schema.specs.declared.schema.Field.{Field}
+use Rattle.aidl_schema.specs.declared.schema.AidlType.{AidlType}
+use Rattle.aidl_schema.specs.Types.{Form, form_of, is_one, elem}
+use Rattle.aidl_schema.specs.Types as form
+use Rattle.aidl_schema.specs.Constants.{in_range}
+use Rattle.aidl_schema.proofs.Tests.{both, flipped}
+use Rattle.aidl_values.specs.Data.{Data, null, truth, number, text, seq, rec, alt, Items, none, item}
+use Rattle.aidl_values.specs.HasType.{InRange, HasType, HaveType, FieldsHaveType}
+use Rattle.aidl_values.specs.TypeTest.{is_truth_form, is_text_form, of_parcelable, of_union, of_field, has_type_of, all_have_type, fields_have_type}
+use Rattle.aidl_values.specs.View.{views}
+use Rattle.aidl_values.specs.declared.value.Value.{Value}
+
+pub other_count : (S : List Decl) (fs : List Field) (vs : List Value) → (length fs ≡ length vs → ⊥) → false ≡ fields_have_type S fs (views vs)
+other_count S [] [] apart = absurd (apart refl)
+other_count S [] (v ∷ vs) apart = refl
+other_count S (f ∷ fs) [] apart = refl
+other_count S (f ∷ fs) (v ∷ vs) apart = sym (rw (sym (other_count S fs vs (λ e. apart (ap suc e)))) (and_false _))
+  where
+    and_false : (b : Bool) → (b && false) ≡ false
+    and_false true = refl
+    and_false false = refl
+
+pub ranged : (f : Form) (n : ℤ) → in_range f n ≡ true → InRange f n
+ranged form.byte (pos n) e = let le : n ≤ 127 = grind (arith, nat_tests) in omega (arith, ints)
+ranged form.byte (negsuc n) e = let le : n ≤ 127 = grind (arith, nat_tests) in omega (arith, ints)
+ranged form.char (pos n) e = let le : n ≤ 65535 = grind (arith, nat_tests) in (omega (arith, ints), omega (arith, ints))
+ranged form.char (negsuc n) e = absurd (true≢false (sym e))
+ranged form.int (pos n) e = let le : n ≤ 2147483647 = grind (arith, nat_tests) in omega (arith, ints)
+ranged form.int (negsuc n) e = let le : n ≤ 2147483647 = grind (arith, nat_tests) in omega (arith, ints)
+ranged form.long (pos n) e = let le : n ≤ 9223372036854775807 = grind (arith, nat_tests) in omega (arith, ints)
+ranged form.long (negsuc n) e = let le : n ≤ 9223372036854775807 = grind (arith, nat_tests) in omega (arith, ints)
+ranged form.truth n e = absurd (true≢false (sym e))
+ranged form.text n e = absurd (true≢false (sym e))
+ranged (form.parcelable fs) n e = absurd (true≢false (sym e))
+ranged (form.union fs) n e = absurd (true≢false (sym e))
+ranged form.nothing n e = absurd (true≢false (sym e))
+
+in_test : (f : Form) (n : ℤ) → InRange f n → in_range f n ≡ true
+in_test form.byte (pos n) h = let le : n ≤ 127 = omega (arith, ints) in grind (arith, nat_tests)
+in_test form.byte (negsuc n) h = let le : n ≤ 127 = omega (arith, ints) in grind (arith, nat_tests)
+in_test form.char (pos n) h = let le : n ≤ 65535 = omega (arith, ints, h.0, h.1) in grind (arith, nat_tests)
+in_test form.char (negsuc n) h = absurd (omega (arith, ints, h.0, h.1))
+in_test form.int (pos n) h = let le : n ≤ 2147483647 = omega (arith, ints) in grind (arith, nat_tests)
+in_test form.int (negsuc n) h = let le : n ≤ 2147483647 = omega (arith, ints) in grind (arith, nat_tests)
+in_test form.long (pos n) h = let le : n ≤ 9223372036854775807 = omega (arith, ints) in grind (arith, nat_tests)
+in_test form.long (negsuc n) h = let le : n ≤ 9223372036854775807 = omega (arith, ints) in grind (arith, nat_tests)
+in_test form.truth n h = elim h [ ]
+in_test form.text n h = elim h [ ]
+in_test (form.parcelable fs) n h = elim h [ ]
+in_test (form.union fs) n h = elim h [ ]
+in_test form.nothing n h = elim h [ ]
+
+truth_is : (f : Form) → is_truth_form f ≡ true → f ≡ form.truth
+truth_is form.truth e = refl
+truth_is form.byte e = absurd (true≢false (sym e))
+truth_is form.char e = absurd (true≢false (sym e))
+truth_is form.int e = absurd (true≢false (sym e))
+truth_is form.long e = absurd (true≢false (sym e))
+truth_is form.text e = absurd (true≢false (sym e))
+truth_is (form.parcelable fs) e = absurd (true≢false (sym e))
+truth_is (form.union fs) e = absurd (true≢false (sym e))
+truth_is form.nothing e = absurd (true≢false (sym e))
+
+text_is : (f : Form) → is_text_form f ≡ true → f ≡ form.text
+text_is form.text e = refl
+text_is form.byte e = absurd (true≢false (sym e))
+text_is form.char e = absurd (true≢false (sym e))
+text_is form.int e = absurd (true≢false (sym e))
+text_is form.long e = absurd (true≢false (sym e))
+text_is form.truth e = absurd (true≢false (sym e))
+text_is (form.parcelable fs) e = absurd (true≢false (sym e))
+text_is (form.union fs) e = absurd (true≢false (sym e))
+text_is form.nothing e = absurd (true≢false (sym e))
+
+-- the fields of a parcelable, and of a union, and a field that is there
+parcelable_is : (f : Form) (test : List Field → Bool) → of_parcelable f test ≡ true → (fs : List Field) × (f ≡ form.parcelable fs) × (test fs ≡ true)
+parcelable_is (form.parcelable fs) test e = (fs, refl, e)
+parcelable_is form.truth test e = absurd (true≢false (sym e))
+parcelable_is form.byte test e = absurd (true≢false (sym e))
+parcelable_is form.char test e = absurd (true≢false (sym e))
+parcelable_is form.int test e = absurd (true≢false (sym e))
+parcelable_is form.long test e = absurd (true≢false (sym e))
+parcelable_is form.text test e = absurd (true≢false (sym e))
+parcelable_is (form.union fs) test e = absurd (true≢false (sym e))
+parcelable_is form.nothing test e = absurd (true≢false (sym e))
+
+union_is : (f : Form) (test : List Field → Bool) → of_union f test ≡ true → (fs : List Field) × (f ≡ form.union fs) × (test fs ≡ true)
+union_is (form.union fs) test e = (fs, refl, e)
+union_is form.truth test e = absurd (true≢false (sym e))
+union_is form.byte test e = absurd (true≢false (sym e))
+union_is form.char test e = absurd (true≢false (sym e))
+union_is form.int test e = absurd (true≢false (sym e))
+union_is form.long test e = absurd (true≢false (sym e))
+union_is form.text test e = absurd (true≢false (sym e))
+union_is (form.parcelable fs) test e = absurd (true≢false (sym e))
+union_is form.nothing test e = absurd (true≢false (sym e))
+
+field_is : (o : Option Field) (test : AidlType → Bool) → of_field o test ≡ true → (f : Field) × (o ≡ Some f) × (test f.ty ≡ true)
+field_is None test e = absurd (true≢false (sym e))
+field_is (Some f) test e = (f, refl, e)
+
+mutual
+  pub tested : (S : List Decl) (t : AidlType) (v : Data) → has_type_of S t v ≡ true → HasType S t v
+  tested S t null e = e
+  tested S t (truth b) e = let p = both _ _ e in (p.0, truth_is _ p.1)
+  tested S t (number n) e = let p = both _ _ e in (p.0, ranged _ n p.1)
+  tested S t (text x) e = let p = both _ _ e in let q = both _ _ p.0 in (q.0, text_is _ q.1, p.1)
+  tested S t (seq vs) e = let p = both _ _ e in (flipped _ p.0, tested_all S (elem S t) vs p.1)
+  tested S t (rec vs) e = let p = both _ _ e in let q = parcelable_is (form_of S t.base) (λ fs. fields_have_type S fs vs) p.1 in (p.0, q.0, q.1, tested_fields S q.0 vs q.2)
+  tested S t (alt k v) e =
+      let p = both _ _ e in
+      let q = union_is (form_of S t.base) (λ fs. of_field (slice_get fs k) (λ u. has_type_of S u v)) p.1 in
+      let r = field_is (slice_get q.0 k) (λ u. has_type_of S u v) q.2 in
+      (p.0, q.0, q.1, r.0, r.1, tested S r.0.ty v r.2)
+
+  tested_all : (S : List Decl) (t : AidlType) (vs : Items) → all_have_type S t vs ≡ true → HaveType S t vs
+  tested_all S t none e = tt
+  tested_all S t (item v vs) e = let p = both _ _ e in (tested S t v p.0, tested_all S t vs p.1)
+
+  tested_fields : (S : List Decl) (fs : List Field) (vs : Items) → fields_have_type S fs vs ≡ true → FieldsHaveType S fs vs
+  tested_fields S [] none e = tt
+  tested_fields S [] (item v vs) e = absurd (true≢false (sym e))
+  tested_fields S (f ∷ fs) none e = absurd (true≢false (sym e))
+  tested_fields S (f ∷ fs) (item v vs) e = let p = both _ _ e in (tested S f.ty v p.0, tested_fields S fs vs p.1)
+
+mutual
+  pub passes : (S : List Decl) (t : AidlType) (v : Data) → HasType S t v → has_type_of S t v ≡ true
+  passes S t null h = h
+  passes S t (truth b) h = rw (h.0, h.1)
+  passes S t (number n) h = rw (h.0) (in_test _ n h.1)
+  passes S t (text x) h = rw (h.0, h.1) h.2
+  passes S t (seq vs) h = rw (h.0) (passes_all S (elem S t) vs h.1)
+  passes S t (rec vs) h = rw (h.0, h.2) (passes_fields S h.1 vs h.3)
+  passes S t (alt k v) h = rw (h.0, h.2, h.4) (passes S h.3.ty v h.5)
+
+  passes_all : (S : List Decl) (t : AidlType) (vs : Items) → HaveType S t vs → all_have_type S t vs ≡ true
+  passes_all S t none h = refl
+  passes_all S t (item v vs) h = rw (passes S t v h.0) (passes_all S t vs h.1)
+
+  passes_fields : (S : List Decl) (fs : List Field) (vs : Items) → FieldsHaveType S fs vs → fields_have_type S fs vs ≡ true
+  passes_fields S [] none h = refl
+  passes_fields S [] (item v vs) h = elim h [ ]
+  passes_fields S (f ∷ fs) none h = elim h [ ]
+  passes_fields S (f ∷ fs) (item v vs) h = rw (passes S f.ty v h.0) (passes_fields S fs vs h.1)

@@ -1,0 +1,35 @@
+ghost use Rattle.std.specs.Prelude.{◌≡◌, ◌≤◌, ◌↔◌, true};
+ghost use Rattle.aidl_schema.specs.Sizes.{default_depth, default_nodes};
+ghost use Rattle.aidl_schema.specs.Types.{is_type};
+ghost use Rattle.aidl_values.specs.Data.{depth_of};
+ghost use Rattle.aidl_values.specs.Default.{IsZero, zero_within};
+ghost use Rattle.aidl_values.specs.HasType.{HasType};
+ghost use Rattle.aidl_values.specs.Nodes.{nodes_of};
+ghost use Rattle.aidl_values.specs.Sound.{IsSound};
+ghost use Rattle.aidl_values.specs.View.{view};
+
+use crate::value::Value;
+use aidl_schema::{AidlType, Schema};
+
+/// Each type of a schema has one default: 33 levels are enough to find it, and nothing else is one.
+pub fn law_one_default(schema: &Schema, ty: &AidlType, value: &Value)
+    requires { is_type schema.now.decls ty.now ≡ true }
+    ensures there { IsZero schema.now.decls ty.now (zero_within 33 schema.now.decls ty.now) }
+    ensures only { IsZero schema.now.decls ty.now (view value.now) ↔ (view value.now ≡ zero_within 33 schema.now.decls ty.now) }
+{}
+
+/// A default has its type, its depth is at most 32 and its nodes at most 512, and both are what the schema counts.
+pub fn law_default_fits(schema: &Schema, ty: &AidlType, value: &Value)
+    requires of_schema { is_type schema.now.decls ty.now ≡ true }
+    requires zero { IsZero schema.now.decls ty.now (view value.now) }
+    ensures typed { HasType schema.now.decls ty.now (view value.now) }
+    ensures depth { depth_of (view value.now) ≡ default_depth schema.now.decls ty.now }
+    ensures nodes { nodes_of (view value.now) ≡ default_nodes schema.now.decls ty.now }
+    ensures shallow { depth_of (view value.now) ≤ 32 }
+    ensures small { nodes_of (view value.now) ≤ 512 }
+{}
+
+/// In a schema the fields of each parcelable and union have types of the schema and one default each, of their type.
+pub fn law_sound(schema: &Schema)
+    ensures { IsSound schema.now.decls }
+{}

@@ -1,0 +1,108 @@
+ghost use Rattle.std.specs.Prelude.{◌≡◌, ◌↔◌, IsTrue, slice_get};
+ghost use Rattle.aidl_schema.specs.Constants.{in_range};
+ghost use Rattle.aidl_schema.specs.Seen.{seen};
+ghost use Rattle.aidl_schema.specs.Types as types;
+ghost use Rattle.aidl_values.specs.HasType.{HasType};
+ghost use Rattle.aidl_values.specs.TypeTest.{has_type_of, of_field, all_have_type, fields_have_type};
+ghost use Rattle.aidl_values.specs.View.{view, views};
+
+use crate::value::Value;
+use aidl_schema::{AidlType, Field, Form, Schema, Shape, element, form_in};
+
+/// Whether the value has the type. A number fits the range of its type, an enum's that of the backing, and need be
+/// no enumerator. A sequence has elements of the element type, a record one value for each field, and an alternative
+/// a value of the field at its position. Null is of each nullable type. It takes no memory.
+pub fn has_type(schema: &Schema, ty: &AidlType, value: &Value) -> bool
+    ensures { IsTrue result ↔ HasType schema.now.decls ty.now (view value.now) }
+{
+    is_of(schema, *ty, value)
+}
+
+#[cycle(typing)]
+fn is_of(schema: &Schema, ty: AidlType, value: &Value) -> bool
+    ensures { result ≡ has_type_of schema.now.decls ty (view value.now) }
+{
+    match value {
+        Value::Null => ty.nullable,
+        Value::Truth(_) => is_one(ty.shape) && matches!(form_in(schema, ty.base), Form::Truth),
+        Value::Number(n) => is_one(ty.shape) && is_in_range(&form_in(schema, ty.base), *n),
+        Value::Text(text) => {
+            // That it is a text says that its characters are Unicode scalars.
+            let _text = text.as_str();
+            is_one(ty.shape) && matches!(form_in(schema, ty.base), Form::Text)
+        }
+        Value::Seq(items) => {
+            !is_one(ty.shape) && are_of(schema, element(schema, ty), items.as_slice())
+        }
+        Value::Rec(items) => match form_in(schema, ty.base) {
+            Form::Parcelable(fields) => {
+                is_one(ty.shape) && are_of_fields(schema, fields, items.as_slice())
+            }
+            _ => false,
+        },
+        Value::Alt(tag, inner) => match form_in(schema, ty.base) {
+            Form::Union(fields) => is_one(ty.shape) && is_of_field(schema, fields, *tag, inner),
+            _ => false,
+        },
+    }
+}
+
+fn is_one(shape: Shape) -> bool
+    ensures { result ≡ types.is_one shape }
+{
+    matches!(shape, Shape::One)
+}
+
+// Whether the number is in the range of what the base means.
+fn is_in_range(form: &Form<'_>, n: i64) -> bool
+    ensures { result ≡ in_range (seen form.now) n }
+{
+    match form {
+        Form::Byte => -128 <= n && n <= 127,
+        Form::Char => 0 <= n && n <= 65535,
+        Form::Int => -2147483648 <= n && n <= 2147483647,
+        Form::Long => true,
+        _ => false,
+    }
+}
+
+// Whether a union has a field at the position, and the value is of its type.
+#[cycle(typing)]
+fn is_of_field(schema: &Schema, fields: &[Field], tag: u32, value: &Value) -> bool
+    ensures { result ≡ of_field (slice_get fields.now tag) (λ u. has_type_of schema.now.decls u (view value.now)) }
+{
+    match fields.get(tag as usize) {
+        Some(field) => is_of(schema, field.ty, value),
+        None => false,
+    }
+}
+
+#[cycle(typing)]
+fn are_of(schema: &Schema, ty: AidlType, values: &[Value]) -> bool
+    ensures { result ≡ all_have_type schema.now.decls ty (views values.now) }
+{
+    for value in values {
+        if !is_of(schema, ty, value) {
+            return false;
+        }
+    }
+    true
+}
+
+// Whether there is one value for each field, of its type.
+#[cycle(typing)]
+fn are_of_fields(schema: &Schema, fields: &[Field], values: &[Value]) -> bool
+    ensures { result ≡ fields_have_type schema.now.decls fields.now (views values.now) }
+{
+    if fields.len() != values.len() {
+        return false;
+    }
+    for i in 0..values.len() {
+        let field = &fields[i];
+        let value = &values[i];
+        if !is_of(schema, field.ty, value) {
+            return false;
+        }
+    }
+    true
+}
