@@ -11,6 +11,6 @@ mod writer;
 
 pub use fault::ReadFault;
 pub use reader::WordReader;
-pub use sequence::{put_sequence, sequence_length};
+pub use sequence::{put_sequence, sequence_length, take_sequence};
 pub use wire::Wire;
 pub use writer::WordWriter;
