@@ -1,11 +1,13 @@
 -- A text as UTF-16, there and back.
-use Rattle.std.proofs.Common.{◌≡◌, ℕ, ◌+◌, ◌-◌, ◌/◌, ◌%◌, ◌<◌, ◌≤◌, Bool, true, false, ◌&&◌, List, [], ◌∷◌, ◌++◌, map, Some, nat_lt, nat_le, refl, sym, ap, ◌∙◌, arith, true≢false}
+use Rattle.std.proofs.Common.{length, length-append, subst, ◌≡◌, ℕ, ◌+◌, ◌-◌, ◌/◌, ◌%◌, ◌<◌, ◌≤◌, Bool, true, false, ◌&&◌, List, [], ◌∷◌, ◌++◌, map, Some, nat_lt, nat_le, refl, sym, ap, ◌∙◌, arith, true≢false}
 use Rattle.std.specs.Char.Utf16.{utf16_chars, is_high_surrogate, is_low_surrogate, surrogate_pair_char}
 use Rattle.std.specs.Char.Escape.{encode_utf16}
-use Rattle.std.specs.Str.{all_scalars}
-use Rattle.std.proofs.lemmas.Bool.{ltb-false}
+use Rattle.std.specs.Char.{len_utf8}
+use Rattle.std.specs.Str.{all_scalars, encode_utf8_all}
+use Rattle.std.proofs.lemmas.Bool.{ltb-false, le-ltb}
+use Rattle.std.proofs.lemmas.Str.{length-encode, len_utf8_bounds}
 use Rattle.std.proofs.lemmas.Bool.Decides.{nat_tests}
-use lib.Utf8.{scalar}
+use lib.Utf8.{scalar, encode}
 use Rattle.aidl_base.specs.Words.{units}
 
 both : (a b : Bool) → (a && b) ≡ true → (a ≡ true) × (b ≡ true)
@@ -49,3 +51,16 @@ utf16_chars-units [] ok = refl
 utf16_chars-units (c ∷ x) ok =
     let p = both (scalar c) (all_scalars x) ok in
     step_at c (units x) (nat_lt c 0x1_0000) refl p.0 ∙ ap (λ r. Some c ∷ r) (utf16_chars-units x p.1)
+
+units_of_one : (c : ℕ) (b : Bool) → nat_lt c 0x1_0000 ≡ b → length (encode_utf16 c) ≤ len_utf8 c
+units_of_one c true small = let one : length (encode_utf16 c) ≡ 1 = rw small refl in subst (λ n. n ≤ len_utf8 c) (sym one) (len_utf8_bounds c).0
+units_of_one c false large =
+    let le : 0x1_0000 ≤ c = ltb-false _ _ large in
+    let ascii : nat_lt c 0x80 ≡ false = le-ltb _ _ (omega arith) in
+    let two : nat_lt c 0x800 ≡ false = le-ltb _ _ (omega arith) in
+    rw (ascii, two, large) (omega arith)
+
+-- a text has at least as many bytes as units
+pub units_le : (x : List ℕ) → length (units x) ≤ length (encode_utf8_all x)
+units_le [] = omega arith
+units_le (c ∷ x) = omega (arith, units_le x, units_of_one c (nat_lt c 0x1_0000) refl, length-encode c, length-append (encode_utf16 c) (units x), length-append (encode c) (encode_utf8_all x))

@@ -156,4 +156,4 @@ items_at read (suc n) b = do
 unfoldable pub sequence_at : {A : Type 0} → (Bool → List ℕ → Read A) → Bool → Bool → List ℕ → Read (Option (List A))
 sequence_at read nullable inside b = do
   n ← count_at nullable inside b
-  counted_at (λ m c. items_at (λ d. read inside d) m c) n.0 n.1
+  counted_at (λ m c. items_at (read inside) m c) n.0 n.1

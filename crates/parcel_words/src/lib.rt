@@ -2,6 +2,7 @@
 #![tactic(auto)]
 
 mod fault;
+mod laws;
 mod padding;
 mod reader;
 mod sequence;
@@ -10,7 +11,8 @@ mod wire;
 mod writer;
 
 pub use fault::ReadFault;
+pub use laws::{law_no_prefix, law_sequence_no_prefix, law_sequence_taken_again, law_taken_again};
 pub use reader::WordReader;
-pub use sequence::{put_sequence, sequence_length};
+pub use sequence::{put_sequence, sequence_length, take_sequence};
 pub use wire::Wire;
 pub use writer::WordWriter;

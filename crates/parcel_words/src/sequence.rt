@@ -47,3 +47,62 @@ fn put_items<W: Wire>(items: &[W], to: &mut WordWriter)
         item.put(to);
     }
 }
+
+/// Takes a sequence, where None is null. It refuses as `word` does, by the rules for counts, and as an item is refused.
+/// It takes room for an item only once the item was read.
+#[tactic(auto, using(crate::proofs::Moves::on_and_on), unfolding(aidl_base::specs::Readings::sequence_at))]
+pub fn take_sequence<W: Wire>(
+    alloc: Global,
+    nullable: bool,
+    from: &mut WordReader,
+) -> Result<Option<Row<W>>, ReadFault>
+    ensures taken { Takes (λ x. x) result (sequence_at W.reading nullable (is_inside from.old) (left from.old)) (left from.new) }
+    ensures passed { OnOk result (MovesOn from.old from.new) }
+    ensures unchanged { OnErr result (from.new ≡ from.old) }
+{
+    let Some(count) = from.count(nullable)? else {
+        return Ok(None);
+    };
+    match take_items(alloc, count, from) {
+        Ok(items) => Ok(Some(items)),
+        Err(fault) => {
+            from.go_back(4);
+            Err(fault)
+        }
+    }
+}
+
+/// Takes so many items.
+fn take_items<W: Wire>(
+    alloc: Global,
+    count: usize,
+    from: &mut WordReader,
+) -> Result<Row<W>, ReadFault>
+    ensures taken { Takes (λ x. x) result (items_at (W.reading (is_inside from.old)) count (left from.old)) (left from.new) }
+    ensures passed { OnOk result (MovesOn from.old from.new) }
+    ensures unchanged { OnErr result (from.new ≡ from.old) }
+{
+    let start = from.position();
+    let items = take_each(alloc, count, from);
+    if items.is_err() {
+        from.go_back(from.position() - start);
+    }
+    items
+}
+
+/// Takes so many items, and stands after those that were taken.
+fn take_each<W: Wire>(
+    alloc: Global,
+    count: usize,
+    from: &mut WordReader,
+) -> Result<Row<W>, ReadFault>
+    ensures taken { Takes (λ x. x) result (items_at (W.reading (is_inside from.old)) count (left from.old)) (left from.new) }
+    ensures passed { MovesOn from.old from.new }
+{
+    let mut items = Row::new(alloc);
+    for _ in 0..count {
+        let item = W::take(alloc, from)?;
+        items.push(item)?;
+    }
+    Ok(items)
+}

@@ -1,4 +1,4 @@
-ghost use Rattle.std.specs.Prelude.{◌≡◌, ◌^◌, ◌<◌, ◌≤◌, pos, ℤ, ℕ, List, [], ◌++◌, Bool, Ok, length, min, OnOk, OnErr, IsTrue, MatchResult, FitsSigned};
+ghost use Rattle.std.specs.Prelude.{◌≡◌, ◌^◌, ◌<◌, ◌≤◌, true, pos, ℤ, ℕ, List, [], ◌++◌, Bool, Ok, length, min, OnOk, OnErr, IsTrue, MatchResult, FitsSigned};
 ghost use Rattle.std.specs.Int.{w8, w32, w64};
 ghost use Rattle.std.specs.Str.{all_scalars};
 ghost use Rattle.aidl_base.specs.Words.{word, long_word, units};
@@ -208,6 +208,39 @@ impl Wire for i64 {
     ghost taken_again = { λ x inside rest value _. long_again x inside rest value };
 
     ghost no_prefix = { λ x y rest first _ second _. long_prefix x y rest first second };
+}
+
+/// A text: the count of its UTF-16 units, and its block. Null is refused by `UnexpectedNull`.
+impl Wire for Text {
+    ghost is_value = { λ x. all_scalars x ≡ true };
+
+    ghost can_put = { λ x. length (units x) ≤ 2147483647 };
+
+    ghost spelling = { spell_text };
+
+    ghost reading = { present_text_at };
+
+    fn length(&self) -> usize {
+        (unit_count(self.as_str()) / 2 + 2).saturating_mul(4)
+    }
+
+    fn put(&self, to: &mut WordWriter) {
+        to.present_text(self.as_str());
+    }
+
+    #[tactic(auto, unfolding(aidl_base::specs::Readings::present_text_at))]
+    fn take(alloc: Global, from: &mut WordReader) -> Result<Text, ReadFault> {
+        match from.text(alloc, false)? {
+            Some(text) => Ok(Text::from_string(text)),
+            None => unreachable!(),
+        }
+    }
+
+    ghost use Rattle.aidl_base.proofs.Spelled.{present_text_again, text_prefix};
+
+    ghost taken_again = { λ x inside rest value can. present_text_again x inside rest value can };
+
+    ghost no_prefix = { λ x y rest first can second may. text_prefix x y rest first can second may };
 }
 
 /// The truth value of a word.

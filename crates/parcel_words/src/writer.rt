@@ -88,7 +88,7 @@ impl WordWriter {
     }
 
     /// Appends a text that isn't null.
-    fn present_text(&mut self, text: &str)
+    pub(crate) fn present_text(&mut self, text: &str)
         requires few { length (units (chars text.now)) < 2 ^ 31 }
         requires room { length (spell_text (chars text.now)) ≤ self.old.room }
         ensures { self.new ≡ with_bytes self.old (spell_text (chars text.now)) }
@@ -171,8 +171,8 @@ impl WordWriter {
 
 /// The number of UTF-16 units of a text.
 pub fn unit_count(text: &str) -> usize
-    requires { length (units (chars text.now)) < 2 ^ 63 }
-    ensures { result ≡ length (units (chars text.now)) }
+    ensures count { result ≡ length (units (chars text.now)) }
+    ensures small { result < 2 ^ 63 }
 {
     let mut count = 0;
     for c in text.chars() {
