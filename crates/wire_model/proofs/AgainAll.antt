@@ -17,7 +17,7 @@ use Rattle.aidl_values.specs.Sound.{initial_in, HaveDefaults, AreTypes}
 use Rattle.wire_model.specs.Reads.{Readings, Reads, EachReads, FieldsRead}
 use Rattle.wire_model.specs.Spell.{null_word, raw_bytes, spell_number}
 use Rattle.wire_model.specs.ReadOf.{Read, one_at, count_at, text_at, sequence_at, elements_at, marker_at, body_at, field_at, fields_at, body_value_at, record_at, tag_at, tagged_at, union_at, read_of, read_parts, has_levels, text_block_at}
-use Rattle.wire_model.proofs.OneZero.{one_zero}
+use Rattle.aidl_values.proofs.OneZero.{one_zero}
 use Rattle.wire_model.proofs.Parts.{read_of-parts}
 use Rattle.wire_model.proofs.Again.{word_again, fits_pos, truth_again, number_again, each_again, count_again, count_null}
 use Rattle.wire_model.proofs.AgainTexts.{bytes_again, text_again, AreBytes, raw_again}

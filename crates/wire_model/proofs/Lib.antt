@@ -5,7 +5,6 @@ mod Defaults
 mod Examples
 mod Forms
 pub mod Lists
-mod OneZero
 pub mod Parts
 mod RawForms
 pub mod Reading

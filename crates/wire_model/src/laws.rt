@@ -2,7 +2,6 @@ ghost use Rattle.std.specs.Prelude.{◌≡◌, ◌≤◌, ◌++◌, ◌⊎◌, t
 ghost use Rattle.aidl_schema.specs.Types.{is_type};
 ghost use Rattle.aidl_values.specs.Data.{depth_of};
 ghost use Rattle.aidl_values.specs.HasType.{HasType};
-ghost use Rattle.aidl_values.specs.Sound.{IsSound};
 ghost use Rattle.aidl_values.specs.View.{view};
 ghost use Rattle.wire_model.specs.Reads.{FrontReads, Reads};
 ghost use Rattle.wire_model.specs.Spell.{spell};
@@ -31,7 +30,6 @@ pub fn law_one_reading(
     first: &Value,
     second: &Value,
 )
-    requires sound { IsSound schema.now.decls }
     requires known { is_type schema.now.decls ty.now ≡ true }
     requires one { Reads schema.now.decls levels ty.now b.now (view first.now) }
     requires two { Reads schema.now.decls levels ty.now c.now (view second.now) }
@@ -51,7 +49,6 @@ pub fn law_reads_or_stops(
     first: i32,
     second: i32,
 )
-    requires sound { IsSound schema.now.decls }
     requires known { is_type schema.now.decls ty.now ≡ true }
     ensures one { FrontReads schema.now.decls levels ty.now b.now
         ⊎ Stops schema.now.decls levels ty.now b.now inside }

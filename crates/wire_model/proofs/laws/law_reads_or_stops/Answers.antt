@@ -1,3 +1,4 @@
+use Rattle.aidl_values.proofs.Sounds.{sound}
 use Rattle.std.proofs.Common.{arith}
 use Rattle.wire_model.proofs.Lists.{IsBytes}
 use Rattle.wire_model.proofs.Reading.{reads_or_stops, not_both, one_status}
@@ -7,7 +8,7 @@ use Rattle.wire_model.proofs.laws.law_reads_or_stops.Goals as goal
 pub returns : goal.returns
 returns c =
     let S = c.args.schema.now.decls in
-    let sound = c.requires.sound in
+    let sound = sound S c.args.schema.now.valid in
     let known = c.requires.known in
     let d = c.args.levels in
     let t = c.args.ty.now in
