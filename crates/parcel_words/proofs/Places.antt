@@ -2,7 +2,7 @@
 use Rattle.std.proofs.Common.{◌≡◌, ℕ, zero, suc, add-one, ◌+◌, ◌-◌, ◌<◌, ◌≤◌, List, length, take, drop, get_or, set, ◌≢◌, ◌∷◌, get_or-set_other, get_or-set_same, true, true≢false, refl, sym, ap, ◌∙◌, arith, length-take, length-drop}
 use Rattle.std.proofs.lemmas.List.{drop-take}
 use Rattle.parcel_words.specs.declared.reader.WordReader.TheInside.{Inside}
-use Rattle.parcel_words.specs.Place.{Place, limit, limit_of, left, opened, is_some_open}
+use Rattle.parcel_words.specs.Place.{Place, limit_of, left, opened, is_some_open}
 use Rattle.parcel_words.specs.Fields.{ends_of, place_of, IsNested, IsPlace}
 
 limit_at : (opened end len : ℕ) (outer : List ℕ) → (opened ≡ 0 → end ≡ len) → limit_of (ends_of opened end outer) len ≡ end
