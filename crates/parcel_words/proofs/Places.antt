@@ -2,7 +2,7 @@
 use Rattle.std.proofs.Common.{◌≡◌, ℕ, zero, suc, add-one, ◌+◌, ◌-◌, ◌<◌, ◌≤◌, List, length, take, drop, get_or, set, ◌≢◌, ◌∷◌, get_or-set_other, get_or-set_same, true, true≢false, refl, sym, ap, ◌∙◌, arith, length-take, length-drop}
 use Rattle.std.proofs.lemmas.List.{drop-take}
 use Rattle.parcel_words.specs.declared.reader.WordReader.TheInside.{Inside}
-use Rattle.parcel_words.specs.Place.{Place, limit_of, left, opened, is_some_open}
+use Rattle.parcel_words.specs.Place.{Place, limit, limit_of, left, opened, is_some_open}
 use Rattle.parcel_words.specs.Fields.{ends_of, place_of, IsNested, IsPlace}
 
 limit_at : (opened end len : ℕ) (outer : List ℕ) → (opened ≡ 0 → end ≡ len) → limit_of (ends_of opened end outer) len ≡ end
@@ -72,3 +72,7 @@ nested_whole (suc n) end outer len h e = absurd (omega arith)
 pub some_open : (n end : ℕ) (outer : List ℕ) → is_some_open (ends_of n end outer) ≡ true → 0 < n
 some_open zero end outer e = absurd (true≢false (sym e))
 some_open (suc n) end outer e = omega arith
+
+-- the limit is the end that the reader keeps
+pub limit_is : (a : Inside) → IsPlace a → limit (place_of a) ≡ a.end
+limit_is a p = limit_at a.open a.end (length a.bytes.now) a.outer p.whole
