@@ -1,5 +1,5 @@
 -- The block of a text and raw bytes, there and back.
-use Rattle.std.proofs.Common.{◌≡◌, ℕ, zero, suc, ◌+◌, ◌-◌, ◌*◌, ◌/◌, ◌%◌, ◌^◌, ◌<◌, ◌≤◌, Bool, true, false, not, ◌&&◌, cond, List, [], ◌∷◌, ◌++◌, map, length, take, drop, get_or, replicate, Some, Option, Ok, Err, nat_lt, nat_le, refl, sym, ap, ◌∙◌, arith, append_assoc, length-append, true≢false}
+use Rattle.std.proofs.Common.{◌≡◌, ℕ, zero, suc, ◌+◌, ◌-◌, ◌*◌, ◌/◌, ◌^◌, ◌<◌, ◌≤◌, Bool, true, false, not, ◌&&◌, cond, List, [], ◌∷◌, ◌++◌, map, length, take, drop, get_or, replicate, Some, Ok, Err, nat_lt, nat_le, refl, sym, ap, ◌∙◌, arith, append_assoc, length-append, true≢false}
 use Rattle.std.specs.List.{list_any}
 use Rattle.std.specs.Option.{unwrap_or, is_some}
 use Rattle.std.specs.Int.{w16, to_le_bytes, from_le_bytes}

@@ -72,3 +72,7 @@ nested_whole (suc n) end outer len h e = absurd (omega arith)
 pub some_open : (n end : ℕ) (outer : List ℕ) → is_some_open (ends_of n end outer) ≡ true → 0 < n
 some_open zero end outer e = absurd (true≢false (sym e))
 some_open (suc n) end outer e = omega arith
+
+-- the limit is the end that the reader keeps
+pub limit_is : (a : Inside) → IsPlace a → limit (place_of a) ≡ a.end
+limit_is a p = limit_at a.open a.end (length a.bytes.now) a.outer p.whole

@@ -3,8 +3,8 @@ ghost use Rattle.std.specs.Option.{option_map};
 ghost use Rattle.std.specs.Str.{chars};
 ghost use Rattle.aidl_base.specs.Words.{padding};
 ghost use Rattle.aidl_base.specs.Readings.{bytes_at, word_at, long_at, raw_at, count_of, count_at, block_at, text_at, past};
-ghost use Rattle.parcel_words.specs.Place.{left, moved, moved_back, MovesOn, is_inside, size_of, size_at, Enters, closed, opened};
-ghost use Rattle.parcel_words.specs.Taken.{Takes, Fails, status_of};
+ghost use Rattle.parcel_words.specs.Place.{limit, left, moved, moved_back, MovesOn, is_inside, size_of, size_at, Enters, closed, opened};
+ghost use Rattle.parcel_words.specs.Taken.{Takes, TakesIfMemory, Refuses, status_of};
 
 use crate::fault::ReadFault;
 use crate::padding::{is_zero, padding_of};
@@ -51,9 +51,11 @@ impl<'a> WordReader<'a> {
         }
     }
 
-    /// The number of bytes passed.
+    /// The number of bytes passed. They are within the limit, and the limit is within the bytes.
     pub fn position(&self) -> usize
-        ensures { result ≡ self.now.position }
+        ensures value { result ≡ self.now.position }
+        ensures within { result ≤ limit self.now }
+        ensures whole { limit self.now ≤ length self.now.bytes }
     {
         self.position
     }
@@ -109,7 +111,7 @@ impl<'a> WordReader<'a> {
     /// units aren't well-formed UTF-16 or after whose units not all bytes are zero.
     #[tactic(auto, using(crate::proofs::Moves::on_and_on), unfolding(aidl_base::specs::Readings::text_at))]
     pub fn text(&mut self, alloc: Global, nullable: bool) -> Result<Option<String>, ReadFault>
-        ensures taken { Takes (option_map (λ x. chars (string_bytes x))) result
+        ensures taken { TakesIfMemory (option_map (λ x. chars (string_bytes x))) result
             (text_at nullable (is_inside self.old) (left self.old)) (left self.new) }
         ensures passed { OnOk result (MovesOn self.old self.new) }
         ensures unchanged { OnErr result (self.new ≡ self.old) }
@@ -132,7 +134,7 @@ impl<'a> WordReader<'a> {
         requires { length self.old.ends < 64 }
         ensures entered { MatchResult result
             (λ _. Enters self.old self.new)
-            (λ e. Fails e (size_at (is_inside self.old) (left self.old))) }
+            (λ e. Refuses e (size_at (is_inside self.old) (left self.old))) }
         ensures unchanged { OnErr result (self.new ≡ self.old) }
     {
         let size = self.next_size()?;
@@ -185,7 +187,7 @@ impl<'a> WordReader<'a> {
     #[tactic(auto, unfolding(aidl_base::specs::Readings::block_at))]
     fn block(&mut self, alloc: Global, units: usize) -> Result<String, ReadFault>
         requires { units < 2 ^ 31 }
-        ensures taken { Takes (λ x. chars (string_bytes x)) result
+        ensures taken { TakesIfMemory (λ x. chars (string_bytes x)) result
             (block_at units (is_inside self.old) (left self.old)) (left self.new) }
         ensures passed { OnOk result (MovesOn self.old self.new) }
         ensures unchanged { OnErr result (self.new ≡ self.old) }
@@ -276,7 +278,7 @@ impl<'a> WordReader<'a> {
 
 /// The count that a word means, where None is null.
 fn count_of(word: i32, nullable: bool) -> Result<Option<usize>, ReadFault>
-    ensures count { MatchResult result (λ n. count_of nullable word ≡ Ok n) (λ e. Fails e (count_of nullable word)) }
+    ensures count { MatchResult result (λ n. count_of nullable word ≡ Ok n) (λ e. Refuses e (count_of nullable word)) }
     ensures small { IfOk result (λ n. IfSome n (λ k. k < 2 ^ 31)) }
 {
     if word >= 0 {
@@ -294,7 +296,7 @@ fn count_of(word: i32, nullable: bool) -> Result<Option<usize>, ReadFault>
 
 /// The size that a size word means, which counts the word itself.
 fn size_of(word: i32) -> Result<usize, ReadFault>
-    ensures size { MatchResult result (λ z. size_of word ≡ Ok z) (λ e. Fails e (size_of word)) }
+    ensures size { MatchResult result (λ z. size_of word ≡ Ok z) (λ e. Refuses e (size_of word)) }
     ensures least { IfOk result (λ z. 4 ≤ z) }
 {
     if word < 4 || word % 4 != 0 {

@@ -5,7 +5,7 @@ ghost use Rattle.aidl_base.specs.Words.{word, long_word, units};
 ghost use Rattle.aidl_base.specs.Spellings.{spell_truth, spell_text};
 ghost use Rattle.aidl_base.specs.Readings.{Read, truth_of, byte_of, char_of, truth_at, byte_at, char_at, word_at, long_at, present_text_at};
 ghost use Rattle.parcel_words.specs.Place.{left, is_inside, MovesOn};
-ghost use Rattle.parcel_words.specs.Taken.{Takes, Fails};
+ghost use Rattle.parcel_words.specs.Taken.{TakesIfMemory, Refuses};
 ghost use Rattle.parcel_words.specs.Written.{with_bytes};
 
 use crate::fault::ReadFault;
@@ -40,7 +40,7 @@ pub trait Wire: Sized + Drop {
 
     /// Takes a value. It refuses exactly by the rules of its type.
     fn take(alloc: Global, from: &mut WordReader) -> Result<Self, ReadFault>
-        ensures taken { Takes (λ x. x) result (reading (is_inside from.old) (left from.old)) (left from.new) }
+        ensures taken { TakesIfMemory (λ x. x) result (reading (is_inside from.old) (left from.old)) (left from.new) }
         ensures passed { OnOk result (MovesOn from.old from.new) }
         ensures unchanged { OnErr result (from.new ≡ from.old) };
 
@@ -245,7 +245,7 @@ impl Wire for Text {
 
 /// The truth value of a word.
 fn truth_of(word: i32) -> Result<bool, ReadFault>
-    ensures { MatchResult result (λ t. truth_of word ≡ Ok t) (λ e. Fails e (truth_of word)) }
+    ensures { MatchResult result (λ t. truth_of word ≡ Ok t) (λ e. Refuses e (truth_of word)) }
 {
     match word {
         0 => Ok(false),
@@ -256,14 +256,14 @@ fn truth_of(word: i32) -> Result<bool, ReadFault>
 
 /// The byte of a word.
 fn byte_of(word: i32) -> Result<i8, ReadFault>
-    ensures { MatchResult result (λ n. byte_of word ≡ Ok n) (λ e. Fails e (byte_of word)) }
+    ensures { MatchResult result (λ n. byte_of word ≡ Ok n) (λ e. Refuses e (byte_of word)) }
 {
     i8::try_from(word).map_err(|_| ReadFault::BadValue)
 }
 
 /// The code unit of a word.
 fn char_of(word: i32) -> Result<u16, ReadFault>
-    ensures { MatchResult result (λ n. char_of word ≡ Ok n) (λ e. Fails e (char_of word)) }
+    ensures { MatchResult result (λ n. char_of word ≡ Ok n) (λ e. Refuses e (char_of word)) }
 {
     u16::try_from(word).map_err(|_| ReadFault::BadValue)
 }
