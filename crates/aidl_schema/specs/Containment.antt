@@ -44,7 +44,11 @@ abbrev pub IsChain : List Decl → ℕ → List ℕ → ℕ → Type 0
 IsChain S m [] n = Contains (contained S m) n
 IsChain S m (j ∷ js) n = Contains (contained S m) j × IsChain S j js n
 
--- a chain of at most so many steps leads from m to n
+-- a chain of one step or more leads from m to n
+abbrev pub Reaches : List Decl → ℕ → ℕ → Type 0
+Reaches S m n = (js : List ℕ) × IsChain S m js n
+
+-- the same with at most k steps, as a test
 unfoldable pub reaches_within : ℕ → List Decl → ℕ → ℕ → Bool
 reaches_within zero S m n = false
 reaches_within (suc k) S m n = list_any (λ j. (j == n) || reaches_within k S j n) (contained S m)
