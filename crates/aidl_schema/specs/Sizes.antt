@@ -60,8 +60,8 @@ depth_by S of_type t = if t.nullable then 0 else (if is_one t.shape then form_de
 abbrev pub nodes_by : List Decl → (AidlType → ℕ) → AidlType → ℕ
 nodes_by S of_type t = if t.nullable then 1 else (if is_one t.shape then form_nodes (λ f. field_size const_nodes of_type f) (form_of S t.base) else 1)
 
--- The depth of a type's default and the number of its nodes, counted in its first n levels. A default may grow without
--- end where a type holds itself, and by a factor with each level: so the count is cut off.
+-- The depth of a type's default and the number of its nodes, looked at n levels down: a type may hold itself, and then
+-- its default would have no end. What is below n counts right, since each level has a depth and a node of its own.
 unfoldable pub depth_within : ℕ → List Decl → AidlType → ℕ
 depth_within zero S t = 0
 depth_within (suc n) S t = depth_by S (λ u. depth_within n S u) t
@@ -70,14 +70,14 @@ unfoldable pub nodes_within : ℕ → List Decl → AidlType → ℕ
 nodes_within zero S t = 0
 nodes_within (suc n) S t = nodes_by S (λ u. nodes_within n S u) t
 
--- the depth of a type's default, at most 33
+-- the depth of a type's default, and 33 if it is greater
 abbrev pub default_depth : List Decl → AidlType → ℕ
 default_depth S t = min 33 (depth_within 33 S t)
 
--- the nodes of a type's default, at most 513; if it is deeper than 33, those of its first 33 levels
+-- the number of nodes of a type's default, and 513 if it is greater
 abbrev pub default_nodes : List Decl → AidlType → ℕ
-default_nodes S t = min 513 (nodes_within 33 S t)
+default_nodes S t = min 513 (nodes_within 513 S t)
 
--- E23 does not refuse it: a default has a depth of at most 32 and at most 512 nodes
+-- E23 does not refuse it: the default has a depth of at most 32 and at most 512 nodes.
 abbrev pub has_small_default : List Decl → AidlType → Bool
 has_small_default S t = nat_le (default_depth S t) 32 && nat_le (default_nodes S t) 512
