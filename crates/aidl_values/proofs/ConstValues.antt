@@ -39,19 +39,17 @@ pub record IsSized (c : Const) : Type 0 where
   pub depth : depth_of (const_value c) ≡ const_depth c
   pub nodes : nodes_of (const_value c) ≡ const_nodes c
 
+by_level : (c : Const) (o : Const-F Const) → out-Const c ≡ o → depth_of (value_step o) ≡ const_depth_step (map-Const Const ℕ const_depth o)
+    → nodes_of (value_step o) ≡ const_nodes_step (map-Const Const ℕ const_nodes o) → IsSized c
+by_level c o e depth nodes = record {
+  depth = ap depth_of (value_is c ∙ ap value_step e) ∙ depth ∙ sym (fold_out-Const ℕ const_depth_step c ∙ ap (λ p. const_depth_step (map-Const Const ℕ const_depth p)) e);
+  nodes = ap nodes_of (value_is c ∙ ap value_step e) ∙ nodes ∙ sym (fold_out-Const ℕ const_nodes_step c ∙ ap (λ p. const_nodes_step (map-Const Const ℕ const_nodes p)) e)
+}
+
 single_sized : (S : List Decl) (b : Base) (c : Const) (o : Const-F Const) → out-Const c ≡ o → is_single S b o ≡ true → IsSized c
-single_sized S b c (Const-F.Truth x) e h = record {
-  depth = ap depth_of (value_is c ∙ ap value_step e) ∙ sym (fold_out-Const ℕ const_depth_step c ∙ ap (λ p. const_depth_step (map-Const Const ℕ const_depth p)) e);
-  nodes = ap nodes_of (value_is c ∙ ap value_step e) ∙ sym (fold_out-Const ℕ const_nodes_step c ∙ ap (λ p. const_nodes_step (map-Const Const ℕ const_nodes p)) e);
-}
-single_sized S b c (Const-F.Number n) e h = record {
-  depth = ap depth_of (value_is c ∙ ap value_step e) ∙ sym (fold_out-Const ℕ const_depth_step c ∙ ap (λ p. const_depth_step (map-Const Const ℕ const_depth p)) e);
-  nodes = ap nodes_of (value_is c ∙ ap value_step e) ∙ sym (fold_out-Const ℕ const_nodes_step c ∙ ap (λ p. const_nodes_step (map-Const Const ℕ const_nodes p)) e);
-}
-single_sized S b c (Const-F.Text x) e h = record {
-  depth = ap depth_of (value_is c ∙ ap value_step e) ∙ sym (fold_out-Const ℕ const_depth_step c ∙ ap (λ p. const_depth_step (map-Const Const ℕ const_depth p)) e);
-  nodes = ap nodes_of (value_is c ∙ ap value_step e) ∙ sym (fold_out-Const ℕ const_nodes_step c ∙ ap (λ p. const_nodes_step (map-Const Const ℕ const_nodes p)) e);
-}
+single_sized S b c (Const-F.Truth x) e h = by_level c (Const-F.Truth x) e refl refl
+single_sized S b c (Const-F.Number n) e h = by_level c (Const-F.Number n) e refl refl
+single_sized S b c (Const-F.Text x) e h = by_level c (Const-F.Text x) e refl refl
 single_sized S b c (Const-F.Members cs) e h = absurd (true≢false (sym h))
 
 members_depth : (S : List Decl) (b : Base) (cs : List Const) → list_all (λ m. is_constant_of S b m) cs ≡ true
@@ -76,12 +74,7 @@ list_sized : (S : List Decl) (b : Base) (c : Const) (o : Const-F Const) → out-
 list_sized S b c (Const-F.Truth x) e h = absurd (true≢false (sym h))
 list_sized S b c (Const-F.Number n) e h = absurd (true≢false (sym h))
 list_sized S b c (Const-F.Text x) e h = absurd (true≢false (sym h))
-list_sized S b c (Const-F.Members cs) e h = record {
-  depth = ap depth_of (value_is c ∙ ap value_step e) ∙ ap suc (members_depth S b cs h)
-      ∙ sym (fold_out-Const ℕ const_depth_step c ∙ ap (λ p. const_depth_step (map-Const Const ℕ const_depth p)) e);
-  nodes = ap nodes_of (value_is c ∙ ap value_step e) ∙ ap suc (members_nodes S b cs h)
-      ∙ sym (fold_out-Const ℕ const_nodes_step c ∙ ap (λ p. const_nodes_step (map-Const Const ℕ const_nodes p)) e);
-}
+list_sized S b c (Const-F.Members cs) e h = by_level c (Const-F.Members cs) e (ap suc (members_depth S b cs h)) (ap suc (members_nodes S b cs h))
 
 pub sized : (S : List Decl) (t : AidlType) (c : Const) → is_initializer_of S t c ≡ true → IsSized c
 sized S t c h = by (is_one t.shape) refl
