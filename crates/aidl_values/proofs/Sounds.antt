@@ -1,5 +1,5 @@
 -- In a valid schema defaults are small, each type has one, and so the schema is sound.
-use Rattle.std.proofs.Common.{◌≡◌, ℕ, zero, suc, ◌+◌, ◌≤◌, Bool, true, false, List, [], ◌∷◌, length, Option, Some, None, slice_get, refl, sym, ◌∙◌, subst, arith, true≢false}
+use Rattle.std.proofs.Common.{◌≡◌, ℕ, zero, suc, ◌+◌, ◌≤◌, Bool, true, false, List, [], ◌∷◌, length, Option, Some, None, slice_get, refl, sym, ◌∙◌, subst, arith}
 use Rattle.std.specs.Prelude.{nat_le, MatchOption}
 use Rattle.std.specs.List.{list_all}
 use Rattle.std.proofs.lemmas.Bool.Decides.{nat_tests}
@@ -43,7 +43,7 @@ fields_few (Enum b es) = omega arith
 
 module _ (S : List Decl) (D N : AidlType → ℕ) (law : (n : ℕ) (d : Decl) → slice_get S n ≡ Some d → (depth_by S D (one_of n) ≤ 32) × (nodes_by S N (one_of n) ≤ 512)) where
   of_named : (n : ℕ) (o : Option Decl) → slice_get S n ≡ o → is_meant (form_of_decl o) ≡ true → (depth_by S D (one_of n) ≤ 32) × (nodes_by S N (one_of n) ≤ 512)
-  of_named n None is meant = absurd (true≢false (sym meant))
+  of_named n None is meant = cc
   of_named n (Some d) is meant = law n d is
 
   of_base : (t : AidlType) (b : Base) → t.base ≡ b → t.nullable ≡ false → is_one t.shape ≡ true → is_meant (form_of S b) ≡ true
