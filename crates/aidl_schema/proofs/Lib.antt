@@ -1,2 +1,4 @@
+pub mod Chains
+pub mod Counts
 pub mod Tests
 pub mod Valids

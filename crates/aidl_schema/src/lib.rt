@@ -1,9 +1,11 @@
 //! A schema: what a checked tree declares, and what its types mean.
 #![tactic(auto)]
 
+mod laws;
 mod meaning;
 mod schema;
 
+pub use laws::{law_default_sizes, law_holds_itself};
 pub use meaning::{Form, element, form_in, is_raw};
 pub use schema::{
     AidlType, Arg, Backing, Base, Constant, Decl, Direction, Enumerator, Field, Kind, Method,

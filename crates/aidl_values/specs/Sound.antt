@@ -1,4 +1,4 @@
--- What a valid schema gives of the fields of its declarations.
+-- What a valid schema gives of the fields of its declarations (`law_sound`).
 use Rattle.std.specs.Prelude.{◌≡◌, ℕ, ◌≤◌, true, List, [], ◌∷◌, length, Some, slice_get}
 use Rattle.aidl_schema.specs.declared.schema.Decl.{Decl}
 use Rattle.aidl_schema.specs.declared.schema.Field.{Field}
@@ -29,10 +29,12 @@ initial_in S f = initial_by (λ t. zero_within 33 S t) f
 abbrev pub HasDefault : List Decl → Field → Type 0
 HasDefault S f = IsInitial S f (initial_in S f) × HasType S f.ty (initial_in S f)
 
+-- each field's default is there
 abbrev pub HaveDefaults : List Decl → List Field → Type 0
 HaveDefaults S [] = Unit {0}
 HaveDefaults S (f ∷ fs) = HasDefault S f × HaveDefaults S fs
 
+-- Each field has a type of the schema and a default of that type, and its position is one that a tag can say.
 pub record IsSound (S : List Decl) : Type 0 where
   pub types : (d : Decl) → IsDeclared S d → AreTypes S (fields_of d.kind)
   pub defaults : (d : Decl) → IsDeclared S d → HaveDefaults S (fields_of d.kind)
