@@ -2,8 +2,8 @@ ghost use Rattle.std.specs.Prelude.{◌≡◌, ℕ, ◌+◌, ◌^◌, ◌<◌, �
 ghost use Rattle.std.specs.Option.{option_map};
 ghost use Rattle.std.specs.Str.{chars};
 ghost use Rattle.aidl_base.specs.Words.{padding};
-ghost use Rattle.aidl_base.specs.Readings.{bytes_at, word_at, long_at, raw_at, count_of, count_at, block_at, text_at, past};
-ghost use Rattle.parcel_words.specs.Place.{left, moved, moved_back, MovesOn, is_inside, size_of, size_at, Enters, closed, opened};
+ghost use Rattle.aidl_base.specs.Readings.{bytes_at, word_at, long_at, raw_at, count_of, count_at, block_at, text_at, past, size_of};
+ghost use Rattle.parcel_words.specs.Place.{left, moved, moved_back, MovesOn, is_inside, size_at, Enters, closed, opened};
 ghost use Rattle.parcel_words.specs.Taken.{Takes, Fails, status_of};
 
 use crate::fault::ReadFault;
