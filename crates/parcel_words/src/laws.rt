@@ -10,8 +10,7 @@ pub fn law_taken_again<W: Wire>(value: &W)
     requires value { W.is_value value.now }
     requires can { W.can_put value.now }
     ensures { (inside : Bool) (rest : List ℕ) → W.reading inside (W.spelling value.now ++ rest) ≡ Ok (value.now, rest) }
-{
-}
+{}
 
 /// No spelling is a proper prefix of another.
 pub fn law_no_prefix<W: Wire>(first: &W, second: &W)
@@ -20,8 +19,7 @@ pub fn law_no_prefix<W: Wire>(first: &W, second: &W)
     requires second { W.is_value second.now }
     requires second_can { W.can_put second.now }
     ensures { (rest : List ℕ) → W.spelling first.now ++ rest ≡ W.spelling second.now → rest ≡ [] }
-{
-}
+{}
 
 /// A sequence that was put is taken again, whatever follows it, in a record or outside one.
 pub fn law_sequence_taken_again<W: Wire>(items: &[W])
@@ -30,8 +28,7 @@ pub fn law_sequence_taken_again<W: Wire>(items: &[W])
     requires can { All W.can_put items.now }
     ensures { (nullable inside : Bool) (rest : List ℕ)
         → sequence_at W.reading nullable inside (spell_sequence W.spelling items.now ++ rest) ≡ Ok (Some items.now, rest) }
-{
-}
+{}
 
 /// No spelling of a sequence is a proper prefix of another.
 pub fn law_sequence_no_prefix<W: Wire>(first: &[W], second: &[W])
@@ -42,5 +39,4 @@ pub fn law_sequence_no_prefix<W: Wire>(first: &[W], second: &[W])
     requires second { All W.is_value second.now }
     requires second_can { All W.can_put second.now }
     ensures { (rest : List ℕ) → spell_sequence W.spelling first.now ++ rest ≡ spell_sequence W.spelling second.now → rest ≡ [] }
-{
-}
+{}
