@@ -1,6 +1,6 @@
 -- Reading values of built-in types off the front of bytes: the value and the bytes after it, or the status of the first wrong item.
 -- The bytes are those up to the reader's limit, and `inside` says that the limit is the end of a record (statuses: libutils, Errors.h; rules: own).
-use Rattle.std.specs.Prelude.{ℕ, zero, suc, ◌+◌, ◌*◌, ℤ, pos, negsuc, int_le, Bool, true, false, ◌&&◌, List, [], ◌∷◌, length, take, drop, Option, Some, None, Result, Ok, Err, nat_lt, nat_le, ◌==◌, if◌then◌else◌}
+use Rattle.std.specs.Prelude.{ℕ, zero, suc, ◌+◌, ◌*◌, ◌%◌, ℤ, pos, negsuc, int_le, Bool, true, false, ◌&&◌, List, [], ◌∷◌, length, take, drop, Option, Some, None, Result, Ok, Err, nat_lt, nat_le, ◌==◌, if◌then◌else◌}
 use Rattle.std.specs.List.{list_all}
 use Rattle.std.specs.Int.{w16, from_le_bytes}
 use Rattle.std.specs.Char.Utf16.{has_unpaired_surrogate, utf16_lossy_chars}
@@ -143,6 +143,11 @@ present_text_at inside b = do
   x ← text_at false inside b
   text ← not_null x.0
   Ok (text, x.1)
+
+-- the size of a record by its size word, which counts itself (own)
+abbrev pub size_of : ℤ → Result ℕ ℤ
+size_of (pos z) = if nat_le 4 z && (z % 4 == 0) then Ok z else Err bad_value
+size_of (negsuc z) = Err bad_value
 
 -- n items in order, each by its own reading
 abbrev pub items_at : {A : Type 0} → (List ℕ → Read A) → ℕ → List ℕ → Read (List A)

@@ -1,7 +1,7 @@
 -- Where a reader of words stands.
-use Rattle.std.specs.Prelude.{◌≡◌, ℕ, ◌+◌, ◌-◌, ◌%◌, ℤ, pos, negsuc, Bool, true, false, ◌&&◌, List, [], ◌∷◌, length, take, drop, Result, Ok, Err, refl, nat_lt, nat_le, ◌==◌, if◌then◌else◌}
+use Rattle.std.specs.Prelude.{◌≡◌, ℕ, ◌+◌, ◌-◌, Bool, true, false, List, [], ◌∷◌, length, take, drop, Ok, Err, refl, nat_lt, if◌then◌else◌}
 use Rattle.std.specs.Coded.{Coded, code_by, coded×, coded_ℕ, coded_list}
-use Rattle.aidl_base.specs.Readings.{Read, ◌>>=◌, word_at, bad_value, past}
+use Rattle.aidl_base.specs.Readings.{Read, ◌>>=◌, word_at, size_of, past}
 
 -- the bytes, how many of them are passed, and the ends of the open records, the innermost first
 pub record Place : Type 0 where
@@ -45,11 +45,6 @@ moved_back p n = record { bytes = p.bytes; position = p.position - n; ends = p.e
 -- the new place is further on by the bytes that are no longer left, in the same records
 abbrev pub MovesOn : Place → Place → Type 0
 MovesOn old new = new ≡ moved old (length (left old) - length (left new))
-
--- the size of a record by its size word, which counts itself (own)
-abbrev pub size_of : ℤ → Result ℕ ℤ
-size_of (pos z) = if nat_le 4 z && (z % 4 == 0) then Ok z else Err bad_value
-size_of (negsuc z) = Err bad_value
 
 -- the size of the record that begins here with its size word: one that passes the limit is an item that does
 unfoldable pub size_at : Bool → List ℕ → Read ℕ

@@ -2,8 +2,8 @@ ghost use Rattle.std.specs.Prelude.{◌≡◌, ℕ, ◌+◌, ◌^◌, ◌<◌, �
 ghost use Rattle.std.specs.Option.{option_map};
 ghost use Rattle.std.specs.Str.{chars};
 ghost use Rattle.aidl_base.specs.Words.{padding};
-ghost use Rattle.aidl_base.specs.Readings.{bytes_at, word_at, long_at, raw_at, count_of, count_at, block_at, text_at, past};
-ghost use Rattle.parcel_words.specs.Place.{limit, left, moved, moved_back, MovesOn, is_inside, size_of, size_at, Enters, closed, opened};
+ghost use Rattle.aidl_base.specs.Readings.{bytes_at, word_at, long_at, raw_at, count_of, count_at, block_at, text_at, past, size_of};
+ghost use Rattle.parcel_words.specs.Place.{limit, left, moved, moved_back, MovesOn, is_inside, size_at, Enters, closed, opened};
 ghost use Rattle.parcel_words.specs.Taken.{Takes, TakesIfMemory, Refuses, status_of};
 
 use crate::fault::ReadFault;
@@ -65,6 +65,7 @@ impl<'a> WordReader<'a> {
     pub fn word(&mut self) -> Result<i32, ReadFault>
         ensures taken { Takes (λ n. n) result (word_at (is_inside self.old) (left self.old)) (left self.new) }
         ensures passed { OnOk result (self.new ≡ moved self.old 4) }
+        ensures on { OnOk result (MovesOn self.old self.new) }
         ensures unchanged { OnErr result (self.new ≡ self.old) }
     {
         let number = self.next_word()?;
@@ -76,6 +77,7 @@ impl<'a> WordReader<'a> {
     pub fn long(&mut self) -> Result<i64, ReadFault>
         ensures taken { Takes (λ n. n) result (long_at (is_inside self.old) (left self.old)) (left self.new) }
         ensures passed { OnOk result (self.new ≡ moved self.old 8) }
+        ensures on { OnOk result (MovesOn self.old self.new) }
         ensures unchanged { OnErr result (self.new ≡ self.old) }
     {
         let item = self.item(8)?;
@@ -92,6 +94,7 @@ impl<'a> WordReader<'a> {
     pub fn raw(&mut self, count: usize) -> Result<&'a [u8], ReadFault>
         ensures taken { Takes (λ x. x.now) result (raw_at count (is_inside self.old) (left self.old)) (left self.new) }
         ensures passed { OnOk result (self.new ≡ moved self.old (count + padding count)) }
+        ensures on { OnOk result (MovesOn self.old self.new) }
         ensures unchanged { OnErr result (self.new ≡ self.old) }
     {
         if self.rest().len() < count {
@@ -104,6 +107,22 @@ impl<'a> WordReader<'a> {
         }
         self.pass(size);
         Ok(bytes)
+    }
+
+    /// Takes a count, where None is null. It refuses as `word` does; by `UnexpectedNull` a count of
+    /// -1 unless it may be null; and by `BadValue` another negative one. It takes no memory.
+    #[tactic(auto, unfolding(aidl_base::specs::Readings::count_at))]
+    pub fn count(&mut self, nullable: bool) -> Result<Option<usize>, ReadFault>
+        ensures taken { Takes (λ n. n) result (count_at nullable (is_inside self.old) (left self.old)) (left self.new) }
+        ensures small { IfOk result (λ n. IfSome n (λ k. k < 2 ^ 31)) }
+        ensures passed { OnOk result (self.new ≡ moved self.old 4) }
+        ensures on { OnOk result (MovesOn self.old self.new) }
+        ensures unchanged { OnErr result (self.new ≡ self.old) }
+    {
+        let word = self.next_word()?;
+        let count = count_of(word, nullable)?;
+        self.pass(4);
+        Ok(count)
     }
 
     /// Takes a text of at most 2147483647 units, where None is null. It refuses as `word` does; by `UnexpectedNull` a
@@ -158,21 +177,6 @@ impl<'a> WordReader<'a> {
         self.open -= 1;
         self.position = self.end;
         self.end = self.outer[self.open];
-    }
-
-    /// Takes a count, where None is null. It refuses as `word` does, and by the rules for counts.
-    #[tactic(auto, unfolding(aidl_base::specs::Readings::count_at))]
-    pub(crate) fn count(&mut self, nullable: bool) -> Result<Option<usize>, ReadFault>
-        ensures taken { Takes (λ n. n) result (count_at nullable (is_inside self.old) (left self.old)) (left self.new) }
-        ensures small { IfOk result (λ n. IfSome n (λ k. k < 2 ^ 31)) }
-        ensures passed { OnOk result (self.new ≡ moved self.old 4) }
-        ensures on { OnOk result (MovesOn self.old self.new) }
-        ensures unchanged { OnErr result (self.new ≡ self.old) }
-    {
-        let word = self.next_word()?;
-        let count = count_of(word, nullable)?;
-        self.pass(4);
-        Ok(count)
     }
 
     /// Goes back by so many bytes.

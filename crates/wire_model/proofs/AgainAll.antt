@@ -16,15 +16,16 @@ use Rattle.aidl_values.specs.HasType.{InRange, HaveType}
 use Rattle.aidl_values.specs.Sound.{initial_in, HaveDefaults, AreTypes}
 use Rattle.wire_model.specs.Reads.{Readings, Reads, EachReads, FieldsRead}
 use Rattle.wire_model.specs.Spell.{null_word, raw_bytes, spell_number}
-use Rattle.wire_model.specs.ReadOf.{Read, one_at, count_at, text_at, sequence_at, elements_at, marker_at, body_at, field_at, fields_at, body_value_at, record_at, tag_at, tagged_at, union_at, read_of, read_parts, has_levels, text_block_at}
+use Rattle.wire_model.specs.ReadOf.{Read, one_at, count_at, sequence_at, elements_at, marker_at, body_at, field_at, fields_at, body_value_at, record_at, tag_at, tagged_at, union_at, read_of, read_parts, has_levels}
 use Rattle.aidl_values.proofs.OneZero.{one_zero}
 use Rattle.wire_model.proofs.Parts.{read_of-parts}
 use Rattle.wire_model.proofs.Again.{word_again, fits_pos, truth_again, number_again, each_again, count_again, count_null}
-use Rattle.wire_model.proofs.AgainTexts.{bytes_again, text_again, AreBytes, raw_again}
+use Rattle.aidl_base.proofs.Blocks.{bytes_again}
+use Rattle.wire_model.proofs.AgainTexts.{text_again, AreBytes, raw_again}
 use Rattle.wire_model.proofs.Lists.{both, below, no_front}
 use Rattle.wire_model.proofs.Forms.{elem_is_type, well_one, raw_form}
 use Rattle.wire_model.proofs.Sound.{IsWhole, field_type}
-use Rattle.wire_model.proofs.Steps.{then_marker, then_size, then_tag, then_text, then_elements, then_seq, then_there, then_fields, then_others, with_field, then_rec, then_alternative, then_field, with_tag}
+use Rattle.wire_model.proofs.Steps.{text_block_at, text_value_steps, then_marker, then_size, then_tag, then_text, then_elements, then_seq, then_there, then_fields, then_others, with_field, then_rec, then_alternative, then_field, with_tag}
 
 -- one default
 unique_zero : (S : List Decl) (t : AidlType) (v w : Data) → IsZero S t v → IsZero S t w → v ≡ w
@@ -124,8 +125,8 @@ module _ (S : List Decl) (sound : IsWhole S) where
   null_one : (left : Bool) (initial : Field → Data) (read : AidlType → Bool → List ℕ → Read Data) (nullable inside : Bool) (f : Form) (r : List ℕ)
       → is_nullable_form f ≡ true → nullable ≡ true
       → one_at left initial read nullable f inside (word (null_word f) ++ r) ≡ Ok (null, r)
-  unfolding text_at text_block_at record_at union_at
-  null_one left initial read nullable inside form.text r may is = rw is (ap (then_text inside) (count_null inside r))
+  unfolding text_block_at record_at union_at
+  null_one left initial read nullable inside form.text r may is = text_value_steps nullable inside (word (null_word form.text) ++ r) ∙ rw is (ap (then_text inside) (count_null inside r))
   null_one left initial read nullable inside (form.parcelable fs) r may is = rw is (ap (then_there left (λ c. body_value_at initial (λ u b. read u true b) fs inside c)) (marker_null inside r))
   null_one left initial read nullable inside (form.union fs) r may is = rw is (ap (then_there left (λ c. tagged_at (λ u b. read u inside b) fs inside c)) (marker_null inside r))
   null_one left initial read nullable inside form.truth r may is = absurd (true≢false (sym may))

@@ -20,8 +20,9 @@ use Rattle.aidl_values.specs.Default.{const_value, zero_within}
 use Rattle.aidl_values.specs.HasType.{HasType}
 use Rattle.aidl_values.specs.Sound.{IsDeclared, fields_of, AreTypes, HaveDefaults, IsSound}
 use Rattle.wire_model.specs.Spell.{spell}
-use Rattle.wire_model.specs.Status.{bad_value, not_enough_data, unexpected_null}
-use Rattle.wire_model.specs.ReadOf.{Read, read_of, scalar_at, long_value_at, count_at, text_of, text_block_at, text_at, raw_at, elements_at, sequence_at, marker_at, body_at, body_value_at, record_at, tag_at, tagged_at, union_at}
+use Rattle.wire_model.specs.Status.{bad_value, not_enough, unexpected_null}
+use Rattle.wire_model.specs.ReadOf.{Read, read_of, scalar_at, long_value_at, text_value_at, raw_items_at, elements_at, sequence_at, marker_at, body_at, body_value_at, record_at, tag_at, tagged_at, union_at}
+use Rattle.aidl_base.specs.Readings.{count_at, text_of, block_at, text_at, raw_at}
 
 -- hexadecimal, blanks passed over
 digit : ℕ → ℕ
@@ -41,7 +42,7 @@ hex cs = pairs (without_blanks cs)
 
 -- reading as the program does: 64 levels, and no record around
 decode : List Decl → AidlType → List ℕ → Read Data
-unfolding read_of scalar_at long_value_at count_at text_of text_block_at text_at raw_at elements_at sequence_at marker_at body_at body_value_at record_at tag_at tagged_at union_at zero_within utf16_chars chars encode
+unfolding read_of scalar_at long_value_at count_at text_of block_at text_at raw_at text_value_at raw_items_at elements_at sequence_at marker_at body_at body_value_at record_at tag_at tagged_at union_at zero_within utf16_chars chars encode
 decode S t b = read_of S 64 t false b
 
 -- types
@@ -117,8 +118,8 @@ unfolding decode hex one it small large
 words = (refl, refl, refl, refl, refl, refl, refl, refl, refl)
 
 -- too few bytes, and bytes that are left
-too_few : (decode [] (one base.Long) (hex (codes "ffffffff ffffff")) ≡ Err not_enough_data)
-    × (decode [] (one base.Int) [] ≡ Err not_enough_data)
+too_few : (decode [] (one base.Long) (hex (codes "ffffffff ffffff")) ≡ Err not_enough)
+    × (decode [] (one base.Int) [] ≡ Err not_enough)
     × (decode [] (one base.Int) (hex (codes "05000000 00")) ≡ Ok (number (pos 5), hex (codes "00")))
 unfolding decode hex one
 too_few = (refl, refl, refl)
@@ -234,7 +235,7 @@ defaults_filled = (defaulted (pos 7) [], refl, refl, refl)
 size_words : (decode newer it (hex (codes "01000000 03000000")) ≡ Err bad_value)
     × (decode newer it (hex (codes "01000000 04000000")) ≡ Ok (record_of (pos 0) (codes "x"), []))
     × (decode newer it (hex (codes "01000000 06000000")) ≡ Err bad_value)
-    × (decode newer it (hex (codes "01000000 fcffff7f")) ≡ Err not_enough_data)
+    × (decode newer it (hex (codes "01000000 fcffff7f")) ≡ Err not_enough)
     × (zero_within 33 newer it ≡ record_of (pos 0) (codes "x"))
 unfolding decode hex it newer record_of zero_within
 size_words = (refl, defaulted (pos 0) [], refl, refl, ap (λ s. rec (item (number (pos 0)) (item s none))) initial_text)

@@ -13,7 +13,8 @@ use Rattle.aidl_values.specs.Data.{count}
 use Rattle.aidl_values.specs.HasType.{HaveType, InRange}
 use Rattle.wire_model.specs.Spell.{raw_bytes}
 use Rattle.wire_model.specs.Stop.{IsPadded}
-use Rattle.wire_model.specs.ReadOf.{all_zero, raw_items}
+use Rattle.aidl_base.specs.Readings.{all_zero}
+use Rattle.wire_model.specs.ReadOf.{raw_items}
 use Rattle.wire_model.proofs.Lists.{take_len, drop_front, all_zero_is, IsBytes}
 use Rattle.wire_model.proofs.AgainTexts.{zeros}
 

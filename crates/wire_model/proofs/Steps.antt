@@ -1,11 +1,13 @@
 -- What reading does after each step, named: an equation of one step goes through what follows it.
-use Rattle.std.proofs.Common.{ℕ, ◌-◌, ℤ, Bool, cond, List, take, drop, Option, slice_get, Result, Ok, Err}
+use Rattle.std.proofs.Common.{◌≡◌, ℕ, ◌+◌, ◌-◌, ℤ, Bool, true, false, cond, List, take, drop, Option, Some, None, slice_get, Result, Ok, Err, refl}
+use Rattle.aidl_base.specs.Words.{padding}
+use Rattle.aidl_base.specs.Readings.{Read, ◌>>=◌, bytes_at, count_of, count_at, counted_at, block_at, block_len, text_of, text_at, raw_at, all_zero, ok_or_bad_value, size_of}
 use Rattle.aidl_schema.specs.declared.schema.Field.{Field}
 use Rattle.aidl_schema.specs.declared.schema.AidlType.{AidlType}
 use Rattle.aidl_schema.specs.Types.{Form}
-use Rattle.aidl_values.specs.Data.{Data, seq, rec, alt, Items, item}
+use Rattle.aidl_values.specs.Data.{Data, null, text, seq, rec, alt, Items, item}
 use Rattle.wire_model.specs.Status.{bad_value, is_permitted}
-use Rattle.wire_model.specs.ReadOf.{Read, ◌>>=◌, bytes_at, data_of_word, count_of, text_of, ok_text, text_block_at, items_at, all_zero, raw_items, elements_at, marker_of, marked_at, size_of, fields_at, tag_of, ok_field}
+use Rattle.wire_model.specs.ReadOf.{data_of_word, text_data, text_value_at, items_at, raw_items, raw_items_at, elements_at, marker_of, marked_at, fields_at, tag_of, ok_field}
 
 -- after a word
 abbrev pub then_scalar : Form → Read ℤ → Read Data
@@ -22,6 +24,15 @@ then_size inside w = w >>= λ x. size_of x.0 >>= λ z. bytes_at (z - 4) inside x
 
 abbrev pub then_tag : Read ℤ → Read ℕ
 then_tag w = w >>= λ x. tag_of x.0 >>= λ k. Ok (k, x.1)
+
+-- a text from its block, and a String after its count
+abbrev pub ok_text : Option (List ℕ) → List ℕ → Read Data
+ok_text None rest = Err bad_value
+ok_text (Some x) rest = Ok (text x, rest)
+
+unfoldable pub text_block_at : Bool → Option ℕ → List ℕ → Read Data
+text_block_at inside None b = Ok (null, b)
+text_block_at inside (Some n) b = bytes_at (block_len n) inside b >>= λ x. ok_text (text_of n x.0) x.1
 
 -- after a count
 abbrev pub then_text : Bool → Read (Option ℕ) → Read Data
@@ -78,3 +89,50 @@ then_field read k b f = ok_field f >>= λ g. read g.ty b >>= λ v. Ok (alt k v.0
 
 abbrev pub with_tag : ℕ → Read Data → Read Data
 with_tag k v = v >>= λ x. Ok (alt k x.0, x.1)
+
+-- after the bytes of a block, and after a text or raw bytes
+abbrev text_of_bytes : ℕ → Read (List ℕ) → Read (List ℕ)
+text_of_bytes n bytes = bytes >>= λ x. ok_or_bad_value (text_of n x.0) >>= λ y. Ok (y, x.1)
+
+abbrev present : Read (List ℕ) → Read (Option (List ℕ))
+present x = x >>= λ y. Ok (Some y.0, y.1)
+
+abbrev as_data : Read (Option (List ℕ)) → Read Data
+as_data x = x >>= λ y. Ok (text_data y.0, y.1)
+
+abbrev as_items : Read (List ℕ) → Read Items
+as_items x = x >>= λ y. Ok (raw_items y.0, y.1)
+
+-- A String is its count, and then its block.
+pub text_value_steps : (nullable inside : Bool) (b : List ℕ) → text_value_at nullable inside b ≡ then_text inside (count_at nullable inside b)
+unfolding text_value_at text_at block_at text_block_at
+text_value_steps nullable inside b = by_count (count_at nullable inside b)
+  where
+    by_text : (n : ℕ) (x : List ℕ × List ℕ) (text : Option (List ℕ)) → text_of n x.0 ≡ text
+        → as_data (present (text_of_bytes n (Ok x))) ≡ ok_text (text_of n x.0) x.1
+    by_text n x None e = rw e refl
+    by_text n x (Some y) e = rw e refl
+
+    by_bytes : (n : ℕ) (bytes : Read (List ℕ)) → as_data (present (text_of_bytes n bytes)) ≡ then_block n bytes
+    by_bytes n (Ok x) = by_text n x (text_of n x.0) refl
+    by_bytes n (Err s) = refl
+
+    by_count : (c : Read (Option ℕ)) → as_data (c >>= λ n. counted_at (λ m d. block_at m inside d) n.0 n.1) ≡ then_text inside c
+    by_count (Ok (None, rest)) = refl
+    by_count (Ok (Some n, rest)) = by_bytes n (bytes_at (block_len n) inside rest)
+    by_count (Err s) = refl
+
+-- Raw bytes as numbers are the bytes with their padding, and then the numbers.
+pub raw_items_steps : (n : ℕ) (inside : Bool) (b : List ℕ) → raw_items_at n inside b ≡ then_raw n (bytes_at (n + padding n) inside b)
+unfolding raw_items_at raw_at
+raw_items_steps n inside b = by_bytes (bytes_at (n + padding n) inside b)
+  where
+    by_test : (x : List ℕ × List ℕ) (zeros : Bool) → all_zero (drop n x.0) ≡ zeros
+        → as_items (cond {A = Read (List ℕ)} (all_zero (drop n x.0)) (Ok (take n x.0, x.1)) (Err bad_value)) ≡ then_raw n (Ok x)
+    by_test x true e = rw e refl
+    by_test x false e = rw e refl
+
+    by_bytes : (bytes : Read (List ℕ))
+        → as_items (bytes >>= λ x. cond {A = Read (List ℕ)} (all_zero (drop n x.0)) (Ok (take n x.0, x.1)) (Err bad_value)) ≡ then_raw n bytes
+    by_bytes (Ok x) = by_test x (all_zero (drop n x.0)) refl
+    by_bytes (Err s) = refl

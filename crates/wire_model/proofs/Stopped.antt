@@ -16,14 +16,15 @@ use Rattle.aidl_values.specs.Sound.{initial_in, AreTypes}
 use Rattle.wire_model.specs.Stop.{Stoppings, Stop, OneStop, StopBy, first_word, after_word, Begins, LongStop, WordStop, CountStop, MarkerStop, BlockStop, TextStop, block_len, IsBlock, IsPadded, ElementsStop, SequenceStop, SizeStop, FieldsStop, RecordStop, TagStop, UnionStop, FieldsThere, fields_bytes}
 use Rattle.wire_model.specs.Reads.{Readings, Reads, EachReads}
 use Rattle.wire_model.specs.Status.{bad_value, past}
-use Rattle.wire_model.specs.ReadOf.{Read, ◌>>=◌, word_at, scalar_at, long_value_at, count_at, marker_of, marker_at, bytes_at, ok_text, text_block_at, text_at, all_zero, raw_items, raw_at, items_at, elements_at, sequence_at, field_at, fields_at, size_of, body_at, body_value_at, record_at, tag_at, tagged_at, union_at, one_at, read_by, read_of}
+use Rattle.aidl_base.specs.Readings.{all_zero}
+use Rattle.wire_model.specs.ReadOf.{Read, ◌>>=◌, word_at, scalar_at, long_value_at, count_at, marker_of, marker_at, bytes_at, text_value_at, raw_items, raw_items_at, items_at, elements_at, sequence_at, field_at, fields_at, size_of, body_at, body_value_at, record_at, tag_at, tagged_at, union_at, one_at, read_by, read_of}
 use Rattle.wire_model.proofs.Lists.{both, take_len, no_rest, IsBytes, taken, dropped, bytes_rest}
 use Rattle.wire_model.proofs.Forms.{elem_is_type}
 use Rattle.wire_model.proofs.Sound.{IsWhole, field_type}
 use Rattle.wire_model.proofs.TextForms.{text_form}
 use Rattle.wire_model.proofs.RawForms.{padded_is}
 use Rattle.wire_model.proofs.AgainAll.{again}
-use Rattle.wire_model.proofs.Steps.{then_scalar, then_count, then_marker, then_size, then_tag, then_text, then_elements, then_block, then_raw, then_items, with_item, then_seq, then_there, then_inner, then_fields, then_others, with_field, then_rec, then_alternative, then_field}
+use Rattle.wire_model.proofs.Steps.{ok_text, text_block_at, text_value_steps, raw_items_steps, then_scalar, then_count, then_marker, then_size, then_tag, then_text, then_elements, then_block, then_raw, then_items, with_item, then_seq, then_there, then_inner, then_fields, then_others, with_field, then_rec, then_alternative, then_field}
 
 pub short_word : (inside : Bool) (b : List ℕ) → length b < 4 → word_at inside b ≡ Err (past inside)
 short_word inside b lt = let e : nat_lt (length b) 4 ≡ true = grind (arith, nat_tests) in rw e refl
@@ -151,17 +152,16 @@ block_stops n inside b s bytes (BlockStop.wrong_block le wrong) =
     ap (then_block n) (whole_bytes (block_len n) inside b le)
     ∙ ap (λ o. ok_text o (drop (block_len n) b)) (text_form n (take (block_len n) b) (taken (block_len n) b bytes) (take_len (block_len n) b le) wrong)
 
-text_stops : (nullable inside : Bool) (b : List ℕ) (s : ℤ) → IsBytes b → TextStop nullable b inside s → text_at nullable inside b ≡ Err s
-unfolding text_at
-text_stops nullable inside b s bytes (TextStop.at_count h) = ap (then_text inside) (count_stops nullable inside b s h)
+text_stops : (nullable inside : Bool) (b : List ℕ) (s : ℤ) → IsBytes b → TextStop nullable b inside s → text_value_at nullable inside b ≡ Err s
+text_stops nullable inside b s bytes (TextStop.at_count h) = text_value_steps nullable inside b ∙ ap (then_text inside) (count_stops nullable inside b s h)
 text_stops nullable inside b s bytes (TextStop.at_block n begins h) =
-    ap (then_text inside) (counted nullable inside b n begins) ∙ block_stops n inside (after_word b) s (dropped 4 b bytes) h
+    text_value_steps nullable inside b ∙ ap (then_text inside) (counted nullable inside b n begins) ∙ block_stops n inside (after_word b) s (dropped 4 b bytes) h
 
-raw_stops : (n : ℕ) (inside : Bool) (b : List ℕ) (s : ℤ) → BlockStop (n + padding n) (IsPadded n) b inside s → raw_at n inside b ≡ Err s
-unfolding raw_at
-raw_stops n inside b s (BlockStop.long_block lt) = ap (then_raw n) (short_bytes (n + padding n) inside b lt)
+raw_stops : (n : ℕ) (inside : Bool) (b : List ℕ) (s : ℤ) → BlockStop (n + padding n) (IsPadded n) b inside s → raw_items_at n inside b ≡ Err s
+raw_stops n inside b s (BlockStop.long_block lt) = raw_items_steps n inside b ∙ ap (then_raw n) (short_bytes (n + padding n) inside b lt)
 raw_stops n inside b s (BlockStop.wrong_block le wrong) =
-    ap (then_raw n) (whole_bytes (n + padding n) inside b le)
+    raw_items_steps n inside b
+    ∙ ap (then_raw n) (whole_bytes (n + padding n) inside b le)
     ∙ by_test (all_zero (drop n (take (n + padding n) b))) refl
   where
     by_test : (x : Bool) → all_zero (drop n (take (n + padding n) b)) ≡ x

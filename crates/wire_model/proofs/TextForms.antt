@@ -10,7 +10,7 @@ use Rattle.std.proofs.lemmas.List.{take-append-drop}
 use lib.Utf8.{scalar}
 use Rattle.aidl_base.specs.Words.{padding, units, unit_bytes}
 use Rattle.wire_model.specs.Stop.{block_len, IsBlock}
-use Rattle.wire_model.specs.ReadOf.{units_of, all_zero, text_of}
+use Rattle.aidl_base.specs.Readings.{units_of, all_zero, text_of}
 use Rattle.wire_model.proofs.Lists.{both, take_len, all_zero_is, IsBytes, taken}
 use Rattle.wire_model.proofs.AgainTexts.{block_is}
 use Rattle.wire_model.proofs.SpelledReads.{length-unit_bytes}

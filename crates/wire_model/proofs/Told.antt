@@ -11,7 +11,8 @@ use Rattle.aidl_schema.specs.Types.{Form}
 use Rattle.aidl_values.specs.Data.{Data, number}
 use Rattle.wire_model.specs.Status.{is_permitted}
 use Rattle.wire_model.specs.Stop.{first_word, after_word, WordStop, LongStop, Begins, CountStop, MarkerStop}
-use Rattle.wire_model.specs.ReadOf.{Read, ◌>>=◌, data_of_word, scalar_at, long_value_at, count_of, count_at, marker_of, marker_at}
+use Rattle.aidl_base.specs.Readings.{count_of}
+use Rattle.wire_model.specs.ReadOf.{Read, ◌>>=◌, data_of_word, scalar_at, long_value_at, count_at, marker_of, marker_at}
 use Rattle.wire_model.proofs.Lists.{IsBytes, taken}
 use Rattle.wire_model.proofs.Again.{word_of-word, fits_pos}
 

@@ -16,7 +16,7 @@ use Rattle.wire_model.specs.Stop.{Stoppings, Stop, StopBy, OneStop, TextStop, Se
 use Rattle.wire_model.specs.Reads.{Readings, Reads, EachReads, BodyReads}
 use Rattle.wire_model.specs.Spell.{spell, spell_truth, raw_bytes}
 use Rattle.wire_model.specs.Status.{is_permitted, bad_value}
-use Rattle.wire_model.specs.ReadOf.{Read, is_truth, one_at, text_at, record_at, union_at, sequence_at, read_by, read_of}
+use Rattle.wire_model.specs.ReadOf.{Read, is_truth, one_at, text_value_at, record_at, union_at, sequence_at, read_by, read_of}
 use Rattle.wire_model.proofs.Lists.{both, IsBytes}
 use Rattle.wire_model.proofs.Forms.{elem_is_type}
 use Rattle.wire_model.proofs.Sound.{IsWhole}
@@ -136,7 +136,7 @@ module _ (S : List Decl) (sound : IsWhole S) (left : Bool) (PartReads : Readings
   one_told form.int one is = word_told (LevelReads S left PartReads t) form.int inside b (λ may le. rw is ((one, word_fits b bytes), sym (spells_word b bytes le))) _ _ refl refl
   one_told form.long one is = long_told (LevelReads S left PartReads t) form.long inside b (λ le. rw is ((one, long_fits b bytes), sym (spells_long b bytes le))) _ refl
   one_told form.text one is =
-      told_as (TextReads t.nullable) (LevelReads S left PartReads t) (λ s. TextStop t.nullable b inside s) b (text_at t.nullable inside b) (λ c v h. of_text S left PartReads t one is c v h) (text_told t.nullable inside b bytes)
+      told_as (TextReads t.nullable) (LevelReads S left PartReads t) (λ s. TextStop t.nullable b inside s) b (text_value_at t.nullable inside b) (λ c v h. of_text S left PartReads t one is c v h) (text_told t.nullable inside b bytes)
   one_told (form.parcelable fs) one is =
       let fields = sound.fields t.base fs is in
       told_as (RecordReads left S PartReads t.nullable fs) (LevelReads S left PartReads t) (λ s. RecordStop left t.nullable fs PartReads PartStops b inside s) b (record_at left t.nullable (λ f. initial_in S f) (λ u c. read u true c) fs inside b)

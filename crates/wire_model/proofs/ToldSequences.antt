@@ -14,12 +14,13 @@ use Rattle.wire_model.specs.Spell.{raw_bytes}
 use Rattle.wire_model.specs.Status.{bad_value}
 use Rattle.wire_model.specs.Reads.{EachReads}
 use Rattle.wire_model.specs.Stop.{after_word, BlockStop, IsPadded, CountStop, ElementsStop, SequenceStop}
-use Rattle.wire_model.specs.ReadOf.{Read, all_zero, raw_items, raw_at, items_at, count_at, elements_at, sequence_at}
+use Rattle.aidl_base.specs.Readings.{all_zero}
+use Rattle.wire_model.specs.ReadOf.{Read, raw_items, raw_items_at, items_at, count_at, elements_at, sequence_at}
 use Rattle.wire_model.proofs.Lists.{take_len, IsBytes, taken, bytes_rest}
 use Rattle.wire_model.proofs.Forms.{raw_form}
 use Rattle.wire_model.proofs.RawForms.{padded_is, zero_padding, bytes_of_items, count_of_items, items_typed}
 use Rattle.wire_model.proofs.Told.{Told, told_then, CountReads, count_told, begins, tail_word}
-use Rattle.wire_model.proofs.Steps.{then_items, with_item, then_seq}
+use Rattle.wire_model.proofs.Steps.{raw_items_steps, then_items, with_item, then_seq}
 
 module _ (PartReads : List ℕ → Data → Type 0) (PartStops : List ℕ → ℤ → Type 0) (read : List ℕ → Read Data) (law : (b : List ℕ) → IsBytes b → Told PartReads (λ s. PartStops b s) b (read b)) where
   abbrev pub CountRead : ℕ → List ℕ → Items → Type 0
@@ -64,10 +65,9 @@ module _ (S : List Decl) (t : AidlType) (byte : form_of S t.base ≡ form.byte) 
       wrong e = let both_ways : ◌≡◌ {A = Bool} true false = sym e ∙ is in absurd (true≢false both_ways)
 
   pub raw_told : (short : Bool) → nat_lt (length b) (n + padding n) ≡ short
-      → Told (RawRead S t n) (λ s. BlockStop (n + padding n) (IsPadded n) b inside s) b (raw_at n inside b)
-  unfolding raw_at
-  raw_told true is = rw is (BlockStop.long_block (ltb-true _ _ is))
-  raw_told false is = rw is (block_told (ltb-false _ _ is) (all_zero (drop n (take (n + padding n) b))) refl)
+      → Told (RawRead S t n) (λ s. BlockStop (n + padding n) (IsPadded n) b inside s) b (raw_items_at n inside b)
+  raw_told true is = rw (raw_items_steps n inside b, is) (BlockStop.long_block (ltb-true _ _ is))
+  raw_told false is = rw (raw_items_steps n inside b, is) (block_told (ltb-false _ _ is) (all_zero (drop n (take (n + padding n) b))) refl)
 
 -- what is read at a sequence's place; `left` says that a level is left
 abbrev pub SequenceReads : Bool → List Decl → AidlType → (List ℕ → Data → Type 0) → List ℕ → Data → Type 0
@@ -113,8 +113,8 @@ module _ (left : Bool) (S : List Decl) (t : AidlType) (PartReads : List ℕ → 
     items_outcome apart (Err s) h =
         SequenceStop.at_elements n (begins b rest n lt e) has apart (subst (λ c. ElementsStop PartReads PartStops n c s) tail h)
 
-    parts_told : IsBytes rest → (raw : Bool) → is_raw S t ≡ raw → Outcome (then_seq (cond raw (raw_at n inside rest) (items_at read n rest)))
-    parts_told rest_bytes true is = raw_outcome is (raw_at n inside rest) (raw_told S t (raw_form S t is) n inside rest rest_bytes (nat_lt (length rest) (n + padding n)) refl)
+    parts_told : IsBytes rest → (raw : Bool) → is_raw S t ≡ raw → Outcome (then_seq (cond raw (raw_items_at n inside rest) (items_at read n rest)))
+    parts_told rest_bytes true is = raw_outcome is (raw_items_at n inside rest) (raw_told S t (raw_form S t is) n inside rest rest_bytes (nat_lt (length rest) (n + padding n)) refl)
     parts_told rest_bytes false is = items_outcome is (items_at read n rest) (items_told PartReads PartStops read (law has) n rest rest_bytes)
 
   pub sequence_told : Outcome (sequence_at left (is_raw S t) t.nullable read inside b)

@@ -9,10 +9,12 @@ use Rattle.aidl_values.specs.Data.{Data, null, text}
 use Rattle.wire_model.specs.Spell.{spell_text}
 use Rattle.wire_model.specs.Status.{bad_value, past}
 use Rattle.wire_model.specs.Stop.{BlockStop, TextStop, CountStop, block_len, IsBlock}
-use Rattle.wire_model.specs.ReadOf.{count_at, text_of, ok_text, text_block_at, text_at, all_zero, units_of}
+use Rattle.aidl_base.specs.Readings.{count_at, text_of, all_zero, units_of}
+use Rattle.aidl_base.proofs.Blocks.{text_back}
+use Rattle.wire_model.specs.ReadOf.{text_value_at}
+use Rattle.wire_model.proofs.Steps.{ok_text, text_block_at, text_value_steps}
 use Rattle.wire_model.proofs.Lists.{take_len, IsBytes, taken, bytes_rest}
 use Rattle.wire_model.proofs.Told.{Told, told_then, CountReads, count_told, begins, tail_word}
-use Rattle.wire_model.proofs.AgainTexts.{text_back}
 use Rattle.wire_model.proofs.TextForms.{block_of}
 
 -- texts
@@ -67,10 +69,10 @@ module _ (nullable inside : Bool) (b : List ℕ) (bytes : IsBytes b) where
               let both_ways : ◌≡◌ {A = Option (List ℕ)} None (Some k.0) = sym h ∙ there in
               absurd cc
 
-  pub text_told : Told (TextReads nullable) (λ s. TextStop nullable b inside s) b (text_at nullable inside b)
-  unfolding text_at text_block_at
-  text_told = told_then (CountReads nullable) (TextReads nullable) (λ s. CountStop nullable b inside s) (λ s. TextStop nullable b inside s) b (λ n. text_block_at inside n.0 n.1) (count_at nullable inside b)
-      (count_told nullable inside b bytes (nat_lt (length b) 4) refl) (λ s h. TextStop.at_count h) (λ o front rest e h. by_count o front rest e h)
+  pub text_told : Told (TextReads nullable) (λ s. TextStop nullable b inside s) b (text_value_at nullable inside b)
+  unfolding text_block_at
+  text_told = subst (Told (TextReads nullable) (λ s. TextStop nullable b inside s) b) (sym (text_value_steps nullable inside b)) (told_then (CountReads nullable) (TextReads nullable) (λ s. CountStop nullable b inside s) (λ s. TextStop nullable b inside s) b (λ n. text_block_at inside n.0 n.1) (count_at nullable inside b)
+      (count_told nullable inside b bytes (nat_lt (length b) 4) refl) (λ s h. TextStop.at_count h) (λ o front rest e h. by_count o front rest e h))
     where
       by_count : (o : Option ℕ) (front rest : List ℕ) → b ≡ front ++ rest → CountReads nullable front o
           → Told (TextReads nullable) (λ s. TextStop nullable b inside s) b (text_block_at inside o rest)

@@ -1,12 +1,10 @@
 -- Reading as a plain function: the value and the bytes after it, or the status of the first wrong item (own, the strict profile).
 -- It is proved to be what Reads and Stop say. S is the schema's declarations, d the composite levels left, t the type,
 -- b the bytes up to the limit; `inside` says that a record is being read.
-use Rattle.std.specs.Prelude.{ℕ, zero, suc, ◌+◌, ◌-◌, ◌*◌, ◌%◌, ℤ, pos, negsuc, Bool, true, false, ◌&&◌, List, [], ◌∷◌, length, take, drop, map, Option, Some, None, slice_get, Result, Ok, Err, nat_lt, nat_le, ◌==◌, if◌then◌else◌}
-use Rattle.std.specs.List.{list_all}
-use Rattle.std.specs.Int.{w8, w16, cast_signed, from_le_bytes}
-use Rattle.std.specs.Str.{chars, encode_utf8_all}
-use Rattle.std.specs.Char.Utf16.{has_unpaired_surrogate, utf16_lossy_chars}
-use Rattle.aidl_base.specs.Words.{word_of, long_of, padding}
+use Rattle.std.specs.Prelude.{ℕ, zero, suc, ◌-◌, ℤ, pos, negsuc, Bool, true, false, List, [], ◌∷◌, map, Option, Some, None, slice_get, Result, Ok, Err, if◌then◌else◌}
+use Rattle.std.specs.Int.{w8, cast_signed}
+pub use Rattle.aidl_base.specs.Readings.{Read, ◌>>=◌, bytes_at, word_at, long_at, size_of}
+unfoldable pub use Rattle.aidl_base.specs.Readings.{count_at, text_at, raw_at}
 use Rattle.aidl_schema.specs.declared.schema.Decl.{Decl}
 use Rattle.aidl_schema.specs.declared.schema.Field.{Field}
 use Rattle.aidl_schema.specs.declared.schema.AidlType.{AidlType}
@@ -15,30 +13,7 @@ use Rattle.aidl_schema.specs.Types as form
 use Rattle.aidl_values.specs.Data.{Data, null, truth, number, text, seq, rec, alt, Items, none, item}
 use Rattle.aidl_values.specs.View.{items_of}
 use Rattle.aidl_values.specs.Sound.{initial_in}
-use Rattle.wire_model.specs.Status.{bad_value, unexpected_null, past, is_permitted}
-use Rattle.wire_model.specs.Stop.{block_len}
-
--- what was read and the bytes after it, or a status
-abbrev pub Read : Type 0 → Type 0
-Read A = Result (A × List ℕ) ℤ
-
--- one step after another, up to the first status
-infixl 10 ◌>>=◌
-abbrev pub ◌>>=◌ : {A B : Type 0} → Result A ℤ → (A → Result B ℤ) → Result B ℤ
-(Ok x) >>= f = f x
-(Err e) >>= f = Err e
-
--- an item of n bytes
-abbrev pub bytes_at : ℕ → Bool → List ℕ → Read (List ℕ)
-bytes_at n inside b = if nat_lt (length b) n then Err (past inside) else Ok (take n b, drop n b)
-
--- a word (Parcel.cpp: `readInt32`)
-abbrev pub word_at : Bool → List ℕ → Read ℤ
-word_at inside b = if nat_lt (length b) 4 then Err (past inside) else Ok (word_of (take 4 b), drop 4 b)
-
--- eight bytes (`readInt64`)
-abbrev pub long_at : Bool → List ℕ → Read ℤ
-long_at inside b = if nat_lt (length b) 8 then Err (past inside) else Ok (long_of (take 8 b), drop 8 b)
+use Rattle.wire_model.specs.Status.{bad_value, unexpected_null, is_permitted}
 
 -- a boolean, byte, char, int or enum (`readBool`, `readByte`, `readChar`, `readInt32`)
 abbrev pub is_truth : ℤ → Bool
@@ -60,48 +35,15 @@ long_value_at inside b = do
   n ← long_at inside b
   Ok (number n.0, n.1)
 
--- a count: None is null
-abbrev pub count_of : Bool → ℤ → Result (Option ℕ) ℤ
-count_of nullable (pos n) = Ok (Some n)
-count_of nullable (negsuc zero) = if nullable then Ok None else Err unexpected_null
-count_of nullable (negsuc (suc n)) = Err bad_value
+-- a String (`readString16`), where none is null
+abbrev pub text_data : Option (List ℕ) → Data
+text_data None = null
+text_data (Some x) = text x
 
-unfoldable pub count_at : Bool → Bool → List ℕ → Read (Option ℕ)
-count_at nullable inside b = do
-  w ← word_at inside b
-  n ← count_of nullable w.0
-  Ok (n, w.1)
-
--- bytes as UTF-16 units, two each, least first
-abbrev pub units_of : List ℕ → List ℕ
-units_of (a ∷ b ∷ bs) = from_le_bytes w16 (a ∷ b ∷ []) ∷ units_of bs
-units_of _ = []
-
-abbrev pub all_zero : List ℕ → Bool
-all_zero bs = list_all (λ x. x == 0) bs
-
--- the text of a block of n units, if it is of the form: well-formed UTF-16, and zeros after it
-unfoldable pub text_of : ℕ → List ℕ → Option (List ℕ)
-text_of n bytes = let us = units_of (take (2 * n) bytes) in
-    if has_unpaired_surrogate us then None
-    else (if all_zero (drop (2 * n) bytes) then Some (chars (encode_utf8_all (utf16_lossy_chars us))) else None)
-
-abbrev pub ok_text : Option (List ℕ) → List ℕ → Read Data
-ok_text None rest = Err bad_value
-ok_text (Some x) rest = Ok (text x, rest)
-
--- a String after its count
-unfoldable pub text_block_at : Bool → Option ℕ → List ℕ → Read Data
-text_block_at inside None b = Ok (null, b)
-text_block_at inside (Some n) b = do
-  bytes ← bytes_at (block_len n) inside b
-  ok_text (text_of n bytes.0) bytes.1
-
--- a String (`readString16`)
-unfoldable pub text_at : Bool → Bool → List ℕ → Read Data
-text_at nullable inside b = do
-  n ← count_at nullable inside b
-  text_block_at inside n.0 n.1
+unfoldable pub text_value_at : Bool → Bool → List ℕ → Read Data
+text_value_at nullable inside b = do
+  x ← text_at nullable inside b
+  Ok (text_data x.0, x.1)
 
 -- n items in order
 abbrev pub items_at : (List ℕ → Read Data) → ℕ → List ℕ → Read Items
@@ -116,16 +58,16 @@ abbrev pub raw_items : List ℕ → Items
 raw_items xs = items_of (map (λ x. number (cast_signed w8 x)) xs)
 
 -- n raw bytes with their padding (`readByteVector`)
-unfoldable pub raw_at : ℕ → Bool → List ℕ → Read Items
-raw_at n inside b = do
-  bytes ← bytes_at (n + padding n) inside b
-  if all_zero (drop n bytes.0) then Ok (raw_items (take n bytes.0), bytes.1) else Err bad_value
+unfoldable pub raw_items_at : ℕ → Bool → List ℕ → Read Items
+raw_items_at n inside b = do
+  x ← raw_at n inside b
+  Ok (raw_items x.0, x.1)
 
 -- a sequence after its count; `left` says that a level is left, `read` reads one element
 unfoldable pub elements_at : Bool → Bool → (List ℕ → Read Data) → Bool → Option ℕ → List ℕ → Read Data
 elements_at left raw read inside None b = Ok (null, b)
 elements_at left raw read inside (Some n) b = if left then (do
-  vs ← (if raw then raw_at n inside b else items_at read n b)
+  vs ← (if raw then raw_items_at n inside b else items_at read n b)
   Ok (seq vs.0, vs.1)) else Err bad_value
 
 -- an array or a List
@@ -151,11 +93,6 @@ marker_at nullable inside b = do
 -- null, or what is there where a level is left
 abbrev pub marked_at : Bool → (List ℕ → Read Data) → Bool → List ℕ → Read Data
 marked_at left read there b = if there then (if left then read b else Err bad_value) else Ok (null, b)
-
--- a record's size
-abbrev pub size_of : ℤ → Result ℕ ℤ
-size_of (pos z) = if nat_le 4 z && (z % 4 == 0) then Ok z else Err bad_value
-size_of (negsuc z) = Err bad_value
 
 -- a size word, and the record's bytes after it
 unfoldable pub body_at : Bool → List ℕ → Read (List ℕ)
@@ -222,7 +159,7 @@ union_at left nullable read fs inside b = do
 -- one value that is no sequence, by what its type means
 abbrev pub one_at : Bool → (Field → Data) → (AidlType → Bool → List ℕ → Read Data) → Bool → Form → Bool → List ℕ → Read Data
 one_at left initial read nullable form.long inside b = long_value_at inside b
-one_at left initial read nullable form.text inside b = text_at nullable inside b
+one_at left initial read nullable form.text inside b = text_value_at nullable inside b
 one_at left initial read nullable (form.parcelable fs) inside b = record_at left nullable initial (λ u b. read u true b) fs inside b
 one_at left initial read nullable (form.union fs) inside b = union_at left nullable (λ u b. read u inside b) fs inside b
 one_at left initial read nullable form.nothing inside b = Err bad_value

@@ -1,7 +1,8 @@
 -- The bytes that spell a value. S is the schema's declarations, t the type. Words, `pad` and `block` are aidl_base's.
-use Rattle.std.specs.Prelude.{ℕ, ◌+◌, ℤ, pos, negsuc, Bool, if◌then◌else◌, List, [], ◌∷◌, ◌++◌, length, slice_get}
+use Rattle.std.specs.Prelude.{ℕ, ◌+◌, ℤ, pos, negsuc, if◌then◌else◌, List, [], ◌∷◌, ◌++◌, length, slice_get}
 use Rattle.std.specs.Int.{w8, cast_unsigned}
-use Rattle.aidl_base.specs.Words.{word, long_word, pad, units, block}
+use Rattle.aidl_base.specs.Words.{word, long_word, pad}
+pub use Rattle.aidl_base.specs.Spellings.{spell_truth, spell_text}
 use Rattle.aidl_schema.specs.declared.schema.Decl.{Decl}
 use Rattle.aidl_schema.specs.declared.schema.Field.{Field}
 use Rattle.aidl_schema.specs.declared.schema.AidlType.{AidlType}
@@ -9,19 +10,11 @@ use Rattle.aidl_schema.specs.Types.{Form, form_of, is_one, is_raw, elem, type_of
 use Rattle.aidl_schema.specs.Types as form
 use Rattle.aidl_values.specs.Data.{Data, null, truth, number, text, seq, rec, alt, Items, none, item, count}
 
--- boolean (Parcel.cpp: `writeBool`): the word 0 or 1
-abbrev pub spell_truth : Bool → List ℕ
-spell_truth b = word (if b then pos 1 else pos 0)
-
 -- byte, char, int and an enum of byte or int (`writeByte`, `writeChar`, `writeInt32`): a word;
 -- long and an enum of long (`writeInt64`): eight bytes, which need no alignment to 8
 abbrev pub spell_number : Form → ℤ → List ℕ
 spell_number form.long n = long_word n
 spell_number _ n = word n
-
--- String (`writeString16`): how many UTF-16 units, and their block
-abbrev pub spell_text : List ℕ → List ℕ
-spell_text x = word (pos (length (units x))) ++ block x
 
 -- null: of a String or a sequence the count -1 (`writeString16`, `writeByteVector`),
 -- of a parcelable or union the marker 0 (Parcel.h: `writeNullableParcelable`)

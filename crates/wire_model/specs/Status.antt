@@ -1,28 +1,12 @@
 -- The statuses of a refused reading (libutils, Errors.h), and the words that a type permits (own).
-use Rattle.std.specs.Prelude.{◌≡◌, ◌⊎◌, ℤ, pos, negsuc, int_le, ◌&&◌, Bool, true, false}
+use Rattle.std.specs.Prelude.{◌≡◌, ◌⊎◌, ℤ, pos, negsuc, int_le, ◌&&◌, Bool, true}
+pub use Rattle.aidl_base.specs.Readings.{bad_value, not_enough, unexpected_null, past}
 use Rattle.aidl_schema.specs.Types.{Form}
 use Rattle.aidl_schema.specs.Types as form
 
--- BAD_VALUE, -22
-abbrev pub bad_value : ℤ
-bad_value = negsuc 21
-
--- NOT_ENOUGH_DATA, -61
-abbrev pub not_enough_data : ℤ
-not_enough_data = negsuc 60
-
--- UNEXPECTED_NULL, -2147483640
-abbrev pub unexpected_null : ℤ
-unexpected_null = negsuc 2147483639
-
 -- a status with which reading refuses
 abbrev pub IsStatus : ℤ → Type 0
-IsStatus s = (s ≡ bad_value) ⊎ ((s ≡ not_enough_data) ⊎ (s ≡ unexpected_null))
-
--- the status of an item that passes the limit, inside a record or outside one (own)
-abbrev pub past : Bool → ℤ
-past true = bad_value
-past false = not_enough_data
+IsStatus s = (s ≡ bad_value) ⊎ ((s ≡ not_enough) ⊎ (s ≡ unexpected_null))
 
 -- from low to high
 abbrev pub is_within : ℤ → ℤ → ℤ → Bool

@@ -1,9 +1,10 @@
 -- Which bytes begin no reading, and the status of the first wrong item (own, the strict profile). One constructor is one way to stop.
 -- S is the schema's declarations, d the composite levels left, t the type, b the bytes up to the limit, s the status; `inside` says that a
 -- record is being read. What is said of a part is an argument: `PartReads` says of which bytes it is read, `PartStops` where it stops.
-use Rattle.std.specs.Prelude.{◌≡◌, ◌≢◌, ℕ, zero, suc, ◌+◌, ◌-◌, ◌*◌, ◌%◌, ◌<◌, ◌≤◌, ℤ, pos, negsuc, Bool, true, false, List, [], ◌∷◌, ◌++◌, length, take, drop, Some, slice_get, IsTrue, MatchBool}
+use Rattle.std.specs.Prelude.{◌≡◌, ◌≢◌, ℕ, zero, suc, ◌+◌, ◌-◌, ◌%◌, ◌<◌, ◌≤◌, ℤ, pos, negsuc, Bool, true, false, List, [], ◌∷◌, ◌++◌, length, take, drop, Some, slice_get, IsTrue, MatchBool}
 use Rattle.std.specs.Str.{all_scalars}
 use Rattle.aidl_base.specs.Words.{word_of, pad, padding, units, block}
+pub use Rattle.aidl_base.specs.Readings.{block_len}
 use Rattle.aidl_schema.specs.declared.schema.Decl.{Decl}
 use Rattle.aidl_schema.specs.declared.schema.Field.{Field}
 use Rattle.aidl_schema.specs.declared.schema.AidlType.{AidlType}
@@ -47,10 +48,6 @@ pub data CountStop (nullable : Bool) (b : List ℕ) (inside : Bool) : ℤ → Ty
 pub data BlockStop (n : ℕ) (HasForm : List ℕ → Type 0) (b : List ℕ) (inside : Bool) : ℤ → Type 0 where
   long_block : length b < n → BlockStop n HasForm b inside (past inside)
   wrong_block : n ≤ length b → (HasForm (take n b) → ⊥) → BlockStop n HasForm b inside bad_value
-
--- the bytes of a text block of n units, its zero unit and padding counted
-abbrev pub block_len : ℕ → ℕ
-block_len n = let bytes = 2 * (n + 1) in bytes + padding bytes
 
 -- the block of some text of n units
 abbrev pub IsBlock : ℕ → List ℕ → Type 0
