@@ -1,0 +1,3 @@
+mod Loop
+mod Records
+mod Whole

@@ -1,0 +1,55 @@
+use Rattle.std.proofs.Common.{◌≡◌, ◌+◌, ◌-◌, ◌*◌, true, map, drop}
+use Rattle.aidl_values.specs.Sound.{initial_in}
+use Rattle.aidl_values.specs.View.{view}
+use Rattle.parcel_words.specs.Place.{left, is_inside, MovesOn}
+use Rattle.wire_model.specs.ReadOf.{items_at, fields_at, read_parts}
+use Rattle.parcel_read.proofs.Loop.{with_front, with_fields}
+use Rattle.parcel_read.proofs.tree.+read.Given as goal
+
+abbrev pub decreases-value_from : goal.decreases-value_from
+decreases-value_from l = 8 * l.levels + 7
+
+abbrev pub decreases-one_from : goal.decreases-one_from
+decreases-one_from l = 8 * l.levels + 6
+
+abbrev pub decreases-sequence_from : goal.decreases-sequence_from
+decreases-sequence_from l = 8 * l.levels + 4
+
+abbrev pub decreases-elements_from : goal.decreases-elements_from
+decreases-elements_from l = 8 * l.levels + 3
+
+abbrev pub decreases-items_from : goal.decreases-items_from
+decreases-items_from l = 8 * l.levels
+
+abbrev pub decreases-record_from : goal.decreases-record_from
+decreases-record_from l = 8 * l.levels + 5
+
+abbrev pub decreases-body_from : goal.decreases-body_from
+decreases-body_from l = 8 * l.levels + 4
+
+abbrev pub decreases-fields_from : goal.decreases-fields_from
+decreases-fields_from l = 8 * l.levels + 1
+
+abbrev pub decreases-field_from : goal.decreases-field_from
+decreases-field_from l = 8 * l.levels
+
+abbrev pub decreases-union_from : goal.decreases-union_from
+decreases-union_from l = 8 * l.levels + 5
+
+abbrev pub decreases-tagged_from : goal.decreases-tagged_from
+decreases-tagged_from l = 8 * l.levels + 4
+
+-- what was read before, and what is still read, are all; and the reader stands between them
+abbrev pub invariant-items_from-loop : goal.invariant-items_from-loop
+invariant-items_from-loop l = record {
+  read : with_front (map view l.values) (items_at (λ b. read_parts l.schema.decls l.levels l.ty (is_inside l.initial.from) b) (l.count - l.counter) (left l.from))
+      ≡ items_at (λ b. read_parts l.schema.decls l.levels l.ty (is_inside l.initial.from) b) l.count (left l.initial.from);
+  on : MovesOn l.initial.from l.from;
+}
+
+abbrev pub invariant-fields_from-loop-field : goal.invariant-fields_from-loop-field
+invariant-fields_from-loop-field l = record {
+  read : with_fields (map view l.values.items) (fields_at (λ f. initial_in l.schema.decls f) (λ u b. read_parts l.schema.decls l.levels u true b) (drop l.field-index l.fields) (left l.from))
+      ≡ fields_at (λ f. initial_in l.schema.decls f) (λ u b. read_parts l.schema.decls l.levels u true b) l.fields (left l.initial.from);
+  on : MovesOn l.initial.from l.from;
+}

@@ -1,0 +1,11 @@
+//! Reading values from the bytes of a parcel.
+#![tactic(auto)]
+
+mod front;
+mod leaf;
+mod marks;
+mod raw;
+mod tree;
+
+pub use front::read;
+pub use parcel_words::ReadFault;
