@@ -134,8 +134,13 @@ impl WordWriter {
         requires { length (unit_bytes (encode_utf16 c)) ≤ self.old.room }
         ensures { self.new ≡ with_bytes self.old (unit_bytes (encode_utf16 c)) }
     {
-        let mut buffer = [0; 2];
-        self.row(c.encode_utf16(&mut buffer));
+        let code = u32::from(c);
+        if code < 0x1_0000 {
+            self.append(&(code as u16).to_le_bytes());
+        } else {
+            let mut buffer = [0; 2];
+            self.row(c.encode_utf16(&mut buffer));
+        }
     }
 
     /// Appends a row of units.
