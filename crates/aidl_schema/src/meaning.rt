@@ -1,5 +1,5 @@
 ghost use Rattle.std.specs.Prelude.{◌≡◌};
-ghost use Rattle.aidl_schema.specs.Types.{is_raw, form_of, form_of_kind, is_nullable_form, elem};
+ghost use Rattle.aidl_schema.specs.Types.{is_raw, form_of, form_of_kind, is_meant, is_nullable_form, is_type, is_well_shaped, elem};
 ghost use Rattle.aidl_schema.specs.Seen.{seen};
 
 use crate::schema::{AidlType, Backing, Base, Field, Kind, Schema, Shape};
@@ -73,4 +73,29 @@ pub fn is_raw(schema: &Schema, ty: AidlType) -> bool
     ensures { result ≡ is_raw schema.now.decls ty }
 {
     matches!(ty.shape, Shape::Array) && matches!(form_in(schema, ty.base), Form::Byte)
+}
+
+/// Whether a type is one of the schema: its base is built in, or the number of an enum, a parcelable or a union, and it
+/// breaks neither E14 nor E16. It takes no memory.
+pub fn is_type(schema: &Schema, ty: AidlType) -> bool
+    ensures { result ≡ is_type schema.now.decls ty }
+{
+    let form = form_in(schema, ty.base);
+    is_meant(&form) && is_well_shaped(ty, &form)
+}
+
+fn is_meant(form: &Form<'_>) -> bool
+    ensures { result ≡ is_meant (seen form.now) }
+{
+    !matches!(form, Form::Nothing)
+}
+
+fn is_well_shaped(ty: AidlType, form: &Form<'_>) -> bool
+    ensures { result ≡ is_well_shaped ty.shape ty.nullable (seen form.now) }
+{
+    match ty.shape {
+        Shape::One => !ty.nullable || is_nullable_form(form),
+        Shape::Array => true,
+        Shape::List => is_nullable_form(form),
+    }
 }
