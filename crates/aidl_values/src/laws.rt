@@ -29,8 +29,8 @@ pub fn law_default_fits(schema: &Schema, ty: &AidlType, value: &Value)
     ensures small { nodes_of (view value.now) ≤ 512 }
 {}
 
-/// What a field of a parcelable starts with is one level less deep than a default may be, and has a node less. So what
-/// stands for a field that a sender lacks, at composite depth 64, ends at depth 95.
+/// What a field of a parcelable starts with has the field's type, a depth of at most 31 and at most 511 nodes: one less
+/// of each than the parcelable's default may have.
 pub fn law_initial_fits(schema: &Schema, base: Base, field: &Field, value: &Value)
     requires of_parcelable { IsPartOf schema.now.decls base field.now }
     requires initial { IsInitial schema.now.decls field.now (view value.now) }
