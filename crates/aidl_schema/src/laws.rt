@@ -1,8 +1,17 @@
-ghost use Rattle.std.specs.Prelude.{◌≡◌, ◌↔◌, IsTrue, min};
+ghost use Rattle.std.specs.Prelude.{◌≡◌, ◌↔◌, true, IsTrue, min};
 ghost use Rattle.aidl_schema.specs.Containment.{Reaches, holds_itself};
+ghost use Rattle.aidl_schema.specs.Same.{same};
 ghost use Rattle.aidl_schema.specs.Sizes.{default_depth, default_nodes, depth_by, nodes_by};
+ghost use Rattle.aidl_schema.specs.Types.{is_type};
 
 use crate::schema::{AidlType, Decl};
+
+/// Types that are the same are so both ways, and along a third; and each type of a schema is the same as itself.
+pub fn law_same(a: &[Decl], t: &AidlType, b: &[Decl], u: &AidlType, c: &[Decl], w: &AidlType)
+    ensures itself { is_type a.now t.now ≡ true → same a.now t.now a.now t.now ≡ true }
+    ensures back { same a.now t.now b.now u.now ≡ true → same b.now u.now a.now t.now ≡ true }
+    ensures along { same a.now t.now b.now u.now ≡ true → same b.now u.now c.now w.now ≡ true → same a.now t.now c.now w.now ≡ true }
+{}
 
 /// A declaration holds itself (E22) exactly where a chain of containment leads from it back to it, however long.
 pub fn law_holds_itself(decls: &[Decl], number: u32)

@@ -3,7 +3,9 @@ use Rattle.std.specs.Prelude.{◌≡◌, ℕ, ◌≤◌, true, List, [], ◌∷�
 use Rattle.aidl_schema.specs.declared.schema.Decl.{Decl}
 use Rattle.aidl_schema.specs.declared.schema.Field.{Field}
 pub use Rattle.aidl_schema.specs.Containment.{fields_of}
-use Rattle.aidl_schema.specs.Types.{is_type}
+use Rattle.aidl_schema.specs.declared.schema.Base.{Base}
+use Rattle.aidl_schema.specs.Types.{form_of, is_type}
+use Rattle.aidl_schema.specs.Types as form
 use Rattle.aidl_values.specs.Data.{Data}
 use Rattle.aidl_values.specs.Default.{IsInitial, initial_by, zero_within}
 use Rattle.aidl_values.specs.HasType.{HasType}
@@ -15,6 +17,10 @@ IsDeclared S d = (n : ℕ) × (slice_get S n ≡ Some d)
 -- the field is one of a declaration of the schema
 abbrev pub IsFieldOf : List Decl → Field → Type 0
 IsFieldOf S f = (d : Decl) × IsDeclared S d × (k : ℕ) × (slice_get (fields_of d.kind) k ≡ Some f)
+
+-- the field is one of the parcelable that the base names
+abbrev pub IsPartOf : List Decl → Base → Field → Type 0
+IsPartOf S b f = (fs : List Field) × (form_of S b ≡ form.parcelable fs) × (k : ℕ) × (slice_get fs k ≡ Some f)
 
 -- each field's type is one of the schema
 abbrev pub AreTypes : List Decl → List Field → Type 0
