@@ -163,9 +163,10 @@ impl<'a> WordReader<'a> {
     /// Whether the position is the end of the innermost record.
     pub fn at_end(&self) -> bool
         requires { is_inside self.now ≡ true }
-        ensures { IsTrue result ↔ (left self.now ≡ []) }
+        ensures end { IsTrue result ↔ (self.now.position ≡ limit self.now) }
+        ensures none_left { IsTrue result ↔ (left self.now ≡ []) }
     {
-        self.rest().is_empty()
+        self.position == self.end
     }
 
     /// Goes to the end of the innermost record, whatever bytes stand between, and closes it.

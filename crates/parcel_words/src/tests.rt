@@ -26,7 +26,7 @@ enum Item {
 }
 
 /// Each item at the front of bytes: the value or the status, and the position after it.
-const READINGS: [(Item, &[u8], &str, usize); 49] = [
+const READINGS: [(Item, &[u8], &str, usize); 50] = [
     (Item::Word, b"\x05\0\0\0", "5", 4),
     (Item::Word, b"\xff\xff\xff\xff", "-1", 4),
     (Item::Word, b"\x05\0\0", "status -61", 0),
@@ -96,6 +96,7 @@ const READINGS: [(Item, &[u8], &str, usize); 49] = [
     ),
     (Item::Ints, b"\xff\xff\xff\xff", "status -2147483640", 0),
     (Item::NullableInts, b"\xff\xff\xff\xff", "None", 4),
+    (Item::NullableInts, b"\xfe\xff\xff\xff", "status -22", 0),
 ];
 
 /// Texts, and their spelling.
@@ -257,7 +258,13 @@ fn a_long_is_not_aligned_and_null_is_a_word(rt: HostRuntime) -> Result<(), Fail>
     writer.long(-1);
     writer.text(None);
     let want = b"\x05\0\0\0\xff\xff\xff\xff\xff\xff\xff\xff\xff\xff\xff\xff";
-    assert_eq!(rt; writer.finish().as_slice(), want.as_slice());
+    let bytes = writer.finish();
+    assert_eq!(rt; bytes.as_slice(), want.as_slice());
+    let mut reader = WordReader::new(bytes.as_slice());
+    assert_eq!(rt; reader.word()?, 5);
+    assert_eq!(rt; reader.long()?, -1);
+    assert_eq!(rt; reader.text(rt.alloc(), true)?, None);
+    assert_eq!(rt; reader.position(), 16);
     Ok(())
 }
 
