@@ -1,5 +1,5 @@
 -- Entering a record and leaving it take the bytes of its body.
-use Rattle.std.proofs.Common.{◌≡◌, ℕ, ◌-◌, ◌+◌, ◌≤◌, ℤ, pos, negsuc, Bool, true, false, ◌==◌, ◌%◌, cond, nat_lt, nat_le, List, [], ◌∷◌, Result, Ok, Err, ◌⊎◌, inl, inr, refl, sym, ap, ◌∙◌, subst, arith, length, take, drop, length-drop, length-take, min}
+use Rattle.std.proofs.Common.{◌≡◌, ℕ, ◌-◌, ◌+◌, ◌≤◌, ℤ, pos, negsuc, Bool, true, false, ◌==◌, ◌%◌, cond, nat_lt, nat_le, List, Result, Ok, Err, ◌⊎◌, inl, inr, refl, sym, ap, ◌∙◌, subst, arith, length, take, drop, length-drop, length-take, min}
 use Rattle.std.proofs.lemmas.Bool.{ltb-false}
 use Rattle.std.proofs.lemmas.Bool.Decides.{nat_tests}
 use Rattle.std.proofs.lemmas.List.{drop-drop, drop-take, take-take}
