@@ -1,5 +1,5 @@
 -- The block of a text and raw bytes, there and back.
-use Rattle.std.proofs.Common.{◌≡◌, ℕ, zero, suc, ◌+◌, ◌-◌, ◌*◌, ◌/◌, ◌%◌, ◌^◌, ◌<◌, ◌≤◌, Bool, true, false, not, ◌&&◌, cond, List, [], ◌∷◌, ◌++◌, map, length, take, drop, get_or, replicate, Some, Option, Ok, Err, nat_lt, nat_le, refl, sym, ap, ◌∙◌, arith, append_assoc, length-append, true≢false}
+use Rattle.std.proofs.Common.{◌≡◌, ℕ, zero, suc, ◌+◌, ◌-◌, ◌*◌, ◌/◌, ◌^◌, ◌<◌, ◌≤◌, Bool, true, false, not, ◌&&◌, cond, List, [], ◌∷◌, ◌++◌, map, length, take, drop, get_or, replicate, Some, Ok, Err, nat_lt, nat_le, refl, sym, ap, ◌∙◌, arith, append_assoc, length-append, true≢false}
 use Rattle.std.specs.List.{list_any}
 use Rattle.std.specs.Option.{unwrap_or, is_some}
 use Rattle.std.specs.Int.{w16, to_le_bytes, from_le_bytes}
@@ -15,7 +15,7 @@ use Rattle.std.proofs.lemmas.Str.{chars-encodes}
 use lib.Utf8.{scalar}
 use Rattle.aidl_base.specs.Words.{pad, padding, units, unit_bytes, block}
 use Rattle.aidl_base.specs.Readings.{Read, ◌>>=◌, bad_value, bytes_at, all_zero, raw_at, units_of, block_len, text_of, ok_or_bad_value, block_at}
-use Rattle.aidl_base.proofs.Texts.{utf16_chars-units}
+use Rattle.aidl_base.proofs.Texts.{both, utf16_chars-units}
 
 -- the units of pairs of bytes
 pub units_of_pairs : (k : ℕ) (bytes : List ℕ) → k ≡ length bytes / 2 → map (from_le_bytes w16) (first_chunks 2 k bytes) ≡ units_of bytes
@@ -36,11 +36,6 @@ lone_scalar u false lt e = rw e (grind (arith, nat_tests))
 
 pair_scalar : (c : ℕ) → 0x1_0000 ≤ c → c < 0x11_0000 → scalar c ≡ true
 pair_scalar c le lt = grind (arith, nat_tests)
-
-both : (a b : Bool) → (a && b) ≡ true → (a ≡ true) × (b ≡ true)
-both true true e = (refl, refl)
-both true false e = absurd (true≢false (sym e))
-both false b e = absurd (true≢false (sym e))
 
 surrogates_scalar : (u v : ℕ) → (is_high_surrogate u && is_low_surrogate v) ≡ true → scalar (surrogate_pair_char u v) ≡ true
 surrogates_scalar u v e =
@@ -127,7 +122,7 @@ raw_again bytes inside rest =
     ap (λ (x : Read (List ℕ)). x >>= λ y. cond (all_zero (drop n y.0)) (Ok (take n y.0, y.1)) (Err bad_value)) (bytes_again (n + padding n) inside (pad bytes) rest whole) ∙ rw (tail, front) refl
 
 -- each of the units of characters is one
-abbrev Below : List ℕ → Type 0
+abbrev pub Below : List ℕ → Type 0
 Below [] = Unit {0}
 Below (u ∷ us) = (u < 2 ^ 16) × Below us
 
@@ -154,7 +149,7 @@ none_unpaired : (x : List ℕ) → list_any (λ o. not (is_some o)) (map Some x)
 none_unpaired [] = refl
 none_unpaired (c ∷ x) = none_unpaired x
 
-lossless : (x : List ℕ) → map (λ o. unwrap_or o 0xFFFD) (map Some x) ≡ x
+pub lossless : (x : List ℕ) → map (λ o. unwrap_or o 0xFFFD) (map Some x) ≡ x
 lossless [] = refl
 lossless (c ∷ x) = ap (λ y. c ∷ y) (lossless x)
 

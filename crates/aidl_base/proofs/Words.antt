@@ -1,5 +1,5 @@
 -- Words, there and back.
-use Rattle.std.proofs.Common.{◌≡◌, ℕ, ◌^◌, ◌<◌, ℤ, pos, negsuc, Bool, true, false, List, [], ◌++◌, length, nat_lt, Option, Some, None, Ok, refl, ap, ◌∙◌, arith}
+use Rattle.std.proofs.Common.{◌≡◌, ℕ, ◌^◌, ◌<◌, ℤ, pos, negsuc, Bool, true, false, List, ◌++◌, length, nat_lt, Some, None, Ok, refl, ap, ◌∙◌, arith}
 use Rattle.std.specs.Int.{w32, w64, cast_unsigned, cast_signed}
 use Rattle.std.specs.Prelude.{FitsSigned}
 use Rattle.std.proofs.lemmas.Nat.{from_le_bytes-to_le_bytes_4, from_le_bytes-to_le_bytes_8}

@@ -33,6 +33,7 @@ base_code base.Long = 4
 base_code base.Text = 5
 base_code (base.Named n) = 6
 
+-- a declared base
 abbrev pub is_named : Base → Bool
 is_named b = base_code b == 6
 
@@ -45,11 +46,13 @@ decl_of S _ = None
 abbrev pub same_base : List Decl → Base → List Decl → Base → Bool
 same_base A b B c = (base_code b == base_code c) && (if is_named b then same_decl (decl_of A b) (decl_of B c) else true)
 
+-- a number for each shape
 abbrev pub shape_code : Shape → ℕ
 shape_code shape.One = 0
 shape_code shape.Array = 1
 shape_code shape.List = 2
 
+-- both true or both false
 abbrev pub same_bool : Bool → Bool → Bool
 same_bool true b = b
 same_bool false true = false

@@ -1,4 +1,5 @@
--- *Valid schema*: when declarations are those of a checked tree (own). Each rule is a test, and `rules` joins them.
+-- *Valid schema*: when declarations are those of a checked tree (own). Each rule is a test, named with the check rule that
+-- refuses what breaks it, and `rules` joins them.
 use Rattle.std.specs.Prelude.{ℕ, ◌+◌, nat_le, Bool, true, false, not, ◌&&◌, ◌||◌, ◌==◌, List, [], ◌∷◌, map, length, count_by, Option, Some, None, is_none}
 use Rattle.std.specs.List.{list_all, list_any, enumerate_from}
 use Rattle.aidl_base.specs.declared.constant.Const.{Const}
@@ -34,17 +35,20 @@ is_whole_type S t = is_type S t && (not t.utf8 || is_string t.base)
 abbrev pub may_be_on_heap : List Decl → AidlType → Bool
 may_be_on_heap S t = t.nullable && (is_one t.shape && is_composite (form_of S t.base))
 
+-- the type of a field
 abbrev pub is_field_type : List Decl → Field → Bool
 is_field_type S f = is_whole_type S f.ty && (not f.ty.heap || may_be_on_heap S f.ty)
 
--- of an argument, or of a method's result
+-- the type of an argument or of a method's result
 abbrev pub is_passed_type : List Decl → AidlType → Bool
 is_passed_type S t = is_whole_type S t && not t.heap
 
+-- the result of a method, where it has one
 abbrev pub is_result_type : List Decl → Option AidlType → Bool
 is_result_type S None = true
 is_result_type S (Some t) = is_passed_type S t
 
+-- the result and the arguments of a method
 abbrev pub has_method_types : List Decl → Method → Bool
 has_method_types S m = is_result_type S m.result && list_all (λ a. is_passed_type S a.ty) m.args
 
@@ -57,6 +61,7 @@ methods_of _ = []
 abbrev pub has_types : List Decl → Decl → Bool
 has_types S d = list_all (λ f. is_field_type S f) (fields_of d.kind) && list_all (λ m. has_method_types S m) (methods_of d.kind)
 
+-- no initializer, or one of the type
 abbrev pub has_initializer_of : List Decl → AidlType → Option Const → Bool
 has_initializer_of S t None = true
 has_initializer_of S t (Some c) = is_initializer_of S t c
@@ -65,7 +70,7 @@ has_initializer_of S t (Some c) = is_initializer_of S t c
 abbrev pub has_initializers : List Decl → Decl → Bool
 has_initializers S d = list_all (λ f. has_initializer_of S f.ty f.initial) (fields_of d.kind)
 
--- A union has a field, and only the first may have an initializer (E21).
+-- at least one field, and an initializer on the first alone
 abbrev pub are_union_fields : List Field → Bool
 are_union_fields [] = false
 are_union_fields (f ∷ fs) = list_all (λ g. is_none g.initial) fs
@@ -74,10 +79,11 @@ abbrev pub is_union_whole : Kind → Bool
 is_union_whole (Union fs) = are_union_fields fs
 is_union_whole _ = true
 
+-- A union has a field, and only the first may have an initializer (E21).
 abbrev pub has_whole_union : List Decl → Decl → Bool
 has_whole_union S d = is_union_whole d.kind
 
--- An enum has an enumerator, and each value is inside the backing (E12).
+-- at least one enumerator, and each value inside the backing of the enum
 abbrev pub are_enumerators : Kind → List Enumerator → Bool
 are_enumerators k [] = false
 are_enumerators k (e ∷ es) = list_all (λ x. in_range (form_of_kind k) x.value) (e ∷ es)
@@ -86,6 +92,7 @@ abbrev pub is_enum_whole : Kind → Bool
 is_enum_whole (Enum b es) = are_enumerators (Enum b es) es
 is_enum_whole _ = true
 
+-- An enum has an enumerator, and each value is inside the backing (E12).
 abbrev pub has_whole_enum : List Decl → Decl → Bool
 has_whole_enum S d = is_enum_whole d.kind
 
@@ -93,11 +100,12 @@ has_whole_enum S d = is_enum_whole d.kind
 abbrev pub is_grounded : List Decl → ℕ → Decl → Bool
 is_grounded S n d = not (holds_itself S n)
 
--- one value of a declaration
+-- the type of one value of a declaration, not null
 abbrev pub one_of : ℕ → AidlType
 one_of n = record { base = base.Named n; shape = shape.One; nullable = false; heap = false; utf8 = false }
 
--- The default of a parcelable or union has a depth of at most 32 and at most 512 nodes (E23).
+-- The default of a parcelable or union has a depth of at most 32 and at most 512 nodes (E23). That of another
+-- declaration has a depth of 0 and one node.
 abbrev pub is_small : List Decl → ℕ → Decl → Bool
 is_small S n d = has_small_default S (one_of n)
 
@@ -117,15 +125,15 @@ is_inside n (Some m) = m == n
 abbrev pub member_count : List Decl → ℕ → Decl → ℕ
 member_count S n d = part_count d.kind + (length d.constants + count_by (λ e. is_inside n e.outer) S)
 
--- There are at most 4,096 members.
+-- A declaration has at most 4,096 members (the limit `members`).
 abbrev pub has_few_members : List Decl → ℕ → Decl → Bool
 has_few_members S n d = nat_le (member_count S n d) 4096
 
--- A method has at most 255 arguments.
+-- A method has at most 255 arguments (the limit `arguments`).
 abbrev pub has_few_arguments : List Decl → Decl → Bool
 has_few_arguments S d = list_all (λ m. nat_le (length m.args) 255) (methods_of d.kind)
 
--- There are at most 16,384 declarations.
+-- There are at most 16,384 declarations (the limit `declarations`).
 abbrev pub has_few_decls : List Decl → Bool
 has_few_decls S = nat_le (length S) 16384
 
@@ -136,7 +144,7 @@ each rule S = list_all (λ d. rule S d) S
 abbrev pub each_at : (List Decl → ℕ → Decl → Bool) → List Decl → Bool
 each_at rule S = list_all (λ x. rule S x.0 x.1) (enumerate_from 0 S)
 
--- every rule
+-- Every rule. Proofs cite a rule by its place, so a new one goes to the end.
 abbrev pub rules : List (List Decl → Bool)
 rules = has_few_decls
     ∷ each has_distinct_fields

@@ -1,10 +1,12 @@
 //! A schema: what a checked tree declares, and what its types mean.
 #![tactic(auto)]
 
+mod laws;
 mod meaning;
 mod schema;
 
-pub use meaning::{Form, element, form_in, is_raw};
+pub use laws::{law_default_sizes, law_holds_itself, law_same};
+pub use meaning::{Form, element, form_in, is_raw, is_type};
 pub use schema::{
     AidlType, Arg, Backing, Base, Constant, Decl, Direction, Enumerator, Field, Kind, Method,
     Schema, Shape,

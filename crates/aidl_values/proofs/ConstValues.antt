@@ -1,5 +1,5 @@
 -- What a constant is as a value, one level at a time; and its size.
-use Rattle.std.proofs.Common.{◌≡◌, ℕ, suc, ◌+◌, max, Bool, true, false, List, [], ◌∷◌, map, refl, sym, ap, ◌∙◌, true≢false}
+use Rattle.std.proofs.Common.{◌≡◌, ℕ, suc, ◌+◌, max, Bool, true, false, List, [], ◌∷◌, map, refl, sym, ap, ◌∙◌}
 use Rattle.std.specs.Prelude.{sum}
 use Rattle.std.specs.List.{list_all}
 use Rattle.std.proofs.lemmas.List.Sums.{sum_by-cons}
@@ -39,20 +39,18 @@ pub record IsSized (c : Const) : Type 0 where
   pub depth : depth_of (const_value c) ≡ const_depth c
   pub nodes : nodes_of (const_value c) ≡ const_nodes c
 
+by_level : (c : Const) (o : Const-F Const) → out-Const c ≡ o → depth_of (value_step o) ≡ const_depth_step (map-Const Const ℕ const_depth o)
+    → nodes_of (value_step o) ≡ const_nodes_step (map-Const Const ℕ const_nodes o) → IsSized c
+by_level c o e depth nodes = record {
+  depth = ap depth_of (value_is c ∙ ap value_step e) ∙ depth ∙ sym (fold_out-Const ℕ const_depth_step c ∙ ap (λ p. const_depth_step (map-Const Const ℕ const_depth p)) e);
+  nodes = ap nodes_of (value_is c ∙ ap value_step e) ∙ nodes ∙ sym (fold_out-Const ℕ const_nodes_step c ∙ ap (λ p. const_nodes_step (map-Const Const ℕ const_nodes p)) e);
+}
+
 single_sized : (S : List Decl) (b : Base) (c : Const) (o : Const-F Const) → out-Const c ≡ o → is_single S b o ≡ true → IsSized c
-single_sized S b c (Const-F.Truth x) e h = record {
-  depth = ap depth_of (value_is c ∙ ap value_step e) ∙ sym (fold_out-Const ℕ const_depth_step c ∙ ap (λ p. const_depth_step (map-Const Const ℕ const_depth p)) e);
-  nodes = ap nodes_of (value_is c ∙ ap value_step e) ∙ sym (fold_out-Const ℕ const_nodes_step c ∙ ap (λ p. const_nodes_step (map-Const Const ℕ const_nodes p)) e);
-}
-single_sized S b c (Const-F.Number n) e h = record {
-  depth = ap depth_of (value_is c ∙ ap value_step e) ∙ sym (fold_out-Const ℕ const_depth_step c ∙ ap (λ p. const_depth_step (map-Const Const ℕ const_depth p)) e);
-  nodes = ap nodes_of (value_is c ∙ ap value_step e) ∙ sym (fold_out-Const ℕ const_nodes_step c ∙ ap (λ p. const_nodes_step (map-Const Const ℕ const_nodes p)) e);
-}
-single_sized S b c (Const-F.Text x) e h = record {
-  depth = ap depth_of (value_is c ∙ ap value_step e) ∙ sym (fold_out-Const ℕ const_depth_step c ∙ ap (λ p. const_depth_step (map-Const Const ℕ const_depth p)) e);
-  nodes = ap nodes_of (value_is c ∙ ap value_step e) ∙ sym (fold_out-Const ℕ const_nodes_step c ∙ ap (λ p. const_nodes_step (map-Const Const ℕ const_nodes p)) e);
-}
-single_sized S b c (Const-F.Members cs) e h = absurd (true≢false (sym h))
+single_sized S b c (Const-F.Truth x) e h = by_level c (Const-F.Truth x) e refl refl
+single_sized S b c (Const-F.Number n) e h = by_level c (Const-F.Number n) e refl refl
+single_sized S b c (Const-F.Text x) e h = by_level c (Const-F.Text x) e refl refl
+single_sized S b c (Const-F.Members cs) e h = cc
 
 members_depth : (S : List Decl) (b : Base) (cs : List Const) → list_all (λ m. is_constant_of S b m) cs ≡ true
     → greatest (items_of (map const_value cs)) ≡ greatest_of (map const_depth cs)
@@ -73,15 +71,10 @@ members_nodes S b (c ∷ cs) h =
     ap (λ n. n + nodes_in (items_of (map const_value cs))) first ∙ ap (λ n. const_nodes c + n) others ∙ sym (sum_by-cons (λ x. x) (const_nodes c) (map const_nodes cs))
 
 list_sized : (S : List Decl) (b : Base) (c : Const) (o : Const-F Const) → out-Const c ≡ o → are_members (λ m. is_constant_of S b m) o ≡ true → IsSized c
-list_sized S b c (Const-F.Truth x) e h = absurd (true≢false (sym h))
-list_sized S b c (Const-F.Number n) e h = absurd (true≢false (sym h))
-list_sized S b c (Const-F.Text x) e h = absurd (true≢false (sym h))
-list_sized S b c (Const-F.Members cs) e h = record {
-  depth = ap depth_of (value_is c ∙ ap value_step e) ∙ ap suc (members_depth S b cs h)
-      ∙ sym (fold_out-Const ℕ const_depth_step c ∙ ap (λ p. const_depth_step (map-Const Const ℕ const_depth p)) e);
-  nodes = ap nodes_of (value_is c ∙ ap value_step e) ∙ ap suc (members_nodes S b cs h)
-      ∙ sym (fold_out-Const ℕ const_nodes_step c ∙ ap (λ p. const_nodes_step (map-Const Const ℕ const_nodes p)) e);
-}
+list_sized S b c (Const-F.Truth x) e h = cc
+list_sized S b c (Const-F.Number n) e h = cc
+list_sized S b c (Const-F.Text x) e h = cc
+list_sized S b c (Const-F.Members cs) e h = by_level c (Const-F.Members cs) e (ap suc (members_depth S b cs h)) (ap suc (members_nodes S b cs h))
 
 pub sized : (S : List Decl) (t : AidlType) (c : Const) → is_initializer_of S t c ≡ true → IsSized c
 sized S t c h = by (is_one t.shape) refl

@@ -149,7 +149,7 @@ module _ (S : List Decl) (valid : is_valid S ≡ true) where
         let inits = both (has_initializer_of S f.ty f.initial) (list_all (λ g. has_initializer_of S g.ty g.initial) fs) whole.1 in
         let first = start f.ty f.initial (field_type f types.0) inits.0 lt le in
         record { zero_of = (there, one, f, fs, is, refl, first.initial_of); typed_as = (one, f ∷ fs, is, f, refl, first.typed_as); depth_is = ap suc first.depth_is; nodes_are = ap suc first.nodes_are }
-    by_form t form.nothing is meant there one lt le = absurd (true≢false (sym meant))
+    by_form t form.nothing is meant there one lt le = cc
 
     by_flags : (t : AidlType) (null_able one : Bool) → t.nullable ≡ null_able → is_one t.shape ≡ one → is_type S t ≡ true
         → depth_by S D t < k → depth_by S D t ≤ m → IsDefault S t (zero_by S Z t) (depth_by S D t) (nodes_by S N t)

@@ -2,6 +2,7 @@ pub mod ConstValues
 pub mod Defaults
 pub mod Greatest
 pub mod OneZero
+pub mod Parts
 pub mod Sounds
 pub mod Typed
 pub mod TypeTests

@@ -1,5 +1,5 @@
 -- In a valid schema defaults are small, each type has one, and so the schema is sound.
-use Rattle.std.proofs.Common.{◌≡◌, ℕ, zero, suc, ◌+◌, ◌≤◌, Bool, true, false, List, [], ◌∷◌, length, Option, Some, None, slice_get, refl, sym, ◌∙◌, subst, arith, true≢false}
+use Rattle.std.proofs.Common.{◌≡◌, ℕ, zero, suc, ◌+◌, ◌≤◌, Bool, true, false, List, [], ◌∷◌, length, Option, Some, None, slice_get, refl, sym, ◌∙◌, subst, arith}
 use Rattle.std.specs.Prelude.{nat_le, MatchOption}
 use Rattle.std.specs.List.{list_all}
 use Rattle.std.proofs.lemmas.Bool.Decides.{nat_tests}
@@ -15,6 +15,7 @@ use Rattle.aidl_schema.specs.Containment.{fields_of}
 use Rattle.aidl_schema.specs.Sizes.{depth_by, nodes_by, depth_within, nodes_within, default_depth, default_nodes}
 use Rattle.aidl_schema.specs.Types.{form_of, form_of_decl, is_one, is_type, is_meant}
 use Rattle.aidl_schema.specs.Valid.{is_valid, one_of, is_field_type, has_initializer_of, part_count, member_count}
+use Rattle.aidl_schema.proofs.Counts.{depth_steady, depth_within-suc, nodes_within-suc}
 use Rattle.aidl_schema.proofs.Tests.{both}
 use Rattle.aidl_schema.proofs.Valids.{holds}
 use Rattle.aidl_values.specs.Data.{Data, depth_of}
@@ -34,14 +35,6 @@ pub record Fits (S : List Decl) (t : AidlType) (v : Data) : Type 0 where
   pub shallow : depth_of v ≤ 32
   pub small : nodes_of v ≤ 512
 
-depth_within-suc : (k : ℕ) (S : List Decl) (t : AidlType) → depth_within (suc k) S t ≡ depth_by S (λ u. depth_within k S u) t
-unfolding depth_within
-depth_within-suc k S t = refl
-
-nodes_within-suc : (k : ℕ) (S : List Decl) (t : AidlType) → nodes_within (suc k) S t ≡ nodes_by S (λ u. nodes_within k S u) t
-unfolding nodes_within
-nodes_within-suc k S t = refl
-
 fields_few : (k : Kind) → length (fields_of k) ≤ part_count k
 fields_few (Interface ms) = omega arith
 fields_few (Parcelable fs) = omega arith
@@ -50,7 +43,7 @@ fields_few (Enum b es) = omega arith
 
 module _ (S : List Decl) (D N : AidlType → ℕ) (law : (n : ℕ) (d : Decl) → slice_get S n ≡ Some d → (depth_by S D (one_of n) ≤ 32) × (nodes_by S N (one_of n) ≤ 512)) where
   of_named : (n : ℕ) (o : Option Decl) → slice_get S n ≡ o → is_meant (form_of_decl o) ≡ true → (depth_by S D (one_of n) ≤ 32) × (nodes_by S N (one_of n) ≤ 512)
-  of_named n None is meant = absurd (true≢false (sym meant))
+  of_named n None is meant = cc
   of_named n (Some d) is meant = law n d is
 
   of_base : (t : AidlType) (b : Base) → t.base ≡ b → t.nullable ≡ false → is_one t.shape ≡ true → is_meant (form_of S b) ≡ true
@@ -69,7 +62,7 @@ module _ (S : List Decl) (D N : AidlType → ℕ) (law : (n : ℕ) (d : Decl) �
   of_flags t false true e is h = of_base t t.base refl e is (both _ _ h).0
 
 module _ (S : List Decl) (valid : is_valid S ≡ true) where
-  decl_small : (n : ℕ) (d : Decl) → slice_get S n ≡ Some d → (depth_within 33 S (one_of n) ≤ 32) × (nodes_within 33 S (one_of n) ≤ 512)
+  decl_small : (n : ℕ) (d : Decl) → slice_get S n ≡ Some d → (depth_within 33 S (one_of n) ≤ 32) × (nodes_within 513 S (one_of n) ≤ 512)
   decl_small n d is =
       let two = both (nat_le (default_depth S (one_of n)) 32) (nat_le (default_nodes S (one_of n)) 512) (holds S valid n d is).small in
       let depth = two.0 in
@@ -77,14 +70,19 @@ module _ (S : List Decl) (valid : is_valid S ≡ true) where
       (grind (arith, nat_tests), grind (arith, nat_tests))
 
   -- E23 bounds the default of each type.
-  pub small : (t : AidlType) → is_type S t ≡ true → (depth_within 33 S t ≤ 32) × (nodes_within 33 S t ≤ 512)
-  small t is = rw (depth_within-suc 32 S t, nodes_within-suc 32 S t) (of_flags S (λ u. depth_within 32 S u) (λ u. nodes_within 32 S u)
-      (λ n d there. let h = decl_small n d there in rw (depth_within-suc 32 S (one_of n), nodes_within-suc 32 S (one_of n)) at h)
+  pub small : (t : AidlType) → is_type S t ≡ true → (depth_within 33 S t ≤ 32) × (nodes_within 513 S t ≤ 512)
+  small t is = rw (depth_within-suc 32 S t, nodes_within-suc 512 S t) (of_flags S (λ u. depth_within 32 S u) (λ u. nodes_within 512 S u)
+      (λ n d there. let h = decl_small n d there in rw (depth_within-suc 32 S (one_of n), nodes_within-suc 512 S (one_of n)) at h)
       t t.nullable (is_one t.shape) refl refl is)
 
   -- each type has its default
-  pub default_there : (t : AidlType) → is_type S t ≡ true → IsDefault S t (zero_within 33 S t) (depth_within 33 S t) (nodes_within 33 S t)
-  default_there t is = let few = small t is in settled S valid 33 33 t is (omega (arith, few.0)) (omega (arith, few.0))
+  pub default_there : (t : AidlType) → is_type S t ≡ true → IsDefault S t (zero_within 33 S t) (depth_within 33 S t) (nodes_within 513 S t)
+  default_there t is =
+      let few = small t is in
+      let steady = depth_steady S 33 513 t (omega arith) in
+      let d = settled S valid 33 33 t is (omega (arith, few.0)) (omega (arith, few.0)) in
+      let deep = settled S valid 513 33 t is (omega (arith, few.0, steady)) (omega (arith, few.0, steady)) in
+      record { zero_of = d.zero_of; typed_as = d.typed_as; depth_is = d.depth_is; nodes_are = deep.nodes_are }
 
   -- and no other
   pub one_default : (t : AidlType) (v : Data) → is_type S t ≡ true → IsZero S t v → v ≡ zero_within 33 S t
@@ -100,7 +98,7 @@ module _ (S : List Decl) (valid : is_valid S ≡ true) where
       let d = default_there t is in
       let few = small t is in
       let shallow : default_depth S t ≡ depth_within 33 S t = omega (arith, few.0) in
-      let less : default_nodes S t ≡ nodes_within 33 S t = omega (arith, few.1) in
+      let less : default_nodes S t ≡ nodes_within 513 S t = omega (arith, few.1) in
       record {
         typed_as = d.typed_as;
         depth_is = d.depth_is ∙ sym shallow;

@@ -1,5 +1,5 @@
 -- The test of a type decides whether the value has it.
-use Rattle.std.proofs.Common.{◌≡◌, suc, ℤ, pos, negsuc, ◌≤◌, Bool, true, false, ◌&&◌, List, [], ◌∷◌, length, Option, Some, None, slice_get, refl, sym, ap, arith, true≢false}
+use Rattle.std.proofs.Common.{◌≡◌, suc, ℤ, pos, negsuc, ◌≤◌, Bool, true, false, ◌&&◌, List, [], ◌∷◌, length, Option, Some, None, slice_get, refl, sym, ap, arith}
 use Rattle.std.proofs.lemmas.Int.{ints}
 use Rattle.std.proofs.lemmas.Bool.Decides.{nat_tests}
 use Rattle.aidl_schema.specs.declared.schema.Decl.{Decl}
@@ -29,16 +29,16 @@ pub ranged : (f : Form) (n : ℤ) → in_range f n ≡ true → InRange f n
 ranged form.byte (pos n) e = let le : n ≤ 127 = grind (arith, nat_tests) in omega (arith, ints)
 ranged form.byte (negsuc n) e = let le : n ≤ 127 = grind (arith, nat_tests) in omega (arith, ints)
 ranged form.char (pos n) e = let le : n ≤ 65535 = grind (arith, nat_tests) in (omega (arith, ints), omega (arith, ints))
-ranged form.char (negsuc n) e = absurd (true≢false (sym e))
+ranged form.char (negsuc n) e = cc
 ranged form.int (pos n) e = let le : n ≤ 2147483647 = grind (arith, nat_tests) in omega (arith, ints)
 ranged form.int (negsuc n) e = let le : n ≤ 2147483647 = grind (arith, nat_tests) in omega (arith, ints)
 ranged form.long (pos n) e = let le : n ≤ 9223372036854775807 = grind (arith, nat_tests) in omega (arith, ints)
 ranged form.long (negsuc n) e = let le : n ≤ 9223372036854775807 = grind (arith, nat_tests) in omega (arith, ints)
-ranged form.truth n e = absurd (true≢false (sym e))
-ranged form.text n e = absurd (true≢false (sym e))
-ranged (form.parcelable fs) n e = absurd (true≢false (sym e))
-ranged (form.union fs) n e = absurd (true≢false (sym e))
-ranged form.nothing n e = absurd (true≢false (sym e))
+ranged form.truth n e = cc
+ranged form.text n e = cc
+ranged (form.parcelable fs) n e = cc
+ranged (form.union fs) n e = cc
+ranged form.nothing n e = cc
 
 in_test : (f : Form) (n : ℤ) → InRange f n → in_range f n ≡ true
 in_test form.byte (pos n) h = let le : n ≤ 127 = omega (arith, ints) in grind (arith, nat_tests)
@@ -57,51 +57,51 @@ in_test form.nothing n h = elim h [ ]
 
 truth_is : (f : Form) → is_truth_form f ≡ true → f ≡ form.truth
 truth_is form.truth e = refl
-truth_is form.byte e = absurd (true≢false (sym e))
-truth_is form.char e = absurd (true≢false (sym e))
-truth_is form.int e = absurd (true≢false (sym e))
-truth_is form.long e = absurd (true≢false (sym e))
-truth_is form.text e = absurd (true≢false (sym e))
-truth_is (form.parcelable fs) e = absurd (true≢false (sym e))
-truth_is (form.union fs) e = absurd (true≢false (sym e))
-truth_is form.nothing e = absurd (true≢false (sym e))
+truth_is form.byte e = cc
+truth_is form.char e = cc
+truth_is form.int e = cc
+truth_is form.long e = cc
+truth_is form.text e = cc
+truth_is (form.parcelable fs) e = cc
+truth_is (form.union fs) e = cc
+truth_is form.nothing e = cc
 
 text_is : (f : Form) → is_text_form f ≡ true → f ≡ form.text
 text_is form.text e = refl
-text_is form.byte e = absurd (true≢false (sym e))
-text_is form.char e = absurd (true≢false (sym e))
-text_is form.int e = absurd (true≢false (sym e))
-text_is form.long e = absurd (true≢false (sym e))
-text_is form.truth e = absurd (true≢false (sym e))
-text_is (form.parcelable fs) e = absurd (true≢false (sym e))
-text_is (form.union fs) e = absurd (true≢false (sym e))
-text_is form.nothing e = absurd (true≢false (sym e))
+text_is form.byte e = cc
+text_is form.char e = cc
+text_is form.int e = cc
+text_is form.long e = cc
+text_is form.truth e = cc
+text_is (form.parcelable fs) e = cc
+text_is (form.union fs) e = cc
+text_is form.nothing e = cc
 
 -- the fields of a parcelable, and of a union, and a field that is there
 parcelable_is : (f : Form) (test : List Field → Bool) → of_parcelable f test ≡ true → (fs : List Field) × (f ≡ form.parcelable fs) × (test fs ≡ true)
 parcelable_is (form.parcelable fs) test e = (fs, refl, e)
-parcelable_is form.truth test e = absurd (true≢false (sym e))
-parcelable_is form.byte test e = absurd (true≢false (sym e))
-parcelable_is form.char test e = absurd (true≢false (sym e))
-parcelable_is form.int test e = absurd (true≢false (sym e))
-parcelable_is form.long test e = absurd (true≢false (sym e))
-parcelable_is form.text test e = absurd (true≢false (sym e))
-parcelable_is (form.union fs) test e = absurd (true≢false (sym e))
-parcelable_is form.nothing test e = absurd (true≢false (sym e))
+parcelable_is form.truth test e = cc
+parcelable_is form.byte test e = cc
+parcelable_is form.char test e = cc
+parcelable_is form.int test e = cc
+parcelable_is form.long test e = cc
+parcelable_is form.text test e = cc
+parcelable_is (form.union fs) test e = cc
+parcelable_is form.nothing test e = cc
 
 union_is : (f : Form) (test : List Field → Bool) → of_union f test ≡ true → (fs : List Field) × (f ≡ form.union fs) × (test fs ≡ true)
 union_is (form.union fs) test e = (fs, refl, e)
-union_is form.truth test e = absurd (true≢false (sym e))
-union_is form.byte test e = absurd (true≢false (sym e))
-union_is form.char test e = absurd (true≢false (sym e))
-union_is form.int test e = absurd (true≢false (sym e))
-union_is form.long test e = absurd (true≢false (sym e))
-union_is form.text test e = absurd (true≢false (sym e))
-union_is (form.parcelable fs) test e = absurd (true≢false (sym e))
-union_is form.nothing test e = absurd (true≢false (sym e))
+union_is form.truth test e = cc
+union_is form.byte test e = cc
+union_is form.char test e = cc
+union_is form.int test e = cc
+union_is form.long test e = cc
+union_is form.text test e = cc
+union_is (form.parcelable fs) test e = cc
+union_is form.nothing test e = cc
 
 field_is : (o : Option Field) (test : AidlType → Bool) → of_field o test ≡ true → (f : Field) × (o ≡ Some f) × (test f.ty ≡ true)
-field_is None test e = absurd (true≢false (sym e))
+field_is None test e = cc
 field_is (Some f) test e = (f, refl, e)
 
 mutual
@@ -124,8 +124,8 @@ mutual
 
   tested_fields : (S : List Decl) (fs : List Field) (vs : Items) → fields_have_type S fs vs ≡ true → FieldsHaveType S fs vs
   tested_fields S [] none e = tt
-  tested_fields S [] (item v vs) e = absurd (true≢false (sym e))
-  tested_fields S (f ∷ fs) none e = absurd (true≢false (sym e))
+  tested_fields S [] (item v vs) e = cc
+  tested_fields S (f ∷ fs) none e = cc
   tested_fields S (f ∷ fs) (item v vs) e = let p = both _ _ e in (tested S f.ty v p.0, tested_fields S fs vs p.1)
 
 mutual

@@ -1,5 +1,5 @@
 -- In a valid schema an initializer, as a value, has its field's type.
-use Rattle.std.proofs.Common.{◌≡◌, ℕ, ℤ, pos, negsuc, ◌≤◌, Bool, true, false, not, ◌&&◌, List, [], ◌∷◌, map, Option, Some, None, slice_get, refl, sym, subst, arith, true≢false}
+use Rattle.std.proofs.Common.{◌≡◌, ℕ, ℤ, pos, negsuc, ◌≤◌, Bool, true, false, not, ◌&&◌, List, [], ◌∷◌, map, Option, Some, None, slice_get, refl, sym, subst, arith}
 use Rattle.std.specs.Prelude.{nat_le, ◌==◌}
 use Rattle.std.specs.List.{list_all, list_any}
 use Rattle.std.specs.Ordering.{int_eq}
@@ -34,25 +34,25 @@ found_first p n e es later true is first any = subst (λ m. p m ≡ true) ((Deci
 found_first p n e es later false is first any = let others : list_any (λ x. int_eq x.value n) es ≡ true = rw is at any in later others
 
 found : (p : ℤ → Bool) (n : ℤ) (es : List Enumerator) → list_any (λ e. int_eq e.value n) es ≡ true → list_all (λ e. p e.value) es ≡ true → p n ≡ true
-found p n [] any all = absurd (true≢false (sym any))
+found p n [] any all = cc
 found p n (e ∷ es) any all =
     let two = both (p e.value) (list_all (λ x. p x.value) es) all in
     found_first p n e es (λ h. found p n es h two.1) (int_eq e.value n) refl two.0 any
 
 -- an enumerator is inside the backing
 enumerated : (k : Kind) (n : ℤ) → is_enum_whole k ≡ true → is_enumerator k n ≡ true → in_range (form_of_kind k) n ≡ true
-enumerated (Enum b []) n whole h = absurd (true≢false (sym whole))
+enumerated (Enum b []) n whole h = cc
 enumerated (Enum b (e ∷ es)) n whole h = found (λ m. in_range (form_of_kind (Enum b (e ∷ es))) m) n (e ∷ es) h whole
-enumerated (Interface ms) n whole h = absurd (true≢false (sym h))
-enumerated (Parcelable fs) n whole h = absurd (true≢false (sym h))
-enumerated (Union fs) n whole h = absurd (true≢false (sym h))
+enumerated (Interface ms) n whole h = cc
+enumerated (Parcelable fs) n whole h = cc
+enumerated (Union fs) n whole h = cc
 
 -- a character of a literal is one of the type
 char_in_range : (n : ℤ) → is_char_literal n ≡ true → in_range form.char n ≡ true
 char_in_range (pos n) h =
     let between = (both (is_between (pos 32) (pos 126) (pos n)) (not (int_eq (pos n) (pos 39)) && not (int_eq (pos n) (pos 92))) h).0 in
     grind (arith, nat_tests)
-char_in_range (negsuc n) h = absurd (true≢false (sym h))
+char_in_range (negsuc n) h = cc
 
 scalars : (x : List ℕ) → list_all is_string_character x ≡ true → all_scalars x ≡ true
 scalars [] h = refl
@@ -66,7 +66,7 @@ scalars (c ∷ cs) h =
 
 module _ (S : List Decl) (valid : is_valid S ≡ true) where
   number_of_decl : (o : Option Decl) (n : ℤ) → ((d : Decl) → o ≡ Some d → is_enum_whole d.kind ≡ true) → is_enumerator_of o n ≡ true → InRange (form_of_decl o) n
-  number_of_decl None n whole h = absurd (true≢false (sym h))
+  number_of_decl None n whole h = cc
   number_of_decl (Some d) n whole h = ranged (form_of_kind d.kind) n (enumerated d.kind n (whole d refl) h)
 
   number_in_range : (b : Base) (n : ℤ) → is_number_of S b n ≡ true → InRange (form_of S b) n
@@ -75,32 +75,32 @@ module _ (S : List Decl) (valid : is_valid S ≡ true) where
   number_in_range base.Int n h = ranged form.int n h
   number_in_range base.Long n h = ranged form.long n h
   number_in_range (base.Named k) n h = number_of_decl (slice_get S k) n (λ d is. (holds S valid k d is).values) h
-  number_in_range base.Boolean n h = absurd (true≢false (sym h))
-  number_in_range base.Text n h = absurd (true≢false (sym h))
+  number_in_range base.Boolean n h = cc
+  number_in_range base.Text n h = cc
 
   truth_base : (b : Base) → is_boolean b ≡ true → form_of S b ≡ form.truth
   truth_base base.Boolean h = refl
-  truth_base base.Byte h = absurd (true≢false (sym h))
-  truth_base base.Char h = absurd (true≢false (sym h))
-  truth_base base.Int h = absurd (true≢false (sym h))
-  truth_base base.Long h = absurd (true≢false (sym h))
-  truth_base base.Text h = absurd (true≢false (sym h))
-  truth_base (base.Named n) h = absurd (true≢false (sym h))
+  truth_base base.Byte h = cc
+  truth_base base.Char h = cc
+  truth_base base.Int h = cc
+  truth_base base.Long h = cc
+  truth_base base.Text h = cc
+  truth_base (base.Named n) h = cc
 
   text_base : (b : Base) → is_string b ≡ true → form_of S b ≡ form.text
   text_base base.Text h = refl
-  text_base base.Byte h = absurd (true≢false (sym h))
-  text_base base.Char h = absurd (true≢false (sym h))
-  text_base base.Int h = absurd (true≢false (sym h))
-  text_base base.Long h = absurd (true≢false (sym h))
-  text_base base.Boolean h = absurd (true≢false (sym h))
-  text_base (base.Named n) h = absurd (true≢false (sym h))
+  text_base base.Byte h = cc
+  text_base base.Char h = cc
+  text_base base.Int h = cc
+  text_base base.Long h = cc
+  text_base base.Boolean h = cc
+  text_base (base.Named n) h = cc
 
   level_typed : (t : AidlType) (o : Const-F Const) → is_one t.shape ≡ true → is_single S t.base o ≡ true → HasType S t (value_step o)
   level_typed t (Const-F.Truth x) one h = (one, truth_base t.base h)
   level_typed t (Const-F.Number n) one h = (one, number_in_range t.base n h)
   level_typed t (Const-F.Text x) one h = let two = both (is_string t.base) (list_all is_string_character x) h in (one, text_base t.base two.0, scalars x two.1)
-  level_typed t (Const-F.Members cs) one h = absurd (true≢false (sym h))
+  level_typed t (Const-F.Members cs) one h = cc
 
   single_typed : (t : AidlType) (c : Const) → is_one t.shape ≡ true → is_constant_of S t.base c ≡ true → HasType S t (const_value c)
   single_typed t c one h = subst (λ v. HasType S t v) (sym (value_is c)) (level_typed t (out-Const c) one h)
@@ -113,9 +113,9 @@ module _ (S : List Decl) (valid : is_valid S ≡ true) where
 
   list_typed : (t : AidlType) (o : Const-F Const) → is_one t.shape ≡ false → are_members (λ m. is_constant_of S t.base m) o ≡ true → HasType S t (value_step o)
   list_typed t (Const-F.Members cs) many h = (many, members_typed t cs h)
-  list_typed t (Const-F.Truth x) many h = absurd (true≢false (sym h))
-  list_typed t (Const-F.Number n) many h = absurd (true≢false (sym h))
-  list_typed t (Const-F.Text x) many h = absurd (true≢false (sym h))
+  list_typed t (Const-F.Truth x) many h = cc
+  list_typed t (Const-F.Number n) many h = cc
+  list_typed t (Const-F.Text x) many h = cc
 
   pub typed : (t : AidlType) (c : Const) → is_initializer_of S t c ≡ true → HasType S t (const_value c)
   typed t c h = by (is_one t.shape) refl

@@ -1,4 +1,4 @@
--- the defaults. E22 makes them end: a type that reaches itself has none.
+-- *Defaults*: the native value-initialized profile (own). E22 and E23 make them end: a type that holds itself has none.
 use Rattle.std.specs.Prelude.{◌≡◌, ℕ, zero, suc, pos, false, if◌then◌else◌, List, [], ◌∷◌, Option, Some, None, map, IsTrue, MatchOption}
 use Rattle.aidl_base.specs.declared.constant.Const.{Const, fold-Const}
 use Rattle.aidl_base.specs.declared.constant.Const.TheOpen.{Const-F}
@@ -10,13 +10,14 @@ use Rattle.aidl_schema.specs.Types as form
 use Rattle.aidl_values.specs.Data.{Data, null, truth, number, text, seq, rec, alt, Items, none, item}
 use Rattle.aidl_values.specs.View.{items_of}
 
--- a constant as a value
+-- one level of a constant as a value: a brace list is a sequence
 abbrev pub const_step : Const-F Data → Data
 const_step (Const-F.Truth b) = truth b
 const_step (Const-F.Number n) = number n
 const_step (Const-F.Text x) = text x
 const_step (Const-F.Members vs) = seq (items_of vs)
 
+-- a constant as a value
 abbrev pub const_value : Const → Data
 const_value = fold-Const Data const_step
 
@@ -32,7 +33,8 @@ simple_zero _ = None
 
 -- What a value is the default of, by cases on the value.
 abbrev mutual
-  -- Zero
+  -- *Zero*: null for a nullable type, the empty sequence, false, 0, the empty text, the record of the fields' Initial, or
+  -- alternative 0 with the Initial of the first field
   pub IsZero : List Decl → AidlType → Data → Type 0
   IsZero S t null = IsTrue t.nullable
   IsZero S t (truth b) = (t.nullable ≡ false) × IsTrue (is_one t.shape) × (simple_zero (form_of S t.base) ≡ Some (truth b))
@@ -50,11 +52,12 @@ abbrev mutual
   AreInitial S (f ∷ fs) none = ⊥
   AreInitial S (f ∷ fs) (item v vs) = MatchOption f.initial (IsZero S f.ty v) (λ c. v ≡ const_value c) × AreInitial S fs vs
 
--- Initial
+-- *Initial*: a field's initializer as a value, or else the Zero of its type
 abbrev pub IsInitial : List Decl → Field → Data → Type 0
 IsInitial S f v = MatchOption f.initial (IsZero S f.ty v) (λ c. v ≡ const_value c)
 
--- The same as a function: types nest at most so deep.
+-- The same as a function, of types that nest at most so many levels deep. Each type of a valid schema is one of those,
+-- and the function gives its Zero: `law_one_default`.
 abbrev pub initial_or : Option Const → Data → Data
 initial_or (Some c) v = const_value c
 initial_or None v = v

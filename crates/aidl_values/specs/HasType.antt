@@ -1,4 +1,4 @@
--- which values a type has.
+-- *HasType*: which values a type has (AIDL language, "Types"; the rest own).
 use Rattle.std.specs.Prelude.{◌≡◌, ℤ, pos, ◌≤ℤ◌, List, [], ◌∷◌, Some, slice_get, IsTrue, false, FitsSigned}
 use Rattle.std.specs.Int.{w8, w32, w64}
 use Rattle.std.specs.Str.{all_scalars}
@@ -18,6 +18,7 @@ InRange form.long n = FitsSigned w64 n
 InRange _ n = ⊥
 
 abbrev mutual
+  -- A null needs a nullable type, a sequence an array or `List`; every other value needs a single type of its kind.
   pub HasType : List Decl → AidlType → Data → Type 0
   HasType S t null = IsTrue t.nullable
   HasType S t (truth b) = IsTrue (is_one t.shape) × (form_of S t.base ≡ form.truth)

@@ -2,14 +2,14 @@ ghost use Rattle.std.specs.Prelude.{◌≡◌, ◌≤◌, ◌↔◌, true};
 ghost use Rattle.aidl_schema.specs.Sizes.{default_depth, default_nodes};
 ghost use Rattle.aidl_schema.specs.Types.{is_type};
 ghost use Rattle.aidl_values.specs.Data.{depth_of};
-ghost use Rattle.aidl_values.specs.Default.{IsZero, zero_within};
+ghost use Rattle.aidl_values.specs.Default.{IsInitial, IsZero, zero_within};
 ghost use Rattle.aidl_values.specs.HasType.{HasType};
 ghost use Rattle.aidl_values.specs.Nodes.{nodes_of};
-ghost use Rattle.aidl_values.specs.Sound.{IsSound};
+ghost use Rattle.aidl_values.specs.Sound.{IsPartOf, IsSound};
 ghost use Rattle.aidl_values.specs.View.{view};
 
 use crate::value::Value;
-use aidl_schema::{AidlType, Schema};
+use aidl_schema::{AidlType, Base, Field, Schema};
 
 /// Each type of a schema has one default: 33 levels are enough to find it, and nothing else is one.
 pub fn law_one_default(schema: &Schema, ty: &AidlType, value: &Value)
@@ -27,6 +27,16 @@ pub fn law_default_fits(schema: &Schema, ty: &AidlType, value: &Value)
     ensures nodes { nodes_of (view value.now) ≡ default_nodes schema.now.decls ty.now }
     ensures shallow { depth_of (view value.now) ≤ 32 }
     ensures small { nodes_of (view value.now) ≤ 512 }
+{}
+
+/// What a field of a parcelable starts with has the field's type, a depth of at most 31 and at most 511 nodes: one less
+/// of each than the parcelable's default may have.
+pub fn law_initial_fits(schema: &Schema, base: Base, field: &Field, value: &Value)
+    requires of_parcelable { IsPartOf schema.now.decls base field.now }
+    requires initial { IsInitial schema.now.decls field.now (view value.now) }
+    ensures typed { HasType schema.now.decls field.now.ty (view value.now) }
+    ensures shallow { depth_of (view value.now) ≤ 31 }
+    ensures small { nodes_of (view value.now) ≤ 511 }
 {}
 
 /// In a schema the fields of each parcelable and union have types of the schema and one default each, of their type.

@@ -1,13 +1,12 @@
 //! Worked values: the default of a parcelable with an initializer, and the copy and the depth of values.
 
-ghost use Rattle.std.specs.Prelude.{◌≡◌, true, false, IfOk, IsTrue};
+ghost use Rattle.std.specs.Prelude.{◌≡◌, false, IfOk, IsTrue};
 ghost use Rattle.std.specs.Str.{chars};
-ghost use Rattle.aidl_schema.specs.Types.{is_type};
-ghost use Rattle.aidl_schema.specs.Valid.{is_valid, one_of};
+ghost use Rattle.aidl_schema.specs.Valid.{is_valid};
 
 use crate::{Value, default_of, depth, has_type, initial_of, law_one_default, law_sound};
 use aidl_base::{Const, DottedName, Ident, OutOfMemory, Row, Text};
-use aidl_schema::{AidlType, Base, Decl, Field, Kind, Schema, Shape};
+use aidl_schema::{AidlType, Base, Decl, Field, Kind, Schema, Shape, is_type};
 use std::alloc::Global;
 use std::test::Fail;
 
@@ -31,8 +30,7 @@ fn text(alloc: Global, letters: &str) -> Result<Text, OutOfMemory>
 
 // parcelable { int a; String s = "x"; }
 fn decls(alloc: Global) -> Result<Row<Decl>, OutOfMemory>
-    ensures valid { IfOk result (λ ds. IsTrue (is_valid ds)) }
-    ensures first { IfOk result (λ ds. is_type ds (one_of 0) ≡ true) }
+    ensures { IfOk result (λ ds. IsTrue (is_valid ds)) }
 {
     let mut fields = Row::new(alloc);
     fields.push(Field {
@@ -57,9 +55,7 @@ fn decls(alloc: Global) -> Result<Row<Decl>, OutOfMemory>
     Ok(decls)
 }
 
-fn schema(alloc: Global) -> Result<Schema, OutOfMemory>
-    ensures { IfOk result (λ s. is_type s.decls (one_of 0) ≡ true) }
-{
+fn schema(alloc: Global) -> Result<Schema, OutOfMemory> {
     let decls = decls(alloc)?;
     Ok(Schema { decls })
 }
@@ -78,6 +74,7 @@ fn nested(alloc: Global, levels: usize, mut value: Value) -> Result<Value, OutOf
 fn the_default_has_the_initializer(rt: HostRuntime) -> Result<(), Fail> {
     let schema = schema(rt.alloc())?;
     let ty = one(Base::Named(0));
+    assert!(rt; is_type(&schema, ty));
     let value = default_of(rt.alloc(), &schema, &ty)?;
     let copy = value.try_clone(rt.alloc())?;
     for value in [&value, &copy] {

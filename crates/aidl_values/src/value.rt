@@ -41,16 +41,11 @@ fn copy(alloc: Global, value: &Value) -> Result<Value, OutOfMemory>
         Value::Text(text) => Ok(Value::Text(text.try_clone(alloc)?)),
         Value::Seq(items) => Ok(Value::Seq(copy_items(alloc, items.as_slice())?)),
         Value::Rec(items) => Ok(Value::Rec(copy_items(alloc, items.as_slice())?)),
-        Value::Alt(tag, inner) => Ok(Value::Alt(*tag, copy_inner(alloc, inner)?)),
+        Value::Alt(tag, inner) => {
+            let copied = copy(alloc, inner)?;
+            Ok(Value::Alt(*tag, Box::new(alloc, copied)?))
+        }
     }
-}
-
-#[cycle(copy)]
-fn copy_inner(alloc: Global, inner: &Box<Value>) -> Result<Box<Value>, OutOfMemory>
-    ensures { IfOk result (λ b. view b.value ≡ view inner.now.value) }
-{
-    let value = copy(alloc, inner)?;
-    Ok(Box::new(alloc, value)?)
 }
 
 #[cycle(copy)]

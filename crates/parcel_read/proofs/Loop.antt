@@ -8,22 +8,29 @@ use Rattle.aidl_values.specs.Data.{Data, Items, none, item}
 use Rattle.aidl_values.specs.View.{items_of}
 use Rattle.parcel_words.specs.declared.fault.ReadFault.{ReadFault}
 use Rattle.parcel_words.specs.declared.fault.ReadFault.TheVariants.{NotEnough, UnexpectedNull, BadValue, OutOfMemory}
-use Rattle.parcel_words.specs.Taken.{Fails}
+use Rattle.parcel_words.specs.Taken.{Refuses, RefusesIfMemory}
 use Rattle.wire_model.specs.ReadOf.{items_at, field_at, fields_at}
 
 -- A fault of the first step is one of the whole.
-pub fails_then : {A B : Type 0} (e : ReadFault) (reading : Result A ℤ) (f : A → Result B ℤ) → Fails e reading → Fails e (reading >>= f)
+pub fails_then : {A B : Type 0} (e : ReadFault) (reading : Result A ℤ) (f : A → Result B ℤ) → RefusesIfMemory e reading → RefusesIfMemory e (reading >>= f)
 fails_then NotEnough reading f h = rw h refl
 fails_then UnexpectedNull reading f h = rw h refl
 fails_then BadValue reading f h = rw h refl
 fails_then OutOfMemory reading f h = tt
 
 -- Where each status of a reading is one of another, so is each fault.
-pub fails_as : {A B : Type 0} (e : ReadFault) (reading : Result A ℤ) (total : Result B ℤ) → ((s : ℤ) → reading ≡ Err s → total ≡ Err s) → Fails e reading → Fails e total
+pub fails_as : {A B : Type 0} (e : ReadFault) (reading : Result A ℤ) (total : Result B ℤ) → ((s : ℤ) → reading ≡ Err s → total ≡ Err s) → RefusesIfMemory e reading → RefusesIfMemory e total
 fails_as NotEnough reading total f h = f not_enough h
 fails_as UnexpectedNull reading total f h = f unexpected_null h
 fails_as BadValue reading total f h = f bad_value h
 fails_as OutOfMemory reading total f h = tt
+
+-- A refusal of a call that takes no memory is one of a call that may.
+pub refused_if_memory : {A : Type 0} (e : ReadFault) (reading : Result A ℤ) → Refuses e reading → RefusesIfMemory e reading
+refused_if_memory NotEnough reading h = h
+refused_if_memory UnexpectedNull reading h = h
+refused_if_memory BadValue reading h = h
+refused_if_memory OutOfMemory reading h = tt
 
 -- the items, and then more
 abbrev pub onto : List Data → Items → Items
@@ -59,7 +66,7 @@ module _ (read : List ℕ → Read Data) (front : List Data) (count i : ℕ) (b 
       let one : with_front front (items_at read (count - i) b) ≡ Err s = rw (k, h) refl in
       sym so_far ∙ one
 
-  pub ends : (e : ReadFault) → i < count → Fails e (read b) → Fails e total
+  pub ends : (e : ReadFault) → i < count → RefusesIfMemory e (read b) → RefusesIfMemory e total
   ends e lt h = fails_as e (read b) total (λ s k. stops lt s k) h
 
   pub is_done : count ≤ i → total ≡ Ok (items_of front, b)
@@ -93,7 +100,7 @@ module _ (initial : Field → Data) (read : AidlType → List ℕ → Read Data)
       let one : with_fields front (fields_at initial read (drop i fs) b) ≡ first_of (Ok (d, rest)) = as_first f lt is ∙ ap first_of h in
       sym (one ∙ fields_regroup front d (fields_at initial read (drop (i + 1) fs) rest)) ∙ so_far
 
-  pub field_ends : (f : Field) (e : ReadFault) → i < length fs → f ≡ get_or fs i f → Fails e (field_at initial read f b) → Fails e total
+  pub field_ends : (f : Field) (e : ReadFault) → i < length fs → f ≡ get_or fs i f → RefusesIfMemory e (field_at initial read f b) → RefusesIfMemory e total
   field_ends f e lt is h = fails_as e (field_at initial read f b) total (λ s k. sym so_far ∙ as_first f lt is ∙ ap first_of k) h
 
   pub fields_done : length fs ≤ i → total ≡ Ok (items_of front)

@@ -12,7 +12,7 @@ use Rattle.aidl_schema.specs.declared.schema.Shape.TheVariants as shape
 use Rattle.aidl_schema.specs.Types.{is_one}
 use Rattle.aidl_values.specs.Data.{Data, Items, rec}
 use Rattle.parcel_words.specs.Place.{Place, left, limit, moved, opened, closed, size_at, MovesOn, Enters, is_inside}
-use Rattle.parcel_words.specs.Taken.{Fails}
+use Rattle.parcel_words.specs.Taken.{RefusesIfMemory}
 use Rattle.parcel_words.specs.declared.fault.ReadFault.{ReadFault}
 use Rattle.wire_model.specs.ReadOf.{body_at, body_value_at, fields_at}
 use Rattle.parcel_read.proofs.Loop.{fails_as}
@@ -155,13 +155,13 @@ module _ (initial : Field → Data) (read : AidlType → List ℕ → Read Data)
   unfolding body_value_at
   record_is fs inside b inner rest vs body h = ap (with_fields_of fs) body ∙ ap (as_record rest) h
 
-  pub record_fails : (fs : List Field) (inside : Bool) (b inner rest : List ℕ) (e : ReadFault) → body_at inside b ≡ Ok (inner, rest) → Fails e (fields_at initial read fs inner)
-      → Fails e (body_value_at initial read fs inside b)
+  pub record_fails : (fs : List Field) (inside : Bool) (b inner rest : List ℕ) (e : ReadFault) → body_at inside b ≡ Ok (inner, rest) → RefusesIfMemory e (fields_at initial read fs inner)
+      → RefusesIfMemory e (body_value_at initial read fs inside b)
   unfolding body_value_at
   record_fails fs inside b inner rest e body h =
       fails_as e (fields_at initial read fs inner) (body_value_at initial read fs inside b) (λ s k. ap (with_fields_of fs) body ∙ ap (as_record rest) k) h
 
-  pub no_record : (fs : List Field) (inside : Bool) (b : List ℕ) (e : ReadFault) → Fails e (size_at inside b) → Fails e (body_value_at initial read fs inside b)
+  pub no_record : (fs : List Field) (inside : Bool) (b : List ℕ) (e : ReadFault) → RefusesIfMemory e (size_at inside b) → RefusesIfMemory e (body_value_at initial read fs inside b)
   unfolding body_value_at
   no_record fs inside b e h =
       fails_as e (size_at inside b) (body_value_at initial read fs inside b) (λ s k. ap (with_fields_of fs) (body_steps inside b ∙ ap after_size k)) h

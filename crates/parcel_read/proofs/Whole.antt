@@ -8,7 +8,7 @@ use Rattle.aidl_schema.specs.Types.{is_type}
 use Rattle.aidl_values.specs.Data.{Data}
 use Rattle.aidl_values.specs.Sound.{IsSound}
 use Rattle.parcel_words.specs.Place.{Place, left, is_inside, moved, MovesOn}
-use Rattle.parcel_words.specs.Taken.{Fails, status_of}
+use Rattle.parcel_words.specs.Taken.{RefusesIfMemory, status_of}
 use Rattle.parcel_words.specs.declared.fault.ReadFault.{ReadFault}
 use Rattle.parcel_words.specs.declared.fault.ReadFault.TheVariants.{NotEnough, UnexpectedNull, BadValue, OutOfMemory}
 use Rattle.wire_model.specs.ReadOf.{read_of}
@@ -60,14 +60,14 @@ module _ (S : List Decl) (sound : IsSound S) (t : AidlType) (type : is_type S t 
     pub is_only : (w : Data) (m : ℕ) → m ≤ length bytes → Reads S 64 t (take m bytes) w → (v ≡ w) × (n ≡ m)
     is_only w m le h = let same = read_only S sound 64 t type false bytes good v w (drop n bytes) m le e h in (sym same.0, sym (same.1 ∙ passed))
 
-  pub is_stop : (e : ReadFault) → Fails e (read_of S 64 t false bytes) → IfSome (status_of e) (λ s. Stop S 64 t bytes false s)
+  pub is_stop : (e : ReadFault) → RefusesIfMemory e (read_of S 64 t false bytes) → IfSome (status_of e) (λ s. Stop S 64 t bytes false s)
   is_stop NotEnough h = read_stop S sound 64 t type false bytes good not_enough h
   is_stop UnexpectedNull h = read_stop S sound 64 t type false bytes good unexpected_null h
   is_stop BadValue h = read_stop S sound 64 t type false bytes good bad_value h
   is_stop OutOfMemory h = tt
 
   -- Where a front is a reading, only memory can have been wanted.
-  pub is_memory : (e : ReadFault) → Fails e (read_of S 64 t false bytes) → (w : Data) (m : ℕ) → Reads S 64 t (take m bytes) w → e ≡ OutOfMemory
+  pub is_memory : (e : ReadFault) → RefusesIfMemory e (read_of S 64 t false bytes) → (w : Data) (m : ℕ) → Reads S 64 t (take m bytes) w → e ≡ OutOfMemory
   is_memory NotEnough h w m reads = absurd (read_none S sound 64 t type false bytes good not_enough w m h reads)
   is_memory UnexpectedNull h w m reads = absurd (read_none S sound 64 t type false bytes good unexpected_null w m h reads)
   is_memory BadValue h w m reads = absurd (read_none S sound 64 t type false bytes good bad_value w m h reads)

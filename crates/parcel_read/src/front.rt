@@ -3,7 +3,7 @@ ghost use Rattle.std.specs.Prelude.{◌≡◌, ◌≤◌, ℕ, true, false, leng
 ghost use Rattle.aidl_schema.specs.Types.{is_type};
 ghost use Rattle.aidl_values.specs.Data.{Data};
 ghost use Rattle.aidl_values.specs.View.{view};
-ghost use Rattle.parcel_words.specs.Taken.{Fails, status_of};
+ghost use Rattle.parcel_words.specs.Taken.{RefusesIfMemory, status_of};
 ghost use Rattle.parcel_words.specs.declared.fault.ReadFault.TheVariants.{OutOfMemory as NoMemory};
 ghost use Rattle.wire_model.specs.ReadOf.{read_of};
 ghost use Rattle.wire_model.specs.Reads.{Reads};
@@ -29,7 +29,7 @@ pub fn read(
     // The value and the bytes after it are those of reading as a function, or the refusal is.
     ensures exact { MatchResult result
         (λ x. read_of schema.now.decls 64 ty.now false bytes.now ≡ Ok (view x.0, drop x.1 bytes.now))
-        (λ fault. Fails fault (read_of schema.now.decls 64 ty.now false bytes.now)) }
+        (λ fault. RefusesIfMemory fault (read_of schema.now.decls 64 ty.now false bytes.now)) }
     // What is read is a reading.
     ensures found { IfOk result (λ x. Reads schema.now.decls 64 ty.now (take x.1 bytes.now) (view x.0)) }
     // A front that is a reading is what is read, unless memory runs out.

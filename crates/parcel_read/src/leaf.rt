@@ -3,7 +3,7 @@ ghost use Rattle.std.specs.Prelude.{◌≡◌, OnOk};
 ghost use Rattle.aidl_schema.specs.Types as form;
 ghost use Rattle.aidl_values.specs.View.{view};
 ghost use Rattle.parcel_words.specs.Place.{left, is_inside, MovesOn};
-ghost use Rattle.parcel_words.specs.Taken.{Takes};
+ghost use Rattle.parcel_words.specs.Taken.{TakesIfMemory};
 ghost use Rattle.wire_model.specs.ReadOf.{scalar_at, long_value_at, text_value_at};
 ghost use Rattle.wire_model.specs.Status.{is_within};
 
@@ -15,7 +15,7 @@ use std::alloc::Global;
 /// Reads a boolean: a word that is 0 or 1.
 #[tactic(auto, unfolding(wire_model::specs::ReadOf::scalar_at))]
 pub fn truth_from(from: &mut WordReader) -> Result<Value, ReadFault>
-    ensures taken { Takes view result (scalar_at form.truth (is_inside from.old) (left from.old)) (left from.new) }
+    ensures taken { TakesIfMemory view result (scalar_at form.truth (is_inside from.old) (left from.old)) (left from.new) }
     ensures on { OnOk result (MovesOn from.old from.new) }
 {
     match from.word()? {
@@ -28,7 +28,7 @@ pub fn truth_from(from: &mut WordReader) -> Result<Value, ReadFault>
 /// Reads a byte or an enum of byte: a word from -128 to 127.
 #[tactic(auto, unfolding(wire_model::specs::ReadOf::scalar_at))]
 pub fn byte_from(from: &mut WordReader) -> Result<Value, ReadFault>
-    ensures taken { Takes view result (scalar_at form.byte (is_inside from.old) (left from.old)) (left from.new) }
+    ensures taken { TakesIfMemory view result (scalar_at form.byte (is_inside from.old) (left from.old)) (left from.new) }
     ensures on { OnOk result (MovesOn from.old from.new) }
 {
     let word = from.word()?;
@@ -42,7 +42,7 @@ pub fn byte_from(from: &mut WordReader) -> Result<Value, ReadFault>
 /// Reads a char: a word from 0 to 65535.
 #[tactic(auto, unfolding(wire_model::specs::ReadOf::scalar_at))]
 pub fn char_from(from: &mut WordReader) -> Result<Value, ReadFault>
-    ensures taken { Takes view result (scalar_at form.char (is_inside from.old) (left from.old)) (left from.new) }
+    ensures taken { TakesIfMemory view result (scalar_at form.char (is_inside from.old) (left from.old)) (left from.new) }
     ensures on { OnOk result (MovesOn from.old from.new) }
 {
     let word = from.word()?;
@@ -56,7 +56,7 @@ pub fn char_from(from: &mut WordReader) -> Result<Value, ReadFault>
 /// Reads an int or an enum of int: any word.
 #[tactic(auto, unfolding(wire_model::specs::ReadOf::scalar_at))]
 pub fn int_from(from: &mut WordReader) -> Result<Value, ReadFault>
-    ensures taken { Takes view result (scalar_at form.int (is_inside from.old) (left from.old)) (left from.new) }
+    ensures taken { TakesIfMemory view result (scalar_at form.int (is_inside from.old) (left from.old)) (left from.new) }
     ensures on { OnOk result (MovesOn from.old from.new) }
 {
     let word = from.word()?;
@@ -66,7 +66,7 @@ pub fn int_from(from: &mut WordReader) -> Result<Value, ReadFault>
 /// Reads a long or an enum of long.
 #[tactic(auto, unfolding(wire_model::specs::ReadOf::long_value_at))]
 pub fn long_from(from: &mut WordReader) -> Result<Value, ReadFault>
-    ensures taken { Takes view result (long_value_at (is_inside from.old) (left from.old)) (left from.new) }
+    ensures taken { TakesIfMemory view result (long_value_at (is_inside from.old) (left from.old)) (left from.new) }
     ensures on { OnOk result (MovesOn from.old from.new) }
 {
     let number = from.long()?;
@@ -76,7 +76,7 @@ pub fn long_from(from: &mut WordReader) -> Result<Value, ReadFault>
 /// Reads a String.
 #[tactic(auto, unfolding(wire_model::specs::ReadOf::text_value_at))]
 pub fn text_from(alloc: Global, nullable: bool, from: &mut WordReader) -> Result<Value, ReadFault>
-    ensures taken { Takes view result (text_value_at nullable (is_inside from.old) (left from.old)) (left from.new) }
+    ensures taken { TakesIfMemory view result (text_value_at nullable (is_inside from.old) (left from.old)) (left from.new) }
     ensures on { OnOk result (MovesOn from.old from.new) }
 {
     match from.text(alloc, nullable)? {

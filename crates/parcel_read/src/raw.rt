@@ -2,7 +2,7 @@
 ghost use Rattle.std.specs.Prelude.{◌≡◌, IfOk, OnOk};
 ghost use Rattle.aidl_values.specs.View.{views};
 ghost use Rattle.parcel_words.specs.Place.{left, is_inside, MovesOn};
-ghost use Rattle.parcel_words.specs.Taken.{Takes};
+ghost use Rattle.parcel_words.specs.Taken.{TakesIfMemory};
 ghost use Rattle.wire_model.specs.ReadOf.{raw_items, raw_items_at};
 
 use aidl_base::{OutOfMemory, Row};
@@ -13,7 +13,7 @@ use std::alloc::Global;
 /// Reads so many raw bytes and their padding. Room is taken once the bytes are there.
 #[tactic(auto, unfolding(wire_model::specs::ReadOf::raw_items_at))]
 pub fn raw_from(alloc: Global, count: usize, from: &mut WordReader) -> Result<Row<Value>, ReadFault>
-    ensures taken { Takes views result (raw_items_at count (is_inside from.old) (left from.old)) (left from.new) }
+    ensures taken { TakesIfMemory views result (raw_items_at count (is_inside from.old) (left from.old)) (left from.new) }
     ensures on { OnOk result (MovesOn from.old from.new) }
 {
     let bytes = from.raw(count)?;

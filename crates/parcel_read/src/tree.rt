@@ -5,7 +5,7 @@ ghost use Rattle.aidl_schema.specs.Types.{form_of, is_raw, elem};
 ghost use Rattle.aidl_values.specs.Sound.{initial_in};
 ghost use Rattle.aidl_values.specs.View.{view, views};
 ghost use Rattle.parcel_words.specs.Place.{left, is_inside, MovesOn};
-ghost use Rattle.parcel_words.specs.Taken.{Takes, Fails};
+ghost use Rattle.parcel_words.specs.Taken.{TakesIfMemory, RefusesIfMemory};
 ghost use Rattle.wire_model.specs.ReadOf.{items_at, elements_at, sequence_at, body_value_at, field_at, fields_at, record_at, tagged_at, union_at, one_at, read_of, read_parts, has_levels};
 
 use crate::leaf::{byte_from, char_from, int_from, long_from, text_from, truth_from};
@@ -27,7 +27,7 @@ pub fn value_from(
     from: &mut WordReader,
 ) -> Result<Value, ReadFault>
     requires { length from.old.ends + levels ≤ 64 }
-    ensures taken { Takes view result (read_of schema.now.decls levels ty (is_inside from.old) (left from.old)) (left from.new) }
+    ensures taken { TakesIfMemory view result (read_of schema.now.decls levels ty (is_inside from.old) (left from.old)) (left from.new) }
     ensures on { OnOk result (MovesOn from.old from.new) }
 {
     match ty.shape {
@@ -46,7 +46,7 @@ fn one_from(
     from: &mut WordReader,
 ) -> Result<Value, ReadFault>
     requires { length from.old.ends + levels ≤ 64 }
-    ensures taken { Takes view result (one_at (has_levels levels) (λ f. initial_in schema.now.decls f)
+    ensures taken { TakesIfMemory view result (one_at (has_levels levels) (λ f. initial_in schema.now.decls f)
         (λ u j b. read_parts schema.now.decls levels u j b) ty.nullable (form_of schema.now.decls ty.base) (is_inside from.old) (left from.old)) (left from.new) }
     ensures on { OnOk result (MovesOn from.old from.new) }
 {
@@ -75,7 +75,7 @@ fn sequence_from(
     from: &mut WordReader,
 ) -> Result<Value, ReadFault>
     requires { length from.old.ends + levels ≤ 64 }
-    ensures taken { Takes view result (sequence_at (has_levels levels) (is_raw schema.now.decls ty) ty.nullable
+    ensures taken { TakesIfMemory view result (sequence_at (has_levels levels) (is_raw schema.now.decls ty) ty.nullable
         (λ b. read_parts schema.now.decls levels (elem schema.now.decls ty) (is_inside from.old) b) (is_inside from.old) (left from.old)) (left from.new) }
     ensures on { OnOk result (MovesOn from.old from.new) }
 {
@@ -95,7 +95,7 @@ fn elements_from(
     from: &mut WordReader,
 ) -> Result<Value, ReadFault>
     requires { length from.old.ends + levels ≤ 64 }
-    ensures taken { Takes view result (elements_at (has_levels levels) (is_raw schema.now.decls ty)
+    ensures taken { TakesIfMemory view result (elements_at (has_levels levels) (is_raw schema.now.decls ty)
         (λ b. read_parts schema.now.decls levels (elem schema.now.decls ty) (is_inside from.old) b) (is_inside from.old) count (left from.old)) (left from.new) }
     ensures on { OnOk result (MovesOn from.old from.new) }
 {
@@ -125,7 +125,7 @@ fn items_from(
 ) -> Result<Row<Value>, ReadFault>
     requires some { 0 < levels }
     requires room { length from.old.ends + levels ≤ 64 }
-    ensures taken { Takes views result (items_at (λ b. read_parts schema.now.decls levels ty (is_inside from.old) b) count (left from.old)) (left from.new) }
+    ensures taken { TakesIfMemory views result (items_at (λ b. read_parts schema.now.decls levels ty (is_inside from.old) b) count (left from.old)) (left from.new) }
     ensures on { OnOk result (MovesOn from.old from.new) }
 {
     let mut values = Row::new(alloc);
@@ -148,7 +148,7 @@ fn record_from(
     from: &mut WordReader,
 ) -> Result<Value, ReadFault>
     requires { length from.old.ends + levels ≤ 64 }
-    ensures taken { Takes view result (record_at (has_levels levels) nullable (λ f. initial_in schema.now.decls f)
+    ensures taken { TakesIfMemory view result (record_at (has_levels levels) nullable (λ f. initial_in schema.now.decls f)
         (λ u b. read_parts schema.now.decls levels u true b) fields.now (is_inside from.old) (left from.old)) (left from.new) }
     ensures on { OnOk result (MovesOn from.old from.new) }
 {
@@ -172,7 +172,7 @@ fn body_from(
 ) -> Result<Value, ReadFault>
     requires some { 0 < levels }
     requires room { length from.old.ends + levels ≤ 64 }
-    ensures taken { Takes view result (body_value_at (λ f. initial_in schema.now.decls f)
+    ensures taken { TakesIfMemory view result (body_value_at (λ f. initial_in schema.now.decls f)
         (λ u b. read_parts schema.now.decls levels u true b) fields.now (is_inside from.old) (left from.old)) (left from.new) }
     ensures on { OnOk result (MovesOn from.old from.new) }
 {
@@ -196,7 +196,7 @@ fn fields_from(
     requires room { length from.old.ends + levels ≤ 65 }
     ensures taken { MatchResult result
         (λ values. fields_at (λ f. initial_in schema.now.decls f) (λ u b. read_parts schema.now.decls levels u true b) fields.now (left from.old) ≡ Ok (views values))
-        (λ fault. Fails fault (fields_at (λ f. initial_in schema.now.decls f) (λ u b. read_parts schema.now.decls levels u true b) fields.now (left from.old))) }
+        (λ fault. RefusesIfMemory fault (fields_at (λ f. initial_in schema.now.decls f) (λ u b. read_parts schema.now.decls levels u true b) fields.now (left from.old))) }
     ensures on { OnOk result (MovesOn from.old from.new) }
 {
     let mut values = Vec::with_capacity(alloc, fields.len())?;
@@ -219,7 +219,7 @@ fn field_from(
     requires some { 0 < levels }
     requires inside { is_inside from.old ≡ true }
     requires room { length from.old.ends + levels ≤ 65 }
-    ensures taken { Takes view result (field_at (λ f. initial_in schema.now.decls f)
+    ensures taken { TakesIfMemory view result (field_at (λ f. initial_in schema.now.decls f)
         (λ u b. read_parts schema.now.decls levels u true b) field.now (left from.old)) (left from.new) }
     ensures on { OnOk result (MovesOn from.old from.new) }
 {
@@ -242,7 +242,7 @@ fn union_from(
     from: &mut WordReader,
 ) -> Result<Value, ReadFault>
     requires { length from.old.ends + levels ≤ 64 }
-    ensures taken { Takes view result (union_at (has_levels levels) nullable
+    ensures taken { TakesIfMemory view result (union_at (has_levels levels) nullable
         (λ u b. read_parts schema.now.decls levels u (is_inside from.old) b) fields.now (is_inside from.old) (left from.old)) (left from.new) }
     ensures on { OnOk result (MovesOn from.old from.new) }
 {
@@ -267,7 +267,7 @@ fn tagged_from(
 ) -> Result<Value, ReadFault>
     requires some { 0 < levels }
     requires room { length from.old.ends + levels ≤ 64 }
-    ensures taken { Takes view result (tagged_at (λ u b. read_parts schema.now.decls levels u (is_inside from.old) b)
+    ensures taken { TakesIfMemory view result (tagged_at (λ u b. read_parts schema.now.decls levels u (is_inside from.old) b)
         fields.now (is_inside from.old) (left from.old)) (left from.new) }
     ensures on { OnOk result (MovesOn from.old from.new) }
 {

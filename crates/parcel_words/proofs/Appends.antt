@@ -1,11 +1,10 @@
 -- Writes, one after the other.
-use Rattle.std.proofs.Common.{◌≡◌, ℕ, suc, ◌+◌, ◌-◌, ◌^◌, ◌<◌, ◌≤◌, List, [], ◌∷◌, ◌++◌, length, get_or, drop, refl, sym, ap, ◌∙◌, arith, append_assoc, append-nil, length-append}
-use Rattle.std.specs.Int.{w16, to_le_bytes}
+use Rattle.std.proofs.Common.{◌≡◌, ℕ, ◌+◌, ◌-◌, ◌<◌, ◌≤◌, List, [], ◌++◌, length, get_or, drop, refl, sym, ap, ◌∙◌, arith, append_assoc, append-nil, length-append}
 use Rattle.std.specs.Char.Escape.{encode_utf16}
 use Rattle.std.proofs.lemmas.List.{at_drop_more}
 use Rattle.std.proofs.lemmas.Bool.{lt-ltb, le-ltb}
 use Rattle.aidl_base.specs.Words.{units, unit_bytes}
-use Rattle.aidl_base.proofs.Blocks.{unit_bytes_append, length-unit_bytes}
+use Rattle.aidl_base.proofs.Blocks.{unit_bytes_append}
 use Rattle.parcel_words.specs.Written.{Written, with_bytes}
 
 written : List ℕ → ℕ → Written

@@ -1,10 +1,10 @@
 -- Taking items one after the other, as a loop does.
-use Rattle.std.proofs.Common.{◌≡◌, ℕ, suc, ◌-◌, ◌+◌, ◌≤◌, ◌<◌, ℤ, List, [], ◌∷◌, ◌++◌, Result, Ok, Err, refl, sym, ap, ◌∙◌, arith, append_assoc}
+use Rattle.std.proofs.Common.{◌≡◌, ℕ, suc, ◌-◌, ◌+◌, ◌≤◌, ◌<◌, ℤ, List, [], ◌∷◌, ◌++◌, Ok, Err, refl, sym, ap, ◌∙◌, arith, append_assoc}
 use Rattle.std.proofs.lemmas.List.{append-nil}
 use Rattle.aidl_base.specs.Readings.{Read, ◌>>=◌, items_at, bad_value, not_enough, unexpected_null}
 use Rattle.parcel_words.specs.declared.fault.ReadFault.{ReadFault}
 use Rattle.parcel_words.specs.declared.fault.ReadFault.TheVariants.{NotEnough, UnexpectedNull, BadValue, OutOfMemory}
-use Rattle.parcel_words.specs.Taken.{Fails}
+use Rattle.parcel_words.specs.Taken.{RefusesIfMemory}
 
 -- what was read before, and what is still read
 abbrev pub after_front : {A : Type 0} → List A → Read (List A) → Read (List A)
@@ -32,7 +32,7 @@ module _ {A : Type 0} (read : List ℕ → Read A) (front : List A) (count i : �
       let one : after_front front (items_at read (count - i) b) ≡ Err s = rw (k, h) refl in
       sym so_far ∙ one
 
-  pub ends : (e : ReadFault) → i < count → Fails e (read b) → Fails e total
+  pub ends : (e : ReadFault) → i < count → RefusesIfMemory e (read b) → RefusesIfMemory e total
   ends NotEnough lt h = stops not_enough lt h
   ends UnexpectedNull lt h = stops unexpected_null lt h
   ends BadValue lt h = stops bad_value lt h

@@ -1,6 +1,6 @@
 -- Moves of a reader, one after the other.
-use Rattle.std.proofs.Common.{◌≡◌, ℕ, ◌+◌, ◌-◌, ◌≤◌, length, take, ap, sym, ◌∙◌, arith, length-drop}
-use Rattle.parcel_words.specs.Place.{Place, left, limit, moved, MovesOn}
+use Rattle.std.proofs.Common.{◌≡◌, ℕ, ◌+◌, ◌-◌, ◌≤◌, length, ap, ◌∙◌, arith, length-drop}
+use Rattle.parcel_words.specs.Place.{Place, left, moved, MovesOn}
 
 length-left-moved : (p : Place) (n : ℕ) → length (left (moved p n)) ≡ length (left p) - n
 length-left-moved p n = simp length-drop (omega arith)

@@ -1,5 +1,5 @@
 -- Where a reader's limit is.
-use Rattle.std.proofs.Common.{◌≡◌, ℕ, zero, suc, add-one, ◌+◌, ◌-◌, ◌<◌, ◌≤◌, List, length, take, drop, get_or, set, ◌≢◌, ◌∷◌, get_or-set_other, get_or-set_same, true, true≢false, refl, sym, ap, ◌∙◌, arith, length-take, length-drop}
+use Rattle.std.proofs.Common.{◌≡◌, ℕ, zero, suc, add-one, ◌+◌, ◌-◌, ◌<◌, ◌≤◌, List, [], length, take, drop, get_or, set, ◌≢◌, ◌∷◌, get_or-set_other, get_or-set_same, true, true≢false, refl, sym, ap, ◌∙◌, arith, length-take, length-drop}
 use Rattle.std.proofs.lemmas.List.{drop-take}
 use Rattle.parcel_words.specs.declared.reader.WordReader.TheInside.{Inside}
 use Rattle.parcel_words.specs.Place.{Place, limit, limit_of, left, opened, is_some_open}
@@ -72,3 +72,18 @@ nested_whole (suc n) end outer len h e = absurd (omega arith)
 pub some_open : (n end : ℕ) (outer : List ℕ) → is_some_open (ends_of n end outer) ≡ true → 0 < n
 some_open zero end outer e = absurd (true≢false (sym e))
 some_open (suc n) end outer e = omega arith
+
+-- the limit is the end that the reader keeps
+pub limit_is : (a : Inside) → IsPlace a → limit (place_of a) ≡ a.end
+limit_is a p = limit_at a.open a.end (length a.bytes.now) a.outer p.whole
+
+no_items : (b : List ℕ) → length b ≡ 0 → b ≡ []
+no_items [] e = refl
+no_items (x ∷ b) e = absurd (omega arith)
+
+-- nothing is left at the limit, and there alone
+pub none_left : (a : Inside) → IsPlace a → (a.position ≡ a.end) → left (place_of a) ≡ []
+none_left a p e = no_items (left (place_of a)) (omega (arith, length-left a p))
+
+pub left_none : (a : Inside) → IsPlace a → left (place_of a) ≡ [] → a.position ≡ a.end
+left_none a p e = omega (arith, length-left a p, ap length e, p.passed)

@@ -34,6 +34,10 @@ is_some_open (end ∷ ends) = true
 abbrev pub is_inside : Place → Bool
 is_inside p = is_some_open p.ends
 
+-- what a reading gives where the reader stands
+abbrev pub here : {A : Type 0} → (Bool → List ℕ → Read A) → Place → Read A
+here read p = read (is_inside p) (left p)
+
 -- the place n bytes further on
 abbrev pub moved : Place → ℕ → Place
 moved p n = record { bytes = p.bytes; position = p.position + n; ends = p.ends }
@@ -59,7 +63,7 @@ opened p size = record { bytes = p.bytes; position = p.position + 4; ends = (p.p
 
 -- a size word stands at the old place, and the new one is in its record
 abbrev pub Enters : Place → Place → Type 0
-Enters old new = (size : ℕ) × (size_at (is_inside old) (left old) ≡ Ok (size, drop 4 (left old))) × (new ≡ opened old size)
+Enters old new = (size : ℕ) × (here size_at old ≡ Ok (size, drop 4 (left old))) × (new ≡ opened old size)
 
 abbrev pub outer_ends : List ℕ → List ℕ
 outer_ends [] = []

@@ -1,5 +1,5 @@
 -- What a writer's fields stand for.
-use Rattle.std.specs.Prelude.{ℕ, ◌+◌, ◌≤◌}
+use Rattle.std.specs.Prelude.{◌+◌, ◌≤◌}
 use Rattle.std.specs.Vec.{vec_len, vec_capacity}
 use Rattle.parcel_words.specs.declared.writer.WordWriter.TheInside.{Inside}
 use Rattle.parcel_words.specs.Written.{Written}

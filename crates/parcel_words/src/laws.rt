@@ -9,7 +9,8 @@ use crate::wire::Wire;
 pub fn law_taken_again<W: Wire>(value: &W)
     requires value { W.is_value value.now }
     requires can { W.can_put value.now }
-    ensures { (inside : Bool) (rest : List ℕ) → W.reading inside (W.spelling value.now ++ rest) ≡ Ok (value.now, rest) }
+    ensures { (inside : Bool) (rest : List ℕ)
+        → W.reading inside (W.spelling value.now ++ rest) ≡ Ok (value.now, rest) }
 {}
 
 /// No spelling is a proper prefix of another.
@@ -38,5 +39,6 @@ pub fn law_sequence_no_prefix<W: Wire>(first: &[W], second: &[W])
     requires second_few { length second.now ≤ 2147483647 }
     requires second { All W.is_value second.now }
     requires second_can { All W.can_put second.now }
-    ensures { (rest : List ℕ) → spell_sequence W.spelling first.now ++ rest ≡ spell_sequence W.spelling second.now → rest ≡ [] }
+    ensures { (rest : List ℕ)
+        → spell_sequence W.spelling first.now ++ rest ≡ spell_sequence W.spelling second.now → rest ≡ [] }
 {}

@@ -3,8 +3,8 @@ ghost use Rattle.std.specs.Option.{option_map};
 ghost use Rattle.std.specs.Str.{chars};
 ghost use Rattle.aidl_base.specs.Words.{padding};
 ghost use Rattle.aidl_base.specs.Readings.{bytes_at, word_at, long_at, raw_at, count_of, count_at, block_at, text_at, past, size_of};
-ghost use Rattle.parcel_words.specs.Place.{left, moved, moved_back, MovesOn, is_inside, size_at, Enters, closed, opened};
-ghost use Rattle.parcel_words.specs.Taken.{Takes, Fails, status_of};
+ghost use Rattle.parcel_words.specs.Place.{limit, left, here, moved, moved_back, MovesOn, is_inside, size_at, Enters, closed, opened};
+ghost use Rattle.parcel_words.specs.Taken.{Takes, TakesIfMemory, Refuses, status_of};
 
 use crate::fault::ReadFault;
 use crate::padding::{is_zero, padding_of};
@@ -51,9 +51,11 @@ impl<'a> WordReader<'a> {
         }
     }
 
-    /// The number of bytes passed.
+    /// The number of bytes passed. They are within the limit, and the limit is within the bytes.
     pub fn position(&self) -> usize
-        ensures { result ≡ self.now.position }
+        ensures value { result ≡ self.now.position }
+        ensures within { result ≤ limit self.now }
+        ensures whole { limit self.now ≤ length self.now.bytes }
     {
         self.position
     }
@@ -61,7 +63,7 @@ impl<'a> WordReader<'a> {
     /// Takes a word, four bytes, as a signed number. It refuses exactly a word that passes the limit: by `NotEnough`
     /// where no record is open, by `BadValue` where one is. It takes no memory.
     pub fn word(&mut self) -> Result<i32, ReadFault>
-        ensures taken { Takes (λ n. n) result (word_at (is_inside self.old) (left self.old)) (left self.new) }
+        ensures taken { Takes (λ n. n) result (here word_at self.old) (left self.new) }
         ensures passed { OnOk result (self.new ≡ moved self.old 4) }
         ensures on { OnOk result (MovesOn self.old self.new) }
         ensures unchanged { OnErr result (self.new ≡ self.old) }
@@ -73,7 +75,7 @@ impl<'a> WordReader<'a> {
 
     /// Takes a long, eight bytes, as a signed number. It refuses as `word` does, and takes no memory.
     pub fn long(&mut self) -> Result<i64, ReadFault>
-        ensures taken { Takes (λ n. n) result (long_at (is_inside self.old) (left self.old)) (left self.new) }
+        ensures taken { Takes (λ n. n) result (here long_at self.old) (left self.new) }
         ensures passed { OnOk result (self.new ≡ moved self.old 8) }
         ensures on { OnOk result (MovesOn self.old self.new) }
         ensures unchanged { OnErr result (self.new ≡ self.old) }
@@ -90,7 +92,7 @@ impl<'a> WordReader<'a> {
     /// `BadValue` where the item is inside the limit and its padding isn't zero. It takes no memory.
     #[tactic(auto, unfolding(aidl_base::specs::Readings::raw_at))]
     pub fn raw(&mut self, count: usize) -> Result<&'a [u8], ReadFault>
-        ensures taken { Takes (λ x. x.now) result (raw_at count (is_inside self.old) (left self.old)) (left self.new) }
+        ensures taken { Takes (λ x. x.now) result (here (raw_at count) self.old) (left self.new) }
         ensures passed { OnOk result (self.new ≡ moved self.old (count + padding count)) }
         ensures on { OnOk result (MovesOn self.old self.new) }
         ensures unchanged { OnErr result (self.new ≡ self.old) }
@@ -128,8 +130,8 @@ impl<'a> WordReader<'a> {
     /// units aren't well-formed UTF-16 or after whose units not all bytes are zero.
     #[tactic(auto, using(crate::proofs::Moves::on_and_on), unfolding(aidl_base::specs::Readings::text_at))]
     pub fn text(&mut self, alloc: Global, nullable: bool) -> Result<Option<String>, ReadFault>
-        ensures taken { Takes (option_map (λ x. chars (string_bytes x))) result
-            (text_at nullable (is_inside self.old) (left self.old)) (left self.new) }
+        ensures taken { TakesIfMemory (option_map (λ x. chars (string_bytes x))) result
+            (here (text_at nullable) self.old) (left self.new) }
         ensures passed { OnOk result (MovesOn self.old self.new) }
         ensures unchanged { OnErr result (self.new ≡ self.old) }
     {
@@ -149,9 +151,8 @@ impl<'a> WordReader<'a> {
     /// or no multiple of 4 by `BadValue`, and a size that passes the limit as an item that does. It takes no memory.
     pub fn enter(&mut self) -> Result<(), ReadFault>
         requires { length self.old.ends < 64 }
-        ensures entered { MatchResult result
-            (λ _. Enters self.old self.new)
-            (λ e. Fails e (size_at (is_inside self.old) (left self.old))) }
+        ensures entered { OnOk result (Enters self.old self.new) }
+        ensures refused { IfErr result (λ e. Refuses e (here size_at self.old)) }
         ensures unchanged { OnErr result (self.new ≡ self.old) }
     {
         let size = self.next_size()?;
@@ -162,9 +163,10 @@ impl<'a> WordReader<'a> {
     /// Whether the position is the end of the innermost record.
     pub fn at_end(&self) -> bool
         requires { is_inside self.now ≡ true }
-        ensures { IsTrue result ↔ (left self.now ≡ []) }
+        ensures end { IsTrue result ↔ (self.now.position ≡ limit self.now) }
+        ensures none_left { IsTrue result ↔ (left self.now ≡ []) }
     {
-        self.rest().is_empty()
+        self.position == self.end
     }
 
     /// Goes to the end of the innermost record, whatever bytes stand between, and closes it.
@@ -189,8 +191,8 @@ impl<'a> WordReader<'a> {
     #[tactic(auto, unfolding(aidl_base::specs::Readings::block_at))]
     fn block(&mut self, alloc: Global, units: usize) -> Result<String, ReadFault>
         requires { units < 2 ^ 31 }
-        ensures taken { Takes (λ x. chars (string_bytes x)) result
-            (block_at units (is_inside self.old) (left self.old)) (left self.new) }
+        ensures taken { TakesIfMemory (λ x. chars (string_bytes x)) result
+            (here (block_at units) self.old) (left self.new) }
         ensures passed { OnOk result (MovesOn self.old self.new) }
         ensures unchanged { OnErr result (self.new ≡ self.old) }
     {
@@ -222,7 +224,7 @@ impl<'a> WordReader<'a> {
 
     /// The next item, of so many bytes.
     fn item(&self, size: usize) -> Result<&'a [u8], ReadFault>
-        ensures { Takes (λ x. x.now) result (bytes_at size (is_inside self.now) (left self.now)) (drop size (left self.now)) }
+        ensures { Takes (λ x. x.now) result (here (bytes_at size) self.now) (drop size (left self.now)) }
     {
         let rest = self.rest();
         if rest.len() < size {
@@ -233,7 +235,7 @@ impl<'a> WordReader<'a> {
 
     /// The next word.
     pub(crate) fn next_word(&self) -> Result<i32, ReadFault>
-        ensures { Takes (λ n. n) result (word_at (is_inside self.now) (left self.now)) (drop 4 (left self.now)) }
+        ensures { Takes (λ n. n) result (here word_at self.now) (drop 4 (left self.now)) }
     {
         let item = self.item(4)?;
         Ok(i32::from_le_bytes([item[0], item[1], item[2], item[3]]))
@@ -242,7 +244,7 @@ impl<'a> WordReader<'a> {
     /// The size of the record that begins here.
     #[tactic(auto, unfolding(crate::specs::Place::size_at))]
     fn next_size(&self) -> Result<usize, ReadFault>
-        ensures size { Takes (λ z. z) result (size_at (is_inside self.now) (left self.now)) (drop 4 (left self.now)) }
+        ensures size { Takes (λ z. z) result (here size_at self.now) (drop 4 (left self.now)) }
         ensures least { IfOk result (λ z. 4 ≤ z) }
         ensures fits { IfOk result (λ z. z ≤ length (left self.now)) }
     {
@@ -280,7 +282,7 @@ impl<'a> WordReader<'a> {
 
 /// The count that a word means, where None is null.
 fn count_of(word: i32, nullable: bool) -> Result<Option<usize>, ReadFault>
-    ensures count { MatchResult result (λ n. count_of nullable word ≡ Ok n) (λ e. Fails e (count_of nullable word)) }
+    ensures count { MatchResult result (λ n. count_of nullable word ≡ Ok n) (λ e. Refuses e (count_of nullable word)) }
     ensures small { IfOk result (λ n. IfSome n (λ k. k < 2 ^ 31)) }
 {
     if word >= 0 {
@@ -298,7 +300,7 @@ fn count_of(word: i32, nullable: bool) -> Result<Option<usize>, ReadFault>
 
 /// The size that a size word means, which counts the word itself.
 fn size_of(word: i32) -> Result<usize, ReadFault>
-    ensures size { MatchResult result (λ z. size_of word ≡ Ok z) (λ e. Fails e (size_of word)) }
+    ensures size { MatchResult result (λ z. size_of word ≡ Ok z) (λ e. Refuses e (size_of word)) }
     ensures least { IfOk result (λ z. 4 ≤ z) }
 {
     if word < 4 || word % 4 != 0 {

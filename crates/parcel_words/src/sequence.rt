@@ -3,8 +3,8 @@ ghost use Rattle.std.specs.List.{flat_map};
 ghost use Rattle.aidl_base.specs.Words.{word};
 ghost use Rattle.aidl_base.specs.Spellings.{spell_sequence};
 ghost use Rattle.aidl_base.specs.Readings.{items_at, sequence_at};
-ghost use Rattle.parcel_words.specs.Place.{left, is_inside, MovesOn};
-ghost use Rattle.parcel_words.specs.Taken.{Takes};
+ghost use Rattle.parcel_words.specs.Place.{left, here, MovesOn};
+ghost use Rattle.parcel_words.specs.Taken.{TakesIfMemory};
 ghost use Rattle.parcel_words.specs.Written.{with_bytes};
 
 use crate::fault::ReadFault;
@@ -56,7 +56,7 @@ pub fn take_sequence<W: Wire>(
     nullable: bool,
     from: &mut WordReader,
 ) -> Result<Option<Row<W>>, ReadFault>
-    ensures taken { Takes (λ x. x) result (sequence_at W.reading nullable (is_inside from.old) (left from.old)) (left from.new) }
+    ensures taken { TakesIfMemory (λ x. x) result (here (sequence_at W.reading nullable) from.old) (left from.new) }
     ensures passed { OnOk result (MovesOn from.old from.new) }
     ensures unchanged { OnErr result (from.new ≡ from.old) }
 {
@@ -78,7 +78,7 @@ fn take_items<W: Wire>(
     count: usize,
     from: &mut WordReader,
 ) -> Result<Row<W>, ReadFault>
-    ensures taken { Takes (λ x. x) result (items_at (W.reading (is_inside from.old)) count (left from.old)) (left from.new) }
+    ensures taken { TakesIfMemory (λ x. x) result (here (λ inside. items_at (W.reading inside) count) from.old) (left from.new) }
     ensures passed { OnOk result (MovesOn from.old from.new) }
     ensures unchanged { OnErr result (from.new ≡ from.old) }
 {
@@ -96,7 +96,7 @@ fn take_each<W: Wire>(
     count: usize,
     from: &mut WordReader,
 ) -> Result<Row<W>, ReadFault>
-    ensures taken { Takes (λ x. x) result (items_at (W.reading (is_inside from.old)) count (left from.old)) (left from.new) }
+    ensures taken { TakesIfMemory (λ x. x) result (here (λ inside. items_at (W.reading inside) count) from.old) (left from.new) }
     ensures passed { MovesOn from.old from.new }
 {
     let mut items = Row::new(alloc);

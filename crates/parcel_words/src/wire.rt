@@ -4,8 +4,8 @@ ghost use Rattle.std.specs.Str.{all_scalars};
 ghost use Rattle.aidl_base.specs.Words.{word, long_word, units};
 ghost use Rattle.aidl_base.specs.Spellings.{spell_truth, spell_text};
 ghost use Rattle.aidl_base.specs.Readings.{Read, truth_of, byte_of, char_of, truth_at, byte_at, char_at, word_at, long_at, present_text_at};
-ghost use Rattle.parcel_words.specs.Place.{left, is_inside, MovesOn};
-ghost use Rattle.parcel_words.specs.Taken.{Takes, Fails};
+ghost use Rattle.parcel_words.specs.Place.{left, here, MovesOn};
+ghost use Rattle.parcel_words.specs.Taken.{TakesIfMemory, Refuses};
 ghost use Rattle.parcel_words.specs.Written.{with_bytes};
 
 use crate::fault::ReadFault;
@@ -40,15 +40,17 @@ pub trait Wire: Sized + Drop {
 
     /// Takes a value. It refuses exactly by the rules of its type.
     fn take(alloc: Global, from: &mut WordReader) -> Result<Self, ReadFault>
-        ensures taken { Takes (λ x. x) result (reading (is_inside from.old) (left from.old)) (left from.new) }
+        ensures taken { TakesIfMemory (λ x. x) result (here reading from.old) (left from.new) }
         ensures passed { OnOk result (MovesOn from.old from.new) }
         ensures unchanged { OnErr result (from.new ≡ from.old) };
 
     // what was put is taken again, whatever follows it
-    ghost taken_again: { (x : Self) (inside : Bool) (rest : List ℕ) → is_value x → can_put x → reading inside (spelling x ++ rest) ≡ Ok (x, rest) };
+    ghost taken_again: { (x : Self) (inside : Bool) (rest : List ℕ) → is_value x → can_put x
+        → reading inside (spelling x ++ rest) ≡ Ok (x, rest) };
 
     // no spelling is a proper prefix of another
-    ghost no_prefix: { (x y : Self) (rest : List ℕ) → is_value x → can_put x → is_value y → can_put y → spelling x ++ rest ≡ spelling y → rest ≡ [] };
+    ghost no_prefix: { (x y : Self) (rest : List ℕ) → is_value x → can_put x → is_value y → can_put y
+        → spelling x ++ rest ≡ spelling y → rest ≡ [] };
 }
 
 /// A boolean: one word, 0 or 1. Any other word is refused by `BadValue`.
@@ -245,7 +247,7 @@ impl Wire for Text {
 
 /// The truth value of a word.
 fn truth_of(word: i32) -> Result<bool, ReadFault>
-    ensures { MatchResult result (λ t. truth_of word ≡ Ok t) (λ e. Fails e (truth_of word)) }
+    ensures { MatchResult result (λ t. truth_of word ≡ Ok t) (λ e. Refuses e (truth_of word)) }
 {
     match word {
         0 => Ok(false),
@@ -256,14 +258,14 @@ fn truth_of(word: i32) -> Result<bool, ReadFault>
 
 /// The byte of a word.
 fn byte_of(word: i32) -> Result<i8, ReadFault>
-    ensures { MatchResult result (λ n. byte_of word ≡ Ok n) (λ e. Fails e (byte_of word)) }
+    ensures { MatchResult result (λ n. byte_of word ≡ Ok n) (λ e. Refuses e (byte_of word)) }
 {
     i8::try_from(word).map_err(|_| ReadFault::BadValue)
 }
 
 /// The code unit of a word.
 fn char_of(word: i32) -> Result<u16, ReadFault>
-    ensures { MatchResult result (λ n. char_of word ≡ Ok n) (λ e. Fails e (char_of word)) }
+    ensures { MatchResult result (λ n. char_of word ≡ Ok n) (λ e. Refuses e (char_of word)) }
 {
     u16::try_from(word).map_err(|_| ReadFault::BadValue)
 }

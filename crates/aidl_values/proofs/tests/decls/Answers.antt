@@ -45,8 +45,8 @@ letter_x : chars (120 ∷ []) ≡ 120 ∷ []
 unfolding chars
 letter_x = refl
 
-pub returns-clause-valid : goal.returns-clause-valid
-returns-clause-valid c =
+pub returns : goal.returns
+returns c =
     rw (
       c.in_ok-push-3.ensures.ok,
       c.new-decls.ensures,

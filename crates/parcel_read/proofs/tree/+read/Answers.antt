@@ -7,24 +7,24 @@ use Rattle.aidl_values.specs.Sound.{initial_in}
 use Rattle.aidl_values.specs.View.{view, views}
 use Rattle.aidl_values.specs.declared.value.Value.{Rec, the_lemmas}
 use Rattle.parcel_words.specs.Place.{left, is_inside, closed, MovesOn}
-use Rattle.parcel_words.specs.Taken.{Takes, Fails}
+use Rattle.parcel_words.specs.Taken.{TakesIfMemory, RefusesIfMemory}
 use Rattle.parcel_words.proofs.Moves.{on_and_on}
 use Rattle.wire_model.specs.ReadOf.{items_at, elements_at, read_of, read_parts, has_levels}
 use Rattle.wire_model.proofs.Parts.{read_of-one, read_of-sequence, read_parts-below, has_levels-below, elements_at-items}
-use Rattle.parcel_read.proofs.Loop.{fails_then, goes_on, ends, is_done, field_on, fields_done}
+use Rattle.parcel_read.proofs.Loop.{fails_then, refused_if_memory, goes_on, ends, is_done, field_on, fields_done}
 use Rattle.parcel_read.proofs.Records.{no_one, stays, leaves, body_is, record_is, record_fails, no_record}
 use Rattle.parcel_read.proofs.tree.+read.Goals as goal
 
 pub value_from-returns-in-One-clause-taken : goal.value_from-returns-in-One-clause-taken
 value_from-returns-in-One-clause-taken t c =
     let p = c.args.from.now in
-    subst (λ r. Takes view c.one_from.result r (left c.one_from.new.from)) (read_of-one c.args.schema.now.decls c.args.levels c.args.ty (is_inside p) (left p) c.in-One.is) c.one_from.ensures.taken
+    subst (λ r. TakesIfMemory view c.one_from.result r (left c.one_from.new.from)) (read_of-one c.args.schema.now.decls c.args.levels c.args.ty (is_inside p) (left p) c.in-One.is) c.one_from.ensures.taken
 
 pub value_from-returns-in-Array : goal.value_from-returns-in-Array
 value_from-returns-in-Array t c =
     let p = c.args.from.now in
     record {
-      taken = subst (λ r. Takes view c.sequence_from.result r (left c.sequence_from.new.from)) (read_of-sequence c.args.schema.now.decls c.args.levels c.args.ty (is_inside p) (left p) (no_one c.args.ty.shape c.in-Array.is)) c.sequence_from.ensures.taken;
+      taken = subst (λ r. TakesIfMemory view c.sequence_from.result r (left c.sequence_from.new.from)) (read_of-sequence c.args.schema.now.decls c.args.levels c.args.ty (is_inside p) (left p) (no_one c.args.ty.shape c.in-Array.is)) c.sequence_from.ensures.taken;
       on = c.sequence_from.ensures.on;
     }
 
@@ -37,10 +37,10 @@ elements_from-returns-in_err-values-2-clause-taken t c =
     let apart : is_raw S c.args.ty ≡ false = sym c.is_raw.ensures ∙ c.if-is_raw.false in
     let read = λ (b : List ℕ). read_parts S c.args.levels (elem S c.args.ty) (is_inside p) b in
     let e = c.in_err-values-2.field-0.0 in
-    let failed : Fails e (items_at read c.in-Some.count (left p)) = rw (← c.element.ensures) c.in_err-values-2.ensures.taken in
+    let failed : RefusesIfMemory e (items_at read c.in-Some.count (left p)) = rw (← c.element.ensures) c.in_err-values-2.ensures.taken in
     let whole = ap (λ n. elements_at (has_levels c.args.levels) (is_raw S c.args.ty) read (is_inside p) n (left p)) c.in-Some.is
     ∙ elements_at-items (has_levels c.args.levels) (is_raw S c.args.ty) read (is_inside p) c.in-Some.count (left p) has apart in
-    rw (q.1, q.2) (subst (Fails e) (sym whole) (fails_then e _ _ failed))
+    rw (q.1, q.2) (subst (RefusesIfMemory e) (sym whole) (fails_then e _ _ failed))
 
 pub elements_from-returns-clause-taken : goal.elements_from-returns-clause-taken
 elements_from-returns-clause-taken t c =
@@ -62,8 +62,8 @@ items_from-returns-in_err-value-clause-taken t c =
     let q = err_from_is_err_and c.from_residual.result c.from_residual.ensures.1 in
     let e = c.in_err-value.field-0.0 in
     let here = read_parts-below S c.args.levels c.args.ty (is_inside p) (left c.loop.from) c.requires.some in
-    let failed = subst (λ b. Fails e (read_of S (c.args.levels - 1) c.args.ty b (left c.loop.from))) inside c.in_err-value.ensures.taken in
-    rw (q.1, q.2) (ends (λ b. read_parts S c.args.levels c.args.ty (is_inside p) b) (map view c.loop.values) c.args.count c.loop.counter (left c.loop.from) _ c.loop.invariant.read e c.loop-test.true (subst (Fails e) (sym here) failed))
+    let failed = subst (λ b. RefusesIfMemory e (read_of S (c.args.levels - 1) c.args.ty b (left c.loop.from))) inside c.in_err-value.ensures.taken in
+    rw (q.1, q.2) (ends (λ b. read_parts S c.args.levels c.args.ty (is_inside p) b) (map view c.loop.values) c.args.count c.loop.counter (left c.loop.from) _ c.loop.invariant.read e c.loop-test.true (subst (RefusesIfMemory e) (sym here) failed))
 
 pub items_from-loop-preserved : goal.items_from-loop-preserved
 items_from-loop-preserved t c =
@@ -106,7 +106,7 @@ body_from-returns-in_err-enter-clause-taken t c =
     let S = c.args.schema.now.decls in
     let p = c.args.from.now in
     let q = err_from_is_err_and c.from_residual.result c.from_residual.ensures.1 in
-    rw (q.1, q.2) (no_record (λ f. initial_in S f) (λ u b. read_parts S c.args.levels u true b) c.args.fields.now (is_inside p) (left p) c.in_err-enter.field-0.0 c.in_err-enter.ensures.entered)
+    rw (q.1, q.2) (no_record (λ f. initial_in S f) (λ u b. read_parts S c.args.levels u true b) c.args.fields.now (is_inside p) (left p) c.in_err-enter.field-0.0 (refused_if_memory c.in_err-enter.field-0.0 _ c.in_err-enter.ensures.refused))
 
 pub body_from-returns-in_err-values-clause-taken : goal.body_from-returns-in_err-values-clause-taken
 body_from-returns-in_err-values-clause-taken t c =

@@ -1,4 +1,4 @@
-use Rattle.std.proofs.Common.{◌≡◌, ◌∙◌, ap, ℕ, Bool, true, false, List, get_or, Option, Some, None, Result, Ok, Err, cond, arith, refl, string_bytes, sym}
+use Rattle.std.proofs.Common.{◌≡◌, ◌∙◌, ap, ℕ, List, Some, None, Result, Ok, Err, cond, arith, refl, string_bytes}
 use Rattle.std.specs.Option.{option_map}
 use Rattle.std.specs.Result.{IfOk, is_err, result_ok}
 use Rattle.std.specs.Str.{chars, encode_utf8_all}

@@ -1,4 +1,4 @@
-use Rattle.std.proofs.Common.{◌≡◌, ◌<◌, true, length, ap, ◌∙◌, arith}
+use Rattle.std.proofs.Common.{◌<◌, length, ap, ◌∙◌, arith}
 use Rattle.parcel_words.specs.Place.{is_inside}
 use Rattle.parcel_words.proofs.Places.{outer_within, nested_within, nested_whole, some_open}
 use Rattle.parcel_words.proofs.reader.WordReader.leave.Goals as goal

@@ -1,4 +1,3 @@
-use Rattle.std.proofs.Common.{◌≡◌, ap, ◌∙◌}
 use Rattle.aidl_base.proofs.Spelled.{never_null}
 use Rattle.parcel_words.specs.Place.{left, is_inside}
 use Rattle.parcel_words.proofs.wire.TextWire.take.Goals as goal

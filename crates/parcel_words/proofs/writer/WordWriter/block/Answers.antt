@@ -1,4 +1,4 @@
-use Rattle.std.proofs.Common.{◌≡◌, ap, arith}
+use Rattle.std.proofs.Common.{ap, arith}
 use Rattle.std.specs.Str.{chars}
 use Rattle.aidl_base.proofs.Blocks.{length_block_parts}
 use Rattle.parcel_words.proofs.writer.WordWriter.block.Goals as goal

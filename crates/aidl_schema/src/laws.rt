@@ -1,0 +1,25 @@
+ghost use Rattle.std.specs.Prelude.{◌≡◌, ◌↔◌, true, IsTrue, min};
+ghost use Rattle.aidl_schema.specs.Containment.{Reaches, holds_itself};
+ghost use Rattle.aidl_schema.specs.Same.{same};
+ghost use Rattle.aidl_schema.specs.Sizes.{default_depth, default_nodes, depth_by, nodes_by};
+ghost use Rattle.aidl_schema.specs.Types.{is_type};
+
+use crate::schema::{AidlType, Decl};
+
+/// Types that are the same are so both ways, and along a third; and each type of a schema is the same as itself.
+pub fn law_same(a: &[Decl], t: &AidlType, b: &[Decl], u: &AidlType, c: &[Decl], w: &AidlType)
+    ensures itself { is_type a.now t.now ≡ true → same a.now t.now a.now t.now ≡ true }
+    ensures back { same a.now t.now b.now u.now ≡ true → same b.now u.now a.now t.now ≡ true }
+    ensures along { same a.now t.now b.now u.now ≡ true → same b.now u.now c.now w.now ≡ true → same a.now t.now c.now w.now ≡ true }
+{}
+
+/// A declaration holds itself (E22) exactly where a chain of containment leads from it back to it, however long.
+pub fn law_holds_itself(decls: &[Decl], number: u32)
+    ensures { IsTrue (holds_itself decls.now number) ↔ Reaches decls.now number number }
+{}
+
+/// The sizes of a type's default follow from those of its fields' types, up to a depth of 33 and up to 513 nodes.
+pub fn law_default_sizes(decls: &[Decl], ty: &AidlType)
+    ensures depth { default_depth decls.now ty.now ≡ min 33 (depth_by decls.now (λ u. default_depth decls.now u) ty.now) }
+    ensures nodes { default_nodes decls.now ty.now ≡ min 513 (nodes_by decls.now (λ u. default_nodes decls.now u) ty.now) }
+{}

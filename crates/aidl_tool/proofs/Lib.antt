@@ -1,0 +1,4 @@
+pub mod Entries
+pub mod Items
+pub mod Parts
+pub mod Verdicts

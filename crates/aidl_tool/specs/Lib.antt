@@ -1,0 +1,10 @@
+pub mod Answer
+pub mod CommandWords
+pub mod Decode
+pub mod Ends
+pub mod HexadecimalFile
+pub mod Meant
+pub mod Seen
+pub mod Types
+pub mod ValueText
+pub mod Verdicts

@@ -1,0 +1,47 @@
+//! The program `aidl`: words in, printed lines and an exit status out.
+#![tactic(auto)]
+
+mod command;
+mod decode;
+mod decode_command;
+mod hexadecimal_file;
+mod printed;
+mod put;
+mod refusal;
+#[cfg(test)]
+mod tests;
+mod top;
+mod types;
+
+use aidl_outside::{FolderStore, PassLink, StdoutSink};
+use std::io::ErrorKind;
+use std::process::ExitCode;
+use std::{env, io};
+pub use top::aidl;
+
+fn main(rt: HostRuntime) -> ExitCode {
+    match words(&rt) {
+        Ok(words) => ExitCode::from(run(&rt, words.as_slice())),
+        Err(fault) if fault.kind() == ErrorKind::OutOfMemory => ExitCode::from(5),
+        Err(_) => ExitCode::from(8),
+    }
+}
+
+// The words after the program's own name.
+fn words(rt: &HostRuntime) -> io::Result<Vec<String>> {
+    let mut words = Vec::new(rt.alloc());
+    for word in env::args(rt)?.skip(1) {
+        if words.push(word).is_err() {
+            return Err(io::Error::from(ErrorKind::OutOfMemory));
+        }
+    }
+    Ok(words)
+}
+
+// Runs the program over the host's folders and standard output.
+fn run(rt: &HostRuntime, words: &[String]) -> u8 {
+    let mut store = FolderStore::new(rt);
+    let mut sink = StdoutSink::new(rt);
+    let mut link = PassLink::new();
+    aidl(rt.alloc(), words, &mut store, &mut sink, &mut link)
+}
