@@ -49,11 +49,6 @@ onto-none (d ∷ ds) = ap (item d) (onto-none ds)
 abbrev pub with_front : List Data → Read Items → Read Items
 with_front front reading = reading >>= λ x. Ok (onto front x.0, x.1)
 
--- nothing before
-pub from_none : (reading : Read Items) → with_front [] reading ≡ reading
-from_none (Ok x) = refl
-from_none (Err s) = refl
-
 regroup : (front : List Data) (d : Data) (reading : Read Items) → with_front front (reading >>= λ x. Ok (item d x.0, x.1)) ≡ with_front (front ++ d ∷ []) reading
 regroup front d (Ok x) = ap (λ (vs : Items). Ok (vs, x.1)) (sym (onto-push front d x.0))
 regroup front d (Err s) = refl
@@ -83,10 +78,6 @@ module _ (read : List ℕ → Read Data) (front : List Data) (count i : ℕ) (b 
 -- the same of a record's fields
 abbrev pub with_fields : List Data → Result Items ℤ → Result Items ℤ
 with_fields front reading = reading >>= λ vs. Ok (onto front vs)
-
-pub fields_from_none : (reading : Result Items ℤ) → with_fields [] reading ≡ reading
-fields_from_none (Ok vs) = refl
-fields_from_none (Err s) = refl
 
 fields_regroup : (front : List Data) (d : Data) (reading : Result Items ℤ) → with_fields front (reading >>= λ others. Ok (item d others)) ≡ with_fields (front ++ d ∷ []) reading
 fields_regroup front d (Ok vs) = ap (λ (ws : Items). Ok ws) (sym (onto-push front d vs))

@@ -1,5 +1,5 @@
--- Entering a record and leaving it take the bytes of its body, and a field is read where some of them are left.
-use Rattle.std.proofs.Common.{◌≡◌, ◌≢◌, ℕ, ◌-◌, ◌+◌, ◌≤◌, ℤ, pos, negsuc, Bool, true, false, ◌==◌, ◌%◌, cond, nat_lt, nat_le, List, [], ◌∷◌, Result, Ok, Err, ◌⊎◌, inl, inr, refl, sym, ap, ◌∙◌, subst, arith, length, take, drop, length-drop, length-take, min}
+-- Entering a record and leaving it take the bytes of its body.
+use Rattle.std.proofs.Common.{◌≡◌, ℕ, ◌-◌, ◌+◌, ◌≤◌, ℤ, pos, negsuc, Bool, true, false, ◌==◌, ◌%◌, cond, nat_lt, nat_le, List, Result, Ok, Err, ◌⊎◌, inl, inr, refl, sym, ap, ◌∙◌, subst, arith, length, take, drop, length-drop, length-take, min}
 use Rattle.std.proofs.lemmas.Bool.{ltb-false}
 use Rattle.std.proofs.lemmas.Bool.Decides.{nat_tests}
 use Rattle.std.proofs.lemmas.List.{drop-drop, drop-take, take-take}
@@ -14,7 +14,7 @@ use Rattle.aidl_values.specs.Data.{Data, Items, rec}
 use Rattle.parcel_words.specs.Place.{Place, left, limit, moved, opened, closed, size_at, MovesOn, Enters, is_inside}
 use Rattle.parcel_words.specs.Taken.{RefusesIfMemory}
 use Rattle.parcel_words.specs.declared.fault.ReadFault.{ReadFault}
-use Rattle.wire_model.specs.ReadOf.{body_at, body_value_at, field_at, fields_at}
+use Rattle.wire_model.specs.ReadOf.{body_at, body_value_at, fields_at}
 use Rattle.parcel_read.proofs.Loop.{fails_as}
 
 -- what is an array or a List is not one value
@@ -165,12 +165,3 @@ module _ (initial : Field → Data) (read : AidlType → List ℕ → Read Data)
   unfolding body_value_at
   no_record fs inside b e h =
       fails_as e (size_at inside b) (body_value_at initial read fs inside b) (λ s k. ap (with_fields_of fs) (body_steps inside b ∙ ap after_size k)) h
-
-  -- a field where no bytes are left, and where some are
-  pub field_gone : (f : Field) (b : List ℕ) → b ≡ [] → field_at initial read f b ≡ Ok (initial f, b)
-  field_gone f [] e = refl
-  field_gone f (x ∷ b) e = absurd cc
-
-  pub field_there : (f : Field) (b : List ℕ) → b ≢ [] → field_at initial read f b ≡ read f.ty b
-  field_there f [] e = absurd (e refl)
-  field_there f (x ∷ b) e = refl

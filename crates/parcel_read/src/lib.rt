@@ -9,3 +9,6 @@ mod tree;
 
 pub use front::read;
 pub use parcel_words::ReadFault;
+
+#[cfg(test)]
+mod tests;
