@@ -1,8 +1,9 @@
 -- What a writer of words has written.
-use Rattle.std.specs.Prelude.{ℕ, ◌-◌, List, [], ◌++◌, length, Option, unwrap_or, refl}
+use Rattle.std.specs.Prelude.{ℕ, ◌+◌, ◌-◌, pos, List, [], ◌++◌, length, take, drop, Option, unwrap_or, refl}
 use Rattle.std.specs.Option.{option_map, option_copied}
 use Rattle.std.specs.Borrow.{Bor}
 use Rattle.std.specs.Str.{chars}
+use Rattle.aidl_base.specs.Words.{word}
 use Rattle.std.specs.Coded.{Coded, code_by, coded×, coded_ℕ, coded_list}
 
 -- the bytes, and the number of bytes for which room is left
@@ -17,6 +18,13 @@ written_code = code_by (List ℕ × ℕ) (coded× (coded_list coded_ℕ) coded_�
 -- after these bytes too
 abbrev pub with_bytes : Written → List ℕ → Written
 with_bytes w bytes = record { bytes = w.bytes ++ bytes; room = w.room - length bytes }
+
+-- the word at a position set to the number of bytes from there on
+abbrev pub sized : List ℕ → ℕ → List ℕ
+sized bytes start = take start bytes ++ word (pos (length bytes - start)) ++ drop (start + 4) bytes
+
+abbrev pub with_size : Written → ℕ → Written
+with_size w start = record { bytes = sized w.bytes start; room = w.room }
 
 -- a text that may be null, as its characters
 abbrev pub nullable_scalars : Option (Bor (List ℕ)) → Option (List ℕ)

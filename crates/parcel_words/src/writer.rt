@@ -1,9 +1,9 @@
-ghost use Rattle.std.specs.Prelude.{◌≡◌, ◌+◌, ◌^◌, ◌<◌, ◌≤◌, pos, [], length, IfOk, replicate};
+ghost use Rattle.std.specs.Prelude.{◌≡◌, ◌+◌, ◌-◌, ◌^◌, ◌<◌, ◌≤◌, pos, [], ◌∷◌, length, IfOk, replicate};
 ghost use Rattle.std.specs.Str.{chars};
 ghost use Rattle.std.specs.Char.Escape.{encode_utf16};
-ghost use Rattle.aidl_base.specs.Words.{word, long_word, pad, units, unit_bytes, block};
+ghost use Rattle.aidl_base.specs.Words.{word, long_word, pad, padding, units, unit_bytes, block};
 ghost use Rattle.aidl_base.specs.Spellings.{spell_text, spell_nullable_text};
-ghost use Rattle.parcel_words.specs.Written.{with_bytes, scalars, nullable_scalars};
+ghost use Rattle.parcel_words.specs.Written.{with_bytes, with_size, scalars, nullable_scalars};
 
 use crate::padding::padding_of;
 use aidl_base::OutOfMemory;
@@ -78,6 +78,45 @@ impl WordWriter {
     {
         self.append(bytes);
         self.zeros(padding_of(bytes.len()));
+    }
+
+    /// Appends one raw byte. It takes no memory.
+    pub fn byte(&mut self, n: u8)
+        requires { 0 < self.old.room }
+        ensures { self.new ≡ with_bytes self.old (n ∷ []) }
+    {
+        self.append(&[n]);
+    }
+
+    /// Appends the padding of an item of so many bytes. It takes no memory.
+    pub fn padding(&mut self, len: usize)
+        requires { padding len ≤ self.old.room }
+        ensures { self.new ≡ with_bytes self.old (replicate (padding len) 0) }
+    {
+        self.zeros(padding_of(len));
+    }
+
+    /// Begins a record: appends a size word, which `close_record` sets, and answers the position of it, in bytes. It
+    /// takes no memory.
+    pub fn open_record(&mut self) -> usize
+        requires { 4 ≤ self.old.room }
+        ensures start { result ≡ length self.old.bytes }
+        ensures written { self.new ≡ with_bytes self.old (word (pos 0)) }
+    {
+        let start = self.bytes.len();
+        self.word(0);
+        start
+    }
+
+    /// Ends the record that began at the position: sets its size word to the number of bytes from there on, itself
+    /// counted (as a generated `writeToParcel` does). It takes no memory.
+    pub fn close_record(&mut self, start: usize)
+        requires whole { start + 4 ≤ length self.old.bytes }
+        requires small { length self.old.bytes - start < 2 ^ 31 }
+        ensures { self.new ≡ with_size self.old start }
+    {
+        let size = (self.bytes.len() - start) as i32;
+        self.bytes[start..start + 4].copy_from_slice(&size.to_le_bytes());
     }
 
     /// The bytes written. It takes no memory.
