@@ -14,7 +14,7 @@ pub count_views : (vs : List Value) → count (views vs) ≡ length vs
 count_views [] = refl
 count_views (v ∷ vs) = ap suc (count_views vs)
 
-length_raw : (vs : List Value) → length (raw_bytes (views vs)) ≡ length vs
+pub length_raw : (vs : List Value) → length (raw_bytes (views vs)) ≡ length vs
 length_raw vs = length-raw_bytes (views vs) ∙ count_views vs
 
 -- the count, the bytes and their padding
