@@ -1,6 +1,6 @@
 -- The bytes of a sequence whose elements are raw bytes.
-use Rattle.std.proofs.Common.{◌≡◌, ℕ, suc, ◌+◌, pos, true, List, [], ◌∷◌, ◌++◌, length, refl, ap, ◌∙◌, arith}
-use Rattle.aidl_base.specs.Words.{word, pad, padding}
+use Rattle.std.proofs.Common.{◌≡◌, suc, ◌+◌, true, List, [], ◌∷◌, length, refl, ap, ◌∙◌, arith}
+use Rattle.aidl_base.specs.Words.{padding}
 use Rattle.aidl_schema.specs.declared.schema.Decl.{Decl}
 use Rattle.aidl_schema.specs.declared.schema.AidlType.{AidlType}
 use Rattle.aidl_schema.specs.Types.{is_raw}

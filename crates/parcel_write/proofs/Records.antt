@@ -1,9 +1,8 @@
 -- A record's marker, size and fields, one after the other.
-use Rattle.std.proofs.Common.{◌≡◌, ℕ, zero, suc, ◌+◌, ◌-◌, pos, List, [], ◌∷◌, ◌++◌, length, take, drop, refl, sym, ap, ◌∙◌, arith, append_assoc, length-append}
+use Rattle.std.proofs.Common.{◌≡◌, ℕ, ◌+◌, ◌-◌, pos, List, [], ◌∷◌, ◌++◌, length, take, drop, refl, ap, ◌∙◌, arith, append_assoc, length-append}
 use Rattle.aidl_base.specs.Words.{word}
 use Rattle.wire_model.specs.Spell.{body}
 use Rattle.parcel_words.specs.Written.{Written, with_bytes, sized, with_size}
-use Rattle.parcel_words.proofs.Appends.{with_more}
 
 take_front : (a b : List ℕ) → take (length a) (a ++ b) ≡ a
 take_front [] b = refl

@@ -1,6 +1,5 @@
 -- The parts of a sequence's spelling.
-use Rattle.std.proofs.Common.{◌≡◌, ℕ, ◌+◌, ◌^◌, ◌<◌, ℤ, pos, negsuc, Bool, true, false, List, ◌++◌, length, FitsSigned, w8, w32, refl, ap, arith, length-append}
-use Rattle.std.proofs.lemmas.Int.{ints}
+use Rattle.std.proofs.Common.{◌≡◌, ◌^◌, ◌<◌, ℤ, pos, Bool, true, false, List, ◌++◌, length, FitsSigned, w8, refl, ap, arith, length-append}
 use Rattle.aidl_base.specs.Words.{word, pad}
 use Rattle.aidl_schema.specs.declared.schema.Decl.{Decl}
 use Rattle.aidl_schema.specs.declared.schema.AidlType.{AidlType}
@@ -15,7 +14,7 @@ use Rattle.wire_model.specs.Spell.{spell, spell_items, raw_bytes}
 use Rattle.wire_model.proofs.Sizes.{spell_items_whole}
 use Rattle.parcel_words.specs.Written.{Written, with_bytes}
 use Rattle.parcel_words.proofs.Appends.{with_more}
-use Rattle.parcel_write.specs.Bytes.{IsByte, AreBytes}
+use Rattle.parcel_write.specs.Bytes.{AreBytes}
 use Rattle.parcel_write.proofs.Raw.{count_views, length_raw_sequence}
 
 byte_range : (f : Form) (n : ℤ) → is_byte f ≡ true → InRange f n → FitsSigned w8 n

@@ -46,18 +46,21 @@ fn put(schema: &Schema, ty: AidlType, value: &Value, to: &mut WordWriter)
             }
         }
         Value::Rec(items) => {
-            to.word(1);
+            to.word(PRESENT);
             let start = to.open_record();
             put_fields(schema, fields_in(schema, ty.base), items.as_slice(), to);
             to.close_record(start);
         }
         Value::Alt(tag, inner) => {
-            to.word(1);
+            to.word(PRESENT);
             put_tag(*tag, to);
             put(schema, alternative_in(schema, ty.base, *tag), inner, to);
         }
     }
 }
+
+/// The marker of a parcelable or union that isn't null.
+const PRESENT: i32 = 1;
 
 /// Appends null: the word 0 of a parcelable or union, and otherwise the word -1.
 fn put_null(schema: &Schema, ty: AidlType, to: &mut WordWriter)

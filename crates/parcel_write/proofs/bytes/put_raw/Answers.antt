@@ -1,4 +1,4 @@
-use Rattle.std.proofs.Common.{◌+◌, length, ap, arith}
+use Rattle.std.proofs.Common.{◌+◌, ap, arith}
 use Rattle.aidl_base.specs.Words.{padding}
 use Rattle.aidl_values.specs.View.{views}
 use Rattle.wire_model.specs.Spell.{raw_bytes}

@@ -1,4 +1,4 @@
-use Rattle.std.proofs.Common.{◌≡◌, ◌+◌, ◌-◌, ◌^◌, true, length, min, sym, ap, ◌∙◌, rules, arith}
+use Rattle.std.proofs.Common.{◌≡◌, ◌+◌, true, length, sym, ap, ◌∙◌, rules, arith}
 use Rattle.aidl_base.specs.Words.{padding}
 use Rattle.aidl_schema.specs.Types.{is_raw}
 use Rattle.aidl_values.specs.Data.{seq}

@@ -1,4 +1,4 @@
-use Rattle.std.proofs.Common.{◌≡◌, ◌+◌, ◌-◌, ◌^◌, ◌<◌, true, false, pos, ◌++◌, length, slice_get, sym, ap, ◌∙◌, subst, arith}
+use Rattle.std.proofs.Common.{◌≡◌, ◌^◌, ◌<◌, true, false, pos, ◌++◌, length, slice_get, sym, ap, ◌∙◌, subst, arith}
 use Rattle.aidl_base.specs.Words.{word, pad}
 use Rattle.aidl_base.proofs.Spelled.{length-spell_text}
 use Rattle.aidl_schema.specs.Types.{form_of, is_raw, elem, type_of_field}
