@@ -21,7 +21,7 @@ with_bytes w bytes = record { bytes = w.bytes ++ bytes; room = w.room - length b
 
 -- the word at a position set to the number of bytes from there on
 abbrev pub sized : List ℕ → ℕ → List ℕ
-sized bytes start = take start bytes ++ word (pos (length bytes - start)) ++ drop (start + 4) bytes
+sized bytes start = take start bytes ++ (word (pos (length bytes - start)) ++ drop (start + 4) bytes)
 
 abbrev pub with_size : Written → ℕ → Written
 with_size w start = record { bytes = sized w.bytes start; room = w.room }

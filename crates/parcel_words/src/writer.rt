@@ -59,6 +59,15 @@ impl WordWriter {
         self.append(&n.to_le_bytes());
     }
 
+    /// Appends the count of a text's units or of a sequence's items, a word. It takes no memory.
+    pub fn count(&mut self, count: usize)
+        requires few { count < 2 ^ 31 }
+        requires room { 4 ≤ self.old.room }
+        ensures { self.new ≡ with_bytes self.old (word (pos count)) }
+    {
+        self.word(count as i32);
+    }
+
     /// Appends a text as the count of its UTF-16 units and its block, or null as the word -1. It takes no memory.
     pub fn text(&mut self, text: Option<&str>)
         requires few { length (units (scalars text)) ≤ 2147483647 }
@@ -135,15 +144,6 @@ impl WordWriter {
         let count = unit_count(text);
         self.count(count);
         self.block(text, count);
-    }
-
-    /// Appends the count of a text's units or of a sequence's items.
-    pub(crate) fn count(&mut self, count: usize)
-        requires few { count < 2 ^ 31 }
-        requires room { 4 ≤ self.old.room }
-        ensures { self.new ≡ with_bytes self.old (word (pos count)) }
-    {
-        self.word(count as i32);
     }
 
     /// Appends the block of a text of so many units: the units, a zero unit and the padding.

@@ -9,7 +9,7 @@ pub mod Parts
 mod RawForms
 pub mod Reading
 pub mod Sizes
-mod Sound
+pub mod Sound
 mod SpelledReads
 mod Statuses
 mod Steps

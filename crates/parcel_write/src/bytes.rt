@@ -1,0 +1,40 @@
+ghost use Rattle.std.specs.Prelude.{◌≡◌, ◌≤◌, length};
+ghost use Rattle.aidl_base.specs.Words.{pad};
+ghost use Rattle.aidl_values.specs.View.{view, views};
+ghost use Rattle.parcel_words.specs.Written.{with_bytes};
+ghost use Rattle.parcel_write.specs.Bytes.{IsByte, AreBytes};
+ghost use Rattle.wire_model.specs.Spell.{raw_byte, raw_bytes};
+
+use aidl_values::Value;
+use parcel_words::WordWriter;
+
+/// Appends the elements of an array of bytes, one raw byte each, and their padding.
+#[tactic(auto, using(crate::proofs::Raw::length_raw, parcel_words::proofs::Appends::with_more))]
+pub(crate) fn put_raw(items: &[Value], to: &mut WordWriter)
+    requires bytes { AreBytes (views items.now) }
+    requires room { length (pad (raw_bytes (views items.now))) ≤ to.old.room }
+    ensures { to.new ≡ with_bytes to.old (pad (raw_bytes (views items.now))) }
+{
+    put_bytes(items, to);
+    to.padding(items.len());
+}
+
+fn put_bytes(items: &[Value], to: &mut WordWriter)
+    requires bytes { AreBytes (views items.now) }
+    requires room { length (raw_bytes (views items.now)) ≤ to.old.room }
+    ensures { to.new ≡ with_bytes to.old (raw_bytes (views items.now)) }
+{
+    for item in items {
+        to.byte(byte_of(item));
+    }
+}
+
+fn byte_of(value: &Value) -> u8
+    requires { IsByte (view value.now) }
+    ensures { result ≡ raw_byte (view value.now) }
+{
+    match value {
+        Value::Number(n) => (*n as i8).cast_unsigned(),
+        _ => 0,
+    }
+}
