@@ -1,13 +1,14 @@
-// A library with one function.
+//! The tokens of a file, exactly by their definition, or the first fault.
 #![tactic(auto)]
 
-ghost use Rattle.std.specs.Prelude.{◌≡◌};
-ghost use Rattle.aidl_lexer.specs.Echo.{echo_of};
+mod bytes;
+mod comments;
+mod fault;
+mod fronts;
+mod literals;
+mod numbers;
 
-// The `ensures` clause is the contract: what `echo` returns is `echo_of` of its argument, a definition
-// in `specs/Echo.antt`, which a caller's clause can cite too.
-pub fn echo(x: usize) -> usize
-    ensures { result ≡ echo_of x }
-{
-    x
-}
+mod symbols;
+mod words;
+
+pub use fault::LexFault;
