@@ -1,2 +1,3 @@
 pub mod Classes
 pub mod Moving
+pub mod Loop

@@ -5,6 +5,7 @@ mod bytes;
 mod comments;
 mod fault;
 mod fronts;
+mod lexing;
 mod literals;
 mod numbers;
 
