@@ -5,3 +5,4 @@ pub mod Runs
 pub mod Found
 pub mod Told
 pub mod Standing
+pub mod Whole
