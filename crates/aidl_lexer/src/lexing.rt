@@ -1,13 +1,32 @@
 ghost use Rattle.std.specs.Prelude.{◌≡◌, ◌+◌, ◌^◌, drop, ◌≤◌, ◌<◌, ℕ, List, length, IfOk, IfErr, Ok, Err};
 ghost use Rattle.aidl_syntax.specs.declared.token.Token.{Token};
+ghost use Rattle.aidl_syntax.specs.Tokens.{Tokens};
+ghost use Rattle.aidl_syntax.specs.Faults as faults;
 ghost use Rattle.aidl_lexer.specs.Reading.{lex_of, with_front};
-ghost use Rattle.aidl_lexer.specs.Gives.{Gives, IsFault};
+ghost use Rattle.aidl_lexer.specs.Gives.{Gives, IsFault, HasFault};
 
 use crate::bytes::after;
 use crate::fault::LexFault;
 use crate::fronts::{Front, front_of};
 use aidl_syntax::Token;
 use std::alloc::Global;
+
+/// The tokens of a file of at most 262,144 bytes, each with the offset of its first byte; or the first fault, with the
+/// offset of the first byte at which no blank, comment or token can be taken. Blanks and comments are no tokens, and a
+/// comment may hold any bytes. It may also answer that memory was wanted.
+pub fn lex(alloc: Global, bytes: &[u8]) -> Result<Vec<Token>, LexFault>
+    requires { length bytes.now ≤ 262144 }
+
+    // What is answered is the list of the bytes' tokens; and if there is one, it is answered.
+    ensures tokens { IfOk result (λ tokens. Tokens bytes.now tokens.items) }
+    ensures only_tokens { (tokens : List Token) → Tokens bytes.now tokens → Gives result (Ok tokens) }
+
+    // What is answered is the bytes' fault; and if there is one, it is answered.
+    ensures fault { IfErr result (HasFault bytes.now) }
+    ensures only_fault { (number offset : ℕ) → faults.LexFault bytes.now number offset → Gives result (Err (number, offset)) }
+{
+    tokens_of(alloc, bytes)
+}
 
 fn tokens_of(alloc: Global, bytes: &[u8]) -> Result<Vec<Token>, LexFault>
     requires { length bytes.now ≤ 262144 }

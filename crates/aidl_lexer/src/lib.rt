@@ -5,6 +5,7 @@ mod bytes;
 mod comments;
 mod fault;
 mod fronts;
+mod laws;
 mod lexing;
 mod literals;
 mod numbers;
@@ -13,3 +14,5 @@ mod symbols;
 mod words;
 
 pub use fault::LexFault;
+pub use laws::law_one_lexing;
+pub use lexing::lex;
