@@ -1,5 +1,5 @@
 -- What a call answered, once it is what the function on lists gives.
-use Rattle.std.proofs.Common.{◌≡◌, ℕ, List, Result, Ok, Err, refl, sym, ap, subst, ◌∙◌, IfOk, IfErr}
+use Rattle.std.proofs.Common.{ℕ, List, Result, Ok, Err, subst, IfOk, IfErr}
 use Rattle.std.specs.declared.vec.Vec.{Vec}
 use Rattle.std.specs.declared.alloc.Global.{Global}
 use Rattle.aidl_syntax.specs.declared.token.Token.{Token}

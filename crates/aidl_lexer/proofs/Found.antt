@@ -1,5 +1,5 @@
 -- Gaps and tokens by their definition are what stands at the front.
-use Rattle.std.proofs.Common.{◌≡◌, ℕ, suc, ◌+◌, ◌<◌, ◌≤◌, Bool, true, false, cond, ◌&&◌, ◌||◌, not, ◌==◌, nat_lt, List, [], ◌∷◌, ◌++◌, length, map, take, drop, Option, Some, None, refl, sym, ap, subst, ◌∙◌, inl, inr, arith, length-append, append_assoc}
+use Rattle.std.proofs.Common.{◌≡◌, ℕ, suc, ◌+◌, ◌≤◌, Bool, true, false, cond, ◌&&◌, ◌||◌, not, ◌==◌, nat_lt, List, [], ◌∷◌, ◌++◌, length, map, Some, None, refl, sym, ap, subst, ◌∙◌, inl, inr, arith, length-append, append_assoc}
 use Rattle.std.specs.Char.{is_ascii_digit, is_ascii_hexdigit}
 use Rattle.std.specs.List.{prefix_len, list_all}
 use Rattle.std.proofs.lemmas.Bool.{and_parts, and_right}
@@ -9,13 +9,13 @@ use Rattle.aidl_syntax.specs.declared.token.Symbol.TheVariants as mark
 use Rattle.aidl_syntax.specs.declared.token.TokenKind.{TokenKind}
 use Rattle.aidl_syntax.specs.declared.token.TokenKind.TheVariants as kind
 use Rattle.aidl_syntax.specs.Bytes.{is_blank, is_letter, is_word_byte, is_inside, is_no_newline, begins, has_close, is_comment}
-use Rattle.aidl_syntax.specs.Tables.{reserved_of, double, single, doubles, singles, double_in, single_in, double_at}
-use Rattle.aidl_syntax.specs.Numbers.{value_from, IsDecimal, IsHexadecimal, is_suffix, IsNumeral}
+use Rattle.aidl_syntax.specs.Tables.{double, single, doubles, singles, double_in, single_in, double_at}
+use Rattle.aidl_syntax.specs.Numbers.{value_from, IsDecimal, is_suffix, IsNumeral}
 use Rattle.aidl_syntax.specs.Forms.{IsGap, IsWord, IsDigitRun, IsSymbol, IsToken}
 use Rattle.aidl_syntax.specs.Forms.IsGap.{blank, line, block}
 use Rattle.aidl_syntax.specs.Forms.IsSymbol.{of_one, of_two}
 use Rattle.aidl_lexer.specs.declared.fronts.Front.TheVariants as front
-use Rattle.aidl_lexer.specs.Reading.{by_reserved, word_by, word_at, up_to, long_of, suffix_of, decimal_of, hexadecimal_of, decimal_by, hexadecimal_by, is_hexadecimal, numeral_of, numeral, by_numeral, number_by, number_at, character_at, string_at, close_len, by_double, symbol_at, slash_at, front_of}
+use Rattle.aidl_lexer.specs.Reading.{word_by, word_at, up_to, long_of, suffix_of, decimal_of, hexadecimal_of, decimal_by, hexadecimal_by, is_hexadecimal, numeral_of, numeral, by_numeral, number_by, number_at, character_at, string_at, close_len, by_double, symbol_at, slash_at, front_of}
 use Rattle.aidl_lexer.proofs.Classes.{is_small}
 use Rattle.aidl_lexer.proofs.Runs.{run_len, run_is, run_rest, take_front, drop_front}
 

@@ -1,27 +1,25 @@
 -- Each front stands by the definition, and each fault by the definition is the front.
-use Rattle.std.proofs.Common.{◌≡◌, ℕ, suc, ◌+◌, ◌<◌, ◌≤◌, Bool, true, false, cond, ◌&&◌, ◌||◌, not, ◌==◌, List, [], ◌∷◌, ◌++◌, length, take, drop, Option, Some, None, refl, sym, ap, subst, ◌∙◌, ◌⊎◌, inl, inr, arith, append_assoc}
+use Rattle.std.proofs.Common.{◌≡◌, ℕ, Bool, true, false, cond, ◌&&◌, ◌||◌, ◌==◌, List, [], ◌∷◌, ◌++◌, length, Option, Some, None, refl, sym, ap, subst, ◌∙◌, ◌⊎◌, inl, inr, append_assoc}
 use Rattle.std.specs.Char.{is_ascii_digit}
-use Rattle.std.specs.List.{prefix_len, list_all}
-use Rattle.std.proofs.lemmas.Bool.{and_parts, and_from, cond_both}
-use Rattle.std.proofs.lemmas.Bool.Decides.{nat_tests}
+use Rattle.std.specs.List.{list_all}
+use Rattle.std.proofs.lemmas.Bool.{and_from}
 use Rattle.aidl_syntax.specs.declared.token.Symbol.{Symbol}
 use Rattle.aidl_syntax.specs.declared.token.Symbol.TheVariants as mark
 use Rattle.aidl_syntax.specs.declared.token.TokenKind.{TokenKind}
 use Rattle.aidl_syntax.specs.declared.token.TokenKind.TheVariants as kind
-use Rattle.aidl_syntax.specs.Bytes.{is_blank, is_letter, is_word_byte, is_inside, is_no_newline, begins, has_close, is_comment}
+use Rattle.aidl_syntax.specs.Bytes.{is_blank, is_letter, is_word_byte, is_inside, is_no_newline, begins, has_close}
 use Rattle.aidl_syntax.specs.Tables.{double, single, double_at}
-use Rattle.aidl_syntax.specs.Forms.{IsGap, IsNumber, IsDigitRun, IsCharacter, IsString, IsSymbol, IsToken}
+use Rattle.aidl_syntax.specs.Forms.{IsNumber, IsDigitRun, IsCharacter, IsString}
 use Rattle.aidl_syntax.specs.Forms.IsGap.{blank, line, block}
 use Rattle.aidl_syntax.specs.Forms.IsSymbol.{of_one, of_two}
 use Rattle.aidl_syntax.specs.Faults.{OpenComment, OpenCharacter, OpenString, BadNumber, BadByte}
 use Rattle.aidl_lexer.specs.declared.fault.FaultKind.{FaultKind}
 use Rattle.aidl_lexer.specs.declared.fault.FaultKind.TheVariants as reason
-use Rattle.aidl_lexer.specs.declared.fronts.Front.{Front}
 use Rattle.aidl_lexer.specs.declared.fronts.Front.TheVariants as front
-use Rattle.aidl_lexer.specs.Reading.{numeral_of, by_numeral, number_at, character_at, string_at, up_by, close_len, by_close, by_single, by_double, symbol_at, slash_at, front_of, Moves}
-use Rattle.aidl_lexer.proofs.Runs.{Run, run, run_len, take_front, drop_front}
-use Rattle.aidl_lexer.proofs.Found.{number_front, same_test, or_false, token_front, gap_front, slash_front}
-use Rattle.aidl_lexer.proofs.Told.{Stops, Stands, IsNumeralOf, numeral_told, letter_stands, token_stands, gap_stands, fault_stands, no_token, no_gap, digit_word}
+use Rattle.aidl_lexer.specs.Reading.{numeral_of, by_numeral, character_at, string_at, close_len, by_single, by_double, symbol_at, slash_at, front_of}
+use Rattle.aidl_lexer.proofs.Runs.{run, run_len, drop_front}
+use Rattle.aidl_lexer.proofs.Found.{number_front, same_test, or_false}
+use Rattle.aidl_lexer.proofs.Told.{Stands, IsNumeralOf, numeral_told, letter_stands, token_stands, gap_stands, fault_stands, no_token, no_gap, digit_word}
 
 -- Numbers: one begins the bytes, or the fault stands.
 
@@ -90,9 +88,9 @@ open_character_front [] (first, none) = cc
 open_character_front (b ∷ bs) (first, none) =
     let is : b ≡ 39 = same_test b 39 first in
     go (subst (λ x. BeginsCharacter (x ∷ bs) ⊎ (front_of (x ∷ bs) ≡ front.Fault reason.OpenLiteral)) (sym is) (character_or bs)) where
-  go : BeginsCharacter (b ∷ bs) ⊎ (front_of (b ∷ bs) ≡ front.Fault reason.OpenLiteral) → front_of (b ∷ bs) ≡ front.Fault reason.OpenLiteral
-  go (inl n) = absurd (none n.code n.piece n.rest n.is n.character)
-  go (inr e) = e
+      go : BeginsCharacter (b ∷ bs) ⊎ (front_of (b ∷ bs) ≡ front.Fault reason.OpenLiteral) → front_of (b ∷ bs) ≡ front.Fault reason.OpenLiteral
+      go (inl n) = absurd (none n.code n.piece n.rest n.is n.character)
+      go (inr e) = e
 
 -- Strings.
 
@@ -110,9 +108,11 @@ string_of_run text [] all stop = inr (rw (run_len (is_inside 34) text [] all sto
 string_of_run text (d ∷ rest) all stop = go (d == 34) refl where
   go : (v : Bool) → (d == 34) ≡ v → BeginsString (34 ∷ (text ++ d ∷ rest)) ⊎ (front_of (34 ∷ (text ++ d ∷ rest)) ≡ front.Fault reason.OpenLiteral)
   go true close = inl (record {
-    text = text; piece = 34 ∷ (text ++ 34 ∷ []); rest = rest;
+    text = text;
+    piece = 34 ∷ (text ++ 34 ∷ []);
+    rest = rest;
     is = ap (λ x. 34 ∷ (text ++ x ∷ rest)) (same_test d 34 close) ∙ ap (λ t. 34 ∷ t) (sym (append_assoc text (34 ∷ []) rest));
-    string = (all, refl)
+    string = (all, refl);
   })
   go false close = inr (rw (run_len (is_inside 34) text (d ∷ rest) all stop, drop_front text (d ∷ rest), close) refl)
 
@@ -130,9 +130,9 @@ open_string_front [] (first, none) = cc
 open_string_front (b ∷ bs) (first, none) =
     let is : b ≡ 34 = same_test b 34 first in
     go (subst (λ x. BeginsString (x ∷ bs) ⊎ (front_of (x ∷ bs) ≡ front.Fault reason.OpenLiteral)) (sym is) (string_or bs)) where
-  go : BeginsString (b ∷ bs) ⊎ (front_of (b ∷ bs) ≡ front.Fault reason.OpenLiteral) → front_of (b ∷ bs) ≡ front.Fault reason.OpenLiteral
-  go (inl n) = absurd (none n.text n.piece n.rest n.is n.string)
-  go (inr e) = e
+      go : BeginsString (b ∷ bs) ⊎ (front_of (b ∷ bs) ≡ front.Fault reason.OpenLiteral) → front_of (b ∷ bs) ≡ front.Fault reason.OpenLiteral
+      go (inl n) = absurd (none n.text n.piece n.rest n.is n.string)
+      go (inr e) = e
 
 -- Comments.
 
@@ -160,10 +160,13 @@ closed (b ∷ bytes) = go (b == 42) refl (begins (λ c. c == 47) bytes) refl (cl
   more : ((b == 42 && begins (λ c. c == 47) bytes) ≡ false) → Closed bytes ⊎ ((has_close bytes ≡ false) × (close_len bytes ≡ None))
       → Closed (b ∷ bytes) ⊎ ((has_close (b ∷ bytes) ≡ false) × (close_len (b ∷ bytes) ≡ None))
   more here (inl c) = inl (record {
-    text = b ∷ c.text; rest = c.rest; is = ap (λ t. b ∷ t) c.is;
-    first = or_both _ _ (ap (λ v. b == 42 && v) (begins_front (λ c. c == 47) c.text [] (47 ∷ c.rest) ∙ sym (ap (begins (λ c. c == 47)) c.is)) ∙ here) c.first
+    text = b ∷ c.text;
+    rest = c.rest;
+    is = ap (λ t. b ∷ t) c.is;
+    first = or_both _ _ (ap (λ v. b == 42 && v) (begins_front (λ c. c == 47) c.text [] (47 ∷ c.rest) ∙ sym (ap (begins (λ c. c == 47)) c.is)) ∙ here) c.first;
   })
   more here (inr (none, len)) = inr (or_both _ _ here none, rw (here, len) refl)
+
   go : (v : Bool) → (b == 42) ≡ v → (w : Bool) → begins (λ c. c == 47) bytes ≡ w → Closed bytes ⊎ ((has_close bytes ≡ false) × (close_len bytes ≡ None))
       → Closed (b ∷ bytes) ⊎ ((has_close (b ∷ bytes) ≡ false) × (close_len (b ∷ bytes) ≡ None))
   go true e true f r =
@@ -224,7 +227,8 @@ bad_byte_stands b bs e = (
   (λ o. differs (b ∷ bs) e (open_comment_front (b ∷ bs) o) (λ h. cc)),
   (λ o. differs (b ∷ bs) e (open_character_front (b ∷ bs) o) (λ h. cc)),
   (λ o. differs (b ∷ bs) e (open_string_front (b ∷ bs) o) (λ h. cc)),
-  (λ o. differs (b ∷ bs) e (bad_number_front (b ∷ bs) o) (λ h. cc)))
+  (λ o. differs (b ∷ bs) e (bad_number_front (b ∷ bs) o) (λ h. cc)),
+)
 
 one : (b : ℕ) (bs : List ℕ) → (b == 47) ≡ false → double_at (b ∷ bs) ≡ None → (s : Option Symbol) → single b ≡ s → front_of (b ∷ bs) ≡ by_single s → Stands (front_of (b ∷ bs)) (b ∷ bs)
 one b bs plain d (Some s) f e = token_stands (kind.Mark s) (b ∷ []) bs (of_one b f d (rw plain refl) refl)
@@ -245,18 +249,23 @@ stands b bs = by_blank (is_blank b) refl where
   by_slash : (is_blank b ≡ false) → (is_letter b ≡ false) → (is_ascii_digit b ≡ false) → ((b == 39) ≡ false) → ((b == 34) ≡ false) → (v : Bool) → (b == 47) ≡ v → Stands (front_of (b ∷ bs)) (b ∷ bs)
   by_slash e1 e2 e3 e4 e5 true e = subst (λ a. Stands (front_of (a ∷ bs)) (a ∷ bs)) (sym (same_test b 47 e)) (slash_stands bs)
   by_slash e1 e2 e3 e4 e5 false e = symbol_stands b bs e (rw (e1, e2, e3, e4, e5, e) refl)
+
   by_quote : (is_blank b ≡ false) → (is_letter b ≡ false) → (is_ascii_digit b ≡ false) → ((b == 39) ≡ false) → (v : Bool) → (b == 34) ≡ v → Stands (front_of (b ∷ bs)) (b ∷ bs)
   by_quote e1 e2 e3 e4 true e = subst (λ a. Stands (front_of (a ∷ bs)) (a ∷ bs)) (sym (same_test b 34 e)) (string_case (34 ∷ bs) refl (string_or bs))
   by_quote e1 e2 e3 e4 false e = by_slash e1 e2 e3 e4 e (b == 47) refl
+
   by_apostrophe : (is_blank b ≡ false) → (is_letter b ≡ false) → (is_ascii_digit b ≡ false) → (v : Bool) → (b == 39) ≡ v → Stands (front_of (b ∷ bs)) (b ∷ bs)
   by_apostrophe e1 e2 e3 true e = subst (λ a. Stands (front_of (a ∷ bs)) (a ∷ bs)) (sym (same_test b 39 e)) (character_case (39 ∷ bs) refl (character_or bs))
   by_apostrophe e1 e2 e3 false e = by_quote e1 e2 e3 e (b == 34) refl
+
   by_digit : (is_blank b ≡ false) → (is_letter b ≡ false) → (v : Bool) → is_ascii_digit b ≡ v → Stands (front_of (b ∷ bs)) (b ∷ bs)
   by_digit e1 e2 true e = number_case (b ∷ bs) e (number_or b bs e)
   by_digit e1 e2 false e = by_apostrophe e1 e2 e (b == 39) refl
+
   by_letter : (is_blank b ≡ false) → (v : Bool) → is_letter b ≡ v → Stands (front_of (b ∷ bs)) (b ∷ bs)
   by_letter e1 true e = letter_stands b bs e
   by_letter e1 false e = by_digit e1 e (is_ascii_digit b) refl
+
   by_blank : (v : Bool) → is_blank b ≡ v → Stands (front_of (b ∷ bs)) (b ∷ bs)
   by_blank true e = gap_stands (b ∷ []) bs (blank b e refl)
   by_blank false e = by_letter e (is_letter b) refl

@@ -1,29 +1,24 @@
 -- What stands at the front is a gap, a token or a fault by its definition.
-use Rattle.std.proofs.Common.{◌≡◌, ℕ, suc, ◌+◌, ◌<◌, ◌≤◌, Bool, true, false, cond, ◌&&◌, ◌||◌, not, ◌==◌, nat_lt, List, [], ◌∷◌, ◌++◌, length, take, drop, Option, Some, None, refl, sym, ap, subst, ◌∙◌, ◌⊎◌, inl, inr, arith, append_assoc}
+use Rattle.std.proofs.Common.{◌≡◌, ℕ, ◌≤◌, Bool, true, false, cond, ◌&&◌, ◌||◌, ◌==◌, nat_lt, List, [], ◌∷◌, ◌++◌, length, take, drop, Option, Some, None, refl, sym, ap, subst, ◌∙◌, ◌⊎◌, inl, inr, arith}
 use Rattle.std.specs.Char.{is_ascii_digit, is_ascii_hexdigit}
-use Rattle.std.specs.List.{prefix_len, list_all}
-use Rattle.std.proofs.lemmas.Bool.{and_parts, and_from, cond_both}
+use Rattle.std.specs.List.{list_all}
+use Rattle.std.proofs.lemmas.Bool.{and_parts, and_from}
 use Rattle.std.proofs.lemmas.Bool.Decides.{nat_tests}
 use Rattle.aidl_syntax.specs.declared.token.Reserved.{Reserved}
-use Rattle.aidl_syntax.specs.declared.token.Symbol.{Symbol}
-use Rattle.aidl_syntax.specs.declared.token.Symbol.TheVariants as mark
 use Rattle.aidl_syntax.specs.declared.token.TokenKind.{TokenKind}
 use Rattle.aidl_syntax.specs.declared.token.TokenKind.TheVariants as kind
-use Rattle.aidl_syntax.specs.Bytes.{is_blank, is_letter, is_word_byte, is_inside, is_no_newline, begins, has_close, is_comment}
-use Rattle.aidl_syntax.specs.Tables.{reserved_of, double, single, double_at}
-use Rattle.aidl_syntax.specs.Numbers.{value_from, IsDecimal, IsHexadecimal, is_suffix, IsNumeral}
-use Rattle.aidl_syntax.specs.Forms.{IsGap, IsWord, IsDigitRun, IsNumber, IsCharacter, IsString, IsSymbol, IsToken}
-use Rattle.aidl_syntax.specs.Forms.IsGap.{blank, line, block}
-use Rattle.aidl_syntax.specs.Forms.IsSymbol.{of_one, of_two}
+use Rattle.aidl_syntax.specs.Bytes.{is_letter, is_word_byte, begins}
+use Rattle.aidl_syntax.specs.Tables.{reserved_of}
+use Rattle.aidl_syntax.specs.Numbers.{value_from, IsDecimal, is_suffix, IsNumeral}
+use Rattle.aidl_syntax.specs.Forms.{IsGap, IsWord, IsToken}
 use Rattle.aidl_syntax.specs.Faults.{NoGap, NoToken, OpenComment, OpenCharacter, OpenString, BadNumber, BadByte}
 use Rattle.aidl_lexer.specs.declared.fault.FaultKind.{FaultKind}
 use Rattle.aidl_lexer.specs.declared.fault.FaultKind.TheVariants as reason
 use Rattle.aidl_lexer.specs.declared.fronts.Front.{Front}
 use Rattle.aidl_lexer.specs.declared.fronts.Front.TheVariants as front
-use Rattle.aidl_lexer.specs.Reading.{by_reserved, word_by, word_at, up_to, long_of, suffix_of, decimal_of, hexadecimal_of, numeral, decimal_by, hexadecimal_by, is_hexadecimal, numeral_of, by_numeral, number_by, number_at, character_at, string_at, up_by, close_len, by_close, by_single, by_double, symbol_at, slash_at, front_of}
-use Rattle.aidl_lexer.proofs.Classes.{front_all}
-use Rattle.aidl_lexer.proofs.Runs.{Run, run, run_len, run_is, take_front, drop_front}
-use Rattle.aidl_lexer.proofs.Found.{word_front, number_front, decimal_parts, hexadecimal_parts, string_front, same_test, or_false, token_front, gap_front}
+use Rattle.aidl_lexer.specs.Reading.{up_to, long_of, suffix_of, decimal_of, hexadecimal_of, numeral, decimal_by, hexadecimal_by, numeral_of, front_of}
+use Rattle.aidl_lexer.proofs.Runs.{run, take_front, drop_front}
+use Rattle.aidl_lexer.proofs.Found.{decimal_parts, hexadecimal_parts, same_test, token_front, gap_front}
 
 -- the fault by its definition
 abbrev pub Stops : FaultKind → List ℕ → Type 0

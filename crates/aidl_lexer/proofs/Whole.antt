@@ -1,11 +1,11 @@
 -- The relation and the function on lists: what is cut is read so, and what is read is cut so.
-use Rattle.std.proofs.Common.{◌≡◌, ℕ, zero, suc, ◌+◌, ◌-◌, ◌<◌, ◌≤◌, Bool, true, false, List, [], ◌∷◌, ◌++◌, length, take, drop, Result, Ok, Err, ◌⊎◌, inl, inr, refl, sym, ap, subst, ◌∙◌, arith, length-append, length-drop, append-nil}
+use Rattle.std.proofs.Common.{◌≡◌, ℕ, zero, suc, ◌+◌, ◌<◌, ◌≤◌, List, [], ◌∷◌, ◌++◌, length, take, drop, Result, Ok, Err, inl, inr, refl, sym, ap, subst, ◌∙◌, arith, length-drop, append-nil}
 use Rattle.aidl_syntax.specs.declared.token.Token.{Token}
 use Rattle.aidl_syntax.specs.declared.token.TokenKind.{TokenKind}
 use Rattle.aidl_syntax.specs.Forms.{IsGap, IsToken}
 use Rattle.aidl_syntax.specs.Tokens.{Cut, Tokens}
 use Rattle.aidl_syntax.specs.Tokens.Cut.{here, gap, token}
-use Rattle.aidl_syntax.specs.Faults.{NoGap, NoToken, BadByte, FaultAt, LexFault}
+use Rattle.aidl_syntax.specs.Faults.{BadByte, FaultAt, LexFault}
 use Rattle.aidl_syntax.specs.Faults.FaultAt.{bad_byte, open_comment, open_character, open_string, bad_number}
 use Rattle.aidl_lexer.specs.declared.fault.FaultKind.{FaultKind}
 use Rattle.aidl_lexer.specs.declared.fault.FaultKind.TheVariants as reason

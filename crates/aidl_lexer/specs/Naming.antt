@@ -1,5 +1,5 @@
 -- The number, the place and the printed name of a fault. Want of memory has none of them.
-use Rattle.std.specs.Prelude.{◌≡◌, ℕ, List, Option, Some, None, Result, Ok, Err, codes}
+use Rattle.std.specs.Prelude.{ℕ, List, Option, Some, None, codes}
 use Rattle.aidl_lexer.specs.declared.fault.LexFault.{LexFault}
 use Rattle.aidl_lexer.specs.declared.fault.LexFault.TheVariants as fault
 use Rattle.aidl_lexer.specs.declared.fault.FaultKind.{FaultKind}

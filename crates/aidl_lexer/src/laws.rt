@@ -9,5 +9,4 @@ pub fn law_one_lexing(bytes: &[u8])
     ensures one_list { (first second : List Token) → Tokens bytes.now first → Tokens bytes.now second → first ≡ second }
     ensures one_fault { (first second from to : ℕ) → faults.LexFault bytes.now first from → faults.LexFault bytes.now second to → (first ≡ second) × (from ≡ to) }
     ensures never_both { (tokens : List Token) (number offset : ℕ) → Tokens bytes.now tokens → faults.LexFault bytes.now number offset → ⊥ }
-{
-}
+{}

@@ -45,12 +45,7 @@ fn tokens_of(alloc: Global, bytes: &[u8]) -> Result<Vec<Token>, LexFault>
 
 // Reads a piece of a gap or a token, and answers its length.
 #[tactic(auto, using(crate::proofs::Loop::at_gap, crate::proofs::Loop::at_token, crate::proofs::Loop::at_fault, crate::proofs::Loop::with_onto))]
-fn step(
-    alloc: Global,
-    out: &mut Vec<Token>,
-    offset: u32,
-    rest: &[u8],
-) -> Result<usize, LexFault>
+fn step(alloc: Global, out: &mut Vec<Token>, offset: u32, rest: &[u8]) -> Result<usize, LexFault>
     requires some { 0 < length rest.now }
     requires few { length rest.now < 2 ^ 32 }
     ensures within { IfOk result (λ n. (0 < n) × (n ≤ length rest.now)) }

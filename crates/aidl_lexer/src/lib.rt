@@ -9,8 +9,9 @@ mod laws;
 mod lexing;
 mod literals;
 mod numbers;
-
 mod symbols;
+#[cfg(test)]
+mod tests;
 mod words;
 
 pub use fault::LexFault;

@@ -78,7 +78,11 @@ fn decimal_of(body: &[u8]) -> Option<u64>
 fn hexadecimal_of(digits: &[u8]) -> Option<u64>
     ensures { result ≡ read.hexadecimal_of digits.now }
 {
-    if 0 < digits.len() { value_of(16, digits) } else { None }
+    if 0 < digits.len() {
+        value_of(16, digits)
+    } else {
+        None
+    }
 }
 
 // Whether `L` or `l` stands; None for anything else.
@@ -121,7 +125,9 @@ fn value_of(base: u64, digits: &[u8]) -> Option<u64>
 fn with_digit(base: u64, value: u64, digit: u8) -> Option<u64>
     ensures { result ≡ read.up_to 18446744073709551615 (value * base + number.digit_value digit) }
 {
-    value.checked_mul(base)?.checked_add(u64::from(digit_value(digit)))
+    value
+        .checked_mul(base)?
+        .checked_add(u64::from(digit_value(digit)))
 }
 
 fn digit_value(b: u8) -> u8

@@ -65,11 +65,7 @@ fn reserved_of(text: &[u8]) -> Option<Reserved>
     }
 }
 
-fn by_reserved(
-    alloc: Global,
-    word: Option<Reserved>,
-    text: &[u8],
-) -> Result<Front, OutOfMemory>
+fn by_reserved(alloc: Global, word: Option<Reserved>, text: &[u8]) -> Result<Front, OutOfMemory>
     requires { IsAscii text.now }
     ensures { IfOk result (λ front. front ≡ read.by_reserved word text.now) }
 {

@@ -1,6 +1,6 @@
 -- Gaps and tokens, one definition a form. Each says that `piece` is of its form where `rest` follows it, and that
 -- nothing longer at this place is (own, after the AOSP page "AIDL language").
-use Rattle.std.specs.Prelude.{◌≡◌, ℕ, true, false, ◌&&◌, List, [], ◌∷◌, ◌++◌, Some, None, Bool}
+use Rattle.std.specs.Prelude.{◌≡◌, ℕ, true, false, List, [], ◌∷◌, ◌++◌, Some, None, Bool}
 use Rattle.std.specs.Char.{is_ascii_digit}
 use Rattle.std.specs.List.{list_all}
 use Rattle.aidl_syntax.specs.declared.token.Reserved.{Reserved}
