@@ -16,7 +16,7 @@ pub data IsGap (piece rest : List ℕ) : Type 0 where
   blank : (b : ℕ) → is_blank b ≡ true → piece ≡ b ∷ [] → IsGap piece rest
   -- `//` up to the first newline after it or the end of the file
   line : (text : List ℕ) → list_all is_no_newline text ≡ true → begins is_no_newline rest ≡ false → piece ≡ 47 ∷ 47 ∷ text → IsGap piece rest
-  -- `/*` up to the first `*/` after it
+  -- `/*` up to the first `*/` after it: none stands in the text, nor across its end
   block : (text : List ℕ) → has_close (text ++ 42 ∷ []) ≡ false → piece ≡ 47 ∷ 42 ∷ text ++ 42 ∷ 47 ∷ [] → IsGap piece rest
 
 -- a letter or `_`, then letters, digits and `_`, as many as there are
