@@ -4,3 +4,7 @@ pub mod Numbers
 pub mod Forms
 pub mod Tokens
 pub mod Faults
+pub mod Trees
+pub mod Parts
+pub mod Productions
+pub mod Measures
