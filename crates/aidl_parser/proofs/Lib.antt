@@ -1,0 +1,3 @@
+pub mod Looping
+pub mod Found
+pub mod Told

@@ -1,0 +1,9 @@
+//! The tree of a file's tokens, exactly by the productions, or a refusal.
+#![tactic(auto)]
+
+mod expr;
+mod fault;
+mod names;
+mod tokens;
+
+pub use fault::ParseFault;
