@@ -1,2 +1,4 @@
 pub mod Reading
 pub mod Gives
+pub mod Parts
+pub mod Types

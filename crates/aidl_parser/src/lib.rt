@@ -4,6 +4,8 @@
 mod expr;
 mod fault;
 mod names;
+mod parts;
 mod tokens;
+mod types;
 
 pub use fault::ParseFault;
