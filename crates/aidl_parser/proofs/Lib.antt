@@ -1,3 +1,4 @@
 pub mod Looping
+pub mod Rounds
 pub mod Found
 pub mod Told

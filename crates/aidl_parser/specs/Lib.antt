@@ -2,3 +2,4 @@ pub mod Reading
 pub mod Gives
 pub mod Parts
 pub mod Types
+pub mod Inits

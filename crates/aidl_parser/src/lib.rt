@@ -1,8 +1,10 @@
 //! The tree of a file's tokens, exactly by the productions, or a refusal.
 #![tactic(auto)]
 
+mod annots;
 mod expr;
 mod fault;
+mod inits;
 mod names;
 mod parts;
 mod tokens;

@@ -1,4 +1,4 @@
-ghost use Rattle.std.specs.Prelude.{◌≡◌, ◌∷◌, [], MatchOption};
+ghost use Rattle.std.specs.Prelude.{◌≡◌, ◌∷◌, [], MatchOption, is_some};
 ghost use Rattle.aidl_syntax.specs.Parts as part;
 ghost use Rattle.aidl_parser.specs.Reading as read;
 ghost use Rattle.aidl_parser.specs.Gives.{Gives};
@@ -45,5 +45,15 @@ pub fn first(tokens: &[Token]) -> u32
     match tokens {
         [t, ..] => t.offset,
         [] => 0,
+    }
+}
+
+// Whether a token is an identifier.
+pub fn is_name(kind: &TokenKind) -> bool
+    ensures { result ≡ is_some (read.name_of kind.now) }
+{
+    match kind {
+        TokenKind::Name(_) => true,
+        _ => false,
     }
 }
