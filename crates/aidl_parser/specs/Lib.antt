@@ -3,3 +3,4 @@ pub mod Gives
 pub mod Parts
 pub mod Types
 pub mod Inits
+pub mod Members

@@ -4,6 +4,8 @@
 mod annots;
 mod expr;
 mod fault;
+mod fields;
+mod methods;
 mod inits;
 mod names;
 mod parts;
