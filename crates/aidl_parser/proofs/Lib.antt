@@ -1,4 +1,6 @@
 pub mod Looping
 pub mod Rounds
+pub mod MemberRounds
 pub mod Found
 pub mod Told
+pub mod Laws

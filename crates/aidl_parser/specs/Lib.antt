@@ -4,3 +4,4 @@ pub mod Parts
 pub mod Types
 pub mod Inits
 pub mod Members
+pub mod Decls

@@ -2,6 +2,7 @@
 #![tactic(auto)]
 
 mod annots;
+mod decls;
 mod expr;
 mod fault;
 mod fields;

@@ -55,7 +55,7 @@ pub fn worded<'a>(r: Reserved, tokens: &'a [Token]) -> Result<((), &'a [Token]),
 }
 
 // The reserved word that a token is.
-fn word_of(kind: &TokenKind) -> Option<Reserved>
+pub fn word_of(kind: &TokenKind) -> Option<Reserved>
     ensures { result ≡ read.word_of kind.now }
 {
     match kind {
