@@ -1,6 +1,9 @@
 pub mod Looping
 pub mod Rounds
+pub mod Files
 pub mod MemberRounds
 pub mod Found
 pub mod Told
 pub mod Laws
+pub mod TypeLaws
+pub mod InitLaws

@@ -5,3 +5,4 @@ pub mod Types
 pub mod Inits
 pub mod Members
 pub mod Decls
+pub mod Limits

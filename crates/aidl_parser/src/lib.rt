@@ -6,6 +6,8 @@ mod decls;
 mod expr;
 mod fault;
 mod fields;
+mod file;
+mod limits;
 mod methods;
 mod inits;
 mod names;
