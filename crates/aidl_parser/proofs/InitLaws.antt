@@ -27,7 +27,7 @@ use Rattle.aidl_parser.proofs.TypeLaws.{ident_law, ident_starts, expr_law, ends_
 
 -- How an expression begins.
 
-abbrev opens : TokenKind → Bool
+abbrev pub opens : TokenKind → Bool
 opens (kind.Name x) = true
 opens (kind.Word r) = is_literal (kind.Word r)
 opens (kind.Number b h l) = true
@@ -37,7 +37,7 @@ opens (kind.Mark mark.OpenParen) = true
 opens (kind.Mark s) = is_sign s
 
 -- what begins an expression closes and opens no braces
-opens_apart : (k : TokenKind) → opens k ≡ true → (is_symbol mark.CloseBrace (mark_of k) ≡ false) × (is_symbol mark.CloseParen (mark_of k) ≡ false) × (is_symbol mark.OpenBrace (mark_of k) ≡ false)
+pub opens_apart : (k : TokenKind) → opens k ≡ true → (is_symbol mark.CloseBrace (mark_of k) ≡ false) × (is_symbol mark.CloseParen (mark_of k) ≡ false) × (is_symbol mark.OpenBrace (mark_of k) ≡ false)
 unfolding same_symbol
 opens_apart (kind.Name x) e = (refl, refl, refl)
 opens_apart (kind.Word r) e = (refl, refl, refl)
@@ -63,10 +63,10 @@ sign_opens : (s : Symbol) → is_sign s ≡ true → opens (kind.Mark s) ≡ tru
 sign_opens mark.OpenParen e = cc
 sign_opens _ e = e
 
-abbrev Opened : List Token → Type 0
+abbrev pub Opened : List Token → Type 0
 Opened ts = (t : Token) × (us : List Token) × (ts ≡ t ∷ us) × (opens t.kind ≡ true)
 
-expr_opened : (e : Expr) (m : ℕ) (ts : List Token) → IsOf m ts e → Opened ts
+pub expr_opened : (e : Expr) (m : ℕ) (ts : List Token) → IsOf m ts e → Opened ts
 expr_opened (literal o t) m ts (is, lit, o_is) = (t, [], is, literal_opens t.kind lit)
 expr_opened (name o d) m ts (h, o_is) = let s = starts_name d.name.0 ts h.1 in (s.0, s.1, s.3, rw s.4 refl)
 expr_opened (group o a) m ts (begin, close, inner, is, k, l, o_is, h) = (begin, inner ++ close ∷ [], is, rw k refl)
@@ -81,13 +81,13 @@ expr_starts ts e h = let s = expr_opened e 1 ts h in (s.0, s.1, s.2)
 abbrev pub Avoids : {A : Type 0} → (List Token → A → Type 0) → (List Token → Bool) → Type 0
 Avoids {A = A} P goes = (ts : List Token) (x : A) (rest : List Token) → P ts x → goes (ts ++ rest) ≡ false
 
-expr_no_close : Avoids IsExpr (begins mark.CloseBrace)
+pub expr_no_close : Avoids IsExpr (begins mark.CloseBrace)
 expr_no_close ts e rest h = let s = expr_opened e 1 ts h in rw s.2 (opens_apart s.0.kind s.3).0
 
 expr_no_paren : Avoids IsExpr (begins mark.CloseParen)
 expr_no_paren ts e rest h = let s = expr_opened e 1 ts h in rw s.2 (opens_apart s.0.kind s.3).1
 
-expr_no_open : Avoids IsExpr (begins mark.OpenBrace)
+pub expr_no_open : Avoids IsExpr (begins mark.OpenBrace)
 expr_no_open ts e rest h = let s = expr_opened e 1 ts h in rw s.2 (opens_apart s.0.kind s.3).2
 
 -- Lists.
@@ -96,7 +96,7 @@ expr_no_open ts e rest h = let s = expr_opened e 1 ts h in rw s.2 (opens_apart s
 abbrev pub Allows : (List Token → Bool) → Symbol → Type 0
 Allows F s = (t : Token) (us : List Token) → mark_of t.kind ≡ Some s → F (t ∷ us) ≡ true
 
-begun : (s : Symbol) (F : List Token → Bool) → Allows F s → (rest : List Token) → begins s rest ≡ true → F rest ≡ true
+pub begun : (s : Symbol) (F : List Token → Bool) → Allows F s → (rest : List Token) → begins s rest ≡ true → F rest ≡ true
 begun s F f [] e = cc
 begun s F f (t ∷ us) e = f t us (symbol_is s (mark_of t.kind) e)
 

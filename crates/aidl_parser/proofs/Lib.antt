@@ -7,3 +7,6 @@ pub mod Told
 pub mod Laws
 pub mod TypeLaws
 pub mod InitLaws
+pub mod AnnotLaws
+pub mod FieldLaws
+pub mod DeclLaws
