@@ -65,10 +65,10 @@ Declare = ℕ → List Annot → List Token → Read Decl
 abbrev pub DeclareLaw : ℕ → Declare → Type 0
 DeclareLaw k declare = (o : ℕ) (annots : List Annot) → Law k (declare o annots) (DeclRest o annots) any
 
-some_first : (ts rest : List Token) → (t : Token) → (us : List Token) → ts ≡ t ∷ us → first (ts ++ rest) ≡ first ts
+pub some_first : (ts rest : List Token) → (t : Token) → (us : List Token) → ts ≡ t ∷ us → first (ts ++ rest) ≡ first ts
 some_first ts rest t us e = rw e refl
 
-join_starts : (f g : List Token) → (t : Token) × (us : List Token) × (g ≡ t ∷ us) → (t : Token) × (us : List Token) × (f ++ g ≡ t ∷ us)
+pub join_starts : (f g : List Token) → (t : Token) × (us : List Token) × (g ≡ t ∷ us) → (t : Token) × (us : List Token) × (f ++ g ≡ t ∷ us)
 join_starts [] g s = s
 join_starts (t ∷ f) g s = (t, f ++ g, refl)
 
@@ -108,7 +108,7 @@ method_begun ts (true, x) rest (front, back, is, (t, js, k), (f, g, ks, h, q)) =
 abbrev BodyBegun : List Token → Body → List Token → Type 0
 BodyBegun ts b rest = (no_annot (ts ++ rest) ≡ true) × (begins_word word.Const (ts ++ rest) ≡ false) × (begins_decl (ts ++ rest) ≡ true) × ((t : Token) × (us : List Token) × (ts ≡ t ∷ us))
 
-body_begun : (ts : List Token) (n : NameTree) (b : Body) (rest : List Token) → IsBody ts n b → BodyBegun ts b rest
+pub body_begun : (ts : List Token) (n : NameTree) (b : Body) (rest : List Token) → IsBody ts n b → BodyBegun ts b rest
 unfolding same_word
 body_begun ts n (parcelable ms) rest (head, inner, tail, is, (f, g, js, (t, ks, k), q), m, e) =
     let w : ts ≡ t ∷ ((g ++ inner) ++ tail) = is ∙ ap (λ us. (us ++ inner) ++ tail) (js ∙ ap (λ us. us ++ g) ks) in (rw (w, k) refl, rw (w, k) refl, rw (w, k) refl, (t, (g ++ inner) ++ tail, w))
@@ -192,7 +192,7 @@ rest_told n declare k laws inside o annots us m rest e = go (begins_word word.Co
 abbrev ItemTold : Bool → List Token → (Members → Members) → List Token → Type 0
 ItemTold inside ts m rest = (front : List Token) × (ts ≡ front ++ rest) × (i : Item) × IsItem inside front i × (put i ≡ m)
 
-item_told : (n : ℕ) (declare : Declare) (k : ℕ) → DeclareLaw k declare → (inside : Bool) (ts : List Token) (m : Members → Members) (rest : List Token)
+pub item_told : (n : ℕ) (declare : Declare) (k : ℕ) → DeclareLaw k declare → (inside : Bool) (ts : List Token) (m : Members → Members) (rest : List Token)
     → member_with declare (suc n) inside ts ≡ Some (m, rest) → ItemTold inside ts m rest
 unfolding member_with
 item_told n declare k laws inside ts m rest e =
@@ -264,7 +264,7 @@ nested_found n declare k laws inside ts o annots nm body rest len le (f, g, is, 
     member_steps (suc n) declare inside (ts ++ rest) (g ++ rest) annots _ (ap (annots_at (suc n)) w ∙ (annots_law n).found f annots (g ++ rest) (omega arith) a b.0)
     (rw (b.1, b.2) (ap (λ p. alter nested_made (declare p annots) (g ++ rest)) first_is ∙ ap (λ z. z >>= altered nested_made) d))
 
-item_found : (n : ℕ) (declare : Declare) (k : ℕ) → DeclareLaw k declare → (inside : Bool) (ts : List Token) (i : Item) (rest : List Token) → length ts ≤ n → length ts ≤ k → IsItem inside ts i → ItemFound (suc n) declare inside ts i rest
+pub item_found : (n : ℕ) (declare : Declare) (k : ℕ) → DeclareLaw k declare → (inside : Bool) (ts : List Token) (i : Item) (rest : List Token) → length ts ≤ n → length ts ≤ k → IsItem inside ts i → ItemFound (suc n) declare inside ts i rest
 item_found n declare k laws false ts (field_item f) rest len le h = field_found n declare ts f rest len h
 item_found n declare k laws true ts (field_item f) rest len le h = absurd h
 item_found n declare k laws false ts (constant_item c) rest len le h = constant_found n declare false ts c rest len h

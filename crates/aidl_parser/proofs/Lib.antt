@@ -10,3 +10,6 @@ pub mod InitLaws
 pub mod AnnotLaws
 pub mod FieldLaws
 pub mod DeclLaws
+pub mod BodyLaws
+pub mod FileLaws
+pub mod ParseLaws

@@ -1,5 +1,5 @@
 -- The loop over members, and one level of declarations.
-use Rattle.std.proofs.Common.{◌≡◌, ℕ, zero, suc, ◌-◌, ◌<◌, Bool, true, false, List, [], ◌∷◌, ◌++◌, map, Some, None, refl, sym, ap, ◌∙◌, arith}
+use Rattle.std.proofs.Common.{◌≡◌, ℕ, zero, suc, ◌-◌, ◌<◌, Bool, true, false, List, [], ◌∷◌, ◌++◌, map, Some, None, refl, sym, ap, subst, ◌∙◌, arith}
 use Rattle.std.proofs.lemmas.List.{map-append}
 use Rattle.aidl_syntax.specs.declared.token.Token.{Token}
 use Rattle.aidl_syntax.specs.declared.token.Symbol.TheVariants as mark
@@ -8,12 +8,14 @@ use Rattle.aidl_syntax.specs.Trees.{Annot, Members, ahead_of, member_of}
 use Rattle.aidl_syntax.specs.Trees.Members.{none}
 use Rattle.aidl_parser.specs.Reading.{Read, ◌>>=◌}
 use Rattle.aidl_parser.specs.Parts.{begins, alter}
-use Rattle.aidl_parser.specs.Decls.{decl_at, declared, body_by, members_at, members_by, members_behind, joined, member_at, with_members}
+use Rattle.aidl_parser.specs.Decls.{decl_at, declared, body_by, members_at, members_by, members_behind, joined, member_at, member_with, with_members}
 
-pub decl_step : (n o : ℕ) (annots : List Annot) (ts : List Token) → 0 < n → decl_at n o annots ts ≡ alter (declared o annots) (body_by (λ inside us. members_at (n - 1) (n - 1) inside us) (n - 1)) ts
+pub decl_step : (n o : ℕ) (annots : List Annot) (ts : List Token) → 0 < n → decl_at n o annots ts ≡ alter (declared o annots) (body_by (λ inside us. members_at n n inside us) n) ts
 unfolding decl_at members_at
 decl_step zero o annots ts lt = absurd (omega arith)
-decl_step (suc n) o annots ts lt = let e : suc n - 1 ≡ n = omega arith in rw e refl
+decl_step (suc n) o annots ts lt =
+    let e : suc n - 1 ≡ n = omega arith in
+    subst (λ p. decl_at (suc n) o annots ts ≡ alter (declared o annots) (body_by (λ inside us. members_by (λ vs. member_with (λ q annotations ws. decl_at p q annotations ws) (suc n) inside vs) (suc n) us) (suc n)) ts) (sym e) refl
 
 pub decl_none : (o : ℕ) (annots : List Annot) (ts : List Token) → decl_at 0 o annots ts ≡ None
 unfolding decl_at

@@ -1,5 +1,5 @@
 -- Readers of declarations and files.
-use Rattle.std.specs.Prelude.{ℕ, zero, suc, Bool, true, false, if◌then◌else◌, List, [], ◌∷◌, length, Option, Some, None}
+use Rattle.std.specs.Prelude.{ℕ, ◌-◌, zero, suc, Bool, true, false, if◌then◌else◌, List, [], ◌∷◌, length, Option, Some, None}
 use Rattle.aidl_syntax.specs.declared.token.Reserved.{Reserved}
 use Rattle.aidl_syntax.specs.declared.token.Reserved.TheVariants as word
 use Rattle.aidl_syntax.specs.declared.token.Symbol.TheVariants as mark
@@ -111,10 +111,10 @@ declared o annots x = decl o annots x.0 x.1
 -- a declaration, behind its annotations
 unfoldable pub decl_at : ℕ → ℕ → List Annot → List Token → Read Decl
 decl_at zero o annots ts = None
-decl_at (suc n) o annots ts = alter (declared o annots) (body_by (λ inside us. members_by (λ vs. member_with (λ p annots ws. decl_at n p annots ws) n inside vs) n us) n) ts
+decl_at (suc n) o annots ts = alter (declared o annots) (body_by (λ inside us. members_by (λ vs. member_with (λ p annots ws. decl_at n p annots ws) (suc n) inside vs) (suc n) us) (suc n)) ts
 
 abbrev pub member_at : ℕ → Bool → List Token → Read (Members → Members)
-member_at n inside ts = member_with (λ p annots ws. decl_at n p annots ws) n inside ts
+member_at n inside ts = member_with (λ p annots ws. decl_at (n - 1) p annots ws) n inside ts
 
 unfoldable pub members_at : ℕ → ℕ → Bool → List Token → Read Members
 members_at n k inside ts = members_by (λ vs. member_at n inside vs) k ts

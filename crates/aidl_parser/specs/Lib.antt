@@ -6,3 +6,4 @@ pub mod Inits
 pub mod Members
 pub mod Decls
 pub mod Limits
+pub mod Answers

@@ -34,7 +34,7 @@ pub fn decl<'a>(
     if left == 0 {
         return Err(ParseFault::Syntax);
     }
-    decl_by(alloc, left - 1, offset, annots, tokens)
+    decl_by(alloc, left, offset, annots, tokens)
 }
 
 #[cycle(decl)]
@@ -45,6 +45,7 @@ fn decl_by<'a>(
     annots: Row<AnnotTree>,
     tokens: &'a [Token],
 ) -> Result<(DeclTree, &'a [Token]), ParseFault>
+    requires { 0 < left }
     ensures { Gives (λ x. (decl_of x.0, x.1.now)) result (part.alter (read.declared offset (annots_of annots)) (read.body_by (λ inside us. read.members_at left left inside us) left) tokens.entry.now) }
 {
     let ((name, body), rest) = body(alloc, left, tokens)?;
@@ -59,6 +60,7 @@ fn body<'a>(
     left: usize,
     tokens: &'a [Token],
 ) -> Result<((NameTree, BodyTree), &'a [Token]), ParseFault>
+    requires { 0 < left }
     ensures { Gives (λ x. ((x.0.0, body_of x.0.1), x.1.now)) result (read.body_by (λ inside us. read.members_at left left inside us) left tokens.entry.now) }
 {
     if begins_word(Reserved::Parcelable, tokens) {
@@ -87,6 +89,7 @@ fn braced<'a>(
     inside: bool,
     tokens: &'a [Token],
 ) -> Result<((NameTree, Row<MemberTree>), &'a [Token]), ParseFault>
+    requires { 0 < left }
     ensures { Gives (λ x. ((x.0.0, members_of x.0.1), x.1.now)) result (read.braced_at (λ inner us. read.members_at left left inner us) word inside tokens.entry.now) }
 {
     let (name, rest) = head(alloc, word, tokens)?;
@@ -103,6 +106,7 @@ fn members<'a>(
     inside: bool,
     tokens: &'a [Token],
 ) -> Result<(Row<MemberTree>, &'a [Token]), ParseFault>
+    requires { 0 < left }
     ensures { Gives (λ x. (members_of x.0, x.1.now)) result (read.members_at left left inside tokens.entry.now) }
 {
     let mut all = Row::new(alloc);
@@ -128,6 +132,7 @@ fn member<'a>(
     inside: bool,
     tokens: &'a [Token],
 ) -> Result<(MemberTree, &'a [Token]), ParseFault>
+    requires { 0 < left }
     ensures { Gives (λ x. (member_of x.0, x.1.now)) result (read.member_at left inside tokens.entry.now) }
 {
     let (annots, rest) = annots(alloc, left, tokens)?;
@@ -145,13 +150,14 @@ fn member_by<'a>(
     annots: Row<AnnotTree>,
     tokens: &'a [Token],
 ) -> Result<(MemberTree, &'a [Token]), ParseFault>
-    ensures { Gives (λ x. (member_of x.0, x.1.now)) result (read.member_by (λ p annotations ws. read.decl_at left p annotations ws) left inside offset (annots_of annots) tokens.entry.now) }
+    requires { 0 < left }
+    ensures { Gives (λ x. (member_of x.0, x.1.now)) result (read.member_by (λ p annotations ws. read.decl_at (left - 1) p annotations ws) left inside offset (annots_of annots) tokens.entry.now) }
 {
     if begins_word(Reserved::Const, tokens) {
         let (parts, rest) = constant(alloc, left, tokens)?;
         Ok((constant_made(offset, annots, parts), rest))
     } else if begins_decl(tokens) {
-        let (inner, rest) = decl(alloc, left, offset, annots, tokens)?;
+        let (inner, rest) = decl(alloc, left - 1, offset, annots, tokens)?;
         Ok((MemberTree::Nested(inner), rest))
     } else if inside {
         let (parts, rest) = method(alloc, left, tokens)?;

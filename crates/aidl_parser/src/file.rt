@@ -18,7 +18,6 @@ use std::alloc::Global;
 // The file that all of the tokens are.
 #[tactic(auto, unfolding(crate::specs::Decls::whole_of), using(crate::proofs::Files::one_more))]
 pub fn whole(alloc: Global, tokens: &[Token]) -> Result<FileTree, ParseFault>
-    requires { length tokens.now < 2 ^ 32 }
     ensures { Gives file_of result (read.whole_of tokens.now) }
 {
     let (tree, rest) = file(alloc, tokens.len() + 1, tokens)?;

@@ -11,8 +11,10 @@ mod limits;
 mod methods;
 mod inits;
 mod names;
+mod parsing;
 mod parts;
 mod tokens;
 mod types;
 
 pub use fault::ParseFault;
+pub use parsing::{law_one_tree, parse};

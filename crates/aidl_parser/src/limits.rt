@@ -1,4 +1,4 @@
-ghost use Rattle.std.specs.Prelude.{◌≡◌, ◌<◌, ◌^◌, length, max};
+ghost use Rattle.std.specs.Prelude.{◌≡◌, max};
 ghost use Rattle.aidl_syntax.specs.Measures as measure;
 ghost use Rattle.aidl_parser.specs.Limits.{passed};
 
@@ -7,7 +7,6 @@ use aidl_syntax::{Symbol, Token, TokenKind};
 
 // The limit that the tokens pass, `nesting` before `run-length`.
 pub fn limit_of(tokens: &[Token]) -> Option<LimitName>
-    requires { length tokens.now < 2 ^ 32 }
     ensures { result ≡ passed tokens.now }
 {
     if 16 < nesting(tokens) {
@@ -21,7 +20,6 @@ pub fn limit_of(tokens: &[Token]) -> Option<LimitName>
 
 // The greatest number of `{` minus `}` before or at a token.
 fn nesting(tokens: &[Token]) -> usize
-    requires { length tokens.now < 2 ^ 32 }
     ensures { result ≡ measure.nesting tokens.now }
 {
     let mut opened: usize = 0;
@@ -37,7 +35,6 @@ fn nesting(tokens: &[Token]) -> usize
 
 // The greatest number of neighbouring tokens without `;`, `,`, `{` or `}`.
 fn run_length(tokens: &[Token]) -> usize
-    requires { length tokens.now < 2 ^ 32 }
     ensures { result ≡ measure.run_length tokens.now }
 {
     let mut now: usize = 0;

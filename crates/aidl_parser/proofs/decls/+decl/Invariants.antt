@@ -4,7 +4,7 @@ use Rattle.aidl_parser.specs.Decls.{members_at, with_members}
 use Rattle.aidl_parser.proofs.decls.+decl.Given as goal
 
 abbrev pub decreases-decl : goal.decreases-decl
-decreases-decl l = 8 * l.left
+decreases-decl l = 8 * l.left + 7
 
 abbrev pub decreases-decl_by : goal.decreases-decl_by
 decreases-decl_by l = 8 * l.left + 6
