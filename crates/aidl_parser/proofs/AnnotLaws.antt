@@ -1,31 +1,28 @@
 -- The laws of initializers and annotations.
-use Rattle.std.proofs.Common.{◌⊎◌, inl, inr, ◌≡◌, ℕ, suc, ◌+◌, ◌≤◌, ◌<◌, Bool, true, false, cond, not, ◌&&◌, ◌||◌, ◌==◌, List, [], ◌∷◌, ◌++◌, length, Option, Some, None, is_some, refl, sym, ap, subst, ◌∙◌, arith, append_assoc, length-append}
+use Rattle.std.proofs.Common.{◌⊎◌, inl, inr, ◌≡◌, ℕ, suc, ◌+◌, ◌<◌, Bool, true, false, cond, not, List, [], ◌∷◌, ◌++◌, Option, Some, None, is_some, refl, sym, ap, subst, ◌∙◌, arith}
 use Rattle.std.specs.List.{list_all}
 use Rattle.std.proofs.lemmas.Bool.{and_parts, and_from, and_right}
-use Rattle.std.proofs.lemmas.Bool.Decides.{nat_tests}
 use Rattle.aidl_base.specs.declared.name.Ident.{Ident}
-use Rattle.aidl_syntax.specs.declared.token.Reserved.{Reserved}
 use Rattle.aidl_syntax.specs.declared.token.Symbol.{Symbol}
 use Rattle.aidl_syntax.specs.declared.token.Symbol.TheVariants as mark
 use Rattle.aidl_syntax.specs.declared.token.TokenKind.{TokenKind}
 use Rattle.aidl_syntax.specs.declared.token.TokenKind.TheVariants as kind
 use Rattle.aidl_syntax.specs.declared.token.Token.{Token}
 use Rattle.aidl_syntax.specs.declared.tree.NameTree.{NameTree}
-use Rattle.aidl_syntax.specs.Parts.{Form, Then, Maybe, Many, Quoted, Behind, Before, Listed, MaybeListed, Trailing, MaybeTrailing, first}
+use Rattle.aidl_syntax.specs.Parts.{Form, Then, Maybe, Behind, Before, MaybeListed, MaybeTrailing, first}
 use Rattle.aidl_syntax.specs.Trees.{Expr, Init, Param, Annot}
 use Rattle.aidl_syntax.specs.Trees.Expr.{literal, name, group, unary, binary}
 use Rattle.aidl_syntax.specs.Trees.Init.{single, braces}
 use Rattle.aidl_syntax.specs.Productions as form
 use Rattle.aidl_syntax.specs.Productions.{IsIdent, AreNames, IsDotted, IsOf, IsExpr, IsInit, IsParam, AreParams, IsAnnot, AreAnnots, is_literal, is_sign, level}
-use Rattle.aidl_parser.specs.Reading.{Read, mark_of, name_of, expr, ◌>>=◌}
-use Rattle.aidl_parser.specs.Parts.{same_symbol, is_symbol, begins, quoted, both, altered, alter, fore, behind, upto, placed, maybe, many, listed}
+use Rattle.aidl_parser.specs.Reading.{mark_of, name_of, ◌>>=◌}
+use Rattle.aidl_parser.specs.Parts.{same_symbol, is_symbol, begins, both, altered, alter, behind, upto, placed, maybe}
 use Rattle.aidl_parser.specs.Types.{ident}
-use Rattle.aidl_parser.specs.Inits.{expr_at, goes_inside, trailing, maybe_trailing, maybe_listed, braces_at, init_at, begins_named, param_made, param_at, params_at, annot_made, annot_at, annots_at}
+use Rattle.aidl_parser.specs.Inits.{expr_at, maybe_trailing, maybe_listed, braces_at, init_at, begins_named, param_made, param_at, params_at, annot_made, annot_at, annots_at}
 use Rattle.aidl_parser.proofs.Told.{bind_some, pair_some, chosen}
-use Rattle.aidl_parser.proofs.Found.{no_dot, next_level, starts_name}
-use Rattle.aidl_parser.proofs.Laws.{IsTold, IsFound, Law, MayFollow, Begins, Starts, any, both_law, weaken, placed_law, alter_law, quoted_law, quoted_begins, behind_law, behind_begins, behind_starts, upto_law, then_starts, unless, unless_parts, unless_from, maybe_law, many_law, listed_law, same_self, symbol_is}
-use Rattle.aidl_parser.proofs.TypeLaws.{ident_law, ident_starts, expr_law, ends_expr}
-use Rattle.aidl_parser.proofs.InitLaws.{expr_opened, opens_apart, expr_starts, Avoids, Allows, expr_no_close, expr_no_open, trailing_law, maybe_trailing_law, maybe_listed_law, begun}
+use Rattle.aidl_parser.proofs.Laws.{IsTold, IsFound, Law, MayFollow, Begins, Starts, any, both_law, weaken, placed_law, behind_law, behind_begins, behind_starts, upto_law, unless, unless_parts, maybe_law, many_law, same_self, symbol_is}
+use Rattle.aidl_parser.proofs.TypeLaws.{ident_law, expr_law, ends_expr}
+use Rattle.aidl_parser.proofs.InitLaws.{expr_opened, opens_apart, expr_starts, Avoids, Allows, expr_no_close, expr_no_open, maybe_trailing_law, maybe_listed_law}
 
 pub comma_ends : Allows ends_expr mark.Comma
 comma_ends t us k = rw k refl
@@ -67,6 +64,7 @@ init_law n = record { told = told; found = found } where
         let f = (expr_law n).told ts b.0.0 b.0.1 b.1 in
         let p = pair_some {A = Init} (single b.0.0) x b.0.1 rest b.2 in
         (f.0, f.1 ∙ ap (λ us. f.0 ++ us) p.1, subst (IsInit f.0) p.0 f.2)
+
   found : IsFound n (λ ts. cond (begins mark.OpenBrace ts) (placed braces (behind mark.OpenBrace (upto (maybe_trailing (suc n) (expr_at (suc n))) mark.CloseBrace)) ts) (alter single (expr_at (suc n)) ts)) IsInit ends_expr
   found ts (single e) rest len h ok = rw (expr_no_open ts e rest h) (ap (λ z. z >>= altered single) ((expr_law n).found ts e rest len h ok))
   found ts (braces o es) rest len (h, o_is) ok =
@@ -224,6 +222,7 @@ annot_law n = record { told = told; found = found } where
       let o : first ts ≡ first h.0 = ap first h.1 ∙ kept h.0 b.0.1 s.0 s.1 s.2 in
       let w : IsAnnot h.0 (annot_made (first ts) b.0.0) = (b.0.0.1, h.2, refl, o) in
       (h.0, h.1 ∙ ap (λ us. h.0 ++ us) p.1, subst (IsAnnot h.0) p.0 w)
+
   found : IsFound n (placed annot_made (behind mark.At (both ident (maybe (begins mark.OpenParen) (params_at (suc n)))))) IsAnnot (unless (begins mark.OpenParen) any)
   found ts y rest len (params, h, p, o) ok =
       let s = behind_starts mark.At (Then IsIdent (Maybe AreParams)) ts (y.name, params) h in

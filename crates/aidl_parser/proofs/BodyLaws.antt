@@ -1,25 +1,24 @@
 -- The laws of members, declarations and files.
-use Rattle.std.proofs.Common.{◌⊎◌, inl, inr, ◌≡◌, ℕ, zero, suc, ◌+◌, ◌-◌, ◌≤◌, ◌<◌, Bool, true, false, cond, List, [], ◌∷◌, ◌++◌, length, Option, Some, None, refl, sym, ap, subst, ◌∙◌, arith, append_assoc, append-nil, length-append}
+use Rattle.std.proofs.Common.{◌⊎◌, inl, inr, ◌≡◌, ℕ, zero, suc, ◌+◌, ◌-◌, ◌≤◌, ◌<◌, Bool, true, false, cond, List, [], ◌∷◌, ◌++◌, length, Option, Some, None, refl, sym, ap, subst, ◌∙◌, arith, append_assoc, length-append}
 use Rattle.aidl_syntax.specs.declared.token.Reserved.{Reserved}
 use Rattle.aidl_syntax.specs.declared.token.Reserved.TheVariants as word
 use Rattle.aidl_syntax.specs.declared.token.Symbol.TheVariants as mark
 use Rattle.aidl_syntax.specs.declared.token.TokenKind.TheVariants as kind
 use Rattle.aidl_syntax.specs.declared.token.Token.{Token}
 use Rattle.aidl_syntax.specs.declared.tree.NameTree.{NameTree}
-use Rattle.aidl_syntax.specs.Parts.{Form, Then, Quoted, Worded, Before, Trailing, first}
+use Rattle.aidl_syntax.specs.Parts.{Form, Then, Quoted, Worded, Before, Trailing}
 use Rattle.aidl_syntax.specs.Trees.{Annot, Enumerator, Decl, Body, Members}
-use Rattle.aidl_syntax.specs.Trees.Decl.{decl}
 use Rattle.aidl_syntax.specs.Trees.Body.{parcelable, union, enum, interface}
 use Rattle.aidl_syntax.specs.Trees.Members.{none, field, constant, method, nested}
-use Rattle.aidl_syntax.specs.Productions.{IsIdent, IsEnumerator, IsOneway, IsBody, AreMembers, AreInterfaceMembers}
+use Rattle.aidl_syntax.specs.Productions.{IsIdent, IsEnumerator, IsOneway, IsBody}
 use Rattle.aidl_parser.specs.Reading.{Read, mark_of, names, dotted, ◌>>=◌}
-use Rattle.aidl_parser.specs.Parts.{same_symbol, same_word, begins, begins_word, quoted, worded, before, then_at, both, altered, alter, second, fore, upto, many}
+use Rattle.aidl_parser.specs.Parts.{same_symbol, same_word, begins, begins_word, quoted, worded, before, then_at, both, altered, alter, second, fore, upto}
 use Rattle.aidl_parser.specs.Types.{ident, type_at}
 use Rattle.aidl_parser.specs.Inits.{annots_at, trailing}
 use Rattle.aidl_parser.specs.Members.{field_at, enumerator_at, method_at, oneway_at, returned_at}
 use Rattle.aidl_parser.specs.Decls.{head_at, member_by, member_with, joined, members_behind, members_by, braced_at, as_parcelable, as_union, as_enum, as_interface, enum_at, body_by, declared, decl_at}
 use Rattle.aidl_parser.proofs.Told.{bind_some, pair_some, chosen, is_mark}
-use Rattle.aidl_parser.proofs.Laws.{IsTold, IsFound, Law, MayFollow, Starts, any, both_law, alter_law, quoted_law, worded_law, upto_law, unless, same_self, word_self, symbol_is}
+use Rattle.aidl_parser.proofs.Laws.{IsTold, IsFound, Law, MayFollow, any, both_law, alter_law, quoted_law, worded_law, upto_law, unless, same_self, word_self, symbol_is}
 use Rattle.aidl_parser.proofs.TypeLaws.{ident_law}
 use Rattle.aidl_parser.proofs.FieldLaws.{oneway_law, enumerators_law}
 use Rattle.aidl_parser.proofs.DeclLaws.{Item, put, IsItem, MembersOf, DeclRest, Declare, DeclareLaw, item_told, item_found, body_begun}
@@ -301,6 +300,7 @@ declared_law n r law o annots = record { told = told; found = found } where
       let f = law.told ts b.0.0 b.0.1 b.1 in
       let p = pair_some {A = Decl} (declared o annots b.0.0) d b.0.1 rest b.2 in
       (f.0, f.1 ∙ ap (λ us. f.0 ++ us) p.1, (b.0.0.0, b.0.0.1, sym p.0, f.2))
+
   found : IsFound n (alter (declared o annots) r) (DeclRest o annots) any
   found ts d rest len (nm, body, is, h) ok = ap (λ z. z >>= altered (declared o annots)) (law.found ts (nm, body) rest len h refl) ∙ ap (λ q. Some (q, rest)) (sym is)
 

@@ -1,31 +1,25 @@
 -- The laws of members and declarations.
-use Rattle.std.proofs.Common.{◌⊎◌, inl, inr, ◌≡◌, ℕ, zero, suc, ◌+◌, ◌≤◌, ◌<◌, Bool, true, false, cond, List, [], ◌∷◌, ◌++◌, length, Option, Some, None, refl, sym, ap, subst, ◌∙◌, arith, append_assoc, append-nil, length-append}
-use Rattle.aidl_syntax.specs.declared.token.Reserved.{Reserved}
+use Rattle.std.proofs.Common.{◌≡◌, ℕ, suc, ◌+◌, ◌≤◌, Bool, true, false, cond, List, [], ◌∷◌, ◌++◌, length, Option, Some, None, refl, sym, ap, ◌∙◌, arith, append_assoc, length-append}
 use Rattle.aidl_syntax.specs.declared.token.Reserved.TheVariants as word
-use Rattle.aidl_syntax.specs.declared.token.Symbol.TheVariants as mark
-use Rattle.aidl_syntax.specs.declared.token.TokenKind.{TokenKind}
-use Rattle.aidl_syntax.specs.declared.token.TokenKind.TheVariants as kind
 use Rattle.aidl_syntax.specs.declared.token.Token.{Token}
 use Rattle.aidl_syntax.specs.declared.tree.NameTree.{NameTree}
 use Rattle.aidl_syntax.specs.declared.tree.TypeTree.{TypeTree}
-use Rattle.aidl_syntax.specs.Parts.{Form, Then, Maybe, Many, Quoted, Worded, Behind, Before, Trailing, first}
-use Rattle.aidl_syntax.specs.Trees.{Expr, Init, Annot, Field, Constant, Enumerator, Arg, Method, Decl, Body, Members}
+use Rattle.aidl_syntax.specs.Parts.{Then, first}
+use Rattle.aidl_syntax.specs.Trees.{Expr, Init, Annot, Field, Constant, Arg, Method, Decl, Body, Members}
 use Rattle.aidl_syntax.specs.Trees.Decl.{decl}
 use Rattle.aidl_syntax.specs.Trees.Body.{parcelable, union, enum, interface}
-use Rattle.aidl_syntax.specs.Trees.Members.{none, field, constant, method, nested}
-use Rattle.aidl_syntax.specs.Productions.{IsIdent, IsType, IsExpr, AreAnnots, IsField, IsConstant, IsEnumerator, IsOneway, IsReturned, IsMethod, IsDecl, IsBody, AreMembers, AreInterfaceMembers}
-use Rattle.aidl_parser.specs.Reading.{Read, mark_of, ◌>>=◌}
-use Rattle.aidl_parser.specs.Parts.{same_symbol, same_word, word_of, is_reserved, begins, begins_word, quoted, worded, both, altered, alter, second, upto}
-use Rattle.aidl_parser.specs.Types.{ident}
-use Rattle.aidl_parser.specs.Inits.{annots_at, trailing}
-use Rattle.aidl_parser.specs.Members.{field_at, constant_at, enumerator_at, method_at, oneway_at}
-use Rattle.aidl_parser.specs.Decls.{head_at, declares, begins_decl, field_made, constant_made, method_made, nested_made, member_by, member_behind, member_with, joined, members_behind, members_by, braced_at, as_parcelable, as_union, as_enum, as_interface, enum_at, body_by, declared, decl_at}
-use Rattle.aidl_parser.proofs.Told.{bind_some, pair_some, chosen}
+use Rattle.aidl_syntax.specs.Trees.Members.{field, constant, method, nested}
+use Rattle.aidl_syntax.specs.Productions.{AreAnnots, IsField, IsConstant, IsReturned, IsMethod, IsDecl, IsBody, AreMembers, AreInterfaceMembers}
+use Rattle.aidl_parser.specs.Reading.{Read, ◌>>=◌}
+use Rattle.aidl_parser.specs.Parts.{same_word, begins_word, altered, alter}
+use Rattle.aidl_parser.specs.Inits.{annots_at}
+use Rattle.aidl_parser.specs.Members.{field_at, constant_at, method_at}
+use Rattle.aidl_parser.specs.Decls.{begins_decl, field_made, constant_made, method_made, nested_made, member_by, member_behind, member_with}
+use Rattle.aidl_parser.proofs.Told.{bind_some, pair_some}
 use Rattle.aidl_parser.proofs.Found.{starts_name}
-use Rattle.aidl_parser.proofs.Laws.{IsTold, IsFound, Law, MayFollow, any, both_law, alter_law, quoted_law, worded_law, upto_law, unless, same_self, word_self, symbol_is, is_word, reserved_is}
-use Rattle.aidl_parser.proofs.TypeLaws.{ident_law}
+use Rattle.aidl_parser.proofs.Laws.{Law, any, word_self}
 use Rattle.aidl_parser.proofs.AnnotLaws.{annots_law, no_annot}
-use Rattle.aidl_parser.proofs.FieldLaws.{FieldRest, ConstantRest, MethodRest, field_law, constant_law, method_law, oneway_law, enumerators_law, type_no_annot}
+use Rattle.aidl_parser.proofs.FieldLaws.{FieldRest, ConstantRest, MethodRest, field_law, constant_law, method_law}
 
 -- One member.
 
@@ -161,9 +155,13 @@ method_told n o annots us m rest e =
     let b = bind_some (method_at (suc n) us) (altered (method_made o annots)) (m, rest) e in
     let h = (method_law n any).told us b.0.0 b.0.1 b.1 in
     let p = pair_some {A = Members → Members} (method_made o annots b.0.0) m b.0.1 rest b.2 in
-    let s = method_begun h.0 b.0.0 [] h.2 in
-    (h.0, h.1 ∙ ap (λ x. h.0 ++ x) p.1, s.3, λ f a first_is.
-    (method_item (record { offset = o; annots = annots; oneway = b.0.0.0; returned = b.0.0.1.0; name = b.0.0.1.1.0; args = b.0.0.1.1.1.0; id = b.0.0.1.1.1.1 }), ((f, h.0, refl, a, h.2), first_is), p.0))
+    let s = method_begun h.0 b.0.0 [] h.2 in (
+      h.0,
+      h.1 ∙ ap (λ x. h.0 ++ x) p.1,
+      s.3,
+      λ f a first_is.
+          (method_item (record { offset = o; annots = annots; oneway = b.0.0.0; returned = b.0.0.1.0; name = b.0.0.1.1.0; args = b.0.0.1.1.1.0; id = b.0.0.1.1.1.1 }), ((f, h.0, refl, a, h.2), first_is), p.0),
+    )
 
 field_told : (n o : ℕ) (annots : List Annot) (us : List Token) (m : Members → Members) (rest : List Token)
     → alter (field_made o annots) (field_at (suc n)) us ≡ Some (m, rest) → RestTold false o annots us m rest

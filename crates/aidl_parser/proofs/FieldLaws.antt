@@ -1,8 +1,7 @@
 -- The laws of what stands in a declaration: fields, constants, enumerators, arguments and methods.
-use Rattle.std.proofs.Common.{◌⊎◌, inl, inr, ◌≡◌, ℕ, suc, ◌+◌, ◌≤◌, ◌<◌, Bool, true, false, cond, List, [], ◌∷◌, ◌++◌, length, Option, Some, None, is_some, refl, sym, ap, subst, ◌∙◌, arith, append_assoc, append-nil, length-append}
+use Rattle.std.proofs.Common.{◌⊎◌, inl, inr, ◌≡◌, ℕ, suc, ◌+◌, Bool, true, false, cond, List, [], ◌∷◌, ◌++◌, length, Option, Some, None, refl, sym, ap, subst, ◌∙◌, arith, append_assoc, append-nil, length-append}
 use Rattle.aidl_syntax.specs.declared.token.Reserved.{Reserved}
 use Rattle.aidl_syntax.specs.declared.token.Reserved.TheVariants as word
-use Rattle.aidl_syntax.specs.declared.token.Symbol.{Symbol}
 use Rattle.aidl_syntax.specs.declared.token.Symbol.TheVariants as mark
 use Rattle.aidl_syntax.specs.declared.token.TokenKind.{TokenKind}
 use Rattle.aidl_syntax.specs.declared.token.TokenKind.TheVariants as kind
@@ -11,20 +10,20 @@ use Rattle.aidl_syntax.specs.declared.tree.NameTree.{NameTree}
 use Rattle.aidl_syntax.specs.declared.tree.TypeTree.{TypeTree}
 use Rattle.aidl_syntax.specs.declared.tree.WayTree.{WayTree}
 use Rattle.aidl_syntax.specs.declared.tree.WayTree.TheVariants as way
-use Rattle.aidl_syntax.specs.Parts.{Form, Then, Maybe, Many, Quoted, Worded, Behind, Before, MaybeListed, Trailing, first}
-use Rattle.aidl_syntax.specs.Trees.{Expr, Init, Annot, Enumerator, Arg}
-use Rattle.aidl_syntax.specs.Productions.{IsIdent, IsDotted, IsExpr, IsType, IsInit, IsAnnot, AreAnnots, IsEnumerator, IsWay, IsArg, IsReturned, IsOneway, IsNumberToken}
-use Rattle.aidl_parser.specs.Reading.{Read, mark_of, ◌>>=◌}
-use Rattle.aidl_parser.specs.Parts.{same_symbol, same_word, word_of, is_symbol, is_reserved, begins, begins_word, quoted, worded, both, altered, alter, second, behind, upto, placed, as_some, maybe, many, with_items}
+use Rattle.aidl_syntax.specs.Parts.{Form, Then, Maybe, Many, Worded, Behind, Before, MaybeListed, Trailing, first}
+use Rattle.aidl_syntax.specs.Trees.{Expr, Init, Annot, Arg}
+use Rattle.aidl_syntax.specs.Productions.{IsIdent, IsExpr, IsType, IsInit, IsAnnot, AreAnnots, IsEnumerator, IsWay, IsArg, IsReturned, IsOneway, IsNumberToken}
+use Rattle.aidl_parser.specs.Reading.{Read, ◌>>=◌}
+use Rattle.aidl_parser.specs.Parts.{same_symbol, same_word, begins, begins_word, worded, both, altered, alter, second, upto, as_some, maybe, with_items}
 use Rattle.aidl_parser.specs.Types.{ident, as_true, type_at}
 use Rattle.aidl_parser.specs.Inits.{expr_at, init_at, annots_at, maybe_listed, trailing}
 use Rattle.aidl_parser.specs.Members.{initial_at, field_at, value_at, constant_at, given_at, enumerator_made, enumerator_at, way_of, way_by, way_at, arg_made, arg_ends, arg_goes_on, arg_begins, arg_at, args_at, oneway_at, as_none, returned_at, is_number, number_at, id_at, method_at}
 use Rattle.aidl_parser.proofs.Told.{bind_some, pair_some, chosen}
-use Rattle.aidl_parser.proofs.Found.{no_dot, starts_name}
-use Rattle.aidl_parser.proofs.Laws.{IsTold, IsFound, Law, MayFollow, Begins, Starts, any, both_law, weaken, placed_law, alter_law, quoted_law, worded_law, quoted_begins, worded_begins, behind_law, behind_begins, behind_starts, upto_law, then_starts, unless, unless_parts, unless_from, maybe_law, many_law, same_self, word_self, symbol_is, is_word, reserved_is}
+use Rattle.aidl_parser.proofs.Found.{starts_name}
+use Rattle.aidl_parser.proofs.Laws.{IsTold, IsFound, Law, MayFollow, any, both_law, placed_law, alter_law, worded_law, worded_begins, behind_law, behind_begins, upto_law, then_starts, unless, unless_parts, maybe_law, same_self}
 use Rattle.aidl_parser.proofs.TypeLaws.{ident_law, ident_starts, expr_law, ends_expr, type_law, type_starts, no_type, ident_follows}
 use Rattle.aidl_parser.proofs.InitLaws.{Avoids, Allows, maybe_listed_law, trailing_law}
-use Rattle.aidl_parser.proofs.AnnotLaws.{comma_ends, brace_ends, init_law, annots_law, no_annot}
+use Rattle.aidl_parser.proofs.AnnotLaws.{init_law, annots_law, no_annot}
 
 -- Fields and constants, behind their annotations.
 
@@ -210,14 +209,19 @@ unfolding arg_at
 arg_found n ts x rest len (before, after, joined, (f, b1, is1, pa, (w, b2, is2, pw, (g, b3, is3, pb, pt))), o) ok = go x.way pw refl where
   first_is : first (ts ++ rest) ≡ x.offset
   first_is = arg_begun ts rest x (before, after, joined, (f, b1, is1, pa, (w, b2, is2, pw, (g, b3, is3, pb, pt))), o) ∙ sym o
+
   whole : ts ≡ f ++ (w ++ (g ++ b3))
   whole = is1 ∙ ap (λ us. f ++ us) (is2 ∙ ap (λ us. w ++ us) is3)
+
   sizes : length ts ≡ length f + (length w + (length g + length b3))
   sizes = ap length whole ∙ length-append f (w ++ (g ++ b3)) ∙ ap (λ k. length f + k) (length-append w (g ++ b3) ∙ ap (λ k. length w + k) (length-append g b3))
+
   after_type : no_annot (b3 ++ rest) ≡ true
   after_type = type_no_annot IsIdent any b3 (x.ty, x.name) rest pt refl
+
   ends : both type_at ident (b3 ++ rest) ≡ Some ((x.ty, x.name), rest)
   ends = (arg_rest_law n any).found b3 (x.ty, x.name) rest (omega (arith, sizes)) pt refl
+
   go : (v : Option WayTree) → Maybe IsWay w v → x.way ≡ v → (annots_at (suc n) (ts ++ rest) >>= arg_begins (suc n) (first (ts ++ rest))) ≡ Some (x, rest)
   go None e is =
       let w0 : length w ≡ 0 = ap length e in
@@ -289,6 +293,7 @@ number_law n F = record { told = told; found = found } where
     go : ((is_number t.kind ≡ true) × (◌≡◌ {A = Read Token} (Some (t, ts)) (Some (x, rest)))) ⊎ ((is_number t.kind ≡ false) × (◌≡◌ {A = Read Token} None (Some (x, rest)))) → (front : List Token) × (t ∷ ts ≡ front ++ rest) × IsNumberToken front x
     go (inl (y, d)) = let p = pair_some {A = Token} t x ts rest d in let m = number_is t.kind y in (t ∷ [], ap (λ us. t ∷ us) p.1, subst (IsNumberToken (t ∷ [])) p.0 (refl, m.0, m.1, m.2, m.3))
     go (inr (y, d)) = cc
+
   found : IsFound n number_at IsNumberToken F
   found ts t rest len (is, b, h, l, k) ok = rw (is, k) refl
 
@@ -340,6 +345,7 @@ returned_law n = record { told = told; found = found } where
         let f = (type_law n).told ts b.0.0 b.0.1 b.1 in
         let p = pair_some {A = Option TypeTree} (Some b.0.0) x b.0.1 rest b.2 in
         (f.0, f.1 ∙ ap (λ z. f.0 ++ z) p.1, subst (IsReturned f.0) p.0 f.2)
+
   found : IsFound n (λ ts. cond (begins_word word.Void ts) (alter as_none (worded word.Void) ts) (alter as_some type_at ts)) IsReturned no_type
   found ts None rest len h ok = rw (worded_begins word.Void ts tt rest h) (ap (λ z. z >>= altered as_none) ((worded_law n word.Void any).found ts tt rest len h refl))
   found ts (Some x) rest len h ok = rw (type_no_word word.Void ts x rest h) (ap (λ z. z >>= altered as_some) ((type_law n).found ts x rest len h ok))

@@ -1,22 +1,22 @@
 -- The laws of files: what is read is a tree of all of the tokens, and a tree of the tokens is what is read.
-use Rattle.std.proofs.Common.{◌⊎◌, inl, inr, ◌≡◌, ℕ, zero, suc, ◌+◌, ◌≤◌, ◌<◌, Bool, true, false, cond, List, [], ◌∷◌, ◌++◌, length, Option, Some, None, refl, sym, ap, subst, ◌∙◌, arith, append_assoc, append-nil, length-append}
+use Rattle.std.proofs.Common.{◌≡◌, ℕ, suc, ◌+◌, Bool, true, false, List, [], ◌∷◌, ◌++◌, length, Option, Some, refl, sym, ap, subst, ◌∙◌, arith, append_assoc, append-nil, length-append}
 use Rattle.aidl_syntax.specs.declared.token.Reserved.{Reserved}
 use Rattle.aidl_syntax.specs.declared.token.Reserved.TheVariants as word
 use Rattle.aidl_syntax.specs.declared.token.Symbol.TheVariants as mark
 use Rattle.aidl_syntax.specs.declared.token.Token.{Token}
 use Rattle.aidl_syntax.specs.declared.tree.NameTree.{NameTree}
 use Rattle.aidl_syntax.specs.declared.tree.DottedTree.{DottedTree}
-use Rattle.aidl_syntax.specs.Parts.{Form, Then, Maybe, Many, Quoted, Worded, Before, first}
-use Rattle.aidl_syntax.specs.Trees.{Annot, Decl, Body, File}
+use Rattle.aidl_syntax.specs.Parts.{Form, Then, Maybe, Many, Worded, Before, first}
+use Rattle.aidl_syntax.specs.Trees.{Decl, Body, File}
 use Rattle.aidl_syntax.specs.Trees.Decl.{decl}
 use Rattle.aidl_syntax.specs.Trees.Body.{parcelable, union, enum, interface}
-use Rattle.aidl_syntax.specs.Productions.{IsDotted, AreAnnots, IsDecl, IsBody, IsFile, Named}
-use Rattle.aidl_parser.specs.Reading.{Read, dotted, ◌>>=◌}
-use Rattle.aidl_parser.specs.Parts.{same_symbol, same_word, begins_word, worded, both, altered, alter, second, upto, placed, maybe, many}
+use Rattle.aidl_syntax.specs.Productions.{IsDotted, IsDecl, IsBody, IsFile, Named}
+use Rattle.aidl_parser.specs.Reading.{dotted, ◌>>=◌}
+use Rattle.aidl_parser.specs.Parts.{same_word, begins_word, worded, both, second, upto, maybe}
 use Rattle.aidl_parser.specs.Inits.{annots_at}
 use Rattle.aidl_parser.specs.Decls.{decl_at, named_at, top_behind, top_at, file_made, imports_at, file_at, ended_by, ended, whole_of}
-use Rattle.aidl_parser.proofs.Told.{bind_some, pair_some}
-use Rattle.aidl_parser.proofs.Laws.{IsTold, IsFound, Law, MayFollow, Begins, Starts, any, both_law, alter_law, placed_law, worded_law, worded_begins, upto_law, maybe_law, many_law, unless, unless_parts, weaken, word_self}
+use Rattle.aidl_parser.proofs.Told.{bind_some}
+use Rattle.aidl_parser.proofs.Laws.{IsTold, IsFound, Law, MayFollow, Begins, Starts, any, both_law, alter_law, placed_law, worded_law, upto_law, maybe_law, many_law, unless, word_self}
 use Rattle.aidl_parser.proofs.TypeLaws.{dotted_law}
 use Rattle.aidl_parser.proofs.AnnotLaws.{annots_law}
 use Rattle.aidl_parser.proofs.DeclLaws.{DeclRest, body_begun, some_first, join_starts}

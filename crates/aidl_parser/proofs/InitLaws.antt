@@ -1,29 +1,21 @@
 -- The laws of lists between brackets, of initializers and of annotations.
-use Rattle.std.proofs.Common.{◌⊎◌, inl, inr, ◌≡◌, ℕ, suc, ◌+◌, ◌≤◌, ◌<◌, Bool, true, false, cond, not, ◌&&◌, ◌||◌, ◌==◌, List, [], ◌∷◌, ◌++◌, length, Option, Some, None, is_some, refl, sym, ap, subst, ◌∙◌, arith, append_assoc, length-append}
-use Rattle.std.specs.List.{list_all}
-use Rattle.std.proofs.lemmas.Bool.{and_parts, and_from}
-use Rattle.std.proofs.lemmas.Bool.Decides.{nat_tests}
-use Rattle.aidl_base.specs.declared.name.Ident.{Ident}
+use Rattle.std.proofs.Common.{◌⊎◌, inl, inr, ◌≡◌, ℕ, ◌≤◌, Bool, true, false, cond, not, List, [], ◌∷◌, ◌++◌, Some, None, refl, ap, subst, ◌∙◌, append_assoc}
+use Rattle.std.proofs.lemmas.Bool.{and_parts}
 use Rattle.aidl_syntax.specs.declared.token.Symbol.{Symbol}
 use Rattle.aidl_syntax.specs.declared.token.Symbol.TheVariants as mark
 use Rattle.aidl_syntax.specs.declared.token.TokenKind.{TokenKind}
 use Rattle.aidl_syntax.specs.declared.token.TokenKind.TheVariants as kind
 use Rattle.aidl_syntax.specs.declared.token.Token.{Token}
-use Rattle.aidl_syntax.specs.declared.tree.NameTree.{NameTree}
-use Rattle.aidl_syntax.specs.Parts.{Form, Then, Maybe, Many, Quoted, Behind, Before, Listed, MaybeListed, Trailing, MaybeTrailing, first}
-use Rattle.aidl_syntax.specs.Trees.{Expr, Init, Param, Annot}
+use Rattle.aidl_syntax.specs.Parts.{Form, Then, Maybe, Quoted, Behind, Listed, MaybeListed, Trailing, MaybeTrailing}
+use Rattle.aidl_syntax.specs.Trees.{Expr}
 use Rattle.aidl_syntax.specs.Trees.Expr.{literal, name, group, unary, binary}
-use Rattle.aidl_syntax.specs.Trees.Init.{single, braces}
-use Rattle.aidl_syntax.specs.Productions as form
-use Rattle.aidl_syntax.specs.Productions.{IsIdent, AreNames, IsDotted, IsOf, IsExpr, IsInit, IsParam, AreParams, IsAnnot, AreAnnots, is_literal, is_sign, level}
-use Rattle.aidl_parser.specs.Reading.{Read, mark_of, name_of, expr, ◌>>=◌}
-use Rattle.aidl_parser.specs.Parts.{same_symbol, is_symbol, begins, quoted, both, altered, alter, fore, behind, upto, placed, maybe, many, listed}
-use Rattle.aidl_parser.specs.Types.{ident}
-use Rattle.aidl_parser.specs.Inits.{expr_at, goes_inside, trailing, maybe_trailing, maybe_listed, braces_at, init_at, begins_named, param_made, param_at, params_at, annot_made, annot_at, annots_at}
+use Rattle.aidl_syntax.specs.Productions.{IsOf, IsExpr, is_literal, is_sign, level}
+use Rattle.aidl_parser.specs.Reading.{Read, mark_of, ◌>>=◌}
+use Rattle.aidl_parser.specs.Parts.{same_symbol, is_symbol, begins, quoted, both, altered, alter, fore, maybe, listed}
+use Rattle.aidl_parser.specs.Inits.{goes_inside, trailing, maybe_trailing, maybe_listed}
 use Rattle.aidl_parser.proofs.Told.{bind_some, pair_some, chosen}
-use Rattle.aidl_parser.proofs.Found.{no_dot, next_level, starts_name}
-use Rattle.aidl_parser.proofs.Laws.{IsTold, IsFound, Law, MayFollow, Begins, Starts, any, both_law, weaken, placed_law, alter_law, quoted_law, quoted_begins, behind_law, behind_begins, behind_starts, upto_law, then_starts, unless, unless_parts, unless_from, maybe_law, many_law, listed_law, same_self, symbol_is}
-use Rattle.aidl_parser.proofs.TypeLaws.{ident_law, ident_starts, expr_law, ends_expr}
+use Rattle.aidl_parser.proofs.Found.{starts_name}
+use Rattle.aidl_parser.proofs.Laws.{IsTold, IsFound, Law, MayFollow, Begins, Starts, any, both_law, weaken, quoted_law, quoted_begins, behind_begins, unless, unless_from, maybe_law, listed_law, same_self, symbol_is}
 
 -- How an expression begins.
 
@@ -132,15 +124,19 @@ unfolding trailing
 trailing_law {A = A} n m r P F le apart comma close a = record { told = told; found = found } where
   items : Law n (listed m goes_inside r) (Listed P) (unless goes_inside F)
   items = listed_law n m goes_inside r P F le (inside_begins P apart) (inside_comma F comma) a
+
   last : Law n (maybe (begins mark.Comma) (quoted mark.Comma)) (Maybe (Quoted mark.Comma)) (begins mark.CloseBrace)
   last = weaken n (maybe (begins mark.Comma) (quoted mark.Comma)) (Maybe (Quoted mark.Comma)) (unless (begins mark.Comma) any) (begins mark.CloseBrace) close_no_comma
       (maybe_law n (begins mark.Comma) (quoted mark.Comma) (Quoted mark.Comma) any (quoted_begins mark.Comma) (quoted_law n mark.Comma any))
+
   seam : MayFollow (unless goes_inside F) (Maybe (Quoted mark.Comma)) (begins mark.CloseBrace)
   seam ts None rest e ok = rw e (unless_from (goes_inside rest) (F rest) (close_no_inside rest ok) (begun mark.CloseBrace F close rest ok))
   seam ts (Some u) rest (t, is, k) ok =
       rw (is) (unless_from (goes_inside (t ∷ rest)) (F (t ∷ rest)) (rw (k, same_self mark.Comma, ok) refl) (comma t rest (rw k refl)))
+
   whole : Law n (both (listed m goes_inside r) (maybe (begins mark.Comma) (quoted mark.Comma))) (Then (Listed P) (Maybe (Quoted mark.Comma))) (begins mark.CloseBrace)
   whole = both_law n (listed m goes_inside r) (maybe (begins mark.Comma) (quoted mark.Comma)) (Listed P) (Maybe (Quoted mark.Comma)) (unless goes_inside F) (begins mark.CloseBrace) items last seam
+
   told : IsTold (alter fore (both (listed m goes_inside r) (maybe (begins mark.Comma) (quoted mark.Comma)))) (Trailing P)
   told ts xs rest e =
       let b = bind_some (both (listed m goes_inside r) (maybe (begins mark.Comma) (quoted mark.Comma)) ts) (altered fore) (xs, rest) e in
@@ -148,6 +144,7 @@ trailing_law {A = A} n m r P F le apart comma close a = record { told = told; fo
       let p = pair_some {A = List A} b.0.0.0 xs b.0.1 rest b.2 in
       let h : Trailing P f.0 b.0.0.0 = (b.0.0.1, f.2) in
       (f.0, f.1 ∙ ap (λ us. f.0 ++ us) p.1, subst (Trailing P f.0) p.0 h)
+
   found : IsFound n (alter fore (both (listed m goes_inside r) (maybe (begins mark.Comma) (quoted mark.Comma)))) (Trailing P) (begins mark.CloseBrace)
   found ts xs rest len (c, h) ok = ap (λ z. z >>= altered fore) (whole.found ts (xs, c) rest len h ok)
 
@@ -162,14 +159,17 @@ unfolding maybe_trailing
 maybe_trailing_law {A = A} n m r P F le apart comma close a = record { told = told; found = found } where
   some : Law n (trailing m r) (Trailing P) (begins mark.CloseBrace)
   some = trailing_law n m r P F le apart comma close a
+
   of_some : (ts : List Token) (xs : List A) → Trailing P ts xs → MaybeTrailing P ts xs
   of_some ts [] (c, (front, back, is, p, q)) = absurd p
   of_some ts (x ∷ xs) h = h
+
   told : IsTold (λ ts. cond (begins mark.CloseBrace ts) (Some ([], ts)) (trailing m r ts)) (MaybeTrailing P)
   told ts xs rest e = go (chosen (begins mark.CloseBrace ts) (Some ([], ts)) (trailing m r ts) (Some (xs, rest)) e) where
     go : ((begins mark.CloseBrace ts ≡ true) × (◌≡◌ {A = Read (List A)} (Some ([], ts)) (Some (xs, rest)))) ⊎ ((begins mark.CloseBrace ts ≡ false) × (trailing m r ts ≡ Some (xs, rest))) → (front : List Token) × (ts ≡ front ++ rest) × MaybeTrailing P front xs
     go (inl (y, d)) = let p = pair_some {A = List A} [] xs ts rest d in ([], p.1, subst (MaybeTrailing P []) p.0 refl)
     go (inr (y, d)) = let f = some.told ts xs rest d in (f.0, f.1, of_some f.0 xs f.2)
+
   found : IsFound n (λ ts. cond (begins mark.CloseBrace ts) (Some ([], ts)) (trailing m r ts)) (MaybeTrailing P) (begins mark.CloseBrace)
   found ts [] rest len e ok = rw (e, ok) refl
   found ts (x ∷ xs) rest len (c, (front, back, is, p, q)) ok =
@@ -183,14 +183,17 @@ unfolding maybe_listed
 maybe_listed_law {A = A} n m r P F le apart comma close a = record { told = told; found = found } where
   some : Law n (listed m (begins mark.Comma) r) (Listed P) (unless (begins mark.Comma) F)
   some = listed_law n m (begins mark.Comma) r P F le (behind_begins mark.Comma P) (begun mark.Comma F comma) a
+
   of_some : (ts : List Token) (xs : List A) → Listed P ts xs → MaybeListed P ts xs
   of_some ts [] h = absurd h
   of_some ts (x ∷ xs) h = h
+
   told : IsTold (λ ts. cond (begins mark.CloseParen ts) (Some ([], ts)) (listed m (begins mark.Comma) r ts)) (MaybeListed P)
   told ts xs rest e = go (chosen (begins mark.CloseParen ts) (Some ([], ts)) (listed m (begins mark.Comma) r ts) (Some (xs, rest)) e) where
     go : ((begins mark.CloseParen ts ≡ true) × (◌≡◌ {A = Read (List A)} (Some ([], ts)) (Some (xs, rest)))) ⊎ ((begins mark.CloseParen ts ≡ false) × (listed m (begins mark.Comma) r ts ≡ Some (xs, rest))) → (front : List Token) × (ts ≡ front ++ rest) × MaybeListed P front xs
     go (inl (y, d)) = let p = pair_some {A = List A} [] xs ts rest d in ([], p.1, subst (MaybeListed P []) p.0 refl)
     go (inr (y, d)) = let f = some.told ts xs rest d in (f.0, f.1, of_some f.0 xs f.2)
+
   found : IsFound n (λ ts. cond (begins mark.CloseParen ts) (Some ([], ts)) (listed m (begins mark.Comma) r ts)) (MaybeListed P) (begins mark.CloseParen)
   found ts [] rest len e ok = rw (e, ok) refl
   found ts (x ∷ xs) rest len h ok =

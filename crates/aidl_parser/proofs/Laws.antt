@@ -1,6 +1,6 @@
 -- The laws of the signs of the productions: what a reader gives stands for the front that it read, and what stands for a
 -- front is given, before tokens that can't go on with it.
-use Rattle.std.proofs.Common.{◌⊎◌, inl, inr, ◌≡◌, ℕ, zero, suc, Bool, true, false, cond, List, [], ◌∷◌, ◌++◌, Option, Some, None, refl, sym, ap, subst, ◌∙◌, append_assoc, length-append, length, ◌<◌, ◌≤◌, ◌+◌, arith, rules}
+use Rattle.std.proofs.Common.{◌⊎◌, inl, inr, ◌≡◌, ℕ, zero, suc, Bool, true, false, cond, List, [], ◌∷◌, ◌++◌, Option, Some, None, refl, sym, ap, subst, ◌∙◌, append_assoc, length-append, length, ◌≤◌, ◌+◌, arith, rules}
 use denote.Enum.Bare.{same_true}
 use Rattle.aidl_syntax.specs.contracts.token.Symbol as symbols
 use Rattle.aidl_syntax.specs.contracts.token.Reserved as words
@@ -79,6 +79,7 @@ alter_law {A = A} {B = B} n f g r P F gf fg a = record { told = told; found = fo
       let h = a.told ts b.0.0 b.0.1 b.1 in
       let p = pair_some {A = B} (f b.0.0) y b.0.1 rest b.2 in
       (h.0, h.1 ∙ ap (λ us. h.0 ++ us) p.1, subst (P h.0) (sym (gf b.0.0) ∙ ap g p.0) h.2)
+
   found : IsFound n (alter f r) (λ ts y. P ts (g y)) F
   found ts y rest len p ok = ap (λ z. z >>= altered f) (a.found ts (g y) rest len p ok) ∙ ap (λ x. Some (x, rest)) (fg y)
 
@@ -89,6 +90,7 @@ pub placed_law : {A B : Type 0} (n : ℕ) (make : ℕ → A → B) (parts : B �
 placed_law {A = A} {B = B} n make parts offset r P F pm om mp starts a = record { told = told; found = found } where
   kept : (ts rest : List Token) (x : A) → P ts x → first (ts ++ rest) ≡ first ts
   kept ts rest x p = let s = starts ts x p in rw s.2 refl
+
   told : IsTold (placed make r) (λ ts y. P ts (parts y) × (offset y ≡ first ts))
   told ts y rest e =
       let b = bind_some (r ts) (altered (make (first ts))) (y, rest) e in
@@ -96,6 +98,7 @@ placed_law {A = A} {B = B} n make parts offset r P F pm om mp starts a = record 
       let p = pair_some {A = B} (make (first ts) b.0.0) y b.0.1 rest b.2 in
       let o : first ts ≡ first h.0 = ap first h.1 ∙ kept h.0 b.0.1 b.0.0 h.2 in
       (h.0, h.1 ∙ ap (λ us. h.0 ++ us) p.1, (subst (P h.0) (sym (pm (first ts) b.0.0) ∙ ap parts p.0) h.2, sym (ap offset p.0) ∙ om (first ts) b.0.0 ∙ o))
+
   found : IsFound n (placed make r) (λ ts y. P ts (parts y) × (offset y ≡ first ts)) F
   found ts y rest len (p, o) ok =
       let f : first (ts ++ rest) ≡ offset y = kept ts rest (parts y) p ∙ sym o in
@@ -148,6 +151,7 @@ quoted_law n s F = record { told = told; found = found } where
     go (inl (y, d)) = let p = pair_some {A = Unit {0}} tt x ts rest d in
         (t ∷ [], ap (λ us. t ∷ us) p.1, (t, refl, is_mark t.kind s (symbol_is s (mark_of t.kind) y)))
     go (inr (y, d)) = cc
+
   found : IsFound n (quoted s) (Quoted s) F
   found ts u rest len (t, is, k) ok = rw (is, k, same_self s) refl
 
@@ -161,6 +165,7 @@ worded_law n s F = record { told = told; found = found } where
     go (inl (y, d)) = let p = pair_some {A = Unit {0}} tt x ts rest d in
         (t ∷ [], ap (λ us. t ∷ us) p.1, (t, refl, is_word t.kind s (reserved_is s (word_of t.kind) y)))
     go (inr (y, d)) = cc
+
   found : IsFound n (worded s) (Worded s) F
   found ts u rest len (t, is, k) ok = rw (is, k, word_self s) refl
 
@@ -217,6 +222,7 @@ maybe_law {A = A} n goes r P F starts a = record { told = told; found = found } 
         let p = pair_some {A = Option A} (Some b.0.0) x b.0.1 rest b.2 in
         (f.0, f.1 ∙ ap (λ us. f.0 ++ us) p.1, subst (Maybe P f.0) p.0 f.2)
     go (inr (y, d)) = let p = pair_some {A = Option A} None x ts rest d in ([], p.1, subst (Maybe P []) p.0 refl)
+
   found : IsFound n (maybe goes r) (Maybe P) (unless goes F)
   found ts None rest len p ok = rw p (go (goes rest) refl ok) where
     go : (v : Bool) → goes rest ≡ v → cond v false (F rest) ≡ true → cond v (alter as_some r rest) (Some (None, rest)) ≡ Some (None, rest)
@@ -279,8 +285,10 @@ pub listed_law : {A : Type 0} (n m : ℕ) (goes : List Token → Bool) (r : List
 listed_law {A = A} n m goes r P F le starts fg a = record { told = told; found = found } where
   rest_law : Law n (many m goes (behind mark.Comma r)) (Many (Behind mark.Comma P)) (unless goes F)
   rest_law = many_law n m goes (behind mark.Comma r) (Behind mark.Comma P) F le starts (behind_starts mark.Comma P) fg (behind_law n mark.Comma r P F a)
+
   both_are : Law n (both r (many m goes (behind mark.Comma r))) (Then P (Many (Behind mark.Comma P))) (unless goes F)
   both_are = both_law n r (many m goes (behind mark.Comma r)) P (Many (Behind mark.Comma P)) F (unless goes F) a rest_law (many_follow goes (Behind mark.Comma P) F starts fg)
+
   told : IsTold (listed m goes r) (Listed P)
   told ts xs rest e =
       let b = bind_some (r ts) (more_at (many m goes (behind mark.Comma r))) (xs, rest) e in
@@ -290,6 +298,7 @@ listed_law {A = A} n m goes r P F le starts fg a = record { told = told; found =
       let p = pair_some {A = List A} (b.0.0 ∷ c.0.0) xs c.0.1 rest c.2 in
       let h : Listed P (f.0 ++ g.0) (b.0.0 ∷ c.0.0) = (f.0, g.0, refl, f.2, g.2) in
       (f.0 ++ g.0, f.1 ∙ ap (λ us. f.0 ++ us) (g.1 ∙ ap (λ us. g.0 ++ us) p.1) ∙ sym (append_assoc f.0 g.0 rest), subst (Listed P (f.0 ++ g.0)) p.0 h)
+
   found : IsFound n (listed m goes r) (Listed P) (unless goes F)
   found ts [] rest len p ok = absurd p
   found ts (x ∷ xs) rest len (front, back, is, p, q) ok =

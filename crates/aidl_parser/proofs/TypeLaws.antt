@@ -1,25 +1,22 @@
 -- The laws of names, expressions and types.
-use Rattle.std.proofs.Common.{◌⊎◌, inl, inr, ◌≡◌, ℕ, suc, ◌+◌, ◌≤◌, ◌<◌, Bool, true, false, cond, ◌&&◌, ◌==◌, List, [], ◌∷◌, ◌++◌, length, Option, Some, None, refl, sym, ap, subst, ◌∙◌, arith, append_assoc}
+use Rattle.std.proofs.Common.{◌⊎◌, inl, inr, ◌≡◌, ℕ, suc, Bool, true, false, ◌&&◌, ◌==◌, List, [], ◌∷◌, ◌++◌, Option, Some, None, refl, sym, ap, subst, ◌∙◌, arith}
 use Rattle.std.proofs.lemmas.Bool.{and_parts}
 use Rattle.std.proofs.lemmas.Bool.Decides.{nat_tests}
 use Rattle.aidl_base.specs.declared.name.Ident.{Ident}
-use Rattle.aidl_syntax.specs.declared.token.Symbol.{Symbol}
 use Rattle.aidl_syntax.specs.declared.token.Symbol.TheVariants as mark
-use Rattle.aidl_syntax.specs.declared.token.TokenKind.{TokenKind}
 use Rattle.aidl_syntax.specs.declared.token.TokenKind.TheVariants as kind
 use Rattle.aidl_syntax.specs.declared.token.Token.{Token}
 use Rattle.aidl_syntax.specs.declared.tree.NameTree.{NameTree}
 use Rattle.aidl_syntax.specs.declared.tree.DottedTree.{DottedTree}
-use Rattle.aidl_syntax.specs.declared.tree.TypeTree.{TypeTree}
 use Rattle.aidl_syntax.specs.Parts.{Form, Then, Maybe, Quoted, Behind, Before, first}
-use Rattle.aidl_syntax.specs.Productions.{IsIdent, IsDotted, IsOf, IsExpr, IsArray, IsType, level}
-use Rattle.aidl_parser.specs.Reading.{Read, mark_of, name_of, is_dot, level_by, names, dotted, expr, ◌>>=◌}
-use Rattle.aidl_parser.specs.Parts.{same_symbol, begins, quoted, both, altered, alter, behind, upto, placed, maybe}
+use Rattle.aidl_syntax.specs.Productions.{IsIdent, IsDotted, IsExpr, IsArray, IsType}
+use Rattle.aidl_parser.specs.Reading.{Read, name_of, names, dotted, ◌>>=◌}
+use Rattle.aidl_parser.specs.Parts.{same_symbol, begins, quoted, both, altered, alter, upto, maybe}
 use Rattle.aidl_parser.specs.Types.{ident_by, ident, element, as_true, array, typed, type_at}
 use Rattle.aidl_parser.specs.Inits.{expr_at}
 use Rattle.aidl_parser.proofs.Told.{bind_some, pair_some, chosen, is_name, names_told, expr_told}
 use Rattle.aidl_parser.proofs.Found.{no_dot, next_level, names_found, starts_name, first_kept, expr_found}
-use Rattle.aidl_parser.proofs.Laws.{IsTold, IsFound, Law, MayFollow, Begins, Starts, any, both_law, weaken, placed_law, quoted_law, quoted_begins, behind_law, behind_begins, upto_law, then_starts, unless, unless_parts, maybe_law, same_self}
+use Rattle.aidl_parser.proofs.Laws.{IsTold, IsFound, Law, MayFollow, Starts, any, both_law, weaken, placed_law, quoted_law, behind_law, behind_begins, upto_law, then_starts, unless, unless_parts, maybe_law}
 
 -- ident
 
@@ -77,6 +74,7 @@ pub expr_law : (n : ℕ) → Law n (expr_at (suc n)) IsExpr ends_expr
 expr_law n = record { told = told; found = found } where
   told : IsTold (expr_at (suc n)) IsExpr
   told ts e rest r = let f = expr_told (suc n) 1 ts e rest (omega arith) (omega arith) r in (f.0, f.1, f.2)
+
   found : IsFound n (expr_at (suc n)) IsExpr ends_expr
   found ts e rest len h ok =
       let p = and_parts (no_dot rest) (next_level rest == 0) ok in
@@ -93,6 +91,7 @@ unfolding array
 array_told ts x rest r = go (chosen (begins mark.OpenBracket ts) (alter as_true (both (quoted mark.OpenBracket) (quoted mark.CloseBracket)) ts) (Some (false, ts)) (Some (x, rest)) r) where
   brackets : Law 0 (both (quoted mark.OpenBracket) (quoted mark.CloseBracket)) (Then (Quoted mark.OpenBracket) (Quoted mark.CloseBracket)) any
   brackets = both_law 0 (quoted mark.OpenBracket) (quoted mark.CloseBracket) (Quoted mark.OpenBracket) (Quoted mark.CloseBracket) any any (quoted_law 0 mark.OpenBracket any) (quoted_law 0 mark.CloseBracket any) (λ us u r q ok. refl)
+
   go : ((begins mark.OpenBracket ts ≡ true) × (alter as_true (both (quoted mark.OpenBracket) (quoted mark.CloseBracket)) ts ≡ Some (x, rest))) ⊎ ((begins mark.OpenBracket ts ≡ false) × (◌≡◌ {A = Read Bool} (Some (false, ts)) (Some (x, rest))))
       → (front : List Token) × (ts ≡ front ++ rest) × IsArray front x
   go (inl (y, d)) =
@@ -107,6 +106,7 @@ unfolding array
 array_law n = record { told = array_told; found = found } where
   brackets : Law n (both (quoted mark.OpenBracket) (quoted mark.CloseBracket)) (Then (Quoted mark.OpenBracket) (Quoted mark.CloseBracket)) any
   brackets = both_law n (quoted mark.OpenBracket) (quoted mark.CloseBracket) (Quoted mark.OpenBracket) (Quoted mark.CloseBracket) any any (quoted_law n mark.OpenBracket any) (quoted_law n mark.CloseBracket any) (λ us u r q ok. refl)
+
   found : IsFound n array IsArray (unless (begins mark.OpenBracket) any)
   found ts false rest len is ok = rw (is, (unless_parts (begins mark.OpenBracket rest) true ok).0) refl
   found ts true rest len h ok =

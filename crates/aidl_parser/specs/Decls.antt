@@ -8,7 +8,7 @@ use Rattle.aidl_syntax.specs.declared.tree.NameTree.{NameTree}
 use Rattle.aidl_syntax.specs.declared.tree.DottedTree.{DottedTree}
 use Rattle.aidl_syntax.specs.declared.tree.TypeTree.{TypeTree}
 use Rattle.aidl_syntax.specs.Parts.{first}
-use Rattle.aidl_syntax.specs.Trees.{Expr, Init, Annot, Field, Constant, Enumerator, Arg, Method, Decl, Body, Members, File}
+use Rattle.aidl_syntax.specs.Trees.{Expr, Init, Annot, Enumerator, Arg, Decl, Body, Members, File}
 use Rattle.aidl_syntax.specs.Trees.Decl.{decl}
 use Rattle.aidl_syntax.specs.Trees.Body.{parcelable, union, enum, interface}
 use Rattle.aidl_syntax.specs.Trees.Members.{none, field, constant, method, nested}

@@ -1,12 +1,12 @@
 -- Readers of initializers and annotations.
-use Rattle.std.specs.Prelude.{ℕ, Bool, true, false, not, ◌&&◌, if◌then◌else◌, List, [], ◌∷◌, Option, Some, None, is_some}
+use Rattle.std.specs.Prelude.{ℕ, Bool, false, not, ◌&&◌, if◌then◌else◌, List, [], ◌∷◌, Option, Some, is_some}
 use Rattle.aidl_syntax.specs.declared.token.Symbol.TheVariants as mark
 use Rattle.aidl_syntax.specs.declared.token.Token.{Token}
 use Rattle.aidl_syntax.specs.declared.tree.NameTree.{NameTree}
 use Rattle.aidl_syntax.specs.Trees.{Expr, Init, Param, Annot}
 use Rattle.aidl_syntax.specs.Trees.Init.{single, braces}
 use Rattle.aidl_syntax.specs.Productions as form
-use Rattle.aidl_parser.specs.Reading.{Read, mark_of, name_of, expr, ◌>>=◌}
+use Rattle.aidl_parser.specs.Reading.{Read, mark_of, name_of, expr}
 use Rattle.aidl_parser.specs.Parts.{is_symbol, begins, quoted, both, alter, fore, behind, upto, placed, maybe, many, listed}
 use Rattle.aidl_parser.specs.Types.{ident}
 

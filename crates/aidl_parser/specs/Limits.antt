@@ -1,5 +1,5 @@
 -- The limits on a file's tokens: `nesting` is named before `run-length` (own).
-use Rattle.std.specs.Prelude.{ℕ, nat_lt, if◌then◌else◌, List, Option, Some, None}
+use Rattle.std.specs.Prelude.{nat_lt, if◌then◌else◌, List, Option, Some, None}
 use Rattle.aidl_base.specs.declared.limit.LimitName.{LimitName}
 use Rattle.aidl_base.specs.declared.limit.LimitName.TheVariants as limit
 use Rattle.aidl_syntax.specs.declared.token.Token.{Token}

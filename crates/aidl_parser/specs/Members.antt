@@ -1,5 +1,5 @@
 -- Readers of what stands in a declaration, of a member what follows its annotations.
-use Rattle.std.specs.Prelude.{ℕ, Bool, true, false, ◌||◌, ◌&&◌, if◌then◌else◌, List, [], ◌∷◌, ◌++◌, Option, Some, None, is_some}
+use Rattle.std.specs.Prelude.{ℕ, Bool, true, false, if◌then◌else◌, List, [], ◌∷◌, Option, Some, None}
 use Rattle.aidl_syntax.specs.declared.token.Reserved.TheVariants as word
 use Rattle.aidl_syntax.specs.declared.token.Symbol.TheVariants as mark
 use Rattle.aidl_syntax.specs.declared.token.TokenKind.{TokenKind}
@@ -12,7 +12,7 @@ use Rattle.aidl_syntax.specs.declared.tree.WayTree.TheVariants as way
 use Rattle.aidl_syntax.specs.Parts.{first}
 use Rattle.aidl_syntax.specs.Trees.{Expr, Init, Annot, Enumerator, Arg}
 use Rattle.aidl_parser.specs.Reading.{Read, ◌>>=◌}
-use Rattle.aidl_parser.specs.Parts.{begins, begins_word, quoted, worded, both, alter, second, behind, upto, placed, maybe, as_some, with_items}
+use Rattle.aidl_parser.specs.Parts.{begins, begins_word, worded, both, alter, second, behind, upto, placed, maybe, as_some, with_items}
 use Rattle.aidl_parser.specs.Types.{ident, as_true, type_at}
 use Rattle.aidl_parser.specs.Inits.{expr_at, init_at, annots_at, maybe_listed}
 

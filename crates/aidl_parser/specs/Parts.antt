@@ -1,5 +1,5 @@
 -- Readers of the signs of the productions.
-use Rattle.std.specs.Prelude.{ℕ, zero, suc, Bool, true, false, if◌then◌else◌, List, [], ◌∷◌, ◌++◌, Option, Some, None}
+use Rattle.std.specs.Prelude.{ℕ, zero, suc, Bool, false, if◌then◌else◌, List, [], ◌∷◌, ◌++◌, Option, Some, None}
 use denote.Enum.Bare.{sameb}
 use Rattle.aidl_syntax.specs.contracts.token.Symbol as symbols
 use Rattle.aidl_syntax.specs.contracts.token.Reserved as words

@@ -16,7 +16,10 @@ use crate::parts::{begins, begins_word, quoted, word_of, worded};
 use crate::tokens::first;
 use crate::types::ident;
 use aidl_base::Row;
-use aidl_syntax::{AnnotTree, BodyTree, ConstantTree, DeclTree, EnumeratorTree, FieldTree, MemberTree, MethodTree, NameTree, Reserved, Symbol, Token};
+use aidl_syntax::{
+    AnnotTree, BodyTree, ConstantTree, DeclTree, EnumeratorTree, FieldTree, MemberTree, MethodTree,
+    NameTree, Reserved, Symbol, Token,
+};
 use std::alloc::Global;
 
 // A declaration, behind its annotations.

@@ -13,7 +13,9 @@ use crate::parts::{begins, quoted, worded};
 use crate::tokens::first;
 use crate::types::{ident, type_of};
 use aidl_base::Row;
-use aidl_syntax::{EnumeratorTree, ExprTree, InitTree, NameTree, Reserved, Symbol, Token, TypeTree};
+use aidl_syntax::{
+    EnumeratorTree, ExprTree, InitTree, NameTree, Reserved, Symbol, Token, TypeTree,
+};
 use std::alloc::Global;
 
 /// What a field is, behind its annotations.

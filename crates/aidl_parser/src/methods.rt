@@ -14,7 +14,9 @@ use crate::parts::{begins, begins_word, quoted, worded};
 use crate::tokens::first;
 use crate::types::{ident, type_of};
 use aidl_base::Row;
-use aidl_syntax::{AnnotTree, ArgTree, NameTree, Reserved, Symbol, Token, TokenKind, TypeTree, WayTree};
+use aidl_syntax::{
+    AnnotTree, ArgTree, NameTree, Reserved, Symbol, Token, TokenKind, TypeTree, WayTree,
+};
 use std::alloc::Global;
 
 /// What a method is, behind its annotations.
@@ -56,9 +58,7 @@ pub fn method<'a>(
 
 // ["oneway"]
 #[tactic(auto, unfolding(crate::specs::Members::oneway_at))]
-pub fn oneway<'a>(
-    tokens: &'a [Token],
-) -> Result<(bool, &'a [Token]), ParseFault>
+pub fn oneway<'a>(tokens: &'a [Token]) -> Result<(bool, &'a [Token]), ParseFault>
     ensures { Gives (λ x. (x.0, x.1.now)) result (read.oneway_at tokens.entry.now) }
 {
     if begins_word(Reserved::Oneway, tokens) {
@@ -208,9 +208,7 @@ fn second_annots<'a>(
 }
 
 // ["in" | "out" | "inout"]
-fn way<'a>(
-    tokens: &'a [Token],
-) -> Result<(Option<WayTree>, &'a [Token]), ParseFault>
+fn way<'a>(tokens: &'a [Token]) -> Result<(Option<WayTree>, &'a [Token]), ParseFault>
     ensures { Gives (λ x. (x.0, x.1.now)) result (read.way_at tokens.entry.now) }
 {
     match tokens {
@@ -250,10 +248,7 @@ fn maybe_id<'a>(
 
 // "=" number
 #[tactic(auto, unfolding(crate::specs::Members::id_at))]
-fn id<'a>(
-    alloc: Global,
-    tokens: &'a [Token],
-) -> Result<(Token, &'a [Token]), ParseFault>
+fn id<'a>(alloc: Global, tokens: &'a [Token]) -> Result<(Token, &'a [Token]), ParseFault>
     ensures { Gives (λ x. (x.0, x.1.now)) result (read.id_at tokens.entry.now) }
 {
     let (_sign, rest) = quoted(Symbol::Equal, tokens)?;
@@ -261,10 +256,7 @@ fn id<'a>(
 }
 
 // A number, as its token.
-fn number<'a>(
-    alloc: Global,
-    tokens: &'a [Token],
-) -> Result<(Token, &'a [Token]), ParseFault>
+fn number<'a>(alloc: Global, tokens: &'a [Token]) -> Result<(Token, &'a [Token]), ParseFault>
     ensures { Gives (λ x. (x.0, x.1.now)) result (read.number_at tokens.entry.now) }
 {
     match tokens {
