@@ -13,6 +13,8 @@ mod methods;
 mod names;
 mod parsing;
 mod parts;
+#[cfg(test)]
+mod tests;
 mod tokens;
 mod types;
 
