@@ -1,0 +1,5 @@
+use Rattle.aidl_parser.proofs.ParseLaws.{one_tree}
+use Rattle.aidl_parser.proofs.parsing.law_one_tree.Goals as goal
+
+pub returns : goal.returns
+returns c = one_tree c.args.tokens.now

@@ -1,0 +1,9 @@
+pub mod Reading
+pub mod Gives
+pub mod Parts
+pub mod Types
+pub mod Inits
+pub mod Members
+pub mod Decls
+pub mod Limits
+pub mod Answers

@@ -1,0 +1,300 @@
+ghost use Rattle.std.specs.Prelude.{◌≡◌, IfErr, ◌+◌, ◌-◌, ◌≤◌, ◌<◌, IfOk};
+ghost use Rattle.aidl_syntax.specs.Trees.{expr_of};
+ghost use Rattle.aidl_syntax.specs.Trees.Expr.{unary as unary_tree, binary as binary_tree};
+ghost use Rattle.aidl_syntax.specs.Trees as shown;
+ghost use Rattle.aidl_syntax.specs.Productions as form;
+ghost use Rattle.aidl_parser.specs.Reading as read;
+ghost use Rattle.aidl_parser.specs.Gives.{Gives};
+ghost use Rattle.aidl_parser.specs.declared.fault.ParseFault.TheVariants as fault;
+
+use crate::fault::ParseFault;
+use crate::names::dotted;
+use crate::tokens::{first, mark_of, next};
+use aidl_syntax::{ExprKind, ExprTree, Reserved, Symbol, Token, TokenKind};
+use std::alloc::Global;
+
+#[cycle(expr)]
+#[tactic(auto, using(crate::proofs::Looping::expr_step, crate::proofs::Looping::expr_none))]
+pub fn expr<'a>(
+    alloc: Global,
+    left: usize,
+    least: u8,
+    tokens: &'a [Token],
+) -> Result<(ExprTree, &'a [Token]), ParseFault>
+    ensures { Gives (λ x. (expr_of x.0, x.1.now)) result (read.expr left least tokens.entry.now) }
+{
+    if left == 0 {
+        return Err(ParseFault::Syntax);
+    }
+    let (first, rest) = operand(alloc, left - 1, tokens)?;
+    climb(alloc, left - 1, least, first, rest)
+}
+
+#[cycle(expr)]
+#[tactic(auto, unfolding(crate::specs::Reading::operand))]
+fn operand<'a>(
+    alloc: Global,
+    left: usize,
+    tokens: &'a [Token],
+) -> Result<(ExprTree, &'a [Token]), ParseFault>
+    ensures { Gives (λ x. (expr_of x.0, x.1.now)) result (read.operand (λ k us. read.expr left k us) tokens.entry.now) }
+{
+    match tokens {
+        [t, rest @ ..] => match mark_of(&t.kind) {
+            Some(s) => by_symbol(alloc, left, t.offset, s, rest),
+            None => {
+                if is_literal(&t.kind) {
+                    Ok((
+                        ExprTree {
+                            offset: t.offset,
+                            kind: ExprKind::Literal(clone_token(alloc, t)?),
+                        },
+                        rest,
+                    ))
+                } else {
+                    by_name(alloc, tokens)
+                }
+            }
+        },
+        [] => Err(ParseFault::Syntax),
+    }
+}
+
+#[cycle(expr)]
+fn by_symbol<'a>(
+    alloc: Global,
+    left: usize,
+    offset: u32,
+    s: Symbol,
+    rest: &'a [Token],
+) -> Result<(ExprTree, &'a [Token]), ParseFault>
+    ensures { Gives (λ x. (expr_of x.0, x.1.now)) result (read.by_symbol (λ k us. read.expr left k us) offset s rest.entry.now) }
+{
+    if is_open(s) {
+        let (inner, rest) = expr(alloc, left, 1, rest)?;
+        closed(alloc, offset, inner, rest)
+    } else if is_sign(s) {
+        let (inner, rest) = expr(alloc, left, 11, rest)?;
+        Ok((unary(alloc, offset, s, inner)?, rest))
+    } else {
+        Err(ParseFault::Syntax)
+    }
+}
+
+// Binary operators of a level or above, with their right parts.
+#[cycle(expr)]
+fn climb<'a>(
+    alloc: Global,
+    left: usize,
+    least: u8,
+    first: ExprTree,
+    tokens: &'a [Token],
+) -> Result<(ExprTree, &'a [Token]), ParseFault>
+    ensures { Gives (λ x. (expr_of x.0, x.1.now)) result (read.climb (λ k us. read.expr left k us) left least (expr_of first) tokens.entry.now) }
+{
+    let mut tree = first;
+    let mut rest = tokens;
+    let mut rounds = left;
+    while let Some((t, after)) = next(rest) {
+        let sign = mark_of(&t.kind);
+        let level = level_of(sign);
+        if !goes_on(least, level) {
+            return Ok((tree, rest));
+        }
+        if rounds == 0 {
+            return Err(ParseFault::Syntax);
+        }
+        rounds -= 1;
+        let (right, next) = expr(alloc, left, level + 1, after)?;
+        tree = binary(alloc, symbol_or(sign), tree, right)?;
+        rest = next;
+    }
+    Ok((tree, rest))
+}
+
+fn by_name<'a>(alloc: Global, tokens: &'a [Token]) -> Result<(ExprTree, &'a [Token]), ParseFault>
+    ensures { Gives (λ x. (expr_of x.0, x.1.now)) result (read.by_name tokens.now) }
+{
+    let (name, rest) = dotted(alloc, tokens)?;
+    Ok((
+        ExprTree {
+            offset: first(tokens),
+            kind: ExprKind::Name(name),
+        },
+        rest,
+    ))
+}
+
+// An expression in parentheses, from its closing one on.
+fn closed<'a>(
+    alloc: Global,
+    offset: u32,
+    inner: ExprTree,
+    rest: &'a [Token],
+) -> Result<(ExprTree, &'a [Token]), ParseFault>
+    ensures { Gives (λ x. (expr_of x.0, x.1.now)) result (read.closed offset (expr_of inner) rest.entry.now) }
+{
+    match rest {
+        [t, after @ ..] => {
+            if is_close(mark_of(&t.kind)) {
+                Ok((
+                    ExprTree {
+                        offset,
+                        kind: ExprKind::Group(Box::new(alloc, inner)?),
+                    },
+                    after,
+                ))
+            } else {
+                Err(ParseFault::Syntax)
+            }
+        }
+        [] => Err(ParseFault::Syntax),
+    }
+}
+
+fn unary(alloc: Global, offset: u32, sign: Symbol, inner: ExprTree) -> Result<ExprTree, ParseFault>
+    ensures ok { IfOk result (λ e. expr_of e ≡ unary_tree offset sign (expr_of inner)) }
+    ensures fault { IfErr result (λ e. e ≡ fault.OutOfMemory) }
+{
+    Ok(ExprTree {
+        offset,
+        kind: ExprKind::Unary(sign, Box::new(alloc, inner)?),
+    })
+}
+
+fn binary(
+    alloc: Global,
+    sign: Symbol,
+    left: ExprTree,
+    right: ExprTree,
+) -> Result<ExprTree, ParseFault>
+    ensures ok { IfOk result (λ e. expr_of e ≡ binary_tree (shown.offset_of (expr_of left)) sign (expr_of left) (expr_of right)) }
+    ensures fault { IfErr result (λ e. e ≡ fault.OutOfMemory) }
+{
+    let offset = left.offset;
+    Ok(ExprTree {
+        offset,
+        kind: ExprKind::Binary(sign, Box::new(alloc, left)?, Box::new(alloc, right)?),
+    })
+}
+
+pub fn clone_token(alloc: Global, t: &Token) -> Result<Token, ParseFault>
+    ensures ok { IfOk result (λ u. u ≡ t.now) }
+    ensures fault { IfErr result (λ e. e ≡ fault.OutOfMemory) }
+{
+    let kind = match &t.kind {
+        TokenKind::Name(x) => TokenKind::Name(x.try_clone(alloc)?),
+        TokenKind::Word(r) => TokenKind::Word(*r),
+        TokenKind::Number {
+            bits,
+            hexadecimal,
+            long,
+        } => TokenKind::Number {
+            bits: *bits,
+            hexadecimal: *hexadecimal,
+            long: *long,
+        },
+        TokenKind::Character(c) => TokenKind::Character(*c),
+        TokenKind::Str(x) => TokenKind::Str(x.try_clone(alloc)?),
+        TokenKind::Mark(s) => TokenKind::Mark(*s),
+    };
+    Ok(Token {
+        kind,
+        offset: t.offset,
+    })
+}
+
+fn is_close(s: Option<Symbol>) -> bool
+    ensures { result ≡ read.is_close s }
+{
+    match s {
+        Some(Symbol::CloseParen) => true,
+        _ => false,
+    }
+}
+
+fn is_literal(kind: &TokenKind) -> bool
+    ensures { result ≡ form.is_literal kind.now }
+{
+    match kind {
+        TokenKind::Word(Reserved::True) => true,
+        TokenKind::Word(Reserved::False) => true,
+        TokenKind::Number { .. } => true,
+        TokenKind::Character(_) => true,
+        TokenKind::Str(_) => true,
+        _ => false,
+    }
+}
+
+fn is_sign(s: Symbol) -> bool
+    ensures { result ≡ form.is_sign s }
+{
+    match s {
+        Symbol::Plus => true,
+        Symbol::Minus => true,
+        Symbol::Tilde => true,
+        Symbol::Bang => true,
+        _ => false,
+    }
+}
+
+fn is_open(s: Symbol) -> bool
+    ensures { result ≡ read.is_open s }
+{
+    match s {
+        Symbol::OpenParen => true,
+        _ => false,
+    }
+}
+
+fn level(s: Symbol) -> u8
+    ensures value { result ≡ form.level s }
+    ensures most { result ≤ 10 }
+{
+    match s {
+        Symbol::OrOr => 1,
+        Symbol::AndAnd => 2,
+        Symbol::Or => 3,
+        Symbol::Caret => 4,
+        Symbol::And => 5,
+        Symbol::EqualEqual => 6,
+        Symbol::NotEqual => 6,
+        Symbol::Less => 7,
+        Symbol::Greater => 7,
+        Symbol::LessEqual => 7,
+        Symbol::GreaterEqual => 7,
+        Symbol::ShiftLeft => 8,
+        Symbol::ShiftRight => 8,
+        Symbol::Plus => 9,
+        Symbol::Minus => 9,
+        Symbol::Star => 10,
+        Symbol::Slash => 10,
+        Symbol::Percent => 10,
+        _ => 0,
+    }
+}
+
+fn level_of(s: Option<Symbol>) -> u8
+    ensures value { result ≡ read.level_by s }
+    ensures most { result ≤ 10 }
+{
+    match s {
+        Some(s) => level(s),
+        None => 0,
+    }
+}
+
+fn symbol_or(s: Option<Symbol>) -> Symbol
+    ensures { result ≡ read.symbol_or s }
+{
+    match s {
+        Some(s) => s,
+        None => Symbol::Dot,
+    }
+}
+
+fn goes_on(least: u8, level: u8) -> bool
+    ensures { result ≡ read.goes_on least level }
+{
+    0 < level && least <= level
+}

@@ -1,0 +1,71 @@
+ghost use Rattle.std.specs.Prelude.{◌≡◌, true};
+ghost use Rattle.aidl_parser.specs.Reading as read;
+ghost use Rattle.aidl_parser.specs.Gives.{Gives, option_now};
+
+use crate::fault::ParseFault;
+use crate::tokens::{first, mark_of, name_of, next};
+use aidl_base::{DottedName, Ident, Row};
+use aidl_syntax::{DottedTree, Symbol, Token};
+use std::alloc::Global;
+
+// Identifiers joined by dots.
+#[tactic(auto, unfolding(crate::specs::Reading::dotted))]
+pub fn dotted<'a>(
+    alloc: Global,
+    tokens: &'a [Token],
+) -> Result<(DottedTree, &'a [Token]), ParseFault>
+    ensures { Gives (λ x. (x.0, x.1.now)) result (read.dotted tokens.now) }
+{
+    let (names, rest) = names(alloc, tokens)?;
+    Ok((
+        DottedTree {
+            offset: first(tokens),
+            name: DottedName(names),
+        },
+        rest,
+    ))
+}
+
+fn names<'a>(alloc: Global, tokens: &'a [Token]) -> Result<(Row<Ident>, &'a [Token]), ParseFault>
+    ensures { Gives (λ x. (x.0, x.1.now)) result (read.names true tokens.now) }
+{
+    let mut items = Row::new(alloc);
+    let mut rest = tokens;
+    while let Some((t, after)) = next(rest) {
+        items.push(name_of(alloc, &t.kind)?)?;
+        match after_dot(after) {
+            Some(next) => {
+                rest = next;
+            }
+            None => {
+                return Ok((items, after));
+            }
+        }
+    }
+    Err(ParseFault::Syntax)
+}
+
+// The tokens after a dot, where one stands first.
+fn after_dot<'a>(tokens: &'a [Token]) -> Option<&'a [Token]>
+    ensures { option_now result ≡ read.after_dot tokens.now }
+{
+    match tokens {
+        [t, rest @ ..] => {
+            if is_dot(mark_of(&t.kind)) {
+                Some(rest)
+            } else {
+                None
+            }
+        }
+        [] => None,
+    }
+}
+
+fn is_dot(s: Option<Symbol>) -> bool
+    ensures { result ≡ read.is_dot s }
+{
+    match s {
+        Some(Symbol::Dot) => true,
+        _ => false,
+    }
+}

@@ -1,0 +1,79 @@
+ghost use Rattle.std.specs.Prelude.{◌≡◌};
+ghost use Rattle.aidl_parser.specs.Parts as read;
+ghost use Rattle.aidl_parser.specs.Gives.{Gives};
+
+use crate::fault::ParseFault;
+use crate::tokens::mark_of;
+use aidl_syntax::{Reserved, Symbol, Token, TokenKind};
+
+// Whether the symbol stands first.
+pub fn begins(s: Symbol, tokens: &[Token]) -> bool
+    ensures { result ≡ read.begins s tokens.now }
+{
+    match tokens {
+        [t, ..] => match mark_of(&t.kind) {
+            Some(m) => same_symbol(m, s),
+            None => false,
+        },
+        [] => false,
+    }
+}
+
+// Whether the reserved word stands first.
+pub fn begins_word(r: Reserved, tokens: &[Token]) -> bool
+    ensures { result ≡ read.begins_word r tokens.now }
+{
+    match tokens {
+        [t, ..] => match word_of(&t.kind) {
+            Some(w) => same_word(w, r),
+            None => false,
+        },
+        [] => false,
+    }
+}
+
+// The symbol, and what follows it.
+pub fn quoted<'a>(s: Symbol, tokens: &'a [Token]) -> Result<((), &'a [Token]), ParseFault>
+    ensures { Gives (λ x. (x.0, x.1.now)) result (read.quoted s tokens.entry.now) }
+{
+    if begins(s, tokens) {
+        Ok(((), &tokens[1..]))
+    } else {
+        Err(ParseFault::Syntax)
+    }
+}
+
+// The reserved word, and what follows it.
+pub fn worded<'a>(r: Reserved, tokens: &'a [Token]) -> Result<((), &'a [Token]), ParseFault>
+    ensures { Gives (λ x. (x.0, x.1.now)) result (read.worded r tokens.entry.now) }
+{
+    if begins_word(r, tokens) {
+        Ok(((), &tokens[1..]))
+    } else {
+        Err(ParseFault::Syntax)
+    }
+}
+
+// The reserved word that a token is.
+pub fn word_of(kind: &TokenKind) -> Option<Reserved>
+    ensures { result ≡ read.word_of kind.now }
+{
+    match kind {
+        TokenKind::Word(r) => Some(*r),
+        _ => None,
+    }
+}
+
+#[tactic(auto, unfolding(crate::specs::Parts::same_symbol))]
+fn same_symbol(a: Symbol, b: Symbol) -> bool
+    ensures { result ≡ read.same_symbol a b }
+{
+    a == b
+}
+
+#[tactic(auto, unfolding(crate::specs::Parts::same_word))]
+fn same_word(a: Reserved, b: Reserved) -> bool
+    ensures { result ≡ read.same_word a b }
+{
+    a == b
+}

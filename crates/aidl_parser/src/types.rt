@@ -1,0 +1,90 @@
+ghost use Rattle.std.specs.Prelude.{◌≡◌};
+ghost use Rattle.aidl_syntax.specs.declared.token.Symbol.TheVariants as mark;
+ghost use Rattle.aidl_parser.specs.Parts as part;
+ghost use Rattle.aidl_parser.specs.Types as read;
+ghost use Rattle.aidl_parser.specs.Gives.{Gives};
+
+use crate::fault::ParseFault;
+use crate::names::dotted;
+use crate::parts::{begins, quoted};
+use crate::tokens::{first, name_of};
+use aidl_syntax::{DottedTree, NameTree, Symbol, Token, TypeTree};
+use std::alloc::Global;
+
+// dotted ["<" dotted ">"] ["[" "]"]
+#[tactic(auto, unfolding(crate::specs::Types::type_at))]
+pub fn type_of<'a>(
+    alloc: Global,
+    tokens: &'a [Token],
+) -> Result<(TypeTree, &'a [Token]), ParseFault>
+    ensures { Gives (λ x. (x.0, x.1.now)) result (read.type_at tokens.entry.now) }
+{
+    let (name, rest) = dotted(alloc, tokens)?;
+    let (element, rest) = maybe_element(alloc, rest)?;
+    let (array, rest) = array(rest)?;
+    Ok((
+        TypeTree {
+            offset: first(tokens),
+            name,
+            element,
+            array,
+        },
+        rest,
+    ))
+}
+
+fn maybe_element<'a>(
+    alloc: Global,
+    tokens: &'a [Token],
+) -> Result<(Option<DottedTree>, &'a [Token]), ParseFault>
+    ensures { Gives (λ x. (x.0, x.1.now)) result (part.maybe (part.begins mark.Less) read.element tokens.entry.now) }
+{
+    if begins(Symbol::Less, tokens) {
+        let (name, rest) = element(alloc, tokens)?;
+        Ok((Some(name), rest))
+    } else {
+        Ok((None, tokens))
+    }
+}
+
+#[tactic(auto, unfolding(crate::specs::Types::element))]
+fn element<'a>(alloc: Global, tokens: &'a [Token]) -> Result<(DottedTree, &'a [Token]), ParseFault>
+    ensures { Gives (λ x. (x.0, x.1.now)) result (read.element tokens.entry.now) }
+{
+    let (_begin, rest) = quoted(Symbol::Less, tokens)?;
+    let (name, rest) = dotted(alloc, rest)?;
+    let (_end, rest) = quoted(Symbol::Greater, rest)?;
+    Ok((name, rest))
+}
+
+#[tactic(auto, unfolding(crate::specs::Types::array))]
+fn array<'a>(tokens: &'a [Token]) -> Result<(bool, &'a [Token]), ParseFault>
+    ensures { Gives (λ x. (x.0, x.1.now)) result (read.array tokens.entry.now) }
+{
+    if begins(Symbol::OpenBracket, tokens) {
+        let (_begin, rest) = quoted(Symbol::OpenBracket, tokens)?;
+        let (_end, rest) = quoted(Symbol::CloseBracket, rest)?;
+        Ok((true, rest))
+    } else {
+        Ok((false, tokens))
+    }
+}
+
+// The identifier, and what follows it.
+pub fn ident<'a>(alloc: Global, tokens: &'a [Token]) -> Result<(NameTree, &'a [Token]), ParseFault>
+    ensures { Gives (λ x. (x.0, x.1.now)) result (read.ident tokens.entry.now) }
+{
+    match tokens {
+        [t, rest @ ..] => {
+            let name = name_of(alloc, &t.kind)?;
+            Ok((
+                NameTree {
+                    offset: t.offset,
+                    name,
+                },
+                rest,
+            ))
+        }
+        [] => Err(ParseFault::Syntax),
+    }
+}

@@ -1,0 +1,10 @@
+pub mod Bytes
+pub mod Tables
+pub mod Numbers
+pub mod Forms
+pub mod Tokens
+pub mod Faults
+pub mod Trees
+pub mod Parts
+pub mod Productions
+pub mod Measures

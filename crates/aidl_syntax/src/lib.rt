@@ -1,0 +1,12 @@
+//! The tokens and the trees of a file, as plain types, and the definitions of what stands for what.
+#![tactic(auto)]
+
+mod token;
+mod tree;
+
+pub use token::{Reserved, Symbol, Token, TokenKind};
+pub use tree::{
+    AnnotTree, ArgTree, BodyTree, ConstantTree, DeclTree, DottedTree, EnumeratorTree, ExprKind,
+    ExprTree, FieldTree, FileTree, InitTree, MemberTree, MethodTree, NameTree, ParamTree,
+    ParsedFile, TypeTree, WayTree,
+};
