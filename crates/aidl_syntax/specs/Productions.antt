@@ -58,22 +58,22 @@ is_sign _ = false
 
 -- the production of a binary operator, numbered from the one that binds least; 0 for another symbol
 abbrev pub level : Symbol → ℕ
-level mark.OrOr = 1          -- or
-level mark.AndAnd = 2        -- and
-level mark.Or = 3            -- bitor
-level mark.Caret = 4         -- xor
-level mark.And = 5           -- bitand
-level mark.EqualEqual = 6    -- equal
+level mark.OrOr = 1  -- or
+level mark.AndAnd = 2  -- and
+level mark.Or = 3  -- bitor
+level mark.Caret = 4  -- xor
+level mark.And = 5  -- bitand
+level mark.EqualEqual = 6  -- equal
 level mark.NotEqual = 6
-level mark.Less = 7          -- less
+level mark.Less = 7  -- less
 level mark.Greater = 7
 level mark.LessEqual = 7
 level mark.GreaterEqual = 7
-level mark.ShiftLeft = 8     -- shift
+level mark.ShiftLeft = 8  -- shift
 level mark.ShiftRight = 8
-level mark.Plus = 9          -- sum
+level mark.Plus = 9  -- sum
 level mark.Minus = 9
-level mark.Star = 10         -- product
+level mark.Star = 10  -- product
 level mark.Slash = 10
 level mark.Percent = 10
 level _ = 0
