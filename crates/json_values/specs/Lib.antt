@@ -1,0 +1,4 @@
+pub mod FromJson
+pub mod Json
+pub mod Named
+pub mod Refusal
