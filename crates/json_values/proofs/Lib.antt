@@ -1,1 +1,5 @@
+pub mod Loops
+pub mod Members
+pub mod Parts
+pub mod Whole
 pub mod Written

@@ -61,40 +61,50 @@ items_from read k (item j js) = do
   Ok (value.item first others)
 
 -- an array or a List: an array
-abbrev pub sequence_from : Bool → (json.Data → Answer value.Data) → json.Data → Answer value.Data
-sequence_from left read (array js) = if left then (do
+abbrev pub elements_from : (json.Data → Answer value.Data) → json.Items → Answer value.Data
+elements_from read js = do
   vs ← items_from read 0 js
-  Ok (value.seq vs)) else refuse too_deep
+  Ok (value.seq vs)
+
+abbrev pub sequence_from : Bool → (json.Data → Answer value.Data) → json.Data → Answer value.Data
+sequence_from left read (array js) = if left then elements_from read js else refuse too_deep
 sequence_from left read _ = refuse wrong_shape
 
 -- a field has this name
 abbrev pub is_named : List ℕ → Field → Bool
 is_named key f = same_text (bytes_of f.name) key
 
--- the keys in byte order, up to the first that names no field
-abbrev pub known_from : List Field → json.Members → Answer ⊤
-known_from fs no_members = Ok tt
-known_from fs (member key j ms) = if list_any (λ f. is_named key f) fs then known_from fs ms else within (escaped key) (refuse unknown_key)
+-- the least key that names no field: an object has its keys in byte order
+abbrev pub unknown_in : List Field → json.Members → Option (List ℕ)
+unknown_in fs no_members = None
+unknown_in fs (member key j ms) = if list_any (λ f. is_named key f) fs then unknown_in fs ms else Some key
+
+abbrev pub known_from : Option (List ℕ) → Answer ⊤
+known_from None = Ok tt
+known_from (Some key) = within (escaped key) (refuse unknown_key)
 
 -- a field's member, or else its default
 abbrev pub field_from : (Field → Answer value.Data) → (AidlType → json.Data → Answer value.Data) → Field → Option json.Data → Answer value.Data
 field_from default read f None = default f
 field_from default read f (Some j) = read f.ty j
 
--- the fields in the order of the declaration
-abbrev pub fields_from : (Field → Answer value.Data) → (AidlType → json.Data → Answer value.Data) → List Field → json.Members → Answer value.Items
-fields_from default read [] ms = Ok value.none
-fields_from default read (f ∷ fs) ms = do
-  first ← within (escaped (bytes_of f.name)) (field_from default read f (get_member (bytes_of f.name) ms))
-  others ← fields_from default read fs ms
+-- the fields in the order of the declaration, each under its name
+abbrev pub fields_from : (Field → Answer value.Data) → (AidlType → json.Data → Answer value.Data) → List Field → (List ℕ → Option json.Data) → Answer value.Items
+fields_from default read [] found = Ok value.none
+fields_from default read (f ∷ fs) found = do
+  first ← within (escaped (bytes_of f.name)) (field_from default read f (found (bytes_of f.name)))
+  others ← fields_from default read fs found
   Ok (value.item first others)
 
 -- parcelable: an object
+abbrev pub object_from : (Field → Answer value.Data) → (AidlType → json.Data → Answer value.Data) → List Field → json.Members → Answer value.Data
+object_from default read fs ms = do
+  known ← known_from (unknown_in fs ms)
+  vs ← fields_from default read fs (λ key. get_member key ms)
+  Ok (value.rec vs)
+
 abbrev pub record_from : Bool → (Field → Answer value.Data) → (AidlType → json.Data → Answer value.Data) → List Field → json.Data → Answer value.Data
-record_from left default read fs (object ms) = if left then (do
-  known ← known_from fs ms
-  vs ← fields_from default read fs ms
-  Ok (value.rec vs)) else refuse too_deep
+record_from left default read fs (object ms) = if left then object_from default read fs ms else refuse too_deep
 record_from left default read fs _ = refuse wrong_shape
 
 -- the one member of a union's object, among these fields, the first of which is at this position
@@ -104,9 +114,18 @@ alternative_from read k (f ∷ fs) key j = if is_named key f then within (escape
   v ← read f.ty j
   Ok (value.alt k v)) else alternative_from read (suc k) fs key j
 
+-- the one member of an object, if it has no other
+abbrev pub only_member : json.Members → Option (List ℕ × json.Data)
+only_member (member key j no_members) = Some (key, j)
+only_member _ = None
+
 -- union: an object with one key, the field's name
+abbrev pub union_of : Bool → (AidlType → json.Data → Answer value.Data) → List Field → Option (List ℕ × json.Data) → Answer value.Data
+union_of left read fs None = refuse wrong_shape
+union_of left read fs (Some m) = if left then alternative_from read 0 fs m.0 m.1 else refuse too_deep
+
 abbrev pub union_from : Bool → (AidlType → json.Data → Answer value.Data) → List Field → json.Data → Answer value.Data
-union_from left read fs (object (member key j no_members)) = if left then alternative_from read 0 fs key j else refuse too_deep
+union_from left read fs (object ms) = union_of left read fs (only_member ms)
 union_from left read fs _ = refuse wrong_shape
 
 -- one value that is no sequence, by what its base means
