@@ -1,3 +1,4 @@
+pub mod Back
 pub mod Loops
 pub mod Members
 pub mod Parts

@@ -2,10 +2,12 @@
 #![tactic(auto)]
 
 mod fault;
+mod laws;
 mod named;
 mod reading;
 mod writing;
 
 pub use fault::JsonFault;
+pub use laws::law_json_reads_back;
 pub use reading::from_json;
 pub use writing::to_json;
