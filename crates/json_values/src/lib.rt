@@ -11,3 +11,6 @@ pub use fault::JsonFault;
 pub use laws::law_json_reads_back;
 pub use reading::from_json;
 pub use writing::to_json;
+
+#[cfg(test)]
+mod tests;
