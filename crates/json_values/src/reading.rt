@@ -7,7 +7,8 @@ ghost use Rattle.aidl_schema.specs.Seen.{seen};
 ghost use Rattle.aidl_schema.specs.Types.{form_of};
 ghost use Rattle.aidl_schema.specs.Constants.{in_range};
 ghost use Rattle.aidl_schema.specs.Same.{same_text};
-ghost use Rattle.aidl_values.specs.Data.{alt};
+ghost use Rattle.aidl_values.specs.Data.{alt, depth_of};
+ghost use Rattle.aidl_values.specs.HasType.{HasType};
 ghost use Rattle.aidl_values.specs.View.{view, views};
 ghost use Rattle.json_values.specs.FromJson as answer;
 ghost use Rattle.json_values.specs.FromJson.{from_json_of, from_by, part_from, default_of, has_levels};
@@ -37,12 +38,23 @@ pub fn from_json(
     json: &Json,
 ) -> Result<Value, JsonFault>
     ensures ok { IfOk result (λ v. from_json_of schema.now.decls 64 ty.now (json_view json.now) ≡ Ok (view v)) }
+    ensures typed { IfOk result (λ v. HasType schema.now.decls ty.now (view v)) }
+    ensures shallow { IfOk result (λ v. depth_of (view v) ≤ 64) }
     ensures refused { IfErr result (λ fault. IfSome (refusal_of fault) (λ r. from_json_of schema.now.decls 64 ty.now (json_view json.now) ≡ Err r)) }
 {
-    match read_within(alloc, schema, *ty, LEVELS, json) {
+    match read_fitting(alloc, schema, *ty, json) {
         Ok(value) => Ok(value),
         Err(fault) => Err(reported(fault)),
     }
+}
+
+// What a whole value is read as has its type.
+fn read_fitting(alloc: Global, schema: &Schema, ty: AidlType, json: &Json) -> Result<Value, Fault>
+    ensures gives { Gives view result (from_json_of schema.now.decls 64 ty (json_view json.now)) }
+    ensures typed { IfOk result (λ v. HasType schema.now.decls ty (view v)) }
+    ensures shallow { IfOk result (λ v. depth_of (view v) ≤ 64) }
+{
+    read_within(alloc, schema, ty, LEVELS, json)
 }
 
 #[cycle(reading)]

@@ -56,16 +56,40 @@ fn values_and_refusals_of_the_built_in_types(rt: HostRuntime) -> Result<(), Fail
         (of(Base::Char, one, false), "65536", "OutOfRange "),
         (of(Base::Int, one, false), "1.0", "WrongShape "),
         (of(Base::Int, one, false), "-0", "WrongShape "),
-        (of(Base::Long, one, false), "9223372036854775807", "9223372036854775807"),
-        (of(Base::Long, one, false), "9223372036854775808", "OutOfRange "),
-        (of(Base::Long, one, false), "18446744073709551616", "WrongShape "),
+        (
+            of(Base::Long, one, false),
+            "9223372036854775807",
+            "9223372036854775807",
+        ),
+        (
+            of(Base::Long, one, false),
+            "9223372036854775808",
+            "OutOfRange ",
+        ),
+        (
+            of(Base::Long, one, false),
+            "18446744073709551616",
+            "WrongShape ",
+        ),
         (of(Base::Text, one, false), "null", "WrongShape "),
         (of(Base::Text, one, true), "null", "null"),
         (of(Base::Text, one, false), "\"hi\"", "\"hi\""),
-        (of(Base::Int, Shape::Array, true), "[1,null]", "WrongShape /1"),
+        (
+            of(Base::Int, Shape::Array, true),
+            "[1,null]",
+            "WrongShape /1",
+        ),
         (of(Base::Int, Shape::Array, false), "[5,-1]", "[5,-1]"),
-        (of(Base::Byte, Shape::Array, false), "[1,2,300,null]", "OutOfRange /2"),
-        (of(Base::Text, Shape::Array, true), "[\"a\",null]", "[\"a\",null]"),
+        (
+            of(Base::Byte, Shape::Array, false),
+            "[1,2,300,null]",
+            "OutOfRange /2",
+        ),
+        (
+            of(Base::Text, Shape::Array, true),
+            "[\"a\",null]",
+            "[\"a\",null]",
+        ),
         (of(Base::Text, Shape::List, false), "{}", "WrongShape "),
     ];
     for (ty, text, expected) in rows {
