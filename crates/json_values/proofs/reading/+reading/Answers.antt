@@ -1,0 +1,64 @@
+use Rattle.std.proofs.Common.{◌≡◌, Ok, ◌++◌, ◌∷◌, [], map, sym, subst, ap, ◌∙◌, arith, rules}
+use Rattle.std.proofs.lemmas.Grind.{common_steps}
+use Rattle.std.proofs.lemmas.List.{map_push}
+use Rattle.serde_json.specs.Data as json
+use Rattle.serde_json.specs.View.{view as json_view, items_view, members_view}
+use Rattle.serde_json.proofs.Views.{view-Array}
+use Rattle.aidl_schema.specs.Seen.{seen}
+use Rattle.aidl_values.specs.View.{view, views}
+use Rattle.json_values.specs.FromJson.{part_from, default_of, has_levels, elements_from, sequence_from}
+use Rattle.json_values.specs.Gives.{Gives}
+use Rattle.json_values.proofs.Parts.{from_json_of-by, from_by-sequence, sequence_from-some, is_one-many, items_more, items_done, fields_more, fields_done}
+use Rattle.json_values.proofs.Whole.{few_fields}
+use Rattle.json_values.proofs.reading.+reading.Goals as goal
+
+pub read_within-returns : goal.read_within-returns
+read_within-returns t c = subst (Gives view c.read.result) (from_json_of-by c.args.schema.now.decls c.args.levels c.args.ty _) c.read.ensures
+
+pub read_items-loop-i-preserved : goal.read_items-loop-i-preserved
+read_items-loop-i-preserved t c =
+    let ds = map view c.loop-i.values.items in
+    let more : map view c.push.new.self.items ≡ ds ++ view c.in_ok-read_item.field-0 ∷ [] = grind (arith, common_steps) in
+    rw more (sym (items_more (λ j. part_from c.args.schema.now.decls c.args.levels c.args.ty j) c.args.items.now c.loop-i.i c.index-items-i.result ds (view c.in_ok-read_item.field-0) (omega arith) (search rules) c.in_ok-read_item.ensures) ∙ c.loop-i.invariant)
+
+pub read_items-returns : goal.read_items-returns
+read_items-returns t c =
+    sym c.loop-i.invariant ∙ items_done (λ j. part_from c.args.schema.now.decls c.args.levels c.args.ty j) c.args.items.now c.loop-i.i (map view c.loop-i.values.items) (omega arith)
+    ∙ ap (λ vs. Ok (views vs)) (sym c.from_vec.ensures)
+
+pub read_fields-loop-field-preserved : goal.read_fields-loop-field-preserved
+read_fields-loop-field-preserved t c =
+    let ds = map view c.loop-field.values.items in
+    let more : map view c.push.new.self.items ≡ ds ++ view c.in_ok-read_member.field-0 ∷ [] = grind (arith, common_steps) in
+    rw more (sym (fields_more (λ f. default_of c.args.schema.now.decls c.args.levels f) (λ u j. part_from c.args.schema.now.decls c.args.levels u j) (members_view c.args.members.now.entries) c.args.fields.now
+    c.loop-field.field-index c.field-item.result ds (view c.in_ok-read_member.field-0) (omega arith) (search rules) c.in_ok-read_member.ensures) ∙ c.loop-field.invariant)
+
+pub read_fields-returns : goal.read_fields-returns
+read_fields-returns t c =
+    sym c.loop-field.invariant ∙ fields_done (λ f. default_of c.args.schema.now.decls c.args.levels f) (λ u j. part_from c.args.schema.now.decls c.args.levels u j) (members_view c.args.members.now.entries) c.args.fields.now
+    c.loop-field.field-index (map view c.loop-field.values.items) (omega arith)
+    ∙ ap (λ vs. Ok (views vs)) (sym c.from_vec.ensures)
+
+pub read_one-read_union-requires : goal.read_one-read_union-requires
+read_one-read_union-requires t c = (search rules, (c.requires, few_fields c.args.schema.now.decls c.args.schema.now.valid c.args.base c.in-Union.fields.now (sym c.form_in-form.ensures ∙ ap seen c.in-Union.is)))
+
+pub read-returns-in-Array : goal.read-returns-in-Array
+read-returns-in-Array t c =
+    let S = c.args.schema.now.decls in
+    let d = c.args.levels in
+    let j = json_view c.args.json.now in
+    subst (Gives view c.read_sequence.result)
+    (ap (λ u. sequence_from (has_levels d) (λ k. part_from S d u k) j) c.element.ensures
+    ∙ from_by-sequence S (has_levels d) (λ f. default_of S d f) (λ u k. part_from S d u k) c.args.ty j (sym c.is_absent.ensures ∙ c.if-is_absent.false) (is_one-many c.args.ty.shape c.in-Array.is))
+    c.read_sequence.ensures
+
+pub read_sequence-returns : goal.read_sequence-returns
+read_sequence-returns t c =
+    let d = c.args.levels in
+    let read = λ (j : json.Data). part_from c.args.schema.now.decls d c.args.ty j in
+    let items = c.in-Array.items in
+    subst (Gives view c.read_elements.result)
+    (ap (λ js. elements_from read (items_view js)) c.as_slice.ensures.value
+    ∙ sequence_from-some d read (items_view items.items) (omega arith)
+    ∙ ap (λ j. sequence_from (has_levels d) read j) (sym (ap json_view c.in-Array.is ∙ view-Array items)))
+    c.read_elements.ensures

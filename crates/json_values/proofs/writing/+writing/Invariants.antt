@@ -1,0 +1,12 @@
+use Rattle.std.proofs.Common.{◌≡◌, drop, map, take}
+use Rattle.serde_json.specs.View.{view as json_view, members_view}
+use Rattle.aidl_values.specs.View.{view, views}
+use Rattle.json_values.specs.Json.{json_of, json_members}
+use Rattle.json_values.proofs.writing.+writing.Given as goal
+
+-- the fields from here on are in
+abbrev pub invariant-write_fields-loop-i : goal.invariant-write_fields-loop-i
+invariant-write_fields-loop-i l = members_view l.members.entries ≡ json_members l.schema.decls (drop l.i l.fields) (views (drop l.i l.values))
+
+abbrev pub invariant-write_items-loop-value : goal.invariant-write_items-loop-value
+invariant-write_items-loop-value l = map json_view l.items.items ≡ map (λ v. json_of l.schema.decls l.ty (view v)) (take l.value-index l.values)

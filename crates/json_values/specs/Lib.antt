@@ -1,0 +1,5 @@
+pub mod FromJson
+pub mod Gives
+pub mod Json
+pub mod Named
+pub mod Refusal

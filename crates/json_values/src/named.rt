@@ -1,0 +1,37 @@
+ghost use Rattle.std.specs.Prelude.{◌≡◌, option_map};
+ghost use Rattle.aidl_schema.specs.Seen.{seen};
+ghost use Rattle.json_values.specs.Named.{enumerators_of, enumerators_of_kind, fields_in};
+
+use aidl_schema::{Base, Enumerator, Field, Form, Kind, Schema};
+
+// The enumerators of the enum that a base is.
+pub fn enumerators_in(schema: &Schema, base: Base) -> Option<&[Enumerator]>
+    ensures { option_map (λ es. es.now) result ≡ enumerators_of schema.now.decls base }
+{
+    match base {
+        Base::Named(n) => match schema.decls.as_slice().get(n as usize) {
+            Some(decl) => enumerators_in_kind(&decl.kind),
+            None => None,
+        },
+        _ => None,
+    }
+}
+
+fn enumerators_in_kind(kind: &Kind) -> Option<&[Enumerator]>
+    ensures { option_map (λ es. es.now) result ≡ enumerators_of_kind kind.now }
+{
+    match kind {
+        Kind::Enum(_, enumerators) => Some(enumerators.as_slice()),
+        _ => None,
+    }
+}
+
+// The fields of a parcelable or union.
+pub fn fields_in(form: Form<'_>) -> &[Field]
+    ensures { result.now ≡ fields_in (seen form.entry) }
+{
+    match form {
+        Form::Parcelable(fields) | Form::Union(fields) => fields,
+        _ => &[],
+    }
+}

@@ -1,0 +1,139 @@
+ghost use Rattle.std.specs.Prelude.{◌≡◌, IfOk, option_map, slice_get};
+ghost use Rattle.serde_json.specs.Data.{array, object, member, no_members};
+ghost use Rattle.serde_json.specs.View.{view as json_view};
+ghost use Rattle.aidl_values.specs.HasType.{HasType};
+ghost use Rattle.aidl_values.specs.View.{view, views};
+ghost use Rattle.json_values.specs.Json.{json_of, json_items, json_members, json_number, json_among, json_alternative};
+ghost use Rattle.json_values.specs.Named.{bytes_of};
+
+use crate::named::{enumerators_in, fields_in};
+use aidl_base::{Ident, OutOfMemory};
+use aidl_schema::{AidlType, Enumerator, Field, Schema, element, form_in};
+use aidl_values::Value;
+use serde_json::{Map, Value as Json, put};
+use std::alloc::Global;
+
+/// A value as JSON: null, true or false, a whole number, a string, an array of the elements, an object with every field
+/// of a parcelable, and one with the one field of a union. An enum's value is the name of the first enumerator that has
+/// it, or else the number.
+pub fn to_json(
+    alloc: Global,
+    schema: &Schema,
+    ty: &AidlType,
+    value: &Value,
+) -> Result<Json, OutOfMemory>
+    requires { HasType schema.now.decls ty.now (view value.now) }
+    ensures { IfOk result (λ j. json_view j ≡ json_of schema.now.decls ty.now (view value.now)) }
+{
+    write(alloc, schema, *ty, value)
+}
+
+#[cycle(writing)]
+fn write(alloc: Global, schema: &Schema, ty: AidlType, value: &Value) -> Result<Json, OutOfMemory>
+    ensures { IfOk result (λ j. json_view j ≡ json_of schema.now.decls ty (view value.now)) }
+{
+    match value {
+        Value::Null => Ok(Json::Null),
+        Value::Truth(b) => Ok(Json::Bool(*b)),
+        Value::Number(n) => write_number(alloc, enumerators_in(schema, ty.base), *n),
+        Value::Text(text) => Ok(Json::try_from_str(alloc, text.as_str())?),
+        Value::Seq(items) => write_items(alloc, schema, element(schema, ty), items.as_slice()),
+        Value::Rec(items) => {
+            let fields = fields_in(form_in(schema, ty.base));
+            write_fields(alloc, schema, fields, items.as_slice())
+        }
+        Value::Alt(tag, inner) => {
+            let fields = fields_in(form_in(schema, ty.base));
+            write_alternative(alloc, schema, fields, *tag, inner)
+        }
+    }
+}
+
+#[cycle(writing)]
+fn write_items(
+    alloc: Global,
+    schema: &Schema,
+    ty: AidlType,
+    values: &[Value],
+) -> Result<Json, OutOfMemory>
+    ensures { IfOk result (λ j. json_view j ≡ array (json_items schema.now.decls ty (views values.now))) }
+{
+    let mut items = Vec::with_capacity(alloc, values.len())?;
+    for value in values {
+        items.push(write(alloc, schema, ty, value)?)?;
+    }
+    Ok(Json::from(items))
+}
+
+// The fields that have a value go in from the last to the first.
+#[cycle(writing)]
+fn write_fields(
+    alloc: Global,
+    schema: &Schema,
+    fields: &[Field],
+    values: &[Value],
+) -> Result<Json, OutOfMemory>
+    ensures { IfOk result (λ j. json_view j ≡ object (json_members schema.now.decls fields.now (views values.now))) }
+{
+    let mut members = Map::new(alloc);
+    let count = fields.len().min(values.len());
+    for i in (0..count).rev() {
+        let field = &fields[i];
+        let json = write(alloc, schema, field.ty, &values[i])?;
+        put(&mut members, alloc, field.name.0.as_str(), json)?;
+    }
+    Ok(Json::from(members))
+}
+
+#[cycle(writing)]
+fn write_alternative(
+    alloc: Global,
+    schema: &Schema,
+    fields: &[Field],
+    tag: u32,
+    value: &Value,
+) -> Result<Json, OutOfMemory>
+    ensures { IfOk result (λ j. json_view j ≡ json_alternative (slice_get fields.now tag) (λ u. json_of schema.now.decls u (view value.now))) }
+{
+    match fields.get(tag as usize) {
+        Some(field) => {
+            let json = write(alloc, schema, field.ty, value)?;
+            one_member(alloc, &field.name, json)
+        }
+        None => Ok(Json::from(())),
+    }
+}
+
+// An object with one key.
+fn one_member(alloc: Global, name: &Ident, json: Json) -> Result<Json, OutOfMemory>
+    ensures { IfOk result (λ j. json_view j ≡ object (member (bytes_of name.now) (json_view json) no_members)) }
+{
+    let mut members = Map::new(alloc);
+    put(&mut members, alloc, name.0.as_str(), json)?;
+    Ok(Json::from(members))
+}
+
+fn write_number(
+    alloc: Global,
+    enumerators: Option<&[Enumerator]>,
+    n: i64,
+) -> Result<Json, OutOfMemory>
+    ensures { IfOk result (λ j. json_view j ≡ json_number (option_map (λ es. es.now) enumerators.entry) n) }
+{
+    match enumerators {
+        Some(enumerators) => write_among(alloc, enumerators, n),
+        None => Ok(Json::from(n)),
+    }
+}
+
+// By the name of the first enumerator that has the number.
+fn write_among(alloc: Global, enumerators: &[Enumerator], n: i64) -> Result<Json, OutOfMemory>
+    ensures { IfOk result (λ j. json_view j ≡ json_among enumerators.now n) }
+{
+    for enumerator in enumerators {
+        if enumerator.value == n {
+            return Ok(Json::try_from_str(alloc, enumerator.name.0.as_str())?);
+        }
+    }
+    Ok(Json::from(n))
+}
