@@ -184,10 +184,14 @@ block_of n b bytes len paired zeros =
     let x = text.0 in
     let count : length (units x) ≡ n = ap length text.2 ∙ even.1 in
     let head : unit_bytes (units x) ≡ take (2 * n) b = ap unit_bytes text.2 ∙ even.0 in
-    let whole : length b ≡ 2 * n + (2 + padding (2 * (n + 1))) = omega arith in
-    (x, text.1, text.2, count,
-    sym (take_drop (2 * n) b) ∙ ap (λ r. take (2 * n) b ++ r) (rest_is (2 * n) (2 + padding (2 * (n + 1))) b whole zeros)
-    ∙ ap (λ h. h ++ replicate (2 + padding (2 * (n + 1))) 0) (sym head) ∙ ap (λ k. unit_bytes (units x) ++ replicate (2 + padding (2 * (k + 1))) 0) (sym count) ∙ sym (block_is x))
+    let whole : length b ≡ 2 * n + (2 + padding (2 * (n + 1))) = omega arith in (
+      x,
+      text.1,
+      text.2,
+      count,
+      sym (take_drop (2 * n) b) ∙ ap (λ r. take (2 * n) b ++ r) (rest_is (2 * n) (2 + padding (2 * (n + 1))) b whole zeros)
+          ∙ ap (λ h. h ++ replicate (2 + padding (2 * (n + 1))) 0) (sym head) ∙ ap (λ k. unit_bytes (units x) ++ replicate (2 + padding (2 * (k + 1))) 0) (sym count) ∙ sym (block_is x),
+    )
 
 module _ (n : ℕ) (b x : List ℕ) (bytes : AreBytes b) (len : length b ≡ block_len n) where
   -- the text that is read is the one whose block the bytes are
