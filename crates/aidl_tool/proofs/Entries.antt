@@ -4,6 +4,7 @@ use Rattle.std.specs.List.{before_first, after_first, position_or_len, count_by}
 use Rattle.std.specs.Borrow.{Bor}
 use Rattle.std.proofs.lemmas.Bool.Decides.{nat_tests}
 use Rattle.std.proofs.lemmas.List.Sums.{sum_by-cons}
+use Rattle.aidl_schema.specs.declared.schema.Decl.{Decl}
 use Rattle.aidl_schema.specs.declared.schema.AidlType.{AidlType}
 use Rattle.aidl_tool.specs.CommandWords.{entries_of, onto_first, are_few}
 use Rattle.aidl_tool.specs.Types.{types_of, type_of, named, onto_types}
@@ -66,13 +67,16 @@ with_one : (known : List AidlType) (ty : AidlType) (r : Result (List AidlType) (
 with_one known ty (Ok types) = ap (λ all. Ok all) (append_assoc known (ty ∷ []) types)
 with_one known ty (Err entry) = refl
 
--- an entry that names a type, and then the others
-pub one_known : (known : List AidlType) (ty : AidlType) (entry : List ℕ) (all others : List (List ℕ)) → all ≡ entry ∷ others → type_of entry ≡ Some ty → with_types (known ++ ty ∷ []) (types_of others) ≡ with_types known (types_of all)
-one_known known ty entry all others e is = with_one known ty (types_of others) ∙ sym (ap (λ entries. with_types known (types_of entries)) e ∙ ap (λ o. with_types known (named entry o (types_of others))) is)
+module _ (S : List Decl) where
+  -- an entry that names a type, and then the others
+  pub one_known : (known : List AidlType) (ty : AidlType) (entry : List ℕ) (all others : List (List ℕ)) → all ≡ entry ∷ others → type_of S entry ≡ Some ty
+      → with_types (known ++ ty ∷ []) (types_of S others) ≡ with_types known (types_of S all)
+  one_known known ty entry all others e is =
+      with_one known ty (types_of S others) ∙ sym (ap (λ entries. with_types known (types_of S entries)) e ∙ ap (λ o. with_types known (named entry o (types_of S others))) is)
 
--- an entry that names none ends
-pub one_unknown : (known : List AidlType) (entry : List ℕ) (all others : List (List ℕ)) → all ≡ entry ∷ others → type_of entry ≡ None → with_types known (types_of all) ≡ Err entry
-one_unknown known entry all others e is = ap (λ entries. with_types known (types_of entries)) e ∙ ap (λ o. with_types known (named entry o (types_of others))) is
+  -- an entry that names none ends
+  pub one_unknown : (known : List AidlType) (entry : List ℕ) (all others : List (List ℕ)) → all ≡ entry ∷ others → type_of S entry ≡ None → with_types known (types_of S all) ≡ Err entry
+  one_unknown known entry all others e is = ap (λ entries. with_types known (types_of S entries)) e ∙ ap (λ o. with_types known (named entry o (types_of S others))) is
 
 -- how much of TYPES is left
 abbrev pub left_length : Option (Bor (List ℕ)) → ℕ

@@ -1,4 +1,3 @@
 pub mod Entries
-pub mod Items
 pub mod Parts
 pub mod Verdicts

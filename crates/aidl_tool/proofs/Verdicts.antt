@@ -38,7 +38,7 @@ module _ (S : List Decl) where
   bytes_accepted : (types : List ℕ) (o : Option (List ℕ)) → (bytes_answer S types o).exit ≢ 2
   bytes_accepted types None e = absurd (omega arith)
   bytes_accepted types (Some bytes) e =
-      limited_accepted (nat_lt (limit_number ParcelBytes) (length bytes)) ParcelBytes (types_answer S (types_of (entries_of types)) bytes) (types_accepted (types_of (entries_of types)) bytes) e
+      limited_accepted (nat_lt (limit_number ParcelBytes) (length bytes)) ParcelBytes (types_answer S (types_of S (entries_of types)) bytes) (types_accepted (types_of S (entries_of types)) bytes) e
 
   -- a decode never ends as refused words do
   pub decode_accepted : (types path : List ℕ) (o : Option (List ℕ)) → (decode_answer S types path o).exit ≢ 2

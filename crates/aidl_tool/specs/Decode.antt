@@ -52,7 +52,7 @@ passes count which otherwise = if nat_lt (limit_number which) count then limit_a
 
 abbrev pub bytes_answer : List Decl → List ℕ → Option (List ℕ) → Answer
 bytes_answer S types None = answer_line (codes "not hexadecimal") 1
-bytes_answer S types (Some bytes) = passes (length bytes) ParcelBytes (types_answer S (types_of (entries_of types)) bytes)
+bytes_answer S types (Some bytes) = passes (length bytes) ParcelBytes (types_answer S (types_of S (entries_of types)) bytes)
 
 -- of the file, where it is there
 abbrev pub decode_answer : List Decl → List ℕ → List ℕ → Option (List ℕ) → Answer

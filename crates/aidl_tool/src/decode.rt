@@ -62,13 +62,13 @@ fn answer_of_bytes(
     types: &str,
     bytes: &[u8],
 ) -> Result<Printed, OutOfMemory>
-    ensures text { IfOk result (λ p. string_bytes p.text ≡ (passes (length bytes.now) LimitName.ParcelBytes (types_answer schema.now.decls (types_of (entries_of types.now)) bytes.now)).text) }
-    ensures exit { IfOk result (λ p. exit_of p.verdict ≡ (passes (length bytes.now) LimitName.ParcelBytes (types_answer schema.now.decls (types_of (entries_of types.now)) bytes.now)).exit) }
+    ensures text { IfOk result (λ p. string_bytes p.text ≡ (passes (length bytes.now) LimitName.ParcelBytes (types_answer schema.now.decls (types_of schema.now.decls (entries_of types.now)) bytes.now)).text) }
+    ensures exit { IfOk result (λ p. exit_of p.verdict ≡ (passes (length bytes.now) LimitName.ParcelBytes (types_answer schema.now.decls (types_of schema.now.decls (entries_of types.now)) bytes.now)).exit) }
 {
     if bytes.len() > LimitName::ParcelBytes.number() as usize {
         return limit_passed(alloc, LimitName::ParcelBytes);
     }
-    match types_of(alloc, types)? {
+    match types_of(alloc, schema, types)? {
         Types::Unknown(entry) => line_of(alloc, "bad type ", entry, Verdict::Negative),
         Types::Known(types) => answer_of_items(alloc, schema, types.as_slice(), bytes),
     }

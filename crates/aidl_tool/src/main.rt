@@ -4,6 +4,7 @@
 mod command;
 mod decode;
 mod decode_command;
+mod entry;
 mod hexadecimal_file;
 mod printed;
 mod put;
