@@ -1,3 +1,5 @@
 pub mod Entries
+pub mod HasType
+pub mod NoFloat
 pub mod Parts
 pub mod Verdicts

@@ -87,11 +87,3 @@ pub fn push_left(text: &mut String, count: usize) -> Result<(), OutOfMemory>
     writeln!(text, "left {count}")?;
     Ok(())
 }
-
-/// Adds the line of a number.
-pub fn push_number(text: &mut String, number: i64) -> Result<(), OutOfMemory>
-    ensures { OnOk result (string_bytes text.new ≡ string_bytes text.old ++ line (signed_decimal number)) }
-{
-    writeln!(text, "{number}")?;
-    Ok(())
-}
