@@ -1,7 +1,9 @@
 pub mod Answer
 pub mod CommandWords
+pub mod Cut
 pub mod Decode
 pub mod Ends
+pub mod EntryForm
 pub mod HexadecimalFile
 pub mod Meant
 pub mod Seen

@@ -4,6 +4,8 @@ ghost use Rattle.std.specs.Option.{option_map};
 ghost use Rattle.aidl_tool.specs.CommandWords.{are_few, command_of, is_path};
 ghost use Rattle.aidl_tool.specs.Seen.{command_seen};
 
+use crate::entry_form::are_formed;
+
 /// A command and its words.
 #[derive(Clone, Copy, Debug)]
 pub enum Command<'a> {
@@ -24,7 +26,7 @@ pub fn command_of(words: &[String]) -> Option<Command<'_>>
 fn decode_of<'a>(name: &str, types: &'a str, file: &'a str) -> Option<Command<'a>>
     ensures { option_map command_seen result ≡ command_of (name.now ∷ types.now ∷ file.now ∷ []) }
 {
-    if name == "decode" && are_few(types) && is_path(file) {
+    if name == "decode" && are_few(types) && are_formed(types) && is_path(file) {
         Some(Command::Decode { types, file })
     } else {
         None

@@ -2,9 +2,11 @@
 #![tactic(auto)]
 
 mod command;
+mod cut;
 mod decode;
 mod decode_command;
 mod entry;
+mod entry_form;
 mod hexadecimal_file;
 mod printed;
 mod put;

@@ -1,7 +1,8 @@
 ghost use Rattle.std.specs.Prelude.{◌≡◌, true, ◌<◌, ◌∷◌, IfOk, IfSome, length};
 ghost use Rattle.std.specs.Option.{option_map};
 ghost use Rattle.aidl_schema.specs.Types.{is_type};
-ghost use Rattle.aidl_tool.specs.CommandWords.{entries_left, entries_of};
+ghost use Rattle.aidl_tool.specs.CommandWords.{entries_of};
+ghost use Rattle.aidl_tool.specs.Cut.{pieces_left};
 ghost use Rattle.aidl_tool.specs.Seen.{AreKnown, types_seen};
 ghost use Rattle.aidl_tool.specs.Types.{type_of, types_of};
 
@@ -42,9 +43,9 @@ pub fn types_of<'a>(
     Ok(Types::Known(known))
 }
 
-// The first entry, and what stands after its comma.
-fn first_entry(types: &str) -> (&str, Option<&str>)
-    ensures entries { entries_of types.now ≡ result.0.now ∷ entries_left (option_map (λ others. others.now) result.1) }
+/// The first entry, and what stands after its comma.
+pub fn first_entry(types: &str) -> (&str, Option<&str>)
+    ensures entries { entries_of types.now ≡ result.0.now ∷ pieces_left 44 (option_map (λ others. others.now) result.1) }
     ensures shorter { IfSome result.1 (λ others. length others.now < length types.now) }
 {
     match types.split_once(',') {
