@@ -5,7 +5,7 @@ use Rattle.aidl_schema.specs.declared.schema.Decl.{Decl}
 use Rattle.aidl_schema.specs.Types.{is_type}
 use Rattle.aidl_schema.specs.declared.schema.AidlType.{AidlType}
 use Rattle.aidl_tool.specs.declared.command.Command.{Command}
-use Rattle.aidl_tool.specs.declared.command.Command.TheVariants.{Decode}
+use Rattle.aidl_tool.specs.declared.command.Command.TheVariants.{Decode, Encode}
 use Rattle.aidl_tool.specs.declared.types.Types.{Types}
 use Rattle.aidl_tool.specs.declared.types.Types.TheVariants.{Known, Unknown}
 use Rattle.aidl_tool.specs.declared.entry.Entry.{Entry}
@@ -14,6 +14,7 @@ use Rattle.aidl_tool.specs.Types as types
 
 abbrev pub command_seen : Command → command.Command
 command_seen (Decode types file) = command.decode types.now file.now
+command_seen (Encode types file) = command.encode types.now file.now
 
 abbrev pub types_seen : Types → Result (List AidlType) (List ℕ)
 types_seen (Known types) = Ok types.items
