@@ -1,8 +1,10 @@
 pub mod Answer
 pub mod CommandWords
 pub mod Decode
+pub mod Encode
 pub mod Ends
 pub mod HexadecimalFile
+pub mod JsonFile
 pub mod Meant
 pub mod Seen
 pub mod Types

@@ -6,6 +6,7 @@ mod decode;
 mod decode_command;
 mod entry;
 mod hexadecimal_file;
+pub mod json_file;
 mod printed;
 mod put;
 mod refusal;
