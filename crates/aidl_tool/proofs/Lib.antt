@@ -1,3 +1,6 @@
 pub mod Entries
+pub mod JsonTexts
 pub mod Parts
+pub mod ReadValues
 pub mod Verdicts
+pub mod WriteValues

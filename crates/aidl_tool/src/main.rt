@@ -4,6 +4,7 @@
 mod command;
 mod decode;
 mod decode_command;
+pub mod encode;
 mod entry;
 mod hexadecimal_file;
 pub mod json_file;
