@@ -1,4 +1,4 @@
-ghost use Rattle.std.specs.Prelude.{◌≡◌, ◌≤◌, ◌<◌, ◌^◌, Some, IfOk, length, map, min, string_bytes};
+ghost use Rattle.std.specs.Prelude.{◌≡◌, ◌≤◌, ◌<◌, ◌^◌, ℕ, List, Some, IfOk, length, map, min, string_bytes};
 ghost use Rattle.std.specs.Option.{option_map};
 ghost use Rattle.serde_json.specs.View.{view as json_view};
 ghost use Rattle.aidl_values.specs.View.{view};
@@ -107,7 +107,7 @@ fn answer_of_unread(alloc: Global, unread: &Unread) -> Result<Printed, OutOfMemo
 
 // The printed name of a refusal and its place in the value. None of a want of memory.
 fn name_and_place(fault: &JsonFault) -> Option<(&str, &str)>
-    ensures { option_map (λ p. (p.0.now, p.1.now)) result ≡ option_map (λ r. (reason_name r.reason, r.at)) (refusal_of fault.now) }
+    ensures { option_map {U = List ℕ × List ℕ} (λ p. (p.0.now, p.1.now)) result ≡ option_map {U = List ℕ × List ℕ} (λ r. (reason_name r.reason, r.at)) (refusal_of fault.now) }
 {
     match fault {
         JsonFault::WrongShape { at } => Some(("WrongShape", at.as_str())),
