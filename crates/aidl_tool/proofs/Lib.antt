@@ -1,3 +1,4 @@
+pub mod EncodeAnswers
 pub mod Entries
 pub mod JsonTexts
 pub mod Parts

@@ -5,6 +5,7 @@ mod command;
 mod decode;
 mod decode_command;
 pub mod encode;
+pub mod encode_command;
 mod entry;
 mod hexadecimal_file;
 pub mod json_file;
