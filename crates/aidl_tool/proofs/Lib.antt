@@ -1,6 +1,10 @@
 pub mod Cuts
+pub mod EncodeAnswers
 pub mod Entries
 pub mod HasType
+pub mod JsonTexts
 pub mod NoFloat
 pub mod Parts
+pub mod ReadValues
 pub mod Verdicts
+pub mod WriteValues
