@@ -33,11 +33,11 @@ by_order Greater a b c h k m = m
 put_whole : (k : List ℕ) (d : json.Data) (ms : Members) → has_float d ≡ false → members_have_float ms ≡ false → members_have_float (put k d ms) ≡ false
 put_whole k d no_members h all = neither (has_float d) false h refl
 put_whole k d (member l e ms) h all =
-  let p = or_parts (has_float e) (members_have_float ms) all in
+    let p = or_parts (has_float e) (members_have_float ms) all in
     by_order (slice_cmp nat_cmp k l) (member k d (member l e ms)) (member l d ms) (member l e (put k d ms))
-      (neither (has_float d) (has_float e || members_have_float ms) h all)
-      (neither (has_float d) (members_have_float ms) h p.1)
-      (neither (has_float e) (members_have_float (put k d ms)) p.0 (put_whole k d ms h p.1))
+    (neither (has_float d) (has_float e || members_have_float ms) h all)
+    (neither (has_float d) (members_have_float ms) h p.1)
+    (neither (has_float e) (members_have_float (put k d ms)) p.0 (put_whole k d ms h p.1))
 
 either_json : (b : Bool) (x y : json.Data) → has_float x ≡ false → has_float y ≡ false → has_float (cond b x y) ≡ false
 either_json true x y h k = h
