@@ -16,7 +16,7 @@ use Rattle.json_values.specs.Refusal as refusal
 use Rattle.aidl_tool.specs.Answer.{Answer, limit_answer}
 use Rattle.aidl_tool.specs.CommandWords.{entries_of}
 use Rattle.aidl_tool.specs.Decode.{passes}
-use Rattle.aidl_tool.specs.Encode.{parcel_answer, spell_values, values_answer, json_answer, entries_answer, encode_answer}
+use Rattle.aidl_tool.specs.Encode.{spell_values, values_answer, json_answer, entries_answer, encode_answer}
 use Rattle.aidl_tool.specs.JsonFile.{json_of, values_of}
 use Rattle.aidl_tool.specs.Types.{types_of}
 

@@ -1,4 +1,4 @@
--- What `encode TYPES FILE` answers.
+-- What `encode TYPES FILE` answers (own; the spellings are those of Parcel.cpp).
 use Rattle.std.specs.Prelude.{ℕ, List, [], ◌∷◌, ◌++◌, length, Option, Some, None, Result, Ok, Err, codes}
 use Rattle.hex.specs.Hex.{encode_lower}
 use Rattle.serde_json.specs.Data as json

@@ -1,10 +1,10 @@
 ghost use Rattle.std.specs.Prelude.{◌≡◌, ◌≤◌, ◌<◌, ◌^◌, ℕ, List, Some, IfOk, length, map, min, string_bytes};
 ghost use Rattle.std.specs.Option.{option_map};
+ghost use Rattle.hex.specs.Hex.{encode_lower};
 ghost use Rattle.serde_json.specs.View.{view as json_view};
 ghost use Rattle.aidl_values.specs.View.{view};
 ghost use Rattle.json_values.specs.Gives.{refusal_of};
 ghost use Rattle.parcel_words.specs.Written.{with_bytes};
-ghost use Rattle.hex.specs.Hex.{encode_lower};
 ghost use Rattle.aidl_tool.specs.Answer.{answer_line};
 ghost use Rattle.aidl_tool.specs.CommandWords.{entries_of};
 ghost use Rattle.aidl_tool.specs.Decode.{passes};

@@ -1,13 +1,12 @@
-ghost use Rattle.std.specs.Prelude.{◌≡◌, Ok, Err, IfOk, IfErr, IfSome, length, map};
+ghost use Rattle.std.specs.Prelude.{◌≡◌, ◌≤◌, Ok, Err, IfOk, IfErr, IfSome, decimal, length, map};
 ghost use Rattle.std.specs.Option.{option_map};
 ghost use Rattle.serde_json.specs.View.{view as json_view, items_view};
+ghost use Rattle.aidl_values.specs.Data.{depth_of};
+ghost use Rattle.aidl_values.specs.HasType.{HasType};
 ghost use Rattle.aidl_values.specs.View.{view};
 ghost use Rattle.json_values.specs.FromJson.{from_json_of};
 ghost use Rattle.json_values.specs.Refusal.{within};
 ghost use Rattle.aidl_tool.specs.JsonFile.{AreTyped, json_of, unread_refusal, values_from, values_of};
-ghost use Rattle.aidl_values.specs.Data.{depth_of};
-ghost use Rattle.aidl_values.specs.HasType.{HasType};
-ghost use Rattle.std.specs.Prelude.{◌≤◌, decimal};
 
 use aidl_base::OutOfMemory;
 use aidl_schema::{AidlType, Schema};

@@ -1,9 +1,8 @@
-use Rattle.std.proofs.Common.{◌≡◌, ◌<◌, [], ◌∷◌, ◌++◌, length, map, take, sym, ◌∙◌, subst, arith, rules}
+use Rattle.std.proofs.Common.{◌≡◌, [], ◌∷◌, ◌++◌, map, take, sym, ◌∙◌, arith, rules}
 use Rattle.std.proofs.lemmas.Grind.{common_steps}
 use Rattle.std.proofs.lemmas.List.{take_more}
 use Rattle.aidl_schema.specs.Types.{no_type}
 use Rattle.aidl_values.specs.View.{view}
-use Rattle.aidl_tool.specs.JsonFile.{AreTyped}
 use Rattle.aidl_tool.proofs.ReadValues.{typed_more, values_more}
 use Rattle.aidl_tool.proofs.json_file.values_from.Goals as goal
 

@@ -1,6 +1,5 @@
-use Rattle.std.proofs.Common.{◌≡◌, length, sym, ap, ◌∙◌, subst, arith}
+use Rattle.std.proofs.Common.{◌≡◌, sym, ap, ◌∙◌, subst, arith}
 use Rattle.std.specs.Prelude.{Ok, Err, map, IfOk, IfErr, IfSome}
-use Rattle.serde_json.specs.Data.{array}
 use Rattle.serde_json.specs.View.{view as json_view, items_view}
 use Rattle.serde_json.proofs.Views.{view-Array}
 use Rattle.aidl_values.specs.View.{view}
