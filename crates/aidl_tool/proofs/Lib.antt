@@ -1,4 +1,10 @@
+pub mod Cuts
+pub mod EncodeAnswers
 pub mod Entries
-pub mod Items
+pub mod HasType
+pub mod JsonTexts
+pub mod NoFloat
 pub mod Parts
+pub mod ReadValues
 pub mod Verdicts
+pub mod WriteValues

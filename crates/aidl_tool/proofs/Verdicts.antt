@@ -18,9 +18,9 @@ rest_accepted : (bytes : List ℕ) → (rest_answer bytes).exit ≢ 2
 rest_accepted [] e = absurd (omega arith)
 rest_accepted (b ∷ rest) e = absurd (omega arith)
 
-item_accepted : (r : Result (Data × List ℕ) ℤ) (others : List ℕ → Answer) → ((rest : List ℕ) → (others rest).exit ≢ 2) → (item_answer r others).exit ≢ 2
-item_accepted (Ok x) others all e = all x.1 e
-item_accepted (Err status) others all e = absurd (omega arith)
+item_accepted : (S : List Decl) (t : AidlType) (r : Result (Data × List ℕ) ℤ) (others : List ℕ → Answer) → ((rest : List ℕ) → (others rest).exit ≢ 2) → (item_answer S t r others).exit ≢ 2
+item_accepted S t (Ok x) others all e = all x.1 e
+item_accepted S t (Err status) others all e = absurd (omega arith)
 
 limited_accepted : (passed : Bool) (which : LimitName) (otherwise : Answer) → otherwise.exit ≢ 2 → (cond passed (limit_answer which) otherwise).exit ≢ 2
 limited_accepted true which otherwise other e = absurd (omega arith)
@@ -29,7 +29,7 @@ limited_accepted false which otherwise other e = other e
 module _ (S : List Decl) where
   items_accepted : (ts : List AidlType) (bytes : List ℕ) → (items_answer S ts bytes).exit ≢ 2
   items_accepted [] bytes e = rest_accepted bytes e
-  items_accepted (t ∷ ts) bytes e = item_accepted (read_of S 64 t false bytes) (λ rest. items_answer S ts rest) (λ rest. items_accepted ts rest) e
+  items_accepted (t ∷ ts) bytes e = item_accepted S t (read_of S 64 t false bytes) (λ rest. items_answer S ts rest) (λ rest. items_accepted ts rest) e
 
   types_accepted : (r : Result (List AidlType) (List ℕ)) (bytes : List ℕ) → (types_answer S r bytes).exit ≢ 2
   types_accepted (Ok ts) bytes e = items_accepted ts bytes e
@@ -38,7 +38,7 @@ module _ (S : List Decl) where
   bytes_accepted : (types : List ℕ) (o : Option (List ℕ)) → (bytes_answer S types o).exit ≢ 2
   bytes_accepted types None e = absurd (omega arith)
   bytes_accepted types (Some bytes) e =
-      limited_accepted (nat_lt (limit_number ParcelBytes) (length bytes)) ParcelBytes (types_answer S (types_of (entries_of types)) bytes) (types_accepted (types_of (entries_of types)) bytes) e
+      limited_accepted (nat_lt (limit_number ParcelBytes) (length bytes)) ParcelBytes (types_answer S (types_of S (entries_of types)) bytes) (types_accepted (types_of S (entries_of types)) bytes) e
 
   -- a decode never ends as refused words do
   pub decode_accepted : (types path : List ℕ) (o : Option (List ℕ)) → (decode_answer S types path o).exit ≢ 2

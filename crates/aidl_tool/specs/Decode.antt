@@ -20,26 +20,26 @@ rest_answer [] = record { text = []; exit = 0 }
 rest_answer (b ∷ rest) = answer_line (codes "left " ++ decimal (length (b ∷ rest))) 1
 
 -- the line of an item that was read, and of a refused one
-abbrev pub value_line : Data → List ℕ
-value_line v = line (value_text v)
+abbrev pub value_line : List Decl → AidlType → Data → List ℕ
+value_line S t v = line (value_text S t v)
 
 abbrev pub status_line : ℤ → List ℕ
 status_line status = line (codes "status " ++ signed_decimal status)
 
 -- the item's line was added to a text, and these bytes are left after an item that was read
-abbrev pub PrintsItem : Result (Data × List ℕ) ℤ → List ℕ → List ℕ → Option (List ℕ) → Type 0
-PrintsItem (Ok (v, rest)) before now left = (now ≡ before ++ value_line v) × (left ≡ Some rest)
-PrintsItem (Err status) before now left = (now ≡ before ++ status_line status) × (left ≡ None)
+abbrev pub PrintsItem : List Decl → AidlType → Result (Data × List ℕ) ℤ → List ℕ → List ℕ → Option (List ℕ) → Type 0
+PrintsItem S t (Ok (v, rest)) before now left = (now ≡ before ++ value_line S t v) × (left ≡ Some rest)
+PrintsItem S t (Err status) before now left = (now ≡ before ++ status_line status) × (left ≡ None)
 
 -- an item that was read is a line, with the others after it; a refused one is its status, exit 1, and ends
-abbrev pub item_answer : Result (Data × List ℕ) ℤ → (List ℕ → Answer) → Answer
-item_answer (Ok (v, rest)) others = after_text (value_line v) (others rest)
-item_answer (Err status) others = record { text = status_line status; exit = 1 }
+abbrev pub item_answer : List Decl → AidlType → Result (Data × List ℕ) ℤ → (List ℕ → Answer) → Answer
+item_answer S t (Ok (v, rest)) others = after_text (value_line S t v) (others rest)
+item_answer S t (Err status) others = record { text = status_line status; exit = 1 }
 
 -- the items in order
 abbrev pub items_answer : List Decl → List AidlType → List ℕ → Answer
 items_answer S [] bytes = rest_answer bytes
-items_answer S (t ∷ ts) bytes = item_answer (read_of S 64 t false bytes) (λ rest. items_answer S ts rest)
+items_answer S (t ∷ ts) bytes = item_answer S t (read_of S 64 t false bytes) (λ rest. items_answer S ts rest)
 
 -- the first entry that names no type is shown, exit 1
 abbrev pub types_answer : List Decl → Result (List AidlType) (List ℕ) → List ℕ → Answer
@@ -52,7 +52,7 @@ passes count which otherwise = if nat_lt (limit_number which) count then limit_a
 
 abbrev pub bytes_answer : List Decl → List ℕ → Option (List ℕ) → Answer
 bytes_answer S types None = answer_line (codes "not hexadecimal") 1
-bytes_answer S types (Some bytes) = passes (length bytes) ParcelBytes (types_answer S (types_of (entries_of types)) bytes)
+bytes_answer S types (Some bytes) = passes (length bytes) ParcelBytes (types_answer S (types_of S (entries_of types)) bytes)
 
 -- of the file, where it is there
 abbrev pub decode_answer : List Decl → List ℕ → List ℕ → Option (List ℕ) → Answer

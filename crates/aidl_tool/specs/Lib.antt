@@ -1,8 +1,12 @@
 pub mod Answer
 pub mod CommandWords
+pub mod Cut
 pub mod Decode
+pub mod Encode
 pub mod Ends
+pub mod EntryForm
 pub mod HexadecimalFile
+pub mod JsonFile
 pub mod Meant
 pub mod Seen
 pub mod Types

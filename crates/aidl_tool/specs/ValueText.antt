@@ -1,14 +1,11 @@
 -- A value as compact JSON.
-use Rattle.std.specs.Prelude.{ℕ, if◌then◌else◌, List, [], codes}
-use Rattle.std.specs.Fmt.{signed_decimal}
-use Rattle.aidl_values.specs.Data.{Data, null, truth, number, text, seq, rec, alt}
+use Rattle.std.specs.Prelude.{ℕ, List}
+use Rattle.serde_json.specs.Written.{compact_text}
+use Rattle.aidl_schema.specs.declared.schema.Decl.{Decl}
+use Rattle.aidl_schema.specs.declared.schema.AidlType.{AidlType}
+use Rattle.aidl_values.specs.Data.{Data}
+use Rattle.json_values.specs.Json.{json_of}
 
--- of the types that are read so far
-abbrev pub value_text : Data → List ℕ
-value_text null = codes "null"
-value_text (truth b) = if b then codes "true" else codes "false"
-value_text (number n) = signed_decimal n
-value_text (text x) = []
-value_text (seq vs) = []
-value_text (rec vs) = []
-value_text (alt k v) = []
+-- of the type
+abbrev pub value_text : List Decl → AidlType → Data → List ℕ
+value_text S t v = compact_text (json_of S t v)

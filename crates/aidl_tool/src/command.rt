@@ -1,14 +1,18 @@
 ghost use Rattle.std.specs.Prelude.{◌≡◌, ◌==◌, [], ◌∷◌, map, take, codes, bytes_eq, string_bytes};
 ghost use Rattle.std.specs.List.{count_by};
 ghost use Rattle.std.specs.Option.{option_map};
-ghost use Rattle.aidl_tool.specs.CommandWords.{are_few, command_of, is_path};
+ghost use Rattle.aidl_tool.specs.CommandWords.{are_few, command_named, command_of, is_path};
 ghost use Rattle.aidl_tool.specs.Seen.{command_seen};
+
+use crate::entry_form::are_formed;
 
 /// A command and its words.
 #[derive(Clone, Copy, Debug)]
 pub enum Command<'a> {
     /// `decode TYPES FILE`
     Decode { types: &'a str, file: &'a str },
+    /// `encode TYPES FILE`
+    Encode { types: &'a str, file: &'a str },
 }
 
 /// The command that the words are. None where they are in no row of the table of commands.
@@ -16,16 +20,28 @@ pub fn command_of(words: &[String]) -> Option<Command<'_>>
     ensures { option_map command_seen result ≡ command_of (map string_bytes words.now) }
 {
     match words {
-        [name, types, file] => decode_of(name.as_str(), types.as_str(), file.as_str()),
+        [name, types, file] => command_with(name.as_str(), types.as_str(), file.as_str()),
         _ => None,
     }
 }
 
-fn decode_of<'a>(name: &str, types: &'a str, file: &'a str) -> Option<Command<'a>>
+fn command_with<'a>(name: &str, types: &'a str, file: &'a str) -> Option<Command<'a>>
     ensures { option_map command_seen result ≡ command_of (name.now ∷ types.now ∷ file.now ∷ []) }
 {
-    if name == "decode" && are_few(types) && is_path(file) {
+    if are_few(types) && are_formed(types) && is_path(file) {
+        command_named(name, types, file)
+    } else {
+        None
+    }
+}
+
+fn command_named<'a>(name: &str, types: &'a str, file: &'a str) -> Option<Command<'a>>
+    ensures { option_map command_seen result ≡ command_named name.now types.now file.now }
+{
+    if name == "decode" {
         Some(Command::Decode { types, file })
+    } else if name == "encode" {
+        Some(Command::Encode { types, file })
     } else {
         None
     }

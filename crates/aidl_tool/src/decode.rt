@@ -2,22 +2,23 @@ ghost use Rattle.std.specs.Prelude.{◌≡◌, ◌++◌, true, false, IfOk, OnOk
 ghost use Rattle.std.specs.List.{list_all};
 ghost use Rattle.std.specs.Option.{option_map};
 ghost use Rattle.aidl_schema.specs.Types.{is_type};
+ghost use Rattle.aidl_values.specs.HasType.{HasType};
 ghost use Rattle.aidl_values.specs.View.{view};
 ghost use Rattle.wire_model.specs.ReadOf.{read_of};
 ghost use Rattle.aidl_tool.specs.CommandWords.{entries_of};
 ghost use Rattle.aidl_tool.specs.Decode.{PrintsItem, bytes_answer, decode_answer, items_answer, passes, rest_answer, types_answer, value_line};
 ghost use Rattle.aidl_tool.specs.HexadecimalFile.{hexadecimal};
 ghost use Rattle.aidl_tool.specs.Types.{types_of};
+ghost use Rattle.aidl_tool.specs.ValueText.{value_text};
 ghost use Rattle.aidl_tool.specs.Verdicts.{exit_of};
 
 use crate::hexadecimal_file::bytes_of;
-use crate::printed::{
-    Printed, Verdict, limit_passed, line_of, push_left, push_number, push_status,
-};
+use crate::printed::{Printed, Verdict, limit_passed, line_of, push_left, push_status};
 use crate::types::{Types, types_of};
 use aidl_base::{LimitName, OutOfMemory};
 use aidl_schema::{AidlType, Schema};
 use aidl_values::Value;
+use json_values::to_json;
 use parcel_read::read;
 use std::alloc::Global;
 
@@ -62,13 +63,13 @@ fn answer_of_bytes(
     types: &str,
     bytes: &[u8],
 ) -> Result<Printed, OutOfMemory>
-    ensures text { IfOk result (λ p. string_bytes p.text ≡ (passes (length bytes.now) LimitName.ParcelBytes (types_answer schema.now.decls (types_of (entries_of types.now)) bytes.now)).text) }
-    ensures exit { IfOk result (λ p. exit_of p.verdict ≡ (passes (length bytes.now) LimitName.ParcelBytes (types_answer schema.now.decls (types_of (entries_of types.now)) bytes.now)).exit) }
+    ensures text { IfOk result (λ p. string_bytes p.text ≡ (passes (length bytes.now) LimitName.ParcelBytes (types_answer schema.now.decls (types_of schema.now.decls (entries_of types.now)) bytes.now)).text) }
+    ensures exit { IfOk result (λ p. exit_of p.verdict ≡ (passes (length bytes.now) LimitName.ParcelBytes (types_answer schema.now.decls (types_of schema.now.decls (entries_of types.now)) bytes.now)).exit) }
 {
     if bytes.len() > LimitName::ParcelBytes.number() as usize {
         return limit_passed(alloc, LimitName::ParcelBytes);
     }
-    match types_of(alloc, types)? {
+    match types_of(alloc, schema, types)? {
         Types::Unknown(entry) => line_of(alloc, "bad type ", entry, Verdict::Negative),
         Types::Known(types) => answer_of_items(alloc, schema, types.as_slice(), bytes),
     }
@@ -100,6 +101,7 @@ fn answer_of_items(
 }
 
 // Reads one item and adds its line. None where it is refused; else the bytes after it.
+#[tactic(auto, using(crate::proofs::HasType::has_type))]
 fn push_item<'a>(
     alloc: Global,
     schema: &Schema,
@@ -108,11 +110,11 @@ fn push_item<'a>(
     text: &mut String,
 ) -> Result<Option<&'a [u8]>, OutOfMemory>
     requires { is_type schema.now.decls ty.now ≡ true }
-    ensures { IfOk result (λ left. PrintsItem (read_of schema.now.decls 64 ty.now false bytes.now) (string_bytes text.old) (string_bytes text.new) (option_map (λ rest. rest.now) left)) }
+    ensures { IfOk result (λ left. PrintsItem schema.now.decls ty.now (read_of schema.now.decls 64 ty.now false bytes.now) (string_bytes text.old) (string_bytes text.new) (option_map (λ rest. rest.now) left)) }
 {
     match read(alloc, schema, ty, bytes) {
         Ok((value, used)) => {
-            push_value(text, &value)?;
+            push_value(alloc, schema, ty, &value, text)?;
             Ok(Some(&bytes[used..]))
         }
         Err(fault) => match fault.status() {
@@ -126,16 +128,35 @@ fn push_item<'a>(
 }
 
 // Adds the line of a value.
-fn push_value(text: &mut String, value: &Value) -> Result<(), OutOfMemory>
-    ensures { OnOk result (string_bytes text.new ≡ string_bytes text.old ++ value_line (view value.now)) }
+fn push_value(
+    alloc: Global,
+    schema: &Schema,
+    ty: &AidlType,
+    value: &Value,
+    text: &mut String,
+) -> Result<(), OutOfMemory>
+    requires { HasType schema.now.decls ty.now (view value.now) }
+    ensures { OnOk result (string_bytes text.new ≡ string_bytes text.old ++ value_line schema.now.decls ty.now (view value.now)) }
 {
-    match value {
-        Value::Null => Ok(text.push_str("null\n")?),
-        Value::Truth(true) => Ok(text.push_str("true\n")?),
-        Value::Truth(false) => Ok(text.push_str("false\n")?),
-        Value::Number(number) => push_number(text, *number),
-        _ => Ok(text.push_str("\n")?),
-    }
+    let written = value_text(alloc, schema, ty, value)?;
+    text.push_str(written.as_str())?;
+    text.push_str("\n")?;
+    Ok(())
+}
+
+// A value as compact JSON.
+#[tactic(auto, using(crate::proofs::NoFloat::no_float))]
+fn value_text(
+    alloc: Global,
+    schema: &Schema,
+    ty: &AidlType,
+    value: &Value,
+) -> Result<String, OutOfMemory>
+    requires { HasType schema.now.decls ty.now (view value.now) }
+    ensures { IfOk result (λ s. string_bytes s ≡ value_text schema.now.decls ty.now (view value.now)) }
+{
+    let json = to_json(alloc, schema, ty, value)?;
+    Ok(json.to_string(alloc)?)
 }
 
 // Adds the line for the bytes after the last item, where there are some. How the decode ends.

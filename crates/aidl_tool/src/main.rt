@@ -2,9 +2,15 @@
 #![tactic(auto)]
 
 mod command;
+mod cut;
 mod decode;
 mod decode_command;
+mod encode;
+mod encode_command;
+mod entry;
+mod entry_form;
 mod hexadecimal_file;
+mod json_file;
 mod printed;
 mod put;
 mod refusal;

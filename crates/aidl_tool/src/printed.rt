@@ -80,18 +80,35 @@ pub fn push_status(text: &mut String, status: i32) -> Result<(), OutOfMemory>
     Ok(())
 }
 
+/// The line of a refused value of a file of JSON: the refusal's name, the value's 0-based place, and the place in it.
+pub fn refused_value(
+    alloc: Global,
+    name: &str,
+    place: usize,
+    at: &str,
+) -> Result<Printed, OutOfMemory>
+    ensures text { IfOk result (λ p. string_bytes p.text ≡ line (codes "refused " ++ name.now ++ codes " /" ++ decimal place ++ at.now)) }
+    ensures verdict { IfOk result (λ p. p.verdict ≡ Verdict.Negative) }
+{
+    let mut text = String::new(alloc);
+    push_refused(&mut text, name, place, at)?;
+    Ok(Printed {
+        text,
+        verdict: Verdict::Negative,
+    })
+}
+
+fn push_refused(text: &mut String, name: &str, place: usize, at: &str) -> Result<(), OutOfMemory>
+    ensures { OnOk result (string_bytes text.new ≡ string_bytes text.old ++ line (codes "refused " ++ name.now ++ codes " /" ++ decimal place ++ at.now)) }
+{
+    writeln!(text, "refused {name} /{place}{at}")?;
+    Ok(())
+}
+
 /// Adds the line for bytes that are left.
 pub fn push_left(text: &mut String, count: usize) -> Result<(), OutOfMemory>
     ensures { OnOk result (string_bytes text.new ≡ string_bytes text.old ++ line (codes "left " ++ decimal count)) }
 {
     writeln!(text, "left {count}")?;
-    Ok(())
-}
-
-/// Adds the line of a number.
-pub fn push_number(text: &mut String, number: i64) -> Result<(), OutOfMemory>
-    ensures { OnOk result (string_bytes text.new ≡ string_bytes text.old ++ line (signed_decimal number)) }
-{
-    writeln!(text, "{number}")?;
     Ok(())
 }

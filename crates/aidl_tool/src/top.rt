@@ -8,6 +8,7 @@ ghost use Rattle.aidl_tool.specs.Meant.{meant};
 
 use crate::command::{Command, command_of};
 use crate::decode_command::decode;
+use crate::encode_command::encode;
 use crate::refusal::refuse;
 use aidl_outside::{Link, Sink, Store};
 use std::alloc::Global;
@@ -53,5 +54,6 @@ pub fn aidl<S: Store, K: Sink, L: Link>(
     match command_of(words) {
         None => refuse(alloc, sink),
         Some(Command::Decode { types, file }) => decode(alloc, types, file, store, sink),
+        Some(Command::Encode { types, file }) => encode(alloc, types, file, store, sink),
     }
 }

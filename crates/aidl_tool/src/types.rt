@@ -1,11 +1,14 @@
-ghost use Rattle.std.specs.Prelude.{◌≡◌, ◌<◌, ◌∷◌, IfOk, IfSome, length};
+ghost use Rattle.std.specs.Prelude.{◌≡◌, true, ◌<◌, ◌∷◌, IfOk, IfSome, length};
 ghost use Rattle.std.specs.Option.{option_map};
-ghost use Rattle.aidl_tool.specs.CommandWords.{entries_left, entries_of};
-ghost use Rattle.aidl_tool.specs.Seen.{types_seen};
-ghost use Rattle.aidl_tool.specs.Types.{plain, type_of, types_of};
+ghost use Rattle.aidl_schema.specs.Types.{is_type};
+ghost use Rattle.aidl_tool.specs.CommandWords.{entries_of};
+ghost use Rattle.aidl_tool.specs.Cut.{pieces_left};
+ghost use Rattle.aidl_tool.specs.Seen.{AreKnown, types_seen};
+ghost use Rattle.aidl_tool.specs.Types.{type_of, types_of};
 
+use crate::entry::{base_of, entry_of};
 use aidl_base::OutOfMemory;
-use aidl_schema::{AidlType, Base, Shape};
+use aidl_schema::{AidlType, Schema, is_type};
 use std::alloc::Global;
 
 /// What the entries of TYPES name.
@@ -17,15 +20,21 @@ pub enum Types<'a> {
     Unknown(&'a str),
 }
 
-/// The types that the entries of TYPES name, or the first entry that names none.
-pub fn types_of<'a>(alloc: Global, types: &'a str) -> Result<Types<'a>, OutOfMemory>
-    ensures { IfOk result (λ known. types_seen known ≡ types_of (entries_of types.now)) }
+/// The types that the entries of TYPES name, or the first entry that names none: whose name is no base, or whose type
+/// E14 or E16 refuses.
+pub fn types_of<'a>(
+    alloc: Global,
+    schema: &Schema,
+    types: &'a str,
+) -> Result<Types<'a>, OutOfMemory>
+    ensures types { IfOk result (λ known. types_seen known ≡ types_of schema.now.decls (entries_of types.now)) }
+    ensures known { IfOk result (λ known. AreKnown schema.now.decls known) }
 {
     let mut known = Vec::new(alloc);
     let mut left = Some(types);
     'entries: while let Some(text) = left {
         let (entry, others) = first_entry(text);
-        match type_of(entry) {
+        match type_of(schema, entry.as_bytes()) {
             None => return Ok(Types::Unknown(entry)),
             Some(ty) => known.push(ty)?,
         }
@@ -34,9 +43,9 @@ pub fn types_of<'a>(alloc: Global, types: &'a str) -> Result<Types<'a>, OutOfMem
     Ok(Types::Known(known))
 }
 
-// The first entry, and what stands after its comma.
-fn first_entry(types: &str) -> (&str, Option<&str>)
-    ensures entries { entries_of types.now ≡ result.0.now ∷ entries_left (option_map (λ others. others.now) result.1) }
+/// The first entry, and what stands after its comma.
+pub fn first_entry(types: &str) -> (&str, Option<&str>)
+    ensures entries { entries_of types.now ≡ result.0.now ∷ pieces_left 44 (option_map (λ others. others.now) result.1) }
     ensures shorter { IfSome result.1 (λ others. length others.now < length types.now) }
 {
     match types.split_once(',') {
@@ -46,26 +55,17 @@ fn first_entry(types: &str) -> (&str, Option<&str>)
 }
 
 // The type that an entry names.
-fn type_of(entry: &str) -> Option<AidlType>
-    ensures { result ≡ type_of entry.now }
+fn type_of(schema: &Schema, text: &[u8]) -> Option<AidlType>
+    ensures ty { result ≡ type_of schema.now.decls text.now }
+    ensures known { IfSome result (λ ty. is_type schema.now.decls ty ≡ true) }
 {
-    match entry {
-        "boolean" => Some(plain(Base::Boolean)),
-        "int" => Some(plain(Base::Int)),
-        "long" => Some(plain(Base::Long)),
-        _ => None,
-    }
-}
-
-// A single value that isn't null.
-fn plain(base: Base) -> AidlType
-    ensures { result ≡ plain base }
-{
-    AidlType {
-        base,
-        shape: Shape::One,
-        nullable: false,
+    let entry = entry_of(text);
+    let ty = AidlType {
+        base: base_of(entry.name)?,
+        shape: entry.shape,
+        nullable: entry.nullable,
         heap: false,
         utf8: false,
-    }
+    };
+    if is_type(schema, ty) { Some(ty) } else { None }
 }

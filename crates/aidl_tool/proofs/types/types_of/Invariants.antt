@@ -1,13 +1,21 @@
 use Rattle.std.proofs.Common.{◌≡◌}
+use Rattle.std.proofs.Common.{true}
+use Rattle.std.specs.List.{list_all}
 use Rattle.std.specs.Option.{option_map}
-use Rattle.aidl_tool.specs.CommandWords.{entries_of, entries_left}
+use Rattle.aidl_schema.specs.Types.{is_type}
+use Rattle.aidl_tool.specs.CommandWords.{entries_of}
+use Rattle.aidl_tool.specs.Cut.{pieces_left}
 use Rattle.aidl_tool.specs.Types.{types_of}
-use Rattle.aidl_tool.proofs.Entries.{with_types, left_length}
+use Rattle.aidl_tool.proofs.Cuts.{left_length}
+use Rattle.aidl_tool.proofs.Entries.{with_types}
 use Rattle.aidl_tool.proofs.types.types_of.Given as goal
 
 -- the types so far, and those of the entries that are left, are those of all
 abbrev pub invariant-entries : goal.invariant-entries
-invariant-entries l = with_types l.known.items (types_of (entries_left (option_map (λ types. types.now) l.left))) ≡ types_of (entries_of l.fn.types)
+invariant-entries l = record {
+  types : with_types l.known.items (types_of l.schema.decls (pieces_left 44 (option_map (λ types. types.now) l.left))) ≡ types_of l.schema.decls (entries_of l.fn.types);
+  known : list_all (is_type l.schema.decls) l.known.items ≡ true;
+}
 
 abbrev pub decreases-entries : goal.decreases-entries
 decreases-entries l = left_length l.left
