@@ -289,3 +289,59 @@ fn encodes_values_and_refuses_the_first_wrong_one(rt: HostRuntime) -> Result<(),
     )?;
     Ok(())
 }
+
+// A value file with one array of so many zeros.
+fn zeros(alloc: Global, count: usize) -> Result<String, OutOfMemory> {
+    let mut text = String::from_str(alloc, "[[0")?;
+    for _ in 1..count {
+        text.push_str(",0")?;
+    }
+    text.push_str("]]")?;
+    Ok(text)
+}
+
+#[test]
+fn encodes_the_largest_parcel_and_none_larger(rt: HostRuntime) -> Result<(), Fail> {
+    let alloc = rt.alloc();
+    let words = words_of(alloc, &["encode", "byte[]", "f"])?;
+    let file = zeros(alloc, 1_048_572)?;
+    let mut store = store_of(alloc, Some(file.as_str()), Row::new(alloc))?;
+    let mut sink = MemSink::new(alloc, Row::new(alloc))?;
+    let mut link = PassLink::new();
+    let exit = aidl(alloc, words.as_slice(), &mut store, &mut sink, &mut link);
+    assert_eq!(rt; exit, 0);
+    assert_eq!(rt; sink.bytes().len(), 2_097_153);
+    assert_eq!(rt; sink.bytes().starts_with(b"fcff0f0000"), true);
+
+    let file = zeros(alloc, 1_048_573)?;
+    let words = ["encode", "byte[]", "f"];
+    let printed = "limit parcel-bytes 1048576\n";
+    assert_run(&rt, alloc, &words, Some(file.as_str()), 7, printed)?;
+    Ok(())
+}
+
+#[test]
+fn decodes_up_to_255_entries(rt: HostRuntime) -> Result<(), Fail> {
+    let alloc = rt.alloc();
+    let mut types = String::from_str(alloc, "int")?;
+    let mut file = String::from_str(alloc, "00000000")?;
+    let mut printed = String::from_str(alloc, "0\n")?;
+    for _ in 1..255 {
+        types.push_str(",int")?;
+        file.push_str("00000000")?;
+        printed.push_str("0\n")?;
+    }
+    let words = ["decode", types.as_str(), "f"];
+    assert_run(&rt, alloc, &words, Some(file.as_str()), 0, printed.as_str())?;
+    types.push_str(",int")?;
+    let words = ["decode", types.as_str(), "f"];
+    assert_run(
+        &rt,
+        alloc,
+        &words,
+        Some(file.as_str()),
+        2,
+        "refused words\n",
+    )?;
+    Ok(())
+}
