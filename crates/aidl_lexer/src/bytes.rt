@@ -17,7 +17,8 @@ pub fn is_letter(b: u8) -> bool
     b.is_ascii_alphabetic() || b == b'_'
 }
 
-fn is_word_byte(b: u8) -> bool
+// A letter, `_` or a digit.
+pub fn is_word_byte(b: u8) -> bool
     ensures { result ≡ class.is_word_byte b }
 {
     is_letter(b) || b.is_ascii_digit()

@@ -5,6 +5,7 @@ mod bytes;
 mod comments;
 mod fault;
 mod fronts;
+mod identifiers;
 mod laws;
 mod lexing;
 mod literals;
@@ -15,5 +16,6 @@ mod tests;
 mod words;
 
 pub use fault::LexFault;
+pub use identifiers::is_identifier;
 pub use laws::law_one_lexing;
 pub use lexing::lex;

@@ -28,8 +28,9 @@ pub fn word_of(bytes: &[u8]) -> &[u8]
     &bytes[..word_len(bytes)]
 }
 
+// The reserved word that the text is.
 #[tactic(auto, unfolding(aidl_syntax::specs::Tables::reserved_of))]
-fn reserved_of(text: &[u8]) -> Option<Reserved>
+pub fn reserved_of(text: &[u8]) -> Option<Reserved>
     ensures { result ≡ tables.reserved_of text.now }
 {
     if text == b"package".as_slice() {
