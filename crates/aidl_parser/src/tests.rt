@@ -401,32 +401,40 @@ fn limits_are_passed_by_one_more(rt: HostRuntime) -> Result<(), Fail> {
     ];
     for (first, times, second, more, wanted) in rows {
         let mut text = String::new(rt.alloc());
-        for _ in 0..times {
-            text.push_str(first)?;
-        }
-        for _ in 0..more {
-            text.push_str(second)?;
-        }
+        push_times(&mut text, first, times)?;
+        push_times(&mut text, second, more)?;
         assert_eq!(rt; fault_of(rt.alloc(), text.as_str())?, wanted);
     }
     Ok(())
 }
 
-// The deepest expressions that the limit on neighbouring tokens allows.
+// The deepest expressions that 256 tokens between two braces allow, and the deepest descent of all, into parentheses that
+// are never closed.
 #[test]
 fn the_deepest_expressions_are_parsed(rt: HostRuntime) -> Result<(), Fail> {
-    for (open, times, close) in [("(", 126, ")"), ("-", 253, "")] {
-        let mut text = String::new(rt.alloc());
-        text.push_str("enum E { A = ")?;
-        for _ in 0..times {
-            text.push_str(open)?;
-        }
+    let alloc = rt.alloc();
+    let syntax = Some(ParseFault::Syntax);
+    let rows = [
+        ("-", 255, ")", 0, None),
+        ("(", 127, ")", 127, None),
+        ("(", 128, ")", 127, syntax),
+        ("(", 255, ")", 0, syntax),
+    ];
+    for (open, times, close, more, wanted) in rows {
+        let mut text = String::new(alloc);
+        text.push_str("parcelable P { int[] a = { ")?;
+        push_times(&mut text, open, times)?;
         text.push_str("1")?;
-        for _ in 0..times {
-            text.push_str(close)?;
-        }
-        text.push_str(" }")?;
-        assert_eq!(rt; fault_of(rt.alloc(), text.as_str())?, None);
+        push_times(&mut text, close, more)?;
+        text.push_str(" }; }")?;
+        assert_eq!(rt; fault_of(alloc, text.as_str())?, wanted, "{times}");
+    }
+    Ok(())
+}
+
+fn push_times(text: &mut String, part: &str, times: usize) -> Result<(), Fail> {
+    for _ in 0..times {
+        text.push_str(part)?;
     }
     Ok(())
 }
