@@ -19,13 +19,11 @@ use Rattle.aidl_tool.specs.Decode.{passes}
 use Rattle.aidl_tool.specs.Encode.{spell_values, values_answer, json_answer, entries_answer, encode_answer}
 use Rattle.aidl_tool.specs.JsonFile.{json_of, values_of}
 use Rattle.aidl_tool.specs.Types.{types_of}
-
-cond_accepted : (passed : Bool) (which : LimitName) (otherwise : Answer) → otherwise.exit ≢ 2 → (cond passed (limit_answer which) otherwise).exit ≢ 2
-cond_accepted true which otherwise other e = absurd (omega arith)
-cond_accepted false which otherwise other e = other e
+use Rattle.aidl_tool.proofs.Parts.{same_front}
+use Rattle.aidl_tool.proofs.Verdicts.{limited_accepted}
 
 passes_accepted : (count : ℕ) (which : LimitName) (otherwise : Answer) → otherwise.exit ≢ 2 → (passes count which otherwise).exit ≢ 2
-passes_accepted count which otherwise other e = cond_accepted (nat_lt (limit_number which) count) which otherwise other e
+passes_accepted count which otherwise other e = limited_accepted (nat_lt (limit_number which) count) which otherwise other e
 
 module _ (S : List Decl) where
   values_accepted : (ts : List AidlType) (r : refusal.Answer (List Data)) → (values_answer S ts r).exit ≢ 2
@@ -45,22 +43,6 @@ module _ (S : List Decl) where
   encode_accepted types path None e = absurd (omega arith)
   encode_accepted types path (Some file) e =
       passes_accepted (length file) TextBytes (entries_answer S (types_of S (entries_of types)) file) (entries_accepted (types_of S (entries_of types)) file) e
-
-module _ (most : ℕ) (file : List ℕ) where
-  -- the front of a file of at most so many bytes is the file, and that of a longer one is too long
-  whole_front : length file ≤ most → front_of most file ≡ file
-  unfolding front_of
-  whole_front le = take_all (most + 1) file (omega arith)
-
-  long_front : most < length file → most < length (front_of most file)
-  unfolding front_of
-  long_front lt = let n : length (take (most + 1) file) ≡ most + 1 = length-take-le (most + 1) file (omega arith) in omega arith
-
-  -- so a test of the length, and what else is said of it, are the same of both
-  same_front : (x : Answer) (answer_of : List ℕ → Answer) (long : Bool) → nat_lt most (length file) ≡ long
-      → cond (nat_lt most (length (front_of most file))) x (answer_of (front_of most file)) ≡ cond (nat_lt most (length file)) x (answer_of file)
-  same_front x answer_of true e = let test = lt-ltb most (length (front_of most file)) (long_front (ltb-true most (length file) e)) in rw (test, e) refl
-  same_front x answer_of false e = ap (λ f. cond (nat_lt most (length f)) x (answer_of f)) (whole_front (ltb-false most (length file) e))
 
 -- encode answers the same of a file and of its front
 pub encode_front : (S : List Decl) (types path : List ℕ) (o : Option (List ℕ)) (r : Option (Vec ℕ Global)) → IsRead 16777216 o r

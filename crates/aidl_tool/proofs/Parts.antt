@@ -36,7 +36,7 @@ module _ (most : ℕ) (file : List ℕ) where
   long_front lt = let n : length (take (most + 1) file) ≡ most + 1 = length-take-le (most + 1) file (omega arith) in omega arith
 
   -- a test of the length, and what else is said of it, are the same of a file and of its front
-  same_front : (x : Answer) (answer_of : List ℕ → Answer) (long : Bool) → nat_lt most (length file) ≡ long
+  pub same_front : (x : Answer) (answer_of : List ℕ → Answer) (long : Bool) → nat_lt most (length file) ≡ long
       → cond (nat_lt most (length (front_of most file))) x (answer_of (front_of most file)) ≡ cond (nat_lt most (length file)) x (answer_of file)
   same_front x answer_of true e = let test = lt-ltb most (length (front_of most file)) (long_front (ltb-true most (length file) e)) in rw (test, e) refl
   same_front x answer_of false e = ap (λ f. cond (nat_lt most (length f)) x (answer_of f)) (whole_front (ltb-false most (length file) e))

@@ -22,7 +22,8 @@ item_accepted : (S : List Decl) (t : AidlType) (r : Result (Data × List ℕ) �
 item_accepted S t (Ok x) others all e = all x.1 e
 item_accepted S t (Err status) others all e = absurd (omega arith)
 
-limited_accepted : (passed : Bool) (which : LimitName) (otherwise : Answer) → otherwise.exit ≢ 2 → (cond passed (limit_answer which) otherwise).exit ≢ 2
+-- a limit's answer isn't that of refused words
+pub limited_accepted : (passed : Bool) (which : LimitName) (otherwise : Answer) → otherwise.exit ≢ 2 → (cond passed (limit_answer which) otherwise).exit ≢ 2
 limited_accepted true which otherwise other e = absurd (omega arith)
 limited_accepted false which otherwise other e = other e
 

@@ -35,7 +35,7 @@ pub fn answer_of(
 {
     match file {
         None => line_of(alloc, "no file ", path, Verdict::Negative),
-        Some(file) => answer_of_file(alloc, schema, types, file.as_slice()),
+        Some(file) => answer_of_file(alloc, schema, types, file),
     }
 }
 
@@ -43,10 +43,10 @@ fn answer_of_file(
     alloc: Global,
     schema: &Schema,
     types: &str,
-    file: &[u8],
+    file: Vec<u8>,
 ) -> Result<Printed, OutOfMemory>
-    ensures text { IfOk result (λ p. string_bytes p.text ≡ (passes (length file.now) LimitName.TextBytes (bytes_answer schema.now.decls types.now (hexadecimal file.now))).text) }
-    ensures exit { IfOk result (λ p. exit_of p.verdict ≡ (passes (length file.now) LimitName.TextBytes (bytes_answer schema.now.decls types.now (hexadecimal file.now))).exit) }
+    ensures text { IfOk result (λ p. string_bytes p.text ≡ (passes (length file.items) LimitName.TextBytes (bytes_answer schema.now.decls types.now (hexadecimal file.items))).text) }
+    ensures exit { IfOk result (λ p. exit_of p.verdict ≡ (passes (length file.items) LimitName.TextBytes (bytes_answer schema.now.decls types.now (hexadecimal file.items))).exit) }
 {
     if file.len() > LimitName::TextBytes.number() as usize {
         return limit_passed(alloc, LimitName::TextBytes);

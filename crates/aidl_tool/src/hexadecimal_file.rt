@@ -9,10 +9,10 @@ use std::alloc::Global;
 
 /// The bytes that a hexadecimal file stands for. None where a byte stands that is neither a digit nor a blank, or
 /// where the number of digits is odd.
-pub fn bytes_of(alloc: Global, file: &[u8]) -> Result<Option<Vec<u8>>, OutOfMemory>
-    ensures { IfOk result (λ bytes. option_map (λ v. v.items) bytes ≡ hexadecimal file.now) }
+pub fn bytes_of(alloc: Global, file: Vec<u8>) -> Result<Option<Vec<u8>>, OutOfMemory>
+    ensures { IfOk result (λ bytes. option_map (λ v. v.items) bytes ≡ hexadecimal file.items) }
 {
-    let digits = digits_of(alloc, file)?;
+    let digits = digits_of(file);
     match hex::decode(alloc, digits.as_slice()) {
         Ok(bytes) => Ok(Some(bytes)),
         Err(FromHexError::OutOfMemory) => Err(OutOfMemory),
@@ -21,16 +21,12 @@ pub fn bytes_of(alloc: Global, file: &[u8]) -> Result<Option<Vec<u8>>, OutOfMemo
 }
 
 // The file without its blanks.
-fn digits_of(alloc: Global, file: &[u8]) -> Result<Vec<u8>, OutOfMemory>
-    ensures { IfOk result (λ digits. digits.items ≡ filter (λ b. not (is_blank b)) file.now) }
+fn digits_of(file: Vec<u8>) -> Vec<u8>
+    ensures { result.items ≡ filter (λ b. not (is_blank b)) file.items }
 {
-    let mut digits = Vec::with_capacity(alloc, file.len())?;
-    for byte in file {
-        if !is_blank(*byte) {
-            digits.push(*byte)?;
-        }
-    }
-    Ok(digits)
+    let mut digits = file;
+    digits.retain(|byte| !is_blank(*byte));
+    digits
 }
 
 fn is_blank(byte: u8) -> bool

@@ -179,43 +179,45 @@ fn an_entry_that_names_no_type_is_shown(rt: HostRuntime) -> Result<(), Fail> {
     Ok(())
 }
 
+// Types, a file, the exit and what is printed.
+const DECODES: [(&str, &str, u8, &str); 17] = [
+    ("byte", "80ffffff", 0, "-128\n"),
+    ("byte", "80000000", 1, "status -22\n"),
+    ("char", "ffff0000", 0, "65535\n"),
+    ("char", "00000100", 1, "status -22\n"),
+    ("String", "02000000 00d800dc 00000000", 0, "\"\u{10000}\"\n"),
+    ("String", "01000000 00d80000", 1, "status -22\n"),
+    ("String", "01000000 61000100", 1, "status -22\n"),
+    ("String?", "ffffffff", 0, "null\n"),
+    ("String", "ffffffff", 1, "status -2147483640\n"),
+    ("String?", "feffffff", 1, "status -22\n"),
+    (
+        "String[]?",
+        "02000000 01000000 61000000 ffffffff",
+        0,
+        "[\"a\",null]\n",
+    ),
+    (
+        "String[]",
+        "02000000 01000000 61000000 ffffffff",
+        1,
+        "status -2147483640\n",
+    ),
+    ("String[]?", "ffffffff", 0, "null\n"),
+    ("List<String>", "01000000 01000000 61000000", 0, "[\"a\"]\n"),
+    (
+        "byte[],byte[]",
+        "05000000 010203ff 05000000 00000000",
+        0,
+        "[1,2,3,-1,5]\n[]\n",
+    ),
+    ("int[]", "feffffff", 1, "status -22\n"),
+    ("int[]", "ffffff7f", 1, "status -61\n"),
+];
+
 #[test]
 fn decodes_all_built_in_types(rt: HostRuntime) -> Result<(), Fail> {
-    let runs = [
-        ("byte", "80ffffff", 0, "-128\n"),
-        ("byte", "80000000", 1, "status -22\n"),
-        ("char", "ffff0000", 0, "65535\n"),
-        ("char", "00000100", 1, "status -22\n"),
-        ("String", "02000000 00d800dc 00000000", 0, "\"\u{10000}\"\n"),
-        ("String", "01000000 00d80000", 1, "status -22\n"),
-        ("String", "01000000 61000100", 1, "status -22\n"),
-        ("String?", "ffffffff", 0, "null\n"),
-        ("String", "ffffffff", 1, "status -2147483640\n"),
-        ("String?", "feffffff", 1, "status -22\n"),
-        (
-            "String[]?",
-            "02000000 01000000 61000000 ffffffff",
-            0,
-            "[\"a\",null]\n",
-        ),
-        (
-            "String[]",
-            "02000000 01000000 61000000 ffffffff",
-            1,
-            "status -2147483640\n",
-        ),
-        ("String[]?", "ffffffff", 0, "null\n"),
-        ("List<String>", "01000000 01000000 61000000", 0, "[\"a\"]\n"),
-        (
-            "byte[],byte[]",
-            "05000000 010203ff 05000000 00000000",
-            0,
-            "[1,2,3,-1,5]\n[]\n",
-        ),
-        ("int[]", "feffffff", 1, "status -22\n"),
-        ("int[]", "ffffff7f", 1, "status -61\n"),
-    ];
-    for (types, file, exit, printed) in runs {
+    for (types, file, exit, printed) in DECODES {
         assert_run(
             &rt,
             rt.alloc(),
@@ -228,48 +230,50 @@ fn decodes_all_built_in_types(rt: HostRuntime) -> Result<(), Fail> {
     Ok(())
 }
 
+// Types, a file of values, the exit and what is printed.
+const ENCODES: [(&str, &str, u8, &str); 12] = [
+    (
+        "String,String,String",
+        "[\"\",\"a\",\"hi\"]",
+        0,
+        "00000000000000000100000061000000020000006800690000000000\n",
+    ),
+    (
+        "byte[],byte[]",
+        "[[1,2,3,-1,5],[]]",
+        0,
+        "05000000010203ff0500000000000000\n",
+    ),
+    (
+        "byte[],byte[]",
+        "[[128],[]]",
+        1,
+        "refused OutOfRange /0/0\n",
+    ),
+    ("int", "", 1, "refused NotJson \n"),
+    ("int", "5", 1, "refused WrongShape \n"),
+    ("int", "[5,6]", 1, "refused WrongShape \n"),
+    ("int", "[1.0]", 1, "refused WrongShape /0\n"),
+    ("int", "[-0]", 1, "refused WrongShape /0\n"),
+    (
+        "long",
+        "[18446744073709551615]",
+        1,
+        "refused OutOfRange /0\n",
+    ),
+    ("String", "[\"\\ud800\"]", 1, "refused NotJson \n"),
+    (
+        "String[]?",
+        "[[\"a\",null]]",
+        0,
+        "020000000100000061000000ffffffff\n",
+    ),
+    ("boolean,char", "[true,65535]", 0, "01000000ffff0000\n"),
+];
+
 #[test]
 fn encodes_values_and_refuses_the_first_wrong_one(rt: HostRuntime) -> Result<(), Fail> {
-    let runs = [
-        (
-            "String,String,String",
-            "[\"\",\"a\",\"hi\"]",
-            0,
-            "00000000000000000100000061000000020000006800690000000000\n",
-        ),
-        (
-            "byte[],byte[]",
-            "[[1,2,3,-1,5],[]]",
-            0,
-            "05000000010203ff0500000000000000\n",
-        ),
-        (
-            "byte[],byte[]",
-            "[[128],[]]",
-            1,
-            "refused OutOfRange /0/0\n",
-        ),
-        ("int", "", 1, "refused NotJson \n"),
-        ("int", "5", 1, "refused WrongShape \n"),
-        ("int", "[5,6]", 1, "refused WrongShape \n"),
-        ("int", "[1.0]", 1, "refused WrongShape /0\n"),
-        ("int", "[-0]", 1, "refused WrongShape /0\n"),
-        (
-            "long",
-            "[18446744073709551615]",
-            1,
-            "refused OutOfRange /0\n",
-        ),
-        ("String", "[\"\\ud800\"]", 1, "refused NotJson \n"),
-        (
-            "String[]?",
-            "[[\"a\",null]]",
-            0,
-            "020000000100000061000000ffffffff\n",
-        ),
-        ("boolean,char", "[true,65535]", 0, "01000000ffff0000\n"),
-    ];
-    for (types, file, exit, printed) in runs {
+    for (types, file, exit, printed) in ENCODES {
         assert_run(
             &rt,
             rt.alloc(),
