@@ -45,55 +45,62 @@ fn again(alloc: Global, ty: AidlType, text: &str) -> Result<String, Fail> {
     }
 }
 
+// A type's base, shape and whether it may be null; a JSON text; and its value written again, or the refusal.
+const ROWS: [(Base, Shape, bool, &str, &str); 18] = [
+    (Base::Boolean, Shape::One, false, "true", "true"),
+    (Base::Boolean, Shape::One, false, "0", "WrongShape "),
+    (Base::Byte, Shape::One, false, "-128", "-128"),
+    (Base::Byte, Shape::One, false, "128", "OutOfRange "),
+    (Base::Char, Shape::One, false, "65536", "OutOfRange "),
+    (Base::Int, Shape::One, false, "1.0", "WrongShape "),
+    (Base::Int, Shape::One, false, "-0", "WrongShape "),
+    (
+        Base::Long,
+        Shape::One,
+        false,
+        "9223372036854775807",
+        "9223372036854775807",
+    ),
+    (
+        Base::Long,
+        Shape::One,
+        false,
+        "9223372036854775808",
+        "OutOfRange ",
+    ),
+    (
+        Base::Long,
+        Shape::One,
+        false,
+        "18446744073709551616",
+        "WrongShape ",
+    ),
+    (Base::Text, Shape::One, false, "null", "WrongShape "),
+    (Base::Text, Shape::One, true, "null", "null"),
+    (Base::Text, Shape::One, false, "\"hi\"", "\"hi\""),
+    (Base::Int, Shape::Array, true, "[1,null]", "WrongShape /1"),
+    (Base::Int, Shape::Array, false, "[5,-1]", "[5,-1]"),
+    (
+        Base::Byte,
+        Shape::Array,
+        false,
+        "[1,2,300,null]",
+        "OutOfRange /2",
+    ),
+    (
+        Base::Text,
+        Shape::Array,
+        true,
+        "[\"a\",null]",
+        "[\"a\",null]",
+    ),
+    (Base::Text, Shape::List, false, "{}", "WrongShape "),
+];
+
 #[test]
 fn values_and_refusals_of_the_built_in_types(rt: HostRuntime) -> Result<(), Fail> {
-    let one = Shape::One;
-    let rows = [
-        (of(Base::Boolean, one, false), "true", "true"),
-        (of(Base::Boolean, one, false), "0", "WrongShape "),
-        (of(Base::Byte, one, false), "-128", "-128"),
-        (of(Base::Byte, one, false), "128", "OutOfRange "),
-        (of(Base::Char, one, false), "65536", "OutOfRange "),
-        (of(Base::Int, one, false), "1.0", "WrongShape "),
-        (of(Base::Int, one, false), "-0", "WrongShape "),
-        (
-            of(Base::Long, one, false),
-            "9223372036854775807",
-            "9223372036854775807",
-        ),
-        (
-            of(Base::Long, one, false),
-            "9223372036854775808",
-            "OutOfRange ",
-        ),
-        (
-            of(Base::Long, one, false),
-            "18446744073709551616",
-            "WrongShape ",
-        ),
-        (of(Base::Text, one, false), "null", "WrongShape "),
-        (of(Base::Text, one, true), "null", "null"),
-        (of(Base::Text, one, false), "\"hi\"", "\"hi\""),
-        (
-            of(Base::Int, Shape::Array, true),
-            "[1,null]",
-            "WrongShape /1",
-        ),
-        (of(Base::Int, Shape::Array, false), "[5,-1]", "[5,-1]"),
-        (
-            of(Base::Byte, Shape::Array, false),
-            "[1,2,300,null]",
-            "OutOfRange /2",
-        ),
-        (
-            of(Base::Text, Shape::Array, true),
-            "[\"a\",null]",
-            "[\"a\",null]",
-        ),
-        (of(Base::Text, Shape::List, false), "{}", "WrongShape "),
-    ];
-    for (ty, text, expected) in rows {
-        let found = again(rt.alloc(), ty, text)?;
+    for (base, shape, nullable, text, expected) in ROWS {
+        let found = again(rt.alloc(), of(base, shape, nullable), text)?;
         assert_eq!(rt; found.as_str(), expected);
     }
     Ok(())

@@ -46,7 +46,7 @@ fn told(alloc: Global, schema: &Schema, ty: AidlType, bytes: &[u8]) -> Result<St
 }
 
 #[test]
-fn words_are_read_in_their_range(rt: HostRuntime) -> Result<(), Fail> {
+fn ints_and_longs_are_read(rt: HostRuntime) -> Result<(), Fail> {
     let alloc = rt.alloc();
     let schema = Schema::empty(alloc);
     let int = one(Base::Int, false);
@@ -64,6 +64,13 @@ fn words_are_read_in_their_range(rt: HostRuntime) -> Result<(), Fail> {
         told(alloc, &schema, long, &[255; 7])?.as_str(),
         "status -61"
     );
+    Ok(())
+}
+
+#[test]
+fn booleans_bytes_and_chars_are_read_in_their_range(rt: HostRuntime) -> Result<(), Fail> {
+    let alloc = rt.alloc();
+    let schema = Schema::empty(alloc);
     let truth = one(Base::Boolean, false);
     assert_eq!(rt;
         told(alloc, &schema, truth, &[1, 0, 0, 0])?.as_str(),
@@ -95,7 +102,7 @@ fn words_are_read_in_their_range(rt: HostRuntime) -> Result<(), Fail> {
 }
 
 #[test]
-fn texts_and_arrays_are_read_whole(rt: HostRuntime) -> Result<(), Fail> {
+fn texts_are_read_whole(rt: HostRuntime) -> Result<(), Fail> {
     let alloc = rt.alloc();
     let schema = Schema::empty(alloc);
     let null = [255, 255, 255, 255];
@@ -123,6 +130,13 @@ fn texts_and_arrays_are_read_whole(rt: HostRuntime) -> Result<(), Fail> {
         told(alloc, &schema, maybe, &[254, 255, 255, 255])?.as_str(),
         "status -22"
     );
+    Ok(())
+}
+
+#[test]
+fn arrays_of_bytes_are_read_with_their_padding(rt: HostRuntime) -> Result<(), Fail> {
+    let alloc = rt.alloc();
+    let schema = Schema::empty(alloc);
     let bytes = array(Base::Byte, false);
     assert_eq!(rt;
         told(alloc, &schema, bytes, &[2, 0, 0, 0, 1, 255, 0, 0])?.as_str(),
@@ -132,6 +146,14 @@ fn texts_and_arrays_are_read_whole(rt: HostRuntime) -> Result<(), Fail> {
         told(alloc, &schema, bytes, &[2, 0, 0, 0, 1, 255, 1, 0])?.as_str(),
         "status -22"
     );
+    Ok(())
+}
+
+#[test]
+fn other_arrays_are_read_element_by_element(rt: HostRuntime) -> Result<(), Fail> {
+    let alloc = rt.alloc();
+    let schema = Schema::empty(alloc);
+    let null = [255, 255, 255, 255];
     let texts = array(Base::Text, true);
     let two = [2, 0, 0, 0, 1, 0, 0, 0, 97, 0, 0, 0, 255, 255, 255, 255];
     assert_eq!(rt;
