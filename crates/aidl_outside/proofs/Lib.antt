@@ -1,3 +1,5 @@
 pub mod Below
+pub mod Halves
 pub mod Kept
+pub mod Numbers
 pub mod Places

@@ -1,5 +1,5 @@
-ghost use Rattle.std.specs.Prelude.{◌≡◌, MatchBool};
-ghost use Rattle.aidl_outside.specs.Causes.{Rose};
+ghost use Rattle.std.specs.Prelude.{◌≡◌, ◌↔◌, ◌-◌, ◌^◌, ℕ, [], min, Contains, IsTrue};
+ghost use Rattle.aidl_outside.specs.Failing.{uncounted, fails_next, counted, after_calls};
 
 use aidl_base::Row;
 
@@ -12,8 +12,9 @@ pub struct Failures {
 }
 
 impl Failures {
+    /// The calls with these numbers fail. No call is counted yet.
     pub fn new(failing: Row<u64>) -> Failures
-        ensures { result.faults ≡ 0 }
+        ensures { result ≡ uncounted failing }
     {
         Failures {
             failing,
@@ -24,7 +25,8 @@ impl Failures {
 
     /// Counts a call, and answers whether it fails.
     pub fn fails_now(&mut self) -> bool
-        ensures { MatchBool result (Rose self.old.faults self.new.faults) (self.new.faults ≡ self.old.faults) }
+        ensures fails { result ≡ fails_next self.old }
+        ensures counts { self.new ≡ counted self.old }
     {
         let call = self.calls;
         self.calls = self.calls.saturating_add(1);
@@ -35,3 +37,14 @@ impl Failures {
         fails
     }
 }
+
+/// A call fails exactly where its 0-based number was given. Each call past `u64::MAX` has that number.
+pub fn law_fails_by_number(failing: &[u64])
+    ensures { (count : ℕ) → (IsTrue (fails_next (after_calls count (uncounted failing.now)))
+        ↔ Contains failing.now (min count (2 ^ 64 - 1))) }
+{}
+
+/// Where no number was given, no fault is ever counted.
+pub fn law_no_number_no_fault()
+    ensures { (count : ℕ) → (after_calls count (uncounted [])).faults ≡ 0 }
+{}

@@ -18,8 +18,10 @@ pub struct FolderStore<'a, R: Files> {
 }
 
 impl<'a, R: Files> FolderStore<'a, R> {
-    /// The files that the runtime reaches. It takes no memory.
-    pub fn new(runtime: &'a R) -> FolderStore<'a, R> {
+    /// The files that the runtime reaches, with no fault counted. It takes no memory.
+    pub fn new(runtime: &'a R) -> FolderStore<'a, R>
+        ensures { result.faults ≡ 0 }
+    {
         FolderStore { runtime, faults: 0 }
     }
 }

@@ -11,6 +11,7 @@ mod sink;
 mod stdout_sink;
 mod store;
 
+pub use failures::{law_fails_by_number, law_no_number_no_fault};
 pub use folder_store::FolderStore;
 pub use link::{Carried, CarryFault, Link, Way};
 pub use mem_sink::MemSink;
@@ -19,3 +20,6 @@ pub use pass_link::PassLink;
 pub use sink::{Sink, SinkFault};
 pub use stdout_sink::StdoutSink;
 pub use store::{Store, StoreFault};
+
+#[cfg(test)]
+mod tests;

@@ -1,5 +1,7 @@
-ghost use Rattle.std.specs.Prelude.{◌≡◌, Some, [], IfOk};
-ghost use Rattle.aidl_outside.specs.Told.{AddsFront};
+ghost use Rattle.std.specs.Prelude.{◌≡◌, Some, [], IfOk, IsOk, IsTrue, vec_capacity};
+ghost use Rattle.aidl_outside.specs.Causes.{SinkCause};
+ghost use Rattle.aidl_outside.specs.Failing.{AddsHalf, uncounted, counted, fails_next, sink_failed};
+ghost use Rattle.aidl_outside.specs.Told.{Puts};
 
 use crate::failures::Failures;
 use crate::sink::{Sink, SinkFault};
@@ -14,11 +16,14 @@ pub struct MemSink {
 }
 
 impl MemSink {
-    ghost use Rattle.aidl_outside.specs.Mem.{sink_bytes};
+    ghost use Rattle.aidl_outside.specs.Mem.{sink_bytes, sink_failures};
 
-    /// The empty sink, whose calls with the 0-based numbers in `failing` fail. With none its count never rises.
+    /// The empty sink, whose calls with the 0-based numbers in `failing` fail. With none its count never rises. It
+    /// takes no memory.
     pub fn new(alloc: Global, failing: Row<u64>) -> Result<MemSink, OutOfMemory>
-        ensures { IfOk result (λ sink. sink_bytes sink ≡ []) }
+        ensures made { IsOk result }
+        ensures bytes { IfOk result (λ sink. sink_bytes sink ≡ []) }
+        ensures failures { IfOk result (λ sink. sink_failures sink ≡ uncounted failing) }
     {
         Ok(MemSink {
             bytes: Vec::new(alloc),
@@ -35,13 +40,19 @@ impl MemSink {
 }
 
 impl Sink for MemSink {
-    ghost use Rattle.aidl_outside.specs.Mem.{sink_bytes};
+    ghost use Rattle.aidl_outside.specs.Mem.{sink_bytes, sink_failures, sink_room};
 
     ghost told = { λ sink. Some (sink_bytes sink) };
 
     ghost count = { λ sink. sink.failures.faults };
 
-    fn put(&mut self, _alloc: Global, bytes: &[u8]) -> Result<(), SinkFault> {
+    fn put(&mut self, _alloc: Global, bytes: &[u8]) -> Result<(), SinkFault>
+        ensures bytes { Puts (Some (sink_bytes self.old)) (Some (sink_bytes self.new)) bytes.now result }
+        ensures cause { SinkCause (sink_failures self.old).faults (sink_failures self.new).faults result }
+        ensures failed { sink_failed result ≡ fails_next (sink_failures self.old) }
+        ensures counts { sink_failures self.new ≡ counted (sink_failures self.old) }
+        ensures half { IsTrue (sink_failed result) → AddsHalf (sink_room self.old) (sink_bytes self.old) (sink_bytes self.new) bytes.now }
+    {
         if self.failures.fails_now() {
             add_half(&mut self.bytes, bytes);
             return Err(SinkFault::Failed);
@@ -59,7 +70,7 @@ impl Sink for MemSink {
 
 // Adds the first half of the piece, rounded down, where memory is there, and else nothing.
 fn add_half(bytes: &mut Vec<u8>, piece: &[u8])
-    ensures { AddsFront (Some bytes.old.items) (Some bytes.new.items) piece.now }
+    ensures { AddsHalf (vec_capacity bytes.old) bytes.old.items bytes.new.items piece.now }
 {
     let (half, _) = piece.split_at(piece.len() / 2);
     let _added = bytes.extend_from_slice(half);

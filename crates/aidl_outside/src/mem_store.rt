@@ -4,8 +4,11 @@ ghost use Rattle.std.specs.List.{filter_map};
 ghost use Rattle.std.specs.Ordering.{nat_cmp};
 ghost use Rattle.std.specs.Cmp.Lexicographic.{slice_cmp};
 ghost use Rattle.std.specs.FinMap.Entries.{is_sorted, put};
+ghost use Rattle.aidl_outside.specs.Causes.{StoreCause};
 ghost use Rattle.aidl_outside.specs.Entries.{entries, file_at, files_of, sorted_files, place_in, IsPlaceWithin, path_of};
-ghost use Rattle.aidl_outside.specs.Files.{IsRead, IsWithin, below, front_of};
+ghost use Rattle.aidl_outside.specs.Failing.{SetsHalf, uncounted, counted, fails_next, store_failed};
+ghost use Rattle.aidl_outside.specs.Files.{IsRead, IsWithin, below, front_of, is_ascending, listing};
+ghost use Rattle.aidl_outside.specs.Writes.{Writes};
 
 use crate::failures::Failures;
 use crate::store::{Store, StoreFault};
@@ -22,7 +25,7 @@ pub struct MemStore {
 }
 
 impl MemStore {
-    ghost use Rattle.aidl_outside.specs.Mem.{store_files, faults_of};
+    ghost use Rattle.aidl_outside.specs.Mem.{store_files, store_failures};
     ghost use Rattle.std.specs.FinMap as files_map;
 
     /// The store of these files, whose calls with the 0-based numbers in `failing` fail. With none its count never
@@ -32,7 +35,8 @@ impl MemStore {
         files: Row<SourceFile>,
         failing: Row<u64>,
     ) -> Result<MemStore, OutOfMemory>
-        ensures { IfOk result (λ store. store_files store ≡ files_of files) }
+        ensures files { IfOk result (λ store. store_files store ≡ files_of files) }
+        ensures failures { IfOk result (λ store. store_failures store ≡ uncounted failing) }
     {
         let mut store = MemStore {
             files: Vec::new(alloc),
@@ -65,20 +69,28 @@ impl MemStore {
     fn set(&mut self, file: SourceFile) -> Result<(), OutOfMemory>
         ensures ok { OnOk result (store_files self.new ≡ files_map.insert (store_files self.old) (path_of file) file.bytes) }
         ensures err { OnErr result (store_files self.new ≡ store_files self.old) }
-        ensures faults { faults_of self.new ≡ faults_of self.old }
+        ensures failures { store_failures self.new ≡ store_failures self.old }
     {
         set_in(&mut self.files, file)
     }
 }
 
 impl Store for MemStore {
-    ghost use Rattle.aidl_outside.specs.Mem.{store_files, faults_of};
+    ghost use Rattle.aidl_outside.specs.Mem.{store_files, store_failures, faults_of};
+    ghost use Rattle.std.specs.FinMap as files_map;
 
     ghost kept = { λ store. Some (store_files store) };
 
     ghost count = { λ store. faults_of store };
 
-    fn list(&mut self, alloc: Global, root: &str) -> Result<Vec<String>, StoreFault> {
+    fn list(&mut self, alloc: Global, root: &str) -> Result<Vec<String>, StoreFault>
+        ensures listed { IfOk result (λ paths. map string_bytes paths.items ≡ listing root.now (store_files self.old)) }
+        ensures ascending { IfOk result (λ paths. is_ascending (map string_bytes paths.items) ≡ true) }
+        ensures unchanged { store_files self.new ≡ store_files self.old }
+        ensures cause { StoreCause (faults_of self.old) (faults_of self.new) result }
+        ensures failed { store_failed result ≡ fails_next (store_failures self.old) }
+        ensures counts { store_failures self.new ≡ counted (store_failures self.old) }
+    {
         if self.failures.fails_now() {
             return Err(StoreFault::Failed);
         }
@@ -93,7 +105,15 @@ impl Store for MemStore {
         alloc: Global,
         path: &str,
         most: usize,
-    ) -> Result<Option<Vec<u8>>, StoreFault> {
+    ) -> Result<Option<Vec<u8>>, StoreFault>
+        requires { most < usize.MAX }
+        ensures found { IfOk result (λ file. IsRead most (files_map.get (store_files self.old) path.now) file) }
+        ensures within { IfOk result (IsWithin most) }
+        ensures unchanged { store_files self.new ≡ store_files self.old }
+        ensures cause { StoreCause (faults_of self.old) (faults_of self.new) result }
+        ensures failed { store_failed result ≡ fails_next (store_failures self.old) }
+        ensures counts { store_failures self.new ≡ counted (store_failures self.old) }
+    {
         if self.failures.fails_now() {
             return Err(StoreFault::Failed);
         }
@@ -103,7 +123,13 @@ impl Store for MemStore {
         }
     }
 
-    fn write(&mut self, alloc: Global, path: &str, bytes: &[u8]) -> Result<(), StoreFault> {
+    fn write(&mut self, alloc: Global, path: &str, bytes: &[u8]) -> Result<(), StoreFault>
+        ensures written { Writes (Some (store_files self.old)) (Some (store_files self.new)) path.now bytes.now result }
+        ensures cause { StoreCause (faults_of self.old) (faults_of self.new) result }
+        ensures failed { store_failed result ≡ fails_next (store_failures self.old) }
+        ensures counts { store_failures self.new ≡ counted (store_failures self.old) }
+        ensures half { IsTrue (store_failed result) → SetsHalf (store_files self.old) (store_files self.new) path.now bytes.now }
+    {
         if self.failures.fails_now() {
             let (half, _) = bytes.split_at(bytes.len() / 2);
             let _kept = self.set_bytes(alloc, path, half);
@@ -245,14 +271,14 @@ fn relative<'a>(root: &str, path: &'a str) -> Option<&'a str>
 }
 
 impl MemStore {
-    ghost use Rattle.aidl_outside.specs.Mem.{store_files, faults_of};
+    ghost use Rattle.aidl_outside.specs.Mem.{store_files, store_failures};
     ghost use Rattle.std.specs.FinMap as files_map;
 
     // Sets the bytes at a path. On a refusal the store is as it was.
     fn set_bytes(&mut self, alloc: Global, path: &str, bytes: &[u8]) -> Result<(), OutOfMemory>
         ensures ok { OnOk result (store_files self.new ≡ files_map.insert (store_files self.old) path.now bytes.now) }
         ensures err { OnErr result (store_files self.new ≡ store_files self.old) }
-        ensures faults { faults_of self.new ≡ faults_of self.old }
+        ensures failures { store_failures self.new ≡ store_failures self.old }
     {
         let file = file_of(alloc, path, bytes)?;
         self.set(file)

@@ -11,8 +11,10 @@ pub struct PassLink {
 }
 
 impl PassLink {
-    /// The link. It takes no memory.
-    pub fn new() -> PassLink {
+    /// The link, with no fault counted. It takes no memory.
+    pub fn new() -> PassLink
+        ensures { result.faults ≡ 0 }
+    {
         PassLink { faults: 0 }
     }
 }

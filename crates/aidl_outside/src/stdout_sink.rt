@@ -1,4 +1,4 @@
-ghost use Rattle.std.specs.Prelude.{None};
+ghost use Rattle.std.specs.Prelude.{◌≡◌, None};
 
 use crate::sink::{Sink, SinkFault};
 use std::alloc::Global;
@@ -11,8 +11,10 @@ pub struct StdoutSink<'a, R: Print> {
 }
 
 impl<'a, R: Print> StdoutSink<'a, R> {
-    /// The standard output of the runtime. It takes no memory.
-    pub fn new(runtime: &'a R) -> StdoutSink<'a, R> {
+    /// The standard output of the runtime, with no fault counted. It takes no memory.
+    pub fn new(runtime: &'a R) -> StdoutSink<'a, R>
+        ensures { result.faults ≡ 0 }
+    {
         StdoutSink { runtime, faults: 0 }
     }
 }
