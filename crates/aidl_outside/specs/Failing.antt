@@ -7,6 +7,8 @@ use Rattle.aidl_outside.specs.declared.store.StoreFault.{StoreFault}
 use Rattle.aidl_outside.specs.declared.store.StoreFault.TheVariants as store
 use Rattle.aidl_outside.specs.declared.sink.SinkFault.{SinkFault}
 use Rattle.aidl_outside.specs.declared.sink.SinkFault.TheVariants as sink
+use Rattle.aidl_outside.specs.declared.link.CarryFault.{CarryFault}
+use Rattle.aidl_outside.specs.declared.link.CarryFault.TheVariants as link
 use Rattle.aidl_outside.specs.Files.{Files}
 
 -- one more, or the greatest of the type
@@ -41,6 +43,12 @@ abbrev pub sink_failed : {T : Type 0} → Result T SinkFault → Bool
 sink_failed (Ok x) = false
 sink_failed (Err sink.Failed) = true
 sink_failed (Err sink.OutOfMemory) = false
+
+-- a link's call is answered by `Failed`
+abbrev pub carry_failed : {T : Type 0} → Result T CarryFault → Bool
+carry_failed (Ok x) = false
+carry_failed (Err link.Failed) = true
+carry_failed (Err link.OutOfMemory) = false
 
 -- the first half, rounded down
 abbrev pub half_of : List ℕ → List ℕ

@@ -34,6 +34,10 @@ enum NoBytes {
 }
 
 impl From<AllocError> for NoBytes {
+    ghost use Rattle.aidl_outside.specs.declared.folder_store.NoBytes.TheVariants.{OutOfMemory};
+
+    ghost from_gives = { λ _ cause. cause ≡ OutOfMemory };
+
     fn from(_fault: AllocError) -> NoBytes {
         NoBytes::OutOfMemory
     }

@@ -1,4 +1,7 @@
-ghost use Rattle.std.specs.Prelude.{◌≡◌, None, true};
+ghost use Rattle.std.specs.Prelude.{◌≡◌, None, true, false, IfOk};
+ghost use Rattle.aidl_outside.specs.Carries.{Carries};
+ghost use Rattle.aidl_outside.specs.Causes.{CarryCause};
+ghost use Rattle.aidl_outside.specs.Failing.{carry_failed};
 
 use crate::link::{CarryFault, Link, Way};
 use std::alloc::Global;
@@ -29,10 +32,16 @@ impl Link for PassLink {
     fn carry(
         &mut self,
         alloc: Global,
-        _way: Way,
-        _code: u32,
+        way: Way,
+        code: u32,
         bytes: &[u8],
-    ) -> Result<Vec<u8>, CarryFault> {
+    ) -> Result<Vec<u8>, CarryFault>
+        ensures carried { Carries None None way code bytes.now result }
+        ensures faithful { IfOk result (λ delivered. delivered.items ≡ bytes.now) }
+        ensures never_failed { carry_failed result ≡ false }
+        ensures cause { CarryCause self.old.faults self.new.faults result }
+        ensures unchanged { self.new ≡ self.old }
+    {
         match Vec::from_slice(alloc, bytes) {
             Ok(delivered) => Ok(delivered),
             Err(_) => Err(CarryFault::OutOfMemory),
