@@ -1,5 +1,5 @@
 -- What a value is written as reads as the value, where the type's base is built in.
-use Rattle.std.proofs.Common.{◌≡◌, ℕ, zero, suc, ◌≤◌, ℤ, pos, negsuc, Bool, true, false, ◌&&◌, List, [], ◌∷◌, Some, None, Ok, decimal, IsTrue, refl, sym, ap, ◌∙◌, arith, true≢false}
+use Rattle.std.proofs.Common.{◌≡◌, ℕ, zero, suc, ◌≤◌, ℤ, pos, negsuc, Bool, true, false, ◌&&◌, List, Some, None, Ok, refl, sym, ap, ◌∙◌, arith, true≢false}
 use Rattle.std.proofs.Math.Nat.{le-max_left, le-max_right}
 use Rattle.std.proofs.lemmas.Str.{chars-encodes}
 use Rattle.serde_json.specs.Data as json
@@ -16,10 +16,10 @@ use Rattle.aidl_schema.proofs.Tests.{both}
 use Rattle.aidl_values.specs.Data.{Data, null, truth, number, text, seq, rec, alt, Items, none, item, depth_of, greatest}
 use Rattle.aidl_values.specs.HasType.{HasType, HaveType}
 use Rattle.aidl_values.proofs.TypeTests.{passes}
-use Rattle.json_values.specs.FromJson.{from_json_of, from_by, is_null, one_from, items_from, part_from, default_of, has_levels}
+use Rattle.json_values.specs.FromJson.{from_json_of, from_by, is_null, one_from, items_from}
 use Rattle.json_values.specs.Json.{json_of, json_items}
 use Rattle.json_values.specs.Named.{enumerators_of, is_built_in}
-use Rattle.json_values.specs.Refusal.{Answer, within, ◌>>=◌}
+use Rattle.json_values.specs.Refusal.{Answer}
 use Rattle.json_values.proofs.Parts.{from_json_of-by}
 
 and_false : (b : Bool) → (b && false) ≡ false

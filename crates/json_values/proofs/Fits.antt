@@ -1,5 +1,5 @@
 -- What a JSON value stands for has the type, and at most as many levels as there are.
-use Rattle.std.proofs.Common.{◌≡◌, ℕ, zero, suc, ◌+◌, ◌≤◌, ℤ, Bool, true, false, ◌&&◌, nat_le, cond, List, [], ◌∷◌, Option, Some, None, slice_get, Ok, Err, Result, IfOk, decimal, IsTrue, Ordering, Less, Equal, Greater, nat_cmp, refl, sym, subst, arith, true≢false}
+use Rattle.std.proofs.Common.{◌≡◌, ℕ, zero, suc, ◌+◌, ◌≤◌, ℤ, Bool, true, false, ◌&&◌, nat_le, List, [], ◌∷◌, Option, Some, None, slice_get, Ok, Err, Result, IfOk, decimal, Ordering, Less, Equal, Greater, nat_cmp, refl, sym, subst, arith, true≢false}
 use Rattle.std.specs.Prelude.{⊤, if◌then◌else◌}
 use Rattle.std.specs.Cmp.Lexicographic.{slice_cmp}
 use Rattle.std.specs.List.{list_all}
@@ -23,7 +23,7 @@ use Rattle.aidl_schema.specs.Types as form
 use Rattle.aidl_schema.specs.Valid.{is_valid, is_enum_whole}
 use Rattle.aidl_schema.proofs.Tests.{both}
 use Rattle.aidl_schema.proofs.Valids.{holds}
-use Rattle.aidl_values.specs.Data.{Data, null, truth, number, text, seq, rec, alt, Items, none, item, depth_of, greatest}
+use Rattle.aidl_values.specs.Data.{Data, null, number, seq, rec, alt, Items, item, depth_of, greatest}
 use Rattle.aidl_values.specs.HasType.{InRange, HasType, HaveType, FieldsHaveType}
 use Rattle.aidl_values.specs.Sound.{HasDefault, HaveDefaults, initial_in}
 use Rattle.aidl_values.specs.View.{view}
@@ -35,7 +35,7 @@ use Rattle.json_values.specs.FromJson.{from_json_of}
 use Rattle.json_values.specs.Gives.{Gives}
 use Rattle.json_values.specs.declared.fault.Fault.{Fault}
 use Rattle.json_values.specs.Named.{bytes_of, enumerators_of, enumerators_of_decl, enumerators_of_kind, fields_in}
-use Rattle.json_values.specs.Refusal.{Answer, ◌>>=◌, refuse, too_deep, unknown_key, out_of_range, within, escaped}
+use Rattle.json_values.specs.Refusal.{Answer, ◌>>=◌, refuse, too_deep, out_of_range, within, escaped}
 use Rattle.json_values.proofs.Texts.{HasTexts, HaveTexts, MembersHaveTexts}
 use Rattle.json_values.proofs.Whole.{of_base}
 

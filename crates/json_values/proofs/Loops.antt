@@ -1,5 +1,5 @@
 -- Reading parts one after another: what was read before, and what is still read.
-use Rattle.std.proofs.Common.{◌≡◌, ℕ, List, [], ◌∷◌, ◌++◌, Ok, Err, refl, ap}
+use Rattle.std.proofs.Common.{◌≡◌, List, [], ◌∷◌, ◌++◌, Ok, Err, refl, ap}
 use Rattle.aidl_values.specs.Data.{Data, Items, none, item}
 use Rattle.aidl_values.specs.View.{items_of}
 use Rattle.json_values.specs.Refusal.{Answer, Refusal, ◌>>=◌}

@@ -1,5 +1,5 @@
 -- The members of a map, one by one.
-use Rattle.std.proofs.Common.{◌≡◌, ℕ, true, false, List, [], ◌∷◌, length, Option, Some, None, slice_get, IsSome, IfSome, ◌↔◌, ◌<◌, option_map, Bor, String, Global, string_bytes, refl, sym, ap, ◌∙◌, arith, true≢false}
+use Rattle.std.proofs.Common.{◌≡◌, ℕ, true, false, List, [], ◌∷◌, length, Option, Some, None, slice_get, IsSome, IfSome, ◌↔◌, ◌<◌, option_map, Bor, String, Global, string_bytes, refl, sym, ap, arith, true≢false}
 use Rattle.serde_json.specs.Data as json
 use Rattle.serde_json.specs.View.{view as json_view, members_view}
 use Rattle.serde_json.specs.declared.value.Value.{Value as Json}

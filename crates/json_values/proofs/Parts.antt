@@ -1,5 +1,5 @@
 -- The definition of reading, as the code goes through it.
-use Rattle.std.proofs.Common.{◌≡◌, ℕ, zero, suc, ◌+◌, ◌<◌, ◌≤◌, Bool, true, false, ◌&&◌, ◌⊎◌, inl, inr, List, [], ◌∷◌, ◌++◌, get_or, drop, length, Ok, decimal, refl, sym, ap, ◌∙◌, subst, arith, add-one}
+use Rattle.std.proofs.Common.{◌≡◌, ℕ, zero, suc, ◌+◌, ◌<◌, ◌≤◌, Bool, true, false, ◌&&◌, ◌⊎◌, inl, inr, List, [], ◌∷◌, ◌++◌, get_or, drop, length, Ok, decimal, refl, sym, ap, ◌∙◌, arith, add-one}
 use Rattle.std.proofs.lemmas.List.{at_drop_more, at_drop_all}
 use Rattle.serde_json.specs.Data as json
 use Rattle.serde_json.specs.Find.{get_member}
@@ -11,7 +11,7 @@ use Rattle.aidl_schema.specs.declared.schema.AidlType.{AidlType}
 use Rattle.aidl_schema.specs.declared.schema.Shape.{Shape}
 use Rattle.aidl_schema.specs.declared.schema.Shape.TheVariants as shape
 use Rattle.aidl_schema.specs.Types.{is_one, elem}
-use Rattle.aidl_values.specs.Data.{Data, Items, none, item}
+use Rattle.aidl_values.specs.Data.{Data}
 use Rattle.aidl_values.specs.View.{items_of}
 use Rattle.json_values.specs.FromJson.{from_by, from_json_of, is_null, sequence_from, elements_from, part_from, default_of, has_levels, items_from, fields_from, field_from}
 use Rattle.json_values.specs.Named.{bytes_of}

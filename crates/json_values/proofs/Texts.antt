@@ -1,5 +1,5 @@
 -- The strings of a JSON value are texts.
-use Rattle.std.proofs.Common.{◌≡◌, ℕ, true, List, [], ◌∷◌, map, String, Vec, BTreeMap, Global, string_bytes, sym, subst}
+use Rattle.std.proofs.Common.{◌≡◌, true, List, [], ◌∷◌, map, String, Global, string_bytes, sym, subst}
 use Rattle.std.proofs.lemmas.Str.{scalars-chars, IsUtf8-string_bytes}
 use Rattle.std.specs.Str.{chars, all_scalars}
 use Rattle.serde_json.specs.Data as json

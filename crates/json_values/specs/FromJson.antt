@@ -1,7 +1,7 @@
 -- The value that a JSON value stands for, or the first refusal (own). S is the schema's declarations, d the levels left, t
 -- the type. The order is: the kind of the value; its depth; the least unknown key; the elements in order, or the fields in
 -- the order of the declaration. `left` says that a level is left, `read` reads a part of a type.
-use Rattle.std.specs.Prelude.{ℕ, zero, suc, ℤ, ⊤, nat_le, Bool, true, false, ◌&&◌, if◌then◌else◌, List, [], ◌∷◌, Option, Some, None, decimal, Ok, Err}
+use Rattle.std.specs.Prelude.{ℕ, zero, suc, ℤ, ⊤, nat_le, Bool, true, false, ◌&&◌, if◌then◌else◌, List, [], ◌∷◌, Option, Some, None, decimal, Ok}
 use Rattle.std.specs.List.{list_any}
 use Rattle.std.specs.Str.{chars}
 use Rattle.serde_json.specs.Data.{null, boolean, number, string, array, object, no_items, item, no_members, member}

@@ -1,6 +1,5 @@
 use Rattle.std.proofs.Common.{◌≡◌, Ok, ◌++◌, ◌∷◌, [], map, sym, subst, ap, ◌∙◌, arith, rules}
 use Rattle.std.proofs.lemmas.Grind.{common_steps}
-use Rattle.std.proofs.lemmas.List.{map_push}
 use Rattle.serde_json.specs.Data as json
 use Rattle.serde_json.specs.View.{view as json_view, items_view, members_view}
 use Rattle.serde_json.proofs.Views.{view-Array}

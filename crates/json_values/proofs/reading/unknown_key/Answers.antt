@@ -1,4 +1,4 @@
-use Rattle.std.proofs.Common.{◌≡◌, Some, sym, ap, ◌∙◌}
+use Rattle.std.proofs.Common.{Some, sym, ap, ◌∙◌}
 use Rattle.std.specs.List.{list_any}
 use Rattle.json_values.specs.FromJson.{is_named}
 use Rattle.json_values.proofs.Members.{Entry, unknown_in-known, unknown_in-first}
