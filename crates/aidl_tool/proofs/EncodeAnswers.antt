@@ -1,9 +1,7 @@
 -- How an encode ends, and that it answers the same of a file and of its front.
-use Rattle.std.proofs.Common.{◌≡◌, ℕ, ◌+◌, ◌<◌, ◌≤◌, Bool, true, false, cond, nat_lt, List, length, take, Option, Some, None, Result, Ok, Err, Vec, Global, refl, ap, ◌∙◌, arith}
+use Rattle.std.proofs.Common.{◌≡◌, ℕ, nat_lt, List, length, Option, Some, None, Result, Ok, Err, Vec, Global, refl, ap, ◌∙◌, arith}
 use Rattle.std.specs.Prelude.{◌≢◌}
 use Rattle.std.specs.Option.{option_map}
-use Rattle.std.proofs.lemmas.List.{take_all, length-take-le}
-use Rattle.std.proofs.lemmas.Bool.{ltb-true, ltb-false, lt-ltb}
 use Rattle.serde_json.specs.Data as json
 use Rattle.aidl_base.specs.declared.limit.LimitName.{LimitName}
 use Rattle.aidl_base.specs.declared.limit.LimitName.TheVariants.{ParcelBytes, TextBytes}
@@ -11,7 +9,7 @@ use Rattle.aidl_base.specs.Limits.{limit_number}
 use Rattle.aidl_schema.specs.declared.schema.Decl.{Decl}
 use Rattle.aidl_schema.specs.declared.schema.AidlType.{AidlType}
 use Rattle.aidl_values.specs.Data.{Data}
-use Rattle.aidl_outside.specs.Files.{IsRead, front_of}
+use Rattle.aidl_outside.specs.Files.{IsRead}
 use Rattle.json_values.specs.Refusal as refusal
 use Rattle.aidl_tool.specs.Answer.{Answer, limit_answer}
 use Rattle.aidl_tool.specs.CommandWords.{entries_of}
