@@ -1,6 +1,6 @@
-ghost use Rattle.std.specs.Prelude.{◌≡◌, IfOk, IfSome};
+ghost use Rattle.std.specs.Prelude.{◌≡◌, IfOk, IfSome, IsSomeAnd, OnErr};
 ghost use Rattle.const_eval.specs.Literals.{literal_of, number_of, of_bits};
-ghost use Rattle.const_eval.specs.Operands.{IsWithin};
+ghost use Rattle.const_eval.specs.Operands.{IsText, IsWithin};
 ghost use Rattle.const_eval.specs.declared.width.Width.TheVariants.{Narrow, Wide};
 
 use crate::operand::Operand;
@@ -12,6 +12,7 @@ use std::alloc::Global;
 /// What a token is as an operand, and None where it is no literal (own). A string is copied.
 pub fn literal(alloc: Global, token: &TokenKind) -> Result<Option<Operand>, OutOfMemory>
     ensures value { IfOk result (λ operand. operand ≡ literal_of token.now) }
+    ensures memory { OnErr result (IsSomeAnd (literal_of token.now) IsText) }
     ensures within { IfOk result (λ operand. IfSome operand (λ value. IsWithin value)) }
 {
     match token {
