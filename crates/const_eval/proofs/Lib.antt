@@ -1,1 +1,2 @@
+pub mod LeftShift
 pub mod Numbers

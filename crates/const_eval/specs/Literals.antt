@@ -14,11 +14,15 @@ use Rattle.const_eval.specs.Widths.{form_of}
 abbrev pub of_bits : Width → ℕ → Operand
 of_bits width bits = operand.Number width (cast_signed (form_of width) bits)
 
--- A number with the suffix is wide. Without it a decimal is narrow up to 2147483647, and a hexadecimal up to 0xffffffff.
+-- the greatest literal without suffix that is narrow: 0xffffffff of the hexadecimal ones
+abbrev pub narrow_limit : Bool → ℕ
+narrow_limit true = 4294967295
+narrow_limit false = 2147483647
+
+-- A number with the suffix is wide.
 abbrev pub number_of : Bool → Bool → ℕ → Operand
 number_of hexadecimal true bits = of_bits Wide bits
-number_of true false bits = of_bits (if nat_le bits 4294967295 then Narrow else Wide) bits
-number_of false false bits = of_bits (if nat_le bits 2147483647 then Narrow else Wide) bits
+number_of hexadecimal false bits = of_bits (if nat_le bits (narrow_limit hexadecimal) then Narrow else Wide) bits
 
 -- the operand that a token is
 abbrev pub literal_of : TokenKind → Option Operand

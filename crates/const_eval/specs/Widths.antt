@@ -24,7 +24,7 @@ wider Wide other = Wide
 abbrev pub is_between : ℤ → ℤ → ℤ → Bool
 is_between least greatest z = int_le least z && int_le z greatest
 
--- the numbers of a width
+-- the numbers of a width; `negsuc n` is -(n + 1)
 abbrev pub is_within : Width → ℤ → Bool
 is_within Narrow z = is_between (negsuc 2147483647) (pos 2147483647) z
 is_within Wide z = is_between (negsuc 9223372036854775807) (pos 9223372036854775807) z

@@ -1,5 +1,5 @@
 ghost use Rattle.std.specs.Prelude.{◌≡◌, ◌<◌, ◌*◌, ◌^◌, ◌≤ℤ◌, ◌<ℤ◌, pos, neg_ℤ, ◌+ℤ◌, ◌-ℤ◌, ◌*ℤ◌, int_div, int_rem, unsigned_abs, IsTrue, true, false, if◌then◌else◌, nat_le};
-ghost use Rattle.std.specs.Int.{int_bit_not, int_shr};
+ghost use Rattle.std.specs.Int.{int_bit_not, int_shl, int_shr};
 ghost use Rattle.const_eval.specs.Literals.{number_of};
 ghost use Rattle.const_eval.specs.Widths.{form_of, is_within};
 ghost use Rattle.const_eval.specs.declared.operand.Operand.TheVariants.{Number};
@@ -17,6 +17,11 @@ pub fn law_decimal_is_its_number(bits: u64)
 pub fn law_remainder(a: i64, b: i64)
     ensures same { a -ℤ int_div a b *ℤ b ≡ int_rem a b }
     ensures smaller { 0 < unsigned_abs b → unsigned_abs (a -ℤ int_div a b *ℤ b) < unsigned_abs b }
+{}
+
+/// A law of the definitions: `<<` multiplies by the power of two, where the product lies inside the width.
+pub fn law_left_shift_multiplies(width: Width, a: i64, places: u32)
+    ensures { IsTrue (is_within width (a *ℤ pos (2 ^ places))) → int_shl (form_of width) a places ≡ a *ℤ pos (2 ^ places) }
 {}
 
 /// A law of the definitions: `>>` rounds down, to the greatest number whose product with the power of two is no more.

@@ -22,7 +22,8 @@ mod width;
 pub use binary_values::binary;
 pub use fault::{ConstFault, EvalFault};
 pub use laws::{
-    law_complement, law_decimal_is_its_number, law_remainder, law_right_shift_rounds_down,
+    law_complement, law_decimal_is_its_number, law_left_shift_multiplies, law_remainder,
+    law_right_shift_rounds_down,
 };
 pub use literals::literal;
 pub use operand::Operand;

@@ -1,5 +1,5 @@
-ghost use Rattle.std.specs.Prelude.{◌≡◌, IfOk, IfSome, IsSomeAnd, OnErr};
-ghost use Rattle.const_eval.specs.Literals.{literal_of, number_of, of_bits};
+ghost use Rattle.std.specs.Prelude.{◌≡◌, ◌<◌, ◌^◌, IfOk, IfSome, IsSomeAnd, OnErr};
+ghost use Rattle.const_eval.specs.Literals.{literal_of, narrow_limit, number_of, of_bits};
 ghost use Rattle.const_eval.specs.Operands.{IsText, IsWithin};
 ghost use Rattle.const_eval.specs.declared.width.Width.TheVariants.{Narrow, Wide};
 
@@ -35,19 +35,19 @@ fn number(hexadecimal: bool, long: bool, bits: u64) -> Operand
 {
     if long {
         wide(bits)
-    } else if hexadecimal {
-        if bits <= 4294967295 {
-            narrow(bits as u32)
-        } else {
-            wide(bits)
-        }
+    } else if bits <= narrow_limit(hexadecimal) {
+        narrow(bits as u32)
     } else {
-        if bits <= 2147483647 {
-            narrow(bits as u32)
-        } else {
-            wide(bits)
-        }
+        wide(bits)
     }
+}
+
+// The greatest literal of 32 bits.
+fn narrow_limit(hexadecimal: bool) -> u64
+    ensures value { result ≡ narrow_limit hexadecimal }
+    ensures bound { result < 2 ^ 32 }
+{
+    if hexadecimal { 4294967295 } else { 2147483647 }
 }
 
 // The number of 32 bits.
