@@ -1,0 +1,45 @@
+-- What an operator makes of the operands around it (own, after AOSP, "AIDL language").
+use Rattle.std.specs.Prelude.{ℕ, ℤ, Bool, List, Result, Ok, Err}
+use Rattle.std.specs.Bool.{beq}
+use Rattle.std.specs.Ordering.{int_eq}
+use Rattle.const_eval.specs.declared.width.Width.{Width}
+use Rattle.const_eval.specs.declared.fault.ConstFault.{ConstFault}
+use Rattle.const_eval.specs.declared.fault.ConstFault.TheVariants.{Mismatch}
+use Rattle.const_eval.specs.declared.operand.Operand.{Operand}
+use Rattle.const_eval.specs.declared.operand.Operand.TheVariants as operand
+use Rattle.const_eval.specs.declared.operator.Arithmetic.TheVariants.{Add}
+use Rattle.const_eval.specs.declared.operator.BinaryOperator.{BinaryOperator}
+use Rattle.const_eval.specs.declared.operator.BinaryOperator.TheVariants.{Arithmetic, Bitwise, Shift, Order, Equality, Connective}
+use Rattle.const_eval.specs.Arithmetic.{arithmetic_of}
+use Rattle.const_eval.specs.Bitwise.{bitwise_of}
+use Rattle.const_eval.specs.Comparisons.{order_of, equality_of, connective_of}
+use Rattle.const_eval.specs.Shifts.{shift_of}
+use Rattle.const_eval.specs.Texts.{joined}
+use Rattle.const_eval.specs.Widths.{wider}
+
+-- Of two numbers. The result has the wider width, and that of the left one where it is a shift.
+abbrev pub of_numbers : BinaryOperator → Width → ℤ → Width → ℤ → Result Operand ConstFault
+of_numbers (Arithmetic operator) left a right b = arithmetic_of operator (wider left right) a b
+of_numbers (Bitwise operator) left a right b = Ok (bitwise_of operator (wider left right) a b)
+of_numbers (Shift operator) left a right b = shift_of operator left a b
+of_numbers (Order operator) left a right b = Ok (operand.Truth (order_of operator a b))
+of_numbers (Equality operator) left a right b = Ok (operand.Truth (equality_of operator (int_eq a b)))
+of_numbers (Connective operator) left a right b = Err Mismatch
+
+-- of two truth values
+abbrev pub of_truths : BinaryOperator → Bool → Bool → Result Operand ConstFault
+of_truths (Equality operator) a b = Ok (operand.Truth (equality_of operator (beq a b)))
+of_truths (Connective operator) a b = Ok (operand.Truth (connective_of operator a b))
+of_truths _ a b = Err Mismatch
+
+-- of two texts
+abbrev pub of_texts : BinaryOperator → List ℕ → List ℕ → Result Operand ConstFault
+of_texts (Arithmetic Add) a b = joined a b
+of_texts _ a b = Err Mismatch
+
+-- of any two operands: of two kinds, or of two characters, there is none
+abbrev pub value_of : BinaryOperator → Operand → Operand → Result Operand ConstFault
+value_of operator (operand.Number left a) (operand.Number right b) = of_numbers operator left a right b
+value_of operator (operand.Truth a) (operand.Truth b) = of_truths operator a b
+value_of operator (operand.Text a) (operand.Text b) = of_texts operator a b
+value_of operator _ _ = Err Mismatch

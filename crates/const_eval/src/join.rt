@@ -1,0 +1,33 @@
+ghost use Rattle.std.specs.Prelude.{◌≡◌, ◌++◌, length, IfOk};
+ghost use Rattle.const_eval.specs.Faults.{Gives};
+ghost use Rattle.const_eval.specs.Texts.{joined};
+
+use crate::fault::{ConstFault, EvalFault};
+use crate::operand::Operand;
+use aidl_base::{OutOfMemory, Text};
+use std::alloc::Global;
+
+// Two texts as one, of at most 4,096 characters.
+pub fn join(alloc: Global, left: &Text, right: &Text) -> Result<Operand, EvalFault>
+    ensures { Gives result (joined left.now right.now) }
+{
+    if characters(left).saturating_add(characters(right)) <= 4096 {
+        Ok(Operand::Text(both(alloc, left, right)?))
+    } else {
+        Err(EvalFault::Fault(ConstFault::Overflow))
+    }
+}
+
+fn characters(text: &Text) -> usize
+    ensures { result ≡ length text.now }
+{
+    text.as_str().chars().count()
+}
+
+fn both(alloc: Global, left: &Text, right: &Text) -> Result<Text, OutOfMemory>
+    ensures { IfOk result (λ text. text ≡ left.now ++ right.now) }
+{
+    let mut text = String::from_str(alloc, left.as_str())?;
+    text.push_str(right.as_str())?;
+    Ok(Text::from_string(text))
+}

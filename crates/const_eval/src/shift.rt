@@ -1,0 +1,49 @@
+ghost use Rattle.std.specs.Prelude.{◌≡◌, ◌<◌, IfOk, IsTrue};
+ghost use Rattle.std.specs.Int.{int_shl};
+ghost use Rattle.const_eval.specs.Operands.{IsWithin};
+ghost use Rattle.const_eval.specs.Shifts as meant;
+ghost use Rattle.const_eval.specs.Widths.{bit_count, form_of, is_within};
+
+use crate::bitwise::as_narrow;
+use crate::fault::ConstFault;
+use crate::operand::Operand;
+use crate::operator::Shift;
+use crate::width::Width;
+
+// `<< >>` of a number of a width.
+pub fn shift_of(operator: Shift, width: Width, a: i64, places: i64) -> Result<Operand, ConstFault>
+    requires { IsTrue (is_within width a) }
+    ensures value { result ≡ meant.shift_of operator width a places }
+    ensures within { IfOk result (λ value. IsWithin value) }
+{
+    if 0 <= places && places < i64::from(width.bits()) {
+        Ok(shifted(operator, width, a, places as u32))
+    } else {
+        Err(ConstFault::BadShift)
+    }
+}
+
+fn shifted(operator: Shift, width: Width, a: i64, places: u32) -> Operand
+    requires within { IsTrue (is_within width a) }
+    requires below { places < bit_count width }
+    ensures value { result ≡ meant.shifted operator width a places }
+    ensures within { IsWithin result }
+{
+    let value = match operator {
+        Shift::Left => left(width, a, places),
+        Shift::Right => a >> places,
+    };
+    Operand::Number { width, value }
+}
+
+fn left(width: Width, a: i64, places: u32) -> i64
+    requires within { IsTrue (is_within width a) }
+    requires below { places < bit_count width }
+    ensures value { result ≡ int_shl (form_of width) a places }
+    ensures within { IsTrue (is_within width result) }
+{
+    match width {
+        Width::Narrow => i64::from(as_narrow(a) << places),
+        Width::Wide => a << places,
+    }
+}
