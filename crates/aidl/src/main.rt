@@ -1,29 +1,11 @@
 //! The program `aidl`: words in, printed lines and an exit status out.
 #![tactic(auto)]
 
-mod command;
-mod cut;
-mod decode;
-mod decode_command;
-mod encode;
-mod encode_command;
-mod entry;
-mod entry_form;
-mod hexadecimal_file;
-mod json_file;
-mod printed;
-mod put;
-mod refusal;
-#[cfg(test)]
-mod tests;
-mod top;
-mod types;
-
 use aidl_outside::{FolderStore, PassLink, StdoutSink};
+use aidl_tool::aidl;
 use std::io::ErrorKind;
 use std::process::ExitCode;
 use std::{env, io};
-pub use top::aidl;
 
 fn main(rt: HostRuntime) -> ExitCode {
     match words(&rt) {
