@@ -1,0 +1,71 @@
+//! Runs the rows of the files in `data/`. It prints each row that comes out otherwise than it says, with what came out,
+//! and last how many rows there were and how many were wrong. `data/README` says how a row is written.
+#![tactic(auto)]
+
+mod case;
+mod evaluation;
+mod outline;
+mod plain;
+mod run;
+mod runs;
+mod source;
+mod sources;
+mod tokens;
+mod tried;
+
+use aidl_base::OutOfMemory;
+use case::word_of;
+use run::try_run;
+use runs::try_runs;
+use source::Kind;
+use sources::try_sources;
+use std::alloc::Global;
+use std::io::ErrorKind;
+use std::{fs, io};
+use tried::Tried;
+
+const FILES: [&str; 6] = [
+    "words.rows",
+    "decode.rows",
+    "encode.rows",
+    "lexer.rows",
+    "parser.rows",
+    "constants.rows",
+];
+
+fn main(rt: HostRuntime) -> io::Result<()> {
+    let mut tried = Tried::new(rt.alloc());
+    for file in FILES {
+        let text = fs::read_to_string(&rt, file)?;
+        if try_file(rt.alloc(), text.as_str(), &mut tried).is_err() {
+            return Err(io::Error::from(ErrorKind::OutOfMemory));
+        }
+    }
+    println!(rt; "{}{} rows, {} wrong", tried.shown, tried.rows, tried.wrong)
+}
+
+// Tries each block of lines of a file.
+fn try_file(alloc: Global, text: &str, tried: &mut Tried) -> Result<(), OutOfMemory> {
+    for block in text.split("\n\n") {
+        try_block(alloc, block, tried)?;
+    }
+    Ok(())
+}
+
+// Tries a block: its first line that is no comment says what kind of rows it holds.
+fn try_block(alloc: Global, block: &str, tried: &mut Tried) -> Result<(), OutOfMemory> {
+    let Some(head) = block.lines().find(|line| !line.starts_with('#')) else {
+        return Ok(());
+    };
+    match word_of(head).0 {
+        "" => Ok(()),
+        "run" => try_run(alloc, block, tried),
+        "runs" => try_runs(alloc, block, tried),
+        "lex" => try_sources(alloc, Kind::Tokens, block, tried),
+        "count" => try_sources(alloc, Kind::Count, block, tried),
+        "parse" => try_sources(alloc, Kind::Tree, block, tried),
+        "accept" => try_sources(alloc, Kind::Acceptance, block, tried),
+        "evaluate" => try_sources(alloc, Kind::Value, block, tried),
+        _ => tried.unread(block),
+    }
+}

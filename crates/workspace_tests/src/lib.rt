@@ -1,0 +1,10 @@
+//! Tests of what no row of `worked_rows` can say: calls that no command makes yet, objects in memory whose calls fail, and
+//! the adapters to the host on real folders.
+#![tactic(auto)]
+
+#[cfg(test)]
+mod outside;
+#[cfg(test)]
+mod records;
+#[cfg(test)]
+mod values;

@@ -1,0 +1,123 @@
+//! Values: the default of a parcelable with an initializer, and the copy and the depth of values.
+
+ghost use Rattle.std.specs.Prelude.{◌≡◌, false, IfOk, IsTrue};
+ghost use Rattle.std.specs.Str.{chars};
+ghost use Rattle.aidl_schema.specs.Valid.{is_valid};
+
+use aidl_values::{Value, default_of, depth, has_type, initial_of, law_one_default, law_sound};
+use aidl_base::{Const, DottedName, Ident, OutOfMemory, Row, Text};
+use aidl_schema::{AidlType, Base, Decl, Field, Kind, Schema, Shape, is_type};
+use std::alloc::Global;
+use std::test::Fail;
+
+fn one(base: Base) -> AidlType
+    ensures { result ≡ record { base = base; shape = Shape.One; nullable = false; heap = false; utf8 = false } }
+{
+    AidlType {
+        base,
+        shape: Shape::One,
+        nullable: false,
+        heap: false,
+        utf8: false,
+    }
+}
+
+fn text(alloc: Global, letters: &str) -> Result<Text, OutOfMemory>
+    ensures { IfOk result (λ text. text ≡ chars letters.now) }
+{
+    Ok(Text::from_string(String::from_str(alloc, letters)?))
+}
+
+// parcelable { int a; String s = "x"; }
+fn decls(alloc: Global) -> Result<Row<Decl>, OutOfMemory>
+    ensures { IfOk result (λ ds. IsTrue (is_valid ds)) }
+{
+    let mut fields = Row::new(alloc);
+    fields.push(Field {
+        name: Ident(text(alloc, "a")?),
+        ty: one(Base::Int),
+        initial: None,
+    })?;
+    fields.push(Field {
+        name: Ident(text(alloc, "s")?),
+        ty: one(Base::Text),
+        initial: Some(Const::Text(text(alloc, "x")?)),
+    })?;
+    let mut decls = Row::new(alloc);
+    decls.push(Decl {
+        name: DottedName(Row::new(alloc)),
+        outer: None,
+        kind: Kind::Parcelable(fields),
+        vintf: false,
+        fixed: false,
+        constants: Row::new(alloc),
+    })?;
+    Ok(decls)
+}
+
+fn schema(alloc: Global) -> Result<Schema, OutOfMemory> {
+    let decls = decls(alloc)?;
+    Ok(Schema { decls })
+}
+
+// The value inside so many sequences.
+fn nested(alloc: Global, levels: usize, mut value: Value) -> Result<Value, OutOfMemory> {
+    for _ in 0..levels {
+        let mut items = Row::new(alloc);
+        items.push(value)?;
+        value = Value::Seq(items);
+    }
+    Ok(value)
+}
+
+#[test]
+fn the_default_has_the_initializer(rt: HostRuntime) -> Result<(), Fail> {
+    let schema = schema(rt.alloc())?;
+    let ty = one(Base::Named(0));
+    assert!(rt; is_type(&schema, ty));
+    let value = default_of(rt.alloc(), &schema, &ty)?;
+    let copy = value.try_clone(rt.alloc())?;
+    for value in [&value, &copy] {
+        assert!(rt; has_type(&schema, &ty, value));
+        assert_eq!(rt; depth(value), 1);
+        let Value::Rec(items) = value else {
+            return Err("no record")?;
+        };
+        let [Value::Number(a), Value::Text(s)] = items.as_slice() else {
+            return Err("other fields")?;
+        };
+        assert_eq!(rt; *a, 0);
+        assert_eq!(rt; s.as_str(), "x");
+    }
+    law_one_default(&schema, &ty, &value);
+    law_sound(&schema);
+    Ok(())
+}
+
+#[test]
+fn a_field_starts_with_its_initializer(rt: HostRuntime) -> Result<(), Fail> {
+    let schema = Schema::empty(rt.alloc());
+    let field = Field {
+        name: Ident(text(rt.alloc(), "n")?),
+        ty: one(Base::Int),
+        initial: Some(Const::Number(4)),
+    };
+    let value = initial_of(rt.alloc(), &schema, &field)?;
+    assert!(rt; matches!(value, Value::Number(4)));
+    assert!(rt; has_type(&schema, &field.ty, &value));
+    Ok(())
+}
+
+#[test]
+fn values_are_deep_and_wide(rt: HostRuntime) -> Result<(), Fail> {
+    let mut items = Row::new(rt.alloc());
+    for _ in 0..100_000 {
+        items.push(Value::Null)?;
+    }
+    let wide = Value::Rec(items);
+    assert_eq!(rt; depth(&wide), 1);
+    let deep = nested(rt.alloc(), 1_000, wide)?;
+    let copy = deep.try_clone(rt.alloc())?;
+    assert_eq!(rt; depth(&copy), 1_001);
+    Ok(())
+}
