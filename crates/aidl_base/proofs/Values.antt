@@ -1,13 +1,13 @@
 -- Values of built-in types: what was spelled is read again, whatever follows it, and no spelling is a proper prefix of another.
-use Rattle.std.proofs.Common.{◌≡◌, ℕ, ◌^◌, ◌<◌, ℤ, pos, negsuc, Bool, true, false, ◌&&◌, List, [], ◌++◌, nat_le, Result, Ok, refl, sym, ap, ◌∙◌, arith}
+use Rattle.std.proofs.Common.{◌≡◌, ℕ, ◌^◌, ◌<◌, ℤ, pos, Bool, true, false, List, [], ◌++◌, Result, Ok, refl, sym, ap, ◌∙◌, arith}
 use Rattle.std.specs.Int.{w8, w32, w64}
-use Rattle.std.specs.Prelude.{FitsSigned, int_le}
+use Rattle.std.specs.Prelude.{FitsSigned}
 use Rattle.std.proofs.lemmas.List.{append-nil}
 use Rattle.std.proofs.lemmas.Int.{ints}
-use Rattle.std.proofs.lemmas.Bool.Decides.{nat_tests}
 use Rattle.aidl_base.specs.Words.{word, long_word}
 use Rattle.aidl_base.specs.Spellings.{spell_truth}
 use Rattle.aidl_base.specs.Readings.{Read, ◌>>=◌, word_at, long_at, truth_of, truth_at, byte_of, byte_at, char_of, char_at}
+use Rattle.aidl_base.proofs.Ranges.{fits_byte, below_char}
 use Rattle.aidl_base.proofs.Words.{word_again, long_again}
 
 -- where one reading reads both spellings again, nothing follows the first in the second
@@ -26,8 +26,7 @@ pub truth_prefix : (a b : Bool) (rest : List ℕ) → Unit {0} → Unit {0} → 
 truth_prefix a b rest _ _ _ _ e = prefix_by_reading (λ x. truth_at false x) a b (spell_truth a) (spell_truth b) rest (λ r. truth_again a false r tt tt) (λ r. truth_again b false r tt tt) e
 
 byte_permitted : (n : ℤ) → FitsSigned w8 n → byte_of n ≡ Ok n
-byte_permitted (pos n) fits = let lt : n < 128 = omega (arith, ints) in let t : (int_le (negsuc 127) (pos n) && int_le (pos n) (pos 127)) ≡ true = grind (arith, nat_tests) in rw t refl
-byte_permitted (negsuc n) fits = let lt : n < 128 = omega (arith, ints) in let t : (int_le (negsuc 127) (negsuc n) && int_le (negsuc n) (pos 127)) ≡ true = grind (arith, nat_tests) in rw t refl
+byte_permitted n fits = rw (fits_byte n fits) refl
 
 pub byte_again : (n : ℤ) (inside : Bool) (rest : List ℕ) → FitsSigned w8 n → byte_at inside (word n ++ rest) ≡ Ok (n, rest)
 unfolding byte_at
@@ -39,7 +38,7 @@ pub byte_prefix : (m n : ℤ) (rest : List ℕ) → FitsSigned w8 m → FitsSign
 byte_prefix m n rest p q e = prefix_by_reading (λ x. byte_at false x) m n (word m) (word n) rest (λ r. byte_again m false r p) (λ r. byte_again n false r q) e
 
 char_permitted : (n : ℕ) → n < 2 ^ 16 → char_of (pos n) ≡ Ok n
-char_permitted n lt = let t : nat_le n 65535 ≡ true = grind (arith, nat_tests) in rw t refl
+char_permitted n lt = rw (below_char n lt) refl
 
 pub char_again : (n : ℕ) (inside : Bool) (rest : List ℕ) → n < 2 ^ 16 → char_at inside (word (pos n) ++ rest) ≡ Ok (n, rest)
 unfolding char_at

@@ -1,9 +1,12 @@
 -- Reading values of built-in types off the front of bytes: the value and the bytes after it, or the status of the first wrong item.
 -- The bytes are those up to the reader's limit, and `inside` says that the limit is the end of a record (statuses: libutils, Errors.h; rules: own).
-use Rattle.std.specs.Prelude.{ℕ, zero, suc, ◌+◌, ◌*◌, ◌%◌, ℤ, pos, negsuc, int_le, Bool, true, false, ◌&&◌, List, [], ◌∷◌, length, take, drop, Option, Some, None, Result, Ok, Err, nat_lt, nat_le, ◌==◌, if◌then◌else◌}
+use Rattle.std.specs.Prelude.{ℕ, zero, suc, ◌+◌, ◌*◌, ◌%◌, ℤ, pos, negsuc, Bool, true, false, ◌&&◌, List, [], ◌∷◌, length, take, drop, Option, Some, None, Result, Ok, Err, nat_lt, nat_le, ◌==◌, if◌then◌else◌}
 use Rattle.std.specs.List.{list_all}
 use Rattle.std.specs.Int.{w16, from_le_bytes}
 use Rattle.std.specs.Char.Utf16.{has_unpaired_surrogate, utf16_lossy_chars}
+use Rattle.aidl_base.specs.declared.range.Range.TheVariants as range
+use Rattle.aidl_base.specs.Ranges.{is_in}
+pub use Rattle.aidl_base.specs.Results.{◌>>=◌}
 use Rattle.aidl_base.specs.Words.{word_of, long_of, padding}
 
 abbrev pub bad_value : ℤ
@@ -23,11 +26,6 @@ past false = not_enough
 -- a value, and the bytes after it
 abbrev pub Read : Type 0 → Type 0
 Read A = Result (A × List ℕ) ℤ
-
-infixl 10 ◌>>=◌
-abbrev pub ◌>>=◌ : {A B : Type 0} → Result A ℤ → (A → Result B ℤ) → Result B ℤ
-(Ok x) >>= f = f x
-(Err e) >>= f = Err e
 
 -- one item of n bytes
 abbrev pub bytes_at : ℕ → Bool → List ℕ → Read (List ℕ)
@@ -54,7 +52,7 @@ truth_at inside b = do
 
 -- the byte of a word
 abbrev pub byte_of : ℤ → Result ℤ ℤ
-byte_of n = if int_le (negsuc 127) n && int_le n (pos 127) then Ok n else Err bad_value
+byte_of n = if is_in range.Byte n then Ok n else Err bad_value
 
 unfoldable pub byte_at : Bool → List ℕ → Read ℤ
 byte_at inside b = do
@@ -64,7 +62,7 @@ byte_at inside b = do
 
 -- the code unit of a word
 abbrev pub char_of : ℤ → Result ℕ ℤ
-char_of (pos n) = if nat_le n 65535 then Ok n else Err bad_value
+char_of (pos n) = if is_in range.Char (pos n) then Ok n else Err bad_value
 char_of (negsuc n) = Err bad_value
 
 unfoldable pub char_at : Bool → List ℕ → Read ℕ

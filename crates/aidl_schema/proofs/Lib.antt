@@ -2,5 +2,5 @@ pub mod Chains
 pub mod Counts
 mod Examples
 pub mod Sames
-pub mod Tests
+pub mod Shapes
 pub mod Valids

@@ -8,7 +8,7 @@ use Rattle.aidl_schema.specs.declared.schema.Base.TheVariants as base
 use Rattle.aidl_schema.specs.declared.schema.AidlType.{AidlType}
 use Rattle.aidl_schema.specs.Same.{same_text, same_idents, same_decl, base_code, is_named, decl_of, same_base, shape_code, same_bool, same}
 use Rattle.aidl_schema.specs.Types.{form_of, form_of_decl, is_meant, is_type, is_well_shaped}
-use Rattle.aidl_schema.proofs.Tests.{both}
+use Rattle.aidl_base.proofs.Tests.{both}
 
 eq_refl : (m : ℕ) → (m == m) ≡ true
 eq_refl m = grind (arith, nat_tests)

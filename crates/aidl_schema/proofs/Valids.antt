@@ -2,7 +2,7 @@
 use Rattle.std.proofs.Common.{◌≡◌, ℕ, Bool, true, List, [], Some, slice_get, refl, zero-add}
 use Rattle.aidl_schema.specs.declared.schema.Decl.{Decl}
 use Rattle.aidl_schema.specs.Valid.{is_valid, rules, each, each_at, has_distinct_fields, has_types, has_initializers, has_whole_union, has_whole_enum, is_grounded, is_small, has_few_members, has_few_arguments}
-use Rattle.aidl_schema.proofs.Tests.{all_at, all_numbered}
+use Rattle.aidl_base.proofs.Tests.{all_at, all_numbered}
 
 -- the empty tree is valid
 pub valid_empty : (S : List Decl) → S ≡ [] → is_valid S ≡ true

@@ -2,7 +2,6 @@
 use Rattle.std.proofs.Common.{◌≡◌, ℕ, zero, suc, ◌+◌, ◌<◌, ◌≤◌, max, Bool, true, false, List, [], ◌∷◌, map, Option, Some, None, slice_get, refl, sym, ap, ◌∙◌, subst, arith, true≢false}
 use Rattle.std.specs.Prelude.{MatchOption, sum}
 use Rattle.std.specs.List.{list_all}
-use Rattle.std.proofs.lemmas.Int.{ints}
 use Rattle.std.proofs.lemmas.List.Sums.{sum_by-cons}
 use Rattle.aidl_base.specs.declared.constant.Const.{Const}
 use Rattle.aidl_schema.specs.declared.schema.Decl.{Decl}
@@ -18,7 +17,7 @@ use Rattle.aidl_schema.specs.Sizes.{greatest_of, const_depth, const_nodes, initi
 use Rattle.aidl_schema.specs.Types.{Form, form_of, form_of_kind, form_of_decl, is_one, is_type, is_meant, is_well_shaped}
 use Rattle.aidl_schema.specs.Types as form
 use Rattle.aidl_schema.specs.Valid.{is_valid, is_field_type, has_initializer_of, has_method_types, methods_of, is_union_whole, are_union_fields}
-use Rattle.aidl_schema.proofs.Tests.{both}
+use Rattle.aidl_base.proofs.Tests.{both}
 use Rattle.aidl_schema.proofs.Valids.{holds}
 use Rattle.aidl_values.specs.Data.{Data, null, seq, Items, none, depth_of, greatest}
 use Rattle.aidl_values.specs.Default.{IsZero, AreInitial, const_value, zero_by, zero_of_form, zero_within, initial_or, initials_by}
@@ -134,10 +133,10 @@ module _ (S : List Decl) (valid : is_valid S ≡ true) where
         → form_depth (λ g. field_size const_depth D g) f < k → form_depth (λ g. field_size const_depth D g) f ≤ m
         → IsDefault S t (zero_of_form Z f) (form_depth (λ g. field_size const_depth D g) f) (form_nodes (λ g. field_size const_nodes N g) f)
     by_form t form.truth is meant there one lt le = record { zero_of = (there, one, rw is refl); typed_as = (one, is); depth_is = refl; nodes_are = refl }
-    by_form t form.byte is meant there one lt le = record { zero_of = (there, one, rw is refl); typed_as = (one, rw is (omega (arith, ints))); depth_is = refl; nodes_are = refl }
-    by_form t form.char is meant there one lt le = record { zero_of = (there, one, rw is refl); typed_as = (one, rw is (omega (arith, ints), omega (arith, ints))); depth_is = refl; nodes_are = refl }
-    by_form t form.int is meant there one lt le = record { zero_of = (there, one, rw is refl); typed_as = (one, rw is (omega (arith, ints))); depth_is = refl; nodes_are = refl }
-    by_form t form.long is meant there one lt le = record { zero_of = (there, one, rw is refl); typed_as = (one, rw is (omega (arith, ints))); depth_is = refl; nodes_are = refl }
+    by_form t form.byte is meant there one lt le = record { zero_of = (there, one, rw is refl); typed_as = (one, rw is refl); depth_is = refl; nodes_are = refl }
+    by_form t form.char is meant there one lt le = record { zero_of = (there, one, rw is refl); typed_as = (one, rw is refl); depth_is = refl; nodes_are = refl }
+    by_form t form.int is meant there one lt le = record { zero_of = (there, one, rw is refl); typed_as = (one, rw is refl); depth_is = refl; nodes_are = refl }
+    by_form t form.long is meant there one lt le = record { zero_of = (there, one, rw is refl); typed_as = (one, rw is refl); depth_is = refl; nodes_are = refl }
     by_form t form.text is meant there one lt le = record { zero_of = (there, one, rw is refl); typed_as = (one, is, refl); depth_is = refl; nodes_are = refl }
     by_form t (form.parcelable fs) is meant there one lt le =
         let all = starts fs (parcelable_whole t.base fs is) lt le in

@@ -1,9 +1,10 @@
 pub mod ConstValues
 pub mod Defaults
+pub mod Fronts
 pub mod Greatest
+pub mod Levels
 pub mod OneZero
 pub mod Parts
 pub mod Sounds
 pub mod Typed
 pub mod TypeTests
-pub mod Zero

@@ -12,7 +12,7 @@ use Rattle.aidl_schema.specs.Sizes.{greatest_of, const_depth, const_nodes, initi
 use Rattle.aidl_schema.specs.Types.{is_type}
 use Rattle.aidl_schema.specs.Valid.{is_valid, is_field_type, has_initializer_of}
 use Rattle.aidl_schema.proofs.Counts.{depth_steady, nodes_steady, depth_within-suc, nodes_within-suc}
-use Rattle.aidl_schema.proofs.Tests.{all_at}
+use Rattle.aidl_base.proofs.Tests.{all_at}
 use Rattle.aidl_values.specs.Data.{Data, depth_of}
 use Rattle.aidl_values.specs.Default.{IsZero, IsInitial, const_value}
 use Rattle.aidl_values.specs.HasType.{HasType}

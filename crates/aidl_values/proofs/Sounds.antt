@@ -16,7 +16,7 @@ use Rattle.aidl_schema.specs.Sizes.{depth_by, nodes_by, depth_within, nodes_with
 use Rattle.aidl_schema.specs.Types.{form_of, form_of_decl, is_one, is_type, is_meant}
 use Rattle.aidl_schema.specs.Valid.{is_valid, one_of, is_field_type, has_initializer_of, part_count, member_count}
 use Rattle.aidl_schema.proofs.Counts.{depth_steady, depth_within-suc, nodes_within-suc}
-use Rattle.aidl_schema.proofs.Tests.{both}
+use Rattle.aidl_base.proofs.Tests.{both}
 use Rattle.aidl_schema.proofs.Valids.{holds}
 use Rattle.aidl_values.specs.Data.{Data, depth_of}
 use Rattle.aidl_values.specs.Default.{IsZero, const_value, zero_within, initial_or}

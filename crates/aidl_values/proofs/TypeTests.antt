@@ -1,17 +1,14 @@
 -- The test of a type decides whether the value has it.
-use Rattle.std.proofs.Common.{◌≡◌, suc, ℤ, pos, negsuc, ◌≤◌, Bool, true, false, ◌&&◌, List, [], ◌∷◌, length, Option, Some, None, slice_get, refl, sym, ap, arith}
-use Rattle.std.proofs.lemmas.Int.{ints}
-use Rattle.std.proofs.lemmas.Bool.Decides.{nat_tests}
+use Rattle.std.proofs.Common.{◌≡◌, suc, Bool, true, false, ◌&&◌, List, [], ◌∷◌, length, Option, Some, None, slice_get, refl, sym, ap}
 use Rattle.aidl_schema.specs.declared.schema.Decl.{Decl}
 use Rattle.aidl_schema.specs.declared.schema.Field.{Field}
 use Rattle.aidl_schema.specs.declared.schema.AidlType.{AidlType}
 use Rattle.aidl_schema.specs.Types.{Form, form_of, is_one, elem}
 use Rattle.aidl_schema.specs.Types as form
-use Rattle.aidl_schema.specs.Constants.{in_range}
-use Rattle.aidl_schema.proofs.Tests.{both, flipped}
+use Rattle.aidl_base.proofs.Tests.{and_false, both, flipped}
 use Rattle.aidl_values.specs.Data.{Data, null, truth, number, text, seq, rec, alt, Items, none, item}
-use Rattle.aidl_values.specs.HasType.{InRange, HasType, HaveType, FieldsHaveType}
-use Rattle.aidl_values.specs.TypeTest.{is_truth_form, is_text_form, of_parcelable, of_union, of_field, has_type_of, all_have_type, fields_have_type}
+use Rattle.aidl_values.specs.HasType.{HasType, HaveType, FieldsHaveType}
+use Rattle.aidl_values.specs.steps.TypeTest.{is_truth_form, is_text_form, of_parcelable, of_union, of_field, has_type_of, all_have_type, fields_have_type}
 use Rattle.aidl_values.specs.View.{views}
 use Rattle.aidl_values.specs.declared.value.Value.{Value}
 
@@ -20,40 +17,6 @@ other_count S [] [] apart = absurd (apart refl)
 other_count S [] (v ∷ vs) apart = refl
 other_count S (f ∷ fs) [] apart = refl
 other_count S (f ∷ fs) (v ∷ vs) apart = sym (rw (sym (other_count S fs vs (λ e. apart (ap suc e)))) (and_false _))
-  where
-    and_false : (b : Bool) → (b && false) ≡ false
-    and_false true = refl
-    and_false false = refl
-
-pub ranged : (f : Form) (n : ℤ) → in_range f n ≡ true → InRange f n
-ranged form.byte (pos n) e = let le : n ≤ 127 = grind (arith, nat_tests) in omega (arith, ints)
-ranged form.byte (negsuc n) e = let le : n ≤ 127 = grind (arith, nat_tests) in omega (arith, ints)
-ranged form.char (pos n) e = let le : n ≤ 65535 = grind (arith, nat_tests) in (omega (arith, ints), omega (arith, ints))
-ranged form.char (negsuc n) e = cc
-ranged form.int (pos n) e = let le : n ≤ 2147483647 = grind (arith, nat_tests) in omega (arith, ints)
-ranged form.int (negsuc n) e = let le : n ≤ 2147483647 = grind (arith, nat_tests) in omega (arith, ints)
-ranged form.long (pos n) e = let le : n ≤ 9223372036854775807 = grind (arith, nat_tests) in omega (arith, ints)
-ranged form.long (negsuc n) e = let le : n ≤ 9223372036854775807 = grind (arith, nat_tests) in omega (arith, ints)
-ranged form.truth n e = cc
-ranged form.text n e = cc
-ranged (form.parcelable fs) n e = cc
-ranged (form.union fs) n e = cc
-ranged form.nothing n e = cc
-
-in_test : (f : Form) (n : ℤ) → InRange f n → in_range f n ≡ true
-in_test form.byte (pos n) h = let le : n ≤ 127 = omega (arith, ints) in grind (arith, nat_tests)
-in_test form.byte (negsuc n) h = let le : n ≤ 127 = omega (arith, ints) in grind (arith, nat_tests)
-in_test form.char (pos n) h = let le : n ≤ 65535 = omega (arith, ints, h.0, h.1) in grind (arith, nat_tests)
-in_test form.char (negsuc n) h = absurd (omega (arith, ints, h.0, h.1))
-in_test form.int (pos n) h = let le : n ≤ 2147483647 = omega (arith, ints) in grind (arith, nat_tests)
-in_test form.int (negsuc n) h = let le : n ≤ 2147483647 = omega (arith, ints) in grind (arith, nat_tests)
-in_test form.long (pos n) h = let le : n ≤ 9223372036854775807 = omega (arith, ints) in grind (arith, nat_tests)
-in_test form.long (negsuc n) h = let le : n ≤ 9223372036854775807 = omega (arith, ints) in grind (arith, nat_tests)
-in_test form.truth n h = elim h [ ]
-in_test form.text n h = elim h [ ]
-in_test (form.parcelable fs) n h = elim h [ ]
-in_test (form.union fs) n h = elim h [ ]
-in_test form.nothing n h = elim h [ ]
 
 truth_is : (f : Form) → is_truth_form f ≡ true → f ≡ form.truth
 truth_is form.truth e = refl
@@ -108,7 +71,7 @@ mutual
   pub tested : (S : List Decl) (t : AidlType) (v : Data) → has_type_of S t v ≡ true → HasType S t v
   tested S t null e = e
   tested S t (truth b) e = let p = both _ _ e in (p.0, truth_is _ p.1)
-  tested S t (number n) e = let p = both _ _ e in (p.0, ranged _ n p.1)
+  tested S t (number n) e = both _ _ e
   tested S t (text x) e = let p = both _ _ e in let q = both _ _ p.0 in (q.0, text_is _ q.1, p.1)
   tested S t (seq vs) e = let p = both _ _ e in (flipped _ p.0, tested_all S (elem S t) vs p.1)
   tested S t (rec vs) e = let p = both _ _ e in let q = parcelable_is (form_of S t.base) (λ fs. fields_have_type S fs vs) p.1 in (p.0, q.0, q.1, tested_fields S q.0 vs q.2)
@@ -132,7 +95,7 @@ mutual
   pub passes : (S : List Decl) (t : AidlType) (v : Data) → HasType S t v → has_type_of S t v ≡ true
   passes S t null h = h
   passes S t (truth b) h = rw (h.0, h.1)
-  passes S t (number n) h = rw (h.0) (in_test _ n h.1)
+  passes S t (number n) h = rw (h.0) h.1
   passes S t (text x) h = rw (h.0, h.1) h.2
   passes S t (seq vs) h = rw (h.0) (passes_all S (elem S t) vs h.1)
   passes S t (rec vs) h = rw (h.0, h.2) (passes_fields S h.1 vs h.3)

@@ -15,17 +15,17 @@ use Rattle.aidl_schema.specs.declared.schema.Enumerator.{Enumerator}
 use Rattle.aidl_schema.specs.declared.schema.Base.{Base}
 use Rattle.aidl_schema.specs.declared.schema.Base.TheVariants as base
 use Rattle.aidl_schema.specs.declared.schema.AidlType.{AidlType}
-use Rattle.aidl_schema.specs.Constants.{in_range, is_between, is_char_literal, is_string_character, is_enumerator, is_enumerator_of, is_number_of, is_boolean, is_string, is_single, is_constant_of, are_members, is_initializer_of}
+use Rattle.aidl_base.specs.Ranges.{is_between}
+use Rattle.aidl_schema.specs.Constants.{in_range, is_char_literal, is_string_character, is_enumerator, is_enumerator_of, is_number_of, is_boolean, is_string, is_single, is_constant_of, are_members, is_initializer_of}
 use Rattle.aidl_schema.specs.Types.{form_of, form_of_kind, form_of_decl, is_one, elem}
 use Rattle.aidl_schema.specs.Types as form
 use Rattle.aidl_schema.specs.Valid.{is_valid, is_enum_whole}
-use Rattle.aidl_schema.proofs.Tests.{both}
+use Rattle.aidl_base.proofs.Tests.{both}
 use Rattle.aidl_schema.proofs.Valids.{holds}
 use Rattle.aidl_values.specs.Default.{const_value}
-use Rattle.aidl_values.specs.HasType.{InRange, HasType, HaveType}
+use Rattle.aidl_values.specs.HasType.{HasType, HaveType}
 use Rattle.aidl_values.specs.View.{items_of}
 use Rattle.aidl_values.proofs.ConstValues.{value_step, value_is}
-use Rattle.aidl_values.proofs.TypeTests.{ranged}
 
 -- what one of the enumerators is has what each has
 found_first : (p : ℤ → Bool) (n : ℤ) (e : Enumerator) (es : List Enumerator) → (list_any (λ x. int_eq x.value n) es ≡ true → p n ≡ true)
@@ -65,15 +65,15 @@ scalars (c ∷ cs) h =
     rw one (scalars cs two.1)
 
 module _ (S : List Decl) (valid : is_valid S ≡ true) where
-  number_of_decl : (o : Option Decl) (n : ℤ) → ((d : Decl) → o ≡ Some d → is_enum_whole d.kind ≡ true) → is_enumerator_of o n ≡ true → InRange (form_of_decl o) n
+  number_of_decl : (o : Option Decl) (n : ℤ) → ((d : Decl) → o ≡ Some d → is_enum_whole d.kind ≡ true) → is_enumerator_of o n ≡ true → in_range (form_of_decl o) n ≡ true
   number_of_decl None n whole h = cc
-  number_of_decl (Some d) n whole h = ranged (form_of_kind d.kind) n (enumerated d.kind n (whole d refl) h)
+  number_of_decl (Some d) n whole h = enumerated d.kind n (whole d refl) h
 
-  number_in_range : (b : Base) (n : ℤ) → is_number_of S b n ≡ true → InRange (form_of S b) n
-  number_in_range base.Byte n h = ranged form.byte n h
-  number_in_range base.Char n h = ranged form.char n (char_in_range n h)
-  number_in_range base.Int n h = ranged form.int n h
-  number_in_range base.Long n h = ranged form.long n h
+  number_in_range : (b : Base) (n : ℤ) → is_number_of S b n ≡ true → in_range (form_of S b) n ≡ true
+  number_in_range base.Byte n h = h
+  number_in_range base.Char n h = char_in_range n h
+  number_in_range base.Int n h = h
+  number_in_range base.Long n h = h
   number_in_range (base.Named k) n h = number_of_decl (slice_get S k) n (λ d is. (holds S valid k d is).values) h
   number_in_range base.Boolean n h = cc
   number_in_range base.Text n h = cc

@@ -84,8 +84,3 @@ zero_by S zero_value t = if t.nullable then null else (if is_one t.shape then ze
 unfoldable pub zero_within : ℕ → List Decl → AidlType → Data
 zero_within zero S t = zero_by S (λ u. null) t
 zero_within (suc n) S t = zero_by S (λ u. zero_within n S u) t
-
--- of a part of a type that has n levels
-abbrev pub zero_parts : ℕ → List Decl → AidlType → Data
-zero_parts zero S u = null
-zero_parts (suc n) S u = zero_within n S u

@@ -1,28 +1,20 @@
 -- *HasType*: which values a type has (AIDL language, "Types"; the rest own).
-use Rattle.std.specs.Prelude.{◌≡◌, ℤ, pos, ◌≤ℤ◌, List, [], ◌∷◌, Some, slice_get, IsTrue, false, FitsSigned}
-use Rattle.std.specs.Int.{w8, w32, w64}
+use Rattle.std.specs.Prelude.{◌≡◌, List, [], ◌∷◌, Some, slice_get, IsTrue, false}
 use Rattle.std.specs.Str.{all_scalars}
 use Rattle.aidl_schema.specs.declared.schema.Decl.{Decl}
 use Rattle.aidl_schema.specs.declared.schema.Field.{Field}
 use Rattle.aidl_schema.specs.declared.schema.AidlType.{AidlType}
-use Rattle.aidl_schema.specs.Types.{Form, form_of, is_one, elem}
+use Rattle.aidl_schema.specs.Constants.{in_range}
+use Rattle.aidl_schema.specs.Types.{form_of, is_one, elem}
 use Rattle.aidl_schema.specs.Types as form
 use Rattle.aidl_values.specs.Data.{Data, null, truth, number, text, seq, rec, alt, Items, none, item}
 
--- the numbers of a type or of an enum's backing
-abbrev pub InRange : Form → ℤ → Type 0
-InRange form.byte n = FitsSigned w8 n
-InRange form.char n = (pos 0 ≤ℤ n) × (n ≤ℤ pos 65535)
-InRange form.int n = FitsSigned w32 n
-InRange form.long n = FitsSigned w64 n
-InRange _ n = ⊥
-
 abbrev mutual
-  -- A null needs a nullable type, a sequence an array or `List`; every other value needs a single type of its kind.
+  -- A null needs a nullable type, a sequence an array or `List`; every other value needs a single type of its kind; a number one of its range.
   pub HasType : List Decl → AidlType → Data → Type 0
   HasType S t null = IsTrue t.nullable
   HasType S t (truth b) = IsTrue (is_one t.shape) × (form_of S t.base ≡ form.truth)
-  HasType S t (number n) = IsTrue (is_one t.shape) × InRange (form_of S t.base) n
+  HasType S t (number n) = IsTrue (is_one t.shape) × IsTrue (in_range (form_of S t.base) n)
   HasType S t (text x) = IsTrue (is_one t.shape) × (form_of S t.base ≡ form.text) × IsTrue (all_scalars x)
   HasType S t (seq vs) = (is_one t.shape ≡ false) × HaveType S (elem S t) vs
   HasType S t (rec vs) = IsTrue (is_one t.shape) × (fs : List Field) × (form_of S t.base ≡ form.parcelable fs) × FieldsHaveType S fs vs

@@ -3,5 +3,5 @@ pub mod Default
 pub mod HasType
 pub mod Nodes
 pub mod Sound
-pub mod TypeTest
+pub mod steps
 pub mod View

@@ -1,9 +1,10 @@
 ghost use Rattle.std.specs.Prelude.{◌≡◌, true, map, IfOk};
 ghost use Rattle.aidl_schema.specs.Seen.{seen};
 ghost use Rattle.aidl_schema.specs.Types.{is_type};
-ghost use Rattle.aidl_values.specs.Default.{IsZero, IsInitial, const_value, initial_by, initials_by, zero_of_form, zero_by, zero_within, zero_parts};
+ghost use Rattle.aidl_values.specs.Default.{IsZero, IsInitial, const_value, initial_by, initials_by, zero_of_form, zero_by, zero_within};
 ghost use Rattle.aidl_values.specs.Sound.{IsFieldOf, initial_in};
 ghost use Rattle.aidl_values.specs.View.{view, views};
+ghost use Rattle.aidl_values.specs.steps.Levels.{zero_parts};
 
 use crate::value::Value;
 use aidl_base::{Const, OutOfMemory, Row, Text};

@@ -10,6 +10,3 @@ pub use default::{default_of, initial_of};
 pub use laws::{law_default_fits, law_initial_fits, law_one_default, law_sound};
 pub use typing::has_type;
 pub use value::{Answer, Value, depth};
-
-#[cfg(test)]
-mod tests;

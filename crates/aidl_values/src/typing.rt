@@ -1,13 +1,11 @@
 ghost use Rattle.std.specs.Prelude.{◌≡◌, ◌↔◌, IsTrue, slice_get};
-ghost use Rattle.aidl_schema.specs.Constants.{in_range};
-ghost use Rattle.aidl_schema.specs.Seen.{seen};
 ghost use Rattle.aidl_schema.specs.Types as types;
 ghost use Rattle.aidl_values.specs.HasType.{HasType};
-ghost use Rattle.aidl_values.specs.TypeTest.{has_type_of, of_field, all_have_type, fields_have_type};
+ghost use Rattle.aidl_values.specs.steps.TypeTest.{has_type_of, of_field, all_have_type, fields_have_type};
 ghost use Rattle.aidl_values.specs.View.{view, views};
 
 use crate::value::Value;
-use aidl_schema::{AidlType, Field, Form, Schema, Shape, element, form_in};
+use aidl_schema::{AidlType, Field, Form, Schema, Shape, element, form_in, is_in_range};
 
 /// Whether the value has the type. A number fits the range of its type, an enum's that of the backing, and need be
 /// no enumerator. A sequence has elements of the element type, a record one value for each field, and an alternative
@@ -51,19 +49,6 @@ fn is_one(shape: Shape) -> bool
     ensures { result ≡ types.is_one shape }
 {
     matches!(shape, Shape::One)
-}
-
-// Whether the number is in the range of what the base means.
-fn is_in_range(form: &Form<'_>, n: i64) -> bool
-    ensures { result ≡ in_range (seen form.now) n }
-{
-    match form {
-        Form::Byte => -128 <= n && n <= 127,
-        Form::Char => 0 <= n && n <= 65535,
-        Form::Int => -2147483648 <= n && n <= 2147483647,
-        Form::Long => true,
-        _ => false,
-    }
 }
 
 // Whether a union has a field at the position, and the value is of its type.

@@ -12,7 +12,7 @@ use Rattle.aidl_schema.specs.declared.schema.AidlType.{AidlType}
 use Rattle.aidl_schema.specs.Constants.{in_range}
 use Rattle.aidl_schema.specs.Types.{Form, form_of, is_one, elem}
 use Rattle.aidl_schema.specs.Types as form
-use Rattle.aidl_schema.proofs.Tests.{both}
+use Rattle.aidl_base.proofs.Tests.{and_false, both}
 use Rattle.aidl_values.specs.Data.{Data, null, truth, number, text, seq, rec, alt, Items, none, item, depth_of, greatest}
 use Rattle.aidl_values.specs.HasType.{HasType, HaveType}
 use Rattle.aidl_values.proofs.TypeTests.{passes}
@@ -21,10 +21,6 @@ use Rattle.json_values.specs.Json.{json_of, json_items}
 use Rattle.json_values.specs.Named.{enumerators_of, is_built_in}
 use Rattle.json_values.specs.Refusal.{Answer}
 use Rattle.json_values.proofs.Parts.{from_json_of-by}
-
-and_false : (b : Bool) → (b && false) ≡ false
-and_false true = refl
-and_false false = refl
 
 no_enum : (S : List Decl) (b : Base) → is_built_in b ≡ true → enumerators_of S b ≡ None
 no_enum S base.Boolean e = refl

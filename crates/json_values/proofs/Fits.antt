@@ -21,23 +21,22 @@ use Rattle.aidl_schema.specs.Same.{same_text}
 use Rattle.aidl_schema.specs.Types.{Form, form_of, form_of_decl, form_of_kind, is_one, elem}
 use Rattle.aidl_schema.specs.Types as form
 use Rattle.aidl_schema.specs.Valid.{is_valid, is_enum_whole}
-use Rattle.aidl_schema.proofs.Tests.{both}
+use Rattle.aidl_base.proofs.Tests.{both}
 use Rattle.aidl_schema.proofs.Valids.{holds}
 use Rattle.aidl_values.specs.Data.{Data, null, number, seq, rec, alt, Items, item, depth_of, greatest}
-use Rattle.aidl_values.specs.HasType.{InRange, HasType, HaveType, FieldsHaveType}
+use Rattle.aidl_values.specs.HasType.{HasType, HaveType, FieldsHaveType}
 use Rattle.aidl_values.specs.Sound.{HasDefault, HaveDefaults, initial_in}
 use Rattle.aidl_values.specs.View.{view}
 use Rattle.aidl_values.specs.declared.value.Value.{Value}
 use Rattle.aidl_values.proofs.Sounds.{sound}
-use Rattle.aidl_values.proofs.TypeTests.{ranged}
 use Rattle.json_values.specs.FromJson as from
 use Rattle.json_values.specs.FromJson.{from_json_of}
-use Rattle.json_values.specs.Gives.{Gives}
 use Rattle.json_values.specs.declared.fault.Fault.{Fault}
 use Rattle.json_values.specs.Named.{bytes_of, enumerators_of, enumerators_of_decl, enumerators_of_kind, fields_in}
 use Rattle.json_values.specs.Refusal.{Answer, ◌>>=◌, refuse, too_deep, out_of_range, within, escaped}
 use Rattle.json_values.proofs.Texts.{HasTexts, HaveTexts, MembersHaveTexts}
 use Rattle.json_values.proofs.Whole.{of_base}
+use Rattle.json_values.specs.steps.Gives.{Gives}
 
 abbrev pub FitsAs : List Decl → AidlType → ℕ → Answer Data → Type 0
 FitsAs S t d (Ok v) = HasType S t v × (depth_of v ≤ d)
@@ -72,7 +71,7 @@ found_texts key (json.member l j ms) texts = found_either (slice_cmp nat_cmp key
 module _ (S : List Decl) (t : AidlType) (d : ℕ) where
   module _ (one : is_one t.shape ≡ true) where
     whole_case : (f : Form) (n : ℤ) (b : Bool) → form_of S t.base ≡ f → in_range f n ≡ b → FitsAs S t d (if b then Ok (number n) else refuse out_of_range)
-    whole_case f n true is e = ((one, subst (λ g. InRange g n) (sym is) (ranged f n e)), omega arith)
+    whole_case f n true is e = ((one, subst (λ g. in_range g n ≡ true) (sym is) e), omega arith)
     whole_case f n false is e = tt
 
     whole_fits : (f : Form) (o : Option ℤ) → form_of S t.base ≡ f → FitsAs S t d (from.whole_from f o)
@@ -81,7 +80,7 @@ module _ (S : List Decl) (t : AidlType) (d : ℕ) where
 
     enumerator_case : (f : Form) (e : Enumerator) (rest : Answer Data) (b : Bool) → form_of S t.base ≡ f → in_range f e.value ≡ true → FitsAs S t d rest
         → FitsAs S t d (if b then Ok (number e.value) else rest)
-    enumerator_case f e rest true is here later = ((one, subst (λ g. InRange g e.value) (sym is) (ranged f e.value here)), omega arith)
+    enumerator_case f e rest true is here later = ((one, subst (λ g. in_range g e.value ≡ true) (sym is) here), omega arith)
     enumerator_case f e rest false is here later = later
 
     enumerator_fits : (f : Form) (es : List Enumerator) (s : List ℕ) → form_of S t.base ≡ f → list_all (λ e. in_range f e.value) es ≡ true → FitsAs S t d (from.enumerator_from es s)
@@ -198,7 +197,7 @@ module _ (S : List Decl) (t : AidlType) (d : ℕ) where
             let here : slice_get all k ≡ Some f = let n : k + 0 ≡ k = omega arith in subst (λ m. slice_get all m ≡ Some f) n (at 0 f refl) in
             let later : (i : ℕ) (g : Field) → slice_get fs i ≡ Some g → slice_get all (suc k + i) ≡ Some g =
             λ i g found. let n : k + suc i ≡ suc k + i = omega arith in subst (λ m. slice_get all m ≡ Some g) n (at (suc i) g found) in
-            either (from.is_named key f) (within (escaped key) (read f.ty j >>= (λ v. Ok (alt k v)))) (from.alternative_from read (suc k) fs key j)
+            either (from.has_name key f) (within (escaped key) (read f.ty j >>= (λ v. Ok (alt k v)))) (from.alternative_from read (suc k) fs key j)
             (chosen k f (escaped key) (read f.ty j) here (reads f.ty j texts)) (alternative_fits (suc k) fs key j later texts)
 
       union_case : (l : Bool) (fs : List Field) (key : List ℕ) (j : json.Data) → form_of S t.base ≡ form.union fs → left ≡ l → HasTexts j

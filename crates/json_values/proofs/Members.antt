@@ -5,7 +5,7 @@ use Rattle.serde_json.specs.View.{view as json_view, members_view}
 use Rattle.serde_json.specs.declared.value.Value.{Value as Json}
 use Rattle.std.specs.List.{list_any}
 use Rattle.aidl_schema.specs.declared.schema.Field.{Field}
-use Rattle.json_values.specs.FromJson.{only_member, unknown_in, is_named}
+use Rattle.json_values.specs.FromJson.{only_member, unknown_in, has_name}
 
 abbrev pub Entry : Type 0
 Entry = String Global × Json
@@ -26,10 +26,10 @@ seen_first es None one some first = absurd (true≢false (sym (some.1 (omega ari
 seen_first es (Some p) one some first = only_member-one es (p.0.now, p.1.now) one first
 
 -- the first key is one of a field, and is not
-pub unknown_in-known : (fs : List Field) (es rest : List Entry) (e : Entry) → es ≡ e ∷ rest → list_any (λ f. is_named (string_bytes e.0) f) fs ≡ true
+pub unknown_in-known : (fs : List Field) (es rest : List Entry) (e : Entry) → es ≡ e ∷ rest → list_any (λ f. has_name (string_bytes e.0) f) fs ≡ true
     → unknown_in fs (members_view rest) ≡ unknown_in fs (members_view es)
 unknown_in-known fs es rest e is known = rw (is, known) refl
 
-pub unknown_in-first : (fs : List Field) (es rest : List Entry) (e : Entry) → es ≡ e ∷ rest → list_any (λ f. is_named (string_bytes e.0) f) fs ≡ false
+pub unknown_in-first : (fs : List Field) (es rest : List Entry) (e : Entry) → es ≡ e ∷ rest → list_any (λ f. has_name (string_bytes e.0) f) fs ≡ false
     → Some (string_bytes e.0) ≡ unknown_in fs (members_view es)
 unknown_in-first fs es rest e is unknown = rw (is, unknown) refl

@@ -71,13 +71,13 @@ sequence_from left read (array js) = if left then elements_from read js else ref
 sequence_from left read _ = refuse wrong_shape
 
 -- a field has this name
-abbrev pub is_named : List ℕ → Field → Bool
-is_named key f = same_text (bytes_of f.name) key
+abbrev pub has_name : List ℕ → Field → Bool
+has_name key f = same_text (bytes_of f.name) key
 
 -- the least key that names no field: an object has its keys in byte order
 abbrev pub unknown_in : List Field → json.Members → Option (List ℕ)
 unknown_in fs no_members = None
-unknown_in fs (member key j ms) = if list_any (λ f. is_named key f) fs then unknown_in fs ms else Some key
+unknown_in fs (member key j ms) = if list_any (λ f. has_name key f) fs then unknown_in fs ms else Some key
 
 abbrev pub known_from : Option (List ℕ) → Answer ⊤
 known_from None = Ok tt
@@ -110,7 +110,7 @@ record_from left default read fs _ = refuse wrong_shape
 -- the one member of a union's object, among these fields, the first of which is at this position
 abbrev pub alternative_from : (AidlType → json.Data → Answer value.Data) → ℕ → List Field → List ℕ → json.Data → Answer value.Data
 alternative_from read k [] key j = within (escaped key) (refuse unknown_key)
-alternative_from read k (f ∷ fs) key j = if is_named key f then within (escaped key) (do
+alternative_from read k (f ∷ fs) key j = if has_name key f then within (escaped key) (do
   v ← read f.ty j
   Ok (value.alt k v)) else alternative_from read (suc k) fs key j
 
@@ -154,16 +154,3 @@ default_from d S f = if nat_le (depth_of (initial_in S f)) d then Ok (initial_in
 unfoldable pub from_json_of : List Decl → ℕ → AidlType → json.Data → Answer value.Data
 from_json_of S zero t j = from_by S false (λ f. refuse too_deep) (λ u j. refuse too_deep) t j
 from_json_of S (suc d) t j = from_by S true (λ f. default_from d S f) (λ u j. from_json_of S d u j) t j
-
--- The same for a reader that holds its levels as a number: a part, and a default, of what has d levels.
-abbrev pub part_from : List Decl → ℕ → AidlType → json.Data → Answer value.Data
-part_from S zero u j = refuse too_deep
-part_from S (suc d) u j = from_json_of S d u j
-
-abbrev pub default_of : List Decl → ℕ → Field → Answer value.Data
-default_of S zero f = refuse too_deep
-default_of S (suc d) f = default_from d S f
-
-abbrev pub has_levels : ℕ → Bool
-has_levels zero = false
-has_levels (suc d) = true

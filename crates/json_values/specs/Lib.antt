@@ -3,3 +3,4 @@ pub mod Gives
 pub mod Json
 pub mod Named
 pub mod Refusal
+pub mod steps

@@ -3,6 +3,7 @@
 use Rattle.std.specs.Prelude.{ℕ, List, [], ◌∷◌, ◌++◌, ◌==◌, if◌then◌else◌, Result, Ok, Err}
 use Rattle.std.specs.List.{flat_map}
 use Rattle.std.specs.Str.{chars, encode_utf8_all}
+pub use Rattle.aidl_base.specs.Results.{◌>>=◌}
 
 pub data Reason : Type 0 where
   wrong_shape out_of_range unknown_key unknown_enumerator too_deep : Reason
@@ -14,12 +15,6 @@ pub record Refusal : Type 0 where
 -- what was asked for, or the first refusal
 abbrev pub Answer : Type 0 → Type 0
 Answer A = Result A Refusal
-
--- one step after another, up to the first refusal
-infixl 10 ◌>>=◌
-abbrev pub ◌>>=◌ : {A B : Type 0} → Answer A → (A → Answer B) → Answer B
-(Ok x) >>= f = f x
-(Err r) >>= f = Err r
 
 -- a refusal of the value itself
 abbrev pub refuse : {A : Type 0} → Reason → Answer A

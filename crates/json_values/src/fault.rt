@@ -2,8 +2,9 @@ ghost use Rattle.std.specs.Prelude.{◌≡◌, Some, ◌∷◌, ◌++◌, [], de
 ghost use Rattle.std.specs.Str.{encode_utf8_all};
 ghost use Rattle.std.specs.declared.alloc.Global.{Global};
 ghost use Rattle.json_values.specs.declared.fault.Fault.TheVariants.{Refused};
-ghost use Rattle.json_values.specs.Gives.{IsBelow, refusal_inside, refusal_of, seen_reason};
+ghost use Rattle.json_values.specs.Gives.{refusal_of};
 ghost use Rattle.json_values.specs.Refusal.{escaped, escaped_character};
+ghost use Rattle.json_values.specs.steps.Gives.{IsBelow, refusal_in, seen_reason};
 
 use aidl_base::{OutOfMemory, Text};
 use std::alloc::{AllocError, AllocFailed, Global};
@@ -75,7 +76,7 @@ impl<T: Drop> From<AllocFailed<T>> for Fault {
 
 // A fault, as it is reported.
 pub fn reported(fault: Fault) -> JsonFault
-    ensures { refusal_of result ≡ refusal_inside fault }
+    ensures { refusal_of result ≡ refusal_in fault }
 {
     match fault {
         Fault::Refused(reason, at) => report(reason, place(at)),

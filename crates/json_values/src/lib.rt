@@ -11,6 +11,3 @@ pub use fault::JsonFault;
 pub use laws::law_json_reads_back;
 pub use reading::from_json;
 pub use writing::to_json;
-
-#[cfg(test)]
-mod tests;

@@ -5,21 +5,25 @@ ghost use Rattle.serde_json.specs.View.{view as json_view, number_view, items_vi
 ghost use Rattle.serde_json.specs.Find.{as_integer};
 ghost use Rattle.aidl_schema.specs.Seen.{seen};
 ghost use Rattle.aidl_schema.specs.Types.{form_of};
-ghost use Rattle.aidl_schema.specs.Constants.{in_range};
 ghost use Rattle.aidl_schema.specs.Same.{same_text};
 ghost use Rattle.aidl_values.specs.Data.{alt, depth_of};
 ghost use Rattle.aidl_values.specs.HasType.{HasType};
 ghost use Rattle.aidl_values.specs.View.{view, views};
 ghost use Rattle.json_values.specs.FromJson as answer;
-ghost use Rattle.json_values.specs.FromJson.{from_json_of, from_by, part_from, default_of, has_levels};
-ghost use Rattle.json_values.specs.Gives.{Gives, refusal_of};
+ghost use Rattle.json_values.specs.FromJson.{from_json_of, from_by};
+ghost use Rattle.json_values.specs.Gives.{refusal_of};
 ghost use Rattle.json_values.specs.Named.{bytes_of, enumerators_of};
 ghost use Rattle.json_values.specs.Refusal.{escaped, within};
+ghost use Rattle.json_values.specs.steps.Levels.{part_from, default_of};
+ghost use Rattle.aidl_values.specs.steps.Levels.{is_level_left};
+ghost use Rattle.json_values.specs.steps.Gives.{Gives};
 
 use crate::fault::{Fault, JsonFault, Reason, below_index, below_key, refused, reported};
 use crate::named::enumerators_in;
 use aidl_base::{Ident, Row, Text};
-use aidl_schema::{AidlType, Base, Enumerator, Field, Form, Schema, Shape, element, form_in};
+use aidl_schema::{
+    AidlType, Base, Enumerator, Field, Form, Schema, Shape, element, form_in, is_in_range,
+};
 use aidl_values::{Value, depth, initial_of};
 use serde_json::{Map, Number, Value as Json};
 use std::alloc::Global;
@@ -80,7 +84,7 @@ fn read(
     json: &Json,
 ) -> Result<Value, Fault>
     requires { levels ≤ 64 }
-    ensures { Gives view result (from_by schema.now.decls (has_levels levels) (λ f. default_of schema.now.decls levels f) (λ u j. part_from schema.now.decls levels u j) ty (json_view json.now)) }
+    ensures { Gives view result (from_by schema.now.decls (is_level_left levels) (λ f. default_of schema.now.decls levels f) (λ u j. part_from schema.now.decls levels u j) ty (json_view json.now)) }
 {
     if is_absent(ty.nullable, json) {
         return Ok(Value::Null);
@@ -110,7 +114,7 @@ fn read_one(
     json: &Json,
 ) -> Result<Value, Fault>
     requires { levels ≤ 64 }
-    ensures { Gives view result (answer.one_from (has_levels levels) (λ f. default_of schema.now.decls levels f) (λ u j. part_from schema.now.decls levels u j)
+    ensures { Gives view result (answer.one_from (is_level_left levels) (λ f. default_of schema.now.decls levels f) (λ u j. part_from schema.now.decls levels u j)
         (enumerators_of schema.now.decls base) (form_of schema.now.decls base) (json_view json.now)) }
 {
     let form = form_in(schema, base);
@@ -174,18 +178,6 @@ fn read_whole(alloc: Global, form: &Form<'_>, number: &Number) -> Result<Value, 
     }
 }
 
-fn is_in_range(form: &Form<'_>, n: i64) -> bool
-    ensures { result ≡ in_range (seen form.now) n }
-{
-    match form {
-        Form::Byte => -128 <= n && n <= 127,
-        Form::Char => 0 <= n && n <= 65535,
-        Form::Int => -2147483648 <= n && n <= 2147483647,
-        Form::Long => true,
-        _ => false,
-    }
-}
-
 fn read_name(alloc: Global, enumerators: Option<&[Enumerator]>, name: &str) -> Result<Value, Fault>
     ensures { Gives view result (answer.name_from (option_map (λ es. es.now) enumerators.entry) name.now) }
 {
@@ -222,7 +214,7 @@ fn read_sequence(
     json: &Json,
 ) -> Result<Value, Fault>
     requires { levels ≤ 64 }
-    ensures { Gives view result (answer.sequence_from (has_levels levels) (λ j. part_from schema.now.decls levels ty j) (json_view json.now)) }
+    ensures { Gives view result (answer.sequence_from (is_level_left levels) (λ j. part_from schema.now.decls levels ty j) (json_view json.now)) }
 {
     let Json::Array(items) = json else {
         return Err(refused(alloc, Reason::WrongShape));
@@ -299,7 +291,7 @@ fn read_record(
     json: &Json,
 ) -> Result<Value, Fault>
     requires { levels ≤ 64 }
-    ensures { Gives view result (answer.record_from (has_levels levels) (λ f. default_of schema.now.decls levels f) (λ u j. part_from schema.now.decls levels u j) fields.now (json_view json.now)) }
+    ensures { Gives view result (answer.record_from (is_level_left levels) (λ f. default_of schema.now.decls levels f) (λ u j. part_from schema.now.decls levels u j) fields.now (json_view json.now)) }
 {
     let Json::Object(members) = json else {
         return Err(refused(alloc, Reason::WrongShape));
@@ -356,7 +348,7 @@ fn unknown_key<'a>(fields: &[Field], members: &'a Map<String, Json>) -> Option<&
 }
 
 fn has_field(fields: &[Field], key: &str) -> bool
-    ensures { result ≡ list_any (λ f. answer.is_named key.now f) fields.now }
+    ensures { result ≡ list_any (λ f. answer.has_name key.now f) fields.now }
 {
     fields.iter().any(|field| is_called(&field.name, key))
 }
@@ -452,7 +444,7 @@ fn read_union(
 ) -> Result<Value, Fault>
     requires few { levels ≤ 64 }
     requires fields { length fields.now ≤ 4096 }
-    ensures { Gives view result (answer.union_from (has_levels levels) (λ u j. part_from schema.now.decls levels u j) fields.now (json_view json.now)) }
+    ensures { Gives view result (answer.union_from (is_level_left levels) (λ u j. part_from schema.now.decls levels u j) fields.now (json_view json.now)) }
 {
     let Json::Object(members) = json else {
         return Err(refused(alloc, Reason::WrongShape));

@@ -1,69 +1,36 @@
 -- Reading items one after the other, as a loop does.
 use Rattle.std.proofs.Common.{◌≡◌, ℕ, suc, ◌-◌, ◌+◌, ◌≤◌, ◌<◌, ℤ, List, [], ◌∷◌, ◌++◌, Result, Ok, Err, refl, sym, ap, ◌∙◌, arith, length, drop, get_or, add-one, drop-cons}
 use Rattle.std.proofs.lemmas.List.{drop_all}
-use Rattle.aidl_base.specs.Readings.{Read, ◌>>=◌, bad_value, not_enough, unexpected_null}
+use Rattle.aidl_base.specs.Readings.{Read, ◌>>=◌}
 use Rattle.aidl_schema.specs.declared.schema.Field.{Field}
 use Rattle.aidl_schema.specs.declared.schema.AidlType.{AidlType}
 use Rattle.aidl_values.specs.Data.{Data, Items, none, item}
 use Rattle.aidl_values.specs.View.{items_of}
+use Rattle.aidl_values.proofs.Fronts.{onto, onto-push, onto-none, with_front, front_more}
 use Rattle.parcel_words.specs.declared.fault.ReadFault.{ReadFault}
-use Rattle.parcel_words.specs.declared.fault.ReadFault.TheVariants.{NotEnough, UnexpectedNull, BadValue, OutOfMemory}
-use Rattle.parcel_words.specs.Taken.{Refuses, RefusesIfMemory}
-use Rattle.wire_model.specs.ReadOf.{items_at, field_at, fields_at}
-
--- A fault of the first step is one of the whole.
-pub fails_then : {A B : Type 0} (e : ReadFault) (reading : Result A ℤ) (f : A → Result B ℤ) → RefusesIfMemory e reading → RefusesIfMemory e (reading >>= f)
-fails_then NotEnough reading f h = rw h refl
-fails_then UnexpectedNull reading f h = rw h refl
-fails_then BadValue reading f h = rw h refl
-fails_then OutOfMemory reading f h = tt
-
--- Where each status of a reading is one of another, so is each fault.
-pub fails_as : {A B : Type 0} (e : ReadFault) (reading : Result A ℤ) (total : Result B ℤ) → ((s : ℤ) → reading ≡ Err s → total ≡ Err s) → RefusesIfMemory e reading → RefusesIfMemory e total
-fails_as NotEnough reading total f h = f not_enough h
-fails_as UnexpectedNull reading total f h = f unexpected_null h
-fails_as BadValue reading total f h = f bad_value h
-fails_as OutOfMemory reading total f h = tt
-
--- A refusal of a call that takes no memory is one of a call that may.
-pub refused_if_memory : {A : Type 0} (e : ReadFault) (reading : Result A ℤ) → Refuses e reading → RefusesIfMemory e reading
-refused_if_memory NotEnough reading h = h
-refused_if_memory UnexpectedNull reading h = h
-refused_if_memory BadValue reading h = h
-refused_if_memory OutOfMemory reading h = tt
-
--- the items, and then more
-abbrev pub onto : List Data → Items → Items
-onto [] vs = vs
-onto (d ∷ ds) vs = item d (onto ds vs)
-
-onto-push : (ds : List Data) (d : Data) (vs : Items) → onto (ds ++ d ∷ []) vs ≡ onto ds (item d vs)
-onto-push [] d vs = refl
-onto-push (e ∷ ds) d vs = ap (item e) (onto-push ds d vs)
-
-onto-none : (ds : List Data) → onto ds none ≡ items_of ds
-onto-none [] = refl
-onto-none (d ∷ ds) = ap (item d) (onto-none ds)
+use Rattle.parcel_words.specs.Taken.{RefusesIfMemory}
+use Rattle.parcel_words.proofs.Faults.{fails_as}
+use Rattle.wire_model.specs.ReadOf.{each_at, field_at, fields_at}
 
 -- what was read before, and what is still read
-abbrev pub with_front : List Data → Read Items → Read Items
-with_front front reading = reading >>= λ x. Ok (onto front x.0, x.1)
+abbrev pub with_items : List Data → Read Items → Read Items
+with_items front reading = reading >>= λ x. Ok (onto front x.0, x.1)
 
-regroup : (front : List Data) (d : Data) (reading : Read Items) → with_front front (reading >>= λ x. Ok (item d x.0, x.1)) ≡ with_front (front ++ d ∷ []) reading
+regroup : (front : List Data) (d : Data) (reading : Read Items) → with_items front (reading >>= λ x. Ok (item d x.0, x.1)) ≡ with_items (front ++ d ∷ []) reading
 regroup front d (Ok x) = ap (λ (vs : Items). Ok (vs, x.1)) (sym (onto-push front d x.0))
 regroup front d (Err s) = refl
 
-module _ (read : List ℕ → Read Data) (front : List Data) (count i : ℕ) (b : List ℕ) (total : Read Items) (so_far : with_front front (items_at read (count - i) b) ≡ total) where
-  pub goes_on : (d : Data) (rest : List ℕ) → i < count → read b ≡ Ok (d, rest) → with_front (front ++ d ∷ []) (items_at read (count - (i + 1)) rest) ≡ total
+module _ (read : List ℕ → Read Data) (front : List Data) (count i : ℕ) (b : List ℕ) (total : Read Items) (so_far : with_items front (each_at read (count - i) b) ≡ total) where
+  pub goes_on : (d : Data) (rest : List ℕ) → i < count → read b ≡ Ok (d, rest) → with_items (front ++ d ∷ []) (each_at read (count - (i + 1)) rest) ≡ total
   goes_on d rest lt h =
       let k : count - i ≡ suc (count - (i + 1)) = omega arith in
-      let one : with_front front (items_at read (count - i) b) ≡ with_front (front ++ d ∷ []) (items_at read (count - (i + 1)) rest) = rw (k, h) (regroup front d (items_at read (count - (i + 1)) rest)) in
+      let one : with_items front (each_at read (count - i) b) ≡ with_items (front ++ d ∷ []) (each_at read (count - (i + 1)) rest) = rw (k, h) (regroup front d (each_at read (count - (i + 1)) rest)) in
       sym one ∙ so_far
 
   stops : i < count → (s : ℤ) → read b ≡ Err s → total ≡ Err s
   stops lt s h =
       let k : count - i ≡ suc (count - (i + 1)) = omega arith in
-      let one : with_front front (items_at read (count - i) b) ≡ Err s = rw (k, h) refl in
+      let one : with_items front (each_at read (count - i) b) ≡ Err s = rw (k, h) refl in
       sym so_far ∙ one
 
   pub ends : (e : ReadFault) → i < count → RefusesIfMemory e (read b) → RefusesIfMemory e total
@@ -72,33 +39,26 @@ module _ (read : List ℕ → Read Data) (front : List Data) (count i : ℕ) (b 
   pub is_done : count ≤ i → total ≡ Ok (items_of front, b)
   is_done le =
       let k : count - i ≡ 0 = omega arith in
-      let one : with_front front (items_at read (count - i) b) ≡ Ok (items_of front, b) = rw k (ap (λ (vs : Items). Ok (vs, b)) (onto-none front)) in
+      let one : with_items front (each_at read (count - i) b) ≡ Ok (items_of front, b) = rw k (ap (λ (vs : Items). Ok (vs, b)) (onto-none front)) in
       sym so_far ∙ one
 
 -- the same of a record's fields
-abbrev pub with_fields : List Data → Result Items ℤ → Result Items ℤ
-with_fields front reading = reading >>= λ vs. Ok (onto front vs)
-
-fields_regroup : (front : List Data) (d : Data) (reading : Result Items ℤ) → with_fields front (reading >>= λ others. Ok (item d others)) ≡ with_fields (front ++ d ∷ []) reading
-fields_regroup front d (Ok vs) = ap (λ (ws : Items). Ok ws) (sym (onto-push front d vs))
-fields_regroup front d (Err s) = refl
-
-module _ (initial : Field → Data) (read : AidlType → List ℕ → Read Data) (front : List Data) (fs : List Field) (i : ℕ) (b : List ℕ) (total : Result Items ℤ) (so_far : with_fields front (fields_at initial read (drop i fs) b) ≡ total) where
+module _ (initial : Field → Data) (read : AidlType → List ℕ → Read Data) (front : List Data) (fs : List Field) (i : ℕ) (b : List ℕ) (total : Result Items ℤ) (so_far : with_front front (fields_at initial read (drop i fs) b) ≡ total) where
   next_field : (f : Field) → i < length fs → f ≡ get_or fs i f → drop i fs ≡ f ∷ drop (i + 1) fs
   next_field f lt is = rw add-one (drop-cons fs i f lt ∙ ap (λ g. g ∷ drop (suc i) fs) (sym is))
 
   -- the first field, and then the others
   abbrev first_of : Read Data → Result Items ℤ
-  first_of x = with_fields front (x >>= λ first. fields_at initial read (drop (i + 1) fs) first.1 >>= λ others. Ok (item first.0 others))
+  first_of x = with_front front (x >>= λ first. fields_at initial read (drop (i + 1) fs) first.1 >>= λ others. Ok (item first.0 others))
 
-  as_first : (f : Field) → i < length fs → f ≡ get_or fs i f → with_fields front (fields_at initial read (drop i fs) b) ≡ first_of (field_at initial read f b)
-  as_first f lt is = ap (λ gs. with_fields front (fields_at initial read gs b)) (next_field f lt is)
+  as_first : (f : Field) → i < length fs → f ≡ get_or fs i f → with_front front (fields_at initial read (drop i fs) b) ≡ first_of (field_at initial read f b)
+  as_first f lt is = ap (λ gs. with_front front (fields_at initial read gs b)) (next_field f lt is)
 
   pub field_on : (f : Field) (d : Data) (rest : List ℕ) → i < length fs → f ≡ get_or fs i f → field_at initial read f b ≡ Ok (d, rest)
-      → with_fields (front ++ d ∷ []) (fields_at initial read (drop (i + 1) fs) rest) ≡ total
+      → with_front (front ++ d ∷ []) (fields_at initial read (drop (i + 1) fs) rest) ≡ total
   field_on f d rest lt is h =
-      let one : with_fields front (fields_at initial read (drop i fs) b) ≡ first_of (Ok (d, rest)) = as_first f lt is ∙ ap first_of h in
-      sym (one ∙ fields_regroup front d (fields_at initial read (drop (i + 1) fs) rest)) ∙ so_far
+      let one : with_front front (fields_at initial read (drop i fs) b) ≡ first_of (Ok (d, rest)) = as_first f lt is ∙ ap first_of h in
+      sym (one ∙ front_more front d (fields_at initial read (drop (i + 1) fs) rest)) ∙ so_far
 
   pub field_ends : (f : Field) (e : ReadFault) → i < length fs → f ≡ get_or fs i f → RefusesIfMemory e (field_at initial read f b) → RefusesIfMemory e total
   field_ends f e lt is h = fails_as e (field_at initial read f b) total (λ s k. sym so_far ∙ as_first f lt is ∙ ap first_of k) h
@@ -106,4 +66,4 @@ module _ (initial : Field → Data) (read : AidlType → List ℕ → Read Data)
   pub fields_done : length fs ≤ i → total ≡ Ok (items_of front)
   fields_done le =
       let none_left : drop i fs ≡ [] = drop_all i fs le in
-      sym so_far ∙ ap (λ gs. with_fields front (fields_at initial read gs b)) none_left ∙ ap (λ vs. Ok vs) (onto-none front)
+      sym so_far ∙ ap (λ gs. with_front front (fields_at initial read gs b)) none_left ∙ ap (λ vs. Ok vs) (onto-none front)

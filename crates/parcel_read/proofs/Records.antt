@@ -7,20 +7,13 @@ use Rattle.aidl_base.specs.Readings.{Read, ◌>>=◌, bytes_at, size_of, past, b
 use Rattle.aidl_base.specs.Words.{word_of}
 use Rattle.aidl_schema.specs.declared.schema.Field.{Field}
 use Rattle.aidl_schema.specs.declared.schema.AidlType.{AidlType}
-use Rattle.aidl_schema.specs.declared.schema.Shape.{Shape}
-use Rattle.aidl_schema.specs.declared.schema.Shape.TheVariants as shape
-use Rattle.aidl_schema.specs.Types.{is_one}
 use Rattle.aidl_values.specs.Data.{Data, Items, rec}
 use Rattle.parcel_words.specs.Place.{Place, left, limit, moved, opened, closed, size_at, MovesOn, Enters, is_inside}
 use Rattle.parcel_words.specs.Taken.{RefusesIfMemory}
 use Rattle.parcel_words.specs.declared.fault.ReadFault.{ReadFault}
 use Rattle.wire_model.specs.ReadOf.{body_at, body_value_at, fields_at}
-use Rattle.parcel_read.proofs.Loop.{fails_as}
-
--- what is an array or a List is not one value
-pub no_one : (s : Shape) → (s ≡ shape.Array) ⊎ (s ≡ shape.List) → is_one s ≡ false
-no_one s (inl e) = rw e refl
-no_one s (inr e) = rw e refl
+use Rattle.parcel_words.proofs.Faults.{fails_as}
+use Rattle.parcel_words.proofs.Records.{left_moved, left_opened}
 
 -- a body after its size, which is there and fits
 abbrev after_size : Read ℕ → Read (List ℕ)
@@ -91,13 +84,7 @@ module _ (inside : Bool) (b : List ℕ) where
       by_short true k = let same : ◌≡◌ {A = Read ℕ} (Err (past inside)) (Ok (z, c)) = rw k at e in absurd cc
       by_short false k = by_long (size_of first) refl (rw k at e)
 
-length-left : (p : Place) → length (left p) ≤ limit p - p.position
-length-left p = let n : length (left p) ≡ min (limit p) (length p.bytes) - p.position = length-drop p.position (take (limit p) p.bytes) ∙ ap (λ k. k - p.position) (length-take (limit p) p.bytes) in omega (arith, n)
-
-left_moved : (p : Place) (n : ℕ) → left (moved p n) ≡ drop n (left p)
-left_moved p n = sym (drop-drop n p.position (take (limit p) p.bytes))
-
-pub on_by : (p : Place) (n : ℕ) → n ≤ length (left p) → MovesOn p (moved p n)
+on_by : (p : Place) (n : ℕ) → n ≤ length (left p) → MovesOn p (moved p n)
 on_by p n le =
     let len : length (left (moved p n)) ≡ length (left p) - n = ap length (left_moved p n) ∙ length-drop n (left p) in
     let is : n ≡ length (left p) - length (left (moved p n)) = omega (arith, len) in
@@ -108,15 +95,6 @@ pub stays : (p : Place) → MovesOn p p
 stays p =
     let still : p.position ≡ p.position + (length (left p) - length (left p)) = omega arith in
     ap (λ (n : ℕ). record { bytes = p.bytes; position = n; ends = p.ends }) still
-
-left_opened : (p : Place) (z : ℕ) → 4 ≤ z → z ≤ length (left p) → left (opened p z) ≡ take (z - 4) (drop 4 (left p))
-left_opened p z four fits =
-    let room = length-left p in
-    let within : p.position + z ≤ limit p = omega (arith, room) in
-    let n : p.position + z ≡ p.position + 4 + (z - 4) = omega arith in
-    ap (λ (bs : List ℕ). drop (p.position + 4) bs) (sym (take-take (p.position + z) (limit p) p.bytes within) ∙ ap (λ k. take k (take (limit p) p.bytes)) n)
-    ∙ drop-take (p.position + 4) (z - 4) (take (limit p) p.bytes)
-    ∙ ap (take (z - 4)) (sym (drop-drop 4 p.position (take (limit p) p.bytes)))
 
 -- a record that was entered at p, and left when the reader was at r
 module _ (p q r : Place) (enters : Enters p q) (on : MovesOn q r) where

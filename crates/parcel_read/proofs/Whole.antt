@@ -6,6 +6,7 @@ use Rattle.aidl_schema.specs.declared.schema.Decl.{Decl}
 use Rattle.aidl_schema.specs.declared.schema.AidlType.{AidlType}
 use Rattle.aidl_schema.specs.Types.{is_type}
 use Rattle.aidl_values.specs.Data.{Data}
+use Rattle.aidl_values.specs.HasType.{HasType}
 use Rattle.aidl_values.specs.Sound.{IsSound}
 use Rattle.parcel_words.specs.Place.{Place, left, is_inside, moved, MovesOn}
 use Rattle.parcel_words.specs.Taken.{RefusesIfMemory, status_of}
@@ -14,8 +15,8 @@ use Rattle.parcel_words.specs.declared.fault.ReadFault.TheVariants.{NotEnough, U
 use Rattle.wire_model.specs.ReadOf.{read_of}
 use Rattle.wire_model.specs.Reads.{Reads}
 use Rattle.wire_model.specs.Stop.{Stop}
-use Rattle.wire_model.proofs.Lists.{IsBytes}
-use Rattle.wire_model.proofs.Reading.{read_take, read_only, read_none, read_stop}
+use Rattle.aidl_base.proofs.Bytes.{AreBytes}
+use Rattle.wire_model.proofs.Reading.{read_take, read_typed, read_only, read_none, read_stop}
 
 module _ (bytes : List ℕ) where
   -- where a reader begins
@@ -49,13 +50,16 @@ module _ (bytes : List ℕ) where
       pub read_then : (read : Bool → List ℕ → Read Data) (v : Data) → read (is_inside p) (left p) ≡ Ok (v, left q) → read false bytes ≡ Ok (v, drop n bytes)
       read_then read v e = sym (at_start read) ∙ e ∙ ap (λ (rest : List ℕ). Ok (v, rest)) left_then
 
-module _ (S : List Decl) (sound : IsSound S) (t : AidlType) (type : is_type S t ≡ true) (bytes : List ℕ) (good : IsBytes bytes) where
+module _ (S : List Decl) (sound : IsSound S) (t : AidlType) (type : is_type S t ≡ true) (bytes : List ℕ) (good : AreBytes bytes) where
   module _ (v : Data) (n : ℕ) (within : n ≤ length bytes) (e : read_of S 64 t false bytes ≡ Ok (v, drop n bytes)) where
     passed : length bytes - length (drop n bytes) ≡ n
     passed = omega (arith, length-drop n bytes)
 
     pub is_found : Reads S 64 t (take n bytes) v
     is_found = subst (λ k. Reads S 64 t (take k bytes) v) passed (read_take S sound 64 t type false bytes good v (drop n bytes) e)
+
+    pub is_typed : HasType S t v
+    is_typed = read_typed S sound 64 t type false bytes good v (drop n bytes) e
 
     pub is_only : (w : Data) (m : ℕ) → m ≤ length bytes → Reads S 64 t (take m bytes) w → (v ≡ w) × (n ≡ m)
     is_only w m le h = let same = read_only S sound 64 t type false bytes good v w (drop n bytes) m le e h in (sym same.0, sym (same.1 ∙ passed))

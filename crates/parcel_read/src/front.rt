@@ -2,6 +2,7 @@
 ghost use Rattle.std.specs.Prelude.{◌≡◌, ◌≤◌, ℕ, true, false, length, take, drop, IfOk, IfErr, IfSome, MatchResult, Ok};
 ghost use Rattle.aidl_schema.specs.Types.{is_type};
 ghost use Rattle.aidl_values.specs.Data.{Data};
+ghost use Rattle.aidl_values.specs.HasType.{HasType};
 ghost use Rattle.aidl_values.specs.View.{view};
 ghost use Rattle.parcel_words.specs.Taken.{RefusesIfMemory, status_of};
 ghost use Rattle.parcel_words.specs.declared.fault.ReadFault.TheVariants.{OutOfMemory as NoMemory};
@@ -32,6 +33,8 @@ pub fn read(
         (λ fault. RefusesIfMemory fault (read_of schema.now.decls 64 ty.now false bytes.now)) }
     // What is read is a reading.
     ensures found { IfOk result (λ x. Reads schema.now.decls 64 ty.now (take x.1 bytes.now) (view x.0)) }
+    // It has the type.
+    ensures typed { IfOk result (λ x. HasType schema.now.decls ty.now (view x.0)) }
     // A front that is a reading is what is read, unless memory runs out.
     ensures only { (v : Data) (n : ℕ) → n ≤ length bytes.now → Reads schema.now.decls 64 ty.now (take n bytes.now) v
         → MatchResult result (λ x. (view x.0 ≡ v) × (x.1 ≡ n)) (λ fault. fault ≡ NoMemory) }

@@ -1,13 +1,12 @@
 //! Values without parts: words, longs and texts.
-ghost use Rattle.std.specs.Prelude.{◌≡◌, OnOk};
+ghost use Rattle.std.specs.Prelude.{OnOk};
 ghost use Rattle.aidl_schema.specs.Types as form;
 ghost use Rattle.aidl_values.specs.View.{view};
 ghost use Rattle.parcel_words.specs.Place.{left, is_inside, MovesOn};
 ghost use Rattle.parcel_words.specs.Taken.{TakesIfMemory};
 ghost use Rattle.wire_model.specs.ReadOf.{scalar_at, long_value_at, text_value_at};
-ghost use Rattle.wire_model.specs.Status.{is_within};
 
-use aidl_base::Text;
+use aidl_base::{Range, Text};
 use aidl_values::Value;
 use parcel_words::{ReadFault, WordReader};
 use std::alloc::Global;
@@ -32,7 +31,7 @@ pub fn byte_from(from: &mut WordReader) -> Result<Value, ReadFault>
     ensures on { OnOk result (MovesOn from.old from.new) }
 {
     let word = from.word()?;
-    if is_within(-128, 127, word) {
+    if Range::Byte.has(i64::from(word)) {
         Ok(Value::Number(i64::from(word)))
     } else {
         Err(ReadFault::BadValue)
@@ -46,7 +45,7 @@ pub fn char_from(from: &mut WordReader) -> Result<Value, ReadFault>
     ensures on { OnOk result (MovesOn from.old from.new) }
 {
     let word = from.word()?;
-    if is_within(0, 65_535, word) {
+    if Range::Char.has(i64::from(word)) {
         Ok(Value::Number(i64::from(word)))
     } else {
         Err(ReadFault::BadValue)
@@ -83,11 +82,4 @@ pub fn text_from(alloc: Global, nullable: bool, from: &mut WordReader) -> Result
         None => Ok(Value::Null),
         Some(text) => Ok(Value::Text(Text::from_string(text))),
     }
-}
-
-/// Whether a word is one of those from `low` to `high`.
-fn is_within(low: i32, high: i32, word: i32) -> bool
-    ensures { result ≡ is_within low high word }
-{
-    low <= word && word <= high
 }

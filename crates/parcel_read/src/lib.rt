@@ -9,6 +9,3 @@ mod tree;
 
 pub use front::read;
 pub use parcel_words::ReadFault;
-
-#[cfg(test)]
-mod tests;

@@ -6,7 +6,9 @@ ghost use Rattle.aidl_values.specs.Sound.{initial_in};
 ghost use Rattle.aidl_values.specs.View.{view, views};
 ghost use Rattle.parcel_words.specs.Place.{left, is_inside, MovesOn};
 ghost use Rattle.parcel_words.specs.Taken.{TakesIfMemory, RefusesIfMemory};
-ghost use Rattle.wire_model.specs.ReadOf.{items_at, elements_at, sequence_at, body_value_at, field_at, fields_at, record_at, tagged_at, union_at, one_at, read_of, read_parts, has_levels};
+ghost use Rattle.wire_model.specs.ReadOf.{each_at, elements_at, array_at, body_value_at, field_at, fields_at, record_at, tagged_at, union_at, one_at, read_of};
+ghost use Rattle.wire_model.specs.steps.Levels.{read_parts};
+ghost use Rattle.aidl_values.specs.steps.Levels.{is_level_left};
 
 use crate::leaf::{byte_from, char_from, int_from, long_from, text_from, truth_from};
 use crate::marks::{marker_from, tag_from};
@@ -46,7 +48,7 @@ fn one_from(
     from: &mut WordReader,
 ) -> Result<Value, ReadFault>
     requires { length from.old.ends + levels ≤ 64 }
-    ensures taken { TakesIfMemory view result (one_at (has_levels levels) (λ f. initial_in schema.now.decls f)
+    ensures taken { TakesIfMemory view result (one_at (is_level_left levels) (λ f. initial_in schema.now.decls f)
         (λ u j b. read_parts schema.now.decls levels u j b) ty.nullable (form_of schema.now.decls ty.base) (is_inside from.old) (left from.old)) (left from.new) }
     ensures on { OnOk result (MovesOn from.old from.new) }
 {
@@ -66,7 +68,7 @@ fn one_from(
 
 /// Reads an array or a `List`.
 #[cycle(read)]
-#[tactic(auto, unfolding(wire_model::specs::ReadOf::sequence_at))]
+#[tactic(auto, unfolding(wire_model::specs::ReadOf::array_at))]
 fn sequence_from(
     alloc: Global,
     schema: &Schema,
@@ -75,7 +77,7 @@ fn sequence_from(
     from: &mut WordReader,
 ) -> Result<Value, ReadFault>
     requires { length from.old.ends + levels ≤ 64 }
-    ensures taken { TakesIfMemory view result (sequence_at (has_levels levels) (is_raw schema.now.decls ty) ty.nullable
+    ensures taken { TakesIfMemory view result (array_at (is_level_left levels) (is_raw schema.now.decls ty) ty.nullable
         (λ b. read_parts schema.now.decls levels (elem schema.now.decls ty) (is_inside from.old) b) (is_inside from.old) (left from.old)) (left from.new) }
     ensures on { OnOk result (MovesOn from.old from.new) }
 {
@@ -95,7 +97,7 @@ fn elements_from(
     from: &mut WordReader,
 ) -> Result<Value, ReadFault>
     requires { length from.old.ends + levels ≤ 64 }
-    ensures taken { TakesIfMemory view result (elements_at (has_levels levels) (is_raw schema.now.decls ty)
+    ensures taken { TakesIfMemory view result (elements_at (is_level_left levels) (is_raw schema.now.decls ty)
         (λ b. read_parts schema.now.decls levels (elem schema.now.decls ty) (is_inside from.old) b) (is_inside from.old) count (left from.old)) (left from.new) }
     ensures on { OnOk result (MovesOn from.old from.new) }
 {
@@ -125,7 +127,7 @@ fn items_from(
 ) -> Result<Row<Value>, ReadFault>
     requires some { 0 < levels }
     requires room { length from.old.ends + levels ≤ 64 }
-    ensures taken { TakesIfMemory views result (items_at (λ b. read_parts schema.now.decls levels ty (is_inside from.old) b) count (left from.old)) (left from.new) }
+    ensures taken { TakesIfMemory views result (each_at (λ b. read_parts schema.now.decls levels ty (is_inside from.old) b) count (left from.old)) (left from.new) }
     ensures on { OnOk result (MovesOn from.old from.new) }
 {
     let mut values = Row::new(alloc);
@@ -148,7 +150,7 @@ fn record_from(
     from: &mut WordReader,
 ) -> Result<Value, ReadFault>
     requires { length from.old.ends + levels ≤ 64 }
-    ensures taken { TakesIfMemory view result (record_at (has_levels levels) nullable (λ f. initial_in schema.now.decls f)
+    ensures taken { TakesIfMemory view result (record_at (is_level_left levels) nullable (λ f. initial_in schema.now.decls f)
         (λ u b. read_parts schema.now.decls levels u true b) fields.now (is_inside from.old) (left from.old)) (left from.new) }
     ensures on { OnOk result (MovesOn from.old from.new) }
 {
@@ -242,7 +244,7 @@ fn union_from(
     from: &mut WordReader,
 ) -> Result<Value, ReadFault>
     requires { length from.old.ends + levels ≤ 64 }
-    ensures taken { TakesIfMemory view result (union_at (has_levels levels) nullable
+    ensures taken { TakesIfMemory view result (union_at (is_level_left levels) nullable
         (λ u b. read_parts schema.now.decls levels u (is_inside from.old) b) fields.now (is_inside from.old) (left from.old)) (left from.new) }
     ensures on { OnOk result (MovesOn from.old from.new) }
 {

@@ -1,10 +1,10 @@
 -- Taking items one after the other, as a loop does.
 use Rattle.std.proofs.Common.{◌≡◌, ℕ, suc, ◌-◌, ◌+◌, ◌≤◌, ◌<◌, ℤ, List, [], ◌∷◌, ◌++◌, Ok, Err, refl, sym, ap, ◌∙◌, arith, append_assoc}
 use Rattle.std.proofs.lemmas.List.{append-nil}
-use Rattle.aidl_base.specs.Readings.{Read, ◌>>=◌, items_at, bad_value, not_enough, unexpected_null}
+use Rattle.aidl_base.specs.Readings.{Read, ◌>>=◌, items_at}
 use Rattle.parcel_words.specs.declared.fault.ReadFault.{ReadFault}
-use Rattle.parcel_words.specs.declared.fault.ReadFault.TheVariants.{NotEnough, UnexpectedNull, BadValue, OutOfMemory}
 use Rattle.parcel_words.specs.Taken.{RefusesIfMemory}
+use Rattle.parcel_words.proofs.Faults.{fails_as}
 
 -- what was read before, and what is still read
 abbrev pub after_front : {A : Type 0} → List A → Read (List A) → Read (List A)
@@ -33,10 +33,7 @@ module _ {A : Type 0} (read : List ℕ → Read A) (front : List A) (count i : �
       sym so_far ∙ one
 
   pub ends : (e : ReadFault) → i < count → RefusesIfMemory e (read b) → RefusesIfMemory e total
-  ends NotEnough lt h = stops not_enough lt h
-  ends UnexpectedNull lt h = stops unexpected_null lt h
-  ends BadValue lt h = stops bad_value lt h
-  ends OutOfMemory lt h = tt
+  ends e lt h = fails_as e (read b) total (λ s k. stops s lt k) h
 
   pub is_done : count ≤ i → total ≡ Ok (front, b)
   is_done le =

@@ -6,8 +6,6 @@ mod laws;
 mod padding;
 mod reader;
 mod sequence;
-#[cfg(test)]
-mod tests;
 mod units;
 mod wire;
 mod writer;

@@ -8,7 +8,7 @@ use Rattle.aidl_values.specs.Data.{seq, count}
 use Rattle.aidl_values.specs.View.{views}
 use Rattle.aidl_values.specs.declared.value.Value.{Value}
 use Rattle.wire_model.specs.Spell.{spell, raw_bytes}
-use Rattle.wire_model.proofs.Sizes.{length-pad, length-raw_bytes}
+use Rattle.wire_model.proofs.spelled.Sizes.{length-pad, length-raw_bytes}
 
 pub count_views : (vs : List Value) → count (views vs) ≡ length vs
 count_views [] = refl

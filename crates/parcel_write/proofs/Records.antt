@@ -1,16 +1,9 @@
 -- A record's marker, size and fields, one after the other.
-use Rattle.std.proofs.Common.{◌≡◌, ℕ, ◌+◌, ◌-◌, pos, List, [], ◌∷◌, ◌++◌, length, take, drop, refl, ap, ◌∙◌, arith, append_assoc, length-append}
+use Rattle.std.proofs.Common.{◌≡◌, ℕ, ◌+◌, ◌-◌, pos, List, ◌++◌, length, take, drop, refl, ap, ◌∙◌, arith, append_assoc, length-append}
 use Rattle.aidl_base.specs.Words.{word}
+use Rattle.aidl_base.proofs.Lists.{take_front, drop_front}
 use Rattle.wire_model.specs.Spell.{body}
 use Rattle.parcel_words.specs.Written.{Written, with_bytes, sized, with_size}
-
-take_front : (a b : List ℕ) → take (length a) (a ++ b) ≡ a
-take_front [] b = refl
-take_front (x ∷ a) b = ap (λ c. x ∷ c) (take_front a b)
-
-drop_front : (a b : List ℕ) → drop (length a) (a ++ b) ≡ b
-drop_front [] b = refl
-drop_front (x ∷ a) b = drop_front a b
 
 -- a front, a size and fields
 joined : (f g b c : List ℕ) (m : ℕ) → f ≡ g → m ≡ 4 + length c → b ≡ c → f ++ (word (pos m) ++ b) ≡ g ++ body c
@@ -23,9 +16,9 @@ record_length a size fields e = omega (arith, length-append (a ++ size) fields, 
 -- the size word is set over the one that stood there
 sized_record : (a size fields : List ℕ) → length size ≡ 4 → sized ((a ++ size) ++ fields) (length a) ≡ a ++ body fields
 sized_record a size fields e =
-    let front : take (length a) ((a ++ size) ++ fields) ≡ a = ap (take (length a)) (append_assoc a size fields) ∙ take_front a (size ++ fields) in
+    let front : take (length a) ((a ++ size) ++ fields) ≡ a = ap (take (length a)) (append_assoc a size fields) ∙ take_front a (size ++ fields) (length a) refl in
     let len : length a + 4 ≡ length (a ++ size) = omega (arith, length-append a size) in
-    let back : drop (length a + 4) ((a ++ size) ++ fields) ≡ fields = ap (λ n. drop n ((a ++ size) ++ fields)) len ∙ drop_front (a ++ size) fields in
+    let back : drop (length a + 4) ((a ++ size) ++ fields) ≡ fields = ap (λ n. drop n ((a ++ size) ++ fields)) len ∙ drop_front (a ++ size) fields (length (a ++ size)) refl in
     joined _ a _ fields _ front (record_length a size fields e) back
 
 -- a record that is opened, filled and closed

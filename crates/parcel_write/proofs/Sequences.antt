@@ -5,20 +5,22 @@ use Rattle.aidl_schema.specs.declared.schema.Decl.{Decl}
 use Rattle.aidl_schema.specs.declared.schema.AidlType.{AidlType}
 use Rattle.aidl_schema.specs.Types.{Form, form_of, is_array, is_byte, is_raw, elem}
 use Rattle.aidl_schema.specs.Types as form
-use Rattle.aidl_schema.proofs.Tests.{both}
+use Rattle.aidl_base.proofs.Ranges.{byte_fits}
+use Rattle.aidl_base.proofs.Tests.{both}
+use Rattle.aidl_schema.specs.Constants.{in_range}
 use Rattle.aidl_values.specs.Data.{null, truth, number, text, seq, rec, alt, Items, none, item, count}
-use Rattle.aidl_values.specs.HasType.{InRange, HaveType}
+use Rattle.aidl_values.specs.HasType.{HaveType}
 use Rattle.aidl_values.specs.View.{views}
 use Rattle.aidl_values.specs.declared.value.Value.{Value}
 use Rattle.wire_model.specs.Spell.{spell, spell_items, raw_bytes}
-use Rattle.wire_model.proofs.Sizes.{spell_items_whole}
+use Rattle.wire_model.proofs.spelled.Sizes.{spell_items_whole}
 use Rattle.parcel_words.specs.Written.{Written, with_bytes}
 use Rattle.parcel_words.proofs.Appends.{with_more}
-use Rattle.parcel_write.specs.Bytes.{AreBytes}
+use Rattle.parcel_write.specs.steps.Bytes.{AreByteValues}
 use Rattle.parcel_write.proofs.Raw.{count_views, length_raw_sequence}
 
-byte_range : (f : Form) (n : ℤ) → is_byte f ≡ true → InRange f n → FitsSigned w8 n
-byte_range form.byte n e h = h
+byte_range : (f : Form) (n : ℤ) → is_byte f ≡ true → in_range f n ≡ true → FitsSigned w8 n
+byte_range form.byte n e h = byte_fits n h
 byte_range form.truth n e h = cc
 byte_range form.char n e h = cc
 byte_range form.int n e h = cc
@@ -30,7 +32,7 @@ byte_range form.nothing n e h = cc
 
 module _ (S : List Decl) (t : AidlType) where
   -- the elements of raw bytes are bytes
-  pub are_bytes : (vs : Items) → is_raw S t ≡ true → HaveType S (elem S t) vs → AreBytes vs
+  pub are_bytes : (vs : Items) → is_raw S t ≡ true → HaveType S (elem S t) vs → AreByteValues vs
   are_bytes none raw h = tt
   are_bytes (item (number n) vs) raw h = (byte_range (form_of S t.base) n (both (is_array t.shape) (is_byte (form_of S t.base)) raw).1 h.0.1, are_bytes vs raw h.1)
   are_bytes (item null vs) raw h = (tt, are_bytes vs raw h.1)

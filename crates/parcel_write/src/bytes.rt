@@ -2,7 +2,7 @@ ghost use Rattle.std.specs.Prelude.{◌≡◌, ◌≤◌, length};
 ghost use Rattle.aidl_base.specs.Words.{pad};
 ghost use Rattle.aidl_values.specs.View.{view, views};
 ghost use Rattle.parcel_words.specs.Written.{with_bytes};
-ghost use Rattle.parcel_write.specs.Bytes.{IsByte, AreBytes};
+ghost use Rattle.parcel_write.specs.steps.Bytes.{IsByte, AreByteValues};
 ghost use Rattle.wire_model.specs.Spell.{raw_byte, raw_bytes};
 
 use aidl_values::Value;
@@ -11,7 +11,7 @@ use parcel_words::WordWriter;
 /// Appends the elements of an array of bytes, one raw byte each, and their padding.
 #[tactic(auto, using(crate::proofs::Raw::length_raw, parcel_words::proofs::Appends::with_more))]
 pub(crate) fn put_raw(items: &[Value], to: &mut WordWriter)
-    requires bytes { AreBytes (views items.now) }
+    requires bytes { AreByteValues (views items.now) }
     requires room { length (pad (raw_bytes (views items.now))) ≤ to.old.room }
     ensures { to.new ≡ with_bytes to.old (pad (raw_bytes (views items.now))) }
 {
@@ -20,7 +20,7 @@ pub(crate) fn put_raw(items: &[Value], to: &mut WordWriter)
 }
 
 fn put_bytes(items: &[Value], to: &mut WordWriter)
-    requires bytes { AreBytes (views items.now) }
+    requires bytes { AreByteValues (views items.now) }
     requires room { length (raw_bytes (views items.now)) ≤ to.old.room }
     ensures { to.new ≡ with_bytes to.old (raw_bytes (views items.now)) }
 {

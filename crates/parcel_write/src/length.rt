@@ -42,8 +42,8 @@ fn length_of(schema: &Schema, ty: AidlType, value: &Value) -> usize
             fields_length(schema, fields, items.as_slice()).saturating_add(8)
         }
         Value::Alt(tag, inner) => {
-            let inside = alternative_in(schema, ty.base, *tag);
-            length_of(schema, inside, inner).saturating_add(8)
+            let part = alternative_in(schema, ty.base, *tag);
+            length_of(schema, part, inner).saturating_add(8)
         }
     }
 }

@@ -15,6 +15,3 @@ mod put;
 pub use length::spelled_length;
 pub use parcel::{WriteFault, write};
 pub use put::put_value;
-
-#[cfg(test)]
-mod tests;

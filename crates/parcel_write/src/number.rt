@@ -1,6 +1,6 @@
-ghost use Rattle.std.specs.Prelude.{◌≡◌, ◌≤◌, length};
+ghost use Rattle.std.specs.Prelude.{◌≡◌, ◌≤◌, true, length};
+ghost use Rattle.aidl_schema.specs.Constants.{in_range};
 ghost use Rattle.aidl_schema.specs.Seen.{seen};
-ghost use Rattle.aidl_values.specs.HasType.{InRange};
 ghost use Rattle.parcel_words.specs.Written.{with_bytes};
 ghost use Rattle.wire_model.specs.Spell.{spell_number};
 
@@ -8,8 +8,9 @@ use aidl_schema::Form;
 use parcel_words::WordWriter;
 
 /// Appends a number: two words of a long, and one of any other.
+#[tactic(auto, using(aidl_base::proofs::Ranges::byte_fits_word, aidl_base::proofs::Ranges::char_fits, aidl_base::proofs::Ranges::int_fits))]
 pub(crate) fn put_number(form: &Form<'_>, n: i64, to: &mut WordWriter)
-    requires range { InRange (seen form.now) n }
+    requires range { in_range (seen form.now) n ≡ true }
     requires room { length (spell_number (seen form.now) n) ≤ to.old.room }
     ensures { to.new ≡ with_bytes to.old (spell_number (seen form.now) n) }
 {

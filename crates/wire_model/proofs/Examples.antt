@@ -21,7 +21,7 @@ use Rattle.aidl_values.specs.HasType.{HasType}
 use Rattle.aidl_values.specs.Sound.{IsDeclared, fields_of, AreTypes, HaveDefaults, IsSound}
 use Rattle.wire_model.specs.Spell.{spell}
 use Rattle.wire_model.specs.Status.{bad_value, not_enough, unexpected_null}
-use Rattle.wire_model.specs.ReadOf.{Read, read_of, scalar_at, long_value_at, text_value_at, raw_items_at, elements_at, sequence_at, marker_at, body_at, body_value_at, record_at, tag_at, tagged_at, union_at}
+use Rattle.wire_model.specs.ReadOf.{Read, read_of, scalar_at, long_value_at, text_value_at, raw_items_at, elements_at, array_at, marker_at, body_at, body_value_at, record_at, tag_at, tagged_at, union_at}
 use Rattle.aidl_base.specs.Readings.{count_at, text_of, block_at, text_at, raw_at}
 
 -- hexadecimal, blanks passed over
@@ -42,7 +42,7 @@ hex cs = pairs (without_blanks cs)
 
 -- reading as the program does: 64 levels, and no record around
 decode : List Decl → AidlType → List ℕ → Read Data
-unfolding read_of scalar_at long_value_at count_at text_of block_at text_at raw_at text_value_at raw_items_at elements_at sequence_at marker_at body_at body_value_at record_at tag_at tagged_at union_at zero_within utf16_chars chars encode
+unfolding read_of scalar_at long_value_at count_at text_of block_at text_at raw_at text_value_at raw_items_at elements_at array_at marker_at body_at body_value_at record_at tag_at tagged_at union_at zero_within utf16_chars chars encode
 decode S t b = read_of S 64 t false b
 
 -- types
@@ -270,7 +270,7 @@ unfolding its_fields zero_within one newer
 newer_is_sound = record {
   types = λ d at. of_each (λ fs. AreTypes newer fs) (refl, (refl, tt)) d at;
   defaults = λ d at. of_each (λ fs. HaveDefaults newer fs) (
-    ((refl, refl, refl), (refl, omega (arith, ints))),
+    ((refl, refl, refl), (refl, refl)),
     ((refl, subst (λ v. HasType newer (one base.Text) v) (sym initial_text) (refl, refl, refl)), tt),
   ) d at;
   few = λ d at. of_each (λ fs. length fs ≤ 4096) (omega arith) d at;

@@ -7,11 +7,13 @@ use Rattle.aidl_schema.specs.declared.schema.Field.{Field}
 use Rattle.aidl_schema.specs.declared.schema.AidlType.{AidlType}
 use Rattle.aidl_values.specs.Data.{Data, alt}
 use Rattle.aidl_values.specs.Sound.{initial_in}
-use Rattle.wire_model.specs.ReadOf.{tag_at, tagged_at, marker_at, record_at, body_value_at, Read, one_at, items_at, elements_at, sequence_at, read_of, read_by, read_parts, has_levels}
+use Rattle.wire_model.specs.ReadOf.{tag_at, tagged_at, marker_at, record_at, body_value_at, Read, one_at, each_at, elements_at, array_at, read_of, read_by}
 use Rattle.wire_model.proofs.Steps.{then_seq, then_there, then_alternative, then_field, with_tag}
+use Rattle.wire_model.specs.steps.Levels.{read_parts}
+use Rattle.aidl_values.specs.steps.Levels.{is_level_left}
 
 pub read_of-parts : (S : List Decl) (d : ℕ) (t : AidlType) (inside : Bool) (b : List ℕ)
-    → read_of S d t inside b ≡ read_by S (has_levels d) (λ u j c. read_parts S d u j c) t inside b
+    → read_of S d t inside b ≡ read_by S (is_level_left d) (λ u j c. read_parts S d u j c) t inside b
 unfolding read_of
 read_of-parts S zero t inside b = refl
 read_of-parts S (suc d) t inside b = refl
@@ -20,22 +22,18 @@ pub read_parts-below : (S : List Decl) (d : ℕ) (t : AidlType) (inside : Bool) 
 read_parts-below S zero t inside b lt = absurd (omega arith)
 read_parts-below S (suc d) t inside b lt = ap (λ k. read_of S k t inside b) (omega arith)
 
-pub has_levels-below : (d : ℕ) → 0 < d → has_levels d ≡ true
-has_levels-below zero lt = absurd (omega arith)
-has_levels-below (suc d) lt = refl
-
 module _ (S : List Decl) (d : ℕ) (t : AidlType) (inside : Bool) (b : List ℕ) where
   pub read_of-one : t.shape ≡ shape.One
-      → one_at (has_levels d) (λ f. initial_in S f) (λ u j c. read_parts S d u j c) t.nullable (form_of S t.base) inside b ≡ read_of S d t inside b
+      → one_at (is_level_left d) (λ f. initial_in S f) (λ u j c. read_parts S d u j c) t.nullable (form_of S t.base) inside b ≡ read_of S d t inside b
   read_of-one is = sym (read_of-parts S d t inside b ∙ rw is)
 
   pub read_of-sequence : is_one t.shape ≡ false
-      → sequence_at (has_levels d) (is_raw S t) t.nullable (λ c. read_parts S d (elem S t) inside c) inside b ≡ read_of S d t inside b
+      → array_at (is_level_left d) (is_raw S t) t.nullable (λ c. read_parts S d (elem S t) inside c) inside b ≡ read_of S d t inside b
   read_of-sequence is = sym (read_of-parts S d t inside b ∙ rw is)
 
 module _ (left raw : Bool) (read : List ℕ → Read Data) (inside : Bool) (n : ℕ) (b : List ℕ) (has : left ≡ true) (apart : raw ≡ false) where
   -- what a sequence gives, from its elements
-  pub elements_at-items : elements_at left raw read inside (Some n) b ≡ then_seq (items_at read n b)
+  pub elements_at-items : elements_at left raw read inside (Some n) b ≡ then_seq (each_at read n b)
   unfolding elements_at
   elements_at-items = rw (has, apart)
 

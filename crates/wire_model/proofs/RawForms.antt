@@ -3,37 +3,39 @@ use Rattle.std.proofs.Common.{◌≡◌, ℕ, suc, ◌+◌, ◌<◌, true, List,
 use Rattle.std.specs.Prelude.{FitsSigned}
 use Rattle.std.specs.Int.{w8, cast_signed, cast_unsigned}
 use Rattle.std.proofs.lemmas.Int.{ints, of_z-to_z}
-use Rattle.std.proofs.lemmas.List.{take-append-drop}
+use Rattle.std.proofs.lemmas.List.{take-append-drop, length-take-le}
 use Rattle.aidl_base.specs.Words.{padding}
 use Rattle.aidl_schema.specs.declared.schema.Decl.{Decl}
 use Rattle.aidl_schema.specs.declared.schema.AidlType.{AidlType}
 use Rattle.aidl_schema.specs.Types.{form_of, is_one, elem}
 use Rattle.aidl_schema.specs.Types as form
 use Rattle.aidl_values.specs.Data.{count}
-use Rattle.aidl_values.specs.HasType.{HaveType, InRange}
+use Rattle.aidl_values.specs.HasType.{HaveType}
 use Rattle.wire_model.specs.Spell.{raw_bytes}
 use Rattle.wire_model.specs.Stop.{IsPadded}
 use Rattle.aidl_base.specs.Readings.{all_zero}
 use Rattle.wire_model.specs.ReadOf.{raw_items}
-use Rattle.wire_model.proofs.Lists.{take_len, drop_front, all_zero_is, IsBytes}
-use Rattle.wire_model.proofs.AgainTexts.{zeros}
+use Rattle.aidl_schema.specs.Constants.{in_range}
+use Rattle.aidl_base.proofs.Ranges.{fits_byte}
+use Rattle.aidl_base.proofs.Lists.{drop_front}
+use Rattle.aidl_base.proofs.Bytes.{all_zero_is, AreBytes, zeros}
 
 -- Padding is right where it is zeros.
 pub padded_is : (n : ℕ) (c : List ℕ) → length c ≡ n + padding n → all_zero (drop n c) ≡ true → IsPadded n c
 padded_is n c len h =
-    let front : length (take n c) ≡ n = take_len n c (omega arith) in
+    let front : length (take n c) ≡ n = length-take-le n c (omega arith) in
     let whole : length (take n c) + length (drop n c) ≡ length c = sym (length-append (take n c) (drop n c)) ∙ ap length (take-append-drop n c) in
     let tail : length (drop n c) ≡ padding n = omega arith in
     sym (take-append-drop n c) ∙ ap (λ x. take n c ++ x) (all_zero_is (drop n c) h ∙ ap (λ k. replicate k 0) (tail ∙ ap padding (sym front)))
 
 pub zero_padding : (n : ℕ) (c : List ℕ) → length c ≡ n + padding n → IsPadded n c → all_zero (drop n c) ≡ true
 zero_padding n c len h =
-    let front : length (take n c) ≡ n = take_len n c (omega arith) in
+    let front : length (take n c) ≡ n = length-take-le n c (omega arith) in
     let padding_len = padding (length (take n c)) in
     ap (λ x. all_zero (drop n x)) h ∙ ap all_zero (drop_front (take n c) (replicate padding_len 0) n front) ∙ zeros padding_len
 
 -- Bytes are those of the numbers that they are read as.
-pub bytes_of_items : (xs : List ℕ) → IsBytes xs → raw_bytes (raw_items xs) ≡ xs
+pub bytes_of_items : (xs : List ℕ) → AreBytes xs → raw_bytes (raw_items xs) ≡ xs
 bytes_of_items [] bytes = refl
 bytes_of_items (x ∷ xs) bytes =
     let back : cast_unsigned w8 (cast_signed w8 x) ≡ x = of_z-to_z w8 x (bytes 0) in
@@ -46,6 +48,6 @@ count_of_items (x ∷ xs) = ap suc (count_of_items xs)
 signed_byte : (x : ℕ) → x < 256 → FitsSigned w8 (cast_signed w8 x)
 signed_byte x lt = omega (arith, ints)
 
-pub items_typed : (S : List Decl) (t : AidlType) → form_of S t.base ≡ form.byte → (xs : List ℕ) → IsBytes xs → HaveType S (elem S t) (raw_items xs)
+pub items_typed : (S : List Decl) (t : AidlType) → form_of S t.base ≡ form.byte → (xs : List ℕ) → AreBytes xs → HaveType S (elem S t) (raw_items xs)
 items_typed S t byte [] bytes = tt
-items_typed S t byte (x ∷ xs) bytes = ((refl, subst (λ f. InRange f (cast_signed w8 x)) (sym byte) (signed_byte x (bytes 0))), items_typed S t byte xs (λ i. bytes (suc i)))
+items_typed S t byte (x ∷ xs) bytes = ((refl, subst (λ f. in_range f (cast_signed w8 x) ≡ true) (sym byte) (fits_byte _ (signed_byte x (bytes 0)))), items_typed S t byte xs (λ i. bytes (suc i)))

@@ -5,16 +5,18 @@ use Rattle.aidl_schema.specs.declared.schema.Decl.{Decl}
 use Rattle.aidl_schema.specs.declared.schema.AidlType.{AidlType}
 use Rattle.aidl_schema.specs.Types.{is_type}
 use Rattle.aidl_values.specs.Data.{Data}
+use Rattle.aidl_values.specs.HasType.{HasType}
 use Rattle.aidl_values.specs.Sound.{IsSound}
 use Rattle.wire_model.specs.Reads.{Reads, FrontReads}
 use Rattle.wire_model.specs.Stop.{Stop, Stops}
 use Rattle.wire_model.specs.ReadOf.{Read, read_of}
-use Rattle.wire_model.proofs.Lists.{IsBytes, take_front}
 use Rattle.wire_model.proofs.Sound.{is_whole}
-use Rattle.wire_model.proofs.AgainAll.{again}
-use Rattle.wire_model.proofs.Stopped.{stopped}
-use Rattle.wire_model.proofs.Told.{Told}
-use Rattle.wire_model.proofs.ToldAll.{told}
+use Rattle.wire_model.proofs.again.All.{again}
+use Rattle.wire_model.proofs.stopped.All.{stopped}
+use Rattle.wire_model.proofs.told.Words.{Told}
+use Rattle.wire_model.proofs.told.All.{told, reads_type}
+use Rattle.aidl_base.proofs.Bytes.{AreBytes}
+use Rattle.aidl_base.proofs.Lists.{take_front}
 
 module _ (S : List Decl) (sound : IsSound S) (d : ℕ) (t : AidlType) (type : is_type S t ≡ true) (inside : Bool) where
   -- A front that is a reading is what is read, whatever follows it.
@@ -22,16 +24,20 @@ module _ (S : List Decl) (sound : IsSound S) (d : ℕ) (t : AidlType) (type : is
   reads_read front rest v h = again S (is_whole S sound) d t inside v front rest type h
 
   -- Where the bytes stop, reading answers that status.
-  pub stop_read : (b : List ℕ) (s : ℤ) → IsBytes b → Stop S d t b inside s → read_of S d t inside b ≡ Err s
+  pub stop_read : (b : List ℕ) (s : ℤ) → AreBytes b → Stop S d t b inside s → read_of S d t inside b ≡ Err s
   stop_read b s bytes h = stopped S (is_whole S sound) d t inside b s type bytes h
 
-  module _ (b : List ℕ) (bytes : IsBytes b) where
+  module _ (b : List ℕ) (bytes : AreBytes b) where
     answer_told : (x : Read Data) → read_of S d t inside b ≡ x → Told (λ front v. Reads S d t front v) (λ s. Stop S d t b inside s) b x
     answer_told x e = subst (λ y. Told (λ front v. Reads S d t front v) (λ s. Stop S d t b inside s) b y) e (told S (is_whole S sound) d t inside b type bytes)
 
     -- What is read is a reading of a front; what is left is the rest.
     pub read_reads : (v : Data) (rest : List ℕ) → read_of S d t inside b ≡ Ok (v, rest) → (front : List ℕ) × (b ≡ front ++ rest) × Reads S d t front v
     read_reads v rest e = answer_told (Ok (v, rest)) e
+
+    -- It has the type.
+    pub read_typed : (v : Data) (rest : List ℕ) → read_of S d t inside b ≡ Ok (v, rest) → HasType S t v
+    read_typed v rest e = let h = read_reads v rest e in reads_type S d t h.0 v h.2
 
     -- A status that reading answers is that of a stop.
     pub read_stop : (s : ℤ) → read_of S d t inside b ≡ Err s → Stop S d t b inside s

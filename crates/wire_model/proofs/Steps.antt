@@ -7,7 +7,7 @@ use Rattle.aidl_schema.specs.declared.schema.AidlType.{AidlType}
 use Rattle.aidl_schema.specs.Types.{Form}
 use Rattle.aidl_values.specs.Data.{Data, null, text, seq, rec, alt, Items, item}
 use Rattle.wire_model.specs.Status.{bad_value, is_permitted}
-use Rattle.wire_model.specs.ReadOf.{data_of_word, text_data, text_value_at, items_at, raw_items, raw_items_at, elements_at, marker_of, marked_at, fields_at, tag_of, ok_field}
+use Rattle.wire_model.specs.ReadOf.{data_of_word, text_data, text_value_at, each_at, raw_items, raw_items_at, elements_at, marker_of, marked_at, fields_at, tag_of, ok_field}
 
 -- after a word
 abbrev pub then_scalar : Form → Read ℤ → Read Data
@@ -50,7 +50,7 @@ then_raw n b = b >>= λ x. cond {A = Read Items} (all_zero (drop n x.0)) (Ok (ra
 
 -- after an item, and after those that follow it
 abbrev pub then_items : (List ℕ → Read Data) → ℕ → Read Data → Read Items
-then_items read n first = first >>= λ x. items_at read n x.1 >>= λ others. Ok (item x.0 others.0, others.1)
+then_items read n first = first >>= λ x. each_at read n x.1 >>= λ others. Ok (item x.0 others.0, others.1)
 
 abbrev pub with_item : Data → Read Items → Read Items
 with_item v others = others >>= λ x. Ok (item v x.0, x.1)

@@ -3,3 +3,4 @@ pub mod Reads
 pub mod Spell
 pub mod Status
 pub mod Stop
+pub mod steps

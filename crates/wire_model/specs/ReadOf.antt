@@ -46,11 +46,11 @@ text_value_at nullable inside b = do
   Ok (text_data x.0, x.1)
 
 -- n items in order
-abbrev pub items_at : (List ℕ → Read Data) → ℕ → List ℕ → Read Items
-items_at read zero b = Ok (none, b)
-items_at read (suc n) b = do
+abbrev pub each_at : (List ℕ → Read Data) → ℕ → List ℕ → Read Items
+each_at read zero b = Ok (none, b)
+each_at read (suc n) b = do
   first ← read b
-  others ← items_at read n first.1
+  others ← each_at read n first.1
   Ok (item first.0 others.0, others.1)
 
 -- raw bytes as numbers
@@ -67,12 +67,12 @@ raw_items_at n inside b = do
 unfoldable pub elements_at : Bool → Bool → (List ℕ → Read Data) → Bool → Option ℕ → List ℕ → Read Data
 elements_at left raw read inside None b = Ok (null, b)
 elements_at left raw read inside (Some n) b = if left then (do
-  vs ← (if raw then raw_items_at n inside b else items_at read n b)
+  vs ← (if raw then raw_items_at n inside b else each_at read n b)
   Ok (seq vs.0, vs.1)) else Err bad_value
 
 -- an array or a List
-unfoldable pub sequence_at : Bool → Bool → Bool → (List ℕ → Read Data) → Bool → List ℕ → Read Data
-sequence_at left raw nullable read inside b = do
+unfoldable pub array_at : Bool → Bool → Bool → (List ℕ → Read Data) → Bool → List ℕ → Read Data
+array_at left raw nullable read inside b = do
   n ← count_at nullable inside b
   elements_at left raw read inside n.0 n.1
 
@@ -169,18 +169,9 @@ one_at left initial read nullable f inside b = scalar_at f inside b
 abbrev pub read_by : List Decl → Bool → (AidlType → Bool → List ℕ → Read Data) → AidlType → Bool → List ℕ → Read Data
 read_by S left read t inside b = if is_one t.shape
     then one_at left (λ f. initial_in S f) read t.nullable (form_of S t.base) inside b
-    else sequence_at left (is_raw S t) t.nullable (λ b. read (elem S t) inside b) inside b
+    else array_at left (is_raw S t) t.nullable (λ b. read (elem S t) inside b) inside b
 
 -- The value at the front and the bytes after it, or the status of the first wrong item.
 unfoldable pub read_of : List Decl → ℕ → AidlType → Bool → List ℕ → Read Data
 read_of S zero t inside b = read_by S false (λ u j b. Err bad_value) t inside b
 read_of S (suc d) t inside b = read_by S true (λ u j b. read_of S d u j b) t inside b
-
--- The same for a reader that holds its levels as a number: reading a part of what has d levels left, and whether any is.
-abbrev pub read_parts : List Decl → ℕ → AidlType → Bool → List ℕ → Read Data
-read_parts S zero u inside b = Err bad_value
-read_parts S (suc d) u inside b = read_of S d u inside b
-
-abbrev pub has_levels : ℕ → Bool
-has_levels zero = false
-has_levels (suc d) = true

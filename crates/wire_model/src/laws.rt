@@ -1,8 +1,9 @@
-ghost use Rattle.std.specs.Prelude.{◌≡◌, ◌≤◌, ◌++◌, ◌⊎◌, true, List, ℕ, ℤ, length};
+ghost use Rattle.std.specs.Prelude.{◌≡◌, ◌≤◌, ◌↔◌, ◌++◌, ◌⊎◌, true, List, ℕ, ℤ, Ok, Err, length};
 ghost use Rattle.aidl_schema.specs.Types.{is_type};
-ghost use Rattle.aidl_values.specs.Data.{depth_of};
+ghost use Rattle.aidl_values.specs.Data.{Data, depth_of};
 ghost use Rattle.aidl_values.specs.HasType.{HasType};
 ghost use Rattle.aidl_values.specs.View.{view};
+ghost use Rattle.wire_model.specs.ReadOf.{read_of};
 ghost use Rattle.wire_model.specs.Reads.{FrontReads, Reads};
 ghost use Rattle.wire_model.specs.Spell.{spell};
 ghost use Rattle.wire_model.specs.Status.{IsStatus};
@@ -57,4 +58,14 @@ pub fn law_reads_or_stops(
     ensures one_status { Stop schema.now.decls levels ty.now b.now inside first
         → Stop schema.now.decls levels ty.now b.now inside second → first ≡ second }
     ensures status { (s : ℤ) → Stop schema.now.decls levels ty.now b.now inside s → IsStatus s }
+{}
+
+/// Reading as a plain function is exactly `Reads` and `Stop`: it gives a value and the bytes after it where a front is a
+/// reading of that value and those bytes follow it, and a status where the bytes stop with that status.
+pub fn law_read_of(schema: &Schema, ty: &AidlType, levels: usize, b: &[u8], inside: bool)
+    requires known { is_type schema.now.decls ty.now ≡ true }
+    ensures reads { (v : Data) (rest : List ℕ) → (read_of schema.now.decls levels ty.now inside b.now ≡ Ok (v, rest))
+        ↔ ((front : List ℕ) × (b.now ≡ front ++ rest) × Reads schema.now.decls levels ty.now front v) }
+    ensures stops { (s : ℤ) → (read_of schema.now.decls levels ty.now inside b.now ≡ Err s)
+        ↔ Stop schema.now.decls levels ty.now b.now inside s }
 {}

@@ -1,5 +1,6 @@
 use Rattle.std.proofs.Common.{◌≡◌, ◌+◌, ◌*◌, take, map}
-use Rattle.aidl_values.specs.Default.{initial_by, zero_parts}
+use Rattle.aidl_values.specs.Default.{initial_by}
+use Rattle.aidl_values.specs.steps.Levels.{zero_parts}
 use Rattle.aidl_values.specs.View.{view}
 use Rattle.aidl_values.proofs.default.+default.Given as goal
 

@@ -1,5 +1,5 @@
 use Rattle.std.proofs.Common.{◌≡◌, drop}
-use Rattle.aidl_values.specs.TypeTest.{all_have_type, fields_have_type}
+use Rattle.aidl_values.specs.steps.TypeTest.{all_have_type, fields_have_type}
 use Rattle.aidl_values.specs.View.{views}
 use Rattle.aidl_values.proofs.typing.+typing.Given as goal
 

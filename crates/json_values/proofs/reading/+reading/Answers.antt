@@ -5,11 +5,14 @@ use Rattle.serde_json.specs.View.{view as json_view, items_view, members_view}
 use Rattle.serde_json.proofs.Views.{view-Array}
 use Rattle.aidl_schema.specs.Seen.{seen}
 use Rattle.aidl_values.specs.View.{view, views}
-use Rattle.json_values.specs.FromJson.{part_from, default_of, has_levels, elements_from, sequence_from}
-use Rattle.json_values.specs.Gives.{Gives}
-use Rattle.json_values.proofs.Parts.{from_json_of-by, from_by-sequence, sequence_from-some, is_one-many, items_more, items_done, fields_more, fields_done}
+use Rattle.json_values.specs.FromJson.{elements_from, sequence_from}
+use Rattle.json_values.proofs.Parts.{from_json_of-by, from_by-sequence, sequence_from-some, items_more, items_done, fields_more, fields_done}
 use Rattle.json_values.proofs.Whole.{few_fields}
 use Rattle.json_values.proofs.reading.+reading.Goals as goal
+use Rattle.json_values.specs.steps.Levels.{part_from, default_of}
+use Rattle.aidl_values.specs.steps.Levels.{is_level_left}
+use Rattle.json_values.specs.steps.Gives.{Gives}
+use Rattle.aidl_schema.proofs.Shapes.{many}
 
 pub read_within-returns : goal.read_within-returns
 read_within-returns t c = subst (Gives view c.read.result) (from_json_of-by c.args.schema.now.decls c.args.levels c.args.ty _) c.read.ensures
@@ -47,8 +50,8 @@ read-returns-in-Array t c =
     let d = c.args.levels in
     let j = json_view c.args.json.now in
     subst (Gives view c.read_sequence.result)
-    (ap (λ u. sequence_from (has_levels d) (λ k. part_from S d u k) j) c.element.ensures
-    ∙ from_by-sequence S (has_levels d) (λ f. default_of S d f) (λ u k. part_from S d u k) c.args.ty j (sym c.is_absent.ensures ∙ c.if-is_absent.false) (is_one-many c.args.ty.shape c.in-Array.is))
+    (ap (λ u. sequence_from (is_level_left d) (λ k. part_from S d u k) j) c.element.ensures
+    ∙ from_by-sequence S (is_level_left d) (λ f. default_of S d f) (λ u k. part_from S d u k) c.args.ty j (sym c.is_absent.ensures ∙ c.if-is_absent.false) (many c.args.ty.shape c.in-Array.is))
     c.read_sequence.ensures
 
 pub read_sequence-returns : goal.read_sequence-returns
@@ -59,5 +62,5 @@ read_sequence-returns t c =
     subst (Gives view c.read_elements.result)
     (ap (λ js. elements_from read (items_view js)) c.as_slice.ensures.value
     ∙ sequence_from-some d read (items_view items.items) (omega arith)
-    ∙ ap (λ j. sequence_from (has_levels d) read j) (sym (ap json_view c.in-Array.is ∙ view-Array items)))
+    ∙ ap (λ j. sequence_from (is_level_left d) read j) (sym (ap json_view c.in-Array.is ∙ view-Array items)))
     c.read_elements.ensures

@@ -2,9 +2,10 @@ use Rattle.std.proofs.Common.{◌≡◌, ◌+◌, ◌*◌, drop, map}
 use Rattle.serde_json.specs.Find.{get_member}
 use Rattle.serde_json.specs.View.{view as json_view, items_view, members_view}
 use Rattle.aidl_values.specs.View.{view}
-use Rattle.json_values.specs.FromJson.{part_from, default_of, items_from, fields_from, alternative_from}
-use Rattle.json_values.proofs.Loops.{with_front}
+use Rattle.json_values.specs.FromJson.{items_from, fields_from, alternative_from}
+use Rattle.aidl_values.proofs.Fronts.{with_front}
 use Rattle.json_values.proofs.reading.+reading.Given as goal
+use Rattle.json_values.specs.steps.Levels.{part_from, default_of}
 
 abbrev pub decreases-read_within : goal.decreases-read_within
 decreases-read_within l = 8 * l.levels + 7

@@ -9,11 +9,16 @@ use Rattle.aidl_values.specs.declared.value.Value.{Rec, the_lemmas}
 use Rattle.parcel_words.specs.Place.{left, is_inside, closed, MovesOn}
 use Rattle.parcel_words.specs.Taken.{TakesIfMemory, RefusesIfMemory}
 use Rattle.parcel_words.proofs.Moves.{on_and_on}
-use Rattle.wire_model.specs.ReadOf.{items_at, elements_at, read_of, read_parts, has_levels}
-use Rattle.wire_model.proofs.Parts.{read_of-one, read_of-sequence, read_parts-below, has_levels-below, elements_at-items}
-use Rattle.parcel_read.proofs.Loop.{fails_then, refused_if_memory, goes_on, ends, is_done, field_on, fields_done}
-use Rattle.parcel_read.proofs.Records.{no_one, stays, leaves, body_is, record_is, record_fails, no_record}
+use Rattle.wire_model.specs.ReadOf.{each_at, elements_at, read_of}
+use Rattle.wire_model.proofs.Parts.{read_of-one, read_of-sequence, read_parts-below, elements_at-items}
+use Rattle.aidl_values.proofs.Levels.{level_left}
+use Rattle.parcel_words.proofs.Faults.{fails_then, refused_if_memory}
+use Rattle.parcel_read.proofs.Loop.{goes_on, ends, is_done, field_on, fields_done}
+use Rattle.parcel_read.proofs.Records.{stays, leaves, body_is, record_is, record_fails, no_record}
 use Rattle.parcel_read.proofs.tree.+read.Goals as goal
+use Rattle.wire_model.specs.steps.Levels.{read_parts}
+use Rattle.aidl_values.specs.steps.Levels.{is_level_left}
+use Rattle.aidl_schema.proofs.Shapes.{many}
 
 pub value_from-returns-in-One-clause-taken : goal.value_from-returns-in-One-clause-taken
 value_from-returns-in-One-clause-taken t c =
@@ -24,7 +29,7 @@ pub value_from-returns-in-Array : goal.value_from-returns-in-Array
 value_from-returns-in-Array t c =
     let p = c.args.from.now in
     record {
-      taken = subst (λ r. TakesIfMemory view c.sequence_from.result r (left c.sequence_from.new.from)) (read_of-sequence c.args.schema.now.decls c.args.levels c.args.ty (is_inside p) (left p) (no_one c.args.ty.shape c.in-Array.is)) c.sequence_from.ensures.taken;
+      taken = subst (λ r. TakesIfMemory view c.sequence_from.result r (left c.sequence_from.new.from)) (read_of-sequence c.args.schema.now.decls c.args.levels c.args.ty (is_inside p) (left p) (many c.args.ty.shape c.in-Array.is)) c.sequence_from.ensures.taken;
       on = c.sequence_from.ensures.on;
     }
 
@@ -33,25 +38,25 @@ elements_from-returns-in_err-values-2-clause-taken t c =
     let S = c.args.schema.now.decls in
     let p = c.args.from.now in
     let q = err_from_is_err_and c.from_residual-in_err-values-2.result c.from_residual-in_err-values-2.ensures.1 in
-    let has : has_levels c.args.levels ≡ true = has_levels-below c.args.levels (omega arith) in
+    let has : is_level_left c.args.levels ≡ true = level_left c.args.levels (omega arith) in
     let apart : is_raw S c.args.ty ≡ false = sym c.is_raw.ensures ∙ c.if-is_raw.false in
     let read = λ (b : List ℕ). read_parts S c.args.levels (elem S c.args.ty) (is_inside p) b in
     let e = c.in_err-values-2.field-0.0 in
-    let failed : RefusesIfMemory e (items_at read c.in-Some.count (left p)) = rw (← c.element.ensures) c.in_err-values-2.ensures.taken in
-    let whole = ap (λ n. elements_at (has_levels c.args.levels) (is_raw S c.args.ty) read (is_inside p) n (left p)) c.in-Some.is
-    ∙ elements_at-items (has_levels c.args.levels) (is_raw S c.args.ty) read (is_inside p) c.in-Some.count (left p) has apart in
+    let failed : RefusesIfMemory e (each_at read c.in-Some.count (left p)) = rw (← c.element.ensures) c.in_err-values-2.ensures.taken in
+    let whole = ap (λ n. elements_at (is_level_left c.args.levels) (is_raw S c.args.ty) read (is_inside p) n (left p)) c.in-Some.is
+    ∙ elements_at-items (is_level_left c.args.levels) (is_raw S c.args.ty) read (is_inside p) c.in-Some.count (left p) has apart in
     rw (q.1, q.2) (subst (RefusesIfMemory e) (sym whole) (fails_then e _ _ failed))
 
 pub elements_from-returns-clause-taken : goal.elements_from-returns-clause-taken
 elements_from-returns-clause-taken t c =
     let S = c.args.schema.now.decls in
     let p = c.args.from.now in
-    let has : has_levels c.args.levels ≡ true = has_levels-below c.args.levels (omega arith) in
+    let has : is_level_left c.args.levels ≡ true = level_left c.args.levels (omega arith) in
     let apart : is_raw S c.args.ty ≡ false = sym c.is_raw.ensures ∙ c.if-is_raw.false in
     let read = λ (b : List ℕ). read_parts S c.args.levels (elem S c.args.ty) (is_inside p) b in
-    let found : items_at read c.in-Some.count (left p) ≡ Ok (views c.in_ok-values-2.values, left c.items_from.new.from) = rw (← c.element.ensures) c.in_ok-values-2.ensures.taken in
-    ap (λ n. elements_at (has_levels c.args.levels) (is_raw S c.args.ty) read (is_inside p) n (left p)) c.in-Some.is
-    ∙ elements_at-items (has_levels c.args.levels) (is_raw S c.args.ty) read (is_inside p) c.in-Some.count (left p) has apart
+    let found : each_at read c.in-Some.count (left p) ≡ Ok (views c.in_ok-values-2.values, left c.items_from.new.from) = rw (← c.element.ensures) c.in_ok-values-2.ensures.taken in
+    ap (λ n. elements_at (is_level_left c.args.levels) (is_raw S c.args.ty) read (is_inside p) n (left p)) c.in-Some.is
+    ∙ elements_at-items (is_level_left c.args.levels) (is_raw S c.args.ty) read (is_inside p) c.in-Some.count (left p) has apart
     ∙ rw found (search (rules, the_lemmas))
 
 pub items_from-returns-in_err-value-clause-taken : goal.items_from-returns-in_err-value-clause-taken

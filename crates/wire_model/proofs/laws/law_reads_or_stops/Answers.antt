@@ -1,8 +1,8 @@
 use Rattle.aidl_values.proofs.Sounds.{sound}
 use Rattle.std.proofs.Common.{arith}
-use Rattle.wire_model.proofs.Lists.{IsBytes}
+use Rattle.aidl_base.proofs.Bytes.{AreBytes}
 use Rattle.wire_model.proofs.Reading.{reads_or_stops, not_both, one_status}
-use Rattle.wire_model.proofs.Statuses.{stop_status}
+use Rattle.wire_model.proofs.stopped.Statuses.{stop_status}
 use Rattle.wire_model.proofs.laws.law_reads_or_stops.Goals as goal
 
 pub returns : goal.returns
@@ -13,7 +13,7 @@ returns c =
     let d = c.args.levels in
     let t = c.args.ty.now in
     let b = c.args.b.now in
-    let bytes : IsBytes b = λ i. omega (arith, c.type_inv.b i) in
+    let bytes : AreBytes b = λ i. omega (arith, c.type_inv.b i) in
     record {
       one = reads_or_stops S sound d t known c.args.inside b bytes;
       not_both = not_both S sound d t known c.args.inside b bytes;

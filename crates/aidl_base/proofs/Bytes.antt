@@ -1,0 +1,44 @@
+-- Lists of bytes, and bytes that are all zero.
+use Rattle.std.proofs.Common.{◌≡◌, ℕ, zero, suc, ◌+◌, ◌<◌, Bool, true, false, List, [], ◌∷◌, ◌++◌, length, take, drop, get_or, replicate, eqb, refl, sym, ap, ◌∙◌, arith, length-append, true≢false}
+use Rattle.std.proofs.lemmas.List.{length-take-le, take-append-drop}
+use Rattle.std.proofs.lemmas.Bool.Decides.{nat_tests}
+use Rattle.aidl_base.specs.Readings.{all_zero}
+
+-- each is a byte
+abbrev pub AreBytes : List ℕ → Type 0
+AreBytes b = (i : ℕ) → get_or b i 0 < 256
+
+pub AreBytes-take : (n : ℕ) (b : List ℕ) → AreBytes b → AreBytes (take n b)
+AreBytes-take zero b bytes i = omega arith
+AreBytes-take (suc n) [] bytes i = omega arith
+AreBytes-take (suc n) (x ∷ b) bytes zero = bytes 0
+AreBytes-take (suc n) (x ∷ b) bytes (suc i) = AreBytes-take n b (λ j. bytes (suc j)) i
+
+pub AreBytes-drop : (n : ℕ) (b : List ℕ) → AreBytes b → AreBytes (drop n b)
+AreBytes-drop zero b bytes = bytes
+AreBytes-drop (suc n) [] bytes = bytes
+AreBytes-drop (suc n) (x ∷ b) bytes = AreBytes-drop n b (λ j. bytes (suc j))
+
+pub AreBytes-rest : (front rest : List ℕ) → AreBytes (front ++ rest) → AreBytes rest
+AreBytes-rest [] rest bytes = bytes
+AreBytes-rest (x ∷ front) rest bytes = AreBytes-rest front rest (λ i. bytes (suc i))
+
+pub zeros : (n : ℕ) → all_zero (replicate n 0) ≡ true
+zeros zero = refl
+zeros (suc n) = zeros n
+
+pub all_zero_is : (b : List ℕ) → all_zero b ≡ true → b ≡ replicate (length b) 0
+all_zero_is [] e = refl
+all_zero_is (zero ∷ b) e = ap (λ c. 0 ∷ c) (all_zero_is b e)
+all_zero_is (suc x ∷ b) e =
+    let not_zero : eqb (suc x) 0 ≡ false = grind (arith, nat_tests) in
+    let wrong : false ≡ true = rw not_zero at e in
+    absurd (true≢false (sym wrong))
+
+-- the m bytes after k of them
+pub rest_is : (k m : ℕ) (b : List ℕ) → length b ≡ k + m → all_zero (drop k b) ≡ true → drop k b ≡ replicate m 0
+rest_is k m b len zeros =
+    let front : length (take k b) ≡ k = length-take-le k b (omega arith) in
+    let whole : length (take k b) + length (drop k b) ≡ k + m = sym (length-append (take k b) (drop k b)) ∙ ap length (take-append-drop k b) ∙ len in
+    let rest : length (drop k b) ≡ m = omega arith in
+    all_zero_is (drop k b) zeros ∙ ap (λ n. replicate n 0) rest

@@ -1,0 +1,2 @@
+-- What a reader's steps do, for its inner contracts: no public contract or law cites it.
+pub mod Levels
