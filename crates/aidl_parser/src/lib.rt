@@ -9,6 +9,7 @@ mod fields;
 mod file;
 mod inits;
 mod limits;
+mod lists;
 mod methods;
 mod names;
 mod parsing;
