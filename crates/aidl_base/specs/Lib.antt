@@ -5,3 +5,6 @@ pub mod Readings
 pub mod Results
 pub mod Spellings
 pub mod Words
+pub mod Reserved
+pub mod Identifiers
+pub mod steps

@@ -4,12 +4,4 @@ pub mod Files
 pub mod MemberRounds
 pub mod Found
 pub mod Told
-pub mod Laws
-pub mod TypeLaws
-pub mod InitLaws
-pub mod AnnotLaws
-pub mod FieldLaws
-pub mod DeclLaws
-pub mod BodyLaws
-pub mod FileLaws
-pub mod ParseLaws
+pub mod productions

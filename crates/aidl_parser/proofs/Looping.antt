@@ -7,7 +7,7 @@ use Rattle.aidl_syntax.specs.Trees.Expr.{binary}
 use Rattle.aidl_parser.specs.declared.fault.ParseFault.{ParseFault}
 use Rattle.aidl_parser.specs.declared.fault.ParseFault.TheVariants as fault
 use Rattle.aidl_parser.specs.Gives.{Fails}
-use Rattle.aidl_parser.specs.Reading.{Read, mark_of, name_of, is_dot, after_dot, onto, names, with_names, operand, climb, expr, goes_on, level_by, symbol_or, ◌>>=◌}
+use Rattle.aidl_parser.specs.steps.Reading.{Read, mark_of, name_of, is_dot, after_dot, onto, names, with_names, operand, climb, expr, goes_on, level_by, symbol_or, ◌>>=◌}
 
 with_onto : (front : List Ident) (i : Ident) (r : Read (List Ident)) → with_names front (onto i r) ≡ with_names (front ++ i ∷ []) r
 with_onto front i None = refl

@@ -1,6 +1,5 @@
 -- What a function returned, seen by a view, is what reading gives, unless memory ran out.
 use Rattle.std.specs.Prelude.{◌≡◌, Option, Some, None, Result, Ok, Err}
-use denote.Ref.{Bor}
 use Rattle.aidl_parser.specs.declared.fault.ParseFault.{ParseFault}
 use Rattle.aidl_parser.specs.declared.fault.ParseFault.TheVariants as fault
 
@@ -12,7 +11,3 @@ Fails fault.OutOfMemory read = Unit {0}
 abbrev pub Gives : {X Y : Type 0} → (X → Y) → Result X ParseFault → Option Y → Type 0
 Gives view (Ok x) read = read ≡ Some (view x)
 Gives view (Err e) read = Fails e read
-
-abbrev pub option_now : {A : Type 0} → Option (Bor A) → Option A
-option_now None = None
-option_now (Some x) = Some x.now

@@ -1,9 +1,4 @@
-pub mod Reading
 pub mod Gives
-pub mod Parts
-pub mod Types
-pub mod Inits
-pub mod Members
-pub mod Decls
 pub mod Limits
-pub mod Answers
+pub mod Refusals
+pub mod steps

@@ -1,24 +1,24 @@
 ghost use Rattle.std.specs.Prelude.{◌≡◌, ◌+◌, ◌-◌, ◌<◌, map, Some};
 ghost use Rattle.aidl_syntax.specs.declared.token.Symbol.TheVariants as mark;
-ghost use Rattle.aidl_syntax.specs.declared.token.Reserved.TheVariants as word;
-ghost use Rattle.aidl_syntax.specs.Trees.{annots_of, init_of, expr_of, map_option, arg_of, enumerator_of, members_of, member_of, body_of, decl_of};
+ghost use Rattle.aidl_base.specs.declared.reserved.Reserved.TheVariants as word;
+ghost use Rattle.aidl_syntax.specs.Trees.{annots_of, enumerator_of, members_of, member_of, body_of, decl_of};
 ghost use Rattle.aidl_syntax.specs.Trees.Decl.{decl as decl_seen};
 ghost use Rattle.aidl_syntax.specs.Trees.Body.{parcelable, union, enum as enum_seen, interface};
-ghost use Rattle.aidl_parser.specs.Parts as part;
-ghost use Rattle.aidl_parser.specs.Decls as read;
+ghost use Rattle.aidl_parser.specs.steps.Parts as part;
+ghost use Rattle.aidl_parser.specs.steps.Decls as read;
 ghost use Rattle.aidl_parser.specs.Gives.{Gives};
 
 use crate::annots::annots;
 use crate::fault::ParseFault;
-use crate::fields::{ConstantParts, FieldParts, constant, enumerators, field};
-use crate::methods::{MethodParts, method, oneway};
+use crate::fields::{constant, field};
+use crate::lists::trailing;
+use crate::methods::{method, oneway};
 use crate::parts::{begins, begins_word, quoted, word_of, worded};
 use crate::tokens::first;
 use crate::types::ident;
 use aidl_base::Row;
 use aidl_syntax::{
-    AnnotTree, BodyTree, ConstantTree, DeclTree, EnumeratorTree, FieldTree, MemberTree, MethodTree,
-    NameTree, Reserved, Symbol, Token,
+    AnnotTree, BodyTree, DeclTree, EnumeratorTree, MemberTree, NameTree, Reserved, Symbol, Token,
 };
 use std::alloc::Global;
 
@@ -27,76 +27,76 @@ use std::alloc::Global;
 #[tactic(auto, using(crate::proofs::MemberRounds::decl_step, crate::proofs::MemberRounds::decl_none))]
 pub fn decl<'a>(
     alloc: Global,
-    left: usize,
+    fuel: usize,
     offset: u32,
     annots: Row<AnnotTree>,
     tokens: &'a [Token],
 ) -> Result<(DeclTree, &'a [Token]), ParseFault>
-    ensures { Gives (λ x. (decl_of x.0, x.1.now)) result (read.decl_at left offset (annots_of annots) tokens.entry.now) }
+    ensures { Gives (λ x. (decl_of x.0, x.1.now)) result (read.decl_at fuel offset (annots_of annots) tokens.entry.now) }
 {
-    if left == 0 {
+    if fuel == 0 {
         return Err(ParseFault::Syntax);
     }
-    decl_by(alloc, left, offset, annots, tokens)
+    decl_by(alloc, fuel, offset, annots, tokens)
 }
 
 #[cycle(decl)]
 fn decl_by<'a>(
     alloc: Global,
-    left: usize,
+    fuel: usize,
     offset: u32,
     annots: Row<AnnotTree>,
     tokens: &'a [Token],
 ) -> Result<(DeclTree, &'a [Token]), ParseFault>
-    requires { 0 < left }
-    ensures { Gives (λ x. (decl_of x.0, x.1.now)) result (part.alter (read.declared offset (annots_of annots)) (read.body_by (λ inside us. read.members_at left left inside us) left) tokens.entry.now) }
+    requires { 0 < fuel }
+    ensures { Gives (λ x. (decl_of x.0, x.1.now)) result (part.alter (read.declared offset (annots_of annots)) (read.body_by (λ inside us. read.members_at fuel fuel inside us) fuel) tokens.entry.now) }
 {
-    let ((name, body), rest) = body(alloc, left, tokens)?;
+    let ((name, body), rest) = body(alloc, fuel, tokens)?;
     Ok((decl_made(offset, annots, name, body), rest))
 }
 
 // parcelable | union | enum | interface
 #[cycle(decl)]
-#[tactic(auto, unfolding(crate::specs::Decls::body_by))]
+#[tactic(auto, unfolding(crate::specs::steps::Decls::body_by))]
 fn body<'a>(
     alloc: Global,
-    left: usize,
+    fuel: usize,
     tokens: &'a [Token],
 ) -> Result<((NameTree, BodyTree), &'a [Token]), ParseFault>
-    requires { 0 < left }
-    ensures { Gives (λ x. ((x.0.0, body_of x.0.1), x.1.now)) result (read.body_by (λ inside us. read.members_at left left inside us) left tokens.entry.now) }
+    requires { 0 < fuel }
+    ensures { Gives (λ x. ((x.0.0, body_of x.0.1), x.1.now)) result (read.body_by (λ inside us. read.members_at fuel fuel inside us) fuel tokens.entry.now) }
 {
     if begins_word(Reserved::Parcelable, tokens) {
-        let ((name, members), rest) = braced(alloc, left, Reserved::Parcelable, false, tokens)?;
+        let ((name, members), rest) = braced(alloc, fuel, Reserved::Parcelable, false, tokens)?;
         Ok(((name, parcelable_made(members)), rest))
     } else if begins_word(Reserved::Union, tokens) {
-        let ((name, members), rest) = braced(alloc, left, Reserved::Union, false, tokens)?;
+        let ((name, members), rest) = braced(alloc, fuel, Reserved::Union, false, tokens)?;
         Ok(((name, union_made(members)), rest))
     } else if begins_word(Reserved::Enum, tokens) {
-        let ((name, items), rest) = enum_body(alloc, left, tokens)?;
+        let ((name, items), rest) = enum_body(alloc, fuel, tokens)?;
         Ok(((name, enum_made(items)), rest))
     } else {
         let (oneway, rest) = oneway(tokens)?;
-        let ((name, members), rest) = braced(alloc, left, Reserved::Interface, true, rest)?;
+        let ((name, members), rest) = braced(alloc, fuel, Reserved::Interface, true, rest)?;
         Ok(((name, interface_made(oneway, members)), rest))
     }
 }
 
 // A word, a name and members in braces.
 #[cycle(decl)]
-#[tactic(auto, unfolding(crate::specs::Decls::braced_at))]
+#[tactic(auto, unfolding(crate::specs::steps::Decls::braced_at))]
 fn braced<'a>(
     alloc: Global,
-    left: usize,
+    fuel: usize,
     word: Reserved,
     inside: bool,
     tokens: &'a [Token],
 ) -> Result<((NameTree, Row<MemberTree>), &'a [Token]), ParseFault>
-    requires { 0 < left }
-    ensures { Gives (λ x. ((x.0.0, members_of x.0.1), x.1.now)) result (read.braced_at (λ inner us. read.members_at left left inner us) word inside tokens.entry.now) }
+    requires { 0 < fuel }
+    ensures { Gives (λ x. ((x.0.0, members_of x.0.1), x.1.now)) result (read.braced_at (λ inner us. read.members_at fuel fuel inner us) word inside tokens.entry.now) }
 {
     let (name, rest) = head(alloc, word, tokens)?;
-    let (items, rest) = members(alloc, left, inside, rest)?;
+    let (items, rest) = members(alloc, fuel, inside, rest)?;
     let (_end, rest) = quoted(Symbol::CloseBrace, rest)?;
     Ok(((name, items), rest))
 }
@@ -105,22 +105,22 @@ fn braced<'a>(
 #[cycle(decl)]
 fn members<'a>(
     alloc: Global,
-    left: usize,
+    fuel: usize,
     inside: bool,
     tokens: &'a [Token],
 ) -> Result<(Row<MemberTree>, &'a [Token]), ParseFault>
-    requires { 0 < left }
-    ensures { Gives (λ x. (members_of x.0, x.1.now)) result (read.members_at left left inside tokens.entry.now) }
+    requires { 0 < fuel }
+    ensures { Gives (λ x. (members_of x.0, x.1.now)) result (read.members_at fuel fuel inside tokens.entry.now) }
 {
     let mut all = Row::new(alloc);
     let mut rest = tokens;
-    let mut rounds = left;
+    let mut rounds = fuel;
     'rounds: while !begins(Symbol::CloseBrace, rest) {
         if rounds == 0 {
             return Err(ParseFault::Syntax);
         }
         rounds -= 1;
-        let (item, next) = member(alloc, left, inside, rest)?;
+        let (item, next) = member(alloc, fuel, inside, rest)?;
         all.push(item)?;
         rest = next;
     }
@@ -128,51 +128,48 @@ fn members<'a>(
 }
 
 #[cycle(decl)]
-#[tactic(auto, unfolding(crate::specs::Decls::member_with))]
+#[tactic(auto, unfolding(crate::specs::steps::Decls::member_with))]
 fn member<'a>(
     alloc: Global,
-    left: usize,
+    fuel: usize,
     inside: bool,
     tokens: &'a [Token],
 ) -> Result<(MemberTree, &'a [Token]), ParseFault>
-    requires { 0 < left }
-    ensures { Gives (λ x. (member_of x.0, x.1.now)) result (read.member_at left inside tokens.entry.now) }
+    requires { 0 < fuel }
+    ensures { Gives (λ x. (member_of x.0, x.1.now)) result (read.member_at fuel inside tokens.entry.now) }
 {
-    let (annots, rest) = annots(alloc, left, tokens)?;
-    member_by(alloc, left, inside, first(tokens), annots, rest)
+    let (annots, rest) = annots(alloc, fuel, tokens)?;
+    member_by(alloc, fuel, inside, first(tokens), annots, rest)
 }
 
 // What follows a member's annotations.
 #[cycle(decl)]
-#[tactic(auto, unfolding(crate::specs::Decls::member_by))]
+#[tactic(auto, unfolding(crate::specs::steps::Decls::member_by))]
 fn member_by<'a>(
     alloc: Global,
-    left: usize,
+    fuel: usize,
     inside: bool,
     offset: u32,
     annots: Row<AnnotTree>,
     tokens: &'a [Token],
 ) -> Result<(MemberTree, &'a [Token]), ParseFault>
-    requires { 0 < left }
-    ensures { Gives (λ x. (member_of x.0, x.1.now)) result (read.member_by (λ p annotations ws. read.decl_at (left - 1) p annotations ws) left inside offset (annots_of annots) tokens.entry.now) }
+    requires { 0 < fuel }
+    ensures { Gives (λ x. (member_of x.0, x.1.now)) result (read.member_by (λ p annotations ws. read.decl_at (fuel - 1) p annotations ws) fuel inside offset (annots_of annots) tokens.entry.now) }
 {
     if begins_word(Reserved::Const, tokens) {
-        let (parts, rest) = constant(alloc, left, tokens)?;
-        Ok((constant_made(offset, annots, parts), rest))
+        constant(alloc, fuel, offset, annots, tokens)
     } else if begins_decl(tokens) {
-        let (inner, rest) = decl(alloc, left - 1, offset, annots, tokens)?;
+        let (inner, rest) = decl(alloc, fuel - 1, offset, annots, tokens)?;
         Ok((MemberTree::Nested(inner), rest))
     } else if inside {
-        let (parts, rest) = method(alloc, left, tokens)?;
-        Ok((method_made(offset, annots, parts), rest))
+        method(alloc, fuel, offset, annots, tokens)
     } else {
-        let (parts, rest) = field(alloc, left, tokens)?;
-        Ok((field_made(offset, annots, parts), rest))
+        field(alloc, fuel, offset, annots, tokens)
     }
 }
 
 // A reserved word, an identifier and "{".
-#[tactic(auto, unfolding(crate::specs::Decls::head_at))]
+#[tactic(auto, unfolding(crate::specs::steps::Decls::head_at))]
 fn head<'a>(
     alloc: Global,
     word: Reserved,
@@ -187,16 +184,16 @@ fn head<'a>(
 }
 
 // "enum" ident "{" enumerator {"," enumerator} [","] "}"
-#[tactic(auto, unfolding(crate::specs::Decls::enum_at))]
+#[tactic(auto, unfolding(crate::specs::steps::Decls::enum_at))]
 fn enum_body<'a>(
     alloc: Global,
-    left: usize,
+    fuel: usize,
     tokens: &'a [Token],
 ) -> Result<((NameTree, Row<EnumeratorTree>), &'a [Token]), ParseFault>
-    ensures { Gives (λ x. ((x.0.0, map enumerator_of x.0.1), x.1.now)) result (read.enum_at left tokens.entry.now) }
+    ensures { Gives (λ x. ((x.0.0, map enumerator_of x.0.1), x.1.now)) result (read.enum_at fuel tokens.entry.now) }
 {
     let (name, rest) = head(alloc, Reserved::Enum, tokens)?;
-    let (items, rest) = enumerators(alloc, left, rest)?;
+    let (items, rest) = trailing(alloc, fuel, rest)?;
     let (_end, rest) = quoted(Symbol::CloseBrace, rest)?;
     Ok(((name, items), rest))
 }
@@ -256,51 +253,4 @@ fn interface_made(oneway: bool, members: Row<MemberTree>) -> BodyTree
     ensures { body_of result ≡ interface oneway (members_of members) }
 {
     BodyTree::Interface { oneway, members }
-}
-
-fn field_made(offset: u32, annots: Row<AnnotTree>, parts: FieldParts) -> MemberTree
-    ensures { member_of result ≡ read.field_made offset (annots_of annots) (parts.ty, (parts.name, map_option init_of parts.initial)) }
-{
-    let FieldParts { ty, name, initial } = parts;
-    MemberTree::Field(FieldTree {
-        offset,
-        annots,
-        ty,
-        name,
-        initial,
-    })
-}
-
-fn constant_made(offset: u32, annots: Row<AnnotTree>, parts: ConstantParts) -> MemberTree
-    ensures { member_of result ≡ read.constant_made offset (annots_of annots) (parts.ty, (parts.name, expr_of parts.value)) }
-{
-    let ConstantParts { ty, name, value } = parts;
-    MemberTree::Constant(ConstantTree {
-        offset,
-        annots,
-        ty,
-        name,
-        value,
-    })
-}
-
-fn method_made(offset: u32, annots: Row<AnnotTree>, parts: MethodParts) -> MemberTree
-    ensures { member_of result ≡ read.method_made offset (annots_of annots) (parts.oneway, (parts.result, (parts.name, (map arg_of parts.args, parts.id)))) }
-{
-    let MethodParts {
-        oneway,
-        result,
-        name,
-        args,
-        id,
-    } = parts;
-    MemberTree::Method(MethodTree {
-        offset,
-        annots,
-        oneway,
-        result,
-        name,
-        args,
-        id,
-    })
 }

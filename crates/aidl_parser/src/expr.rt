@@ -1,9 +1,9 @@
-ghost use Rattle.std.specs.Prelude.{◌≡◌, IfErr, ◌+◌, ◌-◌, ◌≤◌, ◌<◌, IfOk};
+ghost use Rattle.std.specs.Prelude.{◌≡◌, IfErr, ◌+◌, ◌-◌, ◌≤◌, ◌<◌, IfOk, MatchOption, false};
 ghost use Rattle.aidl_syntax.specs.Trees.{expr_of};
 ghost use Rattle.aidl_syntax.specs.Trees.Expr.{unary as unary_tree, binary as binary_tree};
 ghost use Rattle.aidl_syntax.specs.Trees as shown;
 ghost use Rattle.aidl_syntax.specs.Productions as form;
-ghost use Rattle.aidl_parser.specs.Reading as read;
+ghost use Rattle.aidl_parser.specs.steps.Reading as read;
 ghost use Rattle.aidl_parser.specs.Gives.{Gives};
 ghost use Rattle.aidl_parser.specs.declared.fault.ParseFault.TheVariants as fault;
 
@@ -17,31 +17,31 @@ use std::alloc::Global;
 #[tactic(auto, using(crate::proofs::Looping::expr_step, crate::proofs::Looping::expr_none))]
 pub fn expr<'a>(
     alloc: Global,
-    left: usize,
+    fuel: usize,
     least: u8,
     tokens: &'a [Token],
 ) -> Result<(ExprTree, &'a [Token]), ParseFault>
-    ensures { Gives (λ x. (expr_of x.0, x.1.now)) result (read.expr left least tokens.entry.now) }
+    ensures { Gives (λ x. (expr_of x.0, x.1.now)) result (read.expr fuel least tokens.entry.now) }
 {
-    if left == 0 {
+    if fuel == 0 {
         return Err(ParseFault::Syntax);
     }
-    let (first, rest) = operand(alloc, left - 1, tokens)?;
-    climb(alloc, left - 1, least, first, rest)
+    let (first, rest) = operand(alloc, fuel - 1, tokens)?;
+    climb(alloc, fuel - 1, least, first, rest)
 }
 
 #[cycle(expr)]
-#[tactic(auto, unfolding(crate::specs::Reading::operand))]
+#[tactic(auto, unfolding(crate::specs::steps::Reading::operand))]
 fn operand<'a>(
     alloc: Global,
-    left: usize,
+    fuel: usize,
     tokens: &'a [Token],
 ) -> Result<(ExprTree, &'a [Token]), ParseFault>
-    ensures { Gives (λ x. (expr_of x.0, x.1.now)) result (read.operand (λ k us. read.expr left k us) tokens.entry.now) }
+    ensures { Gives (λ x. (expr_of x.0, x.1.now)) result (read.operand (λ k us. read.expr fuel k us) tokens.entry.now) }
 {
     match tokens {
         [t, rest @ ..] => match mark_of(&t.kind) {
-            Some(s) => by_symbol(alloc, left, t.offset, s, rest),
+            Some(s) => by_symbol(alloc, fuel, t.offset, s, rest),
             None => {
                 if is_literal(&t.kind) {
                     Ok((
@@ -63,18 +63,18 @@ fn operand<'a>(
 #[cycle(expr)]
 fn by_symbol<'a>(
     alloc: Global,
-    left: usize,
+    fuel: usize,
     offset: u32,
     s: Symbol,
     rest: &'a [Token],
 ) -> Result<(ExprTree, &'a [Token]), ParseFault>
-    ensures { Gives (λ x. (expr_of x.0, x.1.now)) result (read.by_symbol (λ k us. read.expr left k us) offset s rest.entry.now) }
+    ensures { Gives (λ x. (expr_of x.0, x.1.now)) result (read.by_symbol (λ k us. read.expr fuel k us) offset s rest.entry.now) }
 {
     if is_open(s) {
-        let (inner, rest) = expr(alloc, left, 1, rest)?;
+        let (inner, rest) = expr(alloc, fuel, 1, rest)?;
         closed(alloc, offset, inner, rest)
     } else if is_sign(s) {
-        let (inner, rest) = expr(alloc, left, 11, rest)?;
+        let (inner, rest) = expr(alloc, fuel, 11, rest)?;
         Ok((unary(alloc, offset, s, inner)?, rest))
     } else {
         Err(ParseFault::Syntax)
@@ -85,31 +85,46 @@ fn by_symbol<'a>(
 #[cycle(expr)]
 fn climb<'a>(
     alloc: Global,
-    left: usize,
+    fuel: usize,
     least: u8,
     first: ExprTree,
     tokens: &'a [Token],
 ) -> Result<(ExprTree, &'a [Token]), ParseFault>
-    ensures { Gives (λ x. (expr_of x.0, x.1.now)) result (read.climb (λ k us. read.expr left k us) left least (expr_of first) tokens.entry.now) }
+    ensures { Gives (λ x. (expr_of x.0, x.1.now)) result (read.climb (λ k us. read.expr fuel k us) fuel least (expr_of first) tokens.entry.now) }
 {
     let mut tree = first;
     let mut rest = tokens;
-    let mut rounds = left;
+    let mut rounds = fuel;
     while let Some((t, after)) = next(rest) {
-        let sign = mark_of(&t.kind);
-        let level = level_of(sign);
-        if !goes_on(least, level) {
+        let Some((sign, level)) = operator(least, &t.kind) else {
             return Ok((tree, rest));
-        }
+        };
         if rounds == 0 {
             return Err(ParseFault::Syntax);
         }
         rounds -= 1;
-        let (right, next) = expr(alloc, left, level + 1, after)?;
-        tree = binary(alloc, symbol_or(sign), tree, right)?;
+        let (right, next) = expr(alloc, fuel, level + 1, after)?;
+        tree = binary(alloc, sign, tree, right)?;
         rest = next;
     }
     Ok((tree, rest))
+}
+
+// The binary operator of this level or above that a token is, and its level.
+fn operator(least: u8, kind: &TokenKind) -> Option<(Symbol, u8)>
+    ensures { MatchOption result (read.goes_on least (read.level_by (read.mark_of kind.now)) ≡ false) (λ x. read.IsOperator least (read.mark_of kind.now) x.0 x.1) }
+{
+    match mark_of(kind) {
+        Some(sign) => {
+            let level = level(sign);
+            if 0 < level && least <= level {
+                Some((sign, level))
+            } else {
+                None
+            }
+        }
+        None => None,
+    }
 }
 
 fn by_name<'a>(alloc: Global, tokens: &'a [Token]) -> Result<(ExprTree, &'a [Token]), ParseFault>
@@ -272,29 +287,4 @@ fn level(s: Symbol) -> u8
         Symbol::Percent => 10,
         _ => 0,
     }
-}
-
-fn level_of(s: Option<Symbol>) -> u8
-    ensures value { result ≡ read.level_by s }
-    ensures most { result ≤ 10 }
-{
-    match s {
-        Some(s) => level(s),
-        None => 0,
-    }
-}
-
-fn symbol_or(s: Option<Symbol>) -> Symbol
-    ensures { result ≡ read.symbol_or s }
-{
-    match s {
-        Some(s) => s,
-        None => Symbol::Dot,
-    }
-}
-
-fn goes_on(least: u8, level: u8) -> bool
-    ensures { result ≡ read.goes_on least level }
-{
-    0 < level && least <= level
 }

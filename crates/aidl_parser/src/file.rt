@@ -1,13 +1,14 @@
 ghost use Rattle.std.specs.Prelude.{◌≡◌, ◌^◌, ◌<◌, length, map, [], Some};
-ghost use Rattle.aidl_syntax.specs.declared.token.Reserved.TheVariants as word;
+ghost use Rattle.aidl_base.specs.declared.reserved.Reserved.TheVariants as word;
 ghost use Rattle.aidl_syntax.specs.Trees.{decl_of, file_of};
-ghost use Rattle.aidl_parser.specs.Parts as part;
-ghost use Rattle.aidl_parser.specs.Decls as read;
+ghost use Rattle.aidl_parser.specs.steps.Parts as part;
+ghost use Rattle.aidl_parser.specs.steps.Decls as read;
 ghost use Rattle.aidl_parser.specs.Gives.{Gives};
 
 use crate::annots::annots;
 use crate::decls::decl;
 use crate::fault::ParseFault;
+use crate::lists::{Repeat, many};
 use crate::names::dotted;
 use crate::parts::{begins_word, quoted, worded};
 use crate::tokens::first;
@@ -16,7 +17,7 @@ use aidl_syntax::{DeclTree, DottedTree, FileTree, Reserved, Symbol, Token};
 use std::alloc::Global;
 
 // The file that all of the tokens are.
-#[tactic(auto, unfolding(crate::specs::Decls::whole_of), using(crate::proofs::Files::one_more))]
+#[tactic(auto, unfolding(crate::specs::steps::Decls::whole_of), using(crate::proofs::Files::one_more))]
 pub fn whole(alloc: Global, tokens: &[Token]) -> Result<FileTree, ParseFault>
     ensures { Gives file_of result (read.whole_of tokens.now) }
 {
@@ -34,17 +35,17 @@ fn ended(tree: FileTree, rest: &[Token]) -> Result<FileTree, ParseFault>
 }
 
 // ["package" dotted ";"] {"import" dotted ";"} decl
-#[tactic(auto, unfolding(crate::specs::Decls::file_at))]
+#[tactic(auto, unfolding(crate::specs::steps::Decls::file_at))]
 fn file<'a>(
     alloc: Global,
-    left: usize,
+    fuel: usize,
     tokens: &'a [Token],
 ) -> Result<(FileTree, &'a [Token]), ParseFault>
-    ensures { Gives (λ x. (file_of x.0, x.1.now)) result (read.file_at left tokens.entry.now) }
+    ensures { Gives (λ x. (file_of x.0, x.1.now)) result (read.file_at fuel tokens.entry.now) }
 {
     let (package, rest) = maybe_package(alloc, tokens)?;
-    let (imports, rest) = imports(alloc, left, rest)?;
-    let (decl, rest) = top(alloc, left, rest)?;
+    let (imports, rest) = imports(alloc, fuel, rest)?;
+    let (decl, rest) = top(alloc, fuel, rest)?;
     Ok((
         FileTree {
             offset: first(tokens),
@@ -72,7 +73,7 @@ fn maybe_package<'a>(
 }
 
 // A word, a dotted name and ";".
-#[tactic(auto, unfolding(crate::specs::Decls::named_at))]
+#[tactic(auto, unfolding(crate::specs::steps::Decls::named_at))]
 fn named<'a>(
     alloc: Global,
     word: Reserved,
@@ -87,38 +88,26 @@ fn named<'a>(
 }
 
 // {"import" dotted ";"}
-#[tactic(auto, unfolding(crate::specs::Decls::imports_at))]
+#[tactic(auto, unfolding(crate::specs::steps::Decls::imports_at, crate::specs::steps::Decls::named_at), using(crate::proofs::Rounds::with_none))]
 fn imports<'a>(
     alloc: Global,
-    left: usize,
+    fuel: usize,
     tokens: &'a [Token],
 ) -> Result<(Row<DottedTree>, &'a [Token]), ParseFault>
-    ensures { Gives (λ x. (x.0, x.1.now)) result (read.imports_at left tokens.entry.now) }
+    ensures { Gives (λ x. (x.0, x.1.now)) result (read.imports_at fuel tokens.entry.now) }
 {
-    let mut all = Row::new(alloc);
-    let mut rest = tokens;
-    let mut rounds = left;
-    'rounds: while begins_word(Reserved::Import, rest) {
-        if rounds == 0 {
-            return Err(ParseFault::Syntax);
-        }
-        rounds -= 1;
-        let (item, next) = named(alloc, Reserved::Import, rest)?;
-        all.push(item)?;
-        rest = next;
-    }
-    Ok((all, rest))
+    many(alloc, fuel, Repeat::Imports, Row::new(alloc), tokens)
 }
 
 // annots (parcelable | union | enum | interface)
-#[tactic(auto, unfolding(crate::specs::Decls::top_at))]
+#[tactic(auto, unfolding(crate::specs::steps::Decls::top_at))]
 fn top<'a>(
     alloc: Global,
-    left: usize,
+    fuel: usize,
     tokens: &'a [Token],
 ) -> Result<(DeclTree, &'a [Token]), ParseFault>
-    ensures { Gives (λ x. (decl_of x.0, x.1.now)) result (read.top_at left tokens.entry.now) }
+    ensures { Gives (λ x. (decl_of x.0, x.1.now)) result (read.top_at fuel tokens.entry.now) }
 {
-    let (annots, rest) = annots(alloc, left, tokens)?;
-    decl(alloc, left, first(tokens), annots, rest)
+    let (annots, rest) = annots(alloc, fuel, tokens)?;
+    decl(alloc, fuel, first(tokens), annots, rest)
 }

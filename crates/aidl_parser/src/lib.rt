@@ -9,14 +9,11 @@ mod fields;
 mod file;
 mod inits;
 mod limits;
+mod lists;
 mod methods;
 mod names;
-#[cfg(test)]
-mod outline;
 mod parsing;
 mod parts;
-#[cfg(test)]
-mod tests;
 mod tokens;
 mod types;
 

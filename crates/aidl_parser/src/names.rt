@@ -1,15 +1,17 @@
 ghost use Rattle.std.specs.Prelude.{◌≡◌, true};
-ghost use Rattle.aidl_parser.specs.Reading as read;
-ghost use Rattle.aidl_parser.specs.Gives.{Gives, option_now};
+ghost use Rattle.aidl_syntax.specs.declared.tree.DottedTree.{DottedTree};
+ghost use Rattle.aidl_parser.specs.steps.Reading as read;
+ghost use Rattle.aidl_parser.specs.Gives.{Gives};
 
 use crate::fault::ParseFault;
+use crate::lists::Part;
 use crate::tokens::{first, mark_of, name_of, next};
 use aidl_base::{DottedName, Ident, Row};
 use aidl_syntax::{DottedTree, Symbol, Token};
 use std::alloc::Global;
 
 // Identifiers joined by dots.
-#[tactic(auto, unfolding(crate::specs::Reading::dotted))]
+#[tactic(auto, unfolding(crate::specs::steps::Reading::dotted))]
 pub fn dotted<'a>(
     alloc: Global,
     tokens: &'a [Token],
@@ -47,7 +49,7 @@ fn names<'a>(alloc: Global, tokens: &'a [Token]) -> Result<(Row<Ident>, &'a [Tok
 
 // The tokens after a dot, where one stands first.
 fn after_dot<'a>(tokens: &'a [Token]) -> Option<&'a [Token]>
-    ensures { option_now result ≡ read.after_dot tokens.now }
+    ensures { read.option_now result ≡ read.after_dot tokens.now }
 {
     match tokens {
         [t, rest @ ..] => {
@@ -67,5 +69,21 @@ fn is_dot(s: Option<Symbol>) -> bool
     match s {
         Some(Symbol::Dot) => true,
         _ => false,
+    }
+}
+
+impl Part for DottedTree {
+    ghost Seen = { DottedTree };
+
+    ghost seen = { λ d. d };
+
+    ghost read = { λ _ ts. read.dotted ts };
+
+    fn part<'a>(
+        alloc: Global,
+        _fuel: usize,
+        tokens: &'a [Token],
+    ) -> Result<(Self, &'a [Token]), ParseFault> {
+        dotted(alloc, tokens)
     }
 }

@@ -4,8 +4,9 @@ ghost use Rattle.aidl_syntax.specs.Trees.{File, file_of};
 ghost use Rattle.aidl_syntax.specs.Productions.{IsFile, Tree};
 ghost use Rattle.aidl_parser.specs.declared.fault.ParseFault.TheVariants as fault;
 ghost use Rattle.aidl_parser.specs.Limits.{passed};
-ghost use Rattle.aidl_parser.specs.Decls.{whole_of};
-ghost use Rattle.aidl_parser.specs.Answers.{Answers, IsRefusal};
+ghost use Rattle.aidl_parser.specs.steps.Decls.{whole_of};
+ghost use Rattle.aidl_parser.specs.Refusals.{IsRefusal};
+ghost use Rattle.aidl_parser.specs.steps.Answers.{Answers};
 ghost use Rattle.aidl_parser.specs.Gives.{Gives};
 
 use crate::fault::ParseFault;

@@ -1,5 +1,5 @@
 ghost use Rattle.std.specs.Prelude.{◌≡◌};
-ghost use Rattle.aidl_parser.specs.Parts as read;
+ghost use Rattle.aidl_parser.specs.steps.Parts as read;
 ghost use Rattle.aidl_parser.specs.Gives.{Gives};
 
 use crate::fault::ParseFault;
@@ -64,14 +64,14 @@ pub fn word_of(kind: &TokenKind) -> Option<Reserved>
     }
 }
 
-#[tactic(auto, unfolding(crate::specs::Parts::same_symbol))]
+#[tactic(auto, unfolding(crate::specs::steps::Parts::same_symbol))]
 fn same_symbol(a: Symbol, b: Symbol) -> bool
     ensures { result ≡ read.same_symbol a b }
 {
     a == b
 }
 
-#[tactic(auto, unfolding(crate::specs::Parts::same_word))]
+#[tactic(auto, unfolding(crate::specs::steps::Parts::same_word))]
 fn same_word(a: Reserved, b: Reserved) -> bool
     ensures { result ≡ read.same_word a b }
 {

@@ -1,7 +1,7 @@
 ghost use Rattle.std.specs.Prelude.{◌≡◌};
 ghost use Rattle.aidl_syntax.specs.declared.token.Symbol.TheVariants as mark;
-ghost use Rattle.aidl_parser.specs.Parts as part;
-ghost use Rattle.aidl_parser.specs.Types as read;
+ghost use Rattle.aidl_parser.specs.steps.Parts as part;
+ghost use Rattle.aidl_parser.specs.steps.Types as read;
 ghost use Rattle.aidl_parser.specs.Gives.{Gives};
 
 use crate::fault::ParseFault;
@@ -12,7 +12,7 @@ use aidl_syntax::{DottedTree, NameTree, Symbol, Token, TypeTree};
 use std::alloc::Global;
 
 // dotted ["<" dotted ">"] ["[" "]"]
-#[tactic(auto, unfolding(crate::specs::Types::type_at))]
+#[tactic(auto, unfolding(crate::specs::steps::Types::type_at))]
 pub fn type_of<'a>(
     alloc: Global,
     tokens: &'a [Token],
@@ -47,7 +47,7 @@ fn maybe_element<'a>(
     }
 }
 
-#[tactic(auto, unfolding(crate::specs::Types::element))]
+#[tactic(auto, unfolding(crate::specs::steps::Types::element))]
 fn element<'a>(alloc: Global, tokens: &'a [Token]) -> Result<(DottedTree, &'a [Token]), ParseFault>
     ensures { Gives (λ x. (x.0, x.1.now)) result (read.element tokens.entry.now) }
 {
@@ -57,7 +57,7 @@ fn element<'a>(alloc: Global, tokens: &'a [Token]) -> Result<(DottedTree, &'a [T
     Ok((name, rest))
 }
 
-#[tactic(auto, unfolding(crate::specs::Types::array))]
+#[tactic(auto, unfolding(crate::specs::steps::Types::array))]
 fn array<'a>(tokens: &'a [Token]) -> Result<(bool, &'a [Token]), ParseFault>
     ensures { Gives (λ x. (x.0, x.1.now)) result (read.array tokens.entry.now) }
 {

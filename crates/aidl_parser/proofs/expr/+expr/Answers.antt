@@ -1,43 +1,40 @@
-use Rattle.std.proofs.Common.{◌≡◌, ◌+◌, ◌-◌, ◌<◌, sym, ◌∙◌, ap, true, false, arith}
+use Rattle.std.proofs.Common.{◌≡◌, ◌+◌, ◌-◌, ◌<◌, sym, ◌∙◌, ap, arith}
 use Rattle.std.proofs.lemmas.Result.{err_from_is_err_and}
 use Rattle.aidl_syntax.specs.Trees.{expr_of, offset_of}
 use Rattle.aidl_syntax.specs.Trees.Expr.{binary}
-use Rattle.aidl_parser.specs.Reading.{climb, expr, goes_on, level_by, mark_of, symbol_or}
+use Rattle.aidl_parser.specs.steps.Reading.{climb, expr, mark_of, symbol_or}
 use Rattle.aidl_parser.proofs.Looping.{climb_end, climb_stop, climb_spent, climb_none, climb_more, fails_over}
 use Rattle.aidl_parser.proofs.expr.+expr.Goals as goal
 
-pub climb-returns-then-not-goes_on : goal.climb-returns-then-not-goes_on
-climb-returns-then-not-goes_on t c =
-    let g : goes_on c.args.least (level_by (mark_of c.in-Some.t.now.kind)) ≡ false = cc in
-    sym c.loop-t.invariant ∙ climb_stop (λ k us. expr c.args.left k us) c.loop-t.rounds c.args.least (expr_of c.loop-t.tree) c.in-Some.t.now c.loop-t.rest.now c.in-Some.after.now c.in-Some.ensures g
+pub climb-returns-in_default-operator : goal.climb-returns-in_default-operator
+climb-returns-in_default-operator t c =
+    sym c.loop-t.invariant ∙ climb_stop (λ k us. expr c.args.fuel k us) c.loop-t.rounds c.args.least (expr_of c.loop-t.tree) c.in-Some.t.now c.loop-t.rest.now c.in-Some.after.now c.in-Some.ensures c.in_default-operator.ensures
 
 pub climb-returns-then-rounds-eq0 : goal.climb-returns-then-rounds-eq0
 climb-returns-then-rounds-eq0 t c =
-    let g : goes_on c.args.least (level_by (mark_of c.in-Some.t.now.kind)) ≡ true = cc in
-    sym c.loop-t.invariant ∙ climb_spent (λ k us. expr c.args.left k us) c.loop-t.rounds c.args.least (expr_of c.loop-t.tree) c.in-Some.t.now c.loop-t.rest.now c.in-Some.after.now c.in-Some.ensures g c.if-rounds-eq0.true
+    let o = c.in-Some-operator.ensures in
+    sym c.loop-t.invariant ∙ climb_spent (λ k us. expr c.args.fuel k us) c.loop-t.rounds c.args.least (expr_of c.loop-t.tree) c.in-Some.t.now c.loop-t.rest.now c.in-Some.after.now c.in-Some.ensures o.2 c.if-rounds-eq0.true
 
 pub climb-returns-in_err-right : goal.climb-returns-in_err-right
 climb-returns-in_err-right t c =
     let p = err_from_is_err_and c.from_residual.result c.from_residual.ensures.1 in
-    let g : goes_on c.args.least (level_by (mark_of c.in-Some.t.now.kind)) ≡ true = cc in
-    let l : c.level_of-level.result ≡ level_by (mark_of c.in-Some.t.now.kind) = cc in
-    rw (p.1, p.2) (fails_over c.in_err-right.field-0.0 (expr c.args.left (c.level_of-level.result + 1) c.in-Some.after.now)
-    (climb (λ k us. expr c.args.left k us) c.args.left c.args.least (expr_of c.args.first) c.args.tokens.now) c.in_err-right.ensures
-    (λ e. sym c.loop-t.invariant ∙ climb_none (λ k us. expr c.args.left k us) c.loop-t.rounds c.args.least (expr_of c.loop-t.tree) c.in-Some.t.now c.loop-t.rest.now c.in-Some.after.now c.in-Some.ensures g
-    (ap (λ v. expr c.args.left (v + 1) c.in-Some.after.now) (sym l) ∙ e)))
+    let o = c.in-Some-operator.ensures in
+    rw (p.1, p.2) (fails_over c.in_err-right.field-0.0 (expr c.args.fuel (c.in-Some-operator.level + 1) c.in-Some.after.now)
+    (climb (λ k us. expr c.args.fuel k us) c.args.fuel c.args.least (expr_of c.args.first) c.args.tokens.now) c.in_err-right.ensures
+    (λ e. sym c.loop-t.invariant ∙ climb_none (λ k us. expr c.args.fuel k us) c.loop-t.rounds c.args.least (expr_of c.loop-t.tree) c.in-Some.t.now c.loop-t.rest.now c.in-Some.after.now c.in-Some.ensures o.2
+    (ap (λ v. expr c.args.fuel (v + 1) c.in-Some.after.now) (sym o.1) ∙ e)))
 
 pub climb-loop-t-preserved : goal.climb-loop-t-preserved
 climb-loop-t-preserved t c =
-    let g : goes_on c.args.least (level_by (mark_of c.in-Some.t.now.kind)) ≡ true = cc in
-    let l : c.level_of-level.result ≡ level_by (mark_of c.in-Some.t.now.kind) = cc in
-    let s : c.symbol_or.result ≡ symbol_or (mark_of c.in-Some.t.now.kind) = cc in
+    let o = c.in-Some-operator.ensures in
+    let s : symbol_or (mark_of c.in-Some.t.now.kind) ≡ c.in-Some-operator.sign = ap symbol_or o.0 in
     let lt : 0 < c.loop-t.rounds = omega arith in
     let tree : expr_of c.in_ok-tree.tree ≡ binary (offset_of (expr_of c.loop-t.tree)) (symbol_or (mark_of c.in-Some.t.now.kind)) (expr_of c.loop-t.tree) (expr_of c.in_ok-right.right)
-    = c.in_ok-tree.ensures.ok ∙ ap (λ x. binary (offset_of (expr_of c.loop-t.tree)) x (expr_of c.loop-t.tree) (expr_of c.in_ok-right.right)) s in
-    ap (λ x. climb (λ k us. expr c.args.left k us) (c.loop-t.rounds - 1) c.args.least x c.in_ok-right.next.now) tree
-    ∙ sym (climb_more (λ k us. expr c.args.left k us) c.loop-t.rounds c.args.least (expr_of c.loop-t.tree) (expr_of c.in_ok-right.right) c.in-Some.t.now c.loop-t.rest.now c.in-Some.after.now c.in_ok-right.next.now c.in-Some.ensures g lt
-    (ap (λ v. expr c.args.left (v + 1) c.in-Some.after.now) (sym l) ∙ c.in_ok-right.ensures))
+    = c.in_ok-tree.ensures.ok ∙ ap (λ x. binary (offset_of (expr_of c.loop-t.tree)) x (expr_of c.loop-t.tree) (expr_of c.in_ok-right.right)) (sym s) in
+    ap (λ x. climb (λ k us. expr c.args.fuel k us) (c.loop-t.rounds - 1) c.args.least x c.in_ok-right.next.now) tree
+    ∙ sym (climb_more (λ k us. expr c.args.fuel k us) c.loop-t.rounds c.args.least (expr_of c.loop-t.tree) (expr_of c.in_ok-right.right) c.in-Some.t.now c.loop-t.rest.now c.in-Some.after.now c.in_ok-right.next.now c.in-Some.ensures o.2 lt
+    (ap (λ v. expr c.args.fuel (v + 1) c.in-Some.after.now) (sym o.1) ∙ c.in_ok-right.ensures))
     ∙ c.loop-t.invariant
 
 pub climb-returns : goal.climb-returns
-climb-returns t c = sym c.loop-t.invariant ∙ climb_end (λ k us. expr c.args.left k us) c.loop-t.rounds c.args.least (expr_of c.loop-t.tree) c.loop-t.rest.now c.in_default.ensures
+climb-returns t c = sym c.loop-t.invariant ∙ climb_end (λ k us. expr c.args.fuel k us) c.loop-t.rounds c.args.least (expr_of c.loop-t.tree) c.loop-t.rest.now c.in_default.ensures

@@ -1,6 +1,6 @@
 use Rattle.std.proofs.Common.{sym, ◌∙◌, true}
 use Rattle.std.proofs.lemmas.Result.{err_from_is_err_and}
-use Rattle.aidl_parser.specs.Reading.{names, name_of}
+use Rattle.aidl_parser.specs.steps.Reading.{names, name_of}
 use Rattle.aidl_parser.proofs.Looping.{name_dot, name_last, name_none, name_no_more, fails_over}
 use Rattle.aidl_parser.proofs.names.names.Goals as goal
 

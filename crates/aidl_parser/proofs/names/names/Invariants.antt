@@ -1,5 +1,5 @@
 use Rattle.std.proofs.Common.{◌≡◌, length, true}
-use Rattle.aidl_parser.specs.Reading.{names, with_names}
+use Rattle.aidl_parser.specs.steps.Reading.{names, with_names}
 use Rattle.aidl_parser.proofs.names.names.Given as goal
 
 -- what was read, and then what is still read, is all

@@ -1,0 +1,31 @@
+use Rattle.std.proofs.Common.{◌≡◌, ◌<◌, map, sym, ◌∙◌, true, false, arith}
+use Rattle.std.proofs.lemmas.Result.{err_from_is_err_and}
+use Rattle.aidl_parser.specs.steps.Parts.{with_items}
+use Rattle.aidl_parser.specs.steps.Repeats.{goes_on, round, many_by}
+use Rattle.aidl_parser.proofs.Looping.{fails_over}
+use Rattle.aidl_parser.proofs.Rounds as rounds
+use Rattle.aidl_parser.proofs.lists.many.Goals as goal
+
+pub rounds-preserved : goal.rounds-preserved
+rounds-preserved g c =
+    let b : goes_on c.args.repeat c.rounds.rest.now ≡ true = cc in
+    let lt : 0 < c.rounds.rounds = omega arith in
+    rounds.goes_on (goes_on c.args.repeat) (round c.args.repeat (g.T.Part.read c.args.fuel)) g.T.Part.seen c.rounds.rounds c.rounds.all c.push.new.self c.in_ok-item.item c.rounds.rest.now c.in_ok-item.next.now b lt c.in_ok-item.ensures c.in_ok-push.ensures.ok
+    ∙ c.rounds.invariant
+
+pub returns : goal.returns
+returns g c =
+    let b : goes_on c.args.repeat c.rounds.rest.now ≡ false = cc in
+    sym c.rounds.invariant ∙ rounds.stops (goes_on c.args.repeat) (round c.args.repeat (g.T.Part.read c.args.fuel)) c.rounds.rounds (map g.T.Part.seen c.rounds.all) c.rounds.rest.now b
+
+pub returns-in_err-item : goal.returns-in_err-item
+returns-in_err-item g c =
+    let p = err_from_is_err_and c.from_residual.result c.from_residual.ensures.1 in
+    let b : goes_on c.args.repeat c.rounds.rest.now ≡ true = cc in
+    rw (p.1, p.2) (fails_over c.in_err-item.field-0.0 (round c.args.repeat (g.T.Part.read c.args.fuel) c.rounds.rest.now) (with_items (map g.T.Part.seen c.args.items) (many_by c.args.fuel c.args.repeat (g.T.Part.read c.args.fuel) c.args.tokens.now)) c.in_err-item.ensures
+    (λ e. sym c.rounds.invariant ∙ rounds.fails (goes_on c.args.repeat) (round c.args.repeat (g.T.Part.read c.args.fuel)) c.rounds.rounds (map g.T.Part.seen c.rounds.all) c.rounds.rest.now b e))
+
+pub returns-then-rounds-eq0 : goal.returns-then-rounds-eq0
+returns-then-rounds-eq0 g c =
+    let b : goes_on c.args.repeat c.rounds.rest.now ≡ true = cc in
+    sym c.rounds.invariant ∙ rounds.spent (goes_on c.args.repeat) (round c.args.repeat (g.T.Part.read c.args.fuel)) c.rounds.rounds (map g.T.Part.seen c.rounds.all) c.rounds.rest.now b c.if-rounds-eq0.true
