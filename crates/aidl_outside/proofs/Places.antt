@@ -1,5 +1,5 @@
 -- The place of a path among files that are sorted by their paths, and what a write at that place does.
-use Rattle.std.proofs.Common.{◌≡◌, ℕ, zero, suc, ◌+◌, ◌<◌, ◌≤◌, ◌&&◌, T, List, [], ◌∷◌, length, get_or, set, drop, Result, Ok, Err, Option, Some, None, is_some, Bool, true, false, cond, add-one, drop-cons, refl, sym, ap, ◌∙◌, arith}
+use Rattle.std.proofs.Common.{◌≡◌, ℕ, zero, suc, ◌+◌, ◌<◌, ◌≤◌, ◌&&◌, T, List, [], ◌∷◌, length, get_or, set, drop, Result, Ok, Err, Some, None, is_some, Bool, true, false, cond, add-one, drop-cons, refl, sym, ap, ◌∙◌, arith}
 use Rattle.std.specs.List.{insert}
 use Rattle.std.specs.declared.cmp.Ordering.{Ordering}
 use Rattle.std.specs.declared.cmp.Ordering.TheVariants.{Less, Equal, Greater}

@@ -1,4 +1,4 @@
-use Rattle.std.proofs.Common.{◌≡◌, ◌==◌, ◌+◌, true, false, drop, ap, sym, ◌∙◌, arith}
+use Rattle.std.proofs.Common.{◌≡◌, ◌==◌, ◌+◌, true, false, drop, ap, ◌∙◌, arith}
 use Rattle.std.proofs.lemmas.Bool.Decides.{nat_tests}
 use Rattle.aidl_outside.specs.Edits.{delivered}
 use Rattle.aidl_outside.proofs.Edited.{applied, passed}

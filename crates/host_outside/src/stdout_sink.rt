@@ -1,6 +1,6 @@
 ghost use Rattle.std.specs.Prelude.{◌≡◌, None};
 
-use crate::sink::{Sink, SinkFault};
+use aidl_outside::{Sink, SinkFault};
 use std::alloc::Global;
 
 /// Standard output. It is a trusted edge and tells nothing. A piece is handed to the system whole.
