@@ -1,4 +1,5 @@
 pub mod Below
+pub mod Edited
 pub mod Halves
 pub mod Kept
 pub mod Numbers

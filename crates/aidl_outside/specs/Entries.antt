@@ -1,9 +1,9 @@
 -- The files of a store in memory, as a map.
-use Rattle.std.specs.Prelude.{ℕ, suc, ◌<◌, ◌≤◌, List, [], ◌∷◌, map, Option, Result, Ok, Err}
+use Rattle.std.specs.Prelude.{ℕ, suc, ◌<◌, ◌≤◌, if◌then◌else◌, List, [], ◌∷◌, map, is_some, Option, Result, Ok, Err}
 use Rattle.std.specs.Ordering.{nat_cmp}
 use Rattle.std.specs.Cmp.Lexicographic.{slice_cmp}
-use Rattle.std.specs.FinMap.{from_entries, from_sorted}
-use Rattle.std.specs.FinMap.Entries.{find, by_order}
+use Rattle.std.specs.FinMap.{from_entries, from_sorted, contains_key, insert}
+use Rattle.std.specs.FinMap.Entries.{find, put, by_order}
 use Rattle.std.specs.Str.{encode_utf8_all}
 use Rattle.aidl_base.specs.declared.source_file.SourceFile.{SourceFile}
 use Rattle.aidl_outside.specs.Files.{Files}
@@ -27,6 +27,14 @@ sorted_files files = from_sorted {R = slice_cmp nat_cmp} (entries files)
 -- the bytes at a path
 abbrev pub file_at : List ℕ → List (List ℕ × List ℕ) → Option (List ℕ)
 file_at path es = find (slice_cmp nat_cmp) path es
+
+-- the files with one more, where its path is new
+abbrev pub with_new : Files → List ℕ → List ℕ → Files
+with_new files path bytes = if contains_key files path then files else insert files path bytes
+
+-- the entries with one more, where its path is new
+abbrev pub put_new : List ℕ → List ℕ → List (List ℕ × List ℕ) → List (List ℕ × List ℕ)
+put_new path bytes es = if is_some (file_at path es) then es else put (slice_cmp nat_cmp) path bytes es
 
 -- one place later
 abbrev pub later : Result ℕ ℕ → Result ℕ ℕ

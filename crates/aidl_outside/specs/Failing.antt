@@ -1,7 +1,9 @@
--- Which calls of an object in memory fail: those whose 0-based numbers it was given (own).
-use Rattle.std.specs.Prelude.{◌≡◌, ℕ, zero, suc, ◌+◌, ◌-◌, ◌/◌, ◌^◌, ◌<◌, ◌==◌, ◌++◌, ◌⊎◌, min, Bool, true, false, if◌then◌else◌, List, length, take, Result, Ok, Err}
+-- Which calls of an object in memory fail: those whose 0-based numbers it was given, or those from one on (own).
+use Rattle.std.specs.Prelude.{◌≡◌, ℕ, zero, suc, ◌+◌, ◌-◌, ◌/◌, ◌^◌, ◌<◌, ◌==◌, ◌++◌, ◌⊎◌, min, nat_le, Bool, true, false, if◌then◌else◌, List, length, take, Result, Ok, Err}
 use Rattle.std.specs.List.{list_any}
 use Rattle.std.specs.FinMap.{insert}
+use Rattle.aidl_outside.specs.declared.failures.Failing.{Failing}
+use Rattle.aidl_outside.specs.declared.failures.Failing.TheVariants.{Numbers, From}
 use Rattle.aidl_outside.specs.declared.failures.Failures.{Failures}
 use Rattle.aidl_outside.specs.declared.store.StoreFault.{StoreFault}
 use Rattle.aidl_outside.specs.declared.store.StoreFault.TheVariants as store
@@ -15,15 +17,20 @@ use Rattle.aidl_outside.specs.Files.{Files}
 abbrev pub one_more : ℕ → ℕ
 one_more count = min (count + 1) (2 ^ 64 - 1)
 
--- before any call: these numbers fail, and no call and no fault is counted
-abbrev pub uncounted : List ℕ → Failures
-uncounted numbers = record { failing = numbers; calls = 0; faults = 0 }
+-- before any call: no call and no fault is counted
+abbrev pub uncounted : Failing → Failures
+uncounted failing = record { failing = failing; calls = 0; faults = 0 }
 
--- the number of the next call is among those that fail
+-- the call with this number fails
+abbrev pub fails_at : Failing → ℕ → Bool
+fails_at (Numbers numbers) call = list_any (λ number. number == call) numbers
+fails_at (From first) call = nat_le first call
+
+-- the next call fails
 abbrev pub fails_next : Failures → Bool
-fails_next f = list_any (λ number. number == f.calls) f.failing
+fails_next f = fails_at f.failing f.calls
 
--- after one call: the same numbers, one more call, and one more fault where it fails
+-- after one call: the same ones fail, one more call, and one more fault where it fails
 abbrev pub counted : Failures → Failures
 counted f = record f { calls = one_more f.calls; faults = if fails_next f then one_more f.faults else f.faults }
 

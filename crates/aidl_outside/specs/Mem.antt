@@ -3,6 +3,10 @@ use Rattle.std.specs.Prelude.{ℕ, List, vec_capacity}
 use Rattle.aidl_outside.specs.declared.failures.Failures.{Failures}
 use Rattle.aidl_outside.specs.declared.mem_sink.MemSink.{MemSink}
 use Rattle.aidl_outside.specs.declared.mem_store.MemStore.{MemStore}
+use Rattle.aidl_outside.specs.declared.edits.Edit.{Edit}
+use Rattle.aidl_outside.specs.declared.link.Carried.{Carried}
+use Rattle.aidl_outside.specs.declared.record_link.RecordLink.{RecordLink}
+use Rattle.aidl_outside.specs.declared.tamper_link.TamperLink.{TamperLink}
 use Rattle.aidl_outside.specs.Entries.{sorted_files}
 use Rattle.aidl_outside.specs.Files.{Files}
 
@@ -29,3 +33,23 @@ store_failures store = store.failures
 -- how often the store has failed
 abbrev pub faults_of : MemStore → ℕ
 faults_of store = store.failures.faults
+
+-- the parcels that a link carried, in order
+abbrev pub recorded : RecordLink → List Carried
+recorded link = link.log.items
+
+-- the link's failing calls, with the calls and faults so far
+abbrev pub record_failures : RecordLink → Failures
+record_failures link = link.failures
+
+-- the parcels that a link carried, in order
+abbrev pub tampered : TamperLink → List Carried
+tampered link = link.log.items
+
+-- the edits of its carries
+abbrev pub tamper_edits : TamperLink → List Edit
+tamper_edits link = link.edits
+
+-- the link's failing calls, with the calls and faults so far
+abbrev pub tamper_failures : TamperLink → Failures
+tamper_failures link = link.failures

@@ -1,19 +1,30 @@
-ghost use Rattle.std.specs.Prelude.{◌≡◌, ◌↔◌, ◌-◌, ◌^◌, ℕ, [], min, Contains, IsTrue};
-ghost use Rattle.aidl_outside.specs.Failing.{uncounted, fails_next, counted, after_calls};
+ghost use Rattle.std.specs.Prelude.{◌≡◌, ◌↔◌, ◌-◌, ◌^◌, ◌≤◌, ◌<◌, ℕ, [], min, Contains, IsTrue};
+ghost use Rattle.aidl_outside.specs.Failing.{uncounted, fails_at, fails_next, counted, after_calls};
+ghost use Rattle.aidl_outside.specs.declared.failures.Failing.{Failing};
+ghost use Rattle.aidl_outside.specs.declared.failures.Failing.TheVariants.{Numbers, From};
 
 use aidl_base::Row;
 
-/// Which calls of an object in memory fail, by their 0-based numbers, with the calls and faults so far.
-#[derive(Debug, Drop)]
+/// Which calls of an object in memory fail, by their 0-based numbers.
+#[derive(Drop)]
+pub enum Failing {
+    /// Those with these numbers.
+    Numbers(Row<u64>),
+    /// The one with this number, and every later one.
+    From(u64),
+}
+
+/// Which calls of an object in memory fail, with the calls and faults so far.
+#[derive(Drop)]
 pub struct Failures {
-    failing: Row<u64>,
-    calls: u64,
+    failing: Failing,
+    pub calls: u64,
     pub faults: u64,
 }
 
 impl Failures {
-    /// The calls with these numbers fail. No call is counted yet.
-    pub fn new(failing: Row<u64>) -> Failures
+    /// These calls fail. No call is counted yet.
+    pub fn new(failing: Failing) -> Failures
         ensures { result ≡ uncounted failing }
     {
         Failures {
@@ -27,10 +38,11 @@ impl Failures {
     pub fn fails_now(&mut self) -> bool
         ensures fails { result ≡ fails_next self.old }
         ensures counts { self.new ≡ counted self.old }
+        ensures never_falls { self.old.faults ≤ self.new.faults }
     {
         let call = self.calls;
         self.calls = self.calls.saturating_add(1);
-        let fails = self.failing.as_slice().contains(&call);
+        let fails = fails_at(&self.failing, call);
         if fails {
             self.faults = self.faults.saturating_add(1);
         }
@@ -38,13 +50,32 @@ impl Failures {
     }
 }
 
+fn fails_at(failing: &Failing, call: u64) -> bool
+    ensures { result ≡ fails_at failing.now call }
+{
+    match failing {
+        Failing::Numbers(numbers) => numbers.as_slice().contains(&call),
+        Failing::From(first) => *first <= call,
+    }
+}
+
 /// A call fails exactly where its 0-based number was given. Each call past `u64::MAX` has that number.
 pub fn law_fails_by_number(failing: &[u64])
-    ensures { (count : ℕ) → (IsTrue (fails_next (after_calls count (uncounted failing.now)))
+    ensures { (count : ℕ) → (IsTrue (fails_next (after_calls count (uncounted (Numbers failing.now))))
         ↔ Contains failing.now (min count (2 ^ 64 - 1))) }
+{}
+
+/// Where a first number was given, that call fails and every later one, and no other.
+pub fn law_fails_from(first: u64)
+    ensures { (count : ℕ) → (IsTrue (fails_next (after_calls count (uncounted (From first)))) ↔ (first ≤ count)) }
 {}
 
 /// Where no number was given, no fault is ever counted.
 pub fn law_no_number_no_fault()
-    ensures { (count : ℕ) → (after_calls count (uncounted [])).faults ≡ 0 }
+    ensures { (count : ℕ) → (after_calls count (uncounted (Numbers []))).faults ≡ 0 }
+{}
+
+/// The number of a call is that of the calls before it, and stands still at `u64::MAX`.
+pub fn law_calls_are_numbered()
+    ensures { (failing : Failing) (count : ℕ) → (after_calls count (uncounted failing)).calls ≡ min count (2 ^ 64 - 1) }
 {}

@@ -1,4 +1,4 @@
-ghost use Rattle.std.specs.Prelude.{◌≡◌, ℕ, List, Option, Bool, true, IfOk};
+ghost use Rattle.std.specs.Prelude.{◌≡◌, ◌≤◌, ℕ, List, Option, Bool, true, IfOk};
 ghost use Rattle.aidl_outside.specs.Causes.{CarryCause};
 ghost use Rattle.aidl_outside.specs.Carries.{Carries};
 ghost use Rattle.aidl_outside.specs.declared.link.Carried.{Carried};
@@ -51,7 +51,8 @@ pub trait Link {
         ensures carried { Carries (log self.old) (log self.new) way code bytes.now result }
         ensures faithful { is_faithful self.old ≡ true → IfOk result (λ delivered. delivered.items ≡ bytes.now) }
         ensures nature { is_faithful self.new ≡ is_faithful self.old }
-        ensures cause { CarryCause (count self.old) (count self.new) result };
+        ensures cause { CarryCause (count self.old) (count self.new) result }
+        ensures never_falls { count self.old ≤ count self.new };
 
     /// The number of faults so far.
     fn faults(&self) -> u64

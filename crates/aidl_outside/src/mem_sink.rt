@@ -1,15 +1,16 @@
-ghost use Rattle.std.specs.Prelude.{◌≡◌, Some, [], IfOk, IsOk, IsTrue, vec_capacity};
+ghost use Rattle.std.specs.Prelude.{◌≡◌, ◌≤◌, Some, [], IfOk, IsOk, IsTrue, vec_capacity};
 ghost use Rattle.aidl_outside.specs.Causes.{SinkCause};
 ghost use Rattle.aidl_outside.specs.Failing.{AddsHalf, uncounted, counted, fails_next, sink_failed};
 ghost use Rattle.aidl_outside.specs.Told.{Puts};
+ghost use Rattle.aidl_outside.specs.declared.failures.Failing.TheVariants.{Numbers};
 
-use crate::failures::Failures;
+use crate::failures::{Failing, Failures};
 use crate::sink::{Sink, SinkFault};
 use aidl_base::{OutOfMemory, Row};
 use std::alloc::Global;
 
 /// A sink in memory, which tells its bytes. A failing call adds the first half of its bytes, rounded down.
-#[derive(Debug, Drop)]
+#[derive(Drop)]
 pub struct MemSink {
     bytes: Vec<u8>,
     failures: Failures,
@@ -23,11 +24,11 @@ impl MemSink {
     pub fn new(alloc: Global, failing: Row<u64>) -> Result<MemSink, OutOfMemory>
         ensures made { IsOk result }
         ensures bytes { IfOk result (λ sink. sink_bytes sink ≡ []) }
-        ensures failures { IfOk result (λ sink. sink_failures sink ≡ uncounted failing) }
+        ensures failures { IfOk result (λ sink. sink_failures sink ≡ uncounted (Numbers failing)) }
     {
         Ok(MemSink {
             bytes: Vec::new(alloc),
-            failures: Failures::new(failing),
+            failures: Failures::new(Failing::Numbers(failing)),
         })
     }
 
@@ -49,6 +50,7 @@ impl Sink for MemSink {
     fn put(&mut self, _alloc: Global, bytes: &[u8]) -> Result<(), SinkFault>
         ensures bytes { Puts (Some (sink_bytes self.old)) (Some (sink_bytes self.new)) bytes.now result }
         ensures cause { SinkCause (sink_failures self.old).faults (sink_failures self.new).faults result }
+        ensures never_falls { (sink_failures self.old).faults ≤ (sink_failures self.new).faults }
         ensures failed { sink_failed result ≡ fails_next (sink_failures self.old) }
         ensures counts { sink_failures self.new ≡ counted (sink_failures self.old) }
         ensures half { IsTrue (sink_failed result) → AddsHalf (sink_room self.old) (sink_bytes self.old) (sink_bytes self.new) bytes.now }

@@ -5,19 +5,23 @@ ghost use Rattle.std.specs.Ordering.{nat_cmp};
 ghost use Rattle.std.specs.Cmp.Lexicographic.{slice_cmp};
 ghost use Rattle.std.specs.FinMap.Entries.{is_sorted, put};
 ghost use Rattle.aidl_outside.specs.Causes.{StoreCause};
-ghost use Rattle.aidl_outside.specs.Entries.{entries, file_at, files_of, sorted_files, place_in, IsPlaceWithin, path_of};
+ghost use Rattle.aidl_outside.specs.Entries.{entries, file_at, files_of, sorted_files, place_in, put_new, with_new, IsPlaceWithin, path_of};
 ghost use Rattle.aidl_outside.specs.Failing.{SetsHalf, uncounted, counted, fails_next, store_failed};
 ghost use Rattle.aidl_outside.specs.Files.{IsRead, IsWithin, below, front_of, is_ascending, listing};
 ghost use Rattle.aidl_outside.specs.Writes.{Writes};
+ghost use Rattle.aidl_outside.specs.declared.failures.Failing.TheVariants.{Numbers, From};
 
-use crate::failures::Failures;
+use crate::failures::{Failing, Failures};
 use crate::store::{Store, StoreFault};
 use aidl_base::{OutOfMemory, Row, SourceFile, Text};
 use std::alloc::{AllocError, Global};
 use std::cmp::Ordering;
 
 /// A store in memory, which tells its files. A failing write keeps the first half of the bytes, rounded down.
-#[derive(Debug, Drop)]
+///
+/// The files lie sorted by path and are found by halving. A write of a new path moves the files after it, so to fill a
+/// store costs what sorting by insertion does: little where the paths come in their order, as from a listing.
+#[derive(Drop)]
 pub struct MemStore {
     files: Vec<SourceFile>,
     failures: Failures,
@@ -36,15 +40,34 @@ impl MemStore {
         failing: Row<u64>,
     ) -> Result<MemStore, OutOfMemory>
         ensures files { IfOk result (λ store. store_files store ≡ files_of files) }
+        ensures failures { IfOk result (λ store. store_failures store ≡ uncounted (Numbers failing)) }
+    {
+        MemStore::filled(alloc, files, Failing::Numbers(failing))
+    }
+
+    /// The store of these files, whose call with the 0-based number `at` fails, and every later one. Where a path
+    /// stands twice, the first file counts.
+    pub fn stopping(alloc: Global, files: Row<SourceFile>, at: u64) -> Result<MemStore, OutOfMemory>
+        ensures files { IfOk result (λ store. store_files store ≡ files_of files) }
+        ensures failures { IfOk result (λ store. store_failures store ≡ uncounted (From at)) }
+    {
+        MemStore::filled(alloc, files, Failing::From(at))
+    }
+
+    fn filled(
+        alloc: Global,
+        files: Row<SourceFile>,
+        failing: Failing,
+    ) -> Result<MemStore, OutOfMemory>
+        ensures files { IfOk result (λ store. store_files store ≡ files_of files) }
         ensures failures { IfOk result (λ store. store_failures store ≡ uncounted failing) }
     {
         let mut store = MemStore {
             files: Vec::new(alloc),
             failures: Failures::new(failing),
         };
-        let mut left = files.into_vec();
-        while let Some(file) = left.pop() {
-            store.set(file)?;
+        for file in files.into_vec() {
+            store.add(file)?;
         }
         Ok(store)
     }
@@ -65,13 +88,12 @@ impl MemStore {
         Row::from_vec(self.files)
     }
 
-    // Sets the file at its path. On a refusal the store is as it was.
-    fn set(&mut self, file: SourceFile) -> Result<(), OutOfMemory>
-        ensures ok { OnOk result (store_files self.new ≡ files_map.insert (store_files self.old) (path_of file) file.bytes) }
-        ensures err { OnErr result (store_files self.new ≡ store_files self.old) }
+    // Adds a file, unless its path is there. On a refusal the store is as it was.
+    fn add(&mut self, file: SourceFile) -> Result<(), OutOfMemory>
+        ensures ok { OnOk result (store_files self.new ≡ with_new (store_files self.old) (path_of file) file.bytes) }
         ensures failures { store_failures self.new ≡ store_failures self.old }
     {
-        set_in(&mut self.files, file)
+        add_to(&mut self.files, file)
     }
 }
 
@@ -88,6 +110,7 @@ impl Store for MemStore {
         ensures ascending { IfOk result (λ paths. is_ascending (map string_bytes paths.items) ≡ true) }
         ensures unchanged { store_files self.new ≡ store_files self.old }
         ensures cause { StoreCause (faults_of self.old) (faults_of self.new) result }
+        ensures never_falls { faults_of self.old ≤ faults_of self.new }
         ensures failed { store_failed result ≡ fails_next (store_failures self.old) }
         ensures counts { store_failures self.new ≡ counted (store_failures self.old) }
     {
@@ -111,6 +134,7 @@ impl Store for MemStore {
         ensures within { IfOk result (IsWithin most) }
         ensures unchanged { store_files self.new ≡ store_files self.old }
         ensures cause { StoreCause (faults_of self.old) (faults_of self.new) result }
+        ensures never_falls { faults_of self.old ≤ faults_of self.new }
         ensures failed { store_failed result ≡ fails_next (store_failures self.old) }
         ensures counts { store_failures self.new ≡ counted (store_failures self.old) }
     {
@@ -126,6 +150,7 @@ impl Store for MemStore {
     fn write(&mut self, alloc: Global, path: &str, bytes: &[u8]) -> Result<(), StoreFault>
         ensures written { Writes (Some (store_files self.old)) (Some (store_files self.new)) path.now bytes.now result }
         ensures cause { StoreCause (faults_of self.old) (faults_of self.new) result }
+        ensures never_falls { faults_of self.old ≤ faults_of self.new }
         ensures failed { store_failed result ≡ fails_next (store_failures self.old) }
         ensures counts { store_failures self.new ≡ counted (store_failures self.old) }
         ensures half { IsTrue (store_failed result) → SetsHalf (store_files self.old) (store_files self.new) path.now bytes.now }
@@ -161,6 +186,7 @@ fn file_of(alloc: Global, path: &str, bytes: &[u8]) -> Result<SourceFile, OutOfM
 
 // Sets a file among files that are sorted by path. On a refusal they are as they were.
 fn set_in(files: &mut Vec<SourceFile>, file: SourceFile) -> Result<(), OutOfMemory>
+    requires { is_sorted (slice_cmp nat_cmp) (entries files.old.items) ≡ true }
     ensures ok { OnOk result (entries files.new.items ≡ put (slice_cmp nat_cmp) (path_of file) file.bytes (entries files.old.items)) }
     ensures err { OnErr result (files.new.items ≡ files.old.items) }
 {
@@ -173,31 +199,43 @@ fn set_in(files: &mut Vec<SourceFile>, file: SourceFile) -> Result<(), OutOfMemo
     }
 }
 
+// Adds a file to files that are sorted by path, unless its path is there. On a refusal they are as they were.
+fn add_to(files: &mut Vec<SourceFile>, file: SourceFile) -> Result<(), OutOfMemory>
+    requires { is_sorted (slice_cmp nat_cmp) (entries files.old.items) ≡ true }
+    ensures ok { OnOk result (entries files.new.items ≡ put_new (path_of file) file.bytes (entries files.old.items)) }
+    ensures err { OnErr result (files.new.items ≡ files.old.items) }
+{
+    match place_among(files.as_slice(), file.path.as_str()) {
+        Ok(_) => Ok(()),
+        Err(place) => Ok(files.insert(place, file)?),
+    }
+}
+
 // The place of the file with the path, or the place where it would go.
 fn place_among(files: &[SourceFile], path: &str) -> Result<usize, usize>
+    requires { is_sorted (slice_cmp nat_cmp) (entries files.now) ≡ true }
     ensures place { result ≡ place_in path.now (entries files.now) }
     ensures within { IsPlaceWithin (length files.now) result }
 {
-    for (place, file) in files.iter().enumerate() {
-        match path.cmp(file.path.as_str()) {
-            Ordering::Less => return Err(place),
-            Ordering::Equal => return Ok(place),
-            Ordering::Greater => {}
-        }
-    }
-    Err(files.len())
+    files.binary_search_by(|file| order(file, path))
+}
+
+// How the path of a file compares with a path, by bytes.
+fn order(file: &SourceFile, path: &str) -> Ordering
+    ensures { result ≡ slice_cmp nat_cmp (path_of file.now) path.now }
+{
+    file.path.as_str().cmp(path)
 }
 
 // The file with the path.
 fn find<'a>(files: &'a [SourceFile], path: &str) -> Option<&'a SourceFile>
+    requires { is_sorted (slice_cmp nat_cmp) (entries files.now) ≡ true }
     ensures { option_map (λ file. file.now.bytes) result ≡ file_at path.now (entries files.now) }
 {
-    for file in files {
-        if path == file.path.as_str() {
-            return Some(file);
-        }
+    match place_among(files, path) {
+        Ok(place) => Some(&files[place]),
+        Err(_) => None,
     }
-    None
 }
 
 // The front of the file with the path.
@@ -207,7 +245,8 @@ fn front_at(
     path: &str,
     most: usize,
 ) -> Result<Option<Vec<u8>>, AllocError>
-    requires { most < usize.MAX }
+    requires most { most < usize.MAX }
+    requires sorted { is_sorted (slice_cmp nat_cmp) (entries files.now) ≡ true }
     ensures found { IfOk result (IsRead most (file_at path.now (entries files.now))) }
     ensures within { IfOk result (IsWithin most) }
 {
@@ -281,6 +320,6 @@ impl MemStore {
         ensures failures { store_failures self.new ≡ store_failures self.old }
     {
         let file = file_of(alloc, path, bytes)?;
-        self.set(file)
+        set_in(&mut self.files, file)
     }
 }

@@ -1,4 +1,4 @@
-ghost use Rattle.std.specs.Prelude.{◌≡◌, None, true, false, IfOk};
+ghost use Rattle.std.specs.Prelude.{◌≡◌, ◌≤◌, None, true, false, IfOk};
 ghost use Rattle.aidl_outside.specs.Carries.{Carries};
 ghost use Rattle.aidl_outside.specs.Causes.{CarryCause};
 ghost use Rattle.aidl_outside.specs.Failing.{carry_failed};
@@ -7,7 +7,7 @@ use crate::link::{CarryFault, Link, Way};
 use std::alloc::Global;
 
 /// A faithful link that keeps no log and never fails.
-#[derive(Clone, Copy, Debug)]
+#[derive(Drop)]
 pub struct PassLink {
     // so that the struct isn't empty
     faults: u64,
@@ -40,6 +40,7 @@ impl Link for PassLink {
         ensures faithful { IfOk result (λ delivered. delivered.items ≡ bytes.now) }
         ensures never_failed { carry_failed result ≡ false }
         ensures cause { CarryCause self.old.faults self.new.faults result }
+        ensures never_falls { self.old.faults ≤ self.new.faults }
         ensures unchanged { self.new ≡ self.old }
     {
         match Vec::from_slice(alloc, bytes) {

@@ -1,4 +1,4 @@
-ghost use Rattle.std.specs.Prelude.{◌≡◌, ℕ, List, Option};
+ghost use Rattle.std.specs.Prelude.{◌≡◌, ◌≤◌, ℕ, List, Option};
 ghost use Rattle.aidl_outside.specs.Causes.{SinkCause};
 ghost use Rattle.aidl_outside.specs.Told.{Puts};
 
@@ -21,7 +21,8 @@ pub trait Sink {
     /// Adds all the bytes. `Failed` adds a front of them, `OutOfMemory` none.
     fn put(&mut self, alloc: Global, bytes: &[u8]) -> Result<(), SinkFault>
         ensures bytes { Puts (told self.old) (told self.new) bytes.now result }
-        ensures cause { SinkCause (count self.old) (count self.new) result };
+        ensures cause { SinkCause (count self.old) (count self.new) result }
+        ensures never_falls { count self.old ≤ count self.new };
 
     /// The number of faults so far.
     fn faults(&self) -> u64

@@ -1,4 +1,4 @@
-ghost use Rattle.std.specs.Prelude.{◌≡◌, ◌<◌, ℕ, List, Option, IfOk, map, string_bytes, true};
+ghost use Rattle.std.specs.Prelude.{◌≡◌, ◌≤◌, ◌<◌, ℕ, List, Option, IfOk, map, string_bytes, true};
 ghost use Rattle.std.specs.FinMap as files_map;
 ghost use Rattle.aidl_outside.specs.Causes.{StoreCause};
 ghost use Rattle.aidl_outside.specs.Files.{Files, IsRead, IsWithin, listing, is_ascending};
@@ -30,7 +30,8 @@ pub trait Store {
         ensures listed { IfOk result (λ paths. Tells (kept self.old) (λ files. map string_bytes paths.items ≡ listing root.now files)) }
         ensures ascending { IfOk result (λ paths. is_ascending (map string_bytes paths.items) ≡ true) }
         ensures unchanged { kept self.new ≡ kept self.old }
-        ensures cause { StoreCause (count self.old) (count self.new) result };
+        ensures cause { StoreCause (count self.old) (count self.new) result }
+        ensures never_falls { count self.old ≤ count self.new };
 
     /// The file at a path, and of one longer than `most` bytes its first `most + 1`. None where nothing stands there.
     fn read(
@@ -43,12 +44,14 @@ pub trait Store {
         ensures found { IfOk result (λ file. Tells (kept self.old) (λ files. IsRead most (files_map.get files path.now) file)) }
         ensures within { IfOk result (IsWithin most) }
         ensures unchanged { kept self.new ≡ kept self.old }
-        ensures cause { StoreCause (count self.old) (count self.new) result };
+        ensures cause { StoreCause (count self.old) (count self.new) result }
+        ensures never_falls { count self.old ≤ count self.new };
 
     /// Sets the file at a path. After `Failed` that one path may hold any bytes or nothing, and all others stay.
     fn write(&mut self, alloc: Global, path: &str, bytes: &[u8]) -> Result<(), StoreFault>
         ensures written { Writes (kept self.old) (kept self.new) path.now bytes.now result }
-        ensures cause { StoreCause (count self.old) (count self.new) result };
+        ensures cause { StoreCause (count self.old) (count self.new) result }
+        ensures never_falls { count self.old ≤ count self.new };
 
     /// The number of faults so far.
     fn faults(&self) -> u64

@@ -1,23 +1,12 @@
-use Rattle.std.proofs.Common.{ap, sym, ◌∙◌}
-use Rattle.std.specs.Ordering.{nat_cmp}
-use Rattle.std.specs.Cmp.Lexicographic.{slice_cmp}
-use Rattle.aidl_outside.proofs.Places.{shift_none, before, at, after}
+use Rattle.std.proofs.Common.{rules}
+use Rattle.std.proofs.lemmas.Fn.{always_returns_same}
+use Rattle.aidl_outside.proofs.Places.{by_path, searched, within_search}
 use Rattle.aidl_outside.proofs.mem_store.place_among.Goals as goal
 
-pub loop-place-init : goal.loop-place-init
-loop-place-init c = shift_none _
+pub returns-clause-place : goal.returns-clause-place
+returns-clause-place c =
+    let facts = c.binary_search_by.ensures in
+    searched c.args.path.now c.args.files.now c.binary_search_by.result c.requires facts.bound (facts.position (by_path c.args.path.now) (always_returns_same _ _ _ (λ a r g called. (search rules, search rules))))
 
-pub returns-in-Less-clause-place : goal.returns-in-Less-clause-place
-returns-in-Less-clause-place c =
-    let order = ap (slice_cmp nat_cmp c.args.path.now) (sym c.as_str.ensures.bytes) ∙ sym c.in-Less.ensures in
-    sym (before c.args.path.now c.args.files.now c.loop-place.place c.index-files-place.result c.loop-place-test.true c.index-files-place.is order) ∙ c.loop-place.invariant
-
-pub returns-in-Equal-clause-place : goal.returns-in-Equal-clause-place
-returns-in-Equal-clause-place c =
-    let order = ap (slice_cmp nat_cmp c.args.path.now) (sym c.as_str.ensures.bytes) ∙ sym c.in-Equal.ensures in
-    sym (at c.args.path.now c.args.files.now c.loop-place.place c.index-files-place.result c.loop-place-test.true c.index-files-place.is order) ∙ c.loop-place.invariant
-
-pub loop-place-preserved : goal.loop-place-preserved
-loop-place-preserved c =
-    let order = ap (slice_cmp nat_cmp c.args.path.now) (sym c.as_str.ensures.bytes) ∙ sym c.in-Greater.ensures in
-    after c.args.path.now c.args.files.now c.loop-place.place c.index-files-place.result c.loop-place-test.true c.index-files-place.is order ∙ c.loop-place.invariant
+pub returns-clause-within : goal.returns-clause-within
+returns-clause-within c = within_search _ _ c.binary_search_by.ensures.bound

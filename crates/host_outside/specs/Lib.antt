@@ -1,0 +1,2 @@
+pub mod HostFaults
+pub mod Walks

@@ -1,0 +1,81 @@
+ghost use Rattle.std.specs.Prelude.{◌≡◌, ◌≤◌, None, Err};
+ghost use Rattle.aidl_outside.specs.Causes.{StoreCause};
+
+use crate::host_fault::HostFault;
+use crate::list_folder::list_folder;
+use crate::read_file::read_file;
+use crate::write_file::write_file;
+use aidl_outside::{Store, StoreFault};
+use std::alloc::Global;
+use std::fs::Files;
+
+/// The folders of the host. It is a trusted edge and tells nothing.
+#[derive(Drop)]
+pub struct FolderStore<'a, R: Files> {
+    runtime: &'a R,
+    faults: u64,
+}
+
+impl<'a, R: Files> FolderStore<'a, R> {
+    /// The files that the runtime reaches, with no fault counted. It takes no memory.
+    pub fn new(runtime: &'a R) -> FolderStore<'a, R>
+        ensures { result.faults ≡ 0 }
+    {
+        FolderStore { runtime, faults: 0 }
+    }
+
+    // Counts a failed call. Want of memory is none.
+    fn counted(&mut self, fault: HostFault) -> StoreFault
+        ensures cause { StoreCause {T = Unit {0}} self.old.faults self.new.faults (Err result) }
+        ensures never_falls { self.old.faults ≤ self.new.faults }
+    {
+        match fault {
+            HostFault::OutOfMemory => StoreFault::OutOfMemory,
+            HostFault::Failed => {
+                self.faults = self.faults.saturating_add(1);
+                StoreFault::Failed
+            }
+        }
+    }
+}
+
+impl<'a, R: Files> Store for FolderStore<'a, R> {
+    ghost kept = { λ _. None };
+
+    ghost count = { λ store. store.faults };
+
+    /// A symbolic link is followed as the root and left out below it. More than 65,536 files and folders, and a name that
+    /// isn't UTF-8, are a failed call.
+    fn list(&mut self, alloc: Global, root: &str) -> Result<Vec<String>, StoreFault> {
+        match list_folder(self.runtime, alloc, root) {
+            Ok(paths) => Ok(paths),
+            Err(fault) => Err(self.counted(fault)),
+        }
+    }
+
+    /// None where nothing stands at the path, also where a part of it is a file. A folder, and a path that can't exist,
+    /// are a failed call.
+    fn read(
+        &mut self,
+        alloc: Global,
+        path: &str,
+        most: usize,
+    ) -> Result<Option<Vec<u8>>, StoreFault> {
+        match read_file(self.runtime, alloc, path, most) {
+            Ok(file) => Ok(file),
+            Err(fault) => Err(self.counted(fault)),
+        }
+    }
+
+    /// Makes the folders that are missing on the way, and empties the file before it writes.
+    fn write(&mut self, _alloc: Global, path: &str, bytes: &[u8]) -> Result<(), StoreFault> {
+        match write_file(self.runtime, path, bytes) {
+            Ok(()) => Ok(()),
+            Err(fault) => Err(self.counted(fault)),
+        }
+    }
+
+    fn faults(&self) -> u64 {
+        self.faults
+    }
+}
