@@ -3,6 +3,8 @@ use Rattle.std.specs.IoError.{error_kind}
 use Rattle.std.specs.declared.io.Error.{Error}
 use Rattle.std.specs.declared.io.ErrorKind.{ErrorKind}
 use Rattle.std.specs.declared.io.ErrorKind.TheVariants.{OutOfMemory}
+use Rattle.aidl_outside.specs.declared.store.StoreFault.{StoreFault}
+use Rattle.aidl_outside.specs.declared.store.StoreFault.TheVariants as store
 use Rattle.host_outside.specs.declared.host_fault.HostFault.{HostFault}
 use Rattle.host_outside.specs.declared.host_fault.HostFault.TheVariants as host
 
@@ -13,3 +15,8 @@ of_kind _ = host.Failed
 
 abbrev pub caused : Error → HostFault
 caused fault = of_kind (error_kind fault)
+
+-- the store's answer
+abbrev pub store_fault : HostFault → StoreFault
+store_fault host.Failed = store.Failed
+store_fault host.OutOfMemory = store.OutOfMemory

@@ -1,5 +1,6 @@
 ghost use Rattle.std.specs.Prelude.{◌≡◌, ◌≤◌, None, Err};
 ghost use Rattle.aidl_outside.specs.Causes.{StoreCause};
+ghost use Rattle.host_outside.specs.HostFaults.{store_fault};
 
 use crate::host_fault::HostFault;
 use crate::list_folder::list_folder;
@@ -28,6 +29,7 @@ impl<'a, R: Files> FolderStore<'a, R> {
     fn counted(&mut self, fault: HostFault) -> StoreFault
         ensures cause { StoreCause {T = Unit {0}} self.old.faults self.new.faults (Err result) }
         ensures never_falls { self.old.faults ≤ self.new.faults }
+        ensures answer { result ≡ store_fault fault }
     {
         match fault {
             HostFault::OutOfMemory => StoreFault::OutOfMemory,
