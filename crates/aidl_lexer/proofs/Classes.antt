@@ -8,7 +8,7 @@ use Rattle.std.proofs.Math.Nat.{le-mul_of_pos_right}
 use Rattle.aidl_syntax.specs.Bytes.{is_inside}
 use Rattle.aidl_base.specs.Identifiers.{is_word_byte}
 use Rattle.aidl_syntax.specs.Numbers.{digit_value, value_from}
-use Rattle.aidl_lexer.specs.Reading.{up_to, up_by}
+use Rattle.aidl_lexer.specs.steps.Reading.{up_to, up_by}
 
 front_step : (p : ℕ → Bool) (b : ℕ) (bs : List ℕ) (n : ℕ) (v : Bool) → p b ≡ v → list_all p (take n bs) ≡ true
     → list_all p (take (cond v (1 + n) 0) (b ∷ bs)) ≡ true

@@ -2,9 +2,4 @@ pub mod Classes
 pub mod Moving
 pub mod Loop
 pub mod Runs
-pub mod Found
-pub mod Told
-pub mod Standing
-pub mod Whole
-pub mod OneLexing
-pub mod Answered
+pub mod meaning

@@ -4,7 +4,7 @@ use Rattle.aidl_syntax.specs.declared.token.Token.{Token}
 use Rattle.aidl_syntax.specs.declared.token.TokenKind.{TokenKind}
 use Rattle.aidl_lexer.specs.declared.fronts.Front.TheVariants as front
 use Rattle.aidl_lexer.specs.declared.fault.FaultKind.{FaultKind}
-use Rattle.aidl_lexer.specs.Reading.{front_of, lex_of, by_front, onto, with_front}
+use Rattle.aidl_lexer.specs.steps.Reading.{front_of, lex_of, by_front, onto, with_front}
 use Rattle.aidl_lexer.specs.Naming.{fault_number}
 
 -- bytes that are passed

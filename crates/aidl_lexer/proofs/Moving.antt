@@ -12,7 +12,7 @@ use Rattle.aidl_syntax.specs.declared.token.TokenKind.{TokenKind}
 use Rattle.aidl_syntax.specs.Bytes.{is_blank, is_inside, is_no_newline}
 use Rattle.aidl_base.specs.Identifiers.{is_letter, is_word_byte, begins}
 use Rattle.aidl_syntax.specs.Tables.{double_at, single}
-use Rattle.aidl_lexer.specs.Reading.{by_reserved, word_at, by_numeral, number_at, character_at, string_at, close_len, up_by, by_close, by_single, by_double, slash_at, symbol_at, front_of, Moves}
+use Rattle.aidl_lexer.specs.steps.Reading.{by_reserved, word_at, by_numeral, number_at, character_at, string_at, close_len, up_by, by_close, by_single, by_double, slash_at, symbol_at, front_of, Moves}
 
 by_reserved_moves : (r : Option Reserved) (text : List ℕ) (len : ℕ) → 0 < length text → length text ≤ len → Moves (by_reserved r text) len
 by_reserved_moves (Some r) text len lt le = (lt, le)

@@ -1,5 +1,5 @@
 ghost use Rattle.std.specs.Prelude.{◌≡◌, ◌≤◌, ◌<◌, ◌+◌, ◌^◌, length, IfSome};
-ghost use Rattle.aidl_lexer.specs.Reading as read;
+ghost use Rattle.aidl_lexer.specs.steps.Reading as read;
 
 use crate::bytes::{begins_with, line_len};
 use crate::fault::FaultKind;
@@ -7,7 +7,7 @@ use crate::fronts::Front;
 use aidl_syntax::{Symbol, TokenKind};
 
 // The comment or the symbol `/`, of what follows the `/`: no symbol of two bytes begins so.
-#[tactic(auto, unfolding(crate::specs::Reading::slash_at))]
+#[tactic(auto, unfolding(crate::specs::steps::Reading::slash_at))]
 pub fn slash_at(bytes: &[u8]) -> Front
     requires { length bytes.now < 2 ^ 32 }
     ensures { result ≡ read.slash_at bytes.now }

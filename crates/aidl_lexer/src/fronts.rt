@@ -1,5 +1,5 @@
 ghost use Rattle.std.specs.Prelude.{◌≡◌, ◌<◌, ◌^◌, length, IfOk};
-ghost use Rattle.aidl_lexer.specs.Reading as read;
+ghost use Rattle.aidl_lexer.specs.steps.Reading as read;
 
 use crate::bytes::is_blank;
 use crate::comments::slash_at;
@@ -33,7 +33,7 @@ pub fn front_of(alloc: Global, bytes: &[u8]) -> Result<Front, OutOfMemory>
 }
 
 // One arm for each form, by the first byte.
-#[tactic(auto, unfolding(crate::specs::Reading::front_of))]
+#[tactic(auto, unfolding(crate::specs::steps::Reading::front_of))]
 fn any_front(alloc: Global, bytes: &[u8]) -> Result<Front, OutOfMemory>
     requires { length bytes.now < 2 ^ 32 }
     ensures { IfOk result (λ front. front ≡ read.front_of bytes.now) }

@@ -2,7 +2,7 @@ ghost use Rattle.std.specs.Prelude.{◌≡◌, ◌+◌, ◌^◌, drop, ◌≤◌
 ghost use Rattle.aidl_syntax.specs.declared.token.Token.{Token};
 ghost use Rattle.aidl_syntax.specs.Tokens.{Tokens};
 ghost use Rattle.aidl_syntax.specs.Faults as faults;
-ghost use Rattle.aidl_lexer.specs.Reading.{lex_of, with_front};
+ghost use Rattle.aidl_lexer.specs.steps.Reading.{lex_of, with_front};
 ghost use Rattle.aidl_lexer.specs.Gives.{Gives, IsFault, HasFault};
 
 use crate::bytes::after;

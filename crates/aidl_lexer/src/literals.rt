@@ -1,5 +1,5 @@
 ghost use Rattle.std.specs.Prelude.{◌≡◌, ◌<◌, ◌^◌, length, IfOk};
-ghost use Rattle.aidl_lexer.specs.Reading as read;
+ghost use Rattle.aidl_lexer.specs.steps.Reading as read;
 
 use crate::bytes::{begins_with, inside_len, is_inside};
 use crate::fault::FaultKind;
@@ -10,7 +10,7 @@ use aidl_syntax::TokenKind;
 use std::alloc::Global;
 
 // The character, of what follows its apostrophe.
-#[tactic(auto, unfolding(crate::specs::Reading::character_at))]
+#[tactic(auto, unfolding(crate::specs::steps::Reading::character_at))]
 pub fn character_at(bytes: &[u8]) -> Front
     ensures { result ≡ read.character_at bytes.now }
 {
@@ -27,7 +27,7 @@ pub fn character_at(bytes: &[u8]) -> Front
 }
 
 // The string, of what follows its quote.
-#[tactic(auto, unfolding(crate::specs::Reading::string_at))]
+#[tactic(auto, unfolding(crate::specs::steps::Reading::string_at))]
 pub fn string_at(alloc: Global, bytes: &[u8]) -> Result<Front, OutOfMemory>
     requires { length bytes.now < 2 ^ 32 }
     ensures { IfOk result (λ front. front ≡ read.string_at bytes.now) }

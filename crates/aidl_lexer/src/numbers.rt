@@ -2,7 +2,7 @@ ghost use Rattle.std.specs.Prelude.{◌≡◌, ◌≤◌, ◌+◌, ◌*◌, ◌<
 ghost use Rattle.std.specs.List.{prefix_len};
 ghost use Rattle.std.specs.Char.{is_ascii_digit, is_ascii_hexdigit};
 ghost use Rattle.aidl_syntax.specs.Numbers as number;
-ghost use Rattle.aidl_lexer.specs.Reading as read;
+ghost use Rattle.aidl_lexer.specs.steps.Reading as read;
 
 use crate::bytes::{begins_with, digits_len, hex_digits_len};
 use crate::fault::FaultKind;
@@ -11,7 +11,7 @@ use crate::words::word_of;
 use aidl_syntax::TokenKind;
 
 // The number at the front.
-#[tactic(auto, unfolding(crate::specs::Reading::number_at))]
+#[tactic(auto, unfolding(crate::specs::steps::Reading::number_at))]
 pub fn number_at(bytes: &[u8]) -> Front
     ensures { result ≡ read.number_at bytes.now }
 {
@@ -35,7 +35,7 @@ fn numeral_of(text: &[u8]) -> Option<TokenKind>
     }
 }
 
-#[tactic(auto, unfolding(crate::specs::Reading::decimal_by))]
+#[tactic(auto, unfolding(crate::specs::steps::Reading::decimal_by))]
 fn decimal_by(text: &[u8]) -> Option<TokenKind>
     ensures { result ≡ read.decimal_by text.now }
 {
@@ -44,7 +44,7 @@ fn decimal_by(text: &[u8]) -> Option<TokenKind>
 }
 
 // Of what follows `0x`.
-#[tactic(auto, unfolding(crate::specs::Reading::hexadecimal_by))]
+#[tactic(auto, unfolding(crate::specs::steps::Reading::hexadecimal_by))]
 fn hexadecimal_by(text: &[u8]) -> Option<TokenKind>
     ensures { result ≡ read.hexadecimal_by text.now }
 {

@@ -1,13 +1,13 @@
 ghost use Rattle.std.specs.Prelude.{◌≡◌};
 ghost use Rattle.aidl_syntax.specs.Tables as tables;
-ghost use Rattle.aidl_lexer.specs.Reading as read;
+ghost use Rattle.aidl_lexer.specs.steps.Reading as read;
 
 use crate::fault::FaultKind;
 use crate::fronts::Front;
 use aidl_syntax::{Symbol, TokenKind};
 
 // The symbol at the front.
-#[tactic(auto, unfolding(crate::specs::Reading::symbol_at))]
+#[tactic(auto, unfolding(crate::specs::steps::Reading::symbol_at))]
 pub fn symbol_at(bytes: &[u8]) -> Front
     ensures { result ≡ read.symbol_at bytes.now }
 {

@@ -2,7 +2,7 @@ ghost use Rattle.std.specs.Prelude.{◌≡◌, IfOk, take};
 ghost use Rattle.std.specs.List.{prefix_len};
 ghost use Rattle.std.specs.Str.{IsAscii};
 ghost use Rattle.aidl_base.specs.Identifiers.{is_word_byte};
-ghost use Rattle.aidl_lexer.specs.Reading as read;
+ghost use Rattle.aidl_lexer.specs.steps.Reading as read;
 
 use crate::bytes::word_len;
 use crate::fronts::Front;
@@ -11,7 +11,7 @@ use aidl_syntax::TokenKind;
 use std::alloc::Global;
 
 // The identifier or the reserved word at the front.
-#[tactic(auto, unfolding(crate::specs::Reading::word_at))]
+#[tactic(auto, unfolding(crate::specs::steps::Reading::word_at))]
 pub fn word_at(alloc: Global, bytes: &[u8]) -> Result<Front, OutOfMemory>
     ensures { IfOk result (λ front. front ≡ read.word_at bytes.now) }
 {
@@ -37,14 +37,11 @@ fn by_reserved(alloc: Global, word: Option<Reserved>, text: &[u8]) -> Result<Fro
     }
 }
 
-// The text that ASCII bytes are.
+// The text that ASCII bytes are. They are UTF-8, which is proved and not tested again.
 pub fn text_of(alloc: Global, bytes: &[u8]) -> Result<Text, OutOfMemory>
     requires { IsAscii bytes.now }
     ensures { IfOk result (λ text. text ≡ bytes.now) }
 {
-    let text = match std::str::from_utf8(bytes) {
-        Ok(text) => String::from_str(alloc, text)?,
-        Err(_) => String::new(alloc),
-    };
-    Ok(Text::from_string(text))
+    let text = unsafe { std::str::from_utf8_unchecked(bytes) };
+    Ok(Text::from_string(String::from_str(alloc, text)?))
 }

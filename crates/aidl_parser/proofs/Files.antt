@@ -1,4 +1,4 @@
--- The number of levels that a file is read with.
+-- The fuel that a file is read with.
 use Rattle.std.proofs.Common.{◌≡◌, suc, ◌+◌, List, length, ap, arith}
 use Rattle.aidl_syntax.specs.declared.token.Token.{Token}
 use Rattle.aidl_parser.specs.steps.Decls.{file_at}

@@ -38,11 +38,3 @@ with_none (Some r) = refl
 pub with_first : {A : Type 0} (x : A) (r : Read (List A)) → with_items (x ∷ []) r ≡ (r >>= ahead x)
 with_first x None = refl
 with_first x (Some r) = refl
-
-pub goes_on_plain : {A : Type 0} (goes : List Token → Bool) (r : List Token → Read A) (n : ℕ) (items new : List A) (x : A) (ts rest : List Token) → goes ts ≡ true → 0 < n
-    → r ts ≡ Some (x, rest) → new ≡ items ++ x ∷ [] → with_items new (many (n - 1) goes r rest) ≡ with_items items (many n goes r ts)
-goes_on_plain goes r zero items new x ts rest e lt h is = absurd (omega arith)
-goes_on_plain goes r (suc n) items new x ts rest e lt h is =
-    let z : suc n - 1 ≡ n = omega arith in
-    rw (z, e) (ap (λ xs. with_items xs (many n goes r rest)) is
-    ∙ sym (ap (λ q. with_items items (q >>= more_at (many n goes r))) h ∙ with_ahead items x (many n goes r rest)))

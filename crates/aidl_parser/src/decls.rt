@@ -52,7 +52,15 @@ fn decl_by<'a>(
     ensures { Gives (λ x. (decl_of x.0, x.1.now)) result (part.alter (read.declared offset (annots_of annots)) (read.body_by (λ inside us. read.members_at fuel fuel inside us) fuel) tokens.entry.now) }
 {
     let ((name, body), rest) = body(alloc, fuel, tokens)?;
-    Ok((decl_made(offset, annots, name, body), rest))
+    Ok((
+        DeclTree {
+            offset,
+            annots,
+            name,
+            body,
+        },
+        rest,
+    ))
 }
 
 // parcelable | union | enum | interface
@@ -68,17 +76,17 @@ fn body<'a>(
 {
     if begins_word(Reserved::Parcelable, tokens) {
         let ((name, members), rest) = braced(alloc, fuel, Reserved::Parcelable, false, tokens)?;
-        Ok(((name, parcelable_made(members)), rest))
+        Ok(((name, BodyTree::Parcelable(members)), rest))
     } else if begins_word(Reserved::Union, tokens) {
         let ((name, members), rest) = braced(alloc, fuel, Reserved::Union, false, tokens)?;
-        Ok(((name, union_made(members)), rest))
+        Ok(((name, BodyTree::Union(members)), rest))
     } else if begins_word(Reserved::Enum, tokens) {
         let ((name, items), rest) = enum_body(alloc, fuel, tokens)?;
-        Ok(((name, enum_made(items)), rest))
+        Ok(((name, BodyTree::Enum(items)), rest))
     } else {
         let (oneway, rest) = oneway(tokens)?;
         let ((name, members), rest) = braced(alloc, fuel, Reserved::Interface, true, rest)?;
-        Ok(((name, interface_made(oneway, members)), rest))
+        Ok(((name, BodyTree::Interface { oneway, members }), rest))
     }
 }
 
@@ -218,39 +226,4 @@ fn declares(word: Option<Reserved>, inside: bool) -> bool
         Some(Reserved::Oneway) => inside,
         _ => false,
     }
-}
-
-fn decl_made(offset: u32, annots: Row<AnnotTree>, name: NameTree, body: BodyTree) -> DeclTree
-    ensures { decl_of result ≡ decl_seen offset (annots_of annots) name (body_of body) }
-{
-    DeclTree {
-        offset,
-        annots,
-        name,
-        body,
-    }
-}
-
-fn parcelable_made(members: Row<MemberTree>) -> BodyTree
-    ensures { body_of result ≡ parcelable (members_of members) }
-{
-    BodyTree::Parcelable(members)
-}
-
-fn union_made(members: Row<MemberTree>) -> BodyTree
-    ensures { body_of result ≡ union (members_of members) }
-{
-    BodyTree::Union(members)
-}
-
-fn enum_made(items: Row<EnumeratorTree>) -> BodyTree
-    ensures { body_of result ≡ enum_seen (map enumerator_of items) }
-{
-    BodyTree::Enum(items)
-}
-
-fn interface_made(oneway: bool, members: Row<MemberTree>) -> BodyTree
-    ensures { body_of result ≡ interface oneway (members_of members) }
-{
-    BodyTree::Interface { oneway, members }
 }

@@ -150,19 +150,16 @@ fn closed<'a>(
     ensures { Gives (λ x. (expr_of x.0, x.1.now)) result (read.closed offset (expr_of inner) rest.entry.now) }
 {
     match rest {
-        [t, after @ ..] => {
-            if is_close(mark_of(&t.kind)) {
-                Ok((
-                    ExprTree {
-                        offset,
-                        kind: ExprKind::Group(Box::new(alloc, inner)?),
-                    },
-                    after,
-                ))
-            } else {
-                Err(ParseFault::Syntax)
-            }
-        }
+        [t, after @ ..] => match mark_of(&t.kind) {
+            Some(Symbol::CloseParen) => Ok((
+                ExprTree {
+                    offset,
+                    kind: ExprKind::Group(Box::new(alloc, inner)?),
+                },
+                after,
+            )),
+            _ => Err(ParseFault::Syntax),
+        },
         [] => Err(ParseFault::Syntax),
     }
 }
@@ -217,15 +214,6 @@ pub fn clone_token(alloc: Global, t: &Token) -> Result<Token, ParseFault>
         kind,
         offset: t.offset,
     })
-}
-
-fn is_close(s: Option<Symbol>) -> bool
-    ensures { result ≡ read.is_close s }
-{
-    match s {
-        Some(Symbol::CloseParen) => true,
-        _ => false,
-    }
 }
 
 fn is_literal(kind: &TokenKind) -> bool

@@ -8,26 +8,20 @@ ghost use Rattle.aidl_parser.specs.Gives.{Gives};
 use crate::annots::annots;
 use crate::decls::decl;
 use crate::fault::ParseFault;
-use crate::lists::{Repeat, many};
-use crate::names::dotted;
-use crate::parts::{begins_word, quoted, worded};
+use crate::lists::{Repeat, many, statement};
+use crate::parts::begins_word;
 use crate::tokens::first;
 use aidl_base::Row;
-use aidl_syntax::{DeclTree, DottedTree, FileTree, Reserved, Symbol, Token};
+use aidl_syntax::{DeclTree, DottedTree, FileTree, Reserved, Token};
 use std::alloc::Global;
 
-// The file that all of the tokens are.
+// The file that all of the tokens are. Each level and each round takes a token at least, so that the fuel, one more than
+// the tokens, never runs out.
 #[tactic(auto, unfolding(crate::specs::steps::Decls::whole_of), using(crate::proofs::Files::one_more))]
 pub fn whole(alloc: Global, tokens: &[Token]) -> Result<FileTree, ParseFault>
     ensures { Gives file_of result (read.whole_of tokens.now) }
 {
     let (tree, rest) = file(alloc, tokens.len() + 1, tokens)?;
-    ended(tree, rest)
-}
-
-fn ended(tree: FileTree, rest: &[Token]) -> Result<FileTree, ParseFault>
-    ensures { Gives file_of result (read.ended_by (file_of tree) rest.entry.now) }
-{
     match rest {
         [] => Ok(tree),
         _ => Err(ParseFault::Syntax),
@@ -35,7 +29,7 @@ fn ended(tree: FileTree, rest: &[Token]) -> Result<FileTree, ParseFault>
 }
 
 // ["package" dotted ";"] {"import" dotted ";"} decl
-#[tactic(auto, unfolding(crate::specs::steps::Decls::file_at))]
+#[tactic(auto, unfolding(crate::specs::steps::Decls::file_at, crate::specs::steps::Decls::top_at))]
 fn file<'a>(
     alloc: Global,
     fuel: usize,
@@ -45,7 +39,8 @@ fn file<'a>(
 {
     let (package, rest) = maybe_package(alloc, tokens)?;
     let (imports, rest) = imports(alloc, fuel, rest)?;
-    let (decl, rest) = top(alloc, fuel, rest)?;
+    let (annots, after) = annots(alloc, fuel, rest)?;
+    let (decl, rest) = decl(alloc, fuel, first(rest), annots, after)?;
     Ok((
         FileTree {
             offset: first(tokens),
@@ -58,6 +53,7 @@ fn file<'a>(
 }
 
 // ["package" dotted ";"]
+#[tactic(auto, unfolding(crate::specs::steps::Decls::named_at))]
 fn maybe_package<'a>(
     alloc: Global,
     tokens: &'a [Token],
@@ -65,26 +61,11 @@ fn maybe_package<'a>(
     ensures { Gives (λ x. (x.0, x.1.now)) result (part.maybe (part.begins_word word.Package) (read.named_at word.Package) tokens.entry.now) }
 {
     if begins_word(Reserved::Package, tokens) {
-        let (name, rest) = named(alloc, Reserved::Package, tokens)?;
+        let (name, rest) = statement(alloc, 0, Reserved::Package, tokens)?;
         Ok((Some(name), rest))
     } else {
         Ok((None, tokens))
     }
-}
-
-// A word, a dotted name and ";".
-#[tactic(auto, unfolding(crate::specs::steps::Decls::named_at))]
-fn named<'a>(
-    alloc: Global,
-    word: Reserved,
-    tokens: &'a [Token],
-) -> Result<(DottedTree, &'a [Token]), ParseFault>
-    ensures { Gives (λ x. (x.0, x.1.now)) result (read.named_at word tokens.entry.now) }
-{
-    let (_word, rest) = worded(word, tokens)?;
-    let (name, rest) = dotted(alloc, rest)?;
-    let (_end, rest) = quoted(Symbol::Semicolon, rest)?;
-    Ok((name, rest))
 }
 
 // {"import" dotted ";"}
@@ -97,17 +78,4 @@ fn imports<'a>(
     ensures { Gives (λ x. (x.0, x.1.now)) result (read.imports_at fuel tokens.entry.now) }
 {
     many(alloc, fuel, Repeat::Imports, Row::new(alloc), tokens)
-}
-
-// annots (parcelable | union | enum | interface)
-#[tactic(auto, unfolding(crate::specs::steps::Decls::top_at))]
-fn top<'a>(
-    alloc: Global,
-    fuel: usize,
-    tokens: &'a [Token],
-) -> Result<(DeclTree, &'a [Token]), ParseFault>
-    ensures { Gives (λ x. (decl_of x.0, x.1.now)) result (read.top_at fuel tokens.entry.now) }
-{
-    let (annots, rest) = annots(alloc, fuel, tokens)?;
-    decl(alloc, fuel, first(tokens), annots, rest)
 }

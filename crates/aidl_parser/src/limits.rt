@@ -9,57 +9,38 @@ use aidl_syntax::{Symbol, Token, TokenKind};
 pub fn limit_of(tokens: &[Token]) -> Option<LimitName>
     ensures { result ≡ passed tokens.now }
 {
-    if 16 < nesting(tokens) {
+    let (nesting, run_length) = measured(tokens);
+    if 16 < nesting {
         Some(LimitName::Nesting)
-    } else if 256 < run_length(tokens) {
+    } else if 256 < run_length {
         Some(LimitName::RunLength)
     } else {
         None
     }
 }
 
-// The greatest number of `{` minus `}` before or at a token.
-fn nesting(tokens: &[Token]) -> usize
-    ensures { result ≡ measure.nesting tokens.now }
+// The greatest number of `{` minus `}` before or at a token, and that of neighbouring tokens without `;`, `,`, `{` or `}`.
+fn measured(tokens: &[Token]) -> (usize, usize)
+    ensures nesting { result.0 ≡ measure.nesting tokens.now }
+    ensures run_length { result.1 ≡ measure.run_length tokens.now }
 {
     let mut opened: usize = 0;
     let mut closed: usize = 0;
-    let mut most: usize = 0;
+    let mut nesting: usize = 0;
+    let mut run: usize = 0;
+    let mut longest: usize = 0;
     for t in tokens {
-        opened += one_if(is_open_brace(&t.kind));
-        closed += one_if(is_close_brace(&t.kind));
-        most = larger(most, opened.saturating_sub(closed));
-    }
-    most
-}
-
-// The greatest number of neighbouring tokens without `;`, `,`, `{` or `}`.
-fn run_length(tokens: &[Token]) -> usize
-    ensures { result ≡ measure.run_length tokens.now }
-{
-    let mut now: usize = 0;
-    let mut most: usize = 0;
-    for t in tokens {
+        opened += usize::from(is_open_brace(&t.kind));
+        closed += usize::from(is_close_brace(&t.kind));
+        nesting = nesting.max(opened.saturating_sub(closed));
         if ends_run(&t.kind) {
-            most = larger(most, now);
-            now = 0;
+            longest = longest.max(run);
+            run = 0;
         } else {
-            now += 1;
+            run += 1;
         }
     }
-    larger(most, now)
-}
-
-fn larger(a: usize, b: usize) -> usize
-    ensures { result ≡ max a b }
-{
-    if a < b { b } else { a }
-}
-
-fn one_if(test: bool) -> usize
-    ensures { result ≡ measure.one_if test }
-{
-    if test { 1 } else { 0 }
+    (nesting, longest.max(run))
 }
 
 fn is_open_brace(kind: &TokenKind) -> bool

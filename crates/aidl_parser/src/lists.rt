@@ -1,7 +1,6 @@
 ghost use Rattle.std.specs.Prelude.{◌≡◌, ℕ, List, Option, map};
 ghost use Rattle.aidl_syntax.specs.declared.token.Token.{Token};
 ghost use Rattle.aidl_syntax.specs.declared.token.Symbol.TheVariants as mark;
-ghost use Rattle.aidl_base.specs.declared.reserved.Reserved.TheVariants as word;
 ghost use Rattle.aidl_syntax.specs.Trees.{map_option};
 ghost use Rattle.aidl_parser.specs.steps.Reading.{Read};
 ghost use Rattle.aidl_parser.specs.steps.Parts as part;
@@ -104,19 +103,20 @@ fn round<'a, T: Part>(
     match repeat {
         Repeat::Commas | Repeat::CommasInBraces => behind(alloc, fuel, Symbol::Comma, tokens),
         Repeat::Annotations => T::part(alloc, fuel, tokens),
-        Repeat::Imports => import(alloc, fuel, tokens),
+        Repeat::Imports => statement(alloc, fuel, Reserved::Import, tokens),
     }
 }
 
-// "import" x ";"
-fn import<'a, T: Part>(
+// A reserved word, x and ";".
+pub fn statement<'a, T: Part>(
     alloc: Global,
     fuel: usize,
+    word: Reserved,
     tokens: &'a [Token],
 ) -> Result<(T, &'a [Token]), ParseFault>
-    ensures { Gives (λ x. (T.seen x.0, x.1.now)) result (part.alter part.second (part.both (part.worded word.Import) (part.upto (T.read fuel) mark.Semicolon)) tokens.entry.now) }
+    ensures { Gives (λ x. (T.seen x.0, x.1.now)) result (part.alter part.second (part.both (part.worded word) (part.upto (T.read fuel) mark.Semicolon)) tokens.entry.now) }
 {
-    let (_word, rest) = worded(Reserved::Import, tokens)?;
+    let (_word, rest) = worded(word, tokens)?;
     let (item, rest) = T::part(alloc, fuel, rest)?;
     let (_end, rest) = quoted(Symbol::Semicolon, rest)?;
     Ok((item, rest))

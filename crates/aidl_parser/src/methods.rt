@@ -5,12 +5,13 @@ ghost use Rattle.aidl_syntax.specs.Trees.{Arg, annots_of, arg_of, member_of};
 ghost use Rattle.aidl_parser.specs.steps.Parts as part;
 ghost use Rattle.aidl_parser.specs.steps.Members as read;
 ghost use Rattle.aidl_parser.specs.steps.Decls as decls;
+ghost use Rattle.aidl_syntax.specs.declared.token.Token.{Token as SeenToken};
 ghost use Rattle.aidl_parser.specs.Gives.{Gives};
 
 use crate::annots::annots;
 use crate::expr::clone_token;
 use crate::fault::ParseFault;
-use crate::lists::{Part, Repeat, in_parens, many};
+use crate::lists::{Part, Repeat, in_parens, many, maybe_behind};
 use crate::parts::{begins, begins_word, quoted, worded};
 use crate::tokens::first;
 use crate::types::{ident, type_of};
@@ -22,7 +23,7 @@ use aidl_syntax::{
 use std::alloc::Global;
 
 // ["oneway"] (type | "void") ident "(" [arg {"," arg}] ")" ["=" number] ";"
-#[tactic(auto, unfolding(crate::specs::steps::Members::method_at, crate::specs::steps::Members::args_at))]
+#[tactic(auto, unfolding(crate::specs::steps::Members::method_at, crate::specs::steps::Members::args_at, crate::specs::steps::Members::id_at))]
 pub fn method<'a>(
     alloc: Global,
     fuel: usize,
@@ -36,7 +37,7 @@ pub fn method<'a>(
     let (result, rest) = returned(alloc, rest)?;
     let (name, rest) = ident(alloc, rest)?;
     let (args, rest) = in_parens(alloc, fuel, rest)?;
-    let (id, rest) = maybe_id(alloc, rest)?;
+    let (id, rest) = maybe_behind(alloc, fuel, Symbol::Equal, rest)?;
     let (_end, rest) = quoted(Symbol::Semicolon, rest)?;
     Ok((
         MemberTree::Method(MethodTree {
@@ -138,43 +139,29 @@ fn way_of(kind: &TokenKind) -> Option<WayTree>
     }
 }
 
-// ["=" number]
-fn maybe_id<'a>(
-    alloc: Global,
-    tokens: &'a [Token],
-) -> Result<(Option<Token>, &'a [Token]), ParseFault>
-    ensures { Gives (λ x. (x.0, x.1.now)) result (part.maybe (part.begins mark.Equal) read.id_at tokens.entry.now) }
-{
-    if begins(Symbol::Equal, tokens) {
-        let (id, rest) = id(alloc, tokens)?;
-        Ok((Some(id), rest))
-    } else {
-        Ok((None, tokens))
-    }
-}
-
-// "=" number
-#[tactic(auto, unfolding(crate::specs::steps::Members::id_at))]
-fn id<'a>(alloc: Global, tokens: &'a [Token]) -> Result<(Token, &'a [Token]), ParseFault>
-    ensures { Gives (λ x. (x.0, x.1.now)) result (read.id_at tokens.entry.now) }
-{
-    let (_sign, rest) = quoted(Symbol::Equal, tokens)?;
-    number(alloc, rest)
-}
-
 // A number, as its token.
-fn number<'a>(alloc: Global, tokens: &'a [Token]) -> Result<(Token, &'a [Token]), ParseFault>
-    ensures { Gives (λ x. (x.0, x.1.now)) result (read.number_at tokens.entry.now) }
-{
-    match tokens {
-        [t, rest @ ..] => {
-            if is_number(&t.kind) {
-                Ok((clone_token(alloc, t)?, rest))
-            } else {
-                Err(ParseFault::Syntax)
+impl Part for Token {
+    ghost Seen = { SeenToken };
+
+    ghost seen = { λ t. t };
+
+    ghost read = { λ _ ts. read.number_at ts };
+
+    fn part<'a>(
+        alloc: Global,
+        _fuel: usize,
+        tokens: &'a [Token],
+    ) -> Result<(Self, &'a [Token]), ParseFault> {
+        match tokens {
+            [t, rest @ ..] => {
+                if is_number(&t.kind) {
+                    Ok((clone_token(alloc, t)?, rest))
+                } else {
+                    Err(ParseFault::Syntax)
+                }
             }
+            [] => Err(ParseFault::Syntax),
         }
-        [] => Err(ParseFault::Syntax),
     }
 }
 

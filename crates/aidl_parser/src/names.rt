@@ -52,23 +52,11 @@ fn after_dot<'a>(tokens: &'a [Token]) -> Option<&'a [Token]>
     ensures { read.option_now result ≡ read.after_dot tokens.now }
 {
     match tokens {
-        [t, rest @ ..] => {
-            if is_dot(mark_of(&t.kind)) {
-                Some(rest)
-            } else {
-                None
-            }
-        }
+        [t, rest @ ..] => match mark_of(&t.kind) {
+            Some(Symbol::Dot) => Some(rest),
+            _ => None,
+        },
         [] => None,
-    }
-}
-
-fn is_dot(s: Option<Symbol>) -> bool
-    ensures { result ≡ read.is_dot s }
-{
-    match s {
-        Some(Symbol::Dot) => true,
-        _ => false,
     }
 }
 

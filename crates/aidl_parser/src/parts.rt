@@ -7,12 +7,13 @@ use crate::tokens::mark_of;
 use aidl_syntax::{Reserved, Symbol, Token, TokenKind};
 
 // Whether the symbol stands first.
+#[tactic(auto, unfolding(crate::specs::steps::Parts::same_symbol))]
 pub fn begins(s: Symbol, tokens: &[Token]) -> bool
     ensures { result ≡ read.begins s tokens.now }
 {
     match tokens {
         [t, ..] => match mark_of(&t.kind) {
-            Some(m) => same_symbol(m, s),
+            Some(m) => m == s,
             None => false,
         },
         [] => false,
@@ -20,12 +21,13 @@ pub fn begins(s: Symbol, tokens: &[Token]) -> bool
 }
 
 // Whether the reserved word stands first.
+#[tactic(auto, unfolding(crate::specs::steps::Parts::same_word))]
 pub fn begins_word(r: Reserved, tokens: &[Token]) -> bool
     ensures { result ≡ read.begins_word r tokens.now }
 {
     match tokens {
         [t, ..] => match word_of(&t.kind) {
-            Some(w) => same_word(w, r),
+            Some(w) => w == r,
             None => false,
         },
         [] => false,
@@ -62,18 +64,4 @@ pub fn word_of(kind: &TokenKind) -> Option<Reserved>
         TokenKind::Word(r) => Some(*r),
         _ => None,
     }
-}
-
-#[tactic(auto, unfolding(crate::specs::steps::Parts::same_symbol))]
-fn same_symbol(a: Symbol, b: Symbol) -> bool
-    ensures { result ≡ read.same_symbol a b }
-{
-    a == b
-}
-
-#[tactic(auto, unfolding(crate::specs::steps::Parts::same_word))]
-fn same_word(a: Reserved, b: Reserved) -> bool
-    ensures { result ≡ read.same_word a b }
-{
-    a == b
 }

@@ -33,6 +33,8 @@ pub fn type_of<'a>(
     ))
 }
 
+// ["<" dotted ">"]
+#[tactic(auto, unfolding(crate::specs::steps::Types::element))]
 fn maybe_element<'a>(
     alloc: Global,
     tokens: &'a [Token],
@@ -40,21 +42,13 @@ fn maybe_element<'a>(
     ensures { Gives (λ x. (x.0, x.1.now)) result (part.maybe (part.begins mark.Less) read.element tokens.entry.now) }
 {
     if begins(Symbol::Less, tokens) {
-        let (name, rest) = element(alloc, tokens)?;
+        let (_begin, rest) = quoted(Symbol::Less, tokens)?;
+        let (name, rest) = dotted(alloc, rest)?;
+        let (_end, rest) = quoted(Symbol::Greater, rest)?;
         Ok((Some(name), rest))
     } else {
         Ok((None, tokens))
     }
-}
-
-#[tactic(auto, unfolding(crate::specs::steps::Types::element))]
-fn element<'a>(alloc: Global, tokens: &'a [Token]) -> Result<(DottedTree, &'a [Token]), ParseFault>
-    ensures { Gives (λ x. (x.0, x.1.now)) result (read.element tokens.entry.now) }
-{
-    let (_begin, rest) = quoted(Symbol::Less, tokens)?;
-    let (name, rest) = dotted(alloc, rest)?;
-    let (_end, rest) = quoted(Symbol::Greater, rest)?;
-    Ok((name, rest))
 }
 
 #[tactic(auto, unfolding(crate::specs::steps::Types::array))]

@@ -4,7 +4,7 @@ ghost use Rattle.const_eval.specs.Symbols as symbols;
 use aidl_syntax::Symbol;
 
 /// An operator before its operand.
-#[derive(Clone, Copy, Debug, PartialEq, Eq)]
+#[derive(Clone, Copy)]
 pub enum UnaryOperator {
     /// `+`
     Plus,
@@ -17,7 +17,7 @@ pub enum UnaryOperator {
 }
 
 /// `+ - * / %`
-#[derive(Clone, Copy, Debug, PartialEq, Eq)]
+#[derive(Clone, Copy)]
 pub enum Arithmetic {
     Add,
     Subtract,
@@ -27,7 +27,7 @@ pub enum Arithmetic {
 }
 
 /// `& | ^`
-#[derive(Clone, Copy, Debug, PartialEq, Eq)]
+#[derive(Clone, Copy)]
 pub enum Bitwise {
     And,
     Or,
@@ -35,14 +35,14 @@ pub enum Bitwise {
 }
 
 /// `<< >>`
-#[derive(Clone, Copy, Debug, PartialEq, Eq)]
+#[derive(Clone, Copy)]
 pub enum Shift {
     Left,
     Right,
 }
 
 /// `< > <= >=`
-#[derive(Clone, Copy, Debug, PartialEq, Eq)]
+#[derive(Clone, Copy)]
 pub enum Order {
     Less,
     Greater,
@@ -51,21 +51,21 @@ pub enum Order {
 }
 
 /// `== !=`
-#[derive(Clone, Copy, Debug, PartialEq, Eq)]
+#[derive(Clone, Copy)]
 pub enum Equality {
     Equal,
     NotEqual,
 }
 
 /// `&& ||`
-#[derive(Clone, Copy, Debug, PartialEq, Eq)]
+#[derive(Clone, Copy)]
 pub enum Connective {
     And,
     Or,
 }
 
 /// An operator between its operands.
-#[derive(Clone, Copy, Debug, PartialEq, Eq)]
+#[derive(Clone, Copy)]
 pub enum BinaryOperator {
     Arithmetic(Arithmetic),
     Bitwise(Bitwise),

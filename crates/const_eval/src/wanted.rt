@@ -6,7 +6,7 @@ use crate::operand::Operand;
 use aidl_base::{Const, Text};
 
 /// The type that is wanted of an expression. That of an enumerator is its enum's backing.
-#[derive(Clone, Copy, Debug, PartialEq, Eq)]
+#[derive(Clone, Copy, Debug)]
 pub enum Wanted {
     Boolean,
     Character,

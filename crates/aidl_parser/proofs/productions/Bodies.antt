@@ -80,7 +80,7 @@ parted true ts (method x ms) (f, g, is, h, m) = inr (f, g, method_item x, ms, is
 parted false ts (nested x ms) (f, g, is, h, m) = inr (f, g, nested_item x, ms, is, refl, h, m)
 parted true ts (nested x ms) (f, g, is, h, m) = inr (f, g, nested_item x, ms, is, refl, h, m)
 
--- the readers of members at a number of levels
+-- the readers of members with so much fuel
 abbrev members_in : ℕ → Declare → Bool → ℕ → List Token → Read Members
 members_in n declare inside j ts = members_by (λ vs. member_with declare (suc n) inside vs) j ts
 

@@ -58,11 +58,3 @@ annot_at n = placed annot_made (behind mark.At (both ident (maybe (begins mark.O
 
 unfoldable pub annots_at : ℕ → List Token → Read (List Annot)
 annots_at n = many n (begins mark.At) (annot_at n)
-
--- "," expr
-abbrev pub next_expr_at : ℕ → List Token → Read Expr
-next_expr_at n = behind mark.Comma (expr_at n)
-
--- "," param
-abbrev pub next_param_at : ℕ → List Token → Read Param
-next_param_at n = behind mark.Comma (param_at n)

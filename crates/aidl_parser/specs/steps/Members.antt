@@ -42,10 +42,6 @@ enumerator_made o x = record { offset = o; name = x.0; value = x.1 }
 unfoldable pub enumerator_at : ℕ → List Token → Read Enumerator
 enumerator_at n = placed enumerator_made (both ident (maybe (begins mark.Equal) (given_at n)))
 
--- "," enumerator
-abbrev pub next_enumerator_at : ℕ → List Token → Read Enumerator
-next_enumerator_at n = behind mark.Comma (enumerator_at n)
-
 -- the direction that a token is
 abbrev pub way_of : TokenKind → Option WayTree
 way_of (kind.Word word.In) = Some way.In
@@ -77,10 +73,6 @@ arg_begins n o a = way_at a.1 >>= arg_goes_on n o a.0
 -- the annotations behind a direction are read behind those before it
 unfoldable pub arg_at : ℕ → List Token → Read Arg
 arg_at n ts = annots_at n ts >>= arg_begins n (first ts)
-
--- "," arg
-abbrev pub next_arg_at : ℕ → List Token → Read Arg
-next_arg_at n = behind mark.Comma (arg_at n)
 
 -- "(" [arg {"," arg}] ")"
 unfoldable pub args_at : ℕ → List Token → Read (List Arg)

@@ -1,5 +1,5 @@
 use Rattle.std.proofs.Common.{◌≡◌, ◌+◌, length}
-use Rattle.aidl_lexer.specs.Reading.{close_len, up_by}
+use Rattle.aidl_lexer.specs.steps.Reading.{close_len, up_by}
 use Rattle.aidl_lexer.proofs.comments.close_len.Given as goal
 
 abbrev pub invariant-loop-rest : goal.invariant-loop-rest

@@ -1,4 +1,4 @@
-use Rattle.aidl_lexer.proofs.Answered as answered
+use Rattle.aidl_lexer.proofs.meaning.Answered as answered
 use Rattle.aidl_lexer.proofs.lexing.lex.Goals as goal
 
 pub returns-clause-tokens : goal.returns-clause-tokens

@@ -1,5 +1,5 @@
 use Rattle.std.proofs.Common.{length, subst, sym, ◌∙◌}
-use Rattle.aidl_lexer.specs.Reading.{Moves}
+use Rattle.aidl_lexer.specs.steps.Reading.{Moves}
 use Rattle.aidl_lexer.proofs.Loop.{read_token}
 use Rattle.aidl_lexer.proofs.lexing.step.Goals as goal
 

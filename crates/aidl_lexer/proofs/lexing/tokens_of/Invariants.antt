@@ -1,5 +1,5 @@
 use Rattle.std.proofs.Common.{◌≡◌, ◌+◌, length}
-use Rattle.aidl_lexer.specs.Reading.{lex_of, with_front}
+use Rattle.aidl_lexer.specs.steps.Reading.{lex_of, with_front}
 use Rattle.aidl_lexer.proofs.lexing.tokens_of.Given as goal
 
 -- what was read, and then what is still read, is all

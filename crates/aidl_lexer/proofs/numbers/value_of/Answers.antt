@@ -1,5 +1,5 @@
 use Rattle.std.proofs.Common.{◌∙◌, sym, ap, refl, get_or}
-use Rattle.aidl_lexer.specs.Reading.{up_to}
+use Rattle.aidl_lexer.specs.steps.Reading.{up_to}
 use Rattle.aidl_lexer.proofs.Classes.{too_large, at_end, is_small}
 use Rattle.aidl_lexer.proofs.numbers.value_of.Goals as goal
 

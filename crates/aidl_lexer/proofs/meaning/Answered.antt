@@ -7,9 +7,9 @@ use Rattle.aidl_syntax.specs.Tokens.{Tokens}
 use Rattle.aidl_syntax.specs.Faults as faults
 use Rattle.aidl_lexer.specs.declared.fault.LexFault.{LexFault}
 use Rattle.aidl_lexer.specs.declared.fault.LexFault.TheVariants as fault
-use Rattle.aidl_lexer.specs.Reading.{lex_of}
+use Rattle.aidl_lexer.specs.steps.Reading.{lex_of}
 use Rattle.aidl_lexer.specs.Gives.{Gives, IsFault, HasFault}
-use Rattle.aidl_lexer.proofs.Whole.{tokens_told, fault_told, tokens_again, fault_again}
+use Rattle.aidl_lexer.proofs.meaning.Whole.{tokens_told, fault_told, tokens_again, fault_again}
 
 pub tokens : (bs : List ℕ) (r : Result (Vec Token Global) LexFault) → Gives r (lex_of 0 0 bs) → IfOk r (λ v. Tokens bs v.items)
 tokens bs (Ok v) g = tokens_told bs v.items g

@@ -17,10 +17,10 @@ use Rattle.aidl_syntax.specs.Faults.{OpenComment, OpenCharacter, OpenString, Bad
 use Rattle.aidl_lexer.specs.declared.fault.FaultKind.{FaultKind}
 use Rattle.aidl_lexer.specs.declared.fault.FaultKind.TheVariants as reason
 use Rattle.aidl_lexer.specs.declared.fronts.Front.TheVariants as front
-use Rattle.aidl_lexer.specs.Reading.{numeral_of, by_numeral, character_at, string_at, close_len, by_single, by_double, symbol_at, slash_at, front_of}
+use Rattle.aidl_lexer.specs.steps.Reading.{numeral_of, by_numeral, character_at, string_at, close_len, by_single, by_double, symbol_at, slash_at, front_of}
 use Rattle.aidl_lexer.proofs.Runs.{run, run_len, drop_front}
-use Rattle.aidl_lexer.proofs.Found.{number_front, same_test, or_false}
-use Rattle.aidl_lexer.proofs.Told.{Stands, IsNumeralOf, numeral_told, letter_stands, token_stands, gap_stands, fault_stands, no_token, no_gap, digit_word}
+use Rattle.aidl_lexer.proofs.meaning.Found.{number_front, same_test, or_false}
+use Rattle.aidl_lexer.proofs.meaning.Told.{Stands, IsNumeralOf, numeral_told, letter_stands, token_stands, gap_stands, fault_stands, no_token, no_gap, digit_word}
 
 -- Numbers: one begins the bytes, or the fault stands.
 

@@ -16,9 +16,9 @@ use Rattle.aidl_lexer.specs.declared.fault.FaultKind.{FaultKind}
 use Rattle.aidl_lexer.specs.declared.fault.FaultKind.TheVariants as reason
 use Rattle.aidl_lexer.specs.declared.fronts.Front.{Front}
 use Rattle.aidl_lexer.specs.declared.fronts.Front.TheVariants as front
-use Rattle.aidl_lexer.specs.Reading.{up_to, long_of, suffix_of, decimal_of, hexadecimal_of, numeral, decimal_by, hexadecimal_by, numeral_of, front_of}
+use Rattle.aidl_lexer.specs.steps.Reading.{up_to, long_of, suffix_of, decimal_of, hexadecimal_of, numeral, decimal_by, hexadecimal_by, numeral_of, front_of}
 use Rattle.aidl_lexer.proofs.Runs.{run, take_front, drop_front}
-use Rattle.aidl_lexer.proofs.Found.{decimal_parts, hexadecimal_parts, same_test, token_front, gap_front}
+use Rattle.aidl_lexer.proofs.meaning.Found.{decimal_parts, hexadecimal_parts, same_test, token_front, gap_front}
 
 -- the fault by its definition
 abbrev pub Stops : FaultKind → List ℕ → Type 0

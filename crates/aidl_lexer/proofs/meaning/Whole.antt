@@ -12,13 +12,13 @@ use Rattle.aidl_lexer.specs.declared.fault.FaultKind.TheVariants as reason
 use Rattle.aidl_lexer.specs.declared.fronts.Front.{Front}
 use Rattle.aidl_lexer.specs.declared.fronts.Front.TheVariants as front
 use Rattle.aidl_lexer.specs.Naming.{fault_number}
-use Rattle.aidl_lexer.specs.Reading.{front_of, lex_of, onto, with_front, Moves}
+use Rattle.aidl_lexer.specs.steps.Reading.{front_of, lex_of, onto, with_front, Moves}
 use Rattle.aidl_lexer.proofs.Loop.{at_gap, at_token, at_fault, at_end}
 use Rattle.aidl_lexer.proofs.Moving.{moves}
 use Rattle.aidl_lexer.proofs.Runs.{drop_front}
-use Rattle.aidl_lexer.proofs.Found.{token_front, gap_front}
-use Rattle.aidl_lexer.proofs.Told.{Stops, Stands}
-use Rattle.aidl_lexer.proofs.Standing.{stands, open_comment_front, open_character_front, open_string_front, bad_number_front}
+use Rattle.aidl_lexer.proofs.meaning.Found.{token_front, gap_front}
+use Rattle.aidl_lexer.proofs.meaning.Told.{Stops, Stands}
+use Rattle.aidl_lexer.proofs.meaning.Standing.{stands, open_comment_front, open_character_front, open_string_front, bad_number_front}
 
 halves : (n : ℕ) (bs : List ℕ) → n ≤ length bs → (take n bs ++ drop n bs ≡ bs) × (length (take n bs) ≡ n)
 halves zero bs le = (refl, refl)

@@ -16,7 +16,7 @@ use Rattle.aidl_syntax.specs.Forms.{IsGap, IsWord, IsDigitRun, IsSymbol, IsToken
 use Rattle.aidl_syntax.specs.Forms.IsGap.{blank, line, block}
 use Rattle.aidl_syntax.specs.Forms.IsSymbol.{of_one, of_two}
 use Rattle.aidl_lexer.specs.declared.fronts.Front.TheVariants as front
-use Rattle.aidl_lexer.specs.Reading.{word_by, word_at, up_to, long_of, suffix_of, decimal_of, hexadecimal_of, decimal_by, hexadecimal_by, is_hexadecimal, numeral_of, numeral, by_numeral, number_by, number_at, character_at, string_at, close_len, by_double, symbol_at, slash_at, front_of}
+use Rattle.aidl_lexer.specs.steps.Reading.{word_by, word_at, up_to, long_of, suffix_of, decimal_of, hexadecimal_of, decimal_by, hexadecimal_by, is_hexadecimal, numeral_of, numeral, by_numeral, number_by, number_at, character_at, string_at, close_len, by_double, symbol_at, slash_at, front_of}
 use Rattle.aidl_lexer.proofs.Classes.{is_small}
 use Rattle.aidl_lexer.proofs.Runs.{run_len, run_is, run_rest, take_front, drop_front}
 

@@ -3,8 +3,8 @@ use Rattle.std.proofs.Common.{◌≡◌, ℕ, List, Result, Ok, Err, ◌⊎◌, 
 use Rattle.aidl_syntax.specs.declared.token.Token.{Token}
 use Rattle.aidl_syntax.specs.Tokens.{Tokens}
 use Rattle.aidl_syntax.specs.Faults.{LexFault}
-use Rattle.aidl_lexer.specs.Reading.{lex_of}
-use Rattle.aidl_lexer.proofs.Whole.{tokens_told, fault_told, tokens_again, fault_again}
+use Rattle.aidl_lexer.specs.steps.Reading.{lex_of}
+use Rattle.aidl_lexer.proofs.meaning.Whole.{tokens_told, fault_told, tokens_again, fault_again}
 
 pub some_lexing : (bs : List ℕ) → ((ts : List Token) × Tokens bs ts) ⊎ ((n at : ℕ) × LexFault bs n at)
 some_lexing bs = go (lex_of 0 0 bs) refl where
