@@ -56,8 +56,8 @@ abbrev mutual
 abbrev pub IsInitial : List Decl → Field → Data → Type 0
 IsInitial S f v = MatchOption f.initial (IsZero S f.ty v) (λ c. v ≡ const_value c)
 
--- The same as a function, of types that nest at most so many levels deep. Each type of a valid schema is one of those,
--- and the function gives its Zero: `law_one_default`.
+-- The same as a function, by fuel, of which each level of parts takes one. With 33 it never runs out, since the defaults of
+-- a valid schema have at most 32 levels, and the function gives each type's Zero: `law_one_default`.
 abbrev pub initial_or : Option Const → Data → Data
 initial_or (Some c) v = const_value c
 initial_or None v = v
@@ -83,4 +83,4 @@ zero_by S zero_value t = if t.nullable then null else (if is_one t.shape then ze
 
 unfoldable pub zero_within : ℕ → List Decl → AidlType → Data
 zero_within zero S t = zero_by S (λ u. null) t
-zero_within (suc n) S t = zero_by S (λ u. zero_within n S u) t
+zero_within (suc fuel) S t = zero_by S (λ u. zero_within fuel S u) t

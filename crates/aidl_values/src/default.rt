@@ -11,8 +11,9 @@ use aidl_base::{Const, OutOfMemory, Row, Text};
 use aidl_schema::{AidlType, Field, Form, Schema, Shape, form_in};
 use std::alloc::Global;
 
-// How many levels of parts a default may have. By E23 it has at most 32, so none of a valid schema has more.
-const LEVELS: usize = 33;
+// The fuel of a default, of which each level of parts takes one. It never runs out: by E23 the defaults of a valid schema
+// have at most 32 levels.
+const FUEL: usize = 33;
 
 /// The default of a type: null for a nullable type, the empty sequence for another sequence type, false, 0, the empty
 /// text, the record of its fields' defaults for a parcelable, and alternative 0 with the default of its first field
@@ -22,7 +23,7 @@ pub fn default_of(alloc: Global, schema: &Schema, ty: &AidlType) -> Result<Value
     ensures zero { IfOk result (λ v. IsZero schema.now.decls ty.now (view v)) }
     ensures value { IfOk result (λ v. view v ≡ zero_within 33 schema.now.decls ty.now) }
 {
-    default_within(alloc, schema, *ty, LEVELS)
+    default_within(alloc, schema, *ty, FUEL)
 }
 
 /// The default of a field: its initializer as a value, or else the default of its type.
@@ -32,7 +33,7 @@ pub fn initial_of(alloc: Global, schema: &Schema, field: &Field) -> Result<Value
 {
     match &field.initial {
         Some(initializer) => value_of(alloc, initializer),
-        None => default_within(alloc, schema, field.ty, LEVELS),
+        None => default_within(alloc, schema, field.ty, FUEL),
     }
 }
 

@@ -1,10 +1,10 @@
-ghost use Rattle.std.specs.Prelude.{◌≡◌, Some, ◌∷◌, ◌++◌, [], decimal, IfOk, OnOk, String, string_bytes};
+ghost use Rattle.std.specs.Prelude.{◌≡◌, ◌∷◌, ◌++◌, [], decimal, IfOk, OnOk, String, string_bytes};
 ghost use Rattle.std.specs.Str.{encode_utf8_all};
 ghost use Rattle.std.specs.declared.alloc.Global.{Global};
 ghost use Rattle.json_values.specs.declared.fault.Fault.TheVariants.{Refused};
 ghost use Rattle.json_values.specs.Gives.{refusal_of};
 ghost use Rattle.json_values.specs.Refusal.{escaped, escaped_character};
-ghost use Rattle.json_values.specs.steps.Gives.{IsBelow, refusal_in, seen_reason};
+ghost use Rattle.json_values.specs.steps.Gives.{IsBelow, refusal_in};
 
 use aidl_base::{OutOfMemory, Text};
 use std::alloc::{AllocError, AllocFailed, Global};
@@ -28,7 +28,7 @@ pub enum JsonFault {
 }
 
 // Why a part was refused.
-#[derive(Clone, Copy, Debug)]
+#[derive(Clone, Copy)]
 pub enum Reason {
     WrongShape,
     OutOfRange,
@@ -37,8 +37,8 @@ pub enum Reason {
     TooDeep,
 }
 
-// A fault while reading, with the place inside the part that was read.
-#[derive(Debug, Drop)]
+// A fault while reading, with the place in the part that was read.
+#[derive(Drop)]
 pub enum Fault {
     Refused(Reason, String),
     OutOfMemory,
@@ -79,20 +79,17 @@ pub fn reported(fault: Fault) -> JsonFault
     ensures { refusal_of result ≡ refusal_in fault }
 {
     match fault {
-        Fault::Refused(reason, at) => report(reason, place(at)),
+        Fault::Refused(reason, at) => {
+            let at = place(at);
+            match reason {
+                Reason::WrongShape => JsonFault::WrongShape { at },
+                Reason::OutOfRange => JsonFault::OutOfRange { at },
+                Reason::UnknownKey => JsonFault::UnknownKey { at },
+                Reason::UnknownEnumerator => JsonFault::UnknownEnumerator { at },
+                Reason::TooDeep => JsonFault::TooDeep { at },
+            }
+        }
         Fault::OutOfMemory => JsonFault::OutOfMemory,
-    }
-}
-
-fn report(reason: Reason, at: Text) -> JsonFault
-    ensures { refusal_of result ≡ Some (record { reason = seen_reason reason; at = encode_utf8_all at }) }
-{
-    match reason {
-        Reason::WrongShape => JsonFault::WrongShape { at },
-        Reason::OutOfRange => JsonFault::OutOfRange { at },
-        Reason::UnknownKey => JsonFault::UnknownKey { at },
-        Reason::UnknownEnumerator => JsonFault::UnknownEnumerator { at },
-        Reason::TooDeep => JsonFault::TooDeep { at },
     }
 }
 

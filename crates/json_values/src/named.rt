@@ -1,6 +1,6 @@
 ghost use Rattle.std.specs.Prelude.{◌≡◌, option_map};
 ghost use Rattle.aidl_schema.specs.Seen.{seen};
-ghost use Rattle.json_values.specs.Named.{enumerators_of, enumerators_of_kind, fields_in};
+ghost use Rattle.json_values.specs.Named.{enumerators_of, fields_in};
 
 use aidl_schema::{Base, Enumerator, Field, Form, Kind, Schema};
 
@@ -10,18 +10,12 @@ pub fn enumerators_in(schema: &Schema, base: Base) -> Option<&[Enumerator]>
 {
     match base {
         Base::Named(n) => match schema.decls.as_slice().get(n as usize) {
-            Some(decl) => enumerators_in_kind(&decl.kind),
+            Some(decl) => match &decl.kind {
+                Kind::Enum(_, enumerators) => Some(enumerators.as_slice()),
+                _ => None,
+            },
             None => None,
         },
-        _ => None,
-    }
-}
-
-fn enumerators_in_kind(kind: &Kind) -> Option<&[Enumerator]>
-    ensures { option_map (λ es. es.now) result ≡ enumerators_of_kind kind.now }
-{
-    match kind {
-        Kind::Enum(_, enumerators) => Some(enumerators.as_slice()),
         _ => None,
     }
 }

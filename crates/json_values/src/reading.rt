@@ -350,7 +350,12 @@ fn unknown_key<'a>(fields: &[Field], members: &'a Map<String, Json>) -> Option<&
 fn has_field(fields: &[Field], key: &str) -> bool
     ensures { result ≡ list_any (λ f. answer.has_name key.now f) fields.now }
 {
-    fields.iter().any(|field| is_called(&field.name, key))
+    for field in fields {
+        if is_called(&field.name, key) {
+            return true;
+        }
+    }
+    false
 }
 
 #[cycle(reading)]

@@ -1,5 +1,5 @@
 -- Writes, one after the other.
-use Rattle.std.proofs.Common.{◌≡◌, ℕ, ◌+◌, ◌-◌, ◌<◌, ◌≤◌, List, [], ◌++◌, length, get_or, drop, refl, sym, ap, ◌∙◌, arith, append_assoc, append-nil, length-append}
+use Rattle.std.proofs.Common.{◌≡◌, ℕ, zero, suc, ◌+◌, ◌-◌, ◌<◌, ◌≤◌, List, [], ◌∷◌, ◌++◌, length, get_or, take, drop, replicate, refl, sym, ap, ◌∙◌, arith, append_assoc, append-nil, length-append}
 use Rattle.std.specs.Char.Escape.{encode_utf16}
 use Rattle.std.proofs.lemmas.List.{at_drop_more}
 use Rattle.std.proofs.lemmas.Bool.{lt-ltb, le-ltb}
@@ -41,3 +41,12 @@ counts_next cs n c count len total h one two e =
     let p = one_unit c in
     let q = two_units c in
     grind (arith, all, e, p, q, one, two)
+
+pub five_zeros : (n : ℕ) → n ≤ 5 → take {A = ℕ} n (0 ∷ 0 ∷ 0 ∷ 0 ∷ 0 ∷ []) ≡ replicate n 0
+five_zeros zero le = refl
+five_zeros (suc zero) le = refl
+five_zeros (suc (suc zero)) le = refl
+five_zeros (suc (suc (suc zero))) le = refl
+five_zeros (suc (suc (suc (suc zero)))) le = refl
+five_zeros (suc (suc (suc (suc (suc zero))))) le = refl
+five_zeros (suc (suc (suc (suc (suc (suc n)))))) le = absurd (omega arith)

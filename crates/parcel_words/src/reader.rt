@@ -120,9 +120,18 @@ impl<'a> WordReader<'a> {
         ensures unchanged { OnErr result (self.new ≡ self.old) }
     {
         let word = self.next_word()?;
-        let count = count_of(word, nullable)?;
+        if word < -1 {
+            return Err(ReadFault::BadValue);
+        }
+        if word == -1 && !nullable {
+            return Err(ReadFault::UnexpectedNull);
+        }
         self.pass(4);
-        Ok(count)
+        if word == -1 {
+            Ok(None)
+        } else {
+            Ok(Some(word as usize))
+        }
     }
 
     /// Takes a text of at most 2147483647 units, where None is null. It refuses as `word` does; by `UnexpectedNull` a
@@ -249,7 +258,10 @@ impl<'a> WordReader<'a> {
         ensures fits { IfOk result (λ z. z ≤ length (left self.now)) }
     {
         let word = self.next_word()?;
-        let size = size_of(word)?;
+        if word < 4 || word % 4 != 0 {
+            return Err(ReadFault::BadValue);
+        }
+        let size = word as usize;
         if self.rest().len() < size {
             return Err(self.past());
         }
@@ -278,33 +290,4 @@ impl<'a> WordReader<'a> {
         self.end = self.position + size;
         self.position += 4;
     }
-}
-
-/// The count that a word means, where None is null.
-fn count_of(word: i32, nullable: bool) -> Result<Option<usize>, ReadFault>
-    ensures count { MatchResult result (λ n. count_of nullable word ≡ Ok n) (λ e. Refuses e (count_of nullable word)) }
-    ensures small { IfOk result (λ n. IfSome n (λ k. k < 2 ^ 31)) }
-{
-    if word >= 0 {
-        return Ok(Some(word as usize));
-    }
-    if word < -1 {
-        return Err(ReadFault::BadValue);
-    }
-    if nullable {
-        Ok(None)
-    } else {
-        Err(ReadFault::UnexpectedNull)
-    }
-}
-
-/// The size that a size word means, which counts the word itself.
-fn size_of(word: i32) -> Result<usize, ReadFault>
-    ensures size { MatchResult result (λ z. size_of word ≡ Ok z) (λ e. Refuses e (size_of word)) }
-    ensures least { IfOk result (λ z. 4 ≤ z) }
-{
-    if word < 4 || word % 4 != 0 {
-        return Err(ReadFault::BadValue);
-    }
-    Ok(word as usize)
 }

@@ -1,5 +1,4 @@
 ghost use Rattle.std.specs.Prelude.{◌≡◌, ◌≤◌, [], ◌++◌, pos, ℕ, List, Bool, Ok, Some, length, min, OnOk, OnErr, All, option_map};
-ghost use Rattle.std.specs.List.{flat_map};
 ghost use Rattle.aidl_base.specs.Words.{word};
 ghost use Rattle.aidl_base.specs.Spellings.{spell_sequence};
 ghost use Rattle.aidl_base.specs.Readings.{items_at, sequence_at};
@@ -34,15 +33,6 @@ pub fn put_sequence<W: Wire>(items: &[W], to: &mut WordWriter)
     ensures { to.new ≡ with_bytes to.old (spell_sequence W.spelling items.now) }
 {
     to.count(items.len());
-    put_items(items, to);
-}
-
-/// Appends the items.
-fn put_items<W: Wire>(items: &[W], to: &mut WordWriter)
-    requires can { All W.can_put items.now }
-    requires room { length (flat_map W.spelling items.now) ≤ to.old.room }
-    ensures { to.new ≡ with_bytes to.old (flat_map W.spelling items.now) }
-{
     for item in items {
         item.put(to);
     }

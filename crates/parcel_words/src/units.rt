@@ -20,7 +20,7 @@ pub fn text_of(alloc: Global, count: usize, block: &[u8]) -> Result<Option<Strin
     let (bytes, zeros) = block.split_at(2 * count);
     let units = units_of(alloc, bytes)?;
     let text = well_formed(alloc, units.as_slice())?;
-    Ok(text.filter(|_| is_zero(zeros)))
+    if is_zero(zeros) { Ok(text) } else { Ok(None) }
 }
 
 /// The text of well-formed units.
@@ -33,21 +33,13 @@ fn well_formed(alloc: Global, units: &[u16]) -> Result<Option<String>, OutOfMemo
 }
 
 /// The units of bytes, two each, least first.
-#[tactic(auto, using(aidl_base::proofs::Blocks::units_of_pairs))]
 fn units_of(alloc: Global, bytes: &[u8]) -> Result<Vec<u16>, OutOfMemory>
     ensures { IfOk result (λ units. units.items ≡ units_of bytes.now) }
 {
     let (pairs, _) = bytes.as_chunks::<2>();
-    units_of_pairs(alloc, pairs)
-}
-
-/// The units of pairs of bytes.
-fn units_of_pairs(alloc: Global, pairs: &[[u8; 2]]) -> Result<Vec<u16>, OutOfMemory>
-    ensures { IfOk result (λ units. units.items ≡ map (from_le_bytes w16) pairs.now) }
-{
-    let units = pairs
-        .iter()
-        .map(|pair| u16::from_le_bytes(*pair))
-        .collect(alloc)?;
+    let mut units = Vec::with_capacity(alloc, pairs.len())?;
+    for pair in pairs {
+        units.push(u16::from_le_bytes(*pair))?;
+    }
     Ok(units)
 }

@@ -1,11 +1,11 @@
-ghost use Rattle.std.specs.Prelude.{◌≡◌, ◌^◌, ◌<◌, ◌≤◌, true, pos, ℤ, ℕ, List, [], ◌++◌, Bool, Ok, length, min, OnOk, OnErr, IsTrue, MatchResult, FitsSigned};
+ghost use Rattle.std.specs.Prelude.{◌≡◌, ◌^◌, ◌<◌, ◌≤◌, true, pos, ℤ, ℕ, List, [], ◌++◌, Bool, Ok, length, min, OnOk, OnErr, FitsSigned};
 ghost use Rattle.std.specs.Int.{w8, w32, w64};
 ghost use Rattle.std.specs.Str.{all_scalars};
 ghost use Rattle.aidl_base.specs.Words.{word, long_word, units};
 ghost use Rattle.aidl_base.specs.Spellings.{spell_truth, spell_text};
-ghost use Rattle.aidl_base.specs.Readings.{Read, truth_of, byte_of, char_of, truth_at, byte_at, char_at, word_at, long_at, present_text_at};
+ghost use Rattle.aidl_base.specs.Readings.{Read, truth_at, byte_at, char_at, word_at, long_at, present_text_at};
 ghost use Rattle.parcel_words.specs.Place.{left, here, MovesOn};
-ghost use Rattle.parcel_words.specs.Taken.{TakesIfMemory, Refuses};
+ghost use Rattle.parcel_words.specs.Taken.{TakesIfMemory};
 ghost use Rattle.parcel_words.specs.Written.{with_bytes};
 
 use crate::fault::ReadFault;
@@ -74,9 +74,11 @@ impl Wire for bool {
     #[tactic(auto, unfolding(aidl_base::specs::Readings::truth_at))]
     fn take(_alloc: Global, from: &mut WordReader) -> Result<bool, ReadFault> {
         let word = from.next_word()?;
-        let truth = truth_of(word)?;
+        if word != 0 && word != 1 {
+            return Err(ReadFault::BadValue);
+        }
         from.pass(4);
-        Ok(truth)
+        Ok(word == 1)
     }
 
     ghost use Rattle.aidl_base.proofs.Values.{truth_again, truth_prefix};
@@ -107,7 +109,9 @@ impl Wire for i8 {
     #[tactic(auto, unfolding(aidl_base::specs::Readings::byte_at))]
     fn take(_alloc: Global, from: &mut WordReader) -> Result<i8, ReadFault> {
         let word = from.next_word()?;
-        let byte = byte_of(word)?;
+        let Ok(byte) = i8::try_from(word) else {
+            return Err(ReadFault::BadValue);
+        };
         from.pass(4);
         Ok(byte)
     }
@@ -140,7 +144,9 @@ impl Wire for u16 {
     #[tactic(auto, unfolding(aidl_base::specs::Readings::char_at))]
     fn take(_alloc: Global, from: &mut WordReader) -> Result<u16, ReadFault> {
         let word = from.next_word()?;
-        let unit = char_of(word)?;
+        let Ok(unit) = u16::try_from(word) else {
+            return Err(ReadFault::BadValue);
+        };
         from.pass(4);
         Ok(unit)
     }
@@ -227,7 +233,7 @@ impl Wire for Text {
     }
 
     fn put(&self, to: &mut WordWriter) {
-        to.present_text(self.as_str());
+        to.text(Some(self.as_str()));
     }
 
     #[tactic(auto, unfolding(aidl_base::specs::Readings::present_text_at))]
@@ -243,29 +249,4 @@ impl Wire for Text {
     ghost taken_again = { λ x inside rest value can. present_text_again x inside rest value can };
 
     ghost no_prefix = { λ x y rest first can second may. text_prefix x y rest first can second may };
-}
-
-/// The truth value of a word.
-fn truth_of(word: i32) -> Result<bool, ReadFault>
-    ensures { MatchResult result (λ t. truth_of word ≡ Ok t) (λ e. Refuses e (truth_of word)) }
-{
-    match word {
-        0 => Ok(false),
-        1 => Ok(true),
-        _ => Err(ReadFault::BadValue),
-    }
-}
-
-/// The byte of a word.
-fn byte_of(word: i32) -> Result<i8, ReadFault>
-    ensures { MatchResult result (λ n. byte_of word ≡ Ok n) (λ e. Refuses e (byte_of word)) }
-{
-    i8::try_from(word).map_err(|_| ReadFault::BadValue)
-}
-
-/// The code unit of a word.
-fn char_of(word: i32) -> Result<u16, ReadFault>
-    ensures { MatchResult result (λ n. char_of word ≡ Ok n) (λ e. Refuses e (char_of word)) }
-{
-    u16::try_from(word).map_err(|_| ReadFault::BadValue)
 }

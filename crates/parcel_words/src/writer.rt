@@ -2,7 +2,7 @@ ghost use Rattle.std.specs.Prelude.{◌≡◌, ◌+◌, ◌-◌, ◌^◌, ◌<�
 ghost use Rattle.std.specs.Str.{chars};
 ghost use Rattle.std.specs.Char.Escape.{encode_utf16};
 ghost use Rattle.aidl_base.specs.Words.{word, long_word, pad, padding, units, unit_bytes, block};
-ghost use Rattle.aidl_base.specs.Spellings.{spell_text, spell_nullable_text};
+ghost use Rattle.aidl_base.specs.Spellings.{spell_nullable_text};
 ghost use Rattle.parcel_words.specs.Written.{with_bytes, with_size, scalars, nullable_scalars};
 
 use crate::padding::padding_of;
@@ -76,7 +76,11 @@ impl WordWriter {
     {
         match text {
             None => self.word(-1),
-            Some(text) => self.present_text(text),
+            Some(text) => {
+                let count = unit_count(text);
+                self.count(count);
+                self.block(text, count);
+            }
         }
     }
 
@@ -86,7 +90,7 @@ impl WordWriter {
         ensures { self.new ≡ with_bytes self.old (pad bytes.now) }
     {
         self.append(bytes);
-        self.zeros(padding_of(bytes.len()));
+        self.padding(bytes.len());
     }
 
     /// Appends one raw byte. It takes no memory.
@@ -102,7 +106,7 @@ impl WordWriter {
         requires { padding len ≤ self.old.room }
         ensures { self.new ≡ with_bytes self.old (replicate (padding len) 0) }
     {
-        self.zeros(padding_of(len));
+        self.append(&[0; 3][..padding_of(len)]);
     }
 
     /// Begins a record: appends a size word, which `close_record` sets, and answers the position of it, in bytes. It
@@ -135,19 +139,7 @@ impl WordWriter {
         self.bytes
     }
 
-    /// Appends a text that isn't null.
-    pub(crate) fn present_text(&mut self, text: &str)
-        requires few { length (units (chars text.now)) < 2 ^ 31 }
-        requires room { length (spell_text (chars text.now)) ≤ self.old.room }
-        ensures { self.new ≡ with_bytes self.old (spell_text (chars text.now)) }
-    {
-        let count = unit_count(text);
-        self.count(count);
-        self.block(text, count);
-    }
-
     /// Appends the block of a text of so many units: the units, a zero unit and the padding.
-    #[tactic(auto, using(aidl_base::proofs::Blocks::block_is, crate::proofs::Appends::with_more))]
     fn block(&mut self, text: &str, count: usize)
         requires units { count ≡ length (units (chars text.now)) }
         requires few { count < 2 ^ 31 }
@@ -155,7 +147,7 @@ impl WordWriter {
         ensures { self.new ≡ with_bytes self.old (block (chars text.now)) }
     {
         self.units(text);
-        self.zeros(2 + padding_of(2 * (count + 1)));
+        self.append(&[0; 5][..2 + padding_of(2 * (count + 1))]);
     }
 
     /// Appends the units of a text.
@@ -190,15 +182,6 @@ impl WordWriter {
         for unit in units {
             self.append(&unit.to_le_bytes());
         }
-    }
-
-    /// Appends so many zeros, at most five.
-    fn zeros(&mut self, count: usize)
-        requires few { count ≤ 5 }
-        requires room { count ≤ self.old.room }
-        ensures { self.new ≡ with_bytes self.old (replicate count 0) }
-    {
-        self.append(&[0; 5][..count]);
     }
 
     /// Appends bytes. The room for them was taken, so the vector has it.
