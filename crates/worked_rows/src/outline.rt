@@ -12,7 +12,7 @@ use std::alloc::{AllocError, Global};
 use std::fmt::Write;
 
 /// The outline of a tree, or of a part of it.
-#[derive(Debug, Drop)]
+#[derive(Drop)]
 pub struct Outline {
     text: String,
 }

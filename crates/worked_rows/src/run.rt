@@ -1,12 +1,14 @@
+use crate::carries::{Carries, shown_log};
 use crate::case::word_of;
 use crate::plain::{plain, text_of};
 use crate::tried::Tried;
 use aidl_base::{OutOfMemory, Row, SourceFile, Text};
-use aidl_outside::{MemSink, MemStore, PassLink};
+use aidl_outside::{MemSink, MemStore};
 use aidl_tool::aidl;
 use std::alloc::Global;
 
-/// A run of the program: its words, the files of its store, the outside calls that fail, and what is to come of it.
+/// A run of the program: its words, the files of its store, its link, the outside calls that fail, and what is to come
+/// of it.
 #[derive(Drop)]
 pub struct Run {
     words: Vec<String>,
@@ -14,6 +16,7 @@ pub struct Run {
     left: Option<Vec<File>>,
     store_fails: Vec<u64>,
     sink_fails: Vec<u64>,
+    carries: Carries,
     exit: Option<u8>,
     printed: Vec<u8>,
     to: Part,
@@ -55,6 +58,7 @@ impl Run {
             left: None,
             store_fails: Vec::new(alloc),
             sink_fails: Vec::new(alloc),
+            carries: Carries::new(alloc),
             exit: None,
             printed: Vec::new(alloc),
             to: Part::Files,
@@ -75,6 +79,8 @@ impl Run {
             "exit" => Ok(self.set_exit(rest)),
             "store_fails" => add_number(&mut self.store_fails, rest),
             "sink_fails" => add_number(&mut self.sink_fails, rest),
+            "link_fails" | "cut" | "set" | "append" => self.carries.add(alloc, what, rest),
+            "carried" => self.carries.add_entry(rest),
             _ => Ok(false),
         }
     }
@@ -149,14 +155,15 @@ impl Run {
     }
 
     /// Runs the program over objects in memory, and counts how the run came out.
-    pub fn try_as(&self, alloc: Global, row: &str, tried: &mut Tried) -> Result<(), OutOfMemory> {
+    pub fn try_as(self, alloc: Global, row: &str, tried: &mut Tried) -> Result<(), OutOfMemory> {
+        let wanted = self.wanted(alloc)?;
         let mut store = MemStore::new(
             alloc,
             rows_of(alloc, self.files.as_slice())?,
-            numbers(alloc, &self.store_fails)?,
+            Row::from_vec(self.store_fails),
         )?;
-        let mut sink = MemSink::new(alloc, numbers(alloc, &self.sink_fails)?)?;
-        let mut link = PassLink::new();
+        let mut sink = MemSink::new(alloc, Row::from_vec(self.sink_fails))?;
+        let mut link = self.carries.link(alloc)?;
         let exit = aidl(
             alloc,
             self.words.as_slice(),
@@ -164,15 +171,26 @@ impl Run {
             &mut sink,
             &mut link,
         );
-        let came = ended(alloc, Some(exit), sink.bytes(), store.files())?;
+        let log = shown_log(alloc, link.log())?;
+        let came = ended(alloc, Some(exit), sink.bytes(), log.as_str(), store.files())?;
+        tried.row(row, wanted.as_slice(), came.as_slice())
+    }
 
+    // How the run is to end.
+    fn wanted(&self, alloc: Global) -> Result<Vec<u8>, OutOfMemory> {
         let left = match &self.left {
             Some(left) => left.as_slice(),
             None => self.files.as_slice(),
         };
-        let left = MemStore::new(alloc, rows_of(alloc, left)?, Row::new(alloc))?;
-        let wanted = ended(alloc, self.exit, self.printed.as_slice(), left.files())?;
-        tried.row(row, wanted.as_slice(), came.as_slice())
+        let store = MemStore::new(alloc, rows_of(alloc, left)?, Row::new(alloc))?;
+        let log = self.carries.log.as_str();
+        ended(
+            alloc,
+            self.exit,
+            self.printed.as_slice(),
+            log,
+            store.files(),
+        )
     }
 }
 
@@ -220,20 +238,18 @@ fn rows_of(alloc: Global, files: &[File]) -> Result<Row<SourceFile>, OutOfMemory
     Ok(rows)
 }
 
-fn numbers(alloc: Global, numbers: &[u64]) -> Result<Row<u64>, OutOfMemory> {
-    Ok(Row::from_vec(Vec::from_slice(alloc, numbers)?))
-}
-
-// How a run ended, as one text: its exit, what was printed and which files the store holds.
+// How a run ended, as one text: its exit, what was printed, what was carried and which files the store holds.
 fn ended(
     alloc: Global,
     exit: Option<u8>,
     printed: &[u8],
+    log: &str,
     files: &[SourceFile],
 ) -> Result<Vec<u8>, OutOfMemory> {
     let exit = format!(in alloc; "exit {}\n", exit.unwrap_or(255))?;
     let mut text = Vec::from_slice(alloc, exit.as_bytes())?;
     text.extend_from_slice(printed)?;
+    text.extend_from_slice(log.as_bytes())?;
     for file in files {
         text.extend_from_slice(b"file ")?;
         text.extend_from_slice(file.path.as_str().as_bytes())?;

@@ -1,7 +1,10 @@
 //! The objects in memory with ample memory: each call once, and the calls that fail by their numbers.
 
-use aidl_outside::{Link, MemSink, MemStore, PassLink, Sink, SinkFault, Store, StoreFault, Way};
 use aidl_base::{OutOfMemory, Row};
+use aidl_outside::{
+    CarryFault, Edit, EditKind, Link, MemSink, MemStore, PassLink, RecordLink, Sink, SinkFault,
+    Store, StoreFault, TamperLink, Way,
+};
 use std::alloc::Global;
 use std::test::Fail;
 
@@ -44,11 +47,79 @@ fn a_sink_fails_at_its_numbers_and_adds_half(rt: HostRuntime) -> Result<(), Fail
 }
 
 #[test]
-fn a_link_delivers_what_was_sent(rt: HostRuntime) -> Result<(), Fail> {
+fn a_store_stops_at_a_call_and_every_later_one(rt: HostRuntime) -> Result<(), Fail> {
+    let alloc = rt.alloc();
+    let mut store = MemStore::stopping(alloc, Row::new(alloc), 1)?;
+    store.write(alloc, "a", b"12345")?;
+    assert_eq!(rt;
+        store.write(alloc, "b", b"123").err(),
+        Some(StoreFault::Failed)
+    );
+    assert_eq!(rt; store.list(alloc, "").err(), Some(StoreFault::Failed));
+    assert_eq!(rt; store.read(alloc, "a", 9).err(), Some(StoreFault::Failed));
+    assert_eq!(rt; store.faults(), 3);
+    let lengths = format!(in alloc;
+        "{:?}",
+        store
+            .files()
+            .iter()
+            .map(|file| file.bytes.len())
+            .collect(alloc)?
+    )?;
+    assert_eq!(rt; lengths.as_str(), "[5, 1]");
+    Ok(())
+}
+
+#[test]
+fn faithful_links_deliver_what_was_sent(rt: HostRuntime) -> Result<(), Fail> {
     let alloc = rt.alloc();
     let mut link = PassLink::new();
     let delivered = link.carry(alloc, Way::Request, 1, b"ab")?;
     assert_eq!(rt; delivered.as_slice(), b"ab".as_slice());
     assert_eq!(rt; link.faults(), 0);
+
+    let mut link = RecordLink::new(alloc, numbers(alloc, &[1])?)?;
+    let delivered = link.carry(alloc, Way::Request, 7, b"ab")?;
+    assert_eq!(rt; delivered.as_slice(), b"ab".as_slice());
+    let failed = link.carry(alloc, Way::Reply, 7, b"cd");
+    assert_eq!(rt; failed.err(), Some(CarryFault::Failed));
+    assert_eq!(rt; link.log().len(), 1);
+    assert_eq!(rt; link.faults(), 1);
+    Ok(())
+}
+
+// Carry 0 is cut and added to, carry 1 has a byte set and another one past its end, carry 2 fails.
+#[test]
+fn a_tampering_link_applies_the_edits_of_each_carry(rt: HostRuntime) -> Result<(), Fail> {
+    let alloc = rt.alloc();
+    let mut edits = Row::new(alloc);
+    edits.push(Edit {
+        carry: 0,
+        kind: EditKind::Cut(1),
+    })?;
+    edits.push(Edit {
+        carry: 1,
+        kind: EditKind::Set { at: 0, byte: 7 },
+    })?;
+    edits.push(Edit {
+        carry: 1,
+        kind: EditKind::Set { at: 2, byte: 8 },
+    })?;
+    let more = Row::from_vec(Vec::from_slice(alloc, b"xy")?);
+    edits.push(Edit {
+        carry: 0,
+        kind: EditKind::Append(more),
+    })?;
+    let mut link = TamperLink::new(alloc, edits, numbers(alloc, &[2])?)?;
+    let delivered = link.carry(alloc, Way::Request, 1, b"ab")?;
+    assert_eq!(rt; delivered.as_slice(), b"axy".as_slice());
+    let delivered = link.carry(alloc, Way::Reply, 1, b"cd")?;
+    assert_eq!(rt; delivered.as_slice(), b"\x07d".as_slice());
+    let failed = link.carry(alloc, Way::Request, 1, b"ef");
+    assert_eq!(rt; failed.err(), Some(CarryFault::Failed));
+    let shown = format!(in alloc; "{:?}", link.log())?;
+    let wanted =
+        "[Carried { way: Request, code: 1, sent: Row { items: [97, 98] }, delivered: Row { items: [97, 120, 121] } }, Carried { way: Reply, code: 1, sent: Row { items: [99, 100] }, delivered: Row { items: [7, 100] } }]";
+    assert_eq!(rt; shown.as_str(), wanted);
     Ok(())
 }

@@ -93,6 +93,9 @@ fn each_kind_of_item_is_put_and_taken(rt: HostRuntime) -> Result<(), Fail> {
     assert_eq!(rt; reader.raw(usize::MAX), Err(ReadFault::NotEnough));
     assert_eq!(rt; reader.raw(3)?, b"\x01\x02\x03".as_slice());
     assert_eq!(rt; reader.position(), 32);
-    assert_eq!(rt; Text::take(alloc, &mut reader).map(|_| ()), Err(ReadFault::NotEnough));
+    assert_eq!(rt;
+        Text::take(alloc, &mut reader).map(|_| ()),
+        Err(ReadFault::NotEnough)
+    );
     Ok(())
 }

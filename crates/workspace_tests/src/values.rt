@@ -4,9 +4,9 @@ ghost use Rattle.std.specs.Prelude.{◌≡◌, false, IfOk, IsTrue};
 ghost use Rattle.std.specs.Str.{chars};
 ghost use Rattle.aidl_schema.specs.Valid.{is_valid};
 
-use aidl_values::{Value, default_of, depth, has_type, initial_of, law_one_default, law_sound};
 use aidl_base::{Const, DottedName, Ident, OutOfMemory, Row, Text};
 use aidl_schema::{AidlType, Base, Decl, Field, Kind, Schema, Shape, is_type};
+use aidl_values::{Value, default_of, depth, has_type, initial_of, law_one_default, law_sound};
 use std::alloc::Global;
 use std::test::Fail;
 

@@ -1,0 +1,91 @@
+use crate::case::word_of;
+use crate::plain::plain;
+use aidl_base::{OutOfMemory, Row};
+use aidl_outside::{Carried, Edit, EditKind, TamperLink, Way};
+use std::alloc::Global;
+
+/// The link of a run: the edits of its carries and the carries that fail; and the log that is wanted.
+#[derive(Drop)]
+pub struct Carries {
+    edits: Row<Edit>,
+    fails: Row<u64>,
+    /// the lines of the log that is wanted
+    pub log: String,
+}
+
+impl Carries {
+    pub fn new(alloc: Global) -> Carries {
+        Carries {
+            edits: Row::new(alloc),
+            fails: Row::new(alloc),
+            log: String::new(alloc),
+        }
+    }
+
+    /// Adds what a line tells of the link. Whether it tells something.
+    pub fn add(&mut self, alloc: Global, what: &str, rest: &str) -> Result<bool, OutOfMemory> {
+        let (carry, rest) = word_of(rest);
+        let Ok(carry) = carry.parse::<u64>() else {
+            return Ok(false);
+        };
+        let kind = match what {
+            "link_fails" => {
+                self.fails.push(carry)?;
+                return Ok(true);
+            }
+            "cut" => rest.parse::<usize>().ok().map(EditKind::Cut),
+            "set" => set_of(rest),
+            _ => Some(EditKind::Append(Row::from_vec(plain(alloc, rest)?))),
+        };
+        let Some(kind) = kind else {
+            return Ok(false);
+        };
+        self.edits.push(Edit { carry, kind })?;
+        Ok(true)
+    }
+
+    /// Adds an entry to the log that is wanted: the way, the code, and what is sent and delivered in hexadecimal.
+    pub fn add_entry(&mut self, entry: &str) -> Result<bool, OutOfMemory> {
+        self.log.push_str("carried ")?;
+        self.log.push_str(entry)?;
+        self.log.push('\n')?;
+        Ok(true)
+    }
+
+    /// The link.
+    pub fn link(self, alloc: Global) -> Result<TamperLink, OutOfMemory> {
+        TamperLink::new(alloc, self.edits, self.fails)
+    }
+}
+
+// AT BYTE, both in decimal.
+fn set_of(text: &str) -> Option<EditKind> {
+    let (at, byte) = word_of(text);
+    Some(EditKind::Set {
+        at: at.parse::<usize>().ok()?,
+        byte: byte.parse::<u8>().ok()?,
+    })
+}
+
+/// A log as lines.
+pub fn shown_log(alloc: Global, log: &[Carried]) -> Result<String, OutOfMemory> {
+    let mut text = String::new(alloc);
+    for entry in log {
+        let way = match entry.way {
+            Way::Request => "request",
+            Way::Reply => "reply",
+        };
+        let sent = digits(alloc, entry.sent.as_slice())?;
+        let delivered = digits(alloc, entry.delivered.as_slice())?;
+        let line = format!(in alloc; "carried {way} {} {sent} {delivered}\n", entry.code)?;
+        text.push_str(line.as_str())?;
+    }
+    Ok(text)
+}
+
+fn digits(alloc: Global, bytes: &[u8]) -> Result<String, OutOfMemory> {
+    if bytes.is_empty() {
+        return Ok(String::from_str(alloc, "-")?);
+    }
+    Ok(hex::encode(alloc, bytes)?)
+}
