@@ -3,3 +3,6 @@ pub mod Limits
 pub mod Readings
 pub mod Spellings
 pub mod Words
+pub mod Reserved
+pub mod Identifiers
+pub mod steps

@@ -3,18 +3,22 @@
 
 mod breach;
 mod constant;
+mod identifiers;
 mod limit;
 mod memory;
 mod name;
+mod reserved;
 mod row;
 mod source_file;
 mod text;
 
 pub use breach::Breach;
 pub use constant::Const;
+pub use identifiers::{is_identifier, is_letter, is_word_byte};
 pub use limit::{Limit, LimitName};
 pub use memory::OutOfMemory;
 pub use name::{DottedName, Ident};
+pub use reserved::{Reserved, reserved_of};
 pub use row::Row;
 pub use source_file::SourceFile;
 pub use text::Text;

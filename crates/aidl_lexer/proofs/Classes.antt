@@ -5,7 +5,8 @@ use Rattle.std.specs.Str.{IsAscii}
 use Rattle.std.proofs.lemmas.Bool.{and_parts, and_from}
 use Rattle.std.proofs.lemmas.Bool.Decides.{nat_tests}
 use Rattle.std.proofs.Math.Nat.{le-mul_of_pos_right}
-use Rattle.aidl_syntax.specs.Bytes.{is_word_byte, is_inside}
+use Rattle.aidl_syntax.specs.Bytes.{is_inside}
+use Rattle.aidl_base.specs.Identifiers.{is_word_byte}
 use Rattle.aidl_syntax.specs.Numbers.{digit_value, value_from}
 use Rattle.aidl_lexer.specs.Reading.{up_to, up_by}
 

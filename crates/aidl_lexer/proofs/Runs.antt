@@ -2,7 +2,7 @@
 use Rattle.std.proofs.Common.{◌≡◌, ℕ, suc, ◌+◌, Bool, true, false, List, [], ◌∷◌, ◌++◌, length, take, drop, refl, ap, arith}
 use Rattle.std.specs.List.{prefix_len, list_all}
 use Rattle.std.proofs.lemmas.Bool.{and_parts, and_from}
-use Rattle.aidl_syntax.specs.Bytes.{begins}
+use Rattle.aidl_base.specs.Identifiers.{begins}
 
 -- a run of a class, after which it doesn't go on
 pub run_len : (p : ℕ → Bool) (text rest : List ℕ) → list_all p text ≡ true → begins p rest ≡ false → prefix_len p (text ++ rest) ≡ length text

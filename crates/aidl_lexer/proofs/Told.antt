@@ -4,11 +4,11 @@ use Rattle.std.specs.Char.{is_ascii_digit, is_ascii_hexdigit}
 use Rattle.std.specs.List.{list_all}
 use Rattle.std.proofs.lemmas.Bool.{and_parts, and_from}
 use Rattle.std.proofs.lemmas.Bool.Decides.{nat_tests}
-use Rattle.aidl_syntax.specs.declared.token.Reserved.{Reserved}
+use Rattle.aidl_base.specs.declared.reserved.Reserved.{Reserved}
 use Rattle.aidl_syntax.specs.declared.token.TokenKind.{TokenKind}
 use Rattle.aidl_syntax.specs.declared.token.TokenKind.TheVariants as kind
-use Rattle.aidl_syntax.specs.Bytes.{is_letter, is_word_byte, begins}
-use Rattle.aidl_syntax.specs.Tables.{reserved_of}
+use Rattle.aidl_base.specs.Identifiers.{is_letter, is_word_byte, begins}
+use Rattle.aidl_base.specs.Reserved.{reserved_of}
 use Rattle.aidl_syntax.specs.Numbers.{value_from, IsDecimal, is_suffix, IsNumeral}
 use Rattle.aidl_syntax.specs.Forms.{IsGap, IsWord, IsToken}
 use Rattle.aidl_syntax.specs.Faults.{NoGap, NoToken, OpenComment, OpenCharacter, OpenString, BadNumber, BadByte}

@@ -2,14 +2,16 @@
 use Rattle.std.specs.Prelude.{◌<◌, ◌≤◌, ◌+◌, ◌-◌, ℕ, zero, suc, Bool, true, false, ◌&&◌, ◌||◌, if◌then◌else◌, ◌==◌, nat_le, nat_lt, List, [], ◌∷◌, ◌++◌, length, take, drop, Option, Some, None, Result, Ok, Err}
 use Rattle.std.specs.Char.{is_ascii_digit, is_ascii_hexdigit}
 use Rattle.std.specs.List.{prefix_len}
-use Rattle.aidl_syntax.specs.declared.token.Reserved.{Reserved}
+use Rattle.aidl_base.specs.declared.reserved.Reserved.{Reserved}
 use Rattle.aidl_syntax.specs.declared.token.Symbol.{Symbol}
 use Rattle.aidl_syntax.specs.declared.token.Symbol.TheVariants as mark
 use Rattle.aidl_syntax.specs.declared.token.Token.{Token}
 use Rattle.aidl_syntax.specs.declared.token.TokenKind.{TokenKind}
 use Rattle.aidl_syntax.specs.declared.token.TokenKind.TheVariants as kind
-use Rattle.aidl_syntax.specs.Bytes.{is_blank, is_letter, is_word_byte, is_inside, is_no_newline, begins}
-use Rattle.aidl_syntax.specs.Tables.{reserved_of, double_at, single}
+use Rattle.aidl_syntax.specs.Bytes.{is_blank, is_inside, is_no_newline}
+use Rattle.aidl_base.specs.Identifiers.{is_letter, is_word_byte, begins}
+use Rattle.aidl_syntax.specs.Tables.{double_at, single}
+use Rattle.aidl_base.specs.Reserved.{reserved_of}
 use Rattle.aidl_syntax.specs.Numbers.{value_from}
 use Rattle.aidl_lexer.specs.declared.fault.FaultKind.TheVariants as reason
 use Rattle.aidl_lexer.specs.declared.fronts.Front.{Front}

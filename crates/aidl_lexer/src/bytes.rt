@@ -2,26 +2,15 @@ ghost use Rattle.std.specs.Prelude.{◌≡◌, ◌≤◌, ◌==◌, ◌+◌, len
 ghost use Rattle.std.specs.Char.{is_ascii_digit, is_ascii_hexdigit};
 ghost use Rattle.std.specs.List.{prefix_len};
 ghost use Rattle.aidl_syntax.specs.Bytes as class;
+ghost use Rattle.aidl_base.specs.Identifiers as identifiers;
+
+use aidl_base::is_word_byte;
 
 // A space, a tab, a carriage return or a newline.
 pub fn is_blank(b: u8) -> bool
     ensures { result ≡ class.is_blank b }
 {
     b == b' ' || b == b'\t' || b == b'\r' || b == b'\n'
-}
-
-// A letter or `_`.
-pub fn is_letter(b: u8) -> bool
-    ensures { result ≡ class.is_letter b }
-{
-    b.is_ascii_alphabetic() || b == b'_'
-}
-
-// A letter, `_` or a digit.
-pub fn is_word_byte(b: u8) -> bool
-    ensures { result ≡ class.is_word_byte b }
-{
-    is_letter(b) || b.is_ascii_digit()
 }
 
 // A printable character other than the quote and `\`.
@@ -33,7 +22,7 @@ pub fn is_inside(quote: u8, b: u8) -> bool
 
 // Whether a first byte is there and is the wanted one.
 pub fn begins_with(bytes: &[u8], wanted: u8) -> bool
-    ensures { result ≡ class.begins (λ b. b == wanted) bytes.now }
+    ensures { result ≡ identifiers.begins (λ b. b == wanted) bytes.now }
 {
     match bytes {
         [b, ..] => *b == wanted,
@@ -43,7 +32,7 @@ pub fn begins_with(bytes: &[u8], wanted: u8) -> bool
 
 // The number of letters, digits and `_` at the front.
 pub fn word_len(bytes: &[u8]) -> usize
-    ensures value { result ≡ prefix_len class.is_word_byte bytes.now }
+    ensures value { result ≡ prefix_len identifiers.is_word_byte bytes.now }
     ensures within { result ≤ length bytes.now }
 {
     bytes.iter().take_while(|b| is_word_byte(**b)).count()

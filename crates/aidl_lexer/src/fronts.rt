@@ -1,14 +1,14 @@
 ghost use Rattle.std.specs.Prelude.{◌≡◌, ◌<◌, ◌^◌, length, IfOk};
 ghost use Rattle.aidl_lexer.specs.Reading as read;
 
-use crate::bytes::{is_blank, is_letter};
+use crate::bytes::is_blank;
 use crate::comments::slash_at;
 use crate::fault::FaultKind;
 use crate::literals::{character_at, string_at};
 use crate::numbers::number_at;
 use crate::symbols::symbol_at;
 use crate::words::word_at;
-use aidl_base::OutOfMemory;
+use aidl_base::{OutOfMemory, is_letter};
 use aidl_syntax::TokenKind;
 use std::alloc::Global;
 

@@ -5,17 +5,13 @@ mod bytes;
 mod comments;
 mod fault;
 mod fronts;
-mod identifiers;
 mod laws;
 mod lexing;
 mod literals;
 mod numbers;
 mod symbols;
-#[cfg(test)]
-mod tests;
 mod words;
 
 pub use fault::LexFault;
-pub use identifiers::is_identifier;
 pub use laws::law_one_lexing;
 pub use lexing::lex;

@@ -1,14 +1,13 @@
 ghost use Rattle.std.specs.Prelude.{◌≡◌, IfOk, take};
 ghost use Rattle.std.specs.List.{prefix_len};
 ghost use Rattle.std.specs.Str.{IsAscii};
-ghost use Rattle.aidl_syntax.specs.Bytes.{is_word_byte};
-ghost use Rattle.aidl_syntax.specs.Tables as tables;
+ghost use Rattle.aidl_base.specs.Identifiers.{is_word_byte};
 ghost use Rattle.aidl_lexer.specs.Reading as read;
 
 use crate::bytes::word_len;
 use crate::fronts::Front;
-use aidl_base::{OutOfMemory, Text};
-use aidl_syntax::{Reserved, TokenKind};
+use aidl_base::{OutOfMemory, Reserved, Text, reserved_of};
+use aidl_syntax::TokenKind;
 use std::alloc::Global;
 
 // The identifier or the reserved word at the front.
@@ -26,44 +25,6 @@ pub fn word_of(bytes: &[u8]) -> &[u8]
     ensures ascii { IsAscii result.now }
 {
     &bytes[..word_len(bytes)]
-}
-
-// The reserved word that the text is.
-#[tactic(auto, unfolding(aidl_syntax::specs::Tables::reserved_of))]
-pub fn reserved_of(text: &[u8]) -> Option<Reserved>
-    ensures { result ≡ tables.reserved_of text.now }
-{
-    if text == b"package".as_slice() {
-        Some(Reserved::Package)
-    } else if text == b"import".as_slice() {
-        Some(Reserved::Import)
-    } else if text == b"interface".as_slice() {
-        Some(Reserved::Interface)
-    } else if text == b"parcelable".as_slice() {
-        Some(Reserved::Parcelable)
-    } else if text == b"union".as_slice() {
-        Some(Reserved::Union)
-    } else if text == b"enum".as_slice() {
-        Some(Reserved::Enum)
-    } else if text == b"const".as_slice() {
-        Some(Reserved::Const)
-    } else if text == b"oneway".as_slice() {
-        Some(Reserved::Oneway)
-    } else if text == b"in".as_slice() {
-        Some(Reserved::In)
-    } else if text == b"out".as_slice() {
-        Some(Reserved::Out)
-    } else if text == b"inout".as_slice() {
-        Some(Reserved::InOut)
-    } else if text == b"true".as_slice() {
-        Some(Reserved::True)
-    } else if text == b"false".as_slice() {
-        Some(Reserved::False)
-    } else if text == b"void".as_slice() {
-        Some(Reserved::Void)
-    } else {
-        None
-    }
 }
 
 fn by_reserved(alloc: Global, word: Option<Reserved>, text: &[u8]) -> Result<Front, OutOfMemory>

@@ -1,7 +1,7 @@
 -- The laws of what stands in a declaration: fields, constants, enumerators, arguments and methods.
 use Rattle.std.proofs.Common.{◌⊎◌, inl, inr, ◌≡◌, ℕ, suc, ◌+◌, Bool, true, false, cond, List, [], ◌∷◌, ◌++◌, length, Option, Some, None, refl, sym, ap, subst, ◌∙◌, arith, append_assoc, append-nil, length-append}
-use Rattle.aidl_syntax.specs.declared.token.Reserved.{Reserved}
-use Rattle.aidl_syntax.specs.declared.token.Reserved.TheVariants as word
+use Rattle.aidl_base.specs.declared.reserved.Reserved.{Reserved}
+use Rattle.aidl_base.specs.declared.reserved.Reserved.TheVariants as word
 use Rattle.aidl_syntax.specs.declared.token.Symbol.TheVariants as mark
 use Rattle.aidl_syntax.specs.declared.token.TokenKind.{TokenKind}
 use Rattle.aidl_syntax.specs.declared.token.TokenKind.TheVariants as kind

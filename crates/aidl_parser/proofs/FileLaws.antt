@@ -1,7 +1,7 @@
 -- The laws of files: what is read is a tree of all of the tokens, and a tree of the tokens is what is read.
 use Rattle.std.proofs.Common.{◌≡◌, ℕ, suc, ◌+◌, Bool, true, false, List, [], ◌∷◌, ◌++◌, length, Option, Some, refl, sym, ap, subst, ◌∙◌, arith, append_assoc, append-nil, length-append}
-use Rattle.aidl_syntax.specs.declared.token.Reserved.{Reserved}
-use Rattle.aidl_syntax.specs.declared.token.Reserved.TheVariants as word
+use Rattle.aidl_base.specs.declared.reserved.Reserved.{Reserved}
+use Rattle.aidl_base.specs.declared.reserved.Reserved.TheVariants as word
 use Rattle.aidl_syntax.specs.declared.token.Symbol.TheVariants as mark
 use Rattle.aidl_syntax.specs.declared.token.Token.{Token}
 use Rattle.aidl_syntax.specs.declared.tree.NameTree.{NameTree}

@@ -1,7 +1,7 @@
 -- Readers of declarations and files.
 use Rattle.std.specs.Prelude.{ℕ, ◌-◌, zero, suc, Bool, true, false, if◌then◌else◌, List, [], ◌∷◌, length, Option, Some, None}
-use Rattle.aidl_syntax.specs.declared.token.Reserved.{Reserved}
-use Rattle.aidl_syntax.specs.declared.token.Reserved.TheVariants as word
+use Rattle.aidl_base.specs.declared.reserved.Reserved.{Reserved}
+use Rattle.aidl_base.specs.declared.reserved.Reserved.TheVariants as word
 use Rattle.aidl_syntax.specs.declared.token.Symbol.TheVariants as mark
 use Rattle.aidl_syntax.specs.declared.token.Token.{Token}
 use Rattle.aidl_syntax.specs.declared.tree.NameTree.{NameTree}

@@ -2,10 +2,10 @@
 use Rattle.std.specs.Prelude.{ℕ, zero, suc, Bool, false, if◌then◌else◌, List, [], ◌∷◌, ◌++◌, Option, Some, None}
 use denote.Enum.Bare.{sameb}
 use Rattle.aidl_syntax.specs.contracts.token.Symbol as symbols
-use Rattle.aidl_syntax.specs.contracts.token.Reserved as words
+use Rattle.aidl_base.specs.contracts.reserved.Reserved as words
 use Rattle.aidl_syntax.specs.declared.token.Symbol.{Symbol}
 use Rattle.aidl_syntax.specs.declared.token.Symbol.TheVariants as mark
-use Rattle.aidl_syntax.specs.declared.token.Reserved.{Reserved}
+use Rattle.aidl_base.specs.declared.reserved.Reserved.{Reserved}
 use Rattle.aidl_syntax.specs.declared.token.TokenKind.{TokenKind}
 use Rattle.aidl_syntax.specs.declared.token.TokenKind.TheVariants as kind
 use Rattle.aidl_syntax.specs.declared.token.Token.{Token}

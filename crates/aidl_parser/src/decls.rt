@@ -1,6 +1,6 @@
 ghost use Rattle.std.specs.Prelude.{◌≡◌, ◌+◌, ◌-◌, ◌<◌, map, Some};
 ghost use Rattle.aidl_syntax.specs.declared.token.Symbol.TheVariants as mark;
-ghost use Rattle.aidl_syntax.specs.declared.token.Reserved.TheVariants as word;
+ghost use Rattle.aidl_base.specs.declared.reserved.Reserved.TheVariants as word;
 ghost use Rattle.aidl_syntax.specs.Trees.{annots_of, init_of, expr_of, map_option, arg_of, enumerator_of, members_of, member_of, body_of, decl_of};
 ghost use Rattle.aidl_syntax.specs.Trees.Decl.{decl as decl_seen};
 ghost use Rattle.aidl_syntax.specs.Trees.Body.{parcelable, union, enum as enum_seen, interface};

@@ -1,5 +1,5 @@
 ghost use Rattle.std.specs.Prelude.{◌≡◌, ◌^◌, ◌<◌, length, map, [], Some};
-ghost use Rattle.aidl_syntax.specs.declared.token.Reserved.TheVariants as word;
+ghost use Rattle.aidl_base.specs.declared.reserved.Reserved.TheVariants as word;
 ghost use Rattle.aidl_syntax.specs.Trees.{decl_of, file_of};
 ghost use Rattle.aidl_parser.specs.Parts as part;
 ghost use Rattle.aidl_parser.specs.Decls as read;

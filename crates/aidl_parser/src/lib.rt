@@ -11,12 +11,8 @@ mod inits;
 mod limits;
 mod methods;
 mod names;
-#[cfg(test)]
-mod outline;
 mod parsing;
 mod parts;
-#[cfg(test)]
-mod tests;
 mod tokens;
 mod types;
 

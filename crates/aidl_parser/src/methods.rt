@@ -1,6 +1,6 @@
 ghost use Rattle.std.specs.Prelude.{◌≡◌, map, [], ◌++◌};
 ghost use Rattle.aidl_syntax.specs.declared.token.Symbol.TheVariants as mark;
-ghost use Rattle.aidl_syntax.specs.declared.token.Reserved.TheVariants as word;
+ghost use Rattle.aidl_base.specs.declared.reserved.Reserved.TheVariants as word;
 ghost use Rattle.aidl_syntax.specs.Trees.{annot_of, arg_of, map_option};
 ghost use Rattle.aidl_parser.specs.Parts as part;
 ghost use Rattle.aidl_parser.specs.Members as read;

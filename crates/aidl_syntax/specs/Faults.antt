@@ -3,7 +3,8 @@ use Rattle.std.specs.Prelude.{◌≡◌, ℕ, Bool, true, false, ◌==◌, List,
 use Rattle.std.specs.Char.{is_ascii_digit}
 use Rattle.aidl_syntax.specs.declared.token.Token.{Token}
 use Rattle.aidl_syntax.specs.declared.token.TokenKind.{TokenKind}
-use Rattle.aidl_syntax.specs.Bytes.{begins, has_close}
+use Rattle.aidl_syntax.specs.Bytes.{has_close}
+use Rattle.aidl_base.specs.Identifiers.{begins}
 use Rattle.aidl_syntax.specs.Forms.{IsGap, IsToken, IsNumber, IsCharacter, IsString}
 use Rattle.aidl_syntax.specs.Tokens.{Cut}
 

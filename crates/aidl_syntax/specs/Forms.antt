@@ -3,12 +3,14 @@
 use Rattle.std.specs.Prelude.{◌≡◌, ℕ, true, false, List, [], ◌∷◌, ◌++◌, Some, None, Bool}
 use Rattle.std.specs.Char.{is_ascii_digit}
 use Rattle.std.specs.List.{list_all}
-use Rattle.aidl_syntax.specs.declared.token.Reserved.{Reserved}
+use Rattle.aidl_base.specs.declared.reserved.Reserved.{Reserved}
 use Rattle.aidl_syntax.specs.declared.token.Symbol.{Symbol}
 use Rattle.aidl_syntax.specs.declared.token.TokenKind.{TokenKind}
 use Rattle.aidl_syntax.specs.declared.token.TokenKind.TheVariants as kind
-use Rattle.aidl_syntax.specs.Bytes.{is_blank, is_no_newline, is_letter, is_word_byte, is_inside, begins, has_close, is_comment}
-use Rattle.aidl_syntax.specs.Tables.{reserved_of, single, double, double_at}
+use Rattle.aidl_syntax.specs.Bytes.{is_blank, is_no_newline, is_inside, has_close, is_comment}
+use Rattle.aidl_base.specs.Identifiers.{is_letter, is_word_byte, begins}
+use Rattle.aidl_syntax.specs.Tables.{single, double, double_at}
+use Rattle.aidl_base.specs.Reserved.{reserved_of}
 use Rattle.aidl_syntax.specs.Numbers.{IsNumeral}
 
 -- a blank or a comment

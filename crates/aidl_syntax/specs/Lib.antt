@@ -2,7 +2,6 @@ pub mod Bytes
 pub mod Tables
 pub mod Numbers
 pub mod Forms
-pub mod Identifiers
 pub mod Tokens
 pub mod Faults
 pub mod Trees

@@ -2,7 +2,7 @@
 use Rattle.std.specs.Prelude.{◌≡◌, ◌≤◌, ◌+◌, ◌-◌, ◌*◌, ℕ, Bool, true, false, not, ◌&&◌, ◌||◌, if◌then◌else◌, ◌==◌, nat_le, List, [], ◌∷◌, ◌++◌, ◌⊎◌}
 use Rattle.std.specs.Char.{is_ascii_digit, is_ascii_hexdigit}
 use Rattle.std.specs.List.{list_all}
-use Rattle.aidl_syntax.specs.Bytes.{begins}
+use Rattle.aidl_base.specs.Identifiers.{begins}
 
 -- the value of a digit from 0 to 9, A to F or a to f
 abbrev pub digit_value : ℕ → ℕ

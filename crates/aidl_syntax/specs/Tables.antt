@@ -1,36 +1,7 @@
--- The reserved words and the symbols (AOSP, "AIDL language", as far as the profile goes).
-use Rattle.std.specs.Prelude.{ℕ, ◌&&◌, if◌then◌else◌, ◌==◌, List, [], ◌∷◌, Option, Some, None, codes}
-use Rattle.std.specs.Str.{bytes_eq}
-use Rattle.aidl_syntax.specs.declared.token.Reserved.{Reserved}
-use Rattle.aidl_syntax.specs.declared.token.Reserved.TheVariants as word
+-- The symbols (AOSP, "AIDL language", as far as the profile goes).
+use Rattle.std.specs.Prelude.{ℕ, ◌&&◌, if◌then◌else◌, ◌==◌, List, [], ◌∷◌, Option, Some, None}
 use Rattle.aidl_syntax.specs.declared.token.Symbol.{Symbol}
 use Rattle.aidl_syntax.specs.declared.token.Symbol.TheVariants as mark
-
-abbrev pub reserved_words : List (List ℕ × Reserved)
-reserved_words =
-    (codes "package", word.Package)
-    ∷ (codes "import", word.Import)
-    ∷ (codes "interface", word.Interface)
-    ∷ (codes "parcelable", word.Parcelable)
-    ∷ (codes "union", word.Union)
-    ∷ (codes "enum", word.Enum)
-    ∷ (codes "const", word.Const)
-    ∷ (codes "oneway", word.Oneway)
-    ∷ (codes "in", word.In)
-    ∷ (codes "out", word.Out)
-    ∷ (codes "inout", word.InOut)
-    ∷ (codes "true", word.True)
-    ∷ (codes "false", word.False)
-    ∷ (codes "void", word.Void)
-    ∷ []
-
-abbrev pub word_in : List (List ℕ × Reserved) → List ℕ → Option Reserved
-word_in [] text = None
-word_in (row ∷ rows) text = if bytes_eq text row.0 then Some row.1 else word_in rows text
-
--- the reserved word that a text is
-unfoldable pub reserved_of : List ℕ → Option Reserved
-reserved_of = word_in reserved_words
 
 -- the symbols of one byte, by its code
 abbrev pub singles : List (ℕ × Symbol)

@@ -4,7 +4,8 @@
 mod token;
 mod tree;
 
-pub use token::{Reserved, Symbol, Token, TokenKind};
+pub use aidl_base::Reserved;
+pub use token::{Symbol, Token, TokenKind};
 pub use tree::{
     AnnotTree, ArgTree, BodyTree, ConstantTree, DeclTree, DottedTree, EnumeratorTree, ExprKind,
     ExprTree, FieldTree, FileTree, InitTree, MemberTree, MethodTree, NameTree, ParamTree,

@@ -1,23 +1,4 @@
-use aidl_base::Text;
-
-/// The words that are no identifiers (AOSP, "AIDL language", as far as the profile goes).
-#[derive(Clone, Copy, Debug, PartialEq, Eq)]
-pub enum Reserved {
-    Package,
-    Import,
-    Interface,
-    Parcelable,
-    Union,
-    Enum,
-    Const,
-    Oneway,
-    In,
-    Out,
-    InOut,
-    True,
-    False,
-    Void,
-}
+use aidl_base::{Reserved, Text};
 
 /// The symbols, of one byte and of two (AOSP, "AIDL language": the punctuation and the operators of constants).
 #[derive(Clone, Copy, Debug, PartialEq, Eq)]

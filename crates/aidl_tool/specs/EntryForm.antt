@@ -1,7 +1,7 @@
 -- The form of an entry of TYPES.
 use Rattle.std.specs.Prelude.{ℕ, Bool, List}
 use Rattle.std.specs.List.{list_all}
-use Rattle.aidl_syntax.specs.Identifiers.{is_identifier}
+use Rattle.aidl_base.specs.Identifiers.{is_identifier}
 use Rattle.aidl_tool.specs.Cut.{cut_at}
 use Rattle.aidl_tool.specs.Types.{entry_of}
 

@@ -5,7 +5,7 @@ ghost use Rattle.aidl_tool.specs.EntryForm.{is_dotted};
 use crate::cut::first_piece;
 use crate::entry::entry_of;
 use crate::types::first_entry;
-use aidl_lexer::is_identifier;
+use aidl_base::is_identifier;
 
 /// Whether every entry of TYPES is well formed: its name is identifiers with dots between them.
 pub fn are_formed(types: &str) -> bool

@@ -1,7 +1,7 @@
 -- What a literal is as an operand (own, after AOSP, "AIDL language").
 use Rattle.std.specs.Prelude.{ℕ, nat_le, Bool, true, false, if◌then◌else◌, Option, Some, None}
 use Rattle.std.specs.Int.{cast_signed}
-use Rattle.aidl_syntax.specs.declared.token.Reserved.TheVariants as word
+use Rattle.aidl_base.specs.declared.reserved.Reserved.TheVariants as word
 use Rattle.aidl_syntax.specs.declared.token.TokenKind.{TokenKind}
 use Rattle.aidl_syntax.specs.declared.token.TokenKind.TheVariants as kind
 use Rattle.const_eval.specs.declared.width.Width.{Width}

@@ -13,8 +13,6 @@ mod literals;
 mod operand;
 mod operator;
 mod shift;
-#[cfg(test)]
-mod tests;
 mod unary_values;
 mod wanted;
 mod width;

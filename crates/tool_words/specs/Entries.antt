@@ -1,7 +1,7 @@
 -- TYPES and its entries.
 use Rattle.std.specs.Prelude.{ℕ, ◌-◌, Bool, true, false, ◌&&◌, nat_le, if◌then◌else◌, List, [], ◌∷◌, length, take, drop, Option, Some, None, codes, bytes_eq}
 use Rattle.std.specs.List.{list_all}
-use Rattle.aidl_syntax.specs.Identifiers.{is_identifier}
+use Rattle.aidl_base.specs.Identifiers.{is_identifier}
 use Rattle.tool_words.specs.declared.entry.Form.{Form}
 use Rattle.tool_words.specs.declared.entry.Form.TheVariants as form
 use Rattle.tool_words.specs.Cut.{cut_at}

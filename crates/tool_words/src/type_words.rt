@@ -6,7 +6,7 @@ ghost use Rattle.tool_words.specs.Entries as entries;
 use crate::cut::first_piece;
 use crate::entry::{entry_of, first_entry};
 use crate::paths::is_path;
-use aidl_lexer::is_identifier;
+use aidl_base::is_identifier;
 
 /// The words where they are TYPES and a path.
 pub fn types_and_file(words: &[String]) -> Option<(&str, &str)>

@@ -1,4 +1,4 @@
-use Rattle.aidl_syntax.specs.Bytes.{is_word_byte}
+use Rattle.aidl_base.specs.Identifiers.{is_word_byte}
 use Rattle.aidl_lexer.proofs.Classes.{front_all, ascii, word_small}
 use Rattle.aidl_lexer.proofs.words.word_of.Goals as goal
 

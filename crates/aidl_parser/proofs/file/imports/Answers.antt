@@ -1,6 +1,6 @@
 use Rattle.std.proofs.Common.{◌≡◌, ◌<◌, sym, ap, ◌∙◌, true, false, arith}
 use Rattle.std.proofs.lemmas.Result.{err_from_is_err_and}
-use Rattle.aidl_syntax.specs.declared.token.Reserved.TheVariants as word
+use Rattle.aidl_base.specs.declared.reserved.Reserved.TheVariants as word
 use Rattle.aidl_parser.specs.Decls.{imports_at, named_at}
 use Rattle.aidl_parser.specs.Parts.{begins_word, many, with_items}
 use Rattle.aidl_parser.proofs.Looping.{fails_over}

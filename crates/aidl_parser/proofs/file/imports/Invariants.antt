@@ -1,5 +1,5 @@
 use Rattle.std.proofs.Common.{◌≡◌}
-use Rattle.aidl_syntax.specs.declared.token.Reserved.TheVariants as word
+use Rattle.aidl_base.specs.declared.reserved.Reserved.TheVariants as word
 use Rattle.aidl_parser.specs.Decls.{named_at}
 use Rattle.aidl_parser.specs.Parts.{begins_word, many, with_items}
 use Rattle.aidl_parser.proofs.file.imports.Given as goal

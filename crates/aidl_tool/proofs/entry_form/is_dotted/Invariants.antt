@@ -2,7 +2,7 @@ use Rattle.std.proofs.Common.{◌≡◌}
 use Rattle.std.specs.List.{list_all}
 use Rattle.std.specs.Option.{option_map}
 use Rattle.aidl_tool.specs.Cut.{pieces_left}
-use Rattle.aidl_syntax.specs.Identifiers.{is_identifier}
+use Rattle.aidl_base.specs.Identifiers.{is_identifier}
 use Rattle.aidl_tool.specs.EntryForm.{is_dotted}
 use Rattle.aidl_tool.proofs.Cuts.{left_length}
 use Rattle.aidl_tool.proofs.entry_form.is_dotted.Given as goal

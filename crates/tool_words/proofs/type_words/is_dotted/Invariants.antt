@@ -2,7 +2,7 @@ use Rattle.std.proofs.Common.{◌≡◌}
 use Rattle.std.specs.List.{list_all}
 use Rattle.std.specs.Option.{option_map}
 use Rattle.tool_words.specs.Cut.{pieces_left}
-use Rattle.aidl_syntax.specs.Identifiers.{is_identifier}
+use Rattle.aidl_base.specs.Identifiers.{is_identifier}
 use Rattle.tool_words.specs.Entries.{is_dotted}
 use Rattle.tool_words.proofs.Cuts.{left_length}
 use Rattle.tool_words.proofs.type_words.is_dotted.Given as goal
