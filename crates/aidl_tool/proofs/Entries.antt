@@ -1,15 +1,14 @@
 -- The entries of TYPES, one after the other, and the types that they name.
-use Rattle.std.proofs.Common.{◌≡◌, ℕ, suc, ◌==◌, List, [], ◌∷◌, ◌++◌, length, nat_lt, Some, None, Result, Ok, Err, refl, sym, ap, ◌∙◌, arith, append_assoc}
-use Rattle.std.specs.List.{count_by}
-use Rattle.std.proofs.lemmas.Bool.Decides.{nat_tests}
+use Rattle.std.proofs.Common.{◌≡◌, ℕ, suc, List, [], ◌∷◌, ◌++◌, length, Option, Some, None, Result, Ok, Err, refl, sym, ap, ◌∙◌, append_assoc}
+use Rattle.std.specs.Borrow.{Bor}
 use Rattle.aidl_schema.specs.declared.schema.Decl.{Decl}
 use Rattle.aidl_schema.specs.declared.schema.AidlType.{AidlType}
-use Rattle.aidl_tool.specs.CommandWords.{entries_of, are_few}
 use Rattle.aidl_tool.specs.Types.{types_of, type_of, named, onto_types}
-use Rattle.aidl_tool.proofs.Cuts.{length-cut_at}
 
-pub few_commas : (types : List ℕ) (n : ℕ) → n ≡ count_by (λ b. b == 44) types → nat_lt n 255 ≡ are_few types
-few_commas types n e = let count : length (entries_of types) ≡ suc n = length-cut_at 44 types ∙ ap suc (sym e) in rw count (grind (arith, nat_tests))
+-- how much of TYPES is left
+abbrev pub left_length : Option (Bor (List ℕ)) → ℕ
+left_length None = 0
+left_length (Some text) = suc (length text.now)
 
 -- the types so far, and those of the entries that are left
 abbrev pub with_types : List AidlType → Result (List AidlType) (List ℕ) → Result (List AidlType) (List ℕ)

@@ -1,10 +1,9 @@
-pub mod Cuts
-pub mod EncodeAnswers
+pub mod Endings
 pub mod Entries
 pub mod HasType
 pub mod JsonTexts
+pub mod Loaded
 pub mod NoFloat
-pub mod Parts
 pub mod ReadValues
-pub mod Verdicts
+pub mod EarlyEnds
 pub mod WriteValues

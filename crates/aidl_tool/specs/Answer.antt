@@ -1,29 +1,40 @@
--- What a command answers: the text that it prints, and the exit status.
-use Rattle.std.specs.Prelude.{ℕ, List, [], ◌∷◌, ◌++◌, codes}
+-- What a command answers: the text that it prints, and a verdict. It is found step by step, up to the first refusal.
+use Rattle.std.specs.Prelude.{ℕ, List, [], ◌∷◌, ◌++◌, Result, Ok, Err, codes}
 use Rattle.std.specs.Fmt.{decimal}
 use Rattle.aidl_base.specs.declared.limit.LimitName.{LimitName}
 use Rattle.aidl_base.specs.Limits.{limit_name, limit_number}
+use Rattle.aidl_tool.specs.declared.verdict.Verdict.{Verdict}
+use Rattle.aidl_tool.specs.declared.verdict.Verdict.TheVariants.{Done, Negative, LimitPassed}
 
 pub record Answer : Type 0 where
   pub text : List ℕ
-  pub exit : ℕ
+  pub verdict : Verdict
 
 -- a line ends with a newline
 abbrev pub line : List ℕ → List ℕ
 line text = text ++ 10 ∷ []
 
--- one line, and an exit
-abbrev pub answer_line : List ℕ → ℕ → Answer
-answer_line text exit = record { text = line text; exit = exit }
+-- one line, and the verdict that goes with it
+abbrev pub done : List ℕ → Answer
+done text = record { text = line text; verdict = Done }
+
+abbrev pub negative : List ℕ → Answer
+negative text = record { text = line text; verdict = Negative }
+
+-- a limit was passed: its name and its number
+abbrev pub limit_passed : LimitName → Answer
+limit_passed which = record { text = line (codes "limit " ++ limit_name which ++ codes " " ++ decimal (limit_number which)); verdict = LimitPassed }
 
 -- text in front of an answer
 abbrev pub after_text : List ℕ → Answer → Answer
-after_text text a = record { text = text ++ a.text; exit = a.exit }
+after_text text a = record { text = text ++ a.text; verdict = a.verdict }
 
--- a limit was passed: its name and its number, exit 7
-abbrev pub limit_answer : LimitName → Answer
-limit_answer which = answer_line (codes "limit " ++ limit_name which ++ codes " " ++ decimal (limit_number which)) 7
+-- what a step finds, or the answer that the command ends with there
+abbrev pub Found : Type 0 → Type 0
+Found A = Result A Answer
 
--- the words are in no row: exit 2
-abbrev pub refused_words : Answer
-refused_words = answer_line (codes "refused words") 2
+-- one step after another
+infixl 10 ◌>>=◌
+abbrev pub ◌>>=◌ : {A : Type 0} → Found A → (A → Answer) → Answer
+(Ok x) >>= next = next x
+(Err answer) >>= next = answer

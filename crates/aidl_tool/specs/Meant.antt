@@ -1,16 +1,18 @@
--- What the words mean over the files of a store.
-use Rattle.std.specs.Prelude.{ℕ, List, [], Option, Some, None}
-use Rattle.std.specs.FinMap.{get}
-use Rattle.aidl_outside.specs.Files.{Files}
-use Rattle.aidl_tool.specs.Answer.{Answer, refused_words}
-use Rattle.aidl_tool.specs.CommandWords.{Command, decode, encode, command_of}
+-- What the words mean. None where they are in no row of the table of commands.
+use Rattle.std.specs.Prelude.{ℕ, false, List, [], Option, Some, None, option_and_then}
+use Rattle.aidl_base.specs.declared.limit.LimitName.TheVariants.{TextBytes}
+use Rattle.tool_words.specs.Command.{Command, decode, encode}
+use Rattle.tool_words.specs.Rows.{command_of}
 use Rattle.aidl_tool.specs.Decode.{decode_answer}
 use Rattle.aidl_tool.specs.Encode.{encode_answer}
+use Rattle.aidl_tool.specs.Meaning.{Meaning, reads_only}
+use Rattle.aidl_tool.specs.Refusals.{file_at}
 
-abbrev pub command_answer : Option Command → Files → Answer
-command_answer None files = refused_words
-command_answer (Some (decode types path)) files = decode_answer [] types path (get files path)
-command_answer (Some (encode types path)) files = encode_answer [] types path (get files path)
+-- the meaning of a command; None of those that aren't built yet
+abbrev pub meaning : Command → Option Meaning
+meaning (decode false None types path) = Some (reads_only (λ files. decode_answer [] types path (file_at TextBytes files path)))
+meaning (encode None types path) = Some (reads_only (λ files. encode_answer [] types path (file_at TextBytes files path)))
+meaning _ = None
 
-abbrev pub meant : List (List ℕ) → Files → Answer
-meant words files = command_answer (command_of words) files
+abbrev pub meant : List (List ℕ) → Option Meaning
+meant words = option_and_then meaning (command_of words)

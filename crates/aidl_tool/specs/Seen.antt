@@ -1,29 +1,25 @@
--- What the code's own types stand for.
-use Rattle.std.specs.Prelude.{◌≡◌, ℕ, true, List, Result, Ok, Err}
-use Rattle.std.specs.List.{list_all}
-use Rattle.aidl_schema.specs.declared.schema.Decl.{Decl}
-use Rattle.aidl_schema.specs.Types.{is_type}
-use Rattle.aidl_schema.specs.declared.schema.AidlType.{AidlType}
-use Rattle.aidl_tool.specs.declared.command.Command.{Command}
-use Rattle.aidl_tool.specs.declared.command.Command.TheVariants.{Decode, Encode}
-use Rattle.aidl_tool.specs.declared.types.Types.{Types}
-use Rattle.aidl_tool.specs.declared.types.Types.TheVariants.{Known, Unknown}
-use Rattle.aidl_tool.specs.declared.entry.Entry.{Entry}
-use Rattle.aidl_tool.specs.CommandWords as command
-use Rattle.aidl_tool.specs.Types as types
+-- What is seen of the outside at one moment: what the store, the sink and the link tell, and their counts of faults.
+use Rattle.std.specs.Prelude.{ℕ, Bool, List, Option}
+use Rattle.aidl_outside.specs.declared.link.Carried.{Carried}
+use Rattle.aidl_outside.specs.Files.{Files}
 
-abbrev pub command_seen : Command → command.Command
-command_seen (Decode types file) = command.decode types.now file.now
-command_seen (Encode types file) = command.encode types.now file.now
+pub record Seen : Type 0 where
+  pub kept : Option Files
+  pub store_faults : ℕ
+  pub told : Option (List ℕ)
+  pub sink_faults : ℕ
+  pub log : Option (List Carried)
+  pub is_faithful : Bool
+  pub link_faults : ℕ
 
-abbrev pub types_seen : Types → Result (List AidlType) (List ℕ)
-types_seen (Known types) = Ok types.items
-types_seen (Unknown entry) = Err entry.now
-
--- each is a type of the schema
-abbrev pub AreKnown : List Decl → Types → Type 0
-AreKnown S (Known types) = list_all (is_type S) types.items ≡ true
-AreKnown S (Unknown entry) = Unit {0}
-
-abbrev pub entry_seen : Entry → types.Entry
-entry_seen entry = record { name = entry.name.now; shape = entry.shape; nullable = entry.nullable }
+-- of a store, a sink and a link, by what each tells
+abbrev pub seen_by : {S K L : Type 0} → (S → Option Files) → (S → ℕ) → (K → Option (List ℕ)) → (K → ℕ) → (L → Option (List Carried)) → (L → Bool) → (L → ℕ) → S → K → L → Seen
+seen_by kept store_faults told sink_faults log is_faithful link_faults store sink link = record {
+  kept = kept store;
+  store_faults = store_faults store;
+  told = told sink;
+  sink_faults = sink_faults sink;
+  log = log link;
+  is_faithful = is_faithful link;
+  link_faults = link_faults link;
+}

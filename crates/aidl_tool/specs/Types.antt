@@ -1,5 +1,5 @@
 -- The types that entries of TYPES name.
-use Rattle.std.specs.Prelude.{ℕ, ◌-◌, Bool, true, false, ◌&&◌, if◌then◌else◌, List, [], ◌∷◌, length, take, drop, Option, Some, None, Result, Ok, Err, codes, bytes_eq}
+use Rattle.std.specs.Prelude.{ℕ, false, if◌then◌else◌, List, [], ◌∷◌, Option, Some, None, Result, Ok, Err, codes, bytes_eq}
 use Rattle.aidl_schema.specs.declared.schema.AidlType.{AidlType}
 use Rattle.aidl_schema.specs.declared.schema.Base.{Base}
 use Rattle.aidl_schema.specs.declared.schema.Base.TheVariants as base
@@ -7,30 +7,15 @@ use Rattle.aidl_schema.specs.declared.schema.Decl.{Decl}
 use Rattle.aidl_schema.specs.declared.schema.Shape.{Shape}
 use Rattle.aidl_schema.specs.declared.schema.Shape.TheVariants as shape
 use Rattle.aidl_schema.specs.Types.{is_type}
+use Rattle.tool_words.specs.declared.entry.Form.{Form}
+use Rattle.tool_words.specs.declared.entry.Form.TheVariants as form
+use Rattle.tool_words.specs.Entries.{Entry, entry_of}
 
--- An entry: the name of a base, as one value, as an array or in a `List`, and whether it may be null.
-pub record Entry : Type 0 where
-  pub name : List ℕ
-  pub shape : Shape
-  pub nullable : Bool
-
--- the text without so many of its last bytes
-abbrev pub without_last : ℕ → List ℕ → List ℕ
-without_last n text = take (length text - n) text
-
-abbrev pub ends_with : List ℕ → List ℕ → Bool
-ends_with text end = bytes_eq (drop (length text - length end) text) end
-
--- `N`, `N[]` or `List<N>`
-abbrev pub shaped : List ℕ → Bool → Entry
-shaped text nullable =
-    if ends_with text (codes "[]") then record { name = without_last 2 text; shape = shape.Array; nullable = nullable }
-    else if bytes_eq (take 5 text) (codes "List<") && ends_with text (codes ">") then record { name = drop 5 (without_last 1 text); shape = shape.List; nullable = nullable }
-    else record { name = text; shape = shape.One; nullable = nullable }
-
--- with an optional `?` at its end
-abbrev pub entry_of : List ℕ → Entry
-entry_of text = if ends_with text (codes "?") then shaped (without_last 1 text) true else shaped text false
+-- the shape of an entry's form
+abbrev pub shape_of : Form → Shape
+shape_of form.One = shape.One
+shape_of form.Array = shape.Array
+shape_of form.List = shape.List
 
 -- the base that a name names, without a tree
 abbrev pub base_of : List ℕ → Option Base
@@ -49,7 +34,7 @@ known_type S ty = if is_type S ty then Some ty else None
 
 abbrev pub entry_type : List Decl → Entry → Option Base → Option AidlType
 entry_type S entry None = None
-entry_type S entry (Some b) = known_type S (record { base = b; shape = entry.shape; nullable = entry.nullable; heap = false; utf8 = false })
+entry_type S entry (Some b) = known_type S (record { base = b; shape = shape_of entry.form; nullable = entry.nullable; heap = false; utf8 = false })
 
 -- the type that an entry names
 abbrev pub type_of : List Decl → List ℕ → Option AidlType

@@ -1,89 +1,53 @@
-ghost use Rattle.std.specs.Prelude.{◌≡◌, ◌++◌, true, false, IfOk, OnOk, length, string_bytes};
+ghost use Rattle.std.specs.Prelude.{◌≡◌, ◌++◌, true, false, IfOk, OnOk, string_bytes};
 ghost use Rattle.std.specs.List.{list_all};
 ghost use Rattle.std.specs.Option.{option_map};
 ghost use Rattle.aidl_schema.specs.Types.{is_type};
 ghost use Rattle.aidl_values.specs.HasType.{HasType};
 ghost use Rattle.aidl_values.specs.View.{view};
 ghost use Rattle.wire_model.specs.ReadOf.{read_of};
-ghost use Rattle.aidl_tool.specs.CommandWords.{entries_of};
-ghost use Rattle.aidl_tool.specs.Decode.{PrintsItem, bytes_answer, decode_answer, items_answer, passes, rest_answer, types_answer, value_line};
-ghost use Rattle.aidl_tool.specs.HexadecimalFile.{hexadecimal};
-ghost use Rattle.aidl_tool.specs.Types.{types_of};
+ghost use Rattle.aidl_tool.specs.Decode.{decode_answer, items_answer, rest_answer, value_line};
 ghost use Rattle.aidl_tool.specs.ValueText.{value_text};
-ghost use Rattle.aidl_tool.specs.Verdicts.{exit_of};
+ghost use Rattle.aidl_tool.specs.steps.Items.{PrintsItem};
+ghost use Rattle.aidl_tool.specs.steps.Results.{Gives, loaded, printed};
 
-use crate::hexadecimal_file::bytes_of;
-use crate::printed::{Printed, Verdict, limit_passed, line_of, push_left, push_status};
-use crate::types::{Types, types_of};
-use aidl_base::{LimitName, OutOfMemory};
+use crate::printed::{Early, Printed, push_left, push_status};
+use crate::steps::{bytes_of, known_types, text_of, there, within};
+use crate::verdict::Verdict;
+use aidl_base::{Limit, LimitName, OutOfMemory};
 use aidl_schema::{AidlType, Schema};
 use aidl_values::Value;
 use json_values::to_json;
 use parcel_read::read;
 use std::alloc::Global;
 
-/// What `decode TYPES FILE` prints of the file, or of its front where it passes the limit on texts.
-pub fn answer_of(
+/// What `decode TYPES FILE` prints of the file.
+#[tactic(auto, using(crate::proofs::EarlyEnds::ends_there))]
+pub fn decode(
     alloc: Global,
     schema: &Schema,
     types: &str,
     path: &str,
-    file: Option<Vec<u8>>,
-) -> Result<Printed, OutOfMemory>
-    ensures text { IfOk result (λ p. string_bytes p.text ≡ (decode_answer schema.now.decls types.now path.now (option_map (λ v. v.items) file)).text) }
-    ensures exit { IfOk result (λ p. exit_of p.verdict ≡ (decode_answer schema.now.decls types.now path.now (option_map (λ v. v.items) file)).exit) }
+    file: Option<Result<Vec<u8>, Limit>>,
+) -> Result<Printed, Early>
+    ensures { Gives result (decode_answer schema.now.decls types.now path.now (loaded file)) }
 {
-    match file {
-        None => line_of(alloc, "no file ", path, Verdict::Negative),
-        Some(file) => answer_of_file(alloc, schema, types, file),
-    }
+    let found = there(alloc, path, file)?;
+    let text = text_of(alloc, found)?;
+    let bytes = bytes_of(alloc, text)?;
+    let parcel = within(alloc, LimitName::ParcelBytes, bytes)?;
+    let known = known_types(alloc, schema, types)?;
+    let printed = print_items(alloc, schema, known.as_slice(), parcel.as_slice())?;
+    Ok(printed)
 }
 
-fn answer_of_file(
-    alloc: Global,
-    schema: &Schema,
-    types: &str,
-    file: Vec<u8>,
-) -> Result<Printed, OutOfMemory>
-    ensures text { IfOk result (λ p. string_bytes p.text ≡ (passes (length file.items) LimitName.TextBytes (bytes_answer schema.now.decls types.now (hexadecimal file.items))).text) }
-    ensures exit { IfOk result (λ p. exit_of p.verdict ≡ (passes (length file.items) LimitName.TextBytes (bytes_answer schema.now.decls types.now (hexadecimal file.items))).exit) }
-{
-    if file.len() > LimitName::TextBytes.number() as usize {
-        return limit_passed(alloc, LimitName::TextBytes);
-    }
-    match bytes_of(alloc, file)? {
-        None => line_of(alloc, "not hexadecimal", "", Verdict::Negative),
-        Some(bytes) => answer_of_bytes(alloc, schema, types, bytes.as_slice()),
-    }
-}
-
-fn answer_of_bytes(
-    alloc: Global,
-    schema: &Schema,
-    types: &str,
-    bytes: &[u8],
-) -> Result<Printed, OutOfMemory>
-    ensures text { IfOk result (λ p. string_bytes p.text ≡ (passes (length bytes.now) LimitName.ParcelBytes (types_answer schema.now.decls (types_of schema.now.decls (entries_of types.now)) bytes.now)).text) }
-    ensures exit { IfOk result (λ p. exit_of p.verdict ≡ (passes (length bytes.now) LimitName.ParcelBytes (types_answer schema.now.decls (types_of schema.now.decls (entries_of types.now)) bytes.now)).exit) }
-{
-    if bytes.len() > LimitName::ParcelBytes.number() as usize {
-        return limit_passed(alloc, LimitName::ParcelBytes);
-    }
-    match types_of(alloc, schema, types)? {
-        Types::Unknown(entry) => line_of(alloc, "bad type ", entry, Verdict::Negative),
-        Types::Known(types) => answer_of_items(alloc, schema, types.as_slice(), bytes),
-    }
-}
-
-fn answer_of_items(
+fn print_items(
     alloc: Global,
     schema: &Schema,
     types: &[AidlType],
     bytes: &[u8],
 ) -> Result<Printed, OutOfMemory>
     requires { list_all (is_type schema.now.decls) types.now ≡ true }
-    ensures text { IfOk result (λ p. string_bytes p.text ≡ (items_answer schema.now.decls types.now bytes.now).text) }
-    ensures exit { IfOk result (λ p. exit_of p.verdict ≡ (items_answer schema.now.decls types.now bytes.now).exit) }
+    ensures { IfOk result (λ p. printed p ≡ items_answer schema.now.decls types.now bytes.now) }
 {
     let mut text = String::new(alloc);
     let mut rest = bytes;
@@ -162,7 +126,7 @@ fn value_text(
 // Adds the line for the bytes after the last item, where there are some. How the decode ends.
 fn push_rest(text: &mut String, rest: &[u8]) -> Result<Verdict, OutOfMemory>
     ensures text { OnOk result (string_bytes text.new ≡ string_bytes text.old ++ (rest_answer rest.now).text) }
-    ensures exit { IfOk result (λ verdict. exit_of verdict ≡ (rest_answer rest.now).exit) }
+    ensures verdict { IfOk result (λ verdict. verdict ≡ (rest_answer rest.now).verdict) }
 {
     if rest.is_empty() {
         return Ok(Verdict::Done);

@@ -1,22 +1,21 @@
-ghost use Rattle.std.specs.Prelude.{◌≡◌, ◌≤◌, ◌<◌, ◌^◌, ℕ, List, Some, IfOk, length, map, min, string_bytes};
+ghost use Rattle.std.specs.Prelude.{◌≡◌, ◌≤◌, ◌<◌, ◌^◌, ℕ, List, IfOk, MatchOption, length, map, min, string_bytes};
 ghost use Rattle.std.specs.Option.{option_map};
 ghost use Rattle.hex.specs.Hex.{encode_lower};
 ghost use Rattle.serde_json.specs.View.{view as json_view};
 ghost use Rattle.aidl_values.specs.View.{view};
 ghost use Rattle.json_values.specs.Gives.{refusal_of};
 ghost use Rattle.parcel_words.specs.Written.{with_bytes};
-ghost use Rattle.aidl_tool.specs.Answer.{answer_line};
-ghost use Rattle.aidl_tool.specs.CommandWords.{entries_of};
-ghost use Rattle.aidl_tool.specs.Decode.{passes};
-ghost use Rattle.aidl_tool.specs.Encode.{encode_answer, entries_answer, json_answer, parcel_answer, reason_name, refusal_answer, spell_values, values_answer};
+ghost use Rattle.aidl_tool.specs.Answer.{done};
+ghost use Rattle.aidl_tool.specs.Encode.{encode_answer, json_found, reason_name, refused, spell_values, values_found};
 ghost use Rattle.aidl_tool.specs.JsonFile.{AreTyped, json_of, unread_refusal, values_of};
-ghost use Rattle.aidl_tool.specs.Types.{types_of};
-ghost use Rattle.aidl_tool.specs.Verdicts.{exit_of};
+ghost use Rattle.aidl_tool.specs.Refusals.{within};
+ghost use Rattle.aidl_tool.specs.steps.Results.{EndsAs, Finds, Gives, loaded, printed};
 
 use crate::json_file::{Unread, json_of, values_of};
-use crate::printed::{Printed, Verdict, limit_passed, line_of, refused_value};
-use crate::types::{Types, types_of};
-use aidl_base::{LimitName, OutOfMemory};
+use crate::printed::{Early, Printed, limit_passed, refusal, refused_value};
+use crate::steps::{known_types, text_of, there};
+use crate::verdict::Verdict;
+use aidl_base::{Limit, LimitName, OutOfMemory};
 use aidl_schema::{AidlType, Schema};
 use aidl_values::Value;
 use json_values::JsonFault;
@@ -25,83 +24,65 @@ use parcel_write::{put_value, spelled_length};
 use serde_json::Value as Json;
 use std::alloc::Global;
 
-/// What `encode TYPES FILE` prints of the file, or of its front where it passes the limit on texts.
-pub fn answer_of(
+/// What `encode TYPES FILE` prints of the file.
+#[tactic(auto, using(crate::proofs::EarlyEnds::ends_there))]
+pub fn encode(
     alloc: Global,
     schema: &Schema,
     types: &str,
     path: &str,
-    file: Option<Vec<u8>>,
-) -> Result<Printed, OutOfMemory>
-    ensures text { IfOk result (λ p. string_bytes p.text ≡ (encode_answer schema.now.decls types.now path.now (option_map (λ v. v.items) file)).text) }
-    ensures exit { IfOk result (λ p. exit_of p.verdict ≡ (encode_answer schema.now.decls types.now path.now (option_map (λ v. v.items) file)).exit) }
+    file: Option<Result<Vec<u8>, Limit>>,
+) -> Result<Printed, Early>
+    ensures { Gives result (encode_answer schema.now.decls types.now path.now (loaded file)) }
 {
-    match file {
-        None => line_of(alloc, "no file ", path, Verdict::Negative),
-        Some(file) => answer_of_file(alloc, schema, types, file.as_slice()),
+    let found = there(alloc, path, file)?;
+    let text = text_of(alloc, found)?;
+    let known = known_types(alloc, schema, types)?;
+    let json = json_in(alloc, text.as_slice())?;
+    let values = values_in(alloc, schema, known.as_slice(), &json)?;
+    let parcel = parcel_of(alloc, schema, known.as_slice(), values.as_slice())?;
+    let printed = hexadecimal_line(alloc, parcel.as_slice())?;
+    Ok(printed)
+}
+
+// The value of a JSON text.
+fn json_in(alloc: Global, text: &[u8]) -> Result<Json, Early>
+    ensures { Finds json_view result (json_found (json_of text.now)) }
+{
+    match json_of(alloc, text) {
+        Ok(Some(json)) => Ok(json),
+        Ok(None) => Err(refusal(alloc, "refused NotJson ", "")),
+        Err(_) => Err(Early::OutOfMemory),
     }
 }
 
-fn answer_of_file(
-    alloc: Global,
-    schema: &Schema,
-    types: &str,
-    file: &[u8],
-) -> Result<Printed, OutOfMemory>
-    ensures text { IfOk result (λ p. string_bytes p.text ≡ (passes (length file.now) LimitName.TextBytes (entries_answer schema.now.decls (types_of schema.now.decls (entries_of types.now)) file.now)).text) }
-    ensures exit { IfOk result (λ p. exit_of p.verdict ≡ (passes (length file.now) LimitName.TextBytes (entries_answer schema.now.decls (types_of schema.now.decls (entries_of types.now)) file.now)).exit) }
-{
-    if file.len() > LimitName::TextBytes.number() as usize {
-        return limit_passed(alloc, LimitName::TextBytes);
-    }
-    match types_of(alloc, schema, types)? {
-        Types::Unknown(entry) => line_of(alloc, "bad type ", entry, Verdict::Negative),
-        Types::Known(types) => answer_of_text(alloc, schema, types.as_slice(), file),
-    }
-}
-
-fn answer_of_text(
-    alloc: Global,
-    schema: &Schema,
-    types: &[AidlType],
-    file: &[u8],
-) -> Result<Printed, OutOfMemory>
-    ensures text { IfOk result (λ p. string_bytes p.text ≡ (json_answer schema.now.decls types.now (json_of file.now)).text) }
-    ensures exit { IfOk result (λ p. exit_of p.verdict ≡ (json_answer schema.now.decls types.now (json_of file.now)).exit) }
-{
-    match json_of(alloc, file)? {
-        None => line_of(alloc, "refused NotJson ", "", Verdict::Negative),
-        Some(json) => answer_of_json(alloc, schema, types, &json),
-    }
-}
-
-fn answer_of_json(
+// One value of each type.
+fn values_in(
     alloc: Global,
     schema: &Schema,
     types: &[AidlType],
     json: &Json,
-) -> Result<Printed, OutOfMemory>
-    ensures text { IfOk result (λ p. string_bytes p.text ≡ (values_answer schema.now.decls types.now (values_of schema.now.decls types.now (json_view json.now))).text) }
-    ensures exit { IfOk result (λ p. exit_of p.verdict ≡ (values_answer schema.now.decls types.now (values_of schema.now.decls types.now (json_view json.now))).exit) }
+) -> Result<Vec<Value>, Early>
+    ensures values { Finds (λ vs. map view vs.items) result (values_found (values_of schema.now.decls types.now (json_view json.now))) }
+    ensures typed { IfOk result (λ vs. AreTyped schema.now.decls types.now (map view vs.items)) }
 {
     match values_of(alloc, schema, types, json) {
-        Ok(values) => answer_of_values(alloc, schema, types, values.as_slice()),
-        Err(unread) => answer_of_unread(alloc, &unread),
+        Ok(values) => Ok(values),
+        Err(unread) => Err(refusal_of(alloc, &unread)),
     }
 }
 
 // The line of a refusal.
-fn answer_of_unread(alloc: Global, unread: &Unread) -> Result<Printed, OutOfMemory>
-    ensures text { IfOk result (λ p. option_map (λ r. (refusal_answer r).text) (unread_refusal unread.now) ≡ Some (string_bytes p.text)) }
-    ensures exit { IfOk result (λ p. exit_of p.verdict ≡ 1) }
+fn refusal_of(alloc: Global, unread: &Unread) -> Early
+    ensures { MatchOption (unread_refusal unread.now) (result ≡ Early.OutOfMemory) (λ r. EndsAs result (refused (reason_name r.reason) r.at)) }
 {
     match unread {
-        Unread::Shape => line_of(alloc, "refused WrongShape ", "", Verdict::Negative),
+        Unread::Shape => refusal(alloc, "refused WrongShape ", ""),
         Unread::Value(place, fault) => match name_and_place(fault) {
             Some((name, at)) => refused_value(alloc, name, *place, at),
-            None => Err(OutOfMemory),
+            None => Early::OutOfMemory,
         },
-        Unread::OutOfMemory => Err(OutOfMemory),
+        Unread::OutOfMemory => Early::OutOfMemory,
     }
 }
 
@@ -119,23 +100,24 @@ fn name_and_place(fault: &JsonFault) -> Option<(&str, &str)>
     }
 }
 
-fn answer_of_values(
+// The bytes that spell the values, where they don't pass the limit.
+fn parcel_of(
     alloc: Global,
     schema: &Schema,
     types: &[AidlType],
     values: &[Value],
-) -> Result<Printed, OutOfMemory>
+) -> Result<Vec<u8>, Early>
     requires { AreTyped schema.now.decls types.now (map view values.now) }
-    ensures text { IfOk result (λ p. string_bytes p.text ≡ (parcel_answer (spell_values schema.now.decls types.now (map view values.now))).text) }
-    ensures exit { IfOk result (λ p. exit_of p.verdict ≡ (parcel_answer (spell_values schema.now.decls types.now (map view values.now))).exit) }
+    ensures { Finds (λ v. v.items) result (within LimitName.ParcelBytes (spell_values schema.now.decls types.now (map view values.now))) }
 {
     let length = length_of(schema, types, values);
-    if length > LimitName::ParcelBytes.number() as usize {
-        return limit_passed(alloc, LimitName::ParcelBytes);
+    let which = LimitName::ParcelBytes;
+    if length > which.number() as usize {
+        return Err(limit_passed(alloc, Limit { which }));
     }
     let mut to = WordWriter::with_room(alloc, length)?;
     put_values(schema, types, values, &mut to);
-    hexadecimal_line(alloc, to.finish().as_slice())
+    Ok(to.finish())
 }
 
 // The number of bytes that spell the values, or `usize::MAX` where they are more.
@@ -166,8 +148,7 @@ fn put_values(schema: &Schema, types: &[AidlType], values: &[Value], to: &mut Wo
 
 // One line of lower-case hexadecimal.
 fn hexadecimal_line(alloc: Global, bytes: &[u8]) -> Result<Printed, OutOfMemory>
-    ensures text { IfOk result (λ p. string_bytes p.text ≡ (answer_line (encode_lower bytes.now) 0).text) }
-    ensures exit { IfOk result (λ p. exit_of p.verdict ≡ 0) }
+    ensures { IfOk result (λ p. printed p ≡ done (encode_lower bytes.now)) }
 {
     let mut text = hex::encode(alloc, bytes)?;
     text.push_str("\n")?;

@@ -9,7 +9,7 @@ use std::alloc::Global;
 
 /// The bytes that a hexadecimal file stands for. None where a byte stands that is neither a digit nor a blank, or
 /// where the number of digits is odd.
-pub fn bytes_of(alloc: Global, file: Vec<u8>) -> Result<Option<Vec<u8>>, OutOfMemory>
+pub fn hexadecimal(alloc: Global, file: Vec<u8>) -> Result<Option<Vec<u8>>, OutOfMemory>
     ensures { IfOk result (λ bytes. option_map (λ v. v.items) bytes ≡ hexadecimal file.items) }
 {
     let digits = digits_of(file);

@@ -1,20 +1,19 @@
 //! The program `aidl` as one call over any store, sink and link.
 #![tactic(auto)]
 
-mod command;
-mod cut;
+mod base;
 mod decode;
-mod decode_command;
 mod encode;
-mod encode_command;
-mod entry;
-mod entry_form;
+mod file_command;
 mod hexadecimal_file;
 mod json_file;
+mod load;
 mod printed;
 mod put;
-mod refusal;
+mod refuse;
+mod steps;
 mod top;
 mod types;
+mod verdict;
 
 pub use top::aidl;

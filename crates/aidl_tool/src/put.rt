@@ -1,24 +1,29 @@
-ghost use Rattle.std.specs.Prelude.{◌≡◌, ◌≢◌, ◌⊎◌, string_bytes};
-ghost use Rattle.aidl_outside.specs.Causes.{Rose};
-ghost use Rattle.aidl_outside.specs.Told.{Adds, AddsFront};
-ghost use Rattle.aidl_tool.specs.Ends.{IsVerdict};
-ghost use Rattle.aidl_tool.specs.Verdicts.{exit_of};
+ghost use Rattle.std.specs.Prelude.{◌≡◌};
+ghost use Rattle.aidl_tool.specs.Answer.{Answer};
+ghost use Rattle.aidl_tool.specs.steps.Prints.{Prints};
+ghost use Rattle.aidl_tool.specs.steps.Results.{Gives, printed};
 
-use crate::printed::Printed;
+use crate::printed::{Early, Printed};
 use aidl_outside::{Sink, SinkFault};
 use std::alloc::Global;
 
-/// Puts a text into the sink in one piece. The answer is the exit status: that of the verdict, or 4 or 5.
-pub fn put<K: Sink>(alloc: Global, printed: &Printed, sink: &mut K) -> u8
-    ensures exits { (result ≡ exit_of printed.now.verdict) ⊎ ((result ≡ 4) ⊎ (result ≡ 5)) }
-    ensures fault { result ≡ 4 → Rose (K.count sink.old) (K.count sink.new) }
-    ensures good { result ≢ 4 → K.count sink.new ≡ K.count sink.old }
-    ensures exit { IsVerdict result → result ≡ exit_of printed.now.verdict }
-    ensures whole { IsVerdict result → Adds (K.told sink.old) (K.told sink.new) (string_bytes printed.now.text) }
-    ensures part { AddsFront (K.told sink.old) (K.told sink.new) (string_bytes printed.now.text) }
+/// Prints what a command answers, in one piece. The answer is the exit status.
+pub fn print<K: Sink>(alloc: Global, answered: Result<Printed, Early>, sink: &mut K) -> u8
+    ensures { (answer : Answer) → Gives answered answer → Prints answer (K.told sink.old) (K.told sink.new) (K.count sink.old) (K.count sink.new) result }
 {
-    match sink.put(alloc, printed.text.as_bytes()) {
-        Ok(()) => printed.verdict.status(),
+    match answered {
+        Ok(printed) => put(alloc, &printed, sink),
+        Err(Early::Answered(printed)) => put(alloc, &printed, sink),
+        Err(Early::OutOfMemory) => 5,
+    }
+}
+
+// Puts a text in one piece.
+fn put<K: Sink>(alloc: Global, answer: &Printed, sink: &mut K) -> u8
+    ensures { Prints (printed answer.now) (K.told sink.old) (K.told sink.new) (K.count sink.old) (K.count sink.new) result }
+{
+    match sink.put(alloc, answer.text.as_bytes()) {
+        Ok(()) => answer.verdict.status(),
         Err(SinkFault::Failed) => 4,
         Err(SinkFault::OutOfMemory) => 5,
     }

@@ -1,15 +1,14 @@
-ghost use Rattle.std.specs.Prelude.{◌≡◌, true, ◌<◌, ◌∷◌, IfOk, IfSome, length};
-ghost use Rattle.std.specs.Option.{option_map};
+ghost use Rattle.std.specs.Prelude.{◌≡◌, true, IfOk, IfSome};
 ghost use Rattle.aidl_schema.specs.Types.{is_type};
-ghost use Rattle.aidl_tool.specs.CommandWords.{entries_of};
-ghost use Rattle.aidl_tool.specs.Cut.{pieces_left};
-ghost use Rattle.aidl_tool.specs.Seen.{AreKnown, types_seen};
+ghost use Rattle.tool_words.specs.Entries.{entries_of};
+ghost use Rattle.aidl_tool.specs.steps.Types.{AreKnown, types_seen};
 ghost use Rattle.aidl_tool.specs.Types.{type_of, types_of};
 
-use crate::entry::{base_of, entry_of};
+use crate::base::{base_of, shape_of};
 use aidl_base::OutOfMemory;
 use aidl_schema::{AidlType, Schema, is_type};
 use std::alloc::Global;
+use tool_words::{entry_of, first_entry};
 
 /// What the entries of TYPES name.
 #[derive(Drop)]
@@ -43,17 +42,6 @@ pub fn types_of<'a>(
     Ok(Types::Known(known))
 }
 
-/// The first entry, and what stands after its comma.
-pub fn first_entry(types: &str) -> (&str, Option<&str>)
-    ensures entries { entries_of types.now ≡ result.0.now ∷ pieces_left 44 (option_map (λ others. others.now) result.1) }
-    ensures shorter { IfSome result.1 (λ others. length others.now < length types.now) }
-{
-    match types.split_once(',') {
-        Some((entry, others)) => (entry, Some(others)),
-        None => (types, None),
-    }
-}
-
 // The type that an entry names.
 fn type_of(schema: &Schema, text: &[u8]) -> Option<AidlType>
     ensures ty { result ≡ type_of schema.now.decls text.now }
@@ -62,7 +50,7 @@ fn type_of(schema: &Schema, text: &[u8]) -> Option<AidlType>
     let entry = entry_of(text);
     let ty = AidlType {
         base: base_of(entry.name)?,
-        shape: entry.shape,
+        shape: shape_of(entry.form),
         nullable: entry.nullable,
         heap: false,
         utf8: false,

@@ -3,11 +3,10 @@ use Rattle.std.proofs.Common.{true}
 use Rattle.std.specs.List.{list_all}
 use Rattle.std.specs.Option.{option_map}
 use Rattle.aidl_schema.specs.Types.{is_type}
-use Rattle.aidl_tool.specs.CommandWords.{entries_of}
-use Rattle.aidl_tool.specs.Cut.{pieces_left}
+use Rattle.tool_words.specs.Entries.{entries_of}
+use Rattle.tool_words.specs.Cut.{pieces_left}
 use Rattle.aidl_tool.specs.Types.{types_of}
-use Rattle.aidl_tool.proofs.Cuts.{left_length}
-use Rattle.aidl_tool.proofs.Entries.{with_types}
+use Rattle.aidl_tool.proofs.Entries.{left_length, with_types}
 use Rattle.aidl_tool.proofs.types.types_of.Given as goal
 
 -- the types so far, and those of the entries that are left, are those of all

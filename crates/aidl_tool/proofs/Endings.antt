@@ -1,0 +1,166 @@
+-- How a run of a command ends that neither writes nor carries.
+use Rattle.std.proofs.Common.{◌≡◌, ℕ, ◌≤◌, List, [], Option, Some, None, refl, sym, ap, subst, arith, inl, inr}
+use Rattle.std.specs.Prelude.{◌≢◌, ◌⊎◌}
+use Rattle.std.proofs.lemmas.List.{append-nil}
+use Rattle.aidl_outside.specs.declared.link.Carried.{Carried}
+use Rattle.aidl_outside.specs.Causes.{Rose}
+use Rattle.aidl_outside.specs.Files.{Files}
+use Rattle.aidl_outside.specs.Told.{Tells, Adds, AddsFront}
+use Rattle.aidl_tool.specs.declared.verdict.Verdict.{Verdict}
+use Rattle.aidl_tool.specs.declared.verdict.Verdict.TheVariants.{Done, Negative, LimitPassed}
+use Rattle.aidl_tool.specs.Answer.{Answer}
+use Rattle.aidl_tool.specs.Ended.{Ended, WroteAll, WroteSome, FailedAt, CarriedThese, EndsAsMeant, PutsFront}
+use Rattle.aidl_tool.specs.Meaning.{reads_only}
+use Rattle.aidl_tool.specs.Seen.{Seen}
+use Rattle.aidl_tool.specs.Verdict.{exit_of, IsVerdict}
+use Rattle.aidl_tool.specs.steps.Prints.{Prints}
+use Rattle.aidl_tool.proofs.Loaded.{tells}
+
+verdict_exit : (v : Verdict) → IsVerdict (exit_of v)
+verdict_exit Done = inl (omega arith)
+verdict_exit Negative = inl (omega arith)
+verdict_exit LimitPassed = inr refl
+
+-- nothing was put
+pub nothing_put : (told : Option (List ℕ)) (text : List ℕ) → AddsFront told told text
+nothing_put None text = ([], text, refl, refl)
+nothing_put (Some before) text = ([], text, refl, ap (λ now. Some now) (sym (append-nil before)))
+
+nothing_carried : (log : Option (List Carried)) → Adds log log []
+nothing_carried None = refl
+nothing_carried (Some before) = ap (λ now. Some now) (sym (append-nil before))
+
+all_written : (kept : Option Files) → WroteAll (λ files. []) kept kept
+all_written None = refl
+all_written (Some files) = refl
+
+some_written : (kept : Option Files) → WroteSome (λ files. []) kept kept
+some_written None = refl
+some_written (Some files) = ([], [], refl, refl)
+
+-- no write was due, and so none failed
+failed : (kept now : Option Files) → now ≡ kept → FailedAt (λ files. []) kept now
+failed None now same = same
+failed (Some files) now same = inl ([], [], refl, same)
+
+-- a verdict, a fault of the store or the sink, or want of memory
+abbrev pub IsReadExit : ℕ → Type 0
+IsReadExit exit = IsVerdict exit ⊎ ((exit ≡ 3) ⊎ ((exit ≡ 4) ⊎ (exit ≡ 5)))
+
+not_verdict : (exit : ℕ) → 2 ≤ exit → exit ≤ 6 → IsVerdict exit → ⊥
+not_verdict exit low high (inl small) = omega arith
+not_verdict exit low high (inr seven) = omega arith
+
+not_six : (exit : ℕ) → IsReadExit exit → exit ≡ 6 → ⊥
+not_six exit (inl verdict) six = not_verdict exit (omega arith) (omega arith) verdict
+not_six exit (inr (inl three)) six = omega arith
+not_six exit (inr (inr (inl four))) six = omega arith
+not_six exit (inr (inr (inr five))) six = omega arith
+
+not_both : (exit : ℕ) → exit ≡ 3 → (exit ≡ 4) ⊎ (exit ≡ 5) → ⊥
+not_both exit three (inl four) = omega arith
+not_both exit three (inr five) = omega arith
+
+widened : (exit : ℕ) → IsReadExit exit → IsVerdict exit ⊎ ((exit ≡ 3) ⊎ ((exit ≡ 4) ⊎ ((exit ≡ 5) ⊎ (exit ≡ 6))))
+widened exit (inl verdict) = inl verdict
+widened exit (inr (inl three)) = inr (inl three)
+widened exit (inr (inr (inl four))) = inr (inr (inl four))
+widened exit (inr (inr (inr five))) = inr (inr (inr (inl five)))
+
+told_always : {A : Type 0} {Q : A → Type 0} (told : Option A) → ((a : A) → Q a) → Tells told Q
+told_always None h = tt
+told_always (Some a) h = h a
+
+-- the exits of a print
+abbrev IsPrintExit : Answer → ℕ → Type 0
+IsPrintExit a exit = (exit ≡ exit_of a.verdict) ⊎ ((exit ≡ 4) ⊎ (exit ≡ 5))
+
+exits_of : (a : Answer) (exit : ℕ) → IsPrintExit a exit → IsReadExit exit
+exits_of a exit (inl e) = inl (subst IsVerdict (sym e) (verdict_exit a.verdict))
+exits_of a exit (inr (inl four)) = inr (inr (inl four))
+exits_of a exit (inr (inr five)) = inr (inr (inr five))
+
+not_three : (a : Answer) (exit : ℕ) → IsPrintExit a exit → exit ≡ 3 → ⊥
+not_three a exit (inl e) three = not_verdict exit (omega arith) (omega arith) (subst IsVerdict (sym e) (verdict_exit a.verdict))
+not_three a exit (inr (inl four)) three = omega arith
+not_three a exit (inr (inr five)) three = omega arith
+
+verdict_is : (a : Answer) (exit : ℕ) → IsPrintExit a exit → IsVerdict exit → exit ≡ exit_of a.verdict
+verdict_is a exit (inl e) verdict = e
+verdict_is a exit (inr (inl four)) verdict = absurd (not_verdict exit (omega arith) (omega arith) verdict)
+verdict_is a exit (inr (inr five)) verdict = absurd (not_verdict exit (omega arith) (omega arith) verdict)
+
+module _ (answer : Files → Answer) (before now : Seen) (exit : ℕ)
+    (kept : now.kept ≡ before.kept) (log : now.log ≡ before.log) (link : now.link_faults ≡ before.link_faults) (nature : now.is_faithful ≡ before.is_faithful) where
+  these : (files : Files) → CarriedThese (reads_only answer) files before now []
+  these files = (subst (λ l. Adds before.log l []) (sym log) (nothing_carried before.log), tt, λ faithful k entry none. absurd (omega arith))
+
+  as_meant : Tells before.kept (λ files. (exit ≡ exit_of (answer files).verdict) × Adds before.told now.told (answer files).text) → Tells before.kept (EndsAsMeant (reads_only answer) before now exit)
+  as_meant told = tells before.kept _ _ (λ files meant. ([], these files, refl, meant.0, meant.1)) told
+
+  puts_front : Tells before.kept (λ files. AddsFront before.told now.told (answer files).text) → Tells before.kept (PutsFront (reads_only answer) before now)
+  puts_front told = tells before.kept _ _ (λ files front. ([], these files, front)) told
+
+  complete_by : IsReadExit exit → (exit ≡ 3 → Rose before.store_faults now.store_faults) → (exit ≡ 4 → Rose before.sink_faults now.sink_faults)
+      → (IsVerdict exit → Tells before.kept (EndsAsMeant (reads_only answer) before now exit))
+      → (Rose before.store_faults now.store_faults → ⊥) → (Rose before.sink_faults now.sink_faults → ⊥)
+      → (exit ≡ 5) ⊎ (IsVerdict exit × Tells before.kept (EndsAsMeant (reads_only answer) before now exit))
+  complete_by (inl verdict) store sink meant no_store no_sink = inr (verdict, meant verdict)
+  complete_by (inr (inl three)) store sink meant no_store no_sink = absurd (no_store (store three))
+  complete_by (inr (inr (inl four))) store sink meant no_store no_sink = absurd (no_sink (sink four))
+  complete_by (inr (inr (inr five))) store sink meant no_store no_sink = inl five
+
+  -- a run that neither wrote nor carried
+  ended : (exits : IsReadExit exit)
+      → (store_fault : exit ≡ 3 → Rose before.store_faults now.store_faults)
+      → (store_good : exit ≢ 3 → now.store_faults ≡ before.store_faults)
+      → (sink_fault : exit ≡ 4 → Rose before.sink_faults now.sink_faults)
+      → (sink_good : exit ≢ 4 → now.sink_faults ≡ before.sink_faults)
+      → (answered : IsVerdict exit → Tells before.kept (λ files. (exit ≡ exit_of (answer files).verdict) × Adds before.told now.told (answer files).text))
+      → (silent : exit ≡ 3 → now.told ≡ before.told)
+      → (front : (exit ≡ 4) ⊎ (exit ≡ 5) → Tells before.kept (λ files. AddsFront before.told now.told (answer files).text))
+      → Ended (reads_only answer) before now exit
+  ended exits store_fault store_good sink_fault sink_good answered silent front = record {
+    exits = widened exit exits;
+    store_fault = store_fault;
+    store_good = store_good;
+    sink_fault = sink_fault;
+    sink_good = sink_good;
+    link_fault = λ six. absurd (not_six exit exits six);
+    link_good = λ other. link;
+    link_nature = nature;
+    wrote = λ ends. subst (λ k. WroteAll (λ files. []) before.kept k) (sym kept) (all_written before.kept);
+    wrote_some = λ five. subst (λ k. WroteSome (λ files. []) before.kept k) (sym kept) (some_written before.kept);
+    write_failed = λ three. failed before.kept now.kept kept;
+    carries_nothing = λ why. log;
+    answer = λ verdict. as_meant (answered verdict);
+    silent = silent;
+    front = λ ends. puts_front (front ends);
+    stopped = λ six. absurd (not_six exit exits six);
+    complete = λ no_store no_sink no_link. complete_by exits store_fault sink_fault (λ verdict. as_meant (answered verdict)) no_store no_sink;
+  }
+
+module _ (answer : Files → Answer) (before now : Seen)
+    (kept : now.kept ≡ before.kept) (log : now.log ≡ before.log) (link : now.link_faults ≡ before.link_faults) (nature : now.is_faithful ≡ before.is_faithful) where
+  -- a read that failed
+  pub ended_by_store : Rose before.store_faults now.store_faults → now.told ≡ before.told → now.sink_faults ≡ before.sink_faults → Ended (reads_only answer) before now 3
+  ended_by_store rose told sink =
+      ended answer before now 3 kept log link nature (inr (inl refl)) (λ three. rose) (λ other. absurd (other refl)) (λ four. absurd (omega arith)) (λ other. sink)
+      (λ verdict. absurd (not_verdict 3 (omega arith) (omega arith) verdict)) (λ three. told) (λ ends. absurd (not_both 3 refl ends))
+
+  -- want of memory before anything was put
+  pub ended_by_memory : now.store_faults ≡ before.store_faults → now.told ≡ before.told → now.sink_faults ≡ before.sink_faults → Ended (reads_only answer) before now 5
+  ended_by_memory store told sink =
+      ended answer before now 5 kept log link nature (inr (inr (inr refl))) (λ three. absurd (omega arith)) (λ other. store) (λ four. absurd (omega arith)) (λ other. sink)
+      (λ verdict. absurd (not_verdict 5 (omega arith) (omega arith) verdict)) (λ three. absurd (omega arith))
+      (λ ends. told_always before.kept (λ files. subst (λ t. AddsFront before.told t (answer files).text) (sym told) (nothing_put before.told (answer files).text)))
+
+  -- an answer that was printed
+  pub ended_by_print : (a : Answer) (exit : ℕ) → Tells before.kept (λ files. a ≡ answer files) → now.store_faults ≡ before.store_faults
+      → Prints a before.told now.told before.sink_faults now.sink_faults exit → Ended (reads_only answer) before now exit
+  ended_by_print a exit is store prints =
+      ended answer before now exit kept log link nature (exits_of a exit prints.exits) (λ three. absurd (not_three a exit prints.exits three)) (λ other. store) prints.fault prints.good
+      (λ verdict. let e = verdict_is a exit prints.exits verdict in
+      tells before.kept _ _ (λ files same. (subst (λ (x : Answer). exit ≡ exit_of x.verdict) same e, subst (λ (x : Answer). Adds before.told now.told x.text) same (prints.whole e))) is)
+      (λ three. absurd (not_three a exit prints.exits three))
+      (λ ends. tells before.kept _ _ (λ files same. subst (λ (x : Answer). AddsFront before.told now.told x.text) same prints.front) is)

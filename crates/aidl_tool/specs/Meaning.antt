@@ -1,0 +1,40 @@
+-- What a command means over the files that a store told before.
+use Rattle.std.specs.Prelude.{◌≡◌, ℕ, List, [], ◌∷◌, ◌++◌, Option, Some, None}
+use Rattle.aidl_outside.specs.declared.link.Carried.{Carried}
+use Rattle.aidl_outside.specs.declared.link.Way.{Way}
+use Rattle.aidl_outside.specs.Files.{Files}
+use Rattle.aidl_tool.specs.Answer.{Answer}
+
+-- a file that is to be written
+pub record Write : Type 0 where
+  pub path : List ℕ
+  pub bytes : List ℕ
+
+-- a parcel that is to be carried
+pub record Parcel : Type 0 where
+  pub way : Way
+  pub code : ℕ
+  pub sent : List ℕ
+
+-- The files that it writes, in order. The parcel that is due after those that were carried, by what was delivered; None
+-- where no more is. And its answer: while a parcel is due, its text is what is printed before that one is carried.
+pub record Meaning : Type 0 where
+  pub writes : Files → List Write
+  pub due : Files → List Carried → Option Parcel
+  pub answer : Files → List Carried → Answer
+
+-- a command that neither writes nor carries
+abbrev pub reads_only : (Files → Answer) → Meaning
+reads_only answer = record { writes = λ files. []; due = λ files entries. None; answer = λ files entries. answer files }
+
+abbrev pub parcel_of : Carried → Parcel
+parcel_of entry = record { way = entry.way; code = entry.code; sent = entry.sent }
+
+-- each entry is of the parcel that was due after those before it
+abbrev pub AreDue : (List Carried → Option Parcel) → List Carried → List Carried → Type 0
+AreDue due before [] = Unit {0}
+AreDue due before (entry ∷ entries) = (due before ≡ Some (parcel_of entry)) × AreDue due (before ++ entry ∷ []) entries
+
+-- no parcel is ever due
+abbrev pub CarriesNothing : Meaning → Type 0
+CarriesNothing m = (files : Files) (entries : List Carried) → m.due files entries ≡ None

@@ -1,0 +1,5 @@
+pub mod Files
+pub mod Items
+pub mod Prints
+pub mod Results
+pub mod Types

@@ -1,0 +1,23 @@
+-- What the commands that read one file mean.
+use Rattle.std.specs.Prelude.{ℕ, [], List, Option}
+use Rattle.aidl_base.specs.declared.limit.LimitName.TheVariants.{TextBytes}
+use Rattle.aidl_tool.specs.declared.file_command.FileCommand.{FileCommand}
+use Rattle.aidl_tool.specs.declared.file_command.FileCommand.TheVariants.{Decode, Encode}
+use Rattle.aidl_tool.specs.Answer.{Answer, Found}
+use Rattle.aidl_tool.specs.Decode.{decode_answer}
+use Rattle.aidl_tool.specs.Encode.{encode_answer}
+use Rattle.aidl_tool.specs.Meaning.{Meaning, reads_only}
+use Rattle.aidl_tool.specs.Refusals.{file_at}
+
+abbrev pub path_of : FileCommand → List ℕ
+path_of (Decode types path) = path.now
+path_of (Encode types path) = path.now
+
+-- what it answers of its file
+abbrev pub answer_of : FileCommand → Option (Found (List ℕ)) → Answer
+answer_of (Decode types path) file = decode_answer [] types.now path.now file
+answer_of (Encode types path) file = encode_answer [] types.now path.now file
+
+-- of a store's files
+abbrev pub meaning_of : FileCommand → Meaning
+meaning_of command = reads_only (λ files. answer_of command (file_at TextBytes files (path_of command)))

@@ -1,0 +1,232 @@
+ghost use Rattle.std.specs.Prelude.{◌≡◌, map, string_bytes};
+ghost use Rattle.std.specs.Option.{option_map};
+ghost use Rattle.tool_words.specs.Rows as table;
+ghost use Rattle.tool_words.specs.Seen.{command_seen};
+
+use crate::command::Command;
+use crate::numbers::number_within;
+use crate::options::{after_flag, after_tree, has_flag, tree_of};
+use crate::paths::{is_path, one_path, three_paths, two_paths};
+use crate::type_words::types_and_file;
+
+/// The command that the words are, those after the program's own name. None where they are in no row of the table of
+/// commands. It takes no memory.
+pub fn command_of(words: &[String]) -> Option<Command<'_>>
+    ensures { option_map command_seen result ≡ table.command_of (map string_bytes words.now) }
+{
+    match words {
+        [] => None,
+        [name, words @ ..] => in_row(name.as_str(), words),
+    }
+}
+
+fn in_row<'a>(name: &str, words: &'a [String]) -> Option<Command<'a>>
+    ensures { option_map command_seen result ≡ table.in_row name.now (map string_bytes words.now) }
+{
+    match name {
+        "decode" => decode(words),
+        "encode" => encode(words),
+        "check" => check(words),
+        "dump" => dump(words),
+        "freeze" => freeze(words),
+        "verify" => verify(words),
+        "rehash" => rehash(words),
+        "judge" => judge(words),
+        "witness" => witness(words),
+        "run" => run(words),
+        "make" => make(words),
+        "ask" => ask(words),
+        "explain" => explain(words),
+        "replay" => replay(words),
+        _ => None,
+    }
+}
+
+#[tactic(auto, unfolding(crate::specs::Rows::decode_row))]
+fn decode(words: &[String]) -> Option<Command<'_>>
+    ensures { option_map command_seen result ≡ table.decode_row (map string_bytes words.now) }
+{
+    let lenient = has_flag(words, "--lenient");
+    let words = after_flag(words, "--lenient");
+    let tree = tree_of(words);
+    let (types, file) = types_and_file(after_tree(words))?;
+    Some(Command::Decode {
+        lenient,
+        tree,
+        types,
+        file,
+    })
+}
+
+#[tactic(auto, unfolding(crate::specs::Rows::encode_row))]
+fn encode(words: &[String]) -> Option<Command<'_>>
+    ensures { option_map command_seen result ≡ table.encode_row (map string_bytes words.now) }
+{
+    let tree = tree_of(words);
+    let (types, file) = types_and_file(after_tree(words))?;
+    Some(Command::Encode { tree, types, file })
+}
+
+#[tactic(auto, unfolding(crate::specs::Rows::explain_row))]
+fn explain(words: &[String]) -> Option<Command<'_>>
+    ensures { option_map command_seen result ≡ table.explain_row (map string_bytes words.now) }
+{
+    let tree = tree_of(words);
+    let (types, file) = types_and_file(after_tree(words))?;
+    Some(Command::Explain { tree, types, file })
+}
+
+#[tactic(auto, unfolding(crate::specs::Rows::check_row))]
+fn check(words: &[String]) -> Option<Command<'_>>
+    ensures { option_map command_seen result ≡ table.check_row (map string_bytes words.now) }
+{
+    let tree = one_path(words)?;
+    Some(Command::Check { tree })
+}
+
+#[tactic(auto, unfolding(crate::specs::Rows::verify_row))]
+fn verify(words: &[String]) -> Option<Command<'_>>
+    ensures { option_map command_seen result ≡ table.verify_row (map string_bytes words.now) }
+{
+    let api = one_path(words)?;
+    Some(Command::Verify { api })
+}
+
+#[tactic(auto, unfolding(crate::specs::Rows::rehash_row))]
+fn rehash(words: &[String]) -> Option<Command<'_>>
+    ensures { option_map command_seen result ≡ table.rehash_row (map string_bytes words.now) }
+{
+    let api = one_path(words)?;
+    Some(Command::Rehash { api })
+}
+
+#[tactic(auto, unfolding(crate::specs::Rows::dump_row))]
+fn dump(words: &[String]) -> Option<Command<'_>>
+    ensures { option_map command_seen result ≡ table.dump_row (map string_bytes words.now) }
+{
+    let (tree, out) = two_paths(words)?;
+    Some(Command::Dump { tree, out })
+}
+
+#[tactic(auto, unfolding(crate::specs::Rows::freeze_row))]
+fn freeze(words: &[String]) -> Option<Command<'_>>
+    ensures { option_map command_seen result ≡ table.freeze_row (map string_bytes words.now) }
+{
+    let (tree, api) = two_paths(words)?;
+    Some(Command::Freeze { tree, api })
+}
+
+#[tactic(auto, unfolding(crate::specs::Rows::judge_row))]
+fn judge(words: &[String]) -> Option<Command<'_>>
+    ensures { option_map command_seen result ≡ table.judge_row (map string_bytes words.now) }
+{
+    let (old, new) = two_paths(words)?;
+    Some(Command::Judge { old, new })
+}
+
+#[tactic(auto, unfolding(crate::specs::Rows::witness_row))]
+fn witness(words: &[String]) -> Option<Command<'_>>
+    ensures { option_map command_seen result ≡ table.witness_row (map string_bytes words.now) }
+{
+    let (old, new) = two_paths(words)?;
+    Some(Command::Witness { old, new })
+}
+
+#[tactic(auto, unfolding(crate::specs::Rows::run_row))]
+fn run(words: &[String]) -> Option<Command<'_>>
+    ensures { option_map command_seen result ≡ table.run_row (map string_bytes words.now) }
+{
+    let trace = has_flag(words, "--trace");
+    let words = after_flag(words, "--trace");
+    let lenient = has_flag(words, "--lenient");
+    let (client, server, calls) = three_paths(after_flag(words, "--lenient"))?;
+    Some(Command::Run {
+        trace,
+        lenient,
+        client,
+        server,
+        calls,
+    })
+}
+
+#[tactic(auto, unfolding(crate::specs::Rows::make_row))]
+fn make(words: &[String]) -> Option<Command<'_>>
+    ensures { option_map command_seen result ≡ table.make_row (map string_bytes words.now) }
+{
+    match words {
+        [count, out] if is_path(out.as_str()) => make_of(count.as_str(), out.as_str()),
+        _ => None,
+    }
+}
+
+fn make_of<'a>(count: &str, out: &'a str) -> Option<Command<'a>>
+    ensures { option_map command_seen result ≡ table.make_of count.now out.now }
+{
+    let count = number_within(1, 1000, count)?;
+    Some(Command::Make { count, out })
+}
+
+#[tactic(auto, unfolding(crate::specs::Rows::ask_row))]
+fn ask(words: &[String]) -> Option<Command<'_>>
+    ensures { option_map command_seen result ≡ table.ask_row (map string_bytes words.now) }
+{
+    match words {
+        [api, version, interface, code, file] if is_path(api.as_str()) && is_path(file.as_str()) =>
+            ask_of(
+                api.as_str(),
+                version.as_str(),
+                interface.as_str(),
+                code.as_str(),
+                file.as_str(),
+            ),
+        _ => None,
+    }
+}
+
+fn ask_of<'a>(
+    api: &'a str,
+    version: &str,
+    interface: &'a str,
+    code: &str,
+    file: &'a str,
+) -> Option<Command<'a>>
+    ensures { option_map command_seen result ≡ table.ask_of api.now version.now interface.now code.now file.now }
+{
+    let version = number_within(1, 9999, version)?;
+    let code = number_within(0, 4294967295, code)?;
+    Some(Command::Ask {
+        api,
+        version,
+        interface,
+        code,
+        file,
+    })
+}
+
+#[tactic(auto, unfolding(crate::specs::Rows::replay_row))]
+fn replay(words: &[String]) -> Option<Command<'_>>
+    ensures { option_map command_seen result ≡ table.replay_row (map string_bytes words.now) }
+{
+    match words {
+        [server, interface, trace] => replay_of(
+            server.as_str(),
+            interface.as_str(),
+            trace.as_str(),
+        ),
+        _ => None,
+    }
+}
+
+fn replay_of<'a>(server: &'a str, interface: &'a str, trace: &'a str) -> Option<Command<'a>>
+    ensures { option_map command_seen result ≡ table.replay_of server.now interface.now trace.now }
+{
+    if is_path(server) && is_path(trace) {
+        Some(Command::Replay {
+            server,
+            interface,
+            trace,
+        })
+    } else {
+        None
+    }
+}
