@@ -58,15 +58,10 @@ fn a_store_stops_at_a_call_and_every_later_one(rt: HostRuntime) -> Result<(), Fa
     assert_eq!(rt; store.list(alloc, "").err(), Some(StoreFault::Failed));
     assert_eq!(rt; store.read(alloc, "a", 9).err(), Some(StoreFault::Failed));
     assert_eq!(rt; store.faults(), 3);
-    let lengths = format!(in alloc;
-        "{:?}",
-        store
-            .files()
-            .iter()
-            .map(|file| file.bytes.len())
-            .collect(alloc)?
-    )?;
-    assert_eq!(rt; lengths.as_str(), "[5, 1]");
+    assert_eq!(rt; store.files().len(), 2);
+    for (file, length) in store.files().iter().zip([5, 1]) {
+        assert_eq!(rt; file.bytes.len(), length);
+    }
     Ok(())
 }
 

@@ -13,6 +13,15 @@ const CROSSED: &[u8] = b"\x0c\0\0\0\x07\0\0\0\x02\0\0\0h\0i\0\0\0\0\0";
 // A record of 12 bytes with the number 7, in it a record of 8 bytes, which passes its end; and the number 9.
 const NESTED: &[u8] = b"\x0c\0\0\0\x07\0\0\0\x08\0\0\0\x09\0\0\0";
 
+// Size words, and what entering a record with them answers.
+const SIZES: [(&[u8], Result<(), ReadFault>); 5] = [
+    (b"\x03\0\0\0", Err(ReadFault::BadValue)),
+    (b"\x04\0\0\0", Ok(())),
+    (b"\x06\0\0\0", Err(ReadFault::BadValue)),
+    (b"\xfc\xff\xff\x7f", Err(ReadFault::NotEnough)),
+    (b"\x08\0\0\0\x07\0\0\0", Ok(())),
+];
+
 #[test]
 fn a_record_ends_where_its_size_says(rt: HostRuntime) -> Result<(), Fail> {
     let mut reader = WordReader::new(CROSSED);
@@ -34,22 +43,9 @@ fn a_record_ends_where_its_size_says(rt: HostRuntime) -> Result<(), Fail> {
     assert_eq!(rt; reader.position(), 12);
     assert_eq!(rt; reader.word()?, 9);
     assert_eq!(rt; reader.word(), Err(ReadFault::NotEnough));
-    Ok(())
-}
 
-// The size word of a record, and what entering it answers.
-#[test]
-fn a_size_word_is_a_multiple_of_four_that_counts_itself(rt: HostRuntime) -> Result<(), Fail> {
-    let sizes: [(&[u8], Result<(), ReadFault>); 5] = [
-        (b"\x03\0\0\0", Err(ReadFault::BadValue)),
-        (b"\x04\0\0\0", Ok(())),
-        (b"\x06\0\0\0", Err(ReadFault::BadValue)),
-        (b"\xfc\xff\xff\x7f", Err(ReadFault::NotEnough)),
-        (b"\x08\0\0\0\x07\0\0\0", Ok(())),
-    ];
-    for (bytes, wanted) in sizes {
-        let mut reader = WordReader::new(bytes);
-        assert_eq!(rt; reader.enter(), wanted);
+    for (bytes, wanted) in SIZES {
+        assert_eq!(rt; WordReader::new(bytes).enter(), wanted);
     }
     Ok(())
 }

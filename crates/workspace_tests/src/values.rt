@@ -90,21 +90,14 @@ fn the_default_has_the_initializer(rt: HostRuntime) -> Result<(), Fail> {
         assert_eq!(rt; s.as_str(), "x");
     }
     law_one_default(&schema, &ty, &value);
-    law_sound(&schema);
-    Ok(())
-}
-
-#[test]
-fn a_field_starts_with_its_initializer(rt: HostRuntime) -> Result<(), Fail> {
-    let schema = Schema::empty(rt.alloc());
     let field = Field {
         name: Ident(text(rt.alloc(), "n")?),
         ty: one(Base::Int),
         initial: Some(Const::Number(4)),
     };
-    let value = initial_of(rt.alloc(), &schema, &field)?;
-    assert!(rt; matches!(value, Value::Number(4)));
-    assert!(rt; has_type(&schema, &field.ty, &value));
+    let initial = initial_of(rt.alloc(), &schema, &field)?;
+    assert!(rt; matches!(initial, Value::Number(4)));
+    law_sound(&schema);
     Ok(())
 }
 
