@@ -15,7 +15,7 @@ use Rattle.aidl_syntax.specs.Trees.Expr.{literal, name, group, unary, binary}
 use Rattle.aidl_syntax.specs.Parts.{first}
 use Rattle.aidl_parser.specs.steps.Reading.{IsMark}
 use Rattle.aidl_syntax.specs.Productions.{AreNames, IsDotted, is_literal, is_sign, level, IsOf, IsExpr}
-use Rattle.aidl_parser.specs.steps.Reading.{Read, mark_of, is_dot, is_open, names, dotted, by_name, operand, climb, expr, goes_on, level_by, symbol_or}
+use Rattle.aidl_parser.specs.steps.Reading.{Read, mark_of, is_dot, is_open, names, dotted, by_name, operand, climb, expr, goes_on, level_by}
 
 -- the first token isn't a dot
 abbrev pub no_dot : List Token → Bool
@@ -139,8 +139,7 @@ climb_found rec k least a b op sign us rest s pos le lt r =
     let m : mark_of sign.kind ≡ Some op = rw s refl in
     let l : level_by (mark_of sign.kind) ≡ level op = rw m refl in
     let g : goes_on least (level_by (mark_of sign.kind)) ≡ true = rw l (grind (arith, nat_tests)) in
-    climb_more rec k least a b sign (sign ∷ us) us rest refl g lt (ap (λ v. rec (v + 1) us) l ∙ r)
-    ∙ ap (λ x. climb rec (k - 1) least (binary (offset_of a) (symbol_or x) a b) rest) m
+    climb_more rec k least a b op sign (sign ∷ us) us rest refl m g lt (ap (λ v. rec (v + 1) us) l ∙ r)
 
 mark_no_dot : (t : Token) (ts : List Token) (s : Symbol) → IsMark s t → is_dot (Some s) ≡ false → no_dot (t ∷ ts) ≡ true
 mark_no_dot t ts s k e = rw (k, e) refl

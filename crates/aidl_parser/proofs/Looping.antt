@@ -1,13 +1,14 @@
 -- The loops of the parser.
 use Rattle.std.proofs.Common.{◌≡◌, ℕ, zero, suc, ◌+◌, ◌-◌, ◌<◌, Bool, true, false, cond, List, [], ◌∷◌, ◌++◌, Option, Some, None, refl, sym, ap, ◌∙◌, arith, append_assoc, append-nil}
 use Rattle.aidl_base.specs.declared.name.Ident.{Ident}
+use Rattle.aidl_syntax.specs.declared.token.Symbol.{Symbol}
 use Rattle.aidl_syntax.specs.declared.token.Token.{Token}
 use Rattle.aidl_syntax.specs.Trees.{Expr, offset_of}
 use Rattle.aidl_syntax.specs.Trees.Expr.{binary}
 use Rattle.aidl_parser.specs.declared.fault.ParseFault.{ParseFault}
 use Rattle.aidl_parser.specs.declared.fault.ParseFault.TheVariants as fault
 use Rattle.aidl_parser.specs.Gives.{Fails}
-use Rattle.aidl_parser.specs.steps.Reading.{Read, mark_of, name_of, is_dot, after_dot, onto, names, with_names, operand, climb, expr, goes_on, level_by, symbol_or, ◌>>=◌}
+use Rattle.aidl_parser.specs.steps.Reading.{Read, mark_of, name_of, is_dot, after_dot, onto, names, with_names, operand, climb, expr, goes_on, level_by, with_sign, ◌>>=◌}
 
 with_onto : (front : List Ident) (i : Ident) (r : Read (List Ident)) → with_names front (onto i r) ≡ with_names (front ++ i ∷ []) r
 with_onto front i None = refl
@@ -87,12 +88,14 @@ unfolding climb
 climb_none rec zero least a t all ts whole e r = rw (whole, e) refl
 climb_none rec (suc n) least a t all ts whole e r = rw (whole, e, r) refl
 
-pub climb_more : (rec : ℕ → List Token → Read Expr) (n least : ℕ) (a b : Expr) (t : Token) (all ts rest : List Token) → all ≡ t ∷ ts → goes_on least (level_by (mark_of t.kind)) ≡ true
-    → 0 < n → rec (level_by (mark_of t.kind) + 1) ts ≡ Some (b, rest)
-    → climb rec n least a all ≡ climb rec (n - 1) least (binary (offset_of a) (symbol_or (mark_of t.kind)) a b) rest
+pub climb_more : (rec : ℕ → List Token → Read Expr) (n least : ℕ) (a b : Expr) (s : Symbol) (t : Token) (all ts rest : List Token) → all ≡ t ∷ ts → mark_of t.kind ≡ Some s
+    → goes_on least (level_by (mark_of t.kind)) ≡ true → 0 < n → rec (level_by (mark_of t.kind) + 1) ts ≡ Some (b, rest)
+    → climb rec n least a all ≡ climb rec (n - 1) least (binary (offset_of a) s a b) rest
 unfolding climb
-climb_more rec zero least a b t all ts rest whole e lt r = absurd (omega arith)
-climb_more rec (suc n) least a b t all ts rest whole e lt r = let m : suc n - 1 ≡ n = omega arith in rw (whole, e, r, m) refl
+climb_more rec zero least a b s t all ts rest whole sign e lt r = absurd (omega arith)
+climb_more rec (suc n) least a b s t all ts rest whole sign e lt r =
+    let m : suc n - 1 ≡ n = omega arith in
+    rw (whole, e, r, m) (ap (λ x. with_sign x (λ y. climb rec n least (binary (offset_of a) y a b) rest)) sign)
 
 -- a fault of a part is one of the whole
 pub fails_over : {Y Z : Type 0} (e : ParseFault) (r : Option Y) (whole : Option Z) → Fails e r → (r ≡ None → whole ≡ None) → Fails e whole

@@ -13,7 +13,7 @@ use Rattle.aidl_syntax.specs.Trees.Expr.{literal, name, group, unary, binary}
 use Rattle.aidl_syntax.specs.Parts.{first}
 use Rattle.aidl_parser.specs.steps.Reading.{IsMark}
 use Rattle.aidl_syntax.specs.Productions.{AreNames, IsDotted, is_literal, is_sign, level, IsOf}
-use Rattle.aidl_parser.specs.steps.Reading.{Read, mark_of, name_of, is_dot, is_close, is_open, onto_name, names, dotted, by_name, closed, by_symbol, by_mark, operand, climb, expr, goes_on, level_by, symbol_or, ◌>>=◌}
+use Rattle.aidl_parser.specs.steps.Reading.{Read, mark_of, name_of, is_dot, is_close, is_open, onto_name, names, dotted, by_name, closed, by_symbol, by_mark, operand, climb, expr, goes_on, level_by, with_sign, ◌>>=◌}
 use Rattle.aidl_parser.proofs.Found.{next_level, root, level_most, next_most, starts_name, first_kept}
 
 -- what a step gave came from what the step before gave
@@ -105,10 +105,10 @@ climb_told rec told zero least before (t ∷ ts) a e rest one el h next r = go (
   go (inr (stop, d)) = stays least before (t ∷ ts) a e rest h (stops_at least (level_by (mark_of t.kind)) one stop) d
 climb_told rec told (suc k) least before (t ∷ ts) a e rest one el h next r =
     climb_on (climb_told rec told k least) (chosen (goes_on least (level_by (mark_of t.kind)))
-    (rec (level_by (mark_of t.kind) + 1) ts >>= λ b. climb rec k least (binary (offset_of a) (symbol_or (mark_of t.kind)) a b.0) b.1) (Some (a, t ∷ ts)) (Some (e, rest)) r) where
+    (rec (level_by (mark_of t.kind) + 1) ts >>= λ b. with_sign (mark_of t.kind) (λ s. climb rec k least (binary (offset_of a) s a b.0) b.1)) (Some (a, t ∷ ts)) (Some (e, rest)) r) where
       climb_on : ((before ts : List Token) (a e : Expr) (rest : List Token) → 1 ≤ least → least ≤ 11 → IsOf least before a → next_level ts ≤ root a
           → climb rec k least a ts ≡ Some (e, rest) → (more : List Token) × (ts ≡ more ++ rest) × IsOf least (before ++ more) e × (next_level rest < least))
-          → ((goes_on least (level_by (mark_of t.kind)) ≡ true) × ((rec (level_by (mark_of t.kind) + 1) ts >>= λ b. climb rec k least (binary (offset_of a) (symbol_or (mark_of t.kind)) a b.0) b.1) ≡ Some (e, rest)))
+          → ((goes_on least (level_by (mark_of t.kind)) ≡ true) × ((rec (level_by (mark_of t.kind) + 1) ts >>= λ b. with_sign (mark_of t.kind) (λ s. climb rec k least (binary (offset_of a) s a b.0) b.1)) ≡ Some (e, rest)))
           ⊎ ((goes_on least (level_by (mark_of t.kind)) ≡ false) × (◌≡◌ {A = Read Expr} (Some (a, t ∷ ts)) (Some (e, rest))))
           → (more : List Token) × (t ∷ ts ≡ more ++ rest) × IsOf least (before ++ more) e × (next_level rest < least)
       climb_on ih (inr (stop, d)) = stays least before (t ∷ ts) a e rest h (stops_at least (level_by (mark_of t.kind)) one stop) d
@@ -117,9 +117,9 @@ climb_told rec told (suc k) least before (t ∷ ts) a e rest one el h next r =
           let o = symbol_there (mark_of t.kind) g.0 in
           let l : level_by (mark_of t.kind) ≡ level o.0 = ap level_by o.1 in
           let most = level_most o.0 in
-          let b = bind_some (rec (level_by (mark_of t.kind) + 1) ts) (λ b. climb rec k least (binary (offset_of a) (symbol_or (mark_of t.kind)) a b.0) b.1) (e, rest) d in
+          let b = bind_some (rec (level_by (mark_of t.kind) + 1) ts) (λ b. with_sign (mark_of t.kind) (λ s. climb rec k least (binary (offset_of a) s a b.0) b.1)) (e, rest) d in
           let f = told (level_by (mark_of t.kind) + 1) ts b.0.0 b.0.1 (omega arith) (omega arith) b.1 in
-          let c = subst (λ x. climb rec k least (binary (offset_of a) (symbol_or x) a b.0.0) b.0.1 ≡ Some (e, rest)) o.1 b.2 in
+          let c = subst (λ x. with_sign x (λ s. climb rec k least (binary (offset_of a) s a b.0.0) b.0.1) ≡ Some (e, rest)) o.1 b.2 in
           let hb : IsOf (level o.0 + 1) f.0 b.0.0 = subst (λ x. IsOf (x + 1) f.0 b.0.0) l f.2 in
           let hl : IsOf least (before ++ t ∷ f.0) (binary (offset_of a) o.0 a b.0.0) =
           (omega arith, omega arith, before, f.0, t, refl, is_mark t.kind o.0 o.1, refl, raise a least (level o.0) before h (omega arith), hb) in

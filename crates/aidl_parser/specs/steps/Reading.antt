@@ -109,9 +109,10 @@ level_by None = 0
 abbrev pub goes_on : ℕ → ℕ → Bool
 goes_on least l = nat_lt 0 l && nat_le least l
 
-abbrev pub symbol_or : Option Symbol → Symbol
-symbol_or (Some s) = s
-symbol_or None = mark.Dot
+-- what a symbol gives, where one is there
+abbrev pub with_sign : {A : Type 0} → Option Symbol → (Symbol → Option A) → Option A
+with_sign (Some s) f = f s
+with_sign None f = None
 
 -- the sign is a binary operator of a level or above, and this is its level
 abbrev pub IsOperator : ℕ → Option Symbol → Symbol → ℕ → Type 0
@@ -123,7 +124,7 @@ climb rec n least a [] = Some (a, [])
 climb rec zero least a (t ∷ ts) = if goes_on least (level_by (mark_of t.kind)) then None else Some (a, t ∷ ts)
 climb rec (suc n) least a (t ∷ ts) = if goes_on least (level_by (mark_of t.kind)) then (do
   b ← rec (level_by (mark_of t.kind) + 1) ts
-  climb rec n least (binary (offset_of a) (symbol_or (mark_of t.kind)) a b.0) b.1) else Some (a, t ∷ ts)
+  with_sign (mark_of t.kind) (λ s. climb rec n least (binary (offset_of a) s a b.0) b.1)) else Some (a, t ∷ ts)
 
 unfoldable pub expr : ℕ → ℕ → List Token → Read Expr
 expr zero least ts = None

@@ -1,8 +1,7 @@
-use Rattle.std.proofs.Common.{◌≡◌, ◌+◌, ◌-◌, ◌<◌, sym, ◌∙◌, ap, arith}
+use Rattle.std.proofs.Common.{◌+◌, ◌-◌, ◌<◌, sym, ◌∙◌, ap, arith}
 use Rattle.std.proofs.lemmas.Result.{err_from_is_err_and}
-use Rattle.aidl_syntax.specs.Trees.{expr_of, offset_of}
-use Rattle.aidl_syntax.specs.Trees.Expr.{binary}
-use Rattle.aidl_parser.specs.steps.Reading.{climb, expr, mark_of, symbol_or}
+use Rattle.aidl_syntax.specs.Trees.{expr_of}
+use Rattle.aidl_parser.specs.steps.Reading.{climb, expr}
 use Rattle.aidl_parser.proofs.Looping.{climb_end, climb_stop, climb_spent, climb_none, climb_more, fails_over}
 use Rattle.aidl_parser.proofs.expr.+expr.Goals as goal
 
@@ -27,13 +26,10 @@ climb-returns-in_err-right t c =
 pub climb-loop-t-preserved : goal.climb-loop-t-preserved
 climb-loop-t-preserved t c =
     let o = c.in-Some-operator.ensures in
-    let s : symbol_or (mark_of c.in-Some.t.now.kind) ≡ c.in-Some-operator.sign = ap symbol_or o.0 in
     let lt : 0 < c.loop-t.rounds = omega arith in
-    let tree : expr_of c.in_ok-tree.tree ≡ binary (offset_of (expr_of c.loop-t.tree)) (symbol_or (mark_of c.in-Some.t.now.kind)) (expr_of c.loop-t.tree) (expr_of c.in_ok-right.right)
-    = c.in_ok-tree.ensures.ok ∙ ap (λ x. binary (offset_of (expr_of c.loop-t.tree)) x (expr_of c.loop-t.tree) (expr_of c.in_ok-right.right)) (sym s) in
-    ap (λ x. climb (λ k us. expr c.args.fuel k us) (c.loop-t.rounds - 1) c.args.least x c.in_ok-right.next.now) tree
-    ∙ sym (climb_more (λ k us. expr c.args.fuel k us) c.loop-t.rounds c.args.least (expr_of c.loop-t.tree) (expr_of c.in_ok-right.right) c.in-Some.t.now c.loop-t.rest.now c.in-Some.after.now c.in_ok-right.next.now c.in-Some.ensures o.2 lt
-    (ap (λ v. expr c.args.fuel (v + 1) c.in-Some.after.now) (sym o.1) ∙ c.in_ok-right.ensures))
+    ap (λ x. climb (λ k us. expr c.args.fuel k us) (c.loop-t.rounds - 1) c.args.least x c.in_ok-right.next.now) c.in_ok-tree.ensures.ok
+    ∙ sym (climb_more (λ k us. expr c.args.fuel k us) c.loop-t.rounds c.args.least (expr_of c.loop-t.tree) (expr_of c.in_ok-right.right) c.in-Some-operator.sign c.in-Some.t.now c.loop-t.rest.now c.in-Some.after.now c.in_ok-right.next.now
+    c.in-Some.ensures o.0 o.2 lt (ap (λ v. expr c.args.fuel (v + 1) c.in-Some.after.now) (sym o.1) ∙ c.in_ok-right.ensures))
     ∙ c.loop-t.invariant
 
 pub climb-returns : goal.climb-returns
