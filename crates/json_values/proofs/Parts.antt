@@ -1,5 +1,5 @@
 -- The definition of reading, as the code goes through it.
-use Rattle.std.proofs.Common.{◌≡◌, ℕ, zero, suc, ◌+◌, ◌<◌, ◌≤◌, Bool, true, false, ◌&&◌, ◌⊎◌, inl, inr, List, [], ◌∷◌, ◌++◌, get_or, drop, length, Ok, decimal, refl, sym, ap, ◌∙◌, arith, add-one}
+use Rattle.std.proofs.Common.{◌≡◌, ℕ, zero, suc, ◌+◌, ◌<◌, ◌≤◌, Bool, false, ◌&&◌, List, [], ◌∷◌, ◌++◌, get_or, drop, length, Ok, decimal, refl, sym, ap, ◌∙◌, add-one}
 use Rattle.std.proofs.lemmas.List.{at_drop_more, at_drop_all}
 use Rattle.serde_json.specs.Data as json
 use Rattle.serde_json.specs.Find.{get_member}

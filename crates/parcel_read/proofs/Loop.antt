@@ -4,7 +4,7 @@ use Rattle.std.proofs.lemmas.List.{drop_all}
 use Rattle.aidl_base.specs.Readings.{Read, ◌>>=◌}
 use Rattle.aidl_schema.specs.declared.schema.Field.{Field}
 use Rattle.aidl_schema.specs.declared.schema.AidlType.{AidlType}
-use Rattle.aidl_values.specs.Data.{Data, Items, none, item}
+use Rattle.aidl_values.specs.Data.{Data, Items, item}
 use Rattle.aidl_values.specs.View.{items_of}
 use Rattle.aidl_values.proofs.Fronts.{onto, onto-push, onto-none, with_front, front_more}
 use Rattle.parcel_words.specs.declared.fault.ReadFault.{ReadFault}

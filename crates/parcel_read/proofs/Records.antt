@@ -1,14 +1,14 @@
 -- Entering a record and leaving it take the bytes of its body.
-use Rattle.std.proofs.Common.{◌≡◌, ℕ, ◌-◌, ◌+◌, ◌≤◌, ℤ, pos, negsuc, Bool, true, false, ◌==◌, ◌%◌, cond, nat_lt, nat_le, List, Result, Ok, Err, ◌⊎◌, inl, inr, refl, sym, ap, ◌∙◌, subst, arith, length, take, drop, length-drop, length-take, min}
+use Rattle.std.proofs.Common.{◌≡◌, ℕ, ◌-◌, ◌+◌, ◌≤◌, ℤ, pos, negsuc, Bool, true, false, ◌==◌, ◌%◌, cond, nat_lt, nat_le, List, Result, Ok, Err, refl, sym, ap, ◌∙◌, subst, arith, length, take, drop, length-drop}
 use Rattle.std.proofs.lemmas.Bool.{ltb-false}
 use Rattle.std.proofs.lemmas.Bool.Decides.{nat_tests}
-use Rattle.std.proofs.lemmas.List.{drop-drop, drop-take, take-take}
+use Rattle.std.proofs.lemmas.List.{drop-drop}
 use Rattle.aidl_base.specs.Readings.{Read, ◌>>=◌, bytes_at, size_of, past, bad_value}
 use Rattle.aidl_base.specs.Words.{word_of}
 use Rattle.aidl_schema.specs.declared.schema.Field.{Field}
 use Rattle.aidl_schema.specs.declared.schema.AidlType.{AidlType}
 use Rattle.aidl_values.specs.Data.{Data, Items, rec}
-use Rattle.parcel_words.specs.Place.{Place, left, limit, moved, opened, closed, size_at, MovesOn, Enters, is_inside}
+use Rattle.parcel_words.specs.Place.{Place, left, moved, closed, size_at, MovesOn, Enters, is_inside}
 use Rattle.parcel_words.specs.Taken.{RefusesIfMemory}
 use Rattle.parcel_words.specs.declared.fault.ReadFault.{ReadFault}
 use Rattle.wire_model.specs.ReadOf.{body_at, body_value_at, fields_at}

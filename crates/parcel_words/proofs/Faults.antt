@@ -1,5 +1,5 @@
 -- Faults of a step, as faults of the whole.
-use Rattle.std.proofs.Common.{◌≡◌, ℤ, Result, Ok, Err, refl}
+use Rattle.std.proofs.Common.{◌≡◌, ℤ, Result, Err, refl}
 use Rattle.aidl_base.specs.Readings.{◌>>=◌, bad_value, not_enough, unexpected_null}
 use Rattle.parcel_words.specs.declared.fault.ReadFault.{ReadFault}
 use Rattle.parcel_words.specs.declared.fault.ReadFault.TheVariants.{NotEnough, UnexpectedNull, BadValue, OutOfMemory}

@@ -1,6 +1,5 @@
 -- Worked parcels: what they spell and what is read of them, computed. Bytes are written in hexadecimal, words apart.
 use Rattle.std.proofs.Common.{◌≡◌, ℕ, ◌+◌, ◌-◌, ◌*◌, ℤ, pos, negsuc, true, false, ◌==◌, cond, nat_lt, List, [], ◌∷◌, Option, Some, None, Ok, Err, refl, ap, rules, zero, suc, ◌≤◌, length, slice_get, sym, subst, arith}
-use Rattle.std.proofs.lemmas.Int.{ints}
 use Rattle.std.specs.Prelude.{codes}
 use Rattle.std.specs.Str.{chars}
 use Rattle.std.specs.Char.Utf16.{utf16_chars}

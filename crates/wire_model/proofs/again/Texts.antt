@@ -1,10 +1,10 @@
 -- Text blocks and raw bytes, spelled and read again.
-use Rattle.std.proofs.Common.{◌≡◌, ℕ, zero, suc, ◌+◌, ◌*◌, ◌^◌, ◌<◌, ℤ, Bool, true, List, [], ◌∷◌, ◌++◌, length, take, drop, replicate, Ok, refl, sym, ap, ◌∙◌, arith, append_assoc, length-append}
+use Rattle.std.proofs.Common.{◌≡◌, ℕ, ◌+◌, ◌^◌, ◌<◌, ℤ, Bool, true, List, ◌++◌, length, take, drop, replicate, Ok, refl, sym, ap, ◌∙◌}
 use Rattle.std.specs.Prelude.{FitsSigned}
-use Rattle.std.specs.Int.{w8, w16, to_le_bytes, cast_signed, cast_unsigned}
+use Rattle.std.specs.Int.{w8, cast_signed, cast_unsigned}
 use Rattle.std.specs.Str.{all_scalars}
 use Rattle.std.proofs.lemmas.Int.{to_z-of_z}
-use Rattle.aidl_base.specs.Words.{pad, padding, units, unit_bytes, block}
+use Rattle.aidl_base.specs.Words.{pad, padding, units, block}
 use Rattle.aidl_values.specs.Data.{number, text, Items, none, item, count}
 use Rattle.wire_model.specs.Spell.{spell_text, raw_byte, raw_bytes}
 use Rattle.wire_model.specs.Stop.{block_len}

@@ -1,22 +1,19 @@
 -- What was spelled is read again, whatever follows it.
-use Rattle.std.proofs.Common.{◌≡◌, ℕ, ◌+◌, ◌^◌, ◌≤◌, ◌<◌, ℤ, pos, negsuc, Bool, true, false, List, ◌++◌, length, nat_lt, Some, None, Ok, refl, ap, ◌∙◌, arith, append_assoc}
-use Rattle.std.specs.Int.{w8, w32, w64, cast_unsigned, cast_signed}
-use Rattle.std.specs.Prelude.{FitsSigned, ◌≤ℤ◌}
-use Rattle.std.proofs.lemmas.Nat.{from_le_bytes-to_le_bytes_4, from_le_bytes-to_le_bytes_8}
-use Rattle.std.proofs.lemmas.Int.{ints, to_z-of_z}
-use Rattle.std.proofs.lemmas.Bool.{le-ltb}
-use Rattle.std.proofs.lemmas.Bool.Decides.{nat_tests}
-use Rattle.aidl_base.specs.Words.{word, word_of, long_word, long_of}
+use Rattle.std.proofs.Common.{◌≡◌, ℕ, ℤ, pos, Bool, true, false, List, ◌++◌, Ok, refl, ap, ◌∙◌, arith, append_assoc}
+use Rattle.std.specs.Int.{w32, w64}
+use Rattle.std.specs.Prelude.{FitsSigned}
+use Rattle.std.proofs.lemmas.Int.{ints}
+use Rattle.aidl_base.specs.Words.{word, long_word}
 use Rattle.aidl_schema.specs.Types.{Form, form_of, is_type, is_raw, is_scalar}
 use Rattle.aidl_schema.specs.Types as form
 use Rattle.aidl_schema.specs.declared.schema.Field.{Field}
 use Rattle.aidl_schema.specs.declared.schema.AidlType.{AidlType}
 use Rattle.aidl_values.specs.Data.{Data, truth, number, Items, none, item, count}
-use Rattle.wire_model.specs.ReadOf.{Read, ◌>>=◌, word_at, long_at, count_at, data_of_word, scalar_at, long_value_at, one_at, each_at}
+use Rattle.wire_model.specs.ReadOf.{Read, ◌>>=◌, data_of_word, scalar_at, long_value_at, one_at, each_at}
 use Rattle.wire_model.specs.Status.{is_permitted}
 use Rattle.wire_model.specs.Spell.{spell_truth, spell_number}
 use Rattle.wire_model.specs.Reads.{EachReads}
-use Rattle.wire_model.proofs.Steps.{then_count, then_items, then_scalar, with_item}
+use Rattle.wire_model.proofs.Steps.{then_items, then_scalar, with_item}
 use Rattle.aidl_schema.specs.Constants.{in_range}
 use Rattle.aidl_base.proofs.Words.{word_again, long_again}
 use Rattle.aidl_base.proofs.Ranges.{byte_fits_word, char_fits, int_fits, long_fits}

@@ -1,5 +1,5 @@
 -- what spells a value is a reading of it.
-use Rattle.std.proofs.Common.{◌≡◌, ℕ, zero, suc, ◌+◌, ◌*◌, ◌^◌, ◌≤◌, ◌<◌, pos, Bool, true, false, cond, List, [], ◌∷◌, ◌++◌, length, slice_get, refl, ap, ◌∙◌, inr, arith, length-append}
+use Rattle.std.proofs.Common.{◌≡◌, ℕ, zero, suc, ◌+◌, ◌^◌, ◌≤◌, ◌<◌, pos, Bool, true, false, cond, List, [], ◌∷◌, ◌++◌, length, slice_get, refl, ap, ◌∙◌, inr, arith, length-append}
 use Rattle.std.specs.Prelude.{MatchBool}
 use Rattle.aidl_base.specs.Words.{word, pad, units, unit_bytes, block}
 use Rattle.aidl_schema.specs.declared.schema.Decl.{Decl}

@@ -1,7 +1,6 @@
 -- What reading as a function answers is a reading of a front, or the stop: every type of a sound schema.
 use Rattle.std.proofs.Common.{◌≡◌, ℕ, zero, suc, ◌<◌, ◌≤◌, ◌^◌, ℤ, pos, negsuc, Bool, true, false, List, ◌++◌, length, take, Some, slice_get, Err, refl, sym, ap, ◌∙◌, arith, true≢false}
 use Rattle.std.specs.Prelude.{MatchBool}
-use Rattle.std.proofs.lemmas.Int.{ints}
 use Rattle.std.proofs.lemmas.Bool.Decides.{nat_tests}
 use Rattle.aidl_base.specs.Words.{word, word_of, pad, units}
 use Rattle.aidl_schema.specs.declared.schema.Decl.{Decl}
