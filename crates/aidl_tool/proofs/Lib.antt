@@ -1,6 +1,5 @@
 pub mod Endings
 pub mod Entries
-pub mod HasType
 pub mod JsonTexts
 pub mod Loaded
 pub mod NoFloat

@@ -65,7 +65,6 @@ fn print_items(
 }
 
 // Reads one item and adds its line. None where it is refused; else the bytes after it.
-#[tactic(auto, using(crate::proofs::HasType::has_type))]
 fn push_item<'a>(
     alloc: Global,
     schema: &Schema,
