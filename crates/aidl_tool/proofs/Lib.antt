@@ -4,5 +4,6 @@ pub mod JsonTexts
 pub mod Loaded
 pub mod NoFloat
 pub mod ReadValues
+pub mod TreeFiles
 pub mod EarlyEnds
 pub mod WriteValues

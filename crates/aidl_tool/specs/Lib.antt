@@ -9,6 +9,7 @@ pub mod Meant
 pub mod Refusals
 pub mod Seen
 pub mod steps
+pub mod Trees
 pub mod Types
 pub mod ValueText
 pub mod Verdict

@@ -2,4 +2,5 @@ pub mod Files
 pub mod Items
 pub mod Prints
 pub mod Results
+pub mod Trees
 pub mod Types

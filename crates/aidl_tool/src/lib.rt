@@ -13,7 +13,9 @@ mod put;
 mod refuse;
 mod steps;
 mod top;
+mod tree;
 mod types;
 mod verdict;
 
 pub use top::aidl;
+pub use tree::load_tree;
