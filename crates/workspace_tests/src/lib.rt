@@ -9,4 +9,6 @@ mod outside;
 #[cfg(test)]
 mod records;
 #[cfg(test)]
+mod trees;
+#[cfg(test)]
 mod values;
