@@ -1,9 +1,10 @@
-ghost use Rattle.std.specs.Prelude.{◌≡◌, Option, IfOk};
+ghost use Rattle.std.specs.Prelude.{◌≡◌, ◌≤◌, length, Option, IfOk};
 ghost use Rattle.std.specs.Option.{option_map};
+ghost use Rattle.aidl_base.specs.Limits.{limit_number};
 ghost use Rattle.aidl_outside.specs.Causes.{StoreCause};
 ghost use Rattle.aidl_outside.specs.Told.{Tells};
 ghost use Rattle.aidl_tool.specs.Refusals.{file_at, within};
-ghost use Rattle.aidl_tool.specs.steps.Results.{held, loaded};
+ghost use Rattle.aidl_tool.specs.steps.Results.{IsShort, held, loaded};
 
 use aidl_base::{Limit, LimitName};
 use aidl_outside::{Store, StoreFault};
@@ -17,6 +18,7 @@ pub fn load<S: Store>(
     store: &mut S,
 ) -> Result<Option<Result<Vec<u8>, Limit>>, StoreFault>
     ensures file { IfOk result (λ file. Tells (S.kept store.old) (λ files. loaded file ≡ file_at which files path.now)) }
+    ensures short { IfOk result (IsShort which) }
     ensures unchanged { S.kept store.new ≡ S.kept store.old }
     ensures cause { StoreCause (S.count store.old) (S.count store.new) result }
 {
@@ -27,7 +29,8 @@ pub fn load<S: Store>(
 }
 
 fn file_held(which: LimitName, file: Option<Vec<u8>>) -> Option<Result<Vec<u8>, Limit>>
-    ensures { loaded result ≡ option_map (λ bytes. within which bytes.items) file }
+    ensures file { loaded result ≡ option_map (λ bytes. within which bytes.items) file }
+    ensures short { IsShort which result }
 {
     match file {
         Some(bytes) => Some(held(which, bytes)),
@@ -37,7 +40,8 @@ fn file_held(which: LimitName, file: Option<Vec<u8>>) -> Option<Result<Vec<u8>, 
 
 /// Bytes, where they don't pass a limit.
 pub fn held(which: LimitName, bytes: Vec<u8>) -> Result<Vec<u8>, Limit>
-    ensures { held result ≡ within which bytes.items }
+    ensures bytes { held result ≡ within which bytes.items }
+    ensures short { IfOk result (λ held. length held.items ≤ limit_number which) }
 {
     if bytes.len() > which.number() as usize {
         return Err(Limit { which });

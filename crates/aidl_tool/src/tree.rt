@@ -5,8 +5,8 @@ ghost use Rattle.aidl_outside.specs.Causes.{StoreCause};
 ghost use Rattle.aidl_outside.specs.Told.{Tells};
 ghost use Rattle.aidl_tool.specs.Refusals.{file_at};
 ghost use Rattle.aidl_tool.specs.Trees.{files_at, file_found, is_source, path_below, sources_below, tree_at};
-ghost use Rattle.aidl_tool.specs.steps.Results.{loaded};
-ghost use Rattle.aidl_tool.specs.steps.Trees.{file_seen, onto, so_far, tree_seen};
+ghost use Rattle.aidl_tool.specs.steps.Results.{IsShort, loaded};
+ghost use Rattle.aidl_tool.specs.steps.Trees.{AreShort, file_seen, onto, so_far, tree_seen};
 
 use crate::load::load;
 use aidl_base::{Limit, LimitName, OutOfMemory, Row, SourceFile, Text};
@@ -22,6 +22,7 @@ pub fn load_tree<S: Store>(
     store: &mut S,
 ) -> Result<Result<Row<SourceFile>, Limit>, StoreFault>
     ensures tree { IfOk result (λ tree. Tells (S.kept store.old) (λ files. tree_seen tree ≡ tree_at files root.now)) }
+    ensures short { IfOk result (λ tree. IfOk tree AreShort) }
     ensures unchanged { S.kept store.new ≡ S.kept store.old }
     ensures cause { StoreCause (S.count store.old) (S.count store.new) result }
 {
@@ -70,6 +71,7 @@ fn load_files<S: Store>(
     store: &mut S,
 ) -> Result<Result<Row<SourceFile>, Limit>, StoreFault>
     ensures tree { IfOk result (λ tree. Tells (S.kept store.old) (λ files. tree_seen tree ≡ files_at files root.now (map string_bytes paths.items))) }
+    ensures short { IfOk result (λ tree. IfOk tree AreShort) }
     ensures unchanged { S.kept store.new ≡ S.kept store.old }
     ensures cause { StoreCause (S.count store.old) (S.count store.new) result }
 {
@@ -91,6 +93,7 @@ fn load_next<S: Store>(
     store: &mut S,
 ) -> Result<Result<(), Limit>, StoreFault>
     ensures file { IfOk result (λ step. Tells (S.kept store.old) (λ kept. onto files.old (file_found (string_bytes path) (file_at FileBytes kept (path_below root.now (string_bytes path)))) ≡ so_far files.new step)) }
+    ensures short { AreShort files.old → AreShort files.new }
     ensures unchanged { S.kept store.new ≡ S.kept store.old }
     ensures cause { StoreCause (S.count store.old) (S.count store.new) result }
 {
@@ -109,6 +112,7 @@ fn load_below<S: Store>(
     store: &mut S,
 ) -> Result<Option<Result<Vec<u8>, Limit>>, StoreFault>
     ensures file { IfOk result (λ file. Tells (S.kept store.old) (λ files. loaded file ≡ file_at FileBytes files (path_below root.now path.now))) }
+    ensures short { IfOk result (IsShort FileBytes) }
     ensures unchanged { S.kept store.new ≡ S.kept store.old }
     ensures cause { StoreCause (S.count store.old) (S.count store.new) result }
 {
@@ -133,7 +137,8 @@ fn push_loaded(
     path: String,
     file: Option<Result<Vec<u8>, Limit>>,
 ) -> Result<Result<(), Limit>, OutOfMemory>
-    ensures { IfOk result (λ step. onto files.old (file_found (string_bytes path) (loaded file)) ≡ so_far files.new step) }
+    ensures file { IfOk result (λ step. onto files.old (file_found (string_bytes path) (loaded file)) ≡ so_far files.new step) }
+    ensures short { IsShort FileBytes file → AreShort files.old → AreShort files.new }
 {
     match file {
         None => Ok(Ok(())),

@@ -1,8 +1,10 @@
 -- What the results of steps stand for.
-use Rattle.std.specs.Prelude.{◌≡◌, ℕ, List, Option, Result, Ok, Err, Vec, string_bytes}
+use Rattle.std.specs.Prelude.{◌≡◌, ℕ, ◌≤◌, List, length, Option, Some, Result, Ok, Err, Vec, string_bytes}
 use Rattle.std.specs.Option.{option_map}
 use Rattle.std.specs.declared.alloc.Global.{Global}
 use Rattle.aidl_base.specs.declared.limit.Limit.{Limit}
+use Rattle.aidl_base.specs.declared.limit.LimitName.{LimitName}
+use Rattle.aidl_base.specs.Limits.{limit_number}
 use Rattle.aidl_tool.specs.declared.printed.Early.{Early}
 use Rattle.aidl_tool.specs.declared.printed.Early.TheVariants.{Answered, OutOfMemory}
 use Rattle.aidl_tool.specs.declared.printed.Printed.{Printed}
@@ -36,3 +38,8 @@ held (Err limit) = Err (limit_passed limit.which)
 -- a file that was loaded
 abbrev pub loaded : Option (Result (Vec ℕ Global) Limit) → Option (Found (List ℕ))
 loaded file = option_map held file
+
+-- a file that was loaded doesn't pass the limit, whatever the store tells
+abbrev pub IsShort : LimitName → Option (Result (Vec ℕ Global) Limit) → Type 0
+IsShort which (Some (Ok bytes)) = length bytes.items ≤ limit_number which
+IsShort which _ = Unit {0}

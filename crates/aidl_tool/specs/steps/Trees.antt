@@ -1,7 +1,9 @@
 -- What the steps to a tree give.
-use Rattle.std.specs.Prelude.{List, ◌++◌, map, Result, Ok, Err}
+use Rattle.std.specs.Prelude.{◌≤◌, List, ◌++◌, length, map, All, Result, Ok, Err}
 use Rattle.aidl_base.specs.declared.limit.Limit.{Limit}
+use Rattle.aidl_base.specs.declared.limit.LimitName.TheVariants.{FileBytes}
 use Rattle.aidl_base.specs.declared.source_file.SourceFile.{SourceFile}
+use Rattle.aidl_base.specs.Limits.{limit_number}
 use Rattle.aidl_base.specs.Results.{◌>>=◌}
 use Rattle.aidl_outside.specs.Entries.{path_of}
 use Rattle.aidl_tool.specs.Answer.{Found, limit_passed}
@@ -23,3 +25,7 @@ so_far files (Err limit) = Err (limit_passed limit.which)
 -- the files so far, and then those that are found
 abbrev pub onto : List SourceFile → Found (List TreeFile) → Found (List TreeFile)
 onto files found = found >>= λ more. Ok (map file_seen files ++ more)
+
+-- no file passes the limit `file-bytes`
+abbrev pub AreShort : List SourceFile → Type 0
+AreShort files = All (λ (file : SourceFile). length file.bytes ≤ limit_number FileBytes) files

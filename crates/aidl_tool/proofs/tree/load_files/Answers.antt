@@ -9,6 +9,7 @@ loop-path-preserved g c =
     record {
       all = step_more c.args.root.now (kept c.loop-path.store) (kept c.args.store.now) (string_bytes c.in-Some.path) _ _ _ c.loop-path.files c.load_next.new.files _ _
           c.loop-path.invariant.unchanged (ap (map string_bytes) c.in-Some.ensures.steps.0) c.in_default.is step.file c.loop-path.invariant.all;
+      short = step.short c.loop-path.invariant.short;
       unchanged = step.unchanged ∙ c.loop-path.invariant.unchanged;
       cause = step.cause ∙ c.loop-path.invariant.cause;
     }
