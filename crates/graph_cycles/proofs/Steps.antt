@@ -4,7 +4,7 @@ use Rattle.std.proofs.lemmas.Grind.{common_steps}
 use Rattle.std.specs.Prelude.{Option, Some, None, slice_get, Contains, slice_set}
 use Rattle.std.proofs.lemmas.Bool.Decides.{nat_tests}
 use Rattle.graph_cycles.specs.Paths.{or_empty, IsEdge, IsPath, Leads, TellsCycles, flag, targets}
-use Rattle.graph_cycles.specs.Marks.{OnCycles, AfterRoots, BeforeRoots, AfterNode, IsOrLeads, IsCertificate, IsClosed, unmarked}
+use Rattle.graph_cycles.specs.steps.Marks.{OnCycles, AfterRoots, BeforeRoots, AfterNode, IsOrLeads, IsCertificate, IsClosed, unmarked}
 
 get_within : {X : Type 0} (xs : List X) (k : ℕ) (x : X) → slice_get xs k ≡ Some x → k < length xs
 get_within [] k x e = cc

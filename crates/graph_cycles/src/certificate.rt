@@ -1,6 +1,6 @@
 ghost use Rattle.std.specs.Prelude.{◌≡◌, ℕ, ◌<◌, ◌≤◌, false, slice_index, IsTrue, Contains};
 ghost use Rattle.graph_cycles.specs.Paths.{flag, targets};
-ghost use Rattle.graph_cycles.specs.Marks.{IsCertificate};
+ghost use Rattle.graph_cycles.specs.steps.Marks.{IsCertificate};
 
 use crate::marks::{is_set, number_at, targets_of};
 use aidl_base::Row;

@@ -1,6 +1,6 @@
 ghost use Rattle.std.specs.Prelude.{◌≡◌, length, IfOk, IfSome, vec_len};
 ghost use Rattle.graph_cycles.specs.Paths.{TellsCycles, targets};
-ghost use Rattle.graph_cycles.specs.Marks.{OnCycles, AfterRoots, BeforeRoots};
+ghost use Rattle.graph_cycles.specs.steps.Marks.{OnCycles, AfterRoots, BeforeRoots};
 
 use crate::certificate::is_certified;
 use crate::components::grouped;

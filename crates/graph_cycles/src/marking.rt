@@ -1,6 +1,6 @@
 ghost use Rattle.std.specs.Prelude.{◌≡◌, length, slice_index, IsTrue};
 ghost use Rattle.graph_cycles.specs.Paths.{Leads, targets};
-ghost use Rattle.graph_cycles.specs.Marks.{OnCycles, AfterRoots, BeforeRoots, IsOrLeads};
+ghost use Rattle.graph_cycles.specs.steps.Marks.{OnCycles, AfterRoots, BeforeRoots, IsOrLeads};
 
 use crate::marks::{is_set, number_at, set, targets_of};
 use aidl_base::Row;

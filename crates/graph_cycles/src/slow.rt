@@ -1,6 +1,6 @@
 ghost use Rattle.std.specs.Prelude.{◌≡◌, ℕ, ◌<◌, ◌↔◌, true, false, length, IfOk, IfSome, IfNone, vec_len, IsTrue};
 ghost use Rattle.graph_cycles.specs.Paths.{IsEdge, Leads, TellsCycles, flag, targets};
-ghost use Rattle.graph_cycles.specs.Marks.{AfterNode, IsClosed};
+ghost use Rattle.graph_cycles.specs.steps.Marks.{AfterNode, IsClosed};
 
 use crate::marks::{is_set, no_flags, set, targets_of};
 use aidl_base::{OutOfMemory, Row};

@@ -1,5 +1,5 @@
 use Rattle.graph_cycles.specs.Paths.{targets}
-use Rattle.graph_cycles.specs.Marks.{BeforeRoots}
+use Rattle.graph_cycles.specs.steps.Marks.{BeforeRoots}
 use Rattle.graph_cycles.proofs.cycles.mark_each_before.Given as goal
 
 abbrev pub invariant-loop-node : goal.invariant-loop-node

@@ -1,5 +1,5 @@
 use Rattle.graph_cycles.specs.Paths.{targets}
-use Rattle.graph_cycles.specs.Marks.{AfterRoots}
+use Rattle.graph_cycles.specs.steps.Marks.{AfterRoots}
 use Rattle.graph_cycles.proofs.cycles.marks_after.Given as goal
 
 abbrev pub invariant-loop-node : goal.invariant-loop-node

@@ -1,6 +1,6 @@
 use Rattle.graph_cycles.specs.Paths.{targets}
 use Rattle.std.proofs.Common.{sym, ◌∙◌, subst}
-use Rattle.graph_cycles.specs.Marks.{OnCycles}
+use Rattle.graph_cycles.specs.steps.Marks.{OnCycles}
 use Rattle.graph_cycles.proofs.marking.mark_both.Goals as goal
 use Rattle.graph_cycles.proofs.marking.mark_both.Goals.{then-is_set+then-is_set-2, else-is_set}
 use Rattle.graph_cycles.proofs.Steps.{both_step}

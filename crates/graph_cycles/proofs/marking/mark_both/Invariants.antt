@@ -1,5 +1,5 @@
 use Rattle.graph_cycles.specs.Paths.{targets}
-use Rattle.graph_cycles.specs.Marks.{OnCycles}
+use Rattle.graph_cycles.specs.steps.Marks.{OnCycles}
 use Rattle.graph_cycles.proofs.marking.mark_both.Given as goal
 
 abbrev pub invariant-loop-node : goal.invariant-loop-node

@@ -1,6 +1,6 @@
 use Rattle.graph_cycles.specs.Paths.{targets}
 use Rattle.std.proofs.Common.{sym, ◌∙◌, subst}
-use Rattle.graph_cycles.specs.Marks.{AfterRoots}
+use Rattle.graph_cycles.specs.steps.Marks.{AfterRoots}
 use Rattle.graph_cycles.proofs.marking.mark_targets.Goals as goal
 use Rattle.graph_cycles.proofs.marking.mark_targets.Goals.{then-number_at-root, else-number_at-root}
 use Rattle.graph_cycles.proofs.Steps.{after_step, edge_at}

@@ -1,6 +1,6 @@
 use Rattle.graph_cycles.specs.Paths.{targets}
 use Rattle.std.proofs.Common.{◌≡◌, length}
-use Rattle.graph_cycles.specs.Marks.{AfterNode, unmarked}
+use Rattle.graph_cycles.specs.steps.Marks.{AfterNode, unmarked}
 use Rattle.graph_cycles.proofs.slow.mark_all.Given as goal
 
 abbrev pub invariant-loop-to : goal.invariant-loop-to
