@@ -11,8 +11,8 @@ use Rattle.aidl_outside.specs.Files.{Files}
 use Rattle.aidl_outside.specs.Told.{Tells}
 use Rattle.aidl_tool.specs.Answer.{Found}
 use Rattle.aidl_tool.specs.Refusals.{file_at}
-use Rattle.aidl_tool.specs.Trees.{TreeFile, files_at, file_found, path_below}
-use Rattle.aidl_tool.specs.steps.Trees.{file_seen, onto, so_far}
+use Rattle.aidl_tool.specs.Trees.{TreeFile, file_seen, files_at, file_found, path_below}
+use Rattle.aidl_tool.specs.steps.Trees.{onto, so_far}
 use Rattle.aidl_tool.proofs.Loaded.{tells, tells_both}
 
 -- what is kept of a list, by what its items are seen as

@@ -1,9 +1,12 @@
 -- The files of a tree: those below its root whose paths end in `.aidl`, in the order of their paths (own).
-use Rattle.std.specs.Prelude.{ℕ, nat_lt, Bool, if◌then◌else◌, List, [], ◌∷◌, ◌++◌, length, Option, Some, None, Ok, Err, codes}
+use Rattle.std.specs.Prelude.{ℕ, ◌≤◌, nat_lt, Bool, if◌then◌else◌, List, [], ◌∷◌, ◌++◌, length, map, All, Option, Some, None, Result, Ok, Err, codes}
 use Rattle.std.specs.List.{filter}
+use Rattle.aidl_base.specs.declared.limit.Limit.{Limit}
 use Rattle.aidl_base.specs.declared.limit.LimitName.TheVariants as limit
+use Rattle.aidl_base.specs.declared.source_file.SourceFile.{SourceFile}
 use Rattle.aidl_base.specs.Limits.{limit_number}
 use Rattle.aidl_base.specs.Results.{◌>>=◌}
+use Rattle.aidl_outside.specs.Entries.{path_of}
 use Rattle.aidl_outside.specs.Files.{Files, listing}
 use Rattle.tool_words.specs.Entries.{ends_with}
 use Rattle.aidl_tool.specs.Answer.{Found, limit_passed}
@@ -50,3 +53,17 @@ abbrev pub tree_at : Files → List ℕ → Found (List TreeFile)
 tree_at files root = do
   paths ← few (sources_below root files)
   files_at files root paths
+
+-- what the code's own files stand for
+abbrev pub file_seen : SourceFile → TreeFile
+file_seen file = record { path = path_of file; bytes = file.bytes }
+
+-- files that were loaded, or the limit that was passed
+abbrev pub tree_seen : Result (List SourceFile) Limit → Found (List TreeFile)
+tree_seen (Ok files) = Ok (map file_seen files)
+tree_seen (Err limit) = Err (limit_passed limit.which)
+
+-- no file passes the limit `file-bytes`
+abbrev pub AreShort : List SourceFile → Type 0
+AreShort files = All (λ (file : SourceFile). length file.bytes ≤ limit_number limit.FileBytes) files
+

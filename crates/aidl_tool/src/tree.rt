@@ -4,9 +4,9 @@ ghost use Rattle.aidl_base.specs.declared.limit.LimitName.TheVariants.{FileBytes
 ghost use Rattle.aidl_outside.specs.Causes.{StoreCause};
 ghost use Rattle.aidl_outside.specs.Told.{Tells};
 ghost use Rattle.aidl_tool.specs.Refusals.{file_at};
-ghost use Rattle.aidl_tool.specs.Trees.{files_at, file_found, is_source, path_below, sources_below, tree_at};
+ghost use Rattle.aidl_tool.specs.Trees.{AreShort, file_found, file_seen, files_at, is_source, path_below, sources_below, tree_at, tree_seen};
 ghost use Rattle.aidl_tool.specs.steps.Results.{IsShort, loaded};
-ghost use Rattle.aidl_tool.specs.steps.Trees.{AreShort, file_seen, onto, so_far, tree_seen};
+ghost use Rattle.aidl_tool.specs.steps.Trees.{onto, so_far};
 
 use crate::load::load;
 use aidl_base::{Limit, LimitName, OutOfMemory, Row, SourceFile, Text};

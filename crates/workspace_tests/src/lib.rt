@@ -3,6 +3,8 @@
 #![tactic(auto)]
 
 #[cfg(test)]
+mod cycles;
+#[cfg(test)]
 mod folders;
 #[cfg(test)]
 mod outside;

@@ -1,7 +1,8 @@
 use Rattle.std.proofs.Common.{◌≡◌, map, string_bytes}
 use Rattle.aidl_outside.specs.Told.{Tells}
 use Rattle.aidl_tool.specs.Trees.{files_at}
-use Rattle.aidl_tool.specs.steps.Trees.{AreShort, onto}
+use Rattle.aidl_tool.specs.Trees.{AreShort}
+use Rattle.aidl_tool.specs.steps.Trees.{onto}
 use Rattle.aidl_tool.proofs.tree.load_files.Given as goal
 
 -- the files so far, and then those at the paths that are left, are all; none is too long; and no call of the store failed
