@@ -66,4 +66,3 @@ tree_seen (Err limit) = Err (limit_passed limit.which)
 -- no file passes the limit `file-bytes`
 abbrev pub AreShort : List SourceFile → Type 0
 AreShort files = All (λ (file : SourceFile). length file.bytes ≤ limit_number limit.FileBytes) files
-

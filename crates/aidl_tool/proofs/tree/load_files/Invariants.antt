@@ -1,7 +1,6 @@
 use Rattle.std.proofs.Common.{◌≡◌, map, string_bytes}
 use Rattle.aidl_outside.specs.Told.{Tells}
-use Rattle.aidl_tool.specs.Trees.{files_at}
-use Rattle.aidl_tool.specs.Trees.{AreShort}
+use Rattle.aidl_tool.specs.Trees.{AreShort, files_at}
 use Rattle.aidl_tool.specs.steps.Trees.{onto}
 use Rattle.aidl_tool.proofs.tree.load_files.Given as goal
 
