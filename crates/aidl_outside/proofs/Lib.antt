@@ -4,3 +4,4 @@ pub mod Halves
 pub mod Kept
 pub mod Numbers
 pub mod Places
+pub mod Sorted

@@ -5,7 +5,7 @@ ghost use Rattle.aidl_outside.specs.declared.edits.EditKind.TheVariants.{Set};
 use aidl_base::{OutOfMemory, Row};
 
 /// What an edit does to bytes.
-#[derive(Debug, Drop)]
+#[derive(Drop)]
 pub enum EditKind {
     /// Keeps at most the first so many bytes.
     Cut(usize),
@@ -16,7 +16,7 @@ pub enum EditKind {
 }
 
 /// An edit of the bytes that the carry with a 0-based number delivers.
-#[derive(Debug, Drop)]
+#[derive(Drop)]
 pub struct Edit {
     pub carry: u64,
     pub kind: EditKind,

@@ -7,7 +7,7 @@ use aidl_base::Row;
 use std::alloc::Global;
 
 /// Which way a parcel goes.
-#[derive(Clone, Copy, Debug, PartialEq, Eq)]
+#[derive(Clone, Copy)]
 pub enum Way {
     Request,
     Reply,
@@ -15,7 +15,7 @@ pub enum Way {
 
 /// A parcel that was carried, with the transaction code of its request: the bytes that were sent and those that
 /// were delivered.
-#[derive(Debug, Drop)]
+#[derive(Drop)]
 pub struct Carried {
     pub way: Way,
     pub code: u32,

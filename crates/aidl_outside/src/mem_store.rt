@@ -19,8 +19,8 @@ use std::cmp::Ordering;
 
 /// A store in memory, which tells its files. A failing write keeps the first half of the bytes, rounded down.
 ///
-/// The files lie sorted by path and are found by halving. A write of a new path moves the files after it, so to fill a
-/// store costs what sorting by insertion does: little where the paths come in their order, as from a listing.
+/// The files lie sorted by path and are found by halving; they are sorted once, when the store is made. A write of a new
+/// path moves the files after it, so to write many costs little where they come in their order.
 #[derive(Drop)]
 pub struct MemStore {
     files: Vec<SourceFile>,
@@ -42,7 +42,7 @@ impl MemStore {
         ensures files { IfOk result (λ store. store_files store ≡ files_of files) }
         ensures failures { IfOk result (λ store. store_failures store ≡ uncounted (Numbers failing)) }
     {
-        MemStore::filled(alloc, files, Failing::Numbers(failing))
+        MemStore::filled(alloc, sorted(files)?, Failing::Numbers(failing))
     }
 
     /// The store of these files, whose call with the 0-based number `at` fails, and every later one. Where a path
@@ -51,7 +51,7 @@ impl MemStore {
         ensures files { IfOk result (λ store. store_files store ≡ files_of files) }
         ensures failures { IfOk result (λ store. store_failures store ≡ uncounted (From at)) }
     {
-        MemStore::filled(alloc, files, Failing::From(at))
+        MemStore::filled(alloc, sorted(files)?, Failing::From(at))
     }
 
     fn filled(
@@ -171,6 +171,22 @@ impl Store for MemStore {
     }
 }
 
+// The files sorted by path. Those of one path keep their order.
+fn sorted(files: Row<SourceFile>) -> Result<Row<SourceFile>, OutOfMemory>
+    ensures { IfOk result (λ sorted. files_of sorted ≡ files_of files) }
+{
+    let mut files = files.into_vec();
+    files.sort_by(order_of)?;
+    Ok(Row::from_vec(files))
+}
+
+// How two files compare by the bytes of their paths.
+fn order_of(file: &SourceFile, other: &SourceFile) -> Ordering
+    ensures { result ≡ slice_cmp nat_cmp (path_of file.now) (path_of other.now) }
+{
+    file.path.as_str().cmp(other.path.as_str())
+}
+
 // A file of these bytes.
 fn file_of(alloc: Global, path: &str, bytes: &[u8]) -> Result<SourceFile, OutOfMemory>
     ensures path { IfOk result (λ file. path_of file ≡ path.now) }
@@ -217,14 +233,7 @@ fn place_among(files: &[SourceFile], path: &str) -> Result<usize, usize>
     ensures place { result ≡ place_in path.now (entries files.now) }
     ensures within { IsPlaceWithin (length files.now) result }
 {
-    files.binary_search_by(|file| order(file, path))
-}
-
-// How the path of a file compares with a path, by bytes.
-fn order(file: &SourceFile, path: &str) -> Ordering
-    ensures { result ≡ slice_cmp nat_cmp (path_of file.now) path.now }
-{
-    file.path.as_str().cmp(path)
+    files.binary_search_by(|file| file.path.as_str().cmp(path))
 }
 
 // The file with the path.

@@ -112,9 +112,11 @@ fn a_tampering_link_applies_the_edits_of_each_carry(rt: HostRuntime) -> Result<(
     assert_eq!(rt; delivered.as_slice(), b"\x07d".as_slice());
     let failed = link.carry(alloc, Way::Request, 1, b"ef");
     assert_eq!(rt; failed.err(), Some(CarryFault::Failed));
-    let shown = format!(in alloc; "{:?}", link.log())?;
-    let wanted =
-        "[Carried { way: Request, code: 1, sent: Row { items: [97, 98] }, delivered: Row { items: [97, 120, 121] } }, Carried { way: Reply, code: 1, sent: Row { items: [99, 100] }, delivered: Row { items: [7, 100] } }]";
-    assert_eq!(rt; shown.as_str(), wanted);
+    let wanted = [(b"ab".as_slice(), b"axy".as_slice()), (b"cd", b"\x07d")];
+    assert_eq!(rt; link.log().len(), 2);
+    for (carried, (sent, delivered)) in link.log().iter().zip(wanted) {
+        assert_eq!(rt; carried.sent.as_slice(), sent);
+        assert_eq!(rt; carried.delivered.as_slice(), delivered);
+    }
     Ok(())
 }
