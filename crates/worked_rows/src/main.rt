@@ -4,21 +4,17 @@
 
 mod carries;
 mod case;
-mod evaluation;
-mod outline;
 mod plain;
 mod run;
 mod runs;
-mod source;
 mod sources;
-mod tokens;
 mod tried;
 
 use aidl_base::OutOfMemory;
 use case::word_of;
 use run::try_run;
 use runs::try_runs;
-use source::Kind;
+use source_outcomes::Kind;
 use sources::try_sources;
 use std::alloc::Global;
 use std::io::ErrorKind;

@@ -1,8 +1,8 @@
 use crate::case::{case_of, word_of};
 use crate::plain::plain;
-use crate::source::{Kind, outcome_of};
 use crate::tried::Tried;
 use aidl_base::OutOfMemory;
+use source_outcomes::{Kind, outcome_of};
 use std::alloc::Global;
 
 // What stands before and after each source of a table, and before and after each wanted text that is no refusal.
