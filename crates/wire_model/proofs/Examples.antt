@@ -20,8 +20,9 @@ use Rattle.aidl_values.specs.HasType.{HasType}
 use Rattle.aidl_values.specs.Sound.{IsDeclared, fields_of, AreTypes, HaveDefaults, IsSound}
 use Rattle.wire_model.specs.Spell.{spell}
 use Rattle.wire_model.specs.Status.{bad_value, not_enough, unexpected_null}
-use Rattle.wire_model.specs.ReadOf.{Read, read_of, scalar_at, long_value_at, text_value_at, raw_items_at, elements_at, array_at, marker_at, body_at, body_value_at, record_at, tag_at, tagged_at, union_at}
-use Rattle.aidl_base.specs.Readings.{count_at, text_of, block_at, text_at, raw_at}
+use Rattle.wire_model.specs.ReadOf.{Read, read_of, raw_items_at, elements_at, array_at, marker_at, body_at, body_value_at, record_at, tag_at, tagged_at, union_at}
+use Rattle.aidl_base.specs.declared.profile.Profile.TheVariants.{Strict}
+use Rattle.aidl_base.specs.Readings.{word_as, count_at, text_of, block_at, text_at, raw_at}
 
 -- hexadecimal, blanks passed over
 digit : ℕ → ℕ
@@ -41,8 +42,8 @@ hex cs = pairs (without_blanks cs)
 
 -- reading as the program does: 64 levels, and no record around
 decode : List Decl → AidlType → List ℕ → Read Data
-unfolding read_of scalar_at long_value_at count_at text_of block_at text_at raw_at text_value_at raw_items_at elements_at array_at marker_at body_at body_value_at record_at tag_at tagged_at union_at zero_within utf16_chars chars encode
-decode S t b = read_of S 64 t false b
+unfolding read_of word_as count_at text_of block_at text_at raw_at raw_items_at elements_at array_at marker_at body_at body_value_at record_at tag_at tagged_at union_at zero_within utf16_chars chars encode
+decode S t b = read_of Strict S 64 t false b
 
 -- types
 one : Base → AidlType
@@ -161,9 +162,9 @@ unfolding decode hex array list_of numbers
 word_arrays = (refl, refl, refl, refl, refl, refl)
 
 -- where no level is left, a sequence is refused at its count; null needs none
-too_deep : (read_of [] 0 (array base.Int) false (hex (codes "00000000")) ≡ Err bad_value)
-    × (read_of [] 0 (or_null (array base.Int)) false (hex (codes "ffffffff")) ≡ Ok (null, []))
-    × (read_of newer 0 it false (hex (codes "01000000")) ≡ Err bad_value)
+too_deep : (read_of Strict [] 0 (array base.Int) false (hex (codes "00000000")) ≡ Err bad_value)
+    × (read_of Strict [] 0 (or_null (array base.Int)) false (hex (codes "ffffffff")) ≡ Ok (null, []))
+    × (read_of Strict newer 0 it false (hex (codes "01000000")) ≡ Err bad_value)
 unfolding decode hex array or_null it newer
 too_deep = (refl, refl, refl)
 
