@@ -9,7 +9,7 @@ use Rattle.std.specs.Char.Utf16.{utf16_lossy_chars, has_unpaired_surrogate}
 use Rattle.std.proofs.lemmas.Nat.{from_le_bytes-to_le_bytes_2}
 use Rattle.std.proofs.lemmas.List.{length-replicate, length-take-le, take-append-drop}
 use Rattle.std.proofs.lemmas.Bool.{le-ltb}
-use Rattle.aidl_base.specs.Words.{pad, padding, units, unit_bytes, block}
+use Rattle.aidl_base.specs.Words.{padding, units, unit_bytes, block}
 use Rattle.aidl_base.specs.declared.profile.Profile.{Profile}
 use Rattle.aidl_base.specs.Profiles.{all_zero, is_padding, IsPadded, IsTextBlock}
 use Rattle.aidl_base.specs.Readings.{Read, ◌>>=◌, bad_value, bytes_at, raw_at, units_of, block_len, ends_text, text_of, ok_or_bad_value, block_at}

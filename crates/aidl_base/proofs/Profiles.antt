@@ -1,18 +1,15 @@
 -- What each profile permits of what is written, and what an item of bytes and their padding is.
-use Rattle.std.proofs.Common.{◌≡◌, ℕ, zero, suc, ◌+◌, ◌-◌, ◌%◌, ◌^◌, ◌<◌, ◌≤◌, ℤ, pos, negsuc, Bool, true, false, List, ◌++◌, length, take, drop, replicate, refl, sym, ap, ◌∙◌, subst, arith, length-append}
+use Rattle.std.proofs.Common.{◌≡◌, ℕ, suc, ◌+◌, ◌-◌, ◌%◌, ◌^◌, ◌<◌, ◌≤◌, ℤ, pos, negsuc, Bool, true, List, length, take, drop, replicate, refl, sym, ap, ◌∙◌, arith, length-append}
 use Rattle.std.specs.Prelude.{FitsSigned}
-use Rattle.std.specs.Int.{w8, w32, cast_unsigned, cast_signed}
+use Rattle.std.specs.Int.{w8}
 use Rattle.std.proofs.lemmas.Int.{ints}
 use Rattle.std.proofs.lemmas.List.{length-replicate, take-append-drop, length-take-le}
 use Rattle.aidl_base.specs.declared.profile.Profile.{Profile}
 use Rattle.aidl_base.specs.declared.profile.Profile.TheVariants.{Strict, Lenient}
-use Rattle.aidl_base.specs.declared.range.Range.TheVariants as range
-use Rattle.aidl_base.specs.Ranges.{is_in}
 use Rattle.aidl_base.specs.Profiles.{permits, byte_of, char_of, is_padding, IsPadded}
 use Rattle.aidl_base.specs.Words.{pad, padding}
 use Rattle.aidl_base.proofs.Bytes.{zeros}
 use Rattle.aidl_base.proofs.Lists.{drop_front, take_front}
-use Rattle.aidl_base.proofs.Ranges.{byte_fits}
 
 -- what is written is taken by both
 pub permits_written : (p : Profile) (b : Bool) → b ≡ true → permits p b ≡ true

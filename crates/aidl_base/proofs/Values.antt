@@ -10,7 +10,7 @@ use Rattle.aidl_base.specs.Spellings.{spell_truth}
 use Rattle.aidl_base.specs.declared.profile.Profile.{Profile}
 use Rattle.aidl_base.specs.declared.profile.Profile.TheVariants.{Strict}
 use Rattle.aidl_base.specs.Profiles.{is_truth_word, truth_of, is_byte_word, byte_of, is_char_word, char_of, IsWord}
-use Rattle.aidl_base.specs.Readings.{Read, ◌>>=◌, bad_value, word_at, long_at, word_as, truth_at, byte_at, char_at}
+use Rattle.aidl_base.specs.Readings.{Read, word_at, long_at, word_as, truth_at, byte_at, char_at}
 use Rattle.aidl_base.proofs.Lists.{take_front, drop_front}
 use Rattle.aidl_base.proofs.Profiles.{permits_written, byte_back, char_back}
 use Rattle.aidl_base.proofs.Ranges.{fits_byte, below_char, char_fits}

@@ -21,7 +21,7 @@ use Rattle.aidl_values.specs.Sound.{IsDeclared, fields_of, AreTypes, HaveDefault
 use Rattle.wire_model.specs.Spell.{spell}
 use Rattle.wire_model.specs.Status.{bad_value, not_enough, unexpected_null}
 use Rattle.wire_model.specs.ReadOf.{Read, read_of, raw_items_at, elements_at, array_at, marker_at, body_at, body_value_at, record_at, tag_at, tagged_at, union_at}
-use Rattle.aidl_base.specs.declared.profile.Profile.TheVariants.{Strict}
+use Rattle.aidl_base.specs.declared.profile.Profile.TheVariants.{Strict, Lenient}
 use Rattle.aidl_base.specs.Readings.{word_as, count_at, text_of, block_at, text_at, raw_at}
 
 -- hexadecimal, blanks passed over
@@ -176,6 +176,20 @@ narrow : (decode [] (one base.Boolean) (hex (codes "02000000")) ≡ Err bad_valu
 unfolding decode hex one
 narrow = (refl, refl, refl, refl, refl)
 
+-- the same words and blocks by the lenient profile
+leniently : AidlType → List ℕ → Read Data
+unfolding read_of word_as count_at text_of block_at text_at raw_at raw_items_at elements_at array_at zero_within utf16_chars chars encode
+leniently t b = read_of Lenient [] 64 t false b
+
+lenient_readings : (leniently (one base.Boolean) (hex (codes "02000000")) ≡ Ok (truth true, []))
+    × (leniently (one base.Byte) (hex (codes "80000000")) ≡ Ok (number (negsuc 127), []))
+    × (leniently (one base.Char) (hex (codes "00000100")) ≡ Ok (number (pos 0), []))
+    × (leniently (array base.Byte) (hex (codes "01000000 05010203")) ≡ Ok (seq (numbers (pos 5 ∷ [])), []))
+    × (leniently (one base.Text) (hex (codes "02000000 68006900 00000100")) ≡ Ok (text (codes "hi"), []))
+    × (leniently (one base.Text) (hex (codes "01000000 61000100")) ≡ Err bad_value)
+unfolding leniently hex one array numbers
+lenient_readings = (refl, refl, refl, refl, refl, refl)
+
 -- a pair of surrogates is one character; a lone one, or a last unit that isn't zero, is refused
 text_blocks : (decode [] (one base.Text) (hex (codes "02000000 00d800dc 00000000")) ≡ Ok (text (0x10000 ∷ []), []))
     × (decode [] (one base.Text) (hex (codes "01000000 00d80000")) ≡ Err bad_value)
@@ -230,6 +244,11 @@ defaults_filled : (decode newer it (hex (codes "01000000 08000000 07000000")) �
     × (decode newer (or_null it) (hex (codes "00000000")) ≡ Ok (null, []))
 unfolding decode hex it newer record_of or_null
 defaults_filled = (defaulted (pos 7) [], refl, refl, refl)
+
+-- any marker but 0 says that a record is there
+lenient_record : read_of Lenient newer 64 it false (hex (codes "02000000 08000000 07000000")) ≡ Ok (record_of (pos 7) (codes "x"), [])
+unfolding read_of word_as count_at raw_items_at marker_at body_at body_value_at record_at zero_within hex it newer record_of
+lenient_record = defaulted (pos 7) []
 
 -- a size below 4, the least size, one that is no multiple of 4, and one beyond the data; what the least size gives is the default
 size_words : (decode newer it (hex (codes "01000000 03000000")) ≡ Err bad_value)

@@ -1,7 +1,9 @@
-ghost use Rattle.std.specs.Prelude.{◌≡◌, ◌≤◌, ◌↔◌, ◌++◌, ◌⊎◌, true, List, ℕ, ℤ, Ok, Err, length};
+ghost use Rattle.std.specs.Prelude.{◌≡◌, ◌*◌, ◌≤◌, ◌↔◌, ◌++◌, ◌⊎◌, true, List, ℕ, ℤ, Ok, Err, length};
+ghost use Rattle.aidl_base.specs.declared.profile.Profile.TheVariants.{Strict, Lenient};
 ghost use Rattle.aidl_schema.specs.Types.{is_type};
 ghost use Rattle.aidl_values.specs.Data.{Data, depth_of};
 ghost use Rattle.aidl_values.specs.HasType.{HasType};
+ghost use Rattle.aidl_values.specs.Nodes.{nodes_of};
 ghost use Rattle.aidl_values.specs.View.{view};
 ghost use Rattle.wire_model.specs.ReadOf.{read_of};
 ghost use Rattle.wire_model.specs.Reads.{FrontReads, Reads};
@@ -84,4 +86,24 @@ pub fn law_read_of(
         ↔ ((front : List ℕ) × (b.now ≡ front ++ rest) × Reads profile schema.now.decls levels ty.now front v) }
     ensures stops { (s : ℤ) → (read_of profile schema.now.decls levels ty.now inside b.now ≡ Err s)
         ↔ Stop profile schema.now.decls levels ty.now b.now inside s }
+{}
+
+/// What is read of so many bytes has at most 64 times as many nodes: the values in it, itself included, and one for each
+/// character of each text. So no count and no size word makes a large value by itself.
+pub fn law_nodes(
+    profile: Profile,
+    schema: &Schema,
+    ty: &AidlType,
+    levels: usize,
+    b: &[u8],
+    value: &Value,
+)
+    requires { Reads profile schema.now.decls levels ty.now b.now (view value.now) }
+    ensures { nodes_of (view value.now) ≤ 64 * length b.now }
+{}
+
+/// What the strict profile reads, the lenient one reads.
+pub fn law_strict_is_lenient(schema: &Schema, ty: &AidlType, levels: usize, b: &[u8], value: &Value)
+    requires { Reads Strict schema.now.decls levels ty.now b.now (view value.now) }
+    ensures { Reads Lenient schema.now.decls levels ty.now b.now (view value.now) }
 {}

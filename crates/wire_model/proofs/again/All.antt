@@ -42,7 +42,7 @@ use Rattle.aidl_values.specs.steps.Levels.{is_level_left}
 unique_zero : (S : List Decl) (t : AidlType) (v w : Data) → IsZero S t v → IsZero S t w → v ≡ w
 unique_zero S t v w h k = one_zero S (max (depth_of v) (depth_of w)) t v h (omega arith) ∙ sym (one_zero S (max (depth_of v) (depth_of w)) t w k (omega arith))
 
-unique_initial : (S : List Decl) (t : AidlType) (o : Option Const) (v w : Data) → MatchOption o (IsZero S t v) (λ c. v ≡ const_value c)
+pub unique_initial : (S : List Decl) (t : AidlType) (o : Option Const) (v w : Data) → MatchOption o (IsZero S t v) (λ c. v ≡ const_value c)
     → MatchOption o (IsZero S t w) (λ c. w ≡ const_value c) → v ≡ w
 unique_initial S t None v w h k = unique_zero S t v w h k
 unique_initial S t (Some c) v w h k = h ∙ sym k
@@ -166,7 +166,7 @@ module _ (p : Profile) (S : List Decl) (sound : IsWhole S) where
       let counted : count_at t.nullable inside (b ++ r) ≡ Ok (None, r) = rw (h.0, spelled) (null_again inside r) in
       sequence d t inside (b ++ r) _ is (ap (then_elements p (is_level_left d) (is_raw S t) (λ e. read_parts p S d (elem S t) inside e) inside) counted)
 
-  are_bytes : (t : AidlType) (vs : Items) → form_of S t.base ≡ form.byte → HaveType S (elem S t) vs → AreByteNumbers vs
+  pub are_bytes : (t : AidlType) (vs : Items) → form_of S t.base ≡ form.byte → HaveType S (elem S t) vs → AreByteNumbers vs
   are_bytes t none byte h = tt
   are_bytes t (item (number n) vs) byte h = (n, refl, byte_fits n (subst (λ f. in_range f n ≡ true) byte h.0.1), are_bytes t vs byte h.1)
   are_bytes t (item null vs) byte h = absurd (true≢false (sym h.0 ∙ rw byte (and_false t.nullable)))
