@@ -2,7 +2,7 @@
 use Rattle.std.proofs.Common.{◌≡◌, ℕ, zero, suc, ◌+◌, ◌<◌, true, false, List, [], ◌∷◌, ◌++◌, length, take, drop, get_or, replicate, eqb, refl, sym, ap, ◌∙◌, arith, length-append, true≢false}
 use Rattle.std.proofs.lemmas.List.{length-take-le, take-append-drop}
 use Rattle.std.proofs.lemmas.Bool.Decides.{nat_tests}
-use Rattle.aidl_base.specs.Readings.{all_zero}
+use Rattle.aidl_base.specs.Profiles.{all_zero}
 
 -- each is a byte
 abbrev pub AreBytes : List ℕ → Type 0
@@ -22,6 +22,11 @@ AreBytes-drop (suc n) (x ∷ b) bytes = AreBytes-drop n b (λ j. bytes (suc j))
 pub AreBytes-rest : (front rest : List ℕ) → AreBytes (front ++ rest) → AreBytes rest
 AreBytes-rest [] rest bytes = bytes
 AreBytes-rest (x ∷ front) rest bytes = AreBytes-rest front rest (λ i. bytes (suc i))
+
+pub AreBytes-front : (front rest : List ℕ) → AreBytes (front ++ rest) → AreBytes front
+AreBytes-front [] rest bytes i = omega arith
+AreBytes-front (x ∷ front) rest bytes zero = bytes 0
+AreBytes-front (x ∷ front) rest bytes (suc i) = AreBytes-front front rest (λ j. bytes (suc j)) i
 
 pub zeros : (n : ℕ) → all_zero (replicate n 0) ≡ true
 zeros zero = refl

@@ -7,25 +7,33 @@ use Rattle.aidl_base.specs.Words.{word, units, block}
 use Rattle.aidl_base.specs.Spellings.{spell_text, spell_nullable_text, spell_sequence}
 use Rattle.aidl_base.specs.Readings.{Read, ◌>>=◌, word_at, count_of, count_at, counted_at, block_at, text_at, not_null, present_text_at, items_at, sequence_at}
 use Rattle.aidl_base.proofs.Words.{count_again, null_again}
+use Rattle.aidl_base.specs.declared.profile.Profile.{Profile}
+use Rattle.aidl_base.specs.declared.profile.Profile.TheVariants.{Strict}
+use Rattle.aidl_base.specs.Profiles.{IsTextBlock}
+use Rattle.aidl_base.proofs.Profiles.{padded}
 use Rattle.aidl_base.proofs.Blocks.{block_again, length-block}
 use Rattle.aidl_base.proofs.Values.{prefix_by_reading}
 
-pub text_again : (nullable : Bool) (x : List ℕ) (inside : Bool) (rest : List ℕ) → all_scalars x ≡ true → length (units x) < 2 ^ 31 → text_at nullable inside (spell_text x ++ rest) ≡ Ok (Some x, rest)
+-- a text whose block is padded as the profile permits
+pub text_again : (p : Profile) (nullable : Bool) (x b : List ℕ) (inside : Bool) (rest : List ℕ) → all_scalars x ≡ true → length (units x) < 2 ^ 31 → IsTextBlock p x b
+    → text_at p nullable inside ((word (pos (length (units x))) ++ b) ++ rest) ≡ Ok (Some x, rest)
 unfolding text_at
-text_again nullable x inside rest ok small =
-    ap (λ (c : Read (Option ℕ)). c >>= λ n. counted_at (λ m b. block_at m inside b) n.0 n.1) (count_again nullable (length (units x)) inside (block x ++ rest) small)
-    ∙ ap (λ (b : Read (List ℕ)). b >>= λ y. Ok (Some y.0, y.1)) (block_again x inside rest ok)
+text_again p nullable x b inside rest ok small is =
+    ap (λ (c : Read (Option ℕ)). c >>= λ n. counted_at (λ m b. block_at p m inside b) n.0 n.1) (count_again nullable (length (units x)) inside (b ++ rest) small)
+    ∙ ap (λ (b : Read (List ℕ)). b >>= λ y. Ok (Some y.0, y.1)) (block_again p x b inside rest ok is)
 
-pub null_text_again : (inside : Bool) (rest : List ℕ) → text_at true inside (spell_nullable_text None ++ rest) ≡ Ok (None, rest)
+pub null_text_again : (p : Profile) (inside : Bool) (rest : List ℕ) → text_at p true inside (spell_nullable_text None ++ rest) ≡ Ok (None, rest)
 unfolding text_at
-null_text_again inside rest = ap (λ (c : Read (Option ℕ)). c >>= λ n. counted_at (λ m b. block_at m inside b) n.0 n.1) (null_again inside rest)
+null_text_again p inside rest = ap (λ (c : Read (Option ℕ)). c >>= λ n. counted_at (λ m b. block_at p m inside b) n.0 n.1) (null_again inside rest)
 
-pub present_text_again : (x : List ℕ) (inside : Bool) (rest : List ℕ) → all_scalars x ≡ true → length (units x) ≤ 2147483647 → present_text_at inside (spell_text x ++ rest) ≡ Ok (x, rest)
+pub present_text_again : (p : Profile) (x : List ℕ) (inside : Bool) (rest : List ℕ) → all_scalars x ≡ true → length (units x) ≤ 2147483647 → present_text_at p inside (spell_text x ++ rest) ≡ Ok (x, rest)
 unfolding present_text_at
-present_text_again x inside rest ok few = let small : length (units x) < 2 ^ 31 = omega arith in ap (λ (t : Read (Option (List ℕ))). t >>= λ y. not_null y.0 >>= λ z. Ok (z, y.1)) (text_again false x inside rest ok small)
+present_text_again p x inside rest ok few =
+    let small : length (units x) < 2 ^ 31 = omega arith in
+    ap (λ (t : Read (Option (List ℕ))). t >>= λ y. not_null y.0 >>= λ z. Ok (z, y.1)) (text_again p false x (block x) inside rest ok small (padded p _))
 
 pub text_prefix : (x y : List ℕ) (rest : List ℕ) → all_scalars x ≡ true → length (units x) ≤ 2147483647 → all_scalars y ≡ true → length (units y) ≤ 2147483647 → spell_text x ++ rest ≡ spell_text y → rest ≡ []
-text_prefix x y rest p small q less e = prefix_by_reading (λ b. present_text_at false b) x y (spell_text x) (spell_text y) rest (λ r. present_text_again x false r p small) (λ r. present_text_again y false r q less) e
+text_prefix x y rest p small q less e = prefix_by_reading (λ b. present_text_at Strict false b) x y (spell_text x) (spell_text y) rest (λ r. present_text_again Strict x false r p small) (λ r. present_text_again Strict y false r q less) e
 
 -- the length of a text's spelling
 pub length-spell_text : (x : List ℕ) → length (spell_text x) ≡ 4 * (length (units x) / 2 + 2)
@@ -66,9 +74,9 @@ abbrev some_text : Read (List ℕ) → Read (Option (List ℕ))
 some_text x = x >>= λ y. Ok (Some y.0, y.1)
 
 -- a text that may not be null is no null
-pub never_null : (inside : Bool) (b rest : List ℕ) → text_at false inside b ≡ Ok (None, rest) → ⊥
+pub never_null : (p : Profile) (inside : Bool) (b rest : List ℕ) → text_at p false inside b ≡ Ok (None, rest) → ⊥
 unfolding text_at count_at
-never_null inside b rest e = by_word (word_at inside b) e
+never_null p inside b rest e = by_word (word_at inside b) e
   where
     by_block : (x : Read (List ℕ)) → some_text x ≡ Ok (None, rest) → ⊥
     by_block (Ok y) f =
@@ -77,8 +85,8 @@ never_null inside b rest e = by_word (word_at inside b) e
         absurd cc
     by_block (Err s) f = absurd cc
 
-    by_word : (w : Read ℤ) → (w >>= count_in) >>= (λ n. counted_at (λ m c. block_at m inside c) n.0 n.1) ≡ Ok (None, rest) → ⊥
-    by_word (Ok (pos n, c)) f = by_block (block_at n inside c) f
+    by_word : (w : Read ℤ) → (w >>= count_in) >>= (λ n. counted_at (λ m c. block_at p m inside c) n.0 n.1) ≡ Ok (None, rest) → ⊥
+    by_word (Ok (pos n, c)) f = by_block (block_at p n inside c) f
     by_word (Ok (negsuc zero, c)) f = absurd cc
     by_word (Ok (negsuc (suc n), c)) f = absurd cc
     by_word (Err s) f = absurd cc

@@ -83,6 +83,15 @@ pub units_le : (x : List ℕ) → length (units x) ≤ length (encode_utf8_all x
 units_le [] = omega arith
 units_le (c ∷ x) = omega (arith, units_le x, units_of_one c (nat_lt c 0x1_0000) refl, length-encode c, length-append (encode_utf16 c) (units x), length-append (encode c) (encode_utf8_all x))
 
+some_unit : (c : ℕ) (b : Bool) → nat_lt c 0x1_0000 ≡ b → 1 ≤ length (encode_utf16 c)
+some_unit c true small = rw small (omega arith)
+some_unit c false large = rw large (omega arith)
+
+-- and at least as many units as characters
+pub chars_le_units : (x : List ℕ) → length x ≤ length (units x)
+chars_le_units [] = omega arith
+chars_le_units (c ∷ x) = omega (arith, chars_le_units x, some_unit c (nat_lt c 0x1_0000) refl, length-append (encode_utf16 c) (units x))
+
 -- each is a unit of UTF-16
 abbrev pub AreUnits : List ℕ → Type 0
 AreUnits us = (k : ℕ) → get_or us k 0 < 2 ^ 16

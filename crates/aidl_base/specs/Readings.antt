@@ -1,11 +1,10 @@
 -- Reading values of built-in types off the front of bytes: the value and the bytes after it, or the status of the first wrong item.
 -- The bytes are those up to the reader's limit, and `inside` says that the limit is the end of a record (statuses: libutils, Errors.h; rules: own).
 use Rattle.std.specs.Prelude.{ℕ, zero, suc, ◌+◌, ◌*◌, ◌%◌, ℤ, pos, negsuc, Bool, true, false, ◌&&◌, List, [], ◌∷◌, length, take, drop, Option, Some, None, Result, Ok, Err, nat_lt, nat_le, ◌==◌, if◌then◌else◌}
-use Rattle.std.specs.List.{list_all}
 use Rattle.std.specs.Int.{w16, from_le_bytes}
 use Rattle.std.specs.Char.Utf16.{has_unpaired_surrogate, utf16_lossy_chars}
-use Rattle.aidl_base.specs.declared.range.Range.TheVariants as range
-use Rattle.aidl_base.specs.Ranges.{is_in}
+use Rattle.aidl_base.specs.declared.profile.Profile.{Profile}
+use Rattle.aidl_base.specs.Profiles.{is_truth_word, truth_of, is_byte_word, byte_of, is_char_word, char_of, all_zero, is_padding}
 pub use Rattle.aidl_base.specs.Results.{◌>>=◌}
 use Rattle.aidl_base.specs.Words.{word_of, long_of, padding}
 
@@ -37,39 +36,23 @@ word_at inside b = if nat_lt (length b) 4 then Err (past inside) else Ok (word_o
 abbrev pub long_at : Bool → List ℕ → Read ℤ
 long_at inside b = if nat_lt (length b) 8 then Err (past inside) else Ok (long_of (take 8 b), drop 8 b)
 
--- the truth value of a word
-abbrev pub truth_of : ℤ → Result Bool ℤ
-truth_of (pos zero) = Ok false
-truth_of (pos (suc zero)) = Ok true
-truth_of (pos (suc (suc n))) = Err bad_value
-truth_of (negsuc n) = Err bad_value
-
-unfoldable pub truth_at : Bool → List ℕ → Read Bool
-truth_at inside b = do
+-- a word that may stand for a value, as what it means
+unfoldable pub word_as : {A : Type 0} → (ℤ → Bool) → (ℤ → A) → Bool → List ℕ → Read A
+word_as may means inside b = do
   w ← word_at inside b
-  t ← truth_of w.0
-  Ok (t, w.1)
+  if may w.0 then Ok (means w.0, w.1) else Err bad_value
 
--- the byte of a word
-abbrev pub byte_of : ℤ → Result ℤ ℤ
-byte_of n = if is_in range.Byte n then Ok n else Err bad_value
+-- a boolean, by a profile p
+abbrev pub truth_at : Profile → Bool → List ℕ → Read Bool
+truth_at p inside b = word_as (λ w. is_truth_word p w) truth_of inside b
 
-unfoldable pub byte_at : Bool → List ℕ → Read ℤ
-byte_at inside b = do
-  w ← word_at inside b
-  n ← byte_of w.0
-  Ok (n, w.1)
+-- a byte
+abbrev pub byte_at : Profile → Bool → List ℕ → Read ℤ
+byte_at p inside b = word_as (λ w. is_byte_word p w) byte_of inside b
 
--- the code unit of a word
-abbrev pub char_of : ℤ → Result ℕ ℤ
-char_of (pos n) = if is_in range.Char (pos n) then Ok n else Err bad_value
-char_of (negsuc n) = Err bad_value
-
-unfoldable pub char_at : Bool → List ℕ → Read ℕ
-char_at inside b = do
-  w ← word_at inside b
-  n ← char_of w.0
-  Ok (n, w.1)
+-- a char, as its code unit
+abbrev pub char_at : Profile → Bool → List ℕ → Read ℕ
+char_at p inside b = word_as (λ w. is_char_word p w) char_of inside b
 
 -- the count of a word, where None is null
 abbrev pub count_of : Bool → ℤ → Result (Option ℕ) ℤ
@@ -83,14 +66,11 @@ count_at nullable inside b = do
   n ← count_of nullable w.0
   Ok (n, w.1)
 
-abbrev pub all_zero : List ℕ → Bool
-all_zero bytes = list_all (λ x. x == 0) bytes
-
--- n raw bytes and their padding, which is zero
-unfoldable pub raw_at : ℕ → Bool → List ℕ → Read (List ℕ)
-raw_at n inside b = do
+-- n raw bytes and their padding
+unfoldable pub raw_at : Profile → ℕ → Bool → List ℕ → Read (List ℕ)
+raw_at p n inside b = do
   x ← bytes_at (n + padding n) inside b
-  if all_zero (drop n x.0) then Ok (take n x.0, x.1) else Err bad_value
+  if is_padding p (drop n x.0) then Ok (take n x.0, x.1) else Err bad_value
 
 -- the bytes of the block of a text of n units
 abbrev pub block_len : ℕ → ℕ
@@ -101,20 +81,24 @@ abbrev pub units_of : List ℕ → List ℕ
 units_of (low ∷ high ∷ bytes) = from_le_bytes w16 (low ∷ high ∷ []) ∷ units_of bytes
 units_of _ = []
 
--- the text of a block of n units, if they are well-formed UTF-16 and zeros follow them
-unfoldable pub text_of : ℕ → List ℕ → Option (List ℕ)
-text_of n bytes = let us = units_of (take (2 * n) bytes) in
-    if has_unpaired_surrogate us then None else (if all_zero (drop (2 * n) bytes) then Some (utf16_lossy_chars us) else None)
+-- what stands after the units of a text: one zero unit, and padding
+abbrev pub ends_text : Profile → List ℕ → Bool
+ends_text p tail = all_zero (take 2 tail) && is_padding p (drop 2 tail)
+
+-- the text of a block of n units, if they are well-formed UTF-16 and the block ends as it has to
+unfoldable pub text_of : Profile → ℕ → List ℕ → Option (List ℕ)
+text_of p n bytes = let us = units_of (take (2 * n) bytes) in
+    if has_unpaired_surrogate us then None else (if ends_text p (drop (2 * n) bytes) then Some (utf16_lossy_chars us) else None)
 
 abbrev pub ok_or_bad_value : {A : Type 0} → Option A → Result A ℤ
 ok_or_bad_value None = Err bad_value
 ok_or_bad_value (Some x) = Ok x
 
 -- the block of a text of n units
-unfoldable pub block_at : ℕ → Bool → List ℕ → Read (List ℕ)
-block_at n inside b = do
+unfoldable pub block_at : Profile → ℕ → Bool → List ℕ → Read (List ℕ)
+block_at p n inside b = do
   x ← bytes_at (block_len n) inside b
-  text ← ok_or_bad_value (text_of n x.0)
+  text ← ok_or_bad_value (text_of p n x.0)
   Ok (text, x.1)
 
 -- what stands after a count that isn't null
@@ -125,10 +109,10 @@ counted_at read (Some n) b = do
   Ok (Some x.0, x.1)
 
 -- a text, where None is null
-unfoldable pub text_at : Bool → Bool → List ℕ → Read (Option (List ℕ))
-text_at nullable inside b = do
+unfoldable pub text_at : Profile → Bool → Bool → List ℕ → Read (Option (List ℕ))
+text_at p nullable inside b = do
   n ← count_at nullable inside b
-  counted_at (λ m c. block_at m inside c) n.0 n.1
+  counted_at (λ m c. block_at p m inside c) n.0 n.1
 
 -- what may not be null
 abbrev pub not_null : {A : Type 0} → Option A → Result A ℤ
@@ -136,9 +120,9 @@ not_null None = Err unexpected_null
 not_null (Some x) = Ok x
 
 -- a text that may not be null
-unfoldable pub present_text_at : Bool → List ℕ → Read (List ℕ)
-present_text_at inside b = do
-  x ← text_at false inside b
+unfoldable pub present_text_at : Profile → Bool → List ℕ → Read (List ℕ)
+present_text_at p inside b = do
+  x ← text_at p false inside b
   text ← not_null x.0
   Ok (text, x.1)
 

@@ -1,7 +1,9 @@
--- What `decode TYPES FILE` answers.
-use Rattle.std.specs.Prelude.{ℕ, ℤ, false, List, [], ◌∷◌, ◌++◌, length, Option, Result, Ok, Err, codes}
+-- What `decode [--lenient] TYPES FILE` answers.
+use Rattle.std.specs.Prelude.{ℕ, ℤ, Bool, true, false, List, [], ◌∷◌, ◌++◌, length, Option, Result, Ok, Err, codes}
 use Rattle.std.specs.Fmt.{decimal, signed_decimal}
 use Rattle.aidl_base.specs.declared.limit.LimitName.TheVariants.{ParcelBytes}
+use Rattle.aidl_base.specs.declared.profile.Profile.{Profile}
+use Rattle.aidl_base.specs.declared.profile.Profile.TheVariants.{Strict, Lenient}
 use Rattle.aidl_schema.specs.declared.schema.Decl.{Decl}
 use Rattle.aidl_schema.specs.declared.schema.AidlType.{AidlType}
 use Rattle.aidl_values.specs.Data.{Data}
@@ -10,6 +12,11 @@ use Rattle.aidl_tool.specs.declared.verdict.Verdict.TheVariants.{Done}
 use Rattle.aidl_tool.specs.Answer.{Answer, Found, ◌>>=◌, line, negative, after_text}
 use Rattle.aidl_tool.specs.Refusals.{there, within, bytes_of, known_types}
 use Rattle.aidl_tool.specs.ValueText.{value_text}
+
+-- the profile by which is read; `lenient` says that `--lenient` stands
+abbrev pub profile_of : Bool → Profile
+profile_of true = Lenient
+profile_of false = Strict
 
 -- after the last item: bytes that are left are counted
 abbrev pub rest_answer : List ℕ → Answer
@@ -26,15 +33,15 @@ item_found (Ok item) = Ok item
 item_found (Err status) = Err (negative (codes "status " ++ signed_decimal status))
 
 -- the items in order, a line each
-abbrev pub items_answer : List Decl → List AidlType → List ℕ → Answer
-items_answer S [] bytes = rest_answer bytes
-items_answer S (t ∷ ts) bytes = do
-  item ← item_found (read_of S 64 t false bytes)
-  after_text (value_line S t item.0) (items_answer S ts item.1)
+abbrev pub items_answer : Profile → List Decl → List AidlType → List ℕ → Answer
+items_answer p S [] bytes = rest_answer bytes
+items_answer p S (t ∷ ts) bytes = do
+  item ← item_found (read_of p S 64 t false bytes)
+  after_text (value_line S t item.0) (items_answer p S ts item.1)
 
 -- The refusals in their order, a line each.
-abbrev pub decode_answer : List Decl → List ℕ → List ℕ → Option (Found (List ℕ)) → Answer
-decode_answer S types path file = do
+abbrev pub decode_answer : Profile → List Decl → List ℕ → List ℕ → Option (Found (List ℕ)) → Answer
+decode_answer p S types path file = do
   found ← there path file  -- `no file`
   -- with a tree: the limits of its files
   text ← found  -- `limit text-bytes`
@@ -42,4 +49,4 @@ decode_answer S types path file = do
   parcel ← within ParcelBytes bytes  -- `limit parcel-bytes`
   -- with a tree: all else of it
   known ← known_types S types  -- `bad type`
-  items_answer S known parcel  -- `status`, and then `left`
+  items_answer p S known parcel  -- `status`, and then `left`

@@ -13,46 +13,48 @@ ghost use Rattle.aidl_tool.specs.steps.Results.{Gives, loaded, printed};
 use crate::printed::{Early, Printed, push_left, push_status};
 use crate::steps::{bytes_of, known_types, text_of, there, within};
 use crate::verdict::Verdict;
-use aidl_base::{Limit, LimitName, OutOfMemory};
+use aidl_base::{Limit, LimitName, OutOfMemory, Profile};
 use aidl_schema::{AidlType, Schema};
 use aidl_values::Value;
 use json_values::to_json;
 use parcel_read::read;
 use std::alloc::Global;
 
-/// What `decode TYPES FILE` prints of the file.
+/// What `decode TYPES FILE` prints of the file, read by the profile.
 #[tactic(auto, using(crate::proofs::EarlyEnds::ends_there))]
 pub fn decode(
     alloc: Global,
+    profile: Profile,
     schema: &Schema,
     types: &str,
     path: &str,
     file: Option<Result<Vec<u8>, Limit>>,
 ) -> Result<Printed, Early>
-    ensures { Gives result (decode_answer schema.now.decls types.now path.now (loaded file)) }
+    ensures { Gives result (decode_answer profile schema.now.decls types.now path.now (loaded file)) }
 {
     let found = there(alloc, path, file)?;
     let text = text_of(alloc, found)?;
     let bytes = bytes_of(alloc, text)?;
     let parcel = within(alloc, LimitName::ParcelBytes, bytes)?;
     let known = known_types(alloc, schema, types)?;
-    let printed = print_items(alloc, schema, known.as_slice(), parcel.as_slice())?;
+    let printed = print_items(alloc, profile, schema, known.as_slice(), parcel.as_slice())?;
     Ok(printed)
 }
 
 fn print_items(
     alloc: Global,
+    profile: Profile,
     schema: &Schema,
     types: &[AidlType],
     bytes: &[u8],
 ) -> Result<Printed, OutOfMemory>
     requires { list_all (is_type schema.now.decls) types.now ≡ true }
-    ensures { IfOk result (λ p. printed p ≡ items_answer schema.now.decls types.now bytes.now) }
+    ensures { IfOk result (λ p. printed p ≡ items_answer profile schema.now.decls types.now bytes.now) }
 {
     let mut text = String::new(alloc);
     let mut rest = bytes;
     for ty in types {
-        match push_item(alloc, schema, ty, rest, &mut text)? {
+        match push_item(alloc, profile, schema, ty, rest, &mut text)? {
             Some(after) => rest = after,
             None => return Ok(Printed {
                 text,
@@ -67,15 +69,16 @@ fn print_items(
 // Reads one item and adds its line. None where it is refused; else the bytes after it.
 fn push_item<'a>(
     alloc: Global,
+    profile: Profile,
     schema: &Schema,
     ty: &AidlType,
     bytes: &'a [u8],
     text: &mut String,
 ) -> Result<Option<&'a [u8]>, OutOfMemory>
     requires { is_type schema.now.decls ty.now ≡ true }
-    ensures { IfOk result (λ left. PrintsItem schema.now.decls ty.now (read_of schema.now.decls 64 ty.now false bytes.now) (string_bytes text.old) (string_bytes text.new) (option_map (λ rest. rest.now) left)) }
+    ensures { IfOk result (λ left. PrintsItem schema.now.decls ty.now (read_of profile schema.now.decls 64 ty.now false bytes.now) (string_bytes text.old) (string_bytes text.new) (option_map (λ rest. rest.now) left)) }
 {
-    match read(alloc, schema, ty, bytes) {
+    match read(alloc, profile, schema, ty, bytes) {
         Ok((value, used)) => {
             push_value(alloc, schema, ty, &value, text)?;
             Ok(Some(&bytes[used..]))

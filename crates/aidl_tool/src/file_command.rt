@@ -9,7 +9,7 @@ use crate::encode::encode;
 use crate::load::load;
 use crate::printed::{Early, Printed};
 use crate::put::print;
-use aidl_base::{Limit, LimitName};
+use aidl_base::{Limit, LimitName, Profile};
 use aidl_outside::{Link, Sink, Store, StoreFault};
 use aidl_schema::Schema;
 use std::alloc::Global;
@@ -17,10 +17,17 @@ use std::alloc::Global;
 /// A command that reads one file and prints.
 #[derive(Clone, Copy, Debug)]
 pub enum FileCommand<'a> {
-    /// `decode TYPES FILE`
-    Decode { types: &'a str, file: &'a str },
+    /// `decode [--lenient] TYPES FILE`
+    Decode {
+        profile: Profile,
+        types: &'a str,
+        file: &'a str,
+    },
     /// `encode TYPES FILE`
-    Encode { types: &'a str, file: &'a str },
+    Encode {
+        types: &'a str,
+        file: &'a str,
+    },
 }
 
 /// Runs a command that reads one file and prints. The answer is the exit status.
@@ -60,7 +67,11 @@ fn answer(
 {
     let schema = Schema::empty(alloc);
     match command {
-        FileCommand::Decode { types, file: path } => decode(alloc, &schema, types, path, file),
+        FileCommand::Decode {
+            profile,
+            types,
+            file: path,
+        } => decode(alloc, profile, &schema, types, path, file),
         FileCommand::Encode { types, file: path } => encode(alloc, &schema, types, path, file),
     }
 }

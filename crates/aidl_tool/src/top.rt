@@ -1,6 +1,7 @@
 ghost use Rattle.std.specs.Prelude.{◌≡◌, map, string_bytes};
 ghost use Rattle.std.specs.Option.{option_map};
 ghost use Rattle.tool_words.specs.Seen.{command_seen};
+ghost use Rattle.aidl_tool.specs.Decode.{profile_of};
 ghost use Rattle.aidl_tool.specs.Ended.{Ran};
 ghost use Rattle.aidl_tool.specs.Meant.{meaning, meant};
 ghost use Rattle.aidl_tool.specs.Seen.{seen_by};
@@ -8,6 +9,7 @@ ghost use Rattle.aidl_tool.specs.steps.Files.{meaning_of};
 
 use crate::file_command::{FileCommand, run_on_file};
 use crate::refuse::refuse;
+use aidl_base::Profile;
 use aidl_outside::{Link, Sink, Store};
 use std::alloc::Global;
 use tool_words::{Command, command_of};
@@ -47,16 +49,31 @@ fn built(command: Command<'_>) -> Option<FileCommand<'_>>
 {
     match command {
         Command::Decode {
-            lenient: false,
+            lenient,
             tree: None,
             types,
             file,
-        } => Some(FileCommand::Decode { types, file }),
+        } => Some(FileCommand::Decode {
+            profile: profile_of(lenient),
+            types,
+            file,
+        }),
         Command::Encode {
             tree: None,
             types,
             file,
         } => Some(FileCommand::Encode { types, file }),
         _ => None,
+    }
+}
+
+// The profile by which is read.
+fn profile_of(lenient: bool) -> Profile
+    ensures { result ≡ profile_of lenient }
+{
+    if lenient {
+        Profile::Lenient
+    } else {
+        Profile::Strict
     }
 }

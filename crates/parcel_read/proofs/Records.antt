@@ -94,7 +94,7 @@ on_by p n le =
 pub stays : (p : Place) → MovesOn p p
 stays p =
     let still : p.position ≡ p.position + (length (left p) - length (left p)) = omega arith in
-    ap (λ (n : ℕ). record { bytes = p.bytes; position = n; ends = p.ends }) still
+    ap (λ (n : ℕ). record { profile = p.profile; bytes = p.bytes; position = n; ends = p.ends }) still
 
 -- a record that was entered at p, and left when the reader was at r
 module _ (p q r : Place) (enters : Enters p q) (on : MovesOn q r) where

@@ -4,19 +4,21 @@ ghost use Rattle.parcel_words.specs.Place.{left, is_inside, MovesOn};
 ghost use Rattle.parcel_words.specs.Taken.{TakesIfMemory};
 ghost use Rattle.wire_model.specs.ReadOf.{marker_at, tag_at};
 
-use parcel_words::{ReadFault, WordReader};
+use parcel_words::{ReadFault, Wire, WordReader};
+use std::alloc::Global;
 
 /// Reads the marker of a parcelable or union: whether a value follows. Otherwise it is null.
 #[tactic(auto, unfolding(wire_model::specs::ReadOf::marker_at))]
-pub fn marker_from(nullable: bool, from: &mut WordReader) -> Result<bool, ReadFault>
-    ensures taken { TakesIfMemory (λ there. there) result (marker_at nullable (is_inside from.old) (left from.old)) (left from.new) }
+pub fn marker_from(alloc: Global, nullable: bool, from: &mut WordReader) -> Result<bool, ReadFault>
+    ensures taken { TakesIfMemory (λ there. there) result (marker_at from.old.profile nullable (is_inside from.old) (left from.old)) (left from.new) }
     ensures on { OnOk result (MovesOn from.old from.new) }
 {
-    match from.word()? {
-        1 => Ok(true),
-        0 if nullable => Ok(false),
-        0 => Err(ReadFault::UnexpectedNull),
-        _ => Err(ReadFault::BadValue),
+    if bool::take(alloc, from)? {
+        Ok(true)
+    } else if nullable {
+        Ok(false)
+    } else {
+        Err(ReadFault::UnexpectedNull)
     }
 }
 

@@ -13,7 +13,7 @@ use std::alloc::Global;
 /// Reads so many raw bytes and their padding. Room is taken once the bytes are there.
 #[tactic(auto, unfolding(wire_model::specs::ReadOf::raw_items_at))]
 pub fn raw_from(alloc: Global, count: usize, from: &mut WordReader) -> Result<Row<Value>, ReadFault>
-    ensures taken { TakesIfMemory views result (raw_items_at count (is_inside from.old) (left from.old)) (left from.new) }
+    ensures taken { TakesIfMemory views result (raw_items_at from.old.profile count (is_inside from.old) (left from.old)) (left from.new) }
     ensures on { OnOk result (MovesOn from.old from.new) }
 {
     let bytes = from.raw(count)?;

@@ -29,7 +29,7 @@ pub fn value_from(
     from: &mut WordReader,
 ) -> Result<Value, ReadFault>
     requires { length from.old.ends + levels ≤ 64 }
-    ensures taken { TakesIfMemory view result (read_of schema.now.decls levels ty (is_inside from.old) (left from.old)) (left from.new) }
+    ensures taken { TakesIfMemory view result (read_of from.old.profile schema.now.decls levels ty (is_inside from.old) (left from.old)) (left from.new) }
     ensures on { OnOk result (MovesOn from.old from.new) }
 {
     match ty.shape {
@@ -48,16 +48,16 @@ fn one_from(
     from: &mut WordReader,
 ) -> Result<Value, ReadFault>
     requires { length from.old.ends + levels ≤ 64 }
-    ensures taken { TakesIfMemory view result (one_at (is_level_left levels) (λ f. initial_in schema.now.decls f)
-        (λ u j b. read_parts schema.now.decls levels u j b) ty.nullable (form_of schema.now.decls ty.base) (is_inside from.old) (left from.old)) (left from.new) }
+    ensures taken { TakesIfMemory view result (one_at from.old.profile (is_level_left levels) (λ f. initial_in schema.now.decls f)
+        (λ u j b. read_parts from.old.profile schema.now.decls levels u j b) ty.nullable (form_of schema.now.decls ty.base) (is_inside from.old) (left from.old)) (left from.new) }
     ensures on { OnOk result (MovesOn from.old from.new) }
 {
     match form_in(schema, ty.base) {
-        Form::Truth => truth_from(from),
-        Form::Byte => byte_from(from),
-        Form::Char => char_from(from),
-        Form::Int => int_from(from),
-        Form::Long => long_from(from),
+        Form::Truth => truth_from(alloc, from),
+        Form::Byte => byte_from(alloc, from),
+        Form::Char => char_from(alloc, from),
+        Form::Int => int_from(alloc, from),
+        Form::Long => long_from(alloc, from),
         Form::Text => text_from(alloc, ty.nullable, from),
         Form::Parcelable(fields) => record_from(alloc, schema, ty.nullable, fields, levels, from),
         Form::Union(fields) => union_from(alloc, schema, ty.nullable, fields, levels, from),
@@ -77,8 +77,8 @@ fn sequence_from(
     from: &mut WordReader,
 ) -> Result<Value, ReadFault>
     requires { length from.old.ends + levels ≤ 64 }
-    ensures taken { TakesIfMemory view result (array_at (is_level_left levels) (is_raw schema.now.decls ty) ty.nullable
-        (λ b. read_parts schema.now.decls levels (elem schema.now.decls ty) (is_inside from.old) b) (is_inside from.old) (left from.old)) (left from.new) }
+    ensures taken { TakesIfMemory view result (array_at from.old.profile (is_level_left levels) (is_raw schema.now.decls ty) ty.nullable
+        (λ b. read_parts from.old.profile schema.now.decls levels (elem schema.now.decls ty) (is_inside from.old) b) (is_inside from.old) (left from.old)) (left from.new) }
     ensures on { OnOk result (MovesOn from.old from.new) }
 {
     let count = from.count(ty.nullable)?;
@@ -97,8 +97,8 @@ fn elements_from(
     from: &mut WordReader,
 ) -> Result<Value, ReadFault>
     requires { length from.old.ends + levels ≤ 64 }
-    ensures taken { TakesIfMemory view result (elements_at (is_level_left levels) (is_raw schema.now.decls ty)
-        (λ b. read_parts schema.now.decls levels (elem schema.now.decls ty) (is_inside from.old) b) (is_inside from.old) count (left from.old)) (left from.new) }
+    ensures taken { TakesIfMemory view result (elements_at from.old.profile (is_level_left levels) (is_raw schema.now.decls ty)
+        (λ b. read_parts from.old.profile schema.now.decls levels (elem schema.now.decls ty) (is_inside from.old) b) (is_inside from.old) count (left from.old)) (left from.new) }
     ensures on { OnOk result (MovesOn from.old from.new) }
 {
     let Some(count) = count else {
@@ -127,7 +127,7 @@ fn items_from(
 ) -> Result<Row<Value>, ReadFault>
     requires some { 0 < levels }
     requires room { length from.old.ends + levels ≤ 64 }
-    ensures taken { TakesIfMemory views result (each_at (λ b. read_parts schema.now.decls levels ty (is_inside from.old) b) count (left from.old)) (left from.new) }
+    ensures taken { TakesIfMemory views result (each_at (λ b. read_parts from.old.profile schema.now.decls levels ty (is_inside from.old) b) count (left from.old)) (left from.new) }
     ensures on { OnOk result (MovesOn from.old from.new) }
 {
     let mut values = Row::new(alloc);
@@ -150,11 +150,11 @@ fn record_from(
     from: &mut WordReader,
 ) -> Result<Value, ReadFault>
     requires { length from.old.ends + levels ≤ 64 }
-    ensures taken { TakesIfMemory view result (record_at (is_level_left levels) nullable (λ f. initial_in schema.now.decls f)
-        (λ u b. read_parts schema.now.decls levels u true b) fields.now (is_inside from.old) (left from.old)) (left from.new) }
+    ensures taken { TakesIfMemory view result (record_at from.old.profile (is_level_left levels) nullable (λ f. initial_in schema.now.decls f)
+        (λ u b. read_parts from.old.profile schema.now.decls levels u true b) fields.now (is_inside from.old) (left from.old)) (left from.new) }
     ensures on { OnOk result (MovesOn from.old from.new) }
 {
-    if !marker_from(nullable, from)? {
+    if !marker_from(alloc, nullable, from)? {
         return Ok(Value::Null);
     }
     if levels == 0 {
@@ -175,7 +175,7 @@ fn body_from(
     requires some { 0 < levels }
     requires room { length from.old.ends + levels ≤ 64 }
     ensures taken { TakesIfMemory view result (body_value_at (λ f. initial_in schema.now.decls f)
-        (λ u b. read_parts schema.now.decls levels u true b) fields.now (is_inside from.old) (left from.old)) (left from.new) }
+        (λ u b. read_parts from.old.profile schema.now.decls levels u true b) fields.now (is_inside from.old) (left from.old)) (left from.new) }
     ensures on { OnOk result (MovesOn from.old from.new) }
 {
     from.enter()?;
@@ -197,8 +197,8 @@ fn fields_from(
     requires inside { is_inside from.old ≡ true }
     requires room { length from.old.ends + levels ≤ 65 }
     ensures taken { MatchResult result
-        (λ values. fields_at (λ f. initial_in schema.now.decls f) (λ u b. read_parts schema.now.decls levels u true b) fields.now (left from.old) ≡ Ok (views values))
-        (λ fault. RefusesIfMemory fault (fields_at (λ f. initial_in schema.now.decls f) (λ u b. read_parts schema.now.decls levels u true b) fields.now (left from.old))) }
+        (λ values. fields_at (λ f. initial_in schema.now.decls f) (λ u b. read_parts from.old.profile schema.now.decls levels u true b) fields.now (left from.old) ≡ Ok (views values))
+        (λ fault. RefusesIfMemory fault (fields_at (λ f. initial_in schema.now.decls f) (λ u b. read_parts from.old.profile schema.now.decls levels u true b) fields.now (left from.old))) }
     ensures on { OnOk result (MovesOn from.old from.new) }
 {
     let mut values = Vec::with_capacity(alloc, fields.len())?;
@@ -222,7 +222,7 @@ fn field_from(
     requires inside { is_inside from.old ≡ true }
     requires room { length from.old.ends + levels ≤ 65 }
     ensures taken { TakesIfMemory view result (field_at (λ f. initial_in schema.now.decls f)
-        (λ u b. read_parts schema.now.decls levels u true b) field.now (left from.old)) (left from.new) }
+        (λ u b. read_parts from.old.profile schema.now.decls levels u true b) field.now (left from.old)) (left from.new) }
     ensures on { OnOk result (MovesOn from.old from.new) }
 {
     if from.at_end() {
@@ -244,11 +244,11 @@ fn union_from(
     from: &mut WordReader,
 ) -> Result<Value, ReadFault>
     requires { length from.old.ends + levels ≤ 64 }
-    ensures taken { TakesIfMemory view result (union_at (is_level_left levels) nullable
-        (λ u b. read_parts schema.now.decls levels u (is_inside from.old) b) fields.now (is_inside from.old) (left from.old)) (left from.new) }
+    ensures taken { TakesIfMemory view result (union_at from.old.profile (is_level_left levels) nullable
+        (λ u b. read_parts from.old.profile schema.now.decls levels u (is_inside from.old) b) fields.now (is_inside from.old) (left from.old)) (left from.new) }
     ensures on { OnOk result (MovesOn from.old from.new) }
 {
-    if !marker_from(nullable, from)? {
+    if !marker_from(alloc, nullable, from)? {
         return Ok(Value::Null);
     }
     if levels == 0 {
@@ -269,7 +269,7 @@ fn tagged_from(
 ) -> Result<Value, ReadFault>
     requires some { 0 < levels }
     requires room { length from.old.ends + levels ≤ 64 }
-    ensures taken { TakesIfMemory view result (tagged_at (λ u b. read_parts schema.now.decls levels u (is_inside from.old) b)
+    ensures taken { TakesIfMemory view result (tagged_at (λ u b. read_parts from.old.profile schema.now.decls levels u (is_inside from.old) b)
         fields.now (is_inside from.old) (left from.old)) (left from.new) }
     ensures on { OnOk result (MovesOn from.old from.new) }
 {

@@ -10,7 +10,7 @@ on_shorter p q h = let e : length (left q) ≡ length (left p) - (length (left p
 
 -- the place at a position
 abbrev place : Place → ℕ → Place
-place p i = record { bytes = p.bytes; position = i; ends = p.ends }
+place p i = record { profile = p.profile; bytes = p.bytes; position = i; ends = p.ends }
 
 moved_twice : (p : Place) (m n k : ℕ) → m + n ≡ k → moved (moved p m) n ≡ moved p k
 moved_twice p m n k e =

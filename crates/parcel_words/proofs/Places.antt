@@ -50,8 +50,8 @@ module _ (n end : ℕ) (outer : List ℕ) (lt : n < length outer) where
   pub open_ends : (e : ℕ) → ends_of (n + 1) e (set outer n end) ≡ e ∷ ends_of n end outer
   open_ends e = rw (add-one, kept) (ap (λ es. e ∷ es) (ends_of-set n n end end outer (omega arith)))
 
-pub opened_place : (p : Place) (size : ℕ) (es : List ℕ) → es ≡ (p.position + size) ∷ p.ends → ◌≡◌ {A = Place} (record { bytes = p.bytes; position = p.position + 4; ends = es }) (opened p size)
-opened_place p size es e = ap (λ (f : List ℕ). record { bytes = p.bytes; position = p.position + 4; ends = f }) e
+pub opened_place : (p : Place) (size : ℕ) (es : List ℕ) → es ≡ (p.position + size) ∷ p.ends → ◌≡◌ {A = Place} (record { profile = p.profile; bytes = p.bytes; position = p.position + 4; ends = es }) (opened p size)
+opened_place p size es e = ap (λ (f : List ℕ). record { profile = p.profile; bytes = p.bytes; position = p.position + 4; ends = f }) e
 
 pub ends_len : (a : Inside) → length (place_of a).ends ≡ a.open
 ends_len a = length-ends a.open a.end a.outer

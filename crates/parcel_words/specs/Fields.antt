@@ -9,7 +9,7 @@ ends_of zero end outer = []
 ends_of (suc n) end outer = end ∷ ends_of n (slice_index outer n) outer
 
 abbrev pub place_of : Inside → Place
-place_of a = record { bytes = a.bytes.now; position = a.position; ends = ends_of a.open a.end a.outer }
+place_of a = record { profile = a.profile; bytes = a.bytes.now; position = a.position; ends = ends_of a.open a.end a.outer }
 
 -- each end is within the one around it, and the outermost is that of the bytes
 abbrev pub IsNested : ℕ → ℕ → List ℕ → ℕ → Type 0

@@ -1,18 +1,36 @@
 -- Where a reader of words stands.
 use Rattle.std.specs.Prelude.{◌≡◌, ℕ, ◌+◌, ◌-◌, Bool, true, false, List, [], ◌∷◌, length, take, drop, Ok, Err, refl, nat_lt, if◌then◌else◌}
-use Rattle.std.specs.Coded.{Coded, code_by, coded×, coded_ℕ, coded_list}
+use Rattle.std.specs.Coded.{Coded, code_by, coded×, coded_ℕ, coded_bool, coded_list}
+use Rattle.std.proofs.Common.{ap}
+use Rattle.aidl_base.specs.declared.profile.Profile.{Profile}
+use Rattle.aidl_base.specs.declared.profile.Profile.TheVariants.{Strict, Lenient}
 use Rattle.aidl_base.specs.Readings.{Read, ◌>>=◌, word_at, size_of, past}
 
--- the bytes, how many of them are passed, and the ends of the open records, the innermost first
+-- the profile, the bytes, how many of them are passed, and the ends of the open records, the innermost first
 pub record Place : Type 0 where
+  pub profile : Profile
   pub bytes : List ℕ
   pub position : ℕ
   pub ends : List ℕ
 
+-- a profile is stored as whether it is strict
+abbrev pub is_strict : Profile → Bool
+is_strict Strict = true
+is_strict Lenient = false
+
+abbrev pub strict_or_lenient : Bool → Profile
+strict_or_lenient true = Strict
+strict_or_lenient false = Lenient
+
+pub profile_back : (p : Profile) → strict_or_lenient (is_strict p) ≡ p
+profile_back Strict = refl
+profile_back Lenient = refl
+
 -- a place is stored as the tuple of its fields
 abbrev pub place_code : Coded Place
-place_code = code_by (List ℕ × (ℕ × List ℕ)) (coded× (coded_list coded_ℕ) (coded× coded_ℕ (coded_list coded_ℕ)))
-    (λ p. (p.bytes, (p.position, p.ends))) (λ q. record { bytes = q.0; position = q.1.0; ends = q.1.1 }) (λ _. refl)
+place_code = code_by (Bool × (List ℕ × (ℕ × List ℕ))) (coded× coded_bool (coded× (coded_list coded_ℕ) (coded× coded_ℕ (coded_list coded_ℕ))))
+    (λ p. (is_strict p.profile, (p.bytes, (p.position, p.ends)))) (λ q. record { profile = strict_or_lenient q.0; bytes = q.1.0; position = q.1.1.0; ends = q.1.1.1 })
+    (λ p. ap (λ (x : Profile). record { profile = x; bytes = p.bytes; position = p.position; ends = p.ends }) (profile_back p.profile))
 
 -- the reader's limit: the end of the innermost open record, or else that of the bytes (own)
 abbrev pub limit_of : List ℕ → ℕ → ℕ
@@ -40,11 +58,11 @@ here read p = read (is_inside p) (left p)
 
 -- the place n bytes further on
 abbrev pub moved : Place → ℕ → Place
-moved p n = record { bytes = p.bytes; position = p.position + n; ends = p.ends }
+moved p n = record { profile = p.profile; bytes = p.bytes; position = p.position + n; ends = p.ends }
 
 -- the place n bytes before
 abbrev pub moved_back : Place → ℕ → Place
-moved_back p n = record { bytes = p.bytes; position = p.position - n; ends = p.ends }
+moved_back p n = record { profile = p.profile; bytes = p.bytes; position = p.position - n; ends = p.ends }
 
 -- the new place is further on by the bytes that are no longer left, in the same records
 abbrev pub MovesOn : Place → Place → Type 0
@@ -59,7 +77,7 @@ size_at inside b = do
 
 -- the place after the size word, in the record of that size
 abbrev pub opened : Place → ℕ → Place
-opened p size = record { bytes = p.bytes; position = p.position + 4; ends = (p.position + size) ∷ p.ends }
+opened p size = record { profile = p.profile; bytes = p.bytes; position = p.position + 4; ends = (p.position + size) ∷ p.ends }
 
 -- a size word stands at the old place, and the new one is in its record
 abbrev pub Enters : Place → Place → Type 0
@@ -71,4 +89,4 @@ outer_ends (end ∷ ends) = ends
 
 -- the place at the end of the innermost record, outside it
 abbrev pub closed : Place → Place
-closed p = record { bytes = p.bytes; position = limit p; ends = outer_ends p.ends }
+closed p = record { profile = p.profile; bytes = p.bytes; position = limit p; ends = outer_ends p.ends }

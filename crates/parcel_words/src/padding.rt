@@ -1,6 +1,6 @@
 ghost use Rattle.std.specs.Prelude.{◌≡◌};
 ghost use Rattle.aidl_base.specs.Words.{padding};
-ghost use Rattle.aidl_base.specs.Readings.{all_zero};
+ghost use Rattle.aidl_base.specs.Profiles.{all_zero};
 
 /// The fewest zeros that make a length a multiple of 4.
 pub fn padding_of(len: usize) -> usize

@@ -1,6 +1,7 @@
 ghost use Rattle.std.specs.Prelude.{◌≡◌, ℕ, ◌+◌, ◌^◌, ◌<◌, ◌≤◌, [], ◌∷◌, true, IsTrue, ◌↔◌, length, MatchResult, IfOk, IfErr, OnOk, OnErr, IfSome, drop, string_bytes};
 ghost use Rattle.std.specs.Option.{option_map};
 ghost use Rattle.std.specs.Str.{chars};
+ghost use Rattle.aidl_base.specs.Profiles.{permits};
 ghost use Rattle.aidl_base.specs.Words.{padding};
 ghost use Rattle.aidl_base.specs.Readings.{bytes_at, word_at, long_at, raw_at, count_of, count_at, block_at, text_at, past, size_of};
 ghost use Rattle.parcel_words.specs.Place.{limit, left, here, moved, moved_back, MovesOn, is_inside, size_at, Enters, closed, opened};
@@ -9,13 +10,15 @@ ghost use Rattle.parcel_words.specs.Taken.{Takes, TakesIfMemory, Refuses, status
 use crate::fault::ReadFault;
 use crate::padding::{is_zero, padding_of};
 use crate::units::text_of;
+use aidl_base::Profile;
 use std::alloc::Global;
 use std::marker::Model;
 
 /// A cursor over the bytes of a parcel, with the ends of the records that are open, at most 64. Contracts see the
-/// bytes, the position and those ends.
+/// profile by which it reads, the bytes, the position and those ends.
 #[derive(Drop)]
 pub struct WordReader<'a> {
+    profile: Profile,
     bytes: &'a [u8],
     position: usize,
     end: usize,
@@ -38,11 +41,12 @@ impl<'a> Model for WordReader<'a> {
 }
 
 impl<'a> WordReader<'a> {
-    /// A reader at the start of the bytes, with no record open. It takes no memory.
-    pub fn new(bytes: &'a [u8]) -> WordReader<'a>
-        ensures { result ≡ record { bytes = bytes.now; position = 0; ends = [] } }
+    /// A reader by the profile at the start of the bytes, with no record open. It takes no memory.
+    pub fn new(profile: Profile, bytes: &'a [u8]) -> WordReader<'a>
+        ensures { result ≡ record { profile = profile; bytes = bytes.now; position = 0; ends = [] } }
     {
         WordReader {
+            profile,
             bytes,
             position: 0,
             end: bytes.len(),
@@ -58,6 +62,13 @@ impl<'a> WordReader<'a> {
         ensures whole { limit self.now ≤ length self.now.bytes }
     {
         self.position
+    }
+
+    /// Whether the reader's profile takes an item, by whether it is as it would be written. It takes no memory.
+    pub fn permits(&self, as_written: bool) -> bool
+        ensures { result ≡ permits self.now.profile as_written }
+    {
+        self.profile.permits(as_written)
     }
 
     /// Takes a word, four bytes, as a signed number. It refuses exactly a word that passes the limit: by `NotEnough`
@@ -89,10 +100,10 @@ impl<'a> WordReader<'a> {
     }
 
     /// Takes `count` raw bytes with their padding, and answers them without it. It refuses as `word` does, and by
-    /// `BadValue` where the item is inside the limit and its padding isn't zero. It takes no memory.
+    /// `BadValue` where the item is inside the limit and the profile doesn't permit its padding. It takes no memory.
     #[tactic(auto, unfolding(aidl_base::specs::Readings::raw_at))]
     pub fn raw(&mut self, count: usize) -> Result<&'a [u8], ReadFault>
-        ensures taken { Takes (λ x. x.now) result (here (raw_at count) self.old) (left self.new) }
+        ensures taken { Takes (λ x. x.now) result (here (raw_at self.old.profile count) self.old) (left self.new) }
         ensures passed { OnOk result (self.new ≡ moved self.old (count + padding count)) }
         ensures on { OnOk result (MovesOn self.old self.new) }
         ensures unchanged { OnErr result (self.new ≡ self.old) }
@@ -101,8 +112,8 @@ impl<'a> WordReader<'a> {
             return Err(self.past());
         }
         let size = count + padding_of(count);
-        let (bytes, zeros) = self.item(size)?.split_at(count);
-        if !is_zero(zeros) {
+        let (bytes, padding) = self.item(size)?.split_at(count);
+        if !self.permits(is_zero(padding)) {
             return Err(ReadFault::BadValue);
         }
         self.pass(size);
@@ -136,11 +147,11 @@ impl<'a> WordReader<'a> {
 
     /// Takes a text of at most 2147483647 units, where None is null. It refuses as `word` does; by `UnexpectedNull` a
     /// count of -1 unless it may be null; and by `BadValue` another negative count, and a block inside the limit whose
-    /// units aren't well-formed UTF-16 or after whose units not all bytes are zero.
+    /// units aren't well-formed UTF-16, whose next unit isn't zero, or whose padding the profile doesn't permit.
     #[tactic(auto, using(crate::proofs::Moves::on_and_on), unfolding(aidl_base::specs::Readings::text_at))]
     pub fn text(&mut self, alloc: Global, nullable: bool) -> Result<Option<String>, ReadFault>
         ensures taken { TakesIfMemory (option_map (λ x. chars (string_bytes x))) result
-            (here (text_at nullable) self.old) (left self.new) }
+            (here (text_at self.old.profile nullable) self.old) (left self.new) }
         ensures passed { OnOk result (MovesOn self.old self.new) }
         ensures unchanged { OnErr result (self.new ≡ self.old) }
     {
@@ -201,14 +212,14 @@ impl<'a> WordReader<'a> {
     fn block(&mut self, alloc: Global, units: usize) -> Result<String, ReadFault>
         requires { units < 2 ^ 31 }
         ensures taken { TakesIfMemory (λ x. chars (string_bytes x)) result
-            (here (block_at units) self.old) (left self.new) }
+            (here (block_at self.old.profile units) self.old) (left self.new) }
         ensures passed { OnOk result (MovesOn self.old self.new) }
         ensures unchanged { OnErr result (self.new ≡ self.old) }
     {
         let bytes = 2 * (units + 1);
         let size = bytes + padding_of(bytes);
         let item = self.item(size)?;
-        let text = text_of(alloc, units, item)?.ok_or(ReadFault::BadValue)?;
+        let text = text_of(alloc, self.profile, units, item)?.ok_or(ReadFault::BadValue)?;
         self.pass(size);
         Ok(text)
     }

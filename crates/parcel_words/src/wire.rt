@@ -1,6 +1,7 @@
 ghost use Rattle.std.specs.Prelude.{◌≡◌, ◌^◌, ◌<◌, ◌≤◌, true, pos, ℤ, ℕ, List, [], ◌++◌, Bool, Ok, length, min, OnOk, OnErr, FitsSigned};
 ghost use Rattle.std.specs.Int.{w8, w32, w64};
 ghost use Rattle.std.specs.Str.{all_scalars};
+ghost use Rattle.aidl_base.specs.declared.profile.Profile.{Profile};
 ghost use Rattle.aidl_base.specs.Words.{word, long_word, units};
 ghost use Rattle.aidl_base.specs.Spellings.{spell_truth, spell_text};
 ghost use Rattle.aidl_base.specs.Readings.{Read, truth_at, byte_at, char_at, word_at, long_at, present_text_at};
@@ -11,7 +12,7 @@ ghost use Rattle.parcel_words.specs.Written.{with_bytes};
 use crate::fault::ReadFault;
 use crate::reader::WordReader;
 use crate::writer::{WordWriter, unit_count};
-use aidl_base::Text;
+use aidl_base::{Range, Text};
 use std::alloc::Global;
 
 /// A value of a built-in type, as words of a parcel.
@@ -25,8 +26,8 @@ pub trait Wire: Sized + Drop {
     // the bytes that spell a value
     ghost spelling: { Self → List ℕ };
 
-    // the value at the front of bytes, where a record is open or none is
-    ghost reading: { Bool → List ℕ → Read Self };
+    // the value at the front of bytes by a profile, where a record is open or none is
+    ghost reading: { Profile → Bool → List ℕ → Read Self };
 
     /// The number of bytes of the spelling, or `usize::MAX` where they are more. It takes no memory.
     fn length(&self) -> usize
@@ -40,20 +41,21 @@ pub trait Wire: Sized + Drop {
 
     /// Takes a value. It refuses exactly by the rules of its type.
     fn take(alloc: Global, from: &mut WordReader) -> Result<Self, ReadFault>
-        ensures taken { TakesIfMemory (λ x. x) result (here reading from.old) (left from.new) }
+        ensures taken { TakesIfMemory (λ x. x) result (here (reading from.old.profile) from.old) (left from.new) }
         ensures passed { OnOk result (MovesOn from.old from.new) }
         ensures unchanged { OnErr result (from.new ≡ from.old) };
 
-    // what was put is taken again, whatever follows it
-    ghost taken_again: { (x : Self) (inside : Bool) (rest : List ℕ) → is_value x → can_put x
-        → reading inside (spelling x ++ rest) ≡ Ok (x, rest) };
+    // what was put is taken again by either profile, whatever follows it
+    ghost taken_again: { (x : Self) (p : Profile) (inside : Bool) (rest : List ℕ) → is_value x → can_put x
+        → reading p inside (spelling x ++ rest) ≡ Ok (x, rest) };
 
     // no spelling is a proper prefix of another
     ghost no_prefix: { (x y : Self) (rest : List ℕ) → is_value x → can_put x → is_value y → can_put y
         → spelling x ++ rest ≡ spelling y → rest ≡ [] };
 }
 
-/// A boolean: one word, 0 or 1. Any other word is refused by `BadValue`.
+/// A boolean: one word, 0 or 1. By the strict profile any other word is refused by `BadValue`; by the lenient one it is
+/// true.
 impl Wire for bool {
     ghost is_value = { λ _. Unit {0} };
 
@@ -71,24 +73,25 @@ impl Wire for bool {
         to.word(i32::from(*self));
     }
 
-    #[tactic(auto, unfolding(aidl_base::specs::Readings::truth_at))]
+    #[tactic(auto, unfolding(aidl_base::specs::Readings::word_as))]
     fn take(_alloc: Global, from: &mut WordReader) -> Result<bool, ReadFault> {
         let word = from.next_word()?;
-        if word != 0 && word != 1 {
+        if !from.permits(0 <= word && word <= 1) {
             return Err(ReadFault::BadValue);
         }
         from.pass(4);
-        Ok(word == 1)
+        Ok(word != 0)
     }
 
     ghost use Rattle.aidl_base.proofs.Values.{truth_again, truth_prefix};
 
-    ghost taken_again = { truth_again };
+    ghost taken_again = { λ x p inside rest _ _. truth_again p x inside rest };
 
-    ghost no_prefix = { truth_prefix };
+    ghost no_prefix = { λ x y rest _ _ _ _. truth_prefix x y rest };
 }
 
-/// A byte: one word, the sign-extended byte. A word outside -128 to 127 is refused by `BadValue`.
+/// A byte: one word, the sign-extended byte. By the strict profile a word outside -128 to 127 is refused by `BadValue`;
+/// by the lenient one its least 8 bits are the byte.
 impl Wire for i8 {
     ghost is_value = { λ n. FitsSigned w8 n };
 
@@ -106,24 +109,26 @@ impl Wire for i8 {
         to.word(i32::from(*self));
     }
 
-    #[tactic(auto, unfolding(aidl_base::specs::Readings::byte_at))]
+    #[tactic(auto, unfolding(aidl_base::specs::Readings::word_as))]
     fn take(_alloc: Global, from: &mut WordReader) -> Result<i8, ReadFault> {
         let word = from.next_word()?;
-        let Ok(byte) = i8::try_from(word) else {
+        if !from.permits(Range::Byte.has(i64::from(word))) {
             return Err(ReadFault::BadValue);
-        };
+        }
         from.pass(4);
-        Ok(byte)
+        let low = (word.cast_unsigned() % 256) as u8;
+        Ok(low.cast_signed())
     }
 
     ghost use Rattle.aidl_base.proofs.Values.{byte_again, byte_prefix};
 
-    ghost taken_again = { λ x inside rest value _. byte_again x inside rest value };
+    ghost taken_again = { λ x p inside rest value _. byte_again p x inside rest value };
 
     ghost no_prefix = { λ x y rest first _ second _. byte_prefix x y rest first second };
 }
 
-/// A char, as a code unit: one word. A word outside 0 to 65535 is refused by `BadValue`.
+/// A char, as a code unit: one word. By the strict profile a word outside 0 to 65535 is refused by `BadValue`; by the
+/// lenient one its least 16 bits are the char.
 impl Wire for u16 {
     ghost is_value = { λ n. n < 2 ^ 16 };
 
@@ -141,19 +146,19 @@ impl Wire for u16 {
         to.word(i32::from(*self));
     }
 
-    #[tactic(auto, unfolding(aidl_base::specs::Readings::char_at))]
+    #[tactic(auto, unfolding(aidl_base::specs::Readings::word_as))]
     fn take(_alloc: Global, from: &mut WordReader) -> Result<u16, ReadFault> {
         let word = from.next_word()?;
-        let Ok(unit) = u16::try_from(word) else {
+        if !from.permits(Range::Char.has(i64::from(word))) {
             return Err(ReadFault::BadValue);
-        };
+        }
         from.pass(4);
-        Ok(unit)
+        Ok((word.cast_unsigned() % 65_536) as u16)
     }
 
     ghost use Rattle.aidl_base.proofs.Values.{char_again, char_prefix};
 
-    ghost taken_again = { λ x inside rest value _. char_again x inside rest value };
+    ghost taken_again = { λ x p inside rest value _. char_again p x inside rest value };
 
     ghost no_prefix = { λ x y rest first _ second _. char_prefix x y rest first second };
 }
@@ -166,7 +171,7 @@ impl Wire for i32 {
 
     ghost spelling = { word };
 
-    ghost reading = { word_at };
+    ghost reading = { λ _ inside b. word_at inside b };
 
     fn length(&self) -> usize {
         4
@@ -183,7 +188,7 @@ impl Wire for i32 {
     ghost use Rattle.aidl_base.proofs.Words.{word_again};
     ghost use Rattle.aidl_base.proofs.Values.{word_prefix};
 
-    ghost taken_again = { λ x inside rest value _. word_again x inside rest value };
+    ghost taken_again = { λ x _ inside rest value _. word_again x inside rest value };
 
     ghost no_prefix = { λ x y rest first _ second _. word_prefix x y rest first second };
 }
@@ -196,7 +201,7 @@ impl Wire for i64 {
 
     ghost spelling = { long_word };
 
-    ghost reading = { long_at };
+    ghost reading = { λ _ inside b. long_at inside b };
 
     fn length(&self) -> usize {
         8
@@ -213,7 +218,7 @@ impl Wire for i64 {
     ghost use Rattle.aidl_base.proofs.Words.{long_again};
     ghost use Rattle.aidl_base.proofs.Values.{long_prefix};
 
-    ghost taken_again = { λ x inside rest value _. long_again x inside rest value };
+    ghost taken_again = { λ x _ inside rest value _. long_again x inside rest value };
 
     ghost no_prefix = { λ x y rest first _ second _. long_prefix x y rest first second };
 }
@@ -246,7 +251,7 @@ impl Wire for Text {
 
     ghost use Rattle.aidl_base.proofs.Spelled.{present_text_again, text_prefix};
 
-    ghost taken_again = { λ x inside rest value can. present_text_again x inside rest value can };
+    ghost taken_again = { λ x p inside rest value can. present_text_again p x inside rest value can };
 
     ghost no_prefix = { λ x y rest first can second may. text_prefix x y rest first can second may };
 }

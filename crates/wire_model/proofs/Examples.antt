@@ -20,8 +20,9 @@ use Rattle.aidl_values.specs.HasType.{HasType}
 use Rattle.aidl_values.specs.Sound.{IsDeclared, fields_of, AreTypes, HaveDefaults, IsSound}
 use Rattle.wire_model.specs.Spell.{spell}
 use Rattle.wire_model.specs.Status.{bad_value, not_enough, unexpected_null}
-use Rattle.wire_model.specs.ReadOf.{Read, read_of, scalar_at, long_value_at, text_value_at, raw_items_at, elements_at, array_at, marker_at, body_at, body_value_at, record_at, tag_at, tagged_at, union_at}
-use Rattle.aidl_base.specs.Readings.{count_at, text_of, block_at, text_at, raw_at}
+use Rattle.wire_model.specs.ReadOf.{Read, read_of, raw_items_at, elements_at, array_at, marker_at, body_at, body_value_at, record_at, tag_at, tagged_at, union_at}
+use Rattle.aidl_base.specs.declared.profile.Profile.TheVariants.{Strict, Lenient}
+use Rattle.aidl_base.specs.Readings.{word_as, count_at, text_of, block_at, text_at, raw_at}
 
 -- hexadecimal, blanks passed over
 digit : ℕ → ℕ
@@ -41,8 +42,8 @@ hex cs = pairs (without_blanks cs)
 
 -- reading as the program does: 64 levels, and no record around
 decode : List Decl → AidlType → List ℕ → Read Data
-unfolding read_of scalar_at long_value_at count_at text_of block_at text_at raw_at text_value_at raw_items_at elements_at array_at marker_at body_at body_value_at record_at tag_at tagged_at union_at zero_within utf16_chars chars encode
-decode S t b = read_of S 64 t false b
+unfolding read_of word_as count_at text_of block_at text_at raw_at raw_items_at elements_at array_at marker_at body_at body_value_at record_at tag_at tagged_at union_at zero_within utf16_chars chars encode
+decode S t b = read_of Strict S 64 t false b
 
 -- types
 one : Base → AidlType
@@ -161,9 +162,9 @@ unfolding decode hex array list_of numbers
 word_arrays = (refl, refl, refl, refl, refl, refl)
 
 -- where no level is left, a sequence is refused at its count; null needs none
-too_deep : (read_of [] 0 (array base.Int) false (hex (codes "00000000")) ≡ Err bad_value)
-    × (read_of [] 0 (or_null (array base.Int)) false (hex (codes "ffffffff")) ≡ Ok (null, []))
-    × (read_of newer 0 it false (hex (codes "01000000")) ≡ Err bad_value)
+too_deep : (read_of Strict [] 0 (array base.Int) false (hex (codes "00000000")) ≡ Err bad_value)
+    × (read_of Strict [] 0 (or_null (array base.Int)) false (hex (codes "ffffffff")) ≡ Ok (null, []))
+    × (read_of Strict newer 0 it false (hex (codes "01000000")) ≡ Err bad_value)
 unfolding decode hex array or_null it newer
 too_deep = (refl, refl, refl)
 
@@ -174,6 +175,20 @@ narrow : (decode [] (one base.Boolean) (hex (codes "02000000")) ≡ Err bad_valu
     × (decode [] (one base.Char) (hex (codes "00000100")) ≡ Err bad_value)
 unfolding decode hex one
 narrow = (refl, refl, refl, refl, refl)
+
+-- the same words and blocks by the lenient profile
+leniently : AidlType → List ℕ → Read Data
+unfolding read_of word_as count_at text_of block_at text_at raw_at raw_items_at elements_at array_at zero_within utf16_chars chars encode
+leniently t b = read_of Lenient [] 64 t false b
+
+lenient_readings : (leniently (one base.Boolean) (hex (codes "02000000")) ≡ Ok (truth true, []))
+    × (leniently (one base.Byte) (hex (codes "80000000")) ≡ Ok (number (negsuc 127), []))
+    × (leniently (one base.Char) (hex (codes "00000100")) ≡ Ok (number (pos 0), []))
+    × (leniently (array base.Byte) (hex (codes "01000000 05010203")) ≡ Ok (seq (numbers (pos 5 ∷ [])), []))
+    × (leniently (one base.Text) (hex (codes "02000000 68006900 00000100")) ≡ Ok (text (codes "hi"), []))
+    × (leniently (one base.Text) (hex (codes "01000000 61000100")) ≡ Err bad_value)
+unfolding leniently hex one array numbers
+lenient_readings = (refl, refl, refl, refl, refl, refl)
 
 -- a pair of surrogates is one character; a lone one, or a last unit that isn't zero, is refused
 text_blocks : (decode [] (one base.Text) (hex (codes "02000000 00d800dc 00000000")) ≡ Ok (text (0x10000 ∷ []), []))
@@ -229,6 +244,11 @@ defaults_filled : (decode newer it (hex (codes "01000000 08000000 07000000")) �
     × (decode newer (or_null it) (hex (codes "00000000")) ≡ Ok (null, []))
 unfolding decode hex it newer record_of or_null
 defaults_filled = (defaulted (pos 7) [], refl, refl, refl)
+
+-- any marker but 0 says that a record is there
+lenient_record : read_of Lenient newer 64 it false (hex (codes "02000000 08000000 07000000")) ≡ Ok (record_of (pos 7) (codes "x"), [])
+unfolding read_of word_as count_at raw_items_at marker_at body_at body_value_at record_at zero_within hex it newer record_of
+lenient_record = defaulted (pos 7) []
 
 -- a size below 4, the least size, one that is no multiple of 4, and one beyond the data; what the least size gives is the default
 size_words : (decode newer it (hex (codes "01000000 03000000")) ≡ Err bad_value)

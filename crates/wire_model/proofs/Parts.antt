@@ -1,5 +1,6 @@
 -- Reading by levels, without cases on their number.
 use Rattle.std.proofs.Common.{◌≡◌, ℕ, zero, suc, ◌<◌, ◌-◌, Bool, true, false, List, Some, Ok, slice_get, refl, sym, ap, ◌∙◌, arith}
+use Rattle.aidl_base.specs.declared.profile.Profile.{Profile}
 use Rattle.aidl_schema.specs.declared.schema.Shape.TheVariants as shape
 use Rattle.aidl_schema.specs.Types.{form_of, is_one, is_raw, elem}
 use Rattle.aidl_schema.specs.declared.schema.Decl.{Decl}
@@ -12,37 +13,37 @@ use Rattle.wire_model.proofs.Steps.{then_seq, then_there, then_alternative, then
 use Rattle.wire_model.specs.steps.Levels.{read_parts}
 use Rattle.aidl_values.specs.steps.Levels.{is_level_left}
 
-pub read_of-parts : (S : List Decl) (d : ℕ) (t : AidlType) (inside : Bool) (b : List ℕ)
-    → read_of S d t inside b ≡ read_by S (is_level_left d) (λ u j c. read_parts S d u j c) t inside b
+pub read_of-parts : (p : Profile) (S : List Decl) (d : ℕ) (t : AidlType) (inside : Bool) (b : List ℕ)
+    → read_of p S d t inside b ≡ read_by p S (is_level_left d) (λ u j c. read_parts p S d u j c) t inside b
 unfolding read_of
-read_of-parts S zero t inside b = refl
-read_of-parts S (suc d) t inside b = refl
+read_of-parts p S zero t inside b = refl
+read_of-parts p S (suc d) t inside b = refl
 
-pub read_parts-below : (S : List Decl) (d : ℕ) (t : AidlType) (inside : Bool) (b : List ℕ) → 0 < d → read_parts S d t inside b ≡ read_of S (d - 1) t inside b
-read_parts-below S zero t inside b lt = absurd (omega arith)
-read_parts-below S (suc d) t inside b lt = ap (λ k. read_of S k t inside b) (omega arith)
+pub read_parts-below : (p : Profile) (S : List Decl) (d : ℕ) (t : AidlType) (inside : Bool) (b : List ℕ) → 0 < d → read_parts p S d t inside b ≡ read_of p S (d - 1) t inside b
+read_parts-below p S zero t inside b lt = absurd (omega arith)
+read_parts-below p S (suc d) t inside b lt = ap (λ k. read_of p S k t inside b) (omega arith)
 
-module _ (S : List Decl) (d : ℕ) (t : AidlType) (inside : Bool) (b : List ℕ) where
+module _ (p : Profile) (S : List Decl) (d : ℕ) (t : AidlType) (inside : Bool) (b : List ℕ) where
   pub read_of-one : t.shape ≡ shape.One
-      → one_at (is_level_left d) (λ f. initial_in S f) (λ u j c. read_parts S d u j c) t.nullable (form_of S t.base) inside b ≡ read_of S d t inside b
-  read_of-one is = sym (read_of-parts S d t inside b ∙ rw is)
+      → one_at p (is_level_left d) (λ f. initial_in S f) (λ u j c. read_parts p S d u j c) t.nullable (form_of S t.base) inside b ≡ read_of p S d t inside b
+  read_of-one is = sym (read_of-parts p S d t inside b ∙ rw is)
 
   pub read_of-sequence : is_one t.shape ≡ false
-      → array_at (is_level_left d) (is_raw S t) t.nullable (λ c. read_parts S d (elem S t) inside c) inside b ≡ read_of S d t inside b
-  read_of-sequence is = sym (read_of-parts S d t inside b ∙ rw is)
+      → array_at p (is_level_left d) (is_raw S t) t.nullable (λ c. read_parts p S d (elem S t) inside c) inside b ≡ read_of p S d t inside b
+  read_of-sequence is = sym (read_of-parts p S d t inside b ∙ rw is)
 
-module _ (left raw : Bool) (read : List ℕ → Read Data) (inside : Bool) (n : ℕ) (b : List ℕ) (has : left ≡ true) (apart : raw ≡ false) where
+module _ (p : Profile) (left raw : Bool) (read : List ℕ → Read Data) (inside : Bool) (n : ℕ) (b : List ℕ) (has : left ≡ true) (apart : raw ≡ false) where
   -- what a sequence gives, from its elements
-  pub elements_at-items : elements_at left raw read inside (Some n) b ≡ then_seq (each_at read n b)
+  pub elements_at-items : elements_at p left raw read inside (Some n) b ≡ then_seq (each_at read n b)
   unfolding elements_at
   elements_at-items = rw (has, apart)
 
 -- a record whose marker says that it is there
-pub record_at-there : (left nullable : Bool) (initial : Field → Data) (read : AidlType → List ℕ → Read Data) (fs : List Field) (inside : Bool) (b c : List ℕ)
-    → left ≡ true → marker_at nullable inside b ≡ Ok (true, c)
-    → record_at left nullable initial read fs inside b ≡ body_value_at initial read fs inside c
+pub record_at-there : (p : Profile) (left nullable : Bool) (initial : Field → Data) (read : AidlType → List ℕ → Read Data) (fs : List Field) (inside : Bool) (b c : List ℕ)
+    → left ≡ true → marker_at p nullable inside b ≡ Ok (true, c)
+    → record_at p left nullable initial read fs inside b ≡ body_value_at initial read fs inside c
 unfolding record_at
-record_at-there left nullable initial read fs inside b c has there =
+record_at-there p left nullable initial read fs inside b c has there =
     ap (then_there left (λ e. body_value_at initial read fs inside e)) there ∙ rw has refl
 
 -- a union whose tag names a field

@@ -1,10 +1,8 @@
--- Raw bytes: their padding, and the numbers that they are read as.
-use Rattle.std.proofs.Common.{◌≡◌, ℕ, suc, ◌+◌, ◌<◌, true, List, [], ◌∷◌, ◌++◌, length, take, drop, replicate, refl, sym, ap, ◌∙◌, subst, arith, length-append}
+-- Raw bytes: the numbers that they are read as.
+use Rattle.std.proofs.Common.{◌≡◌, ℕ, suc, ◌<◌, true, List, [], ◌∷◌, length, refl, sym, ap, ◌∙◌, subst, arith}
 use Rattle.std.specs.Prelude.{FitsSigned}
 use Rattle.std.specs.Int.{w8, cast_signed, cast_unsigned}
 use Rattle.std.proofs.lemmas.Int.{ints, of_z-to_z}
-use Rattle.std.proofs.lemmas.List.{take-append-drop, length-take-le}
-use Rattle.aidl_base.specs.Words.{padding}
 use Rattle.aidl_schema.specs.declared.schema.Decl.{Decl}
 use Rattle.aidl_schema.specs.declared.schema.AidlType.{AidlType}
 use Rattle.aidl_schema.specs.Types.{form_of, is_one, elem}
@@ -12,27 +10,10 @@ use Rattle.aidl_schema.specs.Types as form
 use Rattle.aidl_values.specs.Data.{count}
 use Rattle.aidl_values.specs.HasType.{HaveType}
 use Rattle.wire_model.specs.Spell.{raw_bytes}
-use Rattle.wire_model.specs.Stop.{IsPadded}
-use Rattle.aidl_base.specs.Readings.{all_zero}
 use Rattle.wire_model.specs.ReadOf.{raw_items}
 use Rattle.aidl_schema.specs.Constants.{in_range}
 use Rattle.aidl_base.proofs.Ranges.{fits_byte}
-use Rattle.aidl_base.proofs.Lists.{drop_front}
-use Rattle.aidl_base.proofs.Bytes.{all_zero_is, AreBytes, zeros}
-
--- Padding is right where it is zeros.
-pub padded_is : (n : ℕ) (c : List ℕ) → length c ≡ n + padding n → all_zero (drop n c) ≡ true → IsPadded n c
-padded_is n c len h =
-    let front : length (take n c) ≡ n = length-take-le n c (omega arith) in
-    let whole : length (take n c) + length (drop n c) ≡ length c = sym (length-append (take n c) (drop n c)) ∙ ap length (take-append-drop n c) in
-    let tail : length (drop n c) ≡ padding n = omega arith in
-    sym (take-append-drop n c) ∙ ap (λ x. take n c ++ x) (all_zero_is (drop n c) h ∙ ap (λ k. replicate k 0) (tail ∙ ap padding (sym front)))
-
-pub zero_padding : (n : ℕ) (c : List ℕ) → length c ≡ n + padding n → IsPadded n c → all_zero (drop n c) ≡ true
-zero_padding n c len h =
-    let front : length (take n c) ≡ n = length-take-le n c (omega arith) in
-    let padding_len = padding (length (take n c)) in
-    ap (λ x. all_zero (drop n x)) h ∙ ap all_zero (drop_front (take n c) (replicate padding_len 0) n front) ∙ zeros padding_len
+use Rattle.aidl_base.proofs.Bytes.{AreBytes}
 
 -- Bytes are those of the numbers that they are read as.
 pub bytes_of_items : (xs : List ℕ) → AreBytes xs → raw_bytes (raw_items xs) ≡ xs

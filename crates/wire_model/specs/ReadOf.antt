@@ -1,10 +1,11 @@
--- Reading as a plain function: the value and the bytes after it, or the status of the first wrong item (own, the strict profile).
--- It is proved to be what Reads and Stop say. S is the schema's declarations, d the composite levels left, t the type,
+-- Reading as a plain function: the value and the bytes after it, or the status of the first wrong item (own).
+-- It is proved to be what Reads and Stop say. p is the profile, S the schema's declarations, d the composite levels left, t the type,
 -- b the bytes up to the limit; `inside` says that a record is being read.
 use Rattle.std.specs.Prelude.{ℕ, zero, suc, ◌-◌, ℤ, pos, negsuc, Bool, true, false, List, [], ◌∷◌, map, Option, Some, None, slice_get, Result, Ok, Err, if◌then◌else◌}
 use Rattle.std.specs.Int.{w8, cast_signed}
-pub use Rattle.aidl_base.specs.Readings.{Read, ◌>>=◌, bytes_at, word_at, long_at, size_of}
-unfoldable pub use Rattle.aidl_base.specs.Readings.{count_at, text_at, raw_at}
+use Rattle.aidl_base.specs.declared.profile.Profile.{Profile}
+pub use Rattle.aidl_base.specs.Readings.{Read, ◌>>=◌, bytes_at, word_at, long_at, truth_at, byte_at, char_at, size_of}
+unfoldable pub use Rattle.aidl_base.specs.Readings.{word_as, count_at, text_at, raw_at}
 use Rattle.aidl_schema.specs.declared.schema.Decl.{Decl}
 use Rattle.aidl_schema.specs.declared.schema.Field.{Field}
 use Rattle.aidl_schema.specs.declared.schema.AidlType.{AidlType}
@@ -13,37 +14,20 @@ use Rattle.aidl_schema.specs.Types as form
 use Rattle.aidl_values.specs.Data.{Data, null, truth, number, text, seq, rec, alt, Items, none, item}
 use Rattle.aidl_values.specs.View.{items_of}
 use Rattle.aidl_values.specs.Sound.{initial_in}
-use Rattle.wire_model.specs.Status.{bad_value, unexpected_null, is_permitted}
+use Rattle.wire_model.specs.Status.{bad_value, unexpected_null}
 
--- a boolean, byte, char, int or enum (`readBool`, `readByte`, `readChar`, `readInt32`)
-abbrev pub is_truth : ℤ → Bool
-is_truth (pos zero) = false
-is_truth _ = true
+-- what one item says, as a value
+abbrev pub read_as : {A : Type 0} → (A → Data) → Read A → Read Data
+read_as seen x = x >>= λ y. Ok (seen y.0, y.1)
 
-abbrev pub data_of_word : Form → ℤ → Data
-data_of_word form.truth n = truth (is_truth n)
-data_of_word _ n = number n
+-- a char is the number of its code unit
+abbrev pub char_data : ℕ → Data
+char_data n = number (pos n)
 
-unfoldable pub scalar_at : Form → Bool → List ℕ → Read Data
-scalar_at f inside b = do
-  n ← word_at inside b
-  if is_permitted f n.0 then Ok (data_of_word f n.0, n.1) else Err bad_value
-
--- a long or an enum of long
-unfoldable pub long_value_at : Bool → List ℕ → Read Data
-long_value_at inside b = do
-  n ← long_at inside b
-  Ok (number n.0, n.1)
-
--- a String (`readString16`), where none is null
+-- a String, where none is null
 abbrev pub text_data : Option (List ℕ) → Data
 text_data None = null
 text_data (Some x) = text x
-
-unfoldable pub text_value_at : Bool → Bool → List ℕ → Read Data
-text_value_at nullable inside b = do
-  x ← text_at nullable inside b
-  Ok (text_data x.0, x.1)
 
 -- n items in order
 abbrev pub each_at : (List ℕ → Read Data) → ℕ → List ℕ → Read Items
@@ -58,37 +42,35 @@ abbrev pub raw_items : List ℕ → Items
 raw_items xs = items_of (map (λ x. number (cast_signed w8 x)) xs)
 
 -- n raw bytes with their padding (`readByteVector`)
-unfoldable pub raw_items_at : ℕ → Bool → List ℕ → Read Items
-raw_items_at n inside b = do
-  x ← raw_at n inside b
+unfoldable pub raw_items_at : Profile → ℕ → Bool → List ℕ → Read Items
+raw_items_at p n inside b = do
+  x ← raw_at p n inside b
   Ok (raw_items x.0, x.1)
 
 -- a sequence after its count; `left` says that a level is left, `read` reads one element
-unfoldable pub elements_at : Bool → Bool → (List ℕ → Read Data) → Bool → Option ℕ → List ℕ → Read Data
-elements_at left raw read inside None b = Ok (null, b)
-elements_at left raw read inside (Some n) b = if left then (do
-  vs ← (if raw then raw_items_at n inside b else each_at read n b)
+unfoldable pub elements_at : Profile → Bool → Bool → (List ℕ → Read Data) → Bool → Option ℕ → List ℕ → Read Data
+elements_at p left raw read inside None b = Ok (null, b)
+elements_at p left raw read inside (Some n) b = if left then (do
+  vs ← (if raw then raw_items_at p n inside b else each_at read n b)
   Ok (seq vs.0, vs.1)) else Err bad_value
 
 -- an array or a List
-unfoldable pub array_at : Bool → Bool → Bool → (List ℕ → Read Data) → Bool → List ℕ → Read Data
-array_at left raw nullable read inside b = do
+unfoldable pub array_at : Profile → Bool → Bool → Bool → (List ℕ → Read Data) → Bool → List ℕ → Read Data
+array_at p left raw nullable read inside b = do
   n ← count_at nullable inside b
-  elements_at left raw read inside n.0 n.1
+  elements_at p left raw read inside n.0 n.1
 
--- whether a marker says that something follows
-abbrev pub marker_of : Bool → ℤ → Result Bool ℤ
-marker_of nullable (pos zero) = if nullable then Ok false else Err unexpected_null
-marker_of nullable (pos (suc zero)) = Ok true
-marker_of nullable (pos (suc (suc n))) = Err bad_value
-marker_of nullable (negsuc n) = Err bad_value
+-- whether something follows, by what a marker says
+abbrev pub there_of : Bool → Bool → Result Bool ℤ
+there_of nullable true = Ok true
+there_of nullable false = if nullable then Ok false else Err unexpected_null
 
--- the marker of a parcelable or union (`readParcelable`)
-unfoldable pub marker_at : Bool → Bool → List ℕ → Read Bool
-marker_at nullable inside b = do
-  w ← word_at inside b
-  m ← marker_of nullable w.0
-  Ok (m, w.1)
+-- the marker of a parcelable or union, a boolean word (`readParcelable`)
+unfoldable pub marker_at : Profile → Bool → Bool → List ℕ → Read Bool
+marker_at p nullable inside b = do
+  t ← truth_at p inside b
+  m ← there_of nullable t.0
+  Ok (m, t.1)
 
 -- null, or what is there where a level is left
 abbrev pub marked_at : Bool → (List ℕ → Read Data) → Bool → List ℕ → Read Data
@@ -122,9 +104,9 @@ body_value_at initial read fs inside b = do
   Ok (rec vs, inner.1)
 
 -- a parcelable
-unfoldable pub record_at : Bool → Bool → (Field → Data) → (AidlType → List ℕ → Read Data) → List Field → Bool → List ℕ → Read Data
-record_at left nullable initial read fs inside b = do
-  m ← marker_at nullable inside b
+unfoldable pub record_at : Profile → Bool → Bool → (Field → Data) → (AidlType → List ℕ → Read Data) → List Field → Bool → List ℕ → Read Data
+record_at p left nullable initial read fs inside b = do
+  m ← marker_at p nullable inside b
   marked_at left (λ c. body_value_at initial read fs inside c) m.0 m.1
 
 -- a union's tag, and its field
@@ -151,27 +133,31 @@ tagged_at read fs inside b = do
   Ok (alt k.0 v.0, v.1)
 
 -- a union
-unfoldable pub union_at : Bool → Bool → (AidlType → List ℕ → Read Data) → List Field → Bool → List ℕ → Read Data
-union_at left nullable read fs inside b = do
-  m ← marker_at nullable inside b
+unfoldable pub union_at : Profile → Bool → Bool → (AidlType → List ℕ → Read Data) → List Field → Bool → List ℕ → Read Data
+union_at p left nullable read fs inside b = do
+  m ← marker_at p nullable inside b
   marked_at left (λ c. tagged_at read fs inside c) m.0 m.1
 
 -- one value that is no sequence, by what its type means
-abbrev pub one_at : Bool → (Field → Data) → (AidlType → Bool → List ℕ → Read Data) → Bool → Form → Bool → List ℕ → Read Data
-one_at left initial read nullable form.long inside b = long_value_at inside b
-one_at left initial read nullable form.text inside b = text_value_at nullable inside b
-one_at left initial read nullable (form.parcelable fs) inside b = record_at left nullable initial (λ u b. read u true b) fs inside b
-one_at left initial read nullable (form.union fs) inside b = union_at left nullable (λ u b. read u inside b) fs inside b
-one_at left initial read nullable form.nothing inside b = Err bad_value
-one_at left initial read nullable f inside b = scalar_at f inside b
+-- (`readBool`, `readByte`, `readChar`, `readInt32`, `readInt64`, `readString16`)
+abbrev pub one_at : Profile → Bool → (Field → Data) → (AidlType → Bool → List ℕ → Read Data) → Bool → Form → Bool → List ℕ → Read Data
+one_at p left initial read nullable form.truth inside b = read_as truth (truth_at p inside b)
+one_at p left initial read nullable form.byte inside b = read_as number (byte_at p inside b)
+one_at p left initial read nullable form.char inside b = read_as char_data (char_at p inside b)
+one_at p left initial read nullable form.int inside b = read_as number (word_at inside b)
+one_at p left initial read nullable form.long inside b = read_as number (long_at inside b)
+one_at p left initial read nullable form.text inside b = read_as text_data (text_at p nullable inside b)
+one_at p left initial read nullable (form.parcelable fs) inside b = record_at p left nullable initial (λ u b. read u true b) fs inside b
+one_at p left initial read nullable (form.union fs) inside b = union_at p left nullable (λ u b. read u inside b) fs inside b
+one_at p left initial read nullable form.nothing inside b = Err bad_value
 
 -- one level; `read` reads its parts
-abbrev pub read_by : List Decl → Bool → (AidlType → Bool → List ℕ → Read Data) → AidlType → Bool → List ℕ → Read Data
-read_by S left read t inside b = if is_one t.shape
-    then one_at left (λ f. initial_in S f) read t.nullable (form_of S t.base) inside b
-    else array_at left (is_raw S t) t.nullable (λ b. read (elem S t) inside b) inside b
+abbrev pub read_by : Profile → List Decl → Bool → (AidlType → Bool → List ℕ → Read Data) → AidlType → Bool → List ℕ → Read Data
+read_by p S left read t inside b = if is_one t.shape
+    then one_at p left (λ f. initial_in S f) read t.nullable (form_of S t.base) inside b
+    else array_at p left (is_raw S t) t.nullable (λ b. read (elem S t) inside b) inside b
 
 -- The value at the front and the bytes after it, or the status of the first wrong item.
-unfoldable pub read_of : List Decl → ℕ → AidlType → Bool → List ℕ → Read Data
-read_of S zero t inside b = read_by S false (λ u j b. Err bad_value) t inside b
-read_of S (suc d) t inside b = read_by S true (λ u j b. read_of S d u j b) t inside b
+unfoldable pub read_of : Profile → List Decl → ℕ → AidlType → Bool → List ℕ → Read Data
+read_of p S zero t inside b = read_by p S false (λ u j b. Err bad_value) t inside b
+read_of p S (suc d) t inside b = read_by p S true (λ u j b. read_of p S d u j b) t inside b

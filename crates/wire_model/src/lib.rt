@@ -12,4 +12,7 @@ pub use aidl_schema::{
     Schema, Shape,
 };
 pub use aidl_values::{Answer, Value};
-pub use laws::{law_one_reading, law_read_of, law_reads_or_stops, law_spelled_reads};
+pub use laws::{
+    law_nodes, law_one_reading, law_read_of, law_reads_or_stops, law_spelled_reads,
+    law_strict_is_lenient,
+};

@@ -1,6 +1,6 @@
 //! Records and sequences as words: where a record ends, and what is put is taken again.
 
-use aidl_base::Text;
+use aidl_base::{Profile, Text};
 use parcel_words::{
     ReadFault, Wire, WordReader, WordWriter, law_sequence_taken_again, put_sequence,
     sequence_length, take_sequence,
@@ -24,7 +24,7 @@ const SIZES: [(&[u8], Result<(), ReadFault>); 5] = [
 
 #[test]
 fn a_record_ends_where_its_size_says(rt: HostRuntime) -> Result<(), Fail> {
-    let mut reader = WordReader::new(CROSSED);
+    let mut reader = WordReader::new(Profile::Strict, CROSSED);
     reader.enter()?;
     assert!(rt; !reader.at_end());
     assert_eq!(rt; reader.word()?, 7);
@@ -34,7 +34,7 @@ fn a_record_ends_where_its_size_says(rt: HostRuntime) -> Result<(), Fail> {
     assert!(rt; reader.at_end());
     assert_eq!(rt; reader.word(), Err(ReadFault::BadValue));
 
-    let mut reader = WordReader::new(NESTED);
+    let mut reader = WordReader::new(Profile::Strict, NESTED);
     reader.enter()?;
     assert_eq!(rt; reader.word()?, 7);
     assert_eq!(rt; reader.enter(), Err(ReadFault::BadValue));
@@ -45,7 +45,7 @@ fn a_record_ends_where_its_size_says(rt: HostRuntime) -> Result<(), Fail> {
     assert_eq!(rt; reader.word(), Err(ReadFault::NotEnough));
 
     for (bytes, wanted) in SIZES {
-        assert_eq!(rt; WordReader::new(bytes).enter(), wanted);
+        assert_eq!(rt; WordReader::new(Profile::Strict, bytes).enter(), wanted);
     }
     Ok(())
 }
@@ -60,7 +60,7 @@ fn items_are_put_and_taken(rt: HostRuntime) -> Result<(), Fail> {
     let wanted = b"\x02\0\0\0\x05\0\0\0\xff\xff\xff\xff".as_slice();
     assert_eq!(rt; bytes.as_slice(), wanted);
     law_sequence_taken_again(&items);
-    let mut reader = WordReader::new(bytes.as_slice());
+    let mut reader = WordReader::new(Profile::Strict, bytes.as_slice());
     let taken = take_sequence::<i32>(rt.alloc(), false, &mut reader)?.ok_or("null")?;
     assert_eq!(rt; taken.as_slice(), items.as_slice());
     Ok(())
@@ -79,7 +79,7 @@ fn each_kind_of_item_is_put_and_taken(rt: HostRuntime) -> Result<(), Fail> {
     writer.text(None);
     writer.raw(b"\x01\x02\x03");
     let bytes = writer.finish();
-    let mut reader = WordReader::new(bytes.as_slice());
+    let mut reader = WordReader::new(Profile::Strict, bytes.as_slice());
     assert_eq!(rt; bool::take(alloc, &mut reader)?, true);
     assert_eq!(rt; i8::take(alloc, &mut reader)?, -128);
     assert_eq!(rt; u16::take(alloc, &mut reader)?, 0xffff);

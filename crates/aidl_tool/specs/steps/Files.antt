@@ -10,12 +10,12 @@ use Rattle.aidl_tool.specs.Meaning.{Meaning, reads_only}
 use Rattle.aidl_tool.specs.Refusals.{file_at}
 
 abbrev pub path_of : FileCommand → List ℕ
-path_of (Decode types path) = path.now
+path_of (Decode profile types path) = path.now
 path_of (Encode types path) = path.now
 
 -- what it answers of its file
 abbrev pub answer_of : FileCommand → Option (Found (List ℕ)) → Answer
-answer_of (Decode types path) file = decode_answer [] types.now path.now file
+answer_of (Decode profile types path) file = decode_answer profile [] types.now path.now file
 answer_of (Encode types path) file = encode_answer [] types.now path.now file
 
 -- of a store's files

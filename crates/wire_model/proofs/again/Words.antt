@@ -1,50 +1,33 @@
--- What was spelled is read again, whatever follows it.
-use Rattle.std.proofs.Common.{◌≡◌, ℕ, ℤ, pos, Bool, true, false, List, ◌++◌, Ok, refl, ap, ◌∙◌, arith, append_assoc}
-use Rattle.std.specs.Int.{w32, w64}
-use Rattle.std.specs.Prelude.{FitsSigned}
-use Rattle.std.proofs.lemmas.Int.{ints}
-use Rattle.aidl_base.specs.Words.{word, long_word}
-use Rattle.aidl_schema.specs.Types.{Form, form_of, is_type, is_raw, is_scalar}
+-- What is read is read again, whatever follows it: numbers, and items one after the other.
+use Rattle.std.proofs.Common.{◌≡◌, ℕ, ℤ, Bool, true, List, ◌++◌, Ok, refl, ap, ◌∙◌, append_assoc}
+use Rattle.aidl_base.specs.declared.profile.Profile.{Profile}
+use Rattle.aidl_base.specs.Profiles.{is_byte_word, byte_of, is_char_word, char_of}
+use Rattle.aidl_base.specs.Words.{word_of}
+use Rattle.aidl_base.proofs.Words.{word_again, long_again}
+use Rattle.aidl_base.proofs.Values.{is_word_again}
+use Rattle.aidl_base.proofs.Ranges.{int_fits, long_fits}
+use Rattle.aidl_schema.specs.Constants.{in_range}
+use Rattle.aidl_schema.specs.Types.{Form}
 use Rattle.aidl_schema.specs.Types as form
 use Rattle.aidl_schema.specs.declared.schema.Field.{Field}
 use Rattle.aidl_schema.specs.declared.schema.AidlType.{AidlType}
-use Rattle.aidl_values.specs.Data.{Data, truth, number, Items, none, item, count}
-use Rattle.wire_model.specs.ReadOf.{Read, ◌>>=◌, data_of_word, scalar_at, long_value_at, one_at, each_at}
-use Rattle.wire_model.specs.Status.{is_permitted}
-use Rattle.wire_model.specs.Spell.{spell_truth, spell_number}
-use Rattle.wire_model.specs.Reads.{EachReads}
-use Rattle.wire_model.proofs.Steps.{then_items, then_scalar, with_item}
-use Rattle.aidl_schema.specs.Constants.{in_range}
-use Rattle.aidl_base.proofs.Words.{word_again, long_again}
-use Rattle.aidl_base.proofs.Ranges.{byte_fits_word, char_fits, int_fits, long_fits}
+use Rattle.aidl_values.specs.Data.{Data, number, Items, none, item, count}
+use Rattle.wire_model.specs.ReadOf.{Read, read_as, char_data, one_at, each_at}
+use Rattle.wire_model.specs.Reads.{EachReads, NumberReads}
+use Rattle.wire_model.proofs.Steps.{then_items, with_item}
 
-pub truth_again : (b inside : Bool) (r : List ℕ) → scalar_at form.truth inside (spell_truth b ++ r) ≡ Ok (truth b, r)
-unfolding scalar_at
-truth_again true inside r = ap (then_scalar form.truth) (word_again (pos 1) inside r (omega (arith, ints)))
-truth_again false inside r = ap (then_scalar form.truth) (word_again (pos 0) inside r (omega (arith, ints)))
-
--- a word that its type permits
-word_value_again : (f : Form) (n : ℤ) (inside : Bool) (r : List ℕ) → FitsSigned w32 n → is_permitted f n ≡ true
-    → scalar_at f inside (word n ++ r) ≡ Ok (data_of_word f n, r)
-unfolding scalar_at
-word_value_again f n inside r fits may =
-    ap (then_scalar f) (word_again n inside r fits) ∙ rw may
-
-long_value_again : (n : ℤ) (inside : Bool) (r : List ℕ) → FitsSigned w64 n → long_value_at inside (long_word n ++ r) ≡ Ok (number n, r)
-unfolding long_value_at
-long_value_again n inside r fits = ap (λ (w : Read ℤ). w >>= λ x. Ok (number x.0, x.1)) (long_again n inside r fits)
-
-module _ (left : Bool) (initial : Field → Data) (read : AidlType → Bool → List ℕ → Read Data) (nullable inside : Bool) (r : List ℕ) where
-  pub number_again : (f : Form) (n : ℤ) → in_range f n ≡ true → one_at left initial read nullable f inside (spell_number f n ++ r) ≡ Ok (number n, r)
-  number_again form.byte n h = word_value_again form.byte n inside r (byte_fits_word n h) h
-  number_again form.char n h = word_value_again form.char n inside r (char_fits n h) h
-  number_again form.int n h = word_value_again form.int n inside r (int_fits n h) refl
-  number_again form.long n h = long_value_again n inside r (long_fits n h)
-  number_again form.truth n h = cc
-  number_again form.text n h = cc
-  number_again (form.parcelable fs) n h = cc
-  number_again (form.union fs) n h = cc
-  number_again form.nothing n h = cc
+module _ (p : Profile) (left : Bool) (initial : Field → Data) (read : AidlType → Bool → List ℕ → Read Data) (nullable inside : Bool) (r : List ℕ) where
+  pub number_again : (f : Form) (n : ℤ) (b : List ℕ) → in_range f n ≡ true → NumberReads p f b n → one_at p left initial read nullable f inside (b ++ r) ≡ Ok (number n, r)
+  number_again form.byte n b h is = ap (read_as number) (is_word_again (λ w. is_byte_word p w) byte_of inside r b n is)
+  number_again form.char n b h is =
+      ap (read_as char_data) (is_word_again (λ w. is_char_word p w) char_of inside r b (char_of (word_of b)) (is.0, is.1, refl)) ∙ ap (λ m. Ok (number m, r)) is.2
+  number_again form.int n b h is = rw is (ap (read_as number) (word_again n inside r (int_fits n h)))
+  number_again form.long n b h is = rw is (ap (read_as number) (long_again n inside r (long_fits n h)))
+  number_again form.truth n b h is = cc
+  number_again form.text n b h is = cc
+  number_again (form.parcelable fs) n b h is = cc
+  number_again (form.union fs) n b h is = cc
+  number_again form.nothing n b h is = cc
 
 -- items, each of which is read again
 pub each_again : (PartReads : List ℕ → Data → Type 0) (read : List ℕ → Read Data) → ((b r : List ℕ) (v : Data) → PartReads b v → read (b ++ r) ≡ Ok (v, r))

@@ -1,29 +1,30 @@
 -- Where the bytes stop, reading as a function answers that status.
-use Rattle.std.proofs.Common.{◌≡◌, ◌≢◌, ℕ, zero, suc, ◌+◌, ◌-◌, ◌%◌, ◌<◌, ◌≤◌, ℤ, pos, negsuc, Bool, true, false, ◌&&◌, ◌==◌, cond, nat_lt, nat_le, List, [], ◌∷◌, ◌++◌, length, take, drop, Some, slice_get, Ok, Err, Result, refl, ap, ◌∙◌, subst, arith, append_assoc}
+use Rattle.std.proofs.Common.{◌≡◌, ◌≢◌, ℕ, zero, suc, ◌+◌, ◌-◌, ◌%◌, ◌<◌, ◌≤◌, ℤ, pos, negsuc, Bool, true, false, ◌&&◌, ◌==◌, cond, nat_lt, nat_le, List, [], ◌∷◌, ◌++◌, length, take, drop, Some, slice_get, Ok, Err, refl, sym, ap, ◌∙◌, subst, arith, append_assoc, true≢false}
 use Rattle.std.proofs.lemmas.Bool.{le-ltb}
 use Rattle.std.proofs.lemmas.Bool.Decides.{nat_tests}
-use Rattle.std.proofs.lemmas.List.{length-drop, length-take-le}
+use Rattle.std.proofs.lemmas.List.{length-drop, length-take-le, take-append-drop}
 use Rattle.std.proofs.lemmas.Option.{slice_get_past}
+use Rattle.aidl_base.specs.declared.profile.Profile.{Profile}
+use Rattle.aidl_base.specs.Profiles.{is_truth_word, truth_of, is_byte_word, byte_of, is_char_word, char_of, is_padding, IsPadded}
 use Rattle.aidl_base.specs.Words.{padding}
+use Rattle.aidl_base.proofs.Profiles.{permits_written, padded_by}
 use Rattle.aidl_schema.specs.declared.schema.Decl.{Decl}
 use Rattle.aidl_schema.specs.declared.schema.Field.{Field}
 use Rattle.aidl_schema.specs.declared.schema.AidlType.{AidlType}
 use Rattle.aidl_schema.specs.Types.{Form, form_of, is_one, is_raw, is_type, is_meant, is_well_shaped, elem}
 use Rattle.aidl_schema.specs.Types as form
 use Rattle.aidl_schema.specs.declared.schema.Base.{Base}
-use Rattle.aidl_values.specs.Data.{Data, Items, none, item, count}
+use Rattle.aidl_values.specs.Data.{Data, truth, number, Items, none, item, count}
 use Rattle.aidl_values.specs.Sound.{initial_in, AreTypes}
-use Rattle.wire_model.specs.Stop.{Stoppings, Stop, OneStop, StopBy, first_word, after_word, Begins, LongStop, WordStop, CountStop, MarkerStop, BlockStop, TextStop, block_len, IsBlock, IsPadded, ElementsStop, SequenceStop, SizeStop, FieldsStop, RecordStop, TagStop, UnionStop, FieldsThere, fields_bytes}
-use Rattle.wire_model.specs.Reads.{Readings, Reads, EachReads}
+use Rattle.wire_model.specs.Stop.{Stoppings, Stop, OneStop, StopBy, first_word, after_word, Begins, LongStop, WordStop, CountStop, MarkerStop, BlockStop, TextStop, block_len, IsBlock, ElementsStop, SequenceStop, SizeStop, FieldsStop, RecordStop, TagStop, UnionStop, FieldsThere, fields_bytes}
+use Rattle.wire_model.specs.Reads.{Readings, IsMarker, Reads, EachReads}
 use Rattle.wire_model.specs.Status.{bad_value, past}
-use Rattle.aidl_base.specs.Readings.{all_zero}
-use Rattle.wire_model.specs.ReadOf.{Read, ◌>>=◌, word_at, scalar_at, long_value_at, count_at, marker_of, marker_at, bytes_at, text_value_at, raw_items, raw_items_at, each_at, elements_at, array_at, field_at, fields_at, size_of, body_at, body_value_at, record_at, tag_at, tagged_at, union_at, one_at, read_by, read_of}
+use Rattle.wire_model.specs.ReadOf.{Read, ◌>>=◌, word_at, word_as, truth_at, text_at, read_as, char_data, text_data, count_at, marker_at, bytes_at, raw_items, raw_items_at, each_at, elements_at, array_at, field_at, fields_at, size_of, body_at, body_value_at, record_at, tag_at, tagged_at, union_at, one_at, read_by, read_of}
 use Rattle.wire_model.proofs.Forms.{elem_is_type}
 use Rattle.wire_model.proofs.Sound.{IsWhole, field_type}
 use Rattle.wire_model.proofs.TextForms.{text_form}
-use Rattle.wire_model.proofs.RawForms.{padded_is}
-use Rattle.wire_model.proofs.again.All.{again}
-use Rattle.wire_model.proofs.Steps.{ok_text, text_block_at, text_value_steps, raw_items_steps, then_scalar, then_count, then_marker, then_size, then_tag, then_text, then_elements, then_block, then_raw, then_items, with_item, then_seq, then_there, then_inner, then_fields, then_others, with_field, then_rec, then_alternative, then_field}
+use Rattle.wire_model.proofs.again.All.{again, marker_again}
+use Rattle.wire_model.proofs.Steps.{ok_text, text_block_at, text_value_steps, raw_items_steps, then_count, then_marker, then_size, then_tag, then_text, then_elements, then_block, then_raw, then_items, with_item, then_seq, then_there, then_inner, then_fields, then_others, with_field, then_rec, then_alternative, then_field}
 use Rattle.aidl_base.proofs.Tests.{both}
 use Rattle.aidl_base.proofs.Lists.{no_rest}
 use Rattle.aidl_base.proofs.Bytes.{AreBytes, AreBytes-take, AreBytes-drop, AreBytes-rest}
@@ -34,10 +35,11 @@ short_word inside b lt = let e : nat_lt (length b) 4 ≡ true = grind (arith, na
 pub whole_word : (inside : Bool) (b : List ℕ) → 4 ≤ length b → word_at inside b ≡ Ok (first_word b, after_word b)
 whole_word inside b le = let e : nat_lt (length b) 4 ≡ false = le-ltb _ _ le in rw e refl
 
-scalar_stops : (f : Form) (inside : Bool) (b : List ℕ) (s : ℤ) → WordStop f b inside s → scalar_at f inside b ≡ Err s
-unfolding scalar_at
-scalar_stops f inside b s (WordStop.short lt) = ap (then_scalar f) (short_word inside b lt)
-scalar_stops f inside b s (WordStop.not_permitted le wrong) = ap (then_scalar f) (whole_word inside b le) ∙ rw wrong refl
+word_stops : {A : Type 0} (may : ℤ → Bool) (means : ℤ → A) (inside : Bool) (b : List ℕ) (s : ℤ) → WordStop may b inside s → word_as may means inside b ≡ Err s
+unfolding word_as
+word_stops {A} may means inside b s (WordStop.short lt) = ap (λ (w : Read ℤ). w >>= λ x. cond {A = Read A} (may x.0) (Ok (means x.0, x.1)) (Err bad_value)) (short_word inside b lt)
+word_stops {A} may means inside b s (WordStop.not_permitted le wrong) =
+    ap (λ (w : Read ℤ). w >>= λ x. cond {A = Read A} (may x.0) (Ok (means x.0, x.1)) (Err bad_value)) (whole_word inside b le) ∙ rw wrong refl
 
 count_stops : (nullable inside : Bool) (b : List ℕ) (s : ℤ) → CountStop nullable b inside s → count_at nullable inside b ≡ Err s
 unfolding count_at
@@ -51,24 +53,17 @@ counted : (nullable inside : Bool) (b : List ℕ) (n : ℕ) → Begins (pos n) b
 unfolding count_at
 counted nullable inside b n begins = ap (then_count nullable) (whole_word inside b begins.0) ∙ rw begins.1 refl
 
-pub no_marker : (nullable : Bool) (w : ℤ) → w ≢ pos 0 → w ≢ pos 1 → marker_of nullable w ≡ Err bad_value
-no_marker nullable (pos zero) a b = absurd (a refl)
-no_marker nullable (pos (suc zero)) a b = absurd (b refl)
-no_marker nullable (pos (suc (suc n))) a b = refl
-no_marker nullable (negsuc n) a b = refl
+marker_stops : (p : Profile) (nullable inside : Bool) (b : List ℕ) (s : ℤ) → MarkerStop p nullable b inside s → marker_at p nullable inside b ≡ Err s
+unfolding marker_at word_as
+marker_stops p nullable inside b s (MarkerStop.at_word h) = ap (then_marker nullable) (word_stops (λ w. is_truth_word p w) truth_of inside b s h)
+marker_stops p nullable inside b s (MarkerStop.null_marker begins may st) =
+    let permitted : is_truth_word p (pos 0) ≡ true = permits_written p true refl in
+    let read : truth_at p inside b ≡ Ok (false, after_word b) =
+    ap (λ (w : Read ℤ). w >>= λ x. cond {A = Read Bool} (is_truth_word p x.0) (Ok (truth_of x.0, x.1)) (Err bad_value)) (whole_word inside b begins.0) ∙ rw (begins.1, permitted) refl in
+    ap (then_marker nullable) read ∙ rw (may, st) refl
 
-marker_stops : (nullable inside : Bool) (b : List ℕ) (s : ℤ) → MarkerStop nullable b inside s → marker_at nullable inside b ≡ Err s
-unfolding marker_at
-marker_stops nullable inside b s (MarkerStop.short lt) = ap (then_marker nullable) (short_word inside b lt)
-marker_stops nullable inside b s (MarkerStop.null_marker begins may) =
-    ap (then_marker nullable) (whole_word inside b begins.0) ∙ rw (begins.1, may) refl
-marker_stops nullable inside b s (MarkerStop.not_marker le zero_not one_not) =
-    ap (then_marker nullable) (whole_word inside b le)
-    ∙ ap (λ (m : Result Bool ℤ). m >>= λ n. Ok (n, after_word b)) (no_marker nullable (first_word b) zero_not one_not)
-
-marked : (nullable inside : Bool) (b : List ℕ) → Begins (pos 1) b → marker_at nullable inside b ≡ Ok (true, after_word b)
-unfolding marker_at
-marked nullable inside b begins = ap (then_marker nullable) (whole_word inside b begins.0) ∙ rw begins.1 refl
+marked : (p : Profile) (nullable inside : Bool) (b : List ℕ) → IsMarker p (take 4 b) → marker_at p nullable inside b ≡ Ok (true, after_word b)
+marked p nullable inside b m = ap (λ c. marker_at p nullable inside c) (sym (take-append-drop 4 b)) ∙ marker_again p nullable inside (take 4 b) (after_word b) m
 
 pub short_bytes : (n : ℕ) (inside : Bool) (b : List ℕ) → length b < n → bytes_at n inside b ≡ Err (past inside)
 short_bytes n inside b lt = let e : nat_lt (length b) n ≡ true = grind (arith, nat_tests) in rw e refl
@@ -146,47 +141,47 @@ size_stops inside b s (SizeStop.long_record z size lt) =
     ∙ ap (then_inner inside (after_word b)) (ap size_of size.0.1 ∙ a_size z size.1 size.2)
     ∙ short_bytes (z - 4) inside (after_word b) (omega arith)
 
-block_stops : (n : ℕ) (inside : Bool) (b : List ℕ) (s : ℤ) → AreBytes b → BlockStop (block_len n) (IsBlock n) b inside s
-    → text_block_at inside (Some n) b ≡ Err s
+block_stops : (p : Profile) (n : ℕ) (inside : Bool) (b : List ℕ) (s : ℤ) → AreBytes b → BlockStop (block_len n) (λ c. IsBlock p n c) b inside s
+    → text_block_at p inside (Some n) b ≡ Err s
 unfolding text_block_at
-block_stops n inside b s bytes (BlockStop.long_block lt) = ap (then_block n) (short_bytes (block_len n) inside b lt)
-block_stops n inside b s bytes (BlockStop.wrong_block le wrong) =
-    ap (then_block n) (whole_bytes (block_len n) inside b le)
-    ∙ ap (λ o. ok_text o (drop (block_len n) b)) (text_form n (take (block_len n) b) (AreBytes-take (block_len n) b bytes) (length-take-le (block_len n) b le) wrong)
+block_stops p n inside b s bytes (BlockStop.long_block lt) = ap (then_block p n) (short_bytes (block_len n) inside b lt)
+block_stops p n inside b s bytes (BlockStop.wrong_block le wrong) =
+    ap (then_block p n) (whole_bytes (block_len n) inside b le)
+    ∙ ap (λ o. ok_text o (drop (block_len n) b)) (text_form p n (take (block_len n) b) (AreBytes-take (block_len n) b bytes) (length-take-le (block_len n) b le) wrong)
 
-text_stops : (nullable inside : Bool) (b : List ℕ) (s : ℤ) → AreBytes b → TextStop nullable b inside s → text_value_at nullable inside b ≡ Err s
-text_stops nullable inside b s bytes (TextStop.at_count h) = text_value_steps nullable inside b ∙ ap (then_text inside) (count_stops nullable inside b s h)
-text_stops nullable inside b s bytes (TextStop.at_block n begins h) =
-    text_value_steps nullable inside b ∙ ap (then_text inside) (counted nullable inside b n begins) ∙ block_stops n inside (after_word b) s (AreBytes-drop 4 b bytes) h
+text_stops : (p : Profile) (nullable inside : Bool) (b : List ℕ) (s : ℤ) → AreBytes b → TextStop p nullable b inside s → read_as text_data (text_at p nullable inside b) ≡ Err s
+text_stops p nullable inside b s bytes (TextStop.at_count h) = text_value_steps p nullable inside b ∙ ap (then_text p inside) (count_stops nullable inside b s h)
+text_stops p nullable inside b s bytes (TextStop.at_block n begins h) =
+    text_value_steps p nullable inside b ∙ ap (then_text p inside) (counted nullable inside b n begins) ∙ block_stops p n inside (after_word b) s (AreBytes-drop 4 b bytes) h
 
-raw_stops : (n : ℕ) (inside : Bool) (b : List ℕ) (s : ℤ) → BlockStop (n + padding n) (IsPadded n) b inside s → raw_items_at n inside b ≡ Err s
-raw_stops n inside b s (BlockStop.long_block lt) = raw_items_steps n inside b ∙ ap (then_raw n) (short_bytes (n + padding n) inside b lt)
-raw_stops n inside b s (BlockStop.wrong_block le wrong) =
-    raw_items_steps n inside b
-    ∙ ap (then_raw n) (whole_bytes (n + padding n) inside b le)
-    ∙ by_test (all_zero (drop n (take (n + padding n) b))) refl
+raw_stops : (p : Profile) (n : ℕ) (inside : Bool) (b : List ℕ) (s : ℤ) → BlockStop (n + padding n) (λ c. IsPadded p (take n c) c) b inside s → raw_items_at p n inside b ≡ Err s
+raw_stops p n inside b s (BlockStop.long_block lt) = raw_items_steps p n inside b ∙ ap (then_raw p n) (short_bytes (n + padding n) inside b lt)
+raw_stops p n inside b s (BlockStop.wrong_block le wrong) =
+    raw_items_steps p n inside b
+    ∙ ap (then_raw p n) (whole_bytes (n + padding n) inside b le)
+    ∙ by_test (is_padding p (drop n (take (n + padding n) b))) refl
   where
-    by_test : (x : Bool) → all_zero (drop n (take (n + padding n) b)) ≡ x
-        → cond {A = Read Items} (all_zero (drop n (take (n + padding n) b))) (Ok (raw_items (take n (take (n + padding n) b)), drop (n + padding n) b)) (Err bad_value) ≡ Err bad_value
-    by_test true e = elim (wrong (padded_is n (take (n + padding n) b) (length-take-le (n + padding n) b le) e)) [ ]
+    by_test : (x : Bool) → is_padding p (drop n (take (n + padding n) b)) ≡ x
+        → cond {A = Read Items} (is_padding p (drop n (take (n + padding n) b))) (Ok (raw_items (take n (take (n + padding n) b)), drop (n + padding n) b)) (Err bad_value) ≡ Err bad_value
+    by_test true e = elim (wrong (padded_by p n (take (n + padding n) b) (length-take-le (n + padding n) b le) e)) [ ]
     by_test false e = rw e refl
 
-module _ (S : List Decl) (sound : IsWhole S) (left : Bool) (PartReads : Readings) (PartStops : Stoppings) (read : AidlType → Bool → List ℕ → Read Data)
+module _ (p : Profile) (S : List Decl) (sound : IsWhole S) (left : Bool) (PartReads : Readings) (PartStops : Stoppings) (read : AidlType → Bool → List ℕ → Read Data)
     (law : (t : AidlType) (j : Bool) (c q : List ℕ) (v : Data) → is_type S t ≡ true → PartReads t c v → read t j (c ++ q) ≡ Ok (v, q))
     (stop : (t : AidlType) (j : Bool) (c : List ℕ) (s : ℤ) → is_type S t ≡ true → AreBytes c → PartStops t c j s → read t j c ≡ Err s) where
   bytes_after : (front rest b : List ℕ) → b ≡ front ++ rest → AreBytes b → AreBytes rest
   bytes_after front rest b e bytes = AreBytes-rest front rest (subst AreBytes e bytes)
 
   record_stops : (nullable inside : Bool) (fs : List Field) (base : Base) (b : List ℕ) (s : ℤ) → form_of S base ≡ form.parcelable fs → AreBytes b
-      → RecordStop left nullable fs PartReads PartStops b inside s
-      → record_at left nullable (λ f. initial_in S f) (λ u c. read u true c) fs inside b ≡ Err s
+      → RecordStop p left nullable fs PartReads PartStops b inside s
+      → record_at p left nullable (λ f. initial_in S f) (λ u c. read u true c) fs inside b ≡ Err s
   unfolding record_at body_value_at body_at
   record_stops nullable inside fs base b s is bytes (RecordStop.at_marker h) =
-      ap (then_there left (λ c. body_value_at (λ f. initial_in S f) (λ u c. read u true c) fs inside c)) (marker_stops nullable inside b s h)
+      ap (then_there left (λ c. body_value_at (λ f. initial_in S f) (λ u c. read u true c) fs inside c)) (marker_stops p nullable inside b s h)
   record_stops nullable inside fs base b s is bytes (RecordStop.too_deep begins no_left st) =
-      ap (then_there left (λ c. body_value_at (λ f. initial_in S f) (λ u c. read u true c) fs inside c)) (marked nullable inside b begins) ∙ rw (no_left, st) refl
+      ap (then_there left (λ c. body_value_at (λ f. initial_in S f) (λ u c. read u true c) fs inside c)) (marked p nullable inside b begins) ∙ rw (no_left, st) refl
   record_stops nullable inside fs base b s is bytes (RecordStop.at_size begins has h) =
-      ap (then_there left (λ c. body_value_at (λ f. initial_in S f) (λ u c. read u true c) fs inside c)) (marked nullable inside b begins)
+      ap (then_there left (λ c. body_value_at (λ f. initial_in S f) (λ u c. read u true c) fs inside c)) (marked p nullable inside b begins)
       ∙ rw has (ap (then_fields (λ f. initial_in S f) (λ u c. read u true c) fs) (size_stops inside (after_word b) s h))
   record_stops nullable inside fs base b s is bytes (RecordStop.at_fields begins has z size within (FieldsStop.at_field i f at vs front rest split there some st)) =
       let aw = after_word b in
@@ -199,23 +194,23 @@ module _ (S : List Decl) (sound : IsWhole S) (left : Bool) (PartReads : Readings
       let stopped : read f.ty true rest ≡ Err s = stop f.ty true rest s (field_type S fs i f types at) (bytes_after front rest (fields_bytes z aw) split inner_bytes) st in
       let all : fields_at (λ f. initial_in S f) (λ u c. read u true c) fs (fields_bytes z aw) ≡ Err s =
       fields_stop S (λ f. initial_in S f) PartReads (λ u c. read u true c) (λ t c q v type h. law t true c q v type h) fs i f vs (fields_bytes z aw) front rest s types at split there some stopped in
-      ap (then_there left (λ c. body_value_at (λ f. initial_in S f) (λ u c. read u true c) fs inside c)) (marked nullable inside b begins)
+      ap (then_there left (λ c. body_value_at (λ f. initial_in S f) (λ u c. read u true c) fs inside c)) (marked p nullable inside b begins)
       ∙ rw has (ap (then_fields (λ f. initial_in S f) (λ u c. read u true c) fs) body
       ∙ ap (then_rec (drop (z - 4) (after_word aw))) all)
 
   union_stops : (nullable inside : Bool) (fs : List Field) (base : Base) (b : List ℕ) (s : ℤ) → form_of S base ≡ form.union fs → AreBytes b
-      → UnionStop left nullable fs PartStops b inside s
-      → union_at left nullable (λ u c. read u inside c) fs inside b ≡ Err s
+      → UnionStop p left nullable fs PartStops b inside s
+      → union_at p left nullable (λ u c. read u inside c) fs inside b ≡ Err s
   unfolding union_at tagged_at tag_at
   union_stops nullable inside fs base b s is bytes (UnionStop.at_marker h) =
-      ap (then_there left (λ c. tagged_at (λ u c. read u inside c) fs inside c)) (marker_stops nullable inside b s h)
+      ap (then_there left (λ c. tagged_at (λ u c. read u inside c) fs inside c)) (marker_stops p nullable inside b s h)
   union_stops nullable inside fs base b s is bytes (UnionStop.too_deep begins no_left st) =
-      ap (then_there left (λ c. tagged_at (λ u c. read u inside c) fs inside c)) (marked nullable inside b begins) ∙ rw (no_left, st) refl
+      ap (then_there left (λ c. tagged_at (λ u c. read u inside c) fs inside c)) (marked p nullable inside b begins) ∙ rw (no_left, st) refl
   union_stops nullable inside fs base b s is bytes (UnionStop.at_tag begins has (TagStop.short lt)) =
-      ap (then_there left (λ c. tagged_at (λ u c. read u inside c) fs inside c)) (marked nullable inside b begins)
+      ap (then_there left (λ c. tagged_at (λ u c. read u inside c) fs inside c)) (marked p nullable inside b begins)
       ∙ rw has (ap (λ (w : Read ℤ). then_alternative (λ u c. read u inside c) fs (then_tag w)) (short_word inside (after_word b) lt))
   union_stops nullable inside fs base b s is bytes (UnionStop.at_tag begins has (TagStop.no_tag le h)) =
-      ap (then_there left (λ c. tagged_at (λ u c. read u inside c) fs inside c)) (marked nullable inside b begins)
+      ap (then_there left (λ c. tagged_at (λ u c. read u inside c) fs inside c)) (marked p nullable inside b begins)
       ∙ rw has (ap (λ (w : Read ℤ). then_alternative (λ u c. read u inside c) fs (then_tag w)) (whole_word inside (after_word b) le)
       ∙ no_field (first_word (after_word b)) h)
     where
@@ -226,57 +221,57 @@ module _ (S : List Decl) (sound : IsWhole S) (left : Bool) (PartReads : Readings
   union_stops nullable inside fs base b s is bytes (UnionStop.at_field begins has k tag f at st) =
       let tail = after_word (after_word b) in
       let stopped : read f.ty inside tail ≡ Err s = stop f.ty inside tail s (field_type S fs k f (sound.tags base fs is).0 at) (AreBytes-drop 4 (after_word b) (AreBytes-drop 4 b bytes)) st in
-      ap (then_there left (λ c. tagged_at (λ u c. read u inside c) fs inside c)) (marked nullable inside b begins)
+      ap (then_there left (λ c. tagged_at (λ u c. read u inside c) fs inside c)) (marked p nullable inside b begins)
       ∙ rw has (ap (λ (w : Read ℤ). then_alternative (λ u c. read u inside c) fs (then_tag w)) (whole_word inside (after_word b) tag.0)
       ∙ rw (tag.1, at, stopped) refl)
 
   sequence_stops : (t : AidlType) (inside : Bool) (b : List ℕ) (s : ℤ) → is_type S (elem S t) ≡ true → AreBytes b
-      → SequenceStop left (is_raw S t) t.nullable (PartReads (elem S t)) (λ rest s. PartStops (elem S t) rest inside s) b inside s
-      → array_at left (is_raw S t) t.nullable (λ c. read (elem S t) inside c) inside b ≡ Err s
+      → SequenceStop p left (is_raw S t) t.nullable (PartReads (elem S t)) (λ rest s. PartStops (elem S t) rest inside s) b inside s
+      → array_at p left (is_raw S t) t.nullable (λ c. read (elem S t) inside c) inside b ≡ Err s
   unfolding array_at elements_at
   sequence_stops t inside b s type bytes (SequenceStop.at_count h) =
-      ap (then_elements left (is_raw S t) (λ c. read (elem S t) inside c) inside) (count_stops t.nullable inside b s h)
+      ap (then_elements p left (is_raw S t) (λ c. read (elem S t) inside c) inside) (count_stops t.nullable inside b s h)
   sequence_stops t inside b s type bytes (SequenceStop.too_deep n begins no_left st) =
-      ap (then_elements left (is_raw S t) (λ c. read (elem S t) inside c) inside) (counted t.nullable inside b n begins) ∙ rw (no_left, st) refl
+      ap (then_elements p left (is_raw S t) (λ c. read (elem S t) inside c) inside) (counted t.nullable inside b n begins) ∙ rw (no_left, st) refl
   sequence_stops t inside b s type bytes (SequenceStop.at_bytes n begins has raw h) =
-      ap (then_elements left (is_raw S t) (λ c. read (elem S t) inside c) inside) (counted t.nullable inside b n begins)
-      ∙ rw (has, raw) (ap (then_seq) (raw_stops n inside (after_word b) s h))
+      ap (then_elements p left (is_raw S t) (λ c. read (elem S t) inside c) inside) (counted t.nullable inside b n begins)
+      ∙ rw (has, raw) (ap (then_seq) (raw_stops p n inside (after_word b) s h))
   sequence_stops t inside b s type bytes (SequenceStop.at_elements n begins has raw (ElementsStop.at_element vs lt front rest split each st)) =
       let aw = after_word b in
       let stopped : read (elem S t) inside rest ≡ Err s = stop (elem S t) inside rest s type (bytes_after front rest aw split (AreBytes-drop 4 b bytes)) st in
-      ap (then_elements left (is_raw S t) (λ c. read (elem S t) inside c) inside) (counted t.nullable inside b n begins)
+      ap (then_elements p left (is_raw S t) (λ c. read (elem S t) inside c) inside) (counted t.nullable inside b n begins)
       ∙ rw (has, raw) (ap (then_seq)
       (items_stop (PartReads (elem S t)) (λ c s. read (elem S t) inside c ≡ Err s) (λ c. read (elem S t) inside c) (λ c q v h. law (elem S t) inside c q v type h) (λ c s h. h) vs n aw front rest s lt split each stopped))
 
   one_stops : (nullable inside : Bool) (base : Base) (f : Form) (b : List ℕ) (s : ℤ) → form_of S base ≡ f → AreBytes b
-      → OneStop left PartReads PartStops nullable f b inside s → one_at left (λ f. initial_in S f) read nullable f inside b ≡ Err s
-  unfolding long_value_at
-  one_stops nullable inside base form.truth b s is bytes h = scalar_stops form.truth inside b s h
-  one_stops nullable inside base form.byte b s is bytes h = scalar_stops form.byte inside b s h
-  one_stops nullable inside base form.char b s is bytes h = scalar_stops form.char inside b s h
-  one_stops nullable inside base form.int b s is bytes h = scalar_stops form.int inside b s h
+      → OneStop p left PartReads PartStops nullable f b inside s → one_at p left (λ f. initial_in S f) read nullable f inside b ≡ Err s
+  one_stops nullable inside base form.truth b s is bytes h = ap (read_as truth) (word_stops (λ w. is_truth_word p w) truth_of inside b s h)
+  one_stops nullable inside base form.byte b s is bytes h = ap (read_as number) (word_stops (λ w. is_byte_word p w) byte_of inside b s h)
+  one_stops nullable inside base form.char b s is bytes h = ap (read_as char_data) (word_stops (λ w. is_char_word p w) char_of inside b s h)
+  one_stops nullable inside base form.int b s is bytes (WordStop.short lt) = ap (read_as number) (short_word inside b lt)
+  one_stops nullable inside base form.int b s is bytes (WordStop.not_permitted le wrong) = absurd (true≢false wrong)
   one_stops nullable inside base form.long b s is bytes (LongStop.short lt) = let e : nat_lt (length b) 8 ≡ true = grind (arith, nat_tests) in rw e refl
-  one_stops nullable inside base form.text b s is bytes h = text_stops nullable inside b s bytes h
+  one_stops nullable inside base form.text b s is bytes h = text_stops p nullable inside b s bytes h
   one_stops nullable inside base (form.parcelable fs) b s is bytes h = record_stops nullable inside fs base b s is bytes h
   one_stops nullable inside base (form.union fs) b s is bytes h = union_stops nullable inside fs base b s is bytes h
   one_stops nullable inside base form.nothing b s is bytes h = elim h [ ]
 
   by_stops : (t : AidlType) (inside : Bool) (b : List ℕ) (s : ℤ) (single : Bool) → is_one t.shape ≡ single → is_type S t ≡ true → AreBytes b
-      → StopBy S left PartReads PartStops t b inside s → read_by S left read t inside b ≡ Err s
+      → StopBy p S left PartReads PartStops t b inside s → read_by p S left read t inside b ≡ Err s
   by_stops t inside b s true is type bytes h =
-      let one : OneStop left PartReads PartStops t.nullable (form_of S t.base) b inside s = rw is at h in
+      let one : OneStop p left PartReads PartStops t.nullable (form_of S t.base) b inside s = rw is at h in
       rw is (one_stops t.nullable inside t.base (form_of S t.base) b s refl bytes one)
   by_stops t inside b s false is type bytes h =
-      let many : SequenceStop left (is_raw S t) t.nullable (PartReads (elem S t)) (λ rest s. PartStops (elem S t) rest inside s) b inside s = rw is at h in
+      let many : SequenceStop p left (is_raw S t) t.nullable (PartReads (elem S t)) (λ rest s. PartStops (elem S t) rest inside s) b inside s = rw is at h in
       let elem_is = elem_is_type S t type in
       rw is (sequence_stops t inside b s elem_is bytes many)
 
 -- The status of a stop is what reading answers: so there is one, and no front is a reading.
-pub stopped : (S : List Decl) → IsWhole S → (d : ℕ) (t : AidlType) (inside : Bool) (b : List ℕ) (s : ℤ) → is_type S t ≡ true → AreBytes b
-    → Stop S d t b inside s → read_of S d t inside b ≡ Err s
+pub stopped : (p : Profile) (S : List Decl) → IsWhole S → (d : ℕ) (t : AidlType) (inside : Bool) (b : List ℕ) (s : ℤ) → is_type S t ≡ true → AreBytes b
+    → Stop p S d t b inside s → read_of p S d t inside b ≡ Err s
 unfolding Stop read_of
-stopped S sound zero t inside b s type bytes h =
-    by_stops S sound false (λ u front v. ⊥) (λ u rest j s. ⊥) (λ u j b. Err bad_value) (λ u j c q v type h. elim h [ ]) (λ u j c s type bytes h. elim h [ ]) t inside b s (is_one t.shape) refl type bytes h
-stopped S sound (suc d) t inside b s type bytes h =
-    by_stops S sound true (λ u front v. Reads S d u front v) (λ u rest j s. Stop S d u rest j s) (λ u j b. read_of S d u j b)
-    (λ u j c q v type h. again S sound d u j v c q type h) (λ u j c s type bytes h. stopped S sound d u j c s type bytes h) t inside b s (is_one t.shape) refl type bytes h
+stopped p S sound zero t inside b s type bytes h =
+    by_stops p S sound false (λ u front v. ⊥) (λ u rest j s. ⊥) (λ u j b. Err bad_value) (λ u j c q v type h. elim h [ ]) (λ u j c s type bytes h. elim h [ ]) t inside b s (is_one t.shape) refl type bytes h
+stopped p S sound (suc d) t inside b s type bytes h =
+    by_stops p S sound true (λ u front v. Reads p S d u front v) (λ u rest j s. Stop p S d u rest j s) (λ u j b. read_of p S d u j b)
+    (λ u j c q v type h. again p S sound d u j v c q type h) (λ u j c s type bytes h. stopped p S sound d u j c s type bytes h) t inside b s (is_one t.shape) refl type bytes h

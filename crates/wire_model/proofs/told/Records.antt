@@ -6,6 +6,7 @@ use Rattle.std.proofs.lemmas.List.{take-append-drop, length-take-le}
 use Rattle.std.proofs.lemmas.Int.{ints}
 use Rattle.std.proofs.lemmas.Bool.{ltb-true, ltb-false}
 use Rattle.std.proofs.lemmas.Bool.Decides.{nat_tests}
+use Rattle.aidl_base.specs.declared.profile.Profile.{Profile}
 use Rattle.aidl_base.specs.Words.{word}
 use Rattle.aidl_schema.specs.declared.schema.Decl.{Decl}
 use Rattle.aidl_schema.specs.declared.schema.Field.{Field}
@@ -15,10 +16,10 @@ use Rattle.aidl_values.specs.Data.{Data, null, rec, Items, none, item}
 use Rattle.aidl_values.specs.HasType.{HasType, FieldsHaveType}
 use Rattle.aidl_values.specs.Sound.{AreTypes, HaveDefaults, initial_in}
 use Rattle.wire_model.specs.Stop.{Stoppings, first_word, after_word, MarkerStop, HasSize, SizeStop, FieldsStop, RecordStop, fields_bytes}
-use Rattle.wire_model.specs.Reads.{Readings, BodyReads, FieldsRead}
+use Rattle.wire_model.specs.Reads.{Readings, BodyReads, FieldsRead, IsMarker}
 use Rattle.wire_model.specs.Status.{bad_value}
 use Rattle.wire_model.specs.ReadOf.{Read, marker_at, marked_at, bytes_at, fields_at, size_of, body_at, body_value_at, record_at}
-use Rattle.wire_model.proofs.told.Words.{Told, told_then, spells_word, word_fits, MarkerReads, marker_told, begins, tail_word}
+use Rattle.wire_model.proofs.told.Words.{Told, told_then, spells_word, word_fits, MarkerReads, marker_told, marks, after_is}
 use Rattle.wire_model.proofs.told.Defaults.{initials_in, are_initial, initials_typed}
 use Rattle.wire_model.proofs.stopped.All.{after_len, a_size}
 use Rattle.wire_model.proofs.Steps.{then_inner, then_fields, then_others, with_field, then_rec}
@@ -117,57 +118,54 @@ module _ (S : List Decl) (PartReads : Readings) (PartStops : Stoppings) (read : 
       one_told (Err s) h ih = FieldsStop.at_field 0 f refl none [] (x ∷ b) refl refl (λ k. absurd cc) h
 
 -- what is read at a record's place; `left` says that a level is left
-abbrev pub RecordReads : Bool → List Decl → Readings → Bool → List Field → List ℕ → Data → Type 0
-RecordReads left S PartReads nullable fs front null = (nullable ≡ true) × (front ≡ word (pos 0))
-RecordReads left S PartReads nullable fs front (rec vs) = (left ≡ true) × (rest : List ℕ) × (front ≡ word (pos 1) ++ rest) × BodyReads S PartReads fs rest vs × FieldsHaveType S fs vs
-RecordReads left S PartReads nullable fs front _ = ⊥
+abbrev pub RecordReads : Profile → Bool → List Decl → Readings → Bool → List Field → List ℕ → Data → Type 0
+RecordReads p left S PartReads nullable fs front null = (nullable ≡ true) × (front ≡ word (pos 0))
+RecordReads p left S PartReads nullable fs front (rec vs) = (left ≡ true) × (marker rest : List ℕ) × (front ≡ marker ++ rest) × IsMarker p marker × BodyReads S PartReads fs rest vs × FieldsHaveType S fs vs
+RecordReads p left S PartReads nullable fs front _ = ⊥
 
-module _ (left : Bool) (S : List Decl) (PartReads : Readings) (PartStops : Stoppings) (read : AidlType → Bool → List ℕ → Read Data)
+module _ (p : Profile) (left : Bool) (S : List Decl) (PartReads : Readings) (PartStops : Stoppings) (read : AidlType → Bool → List ℕ → Read Data)
     (typed : (t : AidlType) (c : List ℕ) (v : Data) → PartReads t c v → HasType S t v)
     (law : left ≡ true → (t : AidlType) (j : Bool) (c : List ℕ) → is_type S t ≡ true → AreBytes c → Told (PartReads t) (λ s. PartStops t c j s) c (read t j c))
     (nullable inside : Bool) (fs : List Field) (types : AreTypes S fs) (b : List ℕ) (bytes : AreBytes b) where
-  one : 1 < 2 ^ 31
-  one = omega arith
+  abbrev Outcome : Read Data → Type 0
+  Outcome = λ x. Told (λ c v. RecordReads p left S PartReads nullable fs c v) (λ s. RecordStop p left nullable fs PartReads PartStops b inside s) b x
 
-  -- after the marker 1
-  there_told : (rest : List ℕ) (has : left ≡ true) (all : HaveDefaults S fs) → b ≡ word (pos 1) ++ rest → (y : Read (List ℕ)) → BodyTold rest inside y
-      → Told (RecordReads left S PartReads nullable fs) (λ s. RecordStop left nullable fs PartReads PartStops b inside s) b (then_fields (λ f. initial_in S f) (λ u c. read u true c) fs y)
-  there_told rest has all e (Err s) h =
-      RecordStop.at_size (begins b rest 1 one e) has (subst (λ c. SizeStop c inside s) (sym (tail_word b rest 1 one e)) h)
-  there_told rest has all e (Ok y) h =
-      by_fields (fields_at (λ f. initial_in S f) (λ u c. read u true c) fs y.0) (fields_told S PartReads PartStops (λ u c. read u true c) typed (λ t c type k. law has t true c type k) fs y.0 inner_bytes types all)
-    where
-      rest_bytes : AreBytes rest
-      rest_bytes = AreBytes-rest (word (pos 1)) rest (subst AreBytes e bytes)
+  -- after the marker
+  module _ (marker rest : List ℕ) (has : left ≡ true) (all : HaveDefaults S fs) (e : b ≡ marker ++ rest) (m : IsMarker p marker) where
+    tail : rest ≡ after_word b
+    tail = sym (after_is b marker rest e m.0)
 
-      inner_bytes : AreBytes y.0
-      inner_bytes = subst AreBytes (sym h.3) (AreBytes-take (h.0 - 4) (after_word rest) (AreBytes-drop 4 rest rest_bytes))
+    there_told : (y : Read (List ℕ)) → BodyTold rest inside y → Outcome (then_fields (λ f. initial_in S f) (λ u c. read u true c) fs y)
+    there_told (Err s) h = RecordStop.at_size (marks b marker rest e m.0 p m) has (subst (λ c. SizeStop c inside s) tail h)
+    there_told (Ok y) h =
+        by_fields (fields_at (λ f. initial_in S f) (λ u c. read u true c) fs y.0) (fields_told S PartReads PartStops (λ u c. read u true c) typed (λ t c type k. law has t true c type k) fs y.0 inner_bytes types all)
+      where
+        rest_bytes : AreBytes rest
+        rest_bytes = AreBytes-rest marker rest (subst AreBytes e bytes)
 
-      by_fields : (x : Result Items ℤ) → FieldsTold S PartReads PartStops fs y.0 x
-          → Told (RecordReads left S PartReads nullable fs) (λ s. RecordStop left nullable fs PartReads PartStops b inside s) b (then_rec y.1 x)
-      by_fields (Ok vs) k =
-          let front = word (pos (4 + length y.0)) ++ y.0 in
-          (word (pos 1) ++ front, e ∙ ap (λ c. word (pos 1) ++ c) h.4, (has, front, refl, (y.0, refl, h.5, h.6, k.0), k.1))
-      by_fields (Err s) k =
-          let tail = sym (tail_word b rest 1 one e) in
-          RecordStop.at_fields (begins b rest 1 one e) has h.0 (subst (λ c. HasSize h.0 c) tail h.1) (subst (λ c. h.0 ≤ length c) tail h.2)
-          (subst (λ c. FieldsStop fs PartReads PartStops c s) (h.3 ∙ ap (fields_bytes h.0) tail) k)
+        inner_bytes : AreBytes y.0
+        inner_bytes = subst AreBytes (sym h.3) (AreBytes-take (h.0 - 4) (after_word rest) (AreBytes-drop 4 rest rest_bytes))
 
-  pub record_told : HaveDefaults S fs
-      → Told (RecordReads left S PartReads nullable fs) (λ s. RecordStop left nullable fs PartReads PartStops b inside s) b (record_at left nullable (λ f. initial_in S f) (λ u c. read u true c) fs inside b)
+        by_fields : (x : Result Items ℤ) → FieldsTold S PartReads PartStops fs y.0 x → Outcome (then_rec y.1 x)
+        by_fields (Ok vs) k =
+            let front = word (pos (4 + length y.0)) ++ y.0 in
+            let split : b ≡ (marker ++ front) ++ y.1 = e ∙ ap (λ c. marker ++ c) h.4 ∙ sym (append_assoc marker front y.1) in
+            (marker ++ front, split, (has, marker, front, refl, m, (y.0, refl, h.5, h.6, k.0), k.1))
+        by_fields (Err s) k =
+            RecordStop.at_fields (marks b marker rest e m.0 p m) has h.0 (subst (λ c. HasSize h.0 c) tail h.1) (subst (λ c. h.0 ≤ length c) tail h.2)
+            (subst (λ c. FieldsStop fs PartReads PartStops c s) (h.3 ∙ ap (fields_bytes h.0) tail) k)
+
+  pub record_told : HaveDefaults S fs → Outcome (record_at p left nullable (λ f. initial_in S f) (λ u c. read u true c) fs inside b)
   unfolding record_at body_value_at
-  record_told all = told_then (MarkerReads nullable) (RecordReads left S PartReads nullable fs) (λ s. MarkerStop nullable b inside s) (λ s. RecordStop left nullable fs PartReads PartStops b inside s) b
-      (λ m. marked_at left (λ c. body_value_at (λ f. initial_in S f) (λ u c. read u true c) fs inside c) m.0 m.1) (marker_at nullable inside b)
-      (marker_told nullable inside b bytes (nat_lt (length b) 4) refl) (λ s h. RecordStop.at_marker h) (λ m front rest e h. by_marker m front rest e h)
+  record_told all = told_then (λ c m. MarkerReads p nullable c m) (λ c v. RecordReads p left S PartReads nullable fs c v) (λ s. MarkerStop p nullable b inside s) (λ s. RecordStop p left nullable fs PartReads PartStops b inside s) b
+      (λ m. marked_at left (λ c. body_value_at (λ f. initial_in S f) (λ u c. read u true c) fs inside c) m.0 m.1) (marker_at p nullable inside b)
+      (marker_told p nullable inside b bytes) (λ s h. RecordStop.at_marker h) (λ m front rest e h. by_marker m front rest e h)
     where
-      by_marker : (m : Bool) (front rest : List ℕ) → b ≡ front ++ rest → MarkerReads nullable front m
-          → Told (RecordReads left S PartReads nullable fs) (λ s. RecordStop left nullable fs PartReads PartStops b inside s) b (marked_at left (λ c. body_value_at (λ f. initial_in S f) (λ u c. read u true c) fs inside c) m rest)
+      by_marker : (m : Bool) (front rest : List ℕ) → b ≡ front ++ rest → MarkerReads p nullable front m
+          → Outcome (marked_at left (λ c. body_value_at (λ f. initial_in S f) (λ u c. read u true c) fs inside c) m rest)
       by_marker false front rest e h = (front, e, h)
-      by_marker true front rest e h =
-          let split : b ≡ word (pos 1) ++ rest = e ∙ ap (λ c. c ++ rest) h in
-          by_level left refl rest split (AreBytes-rest front rest (subst AreBytes e bytes))
+      by_marker true front rest e h = by_level left refl
         where
-          by_level : (l : Bool) → left ≡ l → (rest : List ℕ) → b ≡ word (pos 1) ++ rest → AreBytes rest
-              → Told (RecordReads left S PartReads nullable fs) (λ s. RecordStop left nullable fs PartReads PartStops b inside s) b (marked_at l (λ c. body_value_at (λ f. initial_in S f) (λ u c. read u true c) fs inside c) true rest)
-          by_level false has rest split rest_bytes = RecordStop.too_deep (begins b rest 1 one split) has refl
-          by_level true has rest split rest_bytes = there_told rest has all split (body_at inside rest) (body_told inside rest rest_bytes (nat_lt (length rest) 4) refl)
+          by_level : (l : Bool) → left ≡ l → Outcome (marked_at l (λ c. body_value_at (λ f. initial_in S f) (λ u c. read u true c) fs inside c) true rest)
+          by_level false has = RecordStop.too_deep (marks b front rest e h.0 p h) has refl
+          by_level true has = there_told front rest has all e h (body_at inside rest) (body_told inside rest (AreBytes-rest front rest (subst AreBytes e bytes)) (nat_lt (length rest) 4) refl)

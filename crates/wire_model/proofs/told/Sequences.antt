@@ -3,7 +3,10 @@ use Rattle.std.proofs.Common.{◌≡◌, ℕ, zero, suc, ◌+◌, ◌<◌, ◌�
 use Rattle.std.specs.Prelude.{MatchBool}
 use Rattle.std.proofs.lemmas.List.{take-append-drop, length-take-le}
 use Rattle.std.proofs.lemmas.Bool.{ltb-true, ltb-false}
-use Rattle.aidl_base.specs.Words.{word, pad, padding}
+use Rattle.aidl_base.specs.declared.profile.Profile.{Profile}
+use Rattle.aidl_base.specs.Profiles.{is_padding, IsPadded}
+use Rattle.aidl_base.specs.Words.{word, padding}
+use Rattle.aidl_base.proofs.Profiles.{padded_by, tail_padded}
 use Rattle.aidl_schema.specs.declared.schema.Decl.{Decl}
 use Rattle.aidl_schema.specs.declared.schema.AidlType.{AidlType}
 use Rattle.aidl_schema.specs.Types.{form_of, is_raw, elem}
@@ -13,11 +16,10 @@ use Rattle.aidl_values.specs.HasType.{HasType, HaveType}
 use Rattle.wire_model.specs.Spell.{raw_bytes}
 use Rattle.wire_model.specs.Status.{bad_value}
 use Rattle.wire_model.specs.Reads.{EachReads}
-use Rattle.wire_model.specs.Stop.{after_word, BlockStop, IsPadded, CountStop, ElementsStop, SequenceStop}
-use Rattle.aidl_base.specs.Readings.{all_zero}
+use Rattle.wire_model.specs.Stop.{after_word, BlockStop, CountStop, ElementsStop, SequenceStop}
 use Rattle.wire_model.specs.ReadOf.{Read, raw_items, raw_items_at, each_at, count_at, elements_at, array_at}
 use Rattle.wire_model.proofs.Forms.{raw_form}
-use Rattle.wire_model.proofs.RawForms.{padded_is, zero_padding, bytes_of_items, count_of_items, items_typed}
+use Rattle.wire_model.proofs.RawForms.{bytes_of_items, count_of_items, items_typed}
 use Rattle.wire_model.proofs.told.Words.{Told, told_then, CountReads, count_told, begins, tail_word}
 use Rattle.wire_model.proofs.Steps.{raw_items_steps, then_items, with_item, then_seq}
 use Rattle.aidl_base.proofs.Bytes.{AreBytes, AreBytes-take, AreBytes-rest}
@@ -45,55 +47,58 @@ module _ (PartReads : List ℕ → Data → Type 0) (PartStops : List ℕ → �
   items_told (suc n) b bytes = first_told n b bytes (read b) (law b bytes) (λ c p. items_told n c p)
 
 -- raw bytes with their padding
-abbrev pub RawRead : List Decl → AidlType → ℕ → List ℕ → Items → Type 0
-RawRead S t n front vs = (count vs ≡ n) × (front ≡ pad (raw_bytes vs)) × HaveType S (elem S t) vs
+abbrev pub RawRead : Profile → List Decl → AidlType → ℕ → List ℕ → Items → Type 0
+RawRead p S t n front vs = (count vs ≡ n) × IsPadded p (raw_bytes vs) front × HaveType S (elem S t) vs
 
-module _ (S : List Decl) (t : AidlType) (byte : form_of S t.base ≡ form.byte) (n : ℕ) (inside : Bool) (b : List ℕ) (bytes : AreBytes b) where
-  block_told : n + padding n ≤ length b → (zeros : Bool) → all_zero (drop n (take (n + padding n) b)) ≡ zeros
-      → Told (RawRead S t n) (λ s. BlockStop (n + padding n) (IsPadded n) b inside s) b (cond {A = Read Items} zeros (Ok (raw_items (take n (take (n + padding n) b)), drop (n + padding n) b)) (Err bad_value))
+module _ (p : Profile) (S : List Decl) (t : AidlType) (byte : form_of S t.base ≡ form.byte) (n : ℕ) (inside : Bool) (b : List ℕ) (bytes : AreBytes b) where
+  -- the item
+  abbrev block : List ℕ
+  block = take (n + padding n) b
+
+  block_told : n + padding n ≤ length b → (zeros : Bool) → is_padding p (drop n block) ≡ zeros
+      → Told (λ c vs. RawRead p S t n c vs) (λ s. BlockStop (n + padding n) (λ c. IsPadded p (take n c) c) b inside s) b (cond {A = Read Items} zeros (Ok (raw_items (take n block), drop (n + padding n) b)) (Err bad_value))
   block_told le true is =
-      let c = take (n + padding n) b in
-      let len : length c ≡ n + padding n = length-take-le (n + padding n) b le in
-      let xs = take n c in
-      let xs_bytes : AreBytes xs = AreBytes-take n c (AreBytes-take (n + padding n) b bytes) in
-      let counted : count (raw_items xs) ≡ n = count_of_items xs ∙ length-take-le n c (omega arith) in
-      let padded : c ≡ pad (raw_bytes (raw_items xs)) = padded_is n c len is ∙ ap pad (sym (bytes_of_items xs xs_bytes)) in
-      (c, sym (take-append-drop (n + padding n) b), (counted, padded, items_typed S t byte xs xs_bytes))
-  block_told le false is = BlockStop.wrong_block le (λ h. wrong (zero_padding n (take (n + padding n) b) (length-take-le (n + padding n) b le) h))
+      let len : length block ≡ n + padding n = length-take-le (n + padding n) b le in
+      let xs = take n block in
+      let xs_bytes : AreBytes xs = AreBytes-take n block (AreBytes-take (n + padding n) b bytes) in
+      let counted : count (raw_items xs) ≡ n = count_of_items xs ∙ length-take-le n block (omega arith) in
+      let padded : IsPadded p (raw_bytes (raw_items xs)) block = subst (λ c. IsPadded p c block) (sym (bytes_of_items xs xs_bytes)) (padded_by p n block len is) in
+      (block, sym (take-append-drop (n + padding n) b), (counted, padded, items_typed S t byte xs xs_bytes))
+  block_told le false is = BlockStop.wrong_block le (λ h. wrong (tail_padded p (take n block) block n (length-take-le n block (omega (arith, length-take-le (n + padding n) b le))) h))
     where
-      wrong : all_zero (drop n (take (n + padding n) b)) ≡ true → ⊥
+      wrong : is_padding p (drop n block) ≡ true → ⊥
       wrong e = let both_ways : ◌≡◌ {A = Bool} true false = sym e ∙ is in absurd (true≢false both_ways)
 
   pub raw_told : (short : Bool) → nat_lt (length b) (n + padding n) ≡ short
-      → Told (RawRead S t n) (λ s. BlockStop (n + padding n) (IsPadded n) b inside s) b (raw_items_at n inside b)
-  raw_told true is = rw (raw_items_steps n inside b, is) (BlockStop.long_block (ltb-true _ _ is))
-  raw_told false is = rw (raw_items_steps n inside b, is) (block_told (ltb-false _ _ is) (all_zero (drop n (take (n + padding n) b))) refl)
+      → Told (λ c vs. RawRead p S t n c vs) (λ s. BlockStop (n + padding n) (λ c. IsPadded p (take n c) c) b inside s) b (raw_items_at p n inside b)
+  raw_told true is = rw (raw_items_steps p n inside b, is) (BlockStop.long_block (ltb-true _ _ is))
+  raw_told false is = rw (raw_items_steps p n inside b, is) (block_told (ltb-false _ _ is) (is_padding p (drop n block)) refl)
 
 -- what is read at a sequence's place; `left` says that a level is left
-abbrev pub SequenceReads : Bool → List Decl → AidlType → (List ℕ → Data → Type 0) → List ℕ → Data → Type 0
-SequenceReads left S t PartReads front null = (t.nullable ≡ true) × (front ≡ word (negsuc 0))
-SequenceReads left S t PartReads front (seq vs) = (left ≡ true) × (count vs < 2 ^ 31) × HaveType S (elem S t) vs × (rest : List ℕ) × (front ≡ word (pos (count vs)) ++ rest)
-    × MatchBool (is_raw S t) (rest ≡ pad (raw_bytes vs)) (EachReads PartReads rest vs)
-SequenceReads left S t PartReads front _ = ⊥
+abbrev pub SequenceReads : Profile → Bool → List Decl → AidlType → (List ℕ → Data → Type 0) → List ℕ → Data → Type 0
+SequenceReads p left S t PartReads front null = (t.nullable ≡ true) × (front ≡ word (negsuc 0))
+SequenceReads p left S t PartReads front (seq vs) = (left ≡ true) × (count vs < 2 ^ 31) × HaveType S (elem S t) vs × (rest : List ℕ) × (front ≡ word (pos (count vs)) ++ rest)
+    × MatchBool (is_raw S t) (IsPadded p (raw_bytes vs) rest) (EachReads PartReads rest vs)
+SequenceReads p left S t PartReads front _ = ⊥
 
 read_types : (S : List Decl) (u : AidlType) (PartReads : List ℕ → Data → Type 0) → ((c : List ℕ) (v : Data) → PartReads c v → HasType S u v)
     → (vs : Items) (b : List ℕ) → EachReads PartReads b vs → HaveType S u vs
 read_types S u PartReads typed none b h = tt
 read_types S u PartReads typed (item v vs) b h = (typed h.0 v h.3, read_types S u PartReads typed vs h.1 h.4)
 
-module _ (left : Bool) (S : List Decl) (t : AidlType) (PartReads : List ℕ → Data → Type 0) (PartStops : List ℕ → ℤ → Type 0) (read : List ℕ → Read Data)
+module _ (p : Profile) (left : Bool) (S : List Decl) (t : AidlType) (PartReads : List ℕ → Data → Type 0) (PartStops : List ℕ → ℤ → Type 0) (read : List ℕ → Read Data)
     (typed : (c : List ℕ) (v : Data) → PartReads c v → HasType S (elem S t) v)
     (law : left ≡ true → (c : List ℕ) → AreBytes c → Told PartReads (λ s. PartStops c s) c (read c))
     (inside : Bool) (b : List ℕ) (bytes : AreBytes b) where
   abbrev Outcome : Read Data → Type 0
-  Outcome = λ x. Told (SequenceReads left S t PartReads) (λ s. SequenceStop left (is_raw S t) t.nullable PartReads PartStops b inside s) b x
+  Outcome = λ x. Told (λ c v. SequenceReads p left S t PartReads c v) (λ s. SequenceStop p left (is_raw S t) t.nullable PartReads PartStops b inside s) b x
 
   -- after the count n
   module _ (has : left ≡ true) (n : ℕ) (lt : n < 2 ^ 31) (rest : List ℕ) (e : b ≡ word (pos n) ++ rest) where
     tail : rest ≡ after_word b
     tail = sym (tail_word b rest n lt e)
 
-    raw_outcome : is_raw S t ≡ true → (y : Read Items) → Told (RawRead S t n) (λ s. BlockStop (n + padding n) (IsPadded n) rest inside s) rest y
+    raw_outcome : is_raw S t ≡ true → (y : Read Items) → Told (λ c vs. RawRead p S t n c vs) (λ s. BlockStop (n + padding n) (λ c. IsPadded p (take n c) c) rest inside s) rest y
         → Outcome (then_seq y)
     raw_outcome raw (Ok x) h = (
       word (pos n) ++ h.0,
@@ -101,7 +106,7 @@ module _ (left : Bool) (S : List Decl) (t : AidlType) (PartReads : List ℕ → 
       (has, subst (λ m. m < 2 ^ 31) (sym h.2.0) lt, h.2.2, h.0, ap (λ m. word (pos m) ++ h.0) (sym h.2.0), rw raw h.2.1),
     )
     raw_outcome raw (Err s) h =
-        SequenceStop.at_bytes n (begins b rest n lt e) has raw (subst (λ c. BlockStop (n + padding n) (IsPadded n) c inside s) tail h)
+        SequenceStop.at_bytes n (begins b rest n lt e) has raw (subst (λ c. BlockStop (n + padding n) (λ d. IsPadded p (take n d) d) c inside s) tail h)
 
     items_outcome : is_raw S t ≡ false → (y : Read Items)
         → Told (CountRead PartReads PartStops read (law has) n) (λ s. ElementsStop PartReads PartStops n rest s) rest y → Outcome (then_seq y)
@@ -113,21 +118,21 @@ module _ (left : Bool) (S : List Decl) (t : AidlType) (PartReads : List ℕ → 
     items_outcome apart (Err s) h =
         SequenceStop.at_elements n (begins b rest n lt e) has apart (subst (λ c. ElementsStop PartReads PartStops n c s) tail h)
 
-    parts_told : AreBytes rest → (raw : Bool) → is_raw S t ≡ raw → Outcome (then_seq (cond raw (raw_items_at n inside rest) (each_at read n rest)))
-    parts_told rest_bytes true is = raw_outcome is (raw_items_at n inside rest) (raw_told S t (raw_form S t is) n inside rest rest_bytes (nat_lt (length rest) (n + padding n)) refl)
+    parts_told : AreBytes rest → (raw : Bool) → is_raw S t ≡ raw → Outcome (then_seq (cond raw (raw_items_at p n inside rest) (each_at read n rest)))
+    parts_told rest_bytes true is = raw_outcome is (raw_items_at p n inside rest) (raw_told p S t (raw_form S t is) n inside rest rest_bytes (nat_lt (length rest) (n + padding n)) refl)
     parts_told rest_bytes false is = items_outcome is (each_at read n rest) (items_told PartReads PartStops read (law has) n rest rest_bytes)
 
-  pub sequence_told : Outcome (array_at left (is_raw S t) t.nullable read inside b)
+  pub sequence_told : Outcome (array_at p left (is_raw S t) t.nullable read inside b)
   unfolding array_at elements_at
-  sequence_told = told_then (CountReads t.nullable) (SequenceReads left S t PartReads) (λ s. CountStop t.nullable b inside s) (λ s. SequenceStop left (is_raw S t) t.nullable PartReads PartStops b inside s) b
-      (λ n. elements_at left (is_raw S t) read inside n.0 n.1) (count_at t.nullable inside b)
+  sequence_told = told_then (CountReads t.nullable) (λ c v. SequenceReads p left S t PartReads c v) (λ s. CountStop t.nullable b inside s) (λ s. SequenceStop p left (is_raw S t) t.nullable PartReads PartStops b inside s) b
+      (λ n. elements_at p left (is_raw S t) read inside n.0 n.1) (count_at t.nullable inside b)
       (count_told t.nullable inside b bytes (nat_lt (length b) 4) refl) (λ s h. SequenceStop.at_count h) (λ o front rest e h. by_count o front rest e h)
     where
       by_count : (o : Option ℕ) (front rest : List ℕ) → b ≡ front ++ rest → CountReads t.nullable front o
-          → Outcome (elements_at left (is_raw S t) read inside o rest)
+          → Outcome (elements_at p left (is_raw S t) read inside o rest)
       by_count None front rest e h = (front, e, h)
       by_count (Some n) front rest e h = by_level left refl (e ∙ ap (λ c. c ++ rest) h.1) (AreBytes-rest front rest (subst AreBytes e bytes))
         where
-          by_level : (l : Bool) → left ≡ l → b ≡ word (pos n) ++ rest → AreBytes rest → Outcome (elements_at l (is_raw S t) read inside (Some n) rest)
+          by_level : (l : Bool) → left ≡ l → b ≡ word (pos n) ++ rest → AreBytes rest → Outcome (elements_at p l (is_raw S t) read inside (Some n) rest)
           by_level false has split rest_bytes = SequenceStop.too_deep n (begins b rest n h.0 split) has refl
           by_level true has split rest_bytes = parts_told has n h.0 rest split rest_bytes (is_raw S t) refl

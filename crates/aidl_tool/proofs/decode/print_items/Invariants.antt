@@ -8,6 +8,6 @@ use Rattle.aidl_tool.proofs.decode.print_items.Given as goal
 -- what was printed, and then what the items that are left print, is all
 abbrev pub invariant-loop-ty : goal.invariant-loop-ty
 invariant-loop-ty l = record {
-  printed : after_text (string_bytes l.text) (items_answer l.schema.decls (drop l.ty-index l.types) l.rest) ≡ items_answer l.schema.decls l.types l.fn.bytes;
+  printed : after_text (string_bytes l.text) (items_answer l.profile l.schema.decls (drop l.ty-index l.types) l.rest) ≡ items_answer l.profile l.schema.decls l.types l.fn.bytes;
   known : list_all (is_type l.schema.decls) (drop l.ty-index l.types) ≡ true;
 }

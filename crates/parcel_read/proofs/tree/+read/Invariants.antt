@@ -44,14 +44,14 @@ decreases-tagged_from l = 8 * l.levels + 4
 -- what was read before, and what is still read, are all; and the reader stands between them
 abbrev pub invariant-items_from-loop : goal.invariant-items_from-loop
 invariant-items_from-loop l = record {
-  read : with_items (map view l.values) (each_at (λ b. read_parts l.schema.decls l.levels l.ty (is_inside l.initial.from) b) (l.count - l.counter) (left l.from))
-      ≡ each_at (λ b. read_parts l.schema.decls l.levels l.ty (is_inside l.initial.from) b) l.count (left l.initial.from);
+  read : with_items (map view l.values) (each_at (λ b. read_parts l.initial.from.profile l.schema.decls l.levels l.ty (is_inside l.initial.from) b) (l.count - l.counter) (left l.from))
+      ≡ each_at (λ b. read_parts l.initial.from.profile l.schema.decls l.levels l.ty (is_inside l.initial.from) b) l.count (left l.initial.from);
   on : MovesOn l.initial.from l.from;
 }
 
 abbrev pub invariant-fields_from-loop-field : goal.invariant-fields_from-loop-field
 invariant-fields_from-loop-field l = record {
-  read : with_front (map view l.values.items) (fields_at (λ f. initial_in l.schema.decls f) (λ u b. read_parts l.schema.decls l.levels u true b) (drop l.field-index l.fields) (left l.from))
-      ≡ fields_at (λ f. initial_in l.schema.decls f) (λ u b. read_parts l.schema.decls l.levels u true b) l.fields (left l.initial.from);
+  read : with_front (map view l.values.items) (fields_at (λ f. initial_in l.schema.decls f) (λ u b. read_parts l.initial.from.profile l.schema.decls l.levels u true b) (drop l.field-index l.fields) (left l.from))
+      ≡ fields_at (λ f. initial_in l.schema.decls f) (λ u b. read_parts l.initial.from.profile l.schema.decls l.levels u true b) l.fields (left l.initial.from);
   on : MovesOn l.initial.from l.from;
 }

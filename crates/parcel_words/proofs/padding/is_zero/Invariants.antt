@@ -1,5 +1,5 @@
 use Rattle.std.proofs.Common.{◌≡◌, drop}
-use Rattle.aidl_base.specs.Readings.{all_zero}
+use Rattle.aidl_base.specs.Profiles.{all_zero}
 use Rattle.parcel_words.proofs.padding.is_zero.Given as goal
 
 -- what is left decides

@@ -8,5 +8,5 @@ pub returns : goal.returns
 returns c =
     let S = c.args.schema.now.decls in
     let sound = sound S c.args.schema.now.valid in
-    let same = one_reading S (is_whole S sound) c.args.levels c.args.ty.now (view c.args.first.now) (view c.args.second.now) c.args.b.now c.args.c.now c.requires.front.0 c.requires.known c.requires.one c.requires.two c.requires.front.1 in
+    let same = one_reading c.args.profile S (is_whole S sound) c.args.levels c.args.ty.now (view c.args.first.now) (view c.args.second.now) c.args.b.now c.args.c.now c.requires.front.0 c.requires.known c.requires.one c.requires.two c.requires.front.1 in
     record { bytes = same.0; values = same.1 }

@@ -16,6 +16,6 @@ returns c =
     let inside = c.args.inside in
     let bytes : AreBytes b = λ i. omega (arith, c.type_inv.b i) in
     record {
-      reads = λ v rest. (read_reads S sound d t known inside b bytes v rest, λ h. ap (read_of S d t inside) h.1 ∙ reads_read S sound d t known inside h.0 rest v h.2);
-      stops = λ s. (read_stop S sound d t known inside b bytes s, stop_read S sound d t known inside b s bytes);
+      reads = λ v rest. (read_reads c.args.profile S sound d t known inside b bytes v rest, λ h. ap (read_of c.args.profile S d t inside) h.1 ∙ reads_read c.args.profile S sound d t known inside h.0 rest v h.2);
+      stops = λ s. (read_stop c.args.profile S sound d t known inside b bytes s, stop_read c.args.profile S sound d t known inside b s bytes);
     }

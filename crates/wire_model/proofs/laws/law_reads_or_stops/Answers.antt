@@ -15,8 +15,8 @@ returns c =
     let b = c.args.b.now in
     let bytes : AreBytes b = λ i. omega (arith, c.type_inv.b i) in
     record {
-      one = reads_or_stops S sound d t known c.args.inside b bytes;
-      not_both = not_both S sound d t known c.args.inside b bytes;
-      one_status = one_status S sound d t known c.args.inside b bytes c.args.first c.args.second;
-      status = stop_status S d t b c.args.inside;
+      one = reads_or_stops c.args.profile S sound d t known c.args.inside b bytes;
+      not_both = not_both c.args.profile S sound d t known c.args.inside b bytes;
+      one_status = one_status c.args.profile S sound d t known c.args.inside b bytes c.args.first c.args.second;
+      status = stop_status c.args.profile S d t b c.args.inside;
     }
