@@ -1,4 +1,4 @@
-use Rattle.std.proofs.Common.{◌≡◌, List, [], ◌∷◌, Some, None, true, false, refl, rules}
+use Rattle.std.proofs.Common.{◌≡◌, List, [], ◌∷◌, Some, None, false, refl, rules}
 use Rattle.std.specs.Str.{chars}
 use Rattle.aidl_base.specs.declared.constant.Const.{Const, Text, out-Const, the_lemmas}
 use Rattle.aidl_base.specs.declared.constant.Const.TheOpen.{Const-F}
