@@ -4,6 +4,9 @@ pub mod Counts
 pub mod Elements
 mod Examples
 mod ExamplesValid
+pub mod Halving
+pub mod Lookups
+pub mod Orders
 pub mod Sames
 pub mod Shapes
 pub mod Valids
