@@ -1,6 +1,7 @@
 pub mod formers
 pub mod Limits
 pub mod Profiles
+pub mod Names
 pub mod Ranges
 pub mod Readings
 pub mod Results

@@ -1,6 +1,12 @@
+pub mod Apart
 pub mod Chains
 pub mod Counts
+pub mod Elements
 mod Examples
+mod ExamplesValid
+pub mod Halving
+pub mod Lookups
+pub mod Orders
 pub mod Sames
 pub mod Shapes
 pub mod Valids

@@ -2,6 +2,7 @@ pub mod Back
 pub mod Fits
 pub mod Loops
 pub mod Members
+pub mod Names
 pub mod Parts
 pub mod Texts
 pub mod Whole

@@ -1,6 +1,6 @@
 -- What a JSON value calls by name (own): the fields of a parcelable or union, and the enumerators of an enum. JSON's texts
 -- are in UTF-8.
-use Rattle.std.specs.Prelude.{ℕ, Bool, not, List, [], Option, Some, None}
+use Rattle.std.specs.Prelude.{ℕ, List, [], Option, Some, None}
 use Rattle.std.specs.Str.{encode_utf8_all}
 use Rattle.aidl_base.specs.declared.name.Ident.{Ident}
 use Rattle.aidl_schema.specs.declared.schema.Decl.{Decl}
@@ -9,7 +9,7 @@ use Rattle.aidl_schema.specs.declared.schema.Field.{Field}
 use Rattle.aidl_schema.specs.declared.schema.Kind.{Kind}
 use Rattle.aidl_schema.specs.declared.schema.Kind.TheVariants.{Enum}
 use Rattle.aidl_schema.specs.declared.schema.Base.{Base}
-use Rattle.aidl_schema.specs.Same.{decl_of, is_named}
+use Rattle.aidl_schema.specs.Same.{decl_of}
 use Rattle.aidl_schema.specs.Types.{Form}
 use Rattle.aidl_schema.specs.Types as form
 
@@ -35,7 +35,3 @@ enumerators_of_decl (Some d) = enumerators_of_kind d.kind
 -- the enumerators of the enum that a base is
 abbrev pub enumerators_of : List Decl → Base → Option (List Enumerator)
 enumerators_of S b = enumerators_of_decl (decl_of S b)
-
--- boolean, byte, char, int, long or String
-abbrev pub is_built_in : Base → Bool
-is_built_in b = not (is_named b)

@@ -4,15 +4,15 @@ ghost use Rattle.aidl_values.specs.HasType.{HasType};
 ghost use Rattle.aidl_values.specs.View.{view};
 ghost use Rattle.json_values.specs.FromJson.{from_json_of};
 ghost use Rattle.json_values.specs.Json.{json_of};
-ghost use Rattle.json_values.specs.Named.{is_built_in};
 
-use aidl_schema::{AidlType, Schema};
+use aidl_schema::{AidlType, Schema, law_valid};
 use aidl_values::Value;
 
-/// What a value is written as reads as the value, where the base of its type is built in.
+/// What a value of at most 64 levels is written as reads as the value.
 pub fn law_json_reads_back(schema: &Schema, ty: &AidlType, value: &Value)
-    requires built_in { is_built_in ty.now.base ≡ true }
     requires typed { HasType schema.now.decls ty.now (view value.now) }
     requires deep { depth_of (view value.now) ≤ 64 }
     ensures { from_json_of schema.now.decls 64 ty.now (json_of schema.now.decls ty.now (view value.now)) ≡ Ok (view value.now) }
-{}
+{
+    law_valid(schema);
+}

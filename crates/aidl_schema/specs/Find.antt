@@ -1,0 +1,25 @@
+-- Looking up declarations by their names, and methods by their transaction codes (own).
+use Rattle.std.specs.Prelude.{ℕ, ◌+◌, ◌==◌, List, [], Option, Some, None, slice_get}
+use Rattle.std.specs.List.{position}
+use Rattle.std.specs.Str.{encode_utf8_all}
+use Rattle.aidl_schema.specs.declared.schema.Decl.{Decl}
+use Rattle.aidl_schema.specs.declared.schema.Method.{Method}
+use Rattle.aidl_schema.specs.Names.{methods_of, name_of}
+use Rattle.aidl_schema.specs.Same.{same_text}
+
+-- the number of the declaration of this canonical name, which is in UTF-8
+abbrev pub number_of_name : List Decl → List ℕ → Option ℕ
+number_of_name S name = position (λ d. same_text (encode_utf8_all (name_of d)) name) S
+
+-- the methods of the interface that a declaration is; none of what is no interface
+abbrev pub methods_of_decl : Option Decl → List Method
+methods_of_decl None = []
+methods_of_decl (Some d) = methods_of d.kind
+
+-- the methods of the interface of this number
+abbrev pub methods_at : List Decl → ℕ → List Method
+methods_at S n = methods_of_decl (slice_get S n)
+
+-- the position of the method whose transaction code, which is 1 plus its id, is this one
+abbrev pub position_of_code : List Method → ℕ → Option ℕ
+position_of_code ms code = position (λ m. m.id + 1 == code) ms
