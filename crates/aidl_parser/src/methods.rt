@@ -158,23 +158,11 @@ impl Part for Token {
         tokens: &'a [Token],
     ) -> Result<(Self, &'a [Token]), ParseFault> {
         match tokens {
-            [t, rest @ ..] => {
-                if is_number(&t.kind) {
-                    Ok((clone_token(alloc, t)?, rest))
-                } else {
-                    Err(ParseFault::Syntax)
-                }
-            }
+            [t, rest @ ..] => match &t.kind {
+                TokenKind::Number { .. } => Ok((clone_token(alloc, t)?, rest)),
+                _ => Err(ParseFault::Syntax),
+            },
             [] => Err(ParseFault::Syntax),
         }
-    }
-}
-
-fn is_number(kind: &TokenKind) -> bool
-    ensures { result ≡ read.is_number kind.now }
-{
-    match kind {
-        TokenKind::Number { .. } => true,
-        _ => false,
     }
 }
