@@ -35,11 +35,12 @@ pub fn front_of(alloc: Global, bytes: &[u8]) -> Result<Front, OutOfMemory>
 // One arm for each form, by the first byte.
 #[tactic(auto, unfolding(crate::specs::steps::Reading::front_of))]
 fn any_front(alloc: Global, bytes: &[u8]) -> Result<Front, OutOfMemory>
-    requires { length bytes.now < 2 ^ 32 }
+    requires some { 0 < length bytes.now }
+    requires few { length bytes.now < 2 ^ 32 }
     ensures { IfOk result (λ front. front ≡ read.front_of bytes.now) }
 {
     match bytes {
-        [] => Ok(Front::Fault(FaultKind::BadByte)),
+        [] => unreachable!(),
         [b, rest @ ..] => {
             if is_blank(*b) {
                 Ok(Front::Gap(1))

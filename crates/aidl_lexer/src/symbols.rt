@@ -1,4 +1,4 @@
-ghost use Rattle.std.specs.Prelude.{◌≡◌};
+ghost use Rattle.std.specs.Prelude.{◌≡◌, ◌<◌, length};
 ghost use Rattle.aidl_syntax.specs.Tables as tables;
 ghost use Rattle.aidl_lexer.specs.steps.Reading as read;
 
@@ -9,12 +9,13 @@ use aidl_syntax::{Symbol, TokenKind};
 // The symbol at the front.
 #[tactic(auto, unfolding(crate::specs::steps::Reading::symbol_at))]
 pub fn symbol_at(bytes: &[u8]) -> Front
+    requires { 0 < length bytes.now }
     ensures { result ≡ read.symbol_at bytes.now }
 {
     match bytes {
         [a, b, ..] => by_double(double(*a, *b), *a),
         [a] => by_single(single(*a)),
-        [] => Front::Fault(FaultKind::BadByte),
+        [] => unreachable!(),
     }
 }
 

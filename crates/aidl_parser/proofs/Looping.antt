@@ -61,10 +61,6 @@ unfolding expr
 expr_step zero least ts lt = absurd (omega arith)
 expr_step (suc n) least ts lt = let e : suc n - 1 ≡ n = omega arith in rw e refl
 
-pub expr_none : (least : ℕ) (ts : List Token) → expr 0 least ts ≡ None
-unfolding expr
-expr_none least ts = refl
-
 -- the rounds of climbing
 pub climb_end : (rec : ℕ → List Token → Read Expr) (n least : ℕ) (a : Expr) (all : List Token) → all ≡ [] → climb rec n least a all ≡ Some (a, all)
 unfolding climb
@@ -75,12 +71,6 @@ pub climb_stop : (rec : ℕ → List Token → Read Expr) (n least : ℕ) (a : E
 unfolding climb
 climb_stop rec zero least a t all ts whole e = rw (whole, e) refl
 climb_stop rec (suc n) least a t all ts whole e = rw (whole, e) refl
-
-pub climb_spent : (rec : ℕ → List Token → Read Expr) (n least : ℕ) (a : Expr) (t : Token) (all ts : List Token) → all ≡ t ∷ ts → goes_on least (level_by (mark_of t.kind)) ≡ true
-    → n ≡ 0 → climb rec n least a all ≡ None
-unfolding climb
-climb_spent rec zero least a t all ts whole e z = rw (whole, e) refl
-climb_spent rec (suc n) least a t all ts whole e z = absurd (omega arith)
 
 pub climb_none : (rec : ℕ → List Token → Read Expr) (n least : ℕ) (a : Expr) (t : Token) (all ts : List Token) → all ≡ t ∷ ts → goes_on least (level_by (mark_of t.kind)) ≡ true
     → rec (level_by (mark_of t.kind) + 1) ts ≡ None → climb rec n least a all ≡ None

@@ -17,19 +17,10 @@ decl_step (suc n) o annots ts lt =
     let e : suc n - 1 ≡ n = omega arith in
     subst (λ p. decl_at (suc n) o annots ts ≡ alter (declared o annots) (body_by (λ inside us. members_by (λ vs. member_with (λ q annotations ws. decl_at p q annotations ws) (suc n) inside vs) (suc n) us) (suc n)) ts) (sym e) refl
 
-pub decl_none : (o : ℕ) (annots : List Annot) (ts : List Token) → decl_at 0 o annots ts ≡ None
-unfolding decl_at
-decl_none o annots ts = refl
-
 pub stops : (n k : ℕ) (inside : Bool) (f : Members → Members) (ts : List Token) → begins mark.CloseBrace ts ≡ true → with_members f (members_at n k inside ts) ≡ Some (f none, ts)
 unfolding members_at
 stops n zero inside f ts e = rw e refl
 stops n (suc k) inside f ts e = rw e refl
-
-pub spent : (n k : ℕ) (inside : Bool) (f : Members → Members) (ts : List Token) → begins mark.CloseBrace ts ≡ false → k ≡ 0 → with_members f (members_at n k inside ts) ≡ None
-unfolding members_at
-spent n zero inside f ts e z = rw e refl
-spent n (suc k) inside f ts e z = absurd (omega arith)
 
 pub fails : (n k : ℕ) (inside : Bool) (f : Members → Members) (ts : List Token) → begins mark.CloseBrace ts ≡ false → member_at n inside ts ≡ None → with_members f (members_at n k inside ts) ≡ None
 unfolding members_at

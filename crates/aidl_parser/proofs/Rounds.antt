@@ -9,10 +9,6 @@ pub stops : {A : Type 0} (goes : List Token → Bool) (r : List Token → Read A
 stops goes r zero items ts e = rw e (ap (λ xs. Some (xs, ts)) (append-nil items))
 stops goes r (suc n) items ts e = rw e (ap (λ xs. Some (xs, ts)) (append-nil items))
 
-pub spent : {A : Type 0} (goes : List Token → Bool) (r : List Token → Read A) (n : ℕ) (items : List A) (ts : List Token) → goes ts ≡ true → n ≡ 0 → with_items items (many n goes r ts) ≡ None
-spent goes r zero items ts e z = rw e refl
-spent goes r (suc n) items ts e z = absurd (omega arith)
-
 pub fails : {A : Type 0} (goes : List Token → Bool) (r : List Token → Read A) (n : ℕ) (items : List A) (ts : List Token) → goes ts ≡ true → r ts ≡ None → with_items items (many n goes r ts) ≡ None
 fails goes r zero items ts e h = rw e refl
 fails goes r (suc n) items ts e h = rw e (ap (λ z. with_items items (z >>= more_at (many n goes r))) h)

@@ -1,4 +1,5 @@
 pub mod Reading
+pub mod Levels
 pub mod Parts
 pub mod Types
 pub mod Inits

@@ -1,4 +1,4 @@
-ghost use Rattle.std.specs.Prelude.{◌≡◌, map, [], ◌∷◌};
+ghost use Rattle.std.specs.Prelude.{◌≡◌, map, [], ◌∷◌, length, IfOk, ◌<◌, ◌≤◌};
 ghost use Rattle.aidl_syntax.specs.declared.token.Symbol.TheVariants as mark;
 ghost use Rattle.aidl_syntax.specs.Trees.{Param, Annot, param_of, annot_of, map_option};
 ghost use Rattle.aidl_syntax.specs.Productions as form;
@@ -23,7 +23,9 @@ pub fn annots<'a>(
     fuel: usize,
     tokens: &'a [Token],
 ) -> Result<(Row<AnnotTree>, &'a [Token]), ParseFault>
-    ensures { Gives (λ x. (map annot_of x.0, x.1.now)) result (read.annots_at fuel tokens.entry.now) }
+    requires { length tokens.now < fuel }
+    ensures gives { Gives (λ x. (map annot_of x.0, x.1.now)) result (read.annots_at fuel tokens.entry.now) }
+    ensures left { IfOk result (λ x. length x.1.now ≤ length tokens.entry.now) }
 {
     many(alloc, fuel, Repeat::Annotations, Row::new(alloc), tokens)
 }
@@ -73,7 +75,9 @@ fn maybe_params<'a>(
     fuel: usize,
     tokens: &'a [Token],
 ) -> Result<(Option<Row<ParamTree>>, &'a [Token]), ParseFault>
-    ensures { Gives (λ x. (map_option (map param_of) x.0, x.1.now)) result (part.maybe (part.begins mark.OpenParen) (read.params_at fuel) tokens.entry.now) }
+    requires { length tokens.now < fuel }
+    ensures gives { Gives (λ x. (map_option (map param_of) x.0, x.1.now)) result (part.maybe (part.begins mark.OpenParen) (read.params_at fuel) tokens.entry.now) }
+    ensures left { IfOk result (λ x. length x.1.now ≤ length tokens.entry.now) }
 {
     if begins(Symbol::OpenParen, tokens) {
         let (params, rest) = in_parens(alloc, fuel, tokens)?;
@@ -115,7 +119,8 @@ fn maybe_named<'a>(
     alloc: Global,
     tokens: &'a [Token],
 ) -> Result<(Option<NameTree>, &'a [Token]), ParseFault>
-    ensures { Gives (λ x. (x.0, x.1.now)) result (part.maybe read.begins_named (part.upto ident_at mark.Equal) tokens.entry.now) }
+    ensures gives { Gives (λ x. (x.0, x.1.now)) result (part.maybe read.begins_named (part.upto ident_at mark.Equal) tokens.entry.now) }
+    ensures left { IfOk result (λ x. length x.1.now ≤ length tokens.entry.now) }
 {
     if begins_named(tokens) {
         let (name, rest) = ident(alloc, tokens)?;

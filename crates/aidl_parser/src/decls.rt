@@ -1,4 +1,4 @@
-ghost use Rattle.std.specs.Prelude.{◌≡◌, ◌+◌, ◌-◌, ◌<◌, map, Some};
+ghost use Rattle.std.specs.Prelude.{◌≡◌, ◌+◌, ◌-◌, ◌<◌, map, Some, length, IfOk, ◌≤◌};
 ghost use Rattle.aidl_syntax.specs.declared.token.Symbol.TheVariants as mark;
 ghost use Rattle.aidl_base.specs.declared.reserved.Reserved.TheVariants as word;
 ghost use Rattle.aidl_syntax.specs.Trees.{annots_of, enumerator_of, members_of, member_of, body_of, decl_of};
@@ -24,7 +24,7 @@ use std::alloc::Global;
 
 // A declaration, behind its annotations.
 #[cycle(decl)]
-#[tactic(auto, using(crate::proofs::MemberRounds::decl_step, crate::proofs::MemberRounds::decl_none))]
+#[tactic(auto, using(crate::proofs::MemberRounds::decl_step))]
 pub fn decl<'a>(
     alloc: Global,
     fuel: usize,
@@ -32,11 +32,10 @@ pub fn decl<'a>(
     annots: Row<AnnotTree>,
     tokens: &'a [Token],
 ) -> Result<(DeclTree, &'a [Token]), ParseFault>
-    ensures { Gives (λ x. (decl_of x.0, x.1.now)) result (read.decl_at fuel offset (annots_of annots) tokens.entry.now) }
+    requires { length tokens.now < fuel }
+    ensures gives { Gives (λ x. (decl_of x.0, x.1.now)) result (read.decl_at fuel offset (annots_of annots) tokens.entry.now) }
+    ensures left { IfOk result (λ x. length x.1.now < length tokens.entry.now) }
 {
-    if fuel == 0 {
-        return Err(ParseFault::Syntax);
-    }
     decl_by(alloc, fuel, offset, annots, tokens)
 }
 
@@ -48,8 +47,9 @@ fn decl_by<'a>(
     annots: Row<AnnotTree>,
     tokens: &'a [Token],
 ) -> Result<(DeclTree, &'a [Token]), ParseFault>
-    requires { 0 < fuel }
-    ensures { Gives (λ x. (decl_of x.0, x.1.now)) result (part.alter (read.declared offset (annots_of annots)) (read.body_by (λ inside us. read.members_at fuel fuel inside us) fuel) tokens.entry.now) }
+    requires { length tokens.now < fuel }
+    ensures gives { Gives (λ x. (decl_of x.0, x.1.now)) result (part.alter (read.declared offset (annots_of annots)) (read.body_by (λ inside us. read.members_at fuel fuel inside us) fuel) tokens.entry.now) }
+    ensures left { IfOk result (λ x. length x.1.now < length tokens.entry.now) }
 {
     let ((name, body), rest) = body(alloc, fuel, tokens)?;
     Ok((
@@ -71,8 +71,9 @@ fn body<'a>(
     fuel: usize,
     tokens: &'a [Token],
 ) -> Result<((NameTree, BodyTree), &'a [Token]), ParseFault>
-    requires { 0 < fuel }
-    ensures { Gives (λ x. ((x.0.0, body_of x.0.1), x.1.now)) result (read.body_by (λ inside us. read.members_at fuel fuel inside us) fuel tokens.entry.now) }
+    requires { length tokens.now < fuel }
+    ensures gives { Gives (λ x. ((x.0.0, body_of x.0.1), x.1.now)) result (read.body_by (λ inside us. read.members_at fuel fuel inside us) fuel tokens.entry.now) }
+    ensures left { IfOk result (λ x. length x.1.now < length tokens.entry.now) }
 {
     if begins_word(Reserved::Parcelable, tokens) {
         let ((name, members), rest) = braced(alloc, fuel, Reserved::Parcelable, false, tokens)?;
@@ -100,8 +101,9 @@ fn braced<'a>(
     inside: bool,
     tokens: &'a [Token],
 ) -> Result<((NameTree, Row<MemberTree>), &'a [Token]), ParseFault>
-    requires { 0 < fuel }
-    ensures { Gives (λ x. ((x.0.0, members_of x.0.1), x.1.now)) result (read.braced_at (λ inner us. read.members_at fuel fuel inner us) word inside tokens.entry.now) }
+    requires { length tokens.now < fuel }
+    ensures gives { Gives (λ x. ((x.0.0, members_of x.0.1), x.1.now)) result (read.braced_at (λ inner us. read.members_at fuel fuel inner us) word inside tokens.entry.now) }
+    ensures left { IfOk result (λ x. length x.1.now < length tokens.entry.now) }
 {
     let (name, rest) = head(alloc, word, tokens)?;
     let (items, rest) = members(alloc, fuel, inside, rest)?;
@@ -117,16 +119,14 @@ fn members<'a>(
     inside: bool,
     tokens: &'a [Token],
 ) -> Result<(Row<MemberTree>, &'a [Token]), ParseFault>
-    requires { 0 < fuel }
-    ensures { Gives (λ x. (members_of x.0, x.1.now)) result (read.members_at fuel fuel inside tokens.entry.now) }
+    requires { length tokens.now + 1 < fuel }
+    ensures gives { Gives (λ x. (members_of x.0, x.1.now)) result (read.members_at fuel fuel inside tokens.entry.now) }
+    ensures left { IfOk result (λ x. length x.1.now ≤ length tokens.entry.now) }
 {
     let mut all = Row::new(alloc);
     let mut rest = tokens;
     let mut rounds = fuel;
     'rounds: while !begins(Symbol::CloseBrace, rest) {
-        if rounds == 0 {
-            return Err(ParseFault::Syntax);
-        }
         rounds -= 1;
         let (item, next) = member(alloc, fuel, inside, rest)?;
         all.push(item)?;
@@ -143,8 +143,9 @@ fn member<'a>(
     inside: bool,
     tokens: &'a [Token],
 ) -> Result<(MemberTree, &'a [Token]), ParseFault>
-    requires { 0 < fuel }
-    ensures { Gives (λ x. (member_of x.0, x.1.now)) result (read.member_at fuel inside tokens.entry.now) }
+    requires { length tokens.now + 1 < fuel }
+    ensures gives { Gives (λ x. (member_of x.0, x.1.now)) result (read.member_at fuel inside tokens.entry.now) }
+    ensures left { IfOk result (λ x. length x.1.now < length tokens.entry.now) }
 {
     let (annots, rest) = annots(alloc, fuel, tokens)?;
     member_by(alloc, fuel, inside, first(tokens), annots, rest)
@@ -161,8 +162,9 @@ fn member_by<'a>(
     annots: Row<AnnotTree>,
     tokens: &'a [Token],
 ) -> Result<(MemberTree, &'a [Token]), ParseFault>
-    requires { 0 < fuel }
-    ensures { Gives (λ x. (member_of x.0, x.1.now)) result (read.member_by (λ p annotations ws. read.decl_at (fuel - 1) p annotations ws) fuel inside offset (annots_of annots) tokens.entry.now) }
+    requires { length tokens.now + 1 < fuel }
+    ensures gives { Gives (λ x. (member_of x.0, x.1.now)) result (read.member_by (λ p annotations ws. read.decl_at (fuel - 1) p annotations ws) fuel inside offset (annots_of annots) tokens.entry.now) }
+    ensures left { IfOk result (λ x. length x.1.now < length tokens.entry.now) }
 {
     if begins_word(Reserved::Const, tokens) {
         constant(alloc, fuel, offset, annots, tokens)
@@ -183,7 +185,8 @@ fn head<'a>(
     word: Reserved,
     tokens: &'a [Token],
 ) -> Result<(NameTree, &'a [Token]), ParseFault>
-    ensures { Gives (λ x. (x.0, x.1.now)) result (read.head_at word tokens.entry.now) }
+    ensures gives { Gives (λ x. (x.0, x.1.now)) result (read.head_at word tokens.entry.now) }
+    ensures left { IfOk result (λ x. length x.1.now < length tokens.entry.now) }
 {
     let (_word, rest) = worded(word, tokens)?;
     let (name, rest) = ident(alloc, rest)?;
@@ -198,7 +201,9 @@ fn enum_body<'a>(
     fuel: usize,
     tokens: &'a [Token],
 ) -> Result<((NameTree, Row<EnumeratorTree>), &'a [Token]), ParseFault>
-    ensures { Gives (λ x. ((x.0.0, map enumerator_of x.0.1), x.1.now)) result (read.enum_at fuel tokens.entry.now) }
+    requires { length tokens.now < fuel }
+    ensures gives { Gives (λ x. ((x.0.0, map enumerator_of x.0.1), x.1.now)) result (read.enum_at fuel tokens.entry.now) }
+    ensures left { IfOk result (λ x. length x.1.now < length tokens.entry.now) }
 {
     let (name, rest) = head(alloc, Reserved::Enum, tokens)?;
     let (items, rest) = trailing(alloc, fuel, rest)?;

@@ -1,31 +1,32 @@
-ghost use Rattle.std.specs.Prelude.{◌≡◌, IfErr, ◌+◌, ◌-◌, ◌≤◌, ◌<◌, IfOk, MatchOption, false};
+ghost use Rattle.std.specs.Prelude.{◌≡◌, IfErr, ◌+◌, ◌-◌, ◌≤◌, ◌<◌, IfOk, MatchOption, false, length};
 ghost use Rattle.aidl_syntax.specs.Trees.{expr_of};
 ghost use Rattle.aidl_syntax.specs.Trees.Expr.{unary as unary_tree, binary as binary_tree};
 ghost use Rattle.aidl_syntax.specs.Trees as shown;
 ghost use Rattle.aidl_syntax.specs.Productions as form;
 ghost use Rattle.aidl_parser.specs.steps.Reading as read;
+ghost use Rattle.aidl_parser.specs.steps.Levels.{rank};
 ghost use Rattle.aidl_parser.specs.Gives.{Gives};
 ghost use Rattle.aidl_parser.specs.declared.fault.ParseFault.TheVariants as fault;
 
 use crate::fault::ParseFault;
+use crate::levels::{Level, above, operator};
 use crate::names::dotted;
 use crate::tokens::{first, mark_of, next};
 use aidl_syntax::{ExprKind, ExprTree, Reserved, Symbol, Token, TokenKind};
 use std::alloc::Global;
 
 #[cycle(expr)]
-#[tactic(auto, using(crate::proofs::Looping::expr_step, crate::proofs::Looping::expr_none))]
+#[tactic(auto, using(crate::proofs::Looping::expr_step))]
 pub fn expr<'a>(
     alloc: Global,
     fuel: usize,
-    least: u8,
+    least: Level,
     tokens: &'a [Token],
 ) -> Result<(ExprTree, &'a [Token]), ParseFault>
-    ensures { Gives (λ x. (expr_of x.0, x.1.now)) result (read.expr fuel least tokens.entry.now) }
+    requires { length tokens.now < fuel }
+    ensures gives { Gives (λ x. (expr_of x.0, x.1.now)) result (read.expr fuel (rank least) tokens.entry.now) }
+    ensures left { IfOk result (λ x. length x.1.now < length tokens.entry.now) }
 {
-    if fuel == 0 {
-        return Err(ParseFault::Syntax);
-    }
     let (first, rest) = operand(alloc, fuel - 1, tokens)?;
     climb(alloc, fuel - 1, least, first, rest)
 }
@@ -37,7 +38,9 @@ fn operand<'a>(
     fuel: usize,
     tokens: &'a [Token],
 ) -> Result<(ExprTree, &'a [Token]), ParseFault>
-    ensures { Gives (λ x. (expr_of x.0, x.1.now)) result (read.operand (λ k us. read.expr fuel k us) tokens.entry.now) }
+    requires { length tokens.now ≤ fuel }
+    ensures gives { Gives (λ x. (expr_of x.0, x.1.now)) result (read.operand (λ k us. read.expr fuel k us) tokens.entry.now) }
+    ensures left { IfOk result (λ x. length x.1.now < length tokens.entry.now) }
 {
     match tokens {
         [t, rest @ ..] => match mark_of(&t.kind) {
@@ -68,13 +71,15 @@ fn by_symbol<'a>(
     s: Symbol,
     rest: &'a [Token],
 ) -> Result<(ExprTree, &'a [Token]), ParseFault>
-    ensures { Gives (λ x. (expr_of x.0, x.1.now)) result (read.by_symbol (λ k us. read.expr fuel k us) offset s rest.entry.now) }
+    requires { length rest.now < fuel }
+    ensures gives { Gives (λ x. (expr_of x.0, x.1.now)) result (read.by_symbol (λ k us. read.expr fuel k us) offset s rest.entry.now) }
+    ensures left { IfOk result (λ x. length x.1.now ≤ length rest.entry.now) }
 {
     if is_open(s) {
-        let (inner, rest) = expr(alloc, fuel, 1, rest)?;
+        let (inner, rest) = expr(alloc, fuel, Level::Or, rest)?;
         closed(alloc, offset, inner, rest)
     } else if is_sign(s) {
-        let (inner, rest) = expr(alloc, fuel, 11, rest)?;
+        let (inner, rest) = expr(alloc, fuel, Level::Unary, rest)?;
         Ok((unary(alloc, offset, s, inner)?, rest))
     } else {
         Err(ParseFault::Syntax)
@@ -86,11 +91,13 @@ fn by_symbol<'a>(
 fn climb<'a>(
     alloc: Global,
     fuel: usize,
-    least: u8,
+    least: Level,
     first: ExprTree,
     tokens: &'a [Token],
 ) -> Result<(ExprTree, &'a [Token]), ParseFault>
-    ensures { Gives (λ x. (expr_of x.0, x.1.now)) result (read.climb (λ k us. read.expr fuel k us) fuel least (expr_of first) tokens.entry.now) }
+    requires { length tokens.now < fuel }
+    ensures gives { Gives (λ x. (expr_of x.0, x.1.now)) result (read.climb (λ k us. read.expr fuel k us) fuel (rank least) (expr_of first) tokens.entry.now) }
+    ensures left { IfOk result (λ x. length x.1.now ≤ length tokens.entry.now) }
 {
     let mut tree = first;
     let mut rest = tokens;
@@ -99,36 +106,17 @@ fn climb<'a>(
         let Some((sign, level)) = operator(least, &t.kind) else {
             return Ok((tree, rest));
         };
-        if rounds == 0 {
-            return Err(ParseFault::Syntax);
-        }
         rounds -= 1;
-        let (right, next) = expr(alloc, fuel, level + 1, after)?;
+        let (right, next) = expr(alloc, fuel, above(level), after)?;
         tree = binary(alloc, sign, tree, right)?;
         rest = next;
     }
     Ok((tree, rest))
 }
 
-// The binary operator of this level or above that a token is, and its level.
-fn operator(least: u8, kind: &TokenKind) -> Option<(Symbol, u8)>
-    ensures { MatchOption result (read.goes_on least (read.level_by (read.mark_of kind.now)) ≡ false) (λ x. read.IsOperator least (read.mark_of kind.now) x.0 x.1) }
-{
-    match mark_of(kind) {
-        Some(sign) => {
-            let level = level(sign);
-            if 0 < level && least <= level {
-                Some((sign, level))
-            } else {
-                None
-            }
-        }
-        None => None,
-    }
-}
-
 fn by_name<'a>(alloc: Global, tokens: &'a [Token]) -> Result<(ExprTree, &'a [Token]), ParseFault>
-    ensures { Gives (λ x. (expr_of x.0, x.1.now)) result (read.by_name tokens.now) }
+    ensures gives { Gives (λ x. (expr_of x.0, x.1.now)) result (read.by_name tokens.now) }
+    ensures left { IfOk result (λ x. length x.1.now < length tokens.entry.now) }
 {
     let (name, rest) = dotted(alloc, tokens)?;
     Ok((
@@ -147,7 +135,8 @@ fn closed<'a>(
     inner: ExprTree,
     rest: &'a [Token],
 ) -> Result<(ExprTree, &'a [Token]), ParseFault>
-    ensures { Gives (λ x. (expr_of x.0, x.1.now)) result (read.closed offset (expr_of inner) rest.entry.now) }
+    ensures gives { Gives (λ x. (expr_of x.0, x.1.now)) result (read.closed offset (expr_of inner) rest.entry.now) }
+    ensures left { IfOk result (λ x. length x.1.now ≤ length rest.entry.now) }
 {
     match rest {
         [t, after @ ..] => match mark_of(&t.kind) {
@@ -247,32 +236,5 @@ fn is_open(s: Symbol) -> bool
     match s {
         Symbol::OpenParen => true,
         _ => false,
-    }
-}
-
-fn level(s: Symbol) -> u8
-    ensures value { result ≡ form.level s }
-    ensures most { result ≤ 10 }
-{
-    match s {
-        Symbol::OrOr => 1,
-        Symbol::AndAnd => 2,
-        Symbol::Or => 3,
-        Symbol::Caret => 4,
-        Symbol::And => 5,
-        Symbol::EqualEqual => 6,
-        Symbol::NotEqual => 6,
-        Symbol::Less => 7,
-        Symbol::Greater => 7,
-        Symbol::LessEqual => 7,
-        Symbol::GreaterEqual => 7,
-        Symbol::ShiftLeft => 8,
-        Symbol::ShiftRight => 8,
-        Symbol::Plus => 9,
-        Symbol::Minus => 9,
-        Symbol::Star => 10,
-        Symbol::Slash => 10,
-        Symbol::Percent => 10,
-        _ => 0,
     }
 }

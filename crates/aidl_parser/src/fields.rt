@@ -1,4 +1,4 @@
-ghost use Rattle.std.specs.Prelude.{◌≡◌, map};
+ghost use Rattle.std.specs.Prelude.{◌≡◌, map, length, IfOk, ◌<◌};
 ghost use Rattle.aidl_syntax.specs.declared.token.Symbol.TheVariants as mark;
 ghost use Rattle.aidl_syntax.specs.Trees.{Enumerator, annots_of, expr_of, enumerator_of, member_of};
 ghost use Rattle.aidl_parser.specs.steps.Parts as part;
@@ -8,6 +8,7 @@ ghost use Rattle.aidl_parser.specs.Gives.{Gives};
 
 use crate::expr::expr;
 use crate::fault::ParseFault;
+use crate::levels::Level;
 use crate::lists::{Part, maybe_behind};
 use crate::parts::{quoted, worded};
 use crate::tokens::first;
@@ -28,7 +29,9 @@ pub fn field<'a>(
     annots: Row<AnnotTree>,
     tokens: &'a [Token],
 ) -> Result<(MemberTree, &'a [Token]), ParseFault>
-    ensures { Gives (λ x. (member_of x.0, x.1.now)) result (part.alter (decls.field_made offset (annots_of annots)) (read.field_at fuel) tokens.entry.now) }
+    requires { length tokens.now < fuel }
+    ensures gives { Gives (λ x. (member_of x.0, x.1.now)) result (part.alter (decls.field_made offset (annots_of annots)) (read.field_at fuel) tokens.entry.now) }
+    ensures left { IfOk result (λ x. length x.1.now < length tokens.entry.now) }
 {
     let (ty, rest) = type_of(alloc, tokens)?;
     let (name, rest) = ident(alloc, rest)?;
@@ -55,7 +58,9 @@ pub fn constant<'a>(
     annots: Row<AnnotTree>,
     tokens: &'a [Token],
 ) -> Result<(MemberTree, &'a [Token]), ParseFault>
-    ensures { Gives (λ x. (member_of x.0, x.1.now)) result (part.alter (decls.constant_made offset (annots_of annots)) (read.constant_at fuel) tokens.entry.now) }
+    requires { length tokens.now < fuel }
+    ensures gives { Gives (λ x. (member_of x.0, x.1.now)) result (part.alter (decls.constant_made offset (annots_of annots)) (read.constant_at fuel) tokens.entry.now) }
+    ensures left { IfOk result (λ x. length x.1.now < length tokens.entry.now) }
 {
     let (_word, rest) = worded(Reserved::Const, tokens)?;
     let (ty, rest) = type_of(alloc, rest)?;
@@ -80,10 +85,12 @@ fn value<'a>(
     fuel: usize,
     tokens: &'a [Token],
 ) -> Result<(ExprTree, &'a [Token]), ParseFault>
-    ensures { Gives (λ x. (expr_of x.0, x.1.now)) result (read.value_at fuel tokens.entry.now) }
+    requires { length tokens.now < fuel }
+    ensures gives { Gives (λ x. (expr_of x.0, x.1.now)) result (read.value_at fuel tokens.entry.now) }
+    ensures left { IfOk result (λ x. length x.1.now < length tokens.entry.now) }
 {
     let (_sign, rest) = quoted(Symbol::Equal, tokens)?;
-    let (value, rest) = expr(alloc, fuel, 1, rest)?;
+    let (value, rest) = expr(alloc, fuel, Level::Or, rest)?;
     let (_end, rest) = quoted(Symbol::Semicolon, rest)?;
     Ok((value, rest))
 }

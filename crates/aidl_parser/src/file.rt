@@ -1,4 +1,4 @@
-ghost use Rattle.std.specs.Prelude.{◌≡◌, ◌^◌, ◌<◌, length, map, [], Some};
+ghost use Rattle.std.specs.Prelude.{◌≡◌, ◌^◌, ◌<◌, length, map, [], Some, IfOk, ◌≤◌};
 ghost use Rattle.aidl_base.specs.declared.reserved.Reserved.TheVariants as word;
 ghost use Rattle.aidl_syntax.specs.Trees.{decl_of, file_of};
 ghost use Rattle.aidl_parser.specs.steps.Parts as part;
@@ -16,7 +16,7 @@ use aidl_syntax::{DeclTree, DottedTree, FileTree, Reserved, Token};
 use std::alloc::Global;
 
 // The file that all of the tokens are. Each level and each round takes a token at least, so that the fuel, one more than
-// the tokens, never runs out.
+// the tokens, suffices for all of them.
 #[tactic(auto, unfolding(crate::specs::steps::Decls::whole_of), using(crate::proofs::Files::one_more))]
 pub fn whole(alloc: Global, tokens: &[Token]) -> Result<FileTree, ParseFault>
     ensures { Gives file_of result (read.whole_of tokens.now) }
@@ -35,9 +35,10 @@ fn file<'a>(
     fuel: usize,
     tokens: &'a [Token],
 ) -> Result<(FileTree, &'a [Token]), ParseFault>
+    requires { length tokens.now < fuel }
     ensures { Gives (λ x. (file_of x.0, x.1.now)) result (read.file_at fuel tokens.entry.now) }
 {
-    let (package, rest) = maybe_package(alloc, tokens)?;
+    let (package, rest) = maybe_package(alloc, fuel, tokens)?;
     let (imports, rest) = imports(alloc, fuel, rest)?;
     let (annots, after) = annots(alloc, fuel, rest)?;
     let (decl, rest) = decl(alloc, fuel, first(rest), annots, after)?;
@@ -56,12 +57,15 @@ fn file<'a>(
 #[tactic(auto, unfolding(crate::specs::steps::Decls::named_at))]
 fn maybe_package<'a>(
     alloc: Global,
+    fuel: usize,
     tokens: &'a [Token],
 ) -> Result<(Option<DottedTree>, &'a [Token]), ParseFault>
-    ensures { Gives (λ x. (x.0, x.1.now)) result (part.maybe (part.begins_word word.Package) (read.named_at word.Package) tokens.entry.now) }
+    requires { length tokens.now < fuel }
+    ensures gives { Gives (λ x. (x.0, x.1.now)) result (part.maybe (part.begins_word word.Package) (read.named_at word.Package) tokens.entry.now) }
+    ensures left { IfOk result (λ x. length x.1.now ≤ length tokens.entry.now) }
 {
     if begins_word(Reserved::Package, tokens) {
-        let (name, rest) = statement(alloc, 0, Reserved::Package, tokens)?;
+        let (name, rest) = statement(alloc, fuel, Reserved::Package, tokens)?;
         Ok((Some(name), rest))
     } else {
         Ok((None, tokens))
@@ -75,7 +79,9 @@ fn imports<'a>(
     fuel: usize,
     tokens: &'a [Token],
 ) -> Result<(Row<DottedTree>, &'a [Token]), ParseFault>
-    ensures { Gives (λ x. (x.0, x.1.now)) result (read.imports_at fuel tokens.entry.now) }
+    requires { length tokens.now < fuel }
+    ensures gives { Gives (λ x. (x.0, x.1.now)) result (read.imports_at fuel tokens.entry.now) }
+    ensures left { IfOk result (λ x. length x.1.now ≤ length tokens.entry.now) }
 {
     many(alloc, fuel, Repeat::Imports, Row::new(alloc), tokens)
 }

@@ -1,4 +1,4 @@
-ghost use Rattle.std.specs.Prelude.{◌≡◌, map, [], ◌∷◌};
+ghost use Rattle.std.specs.Prelude.{◌≡◌, map, [], ◌∷◌, length, IfOk, ◌<◌};
 ghost use Rattle.aidl_syntax.specs.declared.token.Symbol.TheVariants as mark;
 ghost use Rattle.aidl_syntax.specs.Trees.{Expr, Init, expr_of, init_of};
 ghost use Rattle.aidl_parser.specs.steps.Parts as part;
@@ -7,6 +7,7 @@ ghost use Rattle.aidl_parser.specs.Gives.{Gives};
 
 use crate::expr::expr;
 use crate::fault::ParseFault;
+use crate::levels::Level;
 use crate::lists::{Part, maybe_trailing};
 use crate::parts::{begins, quoted};
 use crate::tokens::first;
@@ -31,7 +32,7 @@ impl Part for InitTree {
         if begins(Symbol::OpenBrace, tokens) {
             braces(alloc, fuel, tokens)
         } else {
-            let (value, rest) = expr(alloc, fuel, 1, tokens)?;
+            let (value, rest) = expr(alloc, fuel, Level::Or, tokens)?;
             Ok((InitTree::Single(value), rest))
         }
     }
@@ -43,7 +44,9 @@ fn braces<'a>(
     fuel: usize,
     tokens: &'a [Token],
 ) -> Result<(InitTree, &'a [Token]), ParseFault>
-    ensures { Gives (λ x. (init_of x.0, x.1.now)) result (read.braces_at fuel tokens.entry.now) }
+    requires { length tokens.now < fuel }
+    ensures gives { Gives (λ x. (init_of x.0, x.1.now)) result (read.braces_at fuel tokens.entry.now) }
+    ensures left { IfOk result (λ x. length x.1.now < length tokens.entry.now) }
 {
     let (_begin, rest) = quoted(Symbol::OpenBrace, tokens)?;
     let (items, rest) = maybe_trailing(alloc, fuel, rest)?;
@@ -69,6 +72,6 @@ impl Part for ExprTree {
         fuel: usize,
         tokens: &'a [Token],
     ) -> Result<(Self, &'a [Token]), ParseFault> {
-        expr(alloc, fuel, 1, tokens)
+        expr(alloc, fuel, Level::Or, tokens)
     }
 }

@@ -8,6 +8,7 @@ mod fault;
 mod fields;
 mod file;
 mod inits;
+mod levels;
 mod limits;
 mod lists;
 mod methods;

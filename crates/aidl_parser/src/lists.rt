@@ -1,4 +1,4 @@
-ghost use Rattle.std.specs.Prelude.{◌≡◌, ℕ, List, Option, map};
+ghost use Rattle.std.specs.Prelude.{◌≡◌, ℕ, List, Option, map, length, IfOk, ◌<◌, ◌≤◌};
 ghost use Rattle.aidl_syntax.specs.declared.token.Token.{Token};
 ghost use Rattle.aidl_syntax.specs.declared.token.Symbol.TheVariants as mark;
 ghost use Rattle.aidl_syntax.specs.Trees.{map_option};
@@ -22,13 +22,15 @@ pub trait Part: Drop + Sized {
 
     ghost read: { ℕ → List Token → Read Seen };
 
-    /// Reads it off the front of the tokens.
+    /// Reads it off the front of the tokens, of which it takes one at least.
     fn part<'a>(
         alloc: Global,
         fuel: usize,
         tokens: &'a [Token],
     ) -> Result<(Self, &'a [Token]), ParseFault>
-        ensures { Gives (λ x. (seen x.0, x.1.now)) result (read fuel tokens.entry.now) };
+        requires { length tokens.now < fuel }
+        ensures gives { Gives (λ x. (seen x.0, x.1.now)) result (read fuel tokens.entry.now) }
+        ensures left { IfOk result (λ x. length x.1.now < length tokens.entry.now) };
 }
 
 /// A repetition, by the signs around its items.
@@ -44,8 +46,8 @@ pub enum Repeat {
     Imports,
 }
 
-// Items as long as one more stands there, behind those that were read. Each round takes a token at least, so there is
-// fuel for all of them.
+// Items as long as one more stands there, behind those that were read. Each round takes a token at least, so that there
+// are rounds for all of them.
 pub fn many<'a, T: Part>(
     alloc: Global,
     fuel: usize,
@@ -53,15 +55,14 @@ pub fn many<'a, T: Part>(
     items: Row<T>,
     tokens: &'a [Token],
 ) -> Result<(Row<T>, &'a [Token]), ParseFault>
-    ensures { Gives (λ x. (map T.seen x.0, x.1.now)) result (part.with_items (map T.seen items) (repeats.many_by fuel repeat (T.read fuel) tokens.entry.now)) }
+    requires { length tokens.now < fuel }
+    ensures gives { Gives (λ x. (map T.seen x.0, x.1.now)) result (part.with_items (map T.seen items) (repeats.many_by fuel repeat (T.read fuel) tokens.entry.now)) }
+    ensures left { IfOk result (λ x. length x.1.now ≤ length tokens.entry.now) }
 {
     let mut all = items;
     let mut rest = tokens;
     let mut rounds = fuel;
     'rounds: while goes_on(repeat, rest) {
-        if rounds == 0 {
-            return Err(ParseFault::Syntax);
-        }
         rounds -= 1;
         let (item, next) = round(alloc, fuel, repeat, rest)?;
         all.push(item)?;
@@ -98,7 +99,9 @@ fn round<'a, T: Part>(
     repeat: Repeat,
     tokens: &'a [Token],
 ) -> Result<(T, &'a [Token]), ParseFault>
-    ensures { Gives (λ x. (T.seen x.0, x.1.now)) result (repeats.round repeat (T.read fuel) tokens.entry.now) }
+    requires { length tokens.now < fuel }
+    ensures gives { Gives (λ x. (T.seen x.0, x.1.now)) result (repeats.round repeat (T.read fuel) tokens.entry.now) }
+    ensures left { IfOk result (λ x. length x.1.now < length tokens.entry.now) }
 {
     match repeat {
         Repeat::Commas | Repeat::CommasInBraces => behind(alloc, fuel, Symbol::Comma, tokens),
@@ -114,7 +117,9 @@ pub fn statement<'a, T: Part>(
     word: Reserved,
     tokens: &'a [Token],
 ) -> Result<(T, &'a [Token]), ParseFault>
-    ensures { Gives (λ x. (T.seen x.0, x.1.now)) result (part.alter part.second (part.both (part.worded word) (part.upto (T.read fuel) mark.Semicolon)) tokens.entry.now) }
+    requires { length tokens.now < fuel }
+    ensures gives { Gives (λ x. (T.seen x.0, x.1.now)) result (part.alter part.second (part.both (part.worded word) (part.upto (T.read fuel) mark.Semicolon)) tokens.entry.now) }
+    ensures left { IfOk result (λ x. length x.1.now < length tokens.entry.now) }
 {
     let (_word, rest) = worded(word, tokens)?;
     let (item, rest) = T::part(alloc, fuel, rest)?;
@@ -129,7 +134,9 @@ pub fn behind<'a, T: Part>(
     s: Symbol,
     tokens: &'a [Token],
 ) -> Result<(T, &'a [Token]), ParseFault>
-    ensures { Gives (λ x. (T.seen x.0, x.1.now)) result (part.behind s (T.read fuel) tokens.entry.now) }
+    requires { length tokens.now < fuel }
+    ensures gives { Gives (λ x. (T.seen x.0, x.1.now)) result (part.behind s (T.read fuel) tokens.entry.now) }
+    ensures left { IfOk result (λ x. length x.1.now < length tokens.entry.now) }
 {
     let (_sign, rest) = quoted(s, tokens)?;
     T::part(alloc, fuel, rest)
@@ -142,7 +149,9 @@ pub fn maybe_behind<'a, T: Part>(
     s: Symbol,
     tokens: &'a [Token],
 ) -> Result<(Option<T>, &'a [Token]), ParseFault>
-    ensures { Gives (λ x. (map_option T.seen x.0, x.1.now)) result (part.maybe (part.begins s) (part.behind s (T.read fuel)) tokens.entry.now) }
+    requires { length tokens.now < fuel }
+    ensures gives { Gives (λ x. (map_option T.seen x.0, x.1.now)) result (part.maybe (part.begins s) (part.behind s (T.read fuel)) tokens.entry.now) }
+    ensures left { IfOk result (λ x. length x.1.now ≤ length tokens.entry.now) }
 {
     if begins(s, tokens) {
         let (item, rest) = behind(alloc, fuel, s, tokens)?;
@@ -160,7 +169,9 @@ fn listed<'a, T: Part>(
     repeat: Repeat,
     tokens: &'a [Token],
 ) -> Result<(Row<T>, &'a [Token]), ParseFault>
-    ensures { Gives (λ x. (map T.seen x.0, x.1.now)) result (repeats.listed_by fuel repeat (T.read fuel) tokens.entry.now) }
+    requires { length tokens.now < fuel }
+    ensures gives { Gives (λ x. (map T.seen x.0, x.1.now)) result (repeats.listed_by fuel repeat (T.read fuel) tokens.entry.now) }
+    ensures left { IfOk result (λ x. length x.1.now < length tokens.entry.now) }
 {
     let (first, rest) = T::part(alloc, fuel, tokens)?;
     let mut items = Row::new(alloc);
@@ -174,7 +185,9 @@ pub fn in_parens<'a, T: Part>(
     fuel: usize,
     tokens: &'a [Token],
 ) -> Result<(Row<T>, &'a [Token]), ParseFault>
-    ensures { Gives (λ x. (map T.seen x.0, x.1.now)) result (part.behind mark.OpenParen (part.upto (inits.maybe_listed fuel (T.read fuel)) mark.CloseParen) tokens.entry.now) }
+    requires { length tokens.now < fuel }
+    ensures gives { Gives (λ x. (map T.seen x.0, x.1.now)) result (part.behind mark.OpenParen (part.upto (inits.maybe_listed fuel (T.read fuel)) mark.CloseParen) tokens.entry.now) }
+    ensures left { IfOk result (λ x. length x.1.now < length tokens.entry.now) }
 {
     let (_begin, rest) = quoted(Symbol::OpenParen, tokens)?;
     let (items, rest) = maybe_listed(alloc, fuel, rest)?;
@@ -189,7 +202,9 @@ fn maybe_listed<'a, T: Part>(
     fuel: usize,
     tokens: &'a [Token],
 ) -> Result<(Row<T>, &'a [Token]), ParseFault>
-    ensures { Gives (λ x. (map T.seen x.0, x.1.now)) result (inits.maybe_listed fuel (T.read fuel) tokens.entry.now) }
+    requires { length tokens.now < fuel }
+    ensures gives { Gives (λ x. (map T.seen x.0, x.1.now)) result (inits.maybe_listed fuel (T.read fuel) tokens.entry.now) }
+    ensures left { IfOk result (λ x. length x.1.now ≤ length tokens.entry.now) }
 {
     if begins(Symbol::CloseParen, tokens) {
         Ok((Row::new(alloc), tokens))
@@ -205,7 +220,9 @@ pub fn maybe_trailing<'a, T: Part>(
     fuel: usize,
     tokens: &'a [Token],
 ) -> Result<(Row<T>, &'a [Token]), ParseFault>
-    ensures { Gives (λ x. (map T.seen x.0, x.1.now)) result (inits.maybe_trailing fuel (T.read fuel) tokens.entry.now) }
+    requires { length tokens.now < fuel }
+    ensures gives { Gives (λ x. (map T.seen x.0, x.1.now)) result (inits.maybe_trailing fuel (T.read fuel) tokens.entry.now) }
+    ensures left { IfOk result (λ x. length x.1.now ≤ length tokens.entry.now) }
 {
     if begins(Symbol::CloseBrace, tokens) {
         Ok((Row::new(alloc), tokens))
@@ -221,7 +238,9 @@ pub fn trailing<'a, T: Part>(
     fuel: usize,
     tokens: &'a [Token],
 ) -> Result<(Row<T>, &'a [Token]), ParseFault>
-    ensures { Gives (λ x. (map T.seen x.0, x.1.now)) result (inits.trailing fuel (T.read fuel) tokens.entry.now) }
+    requires { length tokens.now < fuel }
+    ensures gives { Gives (λ x. (map T.seen x.0, x.1.now)) result (inits.trailing fuel (T.read fuel) tokens.entry.now) }
+    ensures left { IfOk result (λ x. length x.1.now < length tokens.entry.now) }
 {
     let (items, rest) = listed(alloc, fuel, Repeat::CommasInBraces, tokens)?;
     let (_comma, rest) = maybe_comma(rest)?;
@@ -230,7 +249,8 @@ pub fn trailing<'a, T: Part>(
 
 // [","]
 fn maybe_comma<'a>(tokens: &'a [Token]) -> Result<(Option<()>, &'a [Token]), ParseFault>
-    ensures { Gives (λ x. (x.0, x.1.now)) result (part.maybe (part.begins mark.Comma) (part.quoted mark.Comma) tokens.entry.now) }
+    ensures gives { Gives (λ x. (x.0, x.1.now)) result (part.maybe (part.begins mark.Comma) (part.quoted mark.Comma) tokens.entry.now) }
+    ensures left { IfOk result (λ x. length x.1.now ≤ length tokens.entry.now) }
 {
     if begins(Symbol::Comma, tokens) {
         let (comma, rest) = quoted(Symbol::Comma, tokens)?;

@@ -1,4 +1,4 @@
-ghost use Rattle.std.specs.Prelude.{◌≡◌, map, [], ◌++◌};
+ghost use Rattle.std.specs.Prelude.{◌≡◌, map, [], ◌++◌, length, IfOk, ◌<◌, ◌≤◌};
 ghost use Rattle.aidl_syntax.specs.declared.token.Symbol.TheVariants as mark;
 ghost use Rattle.aidl_base.specs.declared.reserved.Reserved.TheVariants as word;
 ghost use Rattle.aidl_syntax.specs.Trees.{Arg, annots_of, arg_of, member_of};
@@ -31,7 +31,9 @@ pub fn method<'a>(
     annots: Row<AnnotTree>,
     tokens: &'a [Token],
 ) -> Result<(MemberTree, &'a [Token]), ParseFault>
-    ensures { Gives (λ x. (member_of x.0, x.1.now)) result (part.alter (decls.method_made offset (annots_of annots)) (read.method_at fuel) tokens.entry.now) }
+    requires { length tokens.now < fuel }
+    ensures gives { Gives (λ x. (member_of x.0, x.1.now)) result (part.alter (decls.method_made offset (annots_of annots)) (read.method_at fuel) tokens.entry.now) }
+    ensures left { IfOk result (λ x. length x.1.now < length tokens.entry.now) }
 {
     let (oneway, rest) = oneway(tokens)?;
     let (result, rest) = returned(alloc, rest)?;
@@ -56,7 +58,8 @@ pub fn method<'a>(
 // ["oneway"]
 #[tactic(auto, unfolding(crate::specs::steps::Members::oneway_at))]
 pub fn oneway<'a>(tokens: &'a [Token]) -> Result<(bool, &'a [Token]), ParseFault>
-    ensures { Gives (λ x. (x.0, x.1.now)) result (read.oneway_at tokens.entry.now) }
+    ensures gives { Gives (λ x. (x.0, x.1.now)) result (read.oneway_at tokens.entry.now) }
+    ensures left { IfOk result (λ x. length x.1.now ≤ length tokens.entry.now) }
 {
     if begins_word(Reserved::Oneway, tokens) {
         let (_word, rest) = worded(Reserved::Oneway, tokens)?;
@@ -72,7 +75,8 @@ fn returned<'a>(
     alloc: Global,
     tokens: &'a [Token],
 ) -> Result<(Option<TypeTree>, &'a [Token]), ParseFault>
-    ensures { Gives (λ x. (x.0, x.1.now)) result (read.returned_at tokens.entry.now) }
+    ensures gives { Gives (λ x. (x.0, x.1.now)) result (read.returned_at tokens.entry.now) }
+    ensures left { IfOk result (λ x. length x.1.now < length tokens.entry.now) }
 {
     if begins_word(Reserved::Void, tokens) {
         let (_word, rest) = worded(Reserved::Void, tokens)?;
@@ -117,7 +121,8 @@ impl Part for ArgTree {
 
 // ["in" | "out" | "inout"]
 fn way<'a>(tokens: &'a [Token]) -> Result<(Option<WayTree>, &'a [Token]), ParseFault>
-    ensures { Gives (λ x. (x.0, x.1.now)) result (read.way_at tokens.entry.now) }
+    ensures gives { Gives (λ x. (x.0, x.1.now)) result (read.way_at tokens.entry.now) }
+    ensures left { IfOk result (λ x. length x.1.now ≤ length tokens.entry.now) }
 {
     match tokens {
         [t, rest @ ..] => match way_of(&t.kind) {
@@ -153,23 +158,11 @@ impl Part for Token {
         tokens: &'a [Token],
     ) -> Result<(Self, &'a [Token]), ParseFault> {
         match tokens {
-            [t, rest @ ..] => {
-                if is_number(&t.kind) {
-                    Ok((clone_token(alloc, t)?, rest))
-                } else {
-                    Err(ParseFault::Syntax)
-                }
-            }
+            [t, rest @ ..] => match &t.kind {
+                TokenKind::Number { .. } => Ok((clone_token(alloc, t)?, rest)),
+                _ => Err(ParseFault::Syntax),
+            },
             [] => Err(ParseFault::Syntax),
         }
-    }
-}
-
-fn is_number(kind: &TokenKind) -> bool
-    ensures { result ≡ read.is_number kind.now }
-{
-    match kind {
-        TokenKind::Number { .. } => true,
-        _ => false,
     }
 }

@@ -1,4 +1,4 @@
-ghost use Rattle.std.specs.Prelude.{◌≡◌, true};
+ghost use Rattle.std.specs.Prelude.{◌≡◌, true, length, IfOk, ◌<◌, IfSome};
 ghost use Rattle.aidl_syntax.specs.declared.tree.DottedTree.{DottedTree};
 ghost use Rattle.aidl_parser.specs.steps.Reading as read;
 ghost use Rattle.aidl_parser.specs.Gives.{Gives};
@@ -16,7 +16,8 @@ pub fn dotted<'a>(
     alloc: Global,
     tokens: &'a [Token],
 ) -> Result<(DottedTree, &'a [Token]), ParseFault>
-    ensures { Gives (λ x. (x.0, x.1.now)) result (read.dotted tokens.now) }
+    ensures gives { Gives (λ x. (x.0, x.1.now)) result (read.dotted tokens.now) }
+    ensures left { IfOk result (λ x. length x.1.now < length tokens.entry.now) }
 {
     let (names, rest) = names(alloc, tokens)?;
     Ok((
@@ -29,7 +30,8 @@ pub fn dotted<'a>(
 }
 
 fn names<'a>(alloc: Global, tokens: &'a [Token]) -> Result<(Row<Ident>, &'a [Token]), ParseFault>
-    ensures { Gives (λ x. (x.0, x.1.now)) result (read.names true tokens.now) }
+    ensures gives { Gives (λ x. (x.0, x.1.now)) result (read.names true tokens.now) }
+    ensures left { IfOk result (λ x. length x.1.now < length tokens.entry.now) }
 {
     let mut items = Row::new(alloc);
     let mut rest = tokens;
@@ -49,7 +51,8 @@ fn names<'a>(alloc: Global, tokens: &'a [Token]) -> Result<(Row<Ident>, &'a [Tok
 
 // The tokens after a dot, where one stands first.
 fn after_dot<'a>(tokens: &'a [Token]) -> Option<&'a [Token]>
-    ensures { read.option_now result ≡ read.after_dot tokens.now }
+    ensures value { read.option_now result ≡ read.after_dot tokens.now }
+    ensures left { IfSome result (λ r. length r.now < length tokens.entry.now) }
 {
     match tokens {
         [t, rest @ ..] => match mark_of(&t.kind) {

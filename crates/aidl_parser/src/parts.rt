@@ -1,4 +1,4 @@
-ghost use Rattle.std.specs.Prelude.{◌≡◌};
+ghost use Rattle.std.specs.Prelude.{◌≡◌, length, IfOk, ◌<◌};
 ghost use Rattle.aidl_parser.specs.steps.Parts as read;
 ghost use Rattle.aidl_parser.specs.Gives.{Gives};
 
@@ -36,7 +36,8 @@ pub fn begins_word(r: Reserved, tokens: &[Token]) -> bool
 
 // The symbol, and what follows it.
 pub fn quoted<'a>(s: Symbol, tokens: &'a [Token]) -> Result<((), &'a [Token]), ParseFault>
-    ensures { Gives (λ x. (x.0, x.1.now)) result (read.quoted s tokens.entry.now) }
+    ensures gives { Gives (λ x. (x.0, x.1.now)) result (read.quoted s tokens.entry.now) }
+    ensures left { IfOk result (λ x. length x.1.now < length tokens.entry.now) }
 {
     if begins(s, tokens) {
         Ok(((), &tokens[1..]))
@@ -47,7 +48,8 @@ pub fn quoted<'a>(s: Symbol, tokens: &'a [Token]) -> Result<((), &'a [Token]), P
 
 // The reserved word, and what follows it.
 pub fn worded<'a>(r: Reserved, tokens: &'a [Token]) -> Result<((), &'a [Token]), ParseFault>
-    ensures { Gives (λ x. (x.0, x.1.now)) result (read.worded r tokens.entry.now) }
+    ensures gives { Gives (λ x. (x.0, x.1.now)) result (read.worded r tokens.entry.now) }
+    ensures left { IfOk result (λ x. length x.1.now < length tokens.entry.now) }
 {
     if begins_word(r, tokens) {
         Ok(((), &tokens[1..]))

@@ -1,4 +1,4 @@
-ghost use Rattle.std.specs.Prelude.{◌≡◌};
+ghost use Rattle.std.specs.Prelude.{◌≡◌, length, IfOk, ◌<◌, ◌≤◌};
 ghost use Rattle.aidl_syntax.specs.declared.token.Symbol.TheVariants as mark;
 ghost use Rattle.aidl_parser.specs.steps.Parts as part;
 ghost use Rattle.aidl_parser.specs.steps.Types as read;
@@ -17,7 +17,8 @@ pub fn type_of<'a>(
     alloc: Global,
     tokens: &'a [Token],
 ) -> Result<(TypeTree, &'a [Token]), ParseFault>
-    ensures { Gives (λ x. (x.0, x.1.now)) result (read.type_at tokens.entry.now) }
+    ensures gives { Gives (λ x. (x.0, x.1.now)) result (read.type_at tokens.entry.now) }
+    ensures left { IfOk result (λ x. length x.1.now < length tokens.entry.now) }
 {
     let (name, rest) = dotted(alloc, tokens)?;
     let (element, rest) = maybe_element(alloc, rest)?;
@@ -39,7 +40,8 @@ fn maybe_element<'a>(
     alloc: Global,
     tokens: &'a [Token],
 ) -> Result<(Option<DottedTree>, &'a [Token]), ParseFault>
-    ensures { Gives (λ x. (x.0, x.1.now)) result (part.maybe (part.begins mark.Less) read.element tokens.entry.now) }
+    ensures gives { Gives (λ x. (x.0, x.1.now)) result (part.maybe (part.begins mark.Less) read.element tokens.entry.now) }
+    ensures left { IfOk result (λ x. length x.1.now ≤ length tokens.entry.now) }
 {
     if begins(Symbol::Less, tokens) {
         let (_begin, rest) = quoted(Symbol::Less, tokens)?;
@@ -53,7 +55,8 @@ fn maybe_element<'a>(
 
 #[tactic(auto, unfolding(crate::specs::steps::Types::array))]
 fn array<'a>(tokens: &'a [Token]) -> Result<(bool, &'a [Token]), ParseFault>
-    ensures { Gives (λ x. (x.0, x.1.now)) result (read.array tokens.entry.now) }
+    ensures gives { Gives (λ x. (x.0, x.1.now)) result (read.array tokens.entry.now) }
+    ensures left { IfOk result (λ x. length x.1.now ≤ length tokens.entry.now) }
 {
     if begins(Symbol::OpenBracket, tokens) {
         let (_begin, rest) = quoted(Symbol::OpenBracket, tokens)?;
@@ -66,7 +69,8 @@ fn array<'a>(tokens: &'a [Token]) -> Result<(bool, &'a [Token]), ParseFault>
 
 // The identifier, and what follows it.
 pub fn ident<'a>(alloc: Global, tokens: &'a [Token]) -> Result<(NameTree, &'a [Token]), ParseFault>
-    ensures { Gives (λ x. (x.0, x.1.now)) result (read.ident tokens.entry.now) }
+    ensures gives { Gives (λ x. (x.0, x.1.now)) result (read.ident tokens.entry.now) }
+    ensures left { IfOk result (λ x. length x.1.now < length tokens.entry.now) }
 {
     match tokens {
         [t, rest @ ..] => {

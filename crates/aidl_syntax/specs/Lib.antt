@@ -8,3 +8,5 @@ pub mod Trees
 pub mod Parts
 pub mod Productions
 pub mod Measures
+pub mod Walks
+pub mod Parses

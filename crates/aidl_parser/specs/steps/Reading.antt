@@ -1,5 +1,5 @@
 -- Parsing as functions on lists of tokens. Each reads a front, and gives what it stands for and the tokens after it.
-use Rattle.std.specs.Prelude.{◌≡◌, ◌≤◌, ◌+◌, ℕ, zero, suc, Bool, true, false, ◌&&◌, if◌then◌else◌, nat_le, nat_lt, List, [], ◌∷◌, ◌++◌, Option, Some, None}
+use Rattle.std.specs.Prelude.{◌≡◌, ◌+◌, ℕ, zero, suc, Bool, true, false, ◌&&◌, if◌then◌else◌, nat_le, nat_lt, List, [], ◌∷◌, ◌++◌, Option, Some, None}
 use denote.Ref.{Bor}
 use Rattle.aidl_base.specs.declared.name.Ident.{Ident}
 use Rattle.aidl_syntax.specs.declared.token.Symbol.{Symbol}
@@ -113,10 +113,6 @@ goes_on least l = nat_lt 0 l && nat_le least l
 abbrev pub with_sign : {A : Type 0} → Option Symbol → (Symbol → Option A) → Option A
 with_sign (Some s) f = f s
 with_sign None f = None
-
--- the sign is a binary operator of a level or above, and this is its level
-abbrev pub IsOperator : ℕ → Option Symbol → Symbol → ℕ → Type 0
-IsOperator least sign s l = (sign ≡ Some s) × (l ≡ level_by sign) × (goes_on least (level_by sign) ≡ true) × (l ≤ 10)
 
 -- binary operators of a level or above, with their right parts
 unfoldable pub climb : (ℕ → List Token → Read Expr) → ℕ → ℕ → Expr → List Token → Read Expr

@@ -1,4 +1,4 @@
-use Rattle.std.proofs.Common.{◌≡◌, ◌+◌, ◌*◌, map}
+use Rattle.std.proofs.Common.{◌≡◌, ◌+◌, ◌*◌, ◌<◌, ◌≤◌, length, map}
 use Rattle.aidl_syntax.specs.Trees.{ahead_of, member_of}
 use Rattle.aidl_parser.specs.steps.Decls.{members_at, with_members}
 use Rattle.aidl_parser.proofs.decls.+decl.Given as goal
@@ -26,7 +26,11 @@ decreases-member_by l = 8 * l.fuel + 1
 
 -- what was read, and then what is still read, is all
 abbrev pub invariant-members-rounds : goal.invariant-members-rounds
-invariant-members-rounds l = with_members (ahead_of (map member_of l.all)) (members_at l.fuel l.rounds l.inside l.rest) ≡ members_at l.fuel l.fuel l.inside l.tokens
+invariant-members-rounds l = record {
+  read : with_members (ahead_of (map member_of l.all)) (members_at l.fuel l.rounds l.inside l.rest) ≡ members_at l.fuel l.fuel l.inside l.tokens;
+  enough : length l.rest < l.rounds;
+  left : length l.rest ≤ length l.tokens;
+}
 
 abbrev pub decreases-members-rounds : goal.decreases-members-rounds
 decreases-members-rounds l = l.rounds

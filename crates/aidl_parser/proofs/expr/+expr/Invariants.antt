@@ -1,5 +1,6 @@
-use Rattle.std.proofs.Common.{◌≡◌, ◌+◌, ◌*◌}
+use Rattle.std.proofs.Common.{◌≡◌, ◌+◌, ◌*◌, ◌<◌, ◌≤◌, length}
 use Rattle.aidl_syntax.specs.Trees.{expr_of}
+use Rattle.aidl_parser.specs.steps.Levels.{rank}
 use Rattle.aidl_parser.specs.steps.Reading.{climb, expr}
 use Rattle.aidl_parser.proofs.expr.+expr.Given as goal
 
@@ -17,7 +18,11 @@ decreases-climb l = 8 * l.fuel + 1
 
 -- what is left decides
 abbrev pub invariant-climb-loop-t : goal.invariant-climb-loop-t
-invariant-climb-loop-t l = climb (λ k us. expr l.fuel k us) l.rounds l.least (expr_of l.tree) l.rest ≡ climb (λ k us. expr l.fuel k us) l.fuel l.least (expr_of l.fn.first) l.tokens
+invariant-climb-loop-t l = record {
+  all : climb (λ k us. expr l.fuel k us) l.rounds (rank l.least) (expr_of l.tree) l.rest ≡ climb (λ k us. expr l.fuel k us) l.fuel (rank l.least) (expr_of l.fn.first) l.tokens;
+  enough : length l.rest < l.rounds;
+  left : length l.rest ≤ length l.tokens;
+}
 
 abbrev pub decreases-climb-loop-t : goal.decreases-climb-loop-t
 decreases-climb-loop-t l = l.rounds

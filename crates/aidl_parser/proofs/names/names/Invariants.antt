@@ -1,10 +1,13 @@
-use Rattle.std.proofs.Common.{◌≡◌, length, true}
+use Rattle.std.proofs.Common.{◌≡◌, ◌≤◌, length, true}
 use Rattle.aidl_parser.specs.steps.Reading.{names, with_names}
 use Rattle.aidl_parser.proofs.names.names.Given as goal
 
 -- what was read, and then what is still read, is all
 abbrev pub invariant-loop-t : goal.invariant-loop-t
-invariant-loop-t l = with_names l.items (names true l.rest) ≡ names true l.tokens
+invariant-loop-t l = record {
+  read : with_names l.items (names true l.rest) ≡ names true l.tokens;
+  left : length l.rest ≤ length l.tokens;
+}
 
 abbrev pub decreases-loop-t : goal.decreases-loop-t
 decreases-loop-t l = length l.rest
