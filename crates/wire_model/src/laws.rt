@@ -12,7 +12,7 @@ ghost use Rattle.wire_model.specs.Status.{IsStatus};
 ghost use Rattle.wire_model.specs.Stop.{Stop, Stops};
 
 use aidl_base::Profile;
-use aidl_schema::{AidlType, Schema};
+use aidl_schema::{AidlType, Schema, law_valid};
 use aidl_values::Value;
 
 /// What spells a value is a reading of it.
@@ -100,7 +100,9 @@ pub fn law_nodes(
 )
     requires { Reads profile schema.now.decls levels ty.now b.now (view value.now) }
     ensures { nodes_of (view value.now) ≤ 64 * length b.now }
-{}
+{
+    law_valid(schema);
+}
 
 /// What the strict profile reads, the lenient one reads.
 pub fn law_strict_is_lenient(schema: &Schema, ty: &AidlType, levels: usize, b: &[u8], value: &Value)

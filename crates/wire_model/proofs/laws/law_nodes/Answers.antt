@@ -9,7 +9,7 @@ use Rattle.wire_model.proofs.laws.law_nodes.Goals as goal
 pub returns : goal.returns
 returns c =
     let S = c.args.schema.now.decls in
-    let valid = c.args.schema.now.valid in
-    nodes c.args.profile S (is_whole S (sound S valid))
-    (λ t v type zero. subst (λ w. nodes_of w ≤ 512) (sym (one_default S valid t v type zero)) (default_fits S valid t type).small)
+    let hold = c.law_valid.ensures.declarations in
+    nodes c.args.profile S (is_whole S (sound S c.args.schema.now.valid))
+    (λ t v type zero. subst (λ w. nodes_of w ≤ 512) (sym (one_default S hold t v type zero)) (default_fits S hold t type).small)
     c.args.levels c.args.ty.now c.args.b.now (view c.args.value.now) c.requires
