@@ -62,7 +62,7 @@ same_decl_sym None (Some e) = refl
 same_decl_sym (Some d) None = refl
 same_decl_sym (Some d) (Some e) = same_idents_sym d.name.0 e.name.0
 
-same_bool_refl : (a : Bool) → same_bool a a ≡ true
+pub same_bool_refl : (a : Bool) → same_bool a a ≡ true
 same_bool_refl true = refl
 same_bool_refl false = refl
 

@@ -1,7 +1,8 @@
-ghost use Rattle.std.specs.Prelude.{◌≡◌, ◌↔◌, ◌≤◌, true, IsTrue, length, map, min};
+ghost use Rattle.std.specs.Prelude.{◌≡◌, ◌↔◌, ◌≤◌, true, IsTrue, length, map, min, []};
 ghost use Rattle.std.specs.Cmp.Lexicographic.{slice_cmp};
 ghost use Rattle.std.specs.List.Sorted.{IsStrictlySortedBy};
 ghost use Rattle.std.specs.Ordering.{nat_cmp};
+ghost use Rattle.aidl_schema.specs.Broken.{broken};
 ghost use Rattle.aidl_schema.specs.Containment.{Reaches, holds_itself};
 ghost use Rattle.aidl_schema.specs.Holds.{AllHold, AreApart, HasElements};
 ghost use Rattle.aidl_schema.specs.Names.{name_of};
@@ -37,4 +38,11 @@ pub fn law_valid(schema: &Schema)
     ensures apart { AreApart name_of schema.now.decls }
     ensures few { length schema.now.decls ≤ 16384 }
     ensures elements { HasElements schema.now.decls }
+{}
+
+/// No evolution rule is broken from a schema to itself, and where none is from a first schema to a second and from that
+/// to a third, none is from the first to the third.
+pub fn law_chain(a: &Schema, b: &Schema, c: &Schema)
+    ensures itself { broken a.now.decls a.now.decls ≡ [] }
+    ensures along { broken a.now.decls b.now.decls ≡ [] → broken b.now.decls c.now.decls ≡ [] → broken a.now.decls c.now.decls ≡ [] }
 {}
