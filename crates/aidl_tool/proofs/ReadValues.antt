@@ -7,8 +7,8 @@ use Rattle.serde_json.specs.View.{view as json_view, items_view}
 use Rattle.serde_json.specs.declared.value.Value.{Value as Json}
 use Rattle.aidl_schema.specs.declared.schema.Decl.{Decl}
 use Rattle.aidl_schema.specs.declared.schema.AidlType.{AidlType}
-use Rattle.aidl_values.specs.Data.{Data, depth_of}
-use Rattle.aidl_values.specs.HasType.{HasType}
+use Rattle.aidl_values.specs.Data.{Data}
+use Rattle.aidl_values.specs.Fits.{Fits}
 use Rattle.json_values.specs.FromJson.{from_json_of}
 use Rattle.json_values.specs.Refusal.{Answer, Refusal, ◌>>=◌, refuse, within, wrong_shape}
 use Rattle.aidl_tool.specs.JsonFile.{AreTyped, elements, values_from, values_of}
@@ -64,11 +64,11 @@ module _ (S : List Decl) (ts : List AidlType) (js : List Json) where
   values_done k ds all = at_drop_all (λ l. onto ds (values_from S k l (items_view (drop k js)))) ts k all ∙ ap Ok (append-nil ds)
 
 -- one value more is typed
-pub typed_more : (S : List Decl) (ts : List AidlType) (t : AidlType) (ds : List Data) (v : Data) → AreTyped S ts ds → HasType S t v → depth_of v ≤ 64 → AreTyped S (ts ++ t ∷ []) (ds ++ v ∷ [])
-typed_more S [] t [] v h typed shallow = (typed, shallow, tt)
-typed_more S [] t (d ∷ ds) v h typed shallow = absurd h
-typed_more S (u ∷ ts) t [] v h typed shallow = absurd h
-typed_more S (u ∷ ts) t (d ∷ ds) v h typed shallow = (h.0, h.1, typed_more S ts t ds v h.2 typed shallow)
+pub typed_more : (S : List Decl) (ts : List AidlType) (t : AidlType) (ds : List Data) (v : Data) → AreTyped S ts ds → Fits S t v → AreTyped S (ts ++ t ∷ []) (ds ++ v ∷ [])
+typed_more S [] t [] v h fits = (fits, tt)
+typed_more S [] t (d ∷ ds) v h fits = absurd h
+typed_more S (u ∷ ts) t [] v h fits = absurd h
+typed_more S (u ∷ ts) t (d ∷ ds) v h fits = (h.0, typed_more S ts t ds v h.1 fits)
 
 -- there are as many elements as values of JSON
 elements_count : (js : List Json) → elements (items_view js) ≡ length js

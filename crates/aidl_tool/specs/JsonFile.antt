@@ -1,5 +1,5 @@
 -- What a file of JSON stands for: one value for each of some types (own).
-use Rattle.std.specs.Prelude.{ℕ, suc, ◌≤◌, ◌==◌, if◌then◌else◌, List, [], ◌∷◌, length, Option, Some, None, Ok, decimal}
+use Rattle.std.specs.Prelude.{ℕ, suc, ◌==◌, if◌then◌else◌, List, [], ◌∷◌, length, Option, Some, None, Ok, decimal}
 use Rattle.std.specs.Option.{option_map}
 use Rattle.std.specs.Str.{is_utf8}
 use Rattle.serde_json.specs.Data as json
@@ -7,8 +7,8 @@ use Rattle.serde_json.specs.Data.{array, no_items, item}
 use Rattle.serde_json.specs.Read.{read as read_text}
 use Rattle.aidl_schema.specs.declared.schema.Decl.{Decl}
 use Rattle.aidl_schema.specs.declared.schema.AidlType.{AidlType}
-use Rattle.aidl_values.specs.Data.{Data, depth_of}
-use Rattle.aidl_values.specs.HasType.{HasType}
+use Rattle.aidl_values.specs.Data.{Data}
+use Rattle.aidl_values.specs.Fits.{Fits}
 use Rattle.json_values.specs.FromJson.{from_json_of}
 use Rattle.json_values.specs.Gives.{refusal_of}
 use Rattle.json_values.specs.Refusal.{Answer, ◌>>=◌, Refusal, below, refuse, within, wrong_shape}
@@ -38,12 +38,12 @@ abbrev pub values_of : List Decl → List AidlType → json.Data → Answer (Lis
 values_of S ts (array js) = if length ts == elements js then values_from S 0 ts js else refuse wrong_shape
 values_of S ts _ = refuse wrong_shape
 
--- one value for each type, of it, with at most 64 levels
+-- one value for each type, which fits it
 abbrev pub AreTyped : List Decl → List AidlType → List Data → Type 0
 AreTyped S [] [] = Unit {0}
 AreTyped S [] (v ∷ vs) = ⊥
 AreTyped S (t ∷ ts) [] = ⊥
-AreTyped S (t ∷ ts) (v ∷ vs) = HasType S t v × (depth_of v ≤ 64) × AreTyped S ts vs
+AreTyped S (t ∷ ts) (v ∷ vs) = Fits S t v × AreTyped S ts vs
 
 -- the refusal that the code found; None is a want of memory
 abbrev pub unread_refusal : Unread → Option Refusal

@@ -1,8 +1,7 @@
 ghost use Rattle.std.specs.Prelude.{◌≡◌, ◌≤◌, Ok, Err, IfOk, IfErr, IfSome, decimal, length, map};
 ghost use Rattle.std.specs.Option.{option_map};
 ghost use Rattle.serde_json.specs.View.{view as json_view, items_view};
-ghost use Rattle.aidl_values.specs.Data.{depth_of};
-ghost use Rattle.aidl_values.specs.HasType.{HasType};
+ghost use Rattle.aidl_values.specs.Fits.{Fits};
 ghost use Rattle.aidl_values.specs.View.{view};
 ghost use Rattle.json_values.specs.FromJson.{from_json_of};
 ghost use Rattle.json_values.specs.Refusal.{within};
@@ -108,8 +107,7 @@ fn value_at(
     json: &Json,
 ) -> Result<Value, Unread>
     ensures ok { IfOk result (λ v. within (decimal place) (from_json_of schema.now.decls 64 ty.now (json_view json.now)) ≡ Ok (view v)) }
-    ensures typed { IfOk result (λ v. HasType schema.now.decls ty.now (view v)) }
-    ensures shallow { IfOk result (λ v. depth_of (view v) ≤ 64) }
+    ensures fits { IfOk result (λ v. Fits schema.now.decls ty.now (view v)) }
     ensures refused { IfErr result (λ u. IfSome (unread_refusal u) (λ r. within (decimal place) (from_json_of schema.now.decls 64 ty.now (json_view json.now)) ≡ Err r)) }
 {
     match from_json(alloc, schema, ty, json) {

@@ -24,6 +24,7 @@ use Rattle.aidl_schema.specs.Holds.{AllHold}
 use Rattle.aidl_schema.specs.Valid.{is_enum_whole}
 use Rattle.aidl_base.proofs.Tests.{both}
 use Rattle.aidl_values.specs.Data.{Data, null, number, seq, rec, alt, Items, item, depth_of, greatest}
+use Rattle.aidl_values.specs.Fits.{Fits}
 use Rattle.aidl_values.specs.HasType.{HasType, HaveType, FieldsHaveType}
 use Rattle.aidl_values.specs.Sound.{HasDefault, HaveDefaults, IsSound, initial_in}
 use Rattle.aidl_values.specs.View.{view}
@@ -287,6 +288,6 @@ module _ (S : List Decl) (hold : AllHold S) (sound : IsSound S) where
 
 -- of what was given
 pub given_fits : (S : List Decl) → AllHold S → IsSound S → (t : AidlType) (j : json.Data) → HasTexts j → (result : Result Value Fault) → Gives view result (from_json_of S 64 t j)
-    → IfOk result (λ v. HasType S t (view v)) × IfOk result (λ v. depth_of (view v) ≤ 64)
-given_fits S hold sound t j texts (Ok v) gives = subst (FitsAs S t 64) gives (from_json_fits S hold sound 64 t j texts)
-given_fits S hold sound t j texts (Err e) gives = (tt, tt)
+    → IfOk result (λ v. Fits S t (view v))
+given_fits S hold sound t j texts (Ok v) gives = let fits = subst (FitsAs S t 64) gives (from_json_fits S hold sound 64 t j texts) in record { typed = fits.0; deep = fits.1 }
+given_fits S hold sound t j texts (Err e) gives = tt

@@ -1,4 +1,5 @@
 pub mod Back
+pub mod Counted
 pub mod Fits
 pub mod Loops
 pub mod Members

@@ -40,7 +40,7 @@ text_itself (b ∷ x) = rw (nat_itself b, text_itself x) refl
 text_is : (x y : List ℕ) → same_text x y ≡ true → x ≡ y
 text_is x y h = (bytes_eq-Decides x y).0 h
 
-text_apart : (x y : List ℕ) → (x ≡ y → ⊥) → same_text x y ≡ false
+pub text_apart : (x y : List ℕ) → (x ≡ y → ⊥) → same_text x y ≡ false
 text_apart x y differs = by (same_text x y) refl
   where
     by : (b : Bool) → same_text x y ≡ b → b ≡ false

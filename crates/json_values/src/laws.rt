@@ -1,6 +1,5 @@
-ghost use Rattle.std.specs.Prelude.{◌≡◌, ◌≤◌, true, Ok};
-ghost use Rattle.aidl_values.specs.Data.{depth_of};
-ghost use Rattle.aidl_values.specs.HasType.{HasType};
+ghost use Rattle.std.specs.Prelude.{◌≡◌, Ok};
+ghost use Rattle.aidl_values.specs.Fits.{Fits};
 ghost use Rattle.aidl_values.specs.View.{view};
 ghost use Rattle.json_values.specs.FromJson.{from_json_of};
 ghost use Rattle.json_values.specs.Json.{json_of};
@@ -8,10 +7,9 @@ ghost use Rattle.json_values.specs.Json.{json_of};
 use aidl_schema::{AidlType, Schema, law_valid};
 use aidl_values::Value;
 
-/// What a value of at most 64 levels is written as reads as the value.
+/// What a value that fits is written as reads as the value.
 pub fn law_json_reads_back(schema: &Schema, ty: &AidlType, value: &Value)
-    requires typed { HasType schema.now.decls ty.now (view value.now) }
-    requires deep { depth_of (view value.now) ≤ 64 }
+    requires { Fits schema.now.decls ty.now (view value.now) }
     ensures { from_json_of schema.now.decls 64 ty.now (json_of schema.now.decls ty.now (view value.now)) ≡ Ok (view value.now) }
 {
     law_valid(schema);

@@ -5,9 +5,10 @@ ghost use Rattle.serde_json.specs.View.{view as json_view, number_view, items_vi
 ghost use Rattle.serde_json.specs.Find.{as_integer};
 ghost use Rattle.aidl_schema.specs.Seen.{seen};
 ghost use Rattle.aidl_schema.specs.Types.{form_of};
+ghost use Rattle.aidl_schema.specs.Holds.{AreApart};
 ghost use Rattle.aidl_schema.specs.Same.{same_text};
-ghost use Rattle.aidl_values.specs.Data.{alt, depth_of};
-ghost use Rattle.aidl_values.specs.HasType.{HasType};
+ghost use Rattle.aidl_values.specs.Data.{alt};
+ghost use Rattle.aidl_values.specs.Fits.{Fits};
 ghost use Rattle.aidl_values.specs.View.{view, views};
 ghost use Rattle.json_values.specs.FromJson as answer;
 ghost use Rattle.json_values.specs.FromJson.{from_json_of, from_by};
@@ -43,8 +44,7 @@ pub fn from_json(
     json: &Json,
 ) -> Result<Value, JsonFault>
     ensures ok { IfOk result (λ v. from_json_of schema.now.decls 64 ty.now (json_view json.now) ≡ Ok (view v)) }
-    ensures typed { IfOk result (λ v. HasType schema.now.decls ty.now (view v)) }
-    ensures shallow { IfOk result (λ v. depth_of (view v) ≤ 64) }
+    ensures fits { IfOk result (λ v. Fits schema.now.decls ty.now (view v)) }
     ensures refused { IfErr result (λ fault. IfSome (refusal_of fault) (λ r. from_json_of schema.now.decls 64 ty.now (json_view json.now) ≡ Err r)) }
 {
     match read_fitting(alloc, schema, *ty, json) {
@@ -53,11 +53,10 @@ pub fn from_json(
     }
 }
 
-// What a whole value is read as has its type.
+// What a whole value is read as fits the type.
 fn read_fitting(alloc: Global, schema: &Schema, ty: AidlType, json: &Json) -> Result<Value, Fault>
     ensures gives { Gives view result (from_json_of schema.now.decls 64 ty (json_view json.now)) }
-    ensures typed { IfOk result (λ v. HasType schema.now.decls ty (view v)) }
-    ensures shallow { IfOk result (λ v. depth_of (view v) ≤ 64) }
+    ensures fits { IfOk result (λ v. Fits schema.now.decls ty (view v)) }
 {
     law_valid(schema);
     law_sound(schema);
@@ -120,6 +119,7 @@ fn read_one(
     ensures { Gives view result (answer.one_from (is_level_left levels) (λ f. default_of schema.now.decls levels f) (λ u j. part_from schema.now.decls levels u j)
         (enumerators_of schema.now.decls base) (form_of schema.now.decls base) (json_view json.now)) }
 {
+    law_valid(schema);
     law_sound(schema);
     let form = form_in(schema, base);
     match form {
@@ -294,7 +294,8 @@ fn read_record(
     levels: usize,
     json: &Json,
 ) -> Result<Value, Fault>
-    requires { levels ≤ 64 }
+    requires few { levels ≤ 64 }
+    requires apart { AreApart (λ f. f.name.0) fields.now }
     ensures { Gives view result (answer.record_from (is_level_left levels) (λ f. default_of schema.now.decls levels f) (λ u j. part_from schema.now.decls levels u j) fields.now (json_view json.now)) }
 {
     let Json::Object(members) = json else {
@@ -316,6 +317,7 @@ fn read_object(
 ) -> Result<Value, Fault>
     requires left { 0 < levels }
     requires few { levels ≤ 64 }
+    requires apart { AreApart (λ f. f.name.0) fields.now }
     ensures { Gives view result (answer.object_from (λ f. default_of schema.now.decls levels f) (λ u j. part_from schema.now.decls levels u j) fields.now (members_view members.now.entries)) }
 {
     if let Err(fault) = check_keys(alloc, fields, members) {
@@ -327,9 +329,21 @@ fn read_object(
     }
 }
 
+// Refuses the least key that names no field. Where as many fields are found as there are keys, each key names one, so
+// the keys are looked through only for a refusal.
 fn check_keys(alloc: Global, fields: &[Field], members: &Map<String, Json>) -> Result<(), Fault>
+    requires { AreApart (λ f. f.name.0) fields.now }
     ensures { Gives (λ _. tt) result (answer.known_from (answer.unknown_in fields.now (members_view members.now.entries))) }
 {
+    let mut found: usize = 0;
+    for field in fields {
+        if member_of(members, field.name.0.as_str()).is_some() {
+            found += 1;
+        }
+    }
+    if found == members.len() {
+        return Ok(());
+    }
     match unknown_key(fields, members) {
         Some(key) => {
             let fault = refused(alloc, Reason::UnknownKey);

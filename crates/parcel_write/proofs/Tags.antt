@@ -1,5 +1,5 @@
 -- The tag of a union of a schema is a small number.
-use Rattle.std.proofs.Common.{◌≡◌, ℕ, ◌^◌, ◌<◌, true, List, arith}
+use Rattle.std.proofs.Common.{ℕ, ◌^◌, ◌<◌, List, arith}
 use Rattle.std.proofs.lemmas.Option.{slice_get_within}
 use Rattle.aidl_schema.specs.declared.schema.Decl.{Decl}
 use Rattle.aidl_schema.specs.declared.schema.AidlType.{AidlType}

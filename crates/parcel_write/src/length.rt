@@ -1,7 +1,7 @@
-ghost use Rattle.std.specs.Prelude.{◌≡◌, ◌+◌, ◌≤◌, ℤ, length, min};
+ghost use Rattle.std.specs.Prelude.{◌≡◌, ◌+◌, ℤ, length, min};
 ghost use Rattle.aidl_base.specs.Words.{padding};
 ghost use Rattle.aidl_schema.specs.Seen.{seen};
-ghost use Rattle.aidl_values.specs.Data.{depth_of};
+ghost use Rattle.aidl_values.specs.Fits.{Fits};
 ghost use Rattle.aidl_values.specs.HasType.{HasType, HaveType, FieldsHaveType};
 ghost use Rattle.aidl_values.specs.View.{view, views};
 ghost use Rattle.wire_model.specs.Spell.{spell, spell_number, spell_items, spell_fields};
@@ -13,8 +13,7 @@ use parcel_words::Wire;
 
 /// The number of bytes that spell a value of the type, or `usize::MAX` where they are more. It takes no memory.
 pub fn spelled_length(schema: &Schema, ty: &AidlType, value: &Value) -> usize
-    requires typed { HasType schema.now.decls ty.now (view value.now) }
-    requires deep { depth_of (view value.now) ≤ 64 }
+    requires { Fits schema.now.decls ty.now (view value.now) }
     ensures { result ≡ min (length (spell schema.now.decls ty.now (view value.now))) usize.MAX }
 {
     length_of(schema, *ty, value)

@@ -1,6 +1,5 @@
-ghost use Rattle.std.specs.Prelude.{◌≡◌, ◌≤◌, ◌<◌, ◌↔◌, length, IfOk, IsErrOf};
-ghost use Rattle.aidl_values.specs.Data.{depth_of};
-ghost use Rattle.aidl_values.specs.HasType.{HasType};
+ghost use Rattle.std.specs.Prelude.{◌≡◌, ◌<◌, ◌↔◌, length, IfOk, IsErrOf};
+ghost use Rattle.aidl_values.specs.Fits.{Fits};
 ghost use Rattle.aidl_values.specs.View.{view};
 ghost use Rattle.wire_model.specs.Spell.{spell};
 ghost use Rattle.parcel_write.specs.declared.parcel.WriteFault.TheVariants.{TooLarge, OutOfMemory as NoMemory};
@@ -38,8 +37,7 @@ pub fn write(
     ty: &AidlType,
     value: &Value,
 ) -> Result<Vec<u8>, WriteFault>
-    requires typed { HasType schema.now.decls ty.now (view value.now) }
-    requires deep { depth_of (view value.now) ≤ 64 }
+    requires { Fits schema.now.decls ty.now (view value.now) }
     // What is written is the spelling.
     ensures spelled { IfOk result (λ bytes. bytes.items ≡ spell schema.now.decls ty.now (view value.now)) }
     // Too large are the spellings of more than 1,048,576 bytes, and no others.

@@ -1,7 +1,7 @@
 ghost use Rattle.std.specs.Prelude.{◌≡◌, ◌≤◌, ◌<◌, ◌^◌, pos, length};
 ghost use Rattle.aidl_base.specs.Words.{word};
 ghost use Rattle.aidl_schema.specs.Types.{form_of};
-ghost use Rattle.aidl_values.specs.Data.{depth_of};
+ghost use Rattle.aidl_values.specs.Fits.{Fits};
 ghost use Rattle.aidl_values.specs.HasType.{HasType, HaveType, FieldsHaveType};
 ghost use Rattle.aidl_values.specs.View.{view, views};
 ghost use Rattle.parcel_words.specs.Written.{with_bytes};
@@ -16,8 +16,7 @@ use parcel_words::{Wire, WordWriter};
 
 /// Appends the bytes that spell a value of the type. It takes no memory.
 pub fn put_value(schema: &Schema, ty: &AidlType, value: &Value, to: &mut WordWriter)
-    requires typed { HasType schema.now.decls ty.now (view value.now) }
-    requires deep { depth_of (view value.now) ≤ 64 }
+    requires fits { Fits schema.now.decls ty.now (view value.now) }
     requires small { length (spell schema.now.decls ty.now (view value.now)) < 2 ^ 31 }
     requires room { length (spell schema.now.decls ty.now (view value.now)) ≤ to.old.room }
     ensures { to.new ≡ with_bytes to.old (spell schema.now.decls ty.now (view value.now)) }

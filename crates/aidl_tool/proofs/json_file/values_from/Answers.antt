@@ -17,6 +17,6 @@ loop-i-preserved c =
     let value = c.in_ok-value_at.ensures in
     record {
       same = c.loop-i.invariant.same;
-      typed = rw (more, take_more ts k no_type c.loop-i-test.true) (typed_more S (take k ts) _ ds v c.loop-i.invariant.typed value.typed value.shallow);
+      typed = rw (more, take_more ts k no_type c.loop-i-test.true) (typed_more S (take k ts) _ ds v c.loop-i.invariant.typed value.fits);
       all = rw more (sym (values_more S ts c.args.items.now k no_type c.index-items-i.result ds v c.loop-i-test.true (omega arith) (search rules) value.ok) ∙ c.loop-i.invariant.all);
     }

@@ -8,6 +8,9 @@ use Rattle.aidl_values.specs.View.{view, views}
 use Rattle.json_values.specs.FromJson.{elements_from, sequence_from}
 use Rattle.json_values.proofs.Parts.{from_json_of-by, from_by-sequence, sequence_from-some, items_more, items_done, fields_more, fields_done}
 use Rattle.json_values.proofs.Whole.{few_fields}
+use Rattle.json_values.proofs.Names.{name_of_field, fields_apart}
+use Rattle.json_values.specs.Named.{fields_in}
+use Rattle.aidl_schema.specs.Holds.{AreApart}
 use Rattle.json_values.proofs.reading.+reading.Goals as goal
 use Rattle.json_values.specs.steps.Levels.{part_from, default_of}
 use Rattle.aidl_values.specs.steps.Levels.{is_level_left}
@@ -40,6 +43,10 @@ read_fields-returns t c =
     sym c.loop-field.invariant ∙ fields_done (λ f. default_of c.args.schema.now.decls c.args.levels f) (λ u j. part_from c.args.schema.now.decls c.args.levels u j) (members_view c.args.members.now.entries) c.args.fields.now
     c.loop-field.field-index (map view c.loop-field.values.items) (omega arith)
     ∙ ap (λ vs. Ok (views vs)) (sym c.from_vec.ensures)
+
+pub read_one-read_record-requires : goal.read_one-read_record-requires
+read_one-read_record-requires t c =
+    (search rules, (c.requires, subst (λ f. AreApart name_of_field (fields_in f)) (sym c.form_in-form.ensures ∙ ap seen c.in-Parcelable.is) (fields_apart c.args.schema.now.decls c.law_valid.ensures.declarations c.args.base)))
 
 pub read_one-read_union-requires : goal.read_one-read_union-requires
 read_one-read_union-requires t c = (search rules, (c.requires, few_fields c.args.schema.now.decls c.law_sound.ensures c.args.base c.in-Union.fields.now (sym c.form_in-form.ensures ∙ ap seen c.in-Union.is)))

@@ -1,0 +1,88 @@
+-- Where as many fields are found as there are keys, each key names a field.
+use Rattle.std.proofs.Common.{◌≡◌, ℕ, zero, suc, ◌+◌, ◌≤◌, Bool, true, false, cond, List, [], ◌∷◌, Option, Some, None, slice_get, is_some, Ordering, Less, Equal, Greater, refl, sym, ap, ◌∙◌, arith, true≢false}
+use Rattle.std.specs.Prelude.{if◌then◌else◌}
+use Rattle.std.specs.Cmp.Lexicographic.{slice_cmp}
+use Rattle.std.specs.List.{count_by, list_any}
+use Rattle.std.specs.Ordering.{is_eq, nat_cmp, match_ordering}
+use Rattle.std.proofs.lemmas.List.Sums.{sum_by-cons}
+use Rattle.std.proofs.lemmas.Map.Text.{is_eq-slice_cmp}
+use Rattle.std.proofs.lemmas.Slice.Eq.{bytes_eq-Decides}
+use Rattle.serde_json.specs.Data as json
+use Rattle.serde_json.specs.Find.{get_member}
+use Rattle.serde_json.specs.Events.{members_len}
+use Rattle.aidl_schema.specs.declared.schema.Field.{Field}
+use Rattle.aidl_schema.specs.Holds.{AreApart}
+use Rattle.aidl_base.proofs.Tests.{neither}
+use Rattle.json_values.specs.FromJson.{has_name, unknown_in}
+use Rattle.json_values.specs.Named.{bytes_of}
+use Rattle.json_values.proofs.Names.{name_of_field, later_fields, names_differ, text_apart}
+
+abbrev one_if : Bool → ℕ
+one_if b = cond b 1 0
+
+-- a field that is found among the members
+abbrev pub is_found : json.Members → Field → Bool
+is_found ms f = is_some (get_member (bytes_of f.name) ms)
+
+found-cons : (ms : json.Members) (f : Field) (fs : List Field) → count_by (is_found ms) (f ∷ fs) ≡ cond (is_found ms f) 1 0 + count_by (is_found ms) fs
+found-cons ms f fs = sum_by-cons (λ x. cond (is_found ms x) 1 0) f fs
+
+at_most_one : (b : Bool) → cond b 1 0 ≤ 1
+at_most_one true = omega arith
+at_most_one false = omega arith
+
+skipped : (o : Ordering) (a b : Option json.Data) → is_eq o ≡ false → match_ordering o a b a ≡ a
+skipped Less a b e = refl
+skipped Equal a b e = absurd (true≢false e)
+skipped Greater a b e = refl
+
+-- a member of another name changes nothing
+other_member : (l : List ℕ) (j : json.Data) (ms : json.Members) (f : Field) → has_name l f ≡ false → is_found (json.member l j ms) f ≡ is_found ms f
+other_member l j ms f other =
+    ap is_some (skipped (slice_cmp nat_cmp (bytes_of f.name) l) (get_member (bytes_of f.name) ms) (Some j) (is_eq-slice_cmp (bytes_of f.name) l ∙ other))
+
+none_more : (l : List ℕ) (j : json.Data) (ms : json.Members) (fs : List Field) → list_any (λ f. has_name l f) fs ≡ false → count_by (is_found (json.member l j ms)) fs ≡ count_by (is_found ms) fs
+none_more l j ms [] none = refl
+none_more l j ms (f ∷ fs) none =
+    let two = neither (has_name l f) (list_any (λ g. has_name l g) fs) none in
+    let here = other_member l j ms f two.0 in
+    let later = none_more l j ms fs two.1 in
+    found-cons (json.member l j ms) f fs ∙ ap (λ b. cond b 1 0 + count_by (is_found (json.member l j ms)) fs) here ∙ ap (λ n. cond (is_found ms f) 1 0 + n) later ∙ sym (found-cons ms f fs)
+
+none_named : (l : List ℕ) (f : Field) (fs gs : List Field) → has_name l f ≡ true → ((k : ℕ) (g : Field) → slice_get gs k ≡ Some g → bytes_of g.name ≡ bytes_of f.name → ⊥) → list_any (λ g. has_name l g) gs ≡ false
+none_named l f fs [] is differ = refl
+none_named l f fs (g ∷ gs) is differ =
+    let same : bytes_of f.name ≡ l = (bytes_eq-Decides (bytes_of f.name) l).0 is in
+    let other : has_name l g ≡ false = text_apart (bytes_of g.name) l (λ e. differ zero g refl (e ∙ sym same)) in
+    rw other (none_named l f fs gs is (λ k h at. differ (suc k) h at))
+
+-- a member more finds at most one field more
+one_more : (l : List ℕ) (j : json.Data) (ms : json.Members) (fs : List Field) → AreApart name_of_field fs → count_by (is_found (json.member l j ms)) fs ≤ suc (count_by (is_found ms) fs)
+one_more l j ms [] apart = omega arith
+one_more l j ms (f ∷ fs) apart = by (has_name l f) refl (one_more l j ms fs (later_fields f fs apart))
+  where
+    by : (b : Bool) → has_name l f ≡ b → count_by (is_found (json.member l j ms)) fs ≤ suc (count_by (is_found ms) fs)
+        → count_by (is_found (json.member l j ms)) (f ∷ fs) ≤ suc (count_by (is_found ms) (f ∷ fs))
+    by true is later =
+        let same = none_more l j ms fs (none_named l f fs fs is (λ k g at. names_differ f fs apart k g at)) in
+        let one = at_most_one (is_found (json.member l j ms) f) in
+        omega (arith, found-cons (json.member l j ms) f fs, found-cons ms f fs, same, one)
+    by false is later =
+        let same = ap (λ b. one_if b) (other_member l j ms f is) in
+        omega (arith, found-cons (json.member l j ms) f fs, found-cons ms f fs, same, later)
+
+none_found : (fs : List Field) → count_by (is_found json.no_members) fs ≡ 0
+none_found [] = refl
+none_found (f ∷ fs) = omega (arith, found-cons json.no_members f fs, none_found fs)
+
+few_found : (fs : List Field) → AreApart name_of_field fs → (ms : json.Members) → count_by (is_found ms) fs ≤ members_len ms
+few_found fs apart json.no_members = let none = none_found fs in omega arith
+few_found fs apart (json.member l j ms) = let later = few_found fs apart ms in let more = one_more l j ms fs apart in omega arith
+
+pub all_known : (fs : List Field) → AreApart name_of_field fs → (ms : json.Members) → members_len ms ≤ count_by (is_found ms) fs → unknown_in fs ms ≡ None
+all_known fs apart json.no_members all = refl
+all_known fs apart (json.member l j ms) all = by (list_any (λ f. has_name l f) fs) refl (λ le. all_known fs apart ms le)
+  where
+    by : (b : Bool) → list_any (λ f. has_name l f) fs ≡ b → (members_len ms ≤ count_by (is_found ms) fs → unknown_in fs ms ≡ None) → (if b then unknown_in fs ms else Some l) ≡ None
+    by true is rest = let more = one_more l j ms fs apart in rest (omega arith)
+    by false is rest = let same = none_more l j ms fs is in let few = few_found fs apart ms in absurd (omega arith)
