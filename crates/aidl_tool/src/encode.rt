@@ -4,7 +4,7 @@ ghost use Rattle.hex.specs.Hex.{encode_lower};
 ghost use Rattle.serde_json.specs.View.{view as json_view};
 ghost use Rattle.aidl_values.specs.View.{view};
 ghost use Rattle.json_values.specs.Gives.{refusal_of};
-ghost use Rattle.parcel_words.specs.Written.{with_bytes};
+ghost use Rattle.parcel_cursors.specs.Written.{with_bytes};
 ghost use Rattle.aidl_tool.specs.Answer.{done};
 ghost use Rattle.aidl_tool.specs.Encode.{encode_answer, json_found, reason_name, refused, spell_values, values_found};
 ghost use Rattle.aidl_tool.specs.JsonFile.{AreTyped, json_of, unread_refusal, values_of};

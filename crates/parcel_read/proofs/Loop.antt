@@ -7,9 +7,9 @@ use Rattle.aidl_schema.specs.declared.schema.AidlType.{AidlType}
 use Rattle.aidl_values.specs.Data.{Data, Items, item}
 use Rattle.aidl_values.specs.View.{items_of}
 use Rattle.aidl_values.proofs.Fronts.{onto, onto-push, onto-none, with_front, front_more}
-use Rattle.parcel_words.specs.declared.fault.ReadFault.{ReadFault}
-use Rattle.parcel_words.specs.Taken.{RefusesIfMemory}
-use Rattle.parcel_words.proofs.Faults.{fails_as}
+use Rattle.parcel_cursors.specs.declared.fault.ReadFault.{ReadFault}
+use Rattle.parcel_cursors.specs.Taken.{RefusesIfMemory}
+use Rattle.parcel_cursors.proofs.Faults.{fails_as}
 use Rattle.wire_model.specs.ReadOf.{each_at, field_at, fields_at}
 
 -- what was read before, and what is still read

@@ -8,12 +8,12 @@ use Rattle.aidl_base.specs.Words.{word_of}
 use Rattle.aidl_schema.specs.declared.schema.Field.{Field}
 use Rattle.aidl_schema.specs.declared.schema.AidlType.{AidlType}
 use Rattle.aidl_values.specs.Data.{Data, Items, rec}
-use Rattle.parcel_words.specs.Place.{Place, left, moved, closed, size_at, MovesOn, Enters, is_inside}
-use Rattle.parcel_words.specs.Taken.{RefusesIfMemory}
-use Rattle.parcel_words.specs.declared.fault.ReadFault.{ReadFault}
+use Rattle.parcel_cursors.specs.Place.{Place, left, moved, closed, size_at, MovesOn, Enters, is_inside}
+use Rattle.parcel_cursors.specs.Taken.{RefusesIfMemory}
+use Rattle.parcel_cursors.specs.declared.fault.ReadFault.{ReadFault}
 use Rattle.wire_model.specs.ReadOf.{body_at, body_value_at, fields_at}
-use Rattle.parcel_words.proofs.Faults.{fails_as}
-use Rattle.parcel_words.proofs.Records.{left_moved, left_opened}
+use Rattle.parcel_cursors.proofs.Faults.{fails_as}
+use Rattle.parcel_cursors.proofs.Records.{left_moved, left_opened}
 
 -- a body after its size, which is there and fits
 abbrev after_size : Read ℕ → Read (List ℕ)

@@ -1,23 +1,15 @@
 -- What a reader that began at the start of the bytes has passed, and what the words of a reading say of it.
-use Rattle.std.proofs.Common.{◌≡◌, ℕ, ◌+◌, ◌-◌, ◌≤◌, Bool, true, false, List, [], length, take, drop, Ok, IfSome, refl, sym, ap, ◌∙◌, subst, arith, length-drop}
-use Rattle.std.proofs.lemmas.List.{take_all}
+use Rattle.std.proofs.Common.{◌≡◌, ℕ, ℤ, ◌+◌, ◌-◌, ◌≤◌, Bool, false, List, [], ◌++◌, length, take, drop, Ok, Err, IfSome, refl, sym, ap, ◌∙◌, subst, arith, length-append, length-drop}
+use Rattle.std.proofs.lemmas.List.{take_all, take-append-drop}
+use Rattle.std.specs.Prelude.{◌↔◌}
+use Rattle.aidl_base.proofs.Lists.{take_front}
 use Rattle.aidl_base.specs.Readings.{Read, bad_value, not_enough, unexpected_null}
 use Rattle.aidl_base.specs.declared.profile.Profile.{Profile}
-use Rattle.aidl_schema.specs.declared.schema.Decl.{Decl}
-use Rattle.aidl_schema.specs.declared.schema.AidlType.{AidlType}
-use Rattle.aidl_schema.specs.Types.{is_type}
 use Rattle.aidl_values.specs.Data.{Data}
-use Rattle.aidl_values.specs.HasType.{HasType}
-use Rattle.aidl_values.specs.Sound.{IsSound}
-use Rattle.parcel_words.specs.Place.{Place, left, is_inside, moved, MovesOn}
-use Rattle.parcel_words.specs.Taken.{RefusesIfMemory, status_of}
-use Rattle.parcel_words.specs.declared.fault.ReadFault.{ReadFault}
-use Rattle.parcel_words.specs.declared.fault.ReadFault.TheVariants.{NotEnough, UnexpectedNull, BadValue, OutOfMemory}
-use Rattle.wire_model.specs.ReadOf.{read_of}
-use Rattle.wire_model.specs.Reads.{Reads}
-use Rattle.wire_model.specs.Stop.{Stop}
-use Rattle.aidl_base.proofs.Bytes.{AreBytes}
-use Rattle.wire_model.proofs.Reading.{read_take, read_typed, read_only, read_none, read_stop}
+use Rattle.parcel_cursors.specs.Place.{Place, left, is_inside, moved, MovesOn}
+use Rattle.parcel_cursors.specs.Taken.{RefusesIfMemory, status_of}
+use Rattle.parcel_cursors.specs.declared.fault.ReadFault.{ReadFault}
+use Rattle.parcel_cursors.specs.declared.fault.ReadFault.TheVariants.{NotEnough, UnexpectedNull, BadValue, OutOfMemory}
 
 module _ (profile : Profile) (bytes : List ℕ) where
   -- where a reader begins
@@ -51,29 +43,41 @@ module _ (profile : Profile) (bytes : List ℕ) where
       pub read_then : (read : Profile → Bool → List ℕ → Read Data) (v : Data) → read p.profile (is_inside p) (left p) ≡ Ok (v, left q) → read profile false bytes ≡ Ok (v, drop n bytes)
       read_then read v e = sym (at_start read) ∙ e ∙ ap (λ (rest : List ℕ). Ok (v, rest)) left_then
 
-module _ (profile : Profile) (S : List Decl) (sound : IsSound S) (t : AidlType) (type : is_type S t ≡ true) (bytes : List ℕ) (good : AreBytes bytes) where
-  module _ (v : Data) (n : ℕ) (within : n ≤ length bytes) (e : read_of profile S 64 t false bytes ≡ Ok (v, drop n bytes)) where
-    passed : length bytes - length (drop n bytes) ≡ n
-    passed = omega (arith, length-drop n bytes)
+-- What reading answers, and what a reading and a stop are: `law_read_of` gives the two facts.
+module _ (bytes : List ℕ) (read : Read Data) (IsRead : List ℕ → Data → Type 0) (IsStop : ℤ → Type 0)
+    (reads : (v : Data) (rest : List ℕ) → (read ≡ Ok (v, rest)) ↔ ((front : List ℕ) × (bytes ≡ front ++ rest) × IsRead front v))
+    (stops : (s : ℤ) → (read ≡ Err s) ↔ IsStop s) where
+  -- a front that is a reading is read
+  front_read : (w : Data) (m : ℕ) → IsRead (take m bytes) w → read ≡ Ok (w, drop m bytes)
+  front_read w m h = (reads w (drop m bytes)).1 (take m bytes, sym (take-append-drop m bytes), h)
 
-    pub is_found : Reads profile S 64 t (take n bytes) v
-    is_found = subst (λ k. Reads profile S 64 t (take k bytes) v) passed (read_take profile S sound 64 t type false bytes good v (drop n bytes) e)
+  module _ (v : Data) (n : ℕ) (within : n ≤ length bytes) (e : read ≡ Ok (v, drop n bytes)) where
+    pub is_found : IsRead (take n bytes) v
+    is_found =
+        let h = (reads v (drop n bytes)).0 e in
+        let len : length h.0 ≡ n = omega (arith, ap length h.1, length-append h.0 (drop n bytes), length-drop n bytes) in
+        let front : h.0 ≡ take n bytes = sym (take_front h.0 (drop n bytes) n len) ∙ ap (take n) (sym h.1) in
+        subst (λ c. IsRead c v) front h.2
 
-    pub is_typed : HasType S t v
-    is_typed = read_typed profile S sound 64 t type false bytes good v (drop n bytes) e
+    pub is_only : (w : Data) (m : ℕ) → m ≤ length bytes → IsRead (take m bytes) w → (v ≡ w) × (n ≡ m)
+    is_only w m le h =
+        let same : ◌≡◌ {A = Read Data} (Ok (v, drop n bytes)) (Ok (w, drop m bytes)) = sym e ∙ front_read w m h in
+        let pair : ◌≡◌ {A = Data × List ℕ} (v, drop n bytes) (w, drop m bytes) = cc in
+        let left : length (drop n bytes) ≡ length (drop m bytes) = ap (λ (q : Data × List ℕ). length q.1) pair in
+        (ap (λ (q : Data × List ℕ). q.0) pair, omega (arith, length-drop n bytes, length-drop m bytes))
 
-    pub is_only : (w : Data) (m : ℕ) → m ≤ length bytes → Reads profile S 64 t (take m bytes) w → (v ≡ w) × (n ≡ m)
-    is_only w m le h = let same = read_only profile S sound 64 t type false bytes good v w (drop n bytes) m le e h in (sym same.0, sym (same.1 ∙ passed))
-
-  pub is_stop : (e : ReadFault) → RefusesIfMemory e (read_of profile S 64 t false bytes) → IfSome (status_of e) (λ s. Stop profile S 64 t bytes false s)
-  is_stop NotEnough h = read_stop profile S sound 64 t type false bytes good not_enough h
-  is_stop UnexpectedNull h = read_stop profile S sound 64 t type false bytes good unexpected_null h
-  is_stop BadValue h = read_stop profile S sound 64 t type false bytes good bad_value h
+  pub is_stop : (e : ReadFault) → RefusesIfMemory e read → IfSome (status_of e) IsStop
+  is_stop NotEnough h = (stops not_enough).0 h
+  is_stop UnexpectedNull h = (stops unexpected_null).0 h
+  is_stop BadValue h = (stops bad_value).0 h
   is_stop OutOfMemory h = tt
 
+  not_refused : (s : ℤ) (w : Data) (m : ℕ) → read ≡ Err s → IsRead (take m bytes) w → ⊥
+  not_refused s w m h k = let same : ◌≡◌ {A = Read Data} (Ok (w, drop m bytes)) (Err s) = sym (front_read w m k) ∙ h in absurd cc
+
   -- Where a front is a reading, only memory can have been wanted.
-  pub is_memory : (e : ReadFault) → RefusesIfMemory e (read_of profile S 64 t false bytes) → (w : Data) (m : ℕ) → Reads profile S 64 t (take m bytes) w → e ≡ OutOfMemory
-  is_memory NotEnough h w m reads = absurd (read_none profile S sound 64 t type false bytes good not_enough w m h reads)
-  is_memory UnexpectedNull h w m reads = absurd (read_none profile S sound 64 t type false bytes good unexpected_null w m h reads)
-  is_memory BadValue h w m reads = absurd (read_none profile S sound 64 t type false bytes good bad_value w m h reads)
-  is_memory OutOfMemory h w m reads = refl
+  pub is_memory : (e : ReadFault) → RefusesIfMemory e read → (w : Data) (m : ℕ) → IsRead (take m bytes) w → e ≡ OutOfMemory
+  is_memory NotEnough h w m k = absurd (not_refused not_enough w m h k)
+  is_memory UnexpectedNull h w m k = absurd (not_refused unexpected_null w m h k)
+  is_memory BadValue h w m k = absurd (not_refused bad_value w m h k)
+  is_memory OutOfMemory h w m k = refl

@@ -1,11 +1,12 @@
 //! The front of the bytes as a value.
-ghost use Rattle.std.specs.Prelude.{◌≡◌, ◌≤◌, ℕ, true, false, length, take, drop, IfOk, IfErr, IfSome, MatchResult, Ok};
+ghost use Rattle.std.specs.Prelude.{◌≡◌, ◌*◌, ◌≤◌, ℕ, true, false, length, take, drop, IfOk, IfErr, IfSome, MatchResult, Ok};
 ghost use Rattle.aidl_schema.specs.Types.{is_type};
 ghost use Rattle.aidl_values.specs.Data.{Data};
 ghost use Rattle.aidl_values.specs.HasType.{HasType};
+ghost use Rattle.aidl_values.specs.Nodes.{nodes_of};
 ghost use Rattle.aidl_values.specs.View.{view};
-ghost use Rattle.parcel_words.specs.Taken.{RefusesIfMemory, status_of};
-ghost use Rattle.parcel_words.specs.declared.fault.ReadFault.TheVariants.{OutOfMemory as NoMemory};
+ghost use Rattle.parcel_cursors.specs.Taken.{RefusesIfMemory, status_of};
+ghost use Rattle.parcel_cursors.specs.declared.fault.ReadFault.TheVariants.{OutOfMemory as NoMemory};
 ghost use Rattle.wire_model.specs.ReadOf.{read_of};
 ghost use Rattle.wire_model.specs.Reads.{Reads};
 ghost use Rattle.wire_model.specs.Stop.{Stop};
@@ -16,6 +17,7 @@ use aidl_schema::{AidlType, Schema};
 use aidl_values::Value;
 use parcel_words::{ReadFault, WordReader};
 use std::alloc::Global;
+use wire_model::law_read_of;
 
 /// Reads the front of the bytes by the profile: the value, and how many bytes it takes. Without want of memory it answers exactly a
 /// front that is a reading, and else refuses with the status of the first wrong item.
@@ -37,12 +39,15 @@ pub fn read(
     ensures found { IfOk result (λ x. Reads profile schema.now.decls 64 ty.now (take x.1 bytes.now) (view x.0)) }
     // It has the type.
     ensures typed { IfOk result (λ x. HasType schema.now.decls ty.now (view x.0)) }
+    // It has at most 64 nodes for each byte that is used.
+    ensures nodes { IfOk result (λ x. nodes_of (view x.0) ≤ 64 * x.1) }
     // A front that is a reading is what is read, unless memory runs out.
     ensures only { (v : Data) (n : ℕ) → n ≤ length bytes.now → Reads profile schema.now.decls 64 ty.now (take n bytes.now) v
         → MatchResult result (λ x. (view x.0 ≡ v) × (x.1 ≡ n)) (λ fault. fault ≡ NoMemory) }
     // A refusal has the status of the first wrong item.
     ensures stopped { IfErr result (λ fault. IfSome (status_of fault) (λ s. Stop profile schema.now.decls 64 ty.now bytes.now false s)) }
 {
+    law_read_of(profile, schema, ty, 64, bytes, false);
     let mut from = WordReader::new(profile, bytes);
     let value = value_from(alloc, schema, *ty, 64, &mut from)?;
     Ok((value, from.position()))

@@ -14,8 +14,8 @@ use Rattle.aidl_values.specs.View.{views}
 use Rattle.aidl_values.specs.declared.value.Value.{Value}
 use Rattle.wire_model.specs.Spell.{spell, spell_items, raw_bytes}
 use Rattle.wire_model.proofs.spelled.Sizes.{spell_items_whole}
-use Rattle.parcel_words.specs.Written.{Written, with_bytes}
-use Rattle.parcel_words.proofs.Appends.{with_more}
+use Rattle.parcel_cursors.specs.Written.{Written, with_bytes}
+use Rattle.parcel_cursors.proofs.Appends.{with_more}
 use Rattle.parcel_write.specs.steps.Bytes.{AreByteValues}
 use Rattle.parcel_write.proofs.Raw.{count_views, length_raw_sequence}
 

@@ -1,7 +1,7 @@
 ghost use Rattle.std.specs.Prelude.{◌≡◌, ◌≤◌, true, length};
 ghost use Rattle.aidl_schema.specs.Constants.{in_range};
 ghost use Rattle.aidl_schema.specs.Seen.{seen};
-ghost use Rattle.parcel_words.specs.Written.{with_bytes};
+ghost use Rattle.parcel_cursors.specs.Written.{with_bytes};
 ghost use Rattle.wire_model.specs.Spell.{spell_number};
 
 use aidl_schema::Form;

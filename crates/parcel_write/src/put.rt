@@ -4,7 +4,7 @@ ghost use Rattle.aidl_schema.specs.Types.{form_of};
 ghost use Rattle.aidl_values.specs.Fits.{Fits};
 ghost use Rattle.aidl_values.specs.HasType.{HasType, HaveType, FieldsHaveType};
 ghost use Rattle.aidl_values.specs.View.{view, views};
-ghost use Rattle.parcel_words.specs.Written.{with_bytes};
+ghost use Rattle.parcel_cursors.specs.Written.{with_bytes};
 ghost use Rattle.wire_model.specs.Spell.{spell, spell_null, spell_items, spell_fields};
 
 use crate::bytes::put_raw;
@@ -83,7 +83,7 @@ fn put_tag(tag: u32, to: &mut WordWriter)
 
 /// Appends the elements of a sequence.
 #[cycle(put)]
-#[tactic(auto, using(parcel_words::proofs::Appends::with_more, parcel_words::proofs::Appends::with_none))]
+#[tactic(auto, using(parcel_cursors::proofs::Appends::with_more, parcel_cursors::proofs::Appends::with_none))]
 fn put_items(schema: &Schema, ty: AidlType, items: &[Value], to: &mut WordWriter)
     requires typed { HaveType schema.now.decls ty (views items.now) }
     requires small { length (spell_items schema.now.decls ty (views items.now)) < 2 ^ 31 }

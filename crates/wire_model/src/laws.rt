@@ -1,4 +1,4 @@
-ghost use Rattle.std.specs.Prelude.{◌≡◌, ◌*◌, ◌≤◌, ◌↔◌, ◌++◌, ◌⊎◌, true, List, ℕ, ℤ, Ok, Err, length};
+ghost use Rattle.std.specs.Prelude.{◌≡◌, ◌-◌, ◌*◌, ◌≤◌, ◌↔◌, ◌++◌, ◌⊎◌, true, List, ℕ, ℤ, Ok, Err, length};
 ghost use Rattle.aidl_base.specs.declared.profile.Profile.TheVariants.{Strict, Lenient};
 ghost use Rattle.aidl_schema.specs.Types.{is_type};
 ghost use Rattle.aidl_values.specs.Data.{Data, depth_of};
@@ -72,7 +72,8 @@ pub fn law_reads_or_stops(
 {}
 
 /// Reading as a plain function is exactly `Reads` and `Stop`: it gives a value and the bytes after it where a front is a
-/// reading of that value and those bytes follow it, and a status where the bytes stop with that status.
+/// reading of that value and those bytes follow it, and a status where the bytes stop with that status. The value has the
+/// type, and at most 64 nodes for each byte before the rest.
 pub fn law_read_of(
     profile: Profile,
     schema: &Schema,
@@ -86,7 +87,13 @@ pub fn law_read_of(
         ↔ ((front : List ℕ) × (b.now ≡ front ++ rest) × Reads profile schema.now.decls levels ty.now front v) }
     ensures stops { (s : ℤ) → (read_of profile schema.now.decls levels ty.now inside b.now ≡ Err s)
         ↔ Stop profile schema.now.decls levels ty.now b.now inside s }
-{}
+    ensures typed { (v : Data) (rest : List ℕ) → read_of profile schema.now.decls levels ty.now inside b.now ≡ Ok (v, rest)
+        → HasType schema.now.decls ty.now v }
+    ensures nodes { (v : Data) (rest : List ℕ) → read_of profile schema.now.decls levels ty.now inside b.now ≡ Ok (v, rest)
+        → nodes_of v ≤ 64 * (length b.now - length rest) }
+{
+    law_valid(schema);
+}
 
 /// What is read of so many bytes has at most 64 times as many nodes: the values in it, itself included, and one for each
 /// character of each text. So no count and no size word makes a large value by itself.

@@ -1,6 +1,6 @@
 use Rattle.std.proofs.Common.{◌≡◌, ◌^◌, ◌<◌, ◌≤◌, length, drop, map}
 use Rattle.aidl_values.specs.View.{view}
-use Rattle.parcel_words.specs.Written.{with_bytes}
+use Rattle.parcel_cursors.specs.Written.{with_bytes}
 use Rattle.aidl_tool.specs.Encode.{spell_values}
 use Rattle.aidl_tool.specs.JsonFile.{AreTyped}
 use Rattle.aidl_tool.proofs.encode.put_values.Given as goal

@@ -6,13 +6,13 @@ use Rattle.aidl_values.specs.Data.{Data, rec}
 use Rattle.aidl_values.specs.Sound.{initial_in}
 use Rattle.aidl_values.specs.View.{view, views}
 use Rattle.aidl_values.specs.declared.value.Value.{Rec, the_lemmas}
-use Rattle.parcel_words.specs.Place.{Place, left, is_inside, closed, MovesOn}
-use Rattle.parcel_words.specs.Taken.{TakesIfMemory, RefusesIfMemory}
-use Rattle.parcel_words.proofs.Moves.{on_and_on}
+use Rattle.parcel_cursors.specs.Place.{Place, left, is_inside, closed, MovesOn}
+use Rattle.parcel_cursors.specs.Taken.{TakesIfMemory, RefusesIfMemory}
+use Rattle.parcel_cursors.proofs.Moves.{on_and_on}
 use Rattle.wire_model.specs.ReadOf.{each_at, elements_at, field_at, fields_at, read_of}
 use Rattle.wire_model.proofs.Parts.{read_of-one, read_of-sequence, read_parts-below, elements_at-items}
 use Rattle.aidl_values.proofs.Levels.{level_left}
-use Rattle.parcel_words.proofs.Faults.{fails_then, refused_if_memory}
+use Rattle.parcel_cursors.proofs.Faults.{fails_then, refused_if_memory}
 use Rattle.parcel_read.proofs.Loop.{goes_on, ends, is_done, field_on, fields_done}
 use Rattle.parcel_read.proofs.Records.{stays, leaves, body_is, record_is, record_fails, no_record}
 use Rattle.parcel_read.proofs.tree.+read.Goals as goal

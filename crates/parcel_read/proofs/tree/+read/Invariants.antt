@@ -1,7 +1,7 @@
 use Rattle.std.proofs.Common.{◌≡◌, ◌+◌, ◌-◌, ◌*◌, true, map, drop}
 use Rattle.aidl_values.specs.Sound.{initial_in}
 use Rattle.aidl_values.specs.View.{view}
-use Rattle.parcel_words.specs.Place.{left, is_inside, MovesOn}
+use Rattle.parcel_cursors.specs.Place.{left, is_inside, MovesOn}
 use Rattle.wire_model.specs.ReadOf.{each_at, fields_at}
 use Rattle.aidl_values.proofs.Fronts.{with_front}
 use Rattle.parcel_read.proofs.Loop.{with_items}

@@ -4,8 +4,8 @@ use Rattle.aidl_base.proofs.Spelled.{length-spell_text}
 use Rattle.aidl_schema.specs.Types.{form_of, is_raw, elem, type_of_field}
 use Rattle.aidl_values.specs.HasType.{HasType}
 use Rattle.aidl_values.specs.View.{view, views}
-use Rattle.parcel_words.specs.Written.{with_bytes, with_size}
-use Rattle.parcel_words.proofs.Appends.{with_more}
+use Rattle.parcel_cursors.specs.Written.{with_bytes, with_size}
+use Rattle.parcel_cursors.proofs.Appends.{with_more}
 use Rattle.wire_model.specs.Spell.{spell, spell_items, spell_fields, raw_bytes, parcelable_fields, union_fields, body}
 use Rattle.parcel_write.proofs.Records.{record_written}
 use Rattle.parcel_write.proofs.Seen.{seen_text, seen_seq, seen_rec, seen_alt}

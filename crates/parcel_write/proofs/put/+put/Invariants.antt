@@ -1,7 +1,7 @@
 use Rattle.std.proofs.Common.{◌≡◌, ◌^◌, ◌<◌, ◌≤◌, length, drop}
 use Rattle.aidl_values.specs.HasType.{HaveType, FieldsHaveType}
 use Rattle.aidl_values.specs.View.{views}
-use Rattle.parcel_words.specs.Written.{with_bytes}
+use Rattle.parcel_cursors.specs.Written.{with_bytes}
 use Rattle.wire_model.specs.Spell.{spell_items, spell_fields}
 use Rattle.parcel_write.proofs.put.+put.Given as goal
 

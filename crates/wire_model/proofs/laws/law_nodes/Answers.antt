@@ -1,15 +1,10 @@
-use Rattle.std.proofs.Common.{◌≤◌, sym, subst}
-use Rattle.aidl_values.proofs.Sounds.{default_fits, one_default, sound}
-use Rattle.aidl_values.specs.Nodes.{nodes_of}
+use Rattle.aidl_values.proofs.Sounds.{sound}
 use Rattle.aidl_values.specs.View.{view}
-use Rattle.wire_model.proofs.Nodes.{nodes}
+use Rattle.wire_model.proofs.Nodes.{nodes, small_default}
 use Rattle.wire_model.proofs.Sound.{is_whole}
 use Rattle.wire_model.proofs.laws.law_nodes.Goals as goal
 
 pub returns : goal.returns
 returns c =
     let S = c.args.schema.now.decls in
-    let hold = c.law_valid.ensures.declarations in
-    nodes c.args.profile S (is_whole S (sound S c.args.schema.now.valid))
-    (λ t v type zero. subst (λ w. nodes_of w ≤ 512) (sym (one_default S hold t v type zero)) (default_fits S hold t type).small)
-    c.args.levels c.args.ty.now c.args.b.now (view c.args.value.now) c.requires
+    nodes c.args.profile S (is_whole S (sound S c.args.schema.now.valid)) (λ t v type h. small_default S c.law_valid.ensures.declarations t v type h) c.args.levels c.args.ty.now c.args.b.now (view c.args.value.now) c.requires

@@ -1,8 +1,10 @@
-use Rattle.std.proofs.Common.{ap, ◌∙◌, arith}
+use Rattle.std.proofs.Common.{length, ap, ◌∙◌, arith, length-append}
 use Rattle.aidl_base.proofs.Bytes.{AreBytes}
 use Rattle.aidl_values.proofs.Sounds.{sound}
+use Rattle.wire_model.proofs.Nodes.{nodes, small_default}
+use Rattle.wire_model.proofs.Sound.{is_whole}
 use Rattle.wire_model.specs.ReadOf.{read_of}
-use Rattle.wire_model.proofs.Reading.{reads_read, read_reads, stop_read, read_stop}
+use Rattle.wire_model.proofs.Reading.{reads_read, read_reads, read_typed, stop_read, read_stop}
 use Rattle.wire_model.proofs.laws.law_read_of.Goals as goal
 
 pub returns : goal.returns
@@ -14,8 +16,13 @@ returns c =
     let t = c.args.ty.now in
     let b = c.args.b.now in
     let inside = c.args.inside in
+    let few = nodes c.args.profile S (is_whole S sound) (λ t v type h. small_default S c.law_valid.ensures.declarations t v type h) in
     let bytes : AreBytes b = λ i. omega (arith, c.type_inv.b i) in
     record {
       reads = λ v rest. (read_reads c.args.profile S sound d t known inside b bytes v rest, λ h. ap (read_of c.args.profile S d t inside) h.1 ∙ reads_read c.args.profile S sound d t known inside h.0 rest v h.2);
+      typed = λ v rest. read_typed c.args.profile S sound d t known inside b bytes v rest;
+      nodes = λ v rest e.
+          let h = read_reads c.args.profile S sound d t known inside b bytes v rest e in
+          omega (arith, few d t h.0 v h.2, ap length h.1, length-append h.0 rest);
       stops = λ s. (read_stop c.args.profile S sound d t known inside b bytes s, stop_read c.args.profile S sound d t known inside b s bytes);
     }
