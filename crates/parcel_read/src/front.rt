@@ -12,7 +12,7 @@ ghost use Rattle.wire_model.specs.Stop.{Stop};
 
 use crate::tree::value_from;
 use aidl_schema::{AidlType, Schema};
-use aidl_values::Value;
+use aidl_values::{Value, law_sound};
 use parcel_words::{ReadFault, WordReader};
 use std::alloc::Global;
 
@@ -41,6 +41,7 @@ pub fn read(
     // A refusal has the status of the first wrong item.
     ensures stopped { IfErr result (λ fault. IfSome (status_of fault) (λ s. Stop schema.now.decls 64 ty.now bytes.now false s)) }
 {
+    law_sound(schema);
     let mut from = WordReader::new(bytes);
     let value = value_from(alloc, schema, *ty, 64, &mut from)?;
     Ok((value, from.position()))

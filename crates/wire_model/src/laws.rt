@@ -10,7 +10,7 @@ ghost use Rattle.wire_model.specs.Status.{IsStatus};
 ghost use Rattle.wire_model.specs.Stop.{Stop, Stops};
 
 use aidl_schema::{AidlType, Schema};
-use aidl_values::Value;
+use aidl_values::{Value, law_sound};
 
 /// What spells a value is a reading of it.
 pub fn law_spelled_reads(schema: &Schema, ty: &AidlType, levels: usize, value: &Value)
@@ -37,7 +37,9 @@ pub fn law_one_reading(
     requires front { (rest : List ℕ) × (c.now ≡ b.now ++ rest) }
     ensures bytes { b.now ≡ c.now }
     ensures values { view first.now ≡ view second.now }
-{}
+{
+    law_sound(schema);
+}
 
 /// Bytes begin a reading or stop, never both. They stop with one status alone, of which `first` and `second` are two,
 /// and it is BAD_VALUE, NOT_ENOUGH_DATA or UNEXPECTED_NULL.
@@ -58,7 +60,9 @@ pub fn law_reads_or_stops(
     ensures one_status { Stop schema.now.decls levels ty.now b.now inside first
         → Stop schema.now.decls levels ty.now b.now inside second → first ≡ second }
     ensures status { (s : ℤ) → Stop schema.now.decls levels ty.now b.now inside s → IsStatus s }
-{}
+{
+    law_sound(schema);
+}
 
 /// Reading as a plain function is exactly `Reads` and `Stop`: it gives a value and the bytes after it where a front is a
 /// reading of that value and those bytes follow it, and a status where the bytes stop with that status.
@@ -68,4 +72,6 @@ pub fn law_read_of(schema: &Schema, ty: &AidlType, levels: usize, b: &[u8], insi
         ↔ ((front : List ℕ) × (b.now ≡ front ++ rest) × Reads schema.now.decls levels ty.now front v) }
     ensures stops { (s : ℤ) → (read_of schema.now.decls levels ty.now inside b.now ≡ Err s)
         ↔ Stop schema.now.decls levels ty.now b.now inside s }
-{}
+{
+    law_sound(schema);
+}

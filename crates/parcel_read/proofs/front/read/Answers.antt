@@ -1,7 +1,6 @@
 use Rattle.std.proofs.Common.{subst, arith}
 use Rattle.std.proofs.lemmas.Result.{err_from_is_err_and}
 use Rattle.aidl_base.proofs.Bytes.{AreBytes}
-use Rattle.aidl_values.proofs.Sounds.{sound}
 use Rattle.aidl_values.specs.View.{view}
 use Rattle.parcel_words.specs.Taken.{RefusesIfMemory}
 use Rattle.wire_model.specs.ReadOf.{read_of}
@@ -11,7 +10,7 @@ use Rattle.parcel_read.proofs.front.read.Goals as goal
 pub returns-in_err-value : goal.returns-in_err-value
 returns-in_err-value c =
     let S = c.args.schema.now.decls in
-    let valid = sound S c.args.schema.now.valid in
+    let valid = c.law_sound.ensures in
     let t = c.args.ty.now in
     let b = c.args.bytes.now in
     let bytes : AreBytes b = λ i. omega (arith, c.type_inv.bytes i) in
@@ -30,7 +29,7 @@ returns-in_err-value c =
 pub returns : goal.returns
 returns c =
     let S = c.args.schema.now.decls in
-    let valid = sound S c.args.schema.now.valid in
+    let valid = c.law_sound.ensures in
     let t = c.args.ty.now in
     let b = c.args.bytes.now in
     let bytes : AreBytes b = λ i. omega (arith, c.type_inv.bytes i) in

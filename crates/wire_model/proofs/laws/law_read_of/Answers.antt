@@ -1,6 +1,5 @@
 use Rattle.std.proofs.Common.{ap, ◌∙◌, arith}
 use Rattle.aidl_base.proofs.Bytes.{AreBytes}
-use Rattle.aidl_values.proofs.Sounds.{sound}
 use Rattle.wire_model.specs.ReadOf.{read_of}
 use Rattle.wire_model.proofs.Reading.{reads_read, read_reads, stop_read, read_stop}
 use Rattle.wire_model.proofs.laws.law_read_of.Goals as goal
@@ -8,7 +7,7 @@ use Rattle.wire_model.proofs.laws.law_read_of.Goals as goal
 pub returns : goal.returns
 returns c =
     let S = c.args.schema.now.decls in
-    let sound = sound S c.args.schema.now.valid in
+    let sound = c.law_sound.ensures in
     let known = c.requires.known in
     let d = c.args.levels in
     let t = c.args.ty.now in
