@@ -11,7 +11,8 @@ use crate::schema::{Kind, Method, Schema};
 use aidl_base::Ident;
 use std::cmp::Ordering;
 
-/// The number of the declaration that has a canonical name, in steps as many as halvings. It takes no memory.
+/// The number of the declaration that has a canonical name, found by halving. It takes no memory; its stack is as deep as
+/// the name has parts.
 pub fn find(schema: &Schema, name: &str) -> Option<u32>
     ensures { result ≡ find.number_of_name schema.now.decls name.now }
 {

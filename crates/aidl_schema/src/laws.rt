@@ -7,7 +7,7 @@ ghost use Rattle.aidl_schema.specs.Containment.{Reaches, holds_itself};
 ghost use Rattle.aidl_schema.specs.Holds.{AllHold, AreApart, HasElements};
 ghost use Rattle.aidl_schema.specs.Names.{name_of};
 ghost use Rattle.aidl_schema.specs.Same.{same};
-ghost use Rattle.aidl_schema.specs.Sizes.{default_depth, default_nodes, depth_by, nodes_by};
+ghost use Rattle.aidl_schema.specs.Sizes.{AreSteady, default_depth, default_nodes, depth_by, nodes_by};
 ghost use Rattle.aidl_schema.specs.Types.{is_type};
 
 use crate::schema::{AidlType, Decl, Schema};
@@ -31,13 +31,15 @@ pub fn law_default_sizes(decls: &[Decl], ty: &AidlType)
 {}
 
 /// What a schema gives since it is valid: what holds of each declaration (`Holds` names it), that their names rise and
-/// differ, that they are at most 16,384, and that the elements of its types have types of it.
+/// differ, that they are at most 16,384, that the elements of its types have types of it, and that the sizes of defaults are
+/// the same however deep one looks.
 pub fn law_valid(schema: &Schema)
     ensures declarations { AllHold schema.now.decls }
     ensures sorted { IsStrictlySortedBy (slice_cmp nat_cmp) (map name_of schema.now.decls) }
     ensures apart { AreApart name_of schema.now.decls }
     ensures few { length schema.now.decls ≤ 16384 }
     ensures elements { HasElements schema.now.decls }
+    ensures sizes { AreSteady schema.now.decls }
 {}
 
 /// No evolution rule is broken from a schema to itself, and where none is from a first schema to a second and from that

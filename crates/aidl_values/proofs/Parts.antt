@@ -8,12 +8,11 @@ use Rattle.aidl_schema.specs.declared.schema.Field.{Field}
 use Rattle.aidl_schema.specs.declared.schema.Base.{Base}
 use Rattle.aidl_schema.specs.declared.schema.Shape.TheVariants as shape
 use Rattle.aidl_schema.specs.declared.schema.AidlType.{AidlType}
-use Rattle.aidl_schema.specs.Sizes.{greatest_of, const_depth, const_nodes, initial_size, field_size, depth_within, nodes_within}
+use Rattle.aidl_schema.specs.Sizes.{AreSteady, greatest_of, const_depth, const_nodes, initial_size, field_size, depth_within, nodes_within}
 use Rattle.aidl_schema.specs.Types.{is_type}
 use Rattle.aidl_schema.specs.Holds.{AllHold}
 use Rattle.aidl_schema.specs.Methods.{is_field_type}
 use Rattle.aidl_schema.specs.Valid.{has_initializer_of}
-use Rattle.aidl_schema.proofs.Counts.{depth_steady, nodes_steady, depth_within-suc, nodes_within-suc}
 use Rattle.aidl_base.proofs.Tests.{all_at}
 use Rattle.aidl_values.specs.Data.{Data, depth_of}
 use Rattle.aidl_values.specs.Default.{IsZero, IsInitial, const_value}
@@ -21,6 +20,7 @@ use Rattle.aidl_values.specs.HasType.{HasType}
 use Rattle.aidl_values.specs.Nodes.{nodes_of}
 use Rattle.aidl_values.specs.Sound.{IsPartOf}
 use Rattle.aidl_values.proofs.ConstValues.{sized}
+use Rattle.aidl_values.proofs.Levels.{depth_within-suc, nodes_within-suc}
 use Rattle.aidl_values.proofs.Defaults.{parcelable_whole, field_type}
 use Rattle.aidl_values.proofs.Sounds.{small, default_there, one_default}
 use Rattle.aidl_values.proofs.Typed.{typed}
@@ -44,7 +44,7 @@ at_most_sum size (g ∷ fs) (suc k) f e = let later = at_most_sum size fs k f e 
 abbrev whole : Base → AidlType
 whole b = record { base = b; shape = shape.One; nullable = false; heap = false; utf8 = false }
 
-module _ (S : List Decl) (hold : AllHold S) where
+module _ (S : List Decl) (hold : AllHold S) (steady : AreSteady S) where
   of_type : (t : AidlType) (o : Option Const) (v : Data) → is_type S t ≡ true → has_initializer_of S t o ≡ true
       → initial_size const_depth (λ u. depth_within 32 S u) o t ≤ 31 → initial_size const_nodes (λ u. nodes_within 512 S u) o t ≤ 511
       → MatchOption o (IsZero S t v) (λ c. v ≡ const_value c) → IsSmall S t v
@@ -52,17 +52,17 @@ module _ (S : List Decl) (hold : AllHold S) where
       let size = sized S t c h in
       subst (λ x. IsSmall S t x) (sym same) (record { typed_as = typed S hold t c h; shallow = omega (arith, size.depth); few = omega (arith, size.nodes) })
   of_type t None v is h shallow few zero_of =
-      let d = default_there S hold t is in
-      let deep = depth_steady S 32 33 t (omega arith) in
-      let many = nodes_steady S 512 513 t (omega arith) in
-      subst (λ x. IsSmall S t x) (sym (one_default S hold t v is zero_of))
+      let d = default_there S hold steady t is in
+      let deep = steady.depth 32 33 t (omega arith) in
+      let many = steady.nodes 512 513 t (omega arith) in
+      subst (λ x. IsSmall S t x) (sym (one_default S hold steady t v is zero_of))
       (record { typed_as = d.typed_as; shallow = omega (arith, d.depth_is, deep); few = omega (arith, d.nodes_are, many) })
 
   pub initial_fits : (b : Base) (f : Field) (v : Data) → IsPartOf S b f → IsInitial S f v → IsSmall S f.ty v
   initial_fits b f v of start =
       let parts = parcelable_whole S hold b of.0 of.1 in
       let meant : is_type S (whole b) ≡ true = rw (of.1) refl in
-      let bound = small S hold (whole b) meant in
+      let bound = small S hold steady (whole b) meant in
       let depth : suc (greatest_of (map (λ g. field_size const_depth (λ u. depth_within 32 S u) g) of.0)) ≤ 32
       = rw (depth_within-suc 32 S (whole b), of.1) at bound.0 in
       let nodes : suc (sum (map (λ g. field_size const_nodes (λ u. nodes_within 512 S u) g) of.0)) ≤ 512

@@ -9,13 +9,11 @@ use Rattle.aidl_schema.specs.declared.schema.Base.{Base}
 use Rattle.aidl_schema.specs.declared.schema.Base.TheVariants as base
 use Rattle.aidl_schema.specs.declared.schema.AidlType.{AidlType}
 use Rattle.aidl_schema.specs.Containment.{fields_of}
-use Rattle.aidl_schema.specs.Sizes.{depth_by, nodes_by, depth_within, nodes_within, default_depth, default_nodes}
+use Rattle.aidl_schema.specs.Sizes.{AreSteady, depth_by, nodes_by, depth_within, nodes_within, default_depth, default_nodes}
 use Rattle.aidl_schema.specs.Types.{form_of, form_of_decl, is_one, is_type, is_meant}
 use Rattle.aidl_schema.specs.Holds.{AllHold}
 use Rattle.aidl_schema.specs.Methods.{is_field_type}
-use Rattle.aidl_schema.specs.Valid.{IsValid, one_of, has_initializer_of}
-use Rattle.aidl_schema.proofs.Valids.{all_hold}
-use Rattle.aidl_schema.proofs.Counts.{depth_steady, depth_within-suc, nodes_within-suc}
+use Rattle.aidl_schema.specs.Valid.{one_of, has_initializer_of}
 use Rattle.aidl_base.proofs.Tests.{both}
 use Rattle.aidl_values.specs.Data.{Data, depth_of}
 use Rattle.aidl_values.specs.Default.{IsZero, const_value, zero_within, initial_or}
@@ -23,11 +21,12 @@ use Rattle.aidl_values.specs.HasType.{HasType}
 use Rattle.aidl_values.specs.Nodes.{nodes_of}
 use Rattle.aidl_values.specs.Sound.{IsFieldOf, AreTypes, HasDefault, HaveDefaults, IsSound}
 use Rattle.aidl_values.proofs.Defaults.{IsDefault, AreWhole, field_type, kind_whole, settled}
+use Rattle.aidl_values.proofs.Levels.{depth_within-suc, nodes_within-suc}
 use Rattle.aidl_values.proofs.OneZero.{one_zero}
 use Rattle.aidl_values.proofs.Typed.{typed}
 
 -- a value of the type, of the sizes that the schema counts for the type's default
-pub record Fits (S : List Decl) (t : AidlType) (v : Data) : Type 0 where
+pub record IsSizedDefault (S : List Decl) (t : AidlType) (v : Data) : Type 0 where
   pub typed_as : HasType S t v
   pub depth_is : depth_of v ≡ default_depth S t
   pub nodes_are : nodes_of v ≡ default_nodes S t
@@ -54,7 +53,7 @@ module _ (S : List Decl) (D N : AidlType → ℕ) (law : (n : ℕ) (d : Decl) �
   of_flags t false false e is h = rw (e, is) (omega arith, omega arith)
   of_flags t false true e is h = of_base t t.base refl e is (both _ _ h).0
 
-module _ (S : List Decl) (hold : AllHold S) where
+module _ (S : List Decl) (hold : AllHold S) (steady : AreSteady S) where
   decl_small : (n : ℕ) (d : Decl) → slice_get S n ≡ Some d → (depth_within 33 S (one_of n) ≤ 32) × (nodes_within 513 S (one_of n) ≤ 512)
   decl_small n d is =
       let h = hold n d is in
@@ -70,9 +69,9 @@ module _ (S : List Decl) (hold : AllHold S) where
   pub default_there : (t : AidlType) → is_type S t ≡ true → IsDefault S t (zero_within 33 S t) (depth_within 33 S t) (nodes_within 513 S t)
   default_there t is =
       let few = small t is in
-      let steady = depth_steady S 33 513 t (omega arith) in
+      let same = steady.depth 33 513 t (omega arith) in
       let d = settled S hold 33 33 t is (omega (arith, few.0)) (omega (arith, few.0)) in
-      let deep = settled S hold 513 33 t is (omega (arith, few.0, steady)) (omega (arith, few.0, steady)) in
+      let deep = settled S hold 513 33 t is (omega (arith, few.0, same)) (omega (arith, few.0, same)) in
       record { zero_of = d.zero_of; typed_as = d.typed_as; depth_is = d.depth_is; nodes_are = deep.nodes_are }
 
   -- and no other
@@ -84,7 +83,7 @@ module _ (S : List Decl) (hold : AllHold S) where
       ∙ sym (one_zero S (depth_of v + 33) t (zero_within 33 S t) d.zero_of (omega (arith, d.depth_is, few.0)))
 
   -- a default's type and its sizes
-  pub default_fits : (t : AidlType) → is_type S t ≡ true → Fits S t (zero_within 33 S t)
+  pub default_fits : (t : AidlType) → is_type S t ≡ true → IsSizedDefault S t (zero_within 33 S t)
   default_fits t is =
       let d = default_there t is in
       let few = small t is in
@@ -130,7 +129,3 @@ module _ (S : List Decl) (hold : AllHold S) where
   -- a field of the schema has its default
   pub has_default : (f : Field) → IsFieldOf S f → HasDefault S f
   has_default f of = fields_have (fields_of of.0.kind) of.2 f (is_sound.defaults of.0 of.1) of.3
-
--- the same from the fact that a schema keeps
-pub sound : (S : List Decl) → IsValid S → IsSound S
-sound S valid = is_sound S (all_hold S valid)

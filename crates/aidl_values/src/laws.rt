@@ -1,7 +1,8 @@
 ghost use Rattle.std.specs.Prelude.{◌≡◌, ◌≤◌, ◌↔◌, true};
 ghost use Rattle.aidl_schema.specs.Sizes.{default_depth, default_nodes};
 ghost use Rattle.aidl_schema.specs.Types.{is_type};
-ghost use Rattle.aidl_values.specs.Data.{depth_of};
+ghost use Rattle.aidl_schema.specs.declared.schema.AidlType.{AidlType};
+ghost use Rattle.aidl_values.specs.Data.{Data, depth_of};
 ghost use Rattle.aidl_values.specs.Default.{IsInitial, IsZero, zero_within};
 ghost use Rattle.aidl_values.specs.HasType.{HasType};
 ghost use Rattle.aidl_values.specs.Nodes.{nodes_of};
@@ -48,6 +49,13 @@ pub fn law_initial_fits(schema: &Schema, base: Base, field: &Field, value: &Valu
 /// In a schema the fields of each parcelable and union have types of the schema and one default each, of their type.
 pub fn law_sound(schema: &Schema)
     ensures { IsSound schema.now.decls }
+{
+    law_valid(schema);
+}
+
+/// What is a default has at most 512 nodes.
+pub fn law_small_defaults(schema: &Schema)
+    ensures { (t : AidlType) (v : Data) → is_type schema.now.decls t ≡ true → IsZero schema.now.decls t v → nodes_of v ≤ 512 }
 {
     law_valid(schema);
 }

@@ -11,7 +11,7 @@ use crate::bytes::put_raw;
 use crate::fields::{alternative_in, fields_in};
 use crate::number::put_number;
 use aidl_schema::{AidlType, Field, Form, Schema, Shape, element, form_in, is_raw};
-use aidl_values::Value;
+use aidl_values::{Value, law_sound};
 use parcel_words::{Wire, WordWriter};
 
 /// Appends the bytes that spell a value of the type. It takes no memory.
@@ -51,6 +51,7 @@ fn put(schema: &Schema, ty: AidlType, value: &Value, to: &mut WordWriter)
             to.close_record(start);
         }
         Value::Alt(tag, inner) => {
+            law_sound(schema);
             to.word(PRESENT);
             put_tag(*tag, to);
             put(schema, alternative_in(schema, ty.base, *tag), inner, to);

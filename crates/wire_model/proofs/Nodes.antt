@@ -13,8 +13,6 @@ use Rattle.aidl_schema.specs.declared.schema.Shape.TheVariants as shape
 use Rattle.aidl_schema.specs.declared.schema.AidlType.{AidlType}
 use Rattle.aidl_schema.specs.Types.{form_of, is_type, is_raw, elem}
 use Rattle.aidl_schema.specs.Types as form
-use Rattle.aidl_schema.specs.Holds.{AllHold}
-use Rattle.aidl_values.proofs.Sounds.{default_fits, one_default}
 use Rattle.aidl_values.specs.Data.{Data, null, truth, number, text, seq, rec, alt, Items, none, item, count}
 use Rattle.aidl_values.specs.Default.{IsZero, AreInitial}
 use Rattle.aidl_values.specs.HasType.{HaveType}
@@ -105,7 +103,3 @@ module _ (p : Profile) (S : List Decl) (sound : IsWhole S) (small : (t : AidlTyp
       omega (arith, parts, few, h.6.0, ap length h.5, length-append h.3 h.4, ap length h.7.1, length-append (word (pos (4 + length inner))) inner)
   nodes (suc d) t b (alt k v) h =
       omega (arith, nodes d h.3.ty h.6 v h.9, h.8.0, ap length h.7, length-append h.5 (word (pos k) ++ h.6), length-append (word (pos k)) h.6)
-
--- the defaults of a valid schema are small
-pub small_default : (S : List Decl) (hold : AllHold S) (t : AidlType) (v : Data) → is_type S t ≡ true → IsZero S t v → nodes_of v ≤ 512
-small_default S hold t v type h = subst (λ w. nodes_of w ≤ 512) (sym (one_default S hold t v type h)) (default_fits S hold t type).small

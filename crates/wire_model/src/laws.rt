@@ -12,8 +12,8 @@ ghost use Rattle.wire_model.specs.Status.{IsStatus};
 ghost use Rattle.wire_model.specs.Stop.{Stop, Stops};
 
 use aidl_base::Profile;
-use aidl_schema::{AidlType, Schema, law_valid};
-use aidl_values::Value;
+use aidl_schema::{AidlType, Schema};
+use aidl_values::{Value, law_small_defaults, law_sound};
 
 /// What spells a value is a reading of it.
 pub fn law_spelled_reads(
@@ -47,7 +47,9 @@ pub fn law_one_reading(
     requires front { (rest : List ℕ) × (c.now ≡ b.now ++ rest) }
     ensures bytes { b.now ≡ c.now }
     ensures values { view first.now ≡ view second.now }
-{}
+{
+    law_sound(schema);
+}
 
 /// Bytes begin a reading or stop, never both. They stop with one status alone, of which `first` and `second` are two,
 /// and it is BAD_VALUE, NOT_ENOUGH_DATA or UNEXPECTED_NULL.
@@ -69,7 +71,9 @@ pub fn law_reads_or_stops(
     ensures one_status { Stop profile schema.now.decls levels ty.now b.now inside first
         → Stop profile schema.now.decls levels ty.now b.now inside second → first ≡ second }
     ensures status { (s : ℤ) → Stop profile schema.now.decls levels ty.now b.now inside s → IsStatus s }
-{}
+{
+    law_sound(schema);
+}
 
 /// Reading as a plain function is exactly `Reads` and `Stop`: it gives a value and the bytes after it where a front is a
 /// reading of that value and those bytes follow it, and a status where the bytes stop with that status. The value has the
@@ -92,7 +96,8 @@ pub fn law_read_of(
     ensures nodes { (v : Data) (rest : List ℕ) → read_of profile schema.now.decls levels ty.now inside b.now ≡ Ok (v, rest)
         → nodes_of v ≤ 64 * (length b.now - length rest) }
 {
-    law_valid(schema);
+    law_sound(schema);
+    law_small_defaults(schema);
 }
 
 /// What is read of so many bytes has at most 64 times as many nodes: the values in it, itself included, and one for each
@@ -108,7 +113,8 @@ pub fn law_nodes(
     requires { Reads profile schema.now.decls levels ty.now b.now (view value.now) }
     ensures { nodes_of (view value.now) ≤ 64 * length b.now }
 {
-    law_valid(schema);
+    law_sound(schema);
+    law_small_defaults(schema);
 }
 
 /// What the strict profile reads, the lenient one reads.

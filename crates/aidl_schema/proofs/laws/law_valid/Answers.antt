@@ -1,4 +1,5 @@
 use Rattle.aidl_schema.proofs.Valids.{all_hold, names_ascend, decls_apart, few_decls}
+use Rattle.aidl_schema.proofs.Counts.{depth_steady, nodes_steady}
 use Rattle.aidl_schema.proofs.Elements.{elem_is_type}
 use Rattle.aidl_schema.proofs.laws.law_valid.Goals as goal
 
@@ -12,4 +13,5 @@ returns c =
       apart = decls_apart S valid;
       few = few_decls S valid;
       elements = elem_is_type S;
+      sizes = record { depth = depth_steady S; nodes = nodes_steady S };
     }

@@ -2,4 +2,4 @@ use Rattle.aidl_values.proofs.Sounds.{is_sound}
 use Rattle.aidl_values.proofs.laws.law_sound.Goals as goal
 
 pub returns : goal.returns
-returns c = is_sound c.args.schema.now.decls c.law_valid.ensures.declarations
+returns c = is_sound c.args.schema.now.decls c.law_valid.ensures.declarations c.law_valid.ensures.sizes

@@ -1,9 +1,10 @@
-use Rattle.std.proofs.Common.{◌≡◌, Ok, ◌++◌, ◌∷◌, [], map, sym, subst, ap, ◌∙◌, arith, rules}
+use Rattle.std.proofs.Common.{◌≡◌, false, inl, inr, refl, Ok, ◌++◌, ◌∷◌, [], map, sym, subst, ap, ◌∙◌, arith, rules}
 use Rattle.std.proofs.lemmas.Grind.{common_steps}
 use Rattle.serde_json.specs.Data as json
 use Rattle.serde_json.specs.View.{view as json_view, items_view, members_view}
 use Rattle.serde_json.proofs.Views.{view-Array}
 use Rattle.aidl_schema.specs.Seen.{seen}
+use Rattle.aidl_schema.specs.Types.{is_one}
 use Rattle.aidl_values.specs.View.{view, views}
 use Rattle.json_values.specs.FromJson.{elements_from, sequence_from}
 use Rattle.json_values.proofs.Parts.{from_json_of-by, from_by-sequence, sequence_from-some, items_more, items_done, fields_more, fields_done}
@@ -15,7 +16,6 @@ use Rattle.json_values.proofs.reading.+reading.Goals as goal
 use Rattle.json_values.specs.steps.Levels.{part_from, default_of}
 use Rattle.aidl_values.specs.steps.Levels.{is_level_left}
 use Rattle.json_values.specs.steps.Gives.{Gives}
-use Rattle.aidl_schema.proofs.Shapes.{many}
 
 pub read_within-returns : goal.read_within-returns
 read_within-returns t c = subst (Gives view c.read.result) (from_json_of-by c.args.schema.now.decls c.args.levels c.args.ty _) c.read.ensures
@@ -58,7 +58,7 @@ read-returns-in-Array t c =
     let j = json_view c.args.json.now in
     subst (Gives view c.read_sequence.result)
     (ap (λ u. sequence_from (is_level_left d) (λ k. part_from S d u k) j) c.element.ensures
-    ∙ from_by-sequence S (is_level_left d) (λ f. default_of S d f) (λ u k. part_from S d u k) c.args.ty j (sym c.is_absent.ensures ∙ c.if-is_absent.false) (many c.args.ty.shape c.in-Array.is))
+    ∙ from_by-sequence S (is_level_left d) (λ f. default_of S d f) (λ u k. part_from S d u k) c.args.ty j (sym c.is_absent.ensures ∙ c.if-is_absent.false) (elim c.in-Array.is as (λ _. is_one c.args.ty.shape ≡ false) [ inl e ↦ rw e refl | inr e ↦ rw e refl ]))
     c.read_sequence.ensures
 
 pub read_sequence-returns : goal.read_sequence-returns

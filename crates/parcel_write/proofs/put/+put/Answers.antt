@@ -37,7 +37,7 @@ put-put_raw-requires-clause-bytes t c =
 pub put-put_tag-requires-clause-few : goal.put-put_tag-requires-clause-few
 put-put_tag-requires-clause-few t c =
     let typed = subst (λ d. HasType c.args.schema.now.decls c.args.ty d) (seen_alt c.args.value.now c.in-Alt.tag c.in-Alt.inner c.in-Alt.is) c.requires.typed in
-    (tag_small c.args.schema.now.decls c.args.ty c.in-Alt.tag (view c.in-Alt.inner.value) c.args.schema.now.valid typed)
+    (tag_small c.args.schema.now.decls c.args.ty c.in-Alt.tag (view c.in-Alt.inner.value) c.law_sound.ensures typed)
 
 pub put-returns-then-is_raw : goal.put-returns-then-is_raw
 put-returns-then-is_raw t c =

@@ -1,10 +1,9 @@
-use Rattle.aidl_values.proofs.Sounds.{sound}
 use Rattle.aidl_values.specs.View.{view}
-use Rattle.wire_model.proofs.Nodes.{nodes, small_default}
+use Rattle.wire_model.proofs.Nodes.{nodes}
 use Rattle.wire_model.proofs.Sound.{is_whole}
 use Rattle.wire_model.proofs.laws.law_nodes.Goals as goal
 
 pub returns : goal.returns
 returns c =
     let S = c.args.schema.now.decls in
-    nodes c.args.profile S (is_whole S (sound S c.args.schema.now.valid)) (λ t v type h. small_default S c.law_valid.ensures.declarations t v type h) c.args.levels c.args.ty.now c.args.b.now (view c.args.value.now) c.requires
+    nodes c.args.profile S (is_whole S c.law_sound.ensures) c.law_small_defaults.ensures c.args.levels c.args.ty.now c.args.b.now (view c.args.value.now) c.requires

@@ -1,4 +1,3 @@
-use Rattle.aidl_values.proofs.Sounds.{sound}
 use Rattle.std.proofs.Common.{arith}
 use Rattle.aidl_base.proofs.Bytes.{AreBytes}
 use Rattle.wire_model.proofs.Reading.{reads_or_stops, not_both, one_status}
@@ -8,7 +7,7 @@ use Rattle.wire_model.proofs.laws.law_reads_or_stops.Goals as goal
 pub returns : goal.returns
 returns c =
     let S = c.args.schema.now.decls in
-    let sound = sound S c.args.schema.now.valid in
+    let sound = c.law_sound.ensures in
     let known = c.requires.known in
     let d = c.args.levels in
     let t = c.args.ty.now in
