@@ -1,5 +1,5 @@
 -- What is read of bytes has few nodes for their number: `law_nodes`.
-use Rattle.std.proofs.Common.{◌≡◌, ℕ, zero, suc, ◌+◌, ◌*◌, ◌≤◌, pos, Bool, true, false, List, [], ◌∷◌, ◌++◌, length, inl, inr, refl, sym, ap, ◌∙◌, subst, arith, length-append}
+use Rattle.std.proofs.Common.{◌≡◌, ℕ, zero, suc, ◌+◌, ◌*◌, ◌≤◌, pos, Bool, true, false, List, [], ◌∷◌, ◌++◌, length, inl, inr, refl, ap, ◌∙◌, arith, length-append}
 use Rattle.std.specs.Prelude.{MatchBool}
 use Rattle.aidl_base.specs.declared.profile.Profile.{Profile}
 use Rattle.aidl_base.specs.Profiles.{IsPadded}
@@ -13,8 +13,6 @@ use Rattle.aidl_schema.specs.declared.schema.Shape.TheVariants as shape
 use Rattle.aidl_schema.specs.declared.schema.AidlType.{AidlType}
 use Rattle.aidl_schema.specs.Types.{form_of, is_type, is_raw, elem}
 use Rattle.aidl_schema.specs.Types as form
-use Rattle.aidl_schema.specs.Valid.{is_valid}
-use Rattle.aidl_values.proofs.Sounds.{default_fits, one_default}
 use Rattle.aidl_values.specs.Data.{Data, null, truth, number, text, seq, rec, alt, Items, none, item, count}
 use Rattle.aidl_values.specs.Default.{IsZero, AreInitial}
 use Rattle.aidl_values.specs.HasType.{HaveType}
@@ -105,7 +103,3 @@ module _ (p : Profile) (S : List Decl) (sound : IsWhole S) (small : (t : AidlTyp
       omega (arith, parts, few, h.6.0, ap length h.5, length-append h.3 h.4, ap length h.7.1, length-append (word (pos (4 + length inner))) inner)
   nodes (suc d) t b (alt k v) h =
       omega (arith, nodes d h.3.ty h.6 v h.9, h.8.0, ap length h.7, length-append h.5 (word (pos k) ++ h.6), length-append (word (pos k)) h.6)
-
--- the defaults of a valid schema are small
-pub small_default : (S : List Decl) (valid : is_valid S ≡ true) (t : AidlType) (v : Data) → is_type S t ≡ true → IsZero S t v → nodes_of v ≤ 512
-small_default S valid t v type h = subst (λ w. nodes_of w ≤ 512) (sym (one_default S valid t v type h)) (default_fits S valid t type).small
