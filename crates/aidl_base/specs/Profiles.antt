@@ -18,7 +18,7 @@ permits Lenient as_written = true
 abbrev pub is_truth_word : Profile → ℤ → Bool
 is_truth_word p w = permits p (is_between (pos 0) (pos 1) w)
 
--- any word but 0 is true (`readBool`: `tmp != 0`; `readParcelable`: `!have_parcelable`)
+-- Any word but 0 is true (`readBool`: `tmp != 0`; `readParcelable`: `!have_parcelable`)
 abbrev pub truth_of : ℤ → Bool
 truth_of (pos zero) = false
 truth_of _ = true
@@ -27,7 +27,7 @@ truth_of _ = true
 abbrev pub is_byte_word : Profile → ℤ → Bool
 is_byte_word p w = permits p (is_in range.Byte w)
 
--- the signed value of a word's least 8 bits (`readByte`: `static_cast<int8_t>(tmp)`)
+-- A byte is the signed value of a word's least 8 bits (`readByte`: `static_cast<int8_t>(tmp)`)
 abbrev pub byte_of : ℤ → ℤ
 byte_of w = cast_signed w8 (cast_unsigned w32 w % 2 ^ 8)
 
@@ -35,10 +35,11 @@ byte_of w = cast_signed w8 (cast_unsigned w32 w % 2 ^ 8)
 abbrev pub is_char_word : Profile → ℤ → Bool
 is_char_word p w = permits p (is_in range.Char w)
 
--- a word's least 16 bits (`readChar`: `char16_t(tmp)`)
+-- A char is a word's least 16 bits (`readChar`: `char16_t(tmp)`)
 abbrev pub char_of : ℤ → ℕ
 char_of w = cast_unsigned w32 w % 2 ^ 16
 
+-- every byte is zero
 abbrev pub all_zero : List ℕ → Bool
 all_zero bytes = list_all (λ x. x == 0) bytes
 

@@ -31,8 +31,7 @@ after_word b = drop 4 b
 abbrev pub Begins : ℤ → List ℕ → Type 0
 Begins n b = (4 ≤ length b) × (first_word b ≡ n)
 
--- a boolean, byte, char, int or enum (`readBool`, `readByte`, `readChar`, `readInt32`): no word, or one that its type doesn't permit
--- (`may` tests the word)
+-- a boolean, byte, char, int or enum (`readBool`, `readByte`, `readChar`, `readInt32`): no word, or one that the test `may` refuses
 pub data WordStop (may : ℤ → Bool) (b : List ℕ) (inside : Bool) : ℤ → Type 0 where
   short : length b < 4 → WordStop may b inside (past inside)
   not_permitted : 4 ≤ length b → may (first_word b) ≡ false → WordStop may b inside bad_value
