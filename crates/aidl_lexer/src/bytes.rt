@@ -4,8 +4,6 @@ ghost use Rattle.std.specs.List.{prefix_len};
 ghost use Rattle.aidl_syntax.specs.Bytes as class;
 ghost use Rattle.aidl_base.specs.Identifiers as identifiers;
 
-use aidl_base::is_word_byte;
-
 // A space, a tab, a carriage return or a newline.
 pub fn is_blank(b: u8) -> bool
     ensures { result ≡ class.is_blank b }
@@ -30,12 +28,40 @@ pub fn begins_with(bytes: &[u8], wanted: u8) -> bool
     }
 }
 
+// 1 at each letter, `_` and digit, by its code: a look-up takes half of what the tests take.
+#[rattlefmt::skip]
+static WORD_BYTES: [u8; 256] = [
+    0, 0, 0, 0, 0, 0, 0, 0, 0, 0, 0, 0, 0, 0, 0, 0,
+    0, 0, 0, 0, 0, 0, 0, 0, 0, 0, 0, 0, 0, 0, 0, 0,
+    0, 0, 0, 0, 0, 0, 0, 0, 0, 0, 0, 0, 0, 0, 0, 0,
+    1, 1, 1, 1, 1, 1, 1, 1, 1, 1, 0, 0, 0, 0, 0, 0,
+    0, 1, 1, 1, 1, 1, 1, 1, 1, 1, 1, 1, 1, 1, 1, 1,
+    1, 1, 1, 1, 1, 1, 1, 1, 1, 1, 1, 0, 0, 0, 0, 1,
+    0, 1, 1, 1, 1, 1, 1, 1, 1, 1, 1, 1, 1, 1, 1, 1,
+    1, 1, 1, 1, 1, 1, 1, 1, 1, 1, 1, 0, 0, 0, 0, 0,
+    0, 0, 0, 0, 0, 0, 0, 0, 0, 0, 0, 0, 0, 0, 0, 0,
+    0, 0, 0, 0, 0, 0, 0, 0, 0, 0, 0, 0, 0, 0, 0, 0,
+    0, 0, 0, 0, 0, 0, 0, 0, 0, 0, 0, 0, 0, 0, 0, 0,
+    0, 0, 0, 0, 0, 0, 0, 0, 0, 0, 0, 0, 0, 0, 0, 0,
+    0, 0, 0, 0, 0, 0, 0, 0, 0, 0, 0, 0, 0, 0, 0, 0,
+    0, 0, 0, 0, 0, 0, 0, 0, 0, 0, 0, 0, 0, 0, 0, 0,
+    0, 0, 0, 0, 0, 0, 0, 0, 0, 0, 0, 0, 0, 0, 0, 0,
+    0, 0, 0, 0, 0, 0, 0, 0, 0, 0, 0, 0, 0, 0, 0, 0,
+];
+
+// A letter, `_` or a digit.
+fn goes_on(b: u8) -> bool
+    ensures { result ≡ identifiers.is_word_byte b }
+{
+    WORD_BYTES[usize::from(b)] == 1
+}
+
 // The number of letters, digits and `_` at the front.
 pub fn word_len(bytes: &[u8]) -> usize
     ensures value { result ≡ prefix_len identifiers.is_word_byte bytes.now }
     ensures within { result ≤ length bytes.now }
 {
-    bytes.iter().take_while(|b| is_word_byte(**b)).count()
+    bytes.iter().take_while(|b| goes_on(**b)).count()
 }
 
 // The number of decimal digits at the front.
