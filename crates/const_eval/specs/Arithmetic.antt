@@ -4,15 +4,14 @@ use Rattle.std.specs.Ordering.{int_eq}
 use Rattle.const_eval.specs.declared.width.Width.{Width}
 use Rattle.const_eval.specs.declared.fault.ConstFault.{ConstFault}
 use Rattle.const_eval.specs.declared.fault.ConstFault.TheVariants.{Overflow, DivideByZero}
-use Rattle.const_eval.specs.declared.operand.Operand.{Operand}
-use Rattle.const_eval.specs.declared.operand.Operand.TheVariants.{Number}
+use Rattle.const_eval.specs.Operands.{Operand, number}
 use Rattle.const_eval.specs.declared.operator.Arithmetic.{Arithmetic}
 use Rattle.const_eval.specs.declared.operator.Arithmetic.TheVariants.{Add, Subtract, Multiply, Divide, Remainder}
 use Rattle.const_eval.specs.Widths.{is_within}
 
 -- the number itself, where it lies in the width
 abbrev pub in_width : Width → ℤ → Result Operand ConstFault
-in_width width z = if is_within width z then Ok (Number width z) else Err Overflow
+in_width width z = if is_within width z then Ok (number width z) else Err Overflow
 
 -- an answer for a divisor that is not 0
 abbrev pub unless_zero : ℤ → Result Operand ConstFault → Result Operand ConstFault

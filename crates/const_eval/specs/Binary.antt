@@ -5,8 +5,8 @@ use Rattle.std.specs.Ordering.{int_eq}
 use Rattle.const_eval.specs.declared.width.Width.{Width}
 use Rattle.const_eval.specs.declared.fault.ConstFault.{ConstFault}
 use Rattle.const_eval.specs.declared.fault.ConstFault.TheVariants.{Mismatch}
-use Rattle.const_eval.specs.declared.operand.Operand.{Operand}
-use Rattle.const_eval.specs.declared.operand.Operand.TheVariants as operand
+use Rattle.const_eval.specs.Operands.{Operand}
+use Rattle.const_eval.specs.Operands as operand
 use Rattle.const_eval.specs.declared.operator.Arithmetic.TheVariants.{Add}
 use Rattle.const_eval.specs.declared.operator.BinaryOperator.{BinaryOperator}
 use Rattle.const_eval.specs.declared.operator.BinaryOperator.TheVariants.{Arithmetic, Bitwise, Shift, Order, Equality, Connective}
@@ -22,14 +22,14 @@ abbrev pub of_numbers : BinaryOperator → Width → ℤ → Width → ℤ → R
 of_numbers (Arithmetic operator) left a right b = arithmetic_of operator (wider left right) a b
 of_numbers (Bitwise operator) left a right b = Ok (bitwise_of operator (wider left right) a b)
 of_numbers (Shift operator) left a right b = shift_of operator left a b
-of_numbers (Order operator) left a right b = Ok (operand.Truth (order_of operator a b))
-of_numbers (Equality operator) left a right b = Ok (operand.Truth (equality_of operator (int_eq a b)))
+of_numbers (Order operator) left a right b = Ok (operand.truth (order_of operator a b))
+of_numbers (Equality operator) left a right b = Ok (operand.truth (equality_of operator (int_eq a b)))
 of_numbers (Connective operator) left a right b = Err Mismatch
 
 -- of two truth values
 abbrev pub of_truths : BinaryOperator → Bool → Bool → Result Operand ConstFault
-of_truths (Equality operator) a b = Ok (operand.Truth (equality_of operator (beq a b)))
-of_truths (Connective operator) a b = Ok (operand.Truth (connective_of operator a b))
+of_truths (Equality operator) a b = Ok (operand.truth (equality_of operator (beq a b)))
+of_truths (Connective operator) a b = Ok (operand.truth (connective_of operator a b))
 of_truths _ a b = Err Mismatch
 
 -- of two texts
@@ -39,7 +39,7 @@ of_texts _ a b = Err Mismatch
 
 -- of any two operands: of two kinds, or of two characters, there is none
 abbrev pub value_of : BinaryOperator → Operand → Operand → Result Operand ConstFault
-value_of operator (operand.Number left a) (operand.Number right b) = of_numbers operator left a right b
-value_of operator (operand.Truth a) (operand.Truth b) = of_truths operator a b
-value_of operator (operand.Text a) (operand.Text b) = of_texts operator a b
+value_of operator (operand.number left a) (operand.number right b) = of_numbers operator left a right b
+value_of operator (operand.truth a) (operand.truth b) = of_truths operator a b
+value_of operator (operand.text a) (operand.text b) = of_texts operator a b
 value_of operator _ _ = Err Mismatch

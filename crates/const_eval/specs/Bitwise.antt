@@ -3,8 +3,7 @@ use Rattle.std.specs.Prelude.{ℤ}
 use Rattle.std.specs.Int as int
 use Rattle.std.specs.Int.{int_bit_and, int_bit_or, int_bit_xor, int_bit_not}
 use Rattle.const_eval.specs.declared.width.Width.{Width}
-use Rattle.const_eval.specs.declared.operand.Operand.{Operand}
-use Rattle.const_eval.specs.declared.operand.Operand.TheVariants.{Number}
+use Rattle.const_eval.specs.Operands.{Operand, number}
 use Rattle.const_eval.specs.declared.operator.Bitwise.{Bitwise}
 use Rattle.const_eval.specs.declared.operator.Bitwise.TheVariants.{And, Or, ExclusiveOr}
 use Rattle.const_eval.specs.Widths.{form_of}
@@ -17,8 +16,8 @@ on_bits ExclusiveOr form a b = int_bit_xor form a b
 
 -- `& | ^` of two numbers of a width
 abbrev pub bitwise_of : Bitwise → Width → ℤ → ℤ → Operand
-bitwise_of operator width a b = Number width (on_bits operator (form_of width) a b)
+bitwise_of operator width a b = number width (on_bits operator (form_of width) a b)
 
 -- `~` of a number of a width
 abbrev pub complement : Width → ℤ → Operand
-complement width z = Number width (int_bit_not (form_of width) z)
+complement width z = number width (int_bit_not (form_of width) z)

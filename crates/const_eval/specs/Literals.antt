@@ -6,13 +6,13 @@ use Rattle.aidl_syntax.specs.declared.token.TokenKind.{TokenKind}
 use Rattle.aidl_syntax.specs.declared.token.TokenKind.TheVariants as kind
 use Rattle.const_eval.specs.declared.width.Width.{Width}
 use Rattle.const_eval.specs.declared.width.Width.TheVariants.{Narrow, Wide}
-use Rattle.const_eval.specs.declared.operand.Operand.{Operand}
-use Rattle.const_eval.specs.declared.operand.Operand.TheVariants as operand
+use Rattle.const_eval.specs.Operands.{Operand}
+use Rattle.const_eval.specs.Operands as operand
 use Rattle.const_eval.specs.Widths.{form_of}
 
 -- the number whose two's complement in a width is this
 abbrev pub of_bits : Width → ℕ → Operand
-of_bits width bits = operand.Number width (cast_signed (form_of width) bits)
+of_bits width bits = operand.number width (cast_signed (form_of width) bits)
 
 -- the greatest literal without suffix that is narrow: 0xffffffff of the hexadecimal ones
 abbrev pub narrow_limit : Bool → ℕ
@@ -27,8 +27,8 @@ number_of hexadecimal false bits = of_bits (if nat_le bits (narrow_limit hexadec
 -- the operand that a token is
 abbrev pub literal_of : TokenKind → Option Operand
 literal_of (kind.Number bits hexadecimal long) = Some (number_of hexadecimal long bits)
-literal_of (kind.Character code) = Some (operand.Character code)
-literal_of (kind.Str text) = Some (operand.Text text)
-literal_of (kind.Word word.True) = Some (operand.Truth true)
-literal_of (kind.Word word.False) = Some (operand.Truth false)
+literal_of (kind.Character code) = Some (operand.character code)
+literal_of (kind.Str text) = Some (operand.text text)
+literal_of (kind.Word word.True) = Some (operand.truth true)
+literal_of (kind.Word word.False) = Some (operand.truth false)
 literal_of _ = None

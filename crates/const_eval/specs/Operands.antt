@@ -1,17 +1,18 @@
--- What every operand keeps, and which of them take memory (own).
-use Rattle.std.specs.Prelude.{IsTrue, ⊤}
-use Rattle.const_eval.specs.declared.operand.Operand.{Operand}
-use Rattle.const_eval.specs.declared.operand.Operand.TheVariants as operand
+-- What an expression is (own, after AOSP, "AIDL language").
+use Rattle.std.specs.Prelude.{ℕ, ℤ, Bool, List, IsTrue, ⊤}
+use Rattle.const_eval.specs.declared.width.Width.{Width}
 use Rattle.const_eval.specs.Widths.{is_within}
+
+-- a truth value, a number of a width, a character by its code, or a text
+pub data Operand : Type 0 where
+  truth : Bool → Operand
+  number : Width → ℤ → Operand
+  character : ℕ → Operand
+  text : List ℕ → Operand
 
 -- a number lies in its width
 abbrev pub IsWithin : Operand → Type 0
-IsWithin (operand.Number width z) = IsTrue (is_within width z)
-IsWithin (operand.Truth b) = ⊤
-IsWithin (operand.Character c) = ⊤
-IsWithin (operand.Text text) = ⊤
-
--- a text, which alone takes memory
-abbrev pub IsText : Operand → Type 0
-IsText (operand.Text text) = ⊤
-IsText _ = ⊥
+IsWithin (number width z) = IsTrue (is_within width z)
+IsWithin (truth b) = ⊤
+IsWithin (character c) = ⊤
+IsWithin (text x) = ⊤

@@ -4,16 +4,15 @@ use Rattle.std.specs.Int.{int_shl, int_shr}
 use Rattle.const_eval.specs.declared.width.Width.{Width}
 use Rattle.const_eval.specs.declared.fault.ConstFault.{ConstFault}
 use Rattle.const_eval.specs.declared.fault.ConstFault.TheVariants.{BadShift}
-use Rattle.const_eval.specs.declared.operand.Operand.{Operand}
-use Rattle.const_eval.specs.declared.operand.Operand.TheVariants.{Number}
+use Rattle.const_eval.specs.Operands.{Operand, number}
 use Rattle.const_eval.specs.declared.operator.Shift.{Shift}
 use Rattle.const_eval.specs.declared.operator.Shift.TheVariants.{Left, Right}
 use Rattle.const_eval.specs.Widths.{form_of, bit_count}
 
 -- `<<` drops the bits that leave the width. `>>` repeats the sign: it divides by a power of two and rounds down.
 abbrev pub shifted : Shift → Width → ℤ → ℕ → Operand
-shifted Left width a places = Number width (int_shl (form_of width) a places)
-shifted Right width a places = Number width (int_shr a places)
+shifted Left width a places = number width (int_shl (form_of width) a places)
+shifted Right width a places = number width (int_shr a places)
 
 -- by 0 places or more, and by fewer than the width has bits
 abbrev pub shift_of : Shift → Width → ℤ → ℤ → Result Operand ConstFault

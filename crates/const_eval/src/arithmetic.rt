@@ -1,6 +1,7 @@
 ghost use Rattle.std.specs.Prelude.{◌≡◌, ◌≢◌, pos, ◌+ℤ◌, ◌-ℤ◌, ◌*ℤ◌, int_div, IfOk};
 ghost use Rattle.const_eval.specs.Arithmetic as meant;
 ghost use Rattle.const_eval.specs.Operands.{IsWithin};
+ghost use Rattle.const_eval.specs.Seen.{answer, seen};
 
 use crate::fault::ConstFault;
 use crate::operand::Operand;
@@ -8,14 +9,14 @@ use crate::operator::Arithmetic;
 use crate::width::Width;
 
 // `+ - * / %` of two numbers, for a result of a width.
-pub fn arithmetic_of(
+pub fn arithmetic_of<'a>(
     operator: Arithmetic,
     width: Width,
     a: i64,
     b: i64,
-) -> Result<Operand, ConstFault>
-    ensures value { result ≡ meant.arithmetic_of operator width a b }
-    ensures within { IfOk result (λ value. IsWithin value) }
+) -> Result<Operand<'a>, ConstFault>
+    ensures value { answer result ≡ meant.arithmetic_of operator width a b }
+    ensures within { IfOk result (λ value. IsWithin (seen value)) }
 {
     match operator {
         Arithmetic::Add => in_width(width, sum(a, b)),
@@ -29,9 +30,9 @@ pub fn arithmetic_of(
 }
 
 // A whole number as an operand of a width, where it lies in it.
-pub fn in_width(width: Width, whole: i128) -> Result<Operand, ConstFault>
-    ensures value { result ≡ meant.in_width width whole }
-    ensures within { IfOk result (λ value. IsWithin value) }
+pub fn in_width<'a>(width: Width, whole: i128) -> Result<Operand<'a>, ConstFault>
+    ensures value { answer result ≡ meant.in_width width whole }
+    ensures within { IfOk result (λ value. IsWithin (seen value)) }
 {
     if width.holds(whole) {
         Ok(Operand::Number {

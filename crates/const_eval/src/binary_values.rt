@@ -1,7 +1,7 @@
 ghost use Rattle.std.specs.Prelude.{◌≡◌, IfOk, IsTrue};
 ghost use Rattle.const_eval.specs.Binary as meant;
-ghost use Rattle.const_eval.specs.Faults.{Gives};
 ghost use Rattle.const_eval.specs.Operands.{IsWithin};
+ghost use Rattle.const_eval.specs.Seen.{Gives, answer, seen};
 ghost use Rattle.const_eval.specs.Widths.{is_within};
 
 use crate::arithmetic::arithmetic_of;
@@ -17,16 +17,16 @@ use aidl_base::Text;
 use std::alloc::Global;
 
 /// What an operator makes of the operands around it (own). It takes memory for two texts alone.
-pub fn binary(
+pub fn binary<'a>(
     alloc: Global,
     operator: BinaryOperator,
-    left: &Operand,
-    right: &Operand,
-) -> Result<Operand, EvalFault>
-    requires left_within { IsWithin left.now }
-    requires right_within { IsWithin right.now }
-    ensures value { Gives result (meant.value_of operator left.now right.now) }
-    ensures within { IfOk result (λ value. IsWithin value) }
+    left: &Operand<'_>,
+    right: &Operand<'_>,
+) -> Result<Operand<'a>, EvalFault>
+    requires left_within { IsWithin (seen left.now) }
+    requires right_within { IsWithin (seen right.now) }
+    ensures value { Gives result (meant.value_of operator (seen left.now) (seen right.now)) }
+    ensures within { IfOk result (λ value. IsWithin (seen value)) }
 {
     match (left, right) {
         (
@@ -37,23 +37,25 @@ pub fn binary(
             },
         ) => { without_memory(of_numbers(operator, *width, *value, *other, *b)) }
         (Operand::Truth(a), Operand::Truth(b)) => without_memory(of_truths(operator, *a, *b)),
-        (Operand::Text(a), Operand::Text(b)) => of_texts(alloc, operator, a, b),
+        (Operand::Text(a), Operand::Text(b)) => {
+            of_texts(alloc, operator, a.as_text(), b.as_text())
+        }
         _ => Err(EvalFault::Fault(ConstFault::Mismatch)),
     }
 }
 
 // Of two numbers. It takes no memory.
-fn of_numbers(
+fn of_numbers<'a>(
     operator: BinaryOperator,
     left: Width,
     a: i64,
     right: Width,
     b: i64,
-) -> Result<Operand, ConstFault>
+) -> Result<Operand<'a>, ConstFault>
     requires left_within { IsTrue (is_within left a) }
     requires right_within { IsTrue (is_within right b) }
-    ensures value { result ≡ meant.of_numbers operator left a right b }
-    ensures within { IfOk result (λ value. IsWithin value) }
+    ensures value { answer result ≡ meant.of_numbers operator left a right b }
+    ensures within { IfOk result (λ value. IsWithin (seen value)) }
 {
     let width = left.or_wider(right);
     match operator {
@@ -67,9 +69,9 @@ fn of_numbers(
 }
 
 // Of two truth values. It takes no memory.
-fn of_truths(operator: BinaryOperator, a: bool, b: bool) -> Result<Operand, ConstFault>
-    ensures value { result ≡ meant.of_truths operator a b }
-    ensures within { IfOk result (λ value. IsWithin value) }
+fn of_truths<'a>(operator: BinaryOperator, a: bool, b: bool) -> Result<Operand<'a>, ConstFault>
+    ensures value { answer result ≡ meant.of_truths operator a b }
+    ensures within { IfOk result (λ value. IsWithin (seen value)) }
 {
     match operator {
         BinaryOperator::Equality(operator) => Ok(Operand::Truth(equality_of(operator, a == b))),
@@ -78,14 +80,14 @@ fn of_truths(operator: BinaryOperator, a: bool, b: bool) -> Result<Operand, Cons
     }
 }
 
-fn of_texts(
+fn of_texts<'a>(
     alloc: Global,
     operator: BinaryOperator,
     a: &Text,
     b: &Text,
-) -> Result<Operand, EvalFault>
+) -> Result<Operand<'a>, EvalFault>
     ensures value { Gives result (meant.of_texts operator a.now b.now) }
-    ensures within { IfOk result (λ value. IsWithin value) }
+    ensures within { IfOk result (λ value. IsWithin (seen value)) }
 {
     match operator {
         BinaryOperator::Arithmetic(Arithmetic::Add) => join(alloc, a, b),

@@ -2,6 +2,7 @@ ghost use Rattle.std.specs.Prelude.{◌≡◌, IsTrue};
 ghost use Rattle.std.specs.Int.{w32, w64};
 ghost use Rattle.const_eval.specs.Bitwise as meant;
 ghost use Rattle.const_eval.specs.Operands.{IsWithin};
+ghost use Rattle.const_eval.specs.Seen.{seen};
 ghost use Rattle.const_eval.specs.Widths.{is_within};
 ghost use Rattle.const_eval.specs.declared.width.Width.TheVariants.{Narrow};
 
@@ -10,11 +11,11 @@ use crate::operator::Bitwise;
 use crate::width::Width;
 
 // `& | ^` on the bits of two numbers of a width.
-pub fn bitwise_of(operator: Bitwise, width: Width, a: i64, b: i64) -> Operand
+pub fn bitwise_of<'a>(operator: Bitwise, width: Width, a: i64, b: i64) -> Operand<'a>
     requires left { IsTrue (is_within width a) }
     requires right { IsTrue (is_within width b) }
-    ensures value { result ≡ meant.bitwise_of operator width a b }
-    ensures within { IsWithin result }
+    ensures value { seen result ≡ meant.bitwise_of operator width a b }
+    ensures within { IsWithin (seen result) }
 {
     let value = match width {
         Width::Narrow => i64::from(of_narrow(operator, as_narrow(a), as_narrow(b))),
@@ -24,10 +25,10 @@ pub fn bitwise_of(operator: Bitwise, width: Width, a: i64, b: i64) -> Operand
 }
 
 // `~` on the bits of a number of a width.
-pub fn complement(width: Width, value: i64) -> Operand
+pub fn complement<'a>(width: Width, value: i64) -> Operand<'a>
     requires { IsTrue (is_within width value) }
-    ensures value { result ≡ meant.complement width value }
-    ensures within { IsWithin result }
+    ensures value { seen result ≡ meant.complement width value }
+    ensures within { IsWithin (seen result) }
 {
     let value = match width {
         Width::Narrow => i64::from(!as_narrow(value)),

@@ -1,5 +1,6 @@
 ghost use Rattle.std.specs.Prelude.{◌≡◌};
-ghost use Rattle.const_eval.specs.Faults.{fault_number, Gives};
+ghost use Rattle.const_eval.specs.Faults.{fault_number};
+ghost use Rattle.const_eval.specs.Seen.{Gives, answer};
 
 use crate::operand::Operand;
 use aidl_base::OutOfMemory;
@@ -60,11 +61,22 @@ impl From<OutOfMemory> for EvalFault {
     }
 }
 
+impl From<ConstFault> for EvalFault {
+    ghost use Rattle.std.specs.Prelude.{◌≡◌};
+    ghost use Rattle.const_eval.specs.declared.fault.EvalFault.TheVariants.{Fault};
+
+    ghost from_gives = { λ fault e. e ≡ Fault fault };
+
+    fn from(fault: ConstFault) -> EvalFault {
+        EvalFault::Fault(fault)
+    }
+}
+
 // The same answer, of a call that takes memory.
-pub fn without_memory(answer: Result<Operand, ConstFault>) -> Result<Operand, EvalFault>
-    ensures { Gives result answer }
+pub fn without_memory<'a>(given: Result<Operand<'a>, ConstFault>) -> Result<Operand<'a>, EvalFault>
+    ensures { Gives result (answer given.entry) }
 {
-    match answer {
+    match given {
         Ok(operand) => Ok(operand),
         Err(fault) => Err(EvalFault::Fault(fault)),
     }

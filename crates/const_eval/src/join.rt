@@ -1,18 +1,20 @@
 ghost use Rattle.std.specs.Prelude.{◌≡◌, ◌++◌, length, IfOk};
-ghost use Rattle.const_eval.specs.Faults.{Gives};
+ghost use Rattle.const_eval.specs.Operands.{IsWithin};
+ghost use Rattle.const_eval.specs.Seen.{Gives, seen};
 ghost use Rattle.const_eval.specs.Texts.{joined};
 
 use crate::fault::{ConstFault, EvalFault};
-use crate::operand::Operand;
+use crate::operand::{Operand, Words};
 use aidl_base::{OutOfMemory, Text};
 use std::alloc::Global;
 
 // Two texts as one, of at most 4,096 characters.
-pub fn join(alloc: Global, left: &Text, right: &Text) -> Result<Operand, EvalFault>
-    ensures { Gives result (joined left.now right.now) }
+pub fn join<'a>(alloc: Global, left: &Text, right: &Text) -> Result<Operand<'a>, EvalFault>
+    ensures value { Gives result (joined left.now right.now) }
+    ensures within { IfOk result (λ value. IsWithin (seen value)) }
 {
     if characters(left).saturating_add(characters(right)) <= 4096 {
-        Ok(Operand::Text(both(alloc, left, right)?))
+        Ok(Operand::Text(Words::Joined(both(alloc, left, right)?)))
     } else {
         Err(EvalFault::Fault(ConstFault::Overflow))
     }

@@ -2,15 +2,15 @@ ghost use Rattle.std.specs.Prelude.{◌≡◌, ◌<◌, ◌*◌, ◌^◌, ◌≤
 ghost use Rattle.std.specs.Int.{int_bit_not, int_shl, int_shr};
 ghost use Rattle.const_eval.specs.Literals.{number_of};
 ghost use Rattle.const_eval.specs.Widths.{form_of, is_within};
-ghost use Rattle.const_eval.specs.declared.operand.Operand.TheVariants.{Number};
+ghost use Rattle.const_eval.specs.Operands.{number};
 ghost use Rattle.const_eval.specs.declared.width.Width.TheVariants.{Narrow, Wide};
 
 use crate::width::Width;
 
 /// A law of the definitions: a decimal, which is at most 9223372036854775807, is its number, with the suffix or without.
 pub fn law_decimal_is_its_number(bits: u64)
-    ensures long { bits < 2 ^ 63 → number_of false true bits ≡ Number Wide (pos bits) }
-    ensures plain { bits < 2 ^ 63 → number_of false false bits ≡ Number (if nat_le bits 2147483647 then Narrow else Wide) (pos bits) }
+    ensures long { bits < 2 ^ 63 → number_of false true bits ≡ number Wide (pos bits) }
+    ensures plain { bits < 2 ^ 63 → number_of false false bits ≡ number (if nat_le bits 2147483647 then Narrow else Wide) (pos bits) }
 {}
 
 /// A law of the definitions: `a - (a / b) * b` is the remainder with the sign of `a`, and is smaller than `b` in size.

@@ -1,37 +1,36 @@
-ghost use Rattle.std.specs.Prelude.{◌≡◌, ◌<◌, ◌^◌, IfOk, IfSome, IsSomeAnd, OnErr};
+ghost use Rattle.std.specs.Prelude.{◌≡◌, ◌<◌, ◌^◌, IfSome};
+ghost use Rattle.std.specs.Option.{option_map};
 ghost use Rattle.const_eval.specs.Literals.{literal_of, narrow_limit, number_of, of_bits};
-ghost use Rattle.const_eval.specs.Operands.{IsText, IsWithin};
+ghost use Rattle.const_eval.specs.Operands.{IsWithin};
+ghost use Rattle.const_eval.specs.Seen.{seen};
 ghost use Rattle.const_eval.specs.declared.width.Width.TheVariants.{Narrow, Wide};
 
-use crate::operand::Operand;
+use crate::operand::{Operand, Words};
 use crate::width::Width;
-use aidl_base::{OutOfMemory, Text};
 use aidl_syntax::{Reserved, TokenKind};
-use std::alloc::Global;
 
-/// What a token is as an operand, and None where it is no literal (own). A string is copied.
-pub fn literal(alloc: Global, token: &TokenKind) -> Result<Option<Operand>, OutOfMemory>
-    ensures value { IfOk result (λ operand. operand ≡ literal_of token.now) }
-    ensures memory { OnErr result (IsSomeAnd (literal_of token.now) IsText) }
-    ensures within { IfOk result (λ operand. IfSome operand (λ value. IsWithin value)) }
+/// What a token is as an operand, and None where it is no literal (own). A string is borrowed. It takes no memory.
+pub fn literal(token: &TokenKind) -> Option<Operand<'_>>
+    ensures value { option_map seen result ≡ literal_of token.now }
+    ensures within { IfSome result (λ value. IsWithin (seen value)) }
 {
     match token {
         TokenKind::Number {
             bits,
             hexadecimal,
             long,
-        } => Ok(Some(number(*hexadecimal, *long, *bits))),
-        TokenKind::Character(code) => Ok(Some(Operand::Character(*code))),
-        TokenKind::Str(text) => Ok(Some(Operand::Text(text.try_clone(alloc)?))),
-        TokenKind::Word(Reserved::True) => Ok(Some(Operand::Truth(true))),
-        TokenKind::Word(Reserved::False) => Ok(Some(Operand::Truth(false))),
-        _ => Ok(None),
+        } => Some(number(*hexadecimal, *long, *bits)),
+        TokenKind::Character(code) => Some(Operand::Character(*code)),
+        TokenKind::Str(text) => Some(Operand::Text(Words::Borrowed(text))),
+        TokenKind::Word(Reserved::True) => Some(Operand::Truth(true)),
+        TokenKind::Word(Reserved::False) => Some(Operand::Truth(false)),
+        _ => None,
     }
 }
 
-fn number(hexadecimal: bool, long: bool, bits: u64) -> Operand
-    ensures value { result ≡ number_of hexadecimal long bits }
-    ensures within { IsWithin result }
+fn number<'a>(hexadecimal: bool, long: bool, bits: u64) -> Operand<'a>
+    ensures value { seen result ≡ number_of hexadecimal long bits }
+    ensures within { IsWithin (seen result) }
 {
     if long {
         wide(bits)
@@ -51,9 +50,9 @@ fn narrow_limit(hexadecimal: bool) -> u64
 }
 
 // The number of 32 bits.
-fn narrow(bits: u32) -> Operand
-    ensures value { result ≡ of_bits Narrow bits }
-    ensures within { IsWithin result }
+fn narrow<'a>(bits: u32) -> Operand<'a>
+    ensures value { seen result ≡ of_bits Narrow bits }
+    ensures within { IsWithin (seen result) }
 {
     Operand::Number {
         width: Width::Narrow,
@@ -62,9 +61,9 @@ fn narrow(bits: u32) -> Operand
 }
 
 // The number of 64 bits.
-fn wide(bits: u64) -> Operand
-    ensures value { result ≡ of_bits Wide bits }
-    ensures within { IsWithin result }
+fn wide<'a>(bits: u64) -> Operand<'a>
+    ensures value { seen result ≡ of_bits Wide bits }
+    ensures within { IsWithin (seen result) }
 {
     Operand::Number {
         width: Width::Wide,

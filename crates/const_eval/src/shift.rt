@@ -1,6 +1,7 @@
 ghost use Rattle.std.specs.Prelude.{◌≡◌, ◌<◌, IfOk, IsTrue};
 ghost use Rattle.std.specs.Int.{int_shl};
 ghost use Rattle.const_eval.specs.Operands.{IsWithin};
+ghost use Rattle.const_eval.specs.Seen.{answer, seen};
 ghost use Rattle.const_eval.specs.Shifts as meant;
 ghost use Rattle.const_eval.specs.Widths.{bit_count, form_of, is_within};
 
@@ -11,10 +12,15 @@ use crate::operator::Shift;
 use crate::width::Width;
 
 // `<< >>` of a number of a width.
-pub fn shift_of(operator: Shift, width: Width, a: i64, places: i64) -> Result<Operand, ConstFault>
+pub fn shift_of<'a>(
+    operator: Shift,
+    width: Width,
+    a: i64,
+    places: i64,
+) -> Result<Operand<'a>, ConstFault>
     requires { IsTrue (is_within width a) }
-    ensures value { result ≡ meant.shift_of operator width a places }
-    ensures within { IfOk result (λ value. IsWithin value) }
+    ensures value { answer result ≡ meant.shift_of operator width a places }
+    ensures within { IfOk result (λ value. IsWithin (seen value)) }
 {
     if 0 <= places && places < i64::from(width.bits()) {
         Ok(shifted(operator, width, a, places as u32))
@@ -23,11 +29,11 @@ pub fn shift_of(operator: Shift, width: Width, a: i64, places: i64) -> Result<Op
     }
 }
 
-fn shifted(operator: Shift, width: Width, a: i64, places: u32) -> Operand
+fn shifted<'a>(operator: Shift, width: Width, a: i64, places: u32) -> Operand<'a>
     requires within { IsTrue (is_within width a) }
     requires below { places < bit_count width }
-    ensures value { result ≡ meant.shifted operator width a places }
-    ensures within { IsWithin result }
+    ensures value { seen result ≡ meant.shifted operator width a places }
+    ensures within { IsWithin (seen result) }
 {
     let value = match operator {
         Shift::Left => left(width, a, places),

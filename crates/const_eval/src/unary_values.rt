@@ -1,5 +1,6 @@
 ghost use Rattle.std.specs.Prelude.{◌≡◌, IfOk, IsTrue};
 ghost use Rattle.const_eval.specs.Operands.{IsWithin};
+ghost use Rattle.const_eval.specs.Seen.{answer, seen};
 ghost use Rattle.const_eval.specs.Unary as meant;
 ghost use Rattle.const_eval.specs.Widths.{is_within};
 
@@ -11,10 +12,13 @@ use crate::operator::UnaryOperator;
 use crate::width::Width;
 
 /// What an operator makes of the operand after it (own). It takes no memory.
-pub fn unary(operator: UnaryOperator, operand: &Operand) -> Result<Operand, ConstFault>
-    requires { IsWithin operand.now }
-    ensures value { result ≡ meant.value_of operator operand.now }
-    ensures within { IfOk result (λ value. IsWithin value) }
+pub fn unary<'a>(
+    operator: UnaryOperator,
+    operand: &Operand<'_>,
+) -> Result<Operand<'a>, ConstFault>
+    requires { IsWithin (seen operand.now) }
+    ensures value { answer result ≡ meant.value_of operator (seen operand.now) }
+    ensures within { IfOk result (λ value. IsWithin (seen value)) }
 {
     match operand {
         Operand::Number { width, value } => of_number(operator, *width, *value),
@@ -23,10 +27,14 @@ pub fn unary(operator: UnaryOperator, operand: &Operand) -> Result<Operand, Cons
     }
 }
 
-fn of_number(operator: UnaryOperator, width: Width, value: i64) -> Result<Operand, ConstFault>
+fn of_number<'a>(
+    operator: UnaryOperator,
+    width: Width,
+    value: i64,
+) -> Result<Operand<'a>, ConstFault>
     requires { IsTrue (is_within width value) }
-    ensures value { result ≡ meant.of_number operator width value }
-    ensures within { IfOk result (λ value. IsWithin value) }
+    ensures value { answer result ≡ meant.of_number operator width value }
+    ensures within { IfOk result (λ value. IsWithin (seen value)) }
 {
     match operator {
         UnaryOperator::Plus => Ok(Operand::Number { width, value }),
@@ -36,9 +44,9 @@ fn of_number(operator: UnaryOperator, width: Width, value: i64) -> Result<Operan
     }
 }
 
-fn of_truth(operator: UnaryOperator, b: bool) -> Result<Operand, ConstFault>
-    ensures value { result ≡ meant.of_truth operator b }
-    ensures within { IfOk result (λ value. IsWithin value) }
+fn of_truth<'a>(operator: UnaryOperator, b: bool) -> Result<Operand<'a>, ConstFault>
+    ensures value { answer result ≡ meant.of_truth operator b }
+    ensures within { IfOk result (λ value. IsWithin (seen value)) }
 {
     match operator {
         UnaryOperator::Not => Ok(Operand::Truth(!b)),

@@ -1,12 +1,15 @@
 ghost use Rattle.std.specs.Prelude.{◌≡◌};
+ghost use Rattle.const_eval.specs.Seen.{Answers, seen, words_of};
 ghost use Rattle.const_eval.specs.Wanted as meant;
 
-use crate::fault::ConstFault;
-use crate::operand::Operand;
-use aidl_base::{Const, Text};
+use crate::fault::{ConstFault, EvalFault};
+use crate::operand::{Operand, Words};
+use aidl_base::{Const, Range};
+use std::alloc::Global;
 
-/// The type that is wanted of an expression. That of an enumerator is its enum's backing.
-#[derive(Clone, Copy, Debug)]
+/// The type that is wanted of an expression. That of an enumerator is its enum's backing. `Enum` has the number of a
+/// declaration, and `Nothing` takes no value.
+#[derive(Clone, Copy)]
 pub enum Wanted {
     Boolean,
     Character,
@@ -14,17 +17,25 @@ pub enum Wanted {
     Int,
     Long,
     Text,
+    Enum(u32),
+    Nothing,
 }
 
-/// The value of a wanted type that an operand is (own). It takes no memory.
-pub fn fitted(wanted: Wanted, operand: Operand) -> Result<Const, ConstFault>
-    ensures { result ≡ meant.fitted wanted operand }
+/// The value of a wanted type that an operand is (own). `named` is the number of the enum of whose enumerator the
+/// expression is the name, without parentheses, where it is one. It takes memory for a text alone.
+pub fn fitted(
+    alloc: Global,
+    wanted: Wanted,
+    named: Option<u32>,
+    operand: Operand<'_>,
+) -> Result<Const, EvalFault>
+    ensures { Answers (λ c. c) result (meant.fitted wanted named (seen operand.entry)) }
 {
     match operand {
-        Operand::Truth(b) => truth_for(wanted, b),
-        Operand::Number { width: _, value } => number_for(wanted, value),
-        Operand::Character(code) => character_for(wanted, code),
-        Operand::Text(text) => text_for(wanted, text),
+        Operand::Truth(b) => Ok(truth_for(wanted, b)?),
+        Operand::Number { width: _, value } => Ok(number_for(wanted, named, value)?),
+        Operand::Character(code) => Ok(character_for(wanted, code)?),
+        Operand::Text(words) => text_for(alloc, wanted, words),
     }
 }
 
@@ -37,21 +48,22 @@ fn truth_for(wanted: Wanted, b: bool) -> Result<Const, ConstFault>
     }
 }
 
-fn number_for(wanted: Wanted, value: i64) -> Result<Const, ConstFault>
-    ensures { result ≡ meant.number_for wanted value }
+fn number_for(wanted: Wanted, named: Option<u32>, value: i64) -> Result<Const, ConstFault>
+    ensures { result ≡ meant.number_for wanted named value }
 {
     match wanted {
-        Wanted::Byte => in_range(-128, 127, value),
-        Wanted::Int => in_range(-2147483648, 2147483647, value),
-        Wanted::Long => in_range(i64::MIN, i64::MAX, value),
+        Wanted::Byte => in_range(Range::Byte, value),
+        Wanted::Int => in_range(Range::Int, value),
+        Wanted::Long => in_range(Range::Long, value),
+        Wanted::Enum(number) if named == Some(number) => Ok(Const::Number(value)),
         _ => Err(ConstFault::Mismatch),
     }
 }
 
-fn in_range(least: i64, greatest: i64, value: i64) -> Result<Const, ConstFault>
-    ensures { result ≡ meant.in_range least greatest value }
+fn in_range(range: Range, value: i64) -> Result<Const, ConstFault>
+    ensures { result ≡ meant.in_range range value }
 {
-    if least <= value && value <= greatest {
+    if range.has(value) {
         Ok(Const::Number(value))
     } else {
         Err(ConstFault::DoesNotFit)
@@ -67,11 +79,11 @@ fn character_for(wanted: Wanted, code: u32) -> Result<Const, ConstFault>
     }
 }
 
-fn text_for(wanted: Wanted, text: Text) -> Result<Const, ConstFault>
-    ensures { result ≡ meant.text_for wanted text }
+fn text_for(alloc: Global, wanted: Wanted, words: Words<'_>) -> Result<Const, EvalFault>
+    ensures { Answers (λ c. c) result (meant.text_for wanted (words_of words.entry)) }
 {
     match wanted {
-        Wanted::Text => Ok(Const::Text(text)),
-        _ => Err(ConstFault::Mismatch),
+        Wanted::Text => Ok(Const::Text(words.into_text(alloc)?)),
+        _ => Err(EvalFault::Fault(ConstFault::Mismatch)),
     }
 }
