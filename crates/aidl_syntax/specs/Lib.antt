@@ -8,3 +8,4 @@ pub mod Trees
 pub mod Parts
 pub mod Productions
 pub mod Measures
+pub mod Members
