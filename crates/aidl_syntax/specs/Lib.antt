@@ -9,3 +9,5 @@ pub mod Parts
 pub mod Productions
 pub mod Measures
 pub mod Members
+pub mod Walks
+pub mod Parses

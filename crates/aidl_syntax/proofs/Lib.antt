@@ -1,0 +1,4 @@
+mod Rising
+mod Cutting
+mod Walking
+mod Leaves
