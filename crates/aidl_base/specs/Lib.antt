@@ -1,5 +1,6 @@
 pub mod formers
 pub mod Limits
+pub mod Names
 pub mod Ranges
 pub mod Readings
 pub mod Results

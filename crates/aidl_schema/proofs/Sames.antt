@@ -10,7 +10,7 @@ use Rattle.aidl_schema.specs.Same.{same_text, same_idents, same_decl, base_code,
 use Rattle.aidl_schema.specs.Types.{form_of, form_of_decl, is_meant, is_type, is_well_shaped}
 use Rattle.aidl_base.proofs.Tests.{both}
 
-eq_refl : (m : ℕ) → (m == m) ≡ true
+pub eq_refl : (m : ℕ) → (m == m) ≡ true
 eq_refl m = grind (arith, nat_tests)
 
 eq_sym : (m n : ℕ) → (m == n) ≡ (n == m)

@@ -1,10 +1,15 @@
-ghost use Rattle.std.specs.Prelude.{◌≡◌, ◌↔◌, true, IsTrue, min};
+ghost use Rattle.std.specs.Prelude.{◌≡◌, ◌↔◌, ◌≤◌, true, IsTrue, length, map, min};
+ghost use Rattle.std.specs.Cmp.Lexicographic.{slice_cmp};
+ghost use Rattle.std.specs.List.Sorted.{IsStrictlySortedBy};
+ghost use Rattle.std.specs.Ordering.{nat_cmp};
 ghost use Rattle.aidl_schema.specs.Containment.{Reaches, holds_itself};
+ghost use Rattle.aidl_schema.specs.Holds.{AllHold, AreApart, HasElements};
+ghost use Rattle.aidl_schema.specs.Names.{name_of};
 ghost use Rattle.aidl_schema.specs.Same.{same};
 ghost use Rattle.aidl_schema.specs.Sizes.{default_depth, default_nodes, depth_by, nodes_by};
 ghost use Rattle.aidl_schema.specs.Types.{is_type};
 
-use crate::schema::{AidlType, Decl};
+use crate::schema::{AidlType, Decl, Schema};
 
 /// Types that are the same are so both ways, and along a third; and each type of a schema is the same as itself.
 pub fn law_same(a: &[Decl], t: &AidlType, b: &[Decl], u: &AidlType, c: &[Decl], w: &AidlType)
@@ -22,4 +27,14 @@ pub fn law_holds_itself(decls: &[Decl], number: u32)
 pub fn law_default_sizes(decls: &[Decl], ty: &AidlType)
     ensures depth { default_depth decls.now ty.now ≡ min 33 (depth_by decls.now (λ u. default_depth decls.now u) ty.now) }
     ensures nodes { default_nodes decls.now ty.now ≡ min 513 (nodes_by decls.now (λ u. default_nodes decls.now u) ty.now) }
+{}
+
+/// What a schema gives since it is valid: what holds of each declaration (`Holds` names it), that their names rise and
+/// differ, that they are at most 16,384, and that the elements of its types have types of it.
+pub fn law_valid(schema: &Schema)
+    ensures declarations { AllHold schema.now.decls }
+    ensures sorted { IsStrictlySortedBy (slice_cmp nat_cmp) (map name_of schema.now.decls) }
+    ensures apart { AreApart name_of schema.now.decls }
+    ensures few { length schema.now.decls ≤ 16384 }
+    ensures elements { HasElements schema.now.decls }
 {}

@@ -5,7 +5,7 @@ mod laws;
 mod meaning;
 mod schema;
 
-pub use laws::{law_default_sizes, law_holds_itself, law_same};
+pub use laws::{law_default_sizes, law_holds_itself, law_same, law_valid};
 pub use meaning::{Form, element, form_in, is_in_range, is_raw, is_type};
 pub use schema::{
     AidlType, Arg, Backing, Base, Constant, Decl, Direction, Enumerator, Field, Kind, Method,

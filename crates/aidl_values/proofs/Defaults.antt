@@ -16,9 +16,10 @@ use Rattle.aidl_schema.specs.Containment.{fields_of}
 use Rattle.aidl_schema.specs.Sizes.{greatest_of, const_depth, const_nodes, initial_size, field_size, form_depth, form_nodes, depth_by, nodes_by, depth_within, nodes_within}
 use Rattle.aidl_schema.specs.Types.{Form, form_of, form_of_kind, form_of_decl, is_one, is_type, is_meant, is_well_shaped}
 use Rattle.aidl_schema.specs.Types as form
-use Rattle.aidl_schema.specs.Valid.{is_valid, is_field_type, has_initializer_of, has_method_types, methods_of, is_union_whole, are_union_fields}
+use Rattle.aidl_schema.specs.Holds.{AllHold}
+use Rattle.aidl_schema.specs.Methods.{is_field_type}
+use Rattle.aidl_schema.specs.Valid.{has_initializer_of, is_union_whole, are_union_fields}
 use Rattle.aidl_base.proofs.Tests.{both}
-use Rattle.aidl_schema.proofs.Valids.{holds}
 use Rattle.aidl_values.specs.Data.{Data, null, seq, Items, none, depth_of, greatest}
 use Rattle.aidl_values.specs.Default.{IsZero, AreInitial, const_value, zero_by, zero_of_form, zero_within, initial_or, initials_by}
 use Rattle.aidl_values.specs.HasType.{HasType, FieldsHaveType}
@@ -67,11 +68,11 @@ kind_union (Enum backing.Byte es) fs e = cc
 kind_union (Enum backing.Int es) fs e = cc
 kind_union (Enum backing.Long es) fs e = cc
 
-module _ (S : List Decl) (valid : is_valid S ≡ true) where
+module _ (S : List Decl) (hold : AllHold S) where
   pub kind_whole : (n : ℕ) (d : Decl) → slice_get S n ≡ Some d → AreWhole S (fields_of d.kind)
   kind_whole n d is =
-      let h = holds S valid n d is in
-      ((both (list_all (λ f. is_field_type S f) (fields_of d.kind)) (list_all (λ m. has_method_types S m) (methods_of d.kind)) h.types).0, h.initializers)
+      let h = hold n d is in
+      (h.field_types, h.initializers)
 
   decl_parcelable : (o : Option Decl) (fs : List Field) → ((d : Decl) → o ≡ Some d → AreWhole S (fields_of d.kind)) → form_of_decl o ≡ form.parcelable fs → AreWhole S fs
   decl_parcelable None fs whole e = cc
@@ -98,7 +99,7 @@ module _ (S : List Decl) (valid : is_valid S ≡ true) where
   union_whole base.Int fs e = cc
   union_whole base.Long fs e = cc
   union_whole base.Text fs e = cc
-  union_whole (base.Named n) fs e = decl_union (slice_get S n) fs (λ d is. (kind_whole n d is, (holds S valid n d is).union)) e
+  union_whole (base.Named n) fs e = decl_union (slice_get S n) fs (λ d is. (kind_whole n d is, (hold n d is).union)) e
 
   pub field_type : (f : Field) → is_field_type S f ≡ true → is_type S f.ty ≡ true
   field_type f h = (both _ _ (both _ _ h).0).0
@@ -110,7 +111,7 @@ module _ (S : List Decl) (valid : is_valid S ≡ true) where
         → suc (initial_size const_depth D o t) < k → suc (initial_size const_depth D o t) ≤ m
         → IsStart S t o (initial_or o (Z t)) (initial_size const_depth D o t) (initial_size const_nodes N o t)
     start t None is h lt le = let d = law t is lt le in record { initial_of = d.zero_of; typed_as = d.typed_as; depth_is = d.depth_is; nodes_are = d.nodes_are }
-    start t (Some c) is h lt le = let d = sized S t c h in record { initial_of = refl; typed_as = typed S valid t c h; depth_is = d.depth; nodes_are = d.nodes }
+    start t (Some c) is h lt le = let d = sized S t c h in record { initial_of = refl; typed_as = typed S hold t c h; depth_is = d.depth; nodes_are = d.nodes }
 
     starts : (fs : List Field) → AreWhole S fs
         → suc (greatest_of (map (λ f. field_size const_depth D f) fs)) < k → suc (greatest_of (map (λ f. field_size const_depth D f) fs)) ≤ m

@@ -10,7 +10,9 @@ use Rattle.aidl_schema.specs.declared.schema.Shape.TheVariants as shape
 use Rattle.aidl_schema.specs.declared.schema.AidlType.{AidlType}
 use Rattle.aidl_schema.specs.Sizes.{greatest_of, const_depth, const_nodes, initial_size, field_size, depth_within, nodes_within}
 use Rattle.aidl_schema.specs.Types.{is_type}
-use Rattle.aidl_schema.specs.Valid.{is_valid, is_field_type, has_initializer_of}
+use Rattle.aidl_schema.specs.Holds.{AllHold}
+use Rattle.aidl_schema.specs.Methods.{is_field_type}
+use Rattle.aidl_schema.specs.Valid.{has_initializer_of}
 use Rattle.aidl_schema.proofs.Counts.{depth_steady, nodes_steady, depth_within-suc, nodes_within-suc}
 use Rattle.aidl_base.proofs.Tests.{all_at}
 use Rattle.aidl_values.specs.Data.{Data, depth_of}
@@ -42,30 +44,30 @@ at_most_sum size (g ∷ fs) (suc k) f e = let later = at_most_sum size fs k f e 
 abbrev whole : Base → AidlType
 whole b = record { base = b; shape = shape.One; nullable = false; heap = false; utf8 = false }
 
-module _ (S : List Decl) (valid : is_valid S ≡ true) where
+module _ (S : List Decl) (hold : AllHold S) where
   of_type : (t : AidlType) (o : Option Const) (v : Data) → is_type S t ≡ true → has_initializer_of S t o ≡ true
       → initial_size const_depth (λ u. depth_within 32 S u) o t ≤ 31 → initial_size const_nodes (λ u. nodes_within 512 S u) o t ≤ 511
       → MatchOption o (IsZero S t v) (λ c. v ≡ const_value c) → IsSmall S t v
   of_type t (Some c) v is h shallow few same =
       let size = sized S t c h in
-      subst (λ x. IsSmall S t x) (sym same) (record { typed_as = typed S valid t c h; shallow = omega (arith, size.depth); few = omega (arith, size.nodes) })
+      subst (λ x. IsSmall S t x) (sym same) (record { typed_as = typed S hold t c h; shallow = omega (arith, size.depth); few = omega (arith, size.nodes) })
   of_type t None v is h shallow few zero_of =
-      let d = default_there S valid t is in
+      let d = default_there S hold t is in
       let deep = depth_steady S 32 33 t (omega arith) in
       let many = nodes_steady S 512 513 t (omega arith) in
-      subst (λ x. IsSmall S t x) (sym (one_default S valid t v is zero_of))
+      subst (λ x. IsSmall S t x) (sym (one_default S hold t v is zero_of))
       (record { typed_as = d.typed_as; shallow = omega (arith, d.depth_is, deep); few = omega (arith, d.nodes_are, many) })
 
   pub initial_fits : (b : Base) (f : Field) (v : Data) → IsPartOf S b f → IsInitial S f v → IsSmall S f.ty v
   initial_fits b f v of start =
-      let parts = parcelable_whole S valid b of.0 of.1 in
+      let parts = parcelable_whole S hold b of.0 of.1 in
       let meant : is_type S (whole b) ≡ true = rw (of.1) refl in
-      let bound = small S valid (whole b) meant in
+      let bound = small S hold (whole b) meant in
       let depth : suc (greatest_of (map (λ g. field_size const_depth (λ u. depth_within 32 S u) g) of.0)) ≤ 32
       = rw (depth_within-suc 32 S (whole b), of.1) at bound.0 in
       let nodes : suc (sum (map (λ g. field_size const_nodes (λ u. nodes_within 512 S u) g) of.0)) ≤ 512
       = rw (nodes_within-suc 512 S (whole b), of.1) at bound.1 in
       let here = at_most_greatest (λ g. field_size const_depth (λ u. depth_within 32 S u) g) of.0 of.2 f of.3 in
       let among = at_most_sum (λ g. field_size const_nodes (λ u. nodes_within 512 S u) g) of.0 of.2 f of.3 in
-      of_type f.ty f.initial v (field_type S valid f (all_at (λ g. is_field_type S g) of.0 of.2 f parts.0 of.3))
+      of_type f.ty f.initial v (field_type S hold f (all_at (λ g. is_field_type S g) of.0 of.2 f parts.0 of.3))
       (all_at (λ g. has_initializer_of S g.ty g.initial) of.0 of.2 f parts.1 of.3) (omega arith) (omega arith) start

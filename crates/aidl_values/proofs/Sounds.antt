@@ -1,23 +1,22 @@
 -- In a valid schema defaults are small, each type has one, and so the schema is sound.
-use Rattle.std.proofs.Common.{◌≡◌, ℕ, zero, suc, ◌+◌, ◌≤◌, Bool, true, false, List, [], ◌∷◌, length, Option, Some, None, slice_get, refl, sym, ◌∙◌, subst, arith}
-use Rattle.std.specs.Prelude.{nat_le, MatchOption}
+use Rattle.std.proofs.Common.{◌≡◌, ℕ, zero, suc, ◌+◌, ◌≤◌, Bool, true, false, List, [], ◌∷◌, Option, Some, None, slice_get, refl, sym, ◌∙◌, subst, arith}
+use Rattle.std.specs.Prelude.{MatchOption}
 use Rattle.std.specs.List.{list_all}
-use Rattle.std.proofs.lemmas.Bool.Decides.{nat_tests}
 use Rattle.aidl_base.specs.declared.constant.Const.{Const}
 use Rattle.aidl_schema.specs.declared.schema.Decl.{Decl}
 use Rattle.aidl_schema.specs.declared.schema.Field.{Field}
-use Rattle.aidl_schema.specs.declared.schema.Kind.{Kind}
-use Rattle.aidl_schema.specs.declared.schema.Kind.TheVariants.{Interface, Parcelable, Union, Enum}
 use Rattle.aidl_schema.specs.declared.schema.Base.{Base}
 use Rattle.aidl_schema.specs.declared.schema.Base.TheVariants as base
 use Rattle.aidl_schema.specs.declared.schema.AidlType.{AidlType}
 use Rattle.aidl_schema.specs.Containment.{fields_of}
 use Rattle.aidl_schema.specs.Sizes.{depth_by, nodes_by, depth_within, nodes_within, default_depth, default_nodes}
 use Rattle.aidl_schema.specs.Types.{form_of, form_of_decl, is_one, is_type, is_meant}
-use Rattle.aidl_schema.specs.Valid.{is_valid, one_of, is_field_type, has_initializer_of, part_count, member_count}
+use Rattle.aidl_schema.specs.Holds.{AllHold}
+use Rattle.aidl_schema.specs.Methods.{is_field_type}
+use Rattle.aidl_schema.specs.Valid.{IsValid, one_of, has_initializer_of}
+use Rattle.aidl_schema.proofs.Valids.{all_hold}
 use Rattle.aidl_schema.proofs.Counts.{depth_steady, depth_within-suc, nodes_within-suc}
 use Rattle.aidl_base.proofs.Tests.{both}
-use Rattle.aidl_schema.proofs.Valids.{holds}
 use Rattle.aidl_values.specs.Data.{Data, depth_of}
 use Rattle.aidl_values.specs.Default.{IsZero, const_value, zero_within, initial_or}
 use Rattle.aidl_values.specs.HasType.{HasType}
@@ -34,12 +33,6 @@ pub record Fits (S : List Decl) (t : AidlType) (v : Data) : Type 0 where
   pub nodes_are : nodes_of v ≡ default_nodes S t
   pub shallow : depth_of v ≤ 32
   pub small : nodes_of v ≤ 512
-
-fields_few : (k : Kind) → length (fields_of k) ≤ part_count k
-fields_few (Interface ms) = omega arith
-fields_few (Parcelable fs) = omega arith
-fields_few (Union fs) = omega arith
-fields_few (Enum b es) = omega arith
 
 module _ (S : List Decl) (D N : AidlType → ℕ) (law : (n : ℕ) (d : Decl) → slice_get S n ≡ Some d → (depth_by S D (one_of n) ≤ 32) × (nodes_by S N (one_of n) ≤ 512)) where
   of_named : (n : ℕ) (o : Option Decl) → slice_get S n ≡ o → is_meant (form_of_decl o) ≡ true → (depth_by S D (one_of n) ≤ 32) × (nodes_by S N (one_of n) ≤ 512)
@@ -61,13 +54,11 @@ module _ (S : List Decl) (D N : AidlType → ℕ) (law : (n : ℕ) (d : Decl) �
   of_flags t false false e is h = rw (e, is) (omega arith, omega arith)
   of_flags t false true e is h = of_base t t.base refl e is (both _ _ h).0
 
-module _ (S : List Decl) (valid : is_valid S ≡ true) where
+module _ (S : List Decl) (hold : AllHold S) where
   decl_small : (n : ℕ) (d : Decl) → slice_get S n ≡ Some d → (depth_within 33 S (one_of n) ≤ 32) × (nodes_within 513 S (one_of n) ≤ 512)
   decl_small n d is =
-      let two = both (nat_le (default_depth S (one_of n)) 32) (nat_le (default_nodes S (one_of n)) 512) (holds S valid n d is).small in
-      let depth = two.0 in
-      let nodes = two.1 in
-      (grind (arith, nat_tests), grind (arith, nat_tests))
+      let h = hold n d is in
+      (omega (arith, h.depth), omega (arith, h.nodes))
 
   -- E23 bounds the default of each type.
   pub small : (t : AidlType) → is_type S t ≡ true → (depth_within 33 S t ≤ 32) × (nodes_within 513 S t ≤ 512)
@@ -80,8 +71,8 @@ module _ (S : List Decl) (valid : is_valid S ≡ true) where
   default_there t is =
       let few = small t is in
       let steady = depth_steady S 33 513 t (omega arith) in
-      let d = settled S valid 33 33 t is (omega (arith, few.0)) (omega (arith, few.0)) in
-      let deep = settled S valid 513 33 t is (omega (arith, few.0, steady)) (omega (arith, few.0, steady)) in
+      let d = settled S hold 33 33 t is (omega (arith, few.0)) (omega (arith, few.0)) in
+      let deep = settled S hold 513 33 t is (omega (arith, few.0, steady)) (omega (arith, few.0, steady)) in
       record { zero_of = d.zero_of; typed_as = d.typed_as; depth_is = d.depth_is; nodes_are = deep.nodes_are }
 
   -- and no other
@@ -110,29 +101,25 @@ module _ (S : List Decl) (valid : is_valid S ≡ true) where
   initial_there : (t : AidlType) (o : Option Const) → is_type S t ≡ true → has_initializer_of S t o ≡ true
       → MatchOption o (IsZero S t (initial_or o (zero_within 33 S t))) (λ c. initial_or o (zero_within 33 S t) ≡ const_value c) × HasType S t (initial_or o (zero_within 33 S t))
   initial_there t None is h = let d = default_there t is in (d.zero_of, d.typed_as)
-  initial_there t (Some c) is h = (refl, typed S valid t c h)
+  initial_there t (Some c) is h = (refl, typed S hold t c h)
 
   are_types : (fs : List Field) → list_all (λ f. is_field_type S f) fs ≡ true → AreTypes S fs
   are_types [] h = tt
-  are_types (f ∷ fs) h = let two = both (is_field_type S f) (list_all (λ g. is_field_type S g) fs) h in (field_type S valid f two.0, are_types fs two.1)
+  are_types (f ∷ fs) h = let two = both (is_field_type S f) (list_all (λ g. is_field_type S g) fs) h in (field_type S hold f two.0, are_types fs two.1)
 
   have_defaults : (fs : List Field) → AreWhole S fs → HaveDefaults S fs
   have_defaults [] whole = tt
   have_defaults (f ∷ fs) whole =
       let types = both (is_field_type S f) (list_all (λ g. is_field_type S g) fs) whole.0 in
       let inits = both (has_initializer_of S f.ty f.initial) (list_all (λ g. has_initializer_of S g.ty g.initial) fs) whole.1 in
-      (initial_there f.ty f.initial (field_type S valid f types.0) inits.0, have_defaults fs (types.1, inits.1))
+      (initial_there f.ty f.initial (field_type S hold f types.0) inits.0, have_defaults fs (types.1, inits.1))
 
   -- A valid schema is sound.
-  pub sound : IsSound S
-  sound = record {
-    types = λ d declared. are_types (fields_of d.kind) (kind_whole S valid declared.0 d declared.1).0;
-    defaults = λ d declared. have_defaults (fields_of d.kind) (kind_whole S valid declared.0 d declared.1);
-    few = λ d declared.
-        let members = (holds S valid declared.0 d declared.1).few in
-        let bound : member_count S declared.0 d ≤ 4096 = grind (arith, nat_tests) in
-        let fields = fields_few d.kind in
-        omega arith;
+  pub is_sound : IsSound S
+  is_sound = record {
+    types = λ d declared. are_types (fields_of d.kind) (kind_whole S hold declared.0 d declared.1).0;
+    defaults = λ d declared. have_defaults (fields_of d.kind) (kind_whole S hold declared.0 d declared.1);
+    few = λ d declared. (hold declared.0 d declared.1).few_fields;
   }
 
   fields_have : (fs : List Field) (k : ℕ) (f : Field) → HaveDefaults S fs → slice_get fs k ≡ Some f → HasDefault S f
@@ -142,4 +129,8 @@ module _ (S : List Decl) (valid : is_valid S ≡ true) where
 
   -- a field of the schema has its default
   pub has_default : (f : Field) → IsFieldOf S f → HasDefault S f
-  has_default f of = fields_have (fields_of of.0.kind) of.2 f (sound.defaults of.0 of.1) of.3
+  has_default f of = fields_have (fields_of of.0.kind) of.2 f (is_sound.defaults of.0 of.1) of.3
+
+-- the same from the fact that a schema keeps
+pub sound : (S : List Decl) → IsValid S → IsSound S
+sound S valid = is_sound S (all_hold S valid)

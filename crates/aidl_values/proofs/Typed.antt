@@ -19,9 +19,9 @@ use Rattle.aidl_base.specs.Ranges.{is_between}
 use Rattle.aidl_schema.specs.Constants.{in_range, is_char_literal, is_string_character, is_enumerator, is_enumerator_of, is_number_of, is_boolean, is_string, is_single, is_constant_of, are_members, is_initializer_of}
 use Rattle.aidl_schema.specs.Types.{form_of, form_of_kind, form_of_decl, is_one, elem}
 use Rattle.aidl_schema.specs.Types as form
-use Rattle.aidl_schema.specs.Valid.{is_valid, is_enum_whole}
+use Rattle.aidl_schema.specs.Holds.{AllHold}
+use Rattle.aidl_schema.specs.Valid.{is_enum_whole}
 use Rattle.aidl_base.proofs.Tests.{both}
-use Rattle.aidl_schema.proofs.Valids.{holds}
 use Rattle.aidl_values.specs.Default.{const_value}
 use Rattle.aidl_values.specs.HasType.{HasType, HaveType}
 use Rattle.aidl_values.specs.View.{items_of}
@@ -64,7 +64,7 @@ scalars (c ∷ cs) h =
     let one : IsScalar c = grind (arith, nat_tests) in
     rw one (scalars cs two.1)
 
-module _ (S : List Decl) (valid : is_valid S ≡ true) where
+module _ (S : List Decl) (hold : AllHold S) where
   number_of_decl : (o : Option Decl) (n : ℤ) → ((d : Decl) → o ≡ Some d → is_enum_whole d.kind ≡ true) → is_enumerator_of o n ≡ true → in_range (form_of_decl o) n ≡ true
   number_of_decl None n whole h = cc
   number_of_decl (Some d) n whole h = enumerated d.kind n (whole d refl) h
@@ -74,7 +74,7 @@ module _ (S : List Decl) (valid : is_valid S ≡ true) where
   number_in_range base.Char n h = char_in_range n h
   number_in_range base.Int n h = h
   number_in_range base.Long n h = h
-  number_in_range (base.Named k) n h = number_of_decl (slice_get S k) n (λ d is. (holds S valid k d is).values) h
+  number_in_range (base.Named k) n h = number_of_decl (slice_get S k) n (λ d is. (hold k d is).enum) h
   number_in_range base.Boolean n h = cc
   number_in_range base.Text n h = cc
 

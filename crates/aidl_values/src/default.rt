@@ -8,7 +8,7 @@ ghost use Rattle.aidl_values.specs.steps.Levels.{zero_parts};
 
 use crate::value::Value;
 use aidl_base::{Const, OutOfMemory, Row, Text};
-use aidl_schema::{AidlType, Field, Form, Schema, Shape, form_in};
+use aidl_schema::{AidlType, Field, Form, Schema, Shape, form_in, law_valid};
 use std::alloc::Global;
 
 // The fuel of a default, of which each level of parts takes one. It never runs out: by E23 the defaults of a valid schema
@@ -23,6 +23,7 @@ pub fn default_of(alloc: Global, schema: &Schema, ty: &AidlType) -> Result<Value
     ensures zero { IfOk result (λ v. IsZero schema.now.decls ty.now (view v)) }
     ensures value { IfOk result (λ v. view v ≡ zero_within 33 schema.now.decls ty.now) }
 {
+    law_valid(schema);
     default_within(alloc, schema, *ty, FUEL)
 }
 
@@ -31,6 +32,7 @@ pub fn initial_of(alloc: Global, schema: &Schema, field: &Field) -> Result<Value
     ensures initial { IfOk result (λ v. IsFieldOf schema.now.decls field.now → IsInitial schema.now.decls field.now (view v)) }
     ensures value { IfOk result (λ v. view v ≡ initial_in schema.now.decls field.now) }
 {
+    law_valid(schema);
     match &field.initial {
         Some(initializer) => value_of(alloc, initializer),
         None => default_within(alloc, schema, field.ty, FUEL),

@@ -9,14 +9,16 @@ ghost use Rattle.aidl_values.specs.Sound.{IsPartOf, IsSound};
 ghost use Rattle.aidl_values.specs.View.{view};
 
 use crate::value::Value;
-use aidl_schema::{AidlType, Base, Field, Schema};
+use aidl_schema::{AidlType, Base, Field, Schema, law_valid};
 
 /// Each type of a schema has one default: 33 levels are enough to find it, and nothing else is one.
 pub fn law_one_default(schema: &Schema, ty: &AidlType, value: &Value)
     requires { is_type schema.now.decls ty.now ≡ true }
     ensures there { IsZero schema.now.decls ty.now (zero_within 33 schema.now.decls ty.now) }
     ensures only { IsZero schema.now.decls ty.now (view value.now) ↔ (view value.now ≡ zero_within 33 schema.now.decls ty.now) }
-{}
+{
+    law_valid(schema);
+}
 
 /// A default has its type, its depth is at most 32 and its nodes at most 512, and both are what the schema counts.
 pub fn law_default_fits(schema: &Schema, ty: &AidlType, value: &Value)
@@ -27,7 +29,9 @@ pub fn law_default_fits(schema: &Schema, ty: &AidlType, value: &Value)
     ensures nodes { nodes_of (view value.now) ≡ default_nodes schema.now.decls ty.now }
     ensures shallow { depth_of (view value.now) ≤ 32 }
     ensures small { nodes_of (view value.now) ≤ 512 }
-{}
+{
+    law_valid(schema);
+}
 
 /// What a field of a parcelable starts with has the field's type, a depth of at most 31 and at most 511 nodes: one less
 /// of each than the parcelable's default may have.
@@ -37,9 +41,13 @@ pub fn law_initial_fits(schema: &Schema, base: Base, field: &Field, value: &Valu
     ensures typed { HasType schema.now.decls field.now.ty (view value.now) }
     ensures shallow { depth_of (view value.now) ≤ 31 }
     ensures small { nodes_of (view value.now) ≤ 511 }
-{}
+{
+    law_valid(schema);
+}
 
 /// In a schema the fields of each parcelable and union have types of the schema and one default each, of their type.
 pub fn law_sound(schema: &Schema)
     ensures { IsSound schema.now.decls }
-{}
+{
+    law_valid(schema);
+}

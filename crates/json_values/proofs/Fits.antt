@@ -20,15 +20,14 @@ use Rattle.aidl_schema.specs.Constants.{in_range}
 use Rattle.aidl_schema.specs.Same.{same_text}
 use Rattle.aidl_schema.specs.Types.{Form, form_of, form_of_decl, form_of_kind, is_one, elem}
 use Rattle.aidl_schema.specs.Types as form
-use Rattle.aidl_schema.specs.Valid.{is_valid, is_enum_whole}
+use Rattle.aidl_schema.specs.Holds.{AllHold}
+use Rattle.aidl_schema.specs.Valid.{is_enum_whole}
 use Rattle.aidl_base.proofs.Tests.{both}
-use Rattle.aidl_schema.proofs.Valids.{holds}
 use Rattle.aidl_values.specs.Data.{Data, null, number, seq, rec, alt, Items, item, depth_of, greatest}
 use Rattle.aidl_values.specs.HasType.{HasType, HaveType, FieldsHaveType}
-use Rattle.aidl_values.specs.Sound.{HasDefault, HaveDefaults, initial_in}
+use Rattle.aidl_values.specs.Sound.{HasDefault, HaveDefaults, IsSound, initial_in}
 use Rattle.aidl_values.specs.View.{view}
 use Rattle.aidl_values.specs.declared.value.Value.{Value}
-use Rattle.aidl_values.proofs.Sounds.{sound}
 use Rattle.json_values.specs.FromJson as from
 use Rattle.json_values.specs.FromJson.{from_json_of}
 use Rattle.json_values.specs.declared.fault.Fault.{Fault}
@@ -256,10 +255,10 @@ within_kind (Enum backing.Byte (x ∷ es)) e = e
 within_kind (Enum backing.Int (x ∷ es)) e = e
 within_kind (Enum backing.Long (x ∷ es)) e = e
 
-module _ (S : List Decl) (valid : is_valid S ≡ true) where
+module _ (S : List Decl) (hold : AllHold S) (sound : IsSound S) where
   within_decl : (n : ℕ) (o : Option Decl) → slice_get S n ≡ o → AreWithin (form_of_decl o) (enumerators_of_decl o)
   within_decl n None at = tt
-  within_decl n (Some d) at = within_kind d.kind (holds S valid n d at).values
+  within_decl n (Some d) at = within_kind d.kind (hold n d at).enum
 
   within_base : (b : Base) → AreWithin (form_of S b) (enumerators_of S b)
   within_base base.Boolean = tt
@@ -271,7 +270,7 @@ module _ (S : List Decl) (valid : is_valid S ≡ true) where
   within_base (base.Named n) = within_decl n (slice_get S n) refl
 
   have_base : (b : Base) → HaveDefaults S (fields_in (form_of S b))
-  have_base b = of_base S (λ fs. HaveDefaults S fs) tt (sound S valid).defaults b
+  have_base b = of_base S (λ fs. HaveDefaults S fs) tt sound.defaults b
 
   default_case : (d : ℕ) (f : Field) (b : Bool) → nat_le (depth_of (initial_in S f)) d ≡ b → HasType S f.ty (initial_in S f) → FitsAs S f.ty d (if b then Ok (initial_in S f) else refuse too_deep)
   default_case d f true e has = let le : depth_of (initial_in S f) ≤ d = grind (arith, nat_tests) in (has, le)
@@ -287,7 +286,7 @@ module _ (S : List Decl) (valid : is_valid S ≡ true) where
       (λ f x. default_case d f (nat_le (depth_of (initial_in S f)) d) refl x) j (within_base t.base) (have_base t.base) texts
 
 -- of what was given
-pub given_fits : (S : List Decl) → is_valid S ≡ true → (t : AidlType) (j : json.Data) → HasTexts j → (result : Result Value Fault) → Gives view result (from_json_of S 64 t j)
+pub given_fits : (S : List Decl) → AllHold S → IsSound S → (t : AidlType) (j : json.Data) → HasTexts j → (result : Result Value Fault) → Gives view result (from_json_of S 64 t j)
     → IfOk result (λ v. HasType S t (view v)) × IfOk result (λ v. depth_of (view v) ≤ 64)
-given_fits S valid t j texts (Ok v) gives = subst (FitsAs S t 64) gives (from_json_fits S valid 64 t j texts)
-given_fits S valid t j texts (Err e) gives = (tt, tt)
+given_fits S hold sound t j texts (Ok v) gives = subst (FitsAs S t 64) gives (from_json_fits S hold sound 64 t j texts)
+given_fits S hold sound t j texts (Err e) gives = (tt, tt)

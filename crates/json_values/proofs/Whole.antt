@@ -1,5 +1,5 @@
 -- What a valid schema says of each declaration holds of what a base means.
-use Rattle.std.proofs.Common.{◌≡◌, ℕ, ◌≤◌, List, [], length, Option, Some, None, slice_get, IsTrue, refl, subst, arith}
+use Rattle.std.proofs.Common.{◌≡◌, ℕ, ◌≤◌, List, [], length, Option, Some, None, slice_get, refl, subst, arith}
 use Rattle.aidl_schema.specs.declared.schema.Decl.{Decl}
 use Rattle.aidl_schema.specs.declared.schema.Field.{Field}
 use Rattle.aidl_schema.specs.declared.schema.Kind.{Kind}
@@ -9,9 +9,7 @@ use Rattle.aidl_schema.specs.declared.schema.Base.{Base}
 use Rattle.aidl_schema.specs.declared.schema.Base.TheVariants as base
 use Rattle.aidl_schema.specs.Types.{Form, form_of, form_of_decl, form_of_kind}
 use Rattle.aidl_schema.specs.Types as form
-use Rattle.aidl_schema.specs.Valid.{is_valid}
-use Rattle.aidl_values.specs.Sound.{IsDeclared, fields_of}
-use Rattle.aidl_values.proofs.Sounds.{sound}
+use Rattle.aidl_values.specs.Sound.{IsDeclared, IsSound, fields_of}
 use Rattle.json_values.specs.Named.{fields_in}
 
 fields_in-kind : (k : Kind) → fields_of k ≡ fields_in (form_of_kind k)
@@ -38,5 +36,5 @@ module _ (S : List Decl) (P : List Field → Type 0) (no_fields : P []) (each : 
   of_base (base.Named n) = of_decl n (slice_get S n) refl
 
 -- a union has few fields
-pub few_fields : (S : List Decl) → IsTrue (is_valid S) → (b : Base) (fs : List Field) → form_of S b ≡ form.union fs → length fs ≤ 4096
-few_fields S valid b fs is = subst (λ f. length (fields_in f) ≤ 4096) is (of_base S (λ gs. length gs ≤ 4096) (omega arith) (sound S valid).few b)
+pub few_fields : (S : List Decl) → IsSound S → (b : Base) (fs : List Field) → form_of S b ≡ form.union fs → length fs ≤ 4096
+few_fields S sound b fs is = subst (λ f. length (fields_in f) ≤ 4096) is (of_base S (λ gs. length gs ≤ 4096) (omega arith) sound.few b)

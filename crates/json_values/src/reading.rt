@@ -23,8 +23,9 @@ use crate::named::enumerators_in;
 use aidl_base::{Ident, Row, Text};
 use aidl_schema::{
     AidlType, Base, Enumerator, Field, Form, Schema, Shape, element, form_in, is_in_range,
+    law_valid,
 };
-use aidl_values::{Value, depth, initial_of};
+use aidl_values::{Value, depth, initial_of, law_sound};
 use serde_json::{Map, Number, Value as Json};
 use std::alloc::Global;
 
@@ -58,6 +59,8 @@ fn read_fitting(alloc: Global, schema: &Schema, ty: AidlType, json: &Json) -> Re
     ensures typed { IfOk result (λ v. HasType schema.now.decls ty (view v)) }
     ensures shallow { IfOk result (λ v. depth_of (view v) ≤ 64) }
 {
+    law_valid(schema);
+    law_sound(schema);
     read_within(alloc, schema, ty, LEVELS, json)
 }
 
@@ -117,6 +120,7 @@ fn read_one(
     ensures { Gives view result (answer.one_from (is_level_left levels) (λ f. default_of schema.now.decls levels f) (λ u j. part_from schema.now.decls levels u j)
         (enumerators_of schema.now.decls base) (form_of schema.now.decls base) (json_view json.now)) }
 {
+    law_sound(schema);
     let form = form_in(schema, base);
     match form {
         Form::Truth => read_truth(alloc, json),

@@ -1,8 +1,8 @@
 //! Values: the default of a parcelable with an initializer, and the copy and the depth of values.
 
-ghost use Rattle.std.specs.Prelude.{◌≡◌, false, IfOk, IsTrue};
+ghost use Rattle.std.specs.Prelude.{◌≡◌, false, IfOk};
 ghost use Rattle.std.specs.Str.{chars};
-ghost use Rattle.aidl_schema.specs.Valid.{is_valid};
+ghost use Rattle.aidl_schema.specs.Valid.{IsValid};
 
 use aidl_base::{Const, DottedName, Ident, OutOfMemory, Row, Text};
 use aidl_schema::{AidlType, Base, Decl, Field, Kind, Schema, Shape, is_type};
@@ -28,9 +28,9 @@ fn text(alloc: Global, letters: &str) -> Result<Text, OutOfMemory>
     Ok(Text::from_string(String::from_str(alloc, letters)?))
 }
 
-// parcelable { int a; String s = "x"; }
+// parcelable P { int a; String s = "x"; }
 fn decls(alloc: Global) -> Result<Row<Decl>, OutOfMemory>
-    ensures { IfOk result (λ ds. IsTrue (is_valid ds)) }
+    ensures { IfOk result (λ ds. IsValid ds) }
 {
     let mut fields = Row::new(alloc);
     fields.push(Field {
@@ -43,9 +43,11 @@ fn decls(alloc: Global) -> Result<Row<Decl>, OutOfMemory>
         ty: one(Base::Text),
         initial: Some(Const::Text(text(alloc, "x")?)),
     })?;
+    let mut parts = Row::new(alloc);
+    parts.push(Ident(text(alloc, "P")?))?;
     let mut decls = Row::new(alloc);
     decls.push(Decl {
-        name: DottedName(Row::new(alloc)),
+        name: DottedName(parts),
         outer: None,
         kind: Kind::Parcelable(fields),
         vintf: false,

@@ -9,6 +9,6 @@ pub returns-clause-zero : goal.returns-clause-zero
 returns-clause-zero c =
     let S = c.args.schema.now.decls in
     let t = c.args.ty.now in
-    let there = (default_there S c.args.schema.now.valid t c.requires).zero_of in
+    let there = (default_there S c.law_valid.ensures.declarations t c.requires).zero_of in
     IfOk-weaker c.default_within.result (λ v. view v ≡ zero_within 33 S t) (λ v. IsZero S t (view v))
     (λ v is. subst (λ x. IsZero S t x) (sym is) there) c.default_within.ensures

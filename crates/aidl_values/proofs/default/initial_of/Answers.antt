@@ -13,5 +13,5 @@ returns-in-None-clause-initial c =
     IfOk-weaker c.default_within.result (λ v. view v ≡ zero_within 33 S f.ty) (λ v. IsFieldOf S f → IsInitial S f (view v))
     (λ v is of.
     let same : initial_in S f ≡ zero_within 33 S f.ty = rw c.in-None.is refl in
-    subst (λ x. IsInitial S f x) (same ∙ sym is) (has_default S c.args.schema.now.valid f of).0)
+    subst (λ x. IsInitial S f x) (same ∙ sym is) (has_default S c.law_valid.ensures.declarations f of).0)
     c.default_within.ensures

@@ -7,6 +7,6 @@ pub returns : goal.returns
 returns c =
     let S = c.args.schema.now.decls in
     let t = c.args.ty.now in
-    let same = one_default S c.args.schema.now.valid t (view c.args.value.now) c.requires.of_schema c.requires.zero in
-    let fits = subst (λ v. Fits S t v) (sym same) (default_fits S c.args.schema.now.valid t c.requires.of_schema) in
+    let same = one_default S c.law_valid.ensures.declarations t (view c.args.value.now) c.requires.of_schema c.requires.zero in
+    let fits = subst (λ v. Fits S t v) (sym same) (default_fits S c.law_valid.ensures.declarations t c.requires.of_schema) in
     record { typed = fits.typed_as; depth = fits.depth_is; nodes = fits.nodes_are; shallow = fits.shallow; small = fits.small }

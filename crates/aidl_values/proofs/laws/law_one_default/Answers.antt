@@ -8,8 +8,8 @@ pub returns : goal.returns
 returns c =
     let S = c.args.schema.now.decls in
     let t = c.args.ty.now in
-    let zero = (default_there S c.args.schema.now.valid t c.requires).zero_of in
+    let zero = (default_there S c.law_valid.ensures.declarations t c.requires).zero_of in
     record {
       there = zero;
-      only = (λ is. one_default S c.args.schema.now.valid t (view c.args.value.now) c.requires is, λ same. subst (λ v. IsZero S t v) (sym same) zero);
+      only = (λ is. one_default S c.law_valid.ensures.declarations t (view c.args.value.now) c.requires is, λ same. subst (λ v. IsZero S t v) (sym same) zero);
     }

@@ -1,5 +1,5 @@
-use Rattle.aidl_values.proofs.Sounds.{sound}
+use Rattle.aidl_values.proofs.Sounds.{is_sound}
 use Rattle.aidl_values.proofs.laws.law_sound.Goals as goal
 
 pub returns : goal.returns
-returns c = sound c.args.schema.now.decls c.args.schema.now.valid
+returns c = is_sound c.args.schema.now.decls c.law_valid.ensures.declarations

@@ -42,7 +42,7 @@ read_fields-returns t c =
     ∙ ap (λ vs. Ok (views vs)) (sym c.from_vec.ensures)
 
 pub read_one-read_union-requires : goal.read_one-read_union-requires
-read_one-read_union-requires t c = (search rules, (c.requires, few_fields c.args.schema.now.decls c.args.schema.now.valid c.args.base c.in-Union.fields.now (sym c.form_in-form.ensures ∙ ap seen c.in-Union.is)))
+read_one-read_union-requires t c = (search rules, (c.requires, few_fields c.args.schema.now.decls c.law_sound.ensures c.args.base c.in-Union.fields.now (sym c.form_in-form.ensures ∙ ap seen c.in-Union.is)))
 
 pub read-returns-in-Array : goal.read-returns-in-Array
 read-returns-in-Array t c =
