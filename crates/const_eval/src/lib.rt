@@ -1,0 +1,9 @@
+//! The outcome of each constant expression of a tree: its value, its fault, or that it isn't judged.
+#![tactic(auto)]
+
+mod laws;
+mod outcome;
+
+pub use const_values::ConstFault;
+pub use laws::law_one_outcome;
+pub use outcome::Outcome;
