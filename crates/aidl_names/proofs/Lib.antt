@@ -1,1 +1,3 @@
 mod Examples
+pub mod Trees
+pub mod Walks

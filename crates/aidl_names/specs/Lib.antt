@@ -6,3 +6,4 @@ pub mod Limits
 pub mod Rules
 pub mod Breaches
 pub mod Refusals
+pub mod Walks

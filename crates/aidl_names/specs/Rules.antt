@@ -15,7 +15,7 @@ use Rattle.aidl_names.specs.declared.resolved.Resolved.{Resolved}
 use Rattle.aidl_names.specs.declared.resolved.Resolved.TheVariants.{Builtin, ListWord, LeftOut, Declared}
 use Rattle.aidl_names.specs.Names.{same, last, parts_of}
 use Rattle.aidl_names.specs.Sources.{Source}
-use Rattle.aidl_names.specs.Declarations.{Entry, declarations}
+use Rattle.aidl_names.specs.Declarations.{Entry, inside, declarations}
 use Rattle.aidl_names.specs.Resolution.{meaning_of_word, number_of, resolved}
 
 -- a breach of a rule in a file, at an offset
@@ -40,7 +40,7 @@ path_of (a ∷ []) = a.0 ++ codes ".aidl"
 path_of (a ∷ b ∷ more) = a.0 ++ codes "/" ++ path_of (b ∷ more)
 
 abbrev pub is_wrong_file : Source → Bool
-is_wrong_file s = not (bytes_eq s.path (path_of (parts_of s.tree.«package» ++ (declared_name s.tree.declared).name ∷ [])))
+is_wrong_file s = not (bytes_eq s.path (path_of (inside (parts_of s.tree.«package») s.tree.declared)))
 
 abbrev pub WrongFile : List Source → List Breach
 WrongFile files = in_each (λ file s. map (λ w. breach 1 file 0) (filter is_wrong_file (s ∷ []))) 0 files
