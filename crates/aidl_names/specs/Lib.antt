@@ -7,3 +7,6 @@ pub mod Rules
 pub mod Breaches
 pub mod Refusals
 pub mod Walks
+pub mod MemberViews
+pub mod Places
+pub mod TypeRules

@@ -1,5 +1,5 @@
 -- How a walk ends that finds too many declarations, or no memory.
-use Rattle.std.specs.Prelude.{ℕ, ◌<◌, List, length}
+use Rattle.std.specs.Prelude.{◌<◌, List, length}
 use Rattle.aidl_names.specs.declared.fault.WalkFault.{WalkFault}
 use Rattle.aidl_names.specs.declared.fault.WalkFault.TheVariants as fault
 use Rattle.aidl_names.specs.Declarations.{Entry}

@@ -12,6 +12,17 @@ pub enum NameFault {
     OutOfMemory,
 }
 
+impl From<OutOfMemory> for NameFault {
+    ghost use Rattle.std.specs.Prelude.{◌≡◌};
+    ghost use Rattle.aidl_names.specs.declared.fault.NameFault.TheVariants as fault;
+
+    ghost from_gives = { λ _ e. e ≡ fault.OutOfMemory };
+
+    fn from(_fault: OutOfMemory) -> NameFault {
+        NameFault::OutOfMemory
+    }
+}
+
 /// Why a walk over declarations stops.
 #[derive(Clone, Copy, Debug)]
 pub enum WalkFault {

@@ -2,9 +2,19 @@
 #![tactic(auto)]
 
 mod canonical;
+mod duplicates;
 mod fault;
+mod files;
+mod imports;
+mod limits;
+mod members;
 mod names;
+mod order;
+mod resolution;
 mod resolved;
+mod rows;
+mod same;
+mod types;
 mod walk;
 
 pub use fault::NameFault;

@@ -1,12 +1,22 @@
-ghost use Rattle.std.specs.Prelude.{◌≡◌, map, IfOk, IfErr};
+ghost use Rattle.std.specs.Prelude.{◌≡◌, ◌≤◌, map, length, IfOk, IfErr};
+ghost use Rattle.aidl_names.specs.declared.fault.NameFault.TheVariants as fault;
+ghost use Rattle.aidl_names.specs.Breaches.{breaches};
 ghost use Rattle.aidl_names.specs.Sources.{AreOfBytes, source_of};
 ghost use Rattle.aidl_names.specs.Declarations.{declarations};
 ghost use Rattle.aidl_names.specs.Resolution.{resolved};
 ghost use Rattle.aidl_names.specs.Refusals.{IsAccepted, IsRefusal, IsScope, entry_of};
 
-use crate::fault::NameFault;
+use crate::duplicates::{add_repeated, add_taken};
+use crate::fault::{NameFault, WalkFault};
+use crate::files::add_wrong_files;
+use crate::imports::{add_other_imports, add_unknown_imports};
+use crate::limits::passed;
+use crate::order::in_order;
+use crate::resolution::resolved;
 use crate::resolved::Resolved;
-use aidl_base::DottedName;
+use crate::types::{TypeRule, add_types};
+use crate::walk::walk;
+use aidl_base::{Breach, DottedName, Limit, LimitName, OutOfMemory, Row};
 use aidl_syntax::{DeclTree, ParsedFile};
 use std::alloc::Global;
 use std::marker::Model;
@@ -29,7 +39,7 @@ pub struct Names<'a> {
 }
 
 impl<'a> Model for Names<'a> {
-    ghost use Rattle.std.specs.Prelude.{List, map, ◌≡◌};
+    ghost use Rattle.std.specs.Prelude.{List, map, length, ◌≡◌, ◌≤◌};
     ghost use Rattle.std.specs.Coded.{codes};
     ghost use Rattle.aidl_syntax.specs.declared.tree.ParsedFile.{ParsedFile};
     ghost use Rattle.aidl_syntax.specs.contracts.tree.ParsedFile as parsed_file;
@@ -66,6 +76,21 @@ impl<'a> Names<'a> {
     {
         self.found.as_slice()
     }
+
+    /// What a name means in a file, below the declaration with the number `scope`: the innermost one around the name.
+    /// It takes no memory.
+    pub fn resolve(&self, file: u32, scope: u32, name: &DottedName) -> Option<Resolved>
+        requires { IsScope (map source_of self.now) file scope }
+        ensures { result ≡ resolved (map source_of self.now) file scope name.now.0 }
+    {
+        resolved(
+            self.files,
+            self.found.as_slice(),
+            file,
+            scope,
+            name.0.as_slice(),
+        )
+    }
 }
 
 /// The declarations of the files of a tree. A limit comes before all breaches.
@@ -74,7 +99,45 @@ pub fn gather<'a>(alloc: Global, files: &'a [ParsedFile]) -> Result<Names<'a>, N
     ensures ok { IfOk result (λ names. (names ≡ files.now) × IsAccepted (map source_of files.now)) }
     ensures err { IfErr result (IsRefusal (map source_of files.now)) }
 {
-    let _found: Vec<Found<'a>> = Vec::new(alloc);
-    let _count = files.len();
-    Err(NameFault::OutOfMemory)
+    let found = match walk(alloc, files) {
+        Ok(found) => found,
+        Err(WalkFault::Full) => return Err(limit(LimitName::Declarations)),
+        Err(WalkFault::OutOfMemory) => return Err(NameFault::OutOfMemory),
+    };
+    if let Some(which) = passed(alloc, found.as_slice())? {
+        return Err(limit(which));
+    }
+    let rows = breaches(alloc, files, found.as_slice())?;
+    if rows.len() > 0 {
+        return Err(NameFault::Breaches(rows));
+    }
+    Ok(Names { files, found })
+}
+
+fn limit(which: LimitName) -> NameFault
+    ensures { result ≡ fault.Limit (record { which = which }) }
+{
+    NameFault::Limit(Limit { which })
+}
+
+// The breaches of E1 to E5.
+fn breaches(
+    alloc: Global,
+    files: &[ParsedFile],
+    found: &[Found<'_>],
+) -> Result<Row<Breach>, OutOfMemory>
+    requires files { length files.now ≤ 4096 }
+    requires count { length found.now ≤ 16384 }
+    requires all { map entry_of found.now ≡ declarations (map source_of files.now) }
+    ensures { IfOk result (λ rows. rows ≡ breaches (map source_of files.now)) }
+{
+    let mut rows = Vec::new(alloc);
+    add_wrong_files(alloc, files, &mut rows)?;
+    add_repeated(alloc, found, &mut rows)?;
+    add_taken(found, &mut rows)?;
+    add_other_imports(files, &mut rows)?;
+    add_unknown_imports(found, files, &mut rows)?;
+    add_types(alloc, files, found, TypeRule::Unknown, &mut rows)?;
+    add_types(alloc, files, found, TypeRule::LeftOut, &mut rows)?;
+    in_order(alloc, rows.as_slice())
 }

@@ -1,4 +1,4 @@
-use Rattle.std.proofs.Common.{◌<◌, map, length, arith}
+use Rattle.std.proofs.Common.{map, arith}
 use Rattle.std.proofs.lemmas.Result.{err_from_is_err_and}
 use Rattle.aidl_names.specs.Refusals.{entry_of}
 use Rattle.aidl_names.proofs.Walks.{file_full}
