@@ -54,3 +54,14 @@ outward found (suc levels) number f name lt is none =
     ∙ ap (λ z. or_else z (first_declared es (map (λ around. around ++ name) (enclosing es levels f.outer)))) (sym none)
     ∙ sym (first-append es ((f.name.0 ++ name) ∷ []) (map (λ around. around ++ name) (enclosing es levels f.outer)))
     ∙ ap (λ (o : Option Entry). first_declared es (map (λ around. around ++ name) (elim o as (λ _. List (List Ident)) [ None ↦ [] | Some e ↦ e.name ∷ enclosing es levels e.outer ]))) (sym (slice_get-map entry_of found number ∙ ap (option_map entry_of) is))
+
+-- an enclosing declaration that has the name
+pub inward : (found : List Found) (levels number : ℕ) (f : Found) (name : List Ident) (meaning : Resolved)
+    → 0 < levels → slice_get found number ≡ Some f → Some meaning ≡ first_declared (map entry_of found) ((f.name.0 ++ name) ∷ [])
+    → Some meaning ≡ first_declared (map entry_of found) (map (λ around. around ++ name) (enclosing (map entry_of found) levels (Some number)))
+inward found zero number f name meaning lt is some = absurd (omega arith)
+inward found (suc levels) number f name meaning lt is some =
+    let es = map entry_of found in
+    ap (λ z. or_else z (first_declared es (map (λ around. around ++ name) (enclosing es levels f.outer)))) some
+    ∙ sym (first-append es ((f.name.0 ++ name) ∷ []) (map (λ around. around ++ name) (enclosing es levels f.outer)))
+    ∙ ap (λ (o : Option Entry). first_declared es (map (λ around. around ++ name) (elim o as (λ _. List (List Ident)) [ None ↦ [] | Some e ↦ e.name ∷ enclosing es levels e.outer ]))) (sym (slice_get-map entry_of found number ∙ ap (option_map entry_of) is))

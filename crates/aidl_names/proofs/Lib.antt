@@ -7,3 +7,4 @@ pub mod Candidates
 pub mod Orders
 pub mod Earlier
 pub mod Taken
+pub mod Tables

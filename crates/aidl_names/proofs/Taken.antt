@@ -20,7 +20,8 @@ use Rattle.aidl_names.proofs.Trees.{seen_decl}
 pub seen_name : (t : DeclTree) → declared_name (decl_of t) ≡ t.name
 seen_name t = ap declared_name (seen_decl t)
 
-found_from : {X : Type 0} (p : X → Bool) (k : ℕ) (xs : List X) (r : ℕ) → position_from p k xs ≡ Some r → k ≤ r
+-- what is found stands at the first place or behind it
+pub found_from : {X : Type 0} (p : X → Bool) (k : ℕ) (xs : List X) (r : ℕ) → position_from p k xs ≡ Some r → k ≤ r
 found_from p k [] r e = cc
 found_from p k (x ∷ xs) r e = go (p x) (found_from p (k + 1) xs r) e where
   go : (b : Bool) → (position_from p (k + 1) xs ≡ Some r → k + 1 ≤ r) → cond b (Some k) (position_from p (k + 1) xs) ≡ Some r → k ≤ r

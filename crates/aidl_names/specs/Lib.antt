@@ -10,3 +10,5 @@ pub mod Walks
 pub mod MemberViews
 pub mod Places
 pub mod TypeRules
+pub mod Marks
+pub mod Tables

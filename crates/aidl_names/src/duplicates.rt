@@ -5,12 +5,14 @@ ghost use Rattle.aidl_syntax.specs.Members.{member_name};
 ghost use Rattle.aidl_names.specs.Names.{same};
 ghost use Rattle.aidl_names.specs.Rules.{repeated, repeated_inside, argument_names, taken, is_taken};
 ghost use Rattle.aidl_names.specs.MemberViews.{seen_member};
+ghost use Rattle.aidl_names.specs.Marks.{mark_of_entry};
 ghost use Rattle.aidl_names.specs.Refusals.{entry_of};
 
 use crate::members::{MemberRef, members};
 use crate::names::Found;
 use crate::resolution::{meaning_of_word, number_of};
 use crate::rows::add_if;
+use crate::table::Table;
 use aidl_base::{Breach, Ident, OutOfMemory};
 use aidl_syntax::{ArgTree, NameTree};
 use indexmap::IndexSet;
@@ -124,33 +126,46 @@ fn add_repeated_names(
 }
 
 /// Adds the breaches of E2 by declarations.
-pub fn add_taken(found: &[Found<'_>], rows: &mut Vec<Breach>) -> Result<(), OutOfMemory>
-    requires { length found.now ≤ 16384 }
+pub fn add_taken(
+    found: &[Found<'_>],
+    table: &Table,
+    rows: &mut Vec<Breach>,
+) -> Result<(), OutOfMemory>
+    requires count { length found.now ≤ 16384 }
+    requires table { table.now ≡ map mark_of_entry (map entry_of found.now) }
     ensures { OnOk result (rows.new.items ≡ rows.old.items ++ taken (map entry_of found.now)) }
 {
     for (i, f) in found.iter().enumerate() {
-        add_if(is_taken(found, i, f), 2, f.file, f.tree.name.offset, rows)?;
+        add_if(
+            is_taken(found, table, i, f),
+            2,
+            f.file,
+            f.tree.name.offset,
+            rows,
+        )?;
     }
     Ok(())
 }
 
 // Whether a declaration, behind so many, has the name of one of them or a name with a meaning of its own.
-fn is_taken(found: &[Found<'_>], i: usize, inner: &Found<'_>) -> bool
-    requires { length found.now ≤ 16384 }
+fn is_taken(found: &[Found<'_>], table: &Table, i: usize, inner: &Found<'_>) -> bool
+    requires count { length found.now ≤ 16384 }
+    requires table { table.now ≡ map mark_of_entry (map entry_of found.now) }
     ensures { result ≡ is_taken (take i (map entry_of found.now)) (entry_of inner.now) }
 {
-    if is_again(found, i, inner.name.0.as_slice()) {
+    if is_again(found, table, i, inner.name.0.as_slice()) {
         return true;
     }
     meaning_of_word(inner.tree.name.name.0.as_str()).is_some()
 }
 
 // Whether one of the first declarations has this canonical name.
-fn is_again(found: &[Found<'_>], i: usize, name: &[Ident]) -> bool
-    requires { length found.now ≤ 16384 }
+fn is_again(found: &[Found<'_>], table: &Table, i: usize, name: &[Ident]) -> bool
+    requires count { length found.now ≤ 16384 }
+    requires table { table.now ≡ map mark_of_entry (map entry_of found.now) }
     ensures { result ≡ list_any (λ d. same d.name name.now) (take i (map entry_of found.now)) }
 {
-    match number_of(found, &[], name) {
+    match number_of(found, table, 0, &[], name) {
         Some(first) => (first as usize) < i,
         None => false,
     }

@@ -24,7 +24,7 @@ impl From<OutOfMemory> for NameFault {
 }
 
 /// Why a walk over declarations stops.
-#[derive(Clone, Copy, Debug)]
+#[derive(Clone, Copy)]
 pub enum WalkFault {
     /// there are more than 16,384 declarations
     Full,

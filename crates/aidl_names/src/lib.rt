@@ -7,6 +7,7 @@ mod fault;
 mod files;
 mod imports;
 mod limits;
+mod marks;
 mod members;
 mod names;
 mod order;
@@ -14,6 +15,7 @@ mod resolution;
 mod resolved;
 mod rows;
 mod same;
+mod table;
 mod types;
 mod walk;
 

@@ -4,6 +4,7 @@ ghost use Rattle.aidl_names.specs.Breaches.{breaches};
 ghost use Rattle.aidl_names.specs.Sources.{AreOfBytes, source_of};
 ghost use Rattle.aidl_names.specs.Declarations.{declarations};
 ghost use Rattle.aidl_names.specs.Resolution.{resolved};
+ghost use Rattle.aidl_names.specs.Marks.{mark_of_entry};
 ghost use Rattle.aidl_names.specs.Refusals.{IsAccepted, IsRefusal, IsScope, entry_of};
 
 use crate::duplicates::{add_repeated, add_taken};
@@ -11,9 +12,11 @@ use crate::fault::{NameFault, WalkFault};
 use crate::files::add_wrong_files;
 use crate::imports::{add_other_imports, add_unknown_imports};
 use crate::limits::passed;
+use crate::marks::marks;
 use crate::order::in_order;
 use crate::resolution::resolved;
 use crate::resolved::Resolved;
+use crate::table::Table;
 use crate::types::{TypeRule, add_types};
 use crate::walk::walk;
 use aidl_base::{Breach, DottedName, Limit, LimitName, OutOfMemory, Row};
@@ -36,6 +39,7 @@ pub struct Found<'a> {
 pub struct Names<'a> {
     files: &'a [ParsedFile],
     found: Vec<Found<'a>>,
+    table: Table,
 }
 
 impl<'a> Model for Names<'a> {
@@ -45,6 +49,7 @@ impl<'a> Model for Names<'a> {
     ghost use Rattle.aidl_syntax.specs.contracts.tree.ParsedFile as parsed_file;
     ghost use Rattle.aidl_names.specs.Sources.{AreOfBytes, source_of};
     ghost use Rattle.aidl_names.specs.Declarations.{declarations};
+    ghost use Rattle.aidl_names.specs.Marks.{mark_of_entry};
     ghost use Rattle.aidl_names.specs.Refusals.{IsAccepted, entry_of};
 
     ghost Value = { List ParsedFile };
@@ -56,6 +61,7 @@ impl<'a> Model for Names<'a> {
     ghost invariant = { λ names. record {
       of_bytes : AreOfBytes names.files.now;
       accepted : IsAccepted (map source_of names.files.now);
+      marks : names.table ≡ map mark_of_entry (map entry_of names.found.items);
       all : map entry_of names.found.items ≡ declarations (map source_of names.files.now);
     } };
 }
@@ -86,6 +92,7 @@ impl<'a> Names<'a> {
         resolved(
             self.files,
             self.found.as_slice(),
+            &self.table,
             file,
             scope,
             name.0.as_slice(),
@@ -107,11 +114,16 @@ pub fn gather<'a>(alloc: Global, files: &'a [ParsedFile]) -> Result<Names<'a>, N
     if let Some(which) = passed(alloc, found.as_slice())? {
         return Err(limit(which));
     }
-    let rows = breaches(alloc, files, found.as_slice())?;
+    let table = Table::new(alloc, marks(alloc, found.as_slice())?)?;
+    let rows = breaches(alloc, files, found.as_slice(), &table)?;
     if rows.len() > 0 {
         return Err(NameFault::Breaches(rows));
     }
-    Ok(Names { files, found })
+    Ok(Names {
+        files,
+        found,
+        table,
+    })
 }
 
 fn limit(which: LimitName) -> NameFault
@@ -125,19 +137,21 @@ fn breaches(
     alloc: Global,
     files: &[ParsedFile],
     found: &[Found<'_>],
+    table: &Table,
 ) -> Result<Row<Breach>, OutOfMemory>
     requires files { length files.now ≤ 4096 }
     requires count { length found.now ≤ 16384 }
+    requires table { table.now ≡ map mark_of_entry (map entry_of found.now) }
     requires all { map entry_of found.now ≡ declarations (map source_of files.now) }
     ensures { IfOk result (λ rows. rows ≡ breaches (map source_of files.now)) }
 {
     let mut rows = Vec::new(alloc);
     add_wrong_files(alloc, files, &mut rows)?;
     add_repeated(alloc, found, &mut rows)?;
-    add_taken(found, &mut rows)?;
+    add_taken(found, table, &mut rows)?;
     add_other_imports(files, &mut rows)?;
-    add_unknown_imports(found, files, &mut rows)?;
-    add_types(alloc, files, found, TypeRule::Unknown, &mut rows)?;
-    add_types(alloc, files, found, TypeRule::LeftOut, &mut rows)?;
+    add_unknown_imports(found, table, files, &mut rows)?;
+    add_types(alloc, files, found, table, TypeRule::Unknown, &mut rows)?;
+    add_types(alloc, files, found, table, TypeRule::LeftOut, &mut rows)?;
     in_order(alloc, rows.as_slice())
 }

@@ -7,7 +7,7 @@ use std::alloc::Global;
 use std::collections::BTreeSet;
 
 // Where a breach is, and its rule; ordered by these fields from first to last.
-#[derive(Clone, Copy, Debug, PartialEq, Eq, PartialOrd, Ord)]
+#[derive(Clone, Copy, PartialEq, Eq, PartialOrd, Ord)]
 struct Place {
     file: u32,
     offset: u32,

@@ -7,6 +7,7 @@ ghost use Rattle.aidl_names.specs.Declarations.{declarations};
 ghost use Rattle.aidl_names.specs.Rules.{types_in, types_where, type_names, names_of_type, is_left_out, is_interface, is_interface_body};
 ghost use Rattle.aidl_names.specs.MemberViews.{seen_member};
 ghost use Rattle.aidl_names.specs.TypeRules.{breaks_of, rule_of};
+ghost use Rattle.aidl_names.specs.Marks.{mark_of_entry};
 ghost use Rattle.aidl_names.specs.Refusals.{entry_of};
 
 use crate::members::{MemberRef, members};
@@ -14,12 +15,13 @@ use crate::names::Found;
 use crate::resolution::resolved;
 use crate::resolved::Resolved;
 use crate::rows::add_if;
+use crate::table::Table;
 use aidl_base::{Breach, Ident, OutOfMemory};
 use aidl_syntax::{ArgTree, BodyTree, DeclTree, DottedTree, ParsedFile, TypeTree};
 use std::alloc::Global;
 
 /// A rule on the names of types.
-#[derive(Clone, Copy, Debug)]
+#[derive(Clone, Copy)]
 pub enum TypeRule {
     /// E4
     Unknown,
@@ -43,15 +45,17 @@ pub fn add_types(
     alloc: Global,
     files: &[ParsedFile],
     found: &[Found<'_>],
+    table: &Table,
     rule: TypeRule,
     rows: &mut Vec<Breach>,
 ) -> Result<(), OutOfMemory>
     requires count { length found.now ≤ 16384 }
+    requires table { table.now ≡ map mark_of_entry (map entry_of found.now) }
     requires all { map entry_of found.now ≡ declarations (map source_of files.now) }
     ensures { OnOk result (rows.new.items ≡ rows.old.items ++ types_where (breaks_of rule (map source_of files.now)) (rule_of rule) (map source_of files.now)) }
 {
     for (i, f) in found.iter().enumerate() {
-        add_types_in(alloc, files, found, rule, i as u32, f, rows)?;
+        add_types_in(alloc, files, found, table, rule, i as u32, f, rows)?;
     }
     Ok(())
 }
@@ -61,12 +65,14 @@ fn add_types_in(
     alloc: Global,
     files: &[ParsedFile],
     found: &[Found<'_>],
+    table: &Table,
     rule: TypeRule,
     number: u32,
     inside: &Found<'_>,
     rows: &mut Vec<Breach>,
 ) -> Result<(), OutOfMemory>
     requires count { length found.now ≤ 16384 }
+    requires table { table.now ≡ map mark_of_entry (map entry_of found.now) }
     requires all { map entry_of found.now ≡ declarations (map source_of files.now) }
     ensures { OnOk result (rows.new.items ≡ rows.old.items ++ types_in (breaks_of rule (map source_of files.now)) (rule_of rule) number (entry_of inside.now)) }
 {
@@ -75,6 +81,7 @@ fn add_types_in(
         let broken = breaks(
             files,
             found,
+            table,
             rule,
             inside.file,
             number,
@@ -88,16 +95,18 @@ fn add_types_in(
 fn breaks(
     files: &[ParsedFile],
     found: &[Found<'_>],
+    table: &Table,
     rule: TypeRule,
     file: u32,
     scope: u32,
     name: &[Ident],
 ) -> bool
     requires count { length found.now ≤ 16384 }
+    requires table { table.now ≡ map mark_of_entry (map entry_of found.now) }
     requires all { map entry_of found.now ≡ declarations (map source_of files.now) }
     ensures { result ≡ breaks_of rule (map source_of files.now) file scope name.now }
 {
-    let meaning = resolved(files, found, file, scope, name);
+    let meaning = resolved(files, found, table, file, scope, name);
     match rule {
         TypeRule::Unknown => meaning.is_none(),
         TypeRule::LeftOut => is_left_out(found, meaning),

@@ -22,4 +22,4 @@ returns c =
     tried (map entry_of c.args.found.now) (source_of c.args.file.now) c.args.scope _ c.args.name.now None None None c.declared-2.result
     c.in-None.ensures (sym (length-map c.args.found.now entry_of)) c.in-None-in_enclosing.ensures
     (c.in-None-in_imports.ensures ∙ ap (λ imports. first_declared (map entry_of c.args.found.now) (imported imports c.args.name.now)) c.as_slice.ensures)
-    (c.declared-2.ensures ∙ ap (λ front. first_declared (map entry_of c.args.found.now) ((front ++ c.args.name.now) ∷ [])) c.package.ensures)
+    (c.declared-2.ensures ∙ ap (λ front. first_declared (map entry_of c.args.found.now) ((front ++ c.args.name.now) ∷ [])) c.package-front.ensures)
