@@ -1,18 +1,14 @@
 -- The definitions on small trees.
-use Rattle.std.proofs.Common.{◌≡◌, ◌+◌, ℕ, List, [], ◌∷◌, Option, Some, None, codes, refl, true, false}
-use Rattle.aidl_base.specs.declared.breach.Breach.{Breach}
+use Rattle.std.proofs.Common.{◌≡◌, ◌+◌, ℕ, List, [], ◌∷◌, Some, None, codes, refl, false}
 use Rattle.aidl_base.specs.declared.name.Ident.{Ident}
-use Rattle.aidl_base.specs.declared.name.DottedName.{DottedName}
 use Rattle.aidl_syntax.specs.declared.tree.NameTree.{NameTree}
 use Rattle.aidl_syntax.specs.declared.tree.DottedTree.{DottedTree}
-use Rattle.aidl_syntax.specs.declared.tree.TypeTree.{TypeTree}
-use Rattle.aidl_syntax.specs.Trees.{Field, File, Decl, Body, Members}
+use Rattle.aidl_syntax.specs.Trees.{Field}
 use Rattle.aidl_syntax.specs.Trees.Decl.{decl}
-use Rattle.aidl_syntax.specs.Trees.Body.{parcelable, interface}
+use Rattle.aidl_syntax.specs.Trees.Body.{parcelable}
 use Rattle.aidl_syntax.specs.Trees.Members.{none, field, nested}
 use Rattle.aidl_names.specs.declared.resolved.Resolved.TheVariants.{Declared}
 use Rattle.aidl_names.specs.Sources.{Source}
-use Rattle.aidl_names.specs.Declarations.{Entry, declarations}
 use Rattle.aidl_names.specs.Resolution.{resolved, meaning_of_word}
 use Rattle.aidl_names.specs.Rules.{breach}
 use Rattle.aidl_names.specs.Breaches.{breaches}
@@ -53,14 +49,14 @@ example = record {
 }
 
 example_breaches : breaches (example ∷ []) ≡ breach 2 0 30 ∷ breach 3 0 30 ∷ breach 4 0 50 ∷ breach 2 0 74 ∷ breach 5 0 90 ∷ []
-unfolding meaning_of_word
+unfolding meaning_of_word lib.Utf8.encode
 example_breaches = refl
 
 -- through the enclosing declaration, and then through the package
 example_nested : resolved (example ∷ []) 0 0 (ident (codes "S") ∷ []) ≡ Some (Declared 1)
-unfolding meaning_of_word
+unfolding meaning_of_word lib.Utf8.encode
 example_nested = refl
 
 example_package : resolved (example ∷ []) 0 1 (ident (codes "R") ∷ ident (codes "S") ∷ []) ≡ Some (Declared 1)
-unfolding meaning_of_word
+unfolding meaning_of_word lib.Utf8.encode
 example_package = refl

@@ -6,3 +6,9 @@ pub mod Limits
 pub mod Rules
 pub mod Breaches
 pub mod Refusals
+pub mod Walks
+pub mod MemberViews
+pub mod Places
+pub mod TypeRules
+pub mod Marks
+pub mod Tables

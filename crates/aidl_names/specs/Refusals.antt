@@ -1,5 +1,5 @@
 -- Why the names of a tree are refused, and how what is found is seen.
-use Rattle.std.specs.Prelude.{◌≡◌, ◌≢◌, ℕ, ◌<◌, List, [], length, map, Option, Some, None}
+use Rattle.std.specs.Prelude.{◌≡◌, ◌≢◌, ℕ, List, [], Some, None}
 use Rattle.std.specs.List.{slice_get}
 use Rattle.aidl_syntax.specs.Trees.{decl_of}
 use Rattle.aidl_names.specs.declared.fault.NameFault.{NameFault}

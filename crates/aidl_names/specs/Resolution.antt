@@ -1,14 +1,13 @@
 -- What a name means (AOSP, "AIDL language", "Types"; the order of the candidates: own).
-use Rattle.std.specs.Prelude.{ℕ, zero, suc, Bool, true, false, if◌then◌else◌, List, [], ◌∷◌, ◌++◌, map, drop, length, codes, Option, Some, None, position}
-use Rattle.std.specs.List.{slice_get, filter, list_any}
+use Rattle.std.specs.Prelude.{ℕ, zero, suc, if◌then◌else◌, List, [], ◌∷◌, ◌++◌, map, length, codes, Option, Some, None}
+use Rattle.std.specs.List.{slice_get, filter, position_from}
 use Rattle.std.specs.Str.{bytes_eq}
 use Rattle.aidl_base.specs.declared.name.Ident.{Ident}
 use Rattle.aidl_syntax.specs.declared.tree.DottedTree.{DottedTree}
-use Rattle.aidl_names.specs.declared.resolved.BuiltinName.{BuiltinName}
 use Rattle.aidl_names.specs.declared.resolved.BuiltinName.TheVariants as built_in
 use Rattle.aidl_names.specs.declared.resolved.Resolved.{Resolved}
 use Rattle.aidl_names.specs.declared.resolved.Resolved.TheVariants.{Builtin, ListWord, LeftOut, Declared}
-use Rattle.aidl_names.specs.Names.{same, last, parts_of}
+use Rattle.aidl_names.specs.Names.{text, same, last, parts_of}
 use Rattle.aidl_names.specs.Sources.{Source}
 use Rattle.aidl_names.specs.Declarations.{Entry, declarations}
 
@@ -34,14 +33,14 @@ meaning_of_word text = meaning_in meaning_words text
 -- a name of one part that is one of these means that
 abbrev pub own_meaning : List Ident → Option Resolved
 own_meaning [] = None
-own_meaning (a ∷ []) = meaning_of_word a.0
+own_meaning (a ∷ []) = meaning_of_word (text a)
 own_meaning (a ∷ b ∷ more) = None
 
 -- Declared names.
 
 -- the number of the first declaration with that canonical name
 abbrev pub number_of : List Entry → List Ident → Option ℕ
-number_of entries name = position (λ e. same e.name name) entries
+number_of entries name = position_from (λ e. same e.name name) 0 entries
 
 -- the canonical names of a declaration and of those that enclose it, from inside out, over at most so many levels
 abbrev pub enclosing : List Entry → ℕ → Option ℕ → List (List Ident)

@@ -1,19 +1,19 @@
 -- The check rules of the names stage, each as the list of its breaches (own in number and wording).
-use Rattle.std.specs.Prelude.{ℕ, zero, suc, ◌+◌, Bool, true, false, not, ◌&&◌, ◌||◌, List, [], ◌∷◌, ◌++◌, map, codes, length, take, Option, Some, None, is_some, is_none}
+use Rattle.std.specs.Prelude.{ℕ, ◌+◌, Bool, true, false, not, ◌&&◌, ◌||◌, List, [], ◌∷◌, ◌++◌, map, codes, Option, Some, None, is_some, is_none, if◌then◌else◌}
 use Rattle.std.specs.List.{filter, flat_map, list_any, slice_get}
-use Rattle.std.specs.Str.{bytes_eq}
+use Rattle.std.specs.Str.{bytes_eq, encode_utf8_all}
 use Rattle.aidl_base.specs.declared.breach.Breach.{Breach}
 use Rattle.aidl_base.specs.declared.name.Ident.{Ident}
 use Rattle.aidl_syntax.specs.declared.tree.NameTree.{NameTree}
 use Rattle.aidl_syntax.specs.declared.tree.DottedTree.{DottedTree}
 use Rattle.aidl_syntax.specs.declared.tree.TypeTree.{TypeTree}
-use Rattle.aidl_syntax.specs.Trees.{Body, Method, Arg}
+use Rattle.aidl_syntax.specs.Trees.{Body}
 use Rattle.aidl_syntax.specs.Trees.Body.{parcelable, union, enum, interface}
 use Rattle.aidl_syntax.specs.Members.{Member, members, body, declared_name, member_name}
 use Rattle.aidl_syntax.specs.Members.Member.{field, constant, method, enumerator, nested}
 use Rattle.aidl_names.specs.declared.resolved.Resolved.{Resolved}
 use Rattle.aidl_names.specs.declared.resolved.Resolved.TheVariants.{Builtin, ListWord, LeftOut, Declared}
-use Rattle.aidl_names.specs.Names.{same, last, parts_of}
+use Rattle.aidl_names.specs.Names.{text, same, last, parts_of}
 use Rattle.aidl_names.specs.Sources.{Source}
 use Rattle.aidl_names.specs.Declarations.{Entry, declarations}
 use Rattle.aidl_names.specs.Resolution.{meaning_of_word, number_of, resolved}
@@ -30,26 +30,28 @@ in_each find number (x ∷ more) = find number x ++ in_each find (number + 1) mo
 -- the things, each behind those before it, that pass a test of both
 abbrev pub after_earlier : {A : Type 0} → (List A → A → Bool) → List A → List A → List A
 after_earlier test before [] = []
-after_earlier test before (x ∷ more) = (elim (test before x) [ true ↦ x ∷ [] | false ↦ [] ]) ++ after_earlier test (before ++ x ∷ []) more
+after_earlier test before (x ∷ more) = (if test before x then x ∷ [] else []) ++ after_earlier test (before ++ x ∷ []) more
 
 -- E1 WrongFile: the file's path isn't the canonical name with `/` for `.` and `.aidl`.
 
-abbrev pub path_of : List Ident → List ℕ
-path_of [] = codes ".aidl"
-path_of (a ∷ []) = a.0 ++ codes ".aidl"
-path_of (a ∷ b ∷ more) = a.0 ++ codes "/" ++ path_of (b ∷ more)
+-- each part of the package with `/`, and the name with `.aidl`
+abbrev pub path_of : List Ident → Ident → List ℕ
+path_of «package» name = flat_map (λ part. text part ++ codes "/") «package» ++ text name ++ codes ".aidl"
 
 abbrev pub is_wrong_file : Source → Bool
-is_wrong_file s = not (bytes_eq s.path (path_of (parts_of s.tree.«package» ++ (declared_name s.tree.declared).name ∷ [])))
+is_wrong_file s = not (bytes_eq (encode_utf8_all s.path) (path_of (parts_of s.tree.«package») (declared_name s.tree.declared).name))
+
+abbrev pub wrong_file : ℕ → Source → List Breach
+wrong_file file s = if is_wrong_file s then breach 1 file 0 ∷ [] else []
 
 abbrev pub WrongFile : List Source → List Breach
-WrongFile files = in_each (λ file s. map (λ w. breach 1 file 0) (filter is_wrong_file (s ∷ []))) 0 files
+WrongFile files = in_each wrong_file 0 files
 
 -- E2 Duplicate.
 
 -- a member or argument has the name of an earlier one
 abbrev pub is_named_again : List NameTree → NameTree → Bool
-is_named_again before n = list_any (λ m. bytes_eq m.name.0 n.name.0) before
+is_named_again before n = list_any (λ m. bytes_eq (text n.name) (text m.name)) before
 
 abbrev pub repeated : ℕ → List NameTree → List Breach
 repeated file names = map (λ n. breach 2 file n.offset) (after_earlier is_named_again [] names)
@@ -67,7 +69,7 @@ repeated_inside e = repeated e.file (map member_name (members (body e.tree))) ++
 
 -- a declaration has the canonical name of an earlier one, or the name of a built-in type, the list word or a left-out name
 abbrev pub is_taken : List Entry → Entry → Bool
-is_taken before e = list_any (λ d. same d.name e.name) before || is_some (meaning_of_word (declared_name e.tree).name.0)
+is_taken before e = list_any (λ d. same d.name e.name) before || is_some (meaning_of_word (text (declared_name e.tree).name))
 
 abbrev pub taken : List Entry → List Breach
 taken entries = map (λ e. breach 2 e.file (declared_name e.tree).offset) (after_earlier is_taken [] entries)
