@@ -8,5 +8,6 @@ pub mod Trees
 pub mod Parts
 pub mod Productions
 pub mod Measures
+pub mod Members
 pub mod Walks
 pub mod Parses

@@ -1,2 +1,2 @@
-pub mod LeftShift
-pub mod Numbers
+pub mod Agree
+pub mod OneOutcome

@@ -1,34 +1,9 @@
-//! Constant expressions, the lowest layer: what a literal, an operator and a wanted type make of values, exactly by the
-//! definition. Names and trees stand above it.
+//! The outcome of each constant expression of a tree: its value, its fault, or that it isn't judged.
 #![tactic(auto)]
 
-mod arithmetic;
-mod binary_values;
-mod bitwise;
-mod compare;
-mod fault;
-mod join;
 mod laws;
-mod literals;
-mod operand;
-mod operator;
-mod shift;
-mod unary_values;
-mod wanted;
-mod width;
+mod outcome;
 
-pub use binary_values::binary;
-pub use fault::{ConstFault, EvalFault};
-pub use laws::{
-    law_complement, law_decimal_is_its_number, law_left_shift_multiplies, law_remainder,
-    law_right_shift_rounds_down,
-};
-pub use literals::literal;
-pub use operand::Operand;
-pub use operator::{
-    Arithmetic, BinaryOperator, Bitwise, Connective, Equality, Order, Shift, UnaryOperator,
-    binary_operator, unary_operator,
-};
-pub use unary_values::unary;
-pub use wanted::{Wanted, fitted};
-pub use width::Width;
+pub use const_values::ConstFault;
+pub use laws::law_one_outcome;
+pub use outcome::Outcome;

@@ -3,8 +3,8 @@ use Rattle.std.proofs.Common.{◌≡◌, ◌≢◌, ℕ, zero, suc, ◌<◌, ◌
 use Rattle.std.proofs.lemmas.Grind.{common_steps}
 use Rattle.std.specs.Prelude.{Option, Some, None, slice_get, Contains, slice_set}
 use Rattle.std.proofs.lemmas.Bool.Decides.{nat_tests}
-use Rattle.graph_cycles.specs.Paths.{or_empty, IsEdge, IsPath, Leads, TellsCycles, flag, targets}
-use Rattle.graph_cycles.specs.steps.Marks.{OnCycles, AfterRoots, BeforeRoots, AfterNode, IsOrLeads, IsCertificate, IsClosed, unmarked}
+use Rattle.graph_cycles.specs.Paths.{or_empty, IsEdge, IsPath, Leads, TellsCycles, Descends, flag, targets}
+use Rattle.graph_cycles.specs.steps.Marks.{OnCycles, AfterRoots, BeforeRoots, AfterNode, IsOrLeads, IsCertificate, IsClosed, IsRank, unmarked}
 
 get_within : {X : Type 0} (xs : List X) (k : ℕ) (x : X) → slice_get xs k ≡ Some x → k < length xs
 get_within [] k x e = cc
@@ -51,7 +51,7 @@ module _ (G : List (List ℕ)) where
   source_at m n None e h = absurd (omega (arith, h.1))
   source_at m n (Some row) e h = get_within G m row e
 
-  source : (m n : ℕ) → IsEdge (targets G) m n → m < length G
+  pub source : (m n : ℕ) → IsEdge (targets G) m n → m < length G
   source m n h = source_at m n (slice_get G m) refl h
 
   first_source : (m n : ℕ) (js : List ℕ) → IsPath (targets G) m js n → m < length G
@@ -113,7 +113,7 @@ fewer (false ∷ xs) (suc n) lt h = let rest = fewer xs n (omega arith) h in ome
 pub fewer_unmarked : (xs ys : List Bool) (n : ℕ) → n < length xs → flag xs n ≡ false → ys ≡ slice_set xs n true → unmarked ys < unmarked xs
 fewer_unmarked xs ys n lt h is = subst (λ zs. unmarked zs < unmarked xs) (sym is) (fewer xs n lt h)
 
-flag_within : (xs : List Bool) (n : ℕ) → flag xs n ≡ true → n < length xs
+pub flag_within : (xs : List Bool) (n : ℕ) → flag xs n ≡ true → n < length xs
 flag_within [] n h = absurd (true≢false (sym h))
 flag_within (x ∷ xs) zero h = omega arith
 flag_within (x ∷ xs) (suc n) h = let rest = flag_within xs n h in omega arith
@@ -136,3 +136,7 @@ module _ (G : List (List ℕ)) where
   -- marks on cycles alone, and a certificate for the others
   pub certified : (ranks : List ℕ) (xs ys : List Bool) → OnCycles (targets G) xs → ys ≡ xs → IsCertificate (targets G) ranks ys → TellsCycles (targets G) xs
   certified ranks xs ys on is h n = (on n, λ p. ap (λ zs. flag zs n) (sym is) ∙ is_marked G ranks ys h n p)
+
+  -- and its ranks fall
+  pub certified_descends : (ranks : List ℕ) (xs ys : List Bool) → ys ≡ xs → IsCertificate (targets G) ranks ys → Descends (targets G) xs ranks
+  certified_descends ranks xs ys is h m n e f = (h m n e).1 (ap (λ zs. flag zs m) is ∙ f)

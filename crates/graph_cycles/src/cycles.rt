@@ -1,5 +1,5 @@
 ghost use Rattle.std.specs.Prelude.{◌≡◌, length, IfOk, IfSome, vec_len};
-ghost use Rattle.graph_cycles.specs.Paths.{TellsCycles, targets};
+ghost use Rattle.graph_cycles.specs.Paths.{Descends, TellsCycles, targets};
 ghost use Rattle.graph_cycles.specs.steps.Marks.{OnCycles, AfterRoots, BeforeRoots};
 
 use crate::certificate::is_certified;
@@ -11,29 +11,42 @@ use crate::slow::cycles_slowly;
 use aidl_base::{OutOfMemory, Row};
 use std::alloc::Global;
 
+/// Which nodes lie on a cycle, and a rank for each node. Along an edge from a node that lies on none the rank falls, so in
+/// the order of their ranks such nodes stand behind all that they lead to. A node beyond the last rank has rank 0.
+#[derive(Drop)]
+pub struct Cycles {
+    pub on: Vec<bool>,
+    pub ranks: Vec<usize>,
+}
+
 /// Which nodes lie on a cycle: those from which a path of one edge or more leads back. Node n leads to each number of the row
 /// at n; a number beyond the last row is a node that leads nowhere. In time linear in nodes and edges where the search gives
 /// a certificate, which it always did so far; that it does isn't proved, and a slow search answers where it doesn't.
-pub fn on_cycle(alloc: Global, edges: &[Row<u32>]) -> Result<Vec<bool>, OutOfMemory>
-    ensures len { IfOk result (λ on. vec_len on ≡ length edges.now) }
-    ensures exact { IfOk result (λ on. TellsCycles (targets edges.now) on.items) }
+pub fn find_cycles(alloc: Global, edges: &[Row<u32>]) -> Result<Cycles, OutOfMemory>
+    ensures len { IfOk result (λ found. vec_len found.on ≡ length edges.now) }
+    ensures exact { IfOk result (λ found. TellsCycles (targets edges.now) found.on.items) }
+    ensures ranks { IfOk result (λ found. Descends (targets edges.now) found.on.items found.ranks.items) }
 {
     match certified_cycles(alloc, edges)? {
-        Some(on) => Ok(on),
+        Some(found) => Ok(found),
         None => cycles_slowly(alloc, edges),
     }
 }
 
-// Which nodes lie on a cycle, where the search gave a certificate for it.
-fn certified_cycles(alloc: Global, edges: &[Row<u32>]) -> Result<Option<Vec<bool>>, OutOfMemory>
-    ensures len { IfOk result (λ given. IfSome given (λ on. vec_len on ≡ length edges.now)) }
-    ensures exact { IfOk result (λ given. IfSome given (λ on. TellsCycles (targets edges.now) on.items)) }
+// Which nodes lie on a cycle, with ranks, where the search gave a certificate for it.
+fn certified_cycles(alloc: Global, edges: &[Row<u32>]) -> Result<Option<Cycles>, OutOfMemory>
+    ensures len { IfOk result (λ given. IfSome given (λ found. vec_len found.on ≡ length edges.now)) }
+    ensures exact { IfOk result (λ given. IfSome given (λ found. TellsCycles (targets edges.now) found.on.items)) }
+    ensures ranks { IfOk result (λ given. IfSome given (λ found. Descends (targets edges.now) found.on.items found.ranks.items)) }
 {
     let visited = depth_first(alloc, edges)?;
     let found = grouped(alloc, edges, &visited.left)?;
     let on = marks_on(alloc, edges, &found.roots, &visited.entered, &found.order)?;
     if is_certified(edges, &found.ranks, &on) {
-        return Ok(Some(on));
+        return Ok(Some(Cycles {
+            on,
+            ranks: found.ranks,
+        }));
     }
     Ok(None)
 }

@@ -10,4 +10,4 @@ mod marking;
 mod marks;
 mod slow;
 
-pub use cycles::on_cycle;
+pub use cycles::{Cycles, find_cycles};

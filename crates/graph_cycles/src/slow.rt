@@ -1,21 +1,34 @@
-ghost use Rattle.std.specs.Prelude.{◌≡◌, ℕ, ◌<◌, ◌↔◌, true, false, length, IfOk, IfSome, IfNone, vec_len, IsTrue};
-ghost use Rattle.graph_cycles.specs.Paths.{IsEdge, Leads, TellsCycles, flag, targets};
-ghost use Rattle.graph_cycles.specs.steps.Marks.{AfterNode, IsClosed};
+ghost use Rattle.std.specs.Prelude.{◌≡◌, ℕ, ◌+◌, ◌<◌, ◌↔◌, true, false, length, IfOk, IfSome, IfNone, vec_len, IsTrue};
+ghost use Rattle.graph_cycles.specs.Paths.{Descends, IsEdge, Leads, TellsCycles, flag, targets};
+ghost use Rattle.graph_cycles.specs.steps.Marks.{AfterNode, IsClosed, IsRank, unmarked};
 
+use crate::cycles::Cycles;
 use crate::marks::{is_set, no_flags, set, targets_of};
 use aidl_base::{OutOfMemory, Row};
 use std::alloc::Global;
 
-/// Which nodes lie on a cycle, by a search from each node. It takes far longer than linear time.
-pub fn cycles_slowly(alloc: Global, edges: &[Row<u32>]) -> Result<Vec<bool>, OutOfMemory>
-    ensures len { IfOk result (λ on. vec_len on ≡ length edges.now) }
-    ensures exact { IfOk result (λ on. TellsCycles (targets edges.now) on.items) }
+// Whether a node leads to itself, and how many nodes it leads to, itself counted.
+#[derive(Clone, Copy)]
+struct Reach {
+    back: bool,
+    nodes: usize,
+}
+
+/// Which nodes lie on a cycle, by a search from each node; its rank is how many nodes that finds. It takes far longer than
+/// linear time.
+pub fn cycles_slowly(alloc: Global, edges: &[Row<u32>]) -> Result<Cycles, OutOfMemory>
+    ensures len { IfOk result (λ found. vec_len found.on ≡ length edges.now) }
+    ensures exact { IfOk result (λ found. TellsCycles (targets edges.now) found.on.items) }
+    ensures ranks { IfOk result (λ found. Descends (targets edges.now) found.on.items found.ranks.items) }
 {
     let mut on = Vec::new(alloc);
+    let mut ranks = Vec::new(alloc);
     for node in 0..edges.len() {
-        on.push(is_on_cycle(alloc, edges, node)?)?;
+        let reach = reach_of(alloc, edges, node)?;
+        on.push(reach.back)?;
+        ranks.push(reach.nodes)?;
     }
-    Ok(on)
+    Ok(Cycles { on, ranks })
 }
 
 // A target of a node that has a flag and no mark.
@@ -65,22 +78,42 @@ fn mark_all(edges: &[Row<u32>], start: usize, marks: &mut [bool])
     }
 }
 
-// Whether a node leads to itself, by a search that begins with no marks.
-fn leads_back(edges: &[Row<u32>], node: usize, marks: &mut [bool]) -> bool
+// How many flags are set.
+fn marked(marks: &[bool]) -> usize
+    ensures { result + unmarked marks.now ≡ length marks.now }
+{
+    let mut count: usize = 0;
+    for mark in marks {
+        if *mark {
+            count += 1;
+        }
+    }
+    count
+}
+
+// What a node leads to, by a search that begins with no marks.
+fn reach_by(edges: &[Row<u32>], node: usize, marks: &mut [bool]) -> Reach
     requires node { node < length edges.now }
     requires none { (n : ℕ) → flag marks.old n ≡ false }
     requires len { length marks.old ≡ length edges.now }
-    ensures { IsTrue result ↔ Leads (targets edges.now) node node }
+    ensures back { IsTrue result.back ↔ Leads (targets edges.now) node node }
+    ensures nodes { IsRank edges.now node result.nodes }
 {
     mark_all(edges, node, marks);
-    is_set(marks, node)
+    let back = is_set(marks, node);
+    set(marks, node);
+    Reach {
+        back,
+        nodes: marked(marks),
+    }
 }
 
-// Whether a node leads to itself.
-fn is_on_cycle(alloc: Global, edges: &[Row<u32>], node: usize) -> Result<bool, OutOfMemory>
+// What a node leads to.
+fn reach_of(alloc: Global, edges: &[Row<u32>], node: usize) -> Result<Reach, OutOfMemory>
     requires { node < length edges.now }
-    ensures { IfOk result (λ on. IsTrue on ↔ Leads (targets edges.now) node node) }
+    ensures back { IfOk result (λ reach. IsTrue reach.back ↔ Leads (targets edges.now) node node) }
+    ensures nodes { IfOk result (λ reach. IsRank edges.now node reach.nodes) }
 {
     let mut marks = no_flags(alloc, edges.len())?;
-    Ok(leads_back(edges, node, &mut marks))
+    Ok(reach_by(edges, node, &mut marks))
 }

@@ -1,15 +1,21 @@
-ghost use Rattle.std.specs.Prelude.{IfOk};
-ghost use Rattle.const_eval.specs.Operands.{IsWithin};
-
 use aidl_base::{Const, OutOfMemory};
-use aidl_syntax::{
-    BodyTree, ConstantTree, ExprKind, ExprTree, FileTree, MemberTree, Symbol, TokenKind, TypeTree,
-};
-use const_eval::{
-    ConstFault, EvalFault, Operand, Wanted, binary, binary_operator, fitted, literal, unary,
-    unary_operator,
-};
+use aidl_syntax::{BodyTree, ConstantTree, DottedTree, ExprTree, FileTree, MemberTree, TypeTree};
+use const_values::{ConstFault, EvalFault, Meanings, Operand, Wanted, evaluated, fitted};
 use std::alloc::Global;
+
+// No name has a meaning.
+struct NoNames;
+
+impl Meanings for NoNames {
+    ghost use Rattle.std.specs.Prelude.{Err};
+    ghost use Rattle.const_values.specs.declared.fault.ConstFault.TheVariants.{UnknownName};
+
+    ghost meaning = { λ _ _. Err UnknownName };
+
+    fn meaning(&self, _name: &DottedTree) -> Result<Operand<'_>, ConstFault> {
+        Err(ConstFault::UnknownName)
+    }
+}
 
 // The type that a name is.
 fn wanted_of(name: &str) -> Option<Wanted> {
@@ -25,7 +31,7 @@ fn wanted_of(name: &str) -> Option<Wanted> {
 }
 
 /// The value of the first constant of a parcelable, or its fault, as text. Names have no meaning.
-pub fn evaluated(alloc: Global, tree: &FileTree) -> Result<String, OutOfMemory> {
+pub fn constant_text(alloc: Global, tree: &FileTree) -> Result<String, OutOfMemory> {
     match first_constant(tree) {
         Some(constant) => of_constant(alloc, constant),
         None => Ok(String::from_str(alloc, "no constant")?),
@@ -46,11 +52,16 @@ fn of_constant(alloc: Global, constant: &ConstantTree) -> Result<String, OutOfMe
     let Some(wanted) = wanted_by(&constant.ty) else {
         return Ok(String::from_str(alloc, "another type")?);
     };
-    match value_of(alloc, &constant.value) {
-        Ok(operand) => shown(alloc, &fitted(wanted, operand)),
+    match value_for(alloc, wanted, &constant.value) {
+        Ok(value) => shown(alloc, &Ok(value)),
         Err(EvalFault::Fault(fault)) => shown(alloc, &Err(fault)),
         Err(EvalFault::OutOfMemory) => Err(OutOfMemory),
     }
+}
+
+fn value_for(alloc: Global, wanted: Wanted, value: &ExprTree) -> Result<Const, EvalFault> {
+    let operand = evaluated(alloc, &NoNames, value)?;
+    fitted(alloc, wanted, None, operand)
 }
 
 fn wanted_by(ty: &TypeTree) -> Option<Wanted> {
@@ -68,59 +79,4 @@ fn shown(alloc: Global, outcome: &Result<Const, ConstFault>) -> Result<String, O
         Ok(Const::Members(_)) => String::from_str(alloc, "a list")?,
         Err(fault) => format!(in alloc; "fault {} {fault:?}", fault.number())?,
     })
-}
-
-// The left operand before the right one, and both before the operator.
-fn value_of(alloc: Global, expression: &ExprTree) -> Result<Operand, EvalFault>
-    ensures { IfOk result (λ value. IsWithin value) }
-{
-    match &expression.kind {
-        ExprKind::Literal(token) => of_literal(alloc, &token.kind),
-        ExprKind::Name(_) => Err(EvalFault::Fault(ConstFault::UnknownName)),
-        ExprKind::Group(inner) => value_of(alloc, inner),
-        ExprKind::Unary(symbol, operand) => of_unary(*symbol, &value_of(alloc, operand)?),
-        ExprKind::Binary(symbol, left, right) => {
-            let left = value_of(alloc, left)?;
-            let right = value_of(alloc, right)?;
-            of_binary(alloc, *symbol, &left, &right)
-        }
-    }
-}
-
-fn of_literal(alloc: Global, token: &TokenKind) -> Result<Operand, EvalFault>
-    ensures { IfOk result (λ value. IsWithin value) }
-{
-    match literal(alloc, token)? {
-        Some(operand) => Ok(operand),
-        None => Err(EvalFault::Fault(ConstFault::Mismatch)),
-    }
-}
-
-fn of_unary(symbol: Symbol, operand: &Operand) -> Result<Operand, EvalFault>
-    requires { IsWithin operand.now }
-    ensures { IfOk result (λ value. IsWithin value) }
-{
-    let Some(operator) = unary_operator(symbol) else {
-        return Err(EvalFault::Fault(ConstFault::Mismatch));
-    };
-    match unary(operator, operand) {
-        Ok(value) => Ok(value),
-        Err(fault) => Err(EvalFault::Fault(fault)),
-    }
-}
-
-fn of_binary(
-    alloc: Global,
-    symbol: Symbol,
-    left: &Operand,
-    right: &Operand,
-) -> Result<Operand, EvalFault>
-    requires left_within { IsWithin left.now }
-    requires right_within { IsWithin right.now }
-    ensures { IfOk result (λ value. IsWithin value) }
-{
-    match binary_operator(symbol) {
-        Some(operator) => binary(alloc, operator, left, right),
-        None => Err(EvalFault::Fault(ConstFault::Mismatch)),
-    }
 }

@@ -1,4 +1,4 @@
-use crate::evaluation::evaluated;
+use crate::evaluation::constant_text;
 use crate::outline::Outline;
 use crate::tokens::shown_tokens;
 use aidl_base::{LimitName, OutOfMemory};
@@ -56,7 +56,7 @@ fn of_parsed(
 
 fn of_tree(alloc: Global, kind: Kind, tree: &FileTree) -> Result<String, OutOfMemory> {
     match kind {
-        Kind::Value => evaluated(alloc, tree),
+        Kind::Value => constant_text(alloc, tree),
         Kind::Acceptance => Ok(String::from_str(alloc, "a tree")?),
         _ => {
             let mut outline = Outline::new(alloc);

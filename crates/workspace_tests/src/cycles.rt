@@ -1,7 +1,7 @@
 //! Which nodes of a graph lie on a cycle.
 
 use aidl_base::Row;
-use graph_cycles::on_cycle;
+use graph_cycles::find_cycles;
 use std::alloc::Global;
 use std::test::Fail;
 
@@ -29,7 +29,7 @@ fn nodes_between_cycles_are_on_none(rt: HostRuntime) -> Result<(), Fail> {
         for row in rows {
             edges.push(Row::from_vec(Vec::from_slice(rt.alloc(), row)?))?;
         }
-        let on = on_cycle(rt.alloc(), edges.as_slice())?;
+        let on = find_cycles(rt.alloc(), edges.as_slice())?.on;
         assert_eq!(rt; on.as_slice(), wanted);
     }
     Ok(())
@@ -56,7 +56,7 @@ fn long_way(alloc: Global, count: u32, is_ring: bool) -> Result<Vec<Row<u32>>, F
 fn long_ways_take_linear_time(rt: HostRuntime) -> Result<(), Fail> {
     for is_ring in [false, true] {
         let edges = long_way(rt.alloc(), 65_536, is_ring)?;
-        let on = on_cycle(rt.alloc(), edges.as_slice())?;
+        let on = find_cycles(rt.alloc(), edges.as_slice())?.on;
         assert_eq!(rt; on.len(), 65_536);
         assert!(rt; on.iter().all(|on| *on == is_ring));
     }

@@ -1,6 +1,6 @@
 -- What the searches keep, and what a certificate says.
-use Rattle.std.specs.Prelude.{◌≡◌, ℕ, zero, suc, ◌<◌, ◌≤◌, ◌⊎◌, Bool, true, false, List, [], ◌∷◌, length, slice_index}
-use Rattle.graph_cycles.specs.Paths.{IsEdge, Leads, flag}
+use Rattle.std.specs.Prelude.{◌≡◌, ℕ, zero, suc, ◌+◌, ◌<◌, ◌≤◌, ◌⊎◌, Bool, true, false, List, [], ◌∷◌, length, slice_index}
+use Rattle.graph_cycles.specs.Paths.{IsEdge, Leads, flag, targets}
 
 -- each node that is marked is on a cycle
 abbrev pub OnCycles : (ℕ → List ℕ) → List Bool → Type 0
@@ -35,3 +35,11 @@ abbrev pub unmarked : List Bool → ℕ
 unmarked [] = zero
 unmarked (true ∷ xs) = unmarked xs
 unmarked (false ∷ xs) = suc (unmarked xs)
+
+-- the number of nodes that have a row and are this node or one to which it leads: those that some flags mark
+pub record IsRank (G : List (List ℕ)) (m rank : ℕ) : Type 0 where
+  pub marks : List Bool
+  pub len : length marks ≡ length G
+  pub sound : (n : ℕ) → flag marks n ≡ true → IsOrLeads (targets G) m n
+  pub whole : (n : ℕ) → n < length marks → IsOrLeads (targets G) m n → flag marks n ≡ true
+  pub count : rank + unmarked marks ≡ length marks

@@ -1,0 +1,25 @@
+use Rattle.std.proofs.Common.{◌++◌, ◌∷◌, [], Some, None, refl, sym, ◌∙◌, ap, map}
+use Rattle.std.proofs.lemmas.List.{length-map}
+use Rattle.aidl_names.specs.Sources.{source_of}
+use Rattle.aidl_names.specs.Resolution.{first_declared, imported}
+use Rattle.aidl_names.specs.Refusals.{entry_of}
+use Rattle.aidl_names.proofs.Candidates.{tried}
+use Rattle.aidl_names.proofs.resolution.first_declared.Goals as goal
+
+pub returns-in-Some-in_enclosing : goal.returns-in-Some-in_enclosing
+returns-in-Some-in_enclosing c =
+    tried (map entry_of c.args.found.now) (source_of c.args.file.now) c.args.scope _ c.args.name.now None (Some c.in-Some-in_enclosing.meaning) _ _
+    c.in-None.ensures (sym (length-map c.args.found.now entry_of)) c.in-Some-in_enclosing.ensures refl refl
+
+pub returns-in-Some-in_imports : goal.returns-in-Some-in_imports
+returns-in-Some-in_imports c =
+    tried (map entry_of c.args.found.now) (source_of c.args.file.now) c.args.scope _ c.args.name.now None None (Some c.in-Some-in_imports.meaning) _
+    c.in-None.ensures (sym (length-map c.args.found.now entry_of)) c.in-None-in_enclosing.ensures
+    (c.in-Some-in_imports.ensures ∙ ap (λ imports. first_declared (map entry_of c.args.found.now) (imported imports c.args.name.now)) c.as_slice.ensures) refl
+
+pub returns : goal.returns
+returns c =
+    tried (map entry_of c.args.found.now) (source_of c.args.file.now) c.args.scope _ c.args.name.now None None None c.declared-2.result
+    c.in-None.ensures (sym (length-map c.args.found.now entry_of)) c.in-None-in_enclosing.ensures
+    (c.in-None-in_imports.ensures ∙ ap (λ imports. first_declared (map entry_of c.args.found.now) (imported imports c.args.name.now)) c.as_slice.ensures)
+    (c.declared-2.ensures ∙ ap (λ front. first_declared (map entry_of c.args.found.now) ((front ++ c.args.name.now) ∷ [])) c.package-front.ensures)

@@ -1,0 +1,12 @@
+use Rattle.std.proofs.Common.{◌≡◌, ◌++◌, map, drop}
+use Rattle.aidl_names.specs.Sources.{source_of}
+use Rattle.aidl_names.specs.Rules.{in_each, types_in, types_where}
+use Rattle.aidl_names.specs.TypeRules.{breaks_of, rule_of}
+use Rattle.aidl_names.specs.Refusals.{entry_of}
+use Rattle.aidl_names.proofs.types.add_types.Given as goal
+
+-- the breaches so far and those that are left are all
+abbrev pub invariant-loop-i : goal.invariant-loop-i
+invariant-loop-i l =
+    l.rows.items ++ in_each (types_in (breaks_of l.rule (map source_of l.files)) (rule_of l.rule)) l.i (map entry_of (drop l.i l.found))
+    ≡ l.fn.rows.items ++ types_where (breaks_of l.rule (map source_of l.files)) (rule_of l.rule) (map source_of l.files)

@@ -1,0 +1,14 @@
+pub mod Sources
+pub mod Names
+pub mod Declarations
+pub mod Resolution
+pub mod Limits
+pub mod Rules
+pub mod Breaches
+pub mod Refusals
+pub mod Walks
+pub mod MemberViews
+pub mod Places
+pub mod TypeRules
+pub mod Marks
+pub mod Tables

@@ -1,0 +1,20 @@
+-- A number for each name, by which it is looked up: names that are the same have the same number.
+use Rattle.std.specs.Prelude.{ℕ, ◌+◌, ◌*◌, ◌%◌, List}
+use Rattle.std.specs.List.{fold}
+use Rattle.aidl_base.specs.declared.name.Ident.{Ident}
+use Rattle.aidl_names.specs.Names.{text}
+use Rattle.aidl_names.specs.Declarations.{Entry}
+
+-- one more byte
+unfoldable pub with_byte : ℕ → ℕ → ℕ
+with_byte mark b = (mark % 288230376151711717 * 31 + b) % 288230376151711717
+
+-- one more part
+abbrev pub with_part : ℕ → Ident → ℕ
+with_part mark part = with_byte (fold with_byte mark (text part)) 46
+
+abbrev pub mark_of : List Ident → ℕ
+mark_of name = fold with_part 0 name
+
+abbrev pub mark_of_entry : Entry → ℕ
+mark_of_entry e = mark_of e.name

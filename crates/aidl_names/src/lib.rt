@@ -1,0 +1,24 @@
+//! The declarations of a tree of files, what names mean in it, and the breaches of the check rules E1 to E5.
+#![tactic(auto)]
+
+mod canonical;
+mod duplicates;
+mod fault;
+mod files;
+mod imports;
+mod limits;
+mod marks;
+mod members;
+mod names;
+mod order;
+mod resolution;
+mod resolved;
+mod rows;
+mod same;
+mod table;
+mod types;
+mod walk;
+
+pub use fault::NameFault;
+pub use names::{Found, Names, gather};
+pub use resolved::{BuiltinName, Resolved};

@@ -1,0 +1,157 @@
+ghost use Rattle.std.specs.Prelude.{◌≡◌, ◌≤◌, map, length, IfOk, IfErr};
+ghost use Rattle.aidl_names.specs.declared.fault.NameFault.TheVariants as fault;
+ghost use Rattle.aidl_names.specs.Breaches.{breaches};
+ghost use Rattle.aidl_names.specs.Sources.{AreOfBytes, source_of};
+ghost use Rattle.aidl_names.specs.Declarations.{declarations};
+ghost use Rattle.aidl_names.specs.Resolution.{resolved};
+ghost use Rattle.aidl_names.specs.Marks.{mark_of_entry};
+ghost use Rattle.aidl_names.specs.Refusals.{IsAccepted, IsRefusal, IsScope, entry_of};
+
+use crate::duplicates::{add_repeated, add_taken};
+use crate::fault::{NameFault, WalkFault};
+use crate::files::add_wrong_files;
+use crate::imports::{add_other_imports, add_unknown_imports};
+use crate::limits::passed;
+use crate::marks::marks;
+use crate::order::in_order;
+use crate::resolution::resolved;
+use crate::resolved::Resolved;
+use crate::table::Table;
+use crate::types::{TypeRule, add_types};
+use crate::walk::walk;
+use aidl_base::{Breach, DottedName, Limit, LimitName, OutOfMemory, Row};
+use aidl_syntax::{DeclTree, ParsedFile};
+use std::alloc::Global;
+use std::marker::Model;
+
+/// A declaration of a tree: its canonical name, the 0-based number of its file, the number of the declaration that
+/// encloses it, and its tree.
+#[derive(Debug, Drop)]
+pub struct Found<'a> {
+    pub name: DottedName,
+    pub file: u32,
+    pub outer: Option<u32>,
+    pub tree: &'a DeclTree,
+}
+
+/// A tree of files that passes no limit on declarations and breaks none of E1 to E5. Contracts see it as its files.
+#[derive(Debug, Drop)]
+pub struct Names<'a> {
+    files: &'a [ParsedFile],
+    found: Vec<Found<'a>>,
+    table: Table,
+}
+
+impl<'a> Model for Names<'a> {
+    ghost use Rattle.std.specs.Prelude.{List, map, length, ◌≡◌, ◌≤◌};
+    ghost use Rattle.std.specs.Coded.{codes};
+    ghost use Rattle.aidl_syntax.specs.declared.tree.ParsedFile.{ParsedFile};
+    ghost use Rattle.aidl_syntax.specs.contracts.tree.ParsedFile as parsed_file;
+    ghost use Rattle.aidl_names.specs.Sources.{AreOfBytes, source_of};
+    ghost use Rattle.aidl_names.specs.Declarations.{declarations};
+    ghost use Rattle.aidl_names.specs.Marks.{mark_of_entry};
+    ghost use Rattle.aidl_names.specs.Refusals.{IsAccepted, entry_of};
+
+    ghost Value = { List ParsedFile };
+
+    ghost coded = { Prim.hlevel (codes, parsed_file.the_row.coded) };
+
+    ghost view = { λ names. names.files.now };
+
+    ghost invariant = { λ names. record {
+      of_bytes : AreOfBytes names.files.now;
+      accepted : IsAccepted (map source_of names.files.now);
+      marks : names.table ≡ map mark_of_entry (map entry_of names.found.items);
+      all : map entry_of names.found.items ≡ declarations (map source_of names.files.now);
+    } };
+}
+
+impl<'a> Names<'a> {
+    /// The files, which keep the condition of `gather`. It takes no memory.
+    pub fn files(&self) -> &'a [ParsedFile]
+        ensures files { result.now ≡ self.now }
+        ensures of_bytes { AreOfBytes self.now }
+        ensures accepted { IsAccepted (map source_of self.now) }
+    {
+        self.files
+    }
+
+    /// The declarations in the order of their numbers. It takes no memory.
+    pub fn decls(&self) -> &[Found<'a>]
+        ensures { map entry_of result.now ≡ declarations (map source_of self.now) }
+    {
+        self.found.as_slice()
+    }
+
+    /// What a name means in a file, below the declaration with the number `scope`: the innermost one around the name.
+    /// It takes no memory.
+    pub fn resolve(&self, file: u32, scope: u32, name: &DottedName) -> Option<Resolved>
+        requires { IsScope (map source_of self.now) file scope }
+        ensures { result ≡ resolved (map source_of self.now) file scope name.now.0 }
+    {
+        resolved(
+            self.files,
+            self.found.as_slice(),
+            &self.table,
+            file,
+            scope,
+            name.0.as_slice(),
+        )
+    }
+}
+
+/// The declarations of the files of a tree. A limit comes before all breaches.
+pub fn gather<'a>(alloc: Global, files: &'a [ParsedFile]) -> Result<Names<'a>, NameFault>
+    requires { AreOfBytes files.now }
+    ensures ok { IfOk result (λ names. (names ≡ files.now) × IsAccepted (map source_of files.now)) }
+    ensures err { IfErr result (IsRefusal (map source_of files.now)) }
+{
+    let found = match walk(alloc, files) {
+        Ok(found) => found,
+        Err(WalkFault::Full) => return Err(limit(LimitName::Declarations)),
+        Err(WalkFault::OutOfMemory) => return Err(NameFault::OutOfMemory),
+    };
+    if let Some(which) = passed(alloc, found.as_slice())? {
+        return Err(limit(which));
+    }
+    let table = Table::new(alloc, marks(alloc, found.as_slice())?)?;
+    let rows = breaches(alloc, files, found.as_slice(), &table)?;
+    if rows.len() > 0 {
+        return Err(NameFault::Breaches(rows));
+    }
+    Ok(Names {
+        files,
+        found,
+        table,
+    })
+}
+
+fn limit(which: LimitName) -> NameFault
+    ensures { result ≡ fault.Limit (record { which = which }) }
+{
+    NameFault::Limit(Limit { which })
+}
+
+// The breaches of E1 to E5.
+fn breaches(
+    alloc: Global,
+    files: &[ParsedFile],
+    found: &[Found<'_>],
+    table: &Table,
+) -> Result<Row<Breach>, OutOfMemory>
+    requires files { length files.now ≤ 4096 }
+    requires count { length found.now ≤ 16384 }
+    requires table { table.now ≡ map mark_of_entry (map entry_of found.now) }
+    requires all { map entry_of found.now ≡ declarations (map source_of files.now) }
+    ensures { IfOk result (λ rows. rows ≡ breaches (map source_of files.now)) }
+{
+    let mut rows = Vec::new(alloc);
+    add_wrong_files(alloc, files, &mut rows)?;
+    add_repeated(alloc, found, &mut rows)?;
+    add_taken(found, table, &mut rows)?;
+    add_other_imports(files, &mut rows)?;
+    add_unknown_imports(found, table, files, &mut rows)?;
+    add_types(alloc, files, found, table, TypeRule::Unknown, &mut rows)?;
+    add_types(alloc, files, found, table, TypeRule::LeftOut, &mut rows)?;
+    in_order(alloc, rows.as_slice())
+}

@@ -1,0 +1,206 @@
+ghost use Rattle.std.specs.Prelude.{◌≡◌, ◌≤◌, ◌++◌, map, length, OnOk, IfOk};
+ghost use Rattle.std.specs.List.{flat_map};
+ghost use Rattle.aidl_syntax.specs.Members.{members, body};
+ghost use Rattle.aidl_syntax.specs.Trees.{arg_of, body_of, decl_of};
+ghost use Rattle.aidl_names.specs.Sources.{source_of};
+ghost use Rattle.aidl_names.specs.Declarations.{declarations};
+ghost use Rattle.aidl_names.specs.Rules.{types_in, types_where, type_names, names_of_type, is_left_out, is_interface, is_interface_body};
+ghost use Rattle.aidl_names.specs.MemberViews.{seen_member};
+ghost use Rattle.aidl_names.specs.TypeRules.{breaks_of, rule_of};
+ghost use Rattle.aidl_names.specs.Marks.{mark_of_entry};
+ghost use Rattle.aidl_names.specs.Refusals.{entry_of};
+
+use crate::members::{MemberRef, members};
+use crate::names::Found;
+use crate::resolution::resolved;
+use crate::resolved::Resolved;
+use crate::rows::add_if;
+use crate::table::Table;
+use aidl_base::{Breach, Ident, OutOfMemory};
+use aidl_syntax::{ArgTree, BodyTree, DeclTree, DottedTree, ParsedFile, TypeTree};
+use std::alloc::Global;
+
+/// A rule on the names of types.
+#[derive(Clone, Copy)]
+pub enum TypeRule {
+    /// E4
+    Unknown,
+    /// E5
+    LeftOut,
+}
+
+impl TypeRule {
+    fn number(self) -> u8
+        ensures { result ≡ rule_of self }
+    {
+        match self {
+            TypeRule::Unknown => 4,
+            TypeRule::LeftOut => 5,
+        }
+    }
+}
+
+/// Adds the breaches of a rule on the names of types.
+pub fn add_types(
+    alloc: Global,
+    files: &[ParsedFile],
+    found: &[Found<'_>],
+    table: &Table,
+    rule: TypeRule,
+    rows: &mut Vec<Breach>,
+) -> Result<(), OutOfMemory>
+    requires count { length found.now ≤ 16384 }
+    requires table { table.now ≡ map mark_of_entry (map entry_of found.now) }
+    requires all { map entry_of found.now ≡ declarations (map source_of files.now) }
+    ensures { OnOk result (rows.new.items ≡ rows.old.items ++ types_where (breaks_of rule (map source_of files.now)) (rule_of rule) (map source_of files.now)) }
+{
+    for (i, f) in found.iter().enumerate() {
+        add_types_in(alloc, files, found, table, rule, i as u32, f, rows)?;
+    }
+    Ok(())
+}
+
+// Those in one declaration, which has this number.
+fn add_types_in(
+    alloc: Global,
+    files: &[ParsedFile],
+    found: &[Found<'_>],
+    table: &Table,
+    rule: TypeRule,
+    number: u32,
+    inside: &Found<'_>,
+    rows: &mut Vec<Breach>,
+) -> Result<(), OutOfMemory>
+    requires count { length found.now ≤ 16384 }
+    requires table { table.now ≡ map mark_of_entry (map entry_of found.now) }
+    requires all { map entry_of found.now ≡ declarations (map source_of files.now) }
+    ensures { OnOk result (rows.new.items ≡ rows.old.items ++ types_in (breaks_of rule (map source_of files.now)) (rule_of rule) number (entry_of inside.now)) }
+{
+    let names = names_of_types(alloc, inside.tree)?;
+    for name in names.as_slice() {
+        let broken = breaks(
+            files,
+            found,
+            table,
+            rule,
+            inside.file,
+            number,
+            name.name.0.as_slice(),
+        );
+        add_if(broken, rule.number(), inside.file, name.offset, rows)?;
+    }
+    Ok(())
+}
+
+fn breaks(
+    files: &[ParsedFile],
+    found: &[Found<'_>],
+    table: &Table,
+    rule: TypeRule,
+    file: u32,
+    scope: u32,
+    name: &[Ident],
+) -> bool
+    requires count { length found.now ≤ 16384 }
+    requires table { table.now ≡ map mark_of_entry (map entry_of found.now) }
+    requires all { map entry_of found.now ≡ declarations (map source_of files.now) }
+    ensures { result ≡ breaks_of rule (map source_of files.now) file scope name.now }
+{
+    let meaning = resolved(files, found, table, file, scope, name);
+    match rule {
+        TypeRule::Unknown => meaning.is_none(),
+        TypeRule::LeftOut => is_left_out(found, meaning),
+    }
+}
+
+fn is_left_out(found: &[Found<'_>], meaning: Option<Resolved>) -> bool
+    ensures { result ≡ is_left_out (map entry_of found.now) meaning }
+{
+    match meaning {
+        Some(Resolved::LeftOut) => true,
+        Some(Resolved::Declared(number)) => is_interface(found, number),
+        Some(Resolved::Builtin(_)) => false,
+        Some(Resolved::ListWord) => false,
+        None => false,
+    }
+}
+
+fn is_interface(found: &[Found<'_>], number: u32) -> bool
+    ensures { result ≡ is_interface (map entry_of found.now) number }
+{
+    match found.get(number as usize) {
+        Some(f) => is_interface_tree(f.tree),
+        None => false,
+    }
+}
+
+fn is_interface_tree(tree: &DeclTree) -> bool
+    ensures { result ≡ is_interface_body (body (decl_of tree.now)) }
+{
+    is_interface_body(&tree.body)
+}
+
+fn is_interface_body(body: &BodyTree) -> bool
+    ensures { result ≡ is_interface_body (body_of body.now) }
+{
+    match body {
+        BodyTree::Parcelable(_) => false,
+        BodyTree::Union(_) => false,
+        BodyTree::Enum(_) => false,
+        BodyTree::Interface { .. } => true,
+    }
+}
+
+// The names of types in a declaration, but for those in nested declarations.
+fn names_of_types(alloc: Global, tree: &DeclTree) -> Result<Vec<&DottedTree>, OutOfMemory>
+    ensures { IfOk result (λ names. map (λ d. d.now) names.items ≡ flat_map type_names (members (body (decl_of tree.now)))) }
+{
+    let all = members(alloc, tree)?;
+    let mut names = Vec::new(alloc);
+    for member in all.as_slice() {
+        add_member_types(*member, &mut names)?;
+    }
+    Ok(names)
+}
+
+fn add_member_types<'a>(
+    member: MemberRef<'a>,
+    names: &mut Vec<&'a DottedTree>,
+) -> Result<(), OutOfMemory>
+    ensures { OnOk result (map (λ d. d.now) names.new.items ≡ map (λ d. d.now) names.old.items ++ type_names (seen_member member.entry)) }
+{
+    match member {
+        MemberRef::Field(field) => add_type(&field.ty, names),
+        MemberRef::Constant(constant) => add_type(&constant.ty, names),
+        MemberRef::Method(method) => {
+            if let Some(ty) = &method.result {
+                add_type(ty, names)?;
+            }
+            add_argument_types(method.args.as_slice(), names)
+        }
+        MemberRef::Enumerator(_) => Ok(()),
+        MemberRef::Nested(_) => Ok(()),
+    }
+}
+
+fn add_argument_types<'a>(
+    args: &'a [ArgTree],
+    names: &mut Vec<&'a DottedTree>,
+) -> Result<(), OutOfMemory>
+    ensures { OnOk result (map (λ d. d.now) names.new.items ≡ map (λ d. d.now) names.old.items ++ flat_map (λ a. names_of_type a.ty) (map arg_of args.now)) }
+{
+    for arg in args {
+        add_type(&arg.ty, names)?;
+    }
+    Ok(())
+}
+
+fn add_type<'a>(ty: &'a TypeTree, names: &mut Vec<&'a DottedTree>) -> Result<(), OutOfMemory>
+    ensures { OnOk result (map (λ d. d.now) names.new.items ≡ map (λ d. d.now) names.old.items ++ names_of_type ty.now) }
+{
+    names.push(&ty.name)?;
+    if let Some(element) = &ty.element {
+        names.push(element)?;
+    }
+    Ok(())
+}

@@ -1,0 +1,7 @@
+use Rattle.std.proofs.Common.{map}
+use Rattle.aidl_names.specs.Sources.{source_of}
+use Rattle.const_eval.proofs.OneOutcome.{one_outcome}
+use Rattle.const_eval.proofs.laws.law_one_outcome.Goals as goal
+
+pub returns : goal.returns
+returns c = one_outcome (map source_of c.args.files.now)

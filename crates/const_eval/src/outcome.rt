@@ -1,0 +1,13 @@
+use aidl_base::Const;
+use const_values::ConstFault;
+
+/// What comes of an item.
+#[derive(Debug, Drop)]
+pub enum Outcome {
+    /// its value
+    Given(Const),
+    /// why it has none
+    Fault(ConstFault),
+    /// something that it depends on has no value, or the form of its initializer is refused by another rule
+    Unjudged,
+}

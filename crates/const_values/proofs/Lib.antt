@@ -1,0 +1,2 @@
+pub mod LeftShift
+pub mod Numbers
