@@ -7,6 +7,8 @@ mod typing;
 mod value;
 
 pub use default::{default_of, initial_of};
-pub use laws::{law_default_fits, law_initial_fits, law_one_default, law_small_defaults, law_sound};
+pub use laws::{
+    law_default_fits, law_initial_fits, law_one_default, law_small_defaults, law_sound,
+};
 pub use typing::has_type;
 pub use value::{Answer, Value, depth};

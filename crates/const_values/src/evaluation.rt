@@ -65,10 +65,7 @@ fn of_token(token: &Token) -> Result<Operand<'_>, EvalFault>
     }
 }
 
-fn before<'a>(
-    operator: Option<UnaryOperator>,
-    a: &Operand<'_>,
-) -> Result<Operand<'a>, EvalFault>
+fn before<'a>(operator: Option<UnaryOperator>, a: &Operand<'_>) -> Result<Operand<'a>, EvalFault>
     requires { IsWithin (seen a.now) }
     ensures value { Gives result (meant.before operator (seen a.now)) }
     ensures within { IfOk result (λ value. IsWithin (seen value)) }
