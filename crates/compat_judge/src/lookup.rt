@@ -1,0 +1,53 @@
+ghost use Rattle.std.specs.Prelude.{◌≡◌, ℕ, List, length, map, IfOk, OnOk, true, nat_eq};
+ghost use Rattle.std.specs.List.{find, list_all, position_from};
+ghost use Rattle.std.specs.Option.{option_copied};
+ghost use Rattle.std.specs.Str.{all_scalars, bytes_eq, encode_utf8_all};
+ghost use Rattle.indexmap.specs.IndexMap.{get_by};
+ghost use Rattle.aidl_schema.specs.Broken.{same_name, whole};
+ghost use Rattle.aidl_schema.specs.Same.{same_text};
+ghost use Rattle.compat_judge.specs.steps.Steps.{names_of, place_of};
+
+use aidl_base::{Ident, OutOfMemory, Text};
+use aidl_schema::{Decl, Schema, find, law_valid};
+use indexmap::IndexMap;
+use std::alloc::Global;
+
+/// The declaration of this canonical name.
+pub fn find_decl<'a>(new: &'a Schema, decl: &Decl, name: &Text) -> Option<&'a Decl>
+    requires { name.now ≡ whole decl.now }
+    ensures { option_copied result ≡ find (λ e. same_name decl.now e) new.now.decls }
+{
+    law_valid(new);
+    match find(new, name.as_str()) {
+        Some(n) => new.decls.as_slice().get(n as usize),
+        None => None,
+    }
+}
+
+/// Where each of some names stands first among others.
+pub fn places_of(
+    alloc: Global,
+    olds: &[&Ident],
+    news: &[&Ident],
+) -> Result<Vec<Option<usize>>, OutOfMemory>
+    ensures { IfOk result (λ places. places.items ≡ map (λ x. place_of (names_of news.now) x) (names_of olds.now)) }
+{
+    let table = table_of(alloc, news)?;
+    let mut places = Vec::with_capacity(alloc, olds.len())?;
+    for name in olds {
+        places.push(table.get(name.0.as_str()).copied())?;
+    }
+    Ok(places)
+}
+
+// The first place of each name.
+fn table_of<'a>(alloc: Global, names: &[&'a Ident]) -> Result<IndexMap<&'a str, usize>, OutOfMemory>
+    ensures places { IfOk result (λ table. (q : List ℕ) → get_by (λ k. bytes_eq q k.now) table ≡ position_from (λ x. bytes_eq q (encode_utf8_all x)) 0 (names_of names.now)) }
+    ensures texts { OnOk result (list_all all_scalars (names_of names.now) ≡ true) }
+{
+    let mut table = IndexMap::with_capacity(alloc, names.len())?;
+    for i in (0..names.len()).rev() {
+        table.insert(names[i].0.as_str(), i)?;
+    }
+    Ok(table)
+}

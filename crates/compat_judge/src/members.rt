@@ -1,0 +1,146 @@
+ghost use Rattle.std.specs.Prelude.{◌≡◌, ◌++◌, ◌==◌, ◌&&◌, map, true, IfOk, OnOk};
+ghost use Rattle.std.specs.Option.{option_copied};
+ghost use Rattle.std.specs.Ordering.{int_eq};
+ghost use Rattle.aidl_schema.specs.Broken as broken;
+ghost use Rattle.aidl_schema.specs.Broken.{C3, C17, C18, in_both, same_method, is_there_and};
+ghost use Rattle.aidl_schema.specs.Names.{enumerators_of, methods_of};
+ghost use Rattle.aidl_schema.specs.Same.{base_code};
+ghost use Rattle.compat_judge.specs.steps.Steps.{both_of, item_at, places_among};
+
+use crate::alike::same_base_code;
+use crate::consts::same_const;
+use crate::findings::Findings;
+use crate::lookup::places_of;
+use crate::sides::{Common, Pair};
+use aidl_base::{Ident, OutOfMemory};
+use aidl_schema::{Constant, Enumerator, Kind, Method};
+use std::alloc::Global;
+
+/// The methods of an interface; none of what is no interface.
+pub fn methods_of(kind: &Kind) -> &[Method]
+    ensures { result.now ≡ methods_of kind.now }
+{
+    match kind {
+        Kind::Interface(methods) => methods.as_slice(),
+        _ => &[],
+    }
+}
+
+/// The enumerators of an enum; none of what is no enum.
+pub fn enumerators_of(kind: &Kind) -> &[Enumerator]
+    ensures { result.now ≡ enumerators_of kind.now }
+{
+    match kind {
+        Kind::Enum(_, enumerators) => enumerators.as_slice(),
+        _ => &[],
+    }
+}
+
+/// Where the names of methods stand among others.
+pub fn method_places(alloc: Global, ms: &[Method], ws: &[Method]) -> Result<Vec<Option<usize>>, OutOfMemory>
+    ensures { IfOk result (λ places. places.items ≡ places_among (λ m. m.name.0) ms.now ws.now) }
+{
+    let olds: Vec<&Ident> = ms.iter().map(|m| &m.name).collect(alloc)?;
+    let news: Vec<&Ident> = ws.iter().map(|m| &m.name).collect(alloc)?;
+    places_of(alloc, olds.as_slice(), news.as_slice())
+}
+
+/// The methods that both have by their names, each beside the other.
+pub fn common_methods<'a>(
+    alloc: Global,
+    ms: &'a [Method],
+    ws: &'a [Method],
+    places: &[Option<usize>],
+) -> Result<Vec<Common<'a>>, OutOfMemory>
+    requires { places.now ≡ places_among (λ m. m.name.0) ms.now ws.now }
+    ensures { IfOk result (λ common. map both_of common.items ≡ in_both same_method ms.now ws.now) }
+{
+    let mut common = Vec::new(alloc);
+    for (i, before) in ms.iter().enumerate() {
+        if let Some(after) = at_place(ws, places[i]) {
+            common.push(Common { before, after })?;
+        }
+    }
+    Ok(common)
+}
+
+// The item at a place.
+fn at_place<T>(items: &[T], place: Option<usize>) -> Option<&T>
+    ensures { option_copied result ≡ item_at items.now place }
+{
+    match place {
+        Some(i) => items.get(i),
+        None => None,
+    }
+}
+
+/// C3: a method of old isn't in new.
+pub fn c3(
+    pair: &Pair<'_>,
+    ms: &[Method],
+    places: &[Option<usize>],
+    found: &mut Findings,
+) -> Result<(), OutOfMemory>
+    requires old { ms.now ≡ methods_of pair.now.before.now.kind }
+    requires places { places.now ≡ places_among (λ m. m.name.0) ms.now (methods_of pair.now.after.now.kind) }
+    ensures { OnOk result (found.new ≡ found.old ++ broken.of_rule 3 (C3 pair.now.old.now.decls pair.now.before.now pair.now.new.now.decls pair.now.after.now)) }
+{
+    for (i, method) in ms.iter().enumerate() {
+        if places[i].is_none() {
+            found.add_member(3, pair.name, &method.name)?;
+        }
+    }
+    Ok(())
+}
+
+/// C17: an enumerator of old isn't in new, or its value differs.
+pub fn c17(alloc: Global, pair: &Pair<'_>, found: &mut Findings) -> Result<(), OutOfMemory>
+    ensures { OnOk result (found.new ≡ found.old ++ broken.of_rule 17 (C17 pair.now.old.now.decls pair.now.before.now pair.now.new.now.decls pair.now.after.now)) }
+{
+    let xs = enumerators_of(&pair.before.kind);
+    let ys = enumerators_of(&pair.after.kind);
+    let olds: Vec<&Ident> = xs.iter().map(|x| &x.name).collect(alloc)?;
+    let news: Vec<&Ident> = ys.iter().map(|y| &y.name).collect(alloc)?;
+    let places = places_of(alloc, olds.as_slice(), news.as_slice())?;
+    for (i, x) in xs.iter().enumerate() {
+        if !is_enumerator_kept(x, at_place(ys, places[i])) {
+            found.add_member(17, pair.name, &x.name)?;
+        }
+    }
+    Ok(())
+}
+
+fn is_enumerator_kept(x: &Enumerator, y: Option<&Enumerator>) -> bool
+    ensures { result ≡ is_there_and (λ y. int_eq x.now.value y.value) (option_copied y) }
+{
+    match y {
+        Some(y) => x.value == y.value,
+        None => false,
+    }
+}
+
+/// C18: a constant of old isn't in new, or its type or value differs.
+pub fn c18(alloc: Global, pair: &Pair<'_>, found: &mut Findings) -> Result<(), OutOfMemory>
+    ensures { OnOk result (found.new ≡ found.old ++ broken.of_rule 18 (C18 pair.now.old.now.decls pair.now.before.now pair.now.new.now.decls pair.now.after.now)) }
+{
+    let cs = pair.before.constants.as_slice();
+    let ks = pair.after.constants.as_slice();
+    let olds: Vec<&Ident> = cs.iter().map(|c| &c.name).collect(alloc)?;
+    let news: Vec<&Ident> = ks.iter().map(|k| &k.name).collect(alloc)?;
+    let places = places_of(alloc, olds.as_slice(), news.as_slice())?;
+    for (i, constant) in cs.iter().enumerate() {
+        if !is_constant_kept(constant, at_place(ks, places[i])) {
+            found.add_member(18, pair.name, &constant.name)?;
+        }
+    }
+    Ok(())
+}
+
+fn is_constant_kept(c: &Constant, k: Option<&Constant>) -> bool
+    ensures { result ≡ is_there_and (λ k. (base_code c.now.ty == base_code k.ty) && broken.same_const c.now.value k.value) (option_copied k) }
+{
+    match k {
+        Some(k) => same_base_code(c.ty, k.ty) && same_const(&c.value, &k.value),
+        None => false,
+    }
+}
