@@ -1,0 +1,5 @@
+pub mod Compared
+pub mod Listing
+pub mod PlaceTexts
+pub mod SortedOnce
+pub mod Utf8Order

@@ -16,15 +16,19 @@ pub fn same_text(a: &Text, b: &Text) -> bool
 fn same_idents(a: &[Ident], b: &[Ident]) -> bool
     ensures { result ≡ same.same_idents a.now b.now }
 {
-    match (a, b) {
-        ([], []) => true,
-        ([x, xs @ ..], [y, ys @ ..]) => same_text(&x.0, &y.0) && same_idents(xs, ys),
-        _ => false,
+    if a.len() != b.len() {
+        return false;
     }
+    for i in 0..a.len() {
+        if !same_text(&a[i].0, &b[i].0) {
+            return false;
+        }
+    }
+    true
 }
 
 fn same_decl(d: Option<&Decl>, e: Option<&Decl>) -> bool
-    ensures { result ≡ same.same_decl (option_copied d) (option_copied e) }
+    ensures { result ≡ same.same_decl (option_copied d.entry) (option_copied e.entry) }
 {
     match (d, e) {
         (Some(d), Some(e)) => same_idents(d.name.0.as_slice(), e.name.0.as_slice()),

@@ -1,5 +1,7 @@
 ghost use Rattle.std.specs.Prelude.{◌≡◌, ◌==◌, pos, map, not, ◌&&◌};
+ghost use Rattle.std.specs.List.{list_any};
 ghost use Rattle.std.specs.Option.{option_copied};
+ghost use Rattle.std.specs.Ordering.{int_eq};
 ghost use Rattle.aidl_schema.specs.Broken as broken;
 ghost use Rattle.aidl_schema.specs.Constants.{is_enumerator};
 ghost use Rattle.aidl_schema.specs.Containment.{is_composite};
@@ -8,7 +10,7 @@ ghost use Rattle.aidl_schema.specs.Types.{form_of};
 
 use crate::alike::{same_flag, same_text};
 use aidl_base::{Const, Row, Text};
-use aidl_schema::{AidlType, Base, Field, Form, Kind, Schema, Shape, form_in};
+use aidl_schema::{AidlType, Base, Enumerator, Field, Form, Kind, Schema, Shape, form_in};
 use std::alloc::Global;
 
 /// Whether two constants are the same.
@@ -29,11 +31,15 @@ pub fn same_const(a: &Const, b: &Const) -> bool
 fn same_consts(a: &[Const], b: &[Const]) -> bool
     ensures { result ≡ broken.pass_each (map broken.same_const a.now) b.now }
 {
-    match (a, b) {
-        ([], []) => true,
-        ([x, xs @ ..], [y, ys @ ..]) => same_const(x, y) && same_consts(xs, ys),
-        _ => false,
+    if a.len() != b.len() {
+        return false;
     }
+    for i in 0..a.len() {
+        if !same_const(&a[i], &b[i]) {
+            return false;
+        }
+    }
+    true
 }
 
 // What a base has as its default; a parcelable or a union has no constant.
@@ -72,7 +78,7 @@ fn default_by<'a>(initial: &'a Option<Const>, zero: &'a Option<Const>) -> Option
 }
 
 fn same_default(a: Option<&Const>, b: Option<&Const>) -> bool
-    ensures { result ≡ broken.same_default (option_copied a) (option_copied b) }
+    ensures { result ≡ broken.same_default (option_copied a.entry) (option_copied b.entry) }
 {
     match (a, b) {
         (None, None) => true,
@@ -127,9 +133,15 @@ fn lacks_zero(kind: &Kind) -> bool
     ensures { result ≡ ((broken.kind_code kind.now == 3) && not (is_enumerator kind.now (pos 0))) }
 {
     match kind {
-        Kind::Enum(_, enumerators) => !enumerators.as_slice().iter().any(|x| x.value == 0),
+        Kind::Enum(_, enumerators) => !has_zero(enumerators.as_slice()),
         _ => false,
     }
+}
+
+fn has_zero(enumerators: &[Enumerator]) -> bool
+    ensures { result ≡ list_any (λ x. int_eq x.value (pos 0)) enumerators.now }
+{
+    enumerators.iter().any(|x| x.value == 0)
 }
 
 /// Whether a field may not be added at the end of a parcelable: its default is a record or an alternative, or the 0 of an

@@ -27,16 +27,13 @@ pub struct Finding {
 }
 
 impl Model for Findings {
-    ghost use Rattle.std.specs.Prelude.{List, map, ◌≡◌, true};
-    ghost use Rattle.std.specs.List.{list_all};
+    ghost use Rattle.std.specs.Prelude.{List, map};
     ghost use Rattle.aidl_schema.specs.Broken.{Break};
-    ghost use Rattle.compat_judge.specs.steps.Steps.{finding, is_text};
+    ghost use Rattle.compat_judge.specs.steps.Steps.{finding};
 
     ghost Value = { List Break };
 
     ghost view = { λ found. map finding found.rows.items };
-
-    ghost invariant = { λ found. list_all is_text found.rows.items ≡ true };
 }
 
 impl Findings {

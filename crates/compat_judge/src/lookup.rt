@@ -1,10 +1,9 @@
-ghost use Rattle.std.specs.Prelude.{◌≡◌, ℕ, List, length, map, IfOk, OnOk, true, nat_eq};
-ghost use Rattle.std.specs.List.{find, list_all, position_from};
+ghost use Rattle.std.specs.Prelude.{◌≡◌, ℕ, List, map, IfOk};
+ghost use Rattle.std.specs.List.{find, position_from};
 ghost use Rattle.std.specs.Option.{option_copied};
-ghost use Rattle.std.specs.Str.{all_scalars, bytes_eq, encode_utf8_all};
+ghost use Rattle.std.specs.Str.{bytes_eq, encode_utf8_all};
 ghost use Rattle.indexmap.specs.IndexMap.{get_by};
 ghost use Rattle.aidl_schema.specs.Broken.{same_name, whole};
-ghost use Rattle.aidl_schema.specs.Same.{same_text};
 ghost use Rattle.compat_judge.specs.steps.Steps.{names_of, place_of};
 
 use aidl_base::{Ident, OutOfMemory, Text};
@@ -42,8 +41,7 @@ pub fn places_of(
 
 // The first place of each name.
 fn table_of<'a>(alloc: Global, names: &[&'a Ident]) -> Result<IndexMap<&'a str, usize>, OutOfMemory>
-    ensures places { IfOk result (λ table. (q : List ℕ) → get_by (λ k. bytes_eq q k.now) table ≡ position_from (λ x. bytes_eq q (encode_utf8_all x)) 0 (names_of names.now)) }
-    ensures texts { OnOk result (list_all all_scalars (names_of names.now) ≡ true) }
+    ensures { IfOk result (λ table. (q : List ℕ) → get_by (λ k. bytes_eq q k.now) table ≡ position_from (λ x. bytes_eq q (encode_utf8_all x)) 0 (names_of names.now)) }
 {
     let mut table = IndexMap::with_capacity(alloc, names.len())?;
     for i in (0..names.len()).rev() {

@@ -111,7 +111,7 @@ pub fn c17(alloc: Global, pair: &Pair<'_>, found: &mut Findings) -> Result<(), O
 }
 
 fn is_enumerator_kept(x: &Enumerator, y: Option<&Enumerator>) -> bool
-    ensures { result ≡ is_there_and (λ y. int_eq x.now.value y.value) (option_copied y) }
+    ensures { result ≡ is_there_and (λ y. int_eq x.now.value y.value) (option_copied y.entry) }
 {
     match y {
         Some(y) => x.value == y.value,
@@ -137,7 +137,7 @@ pub fn c18(alloc: Global, pair: &Pair<'_>, found: &mut Findings) -> Result<(), O
 }
 
 fn is_constant_kept(c: &Constant, k: Option<&Constant>) -> bool
-    ensures { result ≡ is_there_and (λ k. (base_code c.now.ty == base_code k.ty) && broken.same_const c.now.value k.value) (option_copied k) }
+    ensures { result ≡ is_there_and (λ k. (base_code c.now.ty == base_code k.ty) && broken.same_const c.now.value k.value) (option_copied k.entry) }
 {
     match k {
         Some(k) => same_base_code(c.ty, k.ty) && same_const(&c.value, &k.value),

@@ -10,11 +10,19 @@ use std::alloc::Global;
 pub fn name_place(alloc: Global, name: &DottedName) -> Result<Text, OutOfMemory>
     ensures { IfOk result (λ text. text ≡ dotted name.now.0) }
 {
-    let mut text = String::new(alloc);
-    for (i, part) in name.0.as_slice().iter().enumerate() {
-        if i > 0 {
-            text.push('.')?;
-        }
+    match name.0.as_slice() {
+        [] => Ok(Text::empty(alloc)),
+        [first, others @ ..] => joined(alloc, first, others),
+    }
+}
+
+// Parts joined by dots.
+fn joined(alloc: Global, first: &Ident, others: &[Ident]) -> Result<Text, OutOfMemory>
+    ensures { IfOk result (λ text. text ≡ dotted (first.now ∷ others.now)) }
+{
+    let mut text = String::from_str(alloc, first.0.as_str())?;
+    for part in others {
+        text.push('.')?;
         text.push_str(part.0.as_str())?;
     }
     Ok(Text::from_string(text))

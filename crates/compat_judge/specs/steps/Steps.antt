@@ -2,7 +2,7 @@
 use Rattle.std.specs.Prelude.{ℕ, Bool, List, [], ◌∷◌, ◌++◌, map, Option, Some, None, slice_get}
 use Rattle.std.specs.Borrow.{Bor}
 use Rattle.std.specs.List.{find, flat_map, position_from}
-use Rattle.std.specs.Str.{chars, is_utf8}
+use Rattle.std.specs.Str.{chars}
 use Rattle.std.specs.String.{string_bytes}
 use Rattle.aidl_base.specs.declared.name.Ident.{Ident}
 use Rattle.aidl_schema.specs.declared.schema.Decl.{Decl}
@@ -19,9 +19,6 @@ breaks_of old new d = of_rule 1 (C1 d new) ++ if_found (λ e. broken_by old d ne
 -- a finding as the number of its rule beside its place
 abbrev pub finding : Finding → Break
 finding f = (f.rule, chars (string_bytes f.place))
-
-abbrev pub is_text : Finding → Bool
-is_text f = is_utf8 (string_bytes f.place)
 
 -- what one of a list adds
 abbrev pub break_if : {X : Type 0} → ℕ → (X → Place) → (X → Bool) → X → List Break
