@@ -1,4 +1,5 @@
 pub mod Compared
+pub mod Found
 pub mod Listing
 pub mod PlaceTexts
 pub mod SortedOnce

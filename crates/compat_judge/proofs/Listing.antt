@@ -1,7 +1,7 @@
 -- Loops over lists that add what each item breaks.
 use Rattle.std.proofs.Common.{◌≡◌, ℕ, zero, suc, ◌+◌, ◌-◌, ◌<◌, ◌≤◌, min, Bool, true, false, not, cond, List, [], ◌∷◌, ◌++◌, map, length, take, drop, get_or, Option, Some, None, slice_get, nat_eq, refl, sym, ap, ◌∙◌, subst, arith, append_assoc, add-one}
 use Rattle.std.specs.List.{filter, find, flat_map, zip, enumerate_from, position_from}
-use Rattle.std.proofs.lemmas.List.{take_more, take_all, append-nil}
+use Rattle.std.proofs.lemmas.List.{append-nil}
 use Rattle.std.proofs.lemmas.List.Concat.{flat_map-append}
 use Rattle.aidl_schema.specs.Broken.{Break, Place, of_rule, place_if, places}
 use Rattle.compat_judge.specs.steps.Steps.{break_if, item_at, place_of}
@@ -17,10 +17,20 @@ listed rule place breaks (x ∷ xs) = by (breaks x) refl (listed rule place brea
     by true e rest = rw e (ap (λ r. (rule, place x) ∷ r) rest)
     by false e rest = rw e rest
 
-take_next : {X : Type 0} (xs : List X) (i : ℕ) (x : X) → i < length xs → x ≡ get_or xs i x → take (i + 1) xs ≡ take i xs ++ x ∷ []
+take_next : {X : Type 0} (xs : List X) (i : ℕ) (x : X) → i < length xs → x ≡ get_or xs i x → take (suc i) xs ≡ take i xs ++ x ∷ []
 take_next [] i x lt is = absurd (omega arith)
 take_next (y ∷ xs) zero x lt is = ap (λ z. z ∷ []) (sym is)
 take_next (y ∷ xs) (suc i) x lt is = ap (λ zs. y ∷ zs) (take_next xs i x (omega arith) is)
+
+pub take_further : {X : Type 0} (xs : List X) (i : ℕ) (x : X) → i < length xs → x ≡ get_or xs i x → take (i + 1) xs ≡ take i xs ++ x ∷ []
+take_further xs i x lt is = ap (λ k. take k xs) (add-one i) ∙ take_next xs i x lt is
+
+pub take_to_end : {X : Type 0} (xs : List X) (i : ℕ) → i ≡ length xs → take i xs ≡ xs
+take_to_end xs i e = ap (λ k. take k xs) e ∙ take_whole xs
+  where
+    take_whole : {X : Type 0} (xs : List X) → take (length xs) xs ≡ xs
+    take_whole [] = refl
+    take_whole (x ∷ xs) = ap (λ z. x ∷ z) (take_whole xs)
 
 module _ {X B : Type 0} (R : X → List B) (start : List B) (xs : List X) where
   -- what has been added after the items before i
@@ -30,32 +40,12 @@ module _ {X B : Type 0} (R : X → List B) (start : List B) (xs : List X) where
   pub added_more : (now further : List B) (i : ℕ) (x : X) → Added now i → i < length xs → x ≡ get_or xs i x → further ≡ now ++ R x → Added further (i + 1)
   added_more now further i x h lt is e =
       e ∙ ap (λ z. z ++ R x) h ∙ append_assoc start (flat_map R (take i xs)) (R x)
-      ∙ ap (λ z. start ++ z) (ap (λ z. flat_map R (take i xs) ++ z) (sym (append-nil (R x))) ∙ sym (flat_map-append R (take i xs) (x ∷ [])) ∙ ap (flat_map R) (sym (take_next xs i x lt is)))
-
-  pub added_none : (now : List B) (i : ℕ) (x : X) → Added now i → i < length xs → x ≡ get_or xs i x → R x ≡ [] → Added now (i + 1)
-  added_none now i x h lt is e = added_more now now i x h lt is (sym (append-nil now) ∙ ap (λ z. now ++ z) (sym e))
-
-  pub added_start : start ≡ start ++ flat_map R (take 0 xs)
-  added_start = sym (append-nil start)
+      ∙ ap (λ z. start ++ z) (ap (λ z. flat_map R (take i xs) ++ z) (sym (append-nil (R x))) ∙ sym (flat_map-append R (take i xs) (x ∷ [])) ∙ ap (flat_map R) (sym (take_further xs i x lt is)))
 
   pub added_all : (now : List B) (i : ℕ) → Added now i → i ≡ length xs → now ≡ start ++ flat_map R xs
-  added_all now i h e = h ∙ ap (λ z. start ++ flat_map R z) (ap (λ k. take k xs) e ∙ take_whole xs)
-    where
-      take_whole : {X : Type 0} (xs : List X) → take (length xs) xs ≡ xs
-      take_whole [] = refl
-      take_whole (x ∷ xs) = ap (λ z. x ∷ z) (take_whole xs)
+  added_all now i h e = h ∙ ap (λ z. start ++ flat_map R z) (take_to_end xs i e)
 
 module _ {X : Type 0} (rule : ℕ) (place : X → Place) (breaks : X → Bool) (start : List Break) (xs : List X) where
-  pub yes_more : (now further : List Break) (i : ℕ) (x : X) → now ≡ start ++ flat_map (break_if rule place breaks) (take i xs) → i < length xs → x ≡ get_or xs i x → breaks x ≡ true
-      → further ≡ now ++ (rule, place x) ∷ [] → further ≡ start ++ flat_map (break_if rule place breaks) (take (i + 1) xs)
-  yes_more now further i x h lt is b e =
-      let one : break_if rule place breaks x ≡ (rule, place x) ∷ [] = rw b refl in
-      added_more (break_if rule place breaks) start xs now further i x h lt is (e ∙ ap (λ z. now ++ z) (sym one))
-
-  pub no_more : (now : List Break) (i : ℕ) (x : X) → now ≡ start ++ flat_map (break_if rule place breaks) (take i xs) → i < length xs → x ≡ get_or xs i x → breaks x ≡ false
-      → now ≡ start ++ flat_map (break_if rule place breaks) (take (i + 1) xs)
-  no_more now i x h lt is b = let none : break_if rule place breaks x ≡ [] = rw b refl in added_none (break_if rule place breaks) start xs now i x h lt is none
-
   pub places_all : (now : List Break) (i : ℕ) → now ≡ start ++ flat_map (break_if rule place breaks) (take i xs) → i ≡ length xs → now ≡ start ++ of_rule rule (places place breaks xs)
   places_all now i h e = added_all (break_if rule place breaks) start xs now i h e ∙ ap (λ z. start ++ z) (sym (listed rule place breaks xs))
 
@@ -91,7 +81,7 @@ item_found p xs = by (position_from p 0 xs) refl
   where
     by : (o : Option ℕ) → position_from p 0 xs ≡ o → item_at xs o ≡ find p xs
     by None e = sym (position_none p 0 xs e)
-    by (Some i) e = (position_at p 0 xs (Some i) e i refl).1
+    by (Some i) e = let same : i - 0 ≡ i = omega arith in subst (λ k. slice_get xs k ≡ find p xs) same (position_at p 0 xs (Some i) e i refl).1
 
 position-map : {X Y : Type 0} (f : X → Y) (p : Y → Bool) (k : ℕ) (xs : List X) → position_from p k (map f xs) ≡ position_from (λ x. p (f x)) k xs
 position-map f p k [] = refl

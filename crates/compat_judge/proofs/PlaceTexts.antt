@@ -10,8 +10,8 @@ use Rattle.aidl_base.specs.declared.name.Ident.{Ident}
 use Rattle.aidl_base.specs.Names.{dotted}
 
 -- the bytes spell the text
-pub record Spells (bytes text : List ℕ) : Type 0 where
-  pub bytes : bytes ≡ encode_utf8_all text
+pub record Spells (spelling text : List ℕ) : Type 0 where
+  pub bytes : spelling ≡ encode_utf8_all text
   pub scalars : all_scalars text ≡ true
 
 and_true : (a b : Bool) → a ≡ true → b ≡ true → (a && b) ≡ true

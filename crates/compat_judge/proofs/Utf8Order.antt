@@ -25,17 +25,14 @@ unfolding encode
 spelled c = by1 (nat_lt c 128) refl
   where
     by4 : (b : Bool) → nat_lt c 65536 ≡ b → nat_lt c 128 ≡ false → nat_lt c 2048 ≡ false → Spelled c
-    unfolding encode
     by4 true e o t = three (ltb-false _ _ t) (ltb-true _ _ e) (rw (o, t, e) refl)
     by4 false e o t = four (ltb-false _ _ e) (rw (o, t, e) refl)
 
     by2 : (b : Bool) → nat_lt c 2048 ≡ b → nat_lt c 128 ≡ false → Spelled c
-    unfolding encode
     by2 true e o = two (ltb-false _ _ o) (ltb-true _ _ e) (rw (o, e) refl)
     by2 false e o = by4 (nat_lt c 65536) refl o e
 
     by1 : (b : Bool) → nat_lt c 128 ≡ b → Spelled c
-    unfolding encode
     by1 true e = one (ltb-true _ _ e) (rw e refl)
     by1 false e = by2 (nat_lt c 2048) refl e
 

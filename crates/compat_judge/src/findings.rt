@@ -1,8 +1,7 @@
 ghost use Rattle.std.specs.Prelude.{◌≡◌, ◌++◌, [], ◌∷◌, map, IfOk, OnOk, string_bytes, true};
 ghost use Rattle.std.specs.Str.{chars};
 ghost use Rattle.std.specs.Fmt.{decimal};
-ghost use Rattle.aidl_base.specs.Names.{dotted};
-ghost use Rattle.aidl_schema.specs.Broken.{sorted_once};
+ghost use Rattle.aidl_schema.specs.Broken.{of_rule, place_if, sorted_once};
 ghost use Rattle.compat_judge.specs.Seen.{seen};
 ghost use Rattle.compat_judge.specs.steps.Steps.{finding};
 
@@ -53,34 +52,50 @@ impl Findings {
         Ok(())
     }
 
-    /// Adds the place of a declaration.
-    pub fn add_name(&mut self, rule: u8, name: &Text) -> Result<(), OutOfMemory>
-        ensures { OnOk result (self.new ≡ self.old ++ (rule, name.now) ∷ []) }
+    /// Adds the place of a declaration, if it breaks a rule.
+    pub fn name_if(&mut self, rule: u8, name: &Text, broken: bool) -> Result<(), OutOfMemory>
+        ensures { OnOk result (self.new ≡ self.old ++ of_rule rule (place_if name.now broken)) }
     {
-        let place = String::from_str(self.alloc, name.as_str())?;
-        self.add(rule, place)
+        if broken {
+            let place = String::from_str(self.alloc, name.as_str())?;
+            self.add(rule, place)?;
+        }
+        Ok(())
     }
 
-    /// Adds the place of a member.
-    pub fn add_member(&mut self, rule: u8, name: &Text, member: &Ident) -> Result<(), OutOfMemory>
-        ensures { OnOk result (self.new ≡ self.old ++ (rule, name.now ++ (46 ∷ member.now.0)) ∷ []) }
+    /// Adds the place of a member, if it breaks a rule.
+    pub fn member_if(
+        &mut self,
+        rule: u8,
+        name: &Text,
+        member: &Ident,
+        broken: bool,
+    ) -> Result<(), OutOfMemory>
+        ensures { OnOk result (self.new ≡ self.old ++ of_rule rule (place_if (name.now ++ (46 ∷ member.now.0)) broken)) }
     {
-        let place = member_place(self.alloc, name, member)?;
-        self.add(rule, place)
+        if broken {
+            let place = member_place(self.alloc, name, member)?;
+            self.add(rule, place)?;
+        }
+        Ok(())
     }
 
-    /// Adds the place of a method's argument.
-    pub fn add_argument(
+    /// Adds the place of a method's argument, if it breaks a rule.
+    pub fn argument_if(
         &mut self,
         rule: u8,
         name: &Text,
         method: &Ident,
         k: usize,
+        broken: bool,
     ) -> Result<(), OutOfMemory>
-        ensures { OnOk result (self.new ≡ self.old ++ (rule, name.now ++ (46 ∷ method.now.0) ++ (47 ∷ decimal k)) ∷ []) }
+        ensures { OnOk result (self.new ≡ self.old ++ of_rule rule (place_if (name.now ++ (46 ∷ method.now.0) ++ (47 ∷ decimal k)) broken)) }
     {
-        let place = argument_place(self.alloc, name, method, k)?;
-        self.add(rule, place)
+        if broken {
+            let place = argument_place(self.alloc, name, method, k)?;
+            self.add(rule, place)?;
+        }
+        Ok(())
     }
 
     /// The findings by the bytes of their places, then by rule, each once.

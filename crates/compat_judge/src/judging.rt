@@ -7,7 +7,6 @@ use crate::findings::Findings;
 use crate::lookup::find_decl;
 use crate::places::name_place;
 use crate::rules::broken_by;
-use crate::shapes::if_broken;
 use crate::sides::Pair;
 use aidl_base::{OutOfMemory, Row, Text};
 use aidl_schema::{Decl, Schema};
@@ -46,7 +45,7 @@ fn judge_decl(
     let name = name_place(alloc, &decl.name)?;
     match find_decl(new, decl, &name) {
         // C1: it is in old and not in new.
-        None => if_broken(1, &name, true, found),
+        None => found.name_if(1, &name, true),
         Some(after) => {
             let pair = Pair {
                 old,

@@ -4,7 +4,7 @@ ghost use Rattle.std.specs.Option.{option_copied};
 ghost use Rattle.std.specs.Str.{bytes_eq, encode_utf8_all};
 ghost use Rattle.indexmap.specs.IndexMap.{get_by};
 ghost use Rattle.aidl_schema.specs.Broken.{same_name, whole};
-ghost use Rattle.compat_judge.specs.steps.Steps.{names_of, place_of};
+ghost use Rattle.compat_judge.specs.steps.Steps.{item_at, names_of, place_of};
 
 use aidl_base::{Ident, OutOfMemory, Text};
 use aidl_schema::{Decl, Schema, find, law_valid};
@@ -18,7 +18,17 @@ pub fn find_decl<'a>(new: &'a Schema, decl: &Decl, name: &Text) -> Option<&'a De
 {
     law_valid(new);
     match find(new, name.as_str()) {
-        Some(n) => new.decls.as_slice().get(n as usize),
+        Some(n) => at_place(new.decls.as_slice(), Some(n as usize)),
+        None => None,
+    }
+}
+
+/// The item at a place.
+pub fn at_place<T>(items: &[T], place: Option<usize>) -> Option<&T>
+    ensures { option_copied result ≡ item_at items.now place }
+{
+    match place {
+        Some(i) => items.get(i),
         None => None,
     }
 }

@@ -1,16 +1,16 @@
-ghost use Rattle.std.specs.Prelude.{◌≡◌, ◌++◌, ◌==◌, ◌&&◌, map, true, IfOk, OnOk};
+ghost use Rattle.std.specs.Prelude.{◌≡◌, ◌++◌, ◌==◌, ◌&&◌, map, not, IfOk, OnOk};
 ghost use Rattle.std.specs.Option.{option_copied};
 ghost use Rattle.std.specs.Ordering.{int_eq};
 ghost use Rattle.aidl_schema.specs.Broken as broken;
 ghost use Rattle.aidl_schema.specs.Broken.{C3, C17, C18, in_both, same_method, is_there_and};
 ghost use Rattle.aidl_schema.specs.Names.{enumerators_of, methods_of};
 ghost use Rattle.aidl_schema.specs.Same.{base_code};
-ghost use Rattle.compat_judge.specs.steps.Steps.{both_of, item_at, places_among};
+ghost use Rattle.compat_judge.specs.steps.Steps.{both_of, places_among};
 
 use crate::alike::same_base_code;
 use crate::consts::same_const;
 use crate::findings::Findings;
-use crate::lookup::places_of;
+use crate::lookup::{at_place, places_of};
 use crate::sides::{Common, Pair};
 use aidl_base::{Ident, OutOfMemory};
 use aidl_schema::{Constant, Enumerator, Kind, Method};
@@ -37,12 +37,30 @@ pub fn enumerators_of(kind: &Kind) -> &[Enumerator]
 }
 
 /// Where the names of methods stand among others.
-pub fn method_places(alloc: Global, ms: &[Method], ws: &[Method]) -> Result<Vec<Option<usize>>, OutOfMemory>
-    ensures { IfOk result (λ places. places.items ≡ places_among (λ m. m.name.0) ms.now ws.now) }
+pub fn method_places(alloc: Global, olds: &[Method], news: &[Method]) -> Result<Vec<Option<usize>>, OutOfMemory>
+    ensures { IfOk result (λ places. places.items ≡ places_among (λ x. x.name.0) olds.now news.now) }
 {
-    let olds: Vec<&Ident> = ms.iter().map(|m| &m.name).collect(alloc)?;
-    let news: Vec<&Ident> = ws.iter().map(|m| &m.name).collect(alloc)?;
-    places_of(alloc, olds.as_slice(), news.as_slice())
+    let names: Vec<&Ident> = olds.iter().map(|x| &x.name).collect(alloc)?;
+    let others: Vec<&Ident> = news.iter().map(|x| &x.name).collect(alloc)?;
+    places_of(alloc, names.as_slice(), others.as_slice())
+}
+
+// The same of enumerators.
+fn enumerator_places(alloc: Global, olds: &[Enumerator], news: &[Enumerator]) -> Result<Vec<Option<usize>>, OutOfMemory>
+    ensures { IfOk result (λ places. places.items ≡ places_among (λ x. x.name.0) olds.now news.now) }
+{
+    let names: Vec<&Ident> = olds.iter().map(|x| &x.name).collect(alloc)?;
+    let others: Vec<&Ident> = news.iter().map(|x| &x.name).collect(alloc)?;
+    places_of(alloc, names.as_slice(), others.as_slice())
+}
+
+// The same of constants.
+fn constant_places(alloc: Global, olds: &[Constant], news: &[Constant]) -> Result<Vec<Option<usize>>, OutOfMemory>
+    ensures { IfOk result (λ places. places.items ≡ places_among (λ x. x.name.0) olds.now news.now) }
+{
+    let names: Vec<&Ident> = olds.iter().map(|x| &x.name).collect(alloc)?;
+    let others: Vec<&Ident> = news.iter().map(|x| &x.name).collect(alloc)?;
+    places_of(alloc, names.as_slice(), others.as_slice())
 }
 
 /// The methods that both have by their names, each beside the other.
@@ -64,16 +82,6 @@ pub fn common_methods<'a>(
     Ok(common)
 }
 
-// The item at a place.
-fn at_place<T>(items: &[T], place: Option<usize>) -> Option<&T>
-    ensures { option_copied result ≡ item_at items.now place }
-{
-    match place {
-        Some(i) => items.get(i),
-        None => None,
-    }
-}
-
 /// C3: a method of old isn't in new.
 pub fn c3(
     pair: &Pair<'_>,
@@ -85,10 +93,10 @@ pub fn c3(
     requires places { places.now ≡ places_among (λ m. m.name.0) ms.now (methods_of pair.now.after.now.kind) }
     ensures { OnOk result (found.new ≡ found.old ++ broken.of_rule 3 (C3 pair.now.old.now.decls pair.now.before.now pair.now.new.now.decls pair.now.after.now)) }
 {
+    let ws = methods_of(&pair.after.kind);
     for (i, method) in ms.iter().enumerate() {
-        if places[i].is_none() {
-            found.add_member(3, pair.name, &method.name)?;
-        }
+        let kept = at_place(ws, places[i]).is_some();
+        found.member_if(3, pair.name, &method.name, !kept)?;
     }
     Ok(())
 }
@@ -99,13 +107,23 @@ pub fn c17(alloc: Global, pair: &Pair<'_>, found: &mut Findings) -> Result<(), O
 {
     let xs = enumerators_of(&pair.before.kind);
     let ys = enumerators_of(&pair.after.kind);
-    let olds: Vec<&Ident> = xs.iter().map(|x| &x.name).collect(alloc)?;
-    let news: Vec<&Ident> = ys.iter().map(|y| &y.name).collect(alloc)?;
-    let places = places_of(alloc, olds.as_slice(), news.as_slice())?;
+    let places = enumerator_places(alloc, xs, ys)?;
+    lost_enumerators(pair, xs, ys, places.as_slice(), found)
+}
+
+fn lost_enumerators(
+    pair: &Pair<'_>,
+    xs: &[Enumerator],
+    ys: &[Enumerator],
+    places: &[Option<usize>],
+    found: &mut Findings,
+) -> Result<(), OutOfMemory>
+    requires { places.now ≡ places_among (λ x. x.name.0) xs.now ys.now }
+    ensures { OnOk result (found.new ≡ found.old ++ broken.of_rule 17 (broken.places (λ x. broken.member pair.now.before.now x.name) (λ x. not (broken.is_kept broken.same_enumerator (λ x y. int_eq x.value y.value) ys.now x)) xs.now)) }
+{
     for (i, x) in xs.iter().enumerate() {
-        if !is_enumerator_kept(x, at_place(ys, places[i])) {
-            found.add_member(17, pair.name, &x.name)?;
-        }
+        let kept = is_enumerator_kept(x, at_place(ys, places[i]));
+        found.member_if(17, pair.name, &x.name, !kept)?;
     }
     Ok(())
 }
@@ -125,13 +143,23 @@ pub fn c18(alloc: Global, pair: &Pair<'_>, found: &mut Findings) -> Result<(), O
 {
     let cs = pair.before.constants.as_slice();
     let ks = pair.after.constants.as_slice();
-    let olds: Vec<&Ident> = cs.iter().map(|c| &c.name).collect(alloc)?;
-    let news: Vec<&Ident> = ks.iter().map(|k| &k.name).collect(alloc)?;
-    let places = places_of(alloc, olds.as_slice(), news.as_slice())?;
+    let places = constant_places(alloc, cs, ks)?;
+    lost_constants(pair, cs, ks, places.as_slice(), found)
+}
+
+fn lost_constants(
+    pair: &Pair<'_>,
+    cs: &[Constant],
+    ks: &[Constant],
+    places: &[Option<usize>],
+    found: &mut Findings,
+) -> Result<(), OutOfMemory>
+    requires { places.now ≡ places_among (λ c. c.name.0) cs.now ks.now }
+    ensures { OnOk result (found.new ≡ found.old ++ broken.of_rule 18 (broken.places (λ c. broken.member pair.now.before.now c.name) (λ c. not (broken.is_kept broken.same_constant (λ c k. (base_code c.ty == base_code k.ty) && broken.same_const c.value k.value) ks.now c)) cs.now)) }
+{
     for (i, constant) in cs.iter().enumerate() {
-        if !is_constant_kept(constant, at_place(ks, places[i])) {
-            found.add_member(18, pair.name, &constant.name)?;
-        }
+        let kept = is_constant_kept(constant, at_place(ks, places[i]));
+        found.member_if(18, pair.name, &constant.name, !kept)?;
     }
     Ok(())
 }

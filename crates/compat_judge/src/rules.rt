@@ -12,7 +12,7 @@ use crate::fields::{
 };
 use crate::findings::Findings;
 use crate::members::{c3, c17, c18, common_methods, method_places, methods_of};
-use crate::shapes::{at_additions, at_arguments, at_fields, at_methods, if_broken};
+use crate::shapes::{at_additions, at_arguments, at_fields, at_methods};
 use crate::sides::{Common, Pair};
 use crate::tests::{ArgumentTest, FieldTest, MethodTest};
 use aidl_base::OutOfMemory;
@@ -27,7 +27,7 @@ pub fn broken_by(alloc: Global, pair: &Pair<'_>, found: &mut Findings) -> Result
         broken_inside(alloc, pair, found)
     } else {
         // C2: the kinds differ.
-        if_broken(2, pair.name, true, found)
+        found.name_if(2, pair.name, true)
     }
 }
 
@@ -71,7 +71,7 @@ fn data_rules(alloc: Global, pair: &Pair<'_>, found: &mut Findings) -> Result<()
 {
     parcelable_rules(alloc, pair, found)?;
     // C14: `@FixedSize` stands in one schema alone; or in both, and new has more fields.
-    if_broken(14, pair.name, is_fixed_broken(pair.before, pair.after), found)?;
+    found.name_if(14, pair.name, is_fixed_broken(pair.before, pair.after))?;
     union_rules(alloc, pair, found)
 }
 
@@ -81,7 +81,7 @@ fn parcelable_rules(alloc: Global, pair: &Pair<'_>, found: &mut Findings) -> Res
     let olds = parcelable_fields(&pair.before.kind);
     let news = parcelable_fields(&pair.after.kind);
     // C9: a parcelable of new has fewer fields.
-    if_broken(9, pair.name, news.len() < olds.len(), found)?;
+    found.name_if(9, pair.name, news.len() < olds.len())?;
     // C10: the names at a position below both counts differ.
     at_fields(alloc, 10, FieldTest::Names, pair, olds, news, found)?;
     // C11: the types at such a position differ.
@@ -117,7 +117,7 @@ fn union_rules(alloc: Global, pair: &Pair<'_>, found: &mut Findings) -> Result<(
     let olds = union_fields(&pair.before.kind);
     let news = union_fields(&pair.after.kind);
     // C15: a union of new has fewer fields; or names or types at a position below both counts differ.
-    if_broken(15, pair.name, news.len() < olds.len(), found)?;
+    found.name_if(15, pair.name, news.len() < olds.len())?;
     at_fields(alloc, 15, FieldTest::Alternatives, pair, olds, news, found)
 }
 
@@ -131,7 +131,7 @@ fn other_rules(
     ensures { OnOk result (found.new ≡ found.old ++ breaks_in other_rules pair.now.old.now.decls pair.now.before.now pair.now.new.now.decls pair.now.after.now) }
 {
     // C16: the backings of an enum differ.
-    if_broken(16, pair.name, !same_backing(&pair.before.kind, &pair.after.kind), found)?;
+    found.name_if(16, pair.name, !same_backing(&pair.before.kind, &pair.after.kind))?;
     c17(alloc, pair, found)?;
     c18(alloc, pair, found)?;
     c19(alloc, pair, common, found)
@@ -150,7 +150,7 @@ fn c19(
 {
     let olds = fields_of(&pair.before.kind);
     let news = fields_of(&pair.after.kind);
-    if_broken(19, pair.name, !same_flag(pair.before.vintf, pair.after.vintf), found)?;
+    found.name_if(19, pair.name, !same_flag(pair.before.vintf, pair.after.vintf))?;
     at_fields(alloc, 19, FieldTest::Marks, pair, olds, news, found)?;
     at_arguments(19, ArgumentTest::Marks, pair, common, found)?;
     at_methods(19, MethodTest::Marks, pair, common, found)

@@ -1,6 +1,6 @@
 ghost use Rattle.std.specs.Prelude.{◌≡◌, ◌++◌, map, length, drop, OnOk};
 ghost use Rattle.std.specs.List.{enumerate_from, flat_map, zip};
-ghost use Rattle.aidl_schema.specs.Broken.{argument, at_arguments_of, is_refused_addition, member, of_rule, place_if, places};
+ghost use Rattle.aidl_schema.specs.Broken.{argument, at_arguments_of, is_refused_addition, member, of_rule, places};
 ghost use Rattle.compat_judge.specs.steps.Steps.{both_of};
 ghost use Rattle.compat_judge.specs.steps.Tests as tests;
 
@@ -10,19 +10,9 @@ use crate::sides::{Common, Pair};
 use crate::tests::{
     ArgumentTest, FieldTest, MethodTest, argument_breaks, field_breaks, method_breaks,
 };
-use aidl_base::{OutOfMemory, Text};
+use aidl_base::OutOfMemory;
 use aidl_schema::{Field, Method};
 use std::alloc::Global;
-
-/// The place of a declaration, if it breaks a rule.
-pub fn if_broken(rule: u8, name: &Text, broken: bool, found: &mut Findings) -> Result<(), OutOfMemory>
-    ensures { OnOk result (found.new ≡ found.old ++ of_rule rule (place_if name.now broken)) }
-{
-    if broken {
-        found.add_name(rule, name)?;
-    }
-    Ok(())
-}
 
 /// Common methods that break a rule.
 pub fn at_methods(
@@ -35,9 +25,8 @@ pub fn at_methods(
     ensures { OnOk result (found.new ≡ found.old ++ of_rule rule (places (λ p. member pair.now.before.now p.0.name) (λ p. tests.method_breaks test pair.now.old.now.decls pair.now.new.now.decls p.0 p.1) (map both_of common.now))) }
 {
     for both in common {
-        if method_breaks(test, pair.old, both.before, pair.new, both.after) {
-            found.add_member(rule, pair.name, &both.before.name)?;
-        }
+        let broken = method_breaks(test, pair.old, both.before, pair.new, both.after);
+        found.member_if(rule, pair.name, &both.before.name, broken)?;
     }
     Ok(())
 }
@@ -72,9 +61,8 @@ fn at_arguments_of(
     let olds = before.args.as_slice();
     let news = after.args.as_slice();
     for k in 0..olds.len().min(news.len()) {
-        if argument_breaks(test, pair.old, &olds[k], pair.new, &news[k]) {
-            found.add_argument(rule, pair.name, &before.name, k)?;
-        }
+        let broken = argument_breaks(test, pair.old, &olds[k], pair.new, &news[k]);
+        found.argument_if(rule, pair.name, &before.name, k, broken)?;
     }
     Ok(())
 }
@@ -92,9 +80,8 @@ pub fn at_fields(
     ensures { OnOk result (found.new ≡ found.old ++ of_rule rule (places (λ p. member pair.now.before.now p.0.name) (λ p. tests.field_breaks test pair.now.old.now.decls pair.now.new.now.decls p.0 p.1) (zip olds.now news.now))) }
 {
     for k in 0..olds.len().min(news.len()) {
-        if field_breaks(alloc, test, pair.old, &olds[k], pair.new, &news[k]) {
-            found.add_member(rule, pair.name, &olds[k].name)?;
-        }
+        let broken = field_breaks(alloc, test, pair.old, &olds[k], pair.new, &news[k]);
+        found.member_if(rule, pair.name, &olds[k].name, broken)?;
     }
     Ok(())
 }
@@ -109,9 +96,8 @@ pub fn at_additions(
     ensures { OnOk result (found.new ≡ found.old ++ of_rule rule (places (λ g. member pair.now.before.now g.name) (λ g. is_refused_addition pair.now.new.now.decls g) added.now)) }
 {
     for field in added {
-        if is_refused_addition(pair.new, field) {
-            found.add_member(rule, pair.name, &field.name)?;
-        }
+        let broken = is_refused_addition(pair.new, field);
+        found.member_if(rule, pair.name, &field.name, broken)?;
     }
     Ok(())
 }

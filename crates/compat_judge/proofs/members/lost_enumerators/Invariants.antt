@@ -3,7 +3,7 @@ use Rattle.std.specs.List.{flat_map}
 use Rattle.std.specs.Ordering.{int_eq}
 use Rattle.aidl_schema.specs.Broken.{is_kept, member, same_enumerator}
 use Rattle.compat_judge.specs.steps.Steps.{break_if}
-use Rattle.compat_judge.proofs.members.c17.Given as goal
+use Rattle.compat_judge.proofs.members.lost_enumerators.Given as goal
 
 abbrev pub invariant-loop-i : goal.invariant-loop-i
 invariant-loop-i l = l.found ≡ l.initial.found

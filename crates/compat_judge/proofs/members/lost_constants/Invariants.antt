@@ -4,7 +4,7 @@ use Rattle.std.specs.List.{flat_map}
 use Rattle.aidl_schema.specs.Broken.{is_kept, member, same_constant, same_const}
 use Rattle.aidl_schema.specs.Same.{base_code}
 use Rattle.compat_judge.specs.steps.Steps.{break_if}
-use Rattle.compat_judge.proofs.members.c18.Given as goal
+use Rattle.compat_judge.proofs.members.lost_constants.Given as goal
 
 abbrev pub invariant-loop-i : goal.invariant-loop-i
 invariant-loop-i l = l.found ≡ l.initial.found
