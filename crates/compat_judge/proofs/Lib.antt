@@ -4,3 +4,4 @@ pub mod Listing
 pub mod PlaceTexts
 pub mod SortedOnce
 pub mod Utf8Order
+pub mod Walk

@@ -61,7 +61,9 @@ fn at_arguments_of(
     let olds = before.args.as_slice();
     let news = after.args.as_slice();
     for k in 0..olds.len().min(news.len()) {
-        let broken = argument_breaks(test, pair.old, &olds[k], pair.new, &news[k]);
+        let a = &olds[k];
+        let b = &news[k];
+        let broken = argument_breaks(test, pair.old, a, pair.new, b);
         found.argument_if(rule, pair.name, &before.name, k, broken)?;
     }
     Ok(())
@@ -80,8 +82,10 @@ pub fn at_fields(
     ensures { OnOk result (found.new ≡ found.old ++ of_rule rule (places (λ p. member pair.now.before.now p.0.name) (λ p. tests.field_breaks test pair.now.old.now.decls pair.now.new.now.decls p.0 p.1) (zip olds.now news.now))) }
 {
     for k in 0..olds.len().min(news.len()) {
-        let broken = field_breaks(alloc, test, pair.old, &olds[k], pair.new, &news[k]);
-        found.member_if(rule, pair.name, &olds[k].name, broken)?;
+        let f = &olds[k];
+        let g = &news[k];
+        let broken = field_breaks(alloc, test, pair.old, f, pair.new, g);
+        found.member_if(rule, pair.name, &f.name, broken)?;
     }
     Ok(())
 }
