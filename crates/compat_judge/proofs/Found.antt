@@ -17,7 +17,7 @@ use Rattle.compat_judge.proofs.Utf8Order.{same_encoded}
 eq_sym : (m n : ℕ) → (m == n) ≡ (n == m)
 eq_sym m n = grind (arith, nat_tests)
 
-same_text_sym : (x y : List ℕ) → same_text x y ≡ same_text y x
+pub same_text_sym : (x y : List ℕ) → same_text x y ≡ same_text y x
 same_text_sym [] [] = refl
 same_text_sym [] (y ∷ ys) = refl
 same_text_sym (x ∷ xs) [] = refl

@@ -94,3 +94,11 @@ item_named name x ys = ap (item_at ys) (position-map name (λ y. same_text (name
 pub find-same : {X : Type 0} (p q : X → Bool) → ((x : X) → p x ≡ q x) → (xs : List X) → find p xs ≡ find q xs
 find-same p q same [] = refl
 find-same p q same (x ∷ xs) = rw (same x, find-same p q same xs) refl
+
+pub of_rule-append : (rule : ℕ) (ps qs : List Place) → of_rule rule (ps ++ qs) ≡ of_rule rule ps ++ of_rule rule qs
+of_rule-append rule [] qs = refl
+of_rule-append rule (p ∷ ps) qs = ap (λ z. (rule, p) ∷ z) (of_rule-append rule ps qs)
+
+pub of_rule-flat : {X : Type 0} (rule : ℕ) (F : X → List Place) (xs : List X) → of_rule rule (flat_map F xs) ≡ flat_map (λ x. of_rule rule (F x)) xs
+of_rule-flat rule F [] = refl
+of_rule-flat rule F (x ∷ xs) = of_rule-append rule (F x) (flat_map F xs) ∙ ap (λ z. of_rule rule (F x) ++ z) (of_rule-flat rule F xs)

@@ -1,5 +1,5 @@
 -- What one turn of a loop over members adds.
-use Rattle.std.proofs.Common.{◌≡◌, ℕ, zero, suc, ◌+◌, ◌<◌, ◌≤◌, min, Bool, true, false, List, [], ◌∷◌, ◌++◌, map, length, take, drop, get_or, Option, Some, None, slice_get, refl, sym, ap, ◌∙◌, subst, arith, is_some, add-one}
+use Rattle.std.proofs.Common.{◌≡◌, ℕ, zero, suc, ◌+◌, ◌<◌, ◌≤◌, min, Bool, true, false, List, [], ◌∷◌, ◌++◌, map, length, take, drop, get_or, Option, Some, None, slice_get, refl, sym, ap, ◌∙◌, subst, arith, is_some, add-one, cond}
 use Rattle.std.specs.List.{find, flat_map, zip, enumerate_from, position_from}
 use Rattle.std.proofs.lemmas.List.{append-nil}
 use Rattle.std.proofs.lemmas.List.Concat.{flat_map-append}
@@ -15,6 +15,7 @@ use Rattle.aidl_schema.specs.Broken.{Break, argument, in_both, is_there_and, mem
 use Rattle.aidl_schema.specs.Same.{same_text}
 use Rattle.compat_judge.specs.declared.sides.Common.{Common}
 use Rattle.compat_judge.specs.steps.Steps.{both_of, break_if, item_at, place_of, places_among}
+use Rattle.compat_judge.proofs.Found.{same_text_sym}
 use Rattle.compat_judge.proofs.Listing.{added_more, find-same, item_named, take_further}
 use Rattle.compat_judge.proofs.Utf8Order.{same_encoded}
 
@@ -108,3 +109,17 @@ module _ (ms ws : List Method) where
 pub place_by_bytes : (k : ℕ) (texts : List (List ℕ)) (x : List ℕ) → position_from (λ y. bytes_eq (encode_utf8_all x) (encode_utf8_all y)) k texts ≡ position_from (λ y. same_text x y) k texts
 place_by_bytes k [] x = refl
 place_by_bytes k (y ∷ texts) x = rw (same_encoded x y, place_by_bytes (k + 1) texts x) refl
+
+drop_at : {X : Type 0} (xs : List X) (j : ℕ) (x : X) → j < length xs → x ≡ get_or xs j x → drop j xs ≡ x ∷ drop (suc j) xs
+drop_at [] j x lt e = absurd (omega arith)
+drop_at (y ∷ xs) zero x lt e = ap (λ z. z ∷ xs) (sym e)
+drop_at (y ∷ xs) (suc j) x lt e = drop_at xs j x (omega arith) e
+
+-- a name in front of those whose places are known
+pub table_step : (names : List (List ℕ)) (i j : ℕ) (x bytes q : List ℕ) (old : Option ℕ) → i ≡ j + 1 → j < length names → x ≡ get_or names j x → bytes ≡ encode_utf8_all x
+    → old ≡ position_from (λ y. bytes_eq q (encode_utf8_all y)) i (drop i names) → cond (bytes_eq bytes q) (Some j) old ≡ position_from (λ y. bytes_eq q (encode_utf8_all y)) j (drop j names)
+table_step names i j x bytes q old next lt is b h =
+    let at : drop j names ≡ x ∷ drop i names = drop_at names j x lt is ∙ ap (λ k. x ∷ drop k names) (sym (next ∙ add-one j)) in
+    ap (λ t. cond t (Some j) old) (ap (λ z. bytes_eq z q) b ∙ same_text_sym (encode_utf8_all x) q)
+    ∙ ap (λ o. cond (bytes_eq q (encode_utf8_all x)) (Some j) o) (h ∙ ap (λ k. position_from (λ y. bytes_eq q (encode_utf8_all y)) k (drop i names)) next)
+    ∙ sym (ap (position_from (λ y. bytes_eq q (encode_utf8_all y)) j) at)

@@ -5,7 +5,7 @@ ghost use Rattle.aidl_schema.specs.Broken as broken;
 ghost use Rattle.aidl_schema.specs.Broken.{C3, C17, C18, in_both, same_method, is_there_and};
 ghost use Rattle.aidl_schema.specs.Names.{enumerators_of, methods_of};
 ghost use Rattle.aidl_schema.specs.Same.{base_code};
-ghost use Rattle.compat_judge.specs.steps.Steps.{both_of, places_among};
+ghost use Rattle.compat_judge.specs.steps.Steps.{both_of, names_of, places_among};
 
 use crate::alike::same_base_code;
 use crate::consts::same_const;
@@ -40,27 +40,57 @@ pub fn enumerators_of(kind: &Kind) -> &[Enumerator]
 pub fn method_places(alloc: Global, olds: &[Method], news: &[Method]) -> Result<Vec<Option<usize>>, OutOfMemory>
     ensures { IfOk result (λ places. places.items ≡ places_among (λ x. x.name.0) olds.now news.now) }
 {
-    let names: Vec<&Ident> = olds.iter().map(|x| &x.name).collect(alloc)?;
-    let others: Vec<&Ident> = news.iter().map(|x| &x.name).collect(alloc)?;
+    let names = method_names(alloc, olds)?;
+    let others = method_names(alloc, news)?;
     places_of(alloc, names.as_slice(), others.as_slice())
+}
+
+fn method_names(alloc: Global, items: &[Method]) -> Result<Vec<&Ident>, OutOfMemory>
+    ensures { IfOk result (λ names. names_of names.items ≡ map (λ x. x.name.0) items.now) }
+{
+    let mut names = Vec::with_capacity(alloc, items.len())?;
+    for item in items {
+        names.push(&item.name)?;
+    }
+    Ok(names)
 }
 
 // The same of enumerators.
 fn enumerator_places(alloc: Global, olds: &[Enumerator], news: &[Enumerator]) -> Result<Vec<Option<usize>>, OutOfMemory>
     ensures { IfOk result (λ places. places.items ≡ places_among (λ x. x.name.0) olds.now news.now) }
 {
-    let names: Vec<&Ident> = olds.iter().map(|x| &x.name).collect(alloc)?;
-    let others: Vec<&Ident> = news.iter().map(|x| &x.name).collect(alloc)?;
+    let names = enumerator_names(alloc, olds)?;
+    let others = enumerator_names(alloc, news)?;
     places_of(alloc, names.as_slice(), others.as_slice())
+}
+
+fn enumerator_names(alloc: Global, items: &[Enumerator]) -> Result<Vec<&Ident>, OutOfMemory>
+    ensures { IfOk result (λ names. names_of names.items ≡ map (λ x. x.name.0) items.now) }
+{
+    let mut names = Vec::with_capacity(alloc, items.len())?;
+    for item in items {
+        names.push(&item.name)?;
+    }
+    Ok(names)
 }
 
 // The same of constants.
 fn constant_places(alloc: Global, olds: &[Constant], news: &[Constant]) -> Result<Vec<Option<usize>>, OutOfMemory>
     ensures { IfOk result (λ places. places.items ≡ places_among (λ x. x.name.0) olds.now news.now) }
 {
-    let names: Vec<&Ident> = olds.iter().map(|x| &x.name).collect(alloc)?;
-    let others: Vec<&Ident> = news.iter().map(|x| &x.name).collect(alloc)?;
+    let names = constant_names(alloc, olds)?;
+    let others = constant_names(alloc, news)?;
     places_of(alloc, names.as_slice(), others.as_slice())
+}
+
+fn constant_names(alloc: Global, items: &[Constant]) -> Result<Vec<&Ident>, OutOfMemory>
+    ensures { IfOk result (λ names. names_of names.items ≡ map (λ x. x.name.0) items.now) }
+{
+    let mut names = Vec::with_capacity(alloc, items.len())?;
+    for item in items {
+        names.push(&item.name)?;
+    }
+    Ok(names)
 }
 
 /// The methods that both have by their names, each beside the other.
