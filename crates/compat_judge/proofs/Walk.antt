@@ -83,6 +83,10 @@ pub copied_some : {X : Type 0} (o : Option (Bor X)) → is_some (option_copied o
 copied_some None = refl
 copied_some (Some x) = refl
 
+map-push : {X Y : Type 0} (f : X → Y) (xs : List X) (x : X) → map f (xs ++ x ∷ []) ≡ map f xs ++ f x ∷ []
+map-push f [] x = refl
+map-push f (y ∷ xs) x = ap (λ z. f y ∷ z) (map-push f xs x)
+
 module _ (ms ws : List Method) where
   in_both_more : (i : ℕ) (x : Method) → i < length ms → x ≡ get_or ms i x → in_both same_method (take (i + 1) ms) ws ≡ in_both same_method (take i ms) ws ++ with_found x (find (λ y. same_method x y) ws)
   in_both_more i x lt is =
@@ -90,14 +94,10 @@ module _ (ms ws : List Method) where
       ∙ flat_map-append (λ x. with_found x (find (λ y. same_method x y) ws)) (take i ms) (x ∷ [])
       ∙ ap (λ z. in_both same_method (take i ms) ws ++ z) (append-nil (with_found x (find (λ y. same_method x y) ws)))
 
-  map_push : (cs : List Common) (c : Common) → map both_of (cs ++ c ∷ []) ≡ map both_of cs ++ both_of c ∷ []
-  map_push [] c = refl
-  map_push (x ∷ cs) c = ap (λ z. both_of x ∷ z) (map_push cs c)
-
   pub common_some : (common further : List Common) (i : ℕ) (c : Common) → map both_of common ≡ in_both same_method (take i ms) ws → i < length ms → c.before.now ≡ get_or ms i c.before.now
       → find (λ y. same_method c.before.now y) ws ≡ Some c.after.now → further ≡ common ++ c ∷ [] → map both_of further ≡ in_both same_method (take (i + 1) ms) ws
   common_some common further i c h lt is found e =
-      ap (map both_of) e ∙ map_push common c ∙ ap (λ z. z ++ both_of c ∷ []) h
+      ap (map both_of) e ∙ map-push both_of common c ∙ ap (λ z. z ++ both_of c ∷ []) h
       ∙ sym (in_both_more i c.before.now lt is ∙ ap (λ o. in_both same_method (take i ms) ws ++ with_found c.before.now o) found)
 
   pub common_none : (common : List Common) (i : ℕ) (x : Method) → map both_of common ≡ in_both same_method (take i ms) ws → i < length ms → x ≡ get_or ms i x
@@ -123,3 +123,11 @@ table_step names i j x bytes q old next lt is b h =
     ap (λ t. cond t (Some j) old) (ap (λ z. bytes_eq z q) b ∙ same_text_sym (encode_utf8_all x) q)
     ∙ ap (λ o. cond (bytes_eq q (encode_utf8_all x)) (Some j) o) (h ∙ ap (λ k. position_from (λ y. bytes_eq q (encode_utf8_all y)) k (drop i names)) next)
     ∙ sym (ap (position_from (λ y. bytes_eq q (encode_utf8_all y)) j) at)
+
+pub map-through : {X Y Z : Type 0} (f : X → Z) (g : Y → Z) (h : X → Y) → ((x : X) → f x ≡ g (h x)) → (xs : List X) → map f xs ≡ map g (map h xs)
+map-through f g h same [] = refl
+map-through f g h same (x ∷ xs) = ap (λ y. y ∷ map f xs) (same x) ∙ ap (λ ys. g (h x) ∷ ys) (map-through f g h same xs)
+
+pub mapped_more : {X Y : Type 0} (f : X → Y) (xs : List X) (i : ℕ) (x : X) (y : Y) (now further : List Y) → now ≡ map f (take i xs) → i < length xs → x ≡ get_or xs i x → y ≡ f x → further ≡ now ++ y ∷ [] → further ≡ map f (take (i + 1) xs)
+mapped_more f xs i x y now further h lt is same e =
+    e ∙ ap (λ z. z ++ y ∷ []) h ∙ ap (λ z. map f (take i xs) ++ z ∷ []) same ∙ sym (map-push f (take i xs) x) ∙ ap (map f) (sym (take_further xs i x lt is))

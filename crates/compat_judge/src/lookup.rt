@@ -42,11 +42,28 @@ pub fn places_of(
     ensures { IfOk result (λ places. places.items ≡ map (λ x. place_of (names_of news.now) x) (names_of olds.now)) }
 {
     let table = table_of(alloc, news)?;
-    let mut places = Vec::with_capacity(alloc, olds.len())?;
-    for name in olds {
-        places.push(table.get(name.0.as_str()).copied())?;
+    places_in(alloc, &table, olds)
+}
+
+// What a table has for each of some names.
+fn places_in(
+    alloc: Global,
+    table: &IndexMap<&str, usize>,
+    names: &[&Ident],
+) -> Result<Vec<Option<usize>>, OutOfMemory>
+    ensures { IfOk result (λ places. places.items ≡ map (λ name. get_by (λ k. bytes_eq (encode_utf8_all name.now.0) k.now) table.now) names.now) }
+{
+    let mut places = Vec::with_capacity(alloc, names.len())?;
+    for name in names {
+        places.push(place_in(table, name))?;
     }
     Ok(places)
+}
+
+fn place_in(table: &IndexMap<&str, usize>, name: &Ident) -> Option<usize>
+    ensures { result ≡ get_by (λ k. bytes_eq (encode_utf8_all name.now.0) k.now) table.now }
+{
+    table.get(name.0.as_str()).copied()
 }
 
 // The first place of each name.
