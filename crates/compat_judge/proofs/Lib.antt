@@ -1,3 +1,4 @@
+pub mod Chains
 pub mod Compared
 pub mod Found
 pub mod Listing
