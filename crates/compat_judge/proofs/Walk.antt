@@ -131,3 +131,7 @@ map-through f g h same (x ∷ xs) = ap (λ y. y ∷ map f xs) (same x) ∙ ap (�
 pub mapped_more : {X Y : Type 0} (f : X → Y) (xs : List X) (i : ℕ) (x : X) (y : Y) (now further : List Y) → now ≡ map f (take i xs) → i < length xs → x ≡ get_or xs i x → y ≡ f x → further ≡ now ++ y ∷ [] → further ≡ map f (take (i + 1) xs)
 mapped_more f xs i x y now further h lt is same e =
     e ∙ ap (λ z. z ++ y ∷ []) h ∙ ap (λ z. map f (take i xs) ++ z ∷ []) same ∙ sym (map-push f (take i xs) x) ∙ ap (map f) (sym (take_further xs i x lt is))
+
+pub places_named : {X : Type 0} (name : X → List ℕ) (xs ys : List X) (texts others : List (List ℕ)) → texts ≡ map name xs → others ≡ map name ys → map (λ x. place_of others x) texts ≡ places_among name xs ys
+places_named name xs ys texts others e f =
+    ap (λ zs. map (λ x. place_of zs x) texts) f ∙ ap (map (λ x. place_of (map name ys) x)) e ∙ sym (map-through (λ x. place_of (map name ys) (name x)) (λ x. place_of (map name ys) x) name (λ x. refl) xs)
