@@ -39,7 +39,7 @@ same_order : (f g : Finding) → order f g ≡ break_order (finding f) (finding 
 same_order f g =
     ap (λ o. ordering_then o (nat_cmp f.rule g.rule))
     (ap (λ x. slice_cmp nat_cmp x (string_bytes g.place)) (sym (utf8_is f)) ∙ ap (λ y. slice_cmp nat_cmp (encode_utf8_all (chars (string_bytes f.place))) y) (sym (utf8_is g))
-      ∙ utf8-order (chars (string_bytes f.place)) (chars (string_bytes g.place)))
+    ∙ utf8-order (chars (string_bytes f.place)) (chars (string_bytes g.place)))
 
 all_mapped : (f : Finding) (fs : List Finding) → AllByRecursion (λ g. order f g ≡ Less) fs → AllByRecursion (λ b. break_order (finding f) b ≡ Less) (map finding fs)
 all_mapped f [] h = tt

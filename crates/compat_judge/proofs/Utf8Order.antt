@@ -96,7 +96,7 @@ char_less c d xs ys lt = by (spelled c) (spelled d)
         let le : c / 64 ≤ d / 64 = omega arith in
         let high : c / 4096 ≤ d / 4096 = omega arith in
         rw (ce, de) (rises (224 + c / 4096) (224 + d / 4096) (next (c / 64) ∷ next c ∷ xs) (next (d / 64) ∷ next d ∷ ys) (omega (arith, high))
-          (λ e. let top : c / 4096 ≡ d / 4096 = omega arith in more (c / 64) (d / 64) (next c ∷ xs) (next d ∷ ys) le (sym (div_twice c) ∙ top ∙ div_twice d) (λ same. last c d xs ys lt same)))
+        (λ e. let top : c / 4096 ≡ d / 4096 = omega arith in more (c / 64) (d / 64) (next c ∷ xs) (next d ∷ ys) le (sym (div_twice c) ∙ top ∙ div_twice d) (λ same. last c d xs ys lt same)))
     by (three c1 c2 ce) (four d1 de) =
         rw (ce, de) (below (224 + c / 4096) (240 + d / 262144) (next (c / 64) ∷ next c ∷ xs) (next (d / 4096) ∷ next (d / 64) ∷ next d ∷ ys) (omega arith))
     by (four c1 ce) (one d1 de) = absurd (omega arith)
@@ -107,9 +107,9 @@ char_less c d xs ys lt = by (spelled c) (spelled d)
         let mid : c / 4096 ≤ d / 4096 = omega arith in
         let high : c / 262144 ≤ d / 262144 = omega arith in
         rw (ce, de) (rises (240 + c / 262144) (240 + d / 262144) (next (c / 4096) ∷ next (c / 64) ∷ next c ∷ xs) (next (d / 4096) ∷ next (d / 64) ∷ next d ∷ ys) (omega (arith, high))
-          (λ e. let top : c / 262144 ≡ d / 262144 = omega arith in
-            more (c / 4096) (d / 4096) (next (c / 64) ∷ next c ∷ xs) (next (d / 64) ∷ next d ∷ ys) mid (sym (div_thrice c) ∙ top ∙ div_thrice d)
-              (λ two. more (c / 64) (d / 64) (next c ∷ xs) (next d ∷ ys) le (sym (div_twice c) ∙ two ∙ div_twice d) (λ same. last c d xs ys lt same))))
+        (λ e. let top : c / 262144 ≡ d / 262144 = omega arith in
+        more (c / 4096) (d / 4096) (next (c / 64) ∷ next c ∷ xs) (next (d / 64) ∷ next d ∷ ys) mid (sym (div_thrice c) ∙ top ∙ div_thrice d)
+        (λ two. more (c / 64) (d / 64) (next c ∷ xs) (next d ∷ ys) le (sym (div_twice c) ∙ two ∙ div_twice d) (λ same. last c d xs ys lt same))))
 
 -- what follows the same front decides
 same_front : (p x y : List ℕ) → cmp (p ++ x) (p ++ y) ≡ cmp x y

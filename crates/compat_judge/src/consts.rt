@@ -93,7 +93,10 @@ pub fn same_defaults(alloc: Global, old: &Schema, f: &Field, new: &Schema, g: &F
 {
     let zero = zero_in(alloc, old, f.ty);
     let other = zero_in(alloc, new, g.ty);
-    same_default(default_by(&f.initial, &zero), default_by(&g.initial, &other))
+    same_default(
+        default_by(&f.initial, &zero),
+        default_by(&g.initial, &other),
+    )
 }
 
 // One value, never null.

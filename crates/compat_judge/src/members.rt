@@ -37,7 +37,11 @@ pub fn enumerators_of(kind: &Kind) -> &[Enumerator]
 }
 
 /// Where the names of methods stand among others.
-pub fn method_places(alloc: Global, olds: &[Method], news: &[Method]) -> Result<Vec<Option<usize>>, OutOfMemory>
+pub fn method_places(
+    alloc: Global,
+    olds: &[Method],
+    news: &[Method],
+) -> Result<Vec<Option<usize>>, OutOfMemory>
     ensures { IfOk result (λ places. places.items ≡ places_among (λ x. x.name.0) olds.now news.now) }
 {
     let names = method_names(alloc, olds)?;
@@ -56,7 +60,11 @@ fn method_names(alloc: Global, items: &[Method]) -> Result<Vec<&Ident>, OutOfMem
 }
 
 // The same of enumerators.
-fn enumerator_places(alloc: Global, olds: &[Enumerator], news: &[Enumerator]) -> Result<Vec<Option<usize>>, OutOfMemory>
+fn enumerator_places(
+    alloc: Global,
+    olds: &[Enumerator],
+    news: &[Enumerator],
+) -> Result<Vec<Option<usize>>, OutOfMemory>
     ensures { IfOk result (λ places. places.items ≡ places_among (λ x. x.name.0) olds.now news.now) }
 {
     let names = enumerator_names(alloc, olds)?;
@@ -75,7 +83,11 @@ fn enumerator_names(alloc: Global, items: &[Enumerator]) -> Result<Vec<&Ident>, 
 }
 
 // The same of constants.
-fn constant_places(alloc: Global, olds: &[Constant], news: &[Constant]) -> Result<Vec<Option<usize>>, OutOfMemory>
+fn constant_places(
+    alloc: Global,
+    olds: &[Constant],
+    news: &[Constant],
+) -> Result<Vec<Option<usize>>, OutOfMemory>
     ensures { IfOk result (λ places. places.items ≡ places_among (λ x. x.name.0) olds.now news.now) }
 {
     let names = constant_names(alloc, olds)?;

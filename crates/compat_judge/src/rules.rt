@@ -131,7 +131,11 @@ fn other_rules(
     ensures { OnOk result (found.new ≡ found.old ++ breaks_in other_rules pair.now.old.now.decls pair.now.before.now pair.now.new.now.decls pair.now.after.now) }
 {
     // C16: the backings of an enum differ.
-    found.name_if(16, pair.name, !same_backing(&pair.before.kind, &pair.after.kind))?;
+    found.name_if(
+        16,
+        pair.name,
+        !same_backing(&pair.before.kind, &pair.after.kind),
+    )?;
     c17(alloc, pair, found)?;
     c18(alloc, pair, found)?;
     c19(alloc, pair, common, found)
@@ -150,7 +154,11 @@ fn c19(
 {
     let olds = fields_of(&pair.before.kind);
     let news = fields_of(&pair.after.kind);
-    found.name_if(19, pair.name, !same_flag(pair.before.vintf, pair.after.vintf))?;
+    found.name_if(
+        19,
+        pair.name,
+        !same_flag(pair.before.vintf, pair.after.vintf),
+    )?;
     at_fields(alloc, 19, FieldTest::Marks, pair, olds, news, found)?;
     at_arguments(19, ArgumentTest::Marks, pair, common, found)?;
     at_methods(19, MethodTest::Marks, pair, common, found)

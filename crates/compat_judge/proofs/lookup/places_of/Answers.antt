@@ -12,5 +12,5 @@ pub returns : goal.returns
 returns c =
     let news = names_of c.args.news.now in
     let same = map-through (λ (name : Bor Ident). get_by (λ k. bytes_eq (encode_utf8_all name.now.0) k.now) c.in_ok-table.table) (λ x. place_of news x) (λ name. name.now.0)
-      (λ name. c.in_ok-table.ensures (encode_utf8_all name.now.0) ∙ place_by_bytes 0 news name.now.0) c.args.olds.now in
+    (λ name. c.in_ok-table.ensures (encode_utf8_all name.now.0) ∙ place_by_bytes 0 news name.now.0) c.args.olds.now in
     subst (λ zs. IfOk c.places_in.result (λ places. places.items ≡ zs)) same c.places_in.ensures

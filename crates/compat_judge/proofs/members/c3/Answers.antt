@@ -15,8 +15,8 @@ loop-i-preserved c =
     let lt : c.loop-i.i < length c.args.ms.now = omega arith in
     let same : c.args.places.now ≡ places_among (λ m. m.name.0) c.args.ms.now ws = c.requires.places ∙ ap (places_among (λ m. m.name.0) c.args.ms.now) (sym c.methods_of-ws.ensures) in
     let kept : c.is_some-kept.result ≡ is_kept same_method (λ x y. true) ws m =
-      c.is_some-kept.ensures ∙ sym (copied_some c.at_place.result) ∙ sym (there_is (option_copied c.at_place.result))
-      ∙ ap (is_there_and (λ y. true)) (c.at_place.ensures ∙ kept_at (λ m. m.name.0) c.args.ms.now ws c.args.places.now c.loop-i.i m None same lt c.index-ms-i.is) in
+    c.is_some-kept.ensures ∙ sym (copied_some c.at_place.result) ∙ sym (there_is (option_copied c.at_place.result))
+    ∙ ap (is_there_and (λ y. true)) (c.at_place.ensures ∙ kept_at (λ m. m.name.0) c.args.ms.now ws c.args.places.now c.loop-i.i m None same lt c.index-ms-i.is) in
     at_member 3 c.args.pair.now.before.now (λ m. m.name) (λ m. not (is_kept same_method (λ x y. true) ws m)) c.args.found.now c.args.ms.now
     c.loop-i.found c.member_if.new.self c.loop-i.i m c.args.pair.now.name.now (not c.is_some-kept.result) c.loop-i.invariant lt c.index-ms-i.is c.args.pair.now.named (ap not kept) c.in_ok-member_if.ensures
 

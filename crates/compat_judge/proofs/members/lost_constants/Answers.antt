@@ -16,7 +16,7 @@ loop-i-preserved c =
     let keeps : Constant → Constant → Bool = (λ c k. (base_code c.ty == base_code k.ty) && same_const c.value k.value) in
     let lt : c.loop-i.i < length xs = omega arith in
     let kept : c.is_constant_kept-kept.result ≡ is_kept same_constant keeps ys x =
-      c.is_constant_kept-kept.ensures ∙ ap (is_there_and (λ y. keeps x y)) (c.at_place.ensures ∙ kept_at (λ x. x.name.0) xs ys c.args.places.now c.loop-i.i x None c.requires lt c.index-cs-i.is) in
+    c.is_constant_kept-kept.ensures ∙ ap (is_there_and (λ y. keeps x y)) (c.at_place.ensures ∙ kept_at (λ x. x.name.0) xs ys c.args.places.now c.loop-i.i x None c.requires lt c.index-cs-i.is) in
     at_member 18 c.args.pair.now.before.now (λ x. x.name) (λ x. not (is_kept same_constant keeps ys x)) c.args.found.now xs
     c.loop-i.found c.member_if.new.self c.loop-i.i x c.args.pair.now.name.now (not c.is_constant_kept-kept.result) c.loop-i.invariant lt c.index-cs-i.is c.args.pair.now.named (ap not kept) c.in_ok-member_if.ensures
 

@@ -18,10 +18,10 @@ loop-part-preserved c =
     let lt : c.loop-part.part-index < length c.args.others.now = omega arith in
     let spelled : Spells c.as_str-in-loop-part.result.now part.0 = record { bytes = c.as_str-in-loop-part.ensures.bytes; scalars = c.as_str-in-loop-part.ensures.scalars } in
     let bytes : string_bytes c.push_str.new.self ≡ string_bytes c.loop-part.text ++ 46 ∷ c.as_str-in-loop-part.result.now =
-      c.in_ok-push_str.ensures.bytes ∙ ap (λ z. z ++ c.as_str-in-loop-part.result.now) (c.in_ok-push.ensures.bytes ∙ ap (λ z. string_bytes c.loop-part.text ++ z) (encode_ascii 46 (lit< tt)))
-      ∙ append_assoc (string_bytes c.loop-part.text) (46 ∷ []) c.as_str-in-loop-part.result.now in
+    c.in_ok-push_str.ensures.bytes ∙ ap (λ z. z ++ c.as_str-in-loop-part.result.now) (c.in_ok-push.ensures.bytes ∙ ap (λ z. string_bytes c.loop-part.text ++ z) (encode_ascii 46 (lit< tt)))
+    ∙ append_assoc (string_bytes c.loop-part.text) (46 ∷ []) c.as_str-in-loop-part.result.now in
     let text : dotted (first ∷ done) ++ 46 ∷ part.0 ≡ dotted (first ∷ take (c.loop-part.part-index + 1) c.args.others.now) =
-      sym (dotted_more first part done) ∙ ap (λ ps. dotted (first ∷ ps)) (sym (take_further c.args.others.now c.loop-part.part-index part lt c.part-item.is)) in
+    sym (dotted_more first part done) ∙ ap (λ ps. dotted (first ∷ ps)) (sym (take_further c.args.others.now c.loop-part.part-index part lt c.part-item.is)) in
     subst (λ bs. Spells bs (dotted (first ∷ take (c.loop-part.part-index + 1) c.args.others.now))) (sym bytes)
     (subst (λ t. Spells (string_bytes c.loop-part.text ++ 46 ∷ c.as_str-in-loop-part.result.now) t) text (marked 46 (lit< tt) _ _ _ _ c.loop-part.invariant spelled))
 

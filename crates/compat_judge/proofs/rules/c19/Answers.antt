@@ -30,13 +30,13 @@ returns c =
     let gs = c.fields_of-news.result.now in
     let W = place_if (whole d) (not (same_bool d.vintf e.vintf)) in
     let first : c.name_if.new.self ≡ start ++ of_rule 19 W =
-      c.in_ok-name_if.ensures ∙ ap (λ n. start ++ of_rule 19 (place_if n (not c.same_flag.result))) c.args.pair.now.named ∙ ap (λ b. start ++ of_rule 19 (place_if (whole d) (not b))) c.same_flag.ensures in
+    c.in_ok-name_if.ensures ∙ ap (λ n. start ++ of_rule 19 (place_if n (not c.same_flag.result))) c.args.pair.now.named ∙ ap (λ b. start ++ of_rule 19 (place_if (whole d) (not b))) c.same_flag.ensures in
     let one : of_rule 19 (W ++ (F fs gs ++ (A xs ++ M xs))) ≡ of_rule 19 W ++ (of_rule 19 (F fs gs) ++ (of_rule 19 (A xs) ++ of_rule 19 (M xs))) =
-      of_rule-append 19 W (F fs gs ++ (A xs ++ M xs)) ∙ ap (λ z. of_rule 19 W ++ z) (of_rule-append 19 (F fs gs) (A xs ++ M xs) ∙ ap (λ z. of_rule 19 (F fs gs) ++ z) (of_rule-append 19 (A xs) (M xs))) in
+    of_rule-append 19 W (F fs gs ++ (A xs ++ M xs)) ∙ ap (λ z. of_rule 19 W ++ z) (of_rule-append 19 (F fs gs) (A xs ++ M xs) ∙ ap (λ z. of_rule 19 (F fs gs) ++ z) (of_rule-append 19 (A xs) (M xs))) in
     let added = four_steps start c.name_if.new.self c.at_fields.new.found c.at_arguments.new.found (of_rule 19 W) (of_rule 19 (F fs gs)) (of_rule 19 (A xs)) (of_rule 19 (M xs))
-      first c.in_ok-at_fields.ensures c.in_ok-at_arguments.ensures
-      ∙ ap (λ z. start ++ z) (sym one)
-      ∙ ap (λ zs. start ++ of_rule 19 (W ++ (F zs gs ++ (A xs ++ M xs)))) c.fields_of-olds.ensures
-      ∙ ap (λ zs. start ++ of_rule 19 (W ++ (F (fields_of d.kind) zs ++ (A xs ++ M xs)))) c.fields_of-news.ensures
-      ∙ ap (λ zs. start ++ of_rule 19 (W ++ (F (fields_of d.kind) (fields_of e.kind) ++ (A zs ++ M zs)))) c.requires in
+    first c.in_ok-at_fields.ensures c.in_ok-at_arguments.ensures
+    ∙ ap (λ z. start ++ z) (sym one)
+    ∙ ap (λ zs. start ++ of_rule 19 (W ++ (F zs gs ++ (A xs ++ M xs)))) c.fields_of-olds.ensures
+    ∙ ap (λ zs. start ++ of_rule 19 (W ++ (F (fields_of d.kind) zs ++ (A xs ++ M xs)))) c.fields_of-news.ensures
+    ∙ ap (λ zs. start ++ of_rule 19 (W ++ (F (fields_of d.kind) (fields_of e.kind) ++ (A zs ++ M zs)))) c.requires in
     subst (λ z. OnOk c.at_methods.result (c.at_methods.new.found ≡ z)) added c.at_methods.ensures

@@ -23,10 +23,10 @@ returns c =
     let start = c.args.found.now in
     let xs = map both_of c.args.common.now in
     let all : List (Method × Method) → List Break = λ xs. of_rule 4 (M method.Ids xs) ++ (of_rule 5 (M method.Results xs) ++ (of_rule 6 (M method.Counts xs ++ A argument.Types xs)
-      ++ (of_rule 7 (A argument.Ways xs) ++ (of_rule 8 (M method.Oneway xs) ++ [])))) in
+    ++ (of_rule 7 (A argument.Ways xs) ++ (of_rule 8 (M method.Oneway xs) ++ [])))) in
     let added = six_steps start c.at_methods.new.found c.at_methods-2.new.found c.at_methods-3.new.found c.at_arguments.new.found c.at_arguments-2.new.found
-      (of_rule 4 (M method.Ids xs)) (of_rule 5 (M method.Results xs)) (of_rule 6 (M method.Counts xs)) (of_rule 6 (A argument.Types xs)) (of_rule 6 (M method.Counts xs ++ A argument.Types xs)) (of_rule 7 (A argument.Ways xs)) (of_rule 8 (M method.Oneway xs))
-      c.in_ok-at_methods.ensures c.in_ok-at_methods-2.ensures c.in_ok-at_methods-3.ensures c.in_ok-at_arguments.ensures c.in_ok-at_arguments-2.ensures
-      (sym (of_rule-append 6 (M method.Counts xs) (A argument.Types xs)))
-      ∙ ap (λ zs. start ++ all zs) c.requires in
+    (of_rule 4 (M method.Ids xs)) (of_rule 5 (M method.Results xs)) (of_rule 6 (M method.Counts xs)) (of_rule 6 (A argument.Types xs)) (of_rule 6 (M method.Counts xs ++ A argument.Types xs)) (of_rule 7 (A argument.Ways xs)) (of_rule 8 (M method.Oneway xs))
+    c.in_ok-at_methods.ensures c.in_ok-at_methods-2.ensures c.in_ok-at_methods-3.ensures c.in_ok-at_arguments.ensures c.in_ok-at_arguments-2.ensures
+    (sym (of_rule-append 6 (M method.Counts xs) (A argument.Types xs)))
+    ∙ ap (λ zs. start ++ all zs) c.requires in
     subst (λ z. OnOk c.at_methods-4.result (c.at_methods-4.new.found ≡ z)) added c.at_methods-4.ensures

@@ -24,14 +24,14 @@ returns c =
     let us = c.fields_with_default-firsts.result.now in
     let vs = c.fields_with_default-others.result.now in
     let all : List Field → List Field → List Field → List Field → List Break = λ fs gs us vs. of_rule 9 (fewer fs gs) ++ (of_rule 10 (F field.Names fs gs) ++ (of_rule 11 (F field.Types fs gs)
-      ++ (of_rule 12 (F field.Defaults us vs) ++ (of_rule 13 (more fs gs) ++ [])))) in
+    ++ (of_rule 12 (F field.Defaults us vs) ++ (of_rule 13 (more fs gs) ++ [])))) in
     let first : c.name_if.new.self ≡ start ++ of_rule 9 (fewer fs gs) = c.in_ok-name_if.ensures ∙ ap (λ n. start ++ of_rule 9 (place_if n (nat_lt (length gs) (length fs)))) c.args.pair.now.named in
     let A : List Field → List Break = λ added. of_rule 13 (places (λ g. member d g.name) (λ g. is_refused_addition new g) added) in
     let added = ap (λ zs. c.at_fields-3.new.found ++ A zs) c.past.ensures
-      ∙ five_steps start c.name_if.new.self c.at_fields.new.found c.at_fields-2.new.found c.at_fields-3.new.found (of_rule 9 (fewer fs gs)) (of_rule 10 (F field.Names fs gs)) (of_rule 11 (F field.Types fs gs))
-        (of_rule 12 (F field.Defaults us vs)) (of_rule 13 (more fs gs)) first c.in_ok-at_fields.ensures c.in_ok-at_fields-2.ensures c.in_ok-at_fields-3.ensures
-      ∙ ap (λ zs. start ++ all zs gs us vs) c.parcelable_fields-olds.ensures
-      ∙ ap (λ zs. start ++ all (parcelable_fields d.kind) zs us vs) c.parcelable_fields-news.ensures
-      ∙ ap (λ zs. start ++ all (parcelable_fields d.kind) (parcelable_fields e.kind) zs vs) c.fields_with_default-firsts.ensures
-      ∙ ap (λ zs. start ++ all (parcelable_fields d.kind) (parcelable_fields e.kind) (fields_with_default d.kind) zs) c.fields_with_default-others.ensures in
+    ∙ five_steps start c.name_if.new.self c.at_fields.new.found c.at_fields-2.new.found c.at_fields-3.new.found (of_rule 9 (fewer fs gs)) (of_rule 10 (F field.Names fs gs)) (of_rule 11 (F field.Types fs gs))
+    (of_rule 12 (F field.Defaults us vs)) (of_rule 13 (more fs gs)) first c.in_ok-at_fields.ensures c.in_ok-at_fields-2.ensures c.in_ok-at_fields-3.ensures
+    ∙ ap (λ zs. start ++ all zs gs us vs) c.parcelable_fields-olds.ensures
+    ∙ ap (λ zs. start ++ all (parcelable_fields d.kind) zs us vs) c.parcelable_fields-news.ensures
+    ∙ ap (λ zs. start ++ all (parcelable_fields d.kind) (parcelable_fields e.kind) zs vs) c.fields_with_default-firsts.ensures
+    ∙ ap (λ zs. start ++ all (parcelable_fields d.kind) (parcelable_fields e.kind) (fields_with_default d.kind) zs) c.fields_with_default-others.ensures in
     subst (λ z. OnOk c.at_additions.result (c.at_additions.new.found ≡ z)) added c.at_additions.ensures

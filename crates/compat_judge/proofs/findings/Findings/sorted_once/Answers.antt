@@ -11,5 +11,5 @@ pub returns : goal.returns
 returns c =
     let is = dedup_is _ _ _ c.dedup.ensures.filtered in
     let all : map finding c.dedup.new.self.items ≡ sorted_once c.args.self =
-      sorted_findings same equal tie c.self.inside.rows.items c.sort_unstable.new.self.items c.dedup.new.self.items c.sort_unstable.ensures.permutation c.sort_unstable.ensures.sorted is ∙ ap sorted_once c.self.view_is in
+    sorted_findings same equal tie c.self.inside.rows.items c.sort_unstable.new.self.items c.dedup.new.self.items c.sort_unstable.ensures.permutation c.sort_unstable.ensures.sorted is ∙ ap sorted_once c.self.view_is in
     subst (λ zs. IfOk c.rows_of.result (λ rows. map seen rows ≡ zs)) all c.rows_of.ensures
