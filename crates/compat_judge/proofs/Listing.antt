@@ -1,0 +1,104 @@
+-- Loops over lists that add what each item breaks.
+use Rattle.std.proofs.Common.{◌≡◌, ℕ, zero, suc, ◌+◌, ◌-◌, ◌<◌, ◌≤◌, min, Bool, true, false, not, cond, List, [], ◌∷◌, ◌++◌, map, length, take, drop, get_or, Option, Some, None, slice_get, nat_eq, refl, sym, ap, ◌∙◌, subst, arith, append_assoc, add-one}
+use Rattle.std.specs.List.{filter, find, flat_map, zip, enumerate_from, position_from}
+use Rattle.std.proofs.lemmas.List.{append-nil}
+use Rattle.std.proofs.lemmas.List.Concat.{flat_map-append}
+use Rattle.aidl_schema.specs.Broken.{Break, Place, of_rule, place_if, places}
+use Rattle.compat_judge.specs.steps.Steps.{break_if, item_at, place_of}
+use Rattle.aidl_schema.specs.Same.{same_text}
+
+-- the places of a rule, one item after the other
+pub listed : {X : Type 0} (rule : ℕ) (place : X → Place) (breaks : X → Bool) (xs : List X) → of_rule rule (places place breaks xs) ≡ flat_map (break_if rule place breaks) xs
+listed rule place breaks [] = refl
+listed rule place breaks (x ∷ xs) = by (breaks x) refl (listed rule place breaks xs)
+  where
+    by : (b : Bool) → breaks x ≡ b → of_rule rule (places place breaks xs) ≡ flat_map (break_if rule place breaks) xs
+        → of_rule rule (places place breaks (x ∷ xs)) ≡ break_if rule place breaks x ++ flat_map (break_if rule place breaks) xs
+    by true e rest = rw e (ap (λ r. (rule, place x) ∷ r) rest)
+    by false e rest = rw e rest
+
+take_next : {X : Type 0} (xs : List X) (i : ℕ) (x : X) → i < length xs → x ≡ get_or xs i x → take (suc i) xs ≡ take i xs ++ x ∷ []
+take_next [] i x lt is = absurd (omega arith)
+take_next (y ∷ xs) zero x lt is = ap (λ z. z ∷ []) (sym is)
+take_next (y ∷ xs) (suc i) x lt is = ap (λ zs. y ∷ zs) (take_next xs i x (omega arith) is)
+
+pub take_further : {X : Type 0} (xs : List X) (i : ℕ) (x : X) → i < length xs → x ≡ get_or xs i x → take (i + 1) xs ≡ take i xs ++ x ∷ []
+take_further xs i x lt is = ap (λ k. take k xs) (add-one i) ∙ take_next xs i x lt is
+
+pub take_to_end : {X : Type 0} (xs : List X) (i : ℕ) → i ≡ length xs → take i xs ≡ xs
+take_to_end xs i e = ap (λ k. take k xs) e ∙ take_whole xs
+  where
+    take_whole : {X : Type 0} (xs : List X) → take (length xs) xs ≡ xs
+    take_whole [] = refl
+    take_whole (x ∷ xs) = ap (λ z. x ∷ z) (take_whole xs)
+
+module _ {X B : Type 0} (R : X → List B) (start : List B) (xs : List X) where
+  -- what has been added after the items before i
+  abbrev pub Added : List B → ℕ → Type 0
+  Added now i = now ≡ start ++ flat_map R (take i xs)
+
+  pub added_more : (now further : List B) (i : ℕ) (x : X) → Added now i → i < length xs → x ≡ get_or xs i x → further ≡ now ++ R x → Added further (i + 1)
+  added_more now further i x h lt is e =
+      e ∙ ap (λ z. z ++ R x) h ∙ append_assoc start (flat_map R (take i xs)) (R x)
+      ∙ ap (λ z. start ++ z) (ap (λ z. flat_map R (take i xs) ++ z) (sym (append-nil (R x))) ∙ sym (flat_map-append R (take i xs) (x ∷ [])) ∙ ap (flat_map R) (sym (take_further xs i x lt is)))
+
+  pub added_all : (now : List B) (i : ℕ) → Added now i → i ≡ length xs → now ≡ start ++ flat_map R xs
+  added_all now i h e = h ∙ ap (λ z. start ++ flat_map R z) (take_to_end xs i e)
+
+module _ {X : Type 0} (rule : ℕ) (place : X → Place) (breaks : X → Bool) (start : List Break) (xs : List X) where
+  pub places_all : (now : List Break) (i : ℕ) → now ≡ start ++ flat_map (break_if rule place breaks) (take i xs) → i ≡ length xs → now ≡ start ++ of_rule rule (places place breaks xs)
+  places_all now i h e = added_all (break_if rule place breaks) start xs now i h e ∙ ap (λ z. start ++ z) (sym (listed rule place breaks xs))
+
+-- Look-ups by position.
+
+position_at : {X : Type 0} (p : X → Bool) (k : ℕ) (xs : List X) (o : Option ℕ) → position_from p k xs ≡ o → (i : ℕ) → o ≡ Some i → (k ≤ i) × (slice_get xs (i - k) ≡ find p xs)
+position_at p k [] o e i s = cc
+position_at p k (x ∷ xs) o e i s = by (p x) refl (λ h. position_at p (k + 1) xs o h i s)
+  where
+    by : (b : Bool) → p x ≡ b → (position_from p (k + 1) xs ≡ o → (k + 1 ≤ i) × (slice_get xs (i - (k + 1)) ≡ find p xs)) → (k ≤ i) × (slice_get (x ∷ xs) (i - k) ≡ find p (x ∷ xs))
+    by true b rest =
+        let here : Some k ≡ o = rw b at e in
+        let same : k ≡ i = cc in
+        let none : i - k ≡ 0 = omega arith in
+        (omega arith, rw (none, b) refl)
+    by false b rest =
+        let after : position_from p (k + 1) xs ≡ o = rw b at e in
+        let r = rest after in
+        let step : i - k ≡ suc (i - (k + 1)) = omega (arith, r.0) in
+        (omega (arith, r.0), rw (step, b) r.1)
+
+position_none : {X : Type 0} (p : X → Bool) (k : ℕ) (xs : List X) → position_from p k xs ≡ None → find p xs ≡ None
+position_none p k [] e = refl
+position_none p k (x ∷ xs) e = by (p x) refl (λ h. position_none p (k + 1) xs h)
+  where
+    by : (b : Bool) → p x ≡ b → (position_from p (k + 1) xs ≡ None → find p xs ≡ None) → find p (x ∷ xs) ≡ None
+    by true b rest = let here : Some k ≡ None = rw b at e in cc
+    by false b rest = let after : position_from p (k + 1) xs ≡ None = rw b at e in rw b (rest after)
+
+-- the item at the first place that passes is the first that passes
+pub item_found : {X : Type 0} (p : X → Bool) (xs : List X) → item_at xs (position_from p 0 xs) ≡ find p xs
+item_found p xs = by (position_from p 0 xs) refl
+  where
+    by : (o : Option ℕ) → position_from p 0 xs ≡ o → item_at xs o ≡ find p xs
+    by None e = sym (position_none p 0 xs e)
+    by (Some i) e = let same : i - 0 ≡ i = omega arith in subst (λ k. slice_get xs k ≡ find p xs) same (position_at p 0 xs (Some i) e i refl).1
+
+position-map : {X Y : Type 0} (f : X → Y) (p : Y → Bool) (k : ℕ) (xs : List X) → position_from p k (map f xs) ≡ position_from (λ x. p (f x)) k xs
+position-map f p k [] = refl
+position-map f p k (x ∷ xs) = rw (position-map f p (k + 1) xs) refl
+
+-- what has the name of x
+pub item_named : {X : Type 0} (name : X → List ℕ) (x : X) (ys : List X) → item_at ys (place_of (map name ys) (name x)) ≡ find (λ y. same_text (name x) (name y)) ys
+item_named name x ys = ap (item_at ys) (position-map name (λ y. same_text (name x) y) 0 ys) ∙ item_found (λ y. same_text (name x) (name y)) ys
+
+pub find-same : {X : Type 0} (p q : X → Bool) → ((x : X) → p x ≡ q x) → (xs : List X) → find p xs ≡ find q xs
+find-same p q same [] = refl
+find-same p q same (x ∷ xs) = rw (same x, find-same p q same xs) refl
+
+pub of_rule-append : (rule : ℕ) (ps qs : List Place) → of_rule rule (ps ++ qs) ≡ of_rule rule ps ++ of_rule rule qs
+of_rule-append rule [] qs = refl
+of_rule-append rule (p ∷ ps) qs = ap (λ z. (rule, p) ∷ z) (of_rule-append rule ps qs)
+
+pub of_rule-flat : {X : Type 0} (rule : ℕ) (F : X → List Place) (xs : List X) → of_rule rule (flat_map F xs) ≡ flat_map (λ x. of_rule rule (F x)) xs
+of_rule-flat rule F [] = refl
+of_rule-flat rule F (x ∷ xs) = of_rule-append rule (F x) (flat_map F xs) ∙ ap (λ z. of_rule rule (F x) ++ z) (of_rule-flat rule F xs)

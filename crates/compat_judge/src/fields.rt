@@ -1,0 +1,82 @@
+ghost use Rattle.std.specs.Prelude.{◌≡◌, ◌==◌, ◌||◌, take};
+ghost use Rattle.aidl_schema.specs.Broken as broken;
+ghost use Rattle.aidl_schema.specs.Containment as containment;
+
+use aidl_schema::{Backing, Field, Kind};
+
+/// The fields of a parcelable; none of what is no parcelable.
+pub fn parcelable_fields(kind: &Kind) -> &[Field]
+    ensures { result.now ≡ broken.parcelable_fields kind.now }
+{
+    match kind {
+        Kind::Parcelable(fields) => fields.as_slice(),
+        _ => &[],
+    }
+}
+
+/// The fields of a union; none of what is no union.
+pub fn union_fields(kind: &Kind) -> &[Field]
+    ensures { result.now ≡ broken.union_fields kind.now }
+{
+    match kind {
+        Kind::Union(fields) => fields.as_slice(),
+        _ => &[],
+    }
+}
+
+/// The fields of a parcelable or union; none of what is neither.
+pub fn fields_of(kind: &Kind) -> &[Field]
+    ensures { result.now ≡ containment.fields_of kind.now }
+{
+    match kind {
+        Kind::Parcelable(fields) => fields.as_slice(),
+        Kind::Union(fields) => fields.as_slice(),
+        _ => &[],
+    }
+}
+
+/// The fields whose defaults are seen: all of a parcelable, the first of a union.
+pub fn fields_with_default(kind: &Kind) -> &[Field]
+    ensures { result.now ≡ broken.fields_with_default kind.now }
+{
+    match kind {
+        Kind::Parcelable(fields) => fields.as_slice(),
+        Kind::Union(fields) => first_of(fields.as_slice()),
+        _ => &[],
+    }
+}
+
+fn first_of(fields: &[Field]) -> &[Field]
+    ensures { result.now ≡ take 1 fields.now }
+{
+    match fields {
+        [] => &[],
+        _ => &fields[..1],
+    }
+}
+
+/// Whether it is a parcelable or a union.
+pub fn has_fields(kind: &Kind) -> bool
+    ensures { result ≡ ((broken.kind_code kind.now == 1) || (broken.kind_code kind.now == 2)) }
+{
+    matches!(kind, Kind::Parcelable(_) | Kind::Union(_))
+}
+
+/// Whether the backings of two enums are the same.
+pub fn same_backing(a: &Kind, b: &Kind) -> bool
+    ensures { result ≡ (broken.backing_code a.now == broken.backing_code b.now) }
+{
+    backing_code(a) == backing_code(b)
+}
+
+// A number for the backing of an enum.
+fn backing_code(kind: &Kind) -> u8
+    ensures { result ≡ broken.backing_code kind.now }
+{
+    match kind {
+        Kind::Enum(Backing::Byte, _) => 1,
+        Kind::Enum(Backing::Int, _) => 2,
+        Kind::Enum(Backing::Long, _) => 3,
+        _ => 0,
+    }
+}

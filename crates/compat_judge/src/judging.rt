@@ -1,0 +1,60 @@
+ghost use Rattle.std.specs.Prelude.{◌≡◌, map, IfOk, OnOk, ◌++◌};
+ghost use Rattle.aidl_schema.specs.Broken.{broken};
+ghost use Rattle.compat_judge.specs.Seen.{seen};
+ghost use Rattle.compat_judge.specs.steps.Steps.{breaks_of};
+
+use crate::findings::Findings;
+use crate::lookup::find_decl;
+use crate::places::name_place;
+use crate::rules::broken_by;
+use crate::sides::Pair;
+use aidl_base::{OutOfMemory, Row, Text};
+use aidl_schema::{Decl, Schema};
+use std::alloc::Global;
+
+/// A broken evolution rule: its number, from 1 for C1 to 19 for C19, and the place: a canonical name, or one with a
+/// member or an argument behind it.
+#[derive(Debug, Drop)]
+pub struct Broken {
+    pub rule: u8,
+    pub place: Text,
+}
+
+/// Which evolution rules a new schema breaks (AIDL language, "Stable AIDL"; the numbering is own), sorted by the bytes of
+/// the place, then by the rule, each once. None is broken exactly where the row is empty.
+pub fn judge(alloc: Global, old: &Schema, new: &Schema) -> Result<Row<Broken>, OutOfMemory>
+    ensures exact { IfOk result (λ rows. map seen rows ≡ broken old.now.decls new.now.decls) }
+{
+    let mut found = Findings::new(alloc);
+    for decl in old.decls.as_slice() {
+        judge_decl(alloc, old, decl, new, &mut found)?;
+    }
+    found.sorted_once()
+}
+
+// What a declaration of old and that of its name in new break.
+fn judge_decl(
+    alloc: Global,
+    old: &Schema,
+    decl: &Decl,
+    new: &Schema,
+    found: &mut Findings,
+) -> Result<(), OutOfMemory>
+    ensures { OnOk result (found.new ≡ found.old ++ breaks_of old.now.decls new.now.decls decl.now) }
+{
+    let name = name_place(alloc, &decl.name)?;
+    match find_decl(new, decl, &name) {
+        // C1: it is in old and not in new.
+        None => found.name_if(1, &name, true),
+        Some(after) => {
+            let pair = Pair {
+                old,
+                before: decl,
+                new,
+                after,
+                name: &name,
+            };
+            broken_by(alloc, &pair, found)
+        }
+    }
+}

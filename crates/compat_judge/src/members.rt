@@ -1,0 +1,216 @@
+ghost use Rattle.std.specs.Prelude.{◌≡◌, ◌++◌, ◌==◌, ◌&&◌, map, not, IfOk, OnOk};
+ghost use Rattle.std.specs.Option.{option_copied};
+ghost use Rattle.std.specs.Ordering.{int_eq};
+ghost use Rattle.aidl_schema.specs.Broken as broken;
+ghost use Rattle.aidl_schema.specs.Broken.{C3, C17, C18, in_both, same_method, is_there_and};
+ghost use Rattle.aidl_schema.specs.Names.{enumerators_of, methods_of};
+ghost use Rattle.aidl_schema.specs.Same.{base_code};
+ghost use Rattle.compat_judge.specs.steps.Steps.{both_of, names_of, places_among};
+
+use crate::alike::same_base_code;
+use crate::consts::same_const;
+use crate::findings::Findings;
+use crate::lookup::{at_place, places_of};
+use crate::sides::{Common, Pair};
+use aidl_base::{Ident, OutOfMemory};
+use aidl_schema::{Constant, Enumerator, Kind, Method};
+use std::alloc::Global;
+
+/// The methods of an interface; none of what is no interface.
+pub fn methods_of(kind: &Kind) -> &[Method]
+    ensures { result.now ≡ methods_of kind.now }
+{
+    match kind {
+        Kind::Interface(methods) => methods.as_slice(),
+        _ => &[],
+    }
+}
+
+/// The enumerators of an enum; none of what is no enum.
+pub fn enumerators_of(kind: &Kind) -> &[Enumerator]
+    ensures { result.now ≡ enumerators_of kind.now }
+{
+    match kind {
+        Kind::Enum(_, enumerators) => enumerators.as_slice(),
+        _ => &[],
+    }
+}
+
+/// Where the names of methods stand among others.
+pub fn method_places(
+    alloc: Global,
+    olds: &[Method],
+    news: &[Method],
+) -> Result<Vec<Option<usize>>, OutOfMemory>
+    ensures { IfOk result (λ places. places.items ≡ places_among (λ x. x.name.0) olds.now news.now) }
+{
+    let names = method_names(alloc, olds)?;
+    let others = method_names(alloc, news)?;
+    places_of(alloc, names.as_slice(), others.as_slice())
+}
+
+fn method_names(alloc: Global, items: &[Method]) -> Result<Vec<&Ident>, OutOfMemory>
+    ensures { IfOk result (λ names. names_of names.items ≡ map (λ x. x.name.0) items.now) }
+{
+    let mut names = Vec::with_capacity(alloc, items.len())?;
+    for item in items {
+        names.push(&item.name)?;
+    }
+    Ok(names)
+}
+
+// The same of enumerators.
+fn enumerator_places(
+    alloc: Global,
+    olds: &[Enumerator],
+    news: &[Enumerator],
+) -> Result<Vec<Option<usize>>, OutOfMemory>
+    ensures { IfOk result (λ places. places.items ≡ places_among (λ x. x.name.0) olds.now news.now) }
+{
+    let names = enumerator_names(alloc, olds)?;
+    let others = enumerator_names(alloc, news)?;
+    places_of(alloc, names.as_slice(), others.as_slice())
+}
+
+fn enumerator_names(alloc: Global, items: &[Enumerator]) -> Result<Vec<&Ident>, OutOfMemory>
+    ensures { IfOk result (λ names. names_of names.items ≡ map (λ x. x.name.0) items.now) }
+{
+    let mut names = Vec::with_capacity(alloc, items.len())?;
+    for item in items {
+        names.push(&item.name)?;
+    }
+    Ok(names)
+}
+
+// The same of constants.
+fn constant_places(
+    alloc: Global,
+    olds: &[Constant],
+    news: &[Constant],
+) -> Result<Vec<Option<usize>>, OutOfMemory>
+    ensures { IfOk result (λ places. places.items ≡ places_among (λ x. x.name.0) olds.now news.now) }
+{
+    let names = constant_names(alloc, olds)?;
+    let others = constant_names(alloc, news)?;
+    places_of(alloc, names.as_slice(), others.as_slice())
+}
+
+fn constant_names(alloc: Global, items: &[Constant]) -> Result<Vec<&Ident>, OutOfMemory>
+    ensures { IfOk result (λ names. names_of names.items ≡ map (λ x. x.name.0) items.now) }
+{
+    let mut names = Vec::with_capacity(alloc, items.len())?;
+    for item in items {
+        names.push(&item.name)?;
+    }
+    Ok(names)
+}
+
+/// The methods that both have by their names, each beside the other.
+pub fn common_methods<'a>(
+    alloc: Global,
+    ms: &'a [Method],
+    ws: &'a [Method],
+    places: &[Option<usize>],
+) -> Result<Vec<Common<'a>>, OutOfMemory>
+    requires { places.now ≡ places_among (λ m. m.name.0) ms.now ws.now }
+    ensures { IfOk result (λ common. map both_of common.items ≡ in_both same_method ms.now ws.now) }
+{
+    let mut common = Vec::new(alloc);
+    for (i, before) in ms.iter().enumerate() {
+        if let Some(after) = at_place(ws, places[i]) {
+            common.push(Common { before, after })?;
+        }
+    }
+    Ok(common)
+}
+
+/// C3: a method of old isn't in new.
+pub fn c3(
+    pair: &Pair<'_>,
+    ms: &[Method],
+    places: &[Option<usize>],
+    found: &mut Findings,
+) -> Result<(), OutOfMemory>
+    requires old { ms.now ≡ methods_of pair.now.before.now.kind }
+    requires places { places.now ≡ places_among (λ m. m.name.0) ms.now (methods_of pair.now.after.now.kind) }
+    ensures { OnOk result (found.new ≡ found.old ++ broken.of_rule 3 (C3 pair.now.old.now.decls pair.now.before.now pair.now.new.now.decls pair.now.after.now)) }
+{
+    let ws = methods_of(&pair.after.kind);
+    for (i, method) in ms.iter().enumerate() {
+        let kept = at_place(ws, places[i]).is_some();
+        found.member_if(3, pair.name, &method.name, !kept)?;
+    }
+    Ok(())
+}
+
+/// C17: an enumerator of old isn't in new, or its value differs.
+pub fn c17(alloc: Global, pair: &Pair<'_>, found: &mut Findings) -> Result<(), OutOfMemory>
+    ensures { OnOk result (found.new ≡ found.old ++ broken.of_rule 17 (C17 pair.now.old.now.decls pair.now.before.now pair.now.new.now.decls pair.now.after.now)) }
+{
+    let xs = enumerators_of(&pair.before.kind);
+    let ys = enumerators_of(&pair.after.kind);
+    let places = enumerator_places(alloc, xs, ys)?;
+    lost_enumerators(pair, xs, ys, places.as_slice(), found)
+}
+
+fn lost_enumerators(
+    pair: &Pair<'_>,
+    xs: &[Enumerator],
+    ys: &[Enumerator],
+    places: &[Option<usize>],
+    found: &mut Findings,
+) -> Result<(), OutOfMemory>
+    requires { places.now ≡ places_among (λ x. x.name.0) xs.now ys.now }
+    ensures { OnOk result (found.new ≡ found.old ++ broken.of_rule 17 (broken.places (λ x. broken.member pair.now.before.now x.name) (λ x. not (broken.is_kept broken.same_enumerator (λ x y. int_eq x.value y.value) ys.now x)) xs.now)) }
+{
+    for (i, x) in xs.iter().enumerate() {
+        let kept = is_enumerator_kept(x, at_place(ys, places[i]));
+        found.member_if(17, pair.name, &x.name, !kept)?;
+    }
+    Ok(())
+}
+
+fn is_enumerator_kept(x: &Enumerator, y: Option<&Enumerator>) -> bool
+    ensures { result ≡ is_there_and (λ y. int_eq x.now.value y.value) (option_copied y.entry) }
+{
+    match y {
+        Some(y) => x.value == y.value,
+        None => false,
+    }
+}
+
+/// C18: a constant of old isn't in new, or its type or value differs.
+pub fn c18(alloc: Global, pair: &Pair<'_>, found: &mut Findings) -> Result<(), OutOfMemory>
+    ensures { OnOk result (found.new ≡ found.old ++ broken.of_rule 18 (C18 pair.now.old.now.decls pair.now.before.now pair.now.new.now.decls pair.now.after.now)) }
+{
+    let cs = pair.before.constants.as_slice();
+    let ks = pair.after.constants.as_slice();
+    let places = constant_places(alloc, cs, ks)?;
+    lost_constants(pair, cs, ks, places.as_slice(), found)
+}
+
+fn lost_constants(
+    pair: &Pair<'_>,
+    cs: &[Constant],
+    ks: &[Constant],
+    places: &[Option<usize>],
+    found: &mut Findings,
+) -> Result<(), OutOfMemory>
+    requires { places.now ≡ places_among (λ c. c.name.0) cs.now ks.now }
+    ensures { OnOk result (found.new ≡ found.old ++ broken.of_rule 18 (broken.places (λ c. broken.member pair.now.before.now c.name) (λ c. not (broken.is_kept broken.same_constant (λ c k. (base_code c.ty == base_code k.ty) && broken.same_const c.value k.value) ks.now c)) cs.now)) }
+{
+    for (i, constant) in cs.iter().enumerate() {
+        let kept = is_constant_kept(constant, at_place(ks, places[i]));
+        found.member_if(18, pair.name, &constant.name, !kept)?;
+    }
+    Ok(())
+}
+
+fn is_constant_kept(c: &Constant, k: Option<&Constant>) -> bool
+    ensures { result ≡ is_there_and (λ k. (base_code c.now.ty == base_code k.ty) && broken.same_const c.now.value k.value) (option_copied k.entry) }
+{
+    match k {
+        Some(k) => same_base_code(c.ty, k.ty) && same_const(&c.value, &k.value),
+        None => false,
+    }
+}

@@ -1,0 +1,107 @@
+ghost use Rattle.std.specs.Prelude.{◌≡◌, ◌++◌, map, length, drop, OnOk};
+ghost use Rattle.std.specs.List.{enumerate_from, flat_map, zip};
+ghost use Rattle.aidl_schema.specs.Broken.{argument, at_arguments_of, is_refused_addition, member, of_rule, places};
+ghost use Rattle.compat_judge.specs.steps.Steps.{both_of};
+ghost use Rattle.compat_judge.specs.steps.Tests as tests;
+
+use crate::consts::is_refused_addition;
+use crate::findings::Findings;
+use crate::sides::{Common, Pair};
+use crate::tests::{
+    ArgumentTest, FieldTest, MethodTest, argument_breaks, field_breaks, method_breaks,
+};
+use aidl_base::OutOfMemory;
+use aidl_schema::{Field, Method};
+use std::alloc::Global;
+
+/// Common methods that break a rule.
+pub fn at_methods(
+    rule: u8,
+    test: MethodTest,
+    pair: &Pair<'_>,
+    common: &[Common<'_>],
+    found: &mut Findings,
+) -> Result<(), OutOfMemory>
+    ensures { OnOk result (found.new ≡ found.old ++ of_rule rule (places (λ p. member pair.now.before.now p.0.name) (λ p. tests.method_breaks test pair.now.old.now.decls pair.now.new.now.decls p.0 p.1) (map both_of common.now))) }
+{
+    for both in common {
+        let broken = method_breaks(test, pair.old, both.before, pair.new, both.after);
+        found.member_if(rule, pair.name, &both.before.name, broken)?;
+    }
+    Ok(())
+}
+
+/// Arguments of common methods that break a rule.
+pub fn at_arguments(
+    rule: u8,
+    test: ArgumentTest,
+    pair: &Pair<'_>,
+    common: &[Common<'_>],
+    found: &mut Findings,
+) -> Result<(), OutOfMemory>
+    ensures { OnOk result (found.new ≡ found.old ++ of_rule rule (flat_map (λ p. at_arguments_of (tests.argument_breaks test pair.now.old.now.decls pair.now.new.now.decls) pair.now.before.now p.0 p.1) (map both_of common.now))) }
+{
+    for both in common {
+        at_arguments_of(rule, test, pair, both.before, both.after, found)?;
+    }
+    Ok(())
+}
+
+// Those of two methods at the positions below both counts.
+fn at_arguments_of(
+    rule: u8,
+    test: ArgumentTest,
+    pair: &Pair<'_>,
+    before: &Method,
+    after: &Method,
+    found: &mut Findings,
+) -> Result<(), OutOfMemory>
+    ensures { OnOk result (found.new ≡ found.old ++ of_rule rule (at_arguments_of (tests.argument_breaks test pair.now.old.now.decls pair.now.new.now.decls) pair.now.before.now before.now after.now)) }
+{
+    let olds = before.args.as_slice();
+    let news = after.args.as_slice();
+    for k in 0..olds.len().min(news.len()) {
+        let a = &olds[k];
+        let b = &news[k];
+        let broken = argument_breaks(test, pair.old, a, pair.new, b);
+        found.argument_if(rule, pair.name, &before.name, k, broken)?;
+    }
+    Ok(())
+}
+
+/// Fields that break a rule, at the positions below both counts.
+pub fn at_fields(
+    alloc: Global,
+    rule: u8,
+    test: FieldTest,
+    pair: &Pair<'_>,
+    olds: &[Field],
+    news: &[Field],
+    found: &mut Findings,
+) -> Result<(), OutOfMemory>
+    ensures { OnOk result (found.new ≡ found.old ++ of_rule rule (places (λ p. member pair.now.before.now p.0.name) (λ p. tests.field_breaks test pair.now.old.now.decls pair.now.new.now.decls p.0 p.1) (zip olds.now news.now))) }
+{
+    for k in 0..olds.len().min(news.len()) {
+        let f = &olds[k];
+        let g = &news[k];
+        let broken = field_breaks(alloc, test, pair.old, f, pair.new, g);
+        found.member_if(rule, pair.name, &f.name, broken)?;
+    }
+    Ok(())
+}
+
+/// Fields that may not be added.
+pub fn at_additions(
+    rule: u8,
+    pair: &Pair<'_>,
+    added: &[Field],
+    found: &mut Findings,
+) -> Result<(), OutOfMemory>
+    ensures { OnOk result (found.new ≡ found.old ++ of_rule rule (places (λ g. member pair.now.before.now g.name) (λ g. is_refused_addition pair.now.new.now.decls g) added.now)) }
+{
+    for field in added {
+        let broken = is_refused_addition(pair.new, field);
+        found.member_if(rule, pair.name, &field.name, broken)?;
+    }
+    Ok(())
+}
