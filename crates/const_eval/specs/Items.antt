@@ -11,7 +11,9 @@ use Rattle.aidl_names.specs.Sources.{Source}
 use Rattle.aidl_names.specs.Declarations.{Entry, declarations}
 use Rattle.aidl_names.specs.Resolution.{resolved}
 use Rattle.const_values.specs.declared.wanted.Wanted.{Wanted}
-use Rattle.const_eval.specs.Types.{Meaning, Shaped, shaped, wanted_one, wanted_element, backing_of}
+use Rattle.const_eval.specs.declared.shape.Shape.{Shape}
+use Rattle.const_eval.specs.Types.{meaning_in, shaped, wanted_one, wanted_element}
+use Rattle.const_eval.specs.Backing.{backing_of}
 use Rattle.const_eval.specs.Initializers.{is_unjudged}
 
 -- an expression; or an enumerator without one, the first of its enum or the one after that at a place
@@ -31,18 +33,14 @@ pub record Item : Type 0 where
   pub unjudged : Bool
   pub value : Written
 
--- what names of types mean below a declaration
-abbrev pub meaning_in : List Source → ℕ → ℕ → Meaning
-meaning_in files file scope d = resolved files file scope d.name.0
-
 -- the items of an initializer: the expression, or each member of the brace list
-abbrev pub of_init : List Entry → ℕ → ℕ → Shaped → Bool → Init → List Item
+abbrev pub of_init : List Entry → ℕ → ℕ → Shape → Bool → Init → List Item
 of_init entries file scope t unjudged (single e) =
     record { file = file; scope = scope; place = offset_of e; enumerates = false; wanted = wanted_one entries t; unjudged = unjudged; value = written e } ∷ []
 of_init entries file scope t unjudged (braces offset es) =
     map (λ e. record { file = file; scope = scope; place = offset_of e; enumerates = false; wanted = wanted_element entries t; unjudged = unjudged; value = written e }) es
 
-abbrev pub of_field_type : List Entry → ℕ → ℕ → Bool → Shaped → Option Init → List Item
+abbrev pub of_field_type : List Entry → ℕ → ℕ → Bool → Shape → Option Init → List Item
 of_field_type entries file scope later t None = []
 of_field_type entries file scope later t (Some init) = of_init entries file scope t (is_unjudged entries later t init) init
 

@@ -1,4 +1,5 @@
 pub mod Types
+pub mod Backing
 pub mod Initializers
 pub mod Items
 pub mod Dependence

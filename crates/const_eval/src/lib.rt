@@ -1,9 +1,13 @@
 //! The outcome of each constant expression of a tree: its value, its fault, or that it isn't judged.
 #![tactic(auto)]
 
+mod backing;
 mod laws;
 mod outcome;
+mod shape;
+mod wanted;
 
 pub use const_values::ConstFault;
 pub use laws::law_one_outcome;
 pub use outcome::Outcome;
+pub use shape::{Shape, shaped};
