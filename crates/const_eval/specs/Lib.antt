@@ -2,5 +2,6 @@ pub mod Types
 pub mod Backing
 pub mod Initializers
 pub mod Items
+pub mod ItemViews
 pub mod Dependence
 pub mod Outcomes

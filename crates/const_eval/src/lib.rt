@@ -2,12 +2,18 @@
 #![tactic(auto)]
 
 mod backing;
+mod initializers;
+mod item;
+mod listing;
+mod order;
 mod laws;
 mod outcome;
 mod shape;
 mod wanted;
 
 pub use const_values::ConstFault;
+pub use item::{ItemRef, WrittenRef};
+pub use order::items;
 pub use laws::law_one_outcome;
 pub use outcome::Outcome;
 pub use shape::{Shape, shaped};
