@@ -40,14 +40,14 @@ module _ (cmp : Key → Key → Ordering) (by_parts : (a b : Key) → cmp a b �
     Went new all = IsKeyed new × (map seen new ≡ all)
 
     inserted : (es : List (Key × ItemRef)) → IsKeyed es → Went (insert_entry cmp es (key x) x) (put (map seen es) (item_of x))
-    inserted [] k = ((refl, unit), refl)
+    inserted [] k = ((refl, tt), refl)
     inserted (e ∷ es) k =
         let w = by_order (cmp (key x) e.0) refl (inserted es k.1) in
         (w.0, w.1 ∙ ap (λ o. match_ordering o (item_of x ∷ seen e ∷ map seen es) (item_of x ∷ map seen es) (seen e ∷ put (map seen es) (item_of x))) (ap (cmp (key x)) k.0 ∙ by_parts (key x) (key e.1)))
       where
         by_order : (o : Ordering) → cmp (key x) e.0 ≡ o → Went (insert_entry cmp es (key x) x) (put (map seen es) (item_of x))
             → Went (match_ordering o ((key x, x) ∷ e ∷ es) ((e.0, x) ∷ es) (e ∷ insert_entry cmp es (key x) x))
-              (match_ordering o (item_of x ∷ seen e ∷ map seen es) (item_of x ∷ map seen es) (seen e ∷ put (map seen es) (item_of x)))
+            (match_ordering o (item_of x ∷ seen e ∷ map seen es) (item_of x ∷ map seen es) (seen e ∷ put (map seen es) (item_of x)))
         by_order Less h more = ((refl, k), refl)
         by_order Equal h more = ((sym (same_key (key x) e.0 h), k.1), refl)
         by_order Greater h more = ((k.0, more.0), ap (λ z. seen e ∷ z) more.1)
@@ -56,10 +56,11 @@ module _ (cmp : Key → Key → Ordering) (by_parts : (a b : Key) → cmp a b �
     pub next_in : (es new : List (Key × ItemRef)) (rows : List ItemRef) (all : List Item) (i : ℕ) → new ≡ insert_entry cmp es (key x) x → i < length rows → x ≡ get_or rows i x
         → IsKeyed es × (fold put (map seen es) (map item_of (drop i rows)) ≡ all) → IsKeyed new × (fold put (map seen new) (map item_of (drop (i + 1) rows)) ≡ all)
     next_in es new rows all i e lt is invariant =
-        let w = inserted es invariant.0 in
-        (subst IsKeyed (sym e) w.0,
-        ap (λ z. fold put (map seen z) (map item_of (drop (i + 1) rows))) e
-        ∙ ap (λ z. fold put z (map item_of (drop (i + 1) rows))) w.1
-        ∙ ap (λ y. fold put (put (map seen es) (item_of y)) (map item_of (drop (i + 1) rows))) is
-        ∙ ap (λ (j : ℕ). fold put (put (map seen es) (item_of (get_or rows i x))) (map item_of (drop j rows))) (add-one i)
-        ∙ ap (λ ys. fold put (map seen es) (map item_of ys)) (sym (drop-cons rows i x lt)) ∙ invariant.1)
+        let w = inserted es invariant.0 in (
+          subst IsKeyed (sym e) w.0,
+          ap (λ z. fold put (map seen z) (map item_of (drop (i + 1) rows))) e
+              ∙ ap (λ z. fold put z (map item_of (drop (i + 1) rows))) w.1
+              ∙ ap (λ y. fold put (put (map seen es) (item_of y)) (map item_of (drop (i + 1) rows))) is
+              ∙ ap (λ (j : ℕ). fold put (put (map seen es) (item_of (get_or rows i x))) (map item_of (drop j rows))) (add-one i)
+              ∙ ap (λ ys. fold put (map seen es) (map item_of ys)) (sym (drop-cons rows i x lt)) ∙ invariant.1,
+        )

@@ -4,16 +4,16 @@
 mod backing;
 mod initializers;
 mod item;
+mod laws;
 mod listing;
 mod order;
-mod laws;
 mod outcome;
 mod shape;
 mod wanted;
 
 pub use const_values::ConstFault;
 pub use item::{ItemRef, WrittenRef};
-pub use order::items;
 pub use laws::law_one_outcome;
+pub use order::items;
 pub use outcome::Outcome;
 pub use shape::{Shape, shaped};

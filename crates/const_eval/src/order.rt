@@ -35,7 +35,7 @@ fn listed<'a>(
     alloc: Global,
     mut places: BTreeMap<(u32, u32), ItemRef<'a>>,
 ) -> Result<Vec<ItemRef<'a>>, OutOfMemory>
-    ensures { IfOk result (λ rows. map item_of rows.items ≡ map (λ e. item_of e.1) places.entries) }
+    ensures { IfOk result (λ rows. map item_of rows.items ≡ map (λ e. item_of e.1) places.entry.entries) }
 {
     let mut rows = Vec::with_capacity(alloc, places.len())?;
     'places: while let Some((_, item)) = places.pop_first() {
