@@ -1,4 +1,5 @@
 -- How the items that the code finds are seen.
+use Rattle.std.specs.Prelude.{ℕ, Bool, ◌&&◌, nat_eq}
 use Rattle.aidl_syntax.specs.Trees.{expr_of}
 use Rattle.const_eval.specs.declared.item.ItemRef.{ItemRef}
 use Rattle.const_eval.specs.declared.item.WrittenRef.{WrittenRef}
@@ -12,3 +13,7 @@ written_of (part.After place) = after place
 
 abbrev pub item_of : ItemRef → Item
 item_of x = record { file = x.file; scope = x.scope; place = x.place; enumerates = x.enumerates; wanted = x.wanted; unjudged = x.unjudged; value = written_of x.value }
+
+-- two places are the same: the file and the offset
+abbrev pub same_place : ℕ × ℕ → ℕ × ℕ → Bool
+same_place a b = nat_eq a.0 b.0 && nat_eq a.1 b.1

@@ -1,6 +1,6 @@
 -- The items of a tree: what has an outcome of its own (own, after AOSP, "AIDL language", "Constants").
-use Rattle.std.specs.Prelude.{ℕ, Bool, true, false, ◌||◌, ◌&&◌, nat_eq, List, [], ◌∷◌, ◌++◌, map, Option, Some, None, position}
-use Rattle.std.specs.List.{fold}
+use Rattle.std.specs.Prelude.{ℕ, Bool, true, false, ◌||◌, ◌&&◌, nat_eq, List, [], ◌∷◌, ◌++◌, map, Option, Some, None}
+use Rattle.std.specs.List.{fold, position_from}
 use Rattle.std.specs.declared.cmp.Ordering.{Ordering}
 use Rattle.std.specs.Ordering.{nat_cmp, ordering_then, match_ordering}
 use Rattle.aidl_syntax.specs.declared.tree.TypeTree.{TypeTree}
@@ -133,4 +133,4 @@ is_at file place x = nat_eq x.file file && nat_eq x.place place
 
 -- the number of the item with a place
 abbrev pub number_at : List Item → ℕ → ℕ → Option ℕ
-number_at xs file place = position (is_at file place) xs
+number_at xs file place = position_from (is_at file place) 0 xs
