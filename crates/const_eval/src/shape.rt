@@ -11,7 +11,7 @@ use aidl_names::{BuiltinName, Found, Names, Resolved};
 use aidl_syntax::{BodyTree, DeclTree, DottedTree, TypeTree};
 
 /// What a type is, by its base: a single value, an array or a list; or refused, as E16 has it.
-#[derive(Clone, Copy, Debug, PartialEq, Eq)]
+#[derive(Clone, Copy)]
 pub enum Shape {
     /// a single value of the base
     One(Resolved),
