@@ -7,7 +7,6 @@ use Rattle.aidl_base.specs.declared.constant.Const.{Const}
 use Rattle.aidl_syntax.specs.declared.tree.DottedTree.{DottedTree}
 use Rattle.aidl_syntax.specs.Trees.{Expr}
 use Rattle.aidl_syntax.specs.Trees.Expr.{literal, name, group, unary, binary}
-use Rattle.aidl_syntax.specs.Walks.{in_expr}
 use Rattle.aidl_names.specs.Sources.{Source}
 use Rattle.const_values.specs.declared.fault.ConstFault.{ConstFault}
 use Rattle.const_values.specs.Operands.{Operand}
@@ -15,19 +14,15 @@ use Rattle.const_values.specs.Symbols.{unary_operator, binary_operator}
 use Rattle.const_values.specs.Evaluation.{evaluated, before, then_right}
 use Rattle.const_values.specs.Wanted.{fitted}
 use Rattle.const_eval.specs.Items.{Item, Written, written, first, after, items, number_at}
-use Rattle.const_eval.specs.Dependence.{target, number_of, names_in, number_before, depends_on}
+use Rattle.const_eval.specs.Dependence.{target, number_of, names_of, names_in, number_before, depends_on}
 use Rattle.std.specs.List.{slice_get}
 use Rattle.aidl_base.specs.declared.constant.Const.{out-Const}
 use Rattle.const_values.specs.declared.width.Width.TheVariants.{Wide}
 use Rattle.const_values.specs.Operands.{number}
 use Rattle.const_eval.specs.Outcomes.{Values, operand_at, operand_of, wanted_of, meaning, judgement_of, one_more, named_enum, number_in}
 
--- the dotted names in an expression
-abbrev pub dotted_in : Expr → List DottedTree
-dotted_in e = in_expr (λ t. []) (λ d. d ∷ []) e
-
 -- meanings that agree on the names in an expression
-pub evaluated_alike : (m w : DottedTree → Result Operand ConstFault) (e : Expr) → ((d : DottedTree) → Contains (dotted_in e) d → m d ≡ w d) → evaluated m e ≡ evaluated w e
+pub evaluated_alike : (m w : DottedTree → Result Operand ConstFault) (e : Expr) → ((d : DottedTree) → Contains (names_of e) d → m d ≡ w d) → evaluated m e ≡ evaluated w e
 evaluated_alike m w (literal offset token) same = refl
 evaluated_alike m w (name offset d) same = same d (Contains-append_left (d ∷ []) [] d here)
   where
@@ -36,8 +31,8 @@ evaluated_alike m w (name offset d) same = same d (Contains-append_left (d ∷ [
 evaluated_alike m w (group offset a) same = evaluated_alike m w a same
 evaluated_alike m w (unary offset symbol a) same = ap (λ r. r >>= before (unary_operator symbol)) (evaluated_alike m w a same)
 evaluated_alike m w (binary offset symbol a b) same =
-    ap (λ r. r >>= then_right (binary_operator symbol) (evaluated m b)) (evaluated_alike m w a (λ d h. same d (Contains-append_left (dotted_in a) (dotted_in b) d h)))
-    ∙ ap (λ r. evaluated w a >>= then_right (binary_operator symbol) r) (evaluated_alike m w b (λ d h. same d (Contains-append_right (dotted_in a) (dotted_in b) d h)))
+    ap (λ r. r >>= then_right (binary_operator symbol) (evaluated m b)) (evaluated_alike m w a (λ d h. same d (Contains-append_left (names_of a) (names_of b) d h)))
+    ∙ ap (λ r. evaluated w a >>= then_right (binary_operator symbol) r) (evaluated_alike m w b (λ d h. same d (Contains-append_right (names_of a) (names_of b) d h)))
 
 behind : {Y : Type 0} (o : Option Y) (ys : List Y) (y : Y) → Contains ys y → Contains (cons_option o ys) y
 behind None ys y h = h

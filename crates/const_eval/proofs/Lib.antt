@@ -1,2 +1,4 @@
 pub mod Agree
+pub mod General
 pub mod OneOutcome
+pub mod Orders

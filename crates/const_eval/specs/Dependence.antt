@@ -83,9 +83,13 @@ target_by files x (name ∷ next ∷ more) = target_behind files x (name ∷ [])
 abbrev pub target : List Source → Item → DottedTree → Option Target
 target files x d = target_by files x d.name.0
 
+-- the names in an expression, in the order of the file
+abbrev pub names_of : Expr → List DottedTree
+names_of e = in_expr (λ t. []) (λ d. d ∷ []) e
+
 -- the names in what is written
 abbrev pub names_in : Written → List DottedTree
-names_in (written e) = in_expr (λ t. []) (λ d. d ∷ []) e
+names_in (written e) = names_of e
 names_in first = []
 names_in (after place) = []
 

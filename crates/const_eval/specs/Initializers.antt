@@ -1,38 +1,33 @@
 -- Which initializers of fields are refused by their form alone (E21, own).
-use Rattle.std.specs.Prelude.{ℕ, Bool, true, false, not, ◌&&◌, ◌||◌, List, [], ◌∷◌, Option, Some, None}
-use Rattle.aidl_syntax.specs.Trees.{Expr, Init, Body}
+use Rattle.std.specs.Prelude.{Bool, true, false, ◌&&◌, ◌||◌, List, [], ◌∷◌}
+use Rattle.aidl_syntax.specs.Trees.{Expr, Init}
 use Rattle.aidl_syntax.specs.Trees.Init.{single, braces}
-use Rattle.aidl_syntax.specs.Trees.Body.{parcelable, union, enum, interface}
 use Rattle.aidl_names.specs.Declarations.{Entry}
-use Rattle.const_eval.specs.Types.{Shaped, one, array, list, refused, is_composite}
+use Rattle.const_eval.specs.declared.shape.Shape.{Shape}
+use Rattle.const_eval.specs.declared.shape.Shape.TheVariants as shape
+use Rattle.const_eval.specs.Types.{is_composite}
 
 abbrev pub is_some_list : List Expr → Bool
 is_some_list [] = false
 is_some_list (e ∷ es) = true
 
--- a list of members for a sequence of parcelables or unions
-abbrev pub has_composite_members : List Entry → Shaped → List Expr → Bool
-has_composite_members entries (array r) es = is_composite entries r && is_some_list es
-has_composite_members entries (list r) es = is_composite entries r && is_some_list es
-has_composite_members entries _ es = false
+-- A type takes no expression: a sequence, and a single parcelable or union.
+abbrev pub refuses_single : List Entry → Shape → Bool
+refuses_single entries (shape.One r) = is_composite entries r
+refuses_single entries _ = true
 
-abbrev pub is_one : Shaped → Bool
-is_one (one r) = true
-is_one _ = false
+-- A type takes no such brace list: a single value takes none, and a sequence of parcelables or unions only the empty one.
+abbrev pub refuses_braces : List Entry → Shape → Bool → Bool
+refuses_braces entries (shape.One r) some = true
+refuses_braces entries (shape.Array r) some = is_composite entries r && some
+refuses_braces entries (shape.List r) some = is_composite entries r && some
+refuses_braces entries shape.Refused some = true
 
--- a single value of a parcelable or union
-abbrev pub is_one_composite : List Entry → Shaped → Bool
-is_one_composite entries (one r) = is_composite entries r
-is_one_composite entries _ = false
+abbrev pub misfits : List Entry → Shape → Init → Bool
+misfits entries t (single e) = refuses_single entries t
+misfits entries t (braces offset es) = refuses_braces entries t (is_some_list es)
 
--- an expression on a sequence, a brace list on a single value, members for a sequence of parcelables or unions, any initializer for
--- a single parcelable or union
-abbrev pub misfits : List Entry → Shaped → Init → Bool
-misfits entries t (single e) = not (is_one t) || is_one_composite entries t
-misfits entries t (braces offset es) = is_one t || has_composite_members entries t es
-
--- The initializer of the field at a position has no outcome: its type is one that E16 refuses, its form doesn't fit the type,
--- or the field isn't the first of a union.
-abbrev pub is_unjudged : List Entry → Bool → Shaped → Init → Bool
-is_unjudged entries later_in_union refused init = true
+-- The initializer of a field has no outcome: the field isn't the first of a union, or its type is one that E16 refuses, or the
+-- form of the initializer doesn't fit the type.
+abbrev pub is_unjudged : List Entry → Bool → Shape → Init → Bool
 is_unjudged entries later_in_union t init = later_in_union || misfits entries t init

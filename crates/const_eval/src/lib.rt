@@ -1,9 +1,22 @@
 //! The outcome of each constant expression of a tree: its value, its fault, or that it isn't judged.
 #![tactic(auto)]
 
+mod backing;
+mod initializers;
+mod item;
 mod laws;
+mod listing;
+mod named;
+mod numbering;
+mod order;
 mod outcome;
+mod shape;
+mod wanted;
 
 pub use const_values::ConstFault;
+pub use item::{ItemRef, WrittenRef};
 pub use laws::law_one_outcome;
+pub use named::names_in;
+pub use numbering::{Items, numbered};
 pub use outcome::Outcome;
+pub use shape::{Shape, shaped};
