@@ -1,12 +1,16 @@
-//! Values: the default of a parcelable with an initializer, and the copy and the depth of values.
+//! Values: the default of a parcelable with an initializer, and the copy and the depth of values. Schemas: look-ups, and what the
+//! judge says of a declaration that goes.
 
 ghost use Rattle.std.specs.Prelude.{◌≡◌, false, IfOk};
 ghost use Rattle.std.specs.Str.{chars};
 ghost use Rattle.aidl_schema.specs.Valid.{IsValid};
 
 use aidl_base::{Const, DottedName, Ident, OutOfMemory, Row, Text};
-use aidl_schema::{AidlType, Base, Decl, Field, Kind, Schema, Shape, is_type};
+use aidl_schema::{
+    AidlType, Base, Decl, Field, Kind, Schema, Shape, find, is_type, method_of_code,
+};
 use aidl_values::{Value, default_of, depth, has_type, initial_of, law_one_default, law_sound};
+use compat_judge::judge;
 use std::alloc::Global;
 use std::test::Fail;
 
@@ -114,5 +118,23 @@ fn values_are_deep_and_wide(rt: HostRuntime) -> Result<(), Fail> {
     let deep = nested(rt.alloc(), 1_000, wide)?;
     let copy = deep.try_clone(rt.alloc())?;
     assert_eq!(rt; depth(&copy), 1_001);
+    Ok(())
+}
+
+#[test]
+fn a_declaration_that_goes_breaks_a_rule(rt: HostRuntime) -> Result<(), Fail> {
+    let old = schema(rt.alloc())?;
+    let new = Schema::empty(rt.alloc());
+    assert_eq!(rt; find(&old, "P"), Some(0));
+    assert_eq!(rt; find(&new, "P"), None);
+    assert_eq!(rt; method_of_code(&old, 0, 1), None);
+    let broken = judge(rt.alloc(), &old, &new)?;
+    let [first] = broken.as_slice() else {
+        return Err("another list")?;
+    };
+    assert_eq!(rt; first.rule, 1);
+    assert_eq!(rt; first.place.as_str(), "P");
+    assert_eq!(rt; judge(rt.alloc(), &new, &old)?.len(), 0);
+    assert_eq!(rt; judge(rt.alloc(), &old, &old)?.len(), 0);
     Ok(())
 }
