@@ -1,9 +1,8 @@
 -- Values that agree on what an item depends on give it one judgement.
-use Rattle.std.proofs.Common.{◌≡◌, ℕ, ℤ, pos, ◌+ℤ◌, Bool, true, false, List, [], ◌∷◌, ◌++◌, Option, Some, None, Result, Ok, Err, zero, suc, ◌<◌, length, slice_index_or, refl, sym, ap, ◌∙◌, subst, Contains, arith}
+use Rattle.std.proofs.Common.{◌≡◌, ℕ, pos, ◌+ℤ◌, List, [], ◌∷◌, Option, Some, None, Result, zero, suc, ◌<◌, length, slice_index_or, refl, sym, ap, ◌∙◌, subst, Contains, arith}
 use Rattle.std.specs.List.{filter_map, cons_option}
 use Rattle.std.proofs.lemmas.List.Elements.{Contains-append_left, Contains-append_right}
 use Rattle.aidl_base.specs.Results.{◌>>=◌}
-use Rattle.aidl_base.specs.declared.constant.Const.{Const}
 use Rattle.aidl_syntax.specs.declared.tree.DottedTree.{DottedTree}
 use Rattle.aidl_syntax.specs.Trees.{Expr}
 use Rattle.aidl_syntax.specs.Trees.Expr.{literal, name, group, unary, binary}

@@ -1,5 +1,5 @@
 -- Where a test passes first in what a function makes of the rest of a list.
-use Rattle.std.proofs.Common.{◌≡◌, ℕ, ◌+◌, ◌<◌, suc, Bool, cond, List, ◌∷◌, map, length, get_or, drop, drop-cons, add-one, Some, refl, sym, ap, ◌∙◌}
+use Rattle.std.proofs.Common.{◌≡◌, ℕ, ◌+◌, ◌<◌, suc, Bool, cond, List, map, length, get_or, drop, drop-cons, add-one, Some, sym, ap, ◌∙◌}
 use Rattle.std.specs.List.{position_from}
 
 -- at the first of the rest, or else behind it

@@ -1,14 +1,13 @@
 -- No item has two outcomes.
-use Rattle.std.proofs.Common.{◌≡◌, ℕ, Bool, true, false, List, Option, Some, None, refl, sym, ap, ◌∙◌, subst, Contains}
+use Rattle.std.proofs.Common.{◌≡◌, ℕ, false, List, Some, refl, sym, ap, ◌∙◌, subst, Contains}
 use Rattle.std.specs.List.{slice_get}
 use Rattle.aidl_base.specs.declared.constant.Const.{Const}
 use Rattle.aidl_names.specs.Sources.{Source}
-use Rattle.const_values.specs.declared.fault.ConstFault.TheVariants.{Cycle, UnknownName}
 use Rattle.const_eval.specs.declared.outcome.Outcome.{Outcome}
-use Rattle.const_eval.specs.declared.outcome.Outcome.TheVariants.{Given, Fault, Unjudged}
+use Rattle.const_eval.specs.declared.outcome.Outcome.TheVariants.{Given}
 use Rattle.const_eval.specs.Items.{Item, items}
-use Rattle.const_eval.specs.Dependence.{has_unknown_name, depends_on, next, next_of}
-use Rattle.const_eval.specs.Outcomes.{Values, IsCyclic, HasOutcome, is_given, judgement_of, outcome_of}
+use Rattle.const_eval.specs.Dependence.{depends_on, next, next_of}
+use Rattle.const_eval.specs.Outcomes.{Values, HasOutcome, is_given, judgement_of, outcome_of}
 use Rattle.const_eval.specs.Outcomes.HasOutcome.{unformed, unknown, cyclic, behind, judged}
 use Rattle.const_eval.proofs.Agree.{judged_alike}
 

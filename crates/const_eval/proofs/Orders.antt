@@ -1,5 +1,5 @@
 -- An item goes into a map by its place as it goes into the items in order.
-use Rattle.std.proofs.Common.{◌≡◌, ℕ, ◌+◌, ◌<◌, suc, List, [], ◌∷◌, map, length, get_or, drop, drop-cons, add-one, refl, sym, ap, ◌∙◌, subst}
+use Rattle.std.proofs.Common.{◌≡◌, ℕ, ◌+◌, ◌<◌, List, [], ◌∷◌, map, length, get_or, drop, drop-cons, add-one, refl, sym, ap, ◌∙◌, subst}
 use Rattle.std.specs.List.{fold}
 use Rattle.std.specs.declared.cmp.Ordering.{Ordering}
 use Rattle.std.specs.declared.cmp.Ordering.TheVariants.{Less, Equal, Greater}
@@ -7,7 +7,7 @@ use Rattle.std.specs.Ordering.{nat_cmp, ordering_then, match_ordering}
 use Rattle.std.specs.FinMap.{nat_cmp-IsAntisymmetric}
 use Rattle.std.specs.BTreeMap.{insert_entry}
 use Rattle.const_eval.specs.declared.item.ItemRef.{ItemRef}
-use Rattle.const_eval.specs.Items.{Item, order, put}
+use Rattle.const_eval.specs.Items.{Item, put}
 use Rattle.const_eval.specs.ItemViews.{item_of}
 
 -- a place: a file and an offset in it

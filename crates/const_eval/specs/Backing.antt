@@ -6,7 +6,7 @@ use Rattle.aidl_syntax.specs.declared.token.TokenKind.{TokenKind}
 use Rattle.aidl_syntax.specs.declared.token.TokenKind.TheVariants as token
 use Rattle.aidl_syntax.specs.declared.tree.NameTree.{NameTree}
 use Rattle.aidl_syntax.specs.Trees.{Expr, Init, Param, Annot, Decl}
-use Rattle.aidl_syntax.specs.Trees.Expr.{literal, name, group, unary, binary}
+use Rattle.aidl_syntax.specs.Trees.Expr.{literal}
 use Rattle.aidl_syntax.specs.Trees.Init.{single, braces}
 use Rattle.aidl_syntax.specs.Trees.Decl.{decl}
 use Rattle.const_values.specs.declared.wanted.Wanted.{Wanted}

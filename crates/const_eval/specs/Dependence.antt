@@ -1,6 +1,6 @@
 -- What an item depends on: the items that its names mean, and for an enumerator without an expression the one before it
 -- (own, after AOSP, "AIDL language", "Constants").
-use Rattle.std.specs.Prelude.{ℕ, zero, suc, Bool, true, false, ◌&&◌, if◌then◌else◌, List, [], ◌∷◌, ◌++◌, length, Option, Some, None, is_none}
+use Rattle.std.specs.Prelude.{ℕ, zero, suc, Bool, true, false, if◌then◌else◌, List, [], ◌∷◌, ◌++◌, length, Option, Some, None, is_none}
 use Rattle.std.specs.List.{filter_map, find, list_any, slice_get}
 use Rattle.std.specs.Str.{bytes_eq}
 use Rattle.aidl_base.specs.declared.name.Ident.{Ident}
@@ -8,9 +8,10 @@ use Rattle.aidl_syntax.specs.declared.tree.DottedTree.{DottedTree}
 use Rattle.aidl_syntax.specs.Trees.{Expr, offset_of, Constant, Enumerator}
 use Rattle.aidl_syntax.specs.Walks.{in_expr}
 use Rattle.aidl_syntax.specs.Members.{Member, members, body, member_name}
-use Rattle.aidl_syntax.specs.Members.Member.{field, constant, method, enumerator, nested}
+use Rattle.aidl_syntax.specs.Members.Member.{constant, enumerator}
 use Rattle.aidl_names.specs.declared.resolved.Resolved.{Resolved}
-use Rattle.aidl_names.specs.declared.resolved.Resolved.TheVariants.{Builtin, ListWord, LeftOut, Declared}
+use Rattle.aidl_names.specs.declared.resolved.Resolved.TheVariants.{Declared}
+use Rattle.aidl_names.specs.Names.{text}
 use Rattle.aidl_names.specs.Sources.{Source}
 use Rattle.aidl_names.specs.Declarations.{Entry, declarations}
 use Rattle.aidl_names.specs.Resolution.{resolved, or_else}
@@ -27,8 +28,9 @@ target_of number e (constant c) = Some (of_constant e number c)
 target_of number e (enumerator x) = Some (of_enumerator e number x)
 target_of number e _ = None
 
+-- its name is that
 abbrev pub is_called : Ident → Member → Bool
-is_called name m = bytes_eq (member_name m).name.0 name.0
+is_called name m = bytes_eq (text (member_name m).name) (text name)
 
 abbrev pub target_if : ℕ → Entry → Option Member → Option Target
 target_if number e None = None

@@ -118,7 +118,7 @@ declared files = in_each (of_entry files) 0 (declarations files)
 abbrev pub order : Item → Item → Ordering
 order x y = ordering_then (nat_cmp x.file y.file) (nat_cmp x.place y.place)
 
--- An item at its place among others. No two have one place, since at each another token begins.
+-- An item at its place among others; it would stand for another with that place. (Of tokens each begins at a place of its own.)
 abbrev pub put : List Item → Item → List Item
 put [] x = x ∷ []
 put (y ∷ more) x = match_ordering (order x y) (x ∷ y ∷ more) (x ∷ more) (y ∷ put more x)

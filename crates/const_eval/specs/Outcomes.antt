@@ -1,5 +1,5 @@
 -- The outcome of each item: the first of six cases (own, after AOSP, "AIDL language", "Constants").
-use Rattle.std.specs.Prelude.{◌≡◌, ℕ, ℤ, pos, negsuc, ◌+ℤ◌, Bool, true, false, List, [], ◌∷◌, Option, Some, None, Result, Ok, Err, Contains, IsTrue}
+use Rattle.std.specs.Prelude.{◌≡◌, ℕ, ℤ, pos, ◌+ℤ◌, Bool, true, false, List, Option, Some, None, Result, Ok, Err, Contains}
 use Rattle.std.specs.List.{slice_get}
 use Rattle.aidl_base.specs.Results.{◌>>=◌}
 use Rattle.aidl_base.specs.declared.constant.Const.{Const, out-Const}
@@ -7,7 +7,7 @@ use Rattle.aidl_base.specs.declared.constant.Const.TheOpen.{Const-F}
 use Rattle.graph_cycles.specs.Paths.{Leads}
 use Rattle.aidl_syntax.specs.declared.tree.DottedTree.{DottedTree}
 use Rattle.aidl_syntax.specs.Trees.{Expr}
-use Rattle.aidl_syntax.specs.Trees.Expr.{literal, name, group, unary, binary}
+use Rattle.aidl_syntax.specs.Trees.Expr.{name}
 use Rattle.aidl_names.specs.Sources.{Source}
 use Rattle.const_values.specs.declared.fault.ConstFault.{ConstFault}
 use Rattle.const_values.specs.declared.fault.ConstFault.TheVariants.{Mismatch, Cycle, UnknownName}
@@ -20,7 +20,7 @@ use Rattle.const_values.specs.Wanted.{fitted}
 use Rattle.const_eval.specs.declared.outcome.Outcome.{Outcome}
 use Rattle.const_eval.specs.declared.outcome.Outcome.TheVariants.{Given, Fault, Unjudged}
 use Rattle.const_eval.specs.Items.{Item, Written, written, first, after, items, number_at}
-use Rattle.const_eval.specs.Dependence.{Target, of_constant, of_enumerator, target, number_of, has_unknown_name, next}
+use Rattle.const_eval.specs.Dependence.{Target, of_enumerator, target, number_of, has_unknown_name, next}
 
 -- What the value of a constant or enumerator is in an expression, by the value that was wanted of it.
 

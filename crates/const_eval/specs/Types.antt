@@ -9,7 +9,7 @@ use Rattle.aidl_syntax.specs.Members.{body}
 use Rattle.aidl_names.specs.declared.resolved.BuiltinName.{BuiltinName}
 use Rattle.aidl_names.specs.declared.resolved.BuiltinName.TheVariants as built_in
 use Rattle.aidl_names.specs.declared.resolved.Resolved.{Resolved}
-use Rattle.aidl_names.specs.declared.resolved.Resolved.TheVariants.{Builtin, ListWord, LeftOut, Declared}
+use Rattle.aidl_names.specs.declared.resolved.Resolved.TheVariants.{Builtin, ListWord, Declared}
 use Rattle.aidl_names.specs.Sources.{Source}
 use Rattle.aidl_names.specs.Declarations.{Entry}
 use Rattle.aidl_names.specs.Resolution.{resolved}

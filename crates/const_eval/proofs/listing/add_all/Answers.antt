@@ -1,4 +1,4 @@
-use Rattle.std.proofs.Common.{◌≡◌, length, option_map, refl, sym, ap, ◌∙◌, arith}
+use Rattle.std.proofs.Common.{length, option_map, refl, sym, ap, ◌∙◌, arith}
 use Rattle.std.specs.List.{slice_get}
 use Rattle.std.proofs.lemmas.Option.{slice_get_read, slice_get-map}
 use Rattle.aidl_names.specs.Refusals.{entry_of}
