@@ -1,5 +1,4 @@
 mod Examples
-pub mod General
 pub mod Trees
 pub mod Walks
 pub mod Compared
@@ -7,4 +6,6 @@ pub mod Candidates
 pub mod Orders
 pub mod Earlier
 pub mod Taken
+pub mod Chains
 pub mod Tables
+pub mod Alike

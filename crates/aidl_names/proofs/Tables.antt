@@ -1,9 +1,8 @@
 -- Looking up by marks: what a place leaves out has another mark, so another name.
-use Rattle.std.proofs.Common.{◌≡◌, ◌<◌, ◌+◌, ◌-◌, ℕ, zero, suc, Bool, true, false, cond, nat_eq, List, [], ◌∷◌, ◌++◌, map, length, drop, get_or, add-one, Option, Some, None, refl, sym, ◌∙◌, ap, subst, arith, eq-eqb}
+use Rattle.std.proofs.Common.{◌≡◌, ◌<◌, ◌+◌, ℕ, zero, suc, Bool, true, false, cond, nat_eq, List, [], ◌∷◌, ◌++◌, map, length, drop, get_or, add-one, Option, Some, refl, sym, ◌∙◌, ap, subst, arith, eq-eqb}
 use Rattle.std.specs.List.{fold, position_from}
 use Rattle.std.specs.Str.{bytes_eq}
 use Rattle.std.proofs.lemmas.Bool.{and_parts}
-use Rattle.std.proofs.lemmas.Bool.Decides.{nat_tests}
 use Rattle.std.proofs.lemmas.Slice.Eq.{bytes_eq-Decides}
 use Rattle.std.proofs.lemmas.List.Sums.{fold-append}
 use Rattle.aidl_base.specs.declared.name.Ident.{Ident}
@@ -12,12 +11,12 @@ use Rattle.aidl_names.specs.Declarations.{Entry}
 use Rattle.aidl_names.specs.Resolution.{number_of}
 use Rattle.aidl_names.specs.declared.names.Found.{Found}
 use Rattle.aidl_names.specs.Refusals.{entry_of}
-use Rattle.aidl_names.proofs.Taken.{found_from}
+use Rattle.aidl_names.proofs.Chains.{left_at, HasMark, skip, marked}
 use Rattle.std.proofs.lemmas.List.{length-map, drop-map}
 use Rattle.aidl_names.specs.Marks.{with_byte, with_part, mark_of, mark_of_entry}
 
 -- names that are the same have the same mark
-same_marks : (m : ℕ) (a b : List Ident) → same a b ≡ true → fold with_part m a ≡ fold with_part m b
+pub same_marks : (m : ℕ) (a b : List Ident) → same a b ≡ true → fold with_part m a ≡ fold with_part m b
 same_marks m [] [] e = refl
 same_marks m [] (y ∷ ys) e = cc
 same_marks m (x ∷ xs) [] e = cc
@@ -25,55 +24,6 @@ same_marks m (x ∷ xs) (y ∷ ys) e =
     let p = and_parts (bytes_eq (text x) (text y)) (same xs ys) e in
     let q : text x ≡ text y = (bytes_eq-Decides (text x) (text y)).0 p.0 in
     same_marks (with_part m x) xs ys p.1 ∙ ap (λ (t : List ℕ). fold with_part (with_byte (fold with_byte m t) 46) ys) q
-
--- what is left to try from a place on
-abbrev pub left_at : (Entry → Bool) → List Entry → Option ℕ → Option ℕ
-left_at p es None = None
-left_at p es (Some i) = position_from p i (drop i es)
-
--- a place has the mark
-abbrev pub HasMark : List ℕ → ℕ → Option ℕ → Type 0
-HasMark marks mark None = Unit {0}
-HasMark marks mark (Some i) = (i < length marks) × (get_or marks i 0 ≡ mark)
-
--- how many places are left
-abbrev pub left : ℕ → Option ℕ → ℕ
-left n None = 0
-left n (Some i) = n - i
-
-drop-more : {A : Type 0} (k : ℕ) (xs : List A) (x : A) (more : List A) → drop k xs ≡ x ∷ more → drop (suc k) xs ≡ more
-drop-more zero [] x more e = cc
-drop-more zero (y ∷ ys) x more e = cc
-drop-more (suc k) [] x more e = cc
-drop-more (suc k) (y ∷ ys) x more e = drop-more k ys x more e
-
-drop-first : (k : ℕ) (xs : List ℕ) (x : ℕ) (more : List ℕ) → drop k xs ≡ x ∷ more → (k < length xs) × (get_or xs k 0 ≡ x)
-drop-first zero [] x more e = cc
-drop-first zero (y ∷ ys) x more e = (omega arith, cc)
-drop-first (suc k) [] x more e = cc
-drop-first (suc k) (y ∷ ys) x more e = let h = drop-first k ys x more e in (omega (arith, h.0), h.1)
-
--- places without the mark may be left out
-pub skip : (p : Entry → Bool) (mark : ℕ) → ((e : Entry) → p e ≡ true → nat_eq mark (mark_of_entry e) ≡ true) → (es : List Entry) (tail : List Entry) (k : ℕ) → drop k es ≡ tail
-    → left_at p es (position_from (nat_eq mark) k (map mark_of_entry tail)) ≡ position_from p k tail
-skip p mark h es [] k e = refl
-skip p mark h es (x ∷ more) k e =
-    go (nat_eq mark (mark_of_entry x)) refl (p x) refl (skip p mark h es more (k + 1) (ap (λ (j : ℕ). drop j es) (add-one k) ∙ drop-more k es x more e)) where
-      go : (b : Bool) → nat_eq mark (mark_of_entry x) ≡ b → (c : Bool) → p x ≡ c
-          → left_at p es (position_from (nat_eq mark) (k + 1) (map mark_of_entry more)) ≡ position_from p (k + 1) more
-          → left_at p es (cond b (Some k) (position_from (nat_eq mark) (k + 1) (map mark_of_entry more))) ≡ cond c (Some k) (position_from p (k + 1) more)
-      go true q c r i = ap (position_from p k) e ∙ ap (λ z. cond z (Some k) (position_from p (k + 1) more)) r
-      go false q true r i = let w = h x r in cc
-      go false q false r i = i
-
--- what is found has the mark, at no earlier place
-pub marked : (mark : ℕ) (marks tail : List ℕ) (k : ℕ) → drop k marks ≡ tail → HasMark marks mark (position_from (nat_eq mark) k tail)
-marked mark marks [] k e = tt
-marked mark marks (x ∷ more) k e =
-    go (nat_eq mark x) refl (marked mark marks more (k + 1) (ap (λ (j : ℕ). drop j marks) (add-one k) ∙ drop-more k marks x more e)) where
-      go : (b : Bool) → nat_eq mark x ≡ b → HasMark marks mark (position_from (nat_eq mark) (k + 1) more) → HasMark marks mark (cond b (Some k) (position_from (nat_eq mark) (k + 1) more))
-      go true q i = let f = drop-first k marks x more e in (f.0, grind (arith, nat_tests, f.1, q))
-      go false q i = i
 
 -- The look-up of a name, over declarations as they were found.
 abbrev pub is_named : List Ident → Entry → Bool
@@ -90,7 +40,7 @@ started found marks front back mark result first m k r f =
     let w : result ≡ mark_of (front ++ back) = r ∙ ap (λ (z : ℕ). fold with_part z back) k ∙ sym (fold-append with_part 0 front back) in
     let g : first ≡ position_from (nat_eq (mark_of (front ++ back))) 0 marks = f ∙ ap (λ (z : ℕ). position_from (nat_eq z) 0 marks) w in
     let P : Option ℕ → Type 0 = HasMark marks (mark_of (front ++ back)) in (
-      ap (left_at (is_named (front ++ back)) es) (g ∙ ap (position_from (nat_eq (mark_of (front ++ back))) 0) m) ∙ skip (is_named (front ++ back)) (mark_of (front ++ back)) (by_mark (front ++ back)) es es 0 refl,
+      ap (left_at (is_named (front ++ back)) es) (g ∙ ap (position_from (nat_eq (mark_of (front ++ back))) 0) m) ∙ skip (is_named (front ++ back)) mark_of_entry (mark_of (front ++ back)) (by_mark (front ++ back)) es es 0 refl,
       subst P (sym g) (marked (mark_of (front ++ back)) marks marks 0 refl),
     )
 
@@ -122,18 +72,12 @@ went_on found marks name at next i f all m a lt is g rest fails n =
     let k : next ≡ position_from (nat_eq (mark_of name)) (i + 1) (drop (i + 1) marks) = n ∙ ap (λ (z : ℕ). position_from (nat_eq z) (i + 1) (drop (i + 1) marks)) g in
     let d : drop (i + 1) marks ≡ map mark_of_entry (drop (i + 1) es) = ap (drop (i + 1)) m ∙ drop-map mark_of_entry (i + 1) es in
     let P : Option ℕ → Type 0 = HasMark marks (mark_of name) in (
-      ap (left_at p es) (k ∙ ap (position_from (nat_eq (mark_of name)) (i + 1)) d) ∙ skip p (mark_of name) (by_mark name) es (drop (i + 1) es) (i + 1) refl
+      ap (left_at p es) (k ∙ ap (position_from (nat_eq (mark_of name)) (i + 1)) d) ∙ skip p mark_of_entry (mark_of name) (by_mark name) es (drop (i + 1) es) (i + 1) refl
           ∙ ap (λ (j : ℕ). position_from p (i + 1) (drop j es)) (add-one i)
           ∙ sym (ap (λ b. cond b (Some i) (position_from p (i + 1) (drop (suc i) es))) fails)
           ∙ sym (ap (position_from p i) (here found i f lt is)) ∙ sym (ap (left_at p es) a) ∙ rest,
       subst P (sym k) (marked (mark_of name) marks (drop (i + 1) marks) (i + 1) refl),
     )
-
-pub fewer : (n i : ℕ) (test : ℕ → Bool) (tail : List ℕ) (at next : Option ℕ) → at ≡ Some i → i < n → next ≡ position_from test (i + 1) tail → left n next < left n at
-fewer n i test tail at None a lt e = let P : Option ℕ → Type 0 = λ z. 0 < left n z in subst P (sym a) (omega arith)
-fewer n i test tail at (Some r) a lt e =
-    let h = found_from test (i + 1) tail r (sym e) in
-    let P : Option ℕ → Type 0 = λ z. left n (Some r) < left n z in subst P (sym a) (omega (arith, h))
 
 -- the mark of a declaration
 pub mark_at : (found : List Found) (marks : List ℕ) (i : ℕ) (f : Found) → marks ≡ map mark_of_entry (map entry_of found) → i < length found → f ≡ get_or found i f → get_or marks i 0 ≡ mark_of f.name.0

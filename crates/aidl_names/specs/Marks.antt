@@ -2,7 +2,8 @@
 use Rattle.std.specs.Prelude.{ℕ, ◌+◌, ◌*◌, ◌%◌, List}
 use Rattle.std.specs.List.{fold}
 use Rattle.aidl_base.specs.declared.name.Ident.{Ident}
-use Rattle.aidl_names.specs.Names.{text}
+use Rattle.aidl_syntax.specs.declared.tree.DottedTree.{DottedTree}
+use Rattle.aidl_names.specs.Names.{text, last}
 use Rattle.aidl_names.specs.Declarations.{Entry}
 
 -- one more byte
@@ -18,3 +19,7 @@ mark_of name = fold with_part 0 name
 
 abbrev pub mark_of_entry : Entry → ℕ
 mark_of_entry e = mark_of e.name
+
+-- the mark of the last part of an import
+abbrev pub mark_of_last : DottedTree → ℕ
+mark_of_last i = mark_of (last i.name.0)

@@ -1,16 +1,20 @@
-ghost use Rattle.std.specs.Prelude.{◌≡◌, ◌≤◌, ◌++◌, map, length, OnOk};
+ghost use Rattle.std.specs.Prelude.{◌≡◌, ◌≤◌, ◌<◌, ◌++◌, ◌||◌, map, length, get_or, Some, IfOk, OnOk};
+ghost use Rattle.std.specs.List.{position_from};
 ghost use Rattle.aidl_names.specs.Sources.{source_of};
-ghost use Rattle.aidl_names.specs.Rules.{in_each, unknown_imports, other_imports, is_other_import};
-ghost use Rattle.aidl_names.specs.Marks.{mark_of_entry};
+ghost use Rattle.aidl_names.specs.Rules.{in_each, unknown_imports, other_imports};
+ghost use Rattle.aidl_names.specs.Marks.{mark_of_entry, mark_of_last};
+ghost use Rattle.aidl_names.specs.Tables.{is_alike};
 ghost use Rattle.aidl_names.specs.Refusals.{entry_of};
 
+use crate::marks::with_parts;
 use crate::names::Found;
 use crate::resolution::{last, number_of};
 use crate::rows::add_if;
 use crate::same::same;
 use crate::table::Table;
-use aidl_base::{Breach, OutOfMemory};
+use aidl_base::{Breach, Ident, OutOfMemory};
 use aidl_syntax::{DottedTree, ParsedFile};
+use std::alloc::Global;
 
 /// Adds the breaches of E3.
 pub fn add_unknown_imports(
@@ -49,36 +53,82 @@ fn add_unknown(
 }
 
 /// Adds the breaches of E2 by imports.
-pub fn add_other_imports(files: &[ParsedFile], rows: &mut Vec<Breach>) -> Result<(), OutOfMemory>
+pub fn add_other_imports(
+    alloc: Global,
+    files: &[ParsedFile],
+    rows: &mut Vec<Breach>,
+) -> Result<(), OutOfMemory>
     requires files { length files.now ≤ 4096 }
     ensures { OnOk result (rows.new.items ≡ rows.old.items ++ in_each other_imports 0 (map source_of files.now)) }
 {
     for (i, file) in files.iter().enumerate() {
-        add_others(i as u32, file, rows)?;
+        add_others(alloc, i as u32, file, rows)?;
     }
     Ok(())
 }
 
-fn add_others(number: u32, file: &ParsedFile, rows: &mut Vec<Breach>) -> Result<(), OutOfMemory>
+// Beside the first import of each last part stands whether one so far with that last part differs from it.
+fn add_others(
+    alloc: Global,
+    number: u32,
+    file: &ParsedFile,
+    rows: &mut Vec<Breach>,
+) -> Result<(), OutOfMemory>
     ensures { OnOk result (rows.new.items ≡ rows.old.items ++ other_imports number (source_of file.now)) }
 {
     let imports = file.tree.imports.as_slice();
+    let table = Table::new(alloc, last_marks(alloc, imports)?)?;
+    let mut differ = Vec::from_elem(alloc, false, imports.len())?;
     for (i, import) in imports.iter().enumerate() {
-        let (before, _) = imports.split_at(i);
-        add_if(is_other(before, import), 2, number, import.offset, rows)?;
+        let first = first_place(imports, &table, i, import);
+        let another = !same(imports[first].name.0.as_slice(), import.name.0.as_slice());
+        let other = either(differ[first], another);
+        differ[first] = other;
+        add_if(other, 2, number, import.offset, rows)?;
     }
     Ok(())
 }
 
-fn is_other(before: &[DottedTree], import: &DottedTree) -> bool
-    ensures { result ≡ is_other_import before.now import.now }
+fn either(a: bool, b: bool) -> bool
+    ensures { result ≡ (a || b) }
 {
-    let name = import.name.0.as_slice();
-    for earlier in before {
-        let parts = earlier.name.0.as_slice();
-        if same(last(parts), last(name)) && !same(parts, name) {
-            return true;
-        }
+    a || b
+}
+
+// The marks of the last parts of imports.
+fn last_marks(alloc: Global, imports: &[DottedTree]) -> Result<Vec<u64>, OutOfMemory>
+    ensures { IfOk result (λ marks. marks.items ≡ map mark_of_last imports.now) }
+{
+    let mut marks = Vec::with_capacity(alloc, imports.len())?;
+    for import in imports {
+        marks.push(with_parts(0, last(import.name.0.as_slice())))?;
     }
-    false
+    Ok(marks)
+}
+
+// The place of the first import that has the last part of the one at a place. It takes no memory.
+fn first_place(imports: &[DottedTree], table: &Table, i: usize, import: &DottedTree) -> usize
+    requires table { table.now ≡ map mark_of_last imports.now }
+    requires lies { i < length imports.now }
+    requires here { import.now ≡ get_or imports.now i import.now }
+    ensures first { position_from (is_alike import.now.name.0) 0 imports.now ≡ Some result }
+    ensures within { result ≤ i }
+{
+    first_alike(imports, table, import.name.0.as_slice()).unwrap_or(i)
+}
+
+// The place of the first import that has the last part of a name. It takes no memory.
+fn first_alike(imports: &[DottedTree], table: &Table, name: &[Ident]) -> Option<usize>
+    requires table { table.now ≡ map mark_of_last imports.now }
+    ensures { result ≡ position_from (is_alike name.now) 0 imports.now }
+{
+    let part = last(name);
+    let mut at = table.first(with_parts(0, part));
+    'places: while let Some(place) = at {
+        if same(last(imports[place].name.0.as_slice()), part) {
+            return Some(place);
+        }
+        at = table.next(place);
+    }
+    None
 }

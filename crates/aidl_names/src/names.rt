@@ -149,7 +149,7 @@ fn breaches(
     add_wrong_files(alloc, files, &mut rows)?;
     add_repeated(alloc, found, &mut rows)?;
     add_taken(found, table, &mut rows)?;
-    add_other_imports(files, &mut rows)?;
+    add_other_imports(alloc, files, &mut rows)?;
     add_unknown_imports(found, table, files, &mut rows)?;
     add_types(alloc, files, found, table, TypeRule::Unknown, &mut rows)?;
     add_types(alloc, files, found, table, TypeRule::LeftOut, &mut rows)?;

@@ -1,10 +1,15 @@
 //! What comes of a source text, as text that a person can compare: its tokens, its tree as an outline, the value of its
-//! first constant, or the fault. It is for rows of expected results and no part of the product.
+//! first constant, or the fault; and what comes of the names of a tree of files. It is for rows of expected results and
+//! no part of the product.
 #![tactic(auto)]
 
 mod evaluation;
+mod names;
 mod outcome;
 mod outline;
 mod tokens;
+mod tree;
+mod type_names;
 
 pub use outcome::{Kind, outcome_of};
+pub use tree::names_of;

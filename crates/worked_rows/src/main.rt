@@ -8,6 +8,7 @@ mod plain;
 mod run;
 mod runs;
 mod sources;
+mod trees;
 mod tried;
 
 use aidl_base::OutOfMemory;
@@ -19,15 +20,17 @@ use sources::try_sources;
 use std::alloc::Global;
 use std::io::ErrorKind;
 use std::{fs, io};
+use trees::try_trees;
 use tried::Tried;
 
-const FILES: [&str; 6] = [
+const FILES: [&str; 7] = [
     "words.rows",
     "decode.rows",
     "encode.rows",
     "lexer.rows",
     "parser.rows",
     "constants.rows",
+    "names.rows",
 ];
 
 fn main(rt: HostRuntime) -> io::Result<()> {
@@ -63,6 +66,7 @@ fn try_block(alloc: Global, block: &str, tried: &mut Tried) -> Result<(), OutOfM
         "parse" => try_sources(alloc, Kind::Tree, block, tried),
         "accept" => try_sources(alloc, Kind::Acceptance, block, tried),
         "evaluate" => try_sources(alloc, Kind::Value, block, tried),
+        "names" => try_trees(alloc, block, tried),
         _ => tried.unread(block),
     }
 }

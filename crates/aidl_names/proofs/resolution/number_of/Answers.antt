@@ -1,7 +1,8 @@
 use Rattle.std.proofs.Common.{◌+◌, ◌++◌, nat_eq, get_or, drop, length, sym, ◌∙◌, ap}
 use Rattle.aidl_names.specs.declared.names.Found.{Found}
 use Rattle.aidl_names.specs.Names.{same}
-use Rattle.aidl_names.proofs.Tables.{started, landed, within, went_on, fewer}
+use Rattle.aidl_names.proofs.Chains.{fewer}
+use Rattle.aidl_names.proofs.Tables.{started, landed, within, went_on}
 use Rattle.aidl_names.proofs.resolution.number_of.Goals as goal
 
 pub places-init : goal.places-init

@@ -3,7 +3,7 @@ use Rattle.aidl_names.specs.Names.{same}
 use Rattle.aidl_names.specs.Resolution.{number_of}
 use Rattle.aidl_names.specs.Marks.{mark_of}
 use Rattle.aidl_names.specs.Refusals.{entry_of}
-use Rattle.aidl_names.proofs.Tables.{left_at, HasMark, left}
+use Rattle.aidl_names.proofs.Chains.{left_at, HasMark, left}
 use Rattle.aidl_names.proofs.resolution.number_of.Given as goal
 
 -- it is none of those so far

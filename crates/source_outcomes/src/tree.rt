@@ -1,0 +1,56 @@
+ghost use Rattle.std.specs.Prelude.{◌≤◌, length, IfOk, IfSome};
+ghost use Rattle.std.specs.List.{All};
+ghost use Rattle.aidl_names.specs.Sources.{IsOfBytes, AreOfBytes};
+
+use crate::names::shown_names;
+use aidl_base::{LimitName, OutOfMemory, SourceFile, Text};
+use aidl_lexer::lex;
+use aidl_names::gather;
+use aidl_parser::parse;
+use aidl_syntax::ParsedFile;
+use std::alloc::Global;
+
+/// What comes of the names of a tree of files: its declarations in order with what the names of their types mean, or
+/// why they are refused.
+pub fn names_of(alloc: Global, files: &[SourceFile]) -> Result<String, OutOfMemory> {
+    let limit = LimitName::Files;
+    if files.len() > 4096 {
+        return Ok(format!(in alloc; "limit {} {}", limit.name(), limit.number())?);
+    }
+    match parsed(alloc, files)? {
+        Some(files) => shown_names(alloc, files.as_slice(), gather(alloc, files.as_slice())),
+        None => Ok(String::from_str(alloc, "no tree")?),
+    }
+}
+
+// The trees of the files, if each has one.
+fn parsed(alloc: Global, files: &[SourceFile]) -> Result<Option<Vec<ParsedFile>>, OutOfMemory>
+    requires { length files.now ≤ 4096 }
+    ensures { IfOk result (λ trees. IfSome trees (λ trees. AreOfBytes trees.items)) }
+{
+    let mut trees = Vec::new(alloc);
+    for file in files {
+        match parsed_file(alloc, file)? {
+            Some(tree) => trees.push(tree)?,
+            None => return Ok(None),
+        }
+    }
+    Ok(Some(trees))
+}
+
+fn parsed_file(alloc: Global, file: &SourceFile) -> Result<Option<ParsedFile>, OutOfMemory>
+    ensures { IfOk result (λ tree. IfSome tree IsOfBytes) }
+{
+    let bytes = file.bytes.as_slice();
+    if bytes.len() > 262_144 {
+        return Ok(None);
+    }
+    let path = file.path.try_clone(alloc)?;
+    match lex(alloc, bytes) {
+        Ok(tokens) => match parse(alloc, tokens.as_slice()) {
+            Ok(tree) => Ok(Some(ParsedFile { path, tree })),
+            Err(_) => Ok(None),
+        },
+        Err(_) => Ok(None),
+    }
+}
