@@ -1,9 +1,9 @@
 -- Loops over lists that add what each item breaks.
-use Rattle.std.proofs.Common.{◌≡◌, ℕ, zero, suc, ◌+◌, ◌-◌, ◌<◌, ◌≤◌, min, Bool, true, false, not, cond, List, [], ◌∷◌, ◌++◌, map, length, take, drop, get_or, Option, Some, None, slice_get, nat_eq, refl, sym, ap, ◌∙◌, subst, arith, append_assoc, add-one}
-use Rattle.std.specs.List.{filter, find, flat_map, zip, enumerate_from, position_from}
+use Rattle.std.proofs.Common.{◌≡◌, ℕ, zero, suc, ◌+◌, ◌-◌, ◌<◌, ◌≤◌, Bool, true, false, List, [], ◌∷◌, ◌++◌, map, length, take, get_or, Option, Some, None, slice_get, refl, sym, ap, ◌∙◌, subst, arith, append_assoc, add-one}
+use Rattle.std.specs.List.{find, flat_map, position_from}
 use Rattle.std.proofs.lemmas.List.{append-nil}
 use Rattle.std.proofs.lemmas.List.Concat.{flat_map-append}
-use Rattle.aidl_schema.specs.Broken.{Break, Place, of_rule, place_if, places}
+use Rattle.aidl_schema.specs.Broken.{Break, Place, of_rule, places}
 use Rattle.compat_judge.specs.steps.Steps.{break_if, item_at, place_of}
 use Rattle.aidl_schema.specs.Same.{same_text}
 

@@ -1,5 +1,5 @@
 -- What one turn of a loop over members adds.
-use Rattle.std.proofs.Common.{◌≡◌, ℕ, zero, suc, ◌+◌, ◌<◌, ◌≤◌, min, Bool, true, false, List, [], ◌∷◌, ◌++◌, map, length, take, drop, get_or, Option, Some, None, slice_get, refl, sym, ap, ◌∙◌, subst, arith, is_some, add-one, cond}
+use Rattle.std.proofs.Common.{◌≡◌, ℕ, zero, suc, ◌+◌, ◌<◌, min, Bool, true, List, [], ◌∷◌, ◌++◌, map, length, take, drop, get_or, Option, Some, None, refl, sym, ap, ◌∙◌, subst, arith, is_some, add-one, cond}
 use Rattle.std.specs.List.{find, flat_map, zip, enumerate_from, position_from}
 use Rattle.std.proofs.lemmas.List.{append-nil}
 use Rattle.std.proofs.lemmas.List.Concat.{flat_map-append}
@@ -16,7 +16,7 @@ use Rattle.aidl_schema.specs.Same.{same_text}
 use Rattle.compat_judge.specs.declared.sides.Common.{Common}
 use Rattle.compat_judge.specs.steps.Steps.{both_of, break_if, item_at, place_of, places_among}
 use Rattle.compat_judge.proofs.Found.{same_text_sym}
-use Rattle.compat_judge.proofs.Listing.{added_more, find-same, item_named, take_further}
+use Rattle.compat_judge.proofs.Listing.{added_more, item_named, take_further}
 use Rattle.compat_judge.proofs.Utf8Order.{same_encoded}
 
 module _ {X : Type 0} (rule : ℕ) (d : Decl) (ident : X → Ident) (breaks : X → Bool) (start : List Break) (xs : List X) where

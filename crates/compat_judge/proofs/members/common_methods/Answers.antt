@@ -1,8 +1,7 @@
-use Rattle.std.proofs.Common.{◌≡◌, ◌<◌, ◌++◌, ◌∷◌, [], map, None, Some, length, take, sym, ap, subst, ◌∙◌, arith}
+use Rattle.std.proofs.Common.{◌≡◌, ◌<◌, None, length, sym, ap, ◌∙◌, arith}
 use Rattle.std.specs.List.{find}
 use Rattle.std.specs.Option.{option_copied}
-use Rattle.aidl_schema.specs.Broken.{in_both, same_method}
-use Rattle.compat_judge.specs.steps.Steps.{both_of}
+use Rattle.aidl_schema.specs.Broken.{same_method}
 use Rattle.compat_judge.proofs.Walk.{common_none, common_some, kept_at}
 use Rattle.compat_judge.proofs.members.common_methods.Goals as goal
 use Rattle.compat_judge.proofs.members.common_methods.Goals.{in-Some+in_ok-push, in_default}

@@ -1,5 +1,4 @@
 use Rattle.std.proofs.Common.{◌≡◌, ◌<◌, ◌&&◌, Bool, None, not, length, ap, ◌∙◌, arith}
-use Rattle.std.specs.Option.{option_copied}
 use Rattle.std.specs.Prelude.{◌==◌}
 use Rattle.aidl_schema.specs.declared.schema.Constant.{Constant}
 use Rattle.aidl_schema.specs.Same.{base_code}

@@ -1,6 +1,5 @@
 use Rattle.std.proofs.Common.{◌≡◌, ◌∷◌, ◌++◌, [], ◌<◌, ◌+◌, length, ap, ◌∙◌, arith, lit<, subst, sym, take, append_assoc}
 use Rattle.std.specs.Prelude.{string_bytes}
-use Rattle.std.specs.Str.{chars}
 use Rattle.std.proofs.lemmas.Str.{encode_ascii}
 use Rattle.aidl_base.specs.Names.{dotted}
 use Rattle.compat_judge.proofs.Listing.{take_further, take_to_end}

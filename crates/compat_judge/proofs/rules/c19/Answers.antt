@@ -3,7 +3,7 @@ use Rattle.std.specs.Prelude.{OnOk}
 use Rattle.std.specs.List.{flat_map, zip}
 use Rattle.aidl_schema.specs.declared.schema.Field.{Field}
 use Rattle.aidl_schema.specs.declared.schema.Method.{Method}
-use Rattle.aidl_schema.specs.Broken.{Break, Place, at_arguments_of, member, of_rule, place_if, places, whole}
+use Rattle.aidl_schema.specs.Broken.{Place, at_arguments_of, member, of_rule, place_if, places, whole}
 use Rattle.aidl_schema.specs.Containment.{fields_of}
 use Rattle.aidl_schema.specs.Same.{same_bool}
 use Rattle.compat_judge.specs.declared.tests.MethodTest.TheVariants as method

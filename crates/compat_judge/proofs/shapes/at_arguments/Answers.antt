@@ -1,5 +1,4 @@
 use Rattle.std.proofs.Common.{◌≡◌, ◌<◌, ◌++◌, length, map, sym, ap, ◌∙◌, arith}
-use Rattle.std.specs.List.{flat_map}
 use Rattle.std.proofs.lemmas.List.{length-map}
 use Rattle.aidl_schema.specs.Broken.{at_arguments_of, of_rule}
 use Rattle.compat_judge.specs.steps.Steps.{both_of}

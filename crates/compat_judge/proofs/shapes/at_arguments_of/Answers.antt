@@ -1,4 +1,4 @@
-use Rattle.std.proofs.Common.{◌≡◌, ℕ, ◌+◌, ◌<◌, Bool, ◌++◌, length, get_or, subst, sym, ap, ◌∙◌, arith}
+use Rattle.std.proofs.Common.{◌≡◌, ℕ, ◌+◌, ◌<◌, Bool, ◌++◌, length, get_or, subst, ap, ◌∙◌, arith}
 use Rattle.std.specs.List.{enumerate_from, zip}
 use Rattle.aidl_schema.specs.declared.schema.Arg.{Arg}
 use Rattle.aidl_schema.specs.Broken.{Place, argument, of_rule, places}

@@ -1,4 +1,4 @@
-use Rattle.std.proofs.Common.{◌≡◌, ◌<◌, length, sym, ◌∙◌, arith}
+use Rattle.std.proofs.Common.{◌≡◌, ◌<◌, length, arith}
 use Rattle.std.specs.List.{zip}
 use Rattle.aidl_schema.specs.Broken.{member}
 use Rattle.compat_judge.specs.steps.Tests.{field_breaks}
