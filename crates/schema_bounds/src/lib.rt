@@ -3,16 +3,16 @@
 #![tactic(auto)]
 
 mod bound;
-mod constants;
+mod const_size;
 mod containment;
-mod hub;
+mod kind_size;
 mod laws;
 mod measure;
 mod order;
 mod reach;
+mod reaching;
 mod sizes;
 mod small;
-mod steady;
 
 pub use bound::{Bound, bounds};
 pub use laws::{law_reaches_cycle, law_within};

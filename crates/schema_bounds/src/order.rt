@@ -1,7 +1,7 @@
 use crate::containment::{fields_of, is_composite, is_one};
-use crate::hub::is_set;
+use crate::kind_size::{kind_size, number_at};
 use crate::measure::Measure;
-use crate::sizes::{kind_size, number_at};
+use crate::reaching::is_set;
 use aidl_base::{OutOfMemory, Row};
 use aidl_schema::{Base, Decl, Field, Kind};
 use graph_cycles::find_cycles;

@@ -4,7 +4,7 @@ ghost use Rattle.graph_cycles.specs.Paths.{flag};
 ghost use Rattle.schema_bounds.specs.Bounds.{reaches_cycle};
 
 use crate::containment::containment;
-use crate::hub::reaching;
+use crate::reaching::reaching;
 use aidl_base::OutOfMemory;
 use aidl_schema::Decl;
 use graph_cycles::find_cycles;

@@ -3,10 +3,10 @@ ghost use Rattle.std.specs.List.{range_with_len};
 ghost use Rattle.aidl_schema.specs.Sizes.{has_small_default};
 ghost use Rattle.aidl_schema.specs.Valid.{one_of};
 
+use crate::kind_size::number_at;
 use crate::measure::Measure;
 use crate::order::default_order;
-use crate::sizes::number_at;
-use crate::steady::sizes;
+use crate::sizes::sizes;
 use aidl_base::OutOfMemory;
 use aidl_schema::Decl;
 use std::alloc::Global;

@@ -1,7 +1,7 @@
 use Rattle.std.proofs.Common.{◌≡◌, suc, ◌∙◌, ap, sym, map, arith}
 use Rattle.schema_bounds.specs.steps.Measures.{const_size, total}
 use Rattle.schema_bounds.proofs.Totals.{of_members}
-use Rattle.schema_bounds.proofs.constants.+const_size.Goals as goal
+use Rattle.schema_bounds.proofs.const_size.+const_size.Goals as goal
 
 pub const_size-returns-in-Members : goal.const_size-returns-in-Members
 const_size-returns-in-Members t c =

@@ -1,7 +1,7 @@
 use Rattle.std.proofs.Common.{◌∙◌, subst}
 use Rattle.graph_cycles.specs.Paths.{TellsCycles, targets}
 use Rattle.schema_bounds.proofs.Graphs.{on_cycle}
-use Rattle.schema_bounds.proofs.hub.reaching.Goals as goal
+use Rattle.schema_bounds.proofs.reaching.reaching.Goals as goal
 
 pub returns : goal.returns
 returns c n lt =

@@ -1,7 +1,7 @@
 use Rattle.std.proofs.Common.{suc, ◌∙◌, ap, sym, map, min}
 use Rattle.schema_bounds.specs.steps.Measures.{most, total, start_size, kind_size}
 use Rattle.schema_bounds.proofs.Totals.{one_above}
-use Rattle.schema_bounds.proofs.sizes.kind_size.Goals as goal
+use Rattle.schema_bounds.proofs.kind_size.kind_size.Goals as goal
 
 pub returns-in-Parcelable : goal.returns-in-Parcelable
 returns-in-Parcelable c =

@@ -2,7 +2,7 @@ use Rattle.std.proofs.Common.{◌++◌, ◌∙◌, ap, length}
 use Rattle.graph_cycles.specs.Paths.{flag, targets}
 use Rattle.schema_bounds.specs.steps.Hubs.{hub_if}
 use Rattle.schema_bounds.proofs.Lists.{pushed}
-use Rattle.schema_bounds.proofs.hub.with_hub.Goals as goal
+use Rattle.schema_bounds.proofs.reaching.with_hub.Goals as goal
 
 pub loop-node-preserved : goal.loop-node-preserved
 loop-node-preserved c =

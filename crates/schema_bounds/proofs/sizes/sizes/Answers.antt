@@ -3,7 +3,7 @@ use Rattle.std.proofs.lemmas.Bool.Decides.{Decides-eqb}
 use Rattle.std.proofs.lemmas.Slice.Eq.{slice_eq-Decides}
 use Rattle.schema_bounds.specs.steps.Measures.{most, kind_size}
 use Rattle.schema_bounds.proofs.Levels.{one_count, steady}
-use Rattle.schema_bounds.proofs.steady.sizes.Goals as goal
+use Rattle.schema_bounds.proofs.sizes.sizes.Goals as goal
 
 pub loop-count-preserved : goal.loop-count-preserved
 loop-count-preserved c =
