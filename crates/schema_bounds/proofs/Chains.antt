@@ -67,22 +67,25 @@ row_of : (S : List Decl) (o : Option Decl) → or_empty (option_map (λ d. conta
 row_of S None = refl
 row_of S (Some d) = refl
 
+either : (a b : Bool) → (a || b) ≡ true → (a ≡ true) ⊎ (b ≡ true)
+either true b h = inl refl
+either false b h = inr h
+
+or_left : (a b : Bool) → a ≡ true → (a || b) ≡ true
+or_left a b e = rw e refl
+
+or_right : (a b : Bool) → b ≡ true → (a || b) ≡ true
+or_right true b e = refl
+or_right false b e = e
+
+and_so : (a b : Bool) → a ≡ true → b ≡ true → (a && b) ≡ true
+and_so a b e f = rw (e, f) refl
+
+is_within : (b c : Bool) → b ≡ false → c ≡ true → (not b && c) ≡ true
+is_within b c e f = rw (e, f) refl
+
 -- the test of a declaration that reaches a cycle
 module _ (S : List Decl) where
-  either : (a b : Bool) → (a || b) ≡ true → (a ≡ true) ⊎ (b ≡ true)
-  either true b h = inl refl
-  either false b h = inr h
-
-  or_left : (a b : Bool) → a ≡ true → (a || b) ≡ true
-  or_left a b e = rw e refl
-
-  or_right : (a b : Bool) → b ≡ true → (a || b) ≡ true
-  or_right true b e = refl
-  or_right false b e = e
-
-  and_so : (a b : Bool) → a ≡ true → b ≡ true → (a && b) ≡ true
-  and_so a b e f = rw (e, f) refl
-
   reached : (n : ℕ) → list_any (λ m. reaches_within (length S) S n m && holds_itself S m) (range_with_len 0 (length S)) ≡ true → ReachesCycle S n
   reached n h =
       let one = Any-from_list_any (λ m. reaches_within (length S) S n m && holds_itself S m) (range_with_len 0 (length S)) h in
@@ -111,9 +114,6 @@ module _ (S : List Decl) where
   by_bound false true small e = (refl, inl refl)
   by_bound false false true e = (refl, inr refl)
   by_bound false false false e = cc
-
-  is_within : (b c : Bool) → b ≡ false → c ≡ true → (not b && c) ≡ true
-  is_within b c e f = rw (e, f) refl
 
   pub all_within : ((n : ℕ) → n < length S → bound S n ≡ Within) → (n : ℕ) → n < length S → IsTrue (is_bounded S n)
   all_within each n lt =

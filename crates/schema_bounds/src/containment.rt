@@ -47,11 +47,11 @@ pub fn fields_of(kind: &Kind) -> &[Field]
 fn contained_by(decls: &[Decl], field: &Field) -> Option<u32>
     ensures { listed result ≡ containment.contained_by decls.now field.now }
 {
-    match field.ty.base {
-        Base::Named(number)
-            if is_one(field.ty.shape) && !field.ty.heap && is_composite(decls, number) => Some(
-            number,
-        ),
+    let ty = field.ty;
+    match ty.base {
+        Base::Named(number) if is_one(ty.shape) && !ty.heap && is_composite(decls, number) => {
+            Some(number)
+        }
         _ => None,
     }
 }

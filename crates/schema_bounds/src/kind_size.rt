@@ -1,21 +1,11 @@
-ghost use Rattle.std.specs.Prelude.{◌≡◌, ◌-◌, map, min, slice_index_or};
+ghost use Rattle.std.specs.Prelude.{◌≡◌, ◌-◌, map, min};
 ghost use Rattle.schema_bounds.specs.steps.Measures as measures;
 
 use crate::const_size::const_size;
 use crate::containment::is_one;
 use crate::measure::Measure;
+use crate::places::number_at;
 use aidl_schema::{AidlType, Base, Field, Kind};
-
-/// The number at a place, and the other one beyond the last.
-pub fn number_at(numbers: &[usize], at: usize, other: usize) -> usize
-    ensures { result ≡ slice_index_or numbers.now at other }
-{
-    if at < numbers.len() {
-        numbers[at]
-    } else {
-        other
-    }
-}
 
 /// The size of a declaration's default by sizes of the declarations' defaults, counted up to where counting stops.
 pub fn kind_size(measure: Measure, sizes: &[usize], kind: &Kind) -> usize

@@ -9,10 +9,13 @@ mod kind_size;
 mod laws;
 mod measure;
 mod order;
+mod places;
 mod reach;
 mod reaching;
 mod sizes;
 mod small;
+#[cfg(test)]
+mod tests;
 
 pub use bound::{Bound, bounds};
 pub use laws::{law_reaches_cycle, law_within};

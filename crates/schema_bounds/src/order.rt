@@ -1,7 +1,7 @@
 use crate::containment::{fields_of, is_composite, is_one};
-use crate::kind_size::{kind_size, number_at};
+use crate::kind_size::kind_size;
 use crate::measure::Measure;
-use crate::reaching::is_set;
+use crate::places::{is_set, number_at, put};
 use aidl_base::{OutOfMemory, Row};
 use aidl_schema::{Base, Decl, Field, Kind};
 use graph_cycles::find_cycles;
@@ -50,13 +50,17 @@ fn needed_by(alloc: Global, decls: &[Decl], fields: &[Field]) -> Result<Row<u32>
     Ok(row)
 }
 
+// The declaration whose default is in that of a field.
 fn needed(decls: &[Decl], field: &Field) -> Option<u32> {
-    match field.ty.base {
-        Base::Named(number)
-            if field.initial.is_none()
-                && !field.ty.nullable
-                && is_one(field.ty.shape)
-                && is_composite(decls, number) => { Some(number) }
+    let ty = field.ty;
+    match (ty.base, &field.initial) {
+        (Base::Named(number), None) if is_one(ty.shape) && !ty.nullable => {
+            if is_composite(decls, number) {
+                Some(number)
+            } else {
+                None
+            }
+        }
         _ => None,
     }
 }
@@ -78,10 +82,4 @@ pub fn sizes_in_order(
         }
     }
     Ok(sizes)
-}
-
-fn put(numbers: &mut [usize], at: usize, number: usize) {
-    if at < numbers.len() {
-        numbers[at] = number;
-    }
 }

@@ -3,6 +3,7 @@ ghost use Rattle.std.specs.List.{range_with_len};
 ghost use Rattle.graph_cycles.specs.Paths.{TellsCycles, flag, targets};
 ghost use Rattle.schema_bounds.specs.steps.Hubs as hubs;
 
+use crate::places::is_set;
 use aidl_base::{OutOfMemory, Row};
 use graph_cycles::find_cycles;
 use std::alloc::Global;
@@ -55,13 +56,6 @@ fn all_below(alloc: Global, end: u32) -> Result<Row<u32>, OutOfMemory>
         row.push(number)?;
     }
     Ok(row)
-}
-
-/// The flag at a place, and false beyond the last.
-pub fn is_set(flags: &[bool], at: usize) -> bool
-    ensures { result ≡ flag flags.now at }
-{
-    at < flags.len() && flags[at]
 }
 
 // The nodes that a node leads to: none beyond the last row.

@@ -3,9 +3,9 @@ ghost use Rattle.std.specs.List.{range_with_len};
 ghost use Rattle.aidl_schema.specs.Sizes.{has_small_default};
 ghost use Rattle.aidl_schema.specs.Valid.{one_of};
 
-use crate::kind_size::number_at;
 use crate::measure::Measure;
 use crate::order::default_order;
+use crate::places::number_at;
 use crate::sizes::sizes;
 use aidl_base::OutOfMemory;
 use aidl_schema::Decl;
