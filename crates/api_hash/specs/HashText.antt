@@ -1,6 +1,6 @@
 -- *HashText*: the text of a `.hash` file (own). The second recipe ties a hash to the number of its version.
-use Rattle.std.specs.Prelude.{ℕ, List, [], ◌∷◌, ◌++◌, codes}
-use Rattle.std.specs.List.{flat_map, fold}
+use Rattle.std.specs.Prelude.{◌≢◌, ℕ, List, [], ◌∷◌, ◌++◌, map, codes}
+use Rattle.std.specs.List.{AllByRecursion, flat_map, fold}
 use Rattle.std.specs.Str.{encode_utf8_all}
 use Rattle.std.specs.Fmt.{decimal}
 use Rattle.std.specs.Cmp.Lexicographic.{slice_cmp}
@@ -40,3 +40,8 @@ ending (Two n) = decimal n ++ codes "\n"
 -- the digits of the lines and the ending, and a newline
 abbrev pub hash_text : List SourceFile → Recipe → List ℕ
 hash_text files r = digits (flat_map line (in_order files) ++ ending r) ++ codes "\n"
+
+-- each path differs from those after it
+abbrev pub HaveOwnPaths : List SourceFile → Type 0
+HaveOwnPaths [] = Unit {0}
+HaveOwnPaths (f ∷ fs) = AllByRecursion (λ p. path_of f ≢ p) (map path_of fs) × HaveOwnPaths fs

@@ -3,7 +3,9 @@
 
 mod digits;
 mod hashing;
+mod laws;
 mod lines;
 mod order;
 
 pub use hashing::{Recipe, hash_text};
+pub use laws::law_in_order;
