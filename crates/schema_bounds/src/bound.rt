@@ -20,8 +20,9 @@ pub enum Bound {
     TooLarge,
 }
 
-/// The bound of each declaration, by its number. The declarations needn't be valid: a type may name any number. It takes time
-/// linear in the fields where `find_cycles` does and sizes are right as they are found, which both always were so far.
+/// The bound of each declaration, by its number. The declarations needn't be valid: a type may name any number. But for one
+/// sort of the declarations it takes time linear in their fields and initializers, where `find_cycles` is linear and the sizes
+/// that are found first are right, as both always were so far. That they are isn't proved, and the answer doesn't rest on it.
 pub fn bounds(alloc: Global, decls: &[Decl]) -> Result<Vec<Bound>, OutOfMemory>
     requires { length decls.now ≤ 16384 }
     ensures { IfOk result (λ bounds. bounds.items ≡ map (meant.bound decls.now) (range_with_len 0 (length decls.now))) }
