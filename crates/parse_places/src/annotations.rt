@@ -48,10 +48,9 @@ pub fn parameter_rest_row(terminal: Terminal) -> Option<&'static [Expected]>
             Many(Part::DotName),
             Many(Part::Operation),
         ]),
-        Terminal::Less => Some(&[Once(Part::Operand), Many(Part::Operation)]),
-        Terminal::Greater => Some(&[Once(Part::Operand), Many(Part::Operation)]),
-        Terminal::PlusOrMinus => Some(&[Once(Part::Operand), Many(Part::Operation)]),
-        Terminal::Operator => Some(&[Once(Part::Operand), Many(Part::Operation)]),
+        Terminal::Less | Terminal::Greater | Terminal::PlusOrMinus | Terminal::Operator => {
+            Some(&[Once(Part::Operand), Many(Part::Operation)])
+        }
         _ => None,
     }
 }

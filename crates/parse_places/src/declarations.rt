@@ -21,13 +21,7 @@ pub fn body_row(terminal: Terminal) -> Option<&'static [Expected]>
     ensures { seen result ≡ rows.body_row terminal }
 {
     match terminal {
-        Terminal::Parcelable => Some(&[
-            Token(Terminal::Name),
-            Token(Terminal::OpenBrace),
-            Many(Part::Member),
-            Token(Terminal::CloseBrace),
-        ]),
-        Terminal::Union => Some(&[
+        Terminal::Parcelable | Terminal::Union => Some(&[
             Token(Terminal::Name),
             Token(Terminal::OpenBrace),
             Many(Part::Member),
@@ -57,6 +51,22 @@ pub fn body_row(terminal: Terminal) -> Option<&'static [Expected]>
     }
 }
 
+// constant | decl, behind annotations
+pub fn constant_row(terminal: Terminal) -> Option<&'static [Expected]>
+    ensures { seen result ≡ rows.constant_row terminal }
+{
+    match terminal {
+        Terminal::Const => Some(&[
+            Once(Part::Type),
+            Token(Terminal::Name),
+            Token(Terminal::Equal),
+            Once(Part::Expression),
+            Token(Terminal::Semicolon),
+        ]),
+        _ => body_row(terminal),
+    }
+}
+
 // field | constant | decl, behind annotations
 pub fn member_rest_row(terminal: Terminal) -> Option<&'static [Expected]>
     ensures { seen result ≡ rows.member_rest_row terminal }
@@ -70,14 +80,7 @@ pub fn member_rest_row(terminal: Terminal) -> Option<&'static [Expected]>
             Maybe(Part::Initial),
             Token(Terminal::Semicolon),
         ]),
-        Terminal::Const => Some(&[
-            Once(Part::Type),
-            Token(Terminal::Name),
-            Token(Terminal::Equal),
-            Once(Part::Expression),
-            Token(Terminal::Semicolon),
-        ]),
-        _ => body_row(terminal),
+        _ => constant_row(terminal),
     }
 }
 

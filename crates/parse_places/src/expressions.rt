@@ -12,11 +12,9 @@ pub fn operand_row(terminal: Terminal) -> Option<&'static [Expected]>
 {
     match terminal {
         Terminal::Name => Some(&[Many(Part::DotName)]),
-        Terminal::Number => Some(&[]),
-        Terminal::Literal => Some(&[]),
+        Terminal::Number | Terminal::Literal => Some(&[]),
         Terminal::OpenParen => Some(&[Once(Part::Expression), Token(Terminal::CloseParen)]),
-        Terminal::Sign => Some(&[Once(Part::Operand)]),
-        Terminal::PlusOrMinus => Some(&[Once(Part::Operand)]),
+        Terminal::Sign | Terminal::PlusOrMinus => Some(&[Once(Part::Operand)]),
         _ => None,
     }
 }
@@ -26,10 +24,9 @@ pub fn operation_row(terminal: Terminal) -> Option<&'static [Expected]>
     ensures { seen result ≡ rows.operation_row terminal }
 {
     match terminal {
-        Terminal::Less => Some(&[Once(Part::Operand)]),
-        Terminal::Greater => Some(&[Once(Part::Operand)]),
-        Terminal::PlusOrMinus => Some(&[Once(Part::Operand)]),
-        Terminal::Operator => Some(&[Once(Part::Operand)]),
+        Terminal::Less | Terminal::Greater | Terminal::PlusOrMinus | Terminal::Operator => {
+            Some(&[Once(Part::Operand)])
+        }
         _ => None,
     }
 }
@@ -40,15 +37,15 @@ pub fn expression_row(terminal: Terminal) -> Option<&'static [Expected]>
 {
     match terminal {
         Terminal::Name => Some(&[Many(Part::DotName), Many(Part::Operation)]),
-        Terminal::Number => Some(&[Many(Part::Operation)]),
-        Terminal::Literal => Some(&[Many(Part::Operation)]),
+        Terminal::Number | Terminal::Literal => Some(&[Many(Part::Operation)]),
         Terminal::OpenParen => Some(&[
             Once(Part::Expression),
             Token(Terminal::CloseParen),
             Many(Part::Operation),
         ]),
-        Terminal::Sign => Some(&[Once(Part::Operand), Many(Part::Operation)]),
-        Terminal::PlusOrMinus => Some(&[Once(Part::Operand), Many(Part::Operation)]),
+        Terminal::Sign | Terminal::PlusOrMinus => {
+            Some(&[Once(Part::Operand), Many(Part::Operation)])
+        }
         _ => None,
     }
 }

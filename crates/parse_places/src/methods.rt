@@ -2,7 +2,7 @@ ghost use Rattle.std.specs.Prelude.{◌≡◌};
 ghost use Rattle.parse_places.specs.steps.Seen.{seen};
 ghost use Rattle.parse_places.specs.steps.Methods as rows;
 
-use crate::declarations::body_row;
+use crate::declarations::constant_row;
 use crate::expected::Expected::{self, Many, Maybe, MaybeListed, Once, Token};
 use crate::expected::Part;
 use crate::terminal::Terminal;
@@ -42,17 +42,11 @@ pub fn argument_row(terminal: Terminal) -> Option<&'static [Expected]>
     }
 }
 
-// what follows "oneway": an interface or a method
-pub fn oneway_rest_row(terminal: Terminal) -> Option<&'static [Expected]>
-    ensures { seen result ≡ rows.oneway_rest_row terminal }
+// (type | "void") ident "(" [arg {"," arg}] ")" ["=" number] ";"
+pub fn method_row(terminal: Terminal) -> Option<&'static [Expected]>
+    ensures { seen result ≡ rows.method_row terminal }
 {
     match terminal {
-        Terminal::Interface => Some(&[
-            Token(Terminal::Name),
-            Token(Terminal::OpenBrace),
-            Many(Part::InterfaceMember),
-            Token(Terminal::CloseBrace),
-        ]),
         Terminal::Void => Some(&[
             Token(Terminal::Name),
             Token(Terminal::OpenParen),
@@ -76,39 +70,29 @@ pub fn oneway_rest_row(terminal: Terminal) -> Option<&'static [Expected]>
     }
 }
 
+// what follows "oneway": an interface or a method
+pub fn oneway_rest_row(terminal: Terminal) -> Option<&'static [Expected]>
+    ensures { seen result ≡ rows.oneway_rest_row terminal }
+{
+    match terminal {
+        Terminal::Interface => Some(&[
+            Token(Terminal::Name),
+            Token(Terminal::OpenBrace),
+            Many(Part::InterfaceMember),
+            Token(Terminal::CloseBrace),
+        ]),
+        _ => method_row(terminal),
+    }
+}
+
 // method | constant | decl, behind annotations
 pub fn interface_member_rest_row(terminal: Terminal) -> Option<&'static [Expected]>
     ensures { seen result ≡ rows.interface_member_rest_row terminal }
 {
     match terminal {
         Terminal::Oneway => Some(&[Once(Part::OnewayRest)]),
-        Terminal::Const => Some(&[
-            Once(Part::Type),
-            Token(Terminal::Name),
-            Token(Terminal::Equal),
-            Once(Part::Expression),
-            Token(Terminal::Semicolon),
-        ]),
-        Terminal::Void => Some(&[
-            Token(Terminal::Name),
-            Token(Terminal::OpenParen),
-            MaybeListed(Part::Argument),
-            Token(Terminal::CloseParen),
-            Maybe(Part::Id),
-            Token(Terminal::Semicolon),
-        ]),
-        Terminal::Name => Some(&[
-            Many(Part::DotName),
-            Maybe(Part::Element),
-            Maybe(Part::Array),
-            Token(Terminal::Name),
-            Token(Terminal::OpenParen),
-            MaybeListed(Part::Argument),
-            Token(Terminal::CloseParen),
-            Maybe(Part::Id),
-            Token(Terminal::Semicolon),
-        ]),
-        _ => body_row(terminal),
+        Terminal::Void | Terminal::Name => method_row(terminal),
+        _ => constant_row(terminal),
     }
 }
 

@@ -68,11 +68,8 @@ fn word_terminal(word: Reserved) -> Terminal
         Reserved::Enum => Terminal::Enum,
         Reserved::Const => Terminal::Const,
         Reserved::Oneway => Terminal::Oneway,
-        Reserved::In => Terminal::Way,
-        Reserved::Out => Terminal::Way,
-        Reserved::InOut => Terminal::Way,
-        Reserved::True => Terminal::Literal,
-        Reserved::False => Terminal::Literal,
+        Reserved::In | Reserved::Out | Reserved::InOut => Terminal::Way,
+        Reserved::True | Reserved::False => Terminal::Literal,
         Reserved::Void => Terminal::Void,
     }
 }
@@ -94,10 +91,8 @@ fn symbol_terminal(symbol: Symbol) -> Terminal
         Symbol::Equal => Terminal::Equal,
         Symbol::Dot => Terminal::Dot,
         Symbol::At => Terminal::At,
-        Symbol::Plus => Terminal::PlusOrMinus,
-        Symbol::Minus => Terminal::PlusOrMinus,
-        Symbol::Tilde => Terminal::Sign,
-        Symbol::Bang => Terminal::Sign,
+        Symbol::Plus | Symbol::Minus => Terminal::PlusOrMinus,
+        Symbol::Tilde | Symbol::Bang => Terminal::Sign,
         _ => Terminal::Operator,
     }
 }

@@ -9,8 +9,8 @@ use Rattle.parse_places.specs.declared.expected.Expected.TheVariants.{Many, Mayb
 -- unary
 abbrev pub operand_row : Terminal → Option (List Expected)
 operand_row terminal.Name = Some (Many part.DotName ∷ [])
-operand_row terminal.Number = Some ([])
-operand_row terminal.Literal = Some ([])
+operand_row terminal.Number = Some []
+operand_row terminal.Literal = Some []
 operand_row terminal.OpenParen = Some (Once part.Expression ∷ Token terminal.CloseParen ∷ [])
 operand_row terminal.Sign = Some (Once part.Operand ∷ [])
 operand_row terminal.PlusOrMinus = Some (Once part.Operand ∷ [])
