@@ -21,9 +21,6 @@ pub record Law {A : Type 0} (n : ℕ) (s : List Expected) (P : List Tok → A �
   pub reads : (ts : List Tok) (x : A) → P ts x → Run ts s
   pub gives : (ts : List Tok) → length ts ≤ n → Run ts s → (x : A) × P ts x
 
-pub fewer : {A : Type 0} (n m : ℕ) (s : List Expected) (P : Form A) → m ≤ n → Law n s P → Law m s P
-fewer n m s P le a = record { reads = a.reads; gives = λ ts l r. a.gives ts (omega arith) r }
-
 -- one part, and then another
 pub both_law : {A B : Type 0} (n : ℕ) (s u : List Expected) (P : Form A) (Q : Form B) → Law n s P → Law n u Q → Law n (s ++ u) (Then P Q)
 both_law {A = A} {B = B} n s u P Q a b = record { reads = reads; gives = gives } where

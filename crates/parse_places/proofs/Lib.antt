@@ -16,3 +16,4 @@ pub mod MemberLaws
 pub mod MethodLaws
 pub mod DeclLaws
 pub mod Viability
+pub mod Examples
