@@ -1,6 +1,5 @@
 -- Places of small files, computed: the terminals of the tokens, and the place.
-use Rattle.std.proofs.Common.{◌≡◌, ℕ, Bool, true, false, List, [], ◌∷◌, Option, Some, None, refl}
-use Rattle.std.specs.List.{list_all}
+use Rattle.std.proofs.Common.{◌≡◌, ℕ, List, [], ◌∷◌, Option, Some, None, refl}
 use Rattle.aidl_syntax.specs.declared.token.Token.{Token}
 use Rattle.parse_places.specs.declared.terminal.Terminal.{Terminal}
 use Rattle.parse_places.specs.declared.terminal.Terminal.TheVariants.{Name, Number, Literal, Package, Import, Interface, Parcelable, Union, Enum, Const, Oneway, Way, Void, OpenBrace, CloseBrace, OpenParen, CloseParen, OpenBracket, CloseBracket, Less, Greater, Comma, Semicolon, Equal, Dot, At, Sign, PlusOrMinus, Operator}
@@ -130,4 +129,3 @@ an_id_that_is_an_expression = refl
 a_file_that_ends_in_a_declaration : place (Package ∷ Name ∷ Semicolon ∷ Union ∷ Name ∷ OpenBrace ∷ Name ∷ []) ≡ Some 7
 unfolding place tokens kind_of place_from step ends moves skips row same_terminal
 a_file_that_ends_in_a_declaration = refl
-
