@@ -1,12 +1,11 @@
--- The laws of declarations and of whole files.
-use Rattle.std.proofs.Common.{◌⊎◌, inl, inr, ◌≡◌, ℕ, zero, suc, ◌+◌, ◌<◌, ◌≤◌, Bool, true, false, List, [], ◌∷◌, ◌++◌, length, Option, refl, sym, ap, subst, ◌∙◌, append_assoc, length-append, arith}
+-- The laws of declarations.
+use Rattle.std.proofs.Common.{◌⊎◌, inl, inr, ◌≡◌, ℕ, zero, suc, ◌+◌, ◌<◌, ◌≤◌, Bool, true, false, List, [], ◌∷◌, ◌++◌, length, refl, sym, ap, subst, ◌∙◌, append_assoc, length-append, arith}
 use Rattle.aidl_base.specs.declared.reserved.Reserved.TheVariants as word
 use Rattle.aidl_syntax.specs.declared.token.Symbol.TheVariants as mark
 use Rattle.aidl_syntax.specs.declared.token.TokenKind.TheVariants as kind
 use Rattle.aidl_syntax.specs.declared.token.Token.{Token as Tok}
 use Rattle.aidl_syntax.specs.declared.tree.NameTree.{NameTree}
-use Rattle.aidl_syntax.specs.declared.tree.DottedTree.{DottedTree}
-use Rattle.aidl_syntax.specs.Parts.{Form, Then, Maybe, Many, Single, Quoted, Before, first}
+use Rattle.aidl_syntax.specs.Parts.{Form, Then, Single, Quoted, Before, first}
 use Rattle.parse_places.specs.declared.terminal.Terminal.{Terminal}
 use Rattle.parse_places.specs.declared.terminal.Terminal.TheVariants as terminal
 use Rattle.parse_places.specs.declared.expected.Part.{Part}
@@ -20,14 +19,14 @@ use Rattle.parse_places.specs.steps.Moves.{moves, skips}
 use Rattle.parse_places.proofs.Tokens.{kind_of, is_one, one_kind}
 use Rattle.parse_places.proofs.Runs.{After, Run, run_append, run_split}
 use Rattle.aidl_syntax.specs.Parts.{Worded, Trailing}
-use Rattle.aidl_syntax.specs.Trees.{Field, Constant, Enumerator, Method, Decl, Body, Members, File}
+use Rattle.aidl_syntax.specs.Trees.{Field, Constant, Enumerator, Method, Decl, Body, Members}
 use Rattle.aidl_syntax.specs.Trees.Decl.{decl}
 use Rattle.aidl_syntax.specs.Trees.Body.{parcelable, union, enum, interface}
 use Rattle.aidl_syntax.specs.Trees.Members.{none, field, constant, method, nested}
-use Rattle.aidl_syntax.specs.Productions.{IsIdent, IsDotted, IsField, IsConstant, IsEnumerator, IsOneway, IsMethod, Opens, IsDecl, IsBody, AreMembers, AreInterfaceMembers, Named, IsFile}
-use Rattle.parse_places.proofs.Laws.{Law, both_law, token_run, run_token, run_once, once_run, single_law, behind_law, before_law, placed_law, enter, Only, part_law, maybe_law, nil_run}
-use Rattle.parse_places.proofs.Lists.{IsThen, ElementThen, run_then, then_run, element_once, many_law, trailing_law}
-use Rattle.parse_places.proofs.TypeLaws.{ident_law, dotted_stack, dotted_law}
+use Rattle.aidl_syntax.specs.Productions.{IsIdent, IsField, IsConstant, IsEnumerator, IsOneway, IsMethod, Opens, IsDecl, IsBody, AreMembers, AreInterfaceMembers}
+use Rattle.parse_places.proofs.Laws.{Law, both_law, token_run, run_token, run_once, once_run, single_law, before_law, enter, nil_run}
+use Rattle.parse_places.proofs.Lists.{IsThen, ElementThen, run_then, then_run, element_once, trailing_law}
+use Rattle.parse_places.proofs.TypeLaws.{ident_law}
 use Rattle.parse_places.proofs.AnnotationLaws.{annots_law}
 use Rattle.parse_places.proofs.MemberLaws.{field_stack, field_law, constant_stack, constant_law, enumerator_law, member_annotated, interface_member_annotated, rest_run, run_rest}
 use Rattle.parse_places.proofs.MethodLaws.{Methods, method_reads, method_gives}
@@ -202,7 +201,7 @@ more_members : (x : Part) (ts front back : List Tok) → ts ≡ front ++ back �
 more_members x ts front back is r q =
     subst (λ us. Run us (expected.Many x ∷ [])) (sym is) (then_run front back (expected.Many x) (row x) (expected.Many x) (many_then x) (run_once front x r) q)
 
-abbrev declared : List Expected
+abbrev pub declared : List Expected
 declared = expected.Many part.Annotation ∷ Once part.Body ∷ []
 
 -- annotations in front of what is behind them in a member
@@ -448,41 +447,3 @@ decl_law n = record { reads = λ ts d h. decl_read d ts h; gives = gives } where
       let l : length ts ≡ length p.0 + length p.1 = ap length p.2 ∙ length-append p.0 p.1 in
       let b = below n in
       decl_by n (body_by n b.0 b.1) ts p.0 p.1 p.2 (omega arith) p.3 p.4
-
--- file = ["package" dotted ";"] {"import" dotted ";"} decl
-
-abbrev named_stack : List Expected
-named_stack = Token terminal.Name ∷ expected.Many part.DotName ∷ Token terminal.Semicolon ∷ []
-
-package_only : Only part.Package terminal.Package named_stack
-unfolding row
-package_only terminal.Package es e = (refl, cc)
-package_only _ es e = cc
-
-import_only : Only part.Import terminal.Import named_stack
-unfolding row
-import_only terminal.Import es e = (refl, cc)
-import_only _ es e = cc
-
-package_law : (n : ℕ) → Law n (Once part.Package ∷ []) (Named word.Package)
-unfolding row kind_of is_one
-package_law n =
-    part_law n part.Package terminal.Package named_stack (Named word.Package) refl package_only
-    (behind_law n terminal.Package named_stack (Before IsDotted mark.Semicolon) refl (before_law n terminal.Semicolon dotted_stack IsDotted refl (dotted_law n)))
-
-import_law : (n : ℕ) → Law n (Once part.Import ∷ []) (Named word.Import)
-unfolding row kind_of is_one
-import_law n =
-    part_law n part.Import terminal.Import named_stack (Named word.Import) refl import_only
-    (behind_law n terminal.Import named_stack (Before IsDotted mark.Semicolon) refl (before_law n terminal.Semicolon dotted_stack IsDotted refl (dotted_law n)))
-
-file_made : ℕ → Option DottedTree × (List DottedTree × Decl) → File
-file_made o x = record { offset = o; «package» = x.0; imports = x.1.0; declared = x.1.1 }
-
-pub file_law : (n : ℕ) → Law n (expected.Maybe part.Package ∷ expected.Many part.Import ∷ expected.Many part.Annotation ∷ Once part.Body ∷ []) IsFile
-unfolding file_made
-file_law n =
-    placed_law n (expected.Maybe part.Package ∷ expected.Many part.Import ∷ declared) (Then (Maybe (Named word.Package)) (Then (Many (Named word.Import)) IsDecl)) file_made
-    (λ f. (f.package, (f.imports, f.declared))) (λ f. f.offset) (λ o x. refl) (λ o x. refl)
-    (both_law n (expected.Maybe part.Package ∷ []) (expected.Many part.Import ∷ declared) (Maybe (Named word.Package)) (Then (Many (Named word.Import)) IsDecl) (maybe_law n part.Package (Named word.Package) (package_law n))
-    (both_law n (expected.Many part.Import ∷ []) declared (Many (Named word.Import)) IsDecl (many_law n part.Import (Named word.Import) (import_law n)) (decl_law n)))

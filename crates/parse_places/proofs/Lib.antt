@@ -15,5 +15,6 @@ pub mod AnnotationLaws
 pub mod MemberLaws
 pub mod MethodLaws
 pub mod DeclLaws
+pub mod FileLaws
 pub mod Viability
 pub mod Examples

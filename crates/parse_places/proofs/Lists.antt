@@ -169,6 +169,11 @@ run_comma (t ∷ ts) x (inl h) =
     inr (t, ts, refl, comma_kind t c.0, subst (Run ts) c.1 b.2)
 run_comma (t ∷ ts) x (inr (k, h)) = absurd h
 
+tail_more : {A : Type 0} (P : Form A) (ts : List Tok) (t : Tok) (us front back : List Tok) (y : A) (ys : List A)
+    → ts ≡ t ∷ us → t.kind ≡ kind.Mark mark.Comma → us ≡ front ++ back → P front y → Tail P back ys → Tail P ts (y ∷ ys)
+tail_more P ts t us front back y ys is k e p (comma, (m, c, f, ms, cs)) =
+    (comma, ((t ∷ front) ++ m, c, is ∙ ap (λ vs. t ∷ vs) (e ∙ ap (λ vs. front ++ vs) f ∙ sym (append_assoc front m c)), (t ∷ front, m, refl, (t ∷ [], front, refl, (t, refl, k), p), ms), cs))
+
 pub tail_law : {A : Type 0} (n : ℕ) (x : Part) (P : Form A) → Law n (Once x ∷ []) P → Law n (expected.CommasTrailing x ∷ []) (Tail P)
 unfolding moves skips
 tail_law {A = A} n x P a = record { reads = reads; gives = λ ts le r. gives n (omega arith) ts le r } where
@@ -190,9 +195,7 @@ tail_law {A = A} n x P a = record { reads = reads; gives = λ ts le r. gives n (
       let l2 : length us ≡ length front + length back = ap length e ∙ length-append front back in
       let y = a.gives front (omega arith) (element_once front x h) in
       let r = ih back (omega arith) q in
-      let m = r.1.1.0 in
-      let c = r.1.1.1 in
-      (y.0 ∷ r.0, (r.1.0, ((t ∷ front) ++ m, c, is ∙ ap (λ vs. t ∷ vs) (e ∙ ap (λ vs. front ++ vs) r.1.1.2 ∙ sym (append_assoc front m c)), (t ∷ front, m, refl, (t ∷ [], front, refl, (t, refl, k), y.1), r.1.1.3), r.1.1.4)))
+      (y.0 ∷ r.0, tail_more P ts t us front back y.0 r.0 is k e y.1 r.1)
 
   gives_by : (b : ℕ) → b ≤ n → ((ts : List Tok) → length ts < b → Run ts (expected.CommasTrailing x ∷ []) → (ys : List A) × Tail P ts ys)
       → (ts : List Tok) → length ts ≤ b → (ts ≡ []) ⊎ ((t : Tok) × (us : List Tok) × (ts ≡ t ∷ us) × (t.kind ≡ kind.Mark mark.Comma) × Run us (expected.MaybeTrailing x ∷ [])) → (ys : List A) × Tail P ts ys

@@ -18,7 +18,7 @@ use Rattle.parse_places.proofs.Follows.{refuses, proper, may_begin, apart, fits}
 use Rattle.parse_places.proofs.Steps.{all, Good, good_append}
 use Rattle.parse_places.proofs.Finish.{finish}
 use Rattle.parse_places.proofs.Walks.{run_none, none_run, Stops, place_stops}
-use Rattle.parse_places.proofs.DeclLaws.{file_law}
+use Rattle.parse_places.proofs.FileLaws.{file_law}
 
 whole_fits : fits whole all ≡ true
 unfolding row same_terminal moves skips refuses proper may_begin apart fits
