@@ -1,0 +1,10 @@
+pub mod Terminals
+pub mod Names
+pub mod Expressions
+pub mod Annotations
+pub mod Declarations
+pub mod Methods
+pub mod Rows
+pub mod Moves
+pub mod Places
+pub mod Seen
