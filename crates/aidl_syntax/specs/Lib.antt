@@ -11,3 +11,4 @@ pub mod Measures
 pub mod Members
 pub mod Walks
 pub mod Parses
+pub mod Sources

@@ -1,0 +1,5 @@
+pub mod Rows
+pub mod Limits
+pub mod Standing
+pub mod OneAnswer
+pub mod OfBytes

@@ -1,0 +1,5 @@
+use Rattle.tree_files.proofs.OfBytes.{of-bytes}
+use Rattle.tree_files.proofs.laws.law_of_bytes.Goals as goal
+
+pub returns : goal.returns
+returns c = of-bytes c.args.files.now

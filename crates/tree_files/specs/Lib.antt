@@ -1,0 +1,5 @@
+pub mod Files
+pub mod Sizes
+pub mod Parsed
+pub mod Refusals
+pub mod steps
