@@ -12,3 +12,4 @@ mod again
 pub mod spelled
 mod stopped
 mod told
+pub mod viewed

@@ -4,3 +4,4 @@ pub mod Spell
 pub mod Status
 pub mod Stop
 pub mod steps
+pub mod View

@@ -1,18 +1,23 @@
-ghost use Rattle.std.specs.Prelude.{◌≡◌, ◌-◌, ◌*◌, ◌≤◌, ◌↔◌, ◌++◌, ◌⊎◌, true, List, ℕ, ℤ, Ok, Err, length};
+ghost use Rattle.std.specs.Prelude.{◌≡◌, ◌-◌, ◌*◌, ◌≤◌, ◌↔◌, ◌++◌, ◌⊎◌, true, List, [], ℕ, ℤ, Some, None, Ok, Err, length};
 ghost use Rattle.aidl_base.specs.declared.profile.Profile.TheVariants.{Strict, Lenient};
+ghost use Rattle.aidl_schema.specs.Broken.{broken};
+ghost use Rattle.aidl_schema.specs.Same.{same};
 ghost use Rattle.aidl_schema.specs.Types.{is_type};
 ghost use Rattle.aidl_values.specs.Data.{Data, depth_of};
+ghost use Rattle.aidl_values.specs.Fits.{Fits};
 ghost use Rattle.aidl_values.specs.HasType.{HasType};
 ghost use Rattle.aidl_values.specs.Nodes.{nodes_of};
 ghost use Rattle.aidl_values.specs.View.{view};
 ghost use Rattle.wire_model.specs.ReadOf.{read_of};
 ghost use Rattle.wire_model.specs.Reads.{FrontReads, Reads};
 ghost use Rattle.wire_model.specs.Spell.{spell};
-ghost use Rattle.wire_model.specs.Status.{IsStatus};
+ghost use Rattle.wire_model.specs.Status.{IsStatus, bad_value};
 ghost use Rattle.wire_model.specs.Stop.{Stop, Stops};
+ghost use Rattle.wire_model.specs.View.{view_of};
+ghost use Rattle.wire_model.specs.steps.Meets.{Meets};
 
 use aidl_base::Profile;
-use aidl_schema::{AidlType, Schema};
+use aidl_schema::{AidlType, Schema, law_chain, law_same_types, law_unbroken, law_valid};
 use aidl_values::{Value, law_small_defaults, law_sound};
 
 /// What spells a value is a reading of it.
@@ -122,3 +127,54 @@ pub fn law_strict_is_lenient(schema: &Schema, ty: &AidlType, levels: usize, b: &
     requires { Reads Strict schema.now.decls levels ty.now b.now (view value.now) }
     ensures { Reads Lenient schema.now.decls levels ty.now b.now (view value.now) }
 {}
+
+/// What is sent by one of two schemas, of which one is a legal evolution of the other, is read by the other as its view; where
+/// there is no view, reading stops with BAD_VALUE whatever follows.
+pub fn law_view_reads(
+    profile: Profile,
+    a: &Schema,
+    t: &AidlType,
+    b: &Schema,
+    u: &AidlType,
+    value: &Value,
+    c: &[u8],
+    inside: bool,
+)
+    requires unbroken { (broken a.now.decls b.now.decls ≡ []) ⊎ (broken b.now.decls a.now.decls ≡ []) }
+    requires same { same a.now.decls t.now b.now.decls u.now ≡ true }
+    requires fits { Fits a.now.decls t.now (view value.now) }
+    requires small { length (spell a.now.decls t.now (view value.now)) ≤ 1048576 }
+    ensures reads { (w : Data) → view_of a.now.decls t.now b.now.decls u.now (view value.now) ≡ Some w
+        → Reads profile b.now.decls 64 u.now (spell a.now.decls t.now (view value.now)) w }
+    ensures typed { (w : Data) → view_of a.now.decls t.now b.now.decls u.now (view value.now) ≡ Some w → HasType b.now.decls u.now w }
+    ensures stops { view_of a.now.decls t.now b.now.decls u.now (view value.now) ≡ None
+        → Stop profile b.now.decls 64 u.now (spell a.now.decls t.now (view value.now) ++ c.now) inside bad_value }
+{
+    law_meets(a, b);
+}
+
+/// Within one schema a value is its own view.
+pub fn law_view_same(schema: &Schema, ty: &AidlType, value: &Value)
+    requires known { is_type schema.now.decls ty.now ≡ true }
+    requires typed { HasType schema.now.decls ty.now (view value.now) }
+    ensures { view_of schema.now.decls ty.now schema.now.decls ty.now (view value.now) ≡ Some (view value.now) }
+{
+    law_chain(schema, schema, schema);
+    law_meets(schema, schema);
+    law_same_types(schema, schema);
+}
+
+/// Where no evolution rule is broken from one of two schemas to the other, types that are the same mean the same to both, as
+/// far as what is sent by `a` and read by `b` needs it.
+fn law_meets(a: &Schema, b: &Schema)
+    requires { (broken a.now.decls b.now.decls ≡ []) ⊎ (broken b.now.decls a.now.decls ≡ []) }
+    ensures { Meets a.now.decls b.now.decls }
+{
+    law_valid(a);
+    law_valid(b);
+    law_sound(a);
+    law_sound(b);
+    law_unbroken(a, b);
+    law_unbroken(b, a);
+    law_same_types(b, a);
+}

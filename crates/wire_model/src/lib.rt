@@ -14,5 +14,5 @@ pub use aidl_schema::{
 pub use aidl_values::{Answer, Value};
 pub use laws::{
     law_nodes, law_one_reading, law_read_of, law_reads_or_stops, law_spelled_reads,
-    law_strict_is_lenient,
+    law_strict_is_lenient, law_view_reads, law_view_same,
 };
