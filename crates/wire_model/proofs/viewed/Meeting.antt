@@ -20,6 +20,7 @@ use Rattle.aidl_schema.specs.Types.{Form, form_of, form_of_decl, form_of_kind}
 use Rattle.aidl_schema.specs.Types as form
 use Rattle.aidl_schema.specs.Unbroken.{Has, AreBoth, AtEach, Unbroken}
 use Rattle.aidl_values.specs.Sound.{IsDeclared, HaveDefaults, IsSound, fields_of}
+use Rattle.wire_model.proofs.Lookups.{both_of}
 use Rattle.wire_model.specs.View.{same_kind}
 use Rattle.wire_model.specs.steps.Meets.{IsAbsent, AreDistinct, FieldsAgree, FormsMeet, Meets}
 
@@ -163,29 +164,10 @@ module _ (A B : List Decl) (meet : (d e : Decl) → IsDeclared A d → IsDeclare
             (subst (λ g. FormsMeet A (cond (is_named b) (form_of_decl (decl_of A b)) (built_in (base_code b))) B g) (sym (by_code B c)) forms);
       }
 
--- a look-up finds what passes its test
-finds : {X : Type 0} (test : X → Bool) (xs : List X) (j : ℕ) (x : X) → slice_get xs j ≡ Some x → test x ≡ true
-    → (y : X) × (find test xs ≡ Some y) × Has xs y × (test y ≡ true)
-finds test [] j x at is = cc
-finds {X} test (a ∷ xs) j x at is = by_test (test a) refl j at (λ j k. finds test xs j x k is)
-  where
-    by_test : (b : Bool) → test a ≡ b → (j : ℕ) → slice_get (a ∷ xs) j ≡ Some x
-        → ((j : ℕ) → slice_get xs j ≡ Some x → (y : X) × (find test xs ≡ Some y) × Has xs y × (test y ≡ true))
-        → (y : X) × (find test (a ∷ xs) ≡ Some y) × Has (a ∷ xs) y × (test y ≡ true)
-    by_test true h j at later = (a, rw h refl, (0, refl), h)
-    by_test false h zero at later = let one : a ≡ x = cc in let passes : test a ≡ true = subst (λ z. test z ≡ true) (sym one) is in cc
-    by_test false h (suc j) at later = let r = later j at in (r.0, rw h r.1, (suc r.2.0, r.2.1), r.3)
-
 module _ (old new : List Decl) (apart : AreApart name_of new) (U : Unbroken old new) where
   are_both : (d e : Decl) → IsDeclared old d → IsDeclared new e → same_idents d.name.0 e.name.0 ≡ true → AreBoth same_name old new d e
-  are_both d e here there is =
-      let named : same_name d e ≡ true = subst (λ n. same_text (dotted d.name.0) (dotted n) ≡ true) (same_idents_is d.name.0 e.name.0 is) (same_text_refl (dotted d.name.0)) in
-      let y = finds (λ z. same_name d z) new there.0 e there.1 named in
-      let names : name_of y.0 ≡ name_of e = sym (same_text_is (name_of d) (name_of y.0) y.3) ∙ same_text_is (name_of d) (name_of e) named in
-      let place : y.2.0 ≡ there.0 = apart y.2.0 there.0 y.0 e y.2.1 there.1 names in
-      let at : slice_get new there.0 ≡ Some y.0 = subst (λ k. slice_get new k ≡ Some y.0) place y.2.1 in
-      let found : ◌≡◌ {A = Option Decl} (Some y.0) (Some e) = sym at ∙ there.1 in
-      (here, y.1 ∙ found)
+  are_both d e here there is = both_of same_name name_of (λ x y h. same_text_is (name_of x) (name_of y) h) old new apart d e here there
+      (subst (λ n. same_text (dotted d.name.0) (dotted n) ≡ true) (same_idents_is d.name.0 e.name.0 is) (same_text_refl (dotted d.name.0)))
 
   module _ (old_holds : AllHold old) (new_holds : AllHold new) (old_sound : IsSound old) (new_sound : IsSound new) where
     -- The older schema sends.

@@ -1,0 +1,5 @@
+-- What is sent of a call is received: requests, replies, and what comes of a call between two schemas.
+pub mod Arguments
+pub mod Methods
+pub mod Tokens
+pub mod Values
