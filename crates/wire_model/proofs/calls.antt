@@ -1,5 +1,7 @@
 -- What is sent of a call is received: requests, replies, and what comes of a call between two schemas.
 pub mod Arguments
 pub mod Methods
+pub mod Requests
 pub mod Tokens
+pub mod Types
 pub mod Values

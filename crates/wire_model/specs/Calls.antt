@@ -1,6 +1,6 @@
 -- What a call is made of: the descriptor of an interface, and the types of a method's arguments, result and outs (own).
 -- S is a schema's declarations, i the number of an interface, m the position of its method.
-use Rattle.std.specs.Prelude.{ℕ, ℤ, Bool, true, false, not, List, [], map, Option, Some, None, slice_get}
+use Rattle.std.specs.Prelude.{ℕ, ◌+◌, ℤ, Bool, true, false, not, List, [], map, Option, Some, None, slice_get}
 use Rattle.std.specs.List.{filter}
 use Rattle.aidl_schema.specs.declared.schema.AidlType.{AidlType}
 use Rattle.aidl_schema.specs.declared.schema.Arg.{Arg}
@@ -42,6 +42,14 @@ result_of (Some w) = w.result
 -- None is `void`
 abbrev pub result_type : List Decl → ℕ → ℕ → Option AidlType
 result_type S i m = result_of (method_at S i m)
+
+-- The transaction code of a method is 1 plus its id; 0 is nobody's.
+abbrev pub code_of : Option Method → ℕ
+code_of None = 0
+code_of (Some w) = w.id + 1
+
+abbrev pub code_at : List Decl → ℕ → ℕ → ℕ
+code_at S i m = code_of (method_at S i m)
 
 abbrev pub is_oneway_of : Option Method → Bool
 is_oneway_of None = false

@@ -16,7 +16,7 @@ use Rattle.aidl_values.specs.Data.{Data, null, truth, number, text, seq, rec, al
 use Rattle.aidl_values.specs.Default.{zero_within}
 use Rattle.wire_model.specs.Calls.{AnswerData, returned, exception, descriptor, arguments, result_type, out_types, is_out}
 use Rattle.wire_model.specs.ReadOf.{Read, ◌>>=◌, read_of}
-use Rattle.wire_model.specs.Requests.{service_specific}
+use Rattle.wire_model.specs.Requests.{sent_length, service_specific}
 use Rattle.wire_model.specs.Status.{bad_value, unknown_transaction, bad_type}
 
 -- The token
@@ -59,6 +59,12 @@ array_opening S t (Some n) = seq (repeated n (zero_in S (elem S t)))
 -- what an `out` argument starts as; the length says how long an array is
 abbrev pub opening : List Decl → AidlType → Option ℕ → Data
 opening S t n = if is_array t.shape then array_opening S t n else zero_in S t
+
+-- what a handler sees of arguments that its own schema sent: the values, and the openings of the `out` ones
+abbrev pub opened_arguments : List Decl → List Arg → Items → Items
+opened_arguments S [] vs = none
+opened_arguments S (a ∷ xs) none = none
+opened_arguments S (a ∷ xs) (item v vs) = item (if is_out a.way then opening S a.ty (sent_length v) else v) (opened_arguments S xs vs)
 
 -- The lengths of a request add up to at most 65,536; `sum` is that of the lengths before this one.
 abbrev pub within_sum : ℕ → Option ℕ → Result (Option ℕ) ℤ

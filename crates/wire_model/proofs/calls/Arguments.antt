@@ -95,6 +95,11 @@ default_items : (S : List Decl) (t : AidlType) → items_in (zero_in S t) ≡ 0
 unfolding zero_within
 default_items S t = zero_items S (λ u. zero_within 32 S u) t t.nullable (is_one t.shape) refl refl
 
+-- each argument's type is one of the schema
+abbrev pub HaveTypes : List Decl → List Arg → Type 0
+HaveTypes S [] = Unit {0}
+HaveTypes S (a ∷ xs) = (is_type S a.ty ≡ true) × HaveTypes S xs
+
 module _ (p : Profile) (A B : List Decl) (meets : Meets A B) (sound : IsSound B) where
   module _ (a b : Arg) (sum : ℕ) (v : Data) (rest : List ℕ) (way : a.way ≡ b.way) (is : same A a.ty B b.ty ≡ true) (type : is_type B b.ty ≡ true)
       (fits : ArgumentFits A a v) (few : sum + asked_length a v ≤ 65536) (small : length (argument_part A a v) ≤ 1048576) (bytes : AreBytes (argument_part A a v ++ rest)) where
@@ -130,16 +135,11 @@ module _ (p : Profile) (A B : List Decl) (meets : Meets A B) (sound : IsSound B)
         rw (out, outs true out) (ap items_in (sym one) ∙ default_items B b.ty ∙ ap (λ v. number_or_0 (sent_length v)) (sym fit))
     argument_adds false array out at w e = rw (out, outs false out) refl
 
-  -- each argument's type is one of the receiver's schema
-  abbrev pub HaveTypes : List Arg → Type 0
-  HaveTypes [] = Unit {0}
-  HaveTypes (b ∷ ys) = (is_type B b.ty ≡ true) × HaveTypes ys
-
   abbrev then_arguments : ℕ → Arg → List Arg → Read Data → Read Items
   then_arguments sum b ys x = x >>= λ v. arguments_at p B (sum + opened_length b v.0) ys v.1 >>= λ vs. Ok (item v.0 vs.0, vs.1)
 
   -- The arguments of a request.
-  pub arguments_seen : (xs ys : List Arg) (sum : ℕ) (vs : Items) → ArgumentsAgree A xs B ys → HaveTypes ys → ArgumentsFit A xs vs → sum + sum_of_lengths xs vs ≤ 65536
+  pub arguments_seen : (xs ys : List Arg) (sum : ℕ) (vs : Items) → ArgumentsAgree A xs B ys → HaveTypes B ys → ArgumentsFit A xs vs → sum + sum_of_lengths xs vs ≤ 65536
       → length (argument_parts A xs vs) ≤ 1048576 → AreBytes (argument_parts A xs vs)
       → arguments_at p B sum ys (argument_parts A xs vs) ≡ seen_at (view_arguments A xs B ys vs) []
   arguments_seen [] [] sum none agree types fits few small bytes = refl

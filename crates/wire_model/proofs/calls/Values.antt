@@ -44,24 +44,31 @@ module _ (p : Profile) (B : List Decl) (sound : IsSound B) where
   read_seen u type (Some w) front rest bytes h = reads_read p B sound 64 u type false front rest w h
   read_seen u type None front rest bytes h = stop_read p B sound 64 u type false (front ++ rest) bad_value bytes (h rest false)
 
+-- each type of the one list is the same as that of the other, and one of its schema
+abbrev pub TypesAgree : List Decl → List AidlType → List Decl → List AidlType → Type 0
+TypesAgree A [] B [] = Unit {0}
+TypesAgree A [] B (u ∷ us) = ⊥
+TypesAgree A (t ∷ ts) B [] = ⊥
+TypesAgree A (t ∷ ts) B (u ∷ us) = (same A t B u ≡ true) × (is_type B u ≡ true) × TypesAgree A ts B us
+
+-- a result: both void, or the same type
+abbrev pub ResultsAgree : List Decl → Option AidlType → List Decl → Option AidlType → Type 0
+ResultsAgree A None B None = Unit {0}
+ResultsAgree A None B (Some u) = ⊥
+ResultsAgree A (Some t) B None = ⊥
+ResultsAgree A (Some t) B (Some u) = (same A t B u ≡ true) × (is_type B u ≡ true)
+
 module _ (p : Profile) (A B : List Decl) (meets : Meets A B) (sound : IsSound B) where
   -- one value
   pub value_seen : (t u : AidlType) (v : Data) (rest : List ℕ) → same A t B u ≡ true → is_type B u ≡ true → Fits A t v → length (spell A t v) ≤ 1048576 → AreBytes (spell A t v ++ rest)
       → read_of p B 64 u false (spell A t v ++ rest) ≡ seen_at (view_of A t B u v) rest
   value_seen t u v rest is type fits small bytes = read_seen p B sound u type (view_of A t B u v) (spell A t v) rest bytes (view_reads p A B meets 64 t u v is fits.typed fits.deep small)
 
-  -- each type of the one is the same as that of the other, and one of its schema
-  abbrev pub TypesAgree : List AidlType → List AidlType → Type 0
-  TypesAgree [] [] = Unit {0}
-  TypesAgree [] (u ∷ us) = ⊥
-  TypesAgree (t ∷ ts) [] = ⊥
-  TypesAgree (t ∷ ts) (u ∷ us) = (same A t B u ≡ true) × (is_type B u ≡ true) × TypesAgree ts us
-
   abbrev then_values : List AidlType → Read Data → Read Items
   then_values us x = x >>= λ v. values_at p B us v.1 >>= λ vs. Ok (item v.0 vs.0, vs.1)
 
   -- values in order
-  pub values_seen : (ts us : List AidlType) (vs : Items) (rest : List ℕ) → TypesAgree ts us → EachFits A ts vs → length (spell_each A ts vs) ≤ 1048576 → AreBytes (spell_each A ts vs ++ rest)
+  pub values_seen : (ts us : List AidlType) (vs : Items) (rest : List ℕ) → TypesAgree A ts B us → EachFits A ts vs → length (spell_each A ts vs) ≤ 1048576 → AreBytes (spell_each A ts vs ++ rest)
       → values_at p B us (spell_each A ts vs ++ rest) ≡ seen_at (view_values A ts B us vs) rest
   values_seen [] [] none rest agree fits small bytes = refl
   values_seen [] [] (item v vs) rest agree fits small bytes = elim fits [ ]
@@ -83,17 +90,10 @@ module _ (p : Profile) (A B : List Decl) (meets : Meets A B) (sound : IsSound B)
       by_view None others = refl
       by_view (Some w) others = ap (with_first w) others ∙ first_seen w (view_values A ts B us vs) rest
 
-  -- a result: both void, or the same type
-  abbrev pub ResultsAgree : Option AidlType → Option AidlType → Type 0
-  ResultsAgree None None = Unit {0}
-  ResultsAgree None (Some u) = ⊥
-  ResultsAgree (Some t) None = ⊥
-  ResultsAgree (Some t) (Some u) = (same A t B u ≡ true) × (is_type B u ≡ true)
-
   abbrev as_result : Read Data → Read (Option Data)
   as_result x = x >>= λ v. Ok (Some v.0, v.1)
 
-  pub result_seen : (t u : Option AidlType) (v : Option Data) (rest : List ℕ) → ResultsAgree t u → ResultFits A t v → length (spell_result A t v) ≤ 1048576 → AreBytes (spell_result A t v ++ rest)
+  pub result_seen : (t u : Option AidlType) (v : Option Data) (rest : List ℕ) → ResultsAgree A t B u → ResultFits A t v → length (spell_result A t v) ≤ 1048576 → AreBytes (spell_result A t v ++ rest)
       → result_at p B u (spell_result A t v ++ rest) ≡ seen_at (view_result A t B u v) rest
   result_seen None None None rest agree fits small bytes = refl
   result_seen None None (Some v) rest agree fits small bytes = elim fits [ ]
