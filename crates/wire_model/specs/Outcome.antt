@@ -1,6 +1,6 @@
 -- *Outcome*: what comes of a call between two schemas of which one is a legal evolution of the other, without a word of bytes (own).
 -- A is the client's declarations, i and m the interface and the method of the call, B the server's declarations.
-use Rattle.std.specs.Prelude.{ℕ, ℤ, List, [], ◌∷◌, Option, Some, None, option_map, Result, Ok, Err, if◌then◌else◌}
+use Rattle.std.specs.Prelude.{ℕ, ℤ, List, [], ◌∷◌, Option, Some, None, option_map, Result, Ok, if◌then◌else◌}
 use Rattle.std.specs.List.{position}
 use Rattle.aidl_schema.specs.declared.schema.AidlType.{AidlType}
 use Rattle.aidl_schema.specs.declared.schema.Arg.{Arg}
@@ -13,7 +13,7 @@ use Rattle.aidl_schema.specs.Same.{same_text}
 use Rattle.aidl_values.specs.Data.{Data, Items, none, item}
 use Rattle.wire_model.specs.Calls.{AnswerData, returned, exception, descriptor, method_at, arguments, result_type, out_types, is_oneway, is_out}
 use Rattle.wire_model.specs.ReadOf.{◌>>=◌}
-use Rattle.wire_model.specs.Receiver.{opening, or_status}
+use Rattle.wire_model.specs.Receiver.{Received, called, opening, or_status}
 use Rattle.wire_model.specs.Requests.{sent_length}
 use Rattle.wire_model.specs.Status.{bad_value, unknown_transaction}
 use Rattle.wire_model.specs.View.{view_of, item_first}
@@ -44,6 +44,12 @@ seen_call A i m B j args = do
   n ← or_status unknown_transaction (method_like (method_at A i m) (methods_at B j))  -- UNKNOWN_TRANSACTION: B lacks the method
   saw ← or_status bad_value (view_arguments A (arguments A i m) B (arguments B j n) args)  -- BAD_VALUE: an argument has no view
   Ok (n, saw)
+
+-- the same as what a stub receives
+abbrev pub received_call : List Decl → ℕ → ℕ → List Decl → ℕ → Items → Result Received ℤ
+received_call A i m B j args = do
+  seen ← seen_call A i m B j args
+  Ok (called seen.0 seen.1)
 
 -- the views of values of these types; None if one of them has no view
 abbrev pub view_values : List Decl → List AidlType → List Decl → List AidlType → Items → Option Items

@@ -12,7 +12,7 @@ use Rattle.aidl_schema.specs.declared.schema.Decl.{Decl}
 use Rattle.aidl_schema.specs.Find.{methods_at, position_of_code}
 use Rattle.aidl_schema.specs.Same.{same_text}
 use Rattle.aidl_schema.specs.Types.{is_array, elem}
-use Rattle.aidl_values.specs.Data.{Data, null, truth, number, text, seq, rec, alt, Items, none, item, count}
+use Rattle.aidl_values.specs.Data.{Data, null, seq, Items, none, item, count}
 use Rattle.aidl_values.specs.Default.{zero_within}
 use Rattle.wire_model.specs.Calls.{AnswerData, returned, exception, descriptor, arguments, result_type, out_types, is_out}
 use Rattle.wire_model.specs.ReadOf.{Read, ◌>>=◌, read_of}

@@ -1,15 +1,14 @@
 -- What a stub reads of the arguments of a request that another schema spelled: their views and openings, or BAD_VALUE at the
 -- first that has no view.
-use Rattle.std.proofs.Common.{◌≡◌, ℕ, zero, suc, ◌+◌, ◌≤◌, ◌<◌, ◌^◌, pos, negsuc, Bool, true, false, nat_le, List, [], ◌∷◌, ◌++◌, length, Option, Some, None, Ok, Err, refl, sym, ap, ◌∙◌, subst, arith, append_assoc, length-append}
+use Rattle.std.proofs.Common.{◌≡◌, ℕ, zero, suc, ◌+◌, ◌≤◌, pos, negsuc, Bool, true, false, nat_le, List, [], ◌∷◌, ◌++◌, length, Option, Some, None, Ok, refl, sym, ap, ◌∙◌, subst, arith, length-append}
 use Rattle.std.proofs.lemmas.Bool.Decides.{nat_tests}
 use Rattle.aidl_base.proofs.Bytes.{AreBytes, AreBytes-rest}
 use Rattle.aidl_base.proofs.Words.{count_again, null_again}
 use Rattle.aidl_base.specs.declared.profile.Profile.{Profile}
-use Rattle.aidl_base.specs.Readings.{◌>>=◌, count_at}
+use Rattle.aidl_base.specs.Readings.{◌>>=◌}
 use Rattle.aidl_schema.specs.declared.schema.AidlType.{AidlType}
 use Rattle.aidl_schema.specs.declared.schema.Arg.{Arg}
 use Rattle.aidl_schema.specs.declared.schema.Decl.{Decl}
-use Rattle.aidl_schema.specs.declared.schema.Field.{Field}
 use Rattle.aidl_schema.specs.Same.{same}
 use Rattle.aidl_schema.specs.Types.{Form, form_of, is_array, is_one, is_type, elem}
 use Rattle.aidl_schema.specs.Types as form
@@ -20,11 +19,10 @@ use Rattle.aidl_values.specs.Sound.{IsSound}
 use Rattle.wire_model.specs.Calls.{is_out}
 use Rattle.wire_model.specs.Outcome.{view_argument, view_arguments}
 use Rattle.wire_model.specs.ReadOf.{Read}
-use Rattle.wire_model.specs.Receiver.{zero_in, repeated, array_opening, opening, within_sum, length_at, array_opening_at, opening_at, argument_at, items_in, opened_length, arguments_at}
+use Rattle.wire_model.specs.Receiver.{zero_in, repeated, array_opening, within_sum, length_at, array_opening_at, argument_at, items_in, opened_length, arguments_at}
 use Rattle.wire_model.specs.Requests.{sent_length, spell_length, argument_part, argument_parts, IsLength, ArgumentFits, ArgumentsFit, number_or_0, asked_length, sum_of_lengths}
-use Rattle.wire_model.specs.Status.{bad_value}
 use Rattle.wire_model.specs.Spell.{spell}
-use Rattle.wire_model.specs.View.{view_of, item_first}
+use Rattle.wire_model.specs.View.{item_first}
 use Rattle.wire_model.specs.steps.CallsMeet.{ArgumentsAgree}
 use Rattle.wire_model.specs.steps.Meets.{Meets}
 use Rattle.wire_model.proofs.viewed.Alike.{shape_is, nullable_is}

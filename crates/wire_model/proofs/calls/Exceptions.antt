@@ -1,16 +1,15 @@
 -- An exception of a reply is read again.
-use Rattle.std.proofs.Common.{◌≡◌, ℕ, zero, suc, ◌≤◌, ℤ, pos, negsuc, Bool, true, false, List, [], ◌++◌, length, Ok, Err, Result, refl, sym, ap, ◌∙◌, arith, length-append}
+use Rattle.std.proofs.Common.{◌≡◌, ℕ, zero, suc, ◌≤◌, ℤ, pos, negsuc, Bool, true, false, List, [], ◌++◌, length, Ok, Result, refl, sym, ap, ◌∙◌, arith, length-append}
 use Rattle.std.specs.Prelude.{FitsSigned}
 use Rattle.std.specs.Int.{w32}
 use Rattle.std.specs.Ordering.{int_eq}
-use Rattle.std.specs.Str.{all_scalars}
 use Rattle.std.proofs.lemmas.Int.{ints}
 use Rattle.std.proofs.lemmas.Bool.Decides.{nat_tests}
 use Rattle.aidl_base.proofs.Spelled.{present_text_again, length-spell_text}
 use Rattle.aidl_base.proofs.Words.{word_again, fits_pos}
 use Rattle.aidl_base.specs.declared.profile.Profile.{Profile}
 use Rattle.aidl_base.specs.Ranges.{is_between}
-use Rattle.aidl_base.specs.Readings.{Read, ◌>>=◌, word_at, present_text_at}
+use Rattle.aidl_base.specs.Readings.{Read, ◌>>=◌, word_at}
 use Rattle.aidl_base.specs.Spellings.{spell_text}
 use Rattle.aidl_base.specs.Words.{word, units}
 use Rattle.aidl_schema.specs.declared.schema.Decl.{Decl}
@@ -72,8 +71,12 @@ then_whole x = x >>= λ a. whole a.0 a.1
 module _ (p : Profile) (S : List Decl) (i m : ℕ) (B : List Decl) (j n : ℕ) (code : ℤ) (message : List ℕ) (error : ℤ) (fits : ExceptionFits code message error)
     (small : length (reply B j n (exception code message error)) ≤ 1048576) where
   text_small : length (units message) ≤ 2147483647
-  text_small = omega (arith, length-spell_text message, length-append (word code) (spell_text message ++ (word (pos 0) ++ spell_error code error)),
-      length-append (spell_text message) (word (pos 0) ++ spell_error code error))
+  text_small = omega (
+    arith,
+    length-spell_text message,
+    length-append (word code) (spell_text message ++ (word (pos 0) ++ spell_error code error)),
+    length-append (spell_text message) (word (pos 0) ++ spell_error code error),
+  )
 
   -- The client of any method takes it.
   pub exception_got : client p S i m (reply B j n (exception code message error)) ≡ Ok (exception code message error)

@@ -1,5 +1,5 @@
 -- Where no evolution rule is broken from one of two schemas to the other, methods of one name take the same calls.
-use Rattle.std.proofs.Common.{◌≡◌, ℕ, zero, suc, Bool, true, false, ◌==◌, List, [], ◌∷◌, length, Option, Some, None, slice_get, find, refl, sym, ap, ◌∙◌, subst, arith, true≢false}
+use Rattle.std.proofs.Common.{◌≡◌, ℕ, suc, Bool, true, false, ◌==◌, List, [], ◌∷◌, length, Option, Some, None, find, refl, sym, ◌∙◌, subst, arith, true≢false}
 use Rattle.std.proofs.lemmas.Bool.Decides.{nat_tests}
 use Rattle.aidl_schema.proofs.Sames.{same_text_is, same_text_sym}
 use Rattle.aidl_schema.specs.declared.schema.AidlType.{AidlType}
@@ -11,10 +11,10 @@ use Rattle.aidl_schema.specs.declared.schema.Method.{Method}
 use Rattle.aidl_schema.specs.Broken.{same_name, same_method, same_result, is_there_and, way_code}
 use Rattle.aidl_schema.specs.Holds.{AreApart, AllHold}
 use Rattle.aidl_schema.specs.Names.{name_of, methods_of}
-use Rattle.aidl_schema.specs.Same.{same, same_text}
+use Rattle.aidl_schema.specs.Same.{same}
 use Rattle.aidl_schema.specs.Unbroken.{Has, AreBoth, AtEach, Follows, Unbroken}
 use Rattle.wire_model.proofs.Lookups.{found_is, same_place, both_of}
-use Rattle.wire_model.specs.steps.CallsMeet.{ArgumentsAgree, MethodsAgree, InterfacesAgree, CallsMeet}
+use Rattle.wire_model.specs.steps.CallsMeet.{ArgumentsAgree, MethodsAgree, CallsMeet}
 
 eq_is : (m n : ℕ) → (m == n) ≡ true → m ≡ n
 eq_is m n e = grind (arith, nat_tests)

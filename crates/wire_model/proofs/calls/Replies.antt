@@ -1,5 +1,5 @@
 -- What a client makes of a reply that another schema spelled.
-use Rattle.std.proofs.Common.{◌≡◌, ℕ, ◌≤◌, ℤ, pos, Bool, true, false, List, [], ◌∷◌, ◌++◌, length, Option, Some, None, slice_get, Result, Ok, Err, refl, sym, ap, ◌∙◌, subst, arith, length-append}
+use Rattle.std.proofs.Common.{◌≡◌, ℕ, ◌≤◌, ℤ, pos, true, false, List, [], ◌++◌, length, Option, Some, None, slice_get, Result, Ok, refl, sym, ap, ◌∙◌, subst, arith, length-append}
 use Rattle.std.proofs.lemmas.List.{append-nil}
 use Rattle.std.specs.List.{position}
 use Rattle.aidl_base.proofs.Bytes.{AreBytes, AreBytes-rest}
@@ -20,7 +20,7 @@ use Rattle.aidl_values.specs.Data.{Data, Items}
 use Rattle.aidl_values.specs.Sound.{IsSound}
 use Rattle.wire_model.specs.Calls.{AnswerData, returned, exception, name_of_decl, descriptor, method_at, arguments_of, result_of, result_type, outs_of, out_types}
 use Rattle.wire_model.specs.Outcome.{declared_as, method_like, view_values, view_result, seen_answer}
-use Rattle.wire_model.specs.Receiver.{or_status, values_at, result_at, returned_at, whole, client}
+use Rattle.wire_model.specs.Receiver.{or_status, values_at, returned_at, client}
 use Rattle.wire_model.specs.Requests.{spell_each, spell_result, EachFits, ResultFits, reply, AnswerFits, IsAnswer}
 use Rattle.wire_model.specs.Status.{bad_value}
 use Rattle.wire_model.specs.steps.CallsMeet.{CallsMeet}

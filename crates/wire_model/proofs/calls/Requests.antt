@@ -1,5 +1,5 @@
 -- What a stub makes of a request that another schema spelled.
-use Rattle.std.proofs.Common.{◌≡◌, ℕ, ◌+◌, ◌≤◌, ℤ, pos, negsuc, Bool, true, false, ◌==◌, List, [], ◌∷◌, ◌++◌, length, Option, Some, None, slice_get, Result, Ok, Err, refl, sym, ap, ◌∙◌, subst, arith, length-append, true≢false}
+use Rattle.std.proofs.Common.{◌≡◌, ℕ, ◌+◌, ◌≤◌, ℤ, pos, negsuc, Bool, true, false, ◌==◌, List, [], ◌++◌, length, Option, Some, None, slice_get, Result, Ok, refl, sym, ap, ◌∙◌, subst, arith, length-append}
 use Rattle.std.specs.List.{position}
 use Rattle.std.specs.Str.{all_scalars}
 use Rattle.std.proofs.lemmas.Bool.Decides.{nat_tests}
@@ -10,7 +10,6 @@ use Rattle.aidl_base.specs.Readings.{◌>>=◌}
 use Rattle.aidl_base.specs.Spellings.{spell_text}
 use Rattle.aidl_base.specs.Words.{word, units}
 use Rattle.aidl_schema.proofs.Sames.{same_text_is}
-use Rattle.aidl_schema.specs.declared.schema.Arg.{Arg}
 use Rattle.aidl_schema.specs.declared.schema.Decl.{Decl}
 use Rattle.aidl_schema.specs.declared.schema.Method.{Method}
 use Rattle.aidl_schema.specs.Broken.{same_name, same_method}
@@ -18,14 +17,13 @@ use Rattle.aidl_schema.specs.Find.{methods_of_decl, methods_at, position_of_code
 use Rattle.aidl_schema.specs.Holds.{AllHold}
 use Rattle.aidl_schema.specs.Names.{name_of, methods_of}
 use Rattle.aidl_schema.specs.Same.{same_text}
-use Rattle.aidl_schema.specs.Unbroken.{Has}
 use Rattle.aidl_values.specs.Data.{Items}
 use Rattle.aidl_values.specs.Sound.{IsSound}
 use Rattle.wire_model.specs.Calls.{name_of_decl, descriptor, method_at, arguments_of, arguments, code_of, code_at}
-use Rattle.wire_model.specs.Outcome.{declared_as, method_like, view_arguments, seen_call}
+use Rattle.wire_model.specs.Outcome.{declared_as, method_like, view_arguments, seen_call, received_call}
 use Rattle.wire_model.specs.ReadOf.{Read}
 use Rattle.wire_model.specs.Receiver.{Received, called, received, or_status, token_at, arguments_at, stub}
-use Rattle.wire_model.specs.Requests.{ArgsFit, ArgumentsFit, argument_parts, request, sum_of_lengths, token}
+use Rattle.wire_model.specs.Requests.{ArgsFit, argument_parts, request, token}
 use Rattle.wire_model.specs.Status.{bad_value, unknown_transaction}
 use Rattle.wire_model.specs.steps.CallsMeet.{ArgumentsAgree, InterfacesAgree, CallsMeet}
 use Rattle.wire_model.specs.steps.Meets.{Meets}
@@ -58,8 +56,7 @@ then_token p S i m x = x >>= λ rest. arguments_at p S 0 (arguments S i m) rest 
 abbrev then_saw : ℕ → Read Items → Result Received ℤ
 then_saw m x = x >>= λ saw. Ok (received m saw.0 saw.1)
 
--- what the law says of it
-abbrev pub as_called : Result (ℕ × Items) ℤ → Result Received ℤ
+abbrev as_called : Result (ℕ × Items) ℤ → Result Received ℤ
 as_called x = x >>= λ y. Ok (called y.0 y.1)
 
 abbrev then_method : List Decl → ℕ → ℕ → List Decl → ℕ → Items → Result ℕ ℤ → Result (ℕ × Items) ℤ
@@ -67,7 +64,7 @@ then_method A i m B j args x = x >>= λ n. or_status bad_value (view_arguments A
 
 module _ (p : Profile) (A B : List Decl) (i m j : ℕ) (args : Items) where
   abbrev Law : List ℕ → Type 0
-  Law b = stub p B j (code_at A i m) b ≡ as_called (seen_call A i m B j args)
+  Law b = stub p B j (code_at A i m) b ≡ received_call A i m B j args
 
   -- both look for a method first
   by_methods : (b : List ℕ) (o r : Option ℕ) → position_of_code (methods_at B j) (code_at A i m) ≡ o → method_like (method_at A i m) (methods_at B j) ≡ r
@@ -119,10 +116,16 @@ module _ (p : Profile) (A B : List Decl) (meets : Meets A B) (calls : CallsMeet 
     token_small =
         let name = descriptor A i in
         let parts = argument_parts A (arguments A i m) args in
-        omega (arith, length-spell_text name, length-append (token name) parts, length-append (word (pos 0x80000000)) (word (negsuc 0) ++ (word (pos 0x53595354) ++ spell_text name)),
-        length-append (word (negsuc 0)) (word (pos 0x53595354) ++ spell_text name), length-append (word (pos 0x53595354)) (spell_text name))
+        omega (
+          arith,
+          length-spell_text name,
+          length-append (token name) parts,
+          length-append (word (pos 0x80000000)) (word (negsuc 0) ++ (word (pos 0x53595354) ++ spell_text name)),
+          length-append (word (negsuc 0)) (word (pos 0x53595354) ++ spell_text name),
+          length-append (word (pos 0x53595354)) (spell_text name),
+        )
 
-    called_seen : (n : ℕ) → method_like (method_at A i m) (methods_at B j) ≡ Some n → stub p B j (code_at A i m) (request A i m args) ≡ as_called (seen_call A i m B j args)
+    called_seen : (n : ℕ) → method_like (method_at A i m) (methods_at B j) ≡ Some n → stub p B j (code_at A i m) (request A i m args) ≡ received_call A i m B j args
     called_seen n found =
         let w = position_passes (λ w. same_method v w) (methods_of e.kind) n (like (Some n) found) in
         let method = agree.common v w.0 (m, at) (n, w.1) w.2 in
@@ -142,37 +145,37 @@ module _ (p : Profile) (A B : List Decl) (meets : Meets A B) (calls : CallsMeet 
         (omega (arith, length-append (token name) parts)) (AreBytes-rest (token name) parts bytes) in
         somebody p A B i m j args n name parts coded found accepts (subst (λ zs. arguments_at p B 0 zs parts ≡ seen_at (view_arguments A xs B zs args) []) (sym ys) reads)
 
-    lacking_seen : method_like (method_at A i m) (methods_at B j) ≡ None → stub p B j (code_at A i m) (request A i m args) ≡ as_called (seen_call A i m B j args)
+    lacking_seen : method_like (method_at A i m) (methods_at B j) ≡ None → stub p B j (code_at A i m) (request A i m args) ≡ received_call A i m B j args
     lacking_seen lacks =
         let none = none_passes (λ w. same_method v w) (methods_of e.kind) (like None lacks) in
         let never : (k : ℕ) (x : Method) → slice_get (methods_of e.kind) k ≡ Some x → (x.id + 1 == v.id + 1) ≡ false =
         λ k x there'. not_code (x.id + 1 == v.id + 1) (λ q. agree.lacking v x (m, at) (k, there') (λ y has. none has.0 y has.1) (sym (code_is x.id v.id q))) in
         nobody p A B i m j args (request A i m args) (code None (position_none (λ (x : Method). x.id + 1 == v.id + 1) (methods_of e.kind) never)) lacks
 
-    pub by_like : (o : Option ℕ) → method_like (method_at A i m) (methods_at B j) ≡ o → stub p B j (code_at A i m) (request A i m args) ≡ as_called (seen_call A i m B j args)
+    pub by_like : (o : Option ℕ) → method_like (method_at A i m) (methods_at B j) ≡ o → stub p B j (code_at A i m) (request A i m args) ≡ received_call A i m B j args
     by_like None e = lacking_seen e
     by_like (Some n) e = called_seen n e
 
   -- A has no such method.
-  without : method_at A i m ≡ None → stub p B j (code_at A i m) (request A i m args) ≡ as_called (seen_call A i m B j args)
+  without : method_at A i m ≡ None → stub p B j (code_at A i m) (request A i m args) ≡ received_call A i m B j args
   without none = nobody p A B i m j args (request A i m args)
       (ap (λ x. position (λ (w : Method). w.id + 1 == code_of x) (methods_at B j)) none ∙ position_none (λ (w : Method). w.id + 1 == 0) (methods_at B j) (λ k x at. no_code x.id))
       (ap (λ x. method_like x (methods_at B j)) none)
 
   by_decl : (e : Decl) → slice_get B j ≡ Some e → same_text (descriptor A i) (name_of e) ≡ true → (o : Option Decl) → slice_get A i ≡ o
-      → stub p B j (code_at A i m) (request A i m args) ≡ as_called (seen_call A i m B j args)
+      → stub p B j (code_at A i m) (request A i m args) ≡ received_call A i m B j args
   by_decl e there named None here = without (ap (λ o. slice_get (methods_of_decl o) m) here)
   by_decl e there named (Some d) here = by_method (slice_get (methods_of d.kind) m) refl
     where
       same_names : same_name d e ≡ true
       same_names = subst (λ x. same_text x (name_of e) ≡ true) (ap name_of_decl here) named
 
-      by_method : (o : Option Method) → slice_get (methods_of d.kind) m ≡ o → stub p B j (code_at A i m) (request A i m args) ≡ as_called (seen_call A i m B j args)
+      by_method : (o : Option Method) → slice_get (methods_of d.kind) m ≡ o → stub p B j (code_at A i m) (request A i m args) ≡ received_call A i m B j args
       by_method None at = without (ap (λ o. slice_get (methods_of_decl o) m) here ∙ at)
       by_method (Some v) at = by_like d e here there same_names v at (method_like (method_at A i m) (methods_at B j)) refl
 
   -- The stub of the interface of the same name.
-  pub request_seen : declared_as B (descriptor A i) ≡ Some j → stub p B j (code_at A i m) (request A i m args) ≡ as_called (seen_call A i m B j args)
+  pub request_seen : declared_as B (descriptor A i) ≡ Some j → stub p B j (code_at A i m) (request A i m args) ≡ received_call A i m B j args
   request_seen found =
       let e = position_passes (λ (x : Decl). same_text (descriptor A i) (name_of x)) B j found in
       by_decl e.0 e.1 e.2 (slice_get A i) refl

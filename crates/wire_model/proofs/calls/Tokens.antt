@@ -1,8 +1,7 @@
 -- The token of an interface is taken by its stub, whatever follows.
-use Rattle.std.proofs.Common.{◌≡◌, ℕ, ◌≤◌, ◌<◌, ℤ, pos, negsuc, Bool, true, false, ◌&&◌, not, List, [], ◌∷◌, ◌++◌, map, length, Ok, Err, refl, sym, ap, ◌∙◌, arith, append_assoc}
+use Rattle.std.proofs.Common.{◌≡◌, ℕ, ◌≤◌, ◌<◌, ℤ, pos, negsuc, true, false, ◌&&◌, not, List, [], ◌∷◌, ◌++◌, map, length, Ok, refl, ap, ◌∙◌, arith}
 use Rattle.std.specs.Prelude.{is_none}
 use Rattle.std.specs.List.{list_all}
-use Rattle.std.specs.Ordering.{int_eq}
 use Rattle.std.specs.Str.{all_scalars}
 use Rattle.std.proofs.lemmas.Bool.Decides.{nat_tests}
 use lib.Utf8.{scalar, low_scalar}
@@ -11,7 +10,7 @@ use Rattle.aidl_base.specs.declared.profile.Profile.{Profile}
 use Rattle.aidl_base.specs.Identifiers.{is_identifier, is_letter, is_word_byte, begins}
 use Rattle.aidl_base.specs.Names.{dotted}
 use Rattle.aidl_base.specs.Reserved.{reserved_of}
-use Rattle.aidl_base.specs.Readings.{Read, ◌>>=◌, bytes_at, word_at, present_text_at}
+use Rattle.aidl_base.specs.Readings.{Read, ◌>>=◌, word_at, present_text_at}
 use Rattle.aidl_base.specs.Spellings.{spell_text}
 use Rattle.aidl_base.specs.Words.{word, units}
 use Rattle.aidl_base.proofs.Blocks.{bytes_again}
@@ -21,7 +20,6 @@ use Rattle.aidl_base.proofs.Words.{word_again, fits_pos}
 use Rattle.aidl_schema.proofs.Sames.{same_text_refl}
 use Rattle.aidl_schema.specs.declared.schema.Decl.{Decl}
 use Rattle.aidl_schema.specs.Names.{name_of, is_name, has_part, are_identifiers, is_type_word, last_part}
-use Rattle.aidl_schema.specs.Same.{same_text}
 use Rattle.wire_model.specs.Receiver.{header_at, is_token, accepted, token_at}
 use Rattle.wire_model.specs.Requests.{token}
 

@@ -1,7 +1,6 @@
 -- The types of a method of a valid schema are types of the schema.
-use Rattle.std.proofs.Common.{◌≡◌, ℕ, Bool, true, false, not, ◌&&◌, ◌||◌, List, [], ◌∷◌, map, Option, Some, None, slice_get, refl}
-use Rattle.std.specs.List.{list_all, filter}
-use Rattle.aidl_base.specs.declared.profile.Profile.{Profile}
+use Rattle.std.proofs.Common.{◌≡◌, Bool, true, false, not, ◌||◌, List, [], ◌∷◌, Option, Some, None, refl}
+use Rattle.std.specs.List.{list_all}
 use Rattle.aidl_base.proofs.Tests.{both, all_at}
 use Rattle.aidl_schema.specs.declared.schema.AidlType.{AidlType}
 use Rattle.aidl_schema.specs.declared.schema.Arg.{Arg}
@@ -12,7 +11,6 @@ use Rattle.aidl_schema.specs.Constants.{is_string}
 use Rattle.aidl_schema.specs.Holds.{AllHold}
 use Rattle.aidl_schema.specs.Methods.{is_in_way, is_passed_type, is_result_type, is_whole_type, has_method_types}
 use Rattle.aidl_schema.specs.Names.{methods_of}
-use Rattle.aidl_schema.specs.Same.{same}
 use Rattle.aidl_schema.specs.Types.{is_type}
 use Rattle.aidl_schema.specs.Unbroken.{Has}
 use Rattle.wire_model.specs.Calls.{outs_of}

@@ -1,6 +1,5 @@
 -- What is read of values that another schema spelled: their views, or BAD_VALUE at the first that has none.
-use Rattle.std.proofs.Common.{◌≡◌, ℕ, ◌+◌, ◌≤◌, Bool, true, false, List, [], ◌∷◌, ◌++◌, length, Option, Some, None, option_map, Ok, Err, refl, sym, ap, ◌∙◌, subst, arith, append_assoc, length-append}
-use Rattle.std.proofs.lemmas.List.{append-nil}
+use Rattle.std.proofs.Common.{◌≡◌, ℕ, ◌≤◌, true, false, List, [], ◌∷◌, ◌++◌, length, Option, Some, None, option_map, Ok, Err, refl, ap, ◌∙◌, subst, arith, append_assoc, length-append}
 use Rattle.aidl_base.proofs.Bytes.{AreBytes, AreBytes-rest}
 use Rattle.aidl_base.specs.declared.profile.Profile.{Profile}
 use Rattle.aidl_base.specs.Readings.{◌>>=◌}
@@ -11,7 +10,6 @@ use Rattle.aidl_schema.specs.Types.{is_type}
 use Rattle.aidl_values.specs.Data.{Data, Items, none, item}
 use Rattle.aidl_values.specs.Fits.{Fits}
 use Rattle.aidl_values.specs.Sound.{IsSound}
-use Rattle.wire_model.specs.Calls.{AnswerData, returned}
 use Rattle.wire_model.specs.Outcome.{view_values, view_result}
 use Rattle.wire_model.specs.ReadOf.{Read, read_of}
 use Rattle.wire_model.specs.Receiver.{values_at, result_at}

@@ -1,5 +1,5 @@
 -- Where no evolution rule is broken from one of two schemas to the other, each can read what the other sends.
-use Rattle.std.proofs.Common.{◌≡◌, ℕ, zero, suc, ◌≤◌, Bool, true, false, cond, ◌==◌, ◌&&◌, List, [], ◌∷◌, length, Option, Some, None, slice_get, find, refl, sym, ap, ◌∙◌, subst, arith}
+use Rattle.std.proofs.Common.{◌≡◌, ℕ, zero, suc, ◌≤◌, Bool, true, false, cond, ◌==◌, ◌&&◌, List, [], ◌∷◌, length, Option, Some, None, slice_get, refl, sym, ap, ◌∙◌, subst, arith}
 use Rattle.std.proofs.lemmas.Bool.Decides.{nat_tests}
 use Rattle.aidl_base.specs.Names.{dotted}
 use Rattle.aidl_base.proofs.Tests.{both}
@@ -18,7 +18,7 @@ use Rattle.aidl_schema.specs.Names.{name_of}
 use Rattle.aidl_schema.specs.Same.{same, same_base, same_decl, same_idents, same_text, same_bool, shape_code, base_code, decl_of, is_named}
 use Rattle.aidl_schema.specs.Types.{Form, form_of, form_of_decl, form_of_kind}
 use Rattle.aidl_schema.specs.Types as form
-use Rattle.aidl_schema.specs.Unbroken.{Has, AreBoth, AtEach, Unbroken}
+use Rattle.aidl_schema.specs.Unbroken.{AreBoth, AtEach, Unbroken}
 use Rattle.aidl_values.specs.Sound.{IsDeclared, HaveDefaults, IsSound, fields_of}
 use Rattle.wire_model.proofs.Lookups.{both_of}
 use Rattle.wire_model.specs.View.{same_kind}
