@@ -9,6 +9,8 @@ ghost use Rattle.aidl_schema.specs.Names.{name_of};
 ghost use Rattle.aidl_schema.specs.Same.{same};
 ghost use Rattle.aidl_schema.specs.Sizes.{AreSteady, default_depth, default_nodes, depth_by, nodes_by};
 ghost use Rattle.aidl_schema.specs.Types.{is_type};
+ghost use Rattle.aidl_schema.specs.Unbroken.{Unbroken};
+ghost use Rattle.aidl_schema.specs.declared.schema.AidlType.{AidlType};
 
 use crate::schema::{AidlType, Decl, Schema};
 
@@ -17,6 +19,12 @@ pub fn law_same(a: &[Decl], t: &AidlType, b: &[Decl], u: &AidlType, c: &[Decl], 
     ensures itself { is_type a.now t.now ≡ true → same a.now t.now a.now t.now ≡ true }
     ensures back { same a.now t.now b.now u.now ≡ true → same b.now u.now a.now t.now ≡ true }
     ensures along { same a.now t.now b.now u.now ≡ true → same b.now u.now c.now w.now ≡ true → same a.now t.now c.now w.now ≡ true }
+{}
+
+/// The same of all types of two schemas at once: each is the same as itself, and what is the same is so the other way round.
+pub fn law_same_types(a: &Schema, b: &Schema)
+    ensures itself { (t : AidlType) → is_type a.now.decls t ≡ true → same a.now.decls t a.now.decls t ≡ true }
+    ensures back { (t u : AidlType) → same a.now.decls t b.now.decls u ≡ true → same b.now.decls u a.now.decls t ≡ true }
 {}
 
 /// A declaration holds itself (E22) exactly where a chain of containment leads from it back to it, however long.
@@ -47,4 +55,9 @@ pub fn law_valid(schema: &Schema)
 pub fn law_chain(a: &Schema, b: &Schema, c: &Schema)
     ensures itself { broken a.now.decls a.now.decls ≡ [] }
     ensures along { broken a.now.decls b.now.decls ≡ [] → broken b.now.decls c.now.decls ≡ [] → broken a.now.decls c.now.decls ≡ [] }
+{}
+
+/// The list of broken rules is empty exactly where nothing is broken, rule by rule (`Unbroken` says it sentence by sentence).
+pub fn law_unbroken(old: &Schema, new: &Schema)
+    ensures { (broken old.now.decls new.now.decls ≡ []) ↔ Unbroken old.now.decls new.now.decls }
 {}

@@ -7,7 +7,10 @@ mod meaning;
 mod schema;
 
 pub use finding::{find, method_of_code};
-pub use laws::{law_chain, law_default_sizes, law_holds_itself, law_same, law_valid};
+pub use laws::{
+    law_chain, law_default_sizes, law_holds_itself, law_same, law_same_types, law_unbroken,
+    law_valid,
+};
 pub use meaning::{Form, element, form_in, is_in_range, is_raw, is_type};
 pub use schema::{
     AidlType, Arg, Backing, Base, Constant, Decl, Direction, Enumerator, Field, Kind, Method,

@@ -1,6 +1,7 @@
 mod Examples
 mod Forms
 mod Lenient
+mod Lookups
 mod Nodes
 pub mod Parts
 mod RawForms
@@ -9,6 +10,8 @@ pub mod Sound
 mod Steps
 mod TextForms
 mod again
+pub mod calls
 pub mod spelled
 mod stopped
 mod told
+pub mod viewed

@@ -1,6 +1,11 @@
+pub mod Calls
+pub mod Outcome
 pub mod ReadOf
 pub mod Reads
+pub mod Receiver
+pub mod Requests
 pub mod Spell
 pub mod Status
 pub mod Stop
+pub mod View
 pub mod steps

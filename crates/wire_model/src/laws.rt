@@ -1,19 +1,30 @@
-ghost use Rattle.std.specs.Prelude.{◌≡◌, ◌-◌, ◌*◌, ◌≤◌, ◌↔◌, ◌++◌, ◌⊎◌, true, List, ℕ, ℤ, Ok, Err, length};
+ghost use Rattle.std.specs.Prelude.{◌≡◌, ◌-◌, ◌*◌, ◌≤◌, ◌<◌, ◌↔◌, ◌++◌, ◌⊎◌, true, List, [], ℕ, ℤ, Some, None, Ok, Err, length};
 ghost use Rattle.aidl_base.specs.declared.profile.Profile.TheVariants.{Strict, Lenient};
+ghost use Rattle.aidl_schema.specs.Broken.{broken};
+ghost use Rattle.aidl_schema.specs.Find.{methods_at};
+ghost use Rattle.aidl_schema.specs.Same.{same};
 ghost use Rattle.aidl_schema.specs.Types.{is_type};
 ghost use Rattle.aidl_values.specs.Data.{Data, depth_of};
+ghost use Rattle.aidl_values.specs.Fits.{Fits};
 ghost use Rattle.aidl_values.specs.HasType.{HasType};
 ghost use Rattle.aidl_values.specs.Nodes.{nodes_of};
-ghost use Rattle.aidl_values.specs.View.{view};
+ghost use Rattle.aidl_values.specs.View.{view, views};
+ghost use Rattle.wire_model.specs.Calls.{answer_of, arguments, code_at, descriptor, method_at};
+ghost use Rattle.wire_model.specs.Outcome.{declared_as, method_like, received_call, seen_answer};
 ghost use Rattle.wire_model.specs.ReadOf.{read_of};
 ghost use Rattle.wire_model.specs.Reads.{FrontReads, Reads};
+ghost use Rattle.wire_model.specs.Receiver.{called, client, opened_arguments, stub};
+ghost use Rattle.wire_model.specs.Requests.{AnswerFits, ArgsFit, reply, request};
 ghost use Rattle.wire_model.specs.Spell.{spell};
-ghost use Rattle.wire_model.specs.Status.{IsStatus};
+ghost use Rattle.wire_model.specs.Status.{IsStatus, bad_value};
 ghost use Rattle.wire_model.specs.Stop.{Stop, Stops};
+ghost use Rattle.wire_model.specs.View.{view_of};
+ghost use Rattle.wire_model.specs.steps.CallsMeet.{CallsMeet};
+ghost use Rattle.wire_model.specs.steps.Meets.{Meets};
 
 use aidl_base::Profile;
-use aidl_schema::{AidlType, Schema};
-use aidl_values::{Value, law_small_defaults, law_sound};
+use aidl_schema::{AidlType, Schema, law_chain, law_same_types, law_unbroken, law_valid};
+use aidl_values::{Answer, Value, law_small_defaults, law_sound};
 
 /// What spells a value is a reading of it.
 pub fn law_spelled_reads(
@@ -122,3 +133,167 @@ pub fn law_strict_is_lenient(schema: &Schema, ty: &AidlType, levels: usize, b: &
     requires { Reads Strict schema.now.decls levels ty.now b.now (view value.now) }
     ensures { Reads Lenient schema.now.decls levels ty.now b.now (view value.now) }
 {}
+
+/// What is sent by one of two schemas, of which one is a legal evolution of the other, is read by the other as its view; where
+/// there is no view, reading stops with BAD_VALUE whatever follows.
+pub fn law_view_reads(
+    profile: Profile,
+    a: &Schema,
+    t: &AidlType,
+    b: &Schema,
+    u: &AidlType,
+    value: &Value,
+    c: &[u8],
+    inside: bool,
+)
+    requires unbroken { (broken a.now.decls b.now.decls ≡ []) ⊎ (broken b.now.decls a.now.decls ≡ []) }
+    requires same { same a.now.decls t.now b.now.decls u.now ≡ true }
+    requires fits { Fits a.now.decls t.now (view value.now) }
+    requires small { length (spell a.now.decls t.now (view value.now)) ≤ 1048576 }
+    ensures reads { (w : Data) → view_of a.now.decls t.now b.now.decls u.now (view value.now) ≡ Some w
+        → Reads profile b.now.decls 64 u.now (spell a.now.decls t.now (view value.now)) w }
+    ensures typed { (w : Data) → view_of a.now.decls t.now b.now.decls u.now (view value.now) ≡ Some w → HasType b.now.decls u.now w }
+    ensures stops { view_of a.now.decls t.now b.now.decls u.now (view value.now) ≡ None
+        → Stop profile b.now.decls 64 u.now (spell a.now.decls t.now (view value.now) ++ c.now) inside bad_value }
+{
+    law_meets(a, b);
+}
+
+/// Within one schema a value is its own view.
+pub fn law_view_same(schema: &Schema, ty: &AidlType, value: &Value)
+    requires known { is_type schema.now.decls ty.now ≡ true }
+    requires typed { HasType schema.now.decls ty.now (view value.now) }
+    ensures { view_of schema.now.decls ty.now schema.now.decls ty.now (view value.now) ≡ Some (view value.now) }
+{
+    law_chain(schema, schema, schema);
+    law_meets(schema, schema);
+    law_same_types(schema, schema);
+}
+
+/// A request is called with the values that were sent, and with the openings of its `out` arguments.
+pub fn law_request_called(
+    profile: Profile,
+    schema: &Schema,
+    interface: u32,
+    method: u32,
+    args: &[Value],
+    bytes: &[u8],
+)
+    requires there { method < length (methods_at schema.now.decls interface) }
+    requires fits { ArgsFit schema.now.decls interface method (views args.now) }
+    requires spelled { bytes.now ≡ request schema.now.decls interface method (views args.now) }
+    requires small { length bytes.now ≤ 1048576 }
+    ensures { stub profile schema.now.decls interface (code_at schema.now.decls interface method) bytes.now
+        ≡ Ok (called method (opened_arguments schema.now.decls (arguments schema.now.decls interface method) (views args.now))) }
+{
+    law_chain(schema, schema, schema);
+    law_meets(schema, schema);
+    law_calls_meet(schema, schema);
+    law_same_types(schema, schema);
+    law_sound(schema);
+    law_valid(schema);
+}
+
+/// A client gets the answer that was replied.
+pub fn law_reply_got(
+    profile: Profile,
+    schema: &Schema,
+    interface: u32,
+    method: u32,
+    answer: &Answer,
+    bytes: &[u8],
+)
+    requires there { method < length (methods_at schema.now.decls interface) }
+    requires fits { AnswerFits schema.now.decls interface method (answer_of answer.now) }
+    requires spelled { bytes.now ≡ reply schema.now.decls interface method (answer_of answer.now) }
+    ensures { client profile schema.now.decls interface method bytes.now ≡ Ok (answer_of answer.now) }
+{
+    law_chain(schema, schema, schema);
+    law_meets(schema, schema);
+    law_calls_meet(schema, schema);
+    law_same_types(schema, schema);
+    law_sound(schema);
+    law_valid(schema);
+}
+
+/// Of a request of one of two schemas, of which one is a legal evolution of the other, the other's stub makes what `Outcome` says: no
+/// method has the code where the server lacks the method; BAD_VALUE where an argument has no view; or else the method of
+/// that name is called, with the views of the arguments and with the server's openings.
+pub fn law_request_seen(
+    profile: Profile,
+    a: &Schema,
+    interface: u32,
+    method: u32,
+    b: &Schema,
+    other: u32,
+    args: &[Value],
+    bytes: &[u8],
+)
+    requires unbroken { (broken a.now.decls b.now.decls ≡ []) ⊎ (broken b.now.decls a.now.decls ≡ []) }
+    requires shared { declared_as b.now.decls (descriptor a.now.decls interface) ≡ Some other }
+    requires fits { ArgsFit a.now.decls interface method (views args.now) }
+    requires spelled { bytes.now ≡ request a.now.decls interface method (views args.now) }
+    requires small { length bytes.now ≤ 1048576 }
+    ensures { stub profile b.now.decls other (code_at a.now.decls interface method) bytes.now
+        ≡ received_call a.now.decls interface method b.now.decls other (views args.now) }
+{
+    law_meets(a, b);
+    law_calls_meet(a, b);
+    law_sound(b);
+    law_valid(b);
+}
+
+/// Of a reply of the server `b` the client `a` makes what `Outcome` says: the same exception; BAD_VALUE where the result or an out
+/// has no view; or else the views of the result and of the outs.
+pub fn law_reply_seen(
+    profile: Profile,
+    a: &Schema,
+    interface: u32,
+    method: u32,
+    b: &Schema,
+    other: u32,
+    other_method: u32,
+    answer: &Answer,
+    bytes: &[u8],
+)
+    requires unbroken { (broken a.now.decls b.now.decls ≡ []) ⊎ (broken b.now.decls a.now.decls ≡ []) }
+    requires shared { declared_as b.now.decls (descriptor a.now.decls interface) ≡ Some other }
+    requires common { method_like (method_at a.now.decls interface method) (methods_at b.now.decls other) ≡ Some other_method }
+    requires fits { AnswerFits b.now.decls other other_method (answer_of answer.now) }
+    requires spelled { bytes.now ≡ reply b.now.decls other other_method (answer_of answer.now) }
+    ensures { client profile a.now.decls interface method bytes.now
+        ≡ seen_answer b.now.decls other other_method a.now.decls interface method (answer_of answer.now) }
+{
+    law_meets(b, a);
+    law_calls_meet(b, a);
+    law_sound(a);
+    law_valid(a);
+}
+
+/// Where no evolution rule is broken from one of two schemas to the other, types that are the same mean the same to both, as
+/// far as what is sent by `a` and read by `b` needs it.
+fn law_meets(a: &Schema, b: &Schema)
+    requires { (broken a.now.decls b.now.decls ≡ []) ⊎ (broken b.now.decls a.now.decls ≡ []) }
+    ensures { Meets a.now.decls b.now.decls }
+{
+    law_valid(a);
+    law_valid(b);
+    law_sound(a);
+    law_sound(b);
+    law_unbroken(a, b);
+    law_unbroken(b, a);
+    law_same_types(b, a);
+}
+
+/// The same of methods: those of one name take the same calls, and no other method has the code of one that the other schema
+/// lacks.
+fn law_calls_meet(a: &Schema, b: &Schema)
+    requires { (broken a.now.decls b.now.decls ≡ []) ⊎ (broken b.now.decls a.now.decls ≡ []) }
+    ensures { CallsMeet a.now.decls b.now.decls }
+{
+    law_valid(a);
+    law_valid(b);
+    law_unbroken(a, b);
+    law_unbroken(b, a);
+    law_same_types(b, a);
+}

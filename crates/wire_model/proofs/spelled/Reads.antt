@@ -45,7 +45,7 @@ fields p S d (f ∷ fs) (item v vs) law h le fits =
     inr (spell S f.ty v, spell_fields S fs vs, refl, law f.ty v h.0 (omega arith) (omega arith), fields p S d fs vs law h.1 (omega arith) (omega arith))
 
 -- a number's spelling is a reading of it
-number_spelled : (p : Profile) (f : Form) (n : ℤ) → in_range f n ≡ true → NumberReads p f (spell_number f n) n
+pub number_spelled : (p : Profile) (f : Form) (n : ℤ) → in_range f n ≡ true → NumberReads p f (spell_number f n) n
 number_spelled p form.byte n h = byte_word p n (byte_fits n h)
 number_spelled p form.char n h = char_number_word p n h
 number_spelled p form.int n h = refl

@@ -1,0 +1,10 @@
+-- What is sent of a call is received: requests, replies, and what comes of a call between two schemas.
+pub mod Arguments
+pub mod Exceptions
+pub mod Itself
+pub mod Methods
+pub mod Replies
+pub mod Requests
+pub mod Tokens
+pub mod Types
+pub mod Values

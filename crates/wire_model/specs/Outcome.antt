@@ -1,0 +1,86 @@
+-- *Outcome*: what comes of a call between two schemas of which one is a legal evolution of the other, without a word of bytes (own).
+-- A is the client's declarations, i and m the interface and the method of the call, B the server's declarations.
+use Rattle.std.specs.Prelude.{ℕ, ℤ, List, [], ◌∷◌, Option, Some, None, option_map, Result, Ok, if◌then◌else◌}
+use Rattle.std.specs.List.{position}
+use Rattle.aidl_schema.specs.declared.schema.AidlType.{AidlType}
+use Rattle.aidl_schema.specs.declared.schema.Arg.{Arg}
+use Rattle.aidl_schema.specs.declared.schema.Decl.{Decl}
+use Rattle.aidl_schema.specs.declared.schema.Method.{Method}
+use Rattle.aidl_schema.specs.Broken.{same_method}
+use Rattle.aidl_schema.specs.Find.{methods_at}
+use Rattle.aidl_schema.specs.Names.{name_of}
+use Rattle.aidl_schema.specs.Same.{same_text}
+use Rattle.aidl_values.specs.Data.{Data, Items, none, item}
+use Rattle.wire_model.specs.Calls.{AnswerData, returned, exception, descriptor, method_at, arguments, result_type, out_types, is_oneway, is_out}
+use Rattle.wire_model.specs.ReadOf.{◌>>=◌}
+use Rattle.wire_model.specs.Receiver.{Received, called, opening, or_status}
+use Rattle.wire_model.specs.Requests.{sent_length}
+use Rattle.wire_model.specs.Status.{bad_value, unknown_transaction}
+use Rattle.wire_model.specs.View.{view_of, item_first}
+
+-- the number of the declaration of a name
+abbrev pub declared_as : List Decl → List ℕ → Option ℕ
+declared_as S name = position (λ d. same_text name (name_of d)) S
+
+-- the position of the method of the same name
+abbrev pub method_like : Option Method → List Method → Option ℕ
+method_like None ws = None
+method_like (Some v) ws = position (λ w. same_method v w) ws
+
+-- what the handler sees of an argument: the view of an `in` or `inout` one, the opening of an `out` one
+abbrev pub view_argument : List Decl → Arg → List Decl → Arg → Data → Option Data
+view_argument A a B b v = if is_out a.way then Some (opening B b.ty (sent_length v)) else view_of A a.ty B b.ty v
+
+-- of all arguments; None if one of them has no view
+abbrev pub view_arguments : List Decl → List Arg → List Decl → List Arg → Items → Option Items
+view_arguments A (a ∷ xs) B (b ∷ ys) (item v vs) = item_first (view_argument A a B b v) (view_arguments A xs B ys vs)
+view_arguments A (a ∷ xs) B (b ∷ ys) none = Some none
+view_arguments A (a ∷ xs) B [] vs = Some none
+view_arguments A [] B ys vs = Some none
+
+-- what the interface j of the server receives: the position of its method, and what the handler sees
+unfoldable pub seen_call : List Decl → ℕ → ℕ → List Decl → ℕ → Items → Result (ℕ × Items) ℤ
+seen_call A i m B j args = do
+  n ← or_status unknown_transaction (method_like (method_at A i m) (methods_at B j))  -- UNKNOWN_TRANSACTION: B lacks the method
+  saw ← or_status bad_value (view_arguments A (arguments A i m) B (arguments B j n) args)  -- BAD_VALUE: an argument has no view
+  Ok (n, saw)
+
+-- the same as what a stub receives
+abbrev pub received_call : List Decl → ℕ → ℕ → List Decl → ℕ → Items → Result Received ℤ
+received_call A i m B j args = do
+  seen ← seen_call A i m B j args
+  Ok (called seen.0 seen.1)
+
+-- the views of values of these types; None if one of them has no view
+abbrev pub view_values : List Decl → List AidlType → List Decl → List AidlType → Items → Option Items
+view_values B (t ∷ ts) A (u ∷ us) (item v vs) = item_first (view_of B t A u v) (view_values B ts A us vs)
+view_values B (t ∷ ts) A (u ∷ us) none = Some none
+view_values B (t ∷ ts) A [] vs = Some none
+view_values B [] A us vs = Some none
+
+-- of a result, where there is one
+abbrev pub view_result : List Decl → Option AidlType → List Decl → Option AidlType → Option Data → Option (Option Data)
+view_result B (Some t) A (Some u) (Some v) = option_map (λ w. Some w) (view_of B t A u v)
+view_result B (Some t) A (Some u) None = Some None
+view_result B (Some t) A None r = Some None
+view_result B None A u r = Some None
+
+-- what the client has of the answer of the server's method: the same exception, or the views from B to A of the result and of the outs
+abbrev pub seen_answer : List Decl → ℕ → ℕ → List Decl → ℕ → ℕ → AnswerData → Result AnswerData ℤ
+seen_answer B j n A i m (exception code message error) = Ok (exception code message error)
+seen_answer B j n A i m (returned result outs) = do
+  r ← or_status bad_value (view_result B (result_type B j n) A (result_type A i m) result)
+  vs ← or_status bad_value (view_values B (out_types B j n) A (out_types A i m) outs)
+  Ok (returned r vs)
+
+-- what the handler sees of a oneway call; and of another call that and what the client has, which may be a status
+pub data Done : Type 0 where
+  oneway : (saw : Items) → Done
+  done : (saw : Items) → (client : Result AnswerData ℤ) → Done
+
+-- *Outcome*: the transport status, or what the two sides have; B's handler answers `answer`
+unfoldable pub outcome : List Decl → ℕ → ℕ → List Decl → Items → AnswerData → Result Done ℤ
+outcome A i m B args answer = do
+  j ← or_status unknown_transaction (declared_as B (descriptor A i))  -- UNKNOWN_TRANSACTION: B lacks the interface
+  seen ← seen_call A i m B j args
+  Ok (if is_oneway B j seen.0 then oneway seen.1 else done seen.1 (seen_answer B j seen.0 A i m answer))

@@ -1,0 +1,131 @@
+-- *Requests and replies*: the bytes of a call's request and of its reply (the compiler's generated proxy and stub; libbinder,
+-- Parcel.cpp: `writeInterfaceToken`, Status.cpp: `writeToParcel`; a token's first two words and the bound on lengths are own).
+-- S is a schema's declarations, i the number of an interface, m the position of its method.
+use Rattle.std.specs.Prelude.{◌≡◌, ℕ, ◌+◌, ◌≤◌, ℤ, pos, negsuc, false, if◌then◌else◌, List, [], ◌∷◌, ◌++◌, length, Option, Some, None, IsTrue, MatchBool, FitsSigned}
+use Rattle.std.specs.Int.{w32}
+use Rattle.std.specs.Ordering.{int_eq}
+use Rattle.std.specs.Str.{all_scalars}
+use Rattle.aidl_base.specs.Ranges.{is_between}
+use Rattle.aidl_base.specs.Words.{word}
+use Rattle.aidl_schema.specs.declared.schema.AidlType.{AidlType}
+use Rattle.aidl_schema.specs.declared.schema.Arg.{Arg}
+use Rattle.aidl_schema.specs.declared.schema.Decl.{Decl}
+use Rattle.aidl_schema.specs.Types.{is_array}
+use Rattle.aidl_values.specs.Data.{Data, null, number, Items, none, item}
+use Rattle.aidl_values.specs.Fits.{Fits}
+use Rattle.wire_model.specs.Calls.{AnswerData, returned, exception, descriptor, arguments, result_type, out_types, is_out}
+use Rattle.wire_model.specs.Spell.{spell, spell_text}
+
+-- *Token*: the policy word, the work source -1, the header `SYST`, and the descriptor
+abbrev pub token : List ℕ → List ℕ
+token name = word (pos 0x80000000) ++ (word (negsuc 0) ++ (word (pos 0x53595354) ++ spell_text name))
+
+-- the length that stands for an `out` array, where None is null
+abbrev pub sent_length : Data → Option ℕ
+sent_length (number (pos n)) = Some n
+sent_length _ = None
+
+abbrev pub spell_length : Option ℕ → List ℕ
+spell_length None = word (negsuc 0)
+spell_length (Some n) = word (pos n)
+
+-- An argument's part of a request: an `in` or `inout` one is spelled, of an `out` array the length, of another `out` one nothing.
+abbrev pub argument_part : List Decl → Arg → Data → List ℕ
+argument_part S a v = if is_out a.way then (if is_array a.ty.shape then spell_length (sent_length v) else []) else spell S a.ty v
+
+abbrev pub argument_parts : List Decl → List Arg → Items → List ℕ
+argument_parts S [] vs = []
+argument_parts S (a ∷ xs) none = []
+argument_parts S (a ∷ xs) (item v vs) = argument_part S a v ++ argument_parts S xs vs
+
+-- *Request*
+abbrev pub request : List Decl → ℕ → ℕ → Items → List ℕ
+request S i m args = token (descriptor S i) ++ argument_parts S (arguments S i m) args
+
+-- a length, or null where the array may be
+abbrev pub IsLength : AidlType → Data → Type 0
+IsLength t null = IsTrue t.nullable
+IsLength t (number (pos n)) = Unit {0}
+IsLength t _ = ⊥
+
+-- a value for an `in` or `inout` argument, a length for an `out` array, null for any other `out` one
+abbrev pub ArgumentFits : List Decl → Arg → Data → Type 0
+ArgumentFits S a v = MatchBool (is_out a.way) (MatchBool (is_array a.ty.shape) (IsLength a.ty v) (v ≡ null)) (Fits S a.ty v)
+
+abbrev pub ArgumentsFit : List Decl → List Arg → Items → Type 0
+ArgumentsFit S [] none = Unit {0}
+ArgumentsFit S [] (item v vs) = ⊥
+ArgumentsFit S (a ∷ xs) none = ⊥
+ArgumentsFit S (a ∷ xs) (item v vs) = ArgumentFits S a v × ArgumentsFit S xs vs
+
+-- the length that an argument asks for
+abbrev pub number_or_0 : Option ℕ → ℕ
+number_or_0 None = 0
+number_or_0 (Some n) = n
+
+abbrev pub asked_length : Arg → Data → ℕ
+asked_length a v = if is_out a.way then number_or_0 (sent_length v) else 0
+
+abbrev pub sum_of_lengths : List Arg → Items → ℕ
+sum_of_lengths [] vs = 0
+sum_of_lengths (a ∷ xs) none = 0
+sum_of_lengths (a ∷ xs) (item v vs) = asked_length a v + sum_of_lengths xs vs
+
+-- *ArgsFit*: each argument fits, and the lengths add up to at most 65,536.
+pub record ArgsFit (S : List Decl) (i m : ℕ) (args : Items) : Type 0 where
+  pub each : ArgumentsFit S (arguments S i m) args
+  pub few : sum_of_lengths (arguments S i m) args ≤ 65536
+
+-- values of these types, one after the other
+abbrev pub spell_each : List Decl → List AidlType → Items → List ℕ
+spell_each S [] vs = []
+spell_each S (t ∷ ts) none = []
+spell_each S (t ∷ ts) (item v vs) = spell S t v ++ spell_each S ts vs
+
+-- a result, where the method has one
+abbrev pub spell_result : List Decl → Option AidlType → Option Data → List ℕ
+spell_result S (Some t) (Some v) = spell S t v
+spell_result S (Some t) None = []
+spell_result S None r = []
+
+-- EX_SERVICE_SPECIFIC, a service's own exception, which alone has an error word
+abbrev pub service_specific : ℤ
+service_specific = negsuc 7
+
+abbrev pub spell_error : ℤ → ℤ → List ℕ
+spell_error code error = if int_eq code service_specific then word error else []
+
+-- *Reply*: the status 0 with the result and the outs; or an exception with its message, a stack-trace size 0 and the error
+abbrev pub reply : List Decl → ℕ → ℕ → AnswerData → List ℕ
+reply S i m (returned result outs) = word (pos 0) ++ (spell_result S (result_type S i m) result ++ spell_each S (out_types S i m) outs)
+reply S i m (exception code message error) = word code ++ (spell_text message ++ (word (pos 0) ++ spell_error code error))
+
+-- a value exactly where the method isn't void
+abbrev pub ResultFits : List Decl → Option AidlType → Option Data → Type 0
+ResultFits S (Some t) (Some v) = Fits S t v
+ResultFits S (Some t) None = ⊥
+ResultFits S None (Some v) = ⊥
+ResultFits S None None = Unit {0}
+
+-- one value of each type
+abbrev pub EachFits : List Decl → List AidlType → Items → Type 0
+EachFits S [] none = Unit {0}
+EachFits S [] (item v vs) = ⊥
+EachFits S (t ∷ ts) none = ⊥
+EachFits S (t ∷ ts) (item v vs) = Fits S t v × EachFits S ts vs
+
+-- a code from -8 to -1, a text, and an `int` that is 0 unless the code is -8
+pub record ExceptionFits (code : ℤ) (message : List ℕ) (error : ℤ) : Type 0 where
+  pub known : IsTrue (is_between (negsuc 7) (negsuc 0) code)
+  pub scalars : IsTrue (all_scalars message)
+  pub int : FitsSigned w32 error
+  pub no_error : int_eq code service_specific ≡ false → error ≡ pos 0
+
+abbrev pub IsAnswer : List Decl → ℕ → ℕ → AnswerData → Type 0
+IsAnswer S i m (returned result outs) = ResultFits S (result_type S i m) result × EachFits S (out_types S i m) outs
+IsAnswer S i m (exception code message error) = ExceptionFits code message error
+
+-- *AnswerFits*: an answer of the method, whose reply has at most 1,048,576 bytes
+pub record AnswerFits (S : List Decl) (i m : ℕ) (a : AnswerData) : Type 0 where
+  pub answer : IsAnswer S i m a
+  pub small : length (reply S i m a) ≤ 1048576
