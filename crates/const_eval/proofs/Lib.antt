@@ -1,4 +1,6 @@
 pub mod Agree
+pub mod Behind
 pub mod General
 pub mod OneOutcome
 pub mod Orders
+pub mod Scopes

@@ -11,6 +11,7 @@ mod numbering;
 mod order;
 mod outcome;
 mod shape;
+mod target;
 mod wanted;
 
 pub use const_values::ConstFault;
@@ -20,3 +21,4 @@ pub use named::names_in;
 pub use numbering::{Items, numbered};
 pub use outcome::Outcome;
 pub use shape::{Shape, shaped};
+pub use target::{Target, number_of, target_of};
