@@ -2,6 +2,7 @@
 #![tactic(auto)]
 
 mod backing;
+mod dependence;
 mod initializers;
 mod item;
 mod laws;
@@ -15,6 +16,7 @@ mod target;
 mod wanted;
 
 pub use const_values::ConstFault;
+pub use dependence::{Dependence, dependence_of};
 pub use item::{ItemRef, WrittenRef};
 pub use laws::law_one_outcome;
 pub use named::names_in;
