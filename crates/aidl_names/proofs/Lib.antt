@@ -9,3 +9,4 @@ pub mod Taken
 pub mod Chains
 pub mod Tables
 pub mod Alike
+pub mod Named

@@ -6,9 +6,9 @@ use Rattle.aidl_syntax.specs.declared.tree.DottedTree.{DottedTree}
 use Rattle.aidl_names.specs.Names.{text, last}
 use Rattle.aidl_names.specs.Declarations.{Entry}
 
--- one more byte
+-- One more byte: a number to the base 257, modulo the largest prime below 2 ^ 55, so that a step fits in 64 bits.
 unfoldable pub with_byte : ℕ → ℕ → ℕ
-with_byte mark b = (mark % 288230376151711717 * 31 + b) % 288230376151711717
+with_byte mark b = (mark % 36028797018963913 * 257 + b) % 36028797018963913
 
 -- one more part
 abbrev pub with_part : ℕ → Ident → ℕ

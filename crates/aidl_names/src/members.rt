@@ -11,7 +11,7 @@ use aidl_syntax::{
 use std::alloc::Global;
 
 /// A member of a declaration.
-#[derive(Clone, Copy)]
+#[derive(Clone, Copy, Debug)]
 pub enum MemberRef<'a> {
     Field(&'a FieldTree),
     Constant(&'a ConstantTree),
@@ -51,8 +51,7 @@ fn listed<'a>(
     Ok(all)
 }
 
-/// A member as it is found in its tree. It takes no memory.
-pub fn of_tree(member: &MemberTree) -> MemberRef<'_>
+fn of_tree(member: &MemberTree) -> MemberRef<'_>
     ensures { (ms : Members) → seen_member result ∷ listed ms ≡ listed (member_of member.now ms) }
 {
     match member {

@@ -10,7 +10,7 @@ ghost use Rattle.aidl_names.specs.Resolution.{resolved};
 ghost use Rattle.aidl_names.specs.Marks.{mark_of_entry};
 ghost use Rattle.aidl_names.specs.Refusals.{IsAccepted, IsRefusal, IsScope, entry_of};
 
-use crate::called::called_at;
+use crate::called::{called, members_by_name};
 use crate::duplicates::{add_repeated, add_taken};
 use crate::fault::{NameFault, WalkFault};
 use crate::files::add_wrong_files;
@@ -26,6 +26,7 @@ use crate::types::{TypeRule, add_types};
 use crate::walk::walk;
 use aidl_base::{Breach, DottedName, Ident, Limit, LimitName, OutOfMemory, Row};
 use aidl_syntax::{DeclTree, ParsedFile};
+use indexmap::IndexMap;
 use std::alloc::Global;
 use std::marker::Model;
 
@@ -45,6 +46,7 @@ pub struct Names<'a> {
     files: &'a [ParsedFile],
     found: Vec<Found<'a>>,
     table: Table,
+    members: Vec<IndexMap<&'a str, MemberRef<'a>>>,
 }
 
 impl<'a> Model for Names<'a> {
@@ -56,6 +58,7 @@ impl<'a> Model for Names<'a> {
     ghost use Rattle.aidl_names.specs.Declarations.{declarations};
     ghost use Rattle.aidl_names.specs.Marks.{mark_of_entry};
     ghost use Rattle.aidl_names.specs.Refusals.{IsAccepted, entry_of};
+    ghost use Rattle.aidl_names.specs.Called.{called, seen_table};
 
     ghost Value = { List ParsedFile };
 
@@ -68,6 +71,7 @@ impl<'a> Model for Names<'a> {
       accepted : IsAccepted (map source_of names.files.now);
       marks : names.table ≡ map mark_of_entry (map entry_of names.found.items);
       all : map entry_of names.found.items ≡ declarations (map source_of names.files.now);
+      called : map seen_table names.members.items ≡ map called (declarations (map source_of names.files.now));
     } };
 }
 
@@ -108,7 +112,10 @@ impl<'a> Names<'a> {
     pub fn member(&self, number: u32, name: &Ident) -> Option<MemberRef<'a>>
         ensures { map_option seen_member result ≡ called_at (declarations (map source_of self.now)) number name.now }
     {
-        called_at(self.found.as_slice(), number, name)
+        match self.members.get(number as usize) {
+            Some(table) => called(table, name),
+            None => None,
+        }
     }
 }
 
@@ -131,10 +138,12 @@ pub fn gather<'a>(alloc: Global, files: &'a [ParsedFile]) -> Result<Names<'a>, N
     if rows.len() > 0 {
         return Err(NameFault::Breaches(rows));
     }
+    let members = members_by_name(alloc, found.as_slice())?;
     Ok(Names {
         files,
         found,
         table,
+        members,
     })
 }
 
