@@ -10,3 +10,5 @@ pub mod Chains
 pub mod Tables
 pub mod Alike
 pub mod Named
+pub mod Through
+pub mod OfFiles

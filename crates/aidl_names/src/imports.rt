@@ -2,7 +2,7 @@ ghost use Rattle.std.specs.Prelude.{◌≡◌, ◌≤◌, ◌<◌, ◌++◌, ◌
 ghost use Rattle.std.specs.List.{position_from};
 ghost use Rattle.aidl_names.specs.Sources.{source_of};
 ghost use Rattle.aidl_names.specs.Rules.{in_each, unknown_imports, other_imports};
-ghost use Rattle.aidl_names.specs.Marks.{mark_of_entry, mark_of_last};
+ghost use Rattle.aidl_names.specs.Marks.{import_marks, mark_of_entry, mark_of_last};
 ghost use Rattle.aidl_names.specs.Tables.{is_alike};
 ghost use Rattle.aidl_names.specs.Refusals.{entry_of};
 
@@ -93,6 +93,24 @@ fn either(a: bool, b: bool) -> bool
     ensures { result ≡ (a || b) }
 {
     a || b
+}
+
+/// For each file a table of the marks of the last parts of its imports.
+pub fn import_tables(alloc: Global, files: &[ParsedFile]) -> Result<Vec<Table>, OutOfMemory>
+    ensures { IfOk result (λ tables. tables.items ≡ map import_marks (map source_of files.now)) }
+{
+    let mut tables = Vec::with_capacity(alloc, files.len())?;
+    for file in files {
+        tables.push(import_table(alloc, file)?)?;
+    }
+    Ok(tables)
+}
+
+fn import_table(alloc: Global, file: &ParsedFile) -> Result<Table, OutOfMemory>
+    ensures { IfOk result (λ table. table ≡ import_marks (source_of file.now)) }
+{
+    let marks = last_marks(alloc, file.tree.imports.as_slice())?;
+    Table::new(alloc, marks)
 }
 
 // The marks of the last parts of imports.
