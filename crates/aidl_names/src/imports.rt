@@ -56,13 +56,15 @@ fn add_unknown(
 pub fn add_other_imports(
     alloc: Global,
     files: &[ParsedFile],
+    tables: &[Table],
     rows: &mut Vec<Breach>,
 ) -> Result<(), OutOfMemory>
     requires files { length files.now ≤ 4096 }
+    requires tables { tables.now ≡ map import_marks (map source_of files.now) }
     ensures { OnOk result (rows.new.items ≡ rows.old.items ++ in_each other_imports 0 (map source_of files.now)) }
 {
     for (i, file) in files.iter().enumerate() {
-        add_others(alloc, i as u32, file, rows)?;
+        add_others(alloc, i as u32, file, &tables[i], rows)?;
     }
     Ok(())
 }
@@ -72,15 +74,16 @@ fn add_others(
     alloc: Global,
     number: u32,
     file: &ParsedFile,
+    table: &Table,
     rows: &mut Vec<Breach>,
 ) -> Result<(), OutOfMemory>
+    requires { table.now ≡ import_marks (source_of file.now) }
     ensures { OnOk result (rows.new.items ≡ rows.old.items ++ other_imports number (source_of file.now)) }
 {
     let imports = file.tree.imports.as_slice();
-    let table = Table::new(alloc, last_marks(alloc, imports)?)?;
     let mut differ = Vec::from_elem(alloc, false, imports.len())?;
     for (i, import) in imports.iter().enumerate() {
-        let first = first_place(imports, &table, i, import);
+        let first = first_place(imports, table, i, import);
         let another = !same(imports[first].name.0.as_slice(), import.name.0.as_slice());
         let other = either(differ[first], another);
         differ[first] = other;
@@ -101,16 +104,10 @@ pub fn import_tables(alloc: Global, files: &[ParsedFile]) -> Result<Vec<Table>, 
 {
     let mut tables = Vec::with_capacity(alloc, files.len())?;
     for file in files {
-        tables.push(import_table(alloc, file)?)?;
+        let marks = last_marks(alloc, file.tree.imports.as_slice())?;
+        tables.push(Table::new(alloc, marks)?)?;
     }
     Ok(tables)
-}
-
-fn import_table(alloc: Global, file: &ParsedFile) -> Result<Table, OutOfMemory>
-    ensures { IfOk result (λ table. table ≡ import_marks (source_of file.now)) }
-{
-    let marks = last_marks(alloc, file.tree.imports.as_slice())?;
-    Table::new(alloc, marks)
 }
 
 // The marks of the last parts of imports.

@@ -11,7 +11,7 @@ use aidl_syntax::{
 use std::alloc::Global;
 
 /// A member of a declaration.
-#[derive(Clone, Copy, Debug)]
+#[derive(Clone, Copy)]
 pub enum MemberRef<'a> {
     Field(&'a FieldTree),
     Constant(&'a ConstantTree),

@@ -32,7 +32,7 @@ use std::marker::Model;
 
 /// A declaration of a tree: its canonical name, the 0-based number of its file, the number of the declaration that
 /// encloses it, and its tree.
-#[derive(Debug, Drop)]
+#[derive(Drop)]
 pub struct Found<'a> {
     pub name: DottedName,
     pub file: u32,
@@ -41,7 +41,7 @@ pub struct Found<'a> {
 }
 
 /// A tree of files that passes no limit on declarations and breaks none of E1 to E5. Contracts see it as its files.
-#[derive(Debug, Drop)]
+#[derive(Drop)]
 pub struct Names<'a> {
     files: &'a [ParsedFile],
     found: Vec<Found<'a>>,
@@ -177,7 +177,7 @@ fn breaches(
     add_wrong_files(alloc, files, &mut rows)?;
     add_repeated(alloc, found, &mut rows)?;
     add_taken(found, table, &mut rows)?;
-    add_other_imports(alloc, files, &mut rows)?;
+    add_other_imports(alloc, files, imports, &mut rows)?;
     add_unknown_imports(found, table, files, &mut rows)?;
     add_types(
         alloc,
