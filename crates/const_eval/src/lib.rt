@@ -2,6 +2,7 @@
 #![tactic(auto)]
 
 mod backing;
+mod dependence;
 mod initializers;
 mod item;
 mod laws;
@@ -11,12 +12,15 @@ mod numbering;
 mod order;
 mod outcome;
 mod shape;
+mod target;
 mod wanted;
 
 pub use const_values::ConstFault;
+pub use dependence::{Dependence, dependence_of};
 pub use item::{ItemRef, WrittenRef};
 pub use laws::law_one_outcome;
 pub use named::names_in;
 pub use numbering::{Items, numbered};
 pub use outcome::Outcome;
 pub use shape::{Shape, shaped};
+pub use target::{Target, number_of, target_of};
