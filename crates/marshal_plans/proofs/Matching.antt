@@ -1,5 +1,5 @@
 -- Lists that match one for one.
-use Rattle.std.proofs.Common.{◌≡◌, ℕ, zero, suc, ◌+◌, List, [], ◌∷◌, ◌++◌, length, take, drop, Option, Some, None, slice_get, refl, sym, ap, ◌∙◌, subst, arith}
+use Rattle.std.proofs.Common.{◌≡◌, ℕ, zero, suc, List, [], ◌∷◌, ◌++◌, length, take, drop, Some, slice_get, refl, ap, subst}
 use Rattle.marshal_plans.specs.Standing.{OneForOne}
 
 module _ {X Y : Type 0} (R : X → Y → Type 0) where

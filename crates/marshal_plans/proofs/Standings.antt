@@ -1,9 +1,8 @@
 -- What the steps of compiling add stands for a schema and extra types.
 use Rattle.std.proofs.Common.{◌≡◌, ℕ, zero, suc, ◌+◌, Bool, true, false, List, [], ◌∷◌, ◌++◌, length, take, drop, get_or, Option, Some, None, slice_get, ◌≢◌, refl, sym, ap, ◌∙◌, subst, arith, zero-add, append_assoc, append-nil}
-use Rattle.std.specs.Prelude.{MatchBool, if◌then◌else◌, ◌&&◌, not}
+use Rattle.std.specs.Prelude.{MatchBool, if◌then◌else◌}
 use Rattle.std.specs.List.{list_all}
 use Rattle.std.proofs.lemmas.List.{drop-drop}
-use Rattle.aidl_base.specs.declared.constant.Const.{Const}
 use Rattle.aidl_base.proofs.Tests.{both}
 use Rattle.aidl_schema.specs.declared.schema.AidlType.{AidlType}
 use Rattle.aidl_schema.specs.declared.schema.Arg.{Arg}
@@ -26,9 +25,8 @@ use Rattle.aidl_schema.specs.Valid.{IsValid}
 use Rattle.aidl_schema.proofs.Elements.{elem_is_type}
 use Rattle.marshal_plans.specs.declared.plans.PlanId.{PlanId}
 use Rattle.marshal_plans.specs.declared.plans.PlanItem.{PlanItem}
-use Rattle.marshal_plans.specs.declared.plans.PlanItem.TheVariants.{Word, Long, Text, Raw, Seq, Rec, Alt}
+use Rattle.marshal_plans.specs.declared.plans.PlanItem.TheVariants.{Raw, Seq}
 use Rattle.marshal_plans.specs.declared.plans.PlanField.{PlanField}
-use Rattle.marshal_plans.specs.declared.plans.PlanStart.{PlanStart}
 use Rattle.marshal_plans.specs.declared.plans.Plans.{Plans}
 use Rattle.marshal_plans.specs.Slots.{Slot, argument_slots, result_slots, method_slots, slots_from, slots}
 use Rattle.marshal_plans.specs.Standing.{OneForOne, StandsFor, IsEntryOf, AreEntriesOf, IsOneItem, IsManyItem, IsItemOf, first_of, IsStartOf, StandFor}
@@ -122,28 +120,37 @@ module _ (S : List Decl) (firsts : List ℕ) where
             push first.types a.plans t (Seq t.nullable a.id) first.so_far (is, rw (e, r) (a.id, refl, first.id))
 
     enter : (a : Added) (f : Field) → IsAdded fs ss ts f.ty a → Stands (fs ++ f ∷ []) ss ts (entered a f.initial)
-    enter a f h = (h.types, record {
-      items = h.so_far.items;
-      fields = both_more (λ g e. IsEntryOf h.types g e) fs a.plans.fields (f ∷ []) _ h.so_far.fields ((h.id, refl), tt);
-      starts = h.so_far.starts;
-      extras = h.so_far.extras;
-    })
+    enter a f h = (
+      h.types,
+      record {
+        items = h.so_far.items;
+        fields = both_more (λ g e. IsEntryOf h.types g e) fs a.plans.fields (f ∷ []) _ h.so_far.fields ((h.id, refl), tt);
+        starts = h.so_far.starts;
+        extras = h.so_far.extras;
+      },
+    )
 
     start : (a : Added) (s : Slot) → IsAdded fs ss ts s.ty a → Stands fs (ss ++ s ∷ []) ts (started a s.interface s.method s.place)
-    start a s h = (h.types, record {
-      items = h.so_far.items;
-      fields = h.so_far.fields;
-      starts = both_more (λ x e. IsStartOf h.types x e) ss a.plans.starts (s ∷ []) _ h.so_far.starts ((refl, refl, refl, h.id), tt);
-      extras = h.so_far.extras;
-    })
+    start a s h = (
+      h.types,
+      record {
+        items = h.so_far.items;
+        fields = h.so_far.fields;
+        starts = both_more (λ x e. IsStartOf h.types x e) ss a.plans.starts (s ∷ []) _ h.so_far.starts ((refl, refl, refl, h.id), tt);
+        extras = h.so_far.extras;
+      },
+    )
 
     extend : (a : Added) (t : AidlType) → IsAdded fs ss ts t a → Stands fs ss (ts ++ t ∷ []) (extended a)
-    extend a t h = (h.types, record {
-      items = h.so_far.items;
-      fields = h.so_far.fields;
-      starts = h.so_far.starts;
-      extras = both_more (λ x e. StandsFor h.types e x) ts a.plans.extras (t ∷ []) _ h.so_far.extras (h.id, tt);
-    })
+    extend a t h = (
+      h.types,
+      record {
+        items = h.so_far.items;
+        fields = h.so_far.fields;
+        starts = h.so_far.starts;
+        extras = both_more (λ x e. StandsFor h.types e x) ts a.plans.extras (t ∷ []) _ h.so_far.extras (h.id, tt);
+      },
+    )
 
   -- the steps, one after the other
   field_steps : (done fs : List Field) (ss : List Slot) (ts : List AidlType) (p : Plans) → list_all (λ f. is_field_type S f) fs ≡ true → Stands done ss ts p
@@ -321,18 +328,20 @@ module _ (S : List Decl) where
     stand_for =
         let types = h.0 in
         let so_far = h.1 in
-        let planned = λ (t : AidlType) (i : PlanItem). Planned S (firsts_from 0 S) types t i in
-        (types, record {
-          schema = valid;
-          of_schema = λ k t at. (matched planned types p.items k t so_far.items at).2.0;
-          items = weaker planned (λ t i. IsItemOf S types p.fields t i) (λ t i k. planned_is types p.fields so_far.fields t i k) types p.items so_far.items;
-          shared = λ j k t u g i at there fst snd shape same.
-              first_planned types t g (matched_with planned types p.items j t g so_far.items at fst)
-              ∙ ap (λ s. first_by s t.base) shape ∙ ap (λ b. first_by u.shape b) same
-              ∙ sym (first_planned types u i (matched_with planned types p.items k u i so_far.items there snd));
-          starts = so_far.starts;
-          extras = so_far.extras;
-        })
+        let planned = λ (t : AidlType) (i : PlanItem). Planned S (firsts_from 0 S) types t i in (
+          types,
+          record {
+            schema = valid;
+            of_schema = λ k t at. (matched planned types p.items k t so_far.items at).2.0;
+            items = weaker planned (λ t i. IsItemOf S types p.fields t i) (λ t i k. planned_is types p.fields so_far.fields t i k) types p.items so_far.items;
+            shared = λ j k t u g i at there fst snd shape same.
+                first_planned types t g (matched_with planned types p.items j t g so_far.items at fst)
+                ∙ ap (λ s. first_by s t.base) shape ∙ ap (λ b. first_by u.shape b) same
+                ∙ sym (first_planned types u i (matched_with planned types p.items k u i so_far.items there snd));
+            starts = so_far.starts;
+            extras = so_far.extras;
+          },
+        )
 
 -- plans that were compiled
 pub compiled : (S : List Decl) (extra : List AidlType) (p : Plans) → IsValid S → AllHold S → list_all (λ t. is_type S t) extra ≡ true

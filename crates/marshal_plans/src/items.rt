@@ -56,7 +56,11 @@ fn is_one(shape: Shape) -> bool
 fn single(schema: &Schema, firsts: &[usize], ty: AidlType) -> PlanItem
     ensures { result ≡ single schema.now.decls firsts.now ty }
 {
-    one_item(ty.nullable, first_in(firsts, ty.base), form_in(schema, ty.base))
+    one_item(
+        ty.nullable,
+        first_in(firsts, ty.base),
+        form_in(schema, ty.base),
+    )
 }
 
 fn one_item(nullable: bool, first: usize, form: Form<'_>) -> PlanItem

@@ -5,6 +5,7 @@
 mod compiling;
 mod entries;
 mod items;
+mod lookup;
 mod plans;
 mod starts;
 

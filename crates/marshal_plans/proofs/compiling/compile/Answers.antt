@@ -1,4 +1,4 @@
-use Rattle.std.proofs.Common.{◌≡◌, ℕ, List, ap, ◌∙◌, sym, subst}
+use Rattle.std.proofs.Common.{ℕ, List, ap, ◌∙◌}
 use Rattle.marshal_plans.specs.steps.Compiled.{firsts_from, with_decls, with_interfaces, with_extras}
 use Rattle.marshal_plans.specs.declared.plans.Plans.{Plans}
 use Rattle.marshal_plans.proofs.Standings.{compiled}

@@ -1,4 +1,4 @@
-use Rattle.std.proofs.Common.{◌≡◌, ◌+◌, ◌*◌, ◌≤◌, [], ◌∷◌, ◌++◌, Some, length, slice_get, drop, subst, sym, ap, refl, ◌∙◌, suc, add-one, append_assoc, drop-cons, arith}
+use Rattle.std.proofs.Common.{◌≡◌, ◌+◌, ◌≤◌, [], ◌∷◌, ◌++◌, Some, length, slice_get, drop, sym, ap, refl, ◌∙◌, suc, add-one, append_assoc, drop-cons, arith}
 use Rattle.std.proofs.lemmas.Option.{slice_get_read}
 use Rattle.aidl_schema.specs.Containment.{fields_of}
 use Rattle.marshal_plans.specs.steps.Compiled.{firsts_from}
