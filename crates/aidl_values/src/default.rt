@@ -125,9 +125,9 @@ fn initial(
     }
 }
 
-/// A constant as a value.
+/// A constant as a value: a brace list is the sequence of its members.
 #[cycle(constant)]
-fn value_of(alloc: Global, constant: &Const) -> Result<Value, OutOfMemory>
+pub fn value_of(alloc: Global, constant: &Const) -> Result<Value, OutOfMemory>
     ensures { IfOk result (λ v. view v ≡ const_value constant.now) }
 {
     match constant {

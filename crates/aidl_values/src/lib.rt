@@ -6,7 +6,7 @@ mod laws;
 mod typing;
 mod value;
 
-pub use default::{default_of, initial_of};
+pub use default::{default_of, initial_of, value_of};
 pub use laws::{
     law_default_fits, law_initial_fits, law_one_default, law_small_defaults, law_sound,
 };

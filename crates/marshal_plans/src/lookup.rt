@@ -1,0 +1,78 @@
+//! The ids of arguments, results and extra types.
+ghost use Rattle.std.specs.Prelude.{◌≡◌, ◌<◌, Some, None, slice_get, length, MatchOption};
+ghost use Rattle.marshal_plans.specs.declared.plans.PlanId.{PlanId};
+ghost use Rattle.marshal_plans.specs.Places.{HasArgument, HasMethod, HasStart, IsArgument, IsExtra, IsResult};
+ghost use Rattle.marshal_plans.specs.steps.Rising.{AreRising, order_to, place_order};
+
+use crate::plans::{PlanId, PlanStart, Plans};
+use std::cmp::Ordering;
+
+impl Plans {
+    /// The id of an argument of a method, by the numbers of the interface and the method and the argument's position, found by
+    /// halving. It takes no memory.
+    pub fn argument(&self, interface: u32, method: u32, k: u32) -> PlanId
+        requires { HasArgument self.now interface method k }
+        // It is that of the start of this place.
+        ensures start { HasStart self.now.starts interface method (Some k) result }
+        // It stands for the argument's type.
+        ensures stands { IsArgument self.now interface method k result }
+    {
+        match start_at(self.starts.as_slice(), interface, method, Some(k)) {
+            Some(id) => id,
+            None => unreachable!(),
+        }
+    }
+
+    /// The id of the result of a method, None exactly where the method is void, found by halving. It takes no memory.
+    pub fn result(&self, interface: u32, method: u32) -> Option<PlanId>
+        requires { HasMethod self.now interface method }
+        // It is that of the start of this place, and None where there is none.
+        ensures start { MatchOption result ((id : PlanId) → HasStart self.now.starts interface method None id → ⊥) (λ id. HasStart self.now.starts interface method None id) }
+        // It stands for the result's type.
+        ensures stands { IsResult self.now interface method result }
+    {
+        start_at(self.starts.as_slice(), interface, method, None)
+    }
+
+    /// The id of an extra type. It takes no memory.
+    pub fn extra(&self, k: u32) -> PlanId
+        requires { k < length self.now.extras }
+        ensures at { slice_get self.now.extras k ≡ Some result }
+        // It stands for the type.
+        ensures stands { IsExtra self.now k result }
+    {
+        self.extras.as_slice()[k as usize]
+    }
+}
+
+// The item of the start of a place.
+fn start_at(starts: &[PlanStart], interface: u32, method: u32, place: Option<u32>) -> Option<PlanId>
+    requires { AreRising starts.now interface method place }
+    ensures { MatchOption result ((id : PlanId) → HasStart starts.now interface method place id → ⊥) (λ id. HasStart starts.now interface method place id) }
+{
+    match starts.binary_search_by(|start| order(start, interface, method, place)) {
+        Ok(i) => Some(starts[i].item),
+        Err(_) => None,
+    }
+}
+
+// How a start stands to a place.
+fn order(start: &PlanStart, interface: u32, method: u32, place: Option<u32>) -> Ordering
+    ensures { result ≡ order_to interface method place start.now }
+{
+    let places = place_order(start.place, place);
+    let methods = start.method.cmp(&method).then(places);
+    start.interface.cmp(&interface).then(methods)
+}
+
+// Arguments stand by their positions, and the result after them.
+fn place_order(one: Option<u32>, other: Option<u32>) -> Ordering
+    ensures { result ≡ place_order one other }
+{
+    match (one, other) {
+        (Some(j), Some(k)) => j.cmp(&k),
+        (Some(_), None) => Ordering::Less,
+        (None, Some(_)) => Ordering::Greater,
+        (None, None) => Ordering::Equal,
+    }
+}

@@ -1,0 +1,104 @@
+//! The starts of the arguments and results of all methods.
+ghost use Rattle.std.specs.Prelude.{◌≡◌, ◌≤◌, OnOk, Some, None, length};
+ghost use Rattle.aidl_schema.specs.Holds.{OfEach};
+ghost use Rattle.aidl_schema.specs.Names.{methods_of};
+ghost use Rattle.marshal_plans.specs.steps.Compiled.{added, started, with_arguments, with_interfaces, with_methods, with_result};
+
+use crate::items::add_item;
+use crate::plans::{PlanStart, Plans};
+use aidl_base::OutOfMemory;
+use aidl_schema::{AidlType, Arg, Kind, Method, Schema, law_valid};
+
+/// Adds a start for each argument and each result of each method.
+pub fn add_starts(schema: &Schema, firsts: &[usize], plans: &mut Plans) -> Result<(), OutOfMemory>
+    ensures { OnOk result (plans.new ≡ with_interfaces schema.now.decls firsts.now 0 plans.old schema.now.decls) }
+{
+    law_valid(schema);
+    for (n, decl) in schema.decls.as_slice().iter().enumerate() {
+        add_methods(schema, firsts, n as u32, methods_of(&decl.kind), plans)?;
+    }
+    Ok(())
+}
+
+fn add_methods(
+    schema: &Schema,
+    firsts: &[usize],
+    interface: u32,
+    methods: &[Method],
+    plans: &mut Plans,
+) -> Result<(), OutOfMemory>
+    requires few { length methods.now ≤ 4096 }
+    requires short { OfEach methods.now (λ m. length m.args ≤ 255) }
+    ensures { OnOk result (plans.new ≡ with_methods schema.now.decls firsts.now interface 0 plans.old methods.now) }
+{
+    for (m, method) in methods.iter().enumerate() {
+        let arguments = method.args.as_slice();
+        add_arguments(schema, firsts, interface, m as u32, arguments, plans)?;
+        add_result(schema, firsts, interface, m as u32, method.result, plans)?;
+    }
+    Ok(())
+}
+
+fn add_arguments(
+    schema: &Schema,
+    firsts: &[usize],
+    interface: u32,
+    method: u32,
+    arguments: &[Arg],
+    plans: &mut Plans,
+) -> Result<(), OutOfMemory>
+    requires { length arguments.now ≤ 255 }
+    ensures { OnOk result (plans.new ≡ with_arguments schema.now.decls firsts.now interface method 0 plans.old arguments.now) }
+{
+    for (k, argument) in arguments.iter().enumerate() {
+        let place = Some(k as u32);
+        add_start(schema, firsts, interface, method, place, argument.ty, plans)?;
+    }
+    Ok(())
+}
+
+fn add_result(
+    schema: &Schema,
+    firsts: &[usize],
+    interface: u32,
+    method: u32,
+    returned: Option<AidlType>,
+    plans: &mut Plans,
+) -> Result<(), OutOfMemory>
+    ensures { OnOk result (plans.new ≡ with_result schema.now.decls firsts.now interface method plans.old returned) }
+{
+    match returned {
+        None => Ok(()),
+        Some(ty) => add_start(schema, firsts, interface, method, None, ty, plans),
+    }
+}
+
+fn add_start(
+    schema: &Schema,
+    firsts: &[usize],
+    interface: u32,
+    method: u32,
+    place: Option<u32>,
+    ty: AidlType,
+    plans: &mut Plans,
+) -> Result<(), OutOfMemory>
+    ensures { OnOk result (plans.new ≡ started (added schema.now.decls firsts.now plans.old ty) interface method place) }
+{
+    let item = add_item(schema, firsts, ty, plans)?;
+    plans.starts.push(PlanStart {
+        interface,
+        method,
+        place,
+        item,
+    })?;
+    Ok(())
+}
+
+fn methods_of(kind: &Kind) -> &[Method]
+    ensures { result.now ≡ methods_of kind.now }
+{
+    match kind {
+        Kind::Interface(methods) => methods.as_slice(),
+        _ => &[],
+    }
+}
