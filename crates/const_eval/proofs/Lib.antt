@@ -2,3 +2,8 @@ pub mod Agree
 pub mod General
 pub mod OneOutcome
 pub mod Orders
+pub mod Settling
+pub mod EachItem
+pub mod Keys
+pub mod PlacesWithin
+pub mod Progress

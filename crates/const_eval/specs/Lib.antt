@@ -5,3 +5,5 @@ pub mod Items
 pub mod ItemViews
 pub mod Dependence
 pub mod Outcomes
+pub mod Held
+pub mod Known

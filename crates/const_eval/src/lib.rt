@@ -2,15 +2,20 @@
 #![tactic(auto)]
 
 mod backing;
+mod fitting;
+mod given;
 mod initializers;
 mod item;
 mod laws;
 mod listing;
 mod named;
 mod numbering;
+mod operands;
 mod order;
 mod outcome;
+mod ranked;
 mod shape;
+mod stepping;
 mod wanted;
 
 pub use const_values::ConstFault;

@@ -1,0 +1,34 @@
+-- What the names in the expression of an item mean, by the outcomes that are known.
+use Rattle.std.specs.Prelude.{ℕ, IsTrue, List, map, Option, Some, None, Result, Err, Contains}
+use Rattle.std.specs.List.{slice_get}
+use Rattle.aidl_syntax.specs.declared.tree.DottedTree.{DottedTree}
+use Rattle.aidl_syntax.specs.declared.tree.ParsedFile.{ParsedFile}
+use Rattle.aidl_names.specs.Sources.{Source, source_of}
+use Rattle.const_values.specs.declared.fault.ConstFault.{ConstFault}
+use Rattle.const_values.specs.declared.fault.ConstFault.TheVariants.{UnknownName}
+use Rattle.const_values.specs.Operands.{Operand}
+use Rattle.const_eval.specs.declared.outcome.Outcome.{Outcome}
+use Rattle.const_eval.specs.Items.{Item, items}
+use Rattle.const_eval.specs.Dependence.{next}
+use Rattle.const_eval.specs.Held.{is_held_outcome}
+use Rattle.const_eval.specs.Outcomes.{HasOutcome, meaning, outcome_at, values_in, wanted_of}
+
+-- the files, the number of an item, and outcomes
+abbrev pub Known : Type 0
+Known = List ParsedFile × (ℕ × List Outcome)
+
+abbrev pub meaning_for : List Source → List Outcome → Option Item → DottedTree → Result Operand ConstFault
+meaning_for files outcomes None d = Err UnknownName
+meaning_for files outcomes (Some x) d = meaning files (values_in outcomes) x d
+
+-- what a name means in the item
+abbrev pub known_meaning : Known → DottedTree → Result Operand ConstFault
+known_meaning k d = meaning_for (map source_of k.0) k.1.1 (slice_get (items (map source_of k.0)) k.1.0) d
+
+-- each value that is known can stand in an expression
+abbrev pub AreHeld : List Item → List Outcome → Type 0
+AreHeld xs outcomes = (n : ℕ) → IsTrue (is_held_outcome (wanted_of (slice_get xs n)) (outcome_at outcomes n))
+
+-- the outcomes of what an item depends on are known
+abbrev pub AreKnown : List Source → List Outcome → ℕ → Type 0
+AreKnown files outcomes n = (m : ℕ) → Contains (next files n) m → HasOutcome files m (outcome_at outcomes m)
