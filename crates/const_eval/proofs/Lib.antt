@@ -1,9 +1,11 @@
 pub mod Agree
+pub mod Behind
+pub mod EachItem
 pub mod General
+pub mod Keys
 pub mod OneOutcome
 pub mod Orders
-pub mod Settling
-pub mod EachItem
-pub mod Keys
 pub mod PlacesWithin
 pub mod Progress
+pub mod Scopes
+pub mod Settling

@@ -4,6 +4,7 @@ pub mod Initializers
 pub mod Items
 pub mod ItemViews
 pub mod Dependence
+pub mod TargetViews
 pub mod Outcomes
 pub mod Held
 pub mod Known

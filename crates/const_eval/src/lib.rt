@@ -16,6 +16,7 @@ mod outcome;
 mod ranked;
 mod shape;
 mod stepping;
+mod target;
 mod wanted;
 
 pub use const_values::ConstFault;
@@ -25,3 +26,4 @@ pub use named::names_in;
 pub use numbering::{Items, numbered};
 pub use outcome::Outcome;
 pub use shape::{Shape, shaped};
+pub use target::{Target, number_of, target_of};

@@ -53,7 +53,10 @@ fn list_with(
             if brackets {
                 Shape::Refused
             } else {
-                list_of(names.decls(), names.resolve(file, scope, element.name.0.as_slice()))
+                list_of(
+                    names.decls(),
+                    names.resolve(file, scope, element.name.0.as_slice()),
+                )
             }
         }
     }
