@@ -3,6 +3,7 @@ pub mod Behind
 pub mod EachItem
 pub mod General
 pub mod Keys
+pub mod Meant
 pub mod OneOutcome
 pub mod Orders
 pub mod PlacesWithin

@@ -1,5 +1,5 @@
 -- What the names in the expression of an item mean, by the outcomes that are known.
-use Rattle.std.specs.Prelude.{ℕ, IsTrue, List, map, Option, Some, None, Result, Err, Contains}
+use Rattle.std.specs.Prelude.{◌≡◌, ◌<◌, ℕ, IsTrue, List, length, map, slice_index_or, Option, Some, None, Result, Err, Contains}
 use Rattle.std.specs.List.{slice_get}
 use Rattle.aidl_syntax.specs.declared.tree.DottedTree.{DottedTree}
 use Rattle.aidl_syntax.specs.declared.tree.ParsedFile.{ParsedFile}
@@ -7,11 +7,21 @@ use Rattle.aidl_names.specs.Sources.{Source, source_of}
 use Rattle.const_values.specs.declared.fault.ConstFault.{ConstFault}
 use Rattle.const_values.specs.declared.fault.ConstFault.TheVariants.{UnknownName}
 use Rattle.const_values.specs.Operands.{Operand}
+use Rattle.const_eval.specs.declared.item.ItemRef.{ItemRef}
 use Rattle.const_eval.specs.declared.outcome.Outcome.{Outcome}
 use Rattle.const_eval.specs.Items.{Item, items}
 use Rattle.const_eval.specs.Dependence.{next}
 use Rattle.const_eval.specs.Held.{is_held_outcome}
 use Rattle.const_eval.specs.Outcomes.{HasOutcome, meaning, outcome_at, values_in, wanted_of}
+
+-- these are the items of a tree
+abbrev pub AreItems : List Source → List Item → Type 0
+AreItems files xs = xs ≡ items files
+
+-- the item with the number is this one
+pub record IsItemAt (list : List ItemRef) (n : ℕ) (x : ItemRef) : Type 0 where
+  pub within : n < length list
+  pub is : x ≡ slice_index_or list n x
 
 -- the files, the number of an item, and outcomes
 abbrev pub Known : Type 0

@@ -6,6 +6,8 @@ mod fitting;
 mod given;
 mod initializers;
 mod item;
+mod judgement;
+mod known;
 mod laws;
 mod listing;
 mod named;
