@@ -4,9 +4,11 @@ pub mod EachItem
 pub mod General
 pub mod Keys
 pub mod Meant
+pub mod Numbers
 pub mod OneOutcome
 pub mod Orders
 pub mod PlacesWithin
 pub mod Progress
 pub mod Scopes
 pub mod Settling
+pub mod Turns

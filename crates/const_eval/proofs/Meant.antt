@@ -1,11 +1,12 @@
 -- What the code finds of an item and of the names in it.
-use Rattle.std.proofs.Common.{◌≡◌, ℕ, ◌<◌, List, length, map, get_or, Option, Some, Result, Ok, Err, option_map, refl, sym, ap, ◌∙◌}
+use Rattle.std.proofs.Common.{◌≡◌, ℕ, ◌<◌, Bool, false, List, length, map, get_or, Option, Some, Result, Ok, Err, option_map, refl, sym, ap, ◌∙◌}
 use Rattle.std.specs.List.{slice_get}
-use Rattle.std.proofs.lemmas.Option.{slice_get_read, slice_get-map}
+use Rattle.std.proofs.lemmas.Option.{slice_get_read, slice_get-map, get_or_from_slice_get}
 use Rattle.aidl_base.specs.declared.constant.Const.{Const}
 use Rattle.aidl_base.specs.Results.{◌>>=◌}
 use Rattle.aidl_syntax.specs.declared.tree.DottedTree.{DottedTree}
 use Rattle.aidl_syntax.specs.Trees.{Expr}
+use Rattle.graph_cycles.specs.Paths.{flag}
 use Rattle.aidl_names.specs.Sources.{Source}
 use Rattle.const_values.specs.declared.fault.ConstFault.{ConstFault}
 use Rattle.const_values.specs.declared.fault.EvalFault.{EvalFault}
@@ -17,7 +18,7 @@ use Rattle.const_values.specs.Wanted.{fitted}
 use Rattle.const_eval.specs.declared.item.ItemRef.{ItemRef}
 use Rattle.const_eval.specs.declared.outcome.Outcome.{Outcome}
 use Rattle.const_eval.specs.Dependence.{Target, number_among, target}
-use Rattle.const_eval.specs.Items.{items}
+use Rattle.const_eval.specs.Items.{Item, items}
 use Rattle.const_eval.specs.ItemViews.{item_of}
 use Rattle.const_eval.specs.Known.{AreItems, meaning_for}
 use Rattle.const_eval.specs.Outcomes.{expression_of, named_enum, operand_at, values_in}
@@ -54,3 +55,8 @@ module _ (files : List Source) (list : List ItemRef) (all : AreItems files (map 
     pub expression_fails : (fault : EvalFault) → Answers seen (Err fault) (evaluated Known e) → Answers {X = Const} {Y = Const} (λ c. c) (Err fault) (expression_of files (values_in outcomes) (item_of x) e)
     expression_fails (eval.Fault fault) h = whole (Err fault) h
     expression_fails eval.OutOfMemory h = tt
+
+-- the flag of an item
+pub flag_of : (f : Item → Bool) (xs : List Item) (flags : List Bool) (n : ℕ) (x : Item) → flags ≡ map f xs → slice_get xs n ≡ Some x → flag flags n ≡ f x
+flag_of f xs flags n x is at =
+    ap (λ bs. flag bs n) is ∙ get_or_from_slice_get (map f xs) n (f x) false (slice_get-map f xs n ∙ ap (option_map f) at)

@@ -17,13 +17,10 @@ use Rattle.aidl_names.specs.Declarations.{Entry, declarations, with_decl, with_b
 use Rattle.aidl_names.specs.Names.{parts_of}
 use Rattle.const_values.specs.declared.wanted.Wanted.{Wanted}
 use Rattle.const_eval.specs.declared.shape.Shape.{Shape}
+use Rattle.const_eval.specs.SmallPlaces.{Small, HasSmall}
 use Rattle.const_eval.specs.Items.{Item, of_expression, of_init, of_initial, of_field, of_members, of_enumerator, of_enumerators, of_body, of_entry, items, place_by, place_of}
 use Rattle.const_eval.proofs.EachItem.{in_each_all}
 use Rattle.const_eval.proofs.Keys.{IsPlaced, few_items}
-
--- places of a file
-abbrev pub Small : List ℕ → Type 0
-Small = All (λ o. o < 262144)
 
 front : (xs ys : List ℕ) → Small (xs ++ ys) → Small xs
 front [] ys all = All-nil (λ o. o < 262144)
@@ -118,10 +115,6 @@ mutual
   members_fine file number name (nested d ms) before lt all old =
       members_fine file number name ms (with_decl file (Some number) (inside name d) d before) lt (back (in_decl placing d) (in_members placing ms) all)
       (decl_fine file (Some number) (inside name d) d before lt (front (in_decl placing d) (in_members placing ms) all) old)
-
--- each file has small places
-abbrev pub HasSmall : Source → Type 0
-HasSmall s = Small (places_of s.tree)
 
 declared_small : (s : Source) → HasSmall s → Small (in_decl placing s.tree.declared)
 unfolding places_of

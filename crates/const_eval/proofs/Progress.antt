@@ -11,7 +11,9 @@ use Rattle.const_eval.specs.declared.outcome.Outcome.TheVariants.{Unjudged}
 use Rattle.const_eval.specs.Items.{items}
 use Rattle.const_eval.specs.Outcomes.{HasOutcome, AreOutcomes, outcome_at, wanted_of}
 use Rattle.const_eval.specs.Held.{is_held_outcome}
-use Rattle.const_eval.specs.Known.{AreHeld}
+use Rattle.graph_cycles.specs.Paths.{flag}
+use Rattle.const_eval.specs.Dependence.{next}
+use Rattle.const_eval.specs.Known.{AreHeld, AreKnown, IsInTurn}
 
 pub record IsSettled (files : List Source) (order : List ℕ) (k : ℕ) (outcomes : List Outcome) : Type 0 where
   pub count : length outcomes ≡ length (items files)
@@ -66,3 +68,9 @@ module _ (files : List Source) (order : List ℕ) where
         let here : get_or order there.0 0 ≡ n = sym (get_or_default_zero order there.0 n there.1) ∙ there.2 in
         subst (λ m. HasOutcome files m (outcome_at outcomes m)) here (settled.known there.0 (omega (arith, there.1)));
   }
+
+  -- what an item on no cycle depends on is known
+  pub ready : (on : List Bool) → IsInTurn files on order → (k m : ℕ) (outcomes : List Outcome) → IsSettled files order k outcomes → k < length order → get_or order k 0 ≡ m → flag on m ≡ false → AreKnown files outcomes m
+  ready on turn k m outcomes settled lt at off d there =
+      let before = turn k d lt (ap (flag on) at ∙ off) (subst (λ i. Contains (next files i) d) (sym at) there) in
+      subst (λ i. HasOutcome files i (outcome_at outcomes i)) before.2 (settled.known before.0 before.1)

@@ -1,17 +1,16 @@
 -- What the outcomes so far give of the next item.
-use Rattle.std.proofs.Common.{◌≡◌, ℕ, zero, suc, ◌<◌, ◌≤◌, Bool, true, false, ◌&&◌, List, [], ◌∷◌, length, get_or, Some, refl, sym, ap, ◌∙◌, subst, Contains, arith}
-use Rattle.std.specs.Prelude.{slice_index, nat_lt}
-use Rattle.std.specs.List.{slice_get, list_all}
-use Rattle.std.specs.List.Sorted.{IsNonDecreasingBy}
-use Rattle.std.proofs.lemmas.Bool.Decides.{nat_tests}
-use Rattle.std.proofs.lemmas.Grind.{common_steps}
+use Rattle.std.proofs.Common.{◌≡◌, ℕ, zero, suc, ◌<◌, Bool, true, false, ◌&&◌, IsTrue, ◌↔◌, List, [], ◌∷◌, length, get_or, Some, None, Option, refl, sym, ap, ◌∙◌, subst, Contains, arith}
+use Rattle.std.specs.List.{list_all, slice_get}
+use Rattle.std.proofs.lemmas.Option.{same_Some}
 use Rattle.aidl_names.specs.Sources.{Source}
+use Rattle.const_values.specs.declared.fault.ConstFault.TheVariants.{Cycle, UnknownName}
 use Rattle.const_eval.specs.declared.outcome.Outcome.{Outcome}
 use Rattle.const_eval.specs.declared.outcome.Outcome.TheVariants.{Given, Fault, Unjudged}
 use Rattle.const_eval.specs.Items.{Item, items}
 use Rattle.const_eval.specs.Dependence.{next, has_unknown_name}
+use Rattle.const_eval.specs.Known.{AreKnown, without_value}
 use Rattle.const_eval.specs.Outcomes.{HasOutcome, IsCyclic, are_given, is_given, judgement_of, outcome_at, outcome_of, value_of, values_in}
-use Rattle.const_eval.specs.Outcomes.HasOutcome.{behind, judged}
+use Rattle.const_eval.specs.Outcomes.HasOutcome.{unformed, unknown, cyclic, behind, judged}
 
 -- Tests over a list of numbers.
 
@@ -53,12 +52,8 @@ given_value (Fault fault) h = absurd cc
 given_value Unjudged h = absurd cc
 
 module _ (files : List Source) (outcomes : List Outcome) where
-  -- the outcomes of what an item depends on are known
-  abbrev pub AreKnown : ℕ → Type 0
-  AreKnown n = (m : ℕ) → Contains (next files n) m → HasOutcome files m (outcome_at outcomes m)
-
   module _ (n : ℕ) (x : Item) (at : slice_get (items files) n ≡ Some x) (formed : x.unjudged ≡ false) (named : has_unknown_name files x ≡ false)
-      (off : IsCyclic files n → ⊥) (known : AreKnown n) where
+      (off : IsCyclic files n → ⊥) (known : AreKnown files outcomes n) where
     -- something has no value
     pub is_behind : are_given outcomes (next files n) ≡ false → HasOutcome files n Unjudged
     is_behind h =
@@ -71,26 +66,31 @@ module _ (files : List Source) (outcomes : List Outcome) where
         judged n x at formed named off (values_in outcomes) (λ m there. subst (λ o. HasOutcome files m o)
         (given_value (outcome_at outcomes m) (each (λ k. is_given (outcome_at outcomes k)) (next files n) h m there)) (known m there))
 
--- a number of a lower rank stands before
-module _ (ranks order : List ℕ) (count : ℕ) (whole : (n : ℕ) → n < count → Contains order n) (up : IsNonDecreasingBy (λ n. slice_index ranks n) order) where
-  abbrev pub Before : ℕ → ℕ → Type 0
-  Before k n = (j : ℕ) × (j < k) × (get_or order j 0 ≡ n)
+-- The outcome of an item, once the outcomes of what it depends on are known.
+module _ (files : List Source) (outcomes : List Outcome) (n : ℕ) (x : Item) (at : slice_get (items files) n ≡ Some x) (told : Bool) (is_told : IsTrue told ↔ IsCyclic files n)
+    (known : told ≡ false → AreKnown files outcomes n) where
+  off_cycle : told ≡ false → IsCyclic files n → ⊥
+  off_cycle e p = let on : told ≡ true = is_told.1 p in absurd cc
 
-  same_default : (k n : ℕ) → k < length order → get_or order k n ≡ get_or order k 0
-  same_default k n lt = grind (arith, common_steps)
+  early : (u k c g : Bool) → x.unjudged ≡ u → has_unknown_name files x ≡ k → told ≡ c → are_given outcomes (next files n) ≡ g → (o : Outcome) → without_value u k c g ≡ Some o → HasOutcome files n o
+  early true k c g eu ek ec eg o e = subst (HasOutcome files n) (same_Some Unjudged o e) (unformed n x at eu)
+  early false true c g eu ek ec eg o e = subst (HasOutcome files n) (same_Some (Fault UnknownName) o e) (unknown n x at eu ek)
+  early false false true g eu ek ec eg o e = subst (HasOutcome files n) (same_Some (Fault Cycle) o e) (cyclic n x at eu ek (is_told.0 ec))
+  early false false false false eu ek ec eg o e = subst (HasOutcome files n) (same_Some Unjudged o e) (is_behind files outcomes n x at eu ek (off_cycle ec) (known ec) eg)
+  early false false false true eu ek ec eg o e = absurd cc
 
-  pub before : (k n : ℕ) → k < length order → n < count → slice_index ranks n < slice_index ranks (get_or order k 0) → Before k n
-  before k n lt within less =
-      let there = whole n within in
-      let j : ℕ = there.0 in
-      let here : get_or order j 0 ≡ n = sym (same_default j n there.1) ∙ there.2 in
-      let le : j < k = by_order j here there.1 (nat_lt j k) refl in
-      (j, le, here)
-    where
-      by_order : (j : ℕ) → get_or order j 0 ≡ n → j < length order → (b : Bool) → nat_lt j k ≡ b → j < k
-      by_order j here in' true e = grind (arith, nat_tests)
-      by_order j here in' false e =
-          let ge : k ≤ j = grind (arith, nat_tests) in
-          let rises : slice_index ranks (get_or order k 0) ≤ slice_index ranks (get_or order j 0) = up k j 0 ge in' in
-          let same : slice_index ranks (get_or order j 0) ≡ slice_index ranks n = ap (slice_index ranks) here in
-          absurd (omega arith)
+  late : (u k c g : Bool) → x.unjudged ≡ u → has_unknown_name files x ≡ k → told ≡ c → are_given outcomes (next files n) ≡ g → without_value u k c g ≡ None
+      → HasOutcome files n (outcome_of (judgement_of files (values_in outcomes) x x.value))
+  late true k c g eu ek ec eg e = absurd cc
+  late false true c g eu ek ec eg e = absurd cc
+  late false false true g eu ek ec eg e = absurd cc
+  late false false false false eu ek ec eg e = absurd cc
+  late false false false true eu ek ec eg e = is_judged files outcomes n x at eu ek (off_cycle ec) (known ec) eg
+
+  -- without values, and by them
+  pub settles : (k g : Bool) → k ≡ has_unknown_name files x → g ≡ are_given outcomes (next files n) → (r : Option Outcome) → r ≡ without_value x.unjudged k told g → (o : Outcome) → r ≡ Some o → HasOutcome files n o
+  settles k g ek eg r er o e = early x.unjudged k told g refl (sym ek) refl (sym eg) o (sym er ∙ e)
+
+  pub settles_by : (k g : Bool) → k ≡ has_unknown_name files x → g ≡ are_given outcomes (next files n) → (r : Option Outcome) → r ≡ without_value x.unjudged k told g → r ≡ None
+      → HasOutcome files n (outcome_of (judgement_of files (values_in outcomes) x x.value))
+  settles_by k g ek eg r er e = late x.unjudged k told g refl (sym ek) refl (sym eg) (sym er ∙ e)

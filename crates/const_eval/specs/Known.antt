@@ -1,14 +1,16 @@
 -- What the names in the expression of an item mean, by the outcomes that are known.
-use Rattle.std.specs.Prelude.{◌≡◌, ◌<◌, ℕ, IsTrue, List, length, map, slice_index_or, Option, Some, None, Result, Err, Contains}
+use Rattle.std.specs.Prelude.{◌≡◌, ◌<◌, ℕ, IsTrue, Bool, true, false, List, length, map, slice_index, slice_index_or, Option, Some, None, Result, Err, Contains}
 use Rattle.std.specs.List.{slice_get}
 use Rattle.aidl_syntax.specs.declared.tree.DottedTree.{DottedTree}
 use Rattle.aidl_syntax.specs.declared.tree.ParsedFile.{ParsedFile}
+use Rattle.graph_cycles.specs.Paths.{flag, targets}
 use Rattle.aidl_names.specs.Sources.{Source, source_of}
 use Rattle.const_values.specs.declared.fault.ConstFault.{ConstFault}
-use Rattle.const_values.specs.declared.fault.ConstFault.TheVariants.{UnknownName}
+use Rattle.const_values.specs.declared.fault.ConstFault.TheVariants.{Cycle, UnknownName}
 use Rattle.const_values.specs.Operands.{Operand}
 use Rattle.const_eval.specs.declared.item.ItemRef.{ItemRef}
 use Rattle.const_eval.specs.declared.outcome.Outcome.{Outcome}
+use Rattle.const_eval.specs.declared.outcome.Outcome.TheVariants.{Fault, Unjudged}
 use Rattle.const_eval.specs.Items.{Item, items}
 use Rattle.const_eval.specs.Dependence.{next}
 use Rattle.const_eval.specs.Held.{is_held_outcome}
@@ -42,3 +44,21 @@ AreHeld xs outcomes = (n : ℕ) → IsTrue (is_held_outcome (wanted_of (slice_ge
 -- the outcomes of what an item depends on are known
 abbrev pub AreKnown : List Source → List Outcome → ℕ → Type 0
 AreKnown files outcomes n = (m : ℕ) → Contains (next files n) m → HasOutcome files m (outcome_at outcomes m)
+
+-- the targets of the rows are what the items depend on
+abbrev pub AreNext : List Source → List (List ℕ) → Type 0
+AreNext files rows = (n : ℕ) → targets rows n ≡ next files n
+
+-- what an item of the order that is on no cycle depends on stands before it
+abbrev pub IsInTurn : List Source → List Bool → List ℕ → Type 0
+IsInTurn files on order = (k m : ℕ) → k < length order → flag on (slice_index order k) ≡ false → Contains (next files (slice_index order k)) m
+    → (j : ℕ) × (j < k) × (slice_index order j ≡ m)
+
+-- The outcome of an item that is left unjudged for its form, that has an unknown name, that depends on itself, or that depends on
+-- what has no value, in this order; none where it is to be judged by values.
+abbrev pub without_value : Bool → Bool → Bool → Bool → Option Outcome
+without_value true unknown cyclic given = Some Unjudged
+without_value false true cyclic given = Some (Fault UnknownName)
+without_value false false true given = Some (Fault Cycle)
+without_value false false false false = Some Unjudged
+without_value false false false true = None

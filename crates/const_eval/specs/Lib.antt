@@ -8,3 +8,5 @@ pub mod TargetViews
 pub mod Outcomes
 pub mod Held
 pub mod Known
+pub mod SmallPlaces
+pub mod Numbers
