@@ -68,8 +68,13 @@ fold_rises (x ∷ xs) before placed r all =
     let p = All-head IsPlaced x xs all in
     fold_rises xs (put before x) (put_all IsPlaced before x p placed) (put_rises before x 0 (omega arith) p placed r) (All-tail IsPlaced x xs all)
 
-pub few_items : (files : List Source) → All IsPlaced (declared files) → length (items files) ≤ 1073741824
+pub items_placed : (files : List Source) → All IsPlaced (declared files) → All IsPlaced (items files)
 unfolding items
-few_items files all =
-    let n = few (fold put [] (declared files)) 0 (omega arith) (fold_all IsPlaced (declared files) [] (All-nil IsPlaced) all) (fold_rises (declared files) [] (All-nil IsPlaced) tt all) in
-    omega arith
+items_placed files all = fold_all IsPlaced (declared files) [] (All-nil IsPlaced) all
+
+pub items_rise : (files : List Source) → All IsPlaced (declared files) → Rises 0 (items files)
+unfolding items
+items_rise files all = fold_rises (declared files) [] (All-nil IsPlaced) tt all
+
+pub few_items : (files : List Source) → All IsPlaced (declared files) → length (items files) ≤ 1073741824
+few_items files all = let n = few (items files) 0 (omega arith) (items_placed files all) (items_rise files all) in omega arith

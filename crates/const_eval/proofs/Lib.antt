@@ -2,6 +2,7 @@ pub mod Agree
 pub mod Behind
 pub mod EachItem
 pub mod General
+pub mod InOrder
 pub mod Keys
 pub mod Meant
 pub mod Numbers

@@ -18,9 +18,9 @@ use Rattle.aidl_names.specs.Names.{parts_of}
 use Rattle.const_values.specs.declared.wanted.Wanted.{Wanted}
 use Rattle.const_eval.specs.declared.shape.Shape.{Shape}
 use Rattle.const_eval.specs.SmallPlaces.{Small, HasSmall}
-use Rattle.const_eval.specs.Items.{Item, of_expression, of_init, of_initial, of_field, of_members, of_enumerator, of_enumerators, of_body, of_entry, items, place_by, place_of}
+use Rattle.const_eval.specs.Items.{Item, of_expression, of_init, of_initial, of_field, of_members, of_enumerator, of_enumerators, of_body, of_entry, declared, items, place_by, place_of}
 use Rattle.const_eval.proofs.EachItem.{in_each_all}
-use Rattle.const_eval.proofs.Keys.{IsPlaced, few_items}
+use Rattle.const_eval.proofs.Keys.{IsPlaced, Rises, few_items, items_placed, items_rise}
 
 front : (xs ys : List ℕ) → Small (xs ++ ys) → Small xs
 front [] ys all = All-nil (λ o. o < 262144)
@@ -128,10 +128,17 @@ files_fine n (s ∷ fs) before le all old =
     files_fine (n + 1) fs (with_file n s before) (omega arith) (All-tail HasSmall s fs all)
     (decl_fine n None (inside (parts_of s.tree.«package») s.tree.declared) s.tree.declared before (omega arith) (declared_small s (All-head HasSmall s fs all)) old)
 
+declared_placed : (files : List Source) → length files ≤ 4096 → All HasSmall files → All IsPlaced (declared files)
+declared_placed files le all =
+    let fine : All IsFine (declarations files) = files_fine 0 files [] (omega arith) all (All-nil IsFine) in
+    in_each_all IsPlaced (of_entry files) 0 (declarations files) (λ k e h.
+    let f : IsFine e = All-contains IsFine (declarations files) e fine (k, slice_get_within (declarations files) k e h, get_or_from_slice_get (declarations files) k e e h) in
+    bodies files e.file (0 + k) f.0 _ (body e.tree) (inner_small e.tree f.1))
+
 -- so there are at most 2 ^ 30 items
 pub items_few : (files : List Source) → length files ≤ 4096 → All HasSmall files → length (items files) ≤ 1073741824
-items_few files le all =
-    let fine : All IsFine (declarations files) = files_fine 0 files [] (omega arith) all (All-nil IsFine) in
-    few_items files (in_each_all IsPlaced (of_entry files) 0 (declarations files) (λ k e h.
-    let f : IsFine e = All-contains IsFine (declarations files) e fine (k, slice_get_within (declarations files) k e h, get_or_from_slice_get (declarations files) k e e h) in
-    bodies files e.file (0 + k) f.0 _ (body e.tree) (inner_small e.tree f.1)))
+items_few files le all = few_items files (declared_placed files le all)
+
+-- and they ascend
+pub items_ascend : (files : List Source) → length files ≤ 4096 → All HasSmall files → All IsPlaced (items files) × Rises 0 (items files)
+items_ascend files le all = let placed = declared_placed files le all in (items_placed files placed, items_rise files placed)

@@ -10,3 +10,4 @@ pub mod Held
 pub mod Known
 pub mod SmallPlaces
 pub mod Numbers
+pub mod Breaches

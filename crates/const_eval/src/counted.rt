@@ -15,8 +15,8 @@ pub fn law_count(names: &Names<'_>)
     law_places(files);
 }
 
-// The places of each tree lie below the most bytes of a file.
-fn law_places(files: &[ParsedFile])
+/// The places of each tree lie below the most bytes of a file.
+pub fn law_places(files: &[ParsedFile])
     requires { AreOfBytes files.now }
     ensures { All HasSmall (map source_of files.now) }
 {

@@ -2,6 +2,7 @@
 #![tactic(auto)]
 
 mod backing;
+mod breach_rows;
 mod counted;
 mod dependence;
 mod eval;
@@ -25,11 +26,13 @@ mod stepping;
 mod target;
 mod wanted;
 
+pub use breach_rows::breaches;
 pub use const_values::ConstFault;
+pub use counted::law_count;
 pub use dependence::{Dependence, dependence_of};
 pub use eval::eval_all;
 pub use item::{ItemRef, WrittenRef};
-pub use laws::law_one_outcome;
+pub use laws::{law_breaches_in_order, law_one_outcome};
 pub use named::names_in;
 pub use numbering::{Items, numbered};
 pub use outcome::Outcome;
