@@ -20,7 +20,7 @@ abbrev pub left : ℕ → Option ℕ → ℕ
 left n None = 0
 left n (Some i) = n - i
 
-drop-more : {A : Type 0} (k : ℕ) (xs : List A) (x : A) (more : List A) → drop k xs ≡ x ∷ more → drop (suc k) xs ≡ more
+pub drop-more : {A : Type 0} (k : ℕ) (xs : List A) (x : A) (more : List A) → drop k xs ≡ x ∷ more → drop (suc k) xs ≡ more
 drop-more zero [] x more e = cc
 drop-more zero (y ∷ ys) x more e = cc
 drop-more (suc k) [] x more e = cc

@@ -9,3 +9,6 @@ pub mod Taken
 pub mod Chains
 pub mod Tables
 pub mod Alike
+pub mod Named
+pub mod Through
+pub mod OfFiles

@@ -1,14 +1,15 @@
 -- A number for each name, by which it is looked up: names that are the same have the same number.
-use Rattle.std.specs.Prelude.{ℕ, ◌+◌, ◌*◌, ◌%◌, List}
+use Rattle.std.specs.Prelude.{ℕ, ◌+◌, ◌*◌, ◌%◌, List, map}
 use Rattle.std.specs.List.{fold}
 use Rattle.aidl_base.specs.declared.name.Ident.{Ident}
 use Rattle.aidl_syntax.specs.declared.tree.DottedTree.{DottedTree}
 use Rattle.aidl_names.specs.Names.{text, last}
 use Rattle.aidl_names.specs.Declarations.{Entry}
+use Rattle.aidl_names.specs.Sources.{Source}
 
--- one more byte
+-- One more byte: a number to the base 257, modulo the largest prime below 2 ^ 55, so that a step fits in 64 bits.
 unfoldable pub with_byte : ℕ → ℕ → ℕ
-with_byte mark b = (mark % 288230376151711717 * 31 + b) % 288230376151711717
+with_byte mark b = (mark % 36028797018963913 * 257 + b) % 36028797018963913
 
 -- one more part
 abbrev pub with_part : ℕ → Ident → ℕ
@@ -23,3 +24,7 @@ mark_of_entry e = mark_of e.name
 -- the mark of the last part of an import
 abbrev pub mark_of_last : DottedTree → ℕ
 mark_of_last i = mark_of (last i.name.0)
+
+-- those of the imports of a file
+abbrev pub import_marks : Source → List ℕ
+import_marks s = map mark_of_last s.tree.imports

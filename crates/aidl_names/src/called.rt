@@ -1,71 +1,64 @@
-ghost use Rattle.std.specs.Prelude.{◌≡◌, map};
+ghost use Rattle.std.specs.Prelude.{◌≡◌, ℕ, List, map, IfOk};
 ghost use Rattle.std.specs.List.{find};
-ghost use Rattle.aidl_syntax.specs.Trees.{body_of, decl_of, enumerator_of, map_option, members_of};
-ghost use Rattle.aidl_syntax.specs.Members.{listed, members, body as inner};
-ghost use Rattle.aidl_syntax.specs.Members.Member.{enumerator};
-ghost use Rattle.aidl_names.specs.Called.{called_at, is_called};
+ghost use Rattle.std.specs.Str.{bytes_eq};
+ghost use Rattle.indexmap.specs.IndexMap.{get_by};
+ghost use Rattle.aidl_base.specs.declared.name.Ident.{Ident as Name};
+ghost use Rattle.aidl_syntax.specs.Trees.{decl_of, map_option};
+ghost use Rattle.aidl_syntax.specs.Members.{members, body as inner};
+ghost use Rattle.aidl_names.specs.Called.{called, is_called, seen_table};
 ghost use Rattle.aidl_names.specs.MemberViews.{seen_member};
+ghost use Rattle.aidl_names.specs.Names.{text};
 ghost use Rattle.aidl_names.specs.Refusals.{entry_of};
 
-use crate::members::{MemberRef, name_of, of_tree};
+use crate::members::{MemberRef, members, name_of};
 use crate::names::Found;
-use crate::same::same_part;
-use aidl_base::Ident;
-use aidl_syntax::{BodyTree, DeclTree, EnumeratorTree, MemberTree};
+use aidl_base::{Ident, OutOfMemory};
+use aidl_syntax::DeclTree;
+use indexmap::IndexMap;
+use std::alloc::Global;
 
-/// The first member with a name of the declaration with a number. It takes no memory.
-pub fn called_at<'a>(found: &[Found<'a>], number: u32, name: &Ident) -> Option<MemberRef<'a>>
-    ensures { map_option seen_member result ≡ called_at (map entry_of found.now) number name.now }
+/// For each declaration its members by their names, the first of each name.
+pub fn members_by_name<'a>(
+    alloc: Global,
+    found: &[Found<'a>],
+) -> Result<Vec<IndexMap<&'a str, MemberRef<'a>>>, OutOfMemory>
+    ensures { IfOk result (λ tables. map seen_table tables.items ≡ map called (map entry_of found.now)) }
 {
-    match found.get(number as usize) {
-        Some(f) => called(f.tree, name),
-        None => None,
+    let mut tables = Vec::with_capacity(alloc, found.len())?;
+    for f in found {
+        tables.push(table_of(alloc, f.tree)?)?;
     }
+    Ok(tables)
 }
 
-fn called<'a>(tree: &'a DeclTree, name: &Ident) -> Option<MemberRef<'a>>
-    ensures { map_option seen_member result ≡ find (is_called name.now) (members (inner (decl_of tree.now))) }
+fn table_of<'a>(
+    alloc: Global,
+    tree: &'a DeclTree,
+) -> Result<IndexMap<&'a str, MemberRef<'a>>, OutOfMemory>
+    ensures { IfOk result (λ table. seen_table table ≡ (λ (name : Name). find (is_called (text name)) (members (inner (decl_of tree.now))))) }
 {
-    called_in(&tree.body, name)
+    let all = members(alloc, tree)?;
+    by_name(alloc, all.as_slice())
 }
 
-fn called_in<'a>(body: &'a BodyTree, name: &Ident) -> Option<MemberRef<'a>>
-    ensures { map_option seen_member result ≡ find (is_called name.now) (members (body_of body.now)) }
+// From the last member on, so that the first of a name stays.
+fn by_name<'a>(
+    alloc: Global,
+    members: &[MemberRef<'a>],
+) -> Result<IndexMap<&'a str, MemberRef<'a>>, OutOfMemory>
+    ensures { IfOk result (λ table. (bytes : List ℕ) → map_option seen_member (get_by (λ k. bytes_eq bytes k.now) table) ≡ find (is_called bytes) (map seen_member members.now)) }
 {
-    match body {
-        BodyTree::Parcelable(members) => called_among(members.as_slice(), name),
-        BodyTree::Union(members) => called_among(members.as_slice(), name),
-        BodyTree::Enum(enumerators) => enumerator_called(enumerators.as_slice(), name),
-        BodyTree::Interface { members, .. } => called_among(members.as_slice(), name),
+    let mut table = IndexMap::with_capacity(alloc, members.len())?;
+    for i in (0..members.len()).rev() {
+        let member = members[i];
+        table.insert(name_of(member).name.0.as_str(), member)?;
     }
+    Ok(table)
 }
 
-fn called_among<'a>(members: &'a [MemberTree], name: &Ident) -> Option<MemberRef<'a>>
-    ensures { map_option seen_member result ≡ find (is_called name.now) (listed (members_of members.now)) }
+/// What a table has for a name. It takes no memory.
+pub fn called<'a>(table: &IndexMap<&str, MemberRef<'a>>, name: &Ident) -> Option<MemberRef<'a>>
+    ensures { map_option seen_member result ≡ seen_table table.now name.now }
 {
-    for tree in members {
-        let member = of_tree(tree);
-        if is_called(member, name) {
-            return Some(member);
-        }
-    }
-    None
-}
-
-fn enumerator_called<'a>(enumerators: &'a [EnumeratorTree], name: &Ident) -> Option<MemberRef<'a>>
-    ensures { map_option seen_member result ≡ find (is_called name.now) (map enumerator (map enumerator_of enumerators.now)) }
-{
-    for item in enumerators {
-        let member = MemberRef::Enumerator(item);
-        if is_called(member, name) {
-            return Some(member);
-        }
-    }
-    None
-}
-
-fn is_called(member: MemberRef<'_>, name: &Ident) -> bool
-    ensures { result ≡ is_called name.now (seen_member member.entry) }
-{
-    same_part(&name_of(member).name, name)
+    table.get(name.0.as_str()).copied()
 }

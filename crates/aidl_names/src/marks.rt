@@ -11,10 +11,11 @@ use std::alloc::Global;
 fn with_byte(mark: u64, byte: u8) -> u64
     ensures { result ≡ with_byte mark byte }
 {
-    (mark % 288_230_376_151_711_717 * 31 + u64::from(byte)) % 288_230_376_151_711_717
+    (mark % 36_028_797_018_963_913 * 257 + u64::from(byte)) % 36_028_797_018_963_913
 }
 
-fn with_part(mark: u64, part: &Ident) -> u64
+/// The mark of a name with one more part, from that of the name. It takes no memory.
+pub fn with_part(mark: u64, part: &Ident) -> u64
     ensures { result ≡ with_part mark part.now }
 {
     let mut all = mark;

@@ -51,8 +51,7 @@ fn listed<'a>(
     Ok(all)
 }
 
-/// A member as it is found in its tree. It takes no memory.
-pub fn of_tree(member: &MemberTree) -> MemberRef<'_>
+fn of_tree(member: &MemberTree) -> MemberRef<'_>
     ensures { (ms : Members) → seen_member result ∷ listed ms ≡ listed (member_of member.now ms) }
 {
     match member {

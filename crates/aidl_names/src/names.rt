@@ -7,14 +7,14 @@ ghost use Rattle.aidl_names.specs.Called.{called_at};
 ghost use Rattle.aidl_names.specs.MemberViews.{seen_member};
 ghost use Rattle.aidl_syntax.specs.Trees.{map_option};
 ghost use Rattle.aidl_names.specs.Resolution.{resolved};
-ghost use Rattle.aidl_names.specs.Marks.{mark_of_entry};
+ghost use Rattle.aidl_names.specs.Marks.{import_marks, mark_of_entry};
 ghost use Rattle.aidl_names.specs.Refusals.{IsAccepted, IsRefusal, IsScope, entry_of};
 
-use crate::called::called_at;
+use crate::called::{called, members_by_name};
 use crate::duplicates::{add_repeated, add_taken};
 use crate::fault::{NameFault, WalkFault};
 use crate::files::add_wrong_files;
-use crate::imports::{add_other_imports, add_unknown_imports};
+use crate::imports::{add_other_imports, add_unknown_imports, import_tables};
 use crate::limits::passed;
 use crate::marks::marks;
 use crate::members::MemberRef;
@@ -26,12 +26,13 @@ use crate::types::{TypeRule, add_types};
 use crate::walk::walk;
 use aidl_base::{Breach, DottedName, Ident, Limit, LimitName, OutOfMemory, Row};
 use aidl_syntax::{DeclTree, ParsedFile};
+use indexmap::IndexMap;
 use std::alloc::Global;
 use std::marker::Model;
 
 /// A declaration of a tree: its canonical name, the 0-based number of its file, the number of the declaration that
 /// encloses it, and its tree.
-#[derive(Debug, Drop)]
+#[derive(Drop)]
 pub struct Found<'a> {
     pub name: DottedName,
     pub file: u32,
@@ -40,11 +41,13 @@ pub struct Found<'a> {
 }
 
 /// A tree of files that passes no limit on declarations and breaks none of E1 to E5. Contracts see it as its files.
-#[derive(Debug, Drop)]
+#[derive(Drop)]
 pub struct Names<'a> {
     files: &'a [ParsedFile],
     found: Vec<Found<'a>>,
     table: Table,
+    imports: Vec<Table>,
+    members: Vec<IndexMap<&'a str, MemberRef<'a>>>,
 }
 
 impl<'a> Model for Names<'a> {
@@ -54,8 +57,9 @@ impl<'a> Model for Names<'a> {
     ghost use Rattle.aidl_syntax.specs.contracts.tree.ParsedFile as parsed_file;
     ghost use Rattle.aidl_names.specs.Sources.{AreOfBytes, source_of};
     ghost use Rattle.aidl_names.specs.Declarations.{declarations};
-    ghost use Rattle.aidl_names.specs.Marks.{mark_of_entry};
+    ghost use Rattle.aidl_names.specs.Marks.{import_marks, mark_of_entry};
     ghost use Rattle.aidl_names.specs.Refusals.{IsAccepted, entry_of};
+    ghost use Rattle.aidl_names.specs.Called.{called, seen_table};
 
     ghost Value = { List ParsedFile };
 
@@ -67,7 +71,9 @@ impl<'a> Model for Names<'a> {
       of_bytes : AreOfBytes names.files.now;
       accepted : IsAccepted (map source_of names.files.now);
       marks : names.table ≡ map mark_of_entry (map entry_of names.found.items);
+      imports : names.imports.items ≡ map import_marks (map source_of names.files.now);
       all : map entry_of names.found.items ≡ declarations (map source_of names.files.now);
+      called : map seen_table names.members.items ≡ map called (declarations (map source_of names.files.now));
     } };
 }
 
@@ -98,6 +104,7 @@ impl<'a> Names<'a> {
             self.files,
             self.found.as_slice(),
             &self.table,
+            self.imports.as_slice(),
             file,
             scope,
             name,
@@ -108,7 +115,10 @@ impl<'a> Names<'a> {
     pub fn member(&self, number: u32, name: &Ident) -> Option<MemberRef<'a>>
         ensures { map_option seen_member result ≡ called_at (declarations (map source_of self.now)) number name.now }
     {
-        called_at(self.found.as_slice(), number, name)
+        match self.members.get(number as usize) {
+            Some(table) => called(table, name),
+            None => None,
+        }
     }
 }
 
@@ -127,14 +137,18 @@ pub fn gather<'a>(alloc: Global, files: &'a [ParsedFile]) -> Result<Names<'a>, N
         return Err(limit(which));
     }
     let table = Table::new(alloc, marks(alloc, found.as_slice())?)?;
-    let rows = breaches(alloc, files, found.as_slice(), &table)?;
+    let imports = import_tables(alloc, files)?;
+    let rows = breaches(alloc, files, found.as_slice(), &table, imports.as_slice())?;
     if rows.len() > 0 {
         return Err(NameFault::Breaches(rows));
     }
+    let members = members_by_name(alloc, found.as_slice())?;
     Ok(Names {
         files,
         found,
         table,
+        imports,
+        members,
     })
 }
 
@@ -150,10 +164,12 @@ fn breaches(
     files: &[ParsedFile],
     found: &[Found<'_>],
     table: &Table,
+    imports: &[Table],
 ) -> Result<Row<Breach>, OutOfMemory>
     requires files { length files.now ≤ 4096 }
     requires count { length found.now ≤ 16384 }
     requires table { table.now ≡ map mark_of_entry (map entry_of found.now) }
+    requires imports { imports.now ≡ map import_marks (map source_of files.now) }
     requires all { map entry_of found.now ≡ declarations (map source_of files.now) }
     ensures { IfOk result (λ rows. rows ≡ breaches (map source_of files.now)) }
 {
@@ -161,9 +177,25 @@ fn breaches(
     add_wrong_files(alloc, files, &mut rows)?;
     add_repeated(alloc, found, &mut rows)?;
     add_taken(found, table, &mut rows)?;
-    add_other_imports(alloc, files, &mut rows)?;
+    add_other_imports(alloc, files, imports, &mut rows)?;
     add_unknown_imports(found, table, files, &mut rows)?;
-    add_types(alloc, files, found, table, TypeRule::Unknown, &mut rows)?;
-    add_types(alloc, files, found, table, TypeRule::LeftOut, &mut rows)?;
+    add_types(
+        alloc,
+        files,
+        found,
+        table,
+        imports,
+        TypeRule::Unknown,
+        &mut rows,
+    )?;
+    add_types(
+        alloc,
+        files,
+        found,
+        table,
+        imports,
+        TypeRule::LeftOut,
+        &mut rows,
+    )?;
     in_order(alloc, rows.as_slice())
 }

@@ -3,10 +3,10 @@ ghost use Rattle.aidl_names.specs.Names.{text, same, last, parts_of};
 ghost use Rattle.aidl_names.specs.Sources.{source_of};
 ghost use Rattle.aidl_names.specs.Declarations.{declarations};
 ghost use Rattle.aidl_names.specs.Resolution.{number_of, candidates, first_declared, enclosing, imported, meaning_of_word, own_meaning, meaning_in_file, resolved};
-ghost use Rattle.aidl_names.specs.Marks.{mark_of, mark_of_entry};
+ghost use Rattle.aidl_names.specs.Marks.{import_marks, mark_of, mark_of_entry, mark_of_last};
 ghost use Rattle.aidl_names.specs.Refusals.{entry_of};
 
-use crate::marks::with_parts;
+use crate::marks::{with_part, with_parts};
 use crate::names::Found;
 use crate::resolved::{BuiltinName, Resolved};
 use crate::same::{is_joined, same_part};
@@ -62,17 +62,22 @@ pub fn resolved(
     files: &[ParsedFile],
     found: &[Found<'_>],
     table: &Table,
+    imports: &[Table],
     number: u32,
     scope: u32,
     name: &[Ident],
 ) -> Option<Resolved>
     requires count { length found.now ≤ 16384 }
     requires table { table.now ≡ map mark_of_entry (map entry_of found.now) }
+    requires imports { imports.now ≡ map import_marks (map source_of files.now) }
     requires all { map entry_of found.now ≡ declarations (map source_of files.now) }
     ensures { result ≡ resolved (map source_of files.now) number scope name.now }
 {
     match files.get(number as usize) {
-        Some(file) => meaning_in_file(found, table, file, scope, name),
+        Some(file) => {
+            let marks = &imports[number as usize];
+            meaning_in_file(found, table, marks, file, scope, name)
+        }
         None => None,
     }
 }
@@ -80,17 +85,19 @@ pub fn resolved(
 fn meaning_in_file(
     found: &[Found<'_>],
     table: &Table,
+    marks: &Table,
     file: &ParsedFile,
     scope: u32,
     name: &[Ident],
 ) -> Option<Resolved>
     requires count { length found.now ≤ 16384 }
     requires table { table.now ≡ map mark_of_entry (map entry_of found.now) }
+    requires marks { marks.now ≡ import_marks (source_of file.now) }
     ensures { result ≡ meaning_in_file (map entry_of found.now) (source_of file.now) scope name.now }
 {
     match own_meaning(name) {
         Some(meaning) => Some(meaning),
-        None => first_declared(found, table, file, scope, name),
+        None => first_declared(found, table, marks, file, scope, name),
     }
 }
 
@@ -98,12 +105,14 @@ fn meaning_in_file(
 fn first_declared(
     found: &[Found<'_>],
     table: &Table,
+    marks: &Table,
     file: &ParsedFile,
     scope: u32,
     name: &[Ident],
 ) -> Option<Resolved>
     requires count { length found.now ≤ 16384 }
     requires table { table.now ≡ map mark_of_entry (map entry_of found.now) }
+    requires marks { marks.now ≡ import_marks (source_of file.now) }
     ensures { result ≡ first_declared (map entry_of found.now) (candidates (map entry_of found.now) (source_of file.now) scope name.now) }
 {
     match declared(found, table, 0, &[], name) {
@@ -114,7 +123,7 @@ fn first_declared(
         Some(meaning) => return Some(meaning),
         None => {}
     }
-    match in_imports(found, table, file.tree.imports.as_slice(), name) {
+    match in_imports(found, table, marks, file.tree.imports.as_slice(), name) {
         Some(meaning) => return Some(meaning),
         None => {}
     }
@@ -150,15 +159,17 @@ fn in_enclosing(
 fn in_imports(
     found: &[Found<'_>],
     table: &Table,
+    marks: &Table,
     imports: &[DottedTree],
     name: &[Ident],
 ) -> Option<Resolved>
     requires count { length found.now ≤ 16384 }
     requires table { table.now ≡ map mark_of_entry (map entry_of found.now) }
+    requires marks { marks.now ≡ map mark_of_last imports.now }
     ensures { result ≡ first_declared (map entry_of found.now) (imported imports.now name.now) }
 {
     match name {
-        [first, rest @ ..] => in_imports_of(found, table, imports, first, rest),
+        [first, rest @ ..] => in_imports_of(found, table, marks, imports, first, rest),
         [] => None,
     }
 }
@@ -166,23 +177,45 @@ fn in_imports(
 fn in_imports_of(
     found: &[Found<'_>],
     table: &Table,
+    marks: &Table,
     imports: &[DottedTree],
     first: &Ident,
     rest: &[Ident],
 ) -> Option<Resolved>
     requires count { length found.now ≤ 16384 }
     requires table { table.now ≡ map mark_of_entry (map entry_of found.now) }
+    requires marks { marks.now ≡ map mark_of_last imports.now }
     ensures { result ≡ first_declared (map entry_of found.now) (imported imports.now (first.now ∷ rest.now)) }
 {
-    for import in imports {
-        let parts = import.name.0.as_slice();
-        if ends_in(parts, first) {
-            if let Some(meaning) = declared(found, table, with_parts(0, parts), parts, rest) {
-                return Some(meaning);
-            }
+    let mut at = marks.first(with_part(0, first));
+    'places: while let Some(place) = at {
+        match through(found, table, &imports[place], first, rest) {
+            Some(meaning) => return Some(meaning),
+            None => {}
         }
+        at = marks.next(place);
     }
     None
+}
+
+// Through one import, where it ends in the name's first part.
+fn through(
+    found: &[Found<'_>],
+    table: &Table,
+    import: &DottedTree,
+    first: &Ident,
+    rest: &[Ident],
+) -> Option<Resolved>
+    requires count { length found.now ≤ 16384 }
+    requires table { table.now ≡ map mark_of_entry (map entry_of found.now) }
+    ensures { result ≡ first_declared (map entry_of found.now) (imported (import.now ∷ []) (first.now ∷ rest.now)) }
+{
+    let parts = import.name.0.as_slice();
+    if ends_in(parts, first) {
+        declared(found, table, with_parts(0, parts), parts, rest)
+    } else {
+        None
+    }
 }
 
 /// Whether the last part of a name is this one. It takes no memory.

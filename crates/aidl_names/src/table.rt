@@ -7,7 +7,7 @@ use std::alloc::Global;
 use std::marker::Model;
 
 /// Where marks stand in a list: the first place of each, and from each place the next with the same mark.
-#[derive(Debug, Drop)]
+#[derive(Drop)]
 pub struct Table {
     marks: Vec<u64>,
     heads: IndexMap<u64, usize>,

@@ -7,7 +7,7 @@ ghost use Rattle.aidl_names.specs.Declarations.{declarations};
 ghost use Rattle.aidl_names.specs.Rules.{types_in, types_where, type_names, names_of_type, is_left_out, is_interface, is_interface_body};
 ghost use Rattle.aidl_names.specs.MemberViews.{seen_member};
 ghost use Rattle.aidl_names.specs.TypeRules.{breaks_of, rule_of};
-ghost use Rattle.aidl_names.specs.Marks.{mark_of_entry};
+ghost use Rattle.aidl_names.specs.Marks.{import_marks, mark_of_entry};
 ghost use Rattle.aidl_names.specs.Refusals.{entry_of};
 
 use crate::members::{MemberRef, members};
@@ -46,16 +46,18 @@ pub fn add_types(
     files: &[ParsedFile],
     found: &[Found<'_>],
     table: &Table,
+    imports: &[Table],
     rule: TypeRule,
     rows: &mut Vec<Breach>,
 ) -> Result<(), OutOfMemory>
     requires count { length found.now ≤ 16384 }
     requires table { table.now ≡ map mark_of_entry (map entry_of found.now) }
+    requires imports { imports.now ≡ map import_marks (map source_of files.now) }
     requires all { map entry_of found.now ≡ declarations (map source_of files.now) }
     ensures { OnOk result (rows.new.items ≡ rows.old.items ++ types_where (breaks_of rule (map source_of files.now)) (rule_of rule) (map source_of files.now)) }
 {
     for (i, f) in found.iter().enumerate() {
-        add_types_in(alloc, files, found, table, rule, i as u32, f, rows)?;
+        add_types_in(alloc, files, found, table, imports, rule, i as u32, f, rows)?;
     }
     Ok(())
 }
@@ -66,6 +68,7 @@ fn add_types_in(
     files: &[ParsedFile],
     found: &[Found<'_>],
     table: &Table,
+    imports: &[Table],
     rule: TypeRule,
     number: u32,
     inside: &Found<'_>,
@@ -73,6 +76,7 @@ fn add_types_in(
 ) -> Result<(), OutOfMemory>
     requires count { length found.now ≤ 16384 }
     requires table { table.now ≡ map mark_of_entry (map entry_of found.now) }
+    requires imports { imports.now ≡ map import_marks (map source_of files.now) }
     requires all { map entry_of found.now ≡ declarations (map source_of files.now) }
     ensures { OnOk result (rows.new.items ≡ rows.old.items ++ types_in (breaks_of rule (map source_of files.now)) (rule_of rule) number (entry_of inside.now)) }
 {
@@ -82,6 +86,7 @@ fn add_types_in(
             files,
             found,
             table,
+            imports,
             rule,
             inside.file,
             number,
@@ -96,6 +101,7 @@ fn breaks(
     files: &[ParsedFile],
     found: &[Found<'_>],
     table: &Table,
+    imports: &[Table],
     rule: TypeRule,
     file: u32,
     scope: u32,
@@ -103,10 +109,11 @@ fn breaks(
 ) -> bool
     requires count { length found.now ≤ 16384 }
     requires table { table.now ≡ map mark_of_entry (map entry_of found.now) }
+    requires imports { imports.now ≡ map import_marks (map source_of files.now) }
     requires all { map entry_of found.now ≡ declarations (map source_of files.now) }
     ensures { result ≡ breaks_of rule (map source_of files.now) file scope name.now }
 {
-    let meaning = resolved(files, found, table, file, scope, name);
+    let meaning = resolved(files, found, table, imports, file, scope, name);
     match rule {
         TypeRule::Unknown => meaning.is_none(),
         TypeRule::LeftOut => is_left_out(found, meaning),

@@ -33,7 +33,7 @@ target_if file number (Some m) = target_of file number m
 
 -- the constant or enumerator of that name in the declaration with that number
 abbrev pub member_at : List Entry → ℕ → Ident → Option Target
-member_at entries number name = elim (slice_get entries number) [ None ↦ None | Some e ↦ target_if e.file number (called name e) ]
+member_at entries number name = elim (slice_get entries number) [ None ↦ None | Some e ↦ target_if e.file number (called e name) ]
 
 abbrev pub is_enumerator : Option Target → Bool
 is_enumerator (Some (of_enumerator file number x)) = true

@@ -1,8 +1,17 @@
-use Rattle.std.proofs.Common.{◌≡◌, ◌∷◌, map, drop}
+use Rattle.std.proofs.Common.{◌≡◌, ◌∷◌, [], map, length}
+use Rattle.aidl_names.specs.Marks.{mark_of}
 use Rattle.aidl_names.specs.Resolution.{first_declared, imported}
 use Rattle.aidl_names.specs.Refusals.{entry_of}
+use Rattle.aidl_names.proofs.Chains.{HasMark, left}
+use Rattle.aidl_names.proofs.Through.{searched_at, through}
 use Rattle.aidl_names.proofs.resolution.in_imports_of.Given as goal
 
 -- through none of those so far
-abbrev pub invariant-loop-import : goal.invariant-loop-import
-invariant-loop-import l = first_declared (map entry_of l.found) (imported (drop l.import-index l.imports) (l.first ∷ l.rest)) ≡ first_declared (map entry_of l.found) (imported l.imports (l.first ∷ l.rest))
+abbrev pub invariant-places : goal.invariant-places
+invariant-places l = record {
+  rest : searched_at (through (map entry_of l.found) l.first l.rest) l.imports l.at ≡ first_declared (map entry_of l.found) (imported l.imports (l.first ∷ l.rest));
+  marked : HasMark l.marks (mark_of (l.first ∷ [])) l.at;
+}
+
+abbrev pub decreases-places : goal.decreases-places
+decreases-places l = left (length l.imports) l.at

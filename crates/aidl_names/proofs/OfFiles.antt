@@ -1,0 +1,37 @@
+-- What a name means in the file with a number.
+use Rattle.std.proofs.Common.{◌≡◌, ◌<◌, ◌≤◌, ℕ, zero, suc, List, [], ◌∷◌, map, length, get_or, Option, Some, None, option_map, refl, sym, ◌∙◌, ap, arith}
+use Rattle.std.specs.List.{slice_get}
+use Rattle.std.proofs.lemmas.Option.{slice_get_read, slice_get_past, slice_get-map}
+use Rattle.aidl_base.specs.declared.name.Ident.{Ident}
+use Rattle.aidl_syntax.specs.declared.tree.ParsedFile.{ParsedFile}
+use Rattle.aidl_names.specs.declared.resolved.Resolved.{Resolved}
+use Rattle.aidl_names.specs.Declarations.{Entry, declarations}
+use Rattle.aidl_names.specs.Marks.{import_marks}
+use Rattle.aidl_names.specs.Resolution.{meaning_in_file, resolved}
+use Rattle.aidl_names.specs.Sources.{Source, source_of}
+
+module _ (files : List ParsedFile) (number scope : ℕ) (name : List Ident) where
+  in_file : (o : Option ParsedFile) → slice_get files number ≡ o
+      → elim (option_map source_of o) as (λ _. Option Resolved) [ None ↦ None | Some file ↦ meaning_in_file (declarations (map source_of files)) file scope name ] ≡ resolved (map source_of files) number scope name
+  in_file o e =
+      ap (λ (z : Option Source). elim z as (λ _. Option Resolved) [ None ↦ None | Some file ↦ meaning_in_file (declarations (map source_of files)) file scope name ])
+      (sym (slice_get-map source_of files number ∙ ap (option_map source_of) e))
+
+  -- in a file that is there
+  pub in_some_file : (es : List Entry) (f : ParsedFile) (r : Option Resolved) → es ≡ declarations (map source_of files) → number < length files → f ≡ get_or files number f
+      → r ≡ meaning_in_file es (source_of f) scope name → r ≡ resolved (map source_of files) number scope name
+  in_some_file es f r all lt is e =
+      e ∙ ap (λ (z : List Entry). meaning_in_file z (source_of f) scope name) all ∙ in_file (Some f) (slice_get_read files (length files) number f refl lt is)
+
+  -- beyond the last
+  pub in_no_file : length files ≤ number → None ≡ resolved (map source_of files) number scope name
+  in_no_file le = in_file None (slice_get_past files number le)
+
+-- the table of a file's imports
+pub table_at : (files : List ParsedFile) (number : ℕ) (f : ParsedFile) (tables : List (List ℕ)) (t : List ℕ) → tables ≡ map import_marks (map source_of files) → number < length files
+    → f ≡ get_or files number f → t ≡ get_or tables number t → t ≡ import_marks (source_of f)
+table_at files number f tables t e lt is at = at ∙ ap (λ (z : List (List ℕ)). get_or z number t) e ∙ go files number lt is where
+  go : (fs : List ParsedFile) (n : ℕ) → n < length fs → f ≡ get_or fs n f → get_or (map import_marks (map source_of fs)) n t ≡ import_marks (source_of f)
+  go [] n l h = absurd (omega arith)
+  go (g ∷ fs) zero l h = ap (λ (z : ParsedFile). import_marks (source_of z)) (sym h)
+  go (g ∷ fs) (suc n) l h = go fs n (omega arith) h

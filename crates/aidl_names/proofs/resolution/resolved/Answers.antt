@@ -1,0 +1,16 @@
+use Rattle.std.proofs.Common.{map}
+use Rattle.aidl_names.specs.Refusals.{entry_of}
+use Rattle.aidl_names.proofs.OfFiles.{in_some_file, in_no_file, table_at}
+use Rattle.aidl_names.proofs.resolution.resolved.Goals as goal
+
+pub meaning_in_file-requires-clause-marks : goal.meaning_in_file-requires-clause-marks
+meaning_in_file-requires-clause-marks c =
+    table_at c.args.files.now c.args.number c.in-Some.file.now c.args.imports.now c.index-imports-number.result c.requires.imports c.in-Some.ensures.lookup.3.0 c.in-Some.ensures.lookup.1 c.index-imports-number.is
+
+pub returns-in-Some : goal.returns-in-Some
+returns-in-Some c =
+    in_some_file c.args.files.now c.args.number c.args.scope c.args.name.now (map entry_of c.args.found.now) c.in-Some.file.now c.meaning_in_file.result c.requires.all
+    c.in-Some.ensures.lookup.3.0 c.in-Some.ensures.lookup.1 c.meaning_in_file.ensures
+
+pub returns-in-None : goal.returns-in-None
+returns-in-None c = in_no_file c.args.files.now c.args.number c.args.scope c.args.name.now c.in-None.ensures.lookup.3
