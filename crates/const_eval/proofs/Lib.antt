@@ -6,6 +6,7 @@ pub mod InOrder
 pub mod Keys
 pub mod Meant
 pub mod Numbers
+pub mod OneItem
 pub mod OneOutcome
 pub mod Orders
 pub mod PlacesWithin

@@ -20,8 +20,8 @@ use Rattle.const_eval.specs.declared.outcome.Outcome.{Outcome}
 use Rattle.const_eval.specs.Dependence.{Target, number_among, target}
 use Rattle.const_eval.specs.Items.{Item, items}
 use Rattle.const_eval.specs.ItemViews.{item_of}
-use Rattle.const_eval.specs.Known.{AreItems, meaning_for}
-use Rattle.const_eval.specs.Outcomes.{expression_of, named_enum, operand_at, values_in}
+use Rattle.const_eval.specs.Known.{AreItems, meaning_for, values_in}
+use Rattle.const_eval.specs.Outcomes.{expression_of, named_enum, operand_at}
 
 -- the item at an index
 pub item_at : (list : List ItemRef) (n : ℕ) (x : ItemRef) → n < length list → x ≡ get_or list n x → slice_get (map item_of list) n ≡ Some (item_of x)

@@ -1,6 +1,8 @@
--- What the names in the expression of an item mean, by the outcomes that are known.
-use Rattle.std.specs.Prelude.{◌≡◌, ◌<◌, ℕ, IsTrue, Bool, true, false, List, length, map, slice_index, slice_index_or, Option, Some, None, Result, Err, Contains}
-use Rattle.std.specs.List.{slice_get}
+-- Words for the way to the outcomes: what is known of them, and what names in an expression mean by what is known.
+use Rattle.std.specs.Prelude.{◌≡◌, ◌<◌, ℕ, IsTrue, Bool, true, false, List, [], length, map, slice_index, slice_index_or, Option, Some, None, Result, Err, Contains}
+use Rattle.std.specs.List.{list_all, slice_get}
+use Rattle.aidl_base.specs.declared.constant.Const.{Const}
+use Rattle.aidl_base.specs.declared.constant.Const.TheVariants as value
 use Rattle.aidl_syntax.specs.declared.tree.DottedTree.{DottedTree}
 use Rattle.aidl_syntax.specs.declared.tree.ParsedFile.{ParsedFile}
 use Rattle.graph_cycles.specs.Paths.{flag, targets}
@@ -10,11 +12,11 @@ use Rattle.const_values.specs.declared.fault.ConstFault.TheVariants.{Cycle, Unkn
 use Rattle.const_values.specs.Operands.{Operand}
 use Rattle.const_eval.specs.declared.item.ItemRef.{ItemRef}
 use Rattle.const_eval.specs.declared.outcome.Outcome.{Outcome}
-use Rattle.const_eval.specs.declared.outcome.Outcome.TheVariants.{Fault, Unjudged}
+use Rattle.const_eval.specs.declared.outcome.Outcome.TheVariants.{Given, Fault, Unjudged}
 use Rattle.const_eval.specs.Items.{Item, items}
 use Rattle.const_eval.specs.Dependence.{next}
 use Rattle.const_eval.specs.Held.{is_held_outcome}
-use Rattle.const_eval.specs.Outcomes.{HasOutcome, meaning, outcome_at, values_in, wanted_of}
+use Rattle.const_eval.specs.Outcomes.{HasOutcome, Values, is_given, meaning, outcome_at, wanted_of}
 
 -- these are the items of a tree
 abbrev pub AreItems : List Source → List Item → Type 0
@@ -24,6 +26,18 @@ AreItems files xs = xs ≡ items files
 pub record IsItemAt (list : List ItemRef) (n : ℕ) (x : ItemRef) : Type 0 where
   pub within : n < length list
   pub is : x ≡ slice_index_or list n x
+
+-- the items with these numbers have values
+abbrev pub are_given : List Outcome → List ℕ → Bool
+are_given outcomes numbers = list_all (λ n. is_given (outcome_at outcomes n)) numbers
+
+-- the value of an outcome; where there is none a brace list, which is no operand, stands for it and is never looked at
+abbrev pub value_of : Outcome → Const
+value_of (Given c) = c
+value_of _ = value.Members []
+
+abbrev pub values_in : List Outcome → Values
+values_in outcomes n = value_of (outcome_at outcomes n)
 
 -- the files, the number of an item, and outcomes
 abbrev pub Known : Type 0

@@ -1,10 +1,9 @@
 -- The outcome of each item: the first of six cases (own, after AOSP, "AIDL language", "Constants").
-use Rattle.std.specs.Prelude.{◌≡◌, ◌<◌, ℕ, ℤ, pos, negsuc, ◌+ℤ◌, Bool, true, false, List, [], length, Option, Some, None, Result, Ok, Err, Contains}
-use Rattle.std.specs.List.{list_all, slice_get, slice_index_or}
+use Rattle.std.specs.Prelude.{◌≡◌, ◌<◌, ℕ, ℤ, pos, negsuc, ◌+ℤ◌, Bool, true, false, List, length, Option, Some, None, Result, Ok, Err, Contains}
+use Rattle.std.specs.List.{slice_get, slice_index_or}
 use Rattle.aidl_base.specs.Results.{◌>>=◌}
 use Rattle.aidl_base.specs.declared.constant.Const.{Const, out-Const}
 use Rattle.aidl_base.specs.declared.constant.Const.TheOpen.{Const-F}
-use Rattle.aidl_base.specs.declared.constant.Const.TheVariants as value
 use Rattle.graph_cycles.specs.Paths.{Leads}
 use Rattle.aidl_syntax.specs.declared.tree.DottedTree.{DottedTree}
 use Rattle.aidl_syntax.specs.Trees.{Expr}
@@ -95,15 +94,6 @@ judgement_of files values x (written e) = expression_of files values x e
 judgement_of files values x first = fitted x.wanted None (number Narrow (pos 0))
 judgement_of files values x (after place) = one_more x.wanted values (number_at (items files) x.file place)
 
--- of the item with a number
-abbrev pub expression_for : List Source → Values → Option Item → Expr → Result Const ConstFault
-expression_for files values None e = Err UnknownName
-expression_for files values (Some x) e = expression_of files values x e
-
-abbrev pub judgement_for : List Source → Values → Option Item → Result Const ConstFault
-judgement_for files values None = Err UnknownName
-judgement_for files values (Some x) = judgement_of files values x x.value
-
 abbrev pub outcome_of : Result Const ConstFault → Outcome
 outcome_of (Ok c) = Given c
 outcome_of (Err fault) = Fault fault
@@ -116,18 +106,6 @@ is_given Unjudged = false
 -- the outcome of the item with a number, and Unjudged behind the last
 abbrev pub outcome_at : List Outcome → ℕ → Outcome
 outcome_at outcomes n = slice_index_or outcomes n Unjudged
-
--- the items with these numbers have values
-abbrev pub are_given : List Outcome → List ℕ → Bool
-are_given outcomes numbers = list_all (λ n. is_given (outcome_at outcomes n)) numbers
-
--- the value of an outcome; where there is none a brace list, which is no operand, stands for it and is never looked at
-abbrev pub value_of : Outcome → Const
-value_of (Given c) = c
-value_of _ = value.Members []
-
-abbrev pub values_in : List Outcome → Values
-values_in outcomes n = value_of (outcome_at outcomes n)
 
 -- it depends on itself
 abbrev pub IsCyclic : List Source → ℕ → Type 0

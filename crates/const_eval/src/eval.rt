@@ -6,9 +6,9 @@ ghost use Rattle.const_eval.specs.Dependence.{has_unknown_name};
 ghost use Rattle.const_eval.specs.Held.{is_held_outcome};
 ghost use Rattle.const_eval.specs.Items.{items as items_of};
 ghost use Rattle.const_eval.specs.ItemViews.{item_of};
-ghost use Rattle.const_eval.specs.Known.{AreHeld, AreItems, AreKnown, AreNext, IsInTurn, IsItemAt, without_value};
+ghost use Rattle.const_eval.specs.Known.{AreHeld, AreItems, AreKnown, AreNext, IsInTurn, IsItemAt, values_in, without_value};
 ghost use Rattle.const_eval.specs.Outcomes as meant;
-ghost use Rattle.const_eval.specs.Outcomes.{AreOutcomes, HasOutcome, values_in, wanted_of};
+ghost use Rattle.const_eval.specs.Outcomes.{AreOutcomes, HasOutcome, wanted_of};
 
 use crate::counted::law_count;
 use crate::dependence::{Dependence, dependence_of};

@@ -1,6 +1,7 @@
 ghost use Rattle.std.specs.Prelude.{◌≡◌, ℕ, IfOk, vec_len};
 ghost use Rattle.const_eval.specs.declared.outcome.Outcome.TheVariants.{Unjudged};
-ghost use Rattle.const_eval.specs.Outcomes.{are_given, is_given, outcome_at};
+ghost use Rattle.const_eval.specs.Outcomes.{is_given, outcome_at};
+ghost use Rattle.const_eval.specs.Known.{are_given};
 
 use crate::outcome::Outcome;
 use aidl_base::OutOfMemory;

@@ -5,9 +5,8 @@ ghost use Rattle.aidl_names.specs.Sources.{source_of};
 ghost use Rattle.const_values.specs.Seen.{Answers};
 ghost use Rattle.const_eval.specs.Held.{is_held};
 ghost use Rattle.const_eval.specs.ItemViews.{item_of};
-ghost use Rattle.const_eval.specs.Known.{AreHeld, AreItems, IsItemAt};
+ghost use Rattle.const_eval.specs.Known.{AreHeld, AreItems, IsItemAt, values_in};
 ghost use Rattle.const_eval.specs.Outcomes as meant;
-ghost use Rattle.const_eval.specs.Outcomes.{values_in};
 ghost use Rattle.const_eval.specs.TargetViews.{seen_targets};
 
 use crate::fitting::held;

@@ -5,9 +5,9 @@ ghost use Rattle.const_values.specs.Operands.{IsWithin};
 ghost use Rattle.const_values.specs.Seen.{answer, seen};
 ghost use Rattle.const_eval.specs.Held.{is_held_outcome};
 ghost use Rattle.const_eval.specs.ItemViews.{item_of};
-ghost use Rattle.const_eval.specs.Known.{AreHeld, AreItems};
+ghost use Rattle.const_eval.specs.Known.{AreHeld, AreItems, value_of, values_in};
 ghost use Rattle.const_eval.specs.Outcomes as meant;
-ghost use Rattle.const_eval.specs.Outcomes.{outcome_at, values_in, wanted_of};
+ghost use Rattle.const_eval.specs.Outcomes.{outcome_at, wanted_of};
 
 use crate::item::ItemRef;
 use crate::numbering::Items;
@@ -119,7 +119,7 @@ fn operand_for(
 // The operand of a value; of what has none nothing is asked.
 fn operand_of_outcome(wanted: Wanted, outcome: &Outcome) -> Result<Operand<'_>, ConstFault>
     requires { IsTrue (is_held_outcome wanted outcome.now) }
-    ensures value { answer result ≡ meant.operand_of wanted (meant.value_of outcome.now) }
+    ensures value { answer result ≡ meant.operand_of wanted (value_of outcome.now) }
     ensures within { IfOk result (λ operand. IsWithin (seen operand)) }
 {
     match outcome {

@@ -1,4 +1,4 @@
-ghost use Rattle.std.specs.Prelude.{◌≡◌, ◌<◌, ◌≤◌, ◌^◌, length, map, vec_len};
+ghost use Rattle.std.specs.Prelude.{◌≡◌, ◌<◌, ◌≤◌, length, map, vec_len, IfSome};
 ghost use Rattle.std.specs.Option.{option_map};
 ghost use Rattle.const_eval.specs.Items as meant;
 ghost use Rattle.const_eval.specs.ItemViews.{item_of};
@@ -24,7 +24,7 @@ pub struct Settled<'a> {
 
 impl<'a> Settled<'a> {
     // Of items with an outcome each.
-    pub fn new(items: Items<'a>, outcomes: Vec<Outcome>) -> Settled<'a>
+    pub(crate) fn new(items: Items<'a>, outcomes: Vec<Outcome>) -> Settled<'a>
         requires len { vec_len outcomes ≡ length items.list.items }
         requires count { length items.list.items ≤ 4294967296 }
         ensures items { result.items ≡ items.entry }
@@ -42,7 +42,8 @@ impl<'a> Settled<'a> {
 
     /// The item with a place in a file, and None where there is none. It takes no memory.
     pub fn init_at(&self, file: u32, offset: u32) -> Option<InitId>
-        ensures { result ≡ option_map numbered (meant.number_at (map item_of self.now.items.list.items) file offset) }
+        ensures exact { result ≡ option_map numbered (meant.number_at (map item_of self.now.items.list.items) file offset) }
+        ensures within { IfSome result (λ init. init.0 < length self.now.items.list.items) }
     {
         match self.items.number_at(file, offset) {
             Some(number) => Some(InitId(number as u32)),

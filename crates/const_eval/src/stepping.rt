@@ -6,7 +6,7 @@ ghost use Rattle.const_values.specs.Wanted.{fitted};
 ghost use Rattle.const_values.specs.declared.width.Width.TheVariants.{Narrow, Wide};
 ghost use Rattle.const_eval.specs.Held.{is_held};
 ghost use Rattle.const_eval.specs.Outcomes as meant;
-ghost use Rattle.const_eval.specs.Outcomes.{value_of, values_in};
+ghost use Rattle.const_eval.specs.Known.{value_of, values_in};
 
 use crate::fitting::held;
 use crate::outcome::Outcome;

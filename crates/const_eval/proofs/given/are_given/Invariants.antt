@@ -1,5 +1,5 @@
 use Rattle.std.proofs.Common.{◌≡◌, drop}
-use Rattle.const_eval.specs.Outcomes.{are_given}
+use Rattle.const_eval.specs.Known.{are_given}
 use Rattle.const_eval.proofs.given.are_given.Given as goal
 
 -- what is left decides
