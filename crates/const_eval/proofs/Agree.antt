@@ -1,5 +1,5 @@
 -- Values that agree on what an item depends on give it one judgement.
-use Rattle.std.proofs.Common.{◌≡◌, ℕ, pos, ◌+ℤ◌, List, [], ◌∷◌, Option, Some, None, Result, zero, suc, ◌<◌, length, slice_index_or, refl, sym, ap, ◌∙◌, subst, Contains, arith}
+use Rattle.std.proofs.Common.{◌≡◌, ℕ, List, [], ◌∷◌, Option, Some, None, Result, zero, suc, ◌<◌, length, slice_index_or, refl, sym, ap, ◌∙◌, subst, Contains, arith}
 use Rattle.std.specs.List.{filter_map, cons_option}
 use Rattle.std.proofs.lemmas.List.Elements.{Contains-append_left, Contains-append_right}
 use Rattle.aidl_base.specs.Results.{◌>>=◌}
@@ -15,10 +15,7 @@ use Rattle.const_values.specs.Wanted.{fitted}
 use Rattle.const_eval.specs.Items.{Item, Written, written, first, after, items, number_at}
 use Rattle.const_eval.specs.Dependence.{target, number_of, names_of, names_in, number_before, depends_on}
 use Rattle.std.specs.List.{slice_get}
-use Rattle.aidl_base.specs.declared.constant.Const.{out-Const}
-use Rattle.const_values.specs.declared.width.Width.TheVariants.{Wide}
-use Rattle.const_values.specs.Operands.{number}
-use Rattle.const_eval.specs.Outcomes.{Values, operand_at, operand_of, wanted_of, meaning, judgement_of, one_more, named_enum, number_in}
+use Rattle.const_eval.specs.Outcomes.{Values, operand_at, operand_of, wanted_of, meaning, judgement_of, above, one_more, named_enum}
 
 -- meanings that agree on the names in an expression
 pub evaluated_alike : (m w : DottedTree → Result Operand ConstFault) (e : Expr) → ((d : DottedTree) → Contains (names_of e) d → m d ≡ w d) → evaluated m e ≡ evaluated w e
@@ -47,7 +44,7 @@ kept f (z ∷ xs) zero x y lt same e = at_front (f z) (filter_map f xs) y (ap f 
 kept f (z ∷ xs) (suc k) x y lt same e = behind (f z) (filter_map f xs) y (kept f xs k x y (omega arith) same e)
 
 module _ (files : List Source) (values others : Values) (x : Item) (agree : (m : ℕ) → Contains (depends_on files x) m → values m ≡ others m) where
-  by_number : (o : Option ℕ) → ((m : ℕ) → o ≡ Some m → values m ≡ others m) → operand_at files values o ≡ operand_at files others o
+  by_number : (o : Option ℕ) → ((m : ℕ) → o ≡ Some m → values m ≡ others m) → operand_at (items files) values o ≡ operand_at (items files) others o
   by_number None same = refl
   by_number (Some m) same = ap (operand_of (wanted_of (slice_get (items files) m))) (same m refl)
 
@@ -57,9 +54,9 @@ module _ (files : List Source) (values others : Values) (x : Item) (agree : (m :
   meaning_alike : (d : DottedTree) → Contains (names_in x.value) d → meaning files values x d ≡ meaning files others x d
   meaning_alike d h = by_number (number_of files (target files x d)) (named d h)
 
-  before_alike : (o : Option ℕ) → ((m : ℕ) → o ≡ Some m → values m ≡ others m) → one_more files values x o ≡ one_more files others x o
+  before_alike : (o : Option ℕ) → ((m : ℕ) → o ≡ Some m → values m ≡ others m) → one_more x.wanted values o ≡ one_more x.wanted others o
   before_alike None same = refl
-  before_alike (Some m) same = ap (λ c. fitted x.wanted None (number Wide (number_in (out-Const c) +ℤ pos 1))) (same m refl)
+  before_alike (Some m) same = ap (above x.wanted) (same m refl)
 
   one_before : (place : ℕ) → x.value ≡ after place → (m : ℕ) → number_at (items files) x.file place ≡ Some m → values m ≡ others m
   one_before place is m e =

@@ -6,3 +6,8 @@ pub mod ItemViews
 pub mod Dependence
 pub mod TargetViews
 pub mod Outcomes
+pub mod Held
+pub mod Known
+pub mod SmallPlaces
+pub mod Numbers
+pub mod Breaches

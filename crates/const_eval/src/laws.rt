@@ -1,11 +1,24 @@
 ghost use Rattle.std.specs.Prelude.{◌≡◌, ℕ, map};
+ghost use Rattle.aidl_names.specs.Breaches.{in_order};
 ghost use Rattle.aidl_names.specs.Sources.{source_of};
+ghost use Rattle.const_eval.specs.Breaches.{breaches};
+ghost use Rattle.const_eval.specs.Items.{items};
 ghost use Rattle.const_eval.specs.Outcomes.{HasOutcome};
 ghost use Rattle.const_eval.specs.declared.outcome.Outcome.{Outcome};
 
+use crate::counted::law_places;
+use aidl_names::Names;
 use aidl_syntax::ParsedFile;
 
 /// A law of the definitions: no item has two outcomes.
 pub fn law_one_outcome(files: &[ParsedFile])
     ensures { (n : ℕ) (first second : Outcome) → HasOutcome (map source_of files.now) n first → HasOutcome (map source_of files.now) n second → first ≡ second }
 {}
+
+/// A law of the definitions: the breaches of the items of a tree, whatever their outcomes, are sorted by file, offset and rule, each
+/// once.
+pub fn law_breaches_in_order(names: &Names<'_>)
+    ensures { (outcome : ℕ → Outcome) → in_order (breaches outcome (items (map source_of names.now))) ≡ breaches outcome (items (map source_of names.now)) }
+{
+    law_places(names.files());
+}

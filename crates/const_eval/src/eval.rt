@@ -1,0 +1,177 @@
+ghost use Rattle.std.specs.Prelude.{◌≡◌, ◌<◌, ◌≤◌, ℕ, false, length, map, IfOk, IsTrue, Contains};
+ghost use Rattle.std.specs.List.{All, slice_get};
+ghost use Rattle.graph_cycles.specs.Paths.{TellsCycles, flag, targets};
+ghost use Rattle.aidl_names.specs.Sources.{source_of};
+ghost use Rattle.const_eval.specs.Dependence.{has_unknown_name};
+ghost use Rattle.const_eval.specs.Held.{is_held_outcome};
+ghost use Rattle.const_eval.specs.Items.{items as items_of};
+ghost use Rattle.const_eval.specs.ItemViews.{item_of};
+ghost use Rattle.const_eval.specs.Known.{AreHeld, AreItems, AreKnown, AreNext, IsInTurn, IsItemAt, values_in, without_value};
+ghost use Rattle.const_eval.specs.Outcomes as meant;
+ghost use Rattle.const_eval.specs.Outcomes.{AreOutcomes, HasOutcome, wanted_of};
+
+use crate::counted::law_count;
+use crate::dependence::{Dependence, dependence_of};
+use crate::given::{are_given, none_known};
+use crate::item::ItemRef;
+use crate::judgement::judgement;
+use crate::numbering::{Items, numbered};
+use crate::outcome::Outcome;
+use crate::ranked::ranked;
+use crate::settled::Settled;
+use aidl_base::{OutOfMemory, Row};
+use aidl_names::Names;
+use const_values::{ConstFault, EvalFault};
+use graph_cycles::find_cycles;
+use std::alloc::Global;
+
+/// The outcome of each item of a tree (own, after AOSP, "AIDL language", "Constants"). Items are judged by their ranks, each behind
+/// all that it depends on.
+pub fn eval_all<'a>(alloc: Global, names: &Names<'a>) -> Result<Settled<'a>, OutOfMemory>
+    ensures items { IfOk result (λ settled. map item_of settled.items.list.items ≡ items_of (map source_of names.now)) }
+    ensures outcomes { IfOk result (λ settled. AreOutcomes (map source_of names.now) settled.outcomes.items) }
+{
+    law_count(names);
+    let items = numbered(alloc, names)?;
+    let outcomes = outcomes(alloc, names, &items)?;
+    Ok(Settled::new(items, outcomes))
+}
+
+fn outcomes(
+    alloc: Global,
+    names: &Names<'_>,
+    items: &Items<'_>,
+) -> Result<Vec<Outcome>, OutOfMemory>
+    requires count { length items.now.list.items ≤ 4294967296 }
+    requires all { AreItems (map source_of names.now) (map item_of items.now.list.items) }
+    ensures { IfOk result (λ outcomes. AreOutcomes (map source_of names.now) outcomes.items) }
+{
+    let dependence = dependence_of(alloc, names, items)?;
+    let cycles = find_cycles(alloc, dependence.next.as_slice())?;
+    let order = ranked(alloc, items.list().len(), cycles.ranks.as_slice())?;
+    in_turn(
+        alloc,
+        names,
+        items,
+        &dependence,
+        cycles.on.as_slice(),
+        order.as_slice(),
+    )
+}
+
+// The outcomes of all items, each behind those that it depends on.
+fn in_turn(
+    alloc: Global,
+    names: &Names<'_>,
+    items: &Items<'_>,
+    dependence: &Dependence,
+    on: &[bool],
+    order: &[usize],
+) -> Result<Vec<Outcome>, OutOfMemory>
+    requires all { AreItems (map source_of names.now) (map item_of items.now.list.items) }
+    requires next { AreNext (map source_of names.now) dependence.now.next.items }
+    requires unknown { dependence.now.unknown.items ≡ map (has_unknown_name (map source_of names.now)) (items_of (map source_of names.now)) }
+    requires cycles { TellsCycles (targets dependence.now.next.items) on.now }
+    requires each { (n : ℕ) → n < length items.now.list.items → Contains order.now n }
+    requires below { All (λ n. n < length items.now.list.items) order.now }
+    requires turn { IsInTurn (map source_of names.now) on.now order.now }
+    ensures { IfOk result (λ outcomes. AreOutcomes (map source_of names.now) outcomes.items) }
+{
+    let mut outcomes = none_known(alloc, items.list().len())?;
+    for number in order {
+        let outcome = outcome_of(
+            alloc,
+            names,
+            items,
+            dependence,
+            on,
+            outcomes.as_slice(),
+            *number,
+        )?;
+        outcomes[*number] = outcome;
+    }
+    Ok(outcomes)
+}
+
+// The outcome of the item with a number, by the outcomes of those that it depends on.
+fn outcome_of(
+    alloc: Global,
+    names: &Names<'_>,
+    items: &Items<'_>,
+    dependence: &Dependence,
+    on: &[bool],
+    outcomes: &[Outcome],
+    number: usize,
+) -> Result<Outcome, OutOfMemory>
+    requires all { AreItems (map source_of names.now) (map item_of items.now.list.items) }
+    requires next { AreNext (map source_of names.now) dependence.now.next.items }
+    requires unknown { dependence.now.unknown.items ≡ map (has_unknown_name (map source_of names.now)) (items_of (map source_of names.now)) }
+    requires cycles { TellsCycles (targets dependence.now.next.items) on.now }
+    requires within { number < length items.now.list.items }
+    requires known { flag on.now number ≡ false → AreKnown (map source_of names.now) outcomes.now number }
+    requires held { AreHeld (map item_of items.now.list.items) outcomes.now }
+    ensures exact { IfOk result (λ outcome. HasOutcome (map source_of names.now) number outcome) }
+    ensures held { IfOk result (λ outcome. IsTrue (is_held_outcome (wanted_of (slice_get (map item_of items.now.list.items) number)) outcome)) }
+{
+    let item = &items.list()[number];
+    let unknown = is_set(dependence.unknown.as_slice(), number);
+    let given = are_given(outcomes, targets_of(dependence.next.as_slice(), number));
+    match without_value(item.unjudged, unknown, is_set(on, number), given) {
+        Some(outcome) => Ok(outcome),
+        None => judged(alloc, names, items, number, item, outcomes),
+    }
+}
+
+// The outcome of an item that is not judged by values.
+fn without_value(unjudged: bool, unknown: bool, cyclic: bool, given: bool) -> Option<Outcome>
+    ensures { result ≡ without_value unjudged unknown cyclic given }
+{
+    if unjudged {
+        Some(Outcome::Unjudged)
+    } else if unknown {
+        Some(Outcome::Fault(ConstFault::UnknownName))
+    } else if cyclic {
+        Some(Outcome::Fault(ConstFault::Cycle))
+    } else if !given {
+        Some(Outcome::Unjudged)
+    } else {
+        None
+    }
+}
+
+// The outcome of an item by the values of those that it depends on.
+fn judged(
+    alloc: Global,
+    names: &Names<'_>,
+    items: &Items<'_>,
+    number: usize,
+    item: &ItemRef<'_>,
+    outcomes: &[Outcome],
+) -> Result<Outcome, OutOfMemory>
+    requires all { AreItems (map source_of names.now) (map item_of items.now.list.items) }
+    requires at { IsItemAt items.now.list.items number item.now }
+    requires held { AreHeld (map item_of items.now.list.items) outcomes.now }
+    ensures value { IfOk result (λ outcome. outcome ≡ meant.outcome_of (meant.judgement_of (map source_of names.now) (values_in outcomes.now) (item_of item.now) (item_of item.now).value)) }
+    ensures held { IfOk result (λ outcome. IsTrue (is_held_outcome item.now.wanted outcome)) }
+{
+    match judgement(alloc, names, items, number, item, outcomes) {
+        Ok(value) => Ok(Outcome::Given(value)),
+        Err(EvalFault::Fault(fault)) => Ok(Outcome::Fault(fault)),
+        Err(EvalFault::OutOfMemory) => Err(OutOfMemory),
+    }
+}
+
+fn targets_of(edges: &[Row<u32>], node: usize) -> &[u32]
+    ensures { result.now ≡ targets edges.now node }
+{
+    match edges.get(node) {
+        Some(row) => row.as_slice(),
+        None => &[],
+    }
+}
+
+fn is_set(flags: &[bool], at: usize) -> bool
+    ensures { result ≡ flag flags.now at }
+{
+    at < flags.len() && flags[at]
+}

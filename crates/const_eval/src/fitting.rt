@@ -1,0 +1,41 @@
+ghost use Rattle.std.specs.Prelude.{◌≡◌, ◌<◌, ◌^◌, IfOk, IsTrue};
+ghost use Rattle.const_values.specs.Seen.{Answers, seen};
+ghost use Rattle.const_values.specs.Wanted as meant;
+ghost use Rattle.const_values.specs.Operands as operand;
+ghost use Rattle.const_eval.specs.Held.{is_held};
+
+use aidl_base::Const;
+use const_values::{EvalFault, Operand, Wanted, fitted};
+use std::alloc::Global;
+
+/// The value of the wanted type that an operand is, which can stand in an expression again.
+pub fn held(
+    alloc: Global,
+    wanted: Wanted,
+    named: Option<u32>,
+    operand: Operand<'_>,
+) -> Result<Const, EvalFault>
+    ensures value { Answers (λ c. c) result (meant.fitted wanted named (seen operand.entry)) }
+    ensures held { IfOk result (λ c. IsTrue (is_held wanted c)) }
+{
+    match operand {
+        Operand::Character(code) => held_code(alloc, wanted, named, code),
+        Operand::Truth(b) => fitted(alloc, wanted, named, Operand::Truth(b)),
+        Operand::Number { width, value } => {
+            fitted(alloc, wanted, named, Operand::Number { width, value })
+        }
+        Operand::Text(words) => fitted(alloc, wanted, named, Operand::Text(words)),
+    }
+}
+
+fn held_code(
+    alloc: Global,
+    wanted: Wanted,
+    named: Option<u32>,
+    code: u32,
+) -> Result<Const, EvalFault>
+    ensures value { Answers (λ c. c) result (meant.fitted wanted named (operand.character code)) }
+    ensures held { IfOk result (λ c. IsTrue (is_held wanted c)) }
+{
+    fitted(alloc, wanted, named, Operand::Character(code))
+}

@@ -1,0 +1,139 @@
+ghost use Rattle.std.specs.Prelude.{◌≡◌, ◌<◌, ℕ, length, map, IfOk, IsTrue};
+ghost use Rattle.std.specs.List.{slice_get};
+ghost use Rattle.aidl_names.specs.Sources.{source_of};
+ghost use Rattle.const_values.specs.Operands.{IsWithin};
+ghost use Rattle.const_values.specs.Seen.{answer, seen};
+ghost use Rattle.const_eval.specs.Held.{is_held_outcome};
+ghost use Rattle.const_eval.specs.ItemViews.{item_of};
+ghost use Rattle.const_eval.specs.Known.{AreHeld, AreItems, value_of, values_in};
+ghost use Rattle.const_eval.specs.Outcomes as meant;
+ghost use Rattle.const_eval.specs.Outcomes.{outcome_at, wanted_of};
+
+use crate::item::ItemRef;
+use crate::numbering::Items;
+use crate::operands::operand_of;
+use crate::outcome::Outcome;
+use crate::target::{number_of, target_of};
+use aidl_names::Names;
+use aidl_syntax::DottedTree;
+use const_values::{ConstFault, Meanings, Operand, Wanted};
+use std::marker::Model;
+
+/// What the names in the expression of an item mean, by the outcomes that are known. Contracts see it as the files, the
+/// number of the item and the outcomes.
+#[derive(Drop)]
+pub struct KnownValues<'a> {
+    names: &'a Names<'a>,
+    items: &'a Items<'a>,
+    number: usize,
+    outcomes: &'a [Outcome],
+}
+
+impl<'a> Model for KnownValues<'a> {
+    ghost use Rattle.std.specs.Prelude.{◌<◌, length, map};
+    ghost use Rattle.std.specs.Coded.{codes};
+    ghost use Rattle.aidl_syntax.specs.contracts.tree.ParsedFile as parsed_file;
+    ghost use Rattle.const_eval.specs.contracts.outcome.Outcome as outcome;
+    ghost use Rattle.aidl_names.specs.Sources.{source_of};
+    ghost use Rattle.const_eval.specs.ItemViews.{item_of};
+    ghost use Rattle.const_eval.specs.Known.{AreHeld, AreItems, Known};
+
+    ghost Value = { Known };
+
+    ghost coded = { Prim.hlevel (codes, parsed_file.the_row.coded, outcome.the_row.coded) };
+
+    ghost view = { λ known. (known.names.now, (known.number, known.outcomes.now)) };
+
+    ghost invariant = { λ known. record {
+      all : AreItems (map source_of known.names.now) (map item_of known.items.now.list.items);
+      within : known.number < length known.items.now.list.items;
+      held : AreHeld (map item_of known.items.now.list.items) known.outcomes.now;
+    } };
+}
+
+impl<'a> KnownValues<'a> {
+    /// For the item with a number. It takes no memory.
+    pub fn new(
+        names: &'a Names<'a>,
+        items: &'a Items<'a>,
+        number: usize,
+        outcomes: &'a [Outcome],
+    ) -> KnownValues<'a>
+        requires all { AreItems (map source_of names.now) (map item_of items.now.list.items) }
+        requires within { number < length items.now.list.items }
+        requires held { AreHeld (map item_of items.now.list.items) outcomes.now }
+        ensures { result ≡ (names.now, (number, outcomes.now)) }
+    {
+        KnownValues {
+            names,
+            items,
+            number,
+            outcomes,
+        }
+    }
+}
+
+impl<'a> Meanings for KnownValues<'a> {
+    ghost use Rattle.const_eval.specs.Known.{known_meaning};
+
+    ghost meaning = { known_meaning };
+
+    fn meaning(&self, name: &DottedTree) -> Result<Operand<'_>, ConstFault> {
+        let item = &self.items.list()[self.number];
+        let target = target_of(self.names, item, name);
+        operand_at(self.items, self.outcomes, number_of(self.items, target))
+    }
+}
+
+// What the item with a number is as an operand.
+fn operand_at<'a>(
+    items: &Items<'_>,
+    outcomes: &'a [Outcome],
+    number: Option<usize>,
+) -> Result<Operand<'a>, ConstFault>
+    requires { AreHeld (map item_of items.now.list.items) outcomes.now }
+    ensures value { answer result ≡ meant.operand_at (map item_of items.now.list.items) (values_in outcomes.now) number }
+    ensures within { IfOk result (λ operand. IsWithin (seen operand)) }
+{
+    match number {
+        None => Err(ConstFault::UnknownName),
+        Some(n) => operand_for(wanted_at(items.list(), n), outcomes, n),
+    }
+}
+
+fn operand_for(
+    wanted: Wanted,
+    outcomes: &[Outcome],
+    number: usize,
+) -> Result<Operand<'_>, ConstFault>
+    requires { IsTrue (is_held_outcome wanted (outcome_at outcomes.now number)) }
+    ensures value { answer result ≡ meant.operand_of wanted (values_in outcomes.now number) }
+    ensures within { IfOk result (λ operand. IsWithin (seen operand)) }
+{
+    match outcomes.get(number) {
+        Some(outcome) => operand_of_outcome(wanted, outcome),
+        None => Err(ConstFault::Mismatch),
+    }
+}
+
+// The operand of a value; of what has none nothing is asked.
+fn operand_of_outcome(wanted: Wanted, outcome: &Outcome) -> Result<Operand<'_>, ConstFault>
+    requires { IsTrue (is_held_outcome wanted outcome.now) }
+    ensures value { answer result ≡ meant.operand_of wanted (value_of outcome.now) }
+    ensures within { IfOk result (λ operand. IsWithin (seen operand)) }
+{
+    match outcome {
+        Outcome::Given(value) => operand_of(wanted, value),
+        Outcome::Fault(_) => Err(ConstFault::Mismatch),
+        Outcome::Unjudged => Err(ConstFault::Mismatch),
+    }
+}
+
+fn wanted_at(list: &[ItemRef<'_>], number: usize) -> Wanted
+    ensures { result ≡ wanted_of (slice_get (map item_of list.now) number) }
+{
+    match list.get(number) {
+        Some(item) => item.wanted,
+        None => Wanted::Nothing,
+    }
+}
