@@ -21,4 +21,6 @@ mod walk;
 
 pub use fault::NameFault;
 pub use names::{Found, Names, gather};
+pub use order::in_order;
 pub use resolved::{BuiltinName, Resolved};
+pub use rows::add_if;

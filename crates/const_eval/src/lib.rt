@@ -13,10 +13,13 @@ mod outcome;
 mod shape;
 mod wanted;
 
+pub use backing::{backing_annot, is_type, type_param};
 pub use const_values::ConstFault;
+pub use initializers::is_unjudged;
 pub use item::{ItemRef, WrittenRef};
 pub use laws::law_one_outcome;
 pub use named::names_in;
 pub use numbering::{Items, numbered};
 pub use outcome::Outcome;
-pub use shape::{Shape, shaped};
+pub use shape::{Shape, is_composite, shaped};
+pub use wanted::is_enum;
