@@ -22,4 +22,4 @@ pub use named::names_in;
 pub use numbering::{Items, numbered};
 pub use outcome::Outcome;
 pub use shape::{Shape, is_composite, shaped};
-pub use wanted::is_enum;
+pub use wanted::{is_enum, is_enum_tree};

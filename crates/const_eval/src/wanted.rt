@@ -74,7 +74,8 @@ pub fn is_enum(found: &[Found<'_>], number: u32) -> bool
     }
 }
 
-fn is_enum_tree(tree: &DeclTree) -> bool
+/// Whether a declaration is an enum. It takes no memory.
+pub fn is_enum_tree(tree: &DeclTree) -> bool
     ensures { result ≡ meant.is_enum_body (body (decl_of tree.now)) }
 {
     is_enum_body(&tree.body)

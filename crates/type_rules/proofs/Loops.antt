@@ -1,6 +1,7 @@
 -- Loops over methods and annotations that look at those before.
-use Rattle.std.proofs.Common.{◌≡◌, ◌+◌, ◌<◌, ℕ, Bool, true, false, not, ◌||◌, List, [], ◌∷◌, ◌++◌, map, length, take, get_or, add-one, append_assoc, Option, Some, None, Result, OnOk, refl, sym, ◌∙◌, ap, subst}
-use Rattle.std.specs.List.{list_any, flat_map}
+use Rattle.std.proofs.Common.{◌≡◌, ◌+◌, ◌<◌, ℕ, Bool, true, false, not, ◌||◌, List, [], ◌∷◌, ◌++◌, map, length, take, get_or, add-one, append_assoc, Option, Some, None, option_map, Result, OnOk, refl, sym, ◌∙◌, ap, subst}
+use Rattle.std.specs.List.{list_any, flat_map, slice_get}
+use Rattle.std.proofs.lemmas.Option.{slice_get-map}
 use Rattle.std.proofs.lemmas.List.{map-append}
 use Rattle.std.proofs.lemmas.List.Folds.{list_any-append}
 use Rattle.aidl_syntax.specs.declared.token.Token.{Token}
@@ -9,6 +10,8 @@ use Rattle.aidl_syntax.specs.Trees.{Method, Enumerator}
 use Rattle.aidl_syntax.specs.Members.Member.{enumerator}
 use Rattle.aidl_names.proofs.Earlier.{take-next}
 use Rattle.const_eval.specs.declared.shape.Shape.{Shape}
+use Rattle.aidl_names.specs.Declarations.{Entry}
+use Rattle.type_rules.specs.Bases.{is_fixed_entry, is_fixed_number}
 use Rattle.type_rules.specs.Ids.{is_id, number_of}
 use Rattle.type_rules.specs.MethodRules.{has_value, is_bad_token, is_taken}
 use Rattle.type_rules.specs.TypeUses.{of_members}
@@ -54,3 +57,21 @@ joined r r0 r1 r2 r3 r4 r5 r6 r7 r8 r9 last x1 x2 x3 x4 x5 x6 x7 x8 x9 x e1 e2 e
   where
     more : {B : Type 0} (r0 acc x r s : List B) → r ≡ r0 ++ acc → s ≡ r ++ x → s ≡ r0 ++ (acc ++ x)
     more r0 acc x r s e f = f ∙ ap (λ z. z ++ x) e ∙ append_assoc r0 acc x
+
+-- whether the declaration with a number has `@FixedSize`, by a list that says it of each
+abbrev by_list : Option Bool → Bool
+by_list None = false
+by_list (Some b) = b
+
+fixed_by : (entries : List Entry) (n : ℕ) → by_list (slice_get (map is_fixed_entry entries) n) ≡ is_fixed_number entries n
+fixed_by entries n = ap by_list (slice_get-map is_fixed_entry entries n) ∙ go (slice_get entries n)
+  where
+    go : (o : Option Entry) → by_list (option_map is_fixed_entry o) ≡ (elim o [ None ↦ false | Some e ↦ is_fixed_entry e ])
+    go None = refl
+    go (Some e) = refl
+
+pub fixed_some : (entries : List Entry) (fixed : List Bool) (n : ℕ) (b : Bool) → fixed ≡ map is_fixed_entry entries → Some b ≡ slice_get fixed n → b ≡ is_fixed_number entries n
+fixed_some entries fixed n b is at = ap by_list at ∙ ap (λ bs. by_list (slice_get bs n)) is ∙ fixed_by entries n
+
+pub fixed_none : (entries : List Entry) (fixed : List Bool) (n : ℕ) → fixed ≡ map is_fixed_entry entries → None ≡ slice_get fixed n → false ≡ is_fixed_number entries n
+fixed_none entries fixed n is at = ap by_list at ∙ ap (λ bs. by_list (slice_get bs n)) is ∙ fixed_by entries n

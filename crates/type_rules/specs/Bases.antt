@@ -17,9 +17,13 @@ is_scalar entries (Builtin b) = not (is_text (Builtin b))
 is_scalar entries (Declared number) = is_enum entries number
 is_scalar entries _ = false
 
--- the declaration with that number has `@FixedSize`
+-- the declaration has `@FixedSize`
+abbrev pub is_fixed_entry : Entry → Bool
+is_fixed_entry e = is_fixed (annots_of e.tree)
+
+-- that with a number has it
 abbrev pub is_fixed_number : List Entry → ℕ → Bool
-is_fixed_number entries number = elim (slice_get entries number) [ None ↦ false | Some e ↦ is_fixed (annots_of e.tree) ]
+is_fixed_number entries number = elim (slice_get entries number) [ None ↦ false | Some e ↦ is_fixed_entry e ]
 
 -- a primitive, an enum, or a parcelable or union with `@FixedSize`
 abbrev pub is_fixed_base : List Entry → Resolved → Bool
@@ -30,6 +34,11 @@ is_fixed_base entries r = is_scalar entries r
 abbrev pub is_refused : Shape → Bool
 is_refused shape.Refused = true
 is_refused _ = false
+
+-- the return type is one; void isn't
+abbrev pub is_refused_result : Option Shape → Bool
+is_refused_result None = false
+is_refused_result (Some t) = is_refused t
 
 -- a parcelable or union of shape one
 abbrev pub is_one_composite : List Entry → Shape → Bool

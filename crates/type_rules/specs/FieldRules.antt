@@ -10,11 +10,10 @@ use Rattle.aidl_names.specs.Declarations.{Entry}
 use Rattle.aidl_names.specs.Rules.{breach}
 use Rattle.const_eval.specs.declared.shape.Shape.{Shape}
 use Rattle.const_eval.specs.declared.shape.Shape.TheVariants as shape
-use Rattle.const_eval.specs.Backing.{annots_of}
 use Rattle.const_eval.specs.Initializers.{is_unjudged}
-use Rattle.aidl_annotations.specs.Kept.{is_nullable, is_fixed}
+use Rattle.aidl_annotations.specs.Kept.{is_nullable}
 use Rattle.type_rules.specs.TypeUses.{TypeUse, of_field, of_constant, name_place, is_field}
-use Rattle.type_rules.specs.Bases.{is_fixed_base, is_refused}
+use Rattle.type_rules.specs.Bases.{is_fixed_entry, is_fixed_base, is_refused}
 use Rattle.type_rules.specs.Filters.{broken_where}
 
 -- E20 BadConstant: a constant's type isn't boolean, byte, char, int, long or String of shape one.
@@ -75,4 +74,4 @@ is_unfixed entries (of_field f t) = not (is_refused t) && (is_nullable f.annots 
 is_unfixed entries _ = false
 
 abbrev pub NotFixed : List Entry → Entry → List TypeUse → List Breach
-NotFixed entries e uses = broken_where (λ u. is_fixed (annots_of e.tree) && is_unfixed entries u) 24 name_place e.file uses
+NotFixed entries e uses = if is_fixed_entry e then broken_where (is_unfixed entries) 24 name_place e.file uses else []

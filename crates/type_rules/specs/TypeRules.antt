@@ -12,30 +12,26 @@ use Rattle.const_eval.specs.declared.shape.Shape.TheVariants as shape
 use Rattle.const_eval.specs.Types.{is_composite}
 use Rattle.aidl_annotations.specs.Kept.{is_nullable_annot, is_heap_annot}
 use Rattle.type_rules.specs.TypeUses.{TypeUse, of_field, of_constant, of_method, of_argument, annotations_of, name_place, type_place}
-use Rattle.type_rules.specs.Bases.{is_one_composite, is_one_scalar, is_refused}
+use Rattle.type_rules.specs.Bases.{is_one_composite, is_one_scalar, is_refused, is_refused_result}
 use Rattle.type_rules.specs.Filters.{broken_where}
 
 -- E14 BadNullable: `@nullable` on a type of shape one whose base is a primitive or an enum, or on void; `heap=true` elsewhere than
 -- on a field of shape one whose base is a parcelable or union. A type that E16 refuses has no breach.
 
-abbrev pub returned_refuses_nullable : List Entry → Option Shape → Bool
-returned_refuses_nullable entries None = true
-returned_refuses_nullable entries (Some t) = is_one_scalar entries t
+abbrev pub result_refuses_nullable : List Entry → Option Shape → Bool
+result_refuses_nullable entries None = true
+result_refuses_nullable entries (Some t) = is_one_scalar entries t
 
 abbrev pub refuses_nullable : List Entry → TypeUse → Bool
 refuses_nullable entries (of_field f t) = is_one_scalar entries t
 refuses_nullable entries (of_constant c t) = false
-refuses_nullable entries (of_method m t) = returned_refuses_nullable entries t
+refuses_nullable entries (of_method m t) = result_refuses_nullable entries t
 refuses_nullable entries (of_argument a t) = is_one_scalar entries t
-
-abbrev pub returned_refuses_heap : Option Shape → Bool
-returned_refuses_heap None = true
-returned_refuses_heap (Some t) = not (is_refused t)
 
 abbrev pub refuses_heap : List Entry → TypeUse → Bool
 refuses_heap entries (of_field f t) = not (is_refused t) && not (is_one_composite entries t)
 refuses_heap entries (of_constant c t) = false
-refuses_heap entries (of_method m t) = returned_refuses_heap t
+refuses_heap entries (of_method m t) = not (is_refused_result t)
 refuses_heap entries (of_argument a t) = not (is_refused t)
 
 abbrev pub is_bad_nullable : Bool → Bool → Annot → Bool
@@ -55,14 +51,10 @@ BadNullable entries e uses = flat_map (bad_nullables_of entries e.file) uses
 -- E16 BadShape: `List` without an element; an element on another name; a `List` with `[]`; a `List` element other than String, a
 -- parcelable or a union.
 
-abbrev pub is_bad_returned : Option Shape → Bool
-is_bad_returned None = false
-is_bad_returned (Some t) = is_refused t
-
 abbrev pub is_bad_shape : TypeUse → Bool
 is_bad_shape (of_field f t) = is_refused t
 is_bad_shape (of_constant c t) = is_refused t
-is_bad_shape (of_method m t) = is_bad_returned t
+is_bad_shape (of_method m t) = is_refused_result t
 is_bad_shape (of_argument a t) = is_refused t
 
 abbrev pub BadShape : Entry → List TypeUse → List Breach

@@ -1,17 +1,15 @@
 ghost use Rattle.std.specs.Prelude.{◌≡◌, ◌++◌, map, OnOk};
 ghost use Rattle.std.specs.List.{find};
-ghost use Rattle.aidl_syntax.specs.Trees.{annot_of, body_of, decl_of};
-ghost use Rattle.aidl_syntax.specs.Members.{body};
+ghost use Rattle.aidl_syntax.specs.Trees.{annot_of};
 ghost use Rattle.aidl_names.specs.Refusals.{entry_of};
-ghost use Rattle.const_eval.specs.Types.{is_enum_body};
 ghost use Rattle.const_eval.specs.Backing.{is_backing};
 ghost use Rattle.type_rules.specs.AnnotationRules as meant;
 
 use aidl_annotations::is_backing_word;
 use aidl_base::{Breach, OutOfMemory};
 use aidl_names::{Found, add_if};
-use aidl_syntax::{AnnotTree, BodyTree, DeclTree};
-use const_eval::{backing_annot, type_param};
+use aidl_syntax::AnnotTree;
+use const_eval::{backing_annot, is_enum_tree, type_param};
 
 /// Adds the breach of E15 in a declaration.
 pub fn add_bad_backing(found: &Found<'_>, rows: &mut Vec<Breach>) -> Result<(), OutOfMemory>
@@ -21,21 +19,6 @@ pub fn add_bad_backing(found: &Found<'_>, rows: &mut Vec<Breach>) -> Result<(), 
         add_in_list(found.file, found.tree.annots.as_slice(), rows)?;
     }
     Ok(())
-}
-
-fn is_enum_tree(tree: &DeclTree) -> bool
-    ensures { result ≡ is_enum_body (body (decl_of tree.now)) }
-{
-    is_enum_body(&tree.body)
-}
-
-fn is_enum_body(body: &BodyTree) -> bool
-    ensures { result ≡ is_enum_body (body_of body.now) }
-{
-    match body {
-        BodyTree::Enum(_) => true,
-        _ => false,
-    }
 }
 
 fn add_in_list(file: u32, annots: &[AnnotTree], rows: &mut Vec<Breach>) -> Result<(), OutOfMemory>

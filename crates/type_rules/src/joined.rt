@@ -6,12 +6,13 @@ ghost use Rattle.aidl_names.specs.Refusals.{IsScope, entry_of};
 ghost use Rattle.aidl_names.specs.Sources.{source_of};
 ghost use Rattle.type_rules.specs.Breaches as meant;
 ghost use Rattle.type_rules.specs.MethodRules as methods;
+ghost use Rattle.type_rules.specs.Bases.{is_fixed_entry};
 ghost use Rattle.type_rules.specs.TypeUseViews.{seen_use};
 
 use crate::annotation_rules::add_bad_annotations;
 use crate::backing_rule::add_bad_backing;
-use crate::bases::is_fixed_tree;
 use crate::fields::add_bad_fields;
+use crate::fixed::{add_not_fixed, fixed_ones};
 use crate::ids::add_bad_ids;
 use crate::listing::type_uses;
 use crate::nullable::add_bad_nullables;
@@ -51,8 +52,9 @@ fn add_all(
     requires found { map entry_of found.now ≡ declarations (map source_of names.now) }
     ensures { OnOk result (rows.new.items ≡ rows.old.items ++ meant.unsorted (map source_of names.now)) }
 {
+    let fixed = fixed_ones(alloc, found)?;
     for (i, f) in found.iter().enumerate() {
-        add_declaration(alloc, names, found, i as u32, f, rows)?;
+        add_declaration(alloc, names, found, fixed.as_slice(), i as u32, f, rows)?;
     }
     Ok(())
 }
@@ -62,40 +64,43 @@ fn add_declaration(
     alloc: Global,
     names: &Names<'_>,
     all: &[Found<'_>],
+    fixed: &[bool],
     number: u32,
     found: &Found<'_>,
     rows: &mut Vec<Breach>,
 ) -> Result<(), OutOfMemory>
     requires all { map entry_of all.now ≡ declarations (map source_of names.now) }
+    requires fixed { fixed.now ≡ map is_fixed_entry (map entry_of all.now) }
     requires scope { IsScope (map source_of names.now) found.now.file number }
     ensures { OnOk result (rows.new.items ≡ rows.old.items ++ meant.broken_in (map source_of names.now) number (entry_of found.now)) }
 {
     let uses = type_uses(alloc, names, found.file, number, &found.tree.body)?;
-    add_broken(alloc, all, found, uses.as_slice(), rows)
+    add_broken(alloc, all, fixed, found, uses.as_slice(), rows)
 }
 
 fn add_broken(
     alloc: Global,
     all: &[Found<'_>],
+    fixed: &[bool],
     found: &Found<'_>,
     uses: &[TypeUseRef<'_>],
     rows: &mut Vec<Breach>,
 ) -> Result<(), OutOfMemory>
+    requires { fixed.now ≡ map is_fixed_entry (map entry_of all.now) }
     ensures { OnOk result (rows.new.items ≡ rows.old.items ++ meant.broken_by (map entry_of all.now) (entry_of found.now) (map seen_use uses.now)) }
 {
     let oneway = is_oneway_tree(found.tree);
-    let fixed = is_fixed_tree(found.tree);
     let file = found.file;
     add_bad_annotations(alloc, found, uses, rows)?;
     add_bad_nullables(all, file, uses, rows)?;
     add_bad_backing(found, rows)?;
-    add_where(all, oneway, fixed, UseRule::Shape, file, uses, rows)?;
-    add_where(all, oneway, fixed, UseRule::Direction, file, uses, rows)?;
-    add_where(all, oneway, fixed, UseRule::Oneway, file, uses, rows)?;
+    add_where(all, oneway, UseRule::Shape, file, uses, rows)?;
+    add_where(all, oneway, UseRule::Direction, file, uses, rows)?;
+    add_where(all, oneway, UseRule::Oneway, file, uses, rows)?;
     add_bad_ids(alloc, file, uses, rows)?;
-    add_where(all, oneway, fixed, UseRule::Constant, file, uses, rows)?;
+    add_where(all, oneway, UseRule::Constant, file, uses, rows)?;
     add_bad_fields(all, found, uses, rows)?;
-    add_where(all, oneway, fixed, UseRule::FixedSize, file, uses, rows)
+    add_not_fixed(all, fixed, found, uses, rows)
 }
 
 fn is_oneway_tree(tree: &DeclTree) -> bool

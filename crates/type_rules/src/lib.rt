@@ -5,6 +5,7 @@ mod annotation_rules;
 mod backing_rule;
 mod bases;
 mod fields;
+mod fixed;
 mod ids;
 mod joined;
 mod listing;

@@ -6,7 +6,7 @@ ghost use Rattle.type_rules.specs.TypeRules as meant;
 ghost use Rattle.type_rules.specs.TypeUses.{annotations_of};
 ghost use Rattle.type_rules.specs.TypeUseViews.{seen_use};
 
-use crate::bases::{is_one_composite, is_one_scalar, is_refused};
+use crate::bases::{is_one_composite, is_one_scalar, is_refused, is_refused_result};
 use crate::type_use::{TypeUseRef, annotations_of};
 use aidl_annotations::{is_heap_annot, is_nullable_annot};
 use aidl_base::{Breach, OutOfMemory};
@@ -60,13 +60,13 @@ fn refuses_nullable(found: &[Found<'_>], used: TypeUseRef<'_>) -> bool
     match used {
         TypeUseRef::Field(_, shape) => is_one_scalar(found, shape),
         TypeUseRef::Constant(_, _) => false,
-        TypeUseRef::Method(_, returned) => returned_refuses_nullable(found, returned),
+        TypeUseRef::Method(_, returned) => result_refuses_nullable(found, returned),
         TypeUseRef::Argument(_, shape) => is_one_scalar(found, shape),
     }
 }
 
-fn returned_refuses_nullable(found: &[Found<'_>], returned: Option<Shape>) -> bool
-    ensures { result ≡ meant.returned_refuses_nullable (map entry_of found.now) returned }
+fn result_refuses_nullable(found: &[Found<'_>], returned: Option<Shape>) -> bool
+    ensures { result ≡ meant.result_refuses_nullable (map entry_of found.now) returned }
 {
     match returned {
         None => true,
@@ -80,16 +80,7 @@ fn refuses_heap(found: &[Found<'_>], used: TypeUseRef<'_>) -> bool
     match used {
         TypeUseRef::Field(_, shape) => !is_refused(shape) && !is_one_composite(found, shape),
         TypeUseRef::Constant(_, _) => false,
-        TypeUseRef::Method(_, returned) => returned_refuses_heap(returned),
+        TypeUseRef::Method(_, returned) => !is_refused_result(returned),
         TypeUseRef::Argument(_, shape) => !is_refused(shape),
-    }
-}
-
-fn returned_refuses_heap(returned: Option<Shape>) -> bool
-    ensures { result ≡ meant.returned_refuses_heap returned }
-{
-    match returned {
-        None => true,
-        Some(shape) => !is_refused(shape),
     }
 }

@@ -9,9 +9,8 @@ ghost use Rattle.type_rules.specs.MethodRules as methods;
 ghost use Rattle.type_rules.specs.FieldRules as fields;
 ghost use Rattle.type_rules.specs.TypeUseViews.{seen_use};
 
-use crate::bases::{is_fixed_base, is_refused};
+use crate::bases::{is_refused, is_refused_result};
 use crate::type_use::{TypeUseRef, name_place, type_place};
-use aidl_annotations::is_nullable;
 use aidl_base::{Breach, OutOfMemory};
 use aidl_names::{Found, Resolved, add_if};
 use aidl_syntax::{ArgTree, MethodTree, WayTree};
@@ -28,8 +27,6 @@ pub enum UseRule {
     Oneway,
     /// E20
     Constant,
-    /// E24
-    FixedSize,
 }
 
 impl UseRule {
@@ -41,7 +38,6 @@ impl UseRule {
             UseRule::Direction => 17,
             UseRule::Oneway => 18,
             UseRule::Constant => 20,
-            UseRule::FixedSize => 24,
         }
     }
 
@@ -53,46 +49,37 @@ impl UseRule {
             UseRule::Direction => name_place(used),
             UseRule::Oneway => name_place(used),
             UseRule::Constant => name_place(used),
-            UseRule::FixedSize => name_place(used),
         }
     }
 }
 
-/// Adds the breaches of a rule in a declaration of a file, by the types that it uses. It may be an interface that is oneway, and may
-/// have `@FixedSize`; `found` are the declarations of the tree.
+/// Adds the breaches of a rule in a declaration of a file, by the types that it uses. It may be an interface that is oneway; `found` are
+/// the declarations of the tree.
 pub fn add_where(
     found: &[Found<'_>],
     oneway: bool,
-    fixed: bool,
     rule: UseRule,
     file: u32,
     uses: &[TypeUseRef<'_>],
     rows: &mut Vec<Breach>,
 ) -> Result<(), OutOfMemory>
-    ensures { OnOk result (rows.new.items ≡ rows.old.items ++ broken_where (meant.breaks_of rule (map entry_of found.now) oneway fixed) (meant.rule_of rule) (meant.place_of rule) file (map seen_use uses.now)) }
+    ensures { OnOk result (rows.new.items ≡ rows.old.items ++ broken_where (meant.breaks_of rule (map entry_of found.now) oneway) (meant.rule_of rule) (meant.place_of rule) file (map seen_use uses.now)) }
 {
     for used in uses {
-        let broken = breaks(found, oneway, fixed, rule, *used);
+        let broken = breaks(found, oneway, rule, *used);
         add_if(broken, rule.number(), file, rule.place(*used), rows)?;
     }
     Ok(())
 }
 
-fn breaks(
-    found: &[Found<'_>],
-    oneway: bool,
-    fixed: bool,
-    rule: UseRule,
-    used: TypeUseRef<'_>,
-) -> bool
-    ensures { result ≡ meant.breaks_of rule (map entry_of found.now) oneway fixed (seen_use used.entry) }
+fn breaks(found: &[Found<'_>], oneway: bool, rule: UseRule, used: TypeUseRef<'_>) -> bool
+    ensures { result ≡ meant.breaks_of rule (map entry_of found.now) oneway (seen_use used.entry) }
 {
     match rule {
         UseRule::Shape => is_bad_shape(used),
         UseRule::Direction => is_bad_direction(found, used),
         UseRule::Oneway => is_bad_oneway(oneway, used),
         UseRule::Constant => is_bad_constant(used),
-        UseRule::FixedSize => fixed && is_unfixed(found, used),
     }
 }
 
@@ -102,8 +89,7 @@ fn is_bad_shape(used: TypeUseRef<'_>) -> bool
     match used {
         TypeUseRef::Field(_, shape) => is_refused(shape),
         TypeUseRef::Constant(_, shape) => is_refused(shape),
-        TypeUseRef::Method(_, Some(shape)) => is_refused(shape),
-        TypeUseRef::Method(_, None) => false,
+        TypeUseRef::Method(_, returned) => is_refused_result(returned),
         TypeUseRef::Argument(_, shape) => is_refused(shape),
     }
 }
@@ -184,27 +170,6 @@ fn is_constant_type(shape: Shape) -> bool
 {
     match shape {
         Shape::One(Resolved::Builtin(_)) => true,
-        _ => false,
-    }
-}
-
-fn is_unfixed(found: &[Found<'_>], used: TypeUseRef<'_>) -> bool
-    ensures { result ≡ fields.is_unfixed (map entry_of found.now) (seen_use used.entry) }
-{
-    match used {
-        TypeUseRef::Field(field, shape) => {
-            !is_refused(shape)
-                && (is_nullable(field.annots.as_slice()) || !has_fixed_size(found, shape))
-        }
-        _ => false,
-    }
-}
-
-fn has_fixed_size(found: &[Found<'_>], shape: Shape) -> bool
-    ensures { result ≡ fields.has_fixed_size (map entry_of found.now) shape }
-{
-    match shape {
-        Shape::One(base) => is_fixed_base(found, base),
         _ => false,
     }
 }

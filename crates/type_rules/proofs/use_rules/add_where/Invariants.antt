@@ -8,5 +8,5 @@ use Rattle.type_rules.proofs.use_rules.add_where.Given as goal
 -- the breaches so far and those that are left are all
 abbrev pub invariant-loop-used : goal.invariant-loop-used
 invariant-loop-used l =
-    l.rows.items ++ broken_where (breaks_of l.rule (map entry_of l.found) l.oneway l.fixed) (rule_of l.rule) (place_of l.rule) l.file (map seen_use (drop l.used-index l.uses))
-    ≡ l.fn.rows.items ++ broken_where (breaks_of l.rule (map entry_of l.found) l.oneway l.fixed) (rule_of l.rule) (place_of l.rule) l.file (map seen_use l.uses)
+    l.rows.items ++ broken_where (breaks_of l.rule (map entry_of l.found) l.oneway) (rule_of l.rule) (place_of l.rule) l.file (map seen_use (drop l.used-index l.uses))
+    ≡ l.fn.rows.items ++ broken_where (breaks_of l.rule (map entry_of l.found) l.oneway) (rule_of l.rule) (place_of l.rule) l.file (map seen_use l.uses)
