@@ -8,6 +8,7 @@ pub mod Breaches
 pub mod Refusals
 pub mod Walks
 pub mod MemberViews
+pub mod Called
 pub mod Places
 pub mod TypeRules
 pub mod Marks

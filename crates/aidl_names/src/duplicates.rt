@@ -8,7 +8,7 @@ ghost use Rattle.aidl_names.specs.MemberViews.{seen_member};
 ghost use Rattle.aidl_names.specs.Marks.{mark_of_entry};
 ghost use Rattle.aidl_names.specs.Refusals.{entry_of};
 
-use crate::members::{MemberRef, members};
+use crate::members::{MemberRef, members, name_of};
 use crate::names::Found;
 use crate::resolution::{meaning_of_word, number_of};
 use crate::rows::add_if;
@@ -72,18 +72,6 @@ fn member_names<'a>(
         names.push(name_of(*member))?;
     }
     Ok(names)
-}
-
-fn name_of(member: MemberRef<'_>) -> &NameTree
-    ensures { result.now ≡ member_name (seen_member member.entry) }
-{
-    match member {
-        MemberRef::Field(field) => &field.name,
-        MemberRef::Constant(constant) => &constant.name,
-        MemberRef::Method(method) => &method.name,
-        MemberRef::Enumerator(item) => &item.name,
-        MemberRef::Nested(tree) => &tree.name,
-    }
 }
 
 fn argument_names(alloc: Global, member: MemberRef<'_>) -> Result<Vec<&NameTree>, OutOfMemory>

@@ -1,6 +1,7 @@
 //! The declarations of a tree of files, what names mean in it, and the breaches of the check rules E1 to E5.
 #![tactic(auto)]
 
+mod called;
 mod canonical;
 mod duplicates;
 mod fault;
@@ -20,6 +21,7 @@ mod types;
 mod walk;
 
 pub use fault::NameFault;
+pub use members::MemberRef;
 pub use names::{Found, Names, gather};
 pub use order::in_order;
 pub use resolved::{BuiltinName, Resolved};

@@ -1,12 +1,12 @@
 ghost use Rattle.std.specs.Prelude.{◌≡◌, ◌++◌, [], ◌∷◌, map, IfOk};
 ghost use Rattle.aidl_syntax.specs.Trees.{Members, decl_of, body_of, enumerator_of, members_of, member_of};
 ghost use Rattle.aidl_syntax.specs.Members.Member.{enumerator};
-ghost use Rattle.aidl_syntax.specs.Members.{listed, members, body as inner};
+ghost use Rattle.aidl_syntax.specs.Members.{listed, members, member_name, body as inner};
 ghost use Rattle.aidl_names.specs.MemberViews.{seen_member};
 
 use aidl_base::{OutOfMemory, Row};
 use aidl_syntax::{
-    BodyTree, ConstantTree, DeclTree, EnumeratorTree, FieldTree, MemberTree, MethodTree,
+    BodyTree, ConstantTree, DeclTree, EnumeratorTree, FieldTree, MemberTree, MethodTree, NameTree,
 };
 use std::alloc::Global;
 
@@ -51,7 +51,8 @@ fn listed<'a>(
     Ok(all)
 }
 
-fn of_tree(member: &MemberTree) -> MemberRef<'_>
+/// A member as it is found in its tree. It takes no memory.
+pub fn of_tree(member: &MemberTree) -> MemberRef<'_>
     ensures { (ms : Members) → seen_member result ∷ listed ms ≡ listed (member_of member.now ms) }
 {
     match member {
@@ -73,4 +74,17 @@ fn counted<'a>(
         all.push(MemberRef::Enumerator(item))?;
     }
     Ok(all)
+}
+
+/// The name of a member. It takes no memory.
+pub fn name_of(member: MemberRef<'_>) -> &NameTree
+    ensures { result.now ≡ member_name (seen_member member.entry) }
+{
+    match member {
+        MemberRef::Field(field) => &field.name,
+        MemberRef::Constant(constant) => &constant.name,
+        MemberRef::Method(method) => &method.name,
+        MemberRef::Enumerator(item) => &item.name,
+        MemberRef::Nested(tree) => &tree.name,
+    }
 }

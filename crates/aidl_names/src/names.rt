@@ -3,23 +3,28 @@ ghost use Rattle.aidl_names.specs.declared.fault.NameFault.TheVariants as fault;
 ghost use Rattle.aidl_names.specs.Breaches.{breaches};
 ghost use Rattle.aidl_names.specs.Sources.{AreOfBytes, source_of};
 ghost use Rattle.aidl_names.specs.Declarations.{declarations};
+ghost use Rattle.aidl_names.specs.Called.{called_at};
+ghost use Rattle.aidl_names.specs.MemberViews.{seen_member};
+ghost use Rattle.aidl_syntax.specs.Trees.{map_option};
 ghost use Rattle.aidl_names.specs.Resolution.{resolved};
 ghost use Rattle.aidl_names.specs.Marks.{mark_of_entry};
 ghost use Rattle.aidl_names.specs.Refusals.{IsAccepted, IsRefusal, IsScope, entry_of};
 
+use crate::called::called_at;
 use crate::duplicates::{add_repeated, add_taken};
 use crate::fault::{NameFault, WalkFault};
 use crate::files::add_wrong_files;
 use crate::imports::{add_other_imports, add_unknown_imports};
 use crate::limits::passed;
 use crate::marks::marks;
+use crate::members::MemberRef;
 use crate::order::in_order;
 use crate::resolution::resolved;
 use crate::resolved::Resolved;
 use crate::table::Table;
 use crate::types::{TypeRule, add_types};
 use crate::walk::walk;
-use aidl_base::{Breach, DottedName, Limit, LimitName, OutOfMemory, Row};
+use aidl_base::{Breach, DottedName, Ident, Limit, LimitName, OutOfMemory, Row};
 use aidl_syntax::{DeclTree, ParsedFile};
 use std::alloc::Global;
 use std::marker::Model;
@@ -85,9 +90,9 @@ impl<'a> Names<'a> {
 
     /// What a name means in a file, below the declaration with the number `scope`: the innermost one around the name.
     /// It takes no memory.
-    pub fn resolve(&self, file: u32, scope: u32, name: &DottedName) -> Option<Resolved>
+    pub fn resolve(&self, file: u32, scope: u32, name: &[Ident]) -> Option<Resolved>
         requires { IsScope (map source_of self.now) file scope }
-        ensures { result ≡ resolved (map source_of self.now) file scope name.now.0 }
+        ensures { result ≡ resolved (map source_of self.now) file scope name.now }
     {
         resolved(
             self.files,
@@ -95,8 +100,15 @@ impl<'a> Names<'a> {
             &self.table,
             file,
             scope,
-            name.0.as_slice(),
+            name,
         )
+    }
+
+    /// The first member with a name of the declaration with a number, and None where there is none. It takes no memory.
+    pub fn member(&self, number: u32, name: &Ident) -> Option<MemberRef<'a>>
+        ensures { map_option seen_member result ≡ called_at (declarations (map source_of self.now)) number name.now }
+    {
+        called_at(self.found.as_slice(), number, name)
     }
 }
 

@@ -1,47 +1,42 @@
 -- What an item depends on: the items that its names mean, and for an enumerator without an expression the one before it
 -- (own, after AOSP, "AIDL language", "Constants").
 use Rattle.std.specs.Prelude.{ℕ, zero, suc, Bool, true, false, if◌then◌else◌, List, [], ◌∷◌, ◌++◌, length, Option, Some, None, is_none}
-use Rattle.std.specs.List.{filter_map, find, list_any, slice_get}
-use Rattle.std.specs.Str.{bytes_eq}
+use Rattle.std.specs.List.{cons_option, filter_map, list_any, slice_get}
 use Rattle.aidl_base.specs.declared.name.Ident.{Ident}
 use Rattle.aidl_syntax.specs.declared.tree.DottedTree.{DottedTree}
 use Rattle.aidl_syntax.specs.Trees.{Expr, offset_of, Constant, Enumerator}
 use Rattle.aidl_syntax.specs.Walks.{in_expr}
-use Rattle.aidl_syntax.specs.Members.{Member, members, body, member_name}
+use Rattle.aidl_syntax.specs.Members.{Member}
 use Rattle.aidl_syntax.specs.Members.Member.{constant, enumerator}
 use Rattle.aidl_names.specs.declared.resolved.Resolved.{Resolved}
 use Rattle.aidl_names.specs.declared.resolved.Resolved.TheVariants.{Declared}
-use Rattle.aidl_names.specs.Names.{text}
+use Rattle.aidl_names.specs.Called.{called}
 use Rattle.aidl_names.specs.Sources.{Source}
 use Rattle.aidl_names.specs.Declarations.{Entry, declarations}
 use Rattle.aidl_names.specs.Resolution.{resolved, or_else}
 use Rattle.const_eval.specs.Items.{Item, Written, written, first, after, items, number_at, place_of}
 
--- a constant or an enumerator, in the declaration that has it
+-- a constant or an enumerator, with the numbers of its file and of the declaration that has it
 pub data Target : Type 0 where
-  of_constant : Entry → ℕ → Constant → Target
-  of_enumerator : Entry → ℕ → Enumerator → Target
+  of_constant : ℕ → ℕ → Constant → Target
+  of_enumerator : ℕ → ℕ → Enumerator → Target
 
 -- what a member of a declaration is in an expression
-abbrev pub target_of : ℕ → Entry → Member → Option Target
-target_of number e (constant c) = Some (of_constant e number c)
-target_of number e (enumerator x) = Some (of_enumerator e number x)
-target_of number e _ = None
+abbrev pub target_of : ℕ → ℕ → Member → Option Target
+target_of file number (constant c) = Some (of_constant file number c)
+target_of file number (enumerator x) = Some (of_enumerator file number x)
+target_of file number _ = None
 
--- its name is that
-abbrev pub is_called : Ident → Member → Bool
-is_called name m = bytes_eq (text (member_name m).name) (text name)
+abbrev pub target_if : ℕ → ℕ → Option Member → Option Target
+target_if file number None = None
+target_if file number (Some m) = target_of file number m
 
-abbrev pub target_if : ℕ → Entry → Option Member → Option Target
-target_if number e None = None
-target_if number e (Some m) = target_of number e m
-
--- the constant or enumerator of that name in a declaration
-abbrev pub member_in : ℕ → Ident → Entry → Option Target
-member_in number name e = target_if number e (find (is_called name) (members (body e.tree)))
+-- the constant or enumerator of that name in the declaration with that number
+abbrev pub member_at : List Entry → ℕ → Ident → Option Target
+member_at entries number name = elim (slice_get entries number) [ None ↦ None | Some e ↦ target_if e.file number (called name e) ]
 
 abbrev pub is_enumerator : Option Target → Bool
-is_enumerator (Some (of_enumerator e number x)) = true
+is_enumerator (Some (of_enumerator file number x)) = true
 is_enumerator _ = false
 
 abbrev pub only_enumerators : Option Target → Option Target
@@ -56,19 +51,19 @@ constant_around entries zero name scope = None
 constant_around entries (suc levels) name None = None
 constant_around entries (suc levels) name (Some number) = elim (slice_get entries number) [
   | None ↦ None
-  | Some e ↦ or_else (only_constants (member_in number name e)) (constant_around entries levels name e.outer)
+  | Some e ↦ or_else (only_constants (member_at entries number name)) (constant_around entries levels name e.outer)
 ]
 
 -- a name of one part: in an enumerator's expression an enumerator of the same enum, else a constant around
 abbrev pub enumerator_beside : List Entry → Item → Ident → Option Target
-enumerator_beside entries x name = elim (slice_get entries x.scope) [ None ↦ None | Some e ↦ only_enumerators (member_in x.scope name e) ]
+enumerator_beside entries x name = if x.enumerates then only_enumerators (member_at entries x.scope name) else None
 
 abbrev pub target_of_part : List Entry → Item → Ident → Option Target
-target_of_part entries x name = or_else (if x.enumerates then enumerator_beside entries x name else None) (constant_around entries (length entries) name (Some x.scope))
+target_of_part entries x name = or_else (enumerator_beside entries x name) (constant_around entries (length entries) name (Some x.scope))
 
 -- a constant or enumerator of a declared type
 abbrev pub member_of : List Entry → Ident → Option Resolved → Option Target
-member_of entries name (Some (Declared number)) = elim (slice_get entries number) [ None ↦ None | Some e ↦ member_in number name e ]
+member_of entries name (Some (Declared number)) = member_at entries number name
 member_of entries name _ = None
 
 -- The last part is a member of what the parts before it, behind some, mean as a type.
@@ -99,15 +94,22 @@ names_in (after place) = []
 abbrev pub has_unknown_name : List Source → Item → Bool
 has_unknown_name files x = list_any (λ d. is_none (target files x d)) (names_in x.value)
 
--- the number of the item that a constant or an enumerator is
+-- the number among items of that which a constant or an enumerator is
+abbrev pub number_among : List Item → Option Target → Option ℕ
+number_among xs None = None
+number_among xs (Some (of_constant file number c)) = number_at xs file (offset_of c.value)
+number_among xs (Some (of_enumerator file number x)) = number_at xs file (place_of x)
+
 abbrev pub number_of : List Source → Option Target → Option ℕ
-number_of files None = None
-number_of files (Some (of_constant e number c)) = number_at (items files) e.file (offset_of c.value)
-number_of files (Some (of_enumerator e number x)) = number_at (items files) e.file (place_of x)
+number_of files t = number_among (items files) t
+
+-- the number among items of the enumerator before one without an expression
+abbrev pub before_among : List Item → Item → Written → List ℕ
+before_among xs x (after place) = cons_option (number_at xs x.file place) []
+before_among xs x _ = []
 
 abbrev pub number_before : List Source → Item → Written → List ℕ
-number_before files x (after place) = filter_map (λ p. number_at (items files) x.file p) (place ∷ [])
-number_before files x _ = []
+number_before files x w = before_among (items files) x w
 
 -- what an item depends on, by numbers
 abbrev pub depends_on : List Source → Item → List ℕ

@@ -4,4 +4,5 @@ pub mod Initializers
 pub mod Items
 pub mod ItemViews
 pub mod Dependence
+pub mod TargetViews
 pub mod Outcomes

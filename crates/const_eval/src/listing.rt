@@ -266,7 +266,8 @@ fn of_enumerator(
     }
 }
 
-fn place_by(named: u32, value: &Option<ExprTree>) -> u32
+/// Where an enumerator's expression begins, or else its name. It takes no memory.
+pub fn place_by(named: u32, value: &Option<ExprTree>) -> u32
     ensures { result ≡ meant.place_by named (map_option expr_of value.now) }
 {
     match value {

@@ -30,7 +30,7 @@ pub fn shaped(names: &Names<'_>, file: u32, scope: u32, ty: &TypeTree) -> Shape
     requires { IsScope (map source_of names.now) file scope }
     ensures { result ≡ meant.shaped (declarations (map source_of names.now)) (meaning_in (map source_of names.now) file scope) ty.now }
 {
-    match names.resolve(file, scope, &ty.name.name) {
+    match names.resolve(file, scope, ty.name.name.0.as_slice()) {
         None => Shape::Refused,
         Some(Resolved::ListWord) => list_with(names, file, scope, &ty.element, ty.array),
         Some(base) => plain(base, &ty.element, ty.array),
@@ -53,7 +53,10 @@ fn list_with(
             if brackets {
                 Shape::Refused
             } else {
-                list_of(names.decls(), names.resolve(file, scope, &element.name))
+                list_of(
+                    names.decls(),
+                    names.resolve(file, scope, element.name.0.as_slice()),
+                )
             }
         }
     }

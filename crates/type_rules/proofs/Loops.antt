@@ -1,20 +1,16 @@
--- Loops over methods and annotations that look at those before.
-use Rattle.std.proofs.Common.{◌≡◌, ◌+◌, ◌<◌, ℕ, Bool, true, false, not, ◌||◌, List, [], ◌∷◌, ◌++◌, map, length, take, get_or, add-one, append_assoc, Option, Some, None, option_map, Result, OnOk, refl, sym, ◌∙◌, ap, subst}
-use Rattle.std.specs.List.{list_any, flat_map, slice_get}
+-- Loops over methods and annotations that look at those before, and over rules.
+use Rattle.std.proofs.Common.{◌≡◌, ◌+◌, ◌<◌, ℕ, Bool, true, false, not, ◌||◌, List, [], ◌∷◌, ◌++◌, map, length, take, get_or, add-one, append_assoc, Option, Some, None, option_map, Result, OnOk, refl, ◌∙◌, ap, subst}
+use Rattle.std.specs.List.{list_any, slice_get}
 use Rattle.std.proofs.lemmas.Option.{slice_get-map}
 use Rattle.std.proofs.lemmas.List.{map-append}
 use Rattle.std.proofs.lemmas.List.Folds.{list_any-append}
 use Rattle.aidl_syntax.specs.declared.token.Token.{Token}
-use Rattle.aidl_syntax.specs.declared.tree.TypeTree.{TypeTree}
-use Rattle.aidl_syntax.specs.Trees.{Method, Enumerator}
-use Rattle.aidl_syntax.specs.Members.Member.{enumerator}
+use Rattle.aidl_syntax.specs.Trees.{Method}
 use Rattle.aidl_names.proofs.Earlier.{take-next}
-use Rattle.const_eval.specs.declared.shape.Shape.{Shape}
 use Rattle.aidl_names.specs.Declarations.{Entry}
-use Rattle.type_rules.specs.Bases.{is_fixed_entry, is_fixed_number}
-use Rattle.type_rules.specs.Ids.{is_id, number_of}
+use Rattle.type_uses.specs.Bases.{is_fixed_entry, is_fixed_number}
+use Rattle.type_uses.specs.Ids.{is_id, number_of}
 use Rattle.type_rules.specs.MethodRules.{has_value, is_bad_token, is_taken}
-use Rattle.type_rules.specs.TypeUses.{of_members}
 
 -- what f makes of one more of the first
 pub mapped-next : {A B : Type 0} (f : A → B) (xs : List A) (i : ℕ) (x : A) → i < length xs → x ≡ get_or xs i x → map f (take (i + 1) xs) ≡ map f (take i xs) ++ f x ∷ []
@@ -34,11 +30,6 @@ pub taken-next : (ms : List Method) (i : ℕ) (m : Method) → i < length ms →
 taken-next ms i m lt is n =
     let has = λ (x : Method). has_value n x.id in
     ap (λ (j : ℕ). list_any has (take j ms)) (add-one i) ∙ ap (list_any has) (take-next ms i m lt is) ∙ list_any-append has (take i ms) (m ∷ []) ∙ ap (λ b. list_any has (take i ms) || b) (or-false (has_value n m.id))
-
--- enumerators use no types
-pub no_uses : (shape : TypeTree → Shape) (es : List Enumerator) → [] ≡ of_members shape (map enumerator es)
-no_uses shape [] = refl
-no_uses shape (e ∷ es) = no_uses shape es
 
 -- what is added ten times, one after the other
 pub joined : {U E : Type 0} {B : Type 0} (r : Result U E) (r0 r1 r2 r3 r4 r5 r6 r7 r8 r9 last x1 x2 x3 x4 x5 x6 x7 x8 x9 x : List B)

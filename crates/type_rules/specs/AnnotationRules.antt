@@ -8,11 +8,11 @@ use Rattle.aidl_names.specs.Declarations.{Entry}
 use Rattle.aidl_names.specs.Rules.{breach, after_earlier, is_named_again}
 use Rattle.const_eval.specs.Backing.{annots_of, is_backing, is_type}
 use Rattle.const_eval.specs.Types.{is_enum_body}
-use Rattle.aidl_annotations.specs.declared.annotation.Annotation.{Annotation}
-use Rattle.aidl_annotations.specs.declared.stand.Stand.{Stand}
-use Rattle.aidl_annotations.specs.Parameters.{literal_of, is_backing_word}
-use Rattle.aidl_annotations.specs.Annotations.{row_of, stand_of_body, may_stand, takes, is_kept}
-use Rattle.type_rules.specs.TypeUses.{TypeUse, annotations_of, stand_of}
+use Rattle.type_uses.specs.declared.annotation.Annotation.{Annotation}
+use Rattle.type_uses.specs.declared.stand.Stand.{Stand}
+use Rattle.type_uses.specs.Parameters.{literal_of, is_backing_word}
+use Rattle.type_uses.specs.Annotations.{row_of, stand_of_body, may_stand, takes, is_kept}
+use Rattle.type_uses.specs.TypeUses.{TypeUse, annotations_of, stand_of}
 
 -- E13 BadAnnotation: an annotation isn't in the table, stands where its row doesn't allow it, has parameters that its row doesn't
 -- give, or is a kept one whose name an earlier annotation of the same list has.

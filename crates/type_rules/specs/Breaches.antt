@@ -5,7 +5,7 @@ use Rattle.aidl_names.specs.Sources.{Source}
 use Rattle.aidl_names.specs.Declarations.{Entry, declarations}
 use Rattle.aidl_names.specs.Rules.{in_each}
 use Rattle.aidl_names.specs.Breaches.{in_order}
-use Rattle.type_rules.specs.TypeUses.{TypeUse, type_uses}
+use Rattle.type_uses.specs.TypeUses.{TypeUse, type_uses}
 use Rattle.type_rules.specs.AnnotationRules.{BadAnnotation, BadBacking}
 use Rattle.type_rules.specs.TypeRules.{BadNullable, BadShape, BadDirection}
 use Rattle.type_rules.specs.MethodRules.{BadOneway, BadId}

@@ -11,9 +11,9 @@ use Rattle.aidl_names.specs.Rules.{breach}
 use Rattle.const_eval.specs.declared.shape.Shape.{Shape}
 use Rattle.const_eval.specs.declared.shape.Shape.TheVariants as shape
 use Rattle.const_eval.specs.Initializers.{is_unjudged}
-use Rattle.aidl_annotations.specs.Kept.{is_nullable}
-use Rattle.type_rules.specs.TypeUses.{TypeUse, of_field, of_constant, name_place, is_field}
-use Rattle.type_rules.specs.Bases.{is_fixed_entry, is_fixed_base, is_refused}
+use Rattle.type_uses.specs.Kept.{is_nullable}
+use Rattle.type_uses.specs.TypeUses.{TypeUse, of_field, of_constant, name_place, is_field}
+use Rattle.type_uses.specs.Bases.{is_fixed_entry, is_fixed_base, is_refused}
 use Rattle.type_rules.specs.Filters.{broken_where}
 
 -- E20 BadConstant: a constant's type isn't boolean, byte, char, int, long or String of shape one.

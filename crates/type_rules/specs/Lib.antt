@@ -1,11 +1,7 @@
-pub mod TypeUses
-pub mod TypeUseViews
-pub mod Bases
 pub mod AnnotationRules
 pub mod TypeRules
 pub mod MethodRules
 pub mod FieldRules
-pub mod Ids
 pub mod Filters
 pub mod UseRules
 pub mod Breaches

@@ -1,5 +1,5 @@
 -- The check rules on methods, each as the list of its breaches in a declaration (own in number and wording).
-use Rattle.std.specs.Prelude.{ℕ, Bool, true, false, not, ◌&&◌, ◌||◌, nat_eq, List, [], map, Option, Some, None, is_some}
+use Rattle.std.specs.Prelude.{ℕ, Bool, false, not, ◌&&◌, ◌||◌, nat_eq, List, [], map, Option, Some, None, is_some}
 use Rattle.std.specs.List.{list_any}
 use Rattle.aidl_base.specs.declared.breach.Breach.{Breach}
 use Rattle.aidl_syntax.specs.declared.token.Token.{Token}
@@ -8,9 +8,9 @@ use Rattle.aidl_syntax.specs.Trees.Body.{interface}
 use Rattle.aidl_syntax.specs.Members.{body}
 use Rattle.aidl_names.specs.Declarations.{Entry}
 use Rattle.aidl_names.specs.Rules.{breach, after_earlier}
-use Rattle.type_rules.specs.TypeUses.{TypeUse, of_method, name_place, methods_in}
+use Rattle.type_uses.specs.TypeUses.{TypeUse, of_method, name_place, methods_in}
 use Rattle.type_rules.specs.TypeRules.{is_outward}
-use Rattle.type_rules.specs.Ids.{number_of, is_id, has_id}
+use Rattle.type_uses.specs.Ids.{number_of, is_id, has_id}
 use Rattle.type_rules.specs.Filters.{broken_where}
 
 -- E18 BadOneway: a method that is oneway, by itself or by its interface, returns a value or has an `out` or `inout` argument.

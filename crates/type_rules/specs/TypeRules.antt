@@ -10,9 +10,9 @@ use Rattle.aidl_names.specs.Rules.{breach}
 use Rattle.const_eval.specs.declared.shape.Shape.{Shape}
 use Rattle.const_eval.specs.declared.shape.Shape.TheVariants as shape
 use Rattle.const_eval.specs.Types.{is_composite}
-use Rattle.aidl_annotations.specs.Kept.{is_nullable_annot, is_heap_annot}
-use Rattle.type_rules.specs.TypeUses.{TypeUse, of_field, of_constant, of_method, of_argument, annotations_of, name_place, type_place}
-use Rattle.type_rules.specs.Bases.{is_one_composite, is_one_scalar, is_refused, is_refused_result}
+use Rattle.type_uses.specs.Kept.{is_nullable_annot, is_heap_annot}
+use Rattle.type_uses.specs.TypeUses.{TypeUse, of_field, of_constant, of_method, of_argument, annotations_of, name_place, type_place}
+use Rattle.type_uses.specs.Bases.{is_one_composite, is_one_scalar, is_refused, is_refused_result}
 use Rattle.type_rules.specs.Filters.{broken_where}
 
 -- E14 BadNullable: `@nullable` on a type of shape one whose base is a primitive or an enum, or on void; `heap=true` elsewhere than

@@ -4,7 +4,7 @@ use Rattle.std.specs.Prelude.{ℕ, Bool, List}
 use Rattle.aidl_names.specs.Declarations.{Entry}
 use Rattle.type_rules.specs.declared.use_rules.UseRule.{UseRule}
 use Rattle.type_rules.specs.declared.use_rules.UseRule.TheVariants as rule
-use Rattle.type_rules.specs.TypeUses.{TypeUse, name_place, type_place}
+use Rattle.type_uses.specs.TypeUses.{TypeUse, name_place, type_place}
 use Rattle.type_rules.specs.TypeRules.{is_bad_shape, is_bad_direction}
 use Rattle.type_rules.specs.MethodRules.{is_bad_oneway}
 use Rattle.type_rules.specs.FieldRules.{is_bad_constant}

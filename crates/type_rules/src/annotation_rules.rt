@@ -4,18 +4,17 @@ ghost use Rattle.aidl_syntax.specs.Trees.{annot_of, decl_of};
 ghost use Rattle.aidl_syntax.specs.Members.{body};
 ghost use Rattle.aidl_names.specs.Refusals.{entry_of};
 ghost use Rattle.const_eval.specs.Backing.{annots_of};
-ghost use Rattle.aidl_annotations.specs.Annotations.{row_of, stand_of_body};
+ghost use Rattle.type_uses.specs.Annotations.{row_of, stand_of_body};
 ghost use Rattle.type_rules.specs.AnnotationRules as meant;
-ghost use Rattle.type_rules.specs.TypeUses.{annotations_of, stand_of};
-ghost use Rattle.type_rules.specs.TypeUseViews.{seen_use};
+ghost use Rattle.type_uses.specs.TypeUses.{annotations_of, stand_of};
+ghost use Rattle.type_uses.specs.TypeUseViews.{seen_use};
 
-use crate::type_use::{TypeUseRef, annotations_of, stand_of};
-use aidl_annotations::{Stand, row_of, stand_of_tree};
 use aidl_base::{Breach, OutOfMemory};
 use aidl_names::{Found, add_if};
 use aidl_syntax::{AnnotTree, DeclTree};
 use indexmap::IndexSet;
 use std::alloc::Global;
+use type_uses::{Stand, TypeUseRef, annotations_of, row_of, stand_of, stand_of_tree};
 
 /// Adds the breaches of E13 in a declaration, by the types that it uses.
 pub fn add_bad_annotations(

@@ -5,11 +5,11 @@ ghost use Rattle.aidl_names.specs.Refusals.{entry_of};
 ghost use Rattle.const_eval.specs.Backing.{is_backing};
 ghost use Rattle.type_rules.specs.AnnotationRules as meant;
 
-use aidl_annotations::is_backing_word;
 use aidl_base::{Breach, OutOfMemory};
 use aidl_names::{Found, add_if};
 use aidl_syntax::AnnotTree;
 use const_eval::{backing_annot, is_enum_tree, type_param};
+use type_uses::is_backing_word;
 
 /// Adds the breach of E15 in a declaration.
 pub fn add_bad_backing(found: &Found<'_>, rows: &mut Vec<Breach>) -> Result<(), OutOfMemory>

@@ -4,15 +4,14 @@ ghost use Rattle.aidl_syntax.specs.Trees.{body_of, decl_of, init_of, map_option}
 ghost use Rattle.aidl_syntax.specs.Members.{body};
 ghost use Rattle.aidl_names.specs.Refusals.{entry_of};
 ghost use Rattle.type_rules.specs.FieldRules as meant;
-ghost use Rattle.type_rules.specs.TypeUses as typed;
-ghost use Rattle.type_rules.specs.TypeUseViews.{seen_use};
+ghost use Rattle.type_uses.specs.TypeUses as typed;
+ghost use Rattle.type_uses.specs.TypeUseViews.{seen_use};
 
-use crate::bases::is_refused;
-use crate::type_use::{TypeUseRef, is_field, name_place};
 use aidl_base::{Breach, OutOfMemory};
 use aidl_names::{Found, add_if};
 use aidl_syntax::{BodyTree, DeclTree, InitTree};
 use const_eval::{Shape, is_unjudged};
+use type_uses::{TypeUseRef, is_field, is_refused, name_place};
 
 /// Adds the breaches of E21 in a declaration, by the types that it uses; `all` are the declarations of the tree.
 pub fn add_bad_fields(

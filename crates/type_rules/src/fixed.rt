@@ -2,22 +2,20 @@ ghost use Rattle.std.specs.Prelude.{◌≡◌, ◌++◌, map, IfOk, OnOk};
 ghost use Rattle.aidl_syntax.specs.Trees.{decl_of};
 ghost use Rattle.aidl_names.specs.Refusals.{entry_of};
 ghost use Rattle.const_eval.specs.Backing.{annots_of};
-ghost use Rattle.aidl_annotations.specs.Kept as kept;
-ghost use Rattle.type_rules.specs.Bases as bases;
-ghost use Rattle.type_rules.specs.Bases.{is_fixed_entry};
+ghost use Rattle.type_uses.specs.Kept as kept;
+ghost use Rattle.type_uses.specs.Bases as bases;
+ghost use Rattle.type_uses.specs.Bases.{is_fixed_entry};
 ghost use Rattle.type_rules.specs.FieldRules as meant;
 ghost use Rattle.type_rules.specs.Filters.{broken_where};
-ghost use Rattle.type_rules.specs.TypeUses as typed;
-ghost use Rattle.type_rules.specs.TypeUseViews.{seen_use};
+ghost use Rattle.type_uses.specs.TypeUses as typed;
+ghost use Rattle.type_uses.specs.TypeUseViews.{seen_use};
 
-use crate::bases::{is_refused, is_scalar};
-use crate::type_use::{TypeUseRef, name_place};
-use aidl_annotations::{is_fixed, is_nullable};
 use aidl_base::{Breach, OutOfMemory};
 use aidl_names::{Found, Resolved, add_if};
 use aidl_syntax::DeclTree;
 use const_eval::{Shape, is_composite};
 use std::alloc::Global;
+use type_uses::{TypeUseRef, is_fixed, is_nullable, is_refused, is_scalar, name_place};
 
 /// Which declarations have `@FixedSize`, so that no list of annotations is read for each field of its type.
 pub fn fixed_ones(alloc: Global, found: &[Found<'_>]) -> Result<Vec<bool>, OutOfMemory>

@@ -2,52 +2,17 @@ ghost use Rattle.std.specs.Prelude.{◌≡◌, ◌++◌, ◌||◌, ℕ, nat_eq, 
 ghost use Rattle.std.specs.List.{list_any};
 ghost use Rattle.indexmap.specs.IndexSet.{contains};
 ghost use Rattle.aidl_syntax.specs.Trees.{method_of};
-ghost use Rattle.type_rules.specs.Ids as meant;
+ghost use Rattle.type_uses.specs.Ids as meant;
 ghost use Rattle.type_rules.specs.MethodRules as rules;
-ghost use Rattle.type_rules.specs.TypeUses as typed;
-ghost use Rattle.type_rules.specs.TypeUseViews.{seen_use};
+ghost use Rattle.type_uses.specs.TypeUses as typed;
+ghost use Rattle.type_uses.specs.TypeUseViews.{seen_use};
 
-use crate::type_use::TypeUseRef;
 use aidl_base::{Breach, OutOfMemory};
 use aidl_names::add_if;
-use aidl_syntax::{MethodTree, Token, TokenKind};
+use aidl_syntax::{MethodTree, Token};
 use indexmap::IndexSet;
 use std::alloc::Global;
-
-/// The id of the method at a 0-based position among those of its interface: the number written, or else the position. It takes no
-/// memory.
-pub fn id_of(position: u64, method: &MethodTree) -> u64
-    ensures { result ≡ meant.id_of position (method_of method.now) }
-{
-    match &method.id {
-        None => position,
-        Some(token) => number_of(token),
-    }
-}
-
-// The value of a number.
-fn number_of(token: &Token) -> u64
-    ensures { result ≡ meant.number_of token.now }
-{
-    match &token.kind {
-        TokenKind::Number { bits, .. } => *bits,
-        _ => 0,
-    }
-}
-
-// Whether it is a decimal without suffix from 0 to 16777114.
-fn is_id(token: &Token) -> bool
-    ensures { result ≡ meant.is_id token.now }
-{
-    match &token.kind {
-        TokenKind::Number {
-            bits,
-            hexadecimal,
-            long,
-        } => !*hexadecimal && !*long && *bits <= 16_777_114,
-        _ => false,
-    }
-}
+use type_uses::{TypeUseRef, is_id, number_of};
 
 /// Adds the breaches of E19 in a declaration of a file, by the types that it uses.
 pub fn add_bad_ids(

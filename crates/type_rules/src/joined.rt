@@ -6,22 +6,21 @@ ghost use Rattle.aidl_names.specs.Refusals.{IsScope, entry_of};
 ghost use Rattle.aidl_names.specs.Sources.{source_of};
 ghost use Rattle.type_rules.specs.Breaches as meant;
 ghost use Rattle.type_rules.specs.MethodRules as methods;
-ghost use Rattle.type_rules.specs.Bases.{is_fixed_entry};
-ghost use Rattle.type_rules.specs.TypeUseViews.{seen_use};
+ghost use Rattle.type_uses.specs.Bases.{is_fixed_entry};
+ghost use Rattle.type_uses.specs.TypeUseViews.{seen_use};
 
 use crate::annotation_rules::add_bad_annotations;
 use crate::backing_rule::add_bad_backing;
 use crate::fields::add_bad_fields;
 use crate::fixed::{add_not_fixed, fixed_ones};
 use crate::ids::add_bad_ids;
-use crate::listing::type_uses;
 use crate::nullable::add_bad_nullables;
-use crate::type_use::TypeUseRef;
 use crate::use_rules::{UseRule, add_where};
 use aidl_base::{Breach, OutOfMemory, Row};
 use aidl_names::{Found, Names, in_order};
 use aidl_syntax::{BodyTree, DeclTree};
 use std::alloc::Global;
+use type_uses::{TypeUseRef, listed_uses};
 
 /// The breaches of E13 to E21 and E24, sorted by file, offset and rule, each once.
 pub fn breaches(alloc: Global, names: &Names<'_>) -> Result<Row<Breach>, OutOfMemory>
@@ -74,7 +73,7 @@ fn add_declaration(
     requires scope { IsScope (map source_of names.now) found.now.file number }
     ensures { OnOk result (rows.new.items ≡ rows.old.items ++ meant.broken_in (map source_of names.now) number (entry_of found.now)) }
 {
-    let uses = type_uses(alloc, names, found.file, number, &found.tree.body)?;
+    let uses = listed_uses(alloc, names, found.file, number, &found.tree.body)?;
     add_broken(alloc, all, fixed, found, uses.as_slice(), rows)
 }
 

@@ -3,16 +3,17 @@ ghost use Rattle.std.specs.List.{flat_map};
 ghost use Rattle.aidl_syntax.specs.Trees.{annot_of};
 ghost use Rattle.aidl_names.specs.Refusals.{entry_of};
 ghost use Rattle.type_rules.specs.TypeRules as meant;
-ghost use Rattle.type_rules.specs.TypeUses.{annotations_of};
-ghost use Rattle.type_rules.specs.TypeUseViews.{seen_use};
+ghost use Rattle.type_uses.specs.TypeUses.{annotations_of};
+ghost use Rattle.type_uses.specs.TypeUseViews.{seen_use};
 
-use crate::bases::{is_one_composite, is_one_scalar, is_refused, is_refused_result};
-use crate::type_use::{TypeUseRef, annotations_of};
-use aidl_annotations::{is_heap_annot, is_nullable_annot};
 use aidl_base::{Breach, OutOfMemory};
 use aidl_names::{Found, add_if};
 use aidl_syntax::AnnotTree;
 use const_eval::Shape;
+use type_uses::{
+    TypeUseRef, annotations_of, is_heap_annot, is_nullable_annot, is_one_composite, is_one_scalar,
+    is_refused, is_refused_result,
+};
 
 /// Adds the breaches of E14 in a declaration of a file, by the types that it uses; `found` are the declarations of the tree.
 pub fn add_bad_nullables(

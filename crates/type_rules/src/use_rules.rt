@@ -7,14 +7,13 @@ ghost use Rattle.type_rules.specs.UseRules as meant;
 ghost use Rattle.type_rules.specs.TypeRules as types;
 ghost use Rattle.type_rules.specs.MethodRules as methods;
 ghost use Rattle.type_rules.specs.FieldRules as fields;
-ghost use Rattle.type_rules.specs.TypeUseViews.{seen_use};
+ghost use Rattle.type_uses.specs.TypeUseViews.{seen_use};
 
-use crate::bases::{is_refused, is_refused_result};
-use crate::type_use::{TypeUseRef, name_place, type_place};
 use aidl_base::{Breach, OutOfMemory};
 use aidl_names::{Found, Resolved, add_if};
 use aidl_syntax::{ArgTree, MethodTree, WayTree};
 use const_eval::{Shape, is_composite};
+use type_uses::{TypeUseRef, is_refused, is_refused_result, name_place, type_place};
 
 /// A rule that looks at each use of a type by itself.
 #[derive(Clone, Copy)]

@@ -1,8 +1,8 @@
 use Rattle.std.proofs.Common.{◌≡◌, ◌++◌, map, drop}
 use Rattle.std.specs.List.{flat_map}
 use Rattle.type_rules.specs.AnnotationRules.{bad_annotations}
-use Rattle.type_rules.specs.TypeUses.{annotations_of, stand_of}
-use Rattle.type_rules.specs.TypeUseViews.{seen_use}
+use Rattle.type_uses.specs.TypeUses.{annotations_of, stand_of}
+use Rattle.type_uses.specs.TypeUseViews.{seen_use}
 use Rattle.type_rules.proofs.annotation_rules.add_at_uses.Given as goal
 
 -- the breaches so far and those that are left are all

@@ -3,7 +3,7 @@ use Rattle.aidl_syntax.specs.Trees.{Annot, annot_of}
 use Rattle.aidl_names.specs.Rules.{breach}
 use Rattle.aidl_names.proofs.Earlier.{goes_on, earlier-next, read-map, one_if}
 use Rattle.aidl_names.proofs.Taken.{AreSeen, again-is, seen-next}
-use Rattle.aidl_annotations.specs.Annotations.{row_of}
+use Rattle.type_uses.specs.Annotations.{row_of}
 use Rattle.type_rules.specs.AnnotationRules.{is_bad_annotation, breaks_row}
 use Rattle.type_rules.proofs.Loops.{mapped-next}
 use Rattle.type_rules.proofs.annotation_rules.add_in_list.Goals as goal

@@ -1,7 +1,7 @@
 use Rattle.std.proofs.Common.{◌≡◌, ◌++◌, false, map, drop}
 use Rattle.aidl_names.specs.Refusals.{entry_of}
 use Rattle.type_rules.specs.FieldRules.{bad_fields}
-use Rattle.type_rules.specs.TypeUseViews.{seen_use}
+use Rattle.type_uses.specs.TypeUseViews.{seen_use}
 use Rattle.type_rules.proofs.fields.add_in_uses.Given as goal
 
 -- the breaches so far and those that are left are all

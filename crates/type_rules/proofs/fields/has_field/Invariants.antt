@@ -1,7 +1,7 @@
 use Rattle.std.proofs.Common.{◌≡◌, map, drop}
 use Rattle.std.specs.List.{list_any}
-use Rattle.type_rules.specs.TypeUses.{is_field}
-use Rattle.type_rules.specs.TypeUseViews.{seen_use}
+use Rattle.type_uses.specs.TypeUses.{is_field}
+use Rattle.type_uses.specs.TypeUseViews.{seen_use}
 use Rattle.type_rules.proofs.fields.has_field.Given as goal
 
 -- what is left decides

@@ -1,6 +1,6 @@
 use Rattle.std.proofs.Common.{◌≡◌, map, take}
 use Rattle.aidl_names.specs.Refusals.{entry_of}
-use Rattle.type_rules.specs.Bases.{is_fixed_entry}
+use Rattle.type_uses.specs.Bases.{is_fixed_entry}
 use Rattle.type_rules.proofs.fixed.fixed_ones.Given as goal
 
 abbrev pub invariant-loop-f : goal.invariant-loop-f

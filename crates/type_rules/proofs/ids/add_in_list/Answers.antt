@@ -1,4 +1,4 @@
-use Rattle.std.proofs.Common.{ℕ, nat_eq, ◌++◌, ◌||◌, Bor, map, take, sym, ◌∙◌, ap, arith}
+use Rattle.std.proofs.Common.{nat_eq, ◌++◌, ◌||◌, Bor, map, take, sym, ◌∙◌, ap, arith}
 use Rattle.indexmap.specs.IndexSet.{contains}
 use Rattle.aidl_syntax.specs.declared.tree.MethodTree.{MethodTree}
 use Rattle.aidl_syntax.specs.Trees.{Method, method_of}

@@ -1,6 +1,5 @@
 use Rattle.std.proofs.Common.{◌≡◌, ◌++◌, ℕ, nat_eq, map, take, drop}
 use Rattle.indexmap.specs.IndexSet.{contains}
-use Rattle.std.specs.List.{list_any}
 use Rattle.aidl_syntax.specs.Trees.{method_of}
 use Rattle.aidl_names.specs.Rules.{breach, after_earlier}
 use Rattle.type_rules.specs.MethodRules.{bad_ids, is_bad_id, is_taken}

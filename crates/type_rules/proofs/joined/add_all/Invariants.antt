@@ -3,7 +3,6 @@ use Rattle.aidl_names.specs.Sources.{source_of}
 use Rattle.aidl_names.specs.Rules.{in_each}
 use Rattle.aidl_names.specs.Refusals.{entry_of}
 use Rattle.type_rules.specs.Breaches.{broken_in, unsorted}
-use Rattle.aidl_names.specs.Declarations.{declarations}
 use Rattle.type_rules.proofs.joined.add_all.Given as goal
 
 -- the breaches so far and those of the declarations that are left are all

@@ -1,7 +1,7 @@
 use Rattle.std.proofs.Common.{◌++◌, map, ◌∙◌, ap}
 use Rattle.aidl_names.specs.Refusals.{entry_of}
-use Rattle.type_rules.specs.TypeUses.{name_place}
-use Rattle.type_rules.specs.TypeUseViews.{seen_use}
+use Rattle.type_uses.specs.TypeUses.{name_place}
+use Rattle.type_uses.specs.TypeUseViews.{seen_use}
 use Rattle.type_rules.specs.Filters.{broken_where}
 use Rattle.type_rules.specs.AnnotationRules.{BadAnnotation, BadBacking}
 use Rattle.type_rules.specs.TypeRules.{BadNullable, BadShape, BadDirection}

@@ -2,7 +2,7 @@ use Rattle.std.proofs.Common.{◌≡◌, ◌++◌, map, drop}
 use Rattle.aidl_names.specs.Refusals.{entry_of}
 use Rattle.type_rules.specs.Filters.{broken_where}
 use Rattle.type_rules.specs.UseRules.{breaks_of, rule_of, place_of}
-use Rattle.type_rules.specs.TypeUseViews.{seen_use}
+use Rattle.type_uses.specs.TypeUseViews.{seen_use}
 use Rattle.type_rules.proofs.use_rules.add_where.Given as goal
 
 -- the breaches so far and those that are left are all

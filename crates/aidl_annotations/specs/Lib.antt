@@ -1,3 +1,0 @@
-pub mod Parameters
-pub mod Annotations
-pub mod Kept
