@@ -1,2 +1,3 @@
 mod Examples
 pub mod Loops
+pub mod Nothing

@@ -5,3 +5,4 @@ pub mod FieldRules
 pub mod Filters
 pub mod UseRules
 pub mod Breaches
+pub mod Unbroken

@@ -7,7 +7,9 @@ mod fields;
 mod fixed;
 mod ids;
 mod joined;
+mod laws;
 mod nullable;
 mod use_rules;
 
 pub use joined::{breaches, unsorted};
+pub use laws::law_unbroken;
