@@ -95,8 +95,8 @@ fn put_last(stack: &mut Vec<Expected>, last: Option<Expected>) -> Result<(), Out
 fn put_all(stack: &mut Vec<Expected>, list: &[Expected]) -> Result<(), OutOfMemory>
     ensures { IfOk result (λ u. reverse stack.new.items ≡ list.now ++ reverse stack.old.items) }
 {
-    for i in (0..list.len()).rev() {
-        stack.push(list[i])?;
+    for expected in list.iter().copied().rev() {
+        stack.push(expected)?;
     }
     Ok(())
 }
