@@ -118,13 +118,9 @@ fn skips(expected: Expected) -> bool
 }
 
 // Whether all that is expected may be left out.
+#[tactic(auto, unfolding(crate::specs::steps::Moves::ends))]
 pub fn ends(stack: &[Expected]) -> bool
     ensures { result ≡ moves.ends stack.now }
 {
-    for expected in stack {
-        if !skips(*expected) {
-            return false;
-        }
-    }
-    true
+    stack.iter().all(|expected| skips(*expected))
 }
