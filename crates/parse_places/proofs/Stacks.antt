@@ -26,21 +26,7 @@ pub stayed : (on : Bool) (o : Option (List Expected)) (before after : List Expec
 stayed on None before after (off, same) e = (refl, same)
 stayed on (Some es) before after (goes, is) e = cc
 
--- tests of each that is expected
-
-ends_at : (stack : List Expected) (i : ℕ) (e : Expected) → i < length stack → ends (drop i stack) ≡ (skips (get_or stack i e) && ends (drop (i + 1) stack))
-unfolding ends
-ends_at stack i e lt = rw (add-one, drop-cons stack i e) refl
-
-pub ends_stop : (stack : List Expected) (i : ℕ) (e : Expected) (b : Bool) → i < length stack → b ≡ skips (get_or stack i e) → b ≡ false → ends (drop i stack) ≡ false
-ends_stop stack i e b lt k f = ends_at stack i e lt ∙ ap (λ x. x && ends (drop (i + 1) stack)) (sym k ∙ f)
-
-pub ends_on : (stack : List Expected) (i : ℕ) (e : Expected) (b : Bool) → i < length stack → b ≡ skips (get_or stack i e) → b ≡ true → ends (drop i stack) ≡ ends (drop (i + 1) stack)
-ends_on stack i e b lt k f = ends_at stack i e lt ∙ ap (λ x. x && ends (drop (i + 1) stack)) (sym k ∙ f)
-
-pub ends_after : (stack : List Expected) (i : ℕ) → length stack ≤ i → ends (drop i stack) ≡ true
-unfolding ends
-ends_after stack i le = rw drop_all refl
+-- The order doesn't count for what may be left out.
 
 and_turned : (a b : Bool) → (a && b) ≡ (b && a)
 and_turned true true = refl

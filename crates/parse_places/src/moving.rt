@@ -95,8 +95,8 @@ fn put_last(stack: &mut Vec<Expected>, last: Option<Expected>) -> Result<(), Out
 fn put_all(stack: &mut Vec<Expected>, list: &[Expected]) -> Result<(), OutOfMemory>
     ensures { IfOk result (λ u. reverse stack.new.items ≡ list.now ++ reverse stack.old.items) }
 {
-    for i in (0..list.len()).rev() {
-        stack.push(list[i])?;
+    for expected in list.iter().copied().rev() {
+        stack.push(expected)?;
     }
     Ok(())
 }
@@ -118,13 +118,9 @@ fn skips(expected: Expected) -> bool
 }
 
 // Whether all that is expected may be left out.
+#[tactic(auto, unfolding(crate::specs::steps::Moves::ends))]
 pub fn ends(stack: &[Expected]) -> bool
     ensures { result ≡ moves.ends stack.now }
 {
-    for expected in stack {
-        if !skips(*expected) {
-            return false;
-        }
-    }
-    true
+    stack.iter().all(|expected| skips(*expected))
 }
