@@ -83,7 +83,7 @@ put_across_versions = (refl, refl, refl, refl, refl)
 
 -- calls both ways: a missing field takes its default, a missing method is unknown, and a oneway call is only seen
 calls_both_ways : (comes_of before 0 after seen (returned (Some (number (pos 0))) none)
-        ≡ Ok (done (item (rec (item (number (pos 7)) (item (const_value (Const.Text (codes "x"))) none))) none) (Ok (returned (Some (number (pos 0))) none))))
+    ≡ Ok (done (item (rec (item (number (pos 7)) (item (const_value (Const.Text (codes "x"))) none))) none) (Ok (returned (Some (number (pos 0))) none))))
     × (comes_of after 1 before (item (number (pos 1)) none) three ≡ Err unknown_transaction)
     × (received_by before 2 (request after 0 1 (item (number (pos 1)) none)) ≡ Err unknown_transaction)
     × (comes_of after 1 after (item (number (pos 1)) none) three ≡ Ok (oneway (item (number (pos 1)) none)))
@@ -148,7 +148,7 @@ filled = returned (Some (number (pos 2))) (item (seq (numbers (pos 1 ∷ pos 2 �
 -- an `out` array is sent as its length and starts with so many defaults; it may come back with another length
 out_and_inout : (request filling 0 0 (item (number (pos 3)) (item (q_of (pos 9)) none)) ≡ io_token ++ hex (codes "03000000 01000000 08000000 09000000"))
     × (received_by filling 1 (io_token ++ hex (codes "03000000 01000000 08000000 09000000"))
-        ≡ Ok (called 0 (item (seq (numbers (pos 0 ∷ pos 0 ∷ pos 0 ∷ []))) (item (q_of (pos 9)) none))))
+    ≡ Ok (called 0 (item (seq (numbers (pos 0 ∷ pos 0 ∷ pos 0 ∷ []))) (item (q_of (pos 9)) none))))
     × (received_by filling 1 (io_token ++ hex (codes "ffffffff 01000000 08000000 09000000")) ≡ Err unexpected_null)
     × (received_by filling 1 (io_token ++ hex (codes "feffffff 01000000 08000000 09000000")) ≡ Err bad_value)
     × (received_by filling 1 (io_token ++ hex (codes "01000100 01000000 08000000 09000000")) ≡ Err bad_value)
