@@ -59,3 +59,10 @@ pub fn law_small_defaults(schema: &Schema)
 {
     law_valid(schema);
 }
+
+/// What is found as the default of a type of the schema has the type.
+pub fn law_typed_defaults(schema: &Schema)
+    ensures { (t : AidlType) → is_type schema.now.decls t ≡ true → HasType schema.now.decls t (zero_within 33 schema.now.decls t) }
+{
+    law_valid(schema);
+}

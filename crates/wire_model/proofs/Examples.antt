@@ -36,7 +36,7 @@ without_blanks : List ℕ → List ℕ
 without_blanks [] = []
 without_blanks (c ∷ cs) = cond (c == 32) (without_blanks cs) (c ∷ without_blanks cs)
 
-hex : List ℕ → List ℕ
+unfoldable pub hex : List ℕ → List ℕ
 unfolding pairs digit without_blanks
 hex cs = pairs (without_blanks cs)
 
@@ -46,54 +46,54 @@ unfolding read_of word_as count_at text_of block_at text_at raw_at raw_items_at 
 decode S t b = read_of Strict S 64 t false b
 
 -- types
-one : Base → AidlType
+unfoldable pub one : Base → AidlType
 one b = record { base = b; shape = shape.One; nullable = false; heap = false; utf8 = false }
 
-array : Base → AidlType
+unfoldable pub array : Base → AidlType
 array b = record { base = b; shape = shape.Array; nullable = false; heap = false; utf8 = false }
 
 list_of : Base → AidlType
 list_of b = record { base = b; shape = shape.List; nullable = false; heap = false; utf8 = false }
 
-or_null : AidlType → AidlType
+unfoldable pub or_null : AidlType → AidlType
 or_null t = record t { nullable = true }
 
 -- a declaration of one name in the package a
-declared : List ℕ → Kind → Decl
+unfoldable pub declared : List ℕ → Kind → Decl
 declared name kind = record { name = record { 0 = record { 0 = codes "a" } ∷ record { 0 = name } ∷ [] }; outer = None; kind = kind; vintf = false; fixed = false; constants = [] }
 
-field : List ℕ → Base → Option Const → Field
+unfoldable pub field : List ℕ → Base → Option Const → Field
 field name b initial = record { name = record { 0 = name }; ty = record { base = b; shape = shape.One; nullable = false; heap = false; utf8 = false }; initial = initial }
 
 -- parcelable R { int a; String s = "x"; }, and an older R that has the first field alone
-newer : List Decl
+unfoldable pub newer : List Decl
 unfolding declared field
 newer = declared (codes "R") (Parcelable (field (codes "a") base.Int None ∷ field (codes "s") base.Text (Some (Const.Text (codes "x"))) ∷ [])) ∷ []
 
-older : List Decl
+unfoldable pub older : List Decl
 unfolding declared field
 older = declared (codes "R") (Parcelable (field (codes "a") base.Int None ∷ [])) ∷ []
 
 -- union U { int a; String b; }
-tagged : List Decl
+unfoldable pub tagged : List Decl
 unfolding declared field
 tagged = declared (codes "U") (Union (field (codes "a") base.Int None ∷ field (codes "b") base.Text None ∷ [])) ∷ []
 
 -- enum E of bytes, and one of longs
-small : List Decl
+unfoldable pub small : List Decl
 unfolding declared
 small = declared (codes "E") (Enum backing.Byte []) ∷ []
 
-large : List Decl
+unfoldable pub large : List Decl
 unfolding declared
 large = declared (codes "E") (Enum backing.Long []) ∷ []
 
 -- the one declaration of these
-it : AidlType
+unfoldable pub it : AidlType
 unfolding one
 it = one (base.Named 0)
 
-record_of : ℤ → List ℕ → Data
+unfoldable pub record_of : ℤ → List ℕ → Data
 record_of a s = rec (item (number a) (item (text s) none))
 
 -- an int and a long, which needs no alignment to 8
@@ -133,7 +133,7 @@ texts : (spell [] (one base.Text) (text []) ≡ hex (codes "00000000 00000000"))
 unfolding decode hex one
 texts = (refl, refl, refl, refl, refl, refl)
 
-numbers : List ℤ → Items
+unfoldable pub numbers : List ℤ → Items
 numbers [] = none
 numbers (n ∷ ns) = item (number n) (numbers ns)
 
@@ -229,7 +229,7 @@ unfolding decode hex it older
 tail_skipped = refl
 
 -- the initializer as a value
-initial_text : const_value (Const.Text (codes "x")) ≡ text (codes "x")
+pub initial_text : const_value (Const.Text (codes "x")) ≡ text (codes "x")
 initial_text = search (rules, the_lemmas)
 
 defaulted : (n : ℤ) (rest : List ℕ)

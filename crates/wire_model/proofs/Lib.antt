@@ -1,3 +1,4 @@
+mod CallExamples
 mod Examples
 mod Forms
 mod Lenient
@@ -9,6 +10,7 @@ pub mod Reading
 pub mod Sound
 mod Steps
 mod TextForms
+mod ViewExamples
 mod again
 pub mod calls
 pub mod spelled

@@ -6,5 +6,6 @@ pub mod Methods
 pub mod Replies
 pub mod Requests
 pub mod Tokens
+pub mod Typed
 pub mod Types
 pub mod Values

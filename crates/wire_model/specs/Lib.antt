@@ -7,5 +7,6 @@ pub mod Requests
 pub mod Spell
 pub mod Status
 pub mod Stop
+pub mod Typed
 pub mod View
 pub mod steps

@@ -154,9 +154,9 @@ returned_at p S result outs b = do
   vs ← values_at p S outs r.1
   Ok (returned r.0 vs.0, vs.1)
 
--- a stack-trace size; none is ever sent
-abbrev pub no_trace : ℤ → Result Bool ℤ
-no_trace size = if int_eq size (pos 0) then Ok false else Err bad_value
+-- the bytes after a stack-trace size; no stack trace is ever sent
+abbrev pub after_trace : ℤ → List ℕ → Result (List ℕ) ℤ
+after_trace size b = if int_eq size (pos 0) then Ok b else Err bad_value
 
 -- the error word of a service's own exception, and 0 of any other
 abbrev pub error_at : ℤ → List ℕ → Read ℤ
@@ -167,8 +167,8 @@ unfoldable pub exception_at : Profile → ℤ → List ℕ → Read AnswerData
 exception_at p code b = do
   message ← present_text_at p false b
   size ← word_at false message.1
-  trace ← no_trace size.0
-  error ← error_at code size.1
+  rest ← after_trace size.0 size.1
+  error ← error_at code rest
   Ok (exception code message.0 error.0, error.1)
 
 -- the words of a parcelable exception, of headers and of a failed transaction, which no reply of this kind has

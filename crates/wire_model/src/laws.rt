@@ -1,15 +1,15 @@
 ghost use Rattle.std.specs.Prelude.{◌≡◌, ◌-◌, ◌*◌, ◌≤◌, ◌<◌, ◌↔◌, ◌++◌, ◌⊎◌, true, List, [], ℕ, ℤ, Some, None, Ok, Err, length};
 ghost use Rattle.aidl_base.specs.declared.profile.Profile.TheVariants.{Strict, Lenient};
 ghost use Rattle.aidl_schema.specs.Broken.{broken};
-ghost use Rattle.aidl_schema.specs.Find.{methods_at};
+ghost use Rattle.aidl_schema.specs.Find.{methods_at, position_of_code};
 ghost use Rattle.aidl_schema.specs.Same.{same};
 ghost use Rattle.aidl_schema.specs.Types.{is_type};
-ghost use Rattle.aidl_values.specs.Data.{Data, depth_of};
+ghost use Rattle.aidl_values.specs.Data.{Data, Items, depth_of};
 ghost use Rattle.aidl_values.specs.Fits.{Fits};
 ghost use Rattle.aidl_values.specs.HasType.{HasType};
 ghost use Rattle.aidl_values.specs.Nodes.{nodes_of};
 ghost use Rattle.aidl_values.specs.View.{view, views};
-ghost use Rattle.wire_model.specs.Calls.{answer_of, arguments, code_at, descriptor, method_at};
+ghost use Rattle.wire_model.specs.Calls.{AnswerData, answer_of, arguments, code_at, descriptor, method_at};
 ghost use Rattle.wire_model.specs.Outcome.{declared_as, method_like, received_call, seen_answer};
 ghost use Rattle.wire_model.specs.ReadOf.{read_of};
 ghost use Rattle.wire_model.specs.Reads.{FrontReads, Reads};
@@ -18,13 +18,14 @@ ghost use Rattle.wire_model.specs.Requests.{AnswerFits, ArgsFit, reply, request}
 ghost use Rattle.wire_model.specs.Spell.{spell};
 ghost use Rattle.wire_model.specs.Status.{IsStatus, bad_value};
 ghost use Rattle.wire_model.specs.Stop.{Stop, Stops};
+ghost use Rattle.wire_model.specs.Typed.{AreArguments, IsGot};
 ghost use Rattle.wire_model.specs.View.{view_of};
 ghost use Rattle.wire_model.specs.steps.CallsMeet.{CallsMeet};
 ghost use Rattle.wire_model.specs.steps.Meets.{Meets};
 
 use aidl_base::Profile;
 use aidl_schema::{AidlType, Schema, law_chain, law_same_types, law_unbroken, law_valid};
-use aidl_values::{Answer, Value, law_small_defaults, law_sound};
+use aidl_values::{Answer, Value, law_small_defaults, law_sound, law_typed_defaults};
 
 /// What spells a value is a reading of it.
 pub fn law_spelled_reads(
@@ -168,6 +169,27 @@ pub fn law_view_same(schema: &Schema, ty: &AidlType, value: &Value)
     law_chain(schema, schema, schema);
     law_meets(schema, schema);
     law_same_types(schema, schema);
+}
+
+/// Where a stub calls a method, the code is the method's, and the values have the types of its arguments.
+pub fn law_called_typed(profile: Profile, schema: &Schema, interface: u32, code: u32, bytes: &[u8])
+    ensures coded { (m : ℕ) (saw : Items) → stub profile schema.now.decls interface code bytes.now ≡ Ok (called m saw)
+        → position_of_code (methods_at schema.now.decls interface) code ≡ Some m }
+    ensures typed { (m : ℕ) (saw : Items) → stub profile schema.now.decls interface code bytes.now ≡ Ok (called m saw)
+        → AreArguments schema.now.decls interface m saw }
+{
+    law_sound(schema);
+    law_valid(schema);
+    law_typed_defaults(schema);
+}
+
+/// What a client gets of a method has the types of its result and of its outs.
+pub fn law_got_typed(profile: Profile, schema: &Schema, interface: u32, method: u32, bytes: &[u8])
+    ensures { (a : AnswerData) → client profile schema.now.decls interface method bytes.now ≡ Ok a → IsGot schema.now.decls interface method a }
+{
+    law_sound(schema);
+    law_valid(schema);
+    law_typed_defaults(schema);
 }
 
 /// A request is called with the values that were sent, and with the openings of its `out` arguments.

@@ -14,7 +14,7 @@ use Rattle.aidl_base.specs.Spellings.{spell_text}
 use Rattle.aidl_base.specs.Words.{word, units}
 use Rattle.aidl_schema.specs.declared.schema.Decl.{Decl}
 use Rattle.wire_model.specs.Calls.{AnswerData, exception, result_type, out_types}
-use Rattle.wire_model.specs.Receiver.{no_trace, error_at, exception_at, is_refused_status, status_at, whole, client}
+use Rattle.wire_model.specs.Receiver.{after_trace, error_at, exception_at, is_refused_status, status_at, whole, client}
 use Rattle.wire_model.specs.Requests.{service_specific, spell_error, reply, ExceptionFits}
 
 -- the codes -8 to -1 are words, not 0, and none that is refused
@@ -40,10 +40,10 @@ is_code (negsuc n) e = let le : n ≤ 7 = grind (arith, nat_tests) in record { f
 
 -- what follows each step of reading an exception
 abbrev then_message : ℤ → Read (List ℕ) → Read AnswerData
-then_message code x = x >>= λ message. word_at false message.1 >>= λ size. no_trace size.0 >>= λ trace. error_at code size.1 >>= λ error. Ok (exception code message.0 error.0, error.1)
+then_message code x = x >>= λ message. word_at false message.1 >>= λ size. after_trace size.0 size.1 >>= λ rest. error_at code rest >>= λ error. Ok (exception code message.0 error.0, error.1)
 
 abbrev then_size : ℤ → List ℕ → Read ℤ → Read AnswerData
-then_size code message x = x >>= λ size. no_trace size.0 >>= λ trace. error_at code size.1 >>= λ error. Ok (exception code message error.0, error.1)
+then_size code message x = x >>= λ size. after_trace size.0 size.1 >>= λ rest. error_at code rest >>= λ error. Ok (exception code message error.0, error.1)
 
 abbrev then_error : ℤ → List ℕ → Read ℤ → Read AnswerData
 then_error code message x = x >>= λ error. Ok (exception code message error.0, error.1)

@@ -19,7 +19,7 @@ use Rattle.wire_model.proofs.calls.Arguments.{HaveTypes}
 use Rattle.wire_model.proofs.calls.Values.{TypesAgree, ResultsAgree}
 
 module _ (S : List Decl) where
-  passed : (t : AidlType) → is_passed_type S t ≡ true → is_type S t ≡ true
+  pub passed : (t : AidlType) → is_passed_type S t ≡ true → is_type S t ≡ true
   passed t h = (both (is_type S t) (not t.utf8 || is_string t.base) (both (is_whole_type S t) (not t.heap) h).0).0
 
   have_types : (xs : List Arg) → list_all (λ (a : Arg). is_passed_type S a.ty) xs ≡ true → HaveTypes S xs
