@@ -23,4 +23,6 @@ mod walk;
 pub use fault::NameFault;
 pub use members::MemberRef;
 pub use names::{Found, Names, gather};
+pub use order::in_order;
 pub use resolved::{BuiltinName, Resolved};
+pub use rows::add_if;

@@ -19,8 +19,8 @@ pub fn backing_of(tree: &DeclTree) -> Wanted
     }
 }
 
-// The first annotation `Backing`.
-fn backing_annot(annots: &[AnnotTree]) -> Option<&AnnotTree>
+/// The first annotation `Backing`. It takes no memory.
+pub fn backing_annot(annots: &[AnnotTree]) -> Option<&AnnotTree>
     ensures { map_option (λ a. annot_of a.now) result ≡ find meant.is_backing (map annot_of annots.now) }
 {
     for annot in annots {
@@ -40,8 +40,8 @@ fn backing_of_annot(annot: &AnnotTree) -> Wanted
     }
 }
 
-// The first parameter `type`.
-fn type_param(params: &[ParamTree]) -> Option<&ParamTree>
+/// The first parameter `type`. It takes no memory.
+pub fn type_param(params: &[ParamTree]) -> Option<&ParamTree>
     ensures { map_option (λ p. param_of p.now) result ≡ find meant.is_type (map param_of params.now) }
 {
     for param in params {
@@ -52,7 +52,8 @@ fn type_param(params: &[ParamTree]) -> Option<&ParamTree>
     None
 }
 
-fn is_type(name: &Option<NameTree>) -> bool
+/// Whether a parameter is called `type`, by its name. It takes no memory.
+pub fn is_type(name: &Option<NameTree>) -> bool
     ensures { result ≡ meant.is_type_name name.now }
 {
     match name {

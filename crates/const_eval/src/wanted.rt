@@ -64,7 +64,8 @@ fn wanted_of_number(found: &[Found<'_>], number: u32) -> Wanted
     }
 }
 
-fn is_enum(found: &[Found<'_>], number: u32) -> bool
+/// Whether the declaration with a number is an enum. It takes no memory.
+pub fn is_enum(found: &[Found<'_>], number: u32) -> bool
     ensures { result ≡ meant.is_enum (map entry_of found.now) number }
 {
     match found.get(number as usize) {
@@ -73,7 +74,8 @@ fn is_enum(found: &[Found<'_>], number: u32) -> bool
     }
 }
 
-fn is_enum_tree(tree: &DeclTree) -> bool
+/// Whether a declaration is an enum. It takes no memory.
+pub fn is_enum_tree(tree: &DeclTree) -> bool
     ensures { result ≡ meant.is_enum_body (body (decl_of tree.now)) }
 {
     is_enum_body(&tree.body)

@@ -1,0 +1,3 @@
+mod Examples
+pub mod Loops
+pub mod Nothing

@@ -1,0 +1,83 @@
+-- The check rules on types, each as the list of its breaches in a declaration (own in number and wording).
+use Rattle.std.specs.Prelude.{ℕ, Bool, true, false, not, ◌&&◌, ◌||◌, if◌then◌else◌, List, map, Option, Some, None, is_none}
+use Rattle.std.specs.List.{filter, flat_map}
+use Rattle.aidl_base.specs.declared.breach.Breach.{Breach}
+use Rattle.aidl_syntax.specs.declared.tree.WayTree.{WayTree}
+use Rattle.aidl_syntax.specs.declared.tree.WayTree.TheVariants as way
+use Rattle.aidl_syntax.specs.Trees.{Annot}
+use Rattle.aidl_names.specs.Declarations.{Entry}
+use Rattle.aidl_names.specs.Rules.{breach}
+use Rattle.const_eval.specs.declared.shape.Shape.{Shape}
+use Rattle.const_eval.specs.declared.shape.Shape.TheVariants as shape
+use Rattle.const_eval.specs.Types.{is_composite}
+use Rattle.type_uses.specs.Kept.{is_nullable_annot, is_heap_annot}
+use Rattle.type_uses.specs.TypeUses.{TypeUse, of_field, of_constant, of_method, of_argument, annotations_of, name_place, type_place}
+use Rattle.type_uses.specs.Bases.{is_one_composite, is_one_scalar, is_refused, is_refused_result}
+use Rattle.type_rules.specs.Filters.{broken_where}
+
+-- E14 BadNullable: `@nullable` on a type of shape one whose base is a primitive or an enum, or on void; `heap=true` elsewhere than
+-- on a field of shape one whose base is a parcelable or union. A type that E16 refuses has no breach.
+
+abbrev pub result_refuses_nullable : List Entry → Option Shape → Bool
+result_refuses_nullable entries None = true
+result_refuses_nullable entries (Some t) = is_one_scalar entries t
+
+abbrev pub refuses_nullable : List Entry → TypeUse → Bool
+refuses_nullable entries (of_field f t) = is_one_scalar entries t
+refuses_nullable entries (of_constant c t) = false
+refuses_nullable entries (of_method m t) = result_refuses_nullable entries t
+refuses_nullable entries (of_argument a t) = is_one_scalar entries t
+
+abbrev pub refuses_heap : List Entry → TypeUse → Bool
+refuses_heap entries (of_field f t) = not (is_refused t) && not (is_one_composite entries t)
+refuses_heap entries (of_constant c t) = false
+refuses_heap entries (of_method m t) = not (is_refused_result t)
+refuses_heap entries (of_argument a t) = not (is_refused t)
+
+abbrev pub is_bad_nullable : Bool → Bool → Annot → Bool
+is_bad_nullable nullable heap a = (nullable && is_nullable_annot a) || (heap && is_heap_annot a)
+
+-- in a list of annotations, where `@nullable` is refused, and where `heap=true` is
+abbrev pub bad_nullables : ℕ → Bool → Bool → List Annot → List Breach
+bad_nullables file nullable heap annots = map (λ a. breach 14 file a.offset) (filter (is_bad_nullable nullable heap) annots)
+
+-- of a use of a type
+abbrev pub bad_nullables_of : List Entry → ℕ → TypeUse → List Breach
+bad_nullables_of entries file u = bad_nullables file (refuses_nullable entries u) (refuses_heap entries u) (annotations_of u)
+
+abbrev pub BadNullable : List Entry → Entry → List TypeUse → List Breach
+BadNullable entries e uses = flat_map (bad_nullables_of entries e.file) uses
+
+-- E16 BadShape: `List` without an element; an element on another name; a `List` with `[]`; a `List` element other than String, a
+-- parcelable or a union.
+
+abbrev pub is_bad_shape : TypeUse → Bool
+is_bad_shape (of_field f t) = is_refused t
+is_bad_shape (of_constant c t) = is_refused t
+is_bad_shape (of_method m t) = is_refused_result t
+is_bad_shape (of_argument a t) = is_refused t
+
+abbrev pub BadShape : Entry → List TypeUse → List Breach
+BadShape e uses = broken_where is_bad_shape 16 type_place e.file uses
+
+-- E17 BadDirection: an argument of array or List shape, or of a parcelable or union, without a direction; any other argument with
+-- `out` or `inout`. A type that E16 refuses has no breach.
+
+-- `out` or `inout`
+abbrev pub is_outward : Option WayTree → Bool
+is_outward (Some way.Out) = true
+is_outward (Some way.InOut) = true
+is_outward _ = false
+
+abbrev pub is_misdirected : List Entry → Shape → Option WayTree → Bool
+is_misdirected entries (shape.One r) w = if is_composite entries r then is_none w else is_outward w
+is_misdirected entries (shape.Array r) w = is_none w
+is_misdirected entries (shape.List r) w = is_none w
+is_misdirected entries shape.Refused w = false
+
+abbrev pub is_bad_direction : List Entry → TypeUse → Bool
+is_bad_direction entries (of_argument a t) = is_misdirected entries t a.way
+is_bad_direction entries _ = false
+
+abbrev pub BadDirection : List Entry → Entry → List TypeUse → List Breach
+BadDirection entries e uses = broken_where (is_bad_direction entries) 17 name_place e.file uses

@@ -1,0 +1,27 @@
+-- What it says of a tree that none of these rules is broken.
+use Rattle.std.specs.Prelude.{◌≡◌, ℕ, List, [], Some}
+use Rattle.std.specs.List.{slice_get}
+use Rattle.aidl_names.specs.Sources.{Source}
+use Rattle.aidl_names.specs.Declarations.{Entry, declarations}
+use Rattle.type_uses.specs.TypeUses.{TypeUse, type_uses}
+use Rattle.type_rules.specs.AnnotationRules.{BadAnnotation, BadBacking}
+use Rattle.type_rules.specs.TypeRules.{BadNullable, BadShape, BadDirection}
+use Rattle.type_rules.specs.MethodRules.{BadOneway, BadId}
+use Rattle.type_rules.specs.FieldRules.{BadConstant, BadField, NotFixed}
+
+-- no rule has a breach in the declaration, which uses these types
+pub record IsUnbroken (entries : List Entry) (e : Entry) (uses : List TypeUse) : Type 0 where
+  pub annotations : BadAnnotation e uses ≡ []
+  pub nullables : BadNullable entries e uses ≡ []
+  pub backing : BadBacking e ≡ []
+  pub shapes : BadShape e uses ≡ []
+  pub directions : BadDirection entries e uses ≡ []
+  pub oneways : BadOneway e uses ≡ []
+  pub ids : BadId e uses ≡ []
+  pub constants : BadConstant e uses ≡ []
+  pub fields : BadField entries e uses ≡ []
+  pub fixed : NotFixed entries e uses ≡ []
+
+-- so it is in each declaration of the tree
+abbrev pub AreUnbroken : List Source → Type 0
+AreUnbroken files = (n : ℕ) (e : Entry) → slice_get (declarations files) n ≡ Some e → IsUnbroken (declarations files) e (type_uses files n e)

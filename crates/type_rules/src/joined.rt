@@ -1,0 +1,118 @@
+ghost use Rattle.std.specs.Prelude.{◌≡◌, ◌≤◌, ◌++◌, map, length, IfOk, OnOk};
+ghost use Rattle.aidl_syntax.specs.Trees.{body_of, decl_of};
+ghost use Rattle.aidl_syntax.specs.Members.{body};
+ghost use Rattle.aidl_names.specs.Declarations.{declarations};
+ghost use Rattle.aidl_names.specs.Refusals.{IsScope, entry_of};
+ghost use Rattle.aidl_names.specs.Sources.{source_of};
+ghost use Rattle.type_rules.specs.Breaches as meant;
+ghost use Rattle.type_rules.specs.MethodRules as methods;
+ghost use Rattle.type_uses.specs.Bases.{is_fixed_entry};
+ghost use Rattle.type_uses.specs.TypeUseViews.{seen_use};
+
+use crate::annotation_rules::add_bad_annotations;
+use crate::backing_rule::add_bad_backing;
+use crate::fields::add_bad_fields;
+use crate::fixed::{add_not_fixed, fixed_ones};
+use crate::ids::add_bad_ids;
+use crate::nullable::add_bad_nullables;
+use crate::use_rules::{UseRule, add_where};
+use aidl_base::{Breach, OutOfMemory, Row};
+use aidl_names::{Found, Names, in_order};
+use aidl_syntax::{BodyTree, DeclTree};
+use std::alloc::Global;
+use type_uses::{TypeUseRef, listed_uses};
+
+/// The breaches of E13 to E21 and E24, sorted by file, offset and rule, each once.
+pub fn breaches(alloc: Global, names: &Names<'_>) -> Result<Row<Breach>, OutOfMemory>
+    ensures { IfOk result (λ rows. rows ≡ meant.breaches (map source_of names.now)) }
+{
+    let rows = unsorted(alloc, names)?;
+    in_order(alloc, rows.as_slice())
+}
+
+/// The breaches of E13 to E21 and E24, in the order of the declarations, for a caller that joins further ones to them.
+pub fn unsorted(alloc: Global, names: &Names<'_>) -> Result<Vec<Breach>, OutOfMemory>
+    ensures { IfOk result (λ rows. rows.items ≡ meant.unsorted (map source_of names.now)) }
+{
+    let _files = names.files();
+    let mut rows = Vec::new(alloc);
+    add_all(alloc, names, names.decls(), &mut rows)?;
+    Ok(rows)
+}
+
+#[tactic(auto, unfolding(crate::specs::Breaches::unsorted))]
+fn add_all(
+    alloc: Global,
+    names: &Names<'_>,
+    found: &[Found<'_>],
+    rows: &mut Vec<Breach>,
+) -> Result<(), OutOfMemory>
+    requires count { length found.now ≤ 16384 }
+    requires found { map entry_of found.now ≡ declarations (map source_of names.now) }
+    ensures { OnOk result (rows.new.items ≡ rows.old.items ++ meant.unsorted (map source_of names.now)) }
+{
+    let fixed = fixed_ones(alloc, found)?;
+    for (i, f) in found.iter().enumerate() {
+        add_declaration(alloc, names, found, fixed.as_slice(), i as u32, f, rows)?;
+    }
+    Ok(())
+}
+
+// Those of the declaration with a number.
+fn add_declaration(
+    alloc: Global,
+    names: &Names<'_>,
+    all: &[Found<'_>],
+    fixed: &[bool],
+    number: u32,
+    found: &Found<'_>,
+    rows: &mut Vec<Breach>,
+) -> Result<(), OutOfMemory>
+    requires all { map entry_of all.now ≡ declarations (map source_of names.now) }
+    requires fixed { fixed.now ≡ map is_fixed_entry (map entry_of all.now) }
+    requires scope { IsScope (map source_of names.now) found.now.file number }
+    ensures { OnOk result (rows.new.items ≡ rows.old.items ++ meant.broken_in (map source_of names.now) number (entry_of found.now)) }
+{
+    let uses = listed_uses(alloc, names, found.file, number, &found.tree.body)?;
+    add_broken(alloc, all, fixed, found, uses.as_slice(), rows)
+}
+
+fn add_broken(
+    alloc: Global,
+    all: &[Found<'_>],
+    fixed: &[bool],
+    found: &Found<'_>,
+    uses: &[TypeUseRef<'_>],
+    rows: &mut Vec<Breach>,
+) -> Result<(), OutOfMemory>
+    requires { fixed.now ≡ map is_fixed_entry (map entry_of all.now) }
+    ensures { OnOk result (rows.new.items ≡ rows.old.items ++ meant.broken_by (map entry_of all.now) (entry_of found.now) (map seen_use uses.now)) }
+{
+    let oneway = is_oneway_tree(found.tree);
+    let file = found.file;
+    add_bad_annotations(alloc, found, uses, rows)?;
+    add_bad_nullables(all, file, uses, rows)?;
+    add_bad_backing(found, rows)?;
+    add_where(all, oneway, UseRule::Shape, file, uses, rows)?;
+    add_where(all, oneway, UseRule::Direction, file, uses, rows)?;
+    add_where(all, oneway, UseRule::Oneway, file, uses, rows)?;
+    add_bad_ids(alloc, file, uses, rows)?;
+    add_where(all, oneway, UseRule::Constant, file, uses, rows)?;
+    add_bad_fields(all, found, uses, rows)?;
+    add_not_fixed(all, fixed, found, uses, rows)
+}
+
+fn is_oneway_tree(tree: &DeclTree) -> bool
+    ensures { result ≡ methods.is_oneway_body (body (decl_of tree.now)) }
+{
+    is_oneway_body(&tree.body)
+}
+
+fn is_oneway_body(body: &BodyTree) -> bool
+    ensures { result ≡ methods.is_oneway_body (body_of body.now) }
+{
+    match body {
+        BodyTree::Interface { oneway, .. } => *oneway,
+        _ => false,
+    }
+}

@@ -1,0 +1,15 @@
+//! The breaches of the check rules E13 to E21 and E24: those on annotations, types, methods and fields.
+#![tactic(auto)]
+
+mod annotation_rules;
+mod backing_rule;
+mod fields;
+mod fixed;
+mod ids;
+mod joined;
+mod laws;
+mod nullable;
+mod use_rules;
+
+pub use joined::{breaches, unsorted};
+pub use laws::law_unbroken;

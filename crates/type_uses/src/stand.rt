@@ -1,0 +1,65 @@
+ghost use Rattle.std.specs.Prelude.{◌≡◌};
+ghost use Rattle.aidl_syntax.specs.Trees.{body_of, decl_of};
+ghost use Rattle.aidl_syntax.specs.Members.{body};
+ghost use Rattle.type_uses.specs.Annotations as meant;
+
+use aidl_names::{BuiltinName, Resolved};
+use aidl_syntax::{BodyTree, DeclTree};
+use const_eval::Shape;
+
+/// Where annotations stand.
+#[derive(Clone, Copy)]
+pub enum Stand {
+    /// at a field, an argument or a method that returns a value, by what the type is
+    Type(Shape),
+    /// at a method that returns void
+    Void,
+    /// at a constant
+    Constant,
+    /// at a parcelable or a union
+    Composite,
+    /// at an enum
+    Enum,
+    /// at an interface
+    Interface,
+}
+
+/// Where the annotations of a declaration stand. It takes no memory.
+pub fn stand_of_tree(tree: &DeclTree) -> Stand
+    ensures { result ≡ meant.stand_of_body (body (decl_of tree.now)) }
+{
+    stand_of_body(&tree.body)
+}
+
+fn stand_of_body(body: &BodyTree) -> Stand
+    ensures { result ≡ meant.stand_of_body (body_of body.now) }
+{
+    match body {
+        BodyTree::Parcelable(_) => Stand::Composite,
+        BodyTree::Union(_) => Stand::Composite,
+        BodyTree::Enum(_) => Stand::Enum,
+        BodyTree::Interface { .. } => Stand::Interface,
+    }
+}
+
+/// Whether the base of a type is String, or E16 refuses the type. It takes no memory.
+pub fn is_text_based(shape: Shape) -> bool
+    ensures { result ≡ meant.is_text_based shape }
+{
+    match shape {
+        Shape::One(base) => is_text(base),
+        Shape::Array(base) => is_text(base),
+        Shape::List(base) => is_text(base),
+        Shape::Refused => true,
+    }
+}
+
+/// Whether a base is String. It takes no memory.
+pub fn is_text(base: Resolved) -> bool
+    ensures { result ≡ meant.is_text base }
+{
+    match base {
+        Resolved::Builtin(BuiltinName::Text) => true,
+        _ => false,
+    }
+}

@@ -1,0 +1,86 @@
+ghost use Rattle.std.specs.Prelude.{◌≡◌, map};
+ghost use Rattle.aidl_syntax.specs.Trees.{annot_of};
+ghost use Rattle.type_uses.specs.TypeUses as meant;
+ghost use Rattle.type_uses.specs.TypeUseViews.{seen_use};
+
+use crate::stand::Stand;
+use aidl_syntax::{AnnotTree, ArgTree, ConstantTree, FieldTree, MethodTree, TypeTree};
+use const_eval::Shape;
+
+/// Where a declaration uses a type, with what the type is: a field, a constant, a method, which has no type where it returns void, or
+/// an argument.
+#[derive(Clone, Copy)]
+pub enum TypeUseRef<'a> {
+    Field(&'a FieldTree, Shape),
+    Constant(&'a ConstantTree, Shape),
+    Method(&'a MethodTree, Option<Shape>),
+    Argument(&'a ArgTree, Shape),
+}
+
+/// The annotations before it; those before a method are of what it returns. It takes no memory.
+pub fn annotations_of<'a>(used: TypeUseRef<'a>) -> &'a [AnnotTree]
+    ensures { map annot_of result.now ≡ meant.annotations_of (seen_use used.entry) }
+{
+    match used {
+        TypeUseRef::Field(field, _) => field.annots.as_slice(),
+        TypeUseRef::Constant(constant, _) => constant.annots.as_slice(),
+        TypeUseRef::Method(method, _) => method.annots.as_slice(),
+        TypeUseRef::Argument(arg, _) => arg.annots.as_slice(),
+    }
+}
+
+/// Where these stand. It takes no memory.
+pub fn stand_of(used: TypeUseRef<'_>) -> Stand
+    ensures { result ≡ meant.stand_of (seen_use used.entry) }
+{
+    match used {
+        TypeUseRef::Field(_, shape) => Stand::Type(shape),
+        TypeUseRef::Constant(_, _) => Stand::Constant,
+        TypeUseRef::Method(_, Some(shape)) => Stand::Type(shape),
+        TypeUseRef::Method(_, None) => Stand::Void,
+        TypeUseRef::Argument(_, shape) => Stand::Type(shape),
+    }
+}
+
+/// The place of its name. It takes no memory.
+pub fn name_place(used: TypeUseRef<'_>) -> u32
+    ensures { result ≡ meant.name_place (seen_use used.entry) }
+{
+    match used {
+        TypeUseRef::Field(field, _) => field.name.offset,
+        TypeUseRef::Constant(constant, _) => constant.name.offset,
+        TypeUseRef::Method(method, _) => method.name.offset,
+        TypeUseRef::Argument(arg, _) => arg.name.offset,
+    }
+}
+
+/// The place of the type. It takes no memory.
+pub fn type_place(used: TypeUseRef<'_>) -> u32
+    ensures { result ≡ meant.type_place (seen_use used.entry) }
+{
+    match used {
+        TypeUseRef::Field(field, _) => field.ty.name.offset,
+        TypeUseRef::Constant(constant, _) => constant.ty.name.offset,
+        TypeUseRef::Method(method, _) => place_of_returned(&method.result),
+        TypeUseRef::Argument(arg, _) => arg.ty.name.offset,
+    }
+}
+
+fn place_of_returned(ty: &Option<TypeTree>) -> u32
+    ensures { result ≡ meant.place_of_returned ty.now }
+{
+    match ty {
+        None => 0,
+        Some(ty) => ty.name.offset,
+    }
+}
+
+/// Whether it is a field. It takes no memory.
+pub fn is_field(used: TypeUseRef<'_>) -> bool
+    ensures { result ≡ meant.is_field (seen_use used.entry) }
+{
+    match used {
+        TypeUseRef::Field(_, _) => true,
+        _ => false,
+    }
+}
