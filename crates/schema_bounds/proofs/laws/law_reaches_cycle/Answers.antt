@@ -1,0 +1,5 @@
+use Rattle.schema_bounds.proofs.Chains.{told}
+use Rattle.schema_bounds.proofs.laws.law_reaches_cycle.Goals as goal
+
+pub returns : goal.returns
+returns c = told c.args.decls.now

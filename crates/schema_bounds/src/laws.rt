@@ -1,0 +1,16 @@
+ghost use Rattle.std.specs.Prelude.{◌≡◌, ℕ, ◌<◌, ◌↔◌, IsTrue, length};
+ghost use Rattle.aidl_schema.specs.Valid.{is_bounded};
+ghost use Rattle.schema_bounds.specs.Bounds.{ReachesCycle, bound, reaches_cycle};
+ghost use Rattle.schema_bounds.specs.declared.bound.Bound.TheVariants.{Within};
+
+use aidl_schema::Decl;
+
+/// The test says exactly where a declaration reaches a cycle of containment, by chains however long.
+pub fn law_reaches_cycle(decls: &[Decl])
+    ensures { (n : ℕ) → IsTrue (reaches_cycle decls.now n) ↔ ReachesCycle decls.now n }
+{}
+
+/// Where each declaration is within bounds, none holds itself and each has a small default: what a valid schema wants.
+pub fn law_within(decls: &[Decl])
+    ensures { ((n : ℕ) → n < length decls.now → bound decls.now n ≡ Within) → (n : ℕ) → n < length decls.now → IsTrue (is_bounded decls.now n) }
+{}

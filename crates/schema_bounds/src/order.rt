@@ -1,0 +1,85 @@
+use crate::containment::{fields_of, is_composite, is_one};
+use crate::kind_size::kind_size;
+use crate::measure::Measure;
+use crate::places::{is_set, number_at, put};
+use aidl_base::{OutOfMemory, Row};
+use aidl_schema::{Base, Decl, Field, Kind};
+use graph_cycles::find_cycles;
+use std::alloc::Global;
+
+/// The numbers of the declarations, each behind those whose defaults are in its own, and which have a default that holds
+/// itself. Nobody has to believe it: sizes that are found in this order are looked at again.
+#[derive(Drop)]
+pub struct Order {
+    numbers: Vec<usize>,
+    endless: Vec<bool>,
+}
+
+/// The order of the declarations.
+pub fn default_order(alloc: Global, decls: &[Decl]) -> Result<Order, OutOfMemory> {
+    let mut rows = Vec::with_capacity(alloc, decls.len())?;
+    for decl in decls {
+        rows.push(needed_by(alloc, decls, starting_fields(&decl.kind))?)?;
+    }
+    let found = find_cycles(alloc, &rows)?;
+    let ranks = found.ranks.as_slice();
+    let mut numbers: Vec<usize> = (0..decls.len()).collect(alloc)?;
+    numbers.sort_by_key(|number| number_at(ranks, *number, 0))?;
+    Ok(Order {
+        numbers,
+        endless: found.on,
+    })
+}
+
+// The fields that a default has: all of a parcelable, the first of a union.
+fn starting_fields(kind: &Kind) -> &[Field] {
+    match (kind, fields_of(kind)) {
+        (Kind::Union(_), [first, ..]) => std::slice::from_ref(first),
+        (_, fields) => fields,
+    }
+}
+
+// The declarations whose defaults are in those of fields.
+fn needed_by(alloc: Global, decls: &[Decl], fields: &[Field]) -> Result<Row<u32>, OutOfMemory> {
+    let mut row = Row::new(alloc);
+    for field in fields {
+        if let Some(number) = needed(decls, field) {
+            row.push(number)?;
+        }
+    }
+    Ok(row)
+}
+
+// The declaration whose default is in that of a field.
+fn needed(decls: &[Decl], field: &Field) -> Option<u32> {
+    let ty = field.ty;
+    match (ty.base, &field.initial) {
+        (Base::Named(number), None) if is_one(ty.shape) && !ty.nullable => {
+            if is_composite(decls, number) {
+                Some(number)
+            } else {
+                None
+            }
+        }
+        _ => None,
+    }
+}
+
+/// The sizes of the declarations' defaults, found in their order; where counting stops for those that hold themselves.
+pub fn sizes_in_order(
+    alloc: Global,
+    measure: Measure,
+    decls: &[Decl],
+    order: &Order,
+) -> Result<Vec<usize>, OutOfMemory> {
+    let mut sizes = Vec::from_elem(alloc, measure.most(), decls.len())?;
+    for number in &order.numbers {
+        if let Some(decl) = decls.get(*number) {
+            if !is_set(&order.endless, *number) {
+                let size = kind_size(measure, &sizes, &decl.kind);
+                put(&mut sizes, *number, size);
+            }
+        }
+    }
+    Ok(sizes)
+}

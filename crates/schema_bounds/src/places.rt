@@ -1,0 +1,27 @@
+ghost use Rattle.std.specs.Prelude.{◌≡◌, slice_index_or};
+ghost use Rattle.graph_cycles.specs.Paths.{flag};
+
+/// The flag at a place, and false beyond the last.
+pub fn is_set(flags: &[bool], at: usize) -> bool
+    ensures { result ≡ flag flags.now at }
+{
+    at < flags.len() && flags[at]
+}
+
+/// The number at a place, and the other one beyond the last.
+pub fn number_at(numbers: &[usize], at: usize, other: usize) -> usize
+    ensures { result ≡ slice_index_or numbers.now at other }
+{
+    if at < numbers.len() {
+        numbers[at]
+    } else {
+        other
+    }
+}
+
+/// Puts a number at a place, where there is one.
+pub fn put(numbers: &mut [usize], at: usize, number: usize) {
+    if at < numbers.len() {
+        numbers[at] = number;
+    }
+}
