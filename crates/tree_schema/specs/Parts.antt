@@ -21,7 +21,7 @@ use Rattle.aidl_schema.specs.declared.schema.Field.{Field}
 use Rattle.aidl_schema.specs.declared.schema.Method.{Method}
 use Rattle.tree_schema.specs.Types.{type_of}
 use Rattle.tree_schema.specs.Values.{Outcomes, initial_of, constant_value, enumerator_value}
-use Rattle.type_rules.specs.Ids.{id_of}
+use Rattle.type_uses.specs.Ids.{id_of}
 
 -- a field, which may be one after the first of a union
 abbrev pub field_in : List Source → Outcomes → ℕ → ℕ → Bool → tree.Field → Field

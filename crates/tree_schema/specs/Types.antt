@@ -17,7 +17,7 @@ use Rattle.aidl_schema.specs.declared.schema.Shape.{Shape}
 use Rattle.aidl_schema.specs.declared.schema.Shape.TheVariants as shape
 use Rattle.aidl_schema.specs.declared.schema.AidlType.{AidlType}
 use Rattle.tree_schema.specs.Numbers.{number_of}
-use Rattle.aidl_annotations.specs.Kept.{is_nullable, is_heap, is_utf8}
+use Rattle.type_uses.specs.Kept.{is_nullable, is_heap, is_utf8}
 
 abbrev pub base_of_builtin : BuiltinName → Base
 base_of_builtin built_in.Boolean = base.Boolean

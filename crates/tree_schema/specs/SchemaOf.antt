@@ -16,7 +16,7 @@ use Rattle.aidl_schema.specs.declared.schema.Kind.TheVariants.{Interface, Parcel
 use Rattle.tree_schema.specs.Numbers.{Numbered, sorted, number_of}
 use Rattle.tree_schema.specs.Parts.{fields_in, methods_in, enumerator_in, constants_in}
 use Rattle.tree_schema.specs.Values.{Outcomes}
-use Rattle.aidl_annotations.specs.Kept.{is_fixed, is_vintf}
+use Rattle.type_uses.specs.Kept.{is_fixed, is_vintf}
 
 abbrev pub backing_in : Wanted → Backing
 backing_in wanted.Int = backing.Int
