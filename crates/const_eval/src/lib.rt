@@ -41,5 +41,4 @@ pub use outcome::Outcome;
 pub use settled::{InitId, Settled};
 pub use shape::{Shape, is_composite, shaped};
 pub use target::{Target, number_of, target_of};
-pub use wanted::is_enum;
 pub use wanted::{is_enum, is_enum_tree};
