@@ -1,0 +1,12 @@
+pub mod WalksTotals
+pub mod WalksPlaced
+pub mod WalksAscii
+pub mod WalksOuters
+pub mod WalksNested
+pub mod WalksBreaches
+pub mod NamesNumbers
+pub mod NamesSchema
+pub mod MembersNames
+pub mod MembersWeights
+pub mod MembersSchema
+pub mod LimitsSchema

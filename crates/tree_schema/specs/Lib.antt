@@ -1,0 +1,5 @@
+pub mod Numbers
+pub mod Types
+pub mod Values
+pub mod Parts
+pub mod SchemaOf

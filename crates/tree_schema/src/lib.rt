@@ -1,0 +1,2 @@
+//! The schema of a checked tree.
+#![tactic(auto)]
