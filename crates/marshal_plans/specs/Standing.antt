@@ -90,3 +90,7 @@ pub record StandFor (S : List Decl) (extra types : List AidlType) (plans : Plans
 -- The id stands for the type t of the schema S.
 abbrev pub IsOf : Plans → PlanId → List Decl → AidlType → Type 0
 IsOf plans id S t = (extra types : List AidlType) × StandFor S extra types plans × StandsFor types id t
+
+-- P holds of each schema and type for which the id stands.
+abbrev pub OfEachType : Plans → PlanId → (List Decl → AidlType → Type 0) → Type 0
+OfEachType plans id P = (S : List Decl) (t : AidlType) → IsOf plans id S t → P S t

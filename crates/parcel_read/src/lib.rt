@@ -1,7 +1,9 @@
 //! Reading values from the bytes of a parcel.
 #![tactic(auto)]
 
+mod default;
 mod front;
+mod items;
 mod leaf;
 mod marks;
 mod raw;

@@ -1,7 +1,7 @@
 mod Examples
 mod Forms
 mod Lenient
-mod Nodes
+pub mod Nodes
 pub mod Parts
 mod RawForms
 pub mod Reading
