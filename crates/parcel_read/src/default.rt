@@ -4,7 +4,6 @@ ghost use Rattle.aidl_values.specs.Data.{null, seq, rec, none};
 ghost use Rattle.aidl_values.specs.View.{view, views};
 ghost use Rattle.parcel_read.specs.steps.PlanDefault.{entry_default, entry_defaults, first_default, initial_by_plan, item_default, plan_default, plan_default_parts, word_default};
 
-use crate::items::{entries_in, item_in};
 use aidl_base::{OutOfMemory, Row, Text};
 use aidl_values::{Value, value_of};
 use marshal_plans::{PlanField, PlanId, PlanItem, Plans, WordKind};
@@ -34,7 +33,7 @@ fn default_within(
 ) -> Result<Value, OutOfMemory>
     ensures { IfOk result (λ v. view v ≡ plan_default levels plans.now id) }
 {
-    default_of_item(alloc, plans, item_in(plans, id), levels)
+    default_of_item(alloc, plans, plans.item(id), levels)
 }
 
 #[cycle(default)]
@@ -59,13 +58,13 @@ fn default_of_item(
             nullable: false,
             first,
             count,
-        }) => record_of(alloc, plans, entries_in(plans, first, count), levels),
+        }) => record_of(alloc, plans, plans.entries(first, count), levels),
         Some(PlanItem::Alt { nullable: true, .. }) => Ok(Value::Null),
         Some(PlanItem::Alt {
             nullable: false,
             first,
             count,
-        }) => alternative_of(alloc, plans, entries_in(plans, first, count), levels),
+        }) => alternative_of(alloc, plans, plans.entries(first, count), levels),
     }
 }
 

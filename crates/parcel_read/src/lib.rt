@@ -3,7 +3,6 @@
 
 mod default;
 mod front;
-mod items;
 mod leaf;
 mod marks;
 mod raw;

@@ -11,7 +11,6 @@ ghost use Rattle.wire_model.specs.ReadOf.{each_at, elements_at, array_at};
 ghost use Rattle.wire_model.specs.Status.{bad_value};
 
 use crate::default::initial_of;
-use crate::items::{entries_in, item_in};
 use crate::leaf::{long_from, text_from, word_from};
 use crate::marks::{marker_from, tag_from};
 use crate::raw::raw_from;
@@ -34,7 +33,7 @@ pub fn value_from(
     ensures taken { TakesIfMemory view result (plan_read from.old.profile plans.now levels id (is_inside from.old) (left from.old)) (left from.new) }
     ensures on { OnOk result (MovesOn from.old from.new) }
 {
-    match item_in(plans, id) {
+    match plans.item(id) {
         Some(item) => item_from(alloc, plans, item, levels, from),
         // No id of plans is a number of no item.
         None => Err(ReadFault::BadValue),
@@ -68,7 +67,7 @@ fn item_from(
             first,
             count,
         } => {
-            let fields = entries_in(plans, first, count);
+            let fields = plans.entries(first, count);
             record_from(alloc, plans, nullable, fields, levels, from)
         }
         PlanItem::Alt {
@@ -76,7 +75,7 @@ fn item_from(
             first,
             count,
         } => {
-            let fields = entries_in(plans, first, count);
+            let fields = plans.entries(first, count);
             union_from(alloc, plans, nullable, fields, levels, from)
         }
     }

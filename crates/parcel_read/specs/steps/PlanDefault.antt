@@ -1,5 +1,5 @@
 -- Defaults by plans, as plain functions on the items: those of the types for which the plans stand (proofs/Defaults.antt).
-use Rattle.std.specs.Prelude.{ℕ, zero, suc, pos, Bool, false, if◌then◌else◌, List, [], ◌∷◌, map, take, drop, Option, Some, None, slice_get}
+use Rattle.std.specs.Prelude.{ℕ, zero, suc, pos, Bool, false, if◌then◌else◌, List, [], ◌∷◌, map, Option, Some, None, slice_get}
 use Rattle.aidl_values.specs.Data.{Data, null, truth, number, text, seq, rec, alt, Items, none}
 use Rattle.aidl_values.specs.Default.{initial_or}
 use Rattle.aidl_values.specs.View.{items_of}
@@ -8,12 +8,9 @@ use Rattle.marshal_plans.specs.declared.plans.PlanId.{PlanId}
 use Rattle.marshal_plans.specs.declared.plans.PlanItem.{PlanItem}
 use Rattle.marshal_plans.specs.declared.plans.PlanItem.TheVariants.{Word, Long, Text, Raw, Seq, Rec, Alt}
 use Rattle.marshal_plans.specs.declared.plans.Plans.{Plans}
+use Rattle.marshal_plans.specs.Standing.{entries_of}
 use Rattle.marshal_plans.specs.declared.plans.WordKind.{WordKind}
 use Rattle.marshal_plans.specs.declared.plans.WordKind.TheVariants.{Truth, Byte, Char, Int}
-
--- the entries of an item
-abbrev pub entries_of : List PlanField → ℕ → ℕ → List PlanField
-entries_of entries first count = take count (drop first entries)
 
 -- a field's initializer, or else the default of its item
 abbrev pub entry_default : (PlanId → Data) → PlanField → Data

@@ -14,7 +14,8 @@ use Rattle.marshal_plans.specs.declared.plans.PlanItem.TheVariants.{Word, Long, 
 use Rattle.marshal_plans.specs.declared.plans.Plans.{Plans}
 use Rattle.marshal_plans.specs.declared.plans.WordKind.{WordKind}
 use Rattle.marshal_plans.specs.declared.plans.WordKind.TheVariants.{Truth, Byte, Char, Int}
-use Rattle.parcel_read.specs.steps.PlanDefault.{entries_of, initial_by_plan}
+use Rattle.marshal_plans.specs.Standing.{entries_of}
+use Rattle.parcel_read.specs.steps.PlanDefault.{initial_by_plan}
 
 -- a field of a record of which the bytes b are left: its default where none are
 abbrev pub entry_at : (PlanField → Data) → (PlanId → List ℕ → Read Data) → PlanField → List ℕ → Read Data

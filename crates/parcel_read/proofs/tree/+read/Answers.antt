@@ -23,12 +23,12 @@ pub value_from-returns-in-Some-clause-taken : goal.value_from-returns-in-Some-cl
 value_from-returns-in-Some-clause-taken t c =
     let p = c.args.from.now in
     subst (λ r. TakesIfMemory view c.item_from.result r (left c.item_from.new.from))
-    (plan_read-item p.profile c.args.plans.now c.args.levels c.args.id (is_inside p) (left p) c.in-Some.item (sym c.item_in.ensures ∙ c.in-Some.is)) c.item_from.ensures.taken
+    (plan_read-item p.profile c.args.plans.now c.args.levels c.args.id (is_inside p) (left p) c.in-Some.item (sym c.item.ensures ∙ c.in-Some.is)) c.item_from.ensures.taken
 
 pub value_from-returns-in-None-clause-taken : goal.value_from-returns-in-None-clause-taken
 value_from-returns-in-None-clause-taken t c =
     let p = c.args.from.now in
-    plan_read-none p.profile c.args.plans.now c.args.levels c.args.id (is_inside p) (left p) (sym c.item_in.ensures ∙ c.in-None.is)
+    plan_read-none p.profile c.args.plans.now c.args.levels c.args.id (is_inside p) (left p) (sym c.item.ensures ∙ c.in-None.is)
 
 pub items_from-returns-in_err-value-clause-taken : goal.items_from-returns-in_err-value-clause-taken
 items_from-returns-in_err-value-clause-taken t c =
