@@ -1,5 +1,5 @@
 -- The default of an id is that of the type for which it stands.
-use Rattle.std.proofs.Common.{◌≡◌, ℕ, zero, suc, pos, Bool, true, false, ◌&&◌, cond, List, [], ◌∷◌, map, length, take, drop, Option, Some, None, slice_get, refl, sym, ap, ◌∙◌, subst}
+use Rattle.std.proofs.Common.{◌≡◌, ℕ, zero, suc, Bool, true, false, ◌&&◌, List, [], ◌∷◌, length, take, drop, Some, refl, ap, ◌∙◌}
 use Rattle.std.specs.Prelude.{MatchBool, if◌then◌else◌}
 use Rattle.aidl_base.proofs.Tests.{both}
 use Rattle.aidl_schema.specs.declared.schema.AidlType.{AidlType}
@@ -9,13 +9,13 @@ use Rattle.aidl_schema.specs.declared.schema.Shape.{Shape}
 use Rattle.aidl_schema.specs.declared.schema.Shape.TheVariants as shape
 use Rattle.aidl_schema.specs.Types.{Form, form_of, is_one, is_raw, is_meant, is_well_shaped, elem}
 use Rattle.aidl_schema.specs.Types as form
-use Rattle.aidl_values.specs.Data.{Data, null, truth, number, text, seq, rec, alt, Items, none, item}
+use Rattle.aidl_values.specs.Data.{Data, null, seq, rec, alt, none, item}
 use Rattle.aidl_values.specs.Default.{initial_or, initial_by, initials_by, zero_of_form, zero_by, zero_within}
 use Rattle.aidl_values.specs.Sound.{initial_in}
 use Rattle.marshal_plans.specs.declared.plans.PlanField.{PlanField}
 use Rattle.marshal_plans.specs.declared.plans.PlanId.{PlanId}
 use Rattle.marshal_plans.specs.declared.plans.PlanItem.{PlanItem}
-use Rattle.marshal_plans.specs.declared.plans.PlanItem.TheVariants.{Word, Long, Text, Raw, Seq, Rec, Alt}
+use Rattle.marshal_plans.specs.declared.plans.PlanItem.TheVariants.{Raw, Seq}
 use Rattle.marshal_plans.specs.declared.plans.Plans.{Plans}
 use Rattle.marshal_plans.specs.Standing.{OneForOne, StandsFor, IsEntryOf, IsOneItem, IsItemOf, StandFor}
 use Rattle.marshal_plans.proofs.Matching.{matched}

@@ -1,5 +1,5 @@
 -- Reading by an id is reading by the type for which it stands.
-use Rattle.std.proofs.Common.{◌≡◌, ℕ, zero, suc, ℤ, Bool, true, false, ◌&&◌, List, [], ◌∷◌, length, take, drop, Option, Some, None, slice_get, Result, Ok, Err, refl, sym, ap, ◌∙◌, subst, ◌⊎◌, inl, inr}
+use Rattle.std.proofs.Common.{◌≡◌, ℕ, zero, suc, ℤ, Bool, true, false, List, [], ◌∷◌, length, take, drop, Option, Some, None, slice_get, Result, Ok, Err, refl, ap, ◌∙◌}
 use Rattle.std.specs.Prelude.{MatchBool, if◌then◌else◌}
 use Rattle.aidl_base.specs.declared.profile.Profile.{Profile}
 use Rattle.aidl_base.specs.Readings.{Read, ◌>>=◌, count_at}
@@ -8,14 +8,14 @@ use Rattle.aidl_schema.specs.declared.schema.Decl.{Decl}
 use Rattle.aidl_schema.specs.declared.schema.Field.{Field}
 use Rattle.aidl_schema.specs.Types.{Form, form_of, is_one, is_raw, elem}
 use Rattle.aidl_schema.specs.Types as form
-use Rattle.aidl_values.specs.Data.{Data, seq, rec, alt, Items, none, item}
+use Rattle.aidl_values.specs.Data.{Data, seq, rec, alt, item}
 use Rattle.aidl_values.specs.Sound.{initial_in}
 use Rattle.wire_model.specs.Status.{bad_value}
-use Rattle.wire_model.specs.ReadOf.{each_at, raw_items_at, elements_at, array_at, marker_at, marked_at, body_at, field_at, fields_at, body_value_at, record_at, tag_at, ok_field, tagged_at, union_at, one_at, read_by, read_of}
+use Rattle.wire_model.specs.ReadOf.{each_at, elements_at, array_at, marker_at, marked_at, body_at, field_at, fields_at, body_value_at, record_at, tag_at, ok_field, tagged_at, union_at, one_at, read_of}
 use Rattle.marshal_plans.specs.declared.plans.PlanField.{PlanField}
 use Rattle.marshal_plans.specs.declared.plans.PlanId.{PlanId}
 use Rattle.marshal_plans.specs.declared.plans.PlanItem.{PlanItem}
-use Rattle.marshal_plans.specs.declared.plans.PlanItem.TheVariants.{Word, Long, Text, Raw, Seq, Rec, Alt}
+use Rattle.marshal_plans.specs.declared.plans.PlanItem.TheVariants.{Raw, Seq}
 use Rattle.marshal_plans.specs.declared.plans.Plans.{Plans}
 use Rattle.marshal_plans.specs.Standing.{OneForOne, StandsFor, IsEntryOf, IsOneItem, IsManyItem, IsItemOf, StandFor}
 use Rattle.marshal_plans.proofs.Matching.{matched}
@@ -161,9 +161,9 @@ module _ (S : List Decl) (extra types : List AidlType) (P : Plans) (stand : Stan
       let i = matched (λ u j. IsItemOf S types P.fields u j) types P.items id.0 t stand.items at in
       ap (λ o. item_or_none_at p false (λ g. initial_by_plan P g) (λ u j c. Err bad_value) P.fields o inside b) i.1
       ∙ item_same p false types P.fields (λ g. initial_by_plan P g) (λ f. initial_in S f) (λ f g h. initial_is S extra types P stand f g h)
-          (λ u j c. Err bad_value) (λ u j c. Err bad_value) (λ u v h j c. refl) inside b S t i.0 i.2
+      (λ u j c. Err bad_value) (λ u j c. Err bad_value) (λ u v h j c. refl) inside b S t i.0 i.2
   reads_same (suc d) id t at inside b =
       let i = matched (λ u j. IsItemOf S types P.fields u j) types P.items id.0 t stand.items at in
       ap (λ o. item_or_none_at p true (λ g. initial_by_plan P g) (λ u j c. plan_read p P d u j c) P.fields o inside b) i.1
       ∙ item_same p true types P.fields (λ g. initial_by_plan P g) (λ f. initial_in S f) (λ f g h. initial_is S extra types P stand f g h)
-          (λ u j c. plan_read p P d u j c) (λ u j c. read_of p S d u j c) (λ u v h j c. reads_same d u v h j c) inside b S t i.0 i.2
+      (λ u j c. plan_read p P d u j c) (λ u j c. read_of p S d u j c) (λ u v h j c. reads_same d u v h j c) inside b S t i.0 i.2

@@ -54,17 +54,21 @@ fn default_of_item(
         Some(PlanItem::Raw { nullable }) => Ok(no_elements(alloc, nullable)),
         Some(PlanItem::Seq { nullable, .. }) => Ok(no_elements(alloc, nullable)),
         Some(PlanItem::Rec { nullable: true, .. }) => Ok(Value::Null),
-        Some(PlanItem::Rec {
-            nullable: false,
-            first,
-            count,
-        }) => record_of(alloc, plans, plans.entries(first, count), levels),
+        Some(
+            PlanItem::Rec {
+                nullable: false,
+                first,
+                count,
+            },
+        ) => record_of(alloc, plans, plans.entries(first, count), levels),
         Some(PlanItem::Alt { nullable: true, .. }) => Ok(Value::Null),
-        Some(PlanItem::Alt {
-            nullable: false,
-            first,
-            count,
-        }) => alternative_of(alloc, plans, plans.entries(first, count), levels),
+        Some(
+            PlanItem::Alt {
+                nullable: false,
+                first,
+                count,
+            },
+        ) => alternative_of(alloc, plans, plans.entries(first, count), levels),
     }
 }
 

@@ -32,12 +32,7 @@ impl From<OutOfMemory> for WriteFault {
 
 /// The bytes that spell a value of the type that the id stands for. A value is refused by `TooLarge` exactly where they are more
 /// than 1,048,576. The room for them is taken once, and nothing else is.
-pub fn write(
-    alloc: Global,
-    plans: &Plans,
-    id: PlanId,
-    value: &Value,
-) -> Result<Vec<u8>, WriteFault>
+pub fn write(alloc: Global, plans: &Plans, id: PlanId, value: &Value) -> Result<Vec<u8>, WriteFault>
     requires { FitsSome plans.now id (view value.now) }
     // What is written is the spelling.
     ensures spelled { OfEachFit plans.now id (view value.now) (λ S t. IfOk result (λ bytes. bytes.items ≡ spell S t (view value.now))) }

@@ -46,13 +46,23 @@ pub(crate) fn put(plans: &Plans, id: PlanId, value: &Value, to: &mut WordWriter)
         Value::Rec(items) => {
             to.word(PRESENT);
             let start = to.open_record();
-            put_fields(plans, fields_in(plans, plans.item(id)), items.as_slice(), to);
+            put_fields(
+                plans,
+                fields_in(plans, plans.item(id)),
+                items.as_slice(),
+                to,
+            );
             to.close_record(start);
         }
         Value::Alt(tag, inner) => {
             to.word(PRESENT);
             put_tag(*tag, to);
-            put(plans, alternative_in(plans, plans.item(id), *tag), inner, to);
+            put(
+                plans,
+                alternative_in(plans, plans.item(id), *tag),
+                inner,
+                to,
+            );
         }
     }
 }

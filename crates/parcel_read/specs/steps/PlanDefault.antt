@@ -1,5 +1,5 @@
 -- Defaults by plans, as plain functions on the items: those of the types for which the plans stand (proofs/Defaults.antt).
-use Rattle.std.specs.Prelude.{ℕ, zero, suc, pos, Bool, false, if◌then◌else◌, List, [], ◌∷◌, map, Option, Some, None, slice_get}
+use Rattle.std.specs.Prelude.{ℕ, zero, suc, pos, false, if◌then◌else◌, List, [], ◌∷◌, map, Option, Some, None, slice_get}
 use Rattle.aidl_values.specs.Data.{Data, null, truth, number, text, seq, rec, alt, Items, none}
 use Rattle.aidl_values.specs.Default.{initial_or}
 use Rattle.aidl_values.specs.View.{items_of}

@@ -7,7 +7,7 @@ use Rattle.wire_model.specs.Spell.{spell_truth, spell_text, raw_bytes, body}
 use Rattle.marshal_plans.specs.declared.plans.PlanField.{PlanField}
 use Rattle.marshal_plans.specs.declared.plans.PlanId.{PlanId}
 use Rattle.marshal_plans.specs.declared.plans.PlanItem.{PlanItem}
-use Rattle.marshal_plans.specs.declared.plans.PlanItem.TheVariants.{Word, Long, Text, Raw, Seq, Rec, Alt}
+use Rattle.marshal_plans.specs.declared.plans.PlanItem.TheVariants.{Long, Raw, Seq, Rec, Alt}
 use Rattle.marshal_plans.specs.declared.plans.Plans.{Plans}
 use Rattle.marshal_plans.specs.Standing.{entries_of}
 use Rattle.parcel_write.specs.steps.Bytes.{AreByteValues}

@@ -1,4 +1,4 @@
-use Rattle.std.proofs.Common.{◌≡◌, false, subst, arith, length-drop, ap, ◌∙◌, sym}
+use Rattle.std.proofs.Common.{false, subst, arith, length-drop, ◌∙◌, sym}
 use Rattle.std.proofs.lemmas.Result.{err_from_is_err_and}
 use Rattle.aidl_base.proofs.Bytes.{AreBytes}
 use Rattle.aidl_values.specs.View.{view}

@@ -1,4 +1,4 @@
-use Rattle.std.proofs.Common.{◌≡◌, ◌++◌, ◌∷◌, [], ◌-◌, ℕ, List, Ok, true, false, sym, ap, ◌∙◌, subst, rules, map, arith}
+use Rattle.std.proofs.Common.{◌≡◌, ◌++◌, ◌∷◌, [], ◌-◌, ℕ, List, Ok, true, sym, ap, ◌∙◌, subst, rules, map}
 use Rattle.std.proofs.lemmas.Result.{err_from_is_err_and}
 use Rattle.std.proofs.lemmas.List.{map_push}
 use Rattle.aidl_values.specs.Data.{Data, rec}
@@ -7,17 +7,13 @@ use Rattle.aidl_values.specs.declared.value.Value.{Rec, the_lemmas}
 use Rattle.parcel_cursors.specs.Place.{Place, left, is_inside, closed, MovesOn}
 use Rattle.parcel_cursors.specs.Taken.{TakesIfMemory, RefusesIfMemory}
 use Rattle.parcel_cursors.proofs.Moves.{on_and_on}
-use Rattle.wire_model.specs.ReadOf.{each_at, elements_at}
-use Rattle.wire_model.proofs.Parts.{elements_at-items}
-use Rattle.aidl_values.proofs.Levels.{level_left}
-use Rattle.parcel_cursors.proofs.Faults.{fails_then, refused_if_memory}
+use Rattle.parcel_cursors.proofs.Faults.{refused_if_memory}
 use Rattle.parcel_read.proofs.Loop.{goes_on, ends, is_done, field_on, fields_done}
 use Rattle.parcel_read.proofs.Records.{stays, leaves, body_is, record_is, record_fails, no_record}
 use Rattle.parcel_read.proofs.tree.+read.Goals as goal
 use Rattle.parcel_read.specs.steps.PlanDefault.{initial_by_plan}
 use Rattle.parcel_read.specs.steps.PlanRead.{entry_at, entries_at, plan_read, plan_parts}
 use Rattle.parcel_read.proofs.Levels.{plan_read-item, plan_read-none, plan_parts-below}
-use Rattle.aidl_values.specs.steps.Levels.{is_level_left}
 
 pub value_from-returns-in-Some-clause-taken : goal.value_from-returns-in-Some-clause-taken
 value_from-returns-in-Some-clause-taken t c =
