@@ -1,5 +1,5 @@
 -- Plans of the types of the words.
-use Rattle.std.proofs.Common.{◌≡◌, ℕ, ℤ, Some, Err, zero, suc, ◌<◌, List, [], ◌∷◌, ◌++◌, ◌+◌, length, get_or, drop, map, refl, sym, ap, ◌∙◌, subst, arith}
+use Rattle.std.proofs.Common.{◌≡◌, ℕ, ℤ, Some, Err, zero, suc, ◌<◌, List, [], ◌∷◌, ◌++◌, ◌+◌, length, get_or, drop, map, sym, ap, ◌∙◌, subst, arith}
 use Rattle.aidl_schema.specs.declared.schema.AidlType.{AidlType}
 use Rattle.aidl_schema.specs.declared.schema.Decl.{Decl}
 use Rattle.marshal_plans.specs.declared.plans.PlanId.{PlanId}

@@ -74,7 +74,9 @@ fn print_planned(
     let mut text = String::new(alloc);
     let mut rest = bytes;
     for i in 0..types.len() {
-        match push_item(alloc, profile, schema, &types[i], plans, ids[i], rest, &mut text)? {
+        match push_item(
+            alloc, profile, schema, &types[i], plans, ids[i], rest, &mut text,
+        )? {
             Some(after) => rest = after,
             None => return Ok(Printed {
                 text,

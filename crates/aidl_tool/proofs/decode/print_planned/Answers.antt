@@ -1,4 +1,4 @@
-use Rattle.std.proofs.Common.{◌<◌, length, ap, sym, subst, arith, get_or}
+use Rattle.std.proofs.Common.{length, ap, sym, subst, arith, get_or}
 use Rattle.aidl_schema.specs.Types.{no_type}
 use Rattle.marshal_plans.specs.declared.plans.PlanId.{PlanId}
 use Rattle.marshal_plans.specs.Standing.{IsOf}

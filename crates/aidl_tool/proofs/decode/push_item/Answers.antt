@@ -1,4 +1,4 @@
-use Rattle.std.proofs.Common.{◌≡◌, false, None, string_bytes, refl, rules, sym, ◌∙◌, subst}
+use Rattle.std.proofs.Common.{false, None, string_bytes, refl, rules, sym, ◌∙◌, subst}
 use Rattle.wire_model.specs.ReadOf.{read_of}
 use Rattle.aidl_tool.specs.steps.Items.{PrintsItem}
 use Rattle.aidl_tool.proofs.Planned.{refused}

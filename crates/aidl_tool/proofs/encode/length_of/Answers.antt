@@ -1,4 +1,4 @@
-use Rattle.std.proofs.Common.{◌<◌, ◌+◌, length, drop, map, ap, sym, subst, arith, length-append}
+use Rattle.std.proofs.Common.{◌+◌, length, drop, map, ap, arith, length-append}
 use Rattle.aidl_values.specs.View.{view}
 use Rattle.wire_model.specs.Spell.{spell}
 use Rattle.aidl_tool.specs.Encode.{spell_values}

@@ -1,4 +1,4 @@
-use Rattle.std.proofs.Common.{◌<◌, length, drop, map, ◌+◌, ap, sym, ◌∙◌, subst, arith, length-append}
+use Rattle.std.proofs.Common.{length, drop, map, ◌+◌, ap, sym, ◌∙◌, arith, length-append}
 use Rattle.aidl_values.specs.View.{view}
 use Rattle.parcel_cursors.specs.Written.{with_bytes}
 use Rattle.parcel_cursors.proofs.Appends.{with_more}
