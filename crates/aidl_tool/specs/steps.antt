@@ -1,5 +1,6 @@
 pub mod Files
 pub mod Items
+pub mod Planned
 pub mod Prints
 pub mod Results
 pub mod Trees

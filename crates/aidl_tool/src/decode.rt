@@ -4,10 +4,12 @@ ghost use Rattle.std.specs.Option.{option_map};
 ghost use Rattle.aidl_schema.specs.Types.{is_type};
 ghost use Rattle.aidl_values.specs.HasType.{HasType};
 ghost use Rattle.aidl_values.specs.View.{view};
+ghost use Rattle.marshal_plans.specs.Standing.{IsOf};
 ghost use Rattle.wire_model.specs.ReadOf.{read_of};
 ghost use Rattle.aidl_tool.specs.Decode.{decode_answer, items_answer, rest_answer, value_line};
 ghost use Rattle.aidl_tool.specs.ValueText.{value_text};
 ghost use Rattle.aidl_tool.specs.steps.Items.{PrintsItem};
+ghost use Rattle.aidl_tool.specs.steps.Planned.{ArePlanned};
 ghost use Rattle.aidl_tool.specs.steps.Results.{Gives, loaded, printed};
 
 use crate::printed::{Early, Printed, push_left, push_status};
@@ -17,6 +19,7 @@ use aidl_base::{Limit, LimitName, OutOfMemory, Profile};
 use aidl_schema::{AidlType, Schema};
 use aidl_values::Value;
 use json_values::to_json;
+use marshal_plans::{PlanId, Plans, compile};
 use parcel_read::read;
 use std::alloc::Global;
 
@@ -51,10 +54,29 @@ fn print_items(
     requires { list_all (is_type schema.now.decls) types.now ≡ true }
     ensures { IfOk result (λ p. printed p ≡ items_answer profile schema.now.decls types.now bytes.now) }
 {
+    let plans = compile(alloc, schema, types)?;
+    print_planned(alloc, profile, schema, types, &plans, bytes)
+}
+
+// The same, by plans of the types.
+fn print_planned(
+    alloc: Global,
+    profile: Profile,
+    schema: &Schema,
+    types: &[AidlType],
+    plans: &Plans,
+    bytes: &[u8],
+) -> Result<Printed, OutOfMemory>
+    requires { ArePlanned plans.now schema.now.decls types.now }
+    ensures { IfOk result (λ p. printed p ≡ items_answer profile schema.now.decls types.now bytes.now) }
+{
+    let ids = plans.extras.as_slice();
     let mut text = String::new(alloc);
     let mut rest = bytes;
-    for ty in types {
-        match push_item(alloc, profile, schema, ty, rest, &mut text)? {
+    for i in 0..types.len() {
+        match push_item(
+            alloc, profile, schema, &types[i], plans, ids[i], rest, &mut text,
+        )? {
             Some(after) => rest = after,
             None => return Ok(Printed {
                 text,
@@ -72,13 +94,15 @@ fn push_item<'a>(
     profile: Profile,
     schema: &Schema,
     ty: &AidlType,
+    plans: &Plans,
+    id: PlanId,
     bytes: &'a [u8],
     text: &mut String,
 ) -> Result<Option<&'a [u8]>, OutOfMemory>
-    requires { is_type schema.now.decls ty.now ≡ true }
+    requires { IsOf plans.now id schema.now.decls ty.now }
     ensures { IfOk result (λ left. PrintsItem schema.now.decls ty.now (read_of profile schema.now.decls 64 ty.now false bytes.now) (string_bytes text.old) (string_bytes text.new) (option_map (λ rest. rest.now) left)) }
 {
-    match read(alloc, profile, schema, ty, bytes) {
+    match read(alloc, profile, plans, id, bytes) {
         Ok((value, used)) => {
             push_value(alloc, schema, ty, &value, text)?;
             Ok(Some(&bytes[used..]))

@@ -1,7 +1,9 @@
-ghost use Rattle.std.specs.Prelude.{◌≡◌, ◌≤◌, ◌<◌, ◌^◌, ℕ, List, IfOk, MatchOption, length, map, min, string_bytes};
+ghost use Rattle.std.specs.Prelude.{◌≡◌, ◌≤◌, ◌<◌, ◌^◌, ℕ, true, List, IfOk, MatchOption, length, map, min, string_bytes};
+ghost use Rattle.std.specs.List.{list_all};
 ghost use Rattle.std.specs.Option.{option_map};
 ghost use Rattle.hex.specs.Hex.{encode_lower};
 ghost use Rattle.serde_json.specs.View.{view as json_view};
+ghost use Rattle.aidl_schema.specs.Types.{is_type};
 ghost use Rattle.aidl_values.specs.View.{view};
 ghost use Rattle.json_values.specs.Gives.{refusal_of};
 ghost use Rattle.parcel_cursors.specs.Written.{with_bytes};
@@ -9,6 +11,7 @@ ghost use Rattle.aidl_tool.specs.Answer.{done};
 ghost use Rattle.aidl_tool.specs.Encode.{encode_answer, json_found, reason_name, refused, spell_values, values_found};
 ghost use Rattle.aidl_tool.specs.JsonFile.{AreTyped, json_of, unread_refusal, values_of};
 ghost use Rattle.aidl_tool.specs.Refusals.{within};
+ghost use Rattle.aidl_tool.specs.steps.Planned.{ArePlanned};
 ghost use Rattle.aidl_tool.specs.steps.Results.{EndsAs, Finds, Gives, loaded, printed};
 
 use crate::json_file::{Unread, json_of, values_of};
@@ -19,6 +22,7 @@ use aidl_base::{Limit, LimitName, OutOfMemory};
 use aidl_schema::{AidlType, Schema};
 use aidl_values::Value;
 use json_values::JsonFault;
+use marshal_plans::{Plans, compile};
 use parcel_words::WordWriter;
 use parcel_write::{put_value, spelled_length};
 use serde_json::Value as Json;
@@ -107,42 +111,55 @@ fn parcel_of(
     types: &[AidlType],
     values: &[Value],
 ) -> Result<Vec<u8>, Early>
-    requires { AreTyped schema.now.decls types.now (map view values.now) }
+    requires known { list_all (is_type schema.now.decls) types.now ≡ true }
+    requires typed { AreTyped schema.now.decls types.now (map view values.now) }
     ensures { Finds (λ v. v.items) result (within LimitName.ParcelBytes (spell_values schema.now.decls types.now (map view values.now))) }
 {
-    let length = length_of(schema, types, values);
+    let plans = compile(alloc, schema, types)?;
+    let length = length_of(schema, types, &plans, values);
     let which = LimitName::ParcelBytes;
     if length > which.number() as usize {
         return Err(limit_passed(alloc, Limit { which }));
     }
     let mut to = WordWriter::with_room(alloc, length)?;
-    put_values(schema, types, values, &mut to);
+    put_values(schema, types, &plans, values, &mut to);
     Ok(to.finish())
 }
 
-// The number of bytes that spell the values, or `usize::MAX` where they are more.
+// The number of bytes that spell the values, or `usize::MAX` where they are more. The schema and the types are those for which the
+// plans stand.
 #[tactic(auto, using(crate::proofs::WriteValues::same_count))]
-fn length_of(schema: &Schema, types: &[AidlType], values: &[Value]) -> usize
-    requires { AreTyped schema.now.decls types.now (map view values.now) }
-    ensures { result ≡ min (length (spell_values schema.now.decls types.now (map view values.now))) usize.MAX }
+fn length_of(_schema: &Schema, _types: &[AidlType], plans: &Plans, values: &[Value]) -> usize
+    requires planned { ArePlanned plans.now _schema.now.decls _types.now }
+    requires typed { AreTyped _schema.now.decls _types.now (map view values.now) }
+    ensures { result ≡ min (length (spell_values _schema.now.decls _types.now (map view values.now))) usize.MAX }
 {
+    let ids = plans.extras.as_slice();
     let mut length: usize = 0;
     for i in 0..values.len() {
-        length = length.saturating_add(spelled_length(schema, &types[i], &values[i]));
+        length = length.saturating_add(spelled_length(plans, ids[i], &values[i]));
     }
     length
 }
 
 // Appends the bytes that spell the values.
 #[tactic(auto, using(crate::proofs::WriteValues::same_count))]
-fn put_values(schema: &Schema, types: &[AidlType], values: &[Value], to: &mut WordWriter)
-    requires typed { AreTyped schema.now.decls types.now (map view values.now) }
-    requires small { length (spell_values schema.now.decls types.now (map view values.now)) < 2 ^ 31 }
-    requires room { length (spell_values schema.now.decls types.now (map view values.now)) ≤ to.old.room }
-    ensures { to.new ≡ with_bytes to.old (spell_values schema.now.decls types.now (map view values.now)) }
+fn put_values(
+    _schema: &Schema,
+    _types: &[AidlType],
+    plans: &Plans,
+    values: &[Value],
+    to: &mut WordWriter,
+)
+    requires planned { ArePlanned plans.now _schema.now.decls _types.now }
+    requires typed { AreTyped _schema.now.decls _types.now (map view values.now) }
+    requires small { length (spell_values _schema.now.decls _types.now (map view values.now)) < 2 ^ 31 }
+    requires room { length (spell_values _schema.now.decls _types.now (map view values.now)) ≤ to.old.room }
+    ensures { to.new ≡ with_bytes to.old (spell_values _schema.now.decls _types.now (map view values.now)) }
 {
+    let ids = plans.extras.as_slice();
     for i in 0..values.len() {
-        put_value(schema, &types[i], &values[i], to);
+        put_value(plans, ids[i], &values[i], to);
     }
 }
 

@@ -31,9 +31,13 @@ StandsFor types id t = slice_get types id.0 ≡ Some t
 abbrev pub IsEntryOf : List AidlType → Field → PlanField → Type 0
 IsEntryOf types f g = StandsFor types g.item f.ty × (g.initial ≡ f.initial)
 
+-- so many entries of `fields` from a first one on
+abbrev pub entries_of : List PlanField → ℕ → ℕ → List PlanField
+entries_of entries first count = take count (drop first entries)
+
 -- The entries from `first` on are those of the fields.
 abbrev pub AreEntriesOf : List AidlType → List PlanField → ℕ → List Field → Type 0
-AreEntriesOf types entries first fs = OneForOne (λ f g. IsEntryOf types f g) fs (take (length fs) (drop first entries))
+AreEntriesOf types entries first fs = OneForOne (λ f g. IsEntryOf types f g) fs (entries_of entries first (length fs))
 
 -- The item of a type of shape one, by what its base means: a word, a long, a text, a record of the fields, or an alternative of
 -- them.
@@ -90,3 +94,7 @@ pub record StandFor (S : List Decl) (extra types : List AidlType) (plans : Plans
 -- The id stands for the type t of the schema S.
 abbrev pub IsOf : Plans → PlanId → List Decl → AidlType → Type 0
 IsOf plans id S t = (extra types : List AidlType) × StandFor S extra types plans × StandsFor types id t
+
+-- P holds of each schema and type for which the id stands.
+abbrev pub OfEachType : Plans → PlanId → (List Decl → AidlType → Type 0) → Type 0
+OfEachType plans id P = (S : List Decl) (t : AidlType) → IsOf plans id S t → P S t

@@ -2,6 +2,7 @@
 //! of the schema. A `Plans` holds no name and no declaration.
 #![tactic(auto)]
 
+mod access;
 mod compiling;
 mod entries;
 mod items;

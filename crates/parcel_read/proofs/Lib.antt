@@ -1,3 +1,7 @@
+mod Defaults
+mod Laws
+mod Levels
 mod Loop
+mod SameReads
 mod Records
 mod Whole

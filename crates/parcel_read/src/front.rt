@@ -1,10 +1,10 @@
 //! The front of the bytes as a value.
 ghost use Rattle.std.specs.Prelude.{◌≡◌, ◌*◌, ◌≤◌, ℕ, true, false, length, take, drop, IfOk, IfErr, IfSome, MatchResult, Ok};
-ghost use Rattle.aidl_schema.specs.Types.{is_type};
 ghost use Rattle.aidl_values.specs.Data.{Data};
 ghost use Rattle.aidl_values.specs.HasType.{HasType};
 ghost use Rattle.aidl_values.specs.Nodes.{nodes_of};
 ghost use Rattle.aidl_values.specs.View.{view};
+ghost use Rattle.marshal_plans.specs.Standing.{OfEachType};
 ghost use Rattle.parcel_cursors.specs.Taken.{RefusesIfMemory, status_of};
 ghost use Rattle.parcel_cursors.specs.declared.fault.ReadFault.TheVariants.{OutOfMemory as NoMemory};
 ghost use Rattle.wire_model.specs.ReadOf.{read_of};
@@ -13,42 +13,39 @@ ghost use Rattle.wire_model.specs.Stop.{Stop};
 
 use crate::tree::value_from;
 use aidl_base::Profile;
-use aidl_schema::{AidlType, Schema};
 use aidl_values::Value;
+use marshal_plans::{PlanId, Plans};
 use parcel_words::{ReadFault, WordReader};
 use std::alloc::Global;
-use wire_model::law_read_of;
 
-/// Reads the front of the bytes by the profile: the value, and how many bytes it takes. Without want of memory it answers exactly a
-/// front that is a reading, and else refuses with the status of the first wrong item.
+/// Reads the front of the bytes by the profile, as a value of the type that the id stands for: the value, and how many bytes it
+/// takes. Without want of memory it answers exactly a front that is a reading, and else refuses with the status of the first wrong
+/// item.
 pub fn read(
     alloc: Global,
     profile: Profile,
-    schema: &Schema,
-    ty: &AidlType,
+    plans: &Plans,
+    id: PlanId,
     bytes: &[u8],
 ) -> Result<(Value, usize), ReadFault>
-    requires { is_type schema.now.decls ty.now ≡ true }
-
     ensures within { IfOk result (λ x. x.1 ≤ length bytes.now) }
     // The value and the bytes after it are those of reading as a function, or the refusal is.
-    ensures exact { MatchResult result
-        (λ x. read_of profile schema.now.decls 64 ty.now false bytes.now ≡ Ok (view x.0, drop x.1 bytes.now))
-        (λ fault. RefusesIfMemory fault (read_of profile schema.now.decls 64 ty.now false bytes.now)) }
+    ensures exact { OfEachType plans.now id (λ S t. MatchResult result
+        (λ x. read_of profile S 64 t false bytes.now ≡ Ok (view x.0, drop x.1 bytes.now))
+        (λ fault. RefusesIfMemory fault (read_of profile S 64 t false bytes.now))) }
     // What is read is a reading.
-    ensures found { IfOk result (λ x. Reads profile schema.now.decls 64 ty.now (take x.1 bytes.now) (view x.0)) }
+    ensures found { OfEachType plans.now id (λ S t. IfOk result (λ x. Reads profile S 64 t (take x.1 bytes.now) (view x.0))) }
     // It has the type.
-    ensures typed { IfOk result (λ x. HasType schema.now.decls ty.now (view x.0)) }
+    ensures typed { OfEachType plans.now id (λ S t. IfOk result (λ x. HasType S t (view x.0))) }
     // It has at most 64 nodes for each byte that is used.
-    ensures nodes { IfOk result (λ x. nodes_of (view x.0) ≤ 64 * x.1) }
+    ensures nodes { OfEachType plans.now id (λ S t. IfOk result (λ x. nodes_of (view x.0) ≤ 64 * x.1)) }
     // A front that is a reading is what is read, unless memory runs out.
-    ensures only { (v : Data) (n : ℕ) → n ≤ length bytes.now → Reads profile schema.now.decls 64 ty.now (take n bytes.now) v
-        → MatchResult result (λ x. (view x.0 ≡ v) × (x.1 ≡ n)) (λ fault. fault ≡ NoMemory) }
+    ensures only { OfEachType plans.now id (λ S t. (v : Data) (n : ℕ) → n ≤ length bytes.now → Reads profile S 64 t (take n bytes.now) v
+        → MatchResult result (λ x. (view x.0 ≡ v) × (x.1 ≡ n)) (λ fault. fault ≡ NoMemory)) }
     // A refusal has the status of the first wrong item.
-    ensures stopped { IfErr result (λ fault. IfSome (status_of fault) (λ s. Stop profile schema.now.decls 64 ty.now bytes.now false s)) }
+    ensures stopped { OfEachType plans.now id (λ S t. IfErr result (λ fault. IfSome (status_of fault) (λ s. Stop profile S 64 t bytes.now false s))) }
 {
-    law_read_of(profile, schema, ty, 64, bytes, false);
     let mut from = WordReader::new(profile, bytes);
-    let value = value_from(alloc, schema, *ty, 64, &mut from)?;
+    let value = value_from(alloc, plans, id, 64, &mut from)?;
     Ok((value, from.position()))
 }

@@ -3,17 +3,32 @@ ghost use Rattle.std.specs.Prelude.{OnOk};
 ghost use Rattle.aidl_base.specs.Readings.{truth_at, byte_at, char_at, word_at, long_at, text_at};
 ghost use Rattle.aidl_values.specs.Data.{truth, number};
 ghost use Rattle.aidl_values.specs.View.{view};
-ghost use Rattle.parcel_cursors.specs.Place.{left, here, MovesOn};
+ghost use Rattle.parcel_cursors.specs.Place.{left, here, is_inside, MovesOn};
 ghost use Rattle.parcel_cursors.specs.Taken.{TakesIfMemory};
+ghost use Rattle.parcel_read.specs.steps.PlanRead.{word_by};
 ghost use Rattle.wire_model.specs.ReadOf.{read_as, char_data, text_data};
 
 use aidl_base::Text;
 use aidl_values::Value;
+use marshal_plans::WordKind;
 use parcel_words::{ReadFault, Wire, WordReader};
 use std::alloc::Global;
 
+/// Reads a word of four bytes.
+pub fn word_from(alloc: Global, kind: WordKind, from: &mut WordReader) -> Result<Value, ReadFault>
+    ensures taken { TakesIfMemory view result (word_by from.old.profile kind (is_inside from.old) (left from.old)) (left from.new) }
+    ensures on { OnOk result (MovesOn from.old from.new) }
+{
+    match kind {
+        WordKind::Truth => truth_from(alloc, from),
+        WordKind::Byte => byte_from(alloc, from),
+        WordKind::Char => char_from(alloc, from),
+        WordKind::Int => int_from(alloc, from),
+    }
+}
+
 /// Reads a boolean.
-pub fn truth_from(alloc: Global, from: &mut WordReader) -> Result<Value, ReadFault>
+fn truth_from(alloc: Global, from: &mut WordReader) -> Result<Value, ReadFault>
     ensures taken { TakesIfMemory view result (read_as truth (here (truth_at from.old.profile) from.old)) (left from.new) }
     ensures on { OnOk result (MovesOn from.old from.new) }
 {
@@ -22,7 +37,7 @@ pub fn truth_from(alloc: Global, from: &mut WordReader) -> Result<Value, ReadFau
 }
 
 /// Reads a byte or an enum of byte.
-pub fn byte_from(alloc: Global, from: &mut WordReader) -> Result<Value, ReadFault>
+fn byte_from(alloc: Global, from: &mut WordReader) -> Result<Value, ReadFault>
     ensures taken { TakesIfMemory view result (read_as number (here (byte_at from.old.profile) from.old)) (left from.new) }
     ensures on { OnOk result (MovesOn from.old from.new) }
 {
@@ -31,7 +46,7 @@ pub fn byte_from(alloc: Global, from: &mut WordReader) -> Result<Value, ReadFaul
 }
 
 /// Reads a char.
-pub fn char_from(alloc: Global, from: &mut WordReader) -> Result<Value, ReadFault>
+fn char_from(alloc: Global, from: &mut WordReader) -> Result<Value, ReadFault>
     ensures taken { TakesIfMemory view result (read_as char_data (here (char_at from.old.profile) from.old)) (left from.new) }
     ensures on { OnOk result (MovesOn from.old from.new) }
 {
@@ -40,7 +55,7 @@ pub fn char_from(alloc: Global, from: &mut WordReader) -> Result<Value, ReadFaul
 }
 
 /// Reads an int or an enum of int.
-pub fn int_from(alloc: Global, from: &mut WordReader) -> Result<Value, ReadFault>
+fn int_from(alloc: Global, from: &mut WordReader) -> Result<Value, ReadFault>
     ensures taken { TakesIfMemory view result (read_as number (here word_at from.old)) (left from.new) }
     ensures on { OnOk result (MovesOn from.old from.new) }
 {

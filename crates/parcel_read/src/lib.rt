@@ -1,6 +1,7 @@
 //! Reading values from the bytes of a parcel.
 #![tactic(auto)]
 
+mod default;
 mod front;
 mod leaf;
 mod marks;

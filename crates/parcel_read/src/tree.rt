@@ -1,88 +1,125 @@
-//! Values of all types. A value with parts takes one level, and its parts are read with one less.
-ghost use Rattle.std.specs.Prelude.{◌≡◌, ◌+◌, ◌<◌, ◌≤◌, true, length, slice_get, IfOk, OnOk, Ok, MatchResult};
+//! Values of all items. A value with parts takes one level, and its parts are read with one less.
+ghost use Rattle.std.specs.Prelude.{◌≡◌, ◌+◌, ◌<◌, ◌≤◌, true, false, length, slice_get, IfOk, OnOk, Ok, Err, MatchResult};
 ghost use Rattle.std.specs.Option.{option_copied};
-ghost use Rattle.aidl_schema.specs.Types.{form_of, is_raw, elem};
-ghost use Rattle.aidl_values.specs.Sound.{initial_in};
 ghost use Rattle.aidl_values.specs.View.{view, views};
+ghost use Rattle.aidl_values.specs.steps.Levels.{is_level_left};
 ghost use Rattle.parcel_cursors.specs.Place.{left, is_inside, MovesOn};
 ghost use Rattle.parcel_cursors.specs.Taken.{TakesIfMemory, RefusesIfMemory};
-ghost use Rattle.wire_model.specs.ReadOf.{each_at, elements_at, array_at, body_value_at, field_at, fields_at, record_at, tagged_at, union_at, one_at, read_of};
-ghost use Rattle.wire_model.specs.steps.Levels.{read_parts};
-ghost use Rattle.aidl_values.specs.steps.Levels.{is_level_left};
+ghost use Rattle.parcel_read.specs.steps.PlanDefault.{initial_by_plan};
+ghost use Rattle.parcel_read.specs.steps.PlanRead.{entry_at, entries_at, entries_body_at, plan_record_at, plan_tagged_at, plan_union_at, item_at, plan_read, plan_parts};
+ghost use Rattle.wire_model.specs.ReadOf.{each_at, elements_at, array_at};
+ghost use Rattle.wire_model.specs.Status.{bad_value};
 
-use crate::leaf::{byte_from, char_from, int_from, long_from, text_from, truth_from};
+use crate::default::initial_of;
+use crate::leaf::{long_from, text_from, word_from};
 use crate::marks::{marker_from, tag_from};
 use crate::raw::raw_from;
 use aidl_base::{OutOfMemory, Row};
-use aidl_schema::{AidlType, Field, Form, Schema, Shape, element, form_in, is_raw};
-use aidl_values::{Value, initial_of};
+use aidl_values::Value;
+use marshal_plans::{PlanField, PlanId, PlanItem, Plans};
 use parcel_words::{ReadFault, WordReader};
 use std::alloc::Global;
 
-/// Reads a value of a type, with so many levels left. At most 64 records are open at once.
+/// Reads a value by the item of an id, with so many levels left. At most 64 records are open at once.
 #[cycle(read)]
 pub fn value_from(
     alloc: Global,
-    schema: &Schema,
-    ty: AidlType,
+    plans: &Plans,
+    id: PlanId,
     levels: usize,
     from: &mut WordReader,
 ) -> Result<Value, ReadFault>
     requires { length from.old.ends + levels ≤ 64 }
-    ensures taken { TakesIfMemory view result (read_of from.old.profile schema.now.decls levels ty (is_inside from.old) (left from.old)) (left from.new) }
+    ensures taken { TakesIfMemory view result (plan_read from.old.profile plans.now levels id (is_inside from.old) (left from.old)) (left from.new) }
     ensures on { OnOk result (MovesOn from.old from.new) }
 {
-    match ty.shape {
-        Shape::One => one_from(alloc, schema, ty, levels, from),
-        Shape::Array | Shape::List => sequence_from(alloc, schema, ty, levels, from),
+    match plans.item(id) {
+        Some(item) => item_from(alloc, plans, item, levels, from),
+        // No id of plans is a number of no item.
+        None => Err(ReadFault::BadValue),
     }
 }
 
-/// Reads a value that is no sequence.
+/// Reads a value by its item.
 #[cycle(read)]
-fn one_from(
+fn item_from(
     alloc: Global,
-    schema: &Schema,
-    ty: AidlType,
+    plans: &Plans,
+    item: PlanItem,
     levels: usize,
     from: &mut WordReader,
 ) -> Result<Value, ReadFault>
     requires { length from.old.ends + levels ≤ 64 }
-    ensures taken { TakesIfMemory view result (one_at from.old.profile (is_level_left levels) (λ f. initial_in schema.now.decls f)
-        (λ u j b. read_parts from.old.profile schema.now.decls levels u j b) ty.nullable (form_of schema.now.decls ty.base) (is_inside from.old) (left from.old)) (left from.new) }
+    ensures taken { TakesIfMemory view result (item_at from.old.profile (is_level_left levels) (λ g. initial_by_plan plans.now g)
+        (λ u j b. plan_parts from.old.profile plans.now levels u j b) plans.now.fields item (is_inside from.old) (left from.old)) (left from.new) }
     ensures on { OnOk result (MovesOn from.old from.new) }
 {
-    match form_in(schema, ty.base) {
-        Form::Truth => truth_from(alloc, from),
-        Form::Byte => byte_from(alloc, from),
-        Form::Char => char_from(alloc, from),
-        Form::Int => int_from(alloc, from),
-        Form::Long => long_from(alloc, from),
-        Form::Text => text_from(alloc, ty.nullable, from),
-        Form::Parcelable(fields) => record_from(alloc, schema, ty.nullable, fields, levels, from),
-        Form::Union(fields) => union_from(alloc, schema, ty.nullable, fields, levels, from),
-        // No type of a schema means nothing.
-        Form::Nothing => Err(ReadFault::BadValue),
+    match item {
+        PlanItem::Word { kind } => word_from(alloc, kind, from),
+        PlanItem::Long => long_from(alloc, from),
+        PlanItem::Text { nullable } => text_from(alloc, nullable, from),
+        PlanItem::Raw { nullable } => bytes_from(alloc, nullable, levels, from),
+        PlanItem::Seq { nullable, element } => {
+            sequence_from(alloc, plans, nullable, element, levels, from)
+        }
+        PlanItem::Rec {
+            nullable,
+            first,
+            count,
+        } => {
+            let fields = plans.entries(first, count);
+            record_from(alloc, plans, nullable, fields, levels, from)
+        }
+        PlanItem::Alt {
+            nullable,
+            first,
+            count,
+        } => {
+            let fields = plans.entries(first, count);
+            union_from(alloc, plans, nullable, fields, levels, from)
+        }
     }
 }
 
-/// Reads an array or a `List`.
+/// Reads an array of bytes.
+#[tactic(auto, unfolding(wire_model::specs::ReadOf::array_at, wire_model::specs::ReadOf::elements_at))]
+fn bytes_from(
+    alloc: Global,
+    nullable: bool,
+    levels: usize,
+    from: &mut WordReader,
+) -> Result<Value, ReadFault>
+    ensures taken { TakesIfMemory view result (array_at from.old.profile (is_level_left levels) true nullable (λ b. Err bad_value) (is_inside from.old) (left from.old)) (left from.new) }
+    ensures on { OnOk result (MovesOn from.old from.new) }
+{
+    let Some(count) = from.count(nullable)? else {
+        return Ok(Value::Null);
+    };
+    if levels == 0 {
+        return Err(ReadFault::BadValue);
+    }
+    let values = raw_from(alloc, count, from)?;
+    Ok(Value::Seq(values))
+}
+
+/// Reads any other array or `List`.
 #[cycle(read)]
 #[tactic(auto, unfolding(wire_model::specs::ReadOf::array_at))]
 fn sequence_from(
     alloc: Global,
-    schema: &Schema,
-    ty: AidlType,
+    plans: &Plans,
+    nullable: bool,
+    element: PlanId,
     levels: usize,
     from: &mut WordReader,
 ) -> Result<Value, ReadFault>
     requires { length from.old.ends + levels ≤ 64 }
-    ensures taken { TakesIfMemory view result (array_at from.old.profile (is_level_left levels) (is_raw schema.now.decls ty) ty.nullable
-        (λ b. read_parts from.old.profile schema.now.decls levels (elem schema.now.decls ty) (is_inside from.old) b) (is_inside from.old) (left from.old)) (left from.new) }
+    ensures taken { TakesIfMemory view result (array_at from.old.profile (is_level_left levels) false nullable
+        (λ b. plan_parts from.old.profile plans.now levels element (is_inside from.old) b) (is_inside from.old) (left from.old)) (left from.new) }
     ensures on { OnOk result (MovesOn from.old from.new) }
 {
-    let count = from.count(ty.nullable)?;
-    elements_from(alloc, schema, ty, levels, count, from)
+    let count = from.count(nullable)?;
+    elements_from(alloc, plans, element, levels, count, from)
 }
 
 /// Reads the elements of a sequence, where a count of None is null.
@@ -90,15 +127,15 @@ fn sequence_from(
 #[tactic(auto, unfolding(wire_model::specs::ReadOf::elements_at))]
 fn elements_from(
     alloc: Global,
-    schema: &Schema,
-    ty: AidlType,
+    plans: &Plans,
+    element: PlanId,
     levels: usize,
     count: Option<usize>,
     from: &mut WordReader,
 ) -> Result<Value, ReadFault>
     requires { length from.old.ends + levels ≤ 64 }
-    ensures taken { TakesIfMemory view result (elements_at from.old.profile (is_level_left levels) (is_raw schema.now.decls ty)
-        (λ b. read_parts from.old.profile schema.now.decls levels (elem schema.now.decls ty) (is_inside from.old) b) (is_inside from.old) count (left from.old)) (left from.new) }
+    ensures taken { TakesIfMemory view result (elements_at from.old.profile (is_level_left levels) false
+        (λ b. plan_parts from.old.profile plans.now levels element (is_inside from.old) b) (is_inside from.old) count (left from.old)) (left from.new) }
     ensures on { OnOk result (MovesOn from.old from.new) }
 {
     let Some(count) = count else {
@@ -107,32 +144,28 @@ fn elements_from(
     if levels == 0 {
         return Err(ReadFault::BadValue);
     }
-    if is_raw(schema, ty) {
-        let values = raw_from(alloc, count, from)?;
-        return Ok(Value::Seq(values));
-    }
-    let values = items_from(alloc, schema, element(schema, ty), levels, count, from)?;
+    let values = items_from(alloc, plans, element, levels, count, from)?;
     Ok(Value::Seq(values))
 }
 
-/// Reads so many values of a type. Room is taken as they are read.
+/// Reads so many values of an item. Room is taken as they are read.
 #[cycle(read)]
 fn items_from(
     alloc: Global,
-    schema: &Schema,
-    ty: AidlType,
+    plans: &Plans,
+    element: PlanId,
     levels: usize,
     count: usize,
     from: &mut WordReader,
 ) -> Result<Row<Value>, ReadFault>
     requires some { 0 < levels }
     requires room { length from.old.ends + levels ≤ 64 }
-    ensures taken { TakesIfMemory views result (each_at (λ b. read_parts from.old.profile schema.now.decls levels ty (is_inside from.old) b) count (left from.old)) (left from.new) }
+    ensures taken { TakesIfMemory views result (each_at (λ b. plan_parts from.old.profile plans.now levels element (is_inside from.old) b) count (left from.old)) (left from.new) }
     ensures on { OnOk result (MovesOn from.old from.new) }
 {
     let mut values = Row::new(alloc);
     for _ in 0..count {
-        let value = value_from(alloc, schema, ty, levels - 1, from)?;
+        let value = value_from(alloc, plans, element, levels - 1, from)?;
         values.push(value)?;
     }
     Ok(values)
@@ -140,18 +173,18 @@ fn items_from(
 
 /// Reads a parcelable.
 #[cycle(read)]
-#[tactic(auto, unfolding(wire_model::specs::ReadOf::record_at))]
+#[tactic(auto, unfolding(crate::specs::steps::PlanRead::plan_record_at))]
 fn record_from(
     alloc: Global,
-    schema: &Schema,
+    plans: &Plans,
     nullable: bool,
-    fields: &[Field],
+    fields: &[PlanField],
     levels: usize,
     from: &mut WordReader,
 ) -> Result<Value, ReadFault>
     requires { length from.old.ends + levels ≤ 64 }
-    ensures taken { TakesIfMemory view result (record_at from.old.profile (is_level_left levels) nullable (λ f. initial_in schema.now.decls f)
-        (λ u b. read_parts from.old.profile schema.now.decls levels u true b) fields.now (is_inside from.old) (left from.old)) (left from.new) }
+    ensures taken { TakesIfMemory view result (plan_record_at from.old.profile (is_level_left levels) nullable (λ g. initial_by_plan plans.now g)
+        (λ u b. plan_parts from.old.profile plans.now levels u true b) fields.now (is_inside from.old) (left from.old)) (left from.new) }
     ensures on { OnOk result (MovesOn from.old from.new) }
 {
     if !marker_from(alloc, nullable, from)? {
@@ -160,26 +193,26 @@ fn record_from(
     if levels == 0 {
         return Err(ReadFault::BadValue);
     }
-    body_from(alloc, schema, fields, levels, from)
+    body_from(alloc, plans, fields, levels, from)
 }
 
 /// Reads a parcelable after its marker, and goes to the end of its record, whatever stands after its fields.
 #[cycle(read)]
 fn body_from(
     alloc: Global,
-    schema: &Schema,
-    fields: &[Field],
+    plans: &Plans,
+    fields: &[PlanField],
     levels: usize,
     from: &mut WordReader,
 ) -> Result<Value, ReadFault>
     requires some { 0 < levels }
     requires room { length from.old.ends + levels ≤ 64 }
-    ensures taken { TakesIfMemory view result (body_value_at (λ f. initial_in schema.now.decls f)
-        (λ u b. read_parts from.old.profile schema.now.decls levels u true b) fields.now (is_inside from.old) (left from.old)) (left from.new) }
+    ensures taken { TakesIfMemory view result (entries_body_at (λ g. initial_by_plan plans.now g)
+        (λ u b. plan_parts from.old.profile plans.now levels u true b) fields.now (is_inside from.old) (left from.old)) (left from.new) }
     ensures on { OnOk result (MovesOn from.old from.new) }
 {
     from.enter()?;
-    let values = fields_from(alloc, schema, fields, levels, from)?;
+    let values = fields_from(alloc, plans, fields, levels, from)?;
     from.leave();
     Ok(Value::Rec(values))
 }
@@ -188,8 +221,8 @@ fn body_from(
 #[cycle(read)]
 fn fields_from(
     alloc: Global,
-    schema: &Schema,
-    fields: &[Field],
+    plans: &Plans,
+    fields: &[PlanField],
     levels: usize,
     from: &mut WordReader,
 ) -> Result<Row<Value>, ReadFault>
@@ -197,13 +230,13 @@ fn fields_from(
     requires inside { is_inside from.old ≡ true }
     requires room { length from.old.ends + levels ≤ 65 }
     ensures taken { MatchResult result
-        (λ values. fields_at (λ f. initial_in schema.now.decls f) (λ u b. read_parts from.old.profile schema.now.decls levels u true b) fields.now (left from.old) ≡ Ok (views values))
-        (λ fault. RefusesIfMemory fault (fields_at (λ f. initial_in schema.now.decls f) (λ u b. read_parts from.old.profile schema.now.decls levels u true b) fields.now (left from.old))) }
+        (λ values. entries_at (λ g. initial_by_plan plans.now g) (λ u b. plan_parts from.old.profile plans.now levels u true b) fields.now (left from.old) ≡ Ok (views values))
+        (λ fault. RefusesIfMemory fault (entries_at (λ g. initial_by_plan plans.now g) (λ u b. plan_parts from.old.profile plans.now levels u true b) fields.now (left from.old))) }
     ensures on { OnOk result (MovesOn from.old from.new) }
 {
     let mut values = Vec::with_capacity(alloc, fields.len())?;
     for field in fields {
-        let value = field_from(alloc, schema, field, levels, from)?;
+        let value = field_from(alloc, plans, field, levels, from)?;
         values.push(value)?;
     }
     Ok(Row::from_vec(values))
@@ -213,39 +246,39 @@ fn fields_from(
 #[cycle(read)]
 fn field_from(
     alloc: Global,
-    schema: &Schema,
-    field: &Field,
+    plans: &Plans,
+    field: &PlanField,
     levels: usize,
     from: &mut WordReader,
 ) -> Result<Value, ReadFault>
     requires some { 0 < levels }
     requires inside { is_inside from.old ≡ true }
     requires room { length from.old.ends + levels ≤ 65 }
-    ensures taken { TakesIfMemory view result (field_at (λ f. initial_in schema.now.decls f)
-        (λ u b. read_parts from.old.profile schema.now.decls levels u true b) field.now (left from.old)) (left from.new) }
+    ensures taken { TakesIfMemory view result (entry_at (λ g. initial_by_plan plans.now g)
+        (λ u b. plan_parts from.old.profile plans.now levels u true b) field.now (left from.old)) (left from.new) }
     ensures on { OnOk result (MovesOn from.old from.new) }
 {
     if from.at_end() {
-        let value = initial_of(alloc, schema, field)?;
+        let value = initial_of(alloc, plans, field)?;
         return Ok(value);
     }
-    value_from(alloc, schema, field.ty, levels - 1, from)
+    value_from(alloc, plans, field.item, levels - 1, from)
 }
 
 /// Reads a union.
 #[cycle(read)]
-#[tactic(auto, unfolding(wire_model::specs::ReadOf::union_at))]
+#[tactic(auto, unfolding(crate::specs::steps::PlanRead::plan_union_at))]
 fn union_from(
     alloc: Global,
-    schema: &Schema,
+    plans: &Plans,
     nullable: bool,
-    fields: &[Field],
+    fields: &[PlanField],
     levels: usize,
     from: &mut WordReader,
 ) -> Result<Value, ReadFault>
     requires { length from.old.ends + levels ≤ 64 }
-    ensures taken { TakesIfMemory view result (union_at from.old.profile (is_level_left levels) nullable
-        (λ u b. read_parts from.old.profile schema.now.decls levels u (is_inside from.old) b) fields.now (is_inside from.old) (left from.old)) (left from.new) }
+    ensures taken { TakesIfMemory view result (plan_union_at from.old.profile (is_level_left levels) nullable
+        (λ u b. plan_parts from.old.profile plans.now levels u (is_inside from.old) b) fields.now (is_inside from.old) (left from.old)) (left from.new) }
     ensures on { OnOk result (MovesOn from.old from.new) }
 {
     if !marker_from(alloc, nullable, from)? {
@@ -254,22 +287,22 @@ fn union_from(
     if levels == 0 {
         return Err(ReadFault::BadValue);
     }
-    tagged_from(alloc, schema, fields, levels, from)
+    tagged_from(alloc, plans, fields, levels, from)
 }
 
 /// Reads a union after its marker.
 #[cycle(read)]
-#[tactic(auto, unfolding(wire_model::specs::ReadOf::tagged_at))]
+#[tactic(auto, unfolding(crate::specs::steps::PlanRead::plan_tagged_at))]
 fn tagged_from(
     alloc: Global,
-    schema: &Schema,
-    fields: &[Field],
+    plans: &Plans,
+    fields: &[PlanField],
     levels: usize,
     from: &mut WordReader,
 ) -> Result<Value, ReadFault>
     requires some { 0 < levels }
     requires room { length from.old.ends + levels ≤ 64 }
-    ensures taken { TakesIfMemory view result (tagged_at (λ u b. read_parts from.old.profile schema.now.decls levels u (is_inside from.old) b)
+    ensures taken { TakesIfMemory view result (plan_tagged_at (λ u b. plan_parts from.old.profile plans.now levels u (is_inside from.old) b)
         fields.now (is_inside from.old) (left from.old)) (left from.new) }
     ensures on { OnOk result (MovesOn from.old from.new) }
 {
@@ -277,14 +310,14 @@ fn tagged_from(
     match field_of(fields, tag) {
         None => Err(ReadFault::BadValue),
         Some(field) => {
-            let value = value_from(alloc, schema, field.ty, levels - 1, from)?;
+            let value = value_from(alloc, plans, field.item, levels - 1, from)?;
             Ok(Value::Alt(tag, boxed(alloc, value)?))
         }
     }
 }
 
 /// The field that a tag names.
-fn field_of(fields: &[Field], tag: u32) -> Option<&Field>
+fn field_of(fields: &[PlanField], tag: u32) -> Option<&PlanField>
     ensures { option_copied result ≡ slice_get fields.now tag }
 {
     fields.get(tag as usize)

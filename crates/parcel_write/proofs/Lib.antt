@@ -1,6 +1,7 @@
-pub mod Raw
-pub mod Records
-pub mod Seen
-pub mod Sequences
-pub mod Tags
-pub mod Typed
+mod Raw
+mod Records
+mod SameSpellings
+mod Seen
+mod Sequences
+mod Suited
+mod Typed

@@ -1,58 +1,59 @@
 ghost use Rattle.std.specs.Prelude.{◌≡◌, ◌+◌, ℤ, length, min};
 ghost use Rattle.aidl_base.specs.Words.{padding};
-ghost use Rattle.aidl_schema.specs.Seen.{seen};
-ghost use Rattle.aidl_values.specs.Fits.{Fits};
-ghost use Rattle.aidl_values.specs.HasType.{HasType, HaveType, FieldsHaveType};
 ghost use Rattle.aidl_values.specs.View.{view, views};
-ghost use Rattle.wire_model.specs.Spell.{spell, spell_number, spell_items, spell_fields};
+ghost use Rattle.parcel_write.specs.Fitting.{FitsSome, OfEachFit};
+ghost use Rattle.parcel_write.specs.steps.PlanSpell.{EachSuits, EntriesSuit, Suits, number_by, plan_spell, plan_spell_entries, plan_spell_items};
+ghost use Rattle.wire_model.specs.Spell.{spell};
 
-use crate::fields::{alternative_in, fields_in};
-use aidl_schema::{AidlType, Field, Form, Schema, element, form_in, is_raw};
+use crate::items::{alternative_in, element_in, fields_in, is_raw};
 use aidl_values::Value;
+use marshal_plans::{PlanField, PlanId, PlanItem, Plans};
 use parcel_words::Wire;
 
-/// The number of bytes that spell a value of the type, or `usize::MAX` where they are more. It takes no memory.
-pub fn spelled_length(schema: &Schema, ty: &AidlType, value: &Value) -> usize
-    requires { Fits schema.now.decls ty.now (view value.now) }
-    ensures { result ≡ min (length (spell schema.now.decls ty.now (view value.now))) usize.MAX }
+/// The number of bytes that spell a value of the type that the id stands for, or `usize::MAX` where they are more. It takes no
+/// memory.
+pub fn spelled_length(plans: &Plans, id: PlanId, value: &Value) -> usize
+    requires { FitsSome plans.now id (view value.now) }
+    ensures { OfEachFit plans.now id (view value.now) (λ S t. result ≡ min (length (spell S t (view value.now))) usize.MAX) }
 {
-    length_of(schema, *ty, value)
+    length_of(plans, id, value)
 }
 
+/// The number of bytes of a value by its item.
 #[cycle(length)]
-#[tactic(auto, using(crate::proofs::Raw::length_raw_sequence))]
-fn length_of(schema: &Schema, ty: AidlType, value: &Value) -> usize
-    requires { HasType schema.now.decls ty (view value.now) }
-    ensures { result ≡ min (length (spell schema.now.decls ty (view value.now))) usize.MAX }
+pub(crate) fn length_of(plans: &Plans, id: PlanId, value: &Value) -> usize
+    requires { Suits plans.now id (view value.now) }
+    ensures { result ≡ min (length (plan_spell plans.now id (view value.now))) usize.MAX }
 {
     match value {
         Value::Null | Value::Truth(_) => 4,
-        Value::Number(_) => number_length(&form_in(schema, ty.base)),
+        Value::Number(_) => number_length(plans.item(id)),
         Value::Text(text) => text.length(),
         Value::Seq(items) => {
-            if is_raw(schema, ty) {
+            let item = plans.item(id);
+            if is_raw(item) {
                 padded(items.len()).saturating_add(4)
             } else {
-                items_length(schema, element(schema, ty), items.as_slice()).saturating_add(4)
+                items_length(plans, element_in(item), items.as_slice()).saturating_add(4)
             }
         }
         Value::Rec(items) => {
-            let fields = fields_in(schema, ty.base);
-            fields_length(schema, fields, items.as_slice()).saturating_add(8)
+            let fields = fields_in(plans, plans.item(id));
+            fields_length(plans, fields, items.as_slice()).saturating_add(8)
         }
         Value::Alt(tag, inner) => {
-            let part = alternative_in(schema, ty.base, *tag);
-            length_of(schema, part, inner).saturating_add(8)
+            let part = alternative_in(plans, plans.item(id), *tag);
+            length_of(plans, part, inner).saturating_add(8)
         }
     }
 }
 
 /// The bytes of a number: a word, or two of a long.
-fn number_length(form: &Form<'_>) -> usize
-    ensures { (n : ℤ) → result ≡ length (spell_number (seen form.now) n) }
+fn number_length(item: Option<PlanItem>) -> usize
+    ensures { (n : ℤ) → result ≡ length (number_by item n) }
 {
-    match form {
-        Form::Long => 8,
+    match item {
+        Some(PlanItem::Long) => 8,
         _ => 4,
     }
 }
@@ -66,13 +67,13 @@ fn padded(len: usize) -> usize
 
 /// The bytes of the elements of a sequence.
 #[cycle(length)]
-fn items_length(schema: &Schema, ty: AidlType, items: &[Value]) -> usize
-    requires { HaveType schema.now.decls ty (views items.now) }
-    ensures { result ≡ min (length (spell_items schema.now.decls ty (views items.now))) usize.MAX }
+fn items_length(plans: &Plans, element: PlanId, items: &[Value]) -> usize
+    requires { EachSuits plans.now element (views items.now) }
+    ensures { result ≡ min (length (plan_spell_items plans.now element (views items.now))) usize.MAX }
 {
     let mut len: usize = 0;
     for item in items {
-        len = len.saturating_add(length_of(schema, ty, item));
+        len = len.saturating_add(length_of(plans, element, item));
     }
     len
 }
@@ -80,13 +81,13 @@ fn items_length(schema: &Schema, ty: AidlType, items: &[Value]) -> usize
 /// The bytes of the fields of a record.
 #[cycle(length)]
 #[tactic(auto, using(crate::proofs::Typed::same_count))]
-fn fields_length(schema: &Schema, fields: &[Field], values: &[Value]) -> usize
-    requires { FieldsHaveType schema.now.decls fields.now (views values.now) }
-    ensures { result ≡ min (length (spell_fields schema.now.decls fields.now (views values.now))) usize.MAX }
+fn fields_length(plans: &Plans, fields: &[PlanField], values: &[Value]) -> usize
+    requires { EntriesSuit plans.now fields.now (views values.now) }
+    ensures { result ≡ min (length (plan_spell_entries plans.now fields.now (views values.now))) usize.MAX }
 {
     let mut len: usize = 0;
     for i in 0..values.len() {
-        len = len.saturating_add(length_of(schema, fields[i].ty, &values[i]));
+        len = len.saturating_add(length_of(plans, fields[i].item, &values[i]));
     }
     len
 }

@@ -1,4 +1,4 @@
-//! Writing a value of a type as the bytes of a Parcel.
+//! Writing a value of a type as the bytes of a Parcel, by the plans of the type.
 //!
 //! The bytes are those that `wire_model` calls the spelling. `spelled_length` counts them, `write` makes them, and
 //! `put_value` adds those of one value to others. The length is counted first and the room taken once, so that
@@ -6,7 +6,7 @@
 #![tactic(auto)]
 
 mod bytes;
-mod fields;
+mod items;
 mod length;
 mod number;
 mod parcel;

@@ -1,60 +1,68 @@
 ghost use Rattle.std.specs.Prelude.{◌≡◌, ◌≤◌, ◌<◌, ◌^◌, pos, length};
 ghost use Rattle.aidl_base.specs.Words.{word};
-ghost use Rattle.aidl_schema.specs.Types.{form_of};
-ghost use Rattle.aidl_values.specs.Fits.{Fits};
-ghost use Rattle.aidl_values.specs.HasType.{HasType, HaveType, FieldsHaveType};
 ghost use Rattle.aidl_values.specs.View.{view, views};
 ghost use Rattle.parcel_cursors.specs.Written.{with_bytes};
-ghost use Rattle.wire_model.specs.Spell.{spell, spell_null, spell_items, spell_fields};
+ghost use Rattle.parcel_write.specs.Fitting.{FitsRoom, OfEachFit};
+ghost use Rattle.parcel_write.specs.steps.PlanSpell.{EachSuits, EntriesSuit, Suits, null_word_by, plan_spell, plan_spell_entries, plan_spell_items};
+ghost use Rattle.wire_model.specs.Spell.{spell};
 
 use crate::bytes::put_raw;
-use crate::fields::{alternative_in, fields_in};
+use crate::items::{alternative_in, element_in, fields_in, is_raw};
 use crate::number::put_number;
-use aidl_schema::{AidlType, Field, Form, Schema, Shape, element, form_in, is_raw};
-use aidl_values::{Value, law_sound};
+use aidl_values::Value;
+use marshal_plans::{PlanField, PlanId, PlanItem, Plans};
 use parcel_words::{Wire, WordWriter};
 
-/// Appends the bytes that spell a value of the type. It takes no memory.
-pub fn put_value(schema: &Schema, ty: &AidlType, value: &Value, to: &mut WordWriter)
-    requires fits { Fits schema.now.decls ty.now (view value.now) }
-    requires small { length (spell schema.now.decls ty.now (view value.now)) < 2 ^ 31 }
-    requires room { length (spell schema.now.decls ty.now (view value.now)) ≤ to.old.room }
-    ensures { to.new ≡ with_bytes to.old (spell schema.now.decls ty.now (view value.now)) }
+/// Appends the bytes that spell a value of the type that the id stands for. It takes no memory.
+pub fn put_value(plans: &Plans, id: PlanId, value: &Value, to: &mut WordWriter)
+    requires { FitsRoom plans.now id (view value.now) to.old.room }
+    ensures { OfEachFit plans.now id (view value.now) (λ S t. to.new ≡ with_bytes to.old (spell S t (view value.now))) }
 {
-    put(schema, *ty, value, to);
+    put(plans, id, value, to);
 }
 
+/// Appends the bytes of a value by its item.
 #[cycle(put)]
-fn put(schema: &Schema, ty: AidlType, value: &Value, to: &mut WordWriter)
-    requires typed { HasType schema.now.decls ty (view value.now) }
-    requires small { length (spell schema.now.decls ty (view value.now)) < 2 ^ 31 }
-    requires room { length (spell schema.now.decls ty (view value.now)) ≤ to.old.room }
-    ensures { to.new ≡ with_bytes to.old (spell schema.now.decls ty (view value.now)) }
+pub(crate) fn put(plans: &Plans, id: PlanId, value: &Value, to: &mut WordWriter)
+    requires suits { Suits plans.now id (view value.now) }
+    requires small { length (plan_spell plans.now id (view value.now)) < 2 ^ 31 }
+    requires room { length (plan_spell plans.now id (view value.now)) ≤ to.old.room }
+    ensures { to.new ≡ with_bytes to.old (plan_spell plans.now id (view value.now)) }
 {
     match value {
-        Value::Null => put_null(schema, ty, to),
+        Value::Null => put_null(plans.item(id), to),
         Value::Truth(b) => to.word(i32::from(*b)),
-        Value::Number(n) => put_number(&form_in(schema, ty.base), *n, to),
+        Value::Number(n) => put_number(plans.item(id), *n, to),
         Value::Text(text) => text.put(to),
         Value::Seq(items) => {
             to.count(items.len());
-            if is_raw(schema, ty) {
+            let item = plans.item(id);
+            if is_raw(item) {
                 put_raw(items.as_slice(), to);
             } else {
-                put_items(schema, element(schema, ty), items.as_slice(), to);
+                put_items(plans, element_in(item), items.as_slice(), to);
             }
         }
         Value::Rec(items) => {
             to.word(PRESENT);
             let start = to.open_record();
-            put_fields(schema, fields_in(schema, ty.base), items.as_slice(), to);
+            put_fields(
+                plans,
+                fields_in(plans, plans.item(id)),
+                items.as_slice(),
+                to,
+            );
             to.close_record(start);
         }
         Value::Alt(tag, inner) => {
-            law_sound(schema);
             to.word(PRESENT);
             put_tag(*tag, to);
-            put(schema, alternative_in(schema, ty.base, *tag), inner, to);
+            put(
+                plans,
+                alternative_in(plans, plans.item(id), *tag),
+                inner,
+                to,
+            );
         }
     }
 }
@@ -63,12 +71,12 @@ fn put(schema: &Schema, ty: AidlType, value: &Value, to: &mut WordWriter)
 const PRESENT: i32 = 1;
 
 /// Appends null: the word 0 of a parcelable or union, and otherwise the word -1.
-fn put_null(schema: &Schema, ty: AidlType, to: &mut WordWriter)
+fn put_null(item: Option<PlanItem>, to: &mut WordWriter)
     requires { 4 ≤ to.old.room }
-    ensures { to.new ≡ with_bytes to.old (spell_null schema.now.decls ty) }
+    ensures { to.new ≡ with_bytes to.old (word (null_word_by item)) }
 {
-    match (ty.shape, form_in(schema, ty.base)) {
-        (Shape::One, Form::Parcelable(_) | Form::Union(_)) => to.word(0),
+    match item {
+        Some(PlanItem::Rec { .. }) | Some(PlanItem::Alt { .. }) => to.word(0),
         _ => to.word(-1),
     }
 }
@@ -85,27 +93,27 @@ fn put_tag(tag: u32, to: &mut WordWriter)
 /// Appends the elements of a sequence.
 #[cycle(put)]
 #[tactic(auto, using(parcel_cursors::proofs::Appends::with_more, parcel_cursors::proofs::Appends::with_none))]
-fn put_items(schema: &Schema, ty: AidlType, items: &[Value], to: &mut WordWriter)
-    requires typed { HaveType schema.now.decls ty (views items.now) }
-    requires small { length (spell_items schema.now.decls ty (views items.now)) < 2 ^ 31 }
-    requires room { length (spell_items schema.now.decls ty (views items.now)) ≤ to.old.room }
-    ensures { to.new ≡ with_bytes to.old (spell_items schema.now.decls ty (views items.now)) }
+fn put_items(plans: &Plans, element: PlanId, items: &[Value], to: &mut WordWriter)
+    requires suits { EachSuits plans.now element (views items.now) }
+    requires small { length (plan_spell_items plans.now element (views items.now)) < 2 ^ 31 }
+    requires room { length (plan_spell_items plans.now element (views items.now)) ≤ to.old.room }
+    ensures { to.new ≡ with_bytes to.old (plan_spell_items plans.now element (views items.now)) }
 {
     for item in items {
-        put(schema, ty, item, to);
+        put(plans, element, item, to);
     }
 }
 
 /// Appends the fields of a record.
 #[cycle(put)]
 #[tactic(auto, using(crate::proofs::Typed::same_count))]
-fn put_fields(schema: &Schema, fields: &[Field], values: &[Value], to: &mut WordWriter)
-    requires typed { FieldsHaveType schema.now.decls fields.now (views values.now) }
-    requires small { length (spell_fields schema.now.decls fields.now (views values.now)) < 2 ^ 31 }
-    requires room { length (spell_fields schema.now.decls fields.now (views values.now)) ≤ to.old.room }
-    ensures { to.new ≡ with_bytes to.old (spell_fields schema.now.decls fields.now (views values.now)) }
+fn put_fields(plans: &Plans, fields: &[PlanField], values: &[Value], to: &mut WordWriter)
+    requires suits { EntriesSuit plans.now fields.now (views values.now) }
+    requires small { length (plan_spell_entries plans.now fields.now (views values.now)) < 2 ^ 31 }
+    requires room { length (plan_spell_entries plans.now fields.now (views values.now)) ≤ to.old.room }
+    ensures { to.new ≡ with_bytes to.old (plan_spell_entries plans.now fields.now (views values.now)) }
 {
     for i in 0..values.len() {
-        put(schema, fields[i].ty, &values[i], to);
+        put(plans, fields[i].item, &values[i], to);
     }
 }

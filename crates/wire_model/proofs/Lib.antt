@@ -4,6 +4,7 @@ mod Forms
 mod Lenient
 mod Lookups
 mod Nodes
+pub mod Nodes
 pub mod Parts
 mod RawForms
 pub mod Reading

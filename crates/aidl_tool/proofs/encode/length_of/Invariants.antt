@@ -8,8 +8,8 @@ use Rattle.aidl_tool.proofs.encode.length_of.Given as goal
 abbrev pub invariant-loop-i : goal.invariant-loop-i
 invariant-loop-i l = record {
   fits : l.length ≤ 2 ^ 64 - 1;
-  same : length l.types ≡ length l.values;
-  typed : AreTyped l.schema.decls (drop l.i l.types) (map view (drop l.i l.values));
-  sum : min (l.length + length (spell_values l.schema.decls (drop l.i l.types) (map view (drop l.i l.values)))) (2 ^ 64 - 1)
-      ≡ min (length (spell_values l.schema.decls l.types (map view l.values))) (2 ^ 64 - 1);
+  same : length l.fn._types ≡ length l.values;
+  typed : AreTyped l.fn._schema.decls (drop l.i l.fn._types) (map view (drop l.i l.values));
+  sum : min (l.length + length (spell_values l.fn._schema.decls (drop l.i l.fn._types) (map view (drop l.i l.values)))) (2 ^ 64 - 1)
+      ≡ min (length (spell_values l.fn._schema.decls l.fn._types (map view l.values))) (2 ^ 64 - 1);
 }

@@ -8,10 +8,10 @@ use Rattle.aidl_tool.proofs.encode.put_values.Given as goal
 -- with the values that are left, all is written, and there is room for them
 abbrev pub invariant-loop-i : goal.invariant-loop-i
 invariant-loop-i l = record {
-  same : length l.types ≡ length l.values;
-  typed : AreTyped l.schema.decls (drop l.i l.types) (map view (drop l.i l.values));
-  small : length (spell_values l.schema.decls (drop l.i l.types) (map view (drop l.i l.values))) < 2 ^ 31;
-  room : length (spell_values l.schema.decls (drop l.i l.types) (map view (drop l.i l.values))) ≤ l.to.room;
-  all : with_bytes l.to (spell_values l.schema.decls (drop l.i l.types) (map view (drop l.i l.values)))
-      ≡ with_bytes l.initial.to (spell_values l.schema.decls l.types (map view l.values));
+  same : length l.fn._types ≡ length l.values;
+  typed : AreTyped l.fn._schema.decls (drop l.i l.fn._types) (map view (drop l.i l.values));
+  small : length (spell_values l.fn._schema.decls (drop l.i l.fn._types) (map view (drop l.i l.values))) < 2 ^ 31;
+  room : length (spell_values l.fn._schema.decls (drop l.i l.fn._types) (map view (drop l.i l.values))) ≤ l.to.room;
+  all : with_bytes l.to (spell_values l.fn._schema.decls (drop l.i l.fn._types) (map view (drop l.i l.values)))
+      ≡ with_bytes l.initial.to (spell_values l.fn._schema.decls l.fn._types (map view l.values));
 }

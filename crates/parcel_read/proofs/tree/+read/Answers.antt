@@ -1,148 +1,115 @@
-use Rattle.std.proofs.Common.{◌≡◌, ◌++◌, ◌∷◌, [], ◌-◌, ℕ, List, Ok, true, false, sym, ap, ◌∙◌, subst, rules, map, arith}
+use Rattle.std.proofs.Common.{◌≡◌, ◌++◌, ◌∷◌, [], ◌-◌, ℕ, List, Ok, true, sym, ap, ◌∙◌, subst, rules, map}
 use Rattle.std.proofs.lemmas.Result.{err_from_is_err_and}
 use Rattle.std.proofs.lemmas.List.{map_push}
-use Rattle.aidl_schema.specs.Types.{is_raw, elem}
 use Rattle.aidl_values.specs.Data.{Data, rec}
-use Rattle.aidl_values.specs.Sound.{initial_in}
 use Rattle.aidl_values.specs.View.{view, views}
 use Rattle.aidl_values.specs.declared.value.Value.{Rec, the_lemmas}
 use Rattle.parcel_cursors.specs.Place.{Place, left, is_inside, closed, MovesOn}
 use Rattle.parcel_cursors.specs.Taken.{TakesIfMemory, RefusesIfMemory}
 use Rattle.parcel_cursors.proofs.Moves.{on_and_on}
-use Rattle.wire_model.specs.ReadOf.{each_at, elements_at, field_at, fields_at, read_of}
-use Rattle.wire_model.proofs.Parts.{read_of-one, read_of-sequence, read_parts-below, elements_at-items}
-use Rattle.aidl_values.proofs.Levels.{level_left}
-use Rattle.parcel_cursors.proofs.Faults.{fails_then, refused_if_memory}
+use Rattle.parcel_cursors.proofs.Faults.{refused_if_memory}
 use Rattle.parcel_read.proofs.Loop.{goes_on, ends, is_done, field_on, fields_done}
 use Rattle.parcel_read.proofs.Records.{stays, leaves, body_is, record_is, record_fails, no_record}
 use Rattle.parcel_read.proofs.tree.+read.Goals as goal
-use Rattle.wire_model.specs.steps.Levels.{read_parts}
-use Rattle.aidl_values.specs.steps.Levels.{is_level_left}
-use Rattle.aidl_schema.proofs.Shapes.{many}
+use Rattle.parcel_read.specs.steps.PlanDefault.{initial_by_plan}
+use Rattle.parcel_read.specs.steps.PlanRead.{entry_at, entries_at, plan_read, plan_parts}
+use Rattle.parcel_read.proofs.Levels.{plan_read-item, plan_read-none, plan_parts-below}
 
-pub value_from-returns-in-One-clause-taken : goal.value_from-returns-in-One-clause-taken
-value_from-returns-in-One-clause-taken t c =
+pub value_from-returns-in-Some-clause-taken : goal.value_from-returns-in-Some-clause-taken
+value_from-returns-in-Some-clause-taken t c =
     let p = c.args.from.now in
-    subst (λ r. TakesIfMemory view c.one_from.result r (left c.one_from.new.from)) (read_of-one p.profile c.args.schema.now.decls c.args.levels c.args.ty (is_inside p) (left p) c.in-One.is) c.one_from.ensures.taken
+    subst (λ r. TakesIfMemory view c.item_from.result r (left c.item_from.new.from))
+    (plan_read-item p.profile c.args.plans.now c.args.levels c.args.id (is_inside p) (left p) c.in-Some.item (sym c.item.ensures ∙ c.in-Some.is)) c.item_from.ensures.taken
 
-pub value_from-returns-in-Array : goal.value_from-returns-in-Array
-value_from-returns-in-Array t c =
+pub value_from-returns-in-None-clause-taken : goal.value_from-returns-in-None-clause-taken
+value_from-returns-in-None-clause-taken t c =
     let p = c.args.from.now in
-    record {
-      taken = subst (λ r. TakesIfMemory view c.sequence_from.result r (left c.sequence_from.new.from)) (read_of-sequence p.profile c.args.schema.now.decls c.args.levels c.args.ty (is_inside p) (left p) (many c.args.ty.shape c.in-Array.is)) c.sequence_from.ensures.taken;
-      on = c.sequence_from.ensures.on;
-    }
-
-pub elements_from-returns-in_err-values-2-clause-taken : goal.elements_from-returns-in_err-values-2-clause-taken
-elements_from-returns-in_err-values-2-clause-taken t c =
-    let S = c.args.schema.now.decls in
-    let p = c.args.from.now in
-    let q = err_from_is_err_and c.from_residual-in_err-values-2.result c.from_residual-in_err-values-2.ensures.1 in
-    let has : is_level_left c.args.levels ≡ true = level_left c.args.levels (omega arith) in
-    let apart : is_raw S c.args.ty ≡ false = sym c.is_raw.ensures ∙ c.if-is_raw.false in
-    let read = λ (b : List ℕ). read_parts p.profile S c.args.levels (elem S c.args.ty) (is_inside p) b in
-    let e = c.in_err-values-2.field-0.0 in
-    let failed : RefusesIfMemory e (each_at read c.in-Some.count (left p)) = rw (← c.element.ensures) c.in_err-values-2.ensures.taken in
-    let whole = ap (λ n. elements_at p.profile (is_level_left c.args.levels) (is_raw S c.args.ty) read (is_inside p) n (left p)) c.in-Some.is
-    ∙ elements_at-items p.profile (is_level_left c.args.levels) (is_raw S c.args.ty) read (is_inside p) c.in-Some.count (left p) has apart in
-    rw (q.1, q.2) (subst (RefusesIfMemory e) (sym whole) (fails_then e _ _ failed))
-
-pub elements_from-returns-clause-taken : goal.elements_from-returns-clause-taken
-elements_from-returns-clause-taken t c =
-    let S = c.args.schema.now.decls in
-    let p = c.args.from.now in
-    let has : is_level_left c.args.levels ≡ true = level_left c.args.levels (omega arith) in
-    let apart : is_raw S c.args.ty ≡ false = sym c.is_raw.ensures ∙ c.if-is_raw.false in
-    let read = λ (b : List ℕ). read_parts p.profile S c.args.levels (elem S c.args.ty) (is_inside p) b in
-    let found : each_at read c.in-Some.count (left p) ≡ Ok (views c.in_ok-values-2.values, left c.items_from.new.from) = rw (← c.element.ensures) c.in_ok-values-2.ensures.taken in
-    ap (λ n. elements_at p.profile (is_level_left c.args.levels) (is_raw S c.args.ty) read (is_inside p) n (left p)) c.in-Some.is
-    ∙ elements_at-items p.profile (is_level_left c.args.levels) (is_raw S c.args.ty) read (is_inside p) c.in-Some.count (left p) has apart
-    ∙ rw found (search (rules, the_lemmas))
+    plan_read-none p.profile c.args.plans.now c.args.levels c.args.id (is_inside p) (left p) (sym c.item.ensures ∙ c.in-None.is)
 
 pub items_from-returns-in_err-value-clause-taken : goal.items_from-returns-in_err-value-clause-taken
 items_from-returns-in_err-value-clause-taken t c =
-    let S = c.args.schema.now.decls in
+    let P = c.args.plans.now in
     let p = c.args.from.now in
     let inside : is_inside c.loop.from ≡ is_inside p = ap is_inside c.loop.invariant.on in
     let q = err_from_is_err_and c.from_residual.result c.from_residual.ensures.1 in
     let e = c.in_err-value.field-0.0 in
-    let here = read_parts-below p.profile S c.args.levels c.args.ty (is_inside p) (left c.loop.from) c.requires.some in
+    let here = plan_parts-below p.profile P c.args.levels c.args.element (is_inside p) (left c.loop.from) c.requires.some in
     let profile : c.loop.from.profile ≡ p.profile = ap (λ (r : Place). r.profile) c.loop.invariant.on in
-    let as_read = subst (λ q. RefusesIfMemory e (read_of q S (c.args.levels - 1) c.args.ty (is_inside c.loop.from) (left c.loop.from))) profile c.in_err-value.ensures.taken in
-    let failed = subst (λ b. RefusesIfMemory e (read_of p.profile S (c.args.levels - 1) c.args.ty b (left c.loop.from))) inside as_read in
-    rw (q.1, q.2) (ends (λ b. read_parts p.profile S c.args.levels c.args.ty (is_inside p) b) (map view c.loop.values) c.args.count c.loop.counter (left c.loop.from) _ c.loop.invariant.read e c.loop-test.true (subst (RefusesIfMemory e) (sym here) failed))
+    let as_read = subst (λ q. RefusesIfMemory e (plan_read q P (c.args.levels - 1) c.args.element (is_inside c.loop.from) (left c.loop.from))) profile c.in_err-value.ensures.taken in
+    let failed = subst (λ b. RefusesIfMemory e (plan_read p.profile P (c.args.levels - 1) c.args.element b (left c.loop.from))) inside as_read in
+    rw (q.1, q.2) (ends (λ b. plan_parts p.profile P c.args.levels c.args.element (is_inside p) b) (map view c.loop.values) c.args.count c.loop.counter (left c.loop.from) _ c.loop.invariant.read e c.loop-test.true (subst (RefusesIfMemory e) (sym here) failed))
 
 pub items_from-loop-preserved : goal.items_from-loop-preserved
 items_from-loop-preserved t c =
-    let S = c.args.schema.now.decls in
+    let P = c.args.plans.now in
     let p = c.args.from.now in
     let inside : is_inside c.loop.from ≡ is_inside p = ap is_inside c.loop.invariant.on in
     let v = c.in_ok-value.value in
-    let here = read_parts-below p.profile S c.args.levels c.args.ty (is_inside p) (left c.loop.from) c.requires.some in
+    let here = plan_parts-below p.profile P c.args.levels c.args.element (is_inside p) (left c.loop.from) c.requires.some in
     let profile : c.loop.from.profile ≡ p.profile = ap (λ (r : Place). r.profile) c.loop.invariant.on in
-    let as_read = subst (λ q. read_of q S (c.args.levels - 1) c.args.ty (is_inside c.loop.from) (left c.loop.from) ≡ Ok (view v, left c.value_from.new.from)) profile c.in_ok-value.ensures.taken in
-    let found = subst (λ b. read_of p.profile S (c.args.levels - 1) c.args.ty b (left c.loop.from) ≡ Ok (view v, left c.value_from.new.from)) inside as_read in
+    let as_read = subst (λ q. plan_read q P (c.args.levels - 1) c.args.element (is_inside c.loop.from) (left c.loop.from) ≡ Ok (view v, left c.value_from.new.from)) profile c.in_ok-value.ensures.taken in
+    let found = subst (λ b. plan_read p.profile P (c.args.levels - 1) c.args.element b (left c.loop.from) ≡ Ok (view v, left c.value_from.new.from)) inside as_read in
     let more : map view c.push.new.self ≡ map view c.loop.values ++ view v ∷ [] = rw c.in_ok-push.ensures.ok (map_push _ c.loop.values v) in
     rw more (record {
-      read = goes_on (λ b. read_parts p.profile S c.args.levels c.args.ty (is_inside p) b) (map view c.loop.values) c.args.count c.loop.counter (left c.loop.from) _ c.loop.invariant.read (view v) (left c.value_from.new.from) c.loop-test.true (here ∙ found);
+      read = goes_on (λ b. plan_parts p.profile P c.args.levels c.args.element (is_inside p) b) (map view c.loop.values) c.args.count c.loop.counter (left c.loop.from) _ c.loop.invariant.read (view v) (left c.value_from.new.from) c.loop-test.true (here ∙ found);
       on = on_and_on p c.loop.from c.value_from.new.from c.loop.invariant.on c.in_ok-value.ensures.on;
     })
 
 pub items_from-returns-clause-taken : goal.items_from-returns-clause-taken
 items_from-returns-clause-taken t c =
-    is_done (λ b. read_parts c.args.from.now.profile c.args.schema.now.decls c.args.levels c.args.ty (is_inside c.args.from.now) b) (map view c.loop.values) c.args.count c.loop.counter (left c.loop.from) _ c.loop.invariant.read c.loop-test.false
+    is_done (λ b. plan_parts c.args.from.now.profile c.args.plans.now c.args.levels c.args.element (is_inside c.args.from.now) b) (map view c.loop.values) c.args.count c.loop.counter (left c.loop.from) _ c.loop.invariant.read c.loop-test.false
 
 pub fields_from-loop-field-preserved : goal.fields_from-loop-field-preserved
 fields_from-loop-field-preserved t c =
-    let S = c.args.schema.now.decls in
+    let P = c.args.plans.now in
     let p = c.args.from.now in
     let v = c.in_ok-value.value in
     let profile : c.loop-field.from.profile ≡ p.profile = ap (λ (r : Place). r.profile) c.loop-field.invariant.on in
-    let as_read = subst (λ q. field_at (λ f. initial_in S f) (λ u b. read_parts q S c.args.levels u true b) c.field-item.result (left c.loop-field.from) ≡ Ok (view v, left c.field_from.new.from)) profile c.in_ok-value.ensures.taken in
+    let as_read = subst (λ q. entry_at (λ g. initial_by_plan P g) (λ u b. plan_parts q P c.args.levels u true b) c.field-item.result (left c.loop-field.from) ≡ Ok (view v, left c.field_from.new.from)) profile c.in_ok-value.ensures.taken in
     let more : map view c.push.new.self.items ≡ map view c.loop-field.values.items ++ view v ∷ [] = rw c.in_ok-push.ensures.items (map_push _ c.loop-field.values.items v) in
     rw more (record {
-      read = field_on (λ f. initial_in S f) (λ u b. read_parts p.profile S c.args.levels u true b) (map view c.loop-field.values.items) c.args.fields.now c.loop-field.field-index (left c.loop-field.from) _ c.loop-field.invariant.read
+      read = field_on (λ g. initial_by_plan P g) (λ u b. plan_parts p.profile P c.args.levels u true b) (map view c.loop-field.values.items) c.args.fields.now c.loop-field.field-index (left c.loop-field.from) _ c.loop-field.invariant.read
           c.field-item.result (view v) (left c.field_from.new.from) c.loop-field-test.true c.field-item.is as_read;
       on = on_and_on p c.loop-field.from c.field_from.new.from c.loop-field.invariant.on c.in_ok-value.ensures.on;
     })
 
 pub fields_from-returns-clause-taken : goal.fields_from-returns-clause-taken
 fields_from-returns-clause-taken t c =
-    let S = c.args.schema.now.decls in
+    let P = c.args.plans.now in
     let p = c.args.from.now in
-    fields_done (λ f. initial_in S f) (λ u b. read_parts p.profile S c.args.levels u true b) (map view c.loop-field.values.items) c.args.fields.now c.loop-field.field-index (left c.loop-field.from) _ c.loop-field.invariant.read c.loop-field-test.false
+    fields_done (λ g. initial_by_plan P g) (λ u b. plan_parts p.profile P c.args.levels u true b) (map view c.loop-field.values.items) c.args.fields.now c.loop-field.field-index (left c.loop-field.from) _ c.loop-field.invariant.read c.loop-field-test.false
     ∙ ap (λ vs. Ok (views vs)) (sym c.from_vec.ensures)
 
 pub body_from-returns-in_err-enter-clause-taken : goal.body_from-returns-in_err-enter-clause-taken
 body_from-returns-in_err-enter-clause-taken t c =
-    let S = c.args.schema.now.decls in
+    let P = c.args.plans.now in
     let p = c.args.from.now in
     let q = err_from_is_err_and c.from_residual.result c.from_residual.ensures.1 in
-    rw (q.1, q.2) (no_record (λ f. initial_in S f) (λ u b. read_parts p.profile S c.args.levels u true b) c.args.fields.now (is_inside p) (left p) c.in_err-enter.field-0.0 (refused_if_memory c.in_err-enter.field-0.0 _ c.in_err-enter.ensures.refused))
+    rw (q.1, q.2) (no_record (λ g. initial_by_plan P g) (λ u b. plan_parts p.profile P c.args.levels u true b) c.args.fields.now (is_inside p) (left p) c.in_err-enter.field-0.0 (refused_if_memory c.in_err-enter.field-0.0 _ c.in_err-enter.ensures.refused))
 
 pub body_from-returns-in_err-values-clause-taken : goal.body_from-returns-in_err-values-clause-taken
 body_from-returns-in_err-values-clause-taken t c =
-    let S = c.args.schema.now.decls in
+    let P = c.args.plans.now in
     let p = c.args.from.now in
     let q = err_from_is_err_and c.from_residual-in_err-values.result c.from_residual-in_err-values.ensures.1 in
     let inner = c.enter.new.self in
     let on : MovesOn inner inner = stays inner in
     let profile : inner.profile ≡ p.profile = ap (λ (r : Place). r.profile) c.in_ok-enter.ensures.entered.2 in
     let e = c.in_err-values.field-0.0 in
-    let failed = subst (λ q. RefusesIfMemory e (fields_at (λ f. initial_in S f) (λ u b. read_parts q S c.args.levels u true b) c.args.fields.now (left inner))) profile c.in_err-values.ensures.taken in
-    rw (q.1, q.2) (record_fails (λ f. initial_in S f) (λ u b. read_parts p.profile S c.args.levels u true b) c.args.fields.now (is_inside p) (left p) (left inner) _ e (body_is p inner inner c.in_ok-enter.ensures.entered on) failed)
+    let failed = subst (λ q. RefusesIfMemory e (entries_at (λ g. initial_by_plan P g) (λ u b. plan_parts q P c.args.levels u true b) c.args.fields.now (left inner))) profile c.in_err-values.ensures.taken in
+    rw (q.1, q.2) (record_fails (λ g. initial_by_plan P g) (λ u b. plan_parts p.profile P c.args.levels u true b) c.args.fields.now (is_inside p) (left p) (left inner) _ e (body_is p inner inner c.in_ok-enter.ensures.entered on) failed)
 
 pub body_from-returns-clause-taken : goal.body_from-returns-clause-taken
 body_from-returns-clause-taken t c =
-    let S = c.args.schema.now.decls in
+    let P = c.args.plans.now in
     let p = c.args.from.now in
     let inner = c.enter.new.self in
     let last = c.fields_from.new.from in
     let after : left c.leave.new.self ≡ left (closed last) = ap left c.leave.ensures in
     let profile : inner.profile ≡ p.profile = ap (λ (r : Place). r.profile) c.in_ok-enter.ensures.entered.2 in
-    let read = subst (λ q. fields_at (λ f. initial_in S f) (λ u b. read_parts q S c.args.levels u true b) c.args.fields.now (left inner) ≡ Ok (views c.in_ok-values.values)) profile c.in_ok-values.ensures.taken in
+    let read = subst (λ q. entries_at (λ g. initial_by_plan P g) (λ u b. plan_parts q P c.args.levels u true b) c.args.fields.now (left inner) ≡ Ok (views c.in_ok-values.values)) profile c.in_ok-values.ensures.taken in
     let whole : view (Rec c.in_ok-values.values) ≡ rec (views c.in_ok-values.values) = search (rules, the_lemmas) in
-    record_is (λ f. initial_in S f) (λ u b. read_parts p.profile S c.args.levels u true b) c.args.fields.now (is_inside p) (left p) (left inner) _ (views c.in_ok-values.values) (body_is p inner last c.in_ok-enter.ensures.entered c.in_ok-values.ensures.on) read
+    record_is (λ g. initial_by_plan P g) (λ u b. plan_parts p.profile P c.args.levels u true b) c.args.fields.now (is_inside p) (left p) (left inner) _ (views c.in_ok-values.values) (body_is p inner last c.in_ok-enter.ensures.entered c.in_ok-values.ensures.on) read
     ∙ ap (λ (v : Data). Ok (v, left (closed last))) (sym whole) ∙ ap (λ (b : List ℕ). Ok (view (Rec c.in_ok-values.values), b)) (sym after)
 
 pub body_from-returns-clause-on : goal.body_from-returns-clause-on

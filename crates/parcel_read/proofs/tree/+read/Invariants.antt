@@ -1,18 +1,18 @@
 use Rattle.std.proofs.Common.{◌≡◌, ◌+◌, ◌-◌, ◌*◌, true, map, drop}
-use Rattle.aidl_values.specs.Sound.{initial_in}
 use Rattle.aidl_values.specs.View.{view}
 use Rattle.parcel_cursors.specs.Place.{left, is_inside, MovesOn}
-use Rattle.wire_model.specs.ReadOf.{each_at, fields_at}
+use Rattle.wire_model.specs.ReadOf.{each_at}
 use Rattle.aidl_values.proofs.Fronts.{with_front}
 use Rattle.parcel_read.proofs.Loop.{with_items}
 use Rattle.parcel_read.proofs.tree.+read.Given as goal
-use Rattle.wire_model.specs.steps.Levels.{read_parts}
+use Rattle.parcel_read.specs.steps.PlanDefault.{initial_by_plan}
+use Rattle.parcel_read.specs.steps.PlanRead.{entries_at, plan_parts}
 
 abbrev pub decreases-value_from : goal.decreases-value_from
 decreases-value_from l = 8 * l.levels + 7
 
-abbrev pub decreases-one_from : goal.decreases-one_from
-decreases-one_from l = 8 * l.levels + 6
+abbrev pub decreases-item_from : goal.decreases-item_from
+decreases-item_from l = 8 * l.levels + 6
 
 abbrev pub decreases-sequence_from : goal.decreases-sequence_from
 decreases-sequence_from l = 8 * l.levels + 4
@@ -44,14 +44,14 @@ decreases-tagged_from l = 8 * l.levels + 4
 -- what was read before, and what is still read, are all; and the reader stands between them
 abbrev pub invariant-items_from-loop : goal.invariant-items_from-loop
 invariant-items_from-loop l = record {
-  read : with_items (map view l.values) (each_at (λ b. read_parts l.initial.from.profile l.schema.decls l.levels l.ty (is_inside l.initial.from) b) (l.count - l.counter) (left l.from))
-      ≡ each_at (λ b. read_parts l.initial.from.profile l.schema.decls l.levels l.ty (is_inside l.initial.from) b) l.count (left l.initial.from);
+  read : with_items (map view l.values) (each_at (λ b. plan_parts l.initial.from.profile l.plans l.levels l.element (is_inside l.initial.from) b) (l.count - l.counter) (left l.from))
+      ≡ each_at (λ b. plan_parts l.initial.from.profile l.plans l.levels l.element (is_inside l.initial.from) b) l.count (left l.initial.from);
   on : MovesOn l.initial.from l.from;
 }
 
 abbrev pub invariant-fields_from-loop-field : goal.invariant-fields_from-loop-field
 invariant-fields_from-loop-field l = record {
-  read : with_front (map view l.values.items) (fields_at (λ f. initial_in l.schema.decls f) (λ u b. read_parts l.initial.from.profile l.schema.decls l.levels u true b) (drop l.field-index l.fields) (left l.from))
-      ≡ fields_at (λ f. initial_in l.schema.decls f) (λ u b. read_parts l.initial.from.profile l.schema.decls l.levels u true b) l.fields (left l.initial.from);
+  read : with_front (map view l.values.items) (entries_at (λ g. initial_by_plan l.plans g) (λ u b. plan_parts l.initial.from.profile l.plans l.levels u true b) (drop l.field-index l.fields) (left l.from))
+      ≡ entries_at (λ g. initial_by_plan l.plans g) (λ u b. plan_parts l.initial.from.profile l.plans l.levels u true b) l.fields (left l.initial.from);
   on : MovesOn l.initial.from l.from;
 }
