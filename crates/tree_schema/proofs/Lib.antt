@@ -1,7 +1,9 @@
 pub mod WalksTotals
+pub mod WalksLists
 pub mod WalksPlaced
 pub mod WalksAscii
 pub mod WalksOuters
+pub mod WalksFiles
 pub mod WalksNested
 pub mod WalksBreaches
 pub mod NamesNumbers

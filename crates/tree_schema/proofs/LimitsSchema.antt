@@ -1,5 +1,5 @@
 -- Rule 9 of a valid schema: a tree that passes no limit gives a schema within its limits.
-use Rattle.std.proofs.Common.{◌≡◌, ◌≤◌, ◌+◌, ℕ, zero, suc, Bool, true, false, if◌then◌else◌, nat_lt, nat_le, List, [], ◌∷◌, map, length, Some, None, slice_get, refl, subst, arith}
+use Rattle.std.proofs.Common.{IsTrue, ◌≡◌, ◌≤◌, ◌+◌, ℕ, Bool, true, false, if◌then◌else◌, nat_lt, nat_le, List, [], ◌∷◌, map, length, Some, None, slice_get, refl, subst, arith}
 use Rattle.std.specs.List.{list_any, list_all}
 use Rattle.std.proofs.lemmas.Bool.Decides.{nat_tests}
 use Rattle.std.proofs.lemmas.List.{length-map}
@@ -27,6 +27,7 @@ use Rattle.tree_schema.proofs.NamesNumbers.{sorted-total, sorted-there}
 use Rattle.tree_schema.proofs.NamesSchema.{schema-there}
 use Rattle.tree_schema.proofs.MembersWeights.{member_names-weigh}
 use Rattle.tree_schema.proofs.MembersSchema.{numbered-from_at}
+use Rattle.tree_schema.proofs.WalksLists.{none-at}
 
 -- no limit is passed: each of the three isn't
 none_passed : (entries : List Entry) → passed entries ≡ None → (nat_lt 16384 (length entries) ≡ false) × (list_any has_many_members entries ≡ false) × (list_any has_long_method entries ≡ false)
@@ -36,11 +37,6 @@ none_passed entries e = by (nat_lt 16384 (length entries)) (list_any has_many_me
   by false true c h = cc
   by false false true h = cc
   by false false false h = (refl, refl, refl)
-
-none-at : {X : Type 0} (p : X → Bool) (xs : List X) (n : ℕ) (x : X) → list_any p xs ≡ false → slice_get xs n ≡ Some x → p x ≡ false
-none-at p [] n x h at = cc
-none-at p (y ∷ xs) zero x h at = let is : y ≡ x = cc in subst (λ z. p z ≡ false) is (neither (p y) (list_any p xs) h).0
-none-at p (y ∷ xs) (suc n) x h at = none-at p xs n x (neither (p y) (list_any p xs) h).1 at
 
 methods_short : (files : List Source) (file scope : ℕ) (oneway : Bool) (before : ℕ) (ms : List Member) → list_any is_long_method ms ≡ false
     → list_all (λ m. nat_le (length m.args) 255) (methods_in files file scope oneway before ms) ≡ true
@@ -90,7 +86,7 @@ module _ (files : List Source) (outcomes : Outcomes) (named : are_named files �
       grind (arith, nat_tests)
 
   -- Rule 9 of a valid schema.
-  pub limits-hold : is_within_limits (schema_of files outcomes) ≡ true
+  pub limits-hold : IsTrue (is_within_limits (schema_of files outcomes))
   unfolding is_within_limits
   limits-hold =
       let each = numbered-from_at (λ n d. has_few (schema_of files outcomes) n d) (schema_of files outcomes) (λ n d at.

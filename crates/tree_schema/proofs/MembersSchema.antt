@@ -1,5 +1,5 @@
 -- Rule 2 of a valid schema: the names of the members of each declaration of a tree without breaches.
-use Rattle.std.proofs.Common.{◌≡◌, ◌≤◌, ◌+◌, ℕ, suc, Bool, true, List, [], ◌∷◌, map, fold, Some, slice_get, refl, sym, ap, ◌∙◌, subst, arith}
+use Rattle.std.proofs.Common.{IsTrue, ◌≡◌, ◌≤◌, ◌+◌, ℕ, suc, Bool, true, List, [], ◌∷◌, map, fold, Some, slice_get, refl, sym, ap, ◌∙◌, subst, arith}
 use Rattle.std.specs.List.{list_all, enumerate_from}
 use Rattle.std.proofs.lemmas.List.Folds.{list_all-map}
 use Rattle.aidl_base.specs.Identifiers.{is_identifier}
@@ -27,10 +27,12 @@ use Rattle.tree_schema.proofs.WalksPlaced.{placed, all-all, all-ascending}
 use Rattle.tree_schema.proofs.WalksAscii.{is_named, plain-identifier}
 use Rattle.tree_schema.proofs.WalksOuters.{are_named, walked}
 use Rattle.tree_schema.proofs.WalksBreaches.{name_text, members-once, arguments-once}
-use Rattle.tree_schema.proofs.NamesNumbers.{sorted-there, all-from_at}
-use Rattle.tree_schema.proofs.NamesSchema.{schema-there, map_map, same_maps}
+use Rattle.tree_schema.proofs.NamesNumbers.{sorted-there}
+use Rattle.tree_schema.proofs.NamesSchema.{schema-there}
 use Rattle.tree_schema.proofs.MembersNames.{argument_text, has_argument_names, is_member_named, members-named}
 use Rattle.tree_schema.proofs.MembersWeights.{member_names-weigh, constants-are}
+use Rattle.tree_schema.proofs.WalksLists.{all-from_at, same-maps}
+use Rattle.std.proofs.lemmas.Simd.{map-map}
 
 -- a test of each declaration with its number
 numbered_from : (test : ℕ → schema.Decl → Bool) (k : ℕ) (S : List schema.Decl) → ((n : ℕ) (d : schema.Decl) → slice_get S n ≡ Some d → test (k + n) d ≡ true) → list_all (λ x. test x.0 x.1) (enumerate_from k S) ≡ true
@@ -61,7 +63,7 @@ methods_hold files file scope oneway before (enumerator e ∷ ms) h = methods_ho
 methods_hold files file scope oneway before (nested d ∷ ms) h = methods_hold files file scope oneway before ms h
 methods_hold files file scope oneway before (method m ∷ ms) h =
     let two = both (are_names (map argument_text m.args)) (list_all has_names_inside ms) h in
-    let names : are_names (map (λ a. a.name.0) (map (arg_in files file scope) m.args)) ≡ true = ap are_names (map_map (λ a. a.name.0) (arg_in files file scope) m.args) ∙ two.0 in
+    let names : are_names (map (λ a. a.name.0) (map (arg_in files file scope) m.args)) ≡ true = ap are_names (map-map (λ a. a.name.0) (arg_in files file scope) m.args) ∙ two.0 in
     rw (names, methods_hold files file scope oneway (before + 1) ms two.1) refl
 
 kind_methods : (files : List Source) (outcomes : Outcomes) (file number : ℕ) (backed : Wanted) (b : Body) → list_all has_names_inside (members b) ≡ true
@@ -87,7 +89,7 @@ constants_ascend files outcomes file scope ms h =
     let placed_all = fold (placed bytes_of) [] (listed_constants files outcomes file scope ms) in
     let identifiers = all-all bytes_of (λ (c : Constant). is_identifier c.name.0) (listed_constants files outcomes file scope ms) (constants_named files outcomes file scope ms h) in
     ap (λ cs. are_ascending (map (λ (c : Constant). c.name.0) cs)) (constants-are files outcomes file scope ms)
-    ∙ ap are_ascending (same_maps (λ (c : Constant). c.name.0) bytes_of placed_all (λ n c at. sym (plain-identifier c.name.0 (all_at (λ (x : Constant). is_identifier x.name.0) placed_all n c identifiers at))))
+    ∙ ap are_ascending (same-maps (λ (c : Constant). c.name.0) bytes_of placed_all (λ n c at. sym (plain-identifier c.name.0 (all_at (λ (x : Constant). is_identifier x.name.0) placed_all n c identifiers at))))
     ∙ all-ascending bytes_of [] (listed_constants files outcomes file scope ms) refl
 
 module _ (files : List Source) (outcomes : Outcomes) (named : are_named files ≡ true) (unbroken : breaches files ≡ [])
@@ -139,7 +141,7 @@ module _ (files : List Source) (outcomes : Outcomes) (named : are_named files �
 
 module _ (files : List Source) (outcomes : Outcomes) (named : are_named files ≡ true) (unbroken : breaches files ≡ []) where
   -- Rule 2 of a valid schema.
-  pub members-hold : has_members (schema_of files outcomes) ≡ true
+  pub members-hold : IsTrue (has_members (schema_of files outcomes))
   unfolding has_members
   members-hold = numbered-from_at (λ n d. has_member_names (schema_of files outcomes) n d) (schema_of files outcomes) (λ n d at.
       let x = schema-there files outcomes n d at in

@@ -1,6 +1,5 @@
 -- The names of the members that a declaration has in the schema weigh at most what those in its tree weigh, by every weight.
 use Rattle.std.proofs.Common.{◌≡◌, ◌≤◌, ◌+◌, ℕ, Bool, true, false, if◌then◌else◌, ◌==◌, List, [], ◌∷◌, ◌++◌, map, filter, fold, Option, Some, None, slice_get, refl, sym, ap, ◌∙◌, arith, ◌||◌, le_of_eq}
-use Rattle.std.specs.Ordering.{match_ordering}
 use Rattle.std.proofs.lemmas.Bool.Decides.{nat_tests}
 use Rattle.aidl_schema.specs.declared.schema.Constant.{Constant}
 use Rattle.aidl_schema.specs.declared.schema.Decl as schema
@@ -14,11 +13,11 @@ use Rattle.aidl_names.specs.Sources.{Source}
 use Rattle.const_values.specs.declared.wanted.Wanted.{Wanted}
 use Rattle.const_eval.specs.Backing.{backing_of}
 use Rattle.tree_schema.specs.Numbers.{Numbered, sorted, number_of}
-use Rattle.tree_schema.specs.Parts.{fields_in, methods_in, enumerator_in, listed_constants, constants_in, bytes_of, order, put}
+use Rattle.tree_schema.specs.Parts.{fields_in, methods_in, enumerator_in, listed_constants, constants_in, bytes_of, put}
 use Rattle.tree_schema.specs.SchemaOf.{schema_of, declared, outer_of, kind_of}
 use Rattle.tree_schema.specs.Values.{Outcomes}
 use Rattle.tree_schema.proofs.WalksTotals.{total, total-append, total-map, total-filter, total-enumerate, total-le_at}
-use Rattle.tree_schema.proofs.WalksPlaced.{placed, all-total}
+use Rattle.tree_schema.proofs.WalksPlaced.{placed, all-total, placed-by}
 use Rattle.tree_schema.proofs.WalksOuters.{are_named, walked, IsWalked}
 use Rattle.tree_schema.proofs.WalksNested.{nested_of, children-are}
 use Rattle.tree_schema.proofs.NamesNumbers.{sorted-total, sorted-there, number-there}
@@ -111,17 +110,9 @@ module _ (f : List ℕ → ℕ) (files : List Source) (outcomes : Outcomes) (fil
   listed_weigh (enumerator e ∷ ms) = let h = listed_weigh ms in omega arith
   listed_weigh (nested d ∷ ms) = let h = listed_weigh ms in omega arith
 
-put_is : (ys : List Constant) (x : Constant) → put ys x ≡ placed bytes_of ys x
-put_is [] x = refl
-put_is (y ∷ more) x = ap (λ z. match_ordering (order x y) (x ∷ y ∷ more) (x ∷ more) (y ∷ z)) (put_is more x)
-
-fold_is : (ys xs : List Constant) → fold put ys xs ≡ fold (placed bytes_of) ys xs
-fold_is ys [] = refl
-fold_is ys (x ∷ xs) = ap (λ z. fold put z xs) (put_is ys x) ∙ fold_is (placed bytes_of ys x) xs
-
 -- the constants stand each at the place of its name
 pub constants-are : (files : List Source) (outcomes : Outcomes) (file scope : ℕ) (ms : List Member) → constants_in files outcomes file scope ms ≡ fold (placed bytes_of) [] (listed_constants files outcomes file scope ms)
-constants-are files outcomes file scope ms = fold_is [] (listed_constants files outcomes file scope ms)
+constants-are files outcomes file scope ms = placed-by bytes_of put (λ c. refl) (λ d more c. refl) [] (listed_constants files outcomes file scope ms)
 
 constants_weigh : (f : List ℕ → ℕ) (files : List Source) (outcomes : Outcomes) (file scope : ℕ) (ms : List Member) → total f (map (λ c. c.name.0) (constants_in files outcomes file scope ms)) ≤ total (constant_weight f) ms
 constants_weigh f files outcomes file scope ms =

@@ -1,7 +1,6 @@
 -- The declarations in the order of a schema, and the number that each has there.
-use Rattle.std.proofs.Common.{◌≡◌, ◌≤◌, ◌<◌, ◌+◌, ℕ, zero, suc, Bool, true, false, if◌then◌else◌, cond, nat_eq, List, [], ◌∷◌, map, fold, length, Some, slice_get, refl, sym, ap, ◌∙◌, subst, arith}
-use Rattle.std.specs.List.{list_any, list_all, enumerate_from, position_from}
-use Rattle.std.specs.Ordering.{match_ordering}
+use Rattle.std.proofs.Common.{encode_utf8_all, ◌≡◌, ◌≤◌, ◌<◌, ◌+◌, ℕ, zero, suc, Bool, true, false, if◌then◌else◌, nat_eq, List, [], ◌∷◌, map, fold, length, Some, slice_get, refl, sym, ap, ◌∙◌, subst, arith}
+use Rattle.std.specs.List.{list_any, list_all, enumerate_from}
 use Rattle.std.proofs.lemmas.Bool.Decides.{nat_tests}
 use Rattle.aidl_base.specs.declared.name.Ident.{Ident}
 use Rattle.aidl_base.specs.Names.{dotted}
@@ -17,29 +16,22 @@ use Rattle.aidl_names.specs.Resolution.{meaning_of_word}
 use Rattle.aidl_names.specs.Rules.{is_taken}
 use Rattle.aidl_names.specs.Sources.{Source}
 use Rattle.std.specs.Prelude.{is_some}
-use Rattle.tree_schema.specs.Numbers.{Numbered, bytes_of, order, put, sorted, has_number, number_of}
+use Rattle.tree_schema.specs.Numbers.{Numbered, bytes_of, put, sorted, has_number, number_of}
 use Rattle.tree_schema.proofs.WalksTotals.{total, total-enumerate, total-length, is_that}
-use Rattle.tree_schema.proofs.WalksPlaced.{placed, all-total, all-ascending, all-exact, Each, each-at, all-each}
+use Rattle.tree_schema.proofs.WalksPlaced.{placed, all-total, all-ascending, all-exact, Each, each-at, all-each, placed-by}
 use Rattle.tree_schema.proofs.WalksAscii.{is_named, plain-dotted, dotted-injective}
 use Rattle.tree_schema.proofs.WalksOuters.{are_named, walked}
 use Rattle.tree_schema.proofs.WalksBreaches.{any-shown, each-once, no-taken}
+use Rattle.tree_schema.proofs.WalksLists.{first-passes, first-found, only-found, all-from_at, one-place}
 
 -- the text by which a declaration is put at its place
 abbrev pub key : Numbered → List ℕ
 key x = bytes_of x.1
 
-put_is : (ys : List Numbered) (x : Numbered) → put ys x ≡ placed key ys x
-put_is [] x = refl
-put_is (y ∷ more) x = ap (λ z. match_ordering (order x y) (x ∷ y ∷ more) (x ∷ more) (y ∷ z)) (put_is more x)
-
-fold_is : (ys xs : List Numbered) → fold put ys xs ≡ fold (placed key) ys xs
-fold_is ys [] = refl
-fold_is ys (x ∷ xs) = ap (λ z. fold put z xs) (put_is ys x) ∙ fold_is (placed key ys x) xs
-
 -- in the order of a schema each has its place by its name
 pub sorted-is : (entries : List Entry) → sorted entries ≡ fold (placed key) [] (enumerate_from 0 entries)
 unfolding sorted
-sorted-is entries = fold_is [] (enumerate_from 0 entries)
+sorted-is entries = placed-by key put (λ x. refl) (λ y more x. refl) [] (enumerate_from 0 entries)
 
 pub sorted-ascending : (entries : List Entry) → are_ascending (map key (sorted entries)) ≡ true
 sorted-ascending entries = ap (λ xs. are_ascending (map key xs)) (sorted-is entries) ∙ all-ascending key [] (enumerate_from 0 entries) refl
@@ -63,20 +55,10 @@ sorted-there entries n x at =
     let all = all-each key P [] (enumerate_from 0 entries) tt (enumerated 0 entries entries (λ m. let same : 0 + m ≡ m = omega arith in ap (slice_get entries) same)) in
     each-at P (fold (placed key) [] (enumerate_from 0 entries)) all n x (ap (λ xs. slice_get xs n) (sym (sorted-is entries)) ∙ at)
 
--- the first place where a test passes
-found : {X : Type 0} (p : X → Bool) (k : ℕ) (xs : List X) (r : ℕ) → position_from p k xs ≡ Some r → (n : ℕ) × (x : X) × (r ≡ k + n) × (slice_get xs n ≡ Some x) × (p x ≡ true)
-found p k [] r e = cc
-found p k (x ∷ xs) r e = by (p x) refl e (found p (k + 1) xs r) where
-  by : (b : Bool) → p x ≡ b → cond b (Some k) (position_from p (k + 1) xs) ≡ Some r
-      → (position_from p (k + 1) xs ≡ Some r → (n : ℕ) × (y : _) × (r ≡ (k + 1) + n) × (slice_get xs n ≡ Some y) × (p y ≡ true))
-      → (n : ℕ) × (y : _) × (r ≡ k + n) × (slice_get (x ∷ xs) n ≡ Some y) × (p y ≡ true)
-  by true h f later = let is : k ≡ r = cc in (0, x, omega arith, refl, h)
-  by false h f later = let l = later f in let far = l.2 in (suc l.0, l.1, omega arith, l.3, l.4)
-
 -- the declaration with a number of the trees stands where its number of the schema says
 pub number-there : (entries : List Entry) (k n : ℕ) → number_of entries k ≡ Some n → (e : Entry) × (slice_get (sorted entries) n ≡ Some (k, e)) × (slice_get entries k ≡ Some e)
 number-there entries k n e =
-    let f = found (has_number k) 0 (sorted entries) n e in
+    let f = first-passes (has_number k) 0 (sorted entries) n e in
     let far = f.2 in
     let place : f.0 ≡ n = omega arith in
     let passes = f.4 in
@@ -114,35 +96,6 @@ this_number k j (suc n) (x ∷ xs) e is at =
     let rest = this_number k (j + 1) n xs e (omega arith) at in
     rw differs (omega arith)
 
--- where one is there, a first one is found; where there is but one, it is found
-first_found : {X : Type 0} (p : X → Bool) (k : ℕ) (xs : List X) → 1 ≤ total (λ x. if p x then 1 else 0) xs → (r : ℕ) × (position_from p k xs ≡ Some r)
-first_found p k [] h = absurd (omega arith)
-first_found p k (x ∷ xs) h = by (p x) h (first_found p (k + 1) xs) where
-  by : (b : Bool) → 1 ≤ (if b then 1 else 0) + total (λ y. if p y then 1 else 0) xs → (1 ≤ total (λ y. if p y then 1 else 0) xs → (r : ℕ) × (position_from p (k + 1) xs ≡ Some r))
-      → (r : ℕ) × (cond b (Some k) (position_from p (k + 1) xs) ≡ Some r)
-  by true g later = (k, refl)
-  by false g later = later (omega arith)
-
-some_there : {X : Type 0} (p : X → Bool) (xs : List X) (n : ℕ) (x : X) → slice_get xs n ≡ Some x → p x ≡ true → 1 ≤ total (λ y. if p y then 1 else 0) xs
-some_there p [] n x at h = cc
-some_there p (y ∷ xs) zero x at h = let is : y ≡ x = cc in let passes : p y ≡ true = ap p is ∙ h in rw passes (omega arith)
-some_there p (y ∷ xs) (suc n) x at h = let rest = some_there p xs n x at h in omega arith
-
-only_found : {X : Type 0} (p : X → Bool) (k : ℕ) (xs : List X) (n : ℕ) (x : X) → slice_get xs n ≡ Some x → p x ≡ true → total (λ y. if p y then 1 else 0) xs ≤ 1 → position_from p k xs ≡ Some (k + n)
-only_found p k [] n x at h le = cc
-only_found p k (y ∷ xs) zero x at h le =
-    let is : y ≡ x = cc in
-    let passes : p y ≡ true = ap p is ∙ h in
-    let same : k ≡ k + 0 = omega arith in
-    rw passes (ap Some same)
-only_found p k (y ∷ xs) (suc n) x at h le =
-    let there = some_there p xs n x at h in
-    by (p y) le (λ l. only_found p (k + 1) xs n x at h l) where
-      by : (b : Bool) → (if b then 1 else 0) + total (λ z. if p z then 1 else 0) xs ≤ 1 → (total (λ z. if p z then 1 else 0) xs ≤ 1 → position_from p (k + 1) xs ≡ Some ((k + 1) + n))
-          → cond b (Some k) (position_from p (k + 1) xs) ≡ Some (k + suc n)
-      by true g later = let many = some_there p xs n x at h in absurd (omega arith)
-      by false g later = let on : (k + 1) + n ≡ k + suc n = omega arith in later (omega arith) ∙ ap Some on
-
 -- the number of what stands at a place of the schema is that place
 pub number-of_place : (entries : List Entry) (n : ℕ) (x : Numbered) → slice_get (sorted entries) n ≡ Some x → number_of entries x.0 ≡ Some n
 number-of_place entries n x at =
@@ -150,15 +103,11 @@ number-of_place entries n x at =
     let one = one_number x.0 0 entries in
     let same : nat_eq x.0 x.0 ≡ true = grind (arith, nat_tests) in
     let zero_on : 0 + n ≡ n = omega arith in
-    only_found (has_number x.0) 0 (sorted entries) n x at same (omega arith) ∙ ap Some zero_on
+    only-found (has_number x.0) 0 (sorted entries) n x at same (omega arith) ∙ ap Some zero_on
 
 same_itself : (name : List Ident) → same name name ≡ true
 same_itself [] = refl
 same_itself (i ∷ is) = rw (same_text_refl (text i), same_itself is) refl
-
-pub all-from_at : {X : Type 0} (p : X → Bool) (xs : List X) → ((k : ℕ) (x : X) → slice_get xs k ≡ Some x → p x ≡ true) → list_all p xs ≡ true
-all-from_at p [] h = refl
-all-from_at p (x ∷ xs) h = rw (h 0 x refl) (all-from_at p xs (λ k y at. h (suc k) y at))
 
 -- the declaration's name has identifiers alone
 abbrev pub is_well_named : Entry → Bool
@@ -202,8 +151,16 @@ module _ (files : List Source) (names : are_named files ≡ true) where
     number-some k e at =
         let exact = sorted-exact (numbered k) in
         let one = this_number k 0 k (declarations files) e (omega arith) at in
-        let there = first_found (has_number k) 0 (sorted (declarations files)) (omega arith) in
+        let there = first-found (has_number k) 0 (sorted (declarations files)) (omega arith) in
         let stands = number-there (declarations files) k there.0 there.1 in
         let option : Some stands.0 ≡ Some e = sym stands.2 ∙ at in
         let same : stands.0 ≡ e = cc in
         (there.0, there.1, stands.1 ∙ ap (λ (y : Entry). Some (k, y)) same)
+
+    -- declarations of one name are one
+    pub names-apart : (j k : ℕ) (d e : Entry) → slice_get (declarations files) j ≡ Some d → slice_get (declarations files) k ≡ Some e → d.name ≡ e.name → j ≡ k
+    names-apart j k d e at there alike =
+        let once = keys-once (bytes_of d) in
+        let first : same_text (bytes_of d) (bytes_of d) ≡ true = same_text_refl (bytes_of d) in
+        let second : same_text (bytes_of d) (bytes_of e) ≡ true = ap (λ (n : List Ident). same_text (bytes_of d) (encode_utf8_all (dotted n))) (sym alike) ∙ first in
+        one-place (λ x. same_text (bytes_of d) (bytes_of x)) (declarations files) j k d e at there first second once

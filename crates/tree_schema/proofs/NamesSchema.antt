@@ -1,5 +1,5 @@
 -- Rule 1 of a valid schema: the names of the declarations of a tree without breaches.
-use Rattle.std.proofs.Common.{◌≡◌, ℕ, zero, suc, Bool, true, false, ◌&&◌, ◌||◌, cond, List, [], ◌∷◌, ◌++◌, map, Option, Some, None, slice_get, IsTrue, refl, sym, ap, ◌∙◌, subst}
+use Rattle.std.proofs.Common.{◌≡◌, ℕ, Bool, true, false, ◌&&◌, ◌||◌, cond, List, [], ◌∷◌, ◌++◌, map, length, Option, Some, None, slice_get, IsTrue, refl, sym, ap, ◌∙◌, subst}
 use Rattle.std.specs.Prelude.{is_some}
 use Rattle.std.specs.List.{list_any}
 use Rattle.std.proofs.lemmas.List.Folds.{list_all-map}
@@ -27,25 +27,10 @@ use Rattle.tree_schema.specs.Values.{Outcomes}
 use Rattle.tree_schema.proofs.WalksAscii.{plain-dotted, plain-identifier}
 use Rattle.tree_schema.proofs.WalksOuters.{IsAround, are_named, walked, named-itself, may_hold}
 use Rattle.tree_schema.proofs.WalksBreaches.{no-type_word}
-use Rattle.tree_schema.proofs.NamesNumbers.{key, sorted-ascending, sorted-there, number-there, all-from_at}
-
-pub there-mapped : {X Y : Type 0} (f : X → Y) (xs : List X) (n : ℕ) (y : Y) → slice_get (map f xs) n ≡ Some y → (x : X) × (slice_get xs n ≡ Some x) × (f x ≡ y)
-there-mapped f [] n y at = cc
-there-mapped f (x ∷ xs) zero y at = (x, refl, cc)
-there-mapped f (x ∷ xs) (suc n) y at = there-mapped f xs n y at
-
-pub mapped-there : {X Y : Type 0} (f : X → Y) (xs : List X) (n : ℕ) (x : X) → slice_get xs n ≡ Some x → slice_get (map f xs) n ≡ Some (f x)
-mapped-there f [] n x at = cc
-mapped-there f (y ∷ xs) zero x at = let is : y ≡ x = cc in ap (λ z. Some (f z)) is
-mapped-there f (y ∷ xs) (suc n) x at = mapped-there f xs n x at
-
-pub map_map : {X Y Z : Type 0} (g : Y → Z) (f : X → Y) (xs : List X) → map g (map f xs) ≡ map (λ x. g (f x)) xs
-map_map g f [] = refl
-map_map g f (x ∷ xs) = ap (λ zs. g (f x) ∷ zs) (map_map g f xs)
-
-pub same_maps : {X Y : Type 0} (f g : X → Y) (xs : List X) → ((n : ℕ) (x : X) → slice_get xs n ≡ Some x → f x ≡ g x) → map f xs ≡ map g xs
-same_maps f g [] h = refl
-same_maps f g (x ∷ xs) h = ap (λ y. y ∷ map f xs) (h 0 x refl) ∙ ap (λ ys. g x ∷ ys) (same_maps f g xs (λ n y at. h (suc n) y at))
+use Rattle.tree_schema.proofs.NamesNumbers.{key, sorted-ascending, sorted-there, number-there, sorted-length, number-some}
+use Rattle.tree_schema.proofs.WalksLists.{there-mapped, mapped-there, same-maps, all-from_at}
+use Rattle.std.proofs.lemmas.List.{length-map}
+use Rattle.std.proofs.lemmas.Simd.{map-map}
 
 -- a name and its last part
 pub last-inside : (front : List Ident) (i : Ident) → last_part (front ++ i ∷ []) ≡ i.0
@@ -87,13 +72,25 @@ pub schema-there : (files : List Source) (outcomes : Outcomes) (n : ℕ) (d : sc
 schema-there files outcomes n d at = there-mapped (declared files outcomes) (sorted (declarations files)) n d at
 
 module _ (files : List Source) (outcomes : Outcomes) (named : are_named files ≡ true) (unbroken : breaches files ≡ []) where
+  -- the schema has as many declarations as the trees
+  pub schema-length : length (schema_of files outcomes) ≡ length (declarations files)
+  schema-length = length-map (sorted (declarations files)) (declared files outcomes) ∙ sorted-length files named unbroken
+
+  -- each declaration of the trees has a number in the schema, and stands there
+  pub number-stands : (k : ℕ) (e : Entry) → slice_get (declarations files) k ≡ Some e
+      → (n : ℕ) × (number_of (declarations files) k ≡ Some n) × (slice_get (schema_of files outcomes) n ≡ Some (declared files outcomes (k, e)))
+  number-stands k e at =
+      let some = number-some files named unbroken k e at in
+      (some.0, some.1, mapped-there (declared files outcomes) (sorted (declarations files)) some.0 (k, e) some.2)
+
+module _ (files : List Source) (outcomes : Outcomes) (named : are_named files ≡ true) (unbroken : breaches files ≡ []) where
   entries : List Entry
   entries = declarations files
 
   texts_are : map name_of (schema_of files outcomes) ≡ map key (sorted (declarations files))
   texts_are =
-      map_map name_of (declared files outcomes) (sorted (declarations files))
-      ∙ same_maps (λ x. dotted x.1.name) key (sorted (declarations files)) (λ n x at. sym (plain-dotted x.1.name (walked files named x.0 x.1 (sorted-there (declarations files) n x at)).parts))
+      map-map name_of (declared files outcomes) (sorted (declarations files))
+      ∙ same-maps (λ x. dotted x.1.name) key (sorted (declarations files)) (λ n x at. sym (plain-dotted x.1.name (walked files named x.0 x.1 (sorted-there (declarations files) n x at)).parts))
 
   module _ (k : ℕ) (e : Entry) (at : slice_get (declarations files) k ≡ Some e) where
     name_holds : is_name e.name ≡ true
@@ -130,7 +127,7 @@ module _ (files : List Source) (outcomes : Outcomes) (named : are_named files �
     outer_holds = outer_at e.outer (walked files named k e at).outer
 
   -- Rule 1 of a valid schema.
-  pub names-hold : has_names (schema_of files outcomes) ≡ true
+  pub names-hold : IsTrue (has_names (schema_of files outcomes))
   unfolding has_names
   names-hold =
       let ascending : are_ascending (map name_of (schema_of files outcomes)) ≡ true = ap are_ascending texts_are ∙ sorted-ascending (declarations files) in
@@ -141,6 +138,3 @@ module _ (files : List Source) (outcomes : Outcomes) (named : are_named files �
       rw (name_holds x.0.0 x.0.1 there, outer_holds x.0.0 x.0.1 there) refl in
       subst (λ (c : schema.Decl). (is_name c.name.0 && is_outer (schema_of files outcomes) c.outer c.name.0) ≡ true) x.2 both_hold) in
       rw (ascending, each) refl
-
-  pub names : IsTrue (has_names (schema_of files outcomes))
-  names = names-hold

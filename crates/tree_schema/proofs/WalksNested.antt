@@ -1,5 +1,5 @@
 -- The declarations with a number around them are those nested in the body of the declaration that has it, in their order.
-use Rattle.std.proofs.Common.{◌≡◌, ◌+◌, ℕ, zero, suc, Bool, true, false, if◌then◌else◌, ◌==◌, List, [], ◌∷◌, ◌++◌, map, filter, length, Option, Some, None, slice_get, refl, sym, ap, ◌∙◌, subst, arith, append_assoc, append-nil}
+use Rattle.std.proofs.Common.{◌≡◌, ◌+◌, ℕ, Bool, true, false, if◌then◌else◌, ◌==◌, List, [], ◌∷◌, ◌++◌, map, filter, length, Option, Some, None, slice_get, refl, sym, ap, ◌∙◌, subst, arith, append_assoc, append-nil}
 use Rattle.std.proofs.lemmas.Bool.Decides.{nat_tests}
 use Rattle.std.proofs.lemmas.List.{map-append}
 use Rattle.std.proofs.lemmas.List.Elements.{filter-append}
@@ -15,6 +15,8 @@ use Rattle.aidl_syntax.specs.Members.Member.{field, constant, method, enumerator
 use Rattle.aidl_names.specs.Declarations.{Entry, inside, with_decl, with_body, with_members, with_file, with_files, declarations}
 use Rattle.aidl_names.specs.Names.{parts_of}
 use Rattle.aidl_names.specs.Sources.{Source}
+use Rattle.tree_schema.proofs.WalksLists.{there-last, elsewhere}
+use Rattle.std.proofs.lemmas.Option.{slice_get_past}
 
 -- the declarations among members
 abbrev pub nested_of : List Member → List Decl
@@ -51,20 +53,6 @@ pushed k before e =
       by true = refl
       by false = refl
 
-past_end : {X : Type 0} (xs : List X) → slice_get xs (length xs) ≡ None
-past_end [] = refl
-past_end (x ∷ xs) = past_end xs
-
-at_end : {X : Type 0} (xs : List X) (x : X) → slice_get (xs ++ x ∷ []) (length xs) ≡ Some x
-at_end [] x = refl
-at_end (y ∷ xs) x = at_end xs x
-
-elsewhere : {X : Type 0} (xs : List X) (x : X) (k : ℕ) → (length xs ≡ k → ⊥) → slice_get (xs ++ x ∷ []) k ≡ slice_get xs k
-elsewhere [] x zero h = absurd (h refl)
-elsewhere [] x (suc k) h = refl
-elsewhere (y ∷ xs) x zero h = refl
-elsewhere (y ∷ xs) x (suc k) h = elsewhere xs x k (λ e. h (ap suc e))
-
 -- a declaration is there, and then those of its body are to come
 begun : (more : ℕ → List Decl) (before : List Entry) (e : Entry) → AreNested (λ k. one_if (is_inside k e.outer) (e.tree ∷ []) ++ more k) before
     → AreNested (λ k. one_if (length before == k) (nested_of (members (body e.tree))) ++ more k) (before ++ e ∷ [])
@@ -81,8 +69,8 @@ begun more before e h k = by (length before == k) refl where
   by : (b : Bool) → (length before == k) ≡ b → children k (before ++ e ∷ []) ++ (one_if b mine ++ more k) ≡ nested_by (slice_get (before ++ e ∷ []) k)
   by true t =
       let is : length before ≡ k = grind (arith, nat_tests) in
-      let past : slice_get before k ≡ None = subst (λ (j : ℕ). slice_get before j ≡ None) is (past_end before) in
-      let here : slice_get (before ++ e ∷ []) k ≡ Some e = subst (λ (j : ℕ). slice_get (before ++ e ∷ []) j ≡ Some e) is (at_end before e) in
+      let past : slice_get before k ≡ None = subst (λ (j : ℕ). slice_get before j ≡ None) is (slice_get_past before (length before) (omega arith)) in
+      let here : slice_get (before ++ e ∷ []) k ≡ Some e = subst (λ (j : ℕ). slice_get (before ++ e ∷ []) j ≡ Some e) is (there-last before e) in
       ap (λ z. z ++ (mine ++ more k)) (pushed k before e)
       ∙ none_there (children k before) (one_if (is_inside k e.outer) (e.tree ∷ [])) (more k) mine (h k ∙ ap nested_by past)
       ∙ ap nested_by (sym here)

@@ -1,5 +1,5 @@
 -- What the walk through the files gives of each declaration: its name, its identifiers, and the declaration around it.
-use Rattle.std.proofs.Common.{◌≡◌, ◌<◌, ◌+◌, ℕ, zero, suc, Bool, true, false, List, [], ◌∷◌, ◌++◌, length, Option, Some, None, slice_get, refl, sym, ap, ◌∙◌, subst, arith, ◌⊎◌, inl, inr}
+use Rattle.std.proofs.Common.{◌≡◌, ◌<◌, ◌+◌, ℕ, Bool, true, false, List, [], ◌∷◌, ◌++◌, length, Option, Some, None, slice_get, refl, sym, ap, ◌∙◌, subst, ◌⊎◌, inl, inr}
 use Rattle.std.specs.List.{list_all}
 use Rattle.std.proofs.lemmas.List.Folds.{list_all-append}
 use Rattle.aidl_base.specs.declared.name.Ident.{Ident}
@@ -16,6 +16,8 @@ use Rattle.aidl_names.specs.Declarations.{Entry, inside, with_decl, with_body, w
 use Rattle.aidl_names.specs.Names.{parts_of}
 use Rattle.aidl_names.specs.Sources.{Source}
 use Rattle.tree_schema.proofs.WalksAscii.{is_named}
+use Rattle.tree_schema.proofs.WalksLists.{there-kept, there-last, there-cases}
+use Rattle.std.proofs.lemmas.Option.{slice_get_within}
 
 -- a body that may hold declarations
 abbrev pub may_hold : Body → Bool
@@ -47,29 +49,6 @@ are_named files = list_all (λ s. list_all is_named (names_of s.tree)) files
 -- what stands in a list stays where it is
 abbrev pub Keeps : List Entry → List Entry → Type 0
 Keeps before after = (k : ℕ) (e : Entry) → slice_get before k ≡ Some e → slice_get after k ≡ Some e
-
-pub there-below : {X : Type 0} (xs : List X) (k : ℕ) (x : X) → slice_get xs k ≡ Some x → k < length xs
-there-below [] k x e = cc
-there-below (y ∷ xs) zero x e = omega arith
-there-below (y ∷ xs) (suc k) x e = let h = there-below xs k x e in omega arith
-
-pub there-kept : {X : Type 0} (xs ys : List X) (k : ℕ) (x : X) → slice_get xs k ≡ Some x → slice_get (xs ++ ys) k ≡ Some x
-there-kept [] ys k x e = cc
-there-kept (y ∷ xs) ys zero x e = e
-there-kept (y ∷ xs) ys (suc k) x e = there-kept xs ys k x e
-
-pub there-last : {X : Type 0} (xs : List X) (x : X) → slice_get (xs ++ x ∷ []) (length xs) ≡ Some x
-there-last [] x = refl
-there-last (y ∷ xs) x = there-last xs x
-
-pub there-cases : {X : Type 0} (xs : List X) (y : X) (k : ℕ) (x : X) → slice_get (xs ++ y ∷ []) k ≡ Some x → (slice_get xs k ≡ Some x) ⊎ ((k ≡ length xs) × (y ≡ x))
-there-cases [] y zero x e = inr (refl, cc)
-there-cases [] y (suc k) x e = cc
-there-cases (z ∷ xs) y zero x e = inl e
-there-cases (z ∷ xs) y (suc k) x e = by (there-cases xs y k x e) where
-  by : (slice_get xs k ≡ Some x) ⊎ ((k ≡ length xs) × (y ≡ x)) → (slice_get xs k ≡ Some x) ⊎ ((suc k ≡ suc (length xs)) × (y ≡ x))
-  by (inl h) = inl h
-  by (inr h) = inr (ap suc h.0, h.1)
 
 pub named-itself : (d : Decl) → list_all is_named (in_decl naming d) ≡ true → is_named (declared_name d).name ≡ true
 named-itself (decl offset annots n b) h =
@@ -135,7 +114,7 @@ mutual
   walked_members file number name (nested d ms) before all o at is may parts names =
       let two = all_parts is_named (in_decl naming d) (in_members naming ms) names in
       let around : IsAround before (length before) (record { name = inside name d; file = file; outer = Some number; tree = d }) (Some number) =
-      (o, at, there-below before number o at, ap (λ front. inside front d) (sym is), may) in
+      (o, at, slice_get_within before number o at, ap (λ front. inside front d) (sym is), may) in
       let one : IsWalked before (length before) (record { name = inside name d; file = file; outer = Some number; tree = d }) =
       record { front = name; name = refl; parts = named_inside name d parts two.0; outer = around; tree = two.0 } in
       let first = walked_decl file (Some number) (inside name d) d before all one in

@@ -105,6 +105,17 @@ module _ {X : Type 0} (key : X → List ℕ) where
       omega arith) in
       omega arith
 
+-- a way to put items that goes by the same cases
+module _ {X : Type 0} (key : X → List ℕ) (put : List X → X → List X) (first : (x : X) → put [] x ≡ x ∷ [])
+    (next : (y : X) (more : List X) (x : X) → put (y ∷ more) x ≡ match_ordering (cmp (key x) (key y)) (x ∷ y ∷ more) (x ∷ more) (y ∷ put more x)) where
+  put_is : (ys : List X) (x : X) → put ys x ≡ placed key ys x
+  put_is [] x = first x
+  put_is (y ∷ more) x = next y more x ∙ ap (λ z. match_ordering (cmp (key x) (key y)) (x ∷ y ∷ more) (x ∷ more) (y ∷ z)) (put_is more x)
+
+  pub placed-by : (ys xs : List X) → fold put ys xs ≡ fold (placed key) ys xs
+  placed-by ys [] = refl
+  placed-by ys (x ∷ xs) = ap (λ z. fold put z xs) (put_is ys x) ∙ placed-by (placed key ys x) xs
+
 -- each item has a property
 abbrev pub Each : {X : Type 0} → (X → Type 0) → List X → Type 0
 Each P [] = Unit {0}
