@@ -42,7 +42,7 @@ declared files outcomes x = record {
   kind = kind_of files outcomes x.1.file x.0 (backing_of x.1.tree) (body x.1.tree);
   vintf = is_vintf (annots_of x.1.tree);
   fixed = is_fixed (annots_of x.1.tree);
-  constants = constants_in files outcomes x.1.file x.0 (members (body x.1.tree))
+  constants = constants_in files outcomes x.1.file x.0 (members (body x.1.tree));
 }
 
 -- the declarations of the trees in the order of their names
