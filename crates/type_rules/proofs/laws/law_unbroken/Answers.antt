@@ -5,7 +5,7 @@ use Rattle.type_rules.proofs.Nothing.{back_nil, front_nil, none_in_order, unbrok
 use Rattle.type_rules.proofs.laws.law_unbroken.Goals as goal
 
 pub returns : goal.returns
-returns c = 
+returns c =
     let found = unsorted (map source_of c.args.files.now) in
     record {
       further = λ more e. back_nil found more (none_in_order (found ++ more) e);
