@@ -6,6 +6,5 @@ pub mod Methods
 pub mod Replies
 pub mod Requests
 pub mod Tokens
-pub mod Typed
 pub mod Types
 pub mod Values

@@ -16,7 +16,7 @@ ghost use Rattle.wire_model.specs.Reads.{FrontReads, Reads};
 ghost use Rattle.wire_model.specs.Receiver.{called, client, opened_arguments, stub};
 ghost use Rattle.wire_model.specs.Requests.{AnswerFits, ArgsFit, reply, request};
 ghost use Rattle.wire_model.specs.Spell.{spell};
-ghost use Rattle.wire_model.specs.Status.{IsStatus, bad_value};
+ghost use Rattle.wire_model.specs.Status.{IsStatus, IsTransport, bad_value};
 ghost use Rattle.wire_model.specs.Stop.{Stop, Stops};
 ghost use Rattle.wire_model.specs.Typed.{AreArguments, IsGot};
 ghost use Rattle.wire_model.specs.View.{view_of};
@@ -171,25 +171,27 @@ pub fn law_view_same(schema: &Schema, ty: &AidlType, value: &Value)
     law_same_types(schema, schema);
 }
 
-/// Where a stub calls a method, the code is the method's, and the values have the types of its arguments.
-pub fn law_called_typed(profile: Profile, schema: &Schema, interface: u32, code: u32, bytes: &[u8])
+/// Where a stub calls a method, the code is the method's, and the values have the types of its arguments. A request is refused
+/// with UNKNOWN_TRANSACTION, with BAD_TYPE or with a status of reading.
+pub fn law_stub(profile: Profile, schema: &Schema, interface: u32, code: u32, bytes: &[u8])
     ensures coded { (m : ℕ) (saw : Items) → stub profile schema.now.decls interface code bytes.now ≡ Ok (called m saw)
         → position_of_code (methods_at schema.now.decls interface) code ≡ Some m }
     ensures typed { (m : ℕ) (saw : Items) → stub profile schema.now.decls interface code bytes.now ≡ Ok (called m saw)
         → AreArguments schema.now.decls interface m saw }
+    ensures status { (s : ℤ) → stub profile schema.now.decls interface code bytes.now ≡ Err s → IsTransport s }
 {
     law_sound(schema);
     law_valid(schema);
     law_typed_defaults(schema);
 }
 
-/// What a client gets of a method has the types of its result and of its outs.
-pub fn law_got_typed(profile: Profile, schema: &Schema, interface: u32, method: u32, bytes: &[u8])
-    ensures { (a : AnswerData) → client profile schema.now.decls interface method bytes.now ≡ Ok a → IsGot schema.now.decls interface method a }
+/// What a client gets of a method has the types of its result and of its outs. A reply is refused with a status of reading.
+pub fn law_client(profile: Profile, schema: &Schema, interface: u32, method: u32, bytes: &[u8])
+    ensures typed { (a : AnswerData) → client profile schema.now.decls interface method bytes.now ≡ Ok a → IsGot schema.now.decls interface method a }
+    ensures status { (s : ℤ) → client profile schema.now.decls interface method bytes.now ≡ Err s → IsStatus s }
 {
     law_sound(schema);
     law_valid(schema);
-    law_typed_defaults(schema);
 }
 
 /// A request is called with the values that were sent, and with the openings of its `out` arguments.
