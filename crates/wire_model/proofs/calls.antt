@@ -3,6 +3,7 @@ pub mod Arguments
 pub mod Exceptions
 pub mod Itself
 pub mod Methods
+pub mod Outcomes
 pub mod Replies
 pub mod Requests
 pub mod Tokens
