@@ -1,5 +1,5 @@
 -- Worked calls: what a request and a reply are, what is made of them, and what values are to another version, computed.
-use Rattle.std.proofs.Common.{◌≡◌, ℕ, ◌++◌, ℤ, pos, negsuc, Bool, true, false, List, [], ◌∷◌, Option, Some, None, Result, Ok, Err, refl, ap, ◌∙◌}
+use Rattle.std.proofs.Common.{◌≡◌, ℕ, ◌++◌, ℤ, pos, negsuc, true, false, List, [], ◌∷◌, Some, None, Result, Ok, Err, refl}
 use Rattle.std.specs.Prelude.{codes}
 use Rattle.std.specs.Str.{chars}
 use Rattle.std.specs.Char.Utf16.{utf16_chars}
@@ -13,9 +13,9 @@ use Rattle.aidl_schema.specs.declared.schema.Base.TheVariants as base
 use Rattle.aidl_schema.specs.declared.schema.Decl.{Decl}
 use Rattle.aidl_schema.specs.declared.schema.Direction.{Direction}
 use Rattle.aidl_schema.specs.declared.schema.Direction.TheVariants.{In, Out, InOut}
-use Rattle.aidl_schema.specs.declared.schema.Kind.TheVariants.{Interface, Parcelable, Union}
+use Rattle.aidl_schema.specs.declared.schema.Kind.TheVariants.{Interface, Parcelable}
 use Rattle.aidl_schema.specs.declared.schema.Method.{Method}
-use Rattle.aidl_values.specs.Data.{Data, null, truth, number, text, seq, rec, alt, Items, none, item}
+use Rattle.aidl_values.specs.Data.{Data, number, seq, rec, Items, none, item}
 use Rattle.aidl_values.specs.Default.{const_value, zero_within}
 use Rattle.wire_model.specs.Calls.{AnswerData, returned, exception}
 use Rattle.wire_model.specs.Outcome.{Done, oneway, done, seen_call, outcome}
@@ -23,8 +23,7 @@ use Rattle.wire_model.specs.ReadOf.{read_of, raw_items_at, elements_at, array_at
 use Rattle.wire_model.specs.Receiver.{Received, left, called, header_at, length_at, array_opening_at, stub, returned_at, exception_at, client}
 use Rattle.wire_model.specs.Requests.{token, request, reply}
 use Rattle.wire_model.specs.Status.{bad_value, not_enough, unexpected_null, unknown_transaction, bad_type}
-use Rattle.wire_model.specs.View.{view_of}
-use Rattle.wire_model.proofs.Examples.{hex, one, array, or_null, declared, field, newer, older, tagged, small, large, it, record_of, numbers, initial_text}
+use Rattle.wire_model.proofs.Examples.{hex, one, array, declared, field, newer, older, record_of, numbers}
 
 received_by : List Decl → ℕ → List ℕ → Result Received ℤ
 unfolding stub header_at length_at array_opening_at read_of word_as count_at text_of block_at text_at present_text_at raw_at raw_items_at elements_at array_at marker_at body_at body_value_at record_at tag_at tagged_at union_at zero_within utf16_chars chars encode

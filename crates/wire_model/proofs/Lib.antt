@@ -14,6 +14,7 @@ mod TextForms
 mod ViewExamples
 mod again
 pub mod calls
+pub mod received
 pub mod spelled
 mod stopped
 mod told

@@ -1,12 +1,12 @@
 -- Worked views: what values are to another version of their types, computed.
-use Rattle.std.proofs.Common.{◌≡◌, ℤ, pos, false, List, [], ◌∷◌, Option, Some, None, refl}
+use Rattle.std.proofs.Common.{◌≡◌, pos, List, [], ◌∷◌, Option, Some, None, refl}
 use Rattle.std.specs.Prelude.{codes}
 use Rattle.aidl_base.specs.declared.constant.Const.{Const}
 use Rattle.aidl_schema.specs.declared.schema.AidlType.{AidlType}
 use Rattle.aidl_schema.specs.declared.schema.Base.TheVariants as base
 use Rattle.aidl_schema.specs.declared.schema.Decl.{Decl}
 use Rattle.aidl_schema.specs.declared.schema.Kind.TheVariants.{Parcelable, Union}
-use Rattle.aidl_values.specs.Data.{Data, null, number, text, seq, rec, alt, Items, none, item}
+use Rattle.aidl_values.specs.Data.{Data, null, number, text, seq, rec, alt, none, item}
 use Rattle.aidl_values.specs.Default.{const_value, zero_within}
 use Rattle.wire_model.specs.View.{view_of}
 use Rattle.wire_model.proofs.Examples.{one, array, or_null, declared, field, newer, older, tagged, small, large, it, record_of}

@@ -3,9 +3,9 @@ pub mod Arguments
 pub mod Exceptions
 pub mod Itself
 pub mod Methods
+pub mod Outcomes
 pub mod Replies
 pub mod Requests
 pub mod Tokens
-pub mod Typed
 pub mod Types
 pub mod Values

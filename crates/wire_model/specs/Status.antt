@@ -13,3 +13,7 @@ unknown_transaction = negsuc 73
 -- BAD_TYPE: a request doesn't begin with the token
 abbrev pub bad_type : ℤ
 bad_type = negsuc 2147483646
+
+-- a status with which a request is refused
+abbrev pub IsTransport : ℤ → Type 0
+IsTransport s = (s ≡ unknown_transaction) ⊎ ((s ≡ bad_type) ⊎ IsStatus s)

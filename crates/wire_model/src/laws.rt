@@ -1,4 +1,4 @@
-ghost use Rattle.std.specs.Prelude.{◌≡◌, ◌-◌, ◌*◌, ◌≤◌, ◌<◌, ◌↔◌, ◌++◌, ◌⊎◌, true, List, [], ℕ, ℤ, Some, None, Ok, Err, length};
+ghost use Rattle.std.specs.Prelude.{◌≡◌, ◌-◌, ◌*◌, ◌≤◌, ◌<◌, ◌↔◌, ◌++◌, ◌⊎◌, true, false, List, [], ℕ, ℤ, Some, None, Ok, Err, length};
 ghost use Rattle.aidl_base.specs.declared.profile.Profile.TheVariants.{Strict, Lenient};
 ghost use Rattle.aidl_schema.specs.Broken.{broken};
 ghost use Rattle.aidl_schema.specs.Find.{methods_at, position_of_code};
@@ -9,14 +9,14 @@ ghost use Rattle.aidl_values.specs.Fits.{Fits};
 ghost use Rattle.aidl_values.specs.HasType.{HasType};
 ghost use Rattle.aidl_values.specs.Nodes.{nodes_of};
 ghost use Rattle.aidl_values.specs.View.{view, views};
-ghost use Rattle.wire_model.specs.Calls.{AnswerData, answer_of, arguments, code_at, descriptor, method_at};
-ghost use Rattle.wire_model.specs.Outcome.{declared_as, method_like, received_call, seen_answer};
+ghost use Rattle.wire_model.specs.Calls.{AnswerData, answer_of, arguments, code_at, descriptor, is_oneway, method_at};
+ghost use Rattle.wire_model.specs.Outcome.{declared_as, done, method_like, oneway, outcome, received_call, seen_answer};
 ghost use Rattle.wire_model.specs.ReadOf.{read_of};
 ghost use Rattle.wire_model.specs.Reads.{FrontReads, Reads};
-ghost use Rattle.wire_model.specs.Receiver.{called, client, opened_arguments, stub};
+ghost use Rattle.wire_model.specs.Receiver.{called, client, left, opened_arguments, stub};
 ghost use Rattle.wire_model.specs.Requests.{AnswerFits, ArgsFit, reply, request};
 ghost use Rattle.wire_model.specs.Spell.{spell};
-ghost use Rattle.wire_model.specs.Status.{IsStatus, bad_value};
+ghost use Rattle.wire_model.specs.Status.{IsStatus, IsTransport, bad_value, unknown_transaction};
 ghost use Rattle.wire_model.specs.Stop.{Stop, Stops};
 ghost use Rattle.wire_model.specs.Typed.{AreArguments, IsGot};
 ghost use Rattle.wire_model.specs.View.{view_of};
@@ -171,25 +171,27 @@ pub fn law_view_same(schema: &Schema, ty: &AidlType, value: &Value)
     law_same_types(schema, schema);
 }
 
-/// Where a stub calls a method, the code is the method's, and the values have the types of its arguments.
-pub fn law_called_typed(profile: Profile, schema: &Schema, interface: u32, code: u32, bytes: &[u8])
+/// Where a stub calls a method, the code is the method's, and the values have the types of its arguments. A request is refused
+/// with UNKNOWN_TRANSACTION, with BAD_TYPE or with a status of reading.
+pub fn law_stub(profile: Profile, schema: &Schema, interface: u32, code: u32, bytes: &[u8])
     ensures coded { (m : ℕ) (saw : Items) → stub profile schema.now.decls interface code bytes.now ≡ Ok (called m saw)
         → position_of_code (methods_at schema.now.decls interface) code ≡ Some m }
     ensures typed { (m : ℕ) (saw : Items) → stub profile schema.now.decls interface code bytes.now ≡ Ok (called m saw)
         → AreArguments schema.now.decls interface m saw }
+    ensures status { (s : ℤ) → stub profile schema.now.decls interface code bytes.now ≡ Err s → IsTransport s }
 {
     law_sound(schema);
     law_valid(schema);
     law_typed_defaults(schema);
 }
 
-/// What a client gets of a method has the types of its result and of its outs.
-pub fn law_got_typed(profile: Profile, schema: &Schema, interface: u32, method: u32, bytes: &[u8])
-    ensures { (a : AnswerData) → client profile schema.now.decls interface method bytes.now ≡ Ok a → IsGot schema.now.decls interface method a }
+/// What a client gets of a method has the types of its result and of its outs. A reply is refused with a status of reading.
+pub fn law_client(profile: Profile, schema: &Schema, interface: u32, method: u32, bytes: &[u8])
+    ensures typed { (a : AnswerData) → client profile schema.now.decls interface method bytes.now ≡ Ok a → IsGot schema.now.decls interface method a }
+    ensures status { (s : ℤ) → client profile schema.now.decls interface method bytes.now ≡ Err s → IsStatus s }
 {
     law_sound(schema);
     law_valid(schema);
-    law_typed_defaults(schema);
 }
 
 /// A request is called with the values that were sent, and with the openings of its `out` arguments.
@@ -290,6 +292,55 @@ pub fn law_reply_seen(
     law_calls_meet(b, a);
     law_sound(a);
     law_valid(a);
+}
+
+/// A call whose request and reply are carried unaltered comes to its `Outcome`: that without the server's interface; the status
+/// with which its stub refuses the request, which never has bytes left over; and where it calls a method, what the method
+/// sees, and what the client makes of the reply.
+pub fn law_outcome(
+    profile: Profile,
+    a: &Schema,
+    interface: u32,
+    method: u32,
+    b: &Schema,
+    other: u32,
+    args: &[Value],
+    answer: &Answer,
+    sent: &[u8],
+    replied: &[u8],
+)
+    requires unbroken { (broken a.now.decls b.now.decls ≡ []) ⊎ (broken b.now.decls a.now.decls ≡ []) }
+    requires fits { ArgsFit a.now.decls interface method (views args.now) }
+    requires spelled { sent.now ≡ request a.now.decls interface method (views args.now) }
+    requires small { length sent.now ≤ 1048576 }
+    ensures nowhere { declared_as b.now.decls (descriptor a.now.decls interface) ≡ None
+        → outcome a.now.decls interface method b.now.decls (views args.now) (answer_of answer.now) ≡ Err unknown_transaction }
+    ensures refused { declared_as b.now.decls (descriptor a.now.decls interface) ≡ Some other
+        → (s : ℤ) → stub profile b.now.decls other (code_at a.now.decls interface method) sent.now ≡ Err s
+        → outcome a.now.decls interface method b.now.decls (views args.now) (answer_of answer.now) ≡ Err s }
+    ensures never_left { declared_as b.now.decls (descriptor a.now.decls interface) ≡ Some other
+        → (n : ℕ) → stub profile b.now.decls other (code_at a.now.decls interface method) sent.now ≡ Ok (left n) → ⊥ }
+    ensures common { declared_as b.now.decls (descriptor a.now.decls interface) ≡ Some other
+        → (n : ℕ) (saw : Items) → stub profile b.now.decls other (code_at a.now.decls interface method) sent.now ≡ Ok (called n saw)
+        → method_like (method_at a.now.decls interface method) (methods_at b.now.decls other) ≡ Some n }
+    ensures oneway { declared_as b.now.decls (descriptor a.now.decls interface) ≡ Some other
+        → (n : ℕ) (saw : Items) → stub profile b.now.decls other (code_at a.now.decls interface method) sent.now ≡ Ok (called n saw)
+        → is_oneway b.now.decls other n ≡ true
+        → outcome a.now.decls interface method b.now.decls (views args.now) (answer_of answer.now) ≡ Ok (oneway saw) }
+    ensures done { declared_as b.now.decls (descriptor a.now.decls interface) ≡ Some other
+        → (n : ℕ) (saw : Items) → stub profile b.now.decls other (code_at a.now.decls interface method) sent.now ≡ Ok (called n saw)
+        → is_oneway b.now.decls other n ≡ false → AnswerFits b.now.decls other n (answer_of answer.now)
+        → replied.now ≡ reply b.now.decls other n (answer_of answer.now)
+        → outcome a.now.decls interface method b.now.decls (views args.now) (answer_of answer.now) ≡ Ok (done saw (client profile a.now.decls interface method replied.now)) }
+{
+    law_meets(a, b);
+    law_meets(b, a);
+    law_calls_meet(a, b);
+    law_calls_meet(b, a);
+    law_sound(a);
+    law_sound(b);
+    law_valid(a);
+    law_valid(b);
 }
 
 /// Where no evolution rule is broken from one of two schemas to the other, types that are the same mean the same to both, as

@@ -13,7 +13,7 @@ pub use aidl_schema::{
 };
 pub use aidl_values::{Answer, Value};
 pub use laws::{
-    law_called_typed, law_got_typed, law_nodes, law_one_reading, law_read_of, law_reads_or_stops,
+    law_client, law_nodes, law_one_reading, law_outcome, law_read_of, law_reads_or_stops,
     law_reply_got, law_reply_seen, law_request_called, law_request_seen, law_spelled_reads,
-    law_strict_is_lenient, law_view_reads, law_view_same,
+    law_strict_is_lenient, law_stub, law_view_reads, law_view_same,
 };

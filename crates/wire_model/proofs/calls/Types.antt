@@ -1,5 +1,5 @@
 -- The types of a method of a valid schema are types of the schema.
-use Rattle.std.proofs.Common.{◌≡◌, Bool, true, false, not, ◌||◌, List, [], ◌∷◌, Option, Some, None, refl}
+use Rattle.std.proofs.Common.{◌≡◌, ℕ, Bool, true, false, not, ◌||◌, List, [], ◌∷◌, Option, Some, None, slice_get, refl}
 use Rattle.std.specs.List.{list_all}
 use Rattle.aidl_base.proofs.Tests.{both, all_at}
 use Rattle.aidl_schema.specs.declared.schema.AidlType.{AidlType}
@@ -13,7 +13,8 @@ use Rattle.aidl_schema.specs.Methods.{is_in_way, is_passed_type, is_result_type,
 use Rattle.aidl_schema.specs.Names.{methods_of}
 use Rattle.aidl_schema.specs.Types.{is_type}
 use Rattle.aidl_schema.specs.Unbroken.{Has}
-use Rattle.wire_model.specs.Calls.{outs_of}
+use Rattle.aidl_schema.specs.Find.{methods_of_decl}
+use Rattle.wire_model.specs.Calls.{arguments_of, result_of, outs_of}
 use Rattle.wire_model.specs.steps.CallsMeet.{ArgumentsAgree}
 use Rattle.wire_model.proofs.calls.Arguments.{HaveTypes}
 use Rattle.wire_model.proofs.calls.Values.{TypesAgree, ResultsAgree}
@@ -35,6 +36,14 @@ module _ (S : List Decl) where
 
     pub result_is : is_result_type S w.result ≡ true
     result_is = (both (is_result_type S w.result) (list_all (λ (a : Arg). is_passed_type S a.ty) w.args) method_types).0
+
+module _ (S : List Decl) (holds : AllHold S) where
+  -- the types of a method, where there is one
+  pub method_typed : (i m : ℕ) (o : Option Decl) → slice_get S i ≡ o → (w : Option Method) → slice_get (methods_of_decl o) m ≡ w
+      → HaveTypes S (arguments_of w) × (is_result_type S (result_of w) ≡ true)
+  method_typed i m o here None at = (tt, refl)
+  method_typed i m None here (Some w) at = cc
+  method_typed i m (Some d) here (Some w) at = (argument_types S holds d (i, here) w (m, at), result_is S holds d (i, here) w (m, at))
 
 -- outs of methods that take the same calls
 pub outs_agree : (A B : List Decl) (xs ys : List Arg) → ArgumentsAgree A xs B ys → HaveTypes B ys → TypesAgree A (outs_of xs) B (outs_of ys)

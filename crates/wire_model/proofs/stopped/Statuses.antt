@@ -24,7 +24,7 @@ word_status may b inside s (WordStop.not_permitted le wrong) = inl refl
 long_status : (b : List ℕ) (inside : Bool) (s : ℤ) → LongStop b inside s → IsStatus s
 long_status b inside s (LongStop.short lt) = past_status inside
 
-count_status : (nullable : Bool) (b : List ℕ) (inside : Bool) (s : ℤ) → CountStop nullable b inside s → IsStatus s
+pub count_status : (nullable : Bool) (b : List ℕ) (inside : Bool) (s : ℤ) → CountStop nullable b inside s → IsStatus s
 count_status nullable b inside s (CountStop.short lt) = past_status inside
 count_status nullable b inside s (CountStop.null_count begins may) = inr (inr refl)
 count_status nullable b inside s (CountStop.negative n begins) = inl refl
@@ -33,7 +33,7 @@ block_status : (n : ℕ) (HasForm : List ℕ → Type 0) (b : List ℕ) (inside 
 block_status n HasForm b inside s (BlockStop.long_block lt) = past_status inside
 block_status n HasForm b inside s (BlockStop.wrong_block le wrong) = inl refl
 
-text_status : (p : Profile) (nullable : Bool) (b : List ℕ) (inside : Bool) (s : ℤ) → TextStop p nullable b inside s → IsStatus s
+pub text_status : (p : Profile) (nullable : Bool) (b : List ℕ) (inside : Bool) (s : ℤ) → TextStop p nullable b inside s → IsStatus s
 text_status p nullable b inside s (TextStop.at_count h) = count_status nullable b inside s h
 text_status p nullable b inside s (TextStop.at_block n begins h) = block_status _ _ _ inside s h
 

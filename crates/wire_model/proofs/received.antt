@@ -1,0 +1,7 @@
+-- What a stub and a client make of any bytes: `law_stub` and `law_client`.
+pub mod Answers
+pub mod Arguments
+pub mod Rests
+pub mod Statuses
+pub mod Steps
+pub mod Values
