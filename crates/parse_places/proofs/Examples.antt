@@ -25,10 +25,10 @@ a_name_in_place_of_a_declaration : place (Name ∷ []) ≡ Some 0
 unfolding place tokens kind_of place_from step ends moves skips row same_terminal
 a_name_in_place_of_a_declaration = refl
 
--- the row of the definition of the product: a type where a name is due: `package a; parcelable R { int = 3; }`
-the_row_of_the_definition_of_the_product : place (Package ∷ Name ∷ Semicolon ∷ Parcelable ∷ Name ∷ OpenBrace ∷ Name ∷ Equal ∷ Number ∷ Semicolon ∷ CloseBrace ∷ []) ≡ Some 7
+-- a field without a name: `package a; parcelable R { int = 3; }`
+a_field_without_a_name : place (Package ∷ Name ∷ Semicolon ∷ Parcelable ∷ Name ∷ OpenBrace ∷ Name ∷ Equal ∷ Number ∷ Semicolon ∷ CloseBrace ∷ []) ≡ Some 7
 unfolding place tokens kind_of place_from step ends moves skips row same_terminal
-the_row_of_the_definition_of_the_product = refl
+a_field_without_a_name = refl
 
 -- a second declaration: `package a; enum E { A } enum F { B }`
 a_second_declaration : place (Package ∷ Name ∷ Semicolon ∷ Enum ∷ Name ∷ OpenBrace ∷ Name ∷ CloseBrace ∷ Enum ∷ Name ∷ OpenBrace ∷ Name ∷ CloseBrace ∷ []) ≡ Some 8
