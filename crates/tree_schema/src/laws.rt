@@ -1,0 +1,32 @@
+ghost use Rattle.std.specs.Prelude.{map, IsTrue};
+ghost use Rattle.std.specs.List.{All};
+ghost use Rattle.aidl_names.specs.Sources.{AreOfBytes, source_of};
+ghost use Rattle.aidl_schema.specs.Names.{has_names, has_members};
+ghost use Rattle.aidl_schema.specs.Valid.{is_within_limits};
+ghost use Rattle.tree_schema.specs.Named.{HasIdentifiers};
+ghost use Rattle.tree_schema.specs.SchemaOf.{schema_of};
+ghost use Rattle.tree_schema.specs.Values.{Outcomes};
+
+use aidl_names::Names;
+use aidl_syntax::{ParsedFile, law_tree};
+
+/// A law of the definitions: the schema of a tree that breaks none of E1 to E5 and passes no limit has the first two
+/// rules of a valid schema, and is within its limits, whatever the outcomes of the tree's items.
+pub fn law_named(names: &Names<'_>)
+    ensures names { (outcomes : Outcomes) → IsTrue (has_names (schema_of (map source_of names.now) outcomes)) }
+    ensures members { (outcomes : Outcomes) → IsTrue (has_members (schema_of (map source_of names.now) outcomes)) }
+    ensures limits { (outcomes : Outcomes) → IsTrue (is_within_limits (schema_of (map source_of names.now) outcomes)) }
+{
+    let files = names.files();
+    law_identifiers(files);
+}
+
+/// The names in each tree are identifiers.
+fn law_identifiers(files: &[ParsedFile])
+    requires { AreOfBytes files.now }
+    ensures { All HasIdentifiers (map source_of files.now) }
+{
+    for file in files {
+        law_tree(&file.tree);
+    }
+}
