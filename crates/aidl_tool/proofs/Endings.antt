@@ -10,7 +10,7 @@ use Rattle.aidl_tool.specs.declared.verdict.Verdict.{Verdict}
 use Rattle.aidl_tool.specs.declared.verdict.Verdict.TheVariants.{Done, Negative, LimitPassed}
 use Rattle.aidl_tool.specs.Answer.{Answer}
 use Rattle.aidl_tool.specs.Ended.{Ended, WroteAll, WroteSome, FailedAt, CarriedThese, EndsAsMeant, PutsFront}
-use Rattle.aidl_tool.specs.Meaning.{reads_only}
+use Rattle.aidl_tool.specs.Meaning.{reads_by}
 use Rattle.aidl_tool.specs.Seen.{Seen}
 use Rattle.aidl_tool.specs.Verdict.{exit_of, IsVerdict}
 use Rattle.aidl_tool.specs.steps.Prints.{Prints}
@@ -20,11 +20,6 @@ verdict_exit : (v : Verdict) → IsVerdict (exit_of v)
 verdict_exit Done = inl (omega arith)
 verdict_exit Negative = inl (omega arith)
 verdict_exit LimitPassed = inr refl
-
--- nothing was put
-pub nothing_put : (told : Option (List ℕ)) (text : List ℕ) → AddsFront told told text
-nothing_put None text = ([], text, refl, refl)
-nothing_put (Some before) text = ([], text, refl, ap (λ now. Some now) (sym (append-nil before)))
 
 nothing_carried : (log : Option (List Carried)) → Adds log log []
 nothing_carried None = refl
@@ -90,21 +85,29 @@ verdict_is a exit (inl e) verdict = e
 verdict_is a exit (inr (inl four)) verdict = absurd (not_verdict exit (omega arith) (omega arith) verdict)
 verdict_is a exit (inr (inr five)) verdict = absurd (not_verdict exit (omega arith) (omega arith) verdict)
 
-module _ (answer : Files → Answer) (before now : Seen) (exit : ℕ)
+module _ (answers : Files → Answer → Type 0) (before now : Seen) (exit : ℕ)
     (kept : now.kept ≡ before.kept) (log : now.log ≡ before.log) (link : now.link_faults ≡ before.link_faults) (nature : now.is_faithful ≡ before.is_faithful) where
-  these : (files : Files) → CarriedThese (reads_only answer) files before now []
+  -- the exit and the text are those of an answer
+  abbrev IsMeant : Files → Type 0
+  IsMeant files = (answer : Answer) × answers files answer × (exit ≡ exit_of answer.verdict) × Adds before.told now.told answer.text
+
+  -- nothing was put, or a front of the text of an answer
+  abbrev IsFront : Files → Type 0
+  IsFront files = (now.told ≡ before.told) ⊎ ((answer : Answer) × answers files answer × AddsFront before.told now.told answer.text)
+
+  these : (files : Files) → CarriedThese (reads_by answers) files before now []
   these files = (subst (λ l. Adds before.log l []) (sym log) (nothing_carried before.log), tt, λ faithful k entry none. absurd (omega arith))
 
-  as_meant : Tells before.kept (λ files. (exit ≡ exit_of (answer files).verdict) × Adds before.told now.told (answer files).text) → Tells before.kept (EndsAsMeant (reads_only answer) before now exit)
-  as_meant told = tells before.kept _ _ (λ files meant. ([], these files, refl, meant.0, meant.1)) told
+  as_meant : Tells before.kept IsMeant → Tells before.kept (EndsAsMeant (reads_by answers) before now exit)
+  as_meant told = tells before.kept _ _ (λ files meant. ([], these files, refl, meant.0, meant.1, meant.2, meant.3)) told
 
-  puts_front : Tells before.kept (λ files. AddsFront before.told now.told (answer files).text) → Tells before.kept (PutsFront (reads_only answer) before now)
+  puts_front : Tells before.kept IsFront → Tells before.kept (PutsFront (reads_by answers) before now)
   puts_front told = tells before.kept _ _ (λ files front. ([], these files, front)) told
 
   complete_by : IsReadExit exit → (exit ≡ 3 → Rose before.store_faults now.store_faults) → (exit ≡ 4 → Rose before.sink_faults now.sink_faults)
-      → (IsVerdict exit → Tells before.kept (EndsAsMeant (reads_only answer) before now exit))
+      → (IsVerdict exit → Tells before.kept (EndsAsMeant (reads_by answers) before now exit))
       → (Rose before.store_faults now.store_faults → ⊥) → (Rose before.sink_faults now.sink_faults → ⊥)
-      → (exit ≡ 5) ⊎ (IsVerdict exit × Tells before.kept (EndsAsMeant (reads_only answer) before now exit))
+      → (exit ≡ 5) ⊎ (IsVerdict exit × Tells before.kept (EndsAsMeant (reads_by answers) before now exit))
   complete_by (inl verdict) store sink meant no_store no_sink = inr (verdict, meant verdict)
   complete_by (inr (inl three)) store sink meant no_store no_sink = absurd (no_store (store three))
   complete_by (inr (inr (inl four))) store sink meant no_store no_sink = absurd (no_sink (sink four))
@@ -116,10 +119,10 @@ module _ (answer : Files → Answer) (before now : Seen) (exit : ℕ)
       → (store_good : exit ≢ 3 → now.store_faults ≡ before.store_faults)
       → (sink_fault : exit ≡ 4 → Rose before.sink_faults now.sink_faults)
       → (sink_good : exit ≢ 4 → now.sink_faults ≡ before.sink_faults)
-      → (answered : IsVerdict exit → Tells before.kept (λ files. (exit ≡ exit_of (answer files).verdict) × Adds before.told now.told (answer files).text))
+      → (answered : IsVerdict exit → Tells before.kept IsMeant)
       → (silent : exit ≡ 3 → now.told ≡ before.told)
-      → (front : (exit ≡ 4) ⊎ (exit ≡ 5) → Tells before.kept (λ files. AddsFront before.told now.told (answer files).text))
-      → Ended (reads_only answer) before now exit
+      → (front : (exit ≡ 4) ⊎ (exit ≡ 5) → Tells before.kept IsFront)
+      → Ended (reads_by answers) before now exit
   ended exits store_fault store_good sink_fault sink_good answered silent front = record {
     exits = widened exit exits;
     store_fault = store_fault;
@@ -140,27 +143,26 @@ module _ (answer : Files → Answer) (before now : Seen) (exit : ℕ)
     complete = λ no_store no_sink no_link. complete_by exits store_fault sink_fault (λ verdict. as_meant (answered verdict)) no_store no_sink;
   }
 
-module _ (answer : Files → Answer) (before now : Seen)
+module _ (answers : Files → Answer → Type 0) (before now : Seen)
     (kept : now.kept ≡ before.kept) (log : now.log ≡ before.log) (link : now.link_faults ≡ before.link_faults) (nature : now.is_faithful ≡ before.is_faithful) where
   -- a read that failed
-  pub ended_by_store : Rose before.store_faults now.store_faults → now.told ≡ before.told → now.sink_faults ≡ before.sink_faults → Ended (reads_only answer) before now 3
+  pub ended_by_store : Rose before.store_faults now.store_faults → now.told ≡ before.told → now.sink_faults ≡ before.sink_faults → Ended (reads_by answers) before now 3
   ended_by_store rose told sink =
-      ended answer before now 3 kept log link nature (inr (inl refl)) (λ three. rose) (λ other. absurd (other refl)) (λ four. absurd (omega arith)) (λ other. sink)
+      ended answers before now 3 kept log link nature (inr (inl refl)) (λ three. rose) (λ other. absurd (other refl)) (λ four. absurd (omega arith)) (λ other. sink)
       (λ verdict. absurd (not_verdict 3 (omega arith) (omega arith) verdict)) (λ three. told) (λ ends. absurd (not_both 3 refl ends))
 
   -- want of memory before anything was put
-  pub ended_by_memory : now.store_faults ≡ before.store_faults → now.told ≡ before.told → now.sink_faults ≡ before.sink_faults → Ended (reads_only answer) before now 5
+  pub ended_by_memory : now.store_faults ≡ before.store_faults → now.told ≡ before.told → now.sink_faults ≡ before.sink_faults → Ended (reads_by answers) before now 5
   ended_by_memory store told sink =
-      ended answer before now 5 kept log link nature (inr (inr (inr refl))) (λ three. absurd (omega arith)) (λ other. store) (λ four. absurd (omega arith)) (λ other. sink)
+      ended answers before now 5 kept log link nature (inr (inr (inr refl))) (λ three. absurd (omega arith)) (λ other. store) (λ four. absurd (omega arith)) (λ other. sink)
       (λ verdict. absurd (not_verdict 5 (omega arith) (omega arith) verdict)) (λ three. absurd (omega arith))
-      (λ ends. told_always before.kept (λ files. subst (λ t. AddsFront before.told t (answer files).text) (sym told) (nothing_put before.told (answer files).text)))
+      (λ ends. told_always before.kept (λ files. inl told))
 
   -- an answer that was printed
-  pub ended_by_print : (a : Answer) (exit : ℕ) → Tells before.kept (λ files. a ≡ answer files) → now.store_faults ≡ before.store_faults
-      → Prints a before.told now.told before.sink_faults now.sink_faults exit → Ended (reads_only answer) before now exit
+  pub ended_by_print : (a : Answer) (exit : ℕ) → Tells before.kept (λ files. answers files a) → now.store_faults ≡ before.store_faults
+      → Prints a before.told now.told before.sink_faults now.sink_faults exit → Ended (reads_by answers) before now exit
   ended_by_print a exit is store prints =
-      ended answer before now exit kept log link nature (exits_of a exit prints.exits) (λ three. absurd (not_three a exit prints.exits three)) (λ other. store) prints.fault prints.good
-      (λ verdict. let e = verdict_is a exit prints.exits verdict in
-      tells before.kept _ _ (λ files same. (subst (λ (x : Answer). exit ≡ exit_of x.verdict) same e, subst (λ (x : Answer). Adds before.told now.told x.text) same (prints.whole e))) is)
+      ended answers before now exit kept log link nature (exits_of a exit prints.exits) (λ three. absurd (not_three a exit prints.exits three)) (λ other. store) prints.fault prints.good
+      (λ verdict. let e = verdict_is a exit prints.exits verdict in tells before.kept _ _ (λ files meant. (a, meant, e, prints.whole e)) is)
       (λ three. absurd (not_three a exit prints.exits three))
-      (λ ends. tells before.kept _ _ (λ files same. subst (λ (x : Answer). AddsFront before.told now.told x.text) same prints.front) is)
+      (λ ends. tells before.kept _ _ (λ files meant. inr (a, meant, prints.front)) is)

@@ -6,8 +6,9 @@ use Rattle.aidl_outside.specs.Causes.{Rose}
 use Rattle.aidl_outside.specs.Files.{Files}
 use Rattle.aidl_outside.specs.Told.{Tells, Adds, AddsFront}
 use Rattle.aidl_outside.specs.Writes.{ChangesOnly}
-use Rattle.aidl_tool.specs.Answer.{line}
-use Rattle.aidl_tool.specs.Meaning.{Meaning, Write, AreDue, CarriesNothing}
+use Rattle.aidl_tool.specs.Answer.{Answer, line}
+use Rattle.aidl_tool.specs.Meaning.{Meaning, Write, AreDue, CarriesNothing, Meant}
+use Rattle.aidl_tool.specs.Meaning.Meant.{unknown, means}
 use Rattle.aidl_tool.specs.Seen.{Seen}
 use Rattle.aidl_tool.specs.Verdict.{exit_of, IsVerdict}
 
@@ -39,23 +40,25 @@ CarriedThese m files before now entries = Adds before.log now.log entries
     × AreDue (m.due files) [] entries
     × (before.is_faithful ≡ true → All (λ (entry : Carried). entry.delivered ≡ entry.sent) entries)
 
--- the exit and the text are those that are meant, and nothing more is due
+-- the exit and the text are those of an answer that is meant, and nothing more is due
 abbrev pub EndsAsMeant : Meaning → Seen → Seen → ℕ → Files → Type 0
 EndsAsMeant m before now exit files = (entries : List Carried) × CarriedThese m files before now entries
     × (m.due files entries ≡ None)
-    × (exit ≡ exit_of (m.answer files entries).verdict)
-    × Adds before.told now.told (m.answer files entries).text
+    × (answer : Answer) × m.answers files entries answer
+    × (exit ≡ exit_of answer.verdict)
+    × Adds before.told now.told answer.text
 
--- a front of the text was put
+-- nothing was put, or a front of the text of an answer that is meant
 abbrev pub PutsFront : Meaning → Seen → Seen → Files → Type 0
 PutsFront m before now files = (entries : List Carried) × CarriedThese m files before now entries
-    × AddsFront before.told now.told (m.answer files entries).text
+    × ((now.told ≡ before.told) ⊎ ((answer : Answer) × m.answers files entries answer × AddsFront before.told now.told answer.text))
 
 -- a parcel is due, and all the text before it was put
 abbrev pub StopsAtCarry : Meaning → Seen → Seen → Files → Type 0
 StopsAtCarry m before now files = (entries : List Carried) × CarriedThese m files before now entries
     × IsSome (m.due files entries)
-    × Adds before.told now.told (m.answer files entries).text
+    × (answer : Answer) × m.answers files entries answer
+    × Adds before.told now.told answer.text
 
 pub record Ended (m : Meaning) (before now : Seen) (exit : ℕ) : Type 0 where
   -- the exits, and that 3, 4 and 6 come only where the count of the store, the sink and the link rose
@@ -94,7 +97,7 @@ pub record Refused (before now : Seen) (exit : ℕ) : Type 0 where
   pub whole : exit ≡ 2 → Adds before.told now.told refused_words
   pub front : AddsFront before.told now.told refused_words
 
--- of words with a meaning, and of words without one
-abbrev pub Ran : Option Meaning → Seen → Seen → ℕ → Type 0
-Ran None before now exit = Refused before now exit
-Ran (Some m) before now exit = Ended m before now exit
+-- of words without a meaning, and of words with one
+abbrev pub Ran : Meant → Seen → Seen → ℕ → Type 0
+Ran unknown before now exit = Refused before now exit
+Ran (means m) before now exit = Ended m before now exit

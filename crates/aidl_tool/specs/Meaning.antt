@@ -17,15 +17,20 @@ pub record Parcel : Type 0 where
   pub sent : List ℕ
 
 -- The files that it writes, in order. The parcel that is due after those that were carried, by what was delivered; None
--- where no more is. And its answer: while a parcel is due, its text is what is printed before that one is carried.
-pub record Meaning : Type 0 where
+-- where no more is. And its answers, one or none: while a parcel is due, the text of an answer is what is printed before
+-- that one is carried.
+pub record Meaning : Type 1 where
   pub writes : Files → List Write
   pub due : Files → List Carried → Option Parcel
-  pub answer : Files → List Carried → Answer
+  pub answers : Files → List Carried → Answer → Type 0
 
--- a command that neither writes nor carries
+-- a command that neither writes nor carries, by what its answers are over the files
+abbrev pub reads_by : (Files → Answer → Type 0) → Meaning
+reads_by answers = record { writes = λ files. []; due = λ files entries. None; answers = λ files entries answer. answers files answer }
+
+-- one whose answer is a function of the files
 abbrev pub reads_only : (Files → Answer) → Meaning
-reads_only answer = record { writes = λ files. []; due = λ files entries. None; answer = λ files entries. answer files }
+reads_only answer = reads_by (λ files a. a ≡ answer files)
 
 abbrev pub parcel_of : Carried → Parcel
 parcel_of entry = record { way = entry.way; code = entry.code; sent = entry.sent }
@@ -38,3 +43,8 @@ AreDue due before (entry ∷ entries) = (due before ≡ Some (parcel_of entry)) 
 -- no parcel is ever due
 abbrev pub CarriesNothing : Meaning → Type 0
 CarriesNothing m = (files : Files) (entries : List Carried) → m.due files entries ≡ None
+
+-- what words mean: nothing that is known, or a command
+pub data Meant : Type 1 where
+  unknown : Meant
+  means : Meaning → Meant

@@ -1,11 +1,10 @@
 ghost use Rattle.std.specs.Prelude.{◌≡◌, map, string_bytes};
-ghost use Rattle.std.specs.Option.{option_map};
 ghost use Rattle.tool_words.specs.Seen.{command_seen};
 ghost use Rattle.aidl_tool.specs.Decode.{profile_of};
 ghost use Rattle.aidl_tool.specs.Ended.{Ran};
 ghost use Rattle.aidl_tool.specs.Meant.{meaning, meant};
 ghost use Rattle.aidl_tool.specs.Seen.{seen_by};
-ghost use Rattle.aidl_tool.specs.steps.Files.{meaning_of};
+ghost use Rattle.aidl_tool.specs.steps.Files.{meaning_by, EndsAlike};
 
 use crate::file_command::{FileCommand, run_on_file};
 use crate::refuse::refuse;
@@ -35,7 +34,7 @@ pub fn aidl<S: Store, K: Sink, L: Link>(
 
 // The command that the words mean.
 fn meant(words: &[String]) -> Option<FileCommand<'_>>
-    ensures { option_map meaning_of result ≡ meant (map string_bytes words.now) }
+    ensures { EndsAlike (meaning_by result) (meant (map string_bytes words.now)) }
 {
     match command_of(words) {
         None => None,
@@ -45,7 +44,7 @@ fn meant(words: &[String]) -> Option<FileCommand<'_>>
 
 // The command, where it is built.
 fn built(command: Command<'_>) -> Option<FileCommand<'_>>
-    ensures { option_map meaning_of result ≡ meaning (command_seen command.entry) }
+    ensures { EndsAlike (meaning_by result) (meaning (command_seen command.entry)) }
 {
     match command {
         Command::Decode {

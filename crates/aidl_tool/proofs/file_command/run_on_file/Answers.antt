@@ -15,7 +15,7 @@ returns-in-Err-OutOfMemory g c =
 pub returns-in-Ok : goal.returns-in-Ok
 returns-in-Ok g c =
     let command = c.args.command in
-    ended_by_print (λ files. answer_of command (file_at TextBytes files (path_of command))) _ _ c.in-Ok.ensures.unchanged refl refl refl
+    ended_by_print (λ files a. a ≡ answer_of command (file_at TextBytes files (path_of command))) _ _ c.in-Ok.ensures.unchanged refl refl refl
     (answer_of command (loaded c.in-Ok.file)) c.print.result
     (tells (g.S.Store.kept c.args.store.now) (λ files. loaded c.in-Ok.file ≡ file_at TextBytes files c.path_of.result.now) _
     (λ files found. ap (answer_of command) (found ∙ ap (file_at TextBytes files) c.path_of.ensures)) c.in-Ok.ensures.file)
