@@ -95,7 +95,10 @@ fn push_meanings(
     for name in all.as_slice() {
         write!(text, "{before}")?;
         push_name(text, &name.name)?;
-        push_meaning(text, names.resolve(found.file, number, name.name.0.as_slice()))?;
+        push_meaning(
+            text,
+            names.resolve(found.file, number, name.name.0.as_slice()),
+        )?;
         before = ", ";
     }
     if before == ", " {
