@@ -1,8 +1,9 @@
 //! What comes of a source text, as text that a person can compare: its tokens, its tree as an outline, the value of its
-//! first constant, or the fault; and what comes of the names of a tree of files. It is for rows of expected results and
+//! first constant, or the fault; and what comes of the names and of the constant expressions of a tree of files. It is for rows of expected results and
 //! no part of the product.
 #![tactic(auto)]
 
+mod constants;
 mod evaluation;
 mod names;
 mod outcome;
@@ -12,4 +13,4 @@ mod tree;
 mod type_names;
 
 pub use outcome::{Kind, outcome_of};
-pub use tree::names_of;
+pub use tree::{Asked, answer_of};

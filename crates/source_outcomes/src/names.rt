@@ -26,7 +26,8 @@ pub fn shown_names(
     }
 }
 
-fn shown_breaches(
+/// Each breach with its rule, file and offset; or how many they are, where there are more than eight.
+pub fn shown_breaches(
     alloc: Global,
     files: &[ParsedFile],
     rows: &[Breach],
@@ -64,7 +65,8 @@ fn shown_declarations(alloc: Global, names: &Names<'_>) -> Result<String, OutOfM
     Ok(text)
 }
 
-fn comma(text: &mut String) -> Result<(), AllocError> {
+/// A comma behind what there is already.
+pub fn comma(text: &mut String) -> Result<(), AllocError> {
     if !text.is_empty() {
         text.push_str(", ")?;
     }

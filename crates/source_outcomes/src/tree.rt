@@ -2,24 +2,48 @@ ghost use Rattle.std.specs.Prelude.{◌≤◌, length, IfOk, IfSome};
 ghost use Rattle.std.specs.List.{All};
 ghost use Rattle.aidl_names.specs.Sources.{IsOfBytes, AreOfBytes};
 
+use crate::constants::shown_constants;
 use crate::names::shown_names;
 use aidl_base::{LimitName, OutOfMemory, SourceFile, Text};
 use aidl_lexer::lex;
-use aidl_names::gather;
+use aidl_names::{NameFault, Names, gather};
 use aidl_parser::parse;
 use aidl_syntax::ParsedFile;
 use std::alloc::Global;
 
-/// What comes of the names of a tree of files: its declarations in order with what the names of their types mean, or
-/// why they are refused.
-pub fn names_of(alloc: Global, files: &[SourceFile]) -> Result<String, OutOfMemory> {
+/// What is asked of a tree of files.
+#[derive(Clone, Copy)]
+pub enum Asked {
+    /// its declarations in order with what the names of their types mean, or why they are refused
+    Names,
+    /// the outcomes of its constant expressions in order, and the breaches among them
+    Constants,
+}
+
+/// What comes of a tree of files.
+pub fn answer_of(alloc: Global, asked: Asked, files: &[SourceFile]) -> Result<String, OutOfMemory> {
     let limit = LimitName::Files;
     if files.len() > 4096 {
         return Ok(format!(in alloc; "limit {} {}", limit.name(), limit.number())?);
     }
     match parsed(alloc, files)? {
-        Some(files) => shown_names(alloc, files.as_slice(), gather(alloc, files.as_slice())),
+        Some(files) => {
+            let files = files.as_slice();
+            shown(alloc, asked, files, gather(alloc, files))
+        }
         None => Ok(String::from_str(alloc, "no tree")?),
+    }
+}
+
+fn shown(
+    alloc: Global,
+    asked: Asked,
+    files: &[ParsedFile],
+    names: Result<Names<'_>, NameFault>,
+) -> Result<String, OutOfMemory> {
+    match asked {
+        Asked::Names => shown_names(alloc, files, names),
+        Asked::Constants => shown_constants(alloc, files, names),
     }
 }
 

@@ -15,7 +15,7 @@ use aidl_base::OutOfMemory;
 use case::word_of;
 use run::try_run;
 use runs::try_runs;
-use source_outcomes::Kind;
+use source_outcomes::{Asked, Kind};
 use sources::try_sources;
 use std::alloc::Global;
 use std::io::ErrorKind;
@@ -23,7 +23,7 @@ use std::{fs, io};
 use trees::try_trees;
 use tried::Tried;
 
-const FILES: [&str; 7] = [
+const FILES: [&str; 8] = [
     "words.rows",
     "decode.rows",
     "encode.rows",
@@ -31,6 +31,7 @@ const FILES: [&str; 7] = [
     "parser.rows",
     "constants.rows",
     "names.rows",
+    "outcomes.rows",
 ];
 
 fn main(rt: HostRuntime) -> io::Result<()> {
@@ -66,7 +67,8 @@ fn try_block(alloc: Global, block: &str, tried: &mut Tried) -> Result<(), OutOfM
         "parse" => try_sources(alloc, Kind::Tree, block, tried),
         "accept" => try_sources(alloc, Kind::Acceptance, block, tried),
         "evaluate" => try_sources(alloc, Kind::Value, block, tried),
-        "names" => try_trees(alloc, block, tried),
+        "names" => try_trees(alloc, Asked::Names, block, tried),
+        "constants" => try_trees(alloc, Asked::Constants, block, tried),
         _ => tried.unread(block),
     }
 }

@@ -2,14 +2,19 @@ use crate::case::case_of;
 use crate::plain::plain;
 use crate::tried::Tried;
 use aidl_base::{OutOfMemory, Row, SourceFile, Text};
-use source_outcomes::names_of;
+use source_outcomes::{Asked, answer_of};
 use std::alloc::Global;
 
 /// Tries a block that is a table of trees: `PATH: TEXT || PATH: TEXT .. => WANTED` each.
-pub fn try_trees(alloc: Global, block: &str, tried: &mut Tried) -> Result<(), OutOfMemory> {
+pub fn try_trees(
+    alloc: Global,
+    asked: Asked,
+    block: &str,
+    tried: &mut Tried,
+) -> Result<(), OutOfMemory> {
     for line in block.lines() {
         if let Some((sources, wanted)) = case_of(line) {
-            let came = names_of(alloc, files_of(alloc, sources)?.as_slice())?;
+            let came = answer_of(alloc, asked, files_of(alloc, sources)?.as_slice())?;
             tried.row(line, wanted.as_bytes(), came.as_bytes())?;
         }
     }
