@@ -1,5 +1,6 @@
 use crate::evaluation::constant_text;
 use crate::outline::Outline;
+use crate::place::shown_place;
 use crate::tokens::shown_tokens;
 use aidl_base::{LimitName, OutOfMemory};
 use aidl_lexer::{LexFault, lex};
@@ -14,6 +15,8 @@ pub enum Kind {
     Tokens,
     /// how many tokens it has
     Count,
+    /// the place of its syntax fault
+    Place,
     /// its tree
     Tree,
     /// whether it has a tree
@@ -37,6 +40,7 @@ fn of_tokens(alloc: Global, kind: Kind, tokens: &[Token]) -> Result<String, OutO
     match kind {
         Kind::Tokens => shown_tokens(alloc, tokens),
         Kind::Count => Ok(format!(in alloc; "{} tokens", tokens.len())?),
+        Kind::Place => shown_place(alloc, tokens),
         _ => of_parsed(alloc, kind, parse(alloc, tokens)),
     }
 }

@@ -4,6 +4,7 @@ ghost use Rattle.aidl_names.specs.Sources.{IsOfBytes, AreOfBytes};
 
 use crate::constants::shown_constants;
 use crate::names::shown_names;
+use crate::type_breaches::shown_types;
 use aidl_base::{LimitName, OutOfMemory, SourceFile, Text};
 use aidl_lexer::lex;
 use aidl_names::{NameFault, Names, gather};
@@ -18,6 +19,8 @@ pub enum Asked {
     Names,
     /// the outcomes of its constant expressions in order, and the breaches among them
     Constants,
+    /// the breaches of the rules on its types
+    Types,
 }
 
 /// What comes of a tree of files.
@@ -44,6 +47,7 @@ fn shown(
     match asked {
         Asked::Names => shown_names(alloc, files, names),
         Asked::Constants => shown_constants(alloc, files, names),
+        Asked::Types => shown_types(alloc, files, names),
     }
 }
 

@@ -23,7 +23,7 @@ use std::{fs, io};
 use trees::try_trees;
 use tried::Tried;
 
-const FILES: [&str; 8] = [
+const FILES: [&str; 10] = [
     "words.rows",
     "decode.rows",
     "encode.rows",
@@ -32,6 +32,8 @@ const FILES: [&str; 8] = [
     "constants.rows",
     "names.rows",
     "outcomes.rows",
+    "types.rows",
+    "places.rows",
 ];
 
 fn main(rt: HostRuntime) -> io::Result<()> {
@@ -65,10 +67,12 @@ fn try_block(alloc: Global, block: &str, tried: &mut Tried) -> Result<(), OutOfM
         "lex" => try_sources(alloc, Kind::Tokens, block, tried),
         "count" => try_sources(alloc, Kind::Count, block, tried),
         "parse" => try_sources(alloc, Kind::Tree, block, tried),
+        "place" => try_sources(alloc, Kind::Place, block, tried),
         "accept" => try_sources(alloc, Kind::Acceptance, block, tried),
         "evaluate" => try_sources(alloc, Kind::Value, block, tried),
         "names" => try_trees(alloc, Asked::Names, block, tried),
         "constants" => try_trees(alloc, Asked::Constants, block, tried),
+        "types" => try_trees(alloc, Asked::Types, block, tried),
         _ => tried.unread(block),
     }
 }
