@@ -1,11 +1,12 @@
 -- What is found once one more file was looked at, case by case.
-use Rattle.std.proofs.Common.{◌≡◌, ◌≢◌, ℕ, true, false, List, [], ◌∷◌, ◌++◌, length, Option, Some, None, Result, Ok, Err, OnOk, refl, sym, ◌∙◌, ap, subst, zero-add}
+use Rattle.std.proofs.Common.{nat_eq, ◌≡◌, ◌≢◌, ℕ, true, false, List, [], ◌∷◌, ◌++◌, length, Option, Some, None, Result, Ok, Err, OnOk, refl, sym, ◌∙◌, ap, subst, zero-add}
 use Rattle.std.specs.List.{AllZip}
 use Rattle.std.proofs.lemmas.List.Elements.{All-push}
+use Rattle.std.specs.Option.{is_none}
+use Rattle.aidl_base.proofs.Tests.{both}
 use Rattle.aidl_base.specs.declared.limit.LimitName.{LimitName}
 use Rattle.aidl_base.specs.declared.source_file.SourceFile.{SourceFile}
 use Rattle.aidl_syntax.specs.declared.tree.ParsedFile.{ParsedFile}
-use Rattle.std.specs.Option.{is_some}
 use Rattle.aidl_syntax.specs.declared.token.Token.{Token}
 use Rattle.aidl_syntax.specs.Tokens.{Tokens}
 use Rattle.aidl_syntax.specs.Productions.{IsFile}
@@ -19,7 +20,7 @@ use Rattle.tree_files.specs.declared.fault.LexBreach.{LexBreach}
 use Rattle.tree_files.specs.declared.found.Found.{Found}
 use Rattle.tree_files.specs.Files.{HasTokens, HasLimit, HasTree, IsParsed}
 use Rattle.tree_files.specs.Refusals.{Rows, IsLexBreach, IsTreeless}
-use Rattle.tree_files.specs.steps.Standing.{IsFirst, Extends}
+use Rattle.tree_files.specs.steps.Standing.{IsFirst, Extends, wants_trees}
 use Rattle.tree_files.proofs.Rows.{rows-good, rows-next}
 use Rattle.tree_files.proofs.Limits.{first-stays, first-here}
 
@@ -32,14 +33,18 @@ some-item : {A : Type 0} (xs : List A) (x : A) → xs ++ x ∷ [] ≡ [] → ⊥
 some-item [] x e = cc
 some-item (y ∷ ys) x e = cc
 
--- what a test for a limit says
-pub was-some : (o : Option LimitName) → is_some o ≡ true → o ≡ None → ⊥
-was-some None e h = cc
-was-some (Some w) e h = cc
+-- what the test for trees says
+pub closed : (faults : List LexBreach) (limit : Option LimitName) → wants_trees faults limit ≡ false → faults ≡ [] → limit ≡ None → ⊥
+closed [] None e z o = cc
+closed [] (Some w) e z o = cc
+closed (b ∷ bs) limit e z o = cc
 
-pub was-none : (o : Option LimitName) → is_some o ≡ false → o ≡ None
+was-none : (limit : Option LimitName) → is_none limit ≡ true → limit ≡ None
 was-none None e = refl
 was-none (Some w) e = cc
+
+pub open-limit : (faults : List LexBreach) (limit : Option LimitName) → wants_trees faults limit ≡ true → limit ≡ None
+open-limit faults limit e = was-none limit (both (nat_eq (length faults) 0) (is_none limit) e).1
 
 not-none : (w : LimitName) → ◌≡◌ {A = Option LimitName} (Some w) None → ⊥
 not-none w e = cc

@@ -5,7 +5,7 @@ ghost use Rattle.aidl_lexer.specs.Gives.{HasFault};
 ghost use Rattle.tree_files.specs.Sizes.{oversized};
 ghost use Rattle.tree_files.specs.Parsed.{AreParsed};
 ghost use Rattle.tree_files.specs.Refusals.{IsRefusal};
-ghost use Rattle.tree_files.specs.steps.Standing.{Stands, Extends};
+ghost use Rattle.tree_files.specs.steps.Standing.{Stands, Extends, wants_trees};
 
 use crate::fault::{FilesFault, LexBreach};
 use aidl_base::{Limit, LimitName, OutOfMemory, Row, SourceFile};
@@ -61,6 +61,13 @@ impl Found {
         }
     }
 
+    // Whether trees still count: no file without tokens was found, and no limit.
+    fn wants_trees(&self) -> bool
+        ensures { result ≡ wants_trees self.now.faults self.now.limit }
+    {
+        self.faults.len() == 0 && self.limit.is_none()
+    }
+
     // The next file has these tokens.
     fn add_tokens(
         &mut self,
@@ -72,7 +79,7 @@ impl Found {
         requires { Tokens file.now.bytes tokens.now }
         ensures { OnOk result (Extends number file.now self.old self.new) }
     {
-        if self.faults.len() > 0 || self.limit.is_some() {
+        if !self.wants_trees() {
             return Ok(());
         }
         match parse(alloc, tokens) {

@@ -1,8 +1,10 @@
 -- What is found of the first files of a tree.
-use Rattle.std.specs.Prelude.{◌≡◌, ℕ, List, [], ◌∷◌, ◌++◌, length, Option, Some, None}
+use Rattle.std.specs.Prelude.{◌≡◌, ℕ, Bool, nat_eq, ◌&&◌, List, [], ◌∷◌, ◌++◌, length, Option, Some, None}
 use Rattle.std.specs.List.{All, AllZip}
+use Rattle.std.specs.Option.{is_none}
 use Rattle.aidl_base.specs.declared.limit.LimitName.{LimitName}
 use Rattle.aidl_base.specs.declared.source_file.SourceFile.{SourceFile}
+use Rattle.tree_files.specs.declared.fault.LexBreach.{LexBreach}
 use Rattle.tree_files.specs.declared.found.Found.{Found}
 use Rattle.tree_files.specs.Files.{HasTokens, HasLimit, HasTree, IsParsed}
 use Rattle.tree_files.specs.Refusals.{Rows, IsLexBreach, IsTreeless, FirstLimit}
@@ -18,6 +20,10 @@ pub record Stands (files : List SourceFile) (found : Found) : Type 0 where
   pub limit : found.faults ≡ [] → IsFirst files found.limit
   pub treeless : found.faults ≡ [] → found.limit ≡ None → Rows HasTree IsTreeless 0 files found.treeless
   pub parsed : found.faults ≡ [] → found.limit ≡ None → found.treeless ≡ [] → AllZip IsParsed files found.parsed
+
+-- no file without tokens was found, and no limit
+abbrev pub wants_trees : List LexBreach → Option LimitName → Bool
+wants_trees faults limit = nat_eq (length faults) 0 && is_none limit
 
 -- what is found next, once the file with this number is looked at
 abbrev pub Extends : ℕ → SourceFile → Found → Found → Type 0
