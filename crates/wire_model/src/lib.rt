@@ -1,8 +1,10 @@
 //! What the bytes of a Parcel mean: definitions in `specs/` and the laws about them. No code of this crate runs.
 //!
-//! Definitions: `Spell` (the bytes that spell a value), `Reads` (which bytes are a reading of which value), `Stop`
-//! (which bytes begin no reading, and with which status), and `ReadOf`, reading as one plain function. The types
-//! that they speak of are exported again.
+//! Of values: `Spell` (the bytes that spell a value), `Reads` (which bytes are a reading of which value), `Stop` (which bytes
+//! begin no reading, and with which status), `ReadOf`, reading as one plain function, and `View` (what a value is to another
+//! version of its type). Of calls: `Requests` (the bytes of a request and of a reply), `Receiver` (what a stub and a client
+//! make of bytes), `Typed` (which types that has) and `Outcome` (what comes of a call between two versions). The types that
+//! they speak of are exported again.
 #![tactic(auto)]
 
 mod laws;
