@@ -3,7 +3,6 @@ mod Examples
 mod Forms
 mod Lenient
 mod Lookups
-mod Nodes
 pub mod Nodes
 pub mod Parts
 mod RawForms
