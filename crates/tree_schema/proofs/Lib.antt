@@ -12,3 +12,4 @@ pub mod MembersNames
 pub mod MembersWeights
 pub mod MembersSchema
 pub mod LimitsSchema
+pub mod TypesShapes
