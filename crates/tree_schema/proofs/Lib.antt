@@ -13,3 +13,4 @@ pub mod MembersWeights
 pub mod MembersSchema
 pub mod LimitsSchema
 pub mod TypesShapes
+pub mod TypesForms
