@@ -14,3 +14,4 @@ pub mod MembersSchema
 pub mod LimitsSchema
 pub mod TypesShapes
 pub mod TypesForms
+pub mod TypesUses
