@@ -15,3 +15,5 @@ pub mod LimitsSchema
 pub mod TypesShapes
 pub mod TypesForms
 pub mod TypesUses
+pub mod TypesMembers
+pub mod TypesSchema
