@@ -17,3 +17,4 @@ pub mod TypesForms
 pub mod TypesUses
 pub mod TypesMembers
 pub mod TypesSchema
+pub mod MethodsIds
