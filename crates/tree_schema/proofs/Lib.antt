@@ -18,3 +18,4 @@ pub mod TypesUses
 pub mod TypesMembers
 pub mod TypesSchema
 pub mod MethodsIds
+pub mod MethodsSchema

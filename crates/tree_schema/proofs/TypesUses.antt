@@ -70,9 +70,9 @@ some-at p (x ∷ xs) h = by (p x) refl h (some-at p xs) where
   by true q g rest = (0, x, refl, q)
   by false q g rest = let r = rest g in (suc r.0, r.1, r.2, r.3)
 
-none_mapped : {X Y : Type 0} (f : X → Y) (xs : List X) → map f xs ≡ [] → xs ≡ []
-none_mapped f [] e = refl
-none_mapped f (x ∷ xs) e = cc
+pub none-mapped : {X Y : Type 0} (f : X → Y) (xs : List X) → map f xs ≡ [] → xs ≡ []
+none-mapped f [] e = refl
+none-mapped f (x ∷ xs) e = cc
 
 none_filtered : {X : Type 0} (p : X → Bool) (xs : List X) → filter p xs ≡ [] → list_any p xs ≡ false
 none_filtered p [] e = refl
@@ -83,7 +83,7 @@ none_filtered p (x ∷ xs) e = by (p x) e (none_filtered p xs) where
 
 -- breaches of what passes a test: none passes it
 pub none-found : {X Y : Type 0} (f : X → Y) (p : X → Bool) (xs : List X) → map f (filter p xs) ≡ [] → list_any p xs ≡ false
-none-found f p xs e = none_filtered p xs (none_mapped f (filter p xs) e)
+none-found f p xs e = none_filtered p xs (none-mapped f (filter p xs) e)
 
 pub any-at : {X : Type 0} (p : X → Bool) (xs : List X) (n : ℕ) (x : X) → list_any p xs ≡ false → slice_get xs n ≡ Some x → p x ≡ false
 any-at p [] n x h at = cc
@@ -135,7 +135,7 @@ pub stands-well : (file : ℕ) (s : Stand) (annots : List Annot) (name : List �
     → bad_annotations file s annots ≡ [] → list_any (is_called name) annots ≡ true → may_stand r s ≡ true
 stands-well file s annots name r row e h =
     let one = some-at (is_called name) annots h in
-    let none = none_mapped (λ (a : Annot). breach 13 file a.offset) (after_earlier (is_bad_annotation s) [] annots) e in
+    let none = none-mapped (λ (a : Annot). breach 13 file a.offset) (after_earlier (is_bad_annotation s) [] annots) e in
     let fails = each-fails (is_bad_annotation s) [] annots none one.0 one.1 one.2 in
     let named : text one.1.name.name ≡ name = same_text_is (text one.1.name.name) name one.3 in
     let at : row_of_name (text one.1.name.name) ≡ Some r = ap row_of_name named ∙ row in
