@@ -19,3 +19,4 @@ pub mod TypesMembers
 pub mod TypesSchema
 pub mod MethodsIds
 pub mod MethodsSchema
+pub mod BoundsSchema
