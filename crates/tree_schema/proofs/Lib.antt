@@ -20,3 +20,5 @@ pub mod TypesSchema
 pub mod MethodsIds
 pub mod MethodsSchema
 pub mod BoundsSchema
+pub mod ValuesItems
+pub mod ValuesGiven
