@@ -22,3 +22,5 @@ pub mod MethodsSchema
 pub mod BoundsSchema
 pub mod ValuesItems
 pub mod ValuesGiven
+pub mod ValuesPlain
+pub mod ValuesFit
