@@ -24,3 +24,5 @@ pub mod ValuesItems
 pub mod ValuesGiven
 pub mod ValuesPlain
 pub mod ValuesFit
+pub mod ValuesSettled
+pub mod EnumsSchema

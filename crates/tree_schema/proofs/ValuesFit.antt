@@ -68,12 +68,12 @@ module _ (files : List Source) (plain : (n : ℕ) (x : Item) → slice_get (item
   next_is n x e = ap (next_of files) e
 
   -- what has an outcome is an item
-  has_item : (n : ℕ) (o : Outcome) → HasOutcome files n o → (y : Item) × (slice_get (items files) n ≡ Some y)
-  has_item n o (unformed _ x e u) = (x, e)
-  has_item n o (unknown _ x e u k) = (x, e)
-  has_item n o (cyclic _ x e u k i) = (x, e)
-  has_item n o (behind _ x e u k i m q there has lacks) = (x, e)
-  has_item n o (judged _ x e u k i values all) = (x, e)
+  pub has-item : (n : ℕ) (o : Outcome) → HasOutcome files n o → (y : Item) × (slice_get (items files) n ≡ Some y)
+  has-item n o (unformed _ x e u) = (x, e)
+  has-item n o (unknown _ x e u k) = (x, e)
+  has-item n o (cyclic _ x e u k i) = (x, e)
+  has-item n o (behind _ x e u k i m q there has lacks) = (x, e)
+  has-item n o (judged _ x e u k i values all) = (x, e)
 
   given_is : (r : Result Const ConstFault) (c : Const) → outcome_of r ≡ Given c → r ≡ Ok c
   given_is (Ok d) c e = cc
@@ -86,7 +86,7 @@ module _ (files : List Source) (plain : (n : ℕ) (x : Item) → slice_get (item
   judged_fits n x y values e h all fit c q =
       let same = same_item n x y e h in
       let back : (m : ℕ) → Contains (depends_on files x) m → Contains (next files n) m = λ m there. subst (λ ms. Contains ms m) (sym (next_is n x e)) there in
-      let fine = judgement-fits files values x (λ m there z at. fit m (back m there) z at) (λ m there. has_item m (Given (values m)) (all m (back m there)))
+      let fine = judgement-fits files values x (λ m there z at. fit m (back m there) z at) (λ m there. has-item m (Given (values m)) (all m (back m there)))
       (plain n x e) c (given_is (judgement_of files values x x.value) c q) in
       subst (λ z. fits z.wanted (out-Const c) ≡ true) same fine
 
