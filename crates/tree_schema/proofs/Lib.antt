@@ -26,3 +26,4 @@ pub mod ValuesPlain
 pub mod ValuesFit
 pub mod ValuesSettled
 pub mod EnumsSchema
+pub mod ValuesConstants
