@@ -27,3 +27,4 @@ pub mod ValuesFit
 pub mod ValuesSettled
 pub mod EnumsSchema
 pub mod ValuesConstants
+pub mod EnumsNamed
