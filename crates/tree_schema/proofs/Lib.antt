@@ -28,3 +28,4 @@ pub mod ValuesSettled
 pub mod EnumsSchema
 pub mod ValuesConstants
 pub mod EnumsNamed
+pub mod ValuesInitials
