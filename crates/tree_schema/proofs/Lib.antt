@@ -29,3 +29,4 @@ pub mod EnumsSchema
 pub mod ValuesConstants
 pub mod EnumsNamed
 pub mod ValuesInitials
+pub mod ValuesWalks
