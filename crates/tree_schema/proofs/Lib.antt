@@ -30,3 +30,4 @@ pub mod ValuesConstants
 pub mod EnumsNamed
 pub mod ValuesInitials
 pub mod ValuesWalks
+pub mod ValuesPlaces
