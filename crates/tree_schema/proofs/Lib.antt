@@ -31,3 +31,4 @@ pub mod EnumsNamed
 pub mod ValuesInitials
 pub mod ValuesWalks
 pub mod ValuesPlaces
+pub mod ValuesChecked
