@@ -1,5 +1,5 @@
 -- What the law of trees says of files, as rules 5 to 7 ask it: no place comes twice, and the literals are plain.
-use Rattle.std.proofs.Common.{◌≡◌, ◌≤◌, ◌<◌, ◌+◌, ◌==◌, ℕ, pos, zero, suc, Bool, true, false, not, ◌&&◌, nat_le, if◌then◌else◌, All, List, [], ◌∷◌, Some, length, slice_get, refl, sym, ap, ◌∙◌, subst, arith}
+use Rattle.std.proofs.Common.{◌≡◌, ◌≤◌, ◌<◌, ◌+◌, ◌==◌, ℕ, pos, suc, Bool, true, false, not, ◌&&◌, nat_le, if◌then◌else◌, All, List, [], ◌∷◌, Some, slice_get, refl, sym, ap, ◌∙◌, subst, arith}
 use Rattle.std.specs.List.{list_all, slice_index}
 use Rattle.std.specs.List.Sorted.{IsStrictlyIncreasing}
 use Rattle.std.specs.Ordering.{int_eq}
@@ -36,9 +36,12 @@ Rises low (x ∷ xs) = (low ≤ x) × Rises (x + 1) xs
 
 rises_from : (x : ℕ) (xs : List ℕ) → IsStrictlyIncreasing (x ∷ xs) → Rises (x + 1) xs
 rises_from x [] h = tt
-rises_from x (y ∷ more) h = let lt : x < y = h 0 (omega arith) in (omega arith, rises_from y more (λ k le.
-    let on : suc k + 1 ≡ suc (k + 1) = omega arith in
-    subst (λ (j : ℕ). slice_index (x ∷ y ∷ more) (suc k) < slice_index (x ∷ y ∷ more) j) on (h (suc k) (omega arith))))
+rises_from x (y ∷ more) h = let lt : x < y = h 0 (omega arith) in (
+  omega arith,
+  rises_from y more (λ k le.
+      let on : suc k + 1 ≡ suc (k + 1) = omega arith in
+      subst (λ (j : ℕ). slice_index (x ∷ y ∷ more) (suc k) < slice_index (x ∷ y ∷ more) j) on (h (suc k) (omega arith))),
+)
 
 rises : (xs : List ℕ) → IsStrictlyIncreasing xs → Rises 0 xs
 rises [] h = tt
