@@ -1,5 +1,5 @@
 -- The declarations in the order of a schema, and the number that each has there.
-use Rattle.std.proofs.Common.{encode_utf8_all, ◌≡◌, ◌≤◌, ◌<◌, ◌+◌, ℕ, zero, suc, Bool, true, false, if◌then◌else◌, nat_eq, List, [], ◌∷◌, map, fold, length, Some, slice_get, refl, sym, ap, ◌∙◌, subst, arith}
+use Rattle.std.proofs.Common.{is_some, encode_utf8_all, ◌≡◌, ◌≤◌, ◌<◌, ◌+◌, ℕ, zero, suc, Bool, true, false, if◌then◌else◌, nat_eq, List, [], ◌∷◌, map, fold, length, Some, slice_get, refl, sym, ap, ◌∙◌, subst, arith}
 use Rattle.std.specs.List.{list_any, list_all, enumerate_from}
 use Rattle.std.proofs.lemmas.Bool.Decides.{nat_tests}
 use Rattle.aidl_base.specs.declared.name.Ident.{Ident}
@@ -15,7 +15,6 @@ use Rattle.aidl_names.specs.Names.{text, same}
 use Rattle.aidl_names.specs.Resolution.{meaning_of_word}
 use Rattle.aidl_names.specs.Rules.{is_taken}
 use Rattle.aidl_names.specs.Sources.{Source}
-use Rattle.std.specs.Prelude.{is_some}
 use Rattle.tree_schema.specs.Numbers.{Numbered, bytes_of, put, sorted, has_number, number_of}
 use Rattle.tree_schema.proofs.WalksTotals.{total, total-enumerate, total-length, is_that}
 use Rattle.tree_schema.proofs.WalksPlaced.{placed, all-total, all-ascending, all-exact, Each, each-at, all-each, placed-by}

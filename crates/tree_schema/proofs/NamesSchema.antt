@@ -1,6 +1,5 @@
 -- Rule 1 of a valid schema: the names of the declarations of a tree without breaches.
-use Rattle.std.proofs.Common.{◌≡◌, ℕ, Bool, true, false, ◌&&◌, ◌||◌, cond, List, [], ◌∷◌, ◌++◌, map, length, Option, Some, None, slice_get, IsTrue, refl, sym, ap, ◌∙◌, subst}
-use Rattle.std.specs.Prelude.{is_some}
+use Rattle.std.proofs.Common.{is_some, ◌≡◌, ℕ, Bool, true, false, ◌&&◌, ◌||◌, cond, List, [], ◌∷◌, ◌++◌, map, length, Option, Some, None, slice_get, IsTrue, refl, sym, ap, ◌∙◌, subst}
 use Rattle.std.specs.List.{list_any}
 use Rattle.std.proofs.lemmas.List.Folds.{list_all-map}
 use Rattle.aidl_base.specs.declared.name.Ident.{Ident}
@@ -84,9 +83,6 @@ module _ (files : List Source) (outcomes : Outcomes) (named : are_named files �
       (some.0, some.1, mapped-there (declared files outcomes) (sorted (declarations files)) some.0 (k, e) some.2)
 
 module _ (files : List Source) (outcomes : Outcomes) (named : are_named files ≡ true) (unbroken : breaches files ≡ []) where
-  entries : List Entry
-  entries = declarations files
-
   texts_are : map name_of (schema_of files outcomes) ≡ map key (sorted (declarations files))
   texts_are =
       map-map name_of (declared files outcomes) (sorted (declarations files))

@@ -4,6 +4,7 @@ use Rattle.std.specs.List.{list_any, list_all, position_from}
 use Rattle.aidl_base.proofs.Tests.{neither}
 use Rattle.tree_schema.proofs.WalksTotals.{total}
 
+-- what stands in front stays where it is; one more stands behind all
 pub there-kept : {X : Type 0} (xs ys : List X) (k : ℕ) (x : X) → slice_get xs k ≡ Some x → slice_get (xs ++ ys) k ≡ Some x
 there-kept [] ys k x e = cc
 there-kept (y ∷ xs) ys zero x e = e
@@ -22,12 +23,14 @@ there-cases (z ∷ xs) y (suc k) x e = by (there-cases xs y k x e) where
   by (inl h) = inl h
   by (inr h) = inr (ap suc h.0, h.1)
 
+-- at every other place nothing changes
 pub elsewhere : {X : Type 0} (xs : List X) (x : X) (k : ℕ) → (length xs ≡ k → ⊥) → slice_get (xs ++ x ∷ []) k ≡ slice_get xs k
 elsewhere [] x zero h = absurd (h refl)
 elsewhere [] x (suc k) h = refl
 elsewhere (y ∷ xs) x zero h = refl
 elsewhere (y ∷ xs) x (suc k) h = elsewhere xs x k (λ e. h (ap suc e))
 
+-- places of a list that a function makes of another
 pub there-mapped : {X Y : Type 0} (f : X → Y) (xs : List X) (n : ℕ) (y : Y) → slice_get (map f xs) n ≡ Some y → (x : X) × (slice_get xs n ≡ Some x) × (f x ≡ y)
 there-mapped f [] n y at = cc
 there-mapped f (x ∷ xs) zero y at = (x, refl, cc)
@@ -42,6 +45,7 @@ pub same-maps : {X Y : Type 0} (f g : X → Y) (xs : List X) → ((n : ℕ) (x :
 same-maps f g [] h = refl
 same-maps f g (x ∷ xs) h = ap (λ y. y ∷ map f xs) (h 0 x refl) ∙ ap (λ ys. g x ∷ ys) (same-maps f g xs (λ n y at. h (suc n) y at))
 
+-- a test of all, place by place; one that none passes
 pub all-from_at : {X : Type 0} (p : X → Bool) (xs : List X) → ((k : ℕ) (x : X) → slice_get xs k ≡ Some x → p x ≡ true) → list_all p xs ≡ true
 all-from_at p [] h = refl
 all-from_at p (x ∷ xs) h = rw (h 0 x refl) (all-from_at p xs (λ k y at. h (suc k) y at))
