@@ -33,3 +33,4 @@ pub mod ValuesWalks
 pub mod ValuesPlaces
 pub mod ValuesChecked
 pub mod ValuesLaws
+pub mod EnumsFilled
