@@ -1,5 +1,5 @@
 -- Each enum in the tree of a file has an enumerator, as the syntax has it.
-use Rattle.std.proofs.Common.{◌≡◌, ◌+◌, ℕ, Bool, true, ◌&&◌, All, List, [], ◌∷◌, ◌++◌, length, Option, Some, None, slice_get, refl}
+use Rattle.std.proofs.Common.{◌≡◌, ◌+◌, ℕ, Bool, true, ◌&&◌, List, [], ◌∷◌, ◌++◌, length, Option, Some, None, slice_get, refl}
 use Rattle.std.specs.List.{list_all}
 use Rattle.aidl_base.specs.declared.name.Ident.{Ident}
 use Rattle.aidl_base.proofs.Tests.{both}
