@@ -12,3 +12,6 @@ pub mod MembersNames
 pub mod MembersWeights
 pub mod MembersSchema
 pub mod LimitsSchema
+mod Within
+mod Dotted
+mod Keyed

@@ -3,3 +3,4 @@ pub mod Types
 pub mod Values
 pub mod Parts
 pub mod SchemaOf
+pub mod TreeViews
