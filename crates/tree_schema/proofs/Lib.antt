@@ -15,3 +15,4 @@ pub mod LimitsSchema
 mod Within
 mod Dotted
 mod Keyed
+mod InOrder

@@ -4,3 +4,4 @@ pub mod Values
 pub mod Parts
 pub mod SchemaOf
 pub mod TreeViews
+pub mod Keyed
