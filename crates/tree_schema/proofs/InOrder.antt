@@ -2,10 +2,14 @@
 use Rattle.std.proofs.Common.{◌≡◌, ℕ, suc, ◌+◌, ◌<◌, List, [], ◌∷◌, map, length, get_or, drop, drop-cons, add-one, refl, sym, ap, ◌∙◌}
 use Rattle.std.specs.List.{fold, enumerate_from}
 use Rattle.std.specs.Ordering.{match_ordering}
+use Rattle.aidl_syntax.specs.Trees.{Enumerator}
+use Rattle.aidl_syntax.specs.Members.Member.{enumerator}
+use Rattle.aidl_names.specs.Sources.{Source}
 use Rattle.aidl_names.specs.declared.names.Found.{Found}
 use Rattle.aidl_names.specs.Refusals.{entry_of}
 use Rattle.aidl_schema.specs.declared.schema.Constant.{Constant}
 use Rattle.tree_schema.specs.Numbers.{Numbered, bytes_of, order, put}
+use Rattle.tree_schema.specs.Values.{Outcomes}
 use Rattle.tree_schema.specs.Parts as parts
 use Rattle.tree_schema.proofs.WalksPlaced.{placed}
 
@@ -29,3 +33,8 @@ next_in old new x found f i all lt is at e invariant =
 pub constant_is : (ys : List Constant) (c : Constant) → placed parts.bytes_of ys c ≡ parts.put ys c
 constant_is [] c = refl
 constant_is (d ∷ ys) c = ap (λ z. match_ordering (parts.order c d) (c ∷ d ∷ ys) (c ∷ ys) (d ∷ z)) (constant_is ys c)
+
+-- enumerators are no constants
+pub no_constants : (files : List Source) (outcomes : Outcomes) (file scope : ℕ) (es : List Enumerator) → parts.listed_constants files outcomes file scope (map enumerator es) ≡ []
+no_constants files outcomes file scope [] = refl
+no_constants files outcomes file scope (e ∷ es) = no_constants files outcomes file scope es

@@ -16,3 +16,4 @@ mod Within
 mod Dotted
 mod Keyed
 mod InOrder
+mod Few

@@ -1,5 +1,5 @@
 -- How the code sees a tree of which a schema is made.
-use Rattle.std.specs.Prelude.{◌≡◌, ℕ, nat_eq, List, map, length}
+use Rattle.std.specs.Prelude.{◌≡◌, ℕ, nat_eq, List, map}
 use Rattle.indexmap.specs.IndexMap.{get}
 use Rattle.aidl_names.specs.Declarations.{declarations}
 use Rattle.aidl_names.specs.Refusals.{IsScope, entry_of}

@@ -1,9 +1,13 @@
 //! The schema of a checked tree.
 #![tactic(auto)]
 
+mod backing;
 mod bases;
+mod constants;
 mod copied;
+mod drafting;
 mod fields;
+mod kinds;
 mod methods;
 mod numbers;
 mod order;
@@ -12,10 +16,4 @@ mod tree;
 mod types;
 mod values;
 
-pub use fields::fields_in;
-pub use methods::methods_in;
-pub use numbers::numbers_of;
-pub use order::sorted;
-pub use texts::name_text;
-pub use tree::{Placed, Tree};
-pub use values::enumerator_value;
+pub use drafting::draft;

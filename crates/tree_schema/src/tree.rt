@@ -3,6 +3,7 @@ use const_eval::Settled;
 use indexmap::IndexMap;
 
 /// A tree of which a schema is made: its names, the outcomes of its items, and the number of each declaration in the schema.
+#[derive(Clone, Copy)]
 pub struct Tree<'a, 'b> {
     pub names: &'a Names<'b>,
     pub settled: &'a Settled<'b>,

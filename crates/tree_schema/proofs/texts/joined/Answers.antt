@@ -1,4 +1,4 @@
-use Rattle.std.proofs.Common.{◌++◌, ◌∙◌, sym, arith, length}
+use Rattle.std.proofs.Common.{◌∙◌, sym, arith}
 use Rattle.std.specs.Prelude.{string_bytes}
 use Rattle.tree_schema.proofs.Dotted.{encoded, whole}
 use Rattle.tree_schema.proofs.texts.joined.Goals as goal
