@@ -34,3 +34,8 @@ pub mod ValuesPlaces
 pub mod ValuesChecked
 pub mod ValuesLaws
 pub mod EnumsFilled
+mod Within
+mod Dotted
+mod Keyed
+mod InOrder
+mod Few
