@@ -17,3 +17,24 @@ mod Dotted
 mod Keyed
 mod InOrder
 mod Few
+pub mod TypesShapes
+pub mod TypesForms
+pub mod TypesUses
+pub mod TypesMembers
+pub mod TypesSchema
+pub mod MethodsIds
+pub mod MethodsSchema
+pub mod BoundsSchema
+pub mod ValuesItems
+pub mod ValuesGiven
+pub mod ValuesPlain
+pub mod ValuesFit
+pub mod ValuesSettled
+pub mod EnumsSchema
+pub mod ValuesConstants
+pub mod EnumsNamed
+pub mod ValuesInitials
+pub mod ValuesWalks
+pub mod ValuesPlaces
+pub mod ValuesChecked
+pub mod ValuesLaws
