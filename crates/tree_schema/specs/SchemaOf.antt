@@ -30,6 +30,7 @@ kind_with files outcomes file number backing (union ms) = Union (fields_in files
 kind_with files outcomes file number backing (enum es) = Enum backing (map (enumerator_in files outcomes file) es)
 kind_with files outcomes file number backing (interface oneway ms) = Interface (methods_in files file number oneway 0 (listed ms))
 
+-- an enum has the backing that constants see
 abbrev pub kind_of : List Source → Outcomes → ℕ → ℕ → Wanted → Body → Kind
 kind_of files outcomes file number backed b = kind_with files outcomes file number (backing_in backed) b
 
