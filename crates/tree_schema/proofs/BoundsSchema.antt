@@ -1,8 +1,8 @@
 -- Rule 8 of a valid schema: what `@FixedSize` stands on in a tree that breaks neither E13 nor E24; E22 and E23 are asked of the schema.
-use Rattle.std.proofs.Common.{IsTrue, ◌≡◌, ◌<◌, ℕ, Bool, true, false, not, ◌&&◌, ◌||◌, if◌then◌else◌, codes, List, [], ◌∷◌, ◌++◌, flat_map, length, Option, Some, None, slice_get, refl, sym, ap, ◌∙◌, subst}
+use Rattle.std.proofs.Common.{IsTrue, ◌≡◌, ◌<◌, ℕ, Bool, true, false, not, ◌&&◌, ◌||◌, if◌then◌else◌, codes, List, [], flat_map, length, Option, Some, None, slice_get, refl, sym, ap, ◌∙◌, subst}
 use Rattle.std.specs.List.{list_all}
 use Rattle.std.proofs.lemmas.Option.{slice_get_within}
-use Rattle.aidl_base.proofs.Tests.{both, neither, flipped}
+use Rattle.aidl_base.proofs.Tests.{both, neither}
 use Rattle.aidl_schema.proofs.Places.{both_empty}
 use Rattle.aidl_schema.specs.declared.schema.Decl as schema
 use Rattle.aidl_schema.specs.Containment.{fields_of}
@@ -14,8 +14,6 @@ use Rattle.aidl_syntax.specs.Trees as tree
 use Rattle.aidl_syntax.specs.Trees.{Body}
 use Rattle.aidl_syntax.specs.Trees.Body.{parcelable, union, enum, interface}
 use Rattle.aidl_syntax.specs.Members.{Member, members, body}
-use Rattle.aidl_syntax.specs.Members.Member.{field}
-use Rattle.aidl_names.specs.declared.resolved.BuiltinName.TheVariants as built_in
 use Rattle.aidl_names.specs.declared.resolved.Resolved.{Resolved}
 use Rattle.aidl_names.specs.declared.resolved.Resolved.TheVariants.{Builtin, ListWord, LeftOut, Declared}
 use Rattle.aidl_names.specs.Breaches.{breaches}
@@ -31,16 +29,15 @@ use Rattle.type_uses.specs.declared.annotation.Annotation.TheVariants as row
 use Rattle.type_uses.specs.Annotations.{may_stand, stand_of_body, row_of_name}
 use Rattle.type_uses.specs.Bases as bases
 use Rattle.type_uses.specs.Bases.{is_fixed_base, is_fixed_entry, is_fixed_number, is_refused}
-use Rattle.type_uses.specs.Kept.{is_nullable, is_fixed}
-use Rattle.type_uses.specs.TypeUses.{TypeUse, of_member, type_uses, annotations_of, stand_of, name_place}
+use Rattle.type_uses.specs.Kept.{is_nullable}
+use Rattle.type_uses.specs.TypeUses.{of_member, type_uses, annotations_of, stand_of, name_place}
 use Rattle.type_rules.specs.AnnotationRules.{bad_annotations}
 use Rattle.type_rules.specs.FieldRules.{is_unfixed}
 use Rattle.type_rules.specs.FieldRules as rules
 use Rattle.type_rules.specs.Filters.{broken_where}
 use Rattle.type_rules.specs.MethodRules.{is_oneway_body}
 use Rattle.type_rules.specs.Unbroken.{AreUnbroken}
-use Rattle.tree_schema.specs.Numbers.{Numbered, sorted}
-use Rattle.tree_schema.specs.Parts.{field_in}
+use Rattle.tree_schema.specs.Numbers.{Numbered}
 use Rattle.tree_schema.specs.SchemaOf.{schema_of, declared, kind_of}
 use Rattle.tree_schema.specs.Types.{base_of, typed}
 use Rattle.tree_schema.specs.Values.{Outcomes}
@@ -51,7 +48,7 @@ use Rattle.tree_schema.proofs.NamesSchema.{schema-there}
 use Rattle.tree_schema.proofs.MembersSchema.{numbered-from_at}
 use Rattle.tree_schema.proofs.TypesForms.{base-scalar, decl-there}
 use Rattle.tree_schema.proofs.TypesMembers.{fields-hold}
-use Rattle.tree_schema.proofs.TypesUses.{IsFine, IsFineMember, each-both, each-flat, each-from_at, where-passes, stands-well, members-fine}
+use Rattle.tree_schema.proofs.TypesUses.{IsFineMember, each-both, each-flat, each-from_at, where-passes, stands-well, members-fine}
 
 unfold_fixed : row_of_name (codes "FixedSize") ≡ Some row.FixedSize
 unfolding row_of_name

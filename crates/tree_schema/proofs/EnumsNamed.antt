@@ -1,5 +1,5 @@
 -- The value that is wanted of an enum is that of one of its enumerators.
-use Rattle.std.proofs.Common.{◌≡◌, ◌==◌, ℕ, ℤ, pos, negsuc, ◌+ℤ◌, zero, suc, Bool, true, false, cond, if◌then◌else◌, List, [], ◌∷◌, ◌++◌, map, Option, Some, None, Result, Ok, Err, Contains, slice_get, refl, sym, ap, ◌∙◌, subst, arith}
+use Rattle.std.proofs.Common.{◌≡◌, ◌==◌, ℕ, ℤ, pos, negsuc, ◌+ℤ◌, zero, suc, Bool, true, false, cond, if◌then◌else◌, List, [], ◌∷◌, ◌++◌, Option, Some, None, Result, Ok, Err, Contains, slice_get, refl, sym, ap, ◌∙◌, subst, arith}
 use Rattle.std.specs.List.{find}
 use Rattle.std.proofs.lemmas.Bool.Decides.{nat_tests}
 use Rattle.std.proofs.lemmas.List.Elements.{Contains-append_left}
@@ -30,12 +30,12 @@ use Rattle.const_values.specs.declared.width.Width.{Width}
 use Rattle.const_values.specs.declared.width.Width.TheVariants.{Narrow, Wide}
 use Rattle.const_values.specs.Evaluation.{evaluated}
 use Rattle.const_values.specs.Operands.{Operand, truth, number, character, text}
-use Rattle.const_values.specs.Wanted.{fitted, is_named}
+use Rattle.const_values.specs.Wanted.{fitted}
 use Rattle.const_eval.specs.declared.outcome.Outcome.{Outcome}
 use Rattle.const_eval.specs.declared.outcome.Outcome.TheVariants.{Given}
-use Rattle.const_eval.specs.Dependence.{Target, of_constant, of_enumerator, target, target_by, target_behind, target_of_part, target_of, target_if, member_at, member_of, is_enumerator, only_enumerators, only_constants, constant_around, enumerator_beside, number_of, names_in, number_before, depends_on, next, next_of}
+use Rattle.const_eval.specs.Dependence.{Target, of_constant, of_enumerator, target, target_by, target_behind, target_of_part, target_if, member_at, member_of, is_enumerator, only_enumerators, only_constants, constant_around, enumerator_beside, number_of, names_in, number_before, depends_on, next, next_of}
 use Rattle.const_eval.specs.Items.{Item, Written, written, first, after, items, number_at, place_of}
-use Rattle.const_eval.specs.Outcomes.{HasOutcome, Values, operand_at, operand_of, of_level, of_number, of_code, wanted_of, meaning, judgement_of, outcome_of, named_enum, enum_of, one_more, number_in}
+use Rattle.const_eval.specs.Outcomes.{HasOutcome, Values, operand_at, of_level, of_number, wanted_of, meaning, judgement_of, outcome_of, named_enum, enum_of, one_more, number_in}
 use Rattle.const_eval.specs.Outcomes.HasOutcome.{unformed, unknown, cyclic, behind, judged}
 use Rattle.const_eval.proofs.Agree.{kept}
 use Rattle.const_eval.proofs.OneOutcome.{one_outcome}

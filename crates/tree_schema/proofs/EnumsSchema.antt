@@ -1,5 +1,5 @@
 -- Rule 7 of a valid schema: the enumerators of a tree whose items have values that fit.
-use Rattle.std.proofs.Common.{IsTrue, ◌≡◌, ℕ, pos, Bool, true, false, not, ◌&&◌, ◌||◌, if◌then◌else◌, List, [], ◌∷◌, map, fold, Option, Some, None, slice_get, refl, sym, ap, ◌∙◌, subst}
+use Rattle.std.proofs.Common.{IsTrue, ◌≡◌, ℕ, pos, Bool, true, false, not, ◌&&◌, ◌||◌, if◌then◌else◌, List, [], ◌∷◌, map, fold, Option, Some, None, slice_get, refl, ap, ◌∙◌, subst}
 use Rattle.std.specs.List.{list_all, find}
 use Rattle.aidl_base.specs.declared.constant.Const.{Const, out-Const}
 use Rattle.aidl_base.specs.declared.constant.Const.TheOpen.{Const-F}
@@ -15,17 +15,16 @@ use Rattle.aidl_syntax.specs.Trees.{Annot, Param, Init, Expr, Body, Enumerator, 
 use Rattle.aidl_syntax.specs.Trees.Body.{parcelable, union, enum, interface}
 use Rattle.aidl_syntax.specs.Trees.Expr.{literal, name, group, unary, binary}
 use Rattle.aidl_syntax.specs.Trees.Init.{single, braces}
-use Rattle.aidl_syntax.specs.Members.{Member, members, body}
+use Rattle.aidl_syntax.specs.Members.{members, body}
 use Rattle.aidl_syntax.specs.Members.Member.{enumerator}
 use Rattle.aidl_names.specs.Declarations.{Entry, declarations}
 use Rattle.aidl_names.specs.Sources.{Source}
 use Rattle.const_values.specs.declared.wanted.Wanted.{Wanted}
 use Rattle.const_values.specs.declared.wanted.Wanted.TheVariants as wanted
-use Rattle.const_eval.specs.Backing.{annots_of, backing_of, backing_by, backing_of_annot, backing_of_param, backing_of_init, backing_of_expr, backing_of_token, is_type, is_backing}
-use Rattle.const_eval.specs.Items.{Item, of_entry, of_body, of_enumerator, of_enumerators, place_of}
-use Rattle.tree_schema.specs.Numbers.{Numbered, sorted}
+use Rattle.const_eval.specs.Backing.{annots_of, backing_of, backing_by, backing_of_param, backing_of_init, backing_of_expr, backing_of_token, is_type, is_backing}
+use Rattle.const_eval.specs.Items.{of_entry, of_body, of_enumerator, of_enumerators, place_of}
 use Rattle.tree_schema.specs.Parts.{enumerator_in, listed_constants, constants_in, put}
-use Rattle.tree_schema.specs.SchemaOf.{schema_of, declared, kind_of, backing_in}
+use Rattle.tree_schema.specs.SchemaOf.{schema_of, kind_of, backing_in}
 use Rattle.tree_schema.specs.Values.{Outcomes, whole, or_zero, value_at}
 use Rattle.tree_schema.proofs.WalksLists.{all-from_at}
 use Rattle.tree_schema.proofs.WalksPlaced.{Each}

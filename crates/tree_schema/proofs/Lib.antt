@@ -32,3 +32,4 @@ pub mod ValuesInitials
 pub mod ValuesWalks
 pub mod ValuesPlaces
 pub mod ValuesChecked
+pub mod ValuesLaws

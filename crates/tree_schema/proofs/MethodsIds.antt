@@ -1,8 +1,8 @@
 -- The ids of an interface that doesn't break E19: distinct, and at most the last one.
-use Rattle.std.proofs.Common.{◌≡◌, ◌≤◌, ◌<◌, ◌+◌, ℕ, zero, suc, Bool, true, false, not, ◌&&◌, ◌||◌, nat_eq, nat_le, List, [], ◌∷◌, ◌++◌, map, flat_map, length, Option, Some, None, is_some, slice_get, refl, sym, ap, ◌∙◌, subst, arith}
+use Rattle.std.proofs.Common.{◌≡◌, ◌≤◌, ◌<◌, ◌+◌, ℕ, Bool, true, false, not, ◌&&◌, ◌||◌, nat_eq, nat_le, List, [], ◌∷◌, ◌++◌, map, length, Option, Some, None, is_some, slice_get, refl, sym, ap, ◌∙◌, arith}
 use Rattle.std.specs.List.{list_any, list_all}
 use Rattle.std.proofs.lemmas.Bool.Decides.{nat_tests}
-use Rattle.aidl_base.proofs.Tests.{both, neither, flipped}
+use Rattle.aidl_base.proofs.Tests.{neither}
 use Rattle.aidl_schema.specs.Methods.{last_id}
 use Rattle.aidl_schema.specs.Names.{are_distinct}
 use Rattle.aidl_syntax.specs.declared.token.Token.{Token}
@@ -18,7 +18,7 @@ use Rattle.const_eval.specs.declared.shape.Shape.{Shape}
 use Rattle.type_uses.specs.Ids.{number_of_kind, number_of, is_id_kind, is_id, has_id, id_by, id_of, ids_from, ids}
 use Rattle.type_uses.specs.TypeUses as uses
 use Rattle.type_uses.specs.TypeUses.{TypeUse, of_arg, of_members}
-use Rattle.type_rules.specs.MethodRules.{has_value, is_taken, is_bad_token, is_bad_id, bad_ids}
+use Rattle.type_rules.specs.MethodRules.{has_value, is_taken, is_bad_token, is_bad_id}
 use Rattle.tree_schema.specs.Parts.{methods_in}
 use Rattle.tree_schema.proofs.WalksBreaches.{none-earlier}
 use Rattle.tree_schema.proofs.WalksLists.{there-kept, there-last}

@@ -1,5 +1,5 @@
 -- Rule 4 of a valid schema: the methods of a tree that breaks none of the rules on methods.
-use Rattle.std.proofs.Common.{IsTrue, ◌≡◌, ◌≤◌, ◌<◌, ◌+◌, ℕ, Bool, true, false, not, ◌&&◌, ◌||◌, nat_eq, nat_le, nat_lt, if◌then◌else◌, List, [], ◌∷◌, map, length, Option, Some, None, is_some, is_none, slice_get, refl, sym, ap, ◌∙◌, subst, arith}
+use Rattle.std.proofs.Common.{IsTrue, ◌≡◌, ◌≤◌, ℕ, Bool, true, false, not, ◌&&◌, ◌||◌, nat_eq, nat_le, nat_lt, if◌then◌else◌, List, [], ◌∷◌, map, length, Option, Some, None, is_some, is_none, slice_get, refl, sym, ap, ◌∙◌, subst, arith}
 use Rattle.std.specs.List.{list_any, list_all}
 use Rattle.std.proofs.lemmas.Bool.Decides.{nat_tests}
 use Rattle.std.proofs.lemmas.List.Folds.{list_all-map}
@@ -11,13 +11,11 @@ use Rattle.aidl_schema.specs.Containment.{is_composite}
 use Rattle.aidl_schema.specs.Methods.{has_methods, has_decl_methods, has_way, is_in_way, is_oneway_well, last_id}
 use Rattle.aidl_schema.specs.Names.{are_distinct, methods_of}
 use Rattle.aidl_schema.specs.Types.{form_of, is_one}
-use Rattle.aidl_syntax.specs.declared.tree.TypeTree.{TypeTree}
 use Rattle.aidl_syntax.specs.declared.tree.WayTree.{WayTree}
 use Rattle.aidl_syntax.specs.declared.tree.WayTree.TheVariants as way
 use Rattle.aidl_syntax.specs.Trees.{Annot, Arg, Method, Body, map_option}
 use Rattle.aidl_syntax.specs.Trees.Body.{parcelable, union, enum, interface}
 use Rattle.aidl_syntax.specs.Members.{members, listed, body}
-use Rattle.aidl_syntax.specs.Members.Member.{method}
 use Rattle.aidl_names.specs.Breaches.{breaches}
 use Rattle.aidl_names.specs.Declarations.{Entry, declarations}
 use Rattle.aidl_names.specs.Limits.{passed, has_many_members, has_long_method}
@@ -30,13 +28,13 @@ use Rattle.const_eval.specs.Backing.{backing_of}
 use Rattle.const_eval.specs.Items.{shape_in}
 use Rattle.const_eval.specs.Types as types
 use Rattle.type_uses.specs.Bases.{is_refused}
-use Rattle.type_uses.specs.Ids.{has_id, id_of, ids}
+use Rattle.type_uses.specs.Ids.{has_id, id_of}
 use Rattle.type_uses.specs.TypeUses as uses
 use Rattle.type_uses.specs.TypeUses.{of_arg, of_members, type_uses}
 use Rattle.type_rules.specs.MethodRules.{is_oneway_body, gives_back, is_bad_id}
 use Rattle.type_rules.specs.TypeRules.{is_outward, is_misdirected}
 use Rattle.type_rules.specs.Unbroken.{AreUnbroken}
-use Rattle.tree_schema.specs.Numbers.{Numbered, sorted}
+use Rattle.tree_schema.specs.Numbers.{Numbered}
 use Rattle.tree_schema.specs.Parts.{way_of, arg_in, method_in, methods_in}
 use Rattle.tree_schema.specs.SchemaOf.{schema_of, declared, kind_of}
 use Rattle.tree_schema.specs.Types.{base_of, typed}
@@ -129,9 +127,10 @@ module _ (files : List Source) (outcomes : Outcomes) (named : are_named files �
     body_ids file scope w (interface oneway ms) le h =
         let few = methods-few (shape_in files file scope) (listed ms) in
         let hold = ids-hold (uses.methods_in (of_members (shape_in files file scope) (listed ms))) (omega arith) h in
-        let are = methods-are files file scope oneway (shape_in files file scope) 0 (listed ms) in
-        (ap (are_distinct nat_eq) are ∙ hold.0,
-          sym (list_all-map (λ (i : ℕ). nat_le i last_id) (λ (m : made.Method). m.id) (methods_in files file scope oneway 0 (listed ms))) ∙ ap (list_all (λ (i : ℕ). nat_le i last_id)) are ∙ hold.1)
+        let are = methods-are files file scope oneway (shape_in files file scope) 0 (listed ms) in (
+          ap (are_distinct nat_eq) are ∙ hold.0,
+          sym (list_all-map (λ (i : ℕ). nat_le i last_id) (λ (m : made.Method). m.id) (methods_in files file scope oneway 0 (listed ms))) ∙ ap (list_all (λ (i : ℕ). nat_le i last_id)) are ∙ hold.1,
+        )
 
     methods_at : (x : Numbered) → slice_get (declarations files) x.0 ≡ Some x.1 → has_decl_methods (schema_of files outcomes) (declared files outcomes x) ≡ true
     methods_at x at =

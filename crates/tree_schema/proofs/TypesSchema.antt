@@ -1,13 +1,11 @@
 -- Rule 3 of a valid schema: the types of a tree that breaks none of the rules on types.
-use Rattle.std.proofs.Common.{IsTrue, ◌≡◌, ◌≤◌, ◌<◌, ◌+◌, ℕ, Bool, true, false, not, ◌&&◌, ◌||◌, codes, List, [], ◌∷◌, ◌++◌, map, flat_map, length, Option, Some, None, slice_get, refl, sym, ap, ◌∙◌, subst, arith}
+use Rattle.std.proofs.Common.{IsTrue, ◌≡◌, ℕ, Bool, true, false, not, ◌&&◌, ◌||◌, codes, List, [], ◌∷◌, map, flat_map, length, Option, Some, None, slice_get, refl, ap, ◌∙◌, subst, arith}
 use Rattle.std.specs.List.{list_any, list_all}
-use Rattle.aidl_schema.specs.declared.schema.AidlType.{AidlType}
 use Rattle.aidl_schema.specs.declared.schema.Decl as schema
 use Rattle.aidl_schema.specs.Constants.{is_string}
 use Rattle.aidl_schema.specs.Containment.{is_composite}
 use Rattle.aidl_schema.specs.Methods.{has_types, has_decl_types, is_whole_type, may_be_on_heap, is_field_type, is_passed_type, is_result_type, has_method_types}
 use Rattle.aidl_schema.specs.Types.{form_of, is_nullable_form}
-use Rattle.aidl_syntax.specs.declared.tree.DottedTree.{DottedTree}
 use Rattle.aidl_syntax.specs.declared.tree.TypeTree.{TypeTree}
 use Rattle.aidl_syntax.specs.Trees as tree
 use Rattle.aidl_syntax.specs.Trees.{Annot, Arg, map_option}
@@ -32,12 +30,12 @@ use Rattle.type_uses.specs.Bases as bases
 use Rattle.type_uses.specs.Bases.{is_refused, is_one_scalar, is_one_composite}
 use Rattle.type_uses.specs.Ids.{id_of}
 use Rattle.type_uses.specs.Kept.{is_nullable, is_heap, is_utf8}
-use Rattle.type_uses.specs.TypeUses.{of_field, of_method, of_argument, of_arg}
+use Rattle.type_uses.specs.TypeUses.{of_method, of_arg}
 use Rattle.type_rules.specs.AnnotationRules.{bad_annotations}
 use Rattle.type_rules.specs.MethodRules.{is_oneway_body}
 use Rattle.type_rules.specs.TypeRules.{bad_nullables}
 use Rattle.type_rules.specs.Unbroken.{AreUnbroken}
-use Rattle.tree_schema.specs.Numbers.{Numbered, sorted}
+use Rattle.tree_schema.specs.Numbers.{Numbered}
 use Rattle.tree_schema.specs.Parts.{field_in, arg_in, method_in}
 use Rattle.tree_schema.specs.SchemaOf.{schema_of, declared}
 use Rattle.tree_schema.specs.Types.{base_of, typed}

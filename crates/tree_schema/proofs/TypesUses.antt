@@ -1,12 +1,10 @@
 -- What holds of each use of a type in a tree that breaks none of the rules on types.
-use Rattle.std.proofs.Common.{◌≡◌, ◌≤◌, ◌<◌, ◌+◌, ℕ, zero, suc, Bool, true, false, not, ◌&&◌, ◌||◌, if◌then◌else◌, List, [], ◌∷◌, ◌++◌, map, filter, flat_map, length, Option, Some, None, slice_get, refl, sym, ap, ◌∙◌, subst, arith}
-use Rattle.std.specs.List.{list_any, list_all}
-use Rattle.aidl_base.specs.declared.breach.Breach.{Breach}
-use Rattle.aidl_base.proofs.Tests.{both, neither}
+use Rattle.std.proofs.Common.{◌≡◌, ◌+◌, ℕ, zero, suc, Bool, true, false, not, ◌&&◌, ◌||◌, if◌then◌else◌, List, [], ◌∷◌, ◌++◌, map, filter, flat_map, Some, slice_get, refl, sym, ap, ◌∙◌, subst, arith}
+use Rattle.std.specs.List.{list_any}
+use Rattle.aidl_base.proofs.Tests.{neither}
 use Rattle.aidl_schema.proofs.Places.{both_empty, each_empty}
 use Rattle.aidl_schema.proofs.Sames.{same_text_is}
 use Rattle.aidl_syntax.specs.declared.tree.DottedTree.{DottedTree}
-use Rattle.aidl_syntax.specs.declared.tree.TypeTree.{TypeTree}
 use Rattle.aidl_syntax.specs.Trees.{Annot}
 use Rattle.aidl_syntax.specs.Members.{Member, members, body}
 use Rattle.aidl_names.specs.Breaches.{breaches}
@@ -15,20 +13,19 @@ use Rattle.aidl_names.specs.Names.{text}
 use Rattle.aidl_names.specs.Resolution.{resolved}
 use Rattle.aidl_names.specs.Rules.{breach, in_each, after_earlier, is_left_out, type_names, types_in}
 use Rattle.aidl_names.specs.Sources.{Source}
-use Rattle.const_eval.specs.declared.shape.Shape.{Shape}
 use Rattle.const_eval.specs.Items.{shape_in}
 use Rattle.type_uses.specs.declared.annotation.Annotation.{Annotation}
 use Rattle.type_uses.specs.declared.stand.Stand.{Stand}
 use Rattle.type_uses.specs.Annotations.{row_of_name, may_stand, takes, is_kept}
 use Rattle.type_uses.specs.Kept.{is_called, is_nullable_annot, is_heap_annot}
 use Rattle.type_uses.specs.Parameters.{is_heap_true}
-use Rattle.type_uses.specs.TypeUses.{TypeUse, of_member, of_members, type_uses, annotations_of, stand_of}
+use Rattle.type_uses.specs.TypeUses.{TypeUse, of_member, type_uses, annotations_of, stand_of}
 use Rattle.type_rules.specs.AnnotationRules.{bad_annotations, is_bad_annotation, breaks_row, is_again}
 use Rattle.type_rules.specs.FieldRules.{is_bad_constant}
 use Rattle.type_rules.specs.Filters.{broken_where}
 use Rattle.type_rules.specs.MethodRules.{is_bad_oneway, is_oneway_body}
 use Rattle.type_rules.specs.TypeRules.{is_bad_shape, is_bad_direction, bad_nullables, bad_nullables_of, is_bad_nullable}
-use Rattle.type_rules.specs.Unbroken.{IsUnbroken, AreUnbroken}
+use Rattle.type_rules.specs.Unbroken.{AreUnbroken}
 use Rattle.tree_schema.proofs.WalksPlaced.{Each}
 use Rattle.tree_schema.proofs.WalksBreaches.{none-broken, each-fails}
 
@@ -108,9 +105,10 @@ some_nullable nullable heap [] h = (λ e. refl, λ e. refl)
 some_nullable nullable heap (a ∷ annots) h =
     let two = neither (is_bad_nullable nullable heap a) (list_any (is_bad_nullable nullable heap) annots) h in
     let here = neither (nullable && is_nullable_annot a) (heap && is_heap_annot a) two.0 in
-    let rest = some_nullable nullable heap annots two.1 in
-    (λ e. let no : is_nullable_annot a ≡ false = ap (λ b. b && is_nullable_annot a) (sym e) ∙ here.0 in rw (no, rest.0 e) refl,
-      λ e. let no : is_heap_annot a ≡ false = ap (λ b. b && is_heap_annot a) (sym e) ∙ here.1 in rw (no, rest.1 e) refl)
+    let rest = some_nullable nullable heap annots two.1 in (
+      λ e. let no : is_nullable_annot a ≡ false = ap (λ b. b && is_nullable_annot a) (sym e) ∙ here.0 in rw (no, rest.0 e) refl,
+      λ e. let no : is_heap_annot a ≡ false = ap (λ b. b && is_heap_annot a) (sym e) ∙ here.1 in rw (no, rest.1 e) refl,
+    )
 
 -- where `@nullable` is refused there is none, and where `heap=true` is there is none
 pub no-nullable : (file : ℕ) (nullable heap : Bool) (annots : List Annot) → bad_nullables file nullable heap annots ≡ []

@@ -1,9 +1,8 @@
 -- Rule 5 of a valid schema: the constants of a tree whose items have values that fit.
-use Rattle.std.proofs.Common.{IsTrue, ◌≡◌, ℕ, ℤ, Bool, true, false, not, ◌&&◌, ◌||◌, List, [], ◌∷◌, ◌++◌, map, Option, Some, None, slice_get, refl, sym, ap, ◌∙◌, subst}
+use Rattle.std.proofs.Common.{IsTrue, ◌≡◌, ℕ, Bool, true, false, not, ◌&&◌, ◌||◌, List, [], ◌∷◌, ◌++◌, map, Some, slice_get, refl, ap, ◌∙◌, subst}
 use Rattle.std.specs.List.{list_all}
 use Rattle.aidl_base.specs.declared.constant.Const.{Const, out-Const}
 use Rattle.aidl_base.specs.declared.constant.Const.TheOpen.{Const-F}
-use Rattle.aidl_base.proofs.Tests.{both}
 use Rattle.aidl_schema.specs.declared.schema.Constant as made
 use Rattle.aidl_schema.specs.declared.schema.Decl as schema
 use Rattle.aidl_schema.specs.Constants.{is_single}
@@ -23,18 +22,18 @@ use Rattle.const_values.specs.declared.wanted.Wanted.{Wanted}
 use Rattle.const_eval.specs.declared.shape.Shape.{Shape}
 use Rattle.const_eval.specs.declared.shape.Shape.TheVariants as shape
 use Rattle.const_eval.specs.Backing.{backing_of}
-use Rattle.const_eval.specs.Items.{Item, shape_in, of_entry, of_body, of_members, of_field, of_constant}
+use Rattle.const_eval.specs.Items.{shape_in, of_entry, of_body, of_members, of_field, of_constant}
 use Rattle.const_eval.specs.Types.{wanted_of_builtin, wanted_one}
 use Rattle.type_rules.specs.FieldRules.{is_constant_type}
 use Rattle.type_rules.specs.MethodRules.{is_oneway_body}
 use Rattle.type_rules.specs.Unbroken.{AreUnbroken}
-use Rattle.tree_schema.specs.Numbers.{Numbered, sorted}
-use Rattle.tree_schema.specs.Parts.{listed_constants, constants_in, bytes_of}
+use Rattle.tree_schema.specs.Numbers.{Numbered}
+use Rattle.tree_schema.specs.Parts.{listed_constants, bytes_of}
 use Rattle.tree_schema.specs.SchemaOf.{schema_of, declared}
 use Rattle.tree_schema.specs.Types.{base_of_builtin, typed}
 use Rattle.tree_schema.specs.Values.{Outcomes, or_zero, value_at}
 use Rattle.tree_schema.proofs.WalksLists.{all-from_at}
-use Rattle.tree_schema.proofs.WalksPlaced.{Each, placed, all-all}
+use Rattle.tree_schema.proofs.WalksPlaced.{Each, all-all}
 use Rattle.tree_schema.proofs.MembersWeights.{constants-are}
 use Rattle.tree_schema.proofs.NamesNumbers.{sorted-there}
 use Rattle.tree_schema.proofs.NamesSchema.{schema-there}

@@ -1,13 +1,11 @@
 -- The value of each item fits what is wanted of it, where the literals of the files hold what their kind may hold.
-use Rattle.std.proofs.Common.{◌≡◌, ℕ, pos, ◌+ℤ◌, true, ◌&&◌, Bool, List, [], ◌∷◌, Option, Some, None, Result, Ok, Err, Contains, slice_get, refl, sym, ap, ◌∙◌, subst, arith}
+use Rattle.std.proofs.Common.{◌≡◌, ℕ, pos, ◌+ℤ◌, true, Bool, List, Option, Some, None, Result, Ok, Err, Contains, slice_get, refl, sym, ap, ◌∙◌, subst}
 use Rattle.std.proofs.lemmas.List.Elements.{Contains-append_left}
 use Rattle.aidl_base.specs.Results.{◌>>=◌}
 use Rattle.aidl_base.specs.declared.constant.Const.{Const, out-Const}
 use Rattle.aidl_syntax.specs.declared.tree.DottedTree.{DottedTree}
-use Rattle.aidl_syntax.specs.Trees.{Expr}
 use Rattle.aidl_names.specs.Sources.{Source}
 use Rattle.const_values.specs.declared.fault.ConstFault.{ConstFault}
-use Rattle.const_values.specs.declared.wanted.Wanted.{Wanted}
 use Rattle.const_values.specs.declared.width.Width.TheVariants.{Narrow, Wide}
 use Rattle.const_values.specs.Evaluation.{evaluated}
 use Rattle.const_values.specs.Operands.{Operand, number}

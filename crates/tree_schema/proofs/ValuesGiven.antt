@@ -1,5 +1,5 @@
 -- Where no outcome is a fault, and no item is left unjudged for its form, each item has a value.
-use Rattle.std.proofs.Common.{◌≡◌, ℕ, true, false, List, Some, Result, Ok, Err, slice_get, refl, sym, ap, ◌∙◌, subst}
+use Rattle.std.proofs.Common.{◌≡◌, ℕ, false, List, Some, Result, Ok, Err, slice_get, refl, ap, subst}
 use Rattle.aidl_base.specs.declared.constant.Const.{Const}
 use Rattle.aidl_names.specs.Sources.{Source}
 use Rattle.const_values.specs.declared.fault.ConstFault.{ConstFault}

@@ -12,14 +12,11 @@ use Rattle.aidl_base.proofs.Tests.{neither}
 use Rattle.aidl_schema.proofs.Places.{both_empty}
 use Rattle.aidl_schema.specs.declared.schema.Decl as schema
 use Rattle.aidl_schema.specs.declared.schema.Enumerator as made
-use Rattle.aidl_schema.specs.declared.schema.Kind.TheVariants.{Enum}
-use Rattle.aidl_schema.specs.declared.schema.Base.TheVariants as base
 use Rattle.aidl_schema.specs.Constants.{is_single, is_enumerator, is_enumerator_of, is_constant_of, are_members}
 use Rattle.aidl_schema.specs.Containment.{fields_of}
 use Rattle.aidl_schema.specs.Valid.{has_initializers, has_decl_initializers, has_initializer_of, is_union_whole, are_union_fields}
 use Rattle.aidl_syntax.specs.declared.tree.TypeTree.{TypeTree}
-use Rattle.aidl_syntax.specs.Trees.{Annot, Arg, Expr, Init, offset_of, Body, Enumerator}
-use Rattle.aidl_syntax.specs.Trees as tree
+use Rattle.aidl_syntax.specs.Trees.{Annot, Arg, Expr, Init, Body, Enumerator}
 use Rattle.aidl_syntax.specs.Trees.Body.{parcelable, union, enum, interface}
 use Rattle.aidl_syntax.specs.Trees.Init.{single, braces}
 use Rattle.aidl_syntax.specs.Members.{Member, members, listed, body, declared_name}
@@ -38,14 +35,12 @@ use Rattle.const_eval.specs.declared.shape.Shape.TheVariants as shape
 use Rattle.const_eval.specs.Backing.{backing_of}
 use Rattle.const_eval.specs.Initializers.{is_unjudged, misfits}
 use Rattle.const_eval.specs.Items.{Item, items, shape_in, of_entry, of_body, of_members, of_field, of_initial, of_init, of_expression}
-use Rattle.const_eval.specs.Types.{wanted_of, wanted_of_number, is_enum}
-use Rattle.type_uses.specs.Bases.{is_refused}
+use Rattle.const_eval.specs.Types.{wanted_of, is_enum}
 use Rattle.type_uses.specs.TypeUses as uses
 use Rattle.type_uses.specs.TypeUses.{TypeUse, of_arg, is_field, type_uses}
 use Rattle.type_rules.specs.FieldRules.{empty_union, bad_fields, is_union_body}
-use Rattle.type_rules.specs.MethodRules.{is_oneway_body}
 use Rattle.type_rules.specs.Unbroken.{AreUnbroken}
-use Rattle.tree_schema.specs.Numbers.{Numbered, sorted}
+use Rattle.tree_schema.specs.Numbers.{Numbered}
 use Rattle.tree_schema.specs.Parts.{fields_in, enumerator_in}
 use Rattle.tree_schema.specs.SchemaOf.{schema_of, declared, kind_of}
 use Rattle.tree_schema.specs.Types.{base_of, base_of_number, typed}
@@ -55,8 +50,7 @@ use Rattle.tree_schema.proofs.WalksOuters.{are_named}
 use Rattle.tree_schema.proofs.WalksPlaced.{Each}
 use Rattle.tree_schema.proofs.NamesNumbers.{sorted-there}
 use Rattle.tree_schema.proofs.NamesSchema.{schema-there, number-stands}
-use Rattle.tree_schema.proofs.EnumsNamed.{IsOf, IsEnumerated, enum-value}
-use Rattle.tree_schema.proofs.TypesUses.{IsFineMember, members-fine}
+use Rattle.tree_schema.proofs.EnumsNamed.{IsEnumerated, enum-value}
 use Rattle.tree_schema.proofs.ValuesConstants.{builtin-single, each-parts}
 use Rattle.tree_schema.proofs.ValuesPlain.{fits}
 use Rattle.tree_schema.proofs.ValuesSettled.{AreOutcomes, AreSettled, Stands}

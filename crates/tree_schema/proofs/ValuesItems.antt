@@ -1,9 +1,7 @@
 -- The items of a tree: what holds of those of each declaration holds of all. None is left unjudged where E16 and E21 aren't broken.
-use Rattle.std.proofs.Common.{◌≡◌, ◌+◌, ℕ, zero, suc, Bool, true, false, not, ◌&&◌, ◌||◌, nat_cmp, Ordering, Less, Equal, Greater, if◌then◌else◌, List, [], ◌∷◌, ◌++◌, map, fold, Option, Some, None, slice_get, refl, sym, ap, ◌∙◌, subst, arith}
+use Rattle.std.proofs.Common.{◌≡◌, ◌+◌, ℕ, suc, Bool, true, false, not, ◌&&◌, ◌||◌, nat_cmp, Ordering, Less, Equal, Greater, if◌then◌else◌, List, [], ◌∷◌, ◌++◌, map, fold, Option, Some, None, slice_get, refl, sym, ap, ◌∙◌, subst, arith}
 use Rattle.std.specs.Cmp.Lexicographic.{slice_cmp}
 use Rattle.std.specs.Ordering.{match_ordering, ordering_then}
-use Rattle.aidl_base.specs.declared.breach.Breach.{Breach}
-use Rattle.aidl_base.proofs.Tests.{neither}
 use Rattle.aidl_schema.proofs.Places.{both_empty}
 use Rattle.aidl_syntax.specs.declared.tree.TypeTree.{TypeTree}
 use Rattle.aidl_syntax.specs.Trees.{Arg, Init, Expr, Body, Enumerator}

@@ -1,5 +1,5 @@
 -- What an expression of plain literals is: a character is one of a literal, and a text has characters of literals alone.
-use Rattle.std.proofs.Common.{◌≡◌, ℕ, ℤ, pos, negsuc, Bool, true, false, ◌&&◌, nat_le, if◌then◌else◌, List, [], ◌∷◌, ◌++◌, Option, Some, None, Result, Ok, Err, Contains, length, refl, sym, ap, ◌∙◌, subst, arith}
+use Rattle.std.proofs.Common.{◌≡◌, ℕ, ℤ, pos, negsuc, Bool, true, false, ◌&&◌, if◌then◌else◌, List, Option, Some, None, Result, Ok, Err, Contains, refl, ◌∙◌, subst, arith}
 use Rattle.std.specs.List.{list_all}
 use Rattle.std.proofs.lemmas.List.Elements.{Contains-append_left, Contains-append_right}
 use Rattle.std.proofs.lemmas.List.Folds.{list_all-append}
@@ -28,15 +28,15 @@ use Rattle.const_values.specs.declared.operator.UnaryOperator.TheVariants.{Plus,
 use Rattle.const_values.specs.declared.width.Width.{Width}
 use Rattle.const_values.specs.declared.wanted.Wanted.{Wanted}
 use Rattle.const_values.specs.declared.wanted.Wanted.TheVariants as wanted
-use Rattle.const_values.specs.Arithmetic.{in_width, unless_zero, arithmetic_of}
+use Rattle.const_values.specs.Arithmetic.{arithmetic_of}
 use Rattle.const_values.specs.Binary as two
 use Rattle.const_values.specs.Evaluation.{evaluated, or_mismatch, before, between, then_right}
 use Rattle.const_values.specs.Literals.{literal_of}
 use Rattle.const_values.specs.Operands.{Operand, truth, number, character, text}
-use Rattle.const_values.specs.Shifts.{shift_of, shifted}
+use Rattle.const_values.specs.Shifts.{shifted}
 use Rattle.const_values.specs.Symbols.{unary_operator, binary_operator}
 use Rattle.const_values.specs.Unary as one
-use Rattle.const_values.specs.Wanted.{fitted, truth_for, number_for, character_for, text_for, in_range, is_named}
+use Rattle.const_values.specs.Wanted.{fitted, in_range, is_named}
 use Rattle.const_eval.specs.Dependence.{names_of}
 use Rattle.const_eval.specs.Outcomes.{of_level, of_number, of_code}
 

@@ -1,28 +1,19 @@
 -- What a walk finds in the trees of files, it finds in the tree of each declaration; so the literals of each item hold what their kind may hold.
-use Rattle.std.proofs.Common.{◌≡◌, ◌+◌, ◌==◌, ℕ, ℤ, pos, Bool, true, false, not, ◌&&◌, ◌||◌, nat_le, All, List, [], ◌∷◌, ◌++◌, map, length, Option, Some, None, slice_get, refl, sym, ap, ◌∙◌, subst, arith}
+use Rattle.std.proofs.Common.{◌≡◌, ◌+◌, ℕ, Bool, true, false, ◌||◌, List, [], ◌∷◌, ◌++◌, map, length, Option, Some, None, slice_get, refl}
 use Rattle.std.specs.List.{list_all}
-use Rattle.std.specs.Ordering.{int_eq}
-use Rattle.std.proofs.lemmas.Bool.Decides.{nat_tests}
-use Rattle.std.proofs.lemmas.List.Folds.{list_all-append}
 use Rattle.aidl_base.specs.declared.name.Ident.{Ident}
-use Rattle.aidl_base.specs.declared.reserved.Reserved.TheVariants as word
-use Rattle.aidl_base.proofs.Tests.{both, all_at}
+use Rattle.aidl_base.proofs.Tests.{both}
 use Rattle.aidl_schema.proofs.Apart.{all_parts}
-use Rattle.aidl_schema.specs.Constants.{is_char_literal, is_string_character}
 use Rattle.aidl_syntax.specs.declared.token.Token.{Token}
-use Rattle.aidl_syntax.specs.declared.token.TokenKind.{TokenKind}
-use Rattle.aidl_syntax.specs.declared.token.TokenKind.TheVariants as token
 use Rattle.aidl_syntax.specs.declared.tree.TypeTree.{TypeTree}
-use Rattle.aidl_syntax.specs.Parses.{Holds}
 use Rattle.aidl_syntax.specs.Trees.{Expr, Init, Enumerator, Decl, Body, Members}
-use Rattle.aidl_syntax.specs.Trees as tree
 use Rattle.aidl_syntax.specs.Trees.Decl.{decl}
 use Rattle.aidl_syntax.specs.Trees.Body.{parcelable, union, enum, interface}
 use Rattle.aidl_syntax.specs.Trees.Expr.{literal, name, group, unary, binary}
 use Rattle.aidl_syntax.specs.Trees.Init.{single, braces}
 use Rattle.aidl_syntax.specs.Trees.Members.{none, field, constant, method, nested}
 use Rattle.aidl_syntax.specs.Members.{listed, body}
-use Rattle.aidl_syntax.specs.Walks.{Walk, counting, of_option, of_each, in_annots, in_type, in_init, in_field, in_constant, in_method, in_enumerator, in_decl, in_body, in_members, in_file, literals_of}
+use Rattle.aidl_syntax.specs.Walks.{Walk, counting, of_option, of_each, in_annots, in_type, in_init, in_field, in_constant, in_method, in_enumerator, in_decl, in_body, in_members, in_file}
 use Rattle.aidl_names.specs.Declarations.{Entry, declarations, with_decl, with_body, with_members, with_file, with_files, inside}
 use Rattle.aidl_names.specs.Names.{parts_of}
 use Rattle.aidl_names.specs.Sources.{Source}
@@ -30,7 +21,7 @@ use Rattle.const_values.specs.declared.wanted.Wanted.{Wanted}
 use Rattle.const_values.specs.Literals.{literal_of}
 use Rattle.const_eval.specs.declared.shape.Shape.{Shape}
 use Rattle.const_eval.specs.Backing.{backing_of}
-use Rattle.const_eval.specs.Items.{Item, items, of_entry, of_body, of_members, of_field, of_initial, of_init, of_expression, of_enumerators, place_of, written_as}
+use Rattle.const_eval.specs.Items.{Item, items, of_body, of_members, of_field, of_initial, of_init, of_expression, of_enumerators, place_of, written_as}
 use Rattle.tree_schema.proofs.WalksPlaced.{Each, each-at}
 use Rattle.tree_schema.proofs.ValuesFit.{is_plain_written}
 use Rattle.tree_schema.proofs.ValuesItems.{each-declared, each-item}
