@@ -33,3 +33,8 @@ pub mod ValuesWalks
 pub mod ValuesPlaces
 pub mod ValuesChecked
 pub mod ValuesLaws
+mod Within
+mod Dotted
+mod Keyed
+mod InOrder
+mod Few

@@ -4,3 +4,5 @@ pub mod Types
 pub mod Values
 pub mod Parts
 pub mod SchemaOf
+pub mod TreeViews
+pub mod Keyed

@@ -1,5 +1,5 @@
 -- The fields, methods, enumerators and constants of a declaration in the schema.
-use Rattle.std.specs.Prelude.{ℕ, ◌+◌, Bool, ◌||◌, List, [], ◌∷◌, map, Option, Some, None}
+use Rattle.std.specs.Prelude.{ℕ, ◌+◌, nat_le, Bool, ◌||◌, if◌then◌else◌, List, [], ◌∷◌, map, Option, Some, None}
 use Rattle.std.specs.Cmp.Lexicographic.{slice_cmp}
 use Rattle.std.specs.List.{fold}
 use Rattle.std.specs.Ordering.{nat_cmp, match_ordering}
@@ -47,10 +47,18 @@ way_of (Some way.InOut) = direction.InOut
 abbrev pub arg_in : List Source → ℕ → ℕ → tree.Arg → Arg
 arg_in files file scope a = record { name = a.name.name; way = way_of a.way; ty = type_of files file scope a.annots a.ty }
 
--- A method with its id. It is oneway by itself or by its interface. Its annotations are those of its result.
-abbrev pub method_in : List Source → ℕ → ℕ → Bool → ℕ → tree.Method → Method
-method_in files file scope oneway id m =
+-- An id in the schema. For one above the last, which E19 refuses, 0 stands.
+abbrev pub kept_id : ℕ → ℕ
+kept_id id = if nat_le id 16777114 then id else 0
+
+-- A method. It is oneway by itself or by its interface. Its annotations are those of its result.
+abbrev pub method_with : List Source → ℕ → ℕ → Bool → ℕ → tree.Method → Method
+method_with files file scope oneway id m =
     record { name = m.name.name; id = id; oneway = m.oneway || oneway; result = map_option (type_of files file scope m.annots) m.returned; args = map (arg_in files file scope) m.args }
+
+-- a method with the id that is written or given by its position
+abbrev pub method_in : List Source → ℕ → ℕ → Bool → ℕ → tree.Method → Method
+method_in files file scope oneway id m = method_with files file scope oneway (kept_id id) m
 
 -- the methods among members, of which so many stand before them
 abbrev pub methods_in : List Source → ℕ → ℕ → Bool → ℕ → List Member → List Method

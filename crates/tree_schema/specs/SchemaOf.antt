@@ -23,12 +23,15 @@ backing_in wanted.Int = backing.Int
 backing_in wanted.Long = backing.Long
 backing_in _ = backing.Byte
 
--- what a declaration with a number in the trees declares
+-- what a declaration with a number in the trees declares, an enum with a backing
+abbrev pub kind_with : List Source → Outcomes → ℕ → ℕ → Backing → Body → Kind
+kind_with files outcomes file number backing (parcelable ms) = Parcelable (fields_in files outcomes file number false false (listed ms))
+kind_with files outcomes file number backing (union ms) = Union (fields_in files outcomes file number true false (listed ms))
+kind_with files outcomes file number backing (enum es) = Enum backing (map (enumerator_in files outcomes file) es)
+kind_with files outcomes file number backing (interface oneway ms) = Interface (methods_in files file number oneway 0 (listed ms))
+
 abbrev pub kind_of : List Source → Outcomes → ℕ → ℕ → Wanted → Body → Kind
-kind_of files outcomes file number backed (parcelable ms) = Parcelable (fields_in files outcomes file number false false (listed ms))
-kind_of files outcomes file number backed (union ms) = Union (fields_in files outcomes file number true false (listed ms))
-kind_of files outcomes file number backed (enum es) = Enum (backing_in backed) (map (enumerator_in files outcomes file) es)
-kind_of files outcomes file number backed (interface oneway ms) = Interface (methods_in files file number oneway 0 (listed ms))
+kind_of files outcomes file number backed b = kind_with files outcomes file number (backing_in backed) b
 
 -- the number in the schema of the declaration around
 abbrev pub outer_of : List Entry → Option ℕ → Option ℕ

@@ -1,0 +1,45 @@
+ghost use Rattle.std.specs.Prelude.{◌≡◌, ◌≤◌, ◌++◌, length, map, IfOk};
+ghost use Rattle.aidl_names.specs.Refusals.{entry_of};
+ghost use Rattle.tree_schema.specs.Numbers as meant;
+ghost use Rattle.tree_schema.specs.TreeViews.{numbered_of};
+
+use crate::texts::name_text;
+use crate::tree::Placed;
+use aidl_base::OutOfMemory;
+use aidl_names::Found;
+use std::alloc::Global;
+use std::collections::BTreeMap;
+
+/// The declarations of a tree in the order of a schema: by the bytes of their canonical names.
+#[tactic(auto, unfolding(crate::specs::Numbers::sorted))]
+pub fn sorted<'a, 'b>(
+    alloc: Global,
+    found: &'a [Found<'b>],
+) -> Result<Vec<Placed<'a, 'b>>, OutOfMemory>
+    requires few { length found.now ≤ 16384 }
+    ensures { IfOk result (λ all. map numbered_of all.items ≡ meant.sorted (map entry_of found.entry.now)) }
+{
+    let mut places = BTreeMap::new(alloc);
+    for (i, f) in found.iter().enumerate() {
+        let text = name_text(alloc, f.name.0.as_slice())?;
+        let placed = Placed {
+            number: i as u32,
+            found: f,
+        };
+        places.insert(text, placed)?;
+    }
+    listed(alloc, places)
+}
+
+fn listed<'a, 'b>(
+    alloc: Global,
+    mut places: BTreeMap<String, Placed<'a, 'b>>,
+) -> Result<Vec<Placed<'a, 'b>>, OutOfMemory>
+    ensures { IfOk result (λ all. map numbered_of all.items ≡ map (λ e. numbered_of e.1) places.entry.entries) }
+{
+    let mut all = Vec::with_capacity(alloc, places.len())?;
+    'places: while let Some((_, placed)) = places.pop_first() {
+        all.push(placed)?;
+    }
+    Ok(all)
+}

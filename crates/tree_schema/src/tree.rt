@@ -1,0 +1,18 @@
+use aidl_names::{Found, Names};
+use const_eval::Settled;
+use indexmap::IndexMap;
+
+/// A tree of which a schema is made: its names, the outcomes of its items, and the number of each declaration in the schema.
+#[derive(Clone, Copy)]
+pub struct Tree<'a, 'b> {
+    pub names: &'a Names<'b>,
+    pub settled: &'a Settled<'b>,
+    pub numbers: &'a IndexMap<u32, u32>,
+}
+
+/// A declaration with its number in the trees.
+#[derive(Clone, Copy)]
+pub struct Placed<'a, 'b> {
+    pub number: u32,
+    pub found: &'a Found<'b>,
+}
