@@ -38,3 +38,4 @@ mod Dotted
 mod Keyed
 mod InOrder
 mod Few
+pub mod EnumsFilled
