@@ -21,6 +21,7 @@ use Rattle.aidl_names.specs.declared.resolved.Resolved.TheVariants.{Builtin, Lis
 use Rattle.aidl_names.specs.Called.{called, is_called}
 use Rattle.aidl_names.specs.Declarations.{Entry, declarations}
 use Rattle.aidl_names.specs.Resolution.{resolved, or_else}
+use Rattle.aidl_names.specs.Names.{text as bytes_of}
 use Rattle.aidl_names.specs.Sources.{Source}
 use Rattle.const_values.specs.declared.fault.ConstFault.{ConstFault}
 use Rattle.const_values.specs.declared.fault.ConstFault.TheVariants as fault
@@ -83,7 +84,7 @@ module _ (entries : List Entry) (file k : ℕ) (x : Enumerator) where
 
   member_tells : (n : ℕ) (part : Ident) → Tells (member_at entries n part)
   member_tells n part h = by (slice_get entries n) refl h where
-    inside : (e : Entry) → slice_get entries n ≡ Some e → (o : Option Member) → called part e ≡ o → target_if e.file n o ≡ Some (of_enumerator file k x) → IsOf entries file k x
+    inside : (e : Entry) → slice_get entries n ≡ Some e → (o : Option Member) → called e part ≡ o → target_if e.file n o ≡ Some (of_enumerator file k x) → IsOf entries file k x
     inside e at None q g = cc
     inside e at (Some (constant c)) q g = cc
     inside e at (Some (field f)) q g = cc
@@ -93,13 +94,13 @@ module _ (entries : List Entry) (file k : ℕ) (x : Enumerator) where
         let number_is : n ≡ k = cc in
         let file_is : e.file ≡ file = cc in
         let same : y ≡ x = cc in
-        let there = found_there (is_called part) (members (body e.tree)) (enumerator y) q in
+        let there = found_there (is_called (bytes_of part)) (members (body e.tree)) (enumerator y) q in
         let a = among (body e.tree) there.0 y there.1 in
         (e, ap (slice_get entries) (sym number_is) ∙ at, file_is, a.0, a.1, a.2, a.3 ∙ ap Some same)
 
-    by : (o : Option Entry) → slice_get entries n ≡ o → elim o as (λ _. Option Target) [ None ↦ None | Some e ↦ target_if e.file n (called part e) ] ≡ Some (of_enumerator file k x) → IsOf entries file k x
+    by : (o : Option Entry) → slice_get entries n ≡ o → elim o as (λ _. Option Target) [ None ↦ None | Some e ↦ target_if e.file n (called e part) ] ≡ Some (of_enumerator file k x) → IsOf entries file k x
     by None at g = cc
-    by (Some e) at g = inside e at (called part e) refl g
+    by (Some e) at g = inside e at (called e part) refl g
 
   either_tells : (o p : Option Target) → Tells o → Tells p → Tells (or_else o p)
   either_tells None p h g = g

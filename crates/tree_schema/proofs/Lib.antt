@@ -39,3 +39,4 @@ mod Keyed
 mod InOrder
 mod Few
 pub mod EnumsFilled
+pub mod Faultless

@@ -1,8 +1,8 @@
 -- The ids of an interface that doesn't break E19: distinct, and at most the last one.
-use Rattle.std.proofs.Common.{◌≡◌, ◌≤◌, ◌<◌, ◌+◌, ℕ, Bool, true, false, not, ◌&&◌, ◌||◌, nat_eq, nat_le, List, [], ◌∷◌, ◌++◌, map, length, Option, Some, None, is_some, slice_get, refl, sym, ap, ◌∙◌, arith}
+use Rattle.std.proofs.Common.{if◌then◌else◌, ◌≡◌, ◌≤◌, ◌<◌, ◌+◌, ℕ, Bool, true, false, not, ◌&&◌, ◌||◌, nat_eq, nat_le, List, [], ◌∷◌, ◌++◌, map, length, Option, Some, None, is_some, slice_get, refl, sym, ap, ◌∙◌, arith}
 use Rattle.std.specs.List.{list_any, list_all}
 use Rattle.std.proofs.lemmas.Bool.Decides.{nat_tests}
-use Rattle.aidl_base.proofs.Tests.{neither}
+use Rattle.aidl_base.proofs.Tests.{both, neither}
 use Rattle.aidl_schema.specs.Methods.{last_id}
 use Rattle.aidl_schema.specs.Names.{are_distinct}
 use Rattle.aidl_syntax.specs.declared.token.Token.{Token}
@@ -19,7 +19,7 @@ use Rattle.type_uses.specs.Ids.{number_of_kind, number_of, is_id_kind, is_id, ha
 use Rattle.type_uses.specs.TypeUses as uses
 use Rattle.type_uses.specs.TypeUses.{TypeUse, of_arg, of_members}
 use Rattle.type_rules.specs.MethodRules.{has_value, is_taken, is_bad_token, is_bad_id}
-use Rattle.tree_schema.specs.Parts.{methods_in}
+use Rattle.tree_schema.specs.Parts.{kept_id, methods_in}
 use Rattle.tree_schema.proofs.WalksBreaches.{none-earlier}
 use Rattle.tree_schema.proofs.WalksLists.{there-kept, there-last}
 use Rattle.tree_schema.proofs.TypesUses.{any-at}
@@ -120,16 +120,24 @@ args_none : (shape : TypeTree → Shape) (args : List Arg) (rest : List TypeUse)
 args_none shape [] rest = refl
 args_none shape (a ∷ args) rest = args_none shape args rest
 
+kept : (id : ℕ) → nat_le id last_id ≡ true → kept_id id ≡ id
+kept id h = ap (λ (b : Bool). if b then id else 0) h
+
 pub methods-are : (files : List Source) (file scope : ℕ) (oneway : Bool) (shape : TypeTree → Shape) (before : ℕ) (ms : List Member)
+    → list_all (λ i. nat_le i last_id) (ids_from before (uses.methods_in (of_members shape ms))) ≡ true
     → map (λ m. m.id) (methods_in files file scope oneway before ms) ≡ ids_from before (uses.methods_in (of_members shape ms))
-methods-are files file scope oneway shape before [] = refl
-methods-are files file scope oneway shape before (field f ∷ ms) = methods-are files file scope oneway shape before ms
-methods-are files file scope oneway shape before (constant c ∷ ms) = methods-are files file scope oneway shape before ms
-methods-are files file scope oneway shape before (enumerator e ∷ ms) = methods-are files file scope oneway shape before ms
-methods-are files file scope oneway shape before (nested d ∷ ms) = methods-are files file scope oneway shape before ms
-methods-are files file scope oneway shape before (method m ∷ ms) =
-    let rest = methods-are files file scope oneway shape (before + 1) ms in
-    ap (λ is. id_of before m ∷ is) (rest ∙ ap (ids_from (before + 1)) (sym (args_none shape m.args (of_members shape ms))))
+methods-are files file scope oneway shape before [] h = refl
+methods-are files file scope oneway shape before (field f ∷ ms) h = methods-are files file scope oneway shape before ms h
+methods-are files file scope oneway shape before (constant c ∷ ms) h = methods-are files file scope oneway shape before ms h
+methods-are files file scope oneway shape before (enumerator e ∷ ms) h = methods-are files file scope oneway shape before ms h
+methods-are files file scope oneway shape before (nested d ∷ ms) h = methods-are files file scope oneway shape before ms h
+methods-are files file scope oneway shape before (method m ∷ ms) h =
+    let none = args_none shape m.args (of_members shape ms) in
+    let are = λ (ts : List Method). list_all (λ i. nat_le i last_id) (ids_from (before + 1) ts) in
+    let two = both (nat_le (id_of before m) last_id) (are (uses.methods_in (map (of_arg shape) m.args ++ of_members shape ms))) h in
+    let rest = methods-are files file scope oneway shape (before + 1) ms (ap are (sym none) ∙ two.1) in
+    ap (λ (i : ℕ). i ∷ map (λ m'. m'.id) (methods_in files file scope oneway (before + 1) ms)) (kept (id_of before m) two.0)
+    ∙ ap (λ is. id_of before m ∷ is) (rest ∙ ap (ids_from (before + 1)) (sym none))
 
 pub methods-few : (shape : TypeTree → Shape) (ms : List Member) → length (uses.methods_in (of_members shape ms)) ≤ length ms
 methods-few shape [] = omega arith

@@ -127,7 +127,7 @@ module _ (files : List Source) (outcomes : Outcomes) (named : are_named files �
     body_ids file scope w (interface oneway ms) le h =
         let few = methods-few (shape_in files file scope) (listed ms) in
         let hold = ids-hold (uses.methods_in (of_members (shape_in files file scope) (listed ms))) (omega arith) h in
-        let are = methods-are files file scope oneway (shape_in files file scope) 0 (listed ms) in (
+        let are = methods-are files file scope oneway (shape_in files file scope) 0 (listed ms) hold.1 in (
           ap (are_distinct nat_eq) are ∙ hold.0,
           sym (list_all-map (λ (i : ℕ). nat_le i last_id) (λ (m : made.Method). m.id) (methods_in files file scope oneway 0 (listed ms))) ∙ ap (list_all (λ (i : ℕ). nat_le i last_id)) are ∙ hold.1,
         )

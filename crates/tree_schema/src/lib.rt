@@ -18,6 +18,6 @@ mod types;
 mod values;
 
 pub use drafting::draft;
-pub use laws::law_named;
+pub use laws::{law_named, law_valid};
 pub use order::sorted;
 pub use tree::Placed;

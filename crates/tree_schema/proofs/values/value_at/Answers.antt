@@ -10,4 +10,4 @@ pub outcome-requires : goal.outcome-requires
 outcome-requires c =
     let list = c.args.tree.now.settled.now.items.list.items in
     numbered_within (number_at (map item_of list) c.args.file c.args.place) c.in-Some.init (length list)
-    (sym c.init_at.ensures ∙ c.in-Some.is) (at_within list (length list) c.args.file c.args.place (omega arith))
+    (sym c.init_at.ensures.exact ∙ c.in-Some.is) (at_within list (length list) c.args.file c.args.place (omega arith))
