@@ -33,9 +33,10 @@ pub mod ValuesWalks
 pub mod ValuesPlaces
 pub mod ValuesChecked
 pub mod ValuesLaws
-pub mod EnumsFilled
 mod Within
 mod Dotted
 mod Keyed
 mod InOrder
 mod Few
+pub mod EnumsFilled
+pub mod Faultless

@@ -1,5 +1,5 @@
 -- The ids of an interface that doesn't break E19: distinct, and at most the last one.
-use Rattle.std.proofs.Common.{◌≡◌, ◌≤◌, ◌<◌, ◌+◌, ℕ, Bool, true, false, not, ◌&&◌, ◌||◌, nat_eq, nat_le, if◌then◌else◌, List, [], ◌∷◌, ◌++◌, map, length, Option, Some, None, is_some, slice_get, refl, sym, ap, ◌∙◌, arith}
+use Rattle.std.proofs.Common.{if◌then◌else◌, ◌≡◌, ◌≤◌, ◌<◌, ◌+◌, ℕ, Bool, true, false, not, ◌&&◌, ◌||◌, nat_eq, nat_le, List, [], ◌∷◌, ◌++◌, map, length, Option, Some, None, is_some, slice_get, refl, sym, ap, ◌∙◌, arith}
 use Rattle.std.specs.List.{list_any, list_all}
 use Rattle.std.proofs.lemmas.Bool.Decides.{nat_tests}
 use Rattle.aidl_base.proofs.Tests.{both, neither}
@@ -120,23 +120,24 @@ args_none : (shape : TypeTree → Shape) (args : List Arg) (rest : List TypeUse)
 args_none shape [] rest = refl
 args_none shape (a ∷ args) rest = args_none shape args rest
 
-pub methods-are : (files : List Source) (file scope : ℕ) (oneway : Bool) (shape : TypeTree → Shape) (before : ℕ) (ms : List Member)
-    → map (λ m. m.id) (methods_in files file scope oneway before ms) ≡ map kept_id (ids_from before (uses.methods_in (of_members shape ms)))
-methods-are files file scope oneway shape before [] = refl
-methods-are files file scope oneway shape before (field f ∷ ms) = methods-are files file scope oneway shape before ms
-methods-are files file scope oneway shape before (constant c ∷ ms) = methods-are files file scope oneway shape before ms
-methods-are files file scope oneway shape before (enumerator e ∷ ms) = methods-are files file scope oneway shape before ms
-methods-are files file scope oneway shape before (nested d ∷ ms) = methods-are files file scope oneway shape before ms
-methods-are files file scope oneway shape before (method m ∷ ms) =
-    let rest = methods-are files file scope oneway shape (before + 1) ms in
-    ap (λ is. kept_id (id_of before m) ∷ is) (rest ∙ ap (λ others. map kept_id (ids_from (before + 1) others)) (sym (args_none shape m.args (of_members shape ms))))
+kept : (id : ℕ) → nat_le id last_id ≡ true → kept_id id ≡ id
+kept id h = ap (λ (b : Bool). if b then id else 0) h
 
--- none is above the last, so each is kept
-pub kept_all : (ns : List ℕ) → list_all (λ i. nat_le i last_id) ns ≡ true → map kept_id ns ≡ ns
-kept_all [] h = refl
-kept_all (n ∷ ns) h =
-    let two = both (nat_le n last_id) (list_all (λ i. nat_le i last_id) ns) h in
-    ap (λ b. (if b then n else 0) ∷ map kept_id ns) two.0 ∙ ap (λ more. n ∷ more) (kept_all ns two.1)
+pub methods-are : (files : List Source) (file scope : ℕ) (oneway : Bool) (shape : TypeTree → Shape) (before : ℕ) (ms : List Member)
+    → list_all (λ i. nat_le i last_id) (ids_from before (uses.methods_in (of_members shape ms))) ≡ true
+    → map (λ m. m.id) (methods_in files file scope oneway before ms) ≡ ids_from before (uses.methods_in (of_members shape ms))
+methods-are files file scope oneway shape before [] h = refl
+methods-are files file scope oneway shape before (field f ∷ ms) h = methods-are files file scope oneway shape before ms h
+methods-are files file scope oneway shape before (constant c ∷ ms) h = methods-are files file scope oneway shape before ms h
+methods-are files file scope oneway shape before (enumerator e ∷ ms) h = methods-are files file scope oneway shape before ms h
+methods-are files file scope oneway shape before (nested d ∷ ms) h = methods-are files file scope oneway shape before ms h
+methods-are files file scope oneway shape before (method m ∷ ms) h =
+    let none = args_none shape m.args (of_members shape ms) in
+    let are = λ (ts : List Method). list_all (λ i. nat_le i last_id) (ids_from (before + 1) ts) in
+    let two = both (nat_le (id_of before m) last_id) (are (uses.methods_in (map (of_arg shape) m.args ++ of_members shape ms))) h in
+    let rest = methods-are files file scope oneway shape (before + 1) ms (ap are (sym none) ∙ two.1) in
+    ap (λ (i : ℕ). i ∷ map (λ m'. m'.id) (methods_in files file scope oneway (before + 1) ms)) (kept (id_of before m) two.0)
+    ∙ ap (λ is. id_of before m ∷ is) (rest ∙ ap (ids_from (before + 1)) (sym none))
 
 pub methods-few : (shape : TypeTree → Shape) (ms : List Member) → length (uses.methods_in (of_members shape ms)) ≤ length ms
 methods-few shape [] = omega arith

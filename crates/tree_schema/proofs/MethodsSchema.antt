@@ -28,7 +28,7 @@ use Rattle.const_eval.specs.Backing.{backing_of}
 use Rattle.const_eval.specs.Items.{shape_in}
 use Rattle.const_eval.specs.Types as types
 use Rattle.type_uses.specs.Bases.{is_refused}
-use Rattle.type_uses.specs.Ids.{has_id, id_of, ids}
+use Rattle.type_uses.specs.Ids.{has_id, id_of}
 use Rattle.type_uses.specs.TypeUses as uses
 use Rattle.type_uses.specs.TypeUses.{of_arg, of_members, type_uses}
 use Rattle.type_rules.specs.MethodRules.{is_oneway_body, gives_back, is_bad_id}
@@ -44,7 +44,7 @@ use Rattle.tree_schema.proofs.WalksOuters.{are_named}
 use Rattle.tree_schema.proofs.WalksPlaced.{Each}
 use Rattle.tree_schema.proofs.NamesNumbers.{sorted-there}
 use Rattle.tree_schema.proofs.NamesSchema.{schema-there}
-use Rattle.tree_schema.proofs.MethodsIds.{ids-hold, kept_all, methods-are, methods-few}
+use Rattle.tree_schema.proofs.MethodsIds.{ids-hold, methods-are, methods-few}
 use Rattle.tree_schema.proofs.TypesForms.{base-composite}
 use Rattle.tree_schema.proofs.TypesMembers.{methods-hold as each-method}
 use Rattle.tree_schema.proofs.TypesUses.{IsFine, IsFineMember, none-mapped, members-fine}
@@ -127,7 +127,7 @@ module _ (files : List Source) (outcomes : Outcomes) (named : are_named files �
     body_ids file scope w (interface oneway ms) le h =
         let few = methods-few (shape_in files file scope) (listed ms) in
         let hold = ids-hold (uses.methods_in (of_members (shape_in files file scope) (listed ms))) (omega arith) h in
-        let are = methods-are files file scope oneway (shape_in files file scope) 0 (listed ms) ∙ kept_all (ids (uses.methods_in (of_members (shape_in files file scope) (listed ms)))) hold.1 in (
+        let are = methods-are files file scope oneway (shape_in files file scope) 0 (listed ms) hold.1 in (
           ap (are_distinct nat_eq) are ∙ hold.0,
           sym (list_all-map (λ (i : ℕ). nat_le i last_id) (λ (m : made.Method). m.id) (methods_in files file scope oneway 0 (listed ms))) ∙ ap (list_all (λ (i : ℕ). nat_le i last_id)) are ∙ hold.1,
         )

@@ -1,5 +1,5 @@
 -- What a tree without breaches gives: rules 3 to 8 of a valid schema, each from what is asked of the tree.
-use Rattle.std.proofs.Common.{IsTrue, ◌≡◌, ◌<◌, ℕ, true, List, [], Some, length, slice_get}
+use Rattle.std.proofs.Common.{IsTrue, ◌≡◌, ◌<◌, ℕ, true, List, Some, length, slice_get}
 use Rattle.aidl_schema.specs.Methods.{has_types, has_methods}
 use Rattle.aidl_schema.specs.Valid.{has_constants, has_initializers, has_enums, has_bounds, is_bounded}
 use Rattle.aidl_syntax.specs.Members.{body}
@@ -7,9 +7,7 @@ use Rattle.aidl_names.specs.Declarations.{Entry, declarations}
 use Rattle.aidl_names.specs.Refusals.{IsAccepted}
 use Rattle.aidl_names.specs.Sources.{Source}
 use Rattle.const_eval.specs.Items.{of_entry}
-use Rattle.type_rules.specs.Breaches.{unsorted}
 use Rattle.type_rules.specs.Unbroken.{AreUnbroken}
-use Rattle.type_rules.proofs.Nothing.{unbroken}
 use Rattle.tree_schema.specs.SchemaOf.{schema_of}
 use Rattle.tree_schema.specs.Values.{Outcomes}
 use Rattle.tree_schema.proofs.WalksOuters.{are_named}
@@ -30,10 +28,7 @@ abbrev pub AreFilled : List Source → Type 0
 AreFilled files = (k : ℕ) (e : Entry) → slice_get (declarations files) k ≡ Some e → has_enumerator (body e.tree) ≡ true
 
 -- No breach of E1 to E5, and of E13 to E21 and E24; the names are identifiers.
-module _ (files : List Source) (outcomes : Outcomes) (named : are_named files ≡ true) (accepted : IsAccepted files) (none : unsorted files ≡ []) where
-  fine : AreUnbroken files
-  fine = unbroken files none
-
+module _ (files : List Source) (outcomes : Outcomes) (named : are_named files ≡ true) (accepted : IsAccepted files) (fine : AreUnbroken files) where
   -- Rule 3.
   pub checked-types : IsTrue (has_types (schema_of files outcomes))
   checked-types = types-hold files outcomes named accepted.1 fine

@@ -6,3 +6,4 @@ pub mod Parts
 pub mod SchemaOf
 pub mod TreeViews
 pub mod Keyed
+pub mod Checked

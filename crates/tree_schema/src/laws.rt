@@ -1,8 +1,12 @@
 ghost use Rattle.std.specs.Prelude.{map, IsTrue};
 ghost use Rattle.std.specs.List.{All};
+ghost use Rattle.std.specs.List.Sorted.{IsStrictlyIncreasing};
 ghost use Rattle.aidl_names.specs.Sources.{AreOfBytes, source_of};
 ghost use Rattle.aidl_schema.specs.Names.{has_names, has_members};
-ghost use Rattle.aidl_schema.specs.Valid.{is_within_limits};
+ghost use Rattle.aidl_schema.specs.Valid.{IsValid, is_within_limits};
+ghost use Rattle.aidl_syntax.specs.Parses.{Holds};
+ghost use Rattle.aidl_syntax.specs.Walks.{literals_of, places_of};
+ghost use Rattle.tree_schema.specs.Checked.{IsChecked};
 ghost use Rattle.tree_schema.specs.Named.{HasIdentifiers};
 ghost use Rattle.tree_schema.specs.SchemaOf.{schema_of};
 ghost use Rattle.tree_schema.specs.Values.{Outcomes};
@@ -21,10 +25,41 @@ pub fn law_named(names: &Names<'_>)
     law_identifiers(files);
 }
 
+/// A law of the definitions: the schema of a tree that breaks no rule and passes no limit is valid.
+pub fn law_valid(names: &Names<'_>)
+    ensures { (outcomes : Outcomes) → IsChecked (map source_of names.now) outcomes → IsValid (schema_of (map source_of names.now) outcomes) }
+{
+    law_named(names);
+    let files = names.files();
+    law_identifiers(files);
+    law_places(files);
+    law_literals(files);
+}
+
 /// The names in each tree are identifiers.
 fn law_identifiers(files: &[ParsedFile])
     requires { AreOfBytes files.now }
     ensures { All HasIdentifiers (map source_of files.now) }
+{
+    for file in files {
+        law_tree(&file.tree);
+    }
+}
+
+/// The places in each tree ascend.
+fn law_places(files: &[ParsedFile])
+    requires { AreOfBytes files.now }
+    ensures { All (λ s. IsStrictlyIncreasing (places_of s.tree)) (map source_of files.now) }
+{
+    for file in files {
+        law_tree(&file.tree);
+    }
+}
+
+/// Each literal in each tree holds what its kind may hold.
+fn law_literals(files: &[ParsedFile])
+    requires { AreOfBytes files.now }
+    ensures { All (λ s. All (λ t. Holds t.kind) (literals_of s.tree)) (map source_of files.now) }
 {
     for file in files {
         law_tree(&file.tree);

@@ -1,4 +1,4 @@
-//! The schema of a checked tree.
+//! The schema of a checked tree, and why it is valid.
 #![tactic(auto)]
 
 mod backing;
@@ -18,4 +18,6 @@ mod types;
 mod values;
 
 pub use drafting::draft;
-pub use laws::law_named;
+pub use laws::{law_named, law_valid};
+pub use order::sorted;
+pub use tree::Placed;
