@@ -1,0 +1,5 @@
+pub mod Within
+pub mod Results
+pub mod Valid
+pub mod Joined
+pub mod TreesRefused

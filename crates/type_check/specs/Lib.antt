@@ -1,0 +1,4 @@
+pub mod Bounds
+pub mod Stages
+pub mod Checked
+pub mod Refusals
