@@ -1,5 +1,5 @@
 -- Where trees are refused, their files are.
-use Rattle.std.proofs.Common.{◌≡◌, List, inl, inr}
+use Rattle.std.proofs.Common.{List, inr}
 use Rattle.aidl_base.specs.declared.source_file.SourceFile.{SourceFile}
 use Rattle.type_check.specs.declared.fault.CheckFault.{CheckFault}
 use Rattle.type_check.specs.declared.fault.CheckFault.TheVariants as fault

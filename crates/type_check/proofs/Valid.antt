@@ -1,5 +1,5 @@
 -- Why the schema of a tree that breaks no rule is valid.
-use Rattle.std.proofs.Common.{IsTrue, ◌≡◌, ◌<◌, ◌++◌, ℕ, List, [], length, map, sym, ap, ◌∙◌, subst}
+use Rattle.std.proofs.Common.{IsTrue, ◌≡◌, ◌<◌, ◌++◌, ℕ, List, [], length, sym, ap, ◌∙◌, subst}
 use Rattle.std.proofs.lemmas.List.{length-map}
 use Rattle.aidl_base.specs.declared.breach.Breach.{Breach}
 use Rattle.aidl_names.specs.Breaches.{in_order}
@@ -12,7 +12,7 @@ use Rattle.const_eval.specs.Outcomes.{AreOutcomes, outcome_at}
 use Rattle.schema_bounds.specs.declared.bound.Bound.TheVariants.{Within}
 use Rattle.schema_bounds.specs.Bounds.{bound}
 use Rattle.tree_schema.specs.Checked.{IsChecked}
-use Rattle.tree_schema.specs.Numbers.{Numbered, sorted}
+use Rattle.tree_schema.specs.Numbers.{sorted}
 use Rattle.tree_schema.specs.SchemaOf.{declared, schema_of}
 use Rattle.tree_schema.specs.Values.{Outcomes}
 use Rattle.type_rules.specs.Breaches.{unsorted}

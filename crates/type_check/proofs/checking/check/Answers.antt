@@ -3,7 +3,6 @@ use Rattle.aidl_names.specs.Sources.{source_of}
 use Rattle.aidl_schema.specs.declared.schema.Schema.{Schema}
 use Rattle.aidl_syntax.specs.declared.tree.ParsedFile.{ParsedFile}
 use Rattle.tree_files.specs.Parsed.{AreParsed}
-use Rattle.type_check.specs.declared.fault.CheckFault.{CheckFault}
 use Rattle.type_check.specs.Checked.{IsSchemaOf, IsSchemaOfTrees}
 use Rattle.type_check.specs.Refusals.{IsRefusal, IsRefusalOfTrees}
 use Rattle.type_check.proofs.TreesRefused.{trees-refused}

@@ -1,8 +1,7 @@
-use Rattle.std.proofs.Common.{◌≡◌, ◌<◌, ◌≤◌, length, map, sym, ap, ◌∙◌, arith}
-use Rattle.aidl_names.specs.Sources.{source_of}
+use Rattle.std.proofs.Common.{◌<◌, ◌≤◌, length, sym, ap, ◌∙◌, arith}
 use Rattle.const_eval.specs.Breaches as constants
 use Rattle.const_eval.specs.Outcomes.{outcome_at}
-use Rattle.type_check.specs.Stages.{AreBreaches, constants_broken}
+use Rattle.type_check.specs.Stages.{constants_broken}
 use Rattle.type_check.specs.Stages.AreBreaches.{of_constants}
 use Rattle.type_check.proofs.Results.{empty, not-empty}
 use Rattle.type_check.proofs.checking.of_gathered.Goals as goal

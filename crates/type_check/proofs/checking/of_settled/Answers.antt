@@ -1,8 +1,7 @@
-use Rattle.std.proofs.Common.{◌≡◌, ◌<◌, ◌≤◌, List, length, map, sym, ap, ◌∙◌, arith}
+use Rattle.std.proofs.Common.{◌<◌, ◌≤◌, length, map, sym, ap, ◌∙◌, arith}
 use Rattle.aidl_names.specs.Sources.{source_of}
-use Rattle.aidl_schema.specs.declared.schema.Decl.{Decl}
 use Rattle.const_eval.specs.Outcomes.{outcome_at}
-use Rattle.type_check.specs.Stages.{AreBreaches, schema_by, types_broken}
+use Rattle.type_check.specs.Stages.{schema_by, types_broken}
 use Rattle.type_check.specs.Stages.AreBreaches.{of_types}
 use Rattle.type_check.proofs.Joined.{few-of}
 use Rattle.type_check.proofs.Results.{empty, not-empty}
