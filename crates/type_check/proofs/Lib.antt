@@ -3,3 +3,4 @@ pub mod Results
 pub mod Valid
 pub mod Joined
 pub mod TreesRefused
+pub mod OneAnswer

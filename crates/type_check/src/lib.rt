@@ -4,8 +4,10 @@
 mod bounds;
 mod checking;
 mod fault;
+mod laws;
 mod refused;
 mod stages;
 
 pub use checking::check;
 pub use fault::CheckFault;
+pub use laws::{law_never_both, law_one_refusal, law_one_schema};
