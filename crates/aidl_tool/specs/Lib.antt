@@ -1,15 +1,2 @@
-pub mod Answer
-pub mod Decode
-pub mod Encode
-pub mod Ended
-pub mod HexadecimalFile
-pub mod JsonFile
-pub mod Meaning
+pub mod InTree
 pub mod Meant
-pub mod Refusals
-pub mod Seen
-pub mod steps
-pub mod Trees
-pub mod Types
-pub mod ValueText
-pub mod Verdict

@@ -1,18 +1,56 @@
 -- What the words mean. They are unknown where they are in no row of the table of commands.
-use Rattle.std.specs.Prelude.{ℕ, List, [], Option, Some, None}
+use Rattle.std.specs.Prelude.{◌≡◌, ℕ, List, Option, Some, None}
 use Rattle.aidl_base.specs.declared.limit.LimitName.TheVariants.{TextBytes}
-use Rattle.tool_words.specs.Command.{Command, decode, encode}
+use Rattle.aidl_base.specs.declared.profile.Profile.{Profile}
+use Rattle.aidl_base.specs.declared.source_file.SourceFile.{SourceFile}
+use Rattle.aidl_outside.specs.Files.{Files}
+use Rattle.tool_words.specs.Command.{Command, decode, encode, check, judge}
 use Rattle.tool_words.specs.Rows.{command_of}
-use Rattle.aidl_tool.specs.Decode.{profile_of, decode_answer}
-use Rattle.aidl_tool.specs.Encode.{encode_answer}
-use Rattle.aidl_tool.specs.Meaning.{Meant, reads_only}
-use Rattle.aidl_tool.specs.Meaning.Meant.{unknown, means}
-use Rattle.aidl_tool.specs.Refusals.{file_at}
+use Rattle.parcel_answers.specs.Decode.{profile_of, decode_answer}
+use Rattle.parcel_answers.specs.Encode.{encode_answer}
+use Rattle.parcel_answers.specs.Refusals.{parcel_of}
+use Rattle.tool_frame.specs.Answer.{Answer, Found, Then}
+use Rattle.tool_frame.specs.Meaning.{Meant, reads_by}
+use Rattle.tool_frame.specs.Meaning.Meant.{unknown, means}
+use Rattle.tool_frame.specs.Refusals.{file_at, there}
+use Rattle.tool_frame.specs.Trees.{OverTree, tree_at}
+use Rattle.tree_answers.specs.Checked.{IsCheckAnswer}
+use Rattle.tree_answers.specs.Judged.{IsJudgeAnswer}
+use Rattle.aidl_tool.specs.InTree.{InTree}
+
+-- of a file that is there: the limits of the tree's files; what refuses the bytes; all else of the tree; and the values
+abbrev pub DecodesFile : Profile → Option (List ℕ) → List ℕ → Files → Found (List ℕ) → Answer → Type 0
+DecodesFile p tree types files file = InTree tree files (λ schema. Then (parcel_of file) (λ parcel. schema (λ S answer. answer ≡ decode_answer p S types parcel)))
+
+-- `decode [--lenient] [--tree TREE] TYPES FILE`
+abbrev pub DecodeAnswers : Profile → Option (List ℕ) → List ℕ → List ℕ → Files → Answer → Type 0
+DecodeAnswers p tree types path files = Then (there path (file_at TextBytes files path)) (DecodesFile p tree types files)
+
+-- of a file that is there: the limits of the tree's files, and of the file; all else of the tree; and the parcel
+abbrev pub EncodesFile : Option (List ℕ) → List ℕ → Files → Found (List ℕ) → Answer → Type 0
+EncodesFile tree types files file = InTree tree files (λ schema. Then file (λ text. schema (λ S answer. answer ≡ encode_answer S types text)))
+
+-- `encode [--tree TREE] TYPES FILE`
+abbrev pub EncodeAnswers : Option (List ℕ) → List ℕ → List ℕ → Files → Answer → Type 0
+EncodeAnswers tree types path files = Then (there path (file_at TextBytes files path)) (EncodesFile tree types files)
+
+-- `check TREE`
+abbrev pub CheckAnswers : List ℕ → Files → Answer → Type 0
+CheckAnswers root files = OverTree (tree_at files root) (IsCheckAnswer root)
+
+-- `judge OLD NEW`: the limits of OLD's files, and of NEW's; then all else
+abbrev pub JudgesSecond : List ℕ → List ℕ → Files → List SourceFile → Answer → Type 0
+JudgesSecond old new files olds = OverTree (tree_at files new) (λ news. IsJudgeAnswer old olds new news)
+
+abbrev pub JudgeAnswers : List ℕ → List ℕ → Files → Answer → Type 0
+JudgeAnswers old new files = OverTree (tree_at files old) (JudgesSecond old new files)
 
 -- the meaning of a command; those that aren't built yet have none
 abbrev pub meaning : Command → Meant
-meaning (decode lenient None types path) = means (reads_only (λ files. decode_answer (profile_of lenient) [] types path (file_at TextBytes files path)))
-meaning (encode None types path) = means (reads_only (λ files. encode_answer [] types path (file_at TextBytes files path)))
+meaning (decode lenient tree types path) = means (reads_by (DecodeAnswers (profile_of lenient) tree types path))
+meaning (encode tree types path) = means (reads_by (EncodeAnswers tree types path))
+meaning (check tree) = means (reads_by (CheckAnswers tree))
+meaning (judge old new) = means (reads_by (JudgeAnswers old new))
 meaning _ = unknown
 
 -- the meaning of the command that words are, if any

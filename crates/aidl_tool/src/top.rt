@@ -1,16 +1,18 @@
 ghost use Rattle.std.specs.Prelude.{◌≡◌, map, string_bytes};
 ghost use Rattle.tool_words.specs.Seen.{command_seen};
-ghost use Rattle.aidl_tool.specs.Decode.{profile_of};
-ghost use Rattle.aidl_tool.specs.Ended.{Ran};
 ghost use Rattle.aidl_tool.specs.Meant.{meaning, meant};
-ghost use Rattle.aidl_tool.specs.Seen.{seen_by};
-ghost use Rattle.aidl_tool.specs.steps.Files.{meaning_by, EndsAlike};
+ghost use Rattle.parcel_answers.specs.Decode.{profile_of};
+ghost use Rattle.tool_frame.specs.Ended.{Ran};
+ghost use Rattle.tool_frame.specs.Seen.{seen_by};
 
-use crate::file_command::{FileCommand, run_on_file};
-use crate::refuse::refuse;
+use crate::checking::check;
+use crate::decoding::decode;
+use crate::encoding::encode;
+use crate::judging::judge;
 use aidl_base::Profile;
 use aidl_outside::{Link, Sink, Store};
 use std::alloc::Global;
+use tool_frame::refuse;
 use tool_words::{Command, command_of};
 
 /// Runs the program on its words, those after the program's own name. The answer is the exit status: 0 done, 1 a
@@ -26,43 +28,45 @@ pub fn aidl<S: Store, K: Sink, L: Link>(
     ensures { let seen = seen_by S.kept S.count K.told K.count L.log L.is_faithful L.count in
         Ran (meant (map string_bytes words.now)) (seen store.old sink.old link.old) (seen store.new sink.new link.new) result }
 {
-    match meant(words) {
-        None => refuse(alloc, store, sink, link),
-        Some(command) => run_on_file(alloc, command, store, sink, link),
-    }
-}
-
-// The command that the words mean.
-fn meant(words: &[String]) -> Option<FileCommand<'_>>
-    ensures { EndsAlike (meaning_by result) (meant (map string_bytes words.now)) }
-{
     match command_of(words) {
-        None => None,
-        Some(command) => built(command),
+        None => refuse(alloc, store, sink, link),
+        Some(command) => run(alloc, command, store, sink, link),
     }
 }
 
-// The command, where it is built.
-fn built(command: Command<'_>) -> Option<FileCommand<'_>>
-    ensures { EndsAlike (meaning_by result) (meaning (command_seen command.entry)) }
+// Runs a command, where it is built.
+fn run<S: Store, K: Sink, L: Link>(
+    alloc: Global,
+    command: Command<'_>,
+    store: &mut S,
+    sink: &mut K,
+    link: &mut L,
+) -> u8
+    ensures { let seen = seen_by S.kept S.count K.told K.count L.log L.is_faithful L.count in
+        Ran (meaning (command_seen command.entry)) (seen store.old sink.old link.old) (seen store.new sink.new link.new) result }
 {
     match command {
         Command::Decode {
             lenient,
-            tree: None,
+            tree,
             types,
             file,
-        } => Some(FileCommand::Decode {
-            profile: profile_of(lenient),
+        } => decode(
+            alloc,
+            profile_of(lenient),
+            tree,
             types,
             file,
-        }),
-        Command::Encode {
-            tree: None,
-            types,
-            file,
-        } => Some(FileCommand::Encode { types, file }),
-        _ => None,
+            store,
+            sink,
+            link,
+        ),
+        Command::Encode { tree, types, file } => {
+            encode(alloc, tree, types, file, store, sink, link)
+        }
+        Command::Check { tree } => check(alloc, tree, store, sink, link),
+        Command::Judge { old, new } => judge(alloc, old, new, store, sink, link),
+        _ => refuse(alloc, store, sink, link),
     }
 }
 

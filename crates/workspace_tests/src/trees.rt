@@ -2,9 +2,9 @@
 
 use aidl_base::Row;
 use aidl_outside::{MemStore, Store, StoreFault};
-use aidl_tool::load_tree;
 use std::alloc::Global;
 use std::test::Fail;
+use tool_frame::load_tree;
 
 // What the call answers, as text.
 fn tree_text(alloc: Global, root: &str, store: &mut MemStore) -> Result<String, Fail> {

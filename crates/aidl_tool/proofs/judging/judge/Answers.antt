@@ -1,0 +1,9 @@
+use Rattle.std.proofs.Common.{refl}
+use Rattle.aidl_tool.specs.Meant.{JudgeAnswers}
+use Rattle.tool_frame.proofs.Endings.{ended_read}
+use Rattle.aidl_tool.proofs.judging.judge.Goals as goal
+
+pub returns : goal.returns
+returns g c =
+    let answered = c.answered-answered.ensures in
+    ended_read (JudgeAnswers c.args.old.now c.args.new.now) _ _ answered.unchanged refl refl refl c.end.result _ answered.cause answered.answer c.end.ensures

@@ -1,7 +1,0 @@
-pub mod Files
-pub mod Items
-pub mod Planned
-pub mod Prints
-pub mod Results
-pub mod Trees
-pub mod Types

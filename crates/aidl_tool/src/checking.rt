@@ -1,0 +1,58 @@
+ghost use Rattle.std.specs.Prelude.{◌≡◌, IfOk};
+ghost use Rattle.aidl_outside.specs.Causes.{StoreCause};
+ghost use Rattle.aidl_outside.specs.Told.{Tells};
+ghost use Rattle.aidl_tool.specs.Meant.{CheckAnswers};
+ghost use Rattle.tool_frame.specs.Ended.{Ended};
+ghost use Rattle.tool_frame.specs.Meaning.{reads_by};
+ghost use Rattle.tool_frame.specs.Seen.{seen_by};
+ghost use Rattle.tool_frame.specs.Trees.{OverTree, tree_seen};
+ghost use Rattle.tool_frame.specs.steps.Results.{GivesOne};
+ghost use Rattle.tree_answers.specs.Checked.{IsCheckAnswer};
+
+use aidl_base::{Limit, Row, SourceFile};
+use aidl_outside::{Link, Sink, Store, StoreFault};
+use std::alloc::Global;
+use tool_frame::{Early, Printed, end, files_of, load_tree};
+use tree_answers::check_answer;
+
+/// Runs `check TREE`. The answer is the exit status.
+pub fn check<S: Store, K: Sink, L: Link>(
+    alloc: Global,
+    root: &str,
+    store: &mut S,
+    sink: &mut K,
+    link: &L,
+) -> u8
+    ensures { let seen = seen_by S.kept S.count K.told K.count L.log L.is_faithful L.count in
+        Ended (reads_by (CheckAnswers root.now)) (seen store.old sink.old link.now) (seen store.new sink.new link.now) result }
+{
+    let answered = answered(alloc, root, store);
+    end(alloc, answered, sink)
+}
+
+// What is answered of the store.
+fn answered<S: Store>(
+    alloc: Global,
+    root: &str,
+    store: &mut S,
+) -> Result<Result<Printed, Early>, StoreFault>
+    ensures answer { IfOk result (λ given. Tells (S.kept store.old) (λ files. GivesOne given (CheckAnswers root.now files))) }
+    ensures unchanged { S.kept store.new ≡ S.kept store.old }
+    ensures cause { StoreCause (S.count store.old) (S.count store.new) result }
+{
+    let tree = load_tree(alloc, root, store)?;
+    Ok(answer_of(alloc, root, tree))
+}
+
+// What is answered of a tree that was loaded.
+#[tactic(auto, using(tool_frame::proofs::EarlyEnds::over_ends, tool_frame::proofs::EarlyEnds::over_goes))]
+fn answer_of(
+    alloc: Global,
+    root: &str,
+    tree: Result<Row<SourceFile>, Limit>,
+) -> Result<Printed, Early>
+    ensures { GivesOne result (OverTree (tree_seen tree) (IsCheckAnswer root.now)) }
+{
+    let files = files_of(alloc, tree)?;
+    check_answer(alloc, root, files)
+}

@@ -1,0 +1,130 @@
+ghost use Rattle.std.specs.Prelude.{◌≡◌, [], IfOk};
+ghost use Rattle.aidl_outside.specs.Causes.{StoreCause};
+ghost use Rattle.aidl_outside.specs.Told.{Tells};
+ghost use Rattle.tool_words.specs.Seen.{tree_seen};
+ghost use Rattle.aidl_tool.specs.InTree.{Checked};
+ghost use Rattle.aidl_tool.specs.Meant.{DecodeAnswers, DecodesFile};
+ghost use Rattle.parcel_answers.specs.Decode.{decode_answer};
+ghost use Rattle.parcel_answers.specs.Refusals.{parcel_of};
+ghost use Rattle.tool_frame.specs.Answer.{Then};
+ghost use Rattle.tool_frame.specs.Ended.{Ended};
+ghost use Rattle.tool_frame.specs.Meaning.{reads_by};
+ghost use Rattle.tool_frame.specs.Seen.{seen_by};
+ghost use Rattle.tool_frame.specs.Trees as frame;
+ghost use Rattle.tool_frame.specs.steps.Results.{GivesOne, held};
+
+use aidl_base::{Limit, LimitName, Profile, Row, SourceFile};
+use aidl_outside::{Link, Sink, Store, StoreFault};
+use aidl_schema::Schema;
+use parcel_answers::parcel_of;
+use std::alloc::Global;
+use tool_frame::{Early, Printed, end, files_of, load, load_tree, there};
+use tree_answers::checked;
+
+/// Runs `decode [--lenient] [--tree TREE] TYPES FILE`, and reads by the profile. The answer is the exit status.
+pub fn decode<S: Store, K: Sink, L: Link>(
+    alloc: Global,
+    profile: Profile,
+    tree: Option<&str>,
+    types: &str,
+    path: &str,
+    store: &mut S,
+    sink: &mut K,
+    link: &L,
+) -> u8
+    ensures { let seen = seen_by S.kept S.count K.told K.count L.log L.is_faithful L.count in
+        Ended (reads_by (DecodeAnswers profile (tree_seen tree.entry) types.now path.now)) (seen store.old sink.old link.now) (seen store.new sink.new link.now) result }
+{
+    let answered = answered(alloc, profile, tree, types, path, store);
+    end(alloc, answered, sink)
+}
+
+// What is answered of the store.
+fn answered<S: Store>(
+    alloc: Global,
+    profile: Profile,
+    tree: Option<&str>,
+    types: &str,
+    path: &str,
+    store: &mut S,
+) -> Result<Result<Printed, Early>, StoreFault>
+    ensures answer { IfOk result (λ given. Tells (S.kept store.old) (λ files. GivesOne given (DecodeAnswers profile (tree_seen tree.entry) types.now path.now files))) }
+    ensures unchanged { S.kept store.new ≡ S.kept store.old }
+    ensures cause { StoreCause (S.count store.old) (S.count store.new) result }
+{
+    let file = load(alloc, LimitName::TextBytes, path, store)?;
+    match there(alloc, path, file) {
+        Ok(file) => answered_of(alloc, profile, tree, types, file, store),
+        Err(early) => Ok(Err(early)),
+    }
+}
+
+// What is answered of a file that is there.
+fn answered_of<S: Store>(
+    alloc: Global,
+    profile: Profile,
+    tree: Option<&str>,
+    types: &str,
+    file: Result<Vec<u8>, Limit>,
+    store: &mut S,
+) -> Result<Result<Printed, Early>, StoreFault>
+    ensures answer { IfOk result (λ given. Tells (S.kept store.old) (λ files. GivesOne given (DecodesFile profile (tree_seen tree.entry) types.now files (held file)))) }
+    ensures unchanged { S.kept store.new ≡ S.kept store.old }
+    ensures cause { StoreCause (S.count store.old) (S.count store.new) result }
+{
+    match tree {
+        None => Ok(answer_alone(alloc, profile, types, file)),
+        Some(root) => {
+            let tree = load_tree(alloc, root, store)?;
+            Ok(answer_in(alloc, profile, root, tree, types, file))
+        }
+    }
+}
+
+// What is answered of the file without a tree.
+#[tactic(auto, using(tool_frame::proofs::EarlyEnds::then_ends, tool_frame::proofs::EarlyEnds::then_goes, tool_frame::proofs::Endings::gives_one))]
+fn answer_alone(
+    alloc: Global,
+    profile: Profile,
+    types: &str,
+    file: Result<Vec<u8>, Limit>,
+) -> Result<Printed, Early>
+    ensures { GivesOne result (Then (parcel_of (held file)) (λ parcel answer. answer ≡ decode_answer profile [] types.now parcel)) }
+{
+    let parcel = parcel_of(alloc, file)?;
+    let schema = Schema::empty(alloc);
+    parcel_answers::decode(alloc, profile, &schema, types, parcel.as_slice())
+}
+
+// What is answered of the file in a tree that was loaded.
+#[tactic(auto, using(tool_frame::proofs::EarlyEnds::over_ends, tool_frame::proofs::EarlyEnds::over_goes))]
+fn answer_in(
+    alloc: Global,
+    profile: Profile,
+    root: &str,
+    tree: Result<Row<SourceFile>, Limit>,
+    types: &str,
+    file: Result<Vec<u8>, Limit>,
+) -> Result<Printed, Early>
+    ensures { GivesOne result (frame.OverTree (frame.tree_seen tree) (λ sources. Then (parcel_of (held file)) (λ parcel. Checked root.now sources (λ S answer. answer ≡ decode_answer profile S types.now parcel)))) }
+{
+    let files = files_of(alloc, tree)?;
+    answer_of_files(alloc, profile, root, files, types, file)
+}
+
+// What is answered of the file by the files of a tree.
+#[tactic(auto, using(tool_frame::proofs::EarlyEnds::then_ends, tool_frame::proofs::EarlyEnds::then_goes, crate::proofs::Checks::checked_ends, crate::proofs::Checks::checked_goes))]
+fn answer_of_files(
+    alloc: Global,
+    profile: Profile,
+    root: &str,
+    files: Row<SourceFile>,
+    types: &str,
+    file: Result<Vec<u8>, Limit>,
+) -> Result<Printed, Early>
+    ensures { GivesOne result (Then (parcel_of (held file)) (λ parcel. Checked root.now files (λ S answer. answer ≡ decode_answer profile S types.now parcel))) }
+{
+    let parcel = parcel_of(alloc, file)?;
+    let schema = checked(alloc, root, files)?;
+    parcel_answers::decode(alloc, profile, &schema, types, parcel.as_slice())
+}

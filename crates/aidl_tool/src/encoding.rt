@@ -1,0 +1,118 @@
+ghost use Rattle.std.specs.Prelude.{◌≡◌, [], IfOk};
+ghost use Rattle.aidl_outside.specs.Causes.{StoreCause};
+ghost use Rattle.aidl_outside.specs.Told.{Tells};
+ghost use Rattle.tool_words.specs.Seen.{tree_seen};
+ghost use Rattle.aidl_tool.specs.InTree.{Checked};
+ghost use Rattle.aidl_tool.specs.Meant.{EncodeAnswers, EncodesFile};
+ghost use Rattle.parcel_answers.specs.Encode.{encode_answer};
+ghost use Rattle.tool_frame.specs.Answer.{Then};
+ghost use Rattle.tool_frame.specs.Ended.{Ended};
+ghost use Rattle.tool_frame.specs.Meaning.{reads_by};
+ghost use Rattle.tool_frame.specs.Seen.{seen_by};
+ghost use Rattle.tool_frame.specs.Trees as frame;
+ghost use Rattle.tool_frame.specs.steps.Results.{GivesOne, held};
+
+use aidl_base::{Limit, LimitName, Row, SourceFile};
+use aidl_outside::{Link, Sink, Store, StoreFault};
+use aidl_schema::Schema;
+use std::alloc::Global;
+use tool_frame::{Early, Printed, end, files_of, load, load_tree, text_of, there};
+use tree_answers::checked;
+
+/// Runs `encode [--tree TREE] TYPES FILE`. The answer is the exit status.
+pub fn encode<S: Store, K: Sink, L: Link>(
+    alloc: Global,
+    tree: Option<&str>,
+    types: &str,
+    path: &str,
+    store: &mut S,
+    sink: &mut K,
+    link: &L,
+) -> u8
+    ensures { let seen = seen_by S.kept S.count K.told K.count L.log L.is_faithful L.count in
+        Ended (reads_by (EncodeAnswers (tree_seen tree.entry) types.now path.now)) (seen store.old sink.old link.now) (seen store.new sink.new link.now) result }
+{
+    let answered = answered(alloc, tree, types, path, store);
+    end(alloc, answered, sink)
+}
+
+// What is answered of the store.
+fn answered<S: Store>(
+    alloc: Global,
+    tree: Option<&str>,
+    types: &str,
+    path: &str,
+    store: &mut S,
+) -> Result<Result<Printed, Early>, StoreFault>
+    ensures answer { IfOk result (λ given. Tells (S.kept store.old) (λ files. GivesOne given (EncodeAnswers (tree_seen tree.entry) types.now path.now files))) }
+    ensures unchanged { S.kept store.new ≡ S.kept store.old }
+    ensures cause { StoreCause (S.count store.old) (S.count store.new) result }
+{
+    let file = load(alloc, LimitName::TextBytes, path, store)?;
+    match there(alloc, path, file) {
+        Ok(file) => answered_of(alloc, tree, types, file, store),
+        Err(early) => Ok(Err(early)),
+    }
+}
+
+// What is answered of a file that is there.
+fn answered_of<S: Store>(
+    alloc: Global,
+    tree: Option<&str>,
+    types: &str,
+    file: Result<Vec<u8>, Limit>,
+    store: &mut S,
+) -> Result<Result<Printed, Early>, StoreFault>
+    ensures answer { IfOk result (λ given. Tells (S.kept store.old) (λ files. GivesOne given (EncodesFile (tree_seen tree.entry) types.now files (held file)))) }
+    ensures unchanged { S.kept store.new ≡ S.kept store.old }
+    ensures cause { StoreCause (S.count store.old) (S.count store.new) result }
+{
+    match tree {
+        None => Ok(answer_alone(alloc, types, file)),
+        Some(root) => {
+            let tree = load_tree(alloc, root, store)?;
+            Ok(answer_in(alloc, root, tree, types, file))
+        }
+    }
+}
+
+// What is answered of the file without a tree.
+#[tactic(auto, using(tool_frame::proofs::EarlyEnds::then_ends, tool_frame::proofs::EarlyEnds::then_goes, tool_frame::proofs::Endings::gives_one))]
+fn answer_alone(alloc: Global, types: &str, file: Result<Vec<u8>, Limit>) -> Result<Printed, Early>
+    ensures { GivesOne result (Then (held file) (λ text answer. answer ≡ encode_answer [] types.now text)) }
+{
+    let text = text_of(alloc, file)?;
+    let schema = Schema::empty(alloc);
+    parcel_answers::encode(alloc, &schema, types, text.as_slice())
+}
+
+// What is answered of the file in a tree that was loaded.
+#[tactic(auto, using(tool_frame::proofs::EarlyEnds::over_ends, tool_frame::proofs::EarlyEnds::over_goes))]
+fn answer_in(
+    alloc: Global,
+    root: &str,
+    tree: Result<Row<SourceFile>, Limit>,
+    types: &str,
+    file: Result<Vec<u8>, Limit>,
+) -> Result<Printed, Early>
+    ensures { GivesOne result (frame.OverTree (frame.tree_seen tree) (λ sources. Then (held file) (λ text. Checked root.now sources (λ S answer. answer ≡ encode_answer S types.now text)))) }
+{
+    let files = files_of(alloc, tree)?;
+    answer_of_files(alloc, root, files, types, file)
+}
+
+// What is answered of the file by the files of a tree.
+#[tactic(auto, using(tool_frame::proofs::EarlyEnds::then_ends, tool_frame::proofs::EarlyEnds::then_goes, crate::proofs::Checks::checked_ends, crate::proofs::Checks::checked_goes))]
+fn answer_of_files(
+    alloc: Global,
+    root: &str,
+    files: Row<SourceFile>,
+    types: &str,
+    file: Result<Vec<u8>, Limit>,
+) -> Result<Printed, Early>
+    ensures { GivesOne result (Then (held file) (λ text. Checked root.now files (λ S answer. answer ≡ encode_answer S types.now text))) }
+{
+    let text = text_of(alloc, file)?;
+    let schema = checked(alloc, root, files)?;
+    parcel_answers::encode(alloc, &schema, types, text.as_slice())
+}

@@ -1,0 +1,81 @@
+ghost use Rattle.std.specs.Prelude.{◌≡◌, IfOk};
+ghost use Rattle.aidl_outside.specs.Causes.{StoreCause};
+ghost use Rattle.aidl_outside.specs.Told.{Tells};
+ghost use Rattle.aidl_tool.specs.Meant.{JudgeAnswers, JudgesSecond};
+ghost use Rattle.tool_frame.specs.Ended.{Ended};
+ghost use Rattle.tool_frame.specs.Meaning.{reads_by};
+ghost use Rattle.tool_frame.specs.Seen.{seen_by};
+ghost use Rattle.tool_frame.specs.Trees.{OverTree, tree_seen};
+ghost use Rattle.tool_frame.specs.steps.Results.{GivesOne};
+ghost use Rattle.tree_answers.specs.Judged.{IsJudgeAnswer};
+
+use aidl_base::{Limit, Row, SourceFile};
+use aidl_outside::{Link, Sink, Store, StoreFault};
+use std::alloc::Global;
+use tool_frame::{Early, Printed, end, files_of, load_tree};
+use tree_answers::judge_answer;
+
+/// Runs `judge OLD NEW`. The answer is the exit status.
+pub fn judge<S: Store, K: Sink, L: Link>(
+    alloc: Global,
+    old: &str,
+    new: &str,
+    store: &mut S,
+    sink: &mut K,
+    link: &L,
+) -> u8
+    ensures { let seen = seen_by S.kept S.count K.told K.count L.log L.is_faithful L.count in
+        Ended (reads_by (JudgeAnswers old.now new.now)) (seen store.old sink.old link.now) (seen store.new sink.new link.now) result }
+{
+    let answered = answered(alloc, old, new, store);
+    end(alloc, answered, sink)
+}
+
+// What is answered of the store.
+fn answered<S: Store>(
+    alloc: Global,
+    old: &str,
+    new: &str,
+    store: &mut S,
+) -> Result<Result<Printed, Early>, StoreFault>
+    ensures answer { IfOk result (λ given. Tells (S.kept store.old) (λ files. GivesOne given (JudgeAnswers old.now new.now files))) }
+    ensures unchanged { S.kept store.new ≡ S.kept store.old }
+    ensures cause { StoreCause (S.count store.old) (S.count store.new) result }
+{
+    let old_tree = load_tree(alloc, old, store)?;
+    match files_of(alloc, old_tree) {
+        Ok(olds) => answered_of_second(alloc, old, olds, new, store),
+        Err(early) => Ok(Err(early)),
+    }
+}
+
+// The same, where the files of OLD pass no limit.
+fn answered_of_second<S: Store>(
+    alloc: Global,
+    old: &str,
+    olds: Row<SourceFile>,
+    new: &str,
+    store: &mut S,
+) -> Result<Result<Printed, Early>, StoreFault>
+    ensures answer { IfOk result (λ given. Tells (S.kept store.old) (λ files. GivesOne given (JudgesSecond old.now new.now files olds))) }
+    ensures unchanged { S.kept store.new ≡ S.kept store.old }
+    ensures cause { StoreCause (S.count store.old) (S.count store.new) result }
+{
+    let tree = load_tree(alloc, new, store)?;
+    Ok(answer_of(alloc, old, olds, new, tree))
+}
+
+// What is answered of trees that were loaded.
+#[tactic(auto, using(tool_frame::proofs::EarlyEnds::over_ends, tool_frame::proofs::EarlyEnds::over_goes))]
+fn answer_of(
+    alloc: Global,
+    old: &str,
+    olds: Row<SourceFile>,
+    new: &str,
+    tree: Result<Row<SourceFile>, Limit>,
+) -> Result<Printed, Early>
+    ensures { GivesOne result (OverTree (tree_seen tree) (λ news. IsJudgeAnswer old.now olds new.now news)) }
+{
+    let news = files_of(alloc, tree)?;
+    judge_answer(alloc, old, olds, new, news)
+}

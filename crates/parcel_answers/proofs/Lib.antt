@@ -1,0 +1,7 @@
+pub mod Entries
+pub mod JsonTexts
+pub mod NamedBases
+pub mod NoFloat
+pub mod Planned
+pub mod ReadValues
+pub mod WriteValues

@@ -1,0 +1,4 @@
+pub mod EarlyEnds
+pub mod Endings
+pub mod Loaded
+pub mod TreeFiles

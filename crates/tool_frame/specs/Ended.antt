@@ -1,0 +1,108 @@
+-- How a run of the program ends: its exit has its cause, and this is what it left of the outside.
+use Rattle.std.specs.Prelude.{◌≡◌, ◌≢◌, ℕ, ◌⊎◌, List, [], ◌∷◌, ◌++◌, Option, Some, None, true, IsSome, All, codes}
+use Rattle.std.specs.FinMap.{insert}
+use Rattle.aidl_outside.specs.declared.link.Carried.{Carried}
+use Rattle.aidl_outside.specs.Causes.{Rose}
+use Rattle.aidl_outside.specs.Files.{Files}
+use Rattle.aidl_outside.specs.Told.{Tells, Adds, AddsFront}
+use Rattle.aidl_outside.specs.Writes.{ChangesOnly}
+use Rattle.tool_frame.specs.Answer.{Answer, line}
+use Rattle.tool_frame.specs.Meaning.{Meaning, Write, AreDue, CarriesNothing, Meant}
+use Rattle.tool_frame.specs.Meaning.Meant.{unknown, means}
+use Rattle.tool_frame.specs.Seen.{Seen}
+use Rattle.tool_frame.specs.Verdict.{exit_of, IsVerdict}
+
+-- the files after some writes
+abbrev pub written : List Write → Files → Files
+written [] files = files
+written (w ∷ ws) files = written ws (insert files w.path w.bytes)
+
+-- which writes are meant, of the files before
+abbrev pub Writes : Type 1
+Writes = Files → List Write → Type 0
+
+-- all writes were made
+abbrev pub WroteAll : Writes → Option Files → Option Files → Type 0
+WroteAll are_meant None now = now ≡ None
+WroteAll are_meant (Some files) now = (made : List Write) × are_meant files made × (now ≡ Some (written made files))
+
+-- none or the first of them were made
+abbrev pub WroteSome : Writes → Option Files → Option Files → Type 0
+WroteSome are_meant None now = now ≡ None
+WroteSome are_meant (Some files) now = (now ≡ Some files)
+    ⊎ ((made rest : List Write) × are_meant files (made ++ rest) × (now ≡ Some (written made files)))
+
+-- none or the first of them were made, and then at most the path of the next one was changed
+abbrev pub FailedAt : Writes → Option Files → Option Files → Type 0
+FailedAt are_meant None now = now ≡ None
+FailedAt are_meant (Some files) now = WroteSome are_meant (Some files) now
+    ⊎ ((made rest : List Write) × (w : Write) × are_meant files (made ++ w ∷ rest) × ChangesOnly (Some (written made files)) now w.path)
+
+-- The parcels that were carried: those that the log gained, each the one that was due, and delivered as it was sent by a
+-- faithful link.
+abbrev pub CarriedThese : Meaning → Files → Seen → Seen → List Carried → Type 0
+CarriedThese m files before now entries = Adds before.log now.log entries
+    × AreDue (m.due files) [] entries
+    × (before.is_faithful ≡ true → All (λ (entry : Carried). entry.delivered ≡ entry.sent) entries)
+
+-- the exit and the text are those of an answer that is meant, and nothing more is due
+abbrev pub EndsAsMeant : Meaning → Seen → Seen → ℕ → Files → Type 0
+EndsAsMeant m before now exit files = (entries : List Carried) × CarriedThese m files before now entries
+    × (m.due files entries ≡ None)
+    × (answer : Answer) × m.answers files entries answer
+    × (exit ≡ exit_of answer.verdict)
+    × Adds before.told now.told answer.text
+
+-- nothing was put, or a front of the text of an answer that is meant
+abbrev pub PutsFront : Meaning → Seen → Seen → Files → Type 0
+PutsFront m before now files = (entries : List Carried) × CarriedThese m files before now entries
+    × ((now.told ≡ before.told) ⊎ ((answer : Answer) × m.answers files entries answer × AddsFront before.told now.told answer.text))
+
+-- a parcel is due, and all the text before it was put
+abbrev pub StopsAtCarry : Meaning → Seen → Seen → Files → Type 0
+StopsAtCarry m before now files = (entries : List Carried) × CarriedThese m files before now entries
+    × IsSome (m.due files entries)
+    × (answer : Answer) × m.answers files entries answer
+    × Adds before.told now.told answer.text
+
+pub record Ended (m : Meaning) (before now : Seen) (exit : ℕ) : Type 0 where
+  -- the exits, and that 3, 4 and 6 come only where the count of the store, the sink and the link rose
+  pub exits : IsVerdict exit ⊎ ((exit ≡ 3) ⊎ ((exit ≡ 4) ⊎ ((exit ≡ 5) ⊎ (exit ≡ 6))))
+  pub store_fault : exit ≡ 3 → Rose before.store_faults now.store_faults
+  pub store_good : exit ≢ 3 → now.store_faults ≡ before.store_faults
+  pub sink_fault : exit ≡ 4 → Rose before.sink_faults now.sink_faults
+  pub sink_good : exit ≢ 4 → now.sink_faults ≡ before.sink_faults
+  pub link_fault : exit ≡ 6 → Rose before.link_faults now.link_faults
+  pub link_good : exit ≢ 6 → now.link_faults ≡ before.link_faults
+  pub link_nature : now.is_faithful ≡ before.is_faithful
+  -- what was written: all; after a want of memory some; after a fault of the store some, and one failed
+  pub wrote : IsVerdict exit ⊎ ((exit ≡ 4) ⊎ (exit ≡ 6)) → WroteAll m.writes before.kept now.kept
+  pub wrote_some : exit ≡ 5 → WroteSome m.writes before.kept now.kept
+  pub write_failed : exit ≡ 3 → FailedAt m.writes before.kept now.kept
+  -- what was carried, where nothing ever is, and after a fault of the store
+  pub carries_nothing : CarriesNothing m ⊎ (exit ≡ 3) → now.log ≡ before.log
+  -- what was printed: nothing after a fault of the store, and a front after one of the sink or a want of memory
+  pub answer : IsVerdict exit → Tells before.kept (EndsAsMeant m before now exit)
+  pub silent : exit ≡ 3 → now.told ≡ before.told
+  pub front : (exit ≡ 4) ⊎ (exit ≡ 5) → Tells before.kept (PutsFront m before now)
+  pub stopped : exit ≡ 6 → Tells before.kept (StopsAtCarry m before now)
+  -- where no count rose, it ends as is meant, or memory was wanted
+  pub complete : (Rose before.store_faults now.store_faults → ⊥) → (Rose before.sink_faults now.sink_faults → ⊥) → (Rose before.link_faults now.link_faults → ⊥)
+      → (exit ≡ 5) ⊎ (IsVerdict exit × Tells before.kept (EndsAsMeant m before now exit))
+
+abbrev pub refused_words : List ℕ
+refused_words = line (codes "refused words")
+
+-- words that are refused: exit 2, unless the sink or memory failed
+pub record Refused (before now : Seen) (exit : ℕ) : Type 0 where
+  pub exits : (exit ≡ 2) ⊎ ((exit ≡ 4) ⊎ (exit ≡ 5))
+  pub untouched : now ≡ record before { told = now.told; sink_faults = now.sink_faults }
+  pub sink_fault : exit ≡ 4 → Rose before.sink_faults now.sink_faults
+  pub sink_good : exit ≢ 4 → now.sink_faults ≡ before.sink_faults
+  pub whole : exit ≡ 2 → Adds before.told now.told refused_words
+  pub front : AddsFront before.told now.told refused_words
+
+-- of words without a meaning, and of words with one
+abbrev pub Ran : Meant → Seen → Seen → ℕ → Type 0
+Ran unknown before now exit = Refused before now exit
+Ran (means m) before now exit = Ended m before now exit

@@ -1,0 +1,77 @@
+-- The files of a tree: those below its root whose paths end in `.aidl`, in the order of their paths (own).
+use Rattle.std.specs.Prelude.{◌≡◌, ℕ, ◌≤◌, nat_lt, Bool, if◌then◌else◌, List, [], ◌∷◌, ◌++◌, length, map, All, Option, Some, None, Result, Ok, Err, codes}
+use Rattle.std.specs.List.{filter}
+use Rattle.aidl_base.specs.declared.limit.Limit.{Limit}
+use Rattle.aidl_base.specs.declared.limit.LimitName.TheVariants as limit
+use Rattle.aidl_base.specs.declared.source_file.SourceFile.{SourceFile}
+use Rattle.aidl_base.specs.Limits.{limit_number}
+use Rattle.aidl_base.specs.Results.{◌>>=◌}
+use Rattle.aidl_outside.specs.Entries.{path_of}
+use Rattle.aidl_outside.specs.Files.{Files, listing}
+use Rattle.tool_words.specs.Entries.{ends_with}
+use Rattle.tool_frame.specs.Answer.{Answer, Found, limit_passed}
+use Rattle.tool_frame.specs.Refusals.{file_at}
+
+-- a file with its path relative to the root
+pub record TreeFile : Type 0 where
+  pub path : List ℕ
+  pub bytes : List ℕ
+
+-- a path below a folder is the folder, `/` and the relative path
+abbrev pub path_below : List ℕ → List ℕ → List ℕ
+path_below folder path = folder ++ 47 ∷ path
+
+-- the path is that of a file of AIDL
+abbrev pub is_source : List ℕ → Bool
+is_source path = ends_with path (codes ".aidl")
+
+-- the paths of such files below a root, relative to it, sorted by bytes
+abbrev pub sources_below : List ℕ → Files → List (List ℕ)
+sources_below root files = filter is_source (listing root files)
+
+-- paths that don't pass the limit `files`
+abbrev pub few : List (List ℕ) → Found (List (List ℕ))
+few paths = if nat_lt (limit_number limit.Files) (length paths) then Err (limit_passed limit.Files) else Ok paths
+
+-- The file at a listed path, or the limit that it passes. Where nothing stands there, it is left out; of what a store tells
+-- that is never so, since it lists what it holds.
+abbrev pub file_found : List ℕ → Option (Found (List ℕ)) → Found (List TreeFile)
+file_found path None = Ok []
+file_found path (Some (Ok bytes)) = Ok (record { path = path; bytes = bytes } ∷ [])
+file_found path (Some (Err passed)) = Err passed
+
+-- the files at some paths below a root, up to the first that passes the limit `file-bytes`
+abbrev pub files_at : Files → List ℕ → List (List ℕ) → Found (List TreeFile)
+files_at files root [] = Ok []
+files_at files root (path ∷ paths) = do
+  first ← file_found path (file_at limit.FileBytes files (path_below root path))
+  others ← files_at files root paths
+  Ok (first ++ others)
+
+-- the files of the tree below a root
+abbrev pub tree_at : Files → List ℕ → Found (List TreeFile)
+tree_at files root = do
+  paths ← few (sources_below root files)
+  files_at files root paths
+
+-- what the code's own files stand for
+abbrev pub file_seen : SourceFile → TreeFile
+file_seen file = record { path = path_of file; bytes = file.bytes }
+
+-- files that were loaded, or the limit that was passed
+abbrev pub tree_seen : Result (List SourceFile) Limit → Found (List TreeFile)
+tree_seen (Ok files) = Ok (map file_seen files)
+tree_seen (Err limit) = Err (limit_passed limit.which)
+
+-- no file passes the limit `file-bytes`
+abbrev pub AreShort : List SourceFile → Type 0
+AreShort files = All (λ (file : SourceFile). length file.bytes ≤ limit_number limit.FileBytes) files
+
+-- the files are those of a tree that was found
+abbrev pub AreFiles : List SourceFile → List TreeFile → Type 0
+AreFiles sources tree = map file_seen sources ≡ tree
+
+-- what is answered over the tree below a root: the limit that its files pass, or what is answered over these
+abbrev pub OverTree : Found (List TreeFile) → (List SourceFile → Answer → Type 0) → Answer → Type 0
+OverTree (Ok tree) next answer = (sources : List SourceFile) × AreFiles sources tree × next sources answer
+OverTree (Err passed) next answer = answer ≡ passed

@@ -1,0 +1,4 @@
+pub mod Ends
+pub mod Prints
+pub mod Results
+pub mod Trees

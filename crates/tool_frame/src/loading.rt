@@ -1,0 +1,50 @@
+ghost use Rattle.std.specs.Prelude.{◌≡◌, ◌≤◌, length, Option, IfOk};
+ghost use Rattle.std.specs.Option.{option_map};
+ghost use Rattle.aidl_base.specs.Limits.{limit_number};
+ghost use Rattle.aidl_outside.specs.Causes.{StoreCause};
+ghost use Rattle.aidl_outside.specs.Told.{Tells};
+ghost use Rattle.tool_frame.specs.Refusals.{file_at, within};
+ghost use Rattle.tool_frame.specs.steps.Results.{IsShort, held, loaded};
+
+use aidl_base::{Limit, LimitName};
+use aidl_outside::{Store, StoreFault};
+use std::alloc::Global;
+
+/// The file at a path, up to a limit. None where nothing stands there.
+pub fn load<S: Store>(
+    alloc: Global,
+    which: LimitName,
+    path: &str,
+    store: &mut S,
+) -> Result<Option<Result<Vec<u8>, Limit>>, StoreFault>
+    ensures file { IfOk result (λ file. Tells (S.kept store.old) (λ files. loaded file ≡ file_at which files path.now)) }
+    ensures short { IfOk result (IsShort which) }
+    ensures unchanged { S.kept store.new ≡ S.kept store.old }
+    ensures cause { StoreCause (S.count store.old) (S.count store.new) result }
+{
+    match store.read(alloc, path, which.number() as usize) {
+        Ok(file) => Ok(file_held(which, file)),
+        Err(fault) => Err(fault),
+    }
+}
+
+fn file_held(which: LimitName, file: Option<Vec<u8>>) -> Option<Result<Vec<u8>, Limit>>
+    ensures file { loaded result ≡ option_map (λ bytes. within which bytes.items) file }
+    ensures short { IsShort which result }
+{
+    match file {
+        Some(bytes) => Some(held(which, bytes)),
+        None => None,
+    }
+}
+
+/// Bytes, where they don't pass a limit.
+pub fn held(which: LimitName, bytes: Vec<u8>) -> Result<Vec<u8>, Limit>
+    ensures bytes { held result ≡ within which bytes.items }
+    ensures short { IfOk result (λ held. length held.items ≤ limit_number which) }
+{
+    if bytes.len() > which.number() as usize {
+        return Err(Limit { which });
+    }
+    Ok(bytes)
+}

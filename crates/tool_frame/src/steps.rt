@@ -1,0 +1,53 @@
+ghost use Rattle.std.specs.Prelude.{◌≡◌, map};
+ghost use Rattle.tool_frame.specs.Refusals as step;
+ghost use Rattle.tool_frame.specs.Trees.{file_seen, tree_seen};
+ghost use Rattle.tool_frame.specs.steps.Results.{Finds, held, loaded};
+
+use crate::loading::held;
+use crate::printed::{Early, limit_passed, refusal};
+use aidl_base::{Limit, LimitName, Row, SourceFile};
+use std::alloc::Global;
+
+/// A file that is there.
+pub fn there(
+    alloc: Global,
+    path: &str,
+    file: Option<Result<Vec<u8>, Limit>>,
+) -> Result<Result<Vec<u8>, Limit>, Early>
+    ensures { Finds held result (step.there path.now (loaded file)) }
+{
+    match file {
+        Some(found) => Ok(found),
+        None => Err(refusal(alloc, "no file ", path)),
+    }
+}
+
+/// A text that was held.
+pub fn text_of(alloc: Global, found: Result<Vec<u8>, Limit>) -> Result<Vec<u8>, Early>
+    ensures { Finds (λ v. v.items) result (held found) }
+{
+    match found {
+        Ok(text) => Ok(text),
+        Err(limit) => Err(limit_passed(alloc, limit)),
+    }
+}
+
+/// Bytes that don't pass a limit.
+pub fn within(alloc: Global, which: LimitName, bytes: Vec<u8>) -> Result<Vec<u8>, Early>
+    ensures { Finds (λ v. v.items) result (step.within which bytes.items) }
+{
+    text_of(alloc, held(which, bytes))
+}
+
+/// The files of a tree that was loaded.
+pub fn files_of(
+    alloc: Global,
+    tree: Result<Row<SourceFile>, Limit>,
+) -> Result<Row<SourceFile>, Early>
+    ensures { Finds (λ files. map file_seen files) result (tree_seen tree) }
+{
+    match tree {
+        Ok(files) => Ok(files),
+        Err(limit) => Err(limit_passed(alloc, limit)),
+    }
+}

@@ -1,0 +1,160 @@
+ghost use Rattle.std.specs.Prelude.{◌≡◌, ◌++◌, ◌∷◌, [], IfOk, OnOk, map, string_bytes};
+ghost use Rattle.std.specs.List.{filter};
+ghost use Rattle.aidl_base.specs.declared.limit.LimitName.TheVariants.{FileBytes};
+ghost use Rattle.aidl_outside.specs.Causes.{StoreCause};
+ghost use Rattle.aidl_outside.specs.Told.{Tells};
+ghost use Rattle.tool_frame.specs.Refusals.{file_at};
+ghost use Rattle.tool_frame.specs.Trees.{AreShort, file_found, file_seen, files_at, is_source, path_below, sources_below, tree_at, tree_seen};
+ghost use Rattle.tool_frame.specs.steps.Results.{IsShort, loaded};
+ghost use Rattle.tool_frame.specs.steps.Trees.{onto, so_far};
+
+use crate::loading::load;
+use aidl_base::{Limit, LimitName, OutOfMemory, Row, SourceFile, Text};
+use aidl_outside::{Store, StoreFault};
+use std::alloc::Global;
+
+/// The files below a root that end in `.aidl`, sorted by the bytes of their paths, which are relative to the root.
+/// Refused are more than 4,096 of them, before any is read, and else the first of more than 262,144 bytes. A root
+/// with none below it is the empty tree.
+pub fn load_tree<S: Store>(
+    alloc: Global,
+    root: &str,
+    store: &mut S,
+) -> Result<Result<Row<SourceFile>, Limit>, StoreFault>
+    ensures tree { IfOk result (λ tree. Tells (S.kept store.old) (λ files. tree_seen tree ≡ tree_at files root.now)) }
+    ensures short { IfOk result (λ tree. IfOk tree AreShort) }
+    ensures unchanged { S.kept store.new ≡ S.kept store.old }
+    ensures cause { StoreCause (S.count store.old) (S.count store.new) result }
+{
+    let paths = source_paths(alloc, root, store)?;
+    let which = LimitName::Files;
+    if paths.len() > which.number() as usize {
+        return Ok(Err(Limit { which }));
+    }
+    load_files(alloc, root, paths, store)
+}
+
+// The paths of the sources below a root.
+fn source_paths<S: Store>(
+    alloc: Global,
+    root: &str,
+    store: &mut S,
+) -> Result<Vec<String>, StoreFault>
+    ensures paths { IfOk result (λ paths. Tells (S.kept store.old) (λ files. map string_bytes paths.items ≡ sources_below root.now files)) }
+    ensures unchanged { S.kept store.new ≡ S.kept store.old }
+    ensures cause { StoreCause (S.count store.old) (S.count store.new) result }
+{
+    let paths = store.list(alloc, root)?;
+    Ok(sources(paths))
+}
+
+// The paths of sources among some paths.
+fn sources(paths: Vec<String>) -> Vec<String>
+    ensures { map string_bytes result.items ≡ filter is_source (map string_bytes paths.items) }
+{
+    let mut sources = paths;
+    sources.retain(|path| is_source(path.as_str()));
+    sources
+}
+
+fn is_source(path: &str) -> bool
+    ensures { result ≡ is_source path.now }
+{
+    path.as_bytes().ends_with(b".aidl")
+}
+
+// The files at some paths below a root, up to the first that is too long.
+fn load_files<S: Store>(
+    alloc: Global,
+    root: &str,
+    paths: Vec<String>,
+    store: &mut S,
+) -> Result<Result<Row<SourceFile>, Limit>, StoreFault>
+    ensures tree { IfOk result (λ tree. Tells (S.kept store.old) (λ files. tree_seen tree ≡ files_at files root.now (map string_bytes paths.items))) }
+    ensures short { IfOk result (λ tree. IfOk tree AreShort) }
+    ensures unchanged { S.kept store.new ≡ S.kept store.old }
+    ensures cause { StoreCause (S.count store.old) (S.count store.new) result }
+{
+    let mut files = Row::new(alloc);
+    for path in paths {
+        if let Err(limit) = load_next(alloc, root, path, &mut files, store)? {
+            return Ok(Err(limit));
+        }
+    }
+    Ok(Ok(files))
+}
+
+// Adds the file at a path below a root to those before it.
+fn load_next<S: Store>(
+    alloc: Global,
+    root: &str,
+    path: String,
+    files: &mut Row<SourceFile>,
+    store: &mut S,
+) -> Result<Result<(), Limit>, StoreFault>
+    ensures file { IfOk result (λ step. Tells (S.kept store.old) (λ kept. onto files.old (file_found (string_bytes path) (file_at FileBytes kept (path_below root.now (string_bytes path)))) ≡ so_far files.new step)) }
+    ensures short { AreShort files.old → AreShort files.new }
+    ensures unchanged { S.kept store.new ≡ S.kept store.old }
+    ensures cause { StoreCause (S.count store.old) (S.count store.new) result }
+{
+    let file = load_below(alloc, root, path.as_str(), store)?;
+    match push_loaded(files, path, file) {
+        Ok(step) => Ok(step),
+        Err(_) => Err(StoreFault::OutOfMemory),
+    }
+}
+
+// The file at a path below a root, where one stands there.
+fn load_below<S: Store>(
+    alloc: Global,
+    root: &str,
+    path: &str,
+    store: &mut S,
+) -> Result<Option<Result<Vec<u8>, Limit>>, StoreFault>
+    ensures file { IfOk result (λ file. Tells (S.kept store.old) (λ files. loaded file ≡ file_at FileBytes files (path_below root.now path.now))) }
+    ensures short { IfOk result (IsShort FileBytes) }
+    ensures unchanged { S.kept store.new ≡ S.kept store.old }
+    ensures cause { StoreCause (S.count store.old) (S.count store.new) result }
+{
+    match path_below(alloc, root, path) {
+        Ok(whole) => load(alloc, LimitName::FileBytes, whole.as_str(), store),
+        Err(_) => Err(StoreFault::OutOfMemory),
+    }
+}
+
+fn path_below(alloc: Global, folder: &str, path: &str) -> Result<String, OutOfMemory>
+    ensures { IfOk result (λ whole. string_bytes whole ≡ path_below folder.now path.now) }
+{
+    let mut whole = String::from_str(alloc, folder)?;
+    whole.push_str("/")?;
+    whole.push_str(path)?;
+    Ok(whole)
+}
+
+// Adds a file that was loaded, where one stood at its path, and it wasn't too long.
+fn push_loaded(
+    files: &mut Row<SourceFile>,
+    path: String,
+    file: Option<Result<Vec<u8>, Limit>>,
+) -> Result<Result<(), Limit>, OutOfMemory>
+    ensures file { IfOk result (λ step. onto files.old (file_found (string_bytes path) (loaded file)) ≡ so_far files.new step) }
+    ensures short { IsShort FileBytes file → AreShort files.old → AreShort files.new }
+{
+    match file {
+        None => Ok(Ok(())),
+        Some(Err(limit)) => Ok(Err(limit)),
+        Some(Ok(bytes)) => {
+            files.push(source_file(path, bytes))?;
+            Ok(Ok(()))
+        }
+    }
+}
+
+fn source_file(path: String, bytes: Vec<u8>) -> SourceFile
+    ensures { file_seen result ≡ record { path = string_bytes path; bytes = bytes.items } }
+{
+    SourceFile {
+        path: Text::from_string(path),
+        bytes: Row::from_vec(bytes),
+    }
+}

@@ -1,0 +1,4 @@
+pub mod Short
+pub mod Adding
+pub mod Results
+pub mod OneAnswer
