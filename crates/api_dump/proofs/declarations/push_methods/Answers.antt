@@ -1,0 +1,10 @@
+use Rattle.std.proofs.Common.{arith, ◌++◌}
+use Rattle.api_dump.proofs.Texts.{added, next_line}
+use Rattle.api_dump.specs.Declarations.{indent}
+use Rattle.api_dump.specs.Lines.{method}
+use Rattle.api_dump.proofs.declarations.push_methods.Goals as goal
+
+pub loop-each-preserved : goal.loop-each-preserved
+loop-each-preserved c =
+    next_line (λ x. indent c.args.depth ++ method c.args.decls.now x) c.args.methods.now c.loop-each.each-index c.each-item.result _ _ _ (omega arith) c.each-item.is
+    (added _ (indent c.args.depth) (method c.args.decls.now c.each-item.result) c.in_ok-push_indent.ensures c.in_ok-push_method.ensures) c.loop-each.invariant

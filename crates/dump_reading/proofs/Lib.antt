@@ -1,0 +1,15 @@
+pub mod Plain
+pub mod Spelled
+pub mod Laid
+pub mod Texts
+pub mod Fits
+pub mod FitsValues
+pub mod FitsLines
+pub mod FitsDeclarations
+pub mod Files
+pub mod Made
+pub mod Parts
+pub mod TreesValues
+pub mod TreesLines
+pub mod TreesDeclarations
+pub mod Paths

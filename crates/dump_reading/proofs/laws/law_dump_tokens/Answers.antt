@@ -1,0 +1,17 @@
+use Rattle.std.proofs.Common.{subst, sym, ap, ◌∙◌}
+use Rattle.aidl_syntax.specs.Tokens.{Tokens}
+use Rattle.api_dump.specs.Dump.{file_pieces}
+use Rattle.dump_reading.proofs.Plain.{tokens_at}
+use Rattle.dump_reading.proofs.Laid.{cut_laid}
+use Rattle.dump_reading.proofs.Texts.{text_plain}
+use Rattle.dump_reading.proofs.FitsDeclarations.{file_laid}
+use Rattle.dump_reading.proofs.Files.{IsFileOf, all_at, all_files}
+use Rattle.dump_reading.proofs.laws.law_dump_tokens.Goals as goal
+
+pub returns : goal.returns
+returns c = λ i f e.
+    let S = c.args.schema.now.decls in
+    let of = all_at (IsFileOf S) _ (all_files S) i f e in
+    let x = of.0 in let ps = file_pieces S x in
+    let laid_so = file_laid S c.law_valid.ensures.declarations x.0 x.1 of.1.0 in
+    (x, of.1, of.2, (tokens_at 0 ps, subst (λ bs. Tokens bs (tokens_at 0 ps)) (sym (ap (λ g. g.1) of.2 ∙ text_plain ps laid_so)) (cut_laid 0 ps laid_so)))

@@ -1,0 +1,32 @@
+ghost use Rattle.std.specs.Prelude.{map};
+ghost use Rattle.std.specs.Cmp.Lexicographic.{slice_cmp};
+ghost use Rattle.std.specs.List.Sorted.{IsStrictlySortedBy};
+ghost use Rattle.std.specs.Ordering.{nat_cmp};
+ghost use Rattle.api_dump.specs.Dump.{dump_text};
+ghost use Rattle.dump_reading.specs.Reading.{HasEachFile, HaveTokens, HaveTrees};
+
+use aidl_schema::{Schema, law_valid};
+
+/// The paths of a canonical dump ascend by their bytes, so no two files have one path, and each declaration of the schema that
+/// stands in no other has its file.
+pub fn law_dump_files(schema: &Schema)
+    ensures sorted { IsStrictlySortedBy (slice_cmp nat_cmp) (map (λ f. f.0) (dump_text schema.now.decls)) }
+    ensures whole { HasEachFile schema.now.decls }
+{
+    law_valid(schema);
+}
+
+/// Each file of the canonical dump of a schema has tokens.
+pub fn law_dump_tokens(schema: &Schema)
+    ensures { HaveTokens schema.now.decls }
+{
+    law_valid(schema);
+}
+
+/// The tokens of each file of the canonical dump of a schema stand for a tree: but for its offsets it is that of the file's
+/// declaration (`file_tree`).
+pub fn law_dump_tree(schema: &Schema)
+    ensures { HaveTrees schema.now.decls }
+{
+    law_valid(schema);
+}

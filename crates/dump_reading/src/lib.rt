@@ -1,0 +1,6 @@
+//! The canonical dump reads back.
+#![tactic(auto)]
+
+mod laws;
+
+pub use laws::{law_dump_files, law_dump_tokens, law_dump_tree};
