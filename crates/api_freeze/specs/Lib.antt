@@ -1,0 +1,3 @@
+pub mod Freeze
+pub mod Rehash
+pub mod steps

@@ -1,0 +1,146 @@
+ghost use Rattle.std.specs.Prelude.{◌≡◌, ◌-◌, length, map, take, Some, IfErr, IfOk};
+ghost use Rattle.aidl_outside.specs.Told.{Tells};
+ghost use Rattle.api_freeze.specs.Freeze.{Freezes, FreezesAt, IsRead, hash_digits, version_writes};
+ghost use Rattle.api_freeze.specs.Freeze as meant;
+ghost use Rattle.api_versions.specs.Causes.{Cause};
+ghost use Rattle.api_versions.specs.Versions.{versions_at};
+ghost use Rattle.api_versions.specs.Writes.{Left};
+ghost use Rattle.api_versions.specs.steps.Early.{IsLate};
+ghost use Rattle.api_versions.specs.steps.Seen.{write_seen};
+
+use crate::following::{Next, prepare};
+use aidl_base::{OutOfMemory, Row, SourceFile, Text};
+use aidl_outside::Store;
+use aidl_schema::Schema;
+use api_hash::{Recipe, hash_text};
+use api_versions::{
+    FreezeFault, Version, Write, hash_path, path_below, text_of, version_folder, versions,
+    write_all,
+};
+use std::alloc::Global;
+
+/// A version that was frozen: its number, and the 40 digits of its `.hash`.
+#[derive(Debug, Drop)]
+pub struct Frozen {
+    pub version: u32,
+    pub hash: Text,
+}
+
+/// Writes the dump of a schema as the next version of an API (own): the files in path order, then `.hash`, by the second recipe for the
+/// new number. It refuses as `versions` does; then `Torn` for the least version that isn't whole; what the check answers for the latest
+/// version's files, a limit as `Limit` and any other fault as `Unreadable`; `Unchanged`; `Incompatible`; the limit `versions` for a new
+/// number 10,000; and the limit that the check answers for the dump. All these come before any write, and leave the store as it was.
+pub fn freeze<S: Store>(
+    alloc: Global,
+    schema: &Schema,
+    store: &mut S,
+    api: &str,
+) -> Result<Frozen, FreezeFault>
+    ensures told { Tells (S.kept store.old) (λ files. FreezesAt api.now (versions_at files api.now) schema.now.decls (Some files) (S.kept store.new) result) }
+    ensures read { IfErr result IsRead }
+    ensures cause { Cause (S.count store.old) (S.count store.new) result }
+{
+    match versions(alloc, store, api) {
+        Ok(versions) => freeze_next(alloc, schema, store, api, versions),
+        Err(fault) => Err(fault),
+    }
+}
+
+// The same for versions that are read.
+fn freeze_next<S: Store>(
+    alloc: Global,
+    schema: &Schema,
+    store: &mut S,
+    api: &str,
+    versions: Row<Version>,
+) -> Result<Frozen, FreezeFault>
+    ensures answer { Freezes api.now versions schema.now.decls (S.kept store.old) (S.kept store.new) result }
+    ensures read { IfErr result IsRead }
+    ensures cause { Cause (S.count store.old) (S.count store.new) result }
+{
+    match prepare(alloc, schema, versions) {
+        Ok(next) => write_next(alloc, api, next, store),
+        Err(fault) => Err(fault),
+    }
+}
+
+// Writes the next version.
+fn write_next<S: Store>(
+    alloc: Global,
+    api: &str,
+    next: Next,
+    store: &mut S,
+) -> Result<Frozen, FreezeFault>
+    ensures version { IfOk result (λ frozen. frozen.version ≡ next.number) }
+    ensures hash { IfOk result (λ frozen. frozen.hash ≡ hash_digits next.files next.number) }
+    ensures late { IfErr result IsLate }
+    ensures wrote { Left (version_writes api.now next.number next.files) (S.kept store.old) (S.kept store.new) result }
+    ensures cause { Cause (S.count store.old) (S.count store.new) result }
+{
+    let Ok(due) = due_of(alloc, api, next) else {
+        return Err(FreezeFault::OutOfMemory);
+    };
+    match write_all(alloc, due.writes.as_slice(), store) {
+        Ok(()) => Ok(due.frozen),
+        Err(fault) => Err(fault),
+    }
+}
+
+// What is to be answered, and the writes before it.
+#[derive(Debug, Drop)]
+struct Due {
+    frozen: Frozen,
+    writes: Vec<Write>,
+}
+
+fn due_of(alloc: Global, api: &str, next: Next) -> Result<Due, OutOfMemory>
+    ensures version { IfOk result (λ due. due.frozen.version ≡ next.number) }
+    ensures hash { IfOk result (λ due. due.frozen.hash ≡ hash_digits next.files next.number) }
+    ensures writes { IfOk result (λ due. map write_seen due.writes.items ≡ version_writes api.now next.number next.files) }
+{
+    let version = next.number;
+    let text = hash_text(alloc, next.files.as_slice(), Recipe::Two(version))?;
+    let hash = text_of(alloc, without_last(text.as_slice()))?;
+    let folder = version_folder(alloc, api, version)?;
+    let mut writes = file_writes(alloc, folder.as_str(), next.files)?;
+    writes.push(Write {
+        path: hash_path(alloc, api, version)?,
+        bytes: Row::from_vec(text),
+    })?;
+    Ok(Due {
+        frozen: Frozen { version, hash },
+        writes,
+    })
+}
+
+// A text without its last byte.
+fn without_last(text: &[u8]) -> &[u8]
+    ensures { result.now ≡ take (length text.now - 1) text.now }
+{
+    &text[..text.len().saturating_sub(1)]
+}
+
+// The writes of some files below a folder.
+fn file_writes(
+    alloc: Global,
+    folder: &str,
+    files: Row<SourceFile>,
+) -> Result<Vec<Write>, OutOfMemory>
+    ensures { IfOk result (λ writes. map write_seen writes.items ≡ map (meant.file_write folder.now) files) }
+{
+    let mut writes = Vec::new(alloc);
+    for file in files.into_vec() {
+        writes.push(file_write(alloc, folder, file)?)?;
+    }
+    Ok(writes)
+}
+
+fn file_write(alloc: Global, folder: &str, file: SourceFile) -> Result<Write, OutOfMemory>
+    ensures { IfOk result (λ write. write_seen write ≡ meant.file_write folder.now file) }
+{
+    let path = path_below(alloc, folder, file.path.as_str())?;
+    Ok(Write {
+        path,
+        bytes: file.bytes,
+    })
+}

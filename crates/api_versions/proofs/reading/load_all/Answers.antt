@@ -1,0 +1,23 @@
+use Rattle.std.proofs.Common.{◌≡◌, true, length, map, subst, ◌∙◌, sym, ap}
+use Rattle.std.specs.List.{list_all}
+use Rattle.aidl_outside.specs.Files.{is_ascending}
+use Rattle.api_versions.specs.Folders.{Folder}
+use Rattle.api_versions.specs.Versions.{are_ascending, complete, missing}
+use Rattle.api_versions.specs.steps.Seen.{folder_seen}
+use Rattle.api_versions.proofs.Ascending.{complete_keeps, present_all}
+use Rattle.api_versions.proofs.Gathered.{numbered_versions}
+use Rattle.api_versions.proofs.reading.load_all.Goals as goal
+
+pub returns-clause-numbered : goal.returns-clause-numbered
+returns-clause-numbered g c = λ numbers.
+    let fs = map folder_seen c.args.folders.items in
+    let is_missing : c.missing-missing.result ≡ missing fs = c.missing-missing.ensures ∙ ap (λ s. missing (map folder_seen s)) c.as_slice.ensures.value in
+    numbered_versions fs c.in_ok-versions.versions (length c.args.folders.items) c.complete.result
+    (c.complete.ensures ∙ ap (λ m. complete m c.in_ok-versions.versions) is_missing)
+    (c.in_ok-versions.ensures.numbers ∙ ap (map (λ (f : Folder). f.number)) c.present.ensures) numbers
+
+pub returns-clause-ascending : goal.returns-clause-ascending
+returns-clause-ascending g c = λ all.
+    let p = λ (f : Folder). is_ascending f.sources in
+    complete_keeps (λ vs. are_ascending vs ≡ true) c.missing-missing.result c.in_ok-versions.versions c.complete.result c.complete.ensures
+    (c.in_ok-versions.ensures.ascending (subst (λ fs. list_all p fs ≡ true) (sym c.present.ensures) (present_all p (map folder_seen c.args.folders.items) all)))

@@ -1,0 +1,26 @@
+use Rattle.std.proofs.Common.{◌≡◌, ◌∙◌, Ok, ap, sym, subst, map, string_bytes}
+use Rattle.std.proofs.lemmas.Str.{encodes-chars, IsUtf8-string_bytes}
+use Rattle.aidl_outside.specs.Told.{Tells}
+use Rattle.api_versions.specs.Versions.{file_at, path_below}
+use Rattle.api_versions.proofs.Collected.{source_more, sources_done, ascending_more}
+use Rattle.api_versions.proofs.sources.load_sources.Goals as goal
+
+pub loop-path-preserved : goal.loop-path-preserved
+loop-path-preserved g c =
+    let kept = g.S.Store.kept in
+    let path = string_bytes c.in-Some.path in
+    let first = ap (map string_bytes) c.in-Some.ensures.steps.0 in
+    let loaded = c.in_ok-file.ensures in
+    let told = subst (λ p. Tells (kept c.loop-path.store) (λ files. file_at files (path_below c.args.folder.now p) ≡ Ok c.in_ok-file.file)) c.as_str.ensures.value loaded.told in
+    record {
+      all = source_more c.args.folder.now (kept c.loop-path.store) (kept c.args.store.now) path _ _ _ c.loop-path.files c.push_source.new.files c.in_ok-file.file
+          c.loop-path.invariant.unchanged first c.in_ok-push_source.ensures told c.loop-path.invariant.all;
+      ascending = λ h. ascending_more c.loop-path.files c.push_source.new.files path c.in_ok-file.file _ _ (encodes-chars path (IsUtf8-string_bytes c.in-Some.path)) first c.in_ok-push_source.ensures (c.loop-path.invariant.ascending h);
+      unchanged = loaded.unchanged ∙ c.loop-path.invariant.unchanged;
+      cause = loaded.cause ∙ c.loop-path.invariant.cause;
+    }
+
+pub returns-clause-told : goal.returns-clause-told
+returns-clause-told g c =
+    sources_done c.args.folder.now (g.S.Store.kept c.args.store.now) _ (map string_bytes c.args.paths.items) c.loop-path.files
+    (sym c.loop-path.path-iterator.rest.ok.0 ∙ c.in-None.ensures.steps.0) c.loop-path.invariant.all

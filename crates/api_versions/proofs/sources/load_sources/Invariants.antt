@@ -1,0 +1,16 @@
+use Rattle.std.proofs.Common.{◌≡◌, ◌++◌, true, map, string_bytes}
+use Rattle.aidl_outside.specs.Entries.{path_of}
+use Rattle.aidl_outside.specs.Files.{is_ascending}
+use Rattle.aidl_outside.specs.Told.{Tells}
+use Rattle.api_versions.specs.Versions.{sources_at}
+use Rattle.api_versions.specs.steps.Onto.{onto}
+use Rattle.api_versions.proofs.sources.load_sources.Given as goal
+
+-- the files so far, and then those at the paths that are left, are all, and in order; and no call of the store failed
+abbrev pub invariant-loop-path : goal.invariant-loop-path
+invariant-loop-path g l = record {
+  all : Tells (g.S.Store.kept l.fn.store) (λ files. onto l.files (sources_at files l.folder (map string_bytes l.path-iterator.rest.items)) ≡ sources_at files l.folder (map string_bytes l.fn.paths.items));
+  ascending : is_ascending (map string_bytes l.fn.paths.items) ≡ true → is_ascending (map path_of l.files ++ map string_bytes l.path-iterator.rest.items) ≡ true;
+  unchanged : g.S.Store.kept l.store ≡ g.S.Store.kept l.fn.store;
+  cause : g.S.Store.count l.store ≡ g.S.Store.count l.fn.store;
+}

@@ -1,0 +1,42 @@
+-- What was written: the writes that are meant, all, some first ones, or those before one that failed (own).
+use Rattle.std.specs.Prelude.{◌≡◌, List, [], ◌∷◌, ◌++◌, ℕ, Option, Some, None, Result, Ok, Err}
+use Rattle.std.specs.FinMap.{insert}
+use Rattle.aidl_outside.specs.Files.{Files}
+use Rattle.aidl_outside.specs.Writes.{ChangesOnly}
+use Rattle.api_versions.specs.declared.fault.FreezeFault.{FreezeFault}
+use Rattle.api_versions.specs.declared.fault.FreezeFault.TheVariants as fault
+
+pub record Write : Type 0 where
+  pub path : List ℕ
+  pub bytes : List ℕ
+
+-- the files after some writes
+abbrev pub written : List Write → Files → Files
+written [] files = files
+written (w ∷ ws) files = written ws (insert files w.path w.bytes)
+
+-- these writes were made
+abbrev pub Wrote : List Write → Option Files → Option Files → Type 0
+Wrote ws None now = now ≡ None
+Wrote ws (Some files) now = now ≡ Some (written ws files)
+
+-- the first of them were made
+abbrev pub WroteSome : List Write → Option Files → Option Files → Type 0
+WroteSome ws before now = (made rest : List Write) × (ws ≡ made ++ rest) × Wrote made before now
+
+-- the first of them were made, and then at most the path of the next one was changed
+abbrev pub FailedAt : List Write → Option Files → Option Files → Type 0
+FailedAt ws before now = (made rest : List Write) × (w : Write) × (middle : Option Files) × (ws ≡ made ++ w ∷ rest) × Wrote made before middle × ChangesOnly middle now w.path
+
+-- by what was answered: after a want of memory the first ones were made, and after every refusal that comes before the writes none
+abbrev pub Left : {A : Type 0} → List Write → Option Files → Option Files → Result A FreezeFault → Type 0
+Left ws before now (Ok x) = Wrote ws before now
+Left ws before now (Err (fault.BadVersions missing)) = now ≡ before
+Left ws before now (Err (fault.Torn version kept text)) = now ≡ before
+Left ws before now (Err (fault.Unchanged version)) = now ≡ before
+Left ws before now (Err (fault.Unreadable version files cause)) = now ≡ before
+Left ws before now (Err (fault.Incompatible rows)) = now ≡ before
+Left ws before now (Err (fault.Limit limit)) = now ≡ before
+Left ws before now (Err fault.ReadFault) = now ≡ before
+Left ws before now (Err fault.WriteFault) = FailedAt ws before now
+Left ws before now (Err fault.OutOfMemory) = WroteSome ws before now

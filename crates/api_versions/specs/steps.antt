@@ -1,0 +1,4 @@
+pub mod Adding
+pub mod Early
+pub mod Onto
+pub mod Seen

@@ -1,0 +1,80 @@
+ghost use Rattle.std.specs.Prelude.{◌≡◌, IfErr, IfOk};
+ghost use Rattle.api_versions.specs.Answers.{Gives};
+ghost use Rattle.api_versions.specs.Whole as meant;
+ghost use Rattle.api_versions.specs.steps.Early.{IsEarly};
+
+use crate::fault::FreezeFault;
+use crate::text::text_of;
+use crate::version::Version;
+use aidl_base::{OutOfMemory, Row};
+use api_hash::{Recipe, hash_text};
+use std::alloc::Global;
+
+/// The text that a version's `.hash` is to have, by the second recipe: 40 digits and a newline.
+pub fn defined_text(alloc: Global, version: &Version) -> Result<Vec<u8>, OutOfMemory>
+    ensures { IfOk result (λ text. text.items ≡ meant.defined version.now) }
+{
+    hash_text(alloc, version.files.as_slice(), Recipe::Two(version.number))
+}
+
+/// Whether a version is whole: its `.hash` has the text of either recipe.
+pub fn is_whole(alloc: Global, version: &Version) -> Result<bool, OutOfMemory>
+    ensures { IfOk result (λ yes. yes ≡ meant.is_whole version.now) }
+{
+    let first = hash_text(alloc, version.files.as_slice(), Recipe::One)?;
+    if is_kept(&version.kept, first.as_slice()) {
+        return Ok(true);
+    }
+    is_current(alloc, version)
+}
+
+/// Whether a version's `.hash` has the text of the second recipe.
+pub fn is_current(alloc: Global, version: &Version) -> Result<bool, OutOfMemory>
+    ensures { IfOk result (λ yes. yes ≡ meant.is_current version.now) }
+{
+    let second = defined_text(alloc, version)?;
+    Ok(is_kept(&version.kept, second.as_slice()))
+}
+
+fn is_kept(kept: &Option<Row<u8>>, text: &[u8]) -> bool
+    ensures { result ≡ meant.is_kept kept.now text.now }
+{
+    match kept {
+        Some(kept) => kept.as_slice() == text,
+        None => false,
+    }
+}
+
+/// Nothing, where each version is whole; else `Torn` for the least that isn't.
+pub fn all_whole(alloc: Global, versions: &[Version]) -> Result<(), FreezeFault>
+    ensures defined { Gives (meant.all_whole versions.now) result }
+    ensures early { IfErr result IsEarly }
+{
+    for version in versions {
+        if !is_whole(alloc, version)? {
+            return Err(torn(alloc, version)?);
+        }
+    }
+    Ok(())
+}
+
+// The refusal of a version that isn't whole.
+fn torn(alloc: Global, version: &Version) -> Result<FreezeFault, OutOfMemory>
+    ensures { IfOk result (λ fault. fault ≡ meant.torn version.now) }
+{
+    let defined = defined_text(alloc, version)?;
+    Ok(FreezeFault::Torn {
+        version: version.number,
+        kept: copy_of(alloc, &version.kept)?,
+        defined: text_of(alloc, defined.as_slice())?,
+    })
+}
+
+fn copy_of(alloc: Global, kept: &Option<Row<u8>>) -> Result<Option<Row<u8>>, OutOfMemory>
+    ensures { IfOk result (λ copy. copy ≡ kept.now) }
+{
+    match kept {
+        Some(bytes) => Ok(Some(Row::from_vec(Vec::from_slice(alloc, bytes.as_slice())?))),
+        None => Ok(None),
+    }
+}
