@@ -1,0 +1,11 @@
+mod Reading
+mod Counts
+mod Names
+mod Planned
+mod Outs
+mod Parts
+mod Repeats
+mod Sums
+mod Openeds
+mod Places
+mod Unread

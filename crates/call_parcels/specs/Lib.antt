@@ -1,0 +1,5 @@
+pub mod Got
+pub mod Planned
+pub mod Receipts
+pub mod Sent
+pub mod steps

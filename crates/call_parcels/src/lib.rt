@@ -1,0 +1,19 @@
+//! Calls as bytes: the request of a call, what a stub makes of a request, the reply of an answer, and what a client makes of a reply.
+#![tactic(auto)]
+
+mod arguments;
+mod call;
+mod fronts;
+mod openings;
+mod receiving;
+mod replies;
+mod requests;
+mod sending;
+mod token;
+mod values;
+
+pub use parcel_write::WriteFault;
+pub use receiving::{Receipt, receive};
+pub use replies::{Got, reply};
+pub use requests::request;
+pub use sending::{answer_reply, unread_reply};

@@ -1,0 +1,3 @@
+pub mod Answers
+pub mod Handlers
+pub mod Services
