@@ -1,0 +1,7 @@
+pub mod Answers
+pub mod Arguments
+pub mod Fits
+pub mod Gives
+pub mod Keys
+pub mod Refusal
+pub mod steps

@@ -1,0 +1,107 @@
+ghost use Rattle.std.specs.Prelude.{◌≡◌, [], ◌∷◌, ◌++◌, IfOk, OnOk, option_map, string_bytes};
+ghost use Rattle.std.specs.Str.{encode_utf8_all};
+ghost use Rattle.json_values.specs.Refusal.{escaped, escaped_character};
+ghost use Rattle.std.specs.List.{list_any};
+ghost use Rattle.aidl_schema.specs.Same.{same_text};
+ghost use Rattle.aidl_values.specs.Fits.{Fits};
+ghost use Rattle.aidl_values.specs.View.{view};
+ghost use Rattle.json_values.specs.FromJson.{from_json_of};
+ghost use Rattle.serde_json.specs.Find.{get_member};
+ghost use Rattle.serde_json.specs.View.{view as json_view, members_view};
+ghost use Rattle.call_answers.specs.Answers.{all_known, unknown_in};
+ghost use Rattle.call_answers.specs.Refusal.{placed};
+ghost use Rattle.call_answers.specs.Gives.{Gives, place_bytes};
+ghost use Rattle.call_answers.specs.Keys.{seen_keys};
+
+use crate::refused::{Fault, Place, RefusedName, below, placed, refusal};
+use aidl_schema::{AidlType, Schema};
+use aidl_values::Value;
+use json_values::from_json;
+use serde_json::{Map, Value as Json};
+use std::alloc::{AllocError, Global};
+
+/// Refuses the least key of an object that isn't known, by `UnknownKey` at the key.
+pub fn check_keys(
+    alloc: Global,
+    known: &[&str],
+    members: &Map<String, Json>,
+    place: Place,
+) -> Result<(), Fault>
+    ensures { Gives (λ _. tt) result (all_known (place_bytes place) (unknown_in (seen_keys known.now) (members_view members.now.entries))) }
+{
+    match unknown_key(known, members) {
+        Some(key) => match escaped_key(alloc, key) {
+            Ok(at) => Err(below(alloc, RefusedName::UnknownKey, place, at.as_str())),
+            Err(_) => Err(Fault::OutOfMemory),
+        },
+        None => Ok(()),
+    }
+}
+
+// A key as the last step of a pointer.
+fn escaped_key(alloc: Global, key: &str) -> Result<String, AllocError>
+    ensures { IfOk result (λ s. string_bytes s ≡ 47 ∷ escaped key.now) }
+{
+    let mut text = String::from_str(alloc, "/")?;
+    for c in key.chars() {
+        push_escaped(&mut text, c)?;
+    }
+    Ok(text)
+}
+
+fn push_escaped(text: &mut String, c: char) -> Result<(), AllocError>
+    ensures { OnOk result (string_bytes text.new ≡ string_bytes text.old ++ encode_utf8_all (escaped_character c)) }
+{
+    match c {
+        '~' => text.push_str("~0"),
+        '/' => text.push_str("~1"),
+        _ => text.push(c),
+    }
+}
+
+// The least key that isn't known.
+fn unknown_key<'a>(known: &[&str], members: &'a Map<String, Json>) -> Option<&'a str>
+    ensures { option_map (λ key. key.now) result ≡ unknown_in (seen_keys known.now) (members_view members.now.entries) }
+{
+    for (key, _) in members.iter() {
+        if !is_known(known, key.as_str()) {
+            return Some(key.as_str());
+        }
+    }
+    None
+}
+
+fn is_known(known: &[&str], key: &str) -> bool
+    ensures { result ≡ list_any (λ k. same_text k key.now) (seen_keys known.now) }
+{
+    for other in known {
+        if *other == key {
+            return true;
+        }
+    }
+    false
+}
+
+/// The value of a key.
+pub fn member_of<'a>(members: &'a Map<String, Json>, name: &str) -> Option<&'a Json>
+    ensures { option_map (λ j. json_view j.now) result ≡ get_member name.now (members_view members.now.entries) }
+{
+    members.get(name)
+}
+
+// The value of a type that stands at a place.
+pub fn value_from(
+    alloc: Global,
+    schema: &Schema,
+    ty: &AidlType,
+    json: &Json,
+    place: Place,
+) -> Result<Value, Fault>
+    ensures gives { Gives view result (placed (place_bytes place) (from_json_of schema.now.decls 64 ty.now (json_view json.now))) }
+    ensures fits { IfOk result (λ v. Fits schema.now.decls ty.now (view v)) }
+{
+    match from_json(alloc, schema, ty, json) {
+        Ok(value) => Ok(value),
+        Err(fault) => Err(placed(alloc, place, fault)),
+    }
+}

@@ -1,0 +1,9 @@
+pub mod Dots
+pub mod Examples
+pub mod Faults
+pub mod JsonTexts
+pub mod Methods
+pub mod Parts
+pub mod Planned
+pub mod SameNames
+pub mod Types

@@ -1,0 +1,11 @@
+//! Lines of a calls file: what each means between a client's schema and a server's, or why it is refused.
+#![tactic(auto)]
+
+mod json;
+mod lengths;
+mod names;
+mod plans;
+mod script;
+
+pub use call_answers::{Refused, RefusedName};
+pub use script::{Call, Script, Target, script_of};
