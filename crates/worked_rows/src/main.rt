@@ -14,7 +14,7 @@ mod tried;
 use aidl_base::OutOfMemory;
 use case::word_of;
 use run::try_run;
-use runs::try_runs;
+use runs::{Cases, try_runs};
 use source_outcomes::{Asked, Kind};
 use sources::try_sources;
 use std::alloc::Global;
@@ -23,7 +23,7 @@ use std::{fs, io};
 use trees::try_trees;
 use tried::Tried;
 
-const FILES: [&str; 10] = [
+const FILES: [&str; 13] = [
     "words.rows",
     "decode.rows",
     "encode.rows",
@@ -34,6 +34,9 @@ const FILES: [&str; 10] = [
     "outcomes.rows",
     "types.rows",
     "places.rows",
+    "check.rows",
+    "trees.rows",
+    "judge.rows",
 ];
 
 fn main(rt: HostRuntime) -> io::Result<()> {
@@ -63,7 +66,8 @@ fn try_block(alloc: Global, block: &str, tried: &mut Tried) -> Result<(), OutOfM
     match word_of(head).0 {
         "" => Ok(()),
         "run" => try_run(alloc, block, tried),
-        "runs" => try_runs(alloc, block, tried),
+        "runs" => try_runs(alloc, Cases::Types, block, tried),
+        "trees" => try_runs(alloc, Cases::Files, block, tried),
         "lex" => try_sources(alloc, Kind::Tokens, block, tried),
         "count" => try_sources(alloc, Kind::Count, block, tried),
         "parse" => try_sources(alloc, Kind::Tree, block, tried),

@@ -70,7 +70,7 @@ impl Run {
         let (what, rest) = word_of(line);
         match what {
             "#" => Ok(true),
-            "run" | "runs" => self.add_words(alloc, rest),
+            "run" | "runs" | "trees" => self.add_words(alloc, rest),
             "word" => self.add_word(alloc, rest),
             "file" => self.add_file(alloc, rest),
             "left" => self.add_left(alloc, rest),

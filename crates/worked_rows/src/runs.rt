@@ -5,13 +5,30 @@ use crate::tried::Tried;
 use aidl_base::OutOfMemory;
 use std::alloc::Global;
 
+/// What stands in front of the arrow of a case.
+#[derive(Clone, Copy)]
+pub enum Cases {
+    /// `TYPES: CONTENT`, the types and the content of the file `f`
+    Types,
+    /// `PATH: TEXT || PATH: TEXT`, the files of the store
+    Files,
+}
+
 /// Tries a block that is a table of runs. Its first lines tell what all have, and each case is
-/// `TYPES: CONTENT => EXIT | LINE | LINE`, where CONTENT is that of the file `f`.
-pub fn try_runs(alloc: Global, block: &str, tried: &mut Tried) -> Result<(), OutOfMemory> {
+/// `SOURCE => EXIT | LINE | LINE`.
+pub fn try_runs(
+    alloc: Global,
+    cases: Cases,
+    block: &str,
+    tried: &mut Tried,
+) -> Result<(), OutOfMemory> {
     for line in block.lines() {
         if let Some((source, wanted)) = case_of(line) {
             let mut run = Run::new(alloc);
-            if add_common(alloc, block, &mut run)? && add_case(alloc, source, wanted, &mut run)? {
+            if add_common(alloc, block, &mut run)?
+                && add_source(alloc, cases, source, &mut run)?
+                && add_wanted(alloc, wanted, &mut run)?
+            {
                 run.try_as(alloc, line, tried)?;
             } else {
                 tried.unread(line)?;
@@ -30,15 +47,40 @@ fn add_common(alloc: Global, block: &str, run: &mut Run) -> Result<bool, OutOfMe
     Ok(is_read)
 }
 
-// Adds what a case tells. Whether it tells something.
-fn add_case(alloc: Global, source: &str, wanted: &str, run: &mut Run) -> Result<bool, OutOfMemory> {
+// Adds what stands in front of the arrow. Whether it tells something.
+fn add_source(
+    alloc: Global,
+    cases: Cases,
+    source: &str,
+    run: &mut Run,
+) -> Result<bool, OutOfMemory> {
+    match cases {
+        Cases::Types => add_types(alloc, source, run),
+        Cases::Files => add_files(alloc, source, run),
+    }
+}
+
+fn add_types(alloc: Global, source: &str, run: &mut Run) -> Result<bool, OutOfMemory> {
     let Some((types, content)) = source.split_once(": ") else {
         return Ok(false);
     };
     run.set_types(alloc, types)?;
     run.add_file(alloc, "f")?;
-    run.add_text(alloc, content, b"")?;
-    add_wanted(alloc, wanted, run)
+    run.add_text(alloc, content, b"")
+}
+
+// Adds files of the store; an empty text has none.
+fn add_files(alloc: Global, source: &str, run: &mut Run) -> Result<bool, OutOfMemory> {
+    let mut is_read = true;
+    for file in source.split(" || ") {
+        if let Some((path, text)) = file.split_once(": ") {
+            run.add_file(alloc, path)?;
+            run.add_text(alloc, text, b"")?;
+        } else {
+            is_read = is_read && source.is_empty();
+        }
+    }
+    Ok(is_read)
 }
 
 // Adds the exit and the printed lines. Whether the exit is one.

@@ -1,0 +1,6 @@
+package home;
+
+parcelable Lamp {
+    int level = 08;
+    String name = "ceiling;
+}

@@ -1,0 +1,9 @@
+package home;
+
+import home.Room;
+
+parcelable Lamp {
+    Colour colour;
+    int level;
+    float level;
+}

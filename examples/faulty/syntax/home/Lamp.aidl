@@ -1,0 +1,6 @@
+package home;
+
+parcelable Lamp {
+    int level = 8
+    String name;
+}

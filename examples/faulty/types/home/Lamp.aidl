@@ -1,0 +1,8 @@
+package home;
+
+@Fixed
+parcelable Lamp {
+    @nullable int level;
+    List<int> levels;
+    Lamp next;
+}

@@ -1,0 +1,8 @@
+package lights;
+
+@VintfStability
+enum LightKind {
+    BACKLIGHT,
+    KEYBOARD,
+    BATTERY,
+}

@@ -1,0 +1,9 @@
+package lights;
+
+@VintfStability
+enum LightKind {
+    BACKLIGHT,
+    KEYBOARD,
+    BATTERY,
+    CAMERA,
+}
