@@ -54,6 +54,7 @@ fn prepare_whole(
 }
 
 // The next version after so many, where its number and its files pass no limit.
+#[tactic(auto, using(crate::proofs::Numbered::unfit_numbered))]
 fn numbered(alloc: Global, count: usize, files: Row<SourceFile>) -> Result<Next, FreezeFault>
     ensures answer { Numbers count files result }
     ensures early { IfErr result IsEarly }
