@@ -4,7 +4,7 @@ use Rattle.aidl_base.specs.declared.limit.LimitName.TheVariants.{TextBytes}
 use Rattle.aidl_base.specs.declared.profile.Profile.{Profile}
 use Rattle.aidl_base.specs.declared.source_file.SourceFile.{SourceFile}
 use Rattle.aidl_outside.specs.Files.{Files}
-use Rattle.tool_words.specs.Command.{Command, decode, encode, check, judge}
+use Rattle.tool_words.specs.Command.{Command, decode, encode, check, judge, verify}
 use Rattle.tool_words.specs.Rows.{command_of}
 use Rattle.parcel_answers.specs.Decode.{profile_of, decode_answer}
 use Rattle.parcel_answers.specs.Encode.{encode_answer}
@@ -16,6 +16,8 @@ use Rattle.tool_frame.specs.Refusals.{file_at, there}
 use Rattle.tool_frame.specs.Trees.{OverTree, tree_at}
 use Rattle.tree_answers.specs.Checked.{IsCheckAnswer}
 use Rattle.tree_answers.specs.Judged.{IsJudgeAnswer}
+use Rattle.api_versions.specs.Versions.{versions_at}
+use Rattle.version_answers.specs.Verified.{IsVerified}
 use Rattle.aidl_tool.specs.InTree.{InTree}
 
 -- of a file that is there: the limits of the tree's files; what refuses the bytes; all else of the tree; and the values
@@ -45,12 +47,17 @@ JudgesSecond old new files olds = OverTree (tree_at files new) (λ news. IsJudge
 abbrev pub JudgeAnswers : List ℕ → List ℕ → Files → Answer → Type 0
 JudgeAnswers old new files = OverTree (tree_at files old) (JudgesSecond old new files)
 
+-- `verify API`
+abbrev pub VerifyAnswers : List ℕ → Files → Answer → Type 0
+VerifyAnswers api files = IsVerified (versions_at files api)
+
 -- the meaning of a command; those that aren't built yet have none
 abbrev pub meaning : Command → Meant
 meaning (decode lenient tree types path) = means (reads_by (DecodeAnswers (profile_of lenient) tree types path))
 meaning (encode tree types path) = means (reads_by (EncodeAnswers tree types path))
 meaning (check tree) = means (reads_by (CheckAnswers tree))
 meaning (judge old new) = means (reads_by (JudgeAnswers old new))
+meaning (verify api) = means (reads_by (VerifyAnswers api))
 meaning _ = unknown
 
 -- the meaning of the command that words are, if any

@@ -6,5 +6,6 @@ mod decoding;
 mod encoding;
 mod judging;
 mod top;
+mod verifying;
 
 pub use top::aidl;

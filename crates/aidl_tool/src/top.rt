@@ -9,6 +9,7 @@ use crate::checking::check;
 use crate::decoding::decode;
 use crate::encoding::encode;
 use crate::judging::judge;
+use crate::verifying::verify;
 use aidl_base::Profile;
 use aidl_outside::{Link, Sink, Store};
 use std::alloc::Global;
@@ -66,6 +67,7 @@ fn run<S: Store, K: Sink, L: Link>(
         }
         Command::Check { tree } => check(alloc, tree, store, sink, link),
         Command::Judge { old, new } => judge(alloc, old, new, store, sink, link),
+        Command::Verify { api } => verify(alloc, api, store, sink, link),
         _ => refuse(alloc, store, sink, link),
     }
 }

@@ -23,7 +23,7 @@ use std::{fs, io};
 use trees::try_trees;
 use tried::Tried;
 
-const FILES: [&str; 13] = [
+const FILES: [&str; 14] = [
     "words.rows",
     "decode.rows",
     "encode.rows",
@@ -37,6 +37,7 @@ const FILES: [&str; 13] = [
     "check.rows",
     "trees.rows",
     "judge.rows",
+    "versions.rows",
 ];
 
 fn main(rt: HostRuntime) -> io::Result<()> {

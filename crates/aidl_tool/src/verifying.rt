@@ -1,0 +1,66 @@
+ghost use Rattle.std.specs.Prelude.{◌≡◌, ℕ, IfOk};
+ghost use Rattle.aidl_outside.specs.Causes.{StoreCause};
+ghost use Rattle.aidl_outside.specs.Told.{Tells};
+ghost use Rattle.aidl_tool.specs.Meant.{VerifyAnswers};
+ghost use Rattle.api_versions.specs.Answers.{ReadFaultCause};
+ghost use Rattle.tool_frame.specs.Ended.{Ended};
+ghost use Rattle.tool_frame.specs.Meaning.{reads_by};
+ghost use Rattle.tool_frame.specs.Seen.{seen_by};
+ghost use Rattle.tool_frame.specs.steps.Results.{GivesOne};
+ghost use Rattle.version_answers.specs.Verified.{IsUnread};
+
+use aidl_outside::{Link, Sink, Store, StoreFault};
+use api_versions::{FreezeFault, versions};
+use std::alloc::Global;
+use tool_frame::{Early, Printed, end, limit_passed};
+use version_answers::{bad_versions, verified};
+
+/// Runs `verify API`. The answer is the exit status.
+pub fn verify<S: Store, K: Sink, L: Link>(
+    alloc: Global,
+    api: &str,
+    store: &mut S,
+    sink: &mut K,
+    link: &L,
+) -> u8
+    ensures { let seen = seen_by S.kept S.count K.told K.count L.log L.is_faithful L.count in
+        Ended (reads_by (VerifyAnswers api.now)) (seen store.old sink.old link.now) (seen store.new sink.new link.now) result }
+{
+    let answered = answered(alloc, api, store);
+    end(alloc, answered, sink)
+}
+
+// What is answered of the store.
+fn answered<S: Store>(
+    alloc: Global,
+    api: &str,
+    store: &mut S,
+) -> Result<Result<Printed, Early>, StoreFault>
+    ensures answer { IfOk result (λ given. Tells (S.kept store.old) (λ files. GivesOne given (VerifyAnswers api.now files))) }
+    ensures unchanged { S.kept store.new ≡ S.kept store.old }
+    ensures cause { StoreCause (S.count store.old) (S.count store.new) result }
+{
+    match versions(alloc, store, api) {
+        Ok(versions) => Ok(verified(alloc, versions.as_slice())),
+        Err(fault) => unread(alloc, fault),
+    }
+}
+
+// What is answered where the versions aren't read.
+fn unread(alloc: Global, fault: FreezeFault) -> Result<Result<Printed, Early>, StoreFault>
+    requires { (before : ℕ) × (now : ℕ) × ReadFaultCause before now fault }
+    ensures given { IfOk result (λ given. GivesOne given (IsUnread fault)) }
+    ensures cause { (before now : ℕ) → ReadFaultCause before now fault → StoreCause before now result }
+{
+    match fault {
+        FreezeFault::BadVersions { missing } => Ok(Err(bad_versions(alloc, missing))),
+        FreezeFault::Limit(limit) => Ok(Err(limit_passed(alloc, limit))),
+        FreezeFault::ReadFault => Err(StoreFault::Failed),
+        FreezeFault::OutOfMemory => Err(StoreFault::OutOfMemory),
+        FreezeFault::Torn { .. } => unreachable!(),
+        FreezeFault::Unreadable { .. } => unreachable!(),
+        FreezeFault::Unchanged { .. } => unreachable!(),
+        FreezeFault::Incompatible(_) => unreachable!(),
+        FreezeFault::WriteFault => unreachable!(),
+    }
+}

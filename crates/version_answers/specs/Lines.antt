@@ -1,0 +1,38 @@
+-- What is printed of frozen versions (own).
+use Rattle.std.specs.Prelude.{ℕ, ◌++◌, List, [], ◌∷◌, take, if◌then◌else◌, Option, Some, None, codes}
+use Rattle.std.specs.Fmt.{decimal}
+use Rattle.std.specs.Str.{encode_utf8_all}
+use Rattle.hex.specs.Hex.{encode_lower}
+use Rattle.api_versions.specs.declared.version.Version.{Version}
+use Rattle.api_versions.specs.Whole.{defined, is_whole}
+use Rattle.tool_frame.specs.Answer.{Answer, line, negative}
+
+-- the 40 digits of the text of a `.hash`
+abbrev pub digits : List ℕ → List ℕ
+digits text = encode_utf8_all (take 40 text)
+
+-- bytes in hexadecimal, `-` for none
+abbrev pub shown : List ℕ → List ℕ
+shown [] = codes "-"
+shown (b ∷ bytes) = encode_lower (b ∷ bytes)
+
+-- of a version that isn't whole: `missing HASH` or `kept BYTES HASH`, HASH by the second recipe
+abbrev pub torn_words : Option (List ℕ) → List ℕ → List ℕ
+torn_words None text = codes "missing " ++ digits text
+torn_words (Some kept) text = codes "kept " ++ (shown kept ++ (codes " " ++ digits text))
+
+-- of a version that is whole: the digits that its `.hash` keeps, and `ok`
+abbrev pub whole_words : Option (List ℕ) → List ℕ
+whole_words None = []
+whole_words (Some kept) = digits kept ++ codes " ok"
+
+abbrev pub version_words : Version → List ℕ
+version_words v = if is_whole v then whole_words v.kept else torn_words v.kept (defined v)
+
+-- `N HASH ok`, `N missing HASH` or `N kept BYTES HASH`
+abbrev pub version_line : Version → List ℕ
+version_line v = line (decimal v.number ++ (codes " " ++ version_words v))
+
+-- `bad versions missing N`, N the least number that is missing
+abbrev pub bad_versions : ℕ → Answer
+bad_versions missing = negative (codes "bad versions missing " ++ decimal missing)
