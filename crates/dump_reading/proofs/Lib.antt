@@ -13,3 +13,4 @@ pub mod TreesValues
 pub mod TreesLines
 pub mod TreesDeclarations
 pub mod Paths
+pub mod NamesFiles

@@ -1,3 +1,4 @@
 pub mod Bare
 pub mod DumpTrees
+pub mod Dumped
 pub mod Reading

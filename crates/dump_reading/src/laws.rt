@@ -1,4 +1,7 @@
-ghost use Rattle.std.specs.Prelude.{map};
+ghost use Rattle.std.specs.Prelude.{◌≡◌, [], List, map};
+ghost use Rattle.aidl_names.specs.Rules.{UnknownImport, WrongFile, in_each, other_imports};
+ghost use Rattle.aidl_names.specs.Sources.{Source};
+ghost use Rattle.dump_reading.specs.Dumped.{AreSources};
 ghost use Rattle.std.specs.Cmp.Lexicographic.{slice_cmp};
 ghost use Rattle.std.specs.List.Sorted.{IsStrictlySortedBy};
 ghost use Rattle.std.specs.Ordering.{nat_cmp};
@@ -27,6 +30,13 @@ pub fn law_dump_tokens(schema: &Schema)
 /// declaration (`file_tree`).
 pub fn law_dump_tree(schema: &Schema)
     ensures { HaveTrees schema.now.decls }
+{
+    law_valid(schema);
+}
+
+/// What stands for a canonical dump breaks neither E1 nor E3, and has no import.
+pub fn law_dump_imports(schema: &Schema)
+    ensures { (files : List Source) → AreSources schema.now.decls (dump_text schema.now.decls) files → (WrongFile files ≡ []) × (UnknownImport files ≡ []) × (in_each other_imports 0 files ≡ []) }
 {
     law_valid(schema);
 }
