@@ -1,9 +1,19 @@
--- What a write does to the files that a store tells.
-use Rattle.std.specs.Prelude.{◌≡◌, ◌≢◌, ℕ, List, Option, Some, None, Result, Ok, Err}
+-- What writes do to the files that a store tells.
+use Rattle.std.specs.Prelude.{◌≡◌, ◌≢◌, ℕ, List, [], ◌∷◌, Option, Some, None, Result, Ok, Err}
 use Rattle.std.specs.FinMap.{get, insert}
 use Rattle.aidl_outside.specs.declared.store.StoreFault.{StoreFault}
 use Rattle.aidl_outside.specs.declared.store.StoreFault.TheVariants.{Failed, OutOfMemory}
 use Rattle.aidl_outside.specs.Files.{Files}
+
+-- bytes that are to stand at a path
+pub record Write : Type 0 where
+  pub path : List ℕ
+  pub bytes : List ℕ
+
+-- the files after some writes, one after another
+abbrev pub written : List Write → Files → Files
+written [] files = files
+written (w ∷ ws) files = written ws (insert files w.path w.bytes)
 
 -- the path has the bytes, and all others have what they had
 abbrev pub Sets : Option Files → Option Files → List ℕ → List ℕ → Type 0

@@ -1,19 +1,10 @@
 -- What was written: the writes that are meant, all, some first ones, or those before one that failed (own).
-use Rattle.std.specs.Prelude.{◌≡◌, List, [], ◌∷◌, ◌++◌, ℕ, Option, Some, None, Result, Ok, Err}
-use Rattle.std.specs.FinMap.{insert}
+use Rattle.std.specs.Prelude.{◌≡◌, List, ◌∷◌, ◌++◌, Option, Some, None, Result, Ok, Err}
 use Rattle.aidl_outside.specs.Files.{Files}
+pub use Rattle.aidl_outside.specs.Writes.{Write, written}
 use Rattle.aidl_outside.specs.Writes.{ChangesOnly}
 use Rattle.api_versions.specs.declared.fault.FreezeFault.{FreezeFault}
 use Rattle.api_versions.specs.declared.fault.FreezeFault.TheVariants as fault
-
-pub record Write : Type 0 where
-  pub path : List ℕ
-  pub bytes : List ℕ
-
--- the files after some writes
-abbrev pub written : List Write → Files → Files
-written [] files = files
-written (w ∷ ws) files = written ws (insert files w.path w.bytes)
 
 -- these writes were made
 abbrev pub Wrote : List Write → Option Files → Option Files → Type 0

@@ -1,21 +1,15 @@
 -- How a run of the program ends: its exit has its cause, and this is what it left of the outside.
-use Rattle.std.specs.Prelude.{◌≡◌, ◌≢◌, ℕ, ◌⊎◌, List, [], ◌∷◌, ◌++◌, Option, Some, None, true, IsSome, All, codes}
-use Rattle.std.specs.FinMap.{insert}
+use Rattle.std.specs.Prelude.{◌≡◌, ◌≢◌, ℕ, ◌⊎◌, List, [], ◌∷◌, ◌++◌, Option, Some, None, true, All, codes}
 use Rattle.aidl_outside.specs.declared.link.Carried.{Carried}
 use Rattle.aidl_outside.specs.Causes.{Rose}
 use Rattle.aidl_outside.specs.Files.{Files}
 use Rattle.aidl_outside.specs.Told.{Tells, Adds, AddsFront}
-use Rattle.aidl_outside.specs.Writes.{ChangesOnly}
+use Rattle.aidl_outside.specs.Writes.{ChangesOnly, Write, written}
 use Rattle.tool_frame.specs.Answer.{Answer, line}
-use Rattle.tool_frame.specs.Meaning.{Meaning, Write, AreDue, CarriesNothing, Meant}
+use Rattle.tool_frame.specs.Meaning.{Meaning, Parcel, AreDue, CarriesNothing, Meant}
 use Rattle.tool_frame.specs.Meaning.Meant.{unknown, means}
 use Rattle.tool_frame.specs.Seen.{Seen}
 use Rattle.tool_frame.specs.Verdict.{exit_of, IsVerdict}
-
--- the files after some writes
-abbrev pub written : List Write → Files → Files
-written [] files = files
-written (w ∷ ws) files = written ws (insert files w.path w.bytes)
 
 -- which writes are meant, of the files before
 abbrev pub Writes : Type 1
@@ -48,7 +42,7 @@ CarriedThese m files before now entries = Adds before.log now.log entries
 -- the exit and the text are those of an answer that is meant, and nothing more is due
 abbrev pub EndsAsMeant : Meaning → Seen → Seen → ℕ → Files → Type 0
 EndsAsMeant m before now exit files = (entries : List Carried) × CarriedThese m files before now entries
-    × (m.due files entries ≡ None)
+    × m.due files entries None
     × (answer : Answer) × m.answers files entries answer
     × (exit ≡ exit_of answer.verdict)
     × Adds before.told now.told answer.text
@@ -61,7 +55,7 @@ PutsFront m before now files = (entries : List Carried) × CarriedThese m files 
 -- a parcel is due, and all the text before it was put
 abbrev pub StopsAtCarry : Meaning → Seen → Seen → Files → Type 0
 StopsAtCarry m before now files = (entries : List Carried) × CarriedThese m files before now entries
-    × IsSome (m.due files entries)
+    × ((parcel : Parcel) × m.due files entries (Some parcel))
     × (answer : Answer) × m.answers files entries answer
     × Adds before.told now.told answer.text
 

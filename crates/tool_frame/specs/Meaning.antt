@@ -3,12 +3,8 @@ use Rattle.std.specs.Prelude.{◌≡◌, ℕ, List, [], ◌∷◌, ◌++◌, Opt
 use Rattle.aidl_outside.specs.declared.link.Carried.{Carried}
 use Rattle.aidl_outside.specs.declared.link.Way.{Way}
 use Rattle.aidl_outside.specs.Files.{Files}
+use Rattle.aidl_outside.specs.Writes.{Write}
 use Rattle.tool_frame.specs.Answer.{Answer}
-
--- a file that is to be written
-pub record Write : Type 0 where
-  pub path : List ℕ
-  pub bytes : List ℕ
 
 -- a parcel that is to be carried
 pub record Parcel : Type 0 where
@@ -21,28 +17,32 @@ pub record Parcel : Type 0 where
 -- before that one is carried.
 pub record Meaning : Type 1 where
   pub writes : Files → List Write → Type 0
-  pub due : Files → List Carried → Option Parcel
+  pub due : Files → List Carried → Option Parcel → Type 0
   pub answers : Files → List Carried → Answer → Type 0
+
+-- a command that doesn't carry, by what it writes and what its answers are over the files
+abbrev pub writes_by : (Files → List Write → Type 0) → (Files → Answer → Type 0) → Meaning
+writes_by writes answers = record { writes = writes; due = λ files entries parcel. parcel ≡ None; answers = λ files entries answer. answers files answer }
 
 -- a command that neither writes nor carries, by what its answers are over the files
 abbrev pub reads_by : (Files → Answer → Type 0) → Meaning
-reads_by answers = record { writes = λ files made. made ≡ []; due = λ files entries. None; answers = λ files entries answer. answers files answer }
+reads_by answers = writes_by (λ files made. made ≡ []) answers
 
--- one whose answer is a function of the files
-abbrev pub reads_only : (Files → Answer) → Meaning
-reads_only answer = reads_by (λ files a. a ≡ answer files)
+-- a command that carries, by what is due and what its answers are over the files and what was carried
+abbrev pub carries_by : (Files → List Carried → Option Parcel → Type 0) → (Files → List Carried → Answer → Type 0) → Meaning
+carries_by due answers = record { writes = λ files made. made ≡ []; due = due; answers = answers }
 
 abbrev pub parcel_of : Carried → Parcel
 parcel_of entry = record { way = entry.way; code = entry.code; sent = entry.sent }
 
 -- each entry is of the parcel that was due after those before it
-abbrev pub AreDue : (List Carried → Option Parcel) → List Carried → List Carried → Type 0
+abbrev pub AreDue : (List Carried → Option Parcel → Type 0) → List Carried → List Carried → Type 0
 AreDue due before [] = Unit {0}
-AreDue due before (entry ∷ entries) = (due before ≡ Some (parcel_of entry)) × AreDue due (before ++ entry ∷ []) entries
+AreDue due before (entry ∷ entries) = due before (Some (parcel_of entry)) × AreDue due (before ++ entry ∷ []) entries
 
 -- no parcel is ever due
 abbrev pub CarriesNothing : Meaning → Type 0
-CarriesNothing m = (files : Files) (entries : List Carried) → m.due files entries ≡ None
+CarriesNothing m = (files : Files) (entries : List Carried) (parcel : Parcel) → m.due files entries (Some parcel) → ⊥
 
 -- what words mean: nothing that is known, or a command
 pub data Meant : Type 1 where

@@ -1,22 +1,31 @@
 -- *Outcome*: what comes of a call between two schemas of which one is a legal evolution of the other, without a word of bytes (own).
 -- A is the client's declarations, i and m the interface and the method of the call, B the server's declarations.
-use Rattle.std.specs.Prelude.{ℕ, ℤ, List, [], ◌∷◌, Option, Some, None, option_map, Result, Ok, if◌then◌else◌}
+use Rattle.std.specs.Prelude.{◌≡◌, ◌⊎◌, ℕ, ℤ, true, List, [], ◌∷◌, Option, Some, None, option_map, Result, Ok, if◌then◌else◌}
 use Rattle.std.specs.List.{position}
 use Rattle.aidl_schema.specs.declared.schema.AidlType.{AidlType}
 use Rattle.aidl_schema.specs.declared.schema.Arg.{Arg}
 use Rattle.aidl_schema.specs.declared.schema.Decl.{Decl}
 use Rattle.aidl_schema.specs.declared.schema.Method.{Method}
-use Rattle.aidl_schema.specs.Broken.{same_method}
+use Rattle.aidl_schema.specs.Broken.{broken, same_name, same_method}
 use Rattle.aidl_schema.specs.Find.{methods_at}
-use Rattle.aidl_schema.specs.Names.{name_of}
+use Rattle.aidl_schema.specs.Names.{name_of, methods_of}
 use Rattle.aidl_schema.specs.Same.{same_text}
+use Rattle.aidl_schema.specs.Unbroken.{Has}
 use Rattle.aidl_values.specs.Data.{Data, Items, none, item}
 use Rattle.wire_model.specs.Calls.{AnswerData, returned, exception, descriptor, method_at, arguments, result_type, out_types, is_oneway, is_out}
 use Rattle.wire_model.specs.ReadOf.{◌>>=◌}
-use Rattle.wire_model.specs.Receiver.{Received, called, opening, or_status}
+use Rattle.wire_model.specs.Receiver.{Received, called, opening, opened_arguments, or_status}
 use Rattle.wire_model.specs.Requests.{sent_length}
 use Rattle.wire_model.specs.Status.{bad_value, unknown_transaction}
 use Rattle.wire_model.specs.View.{view_of, item_first}
+
+-- one of two schemas is a legal evolution of the other
+abbrev pub OneFollows : List Decl → List Decl → Type 0
+OneFollows A B = (broken A B ≡ []) ⊎ (broken B A ≡ [])
+
+-- No code of an interface that both have is that of a oneway method in one and of a two-way method in the other.
+abbrev pub SameWays : List Decl → List Decl → Type 0
+SameWays A B = (d e : Decl) (v w : Method) → Has A d → Has B e → same_name d e ≡ true → Has (methods_of d.kind) v → Has (methods_of e.kind) w → v.id ≡ w.id → v.oneway ≡ w.oneway
 
 -- the number of the declaration of a name
 abbrev pub declared_as : List Decl → List ℕ → Option ℕ
@@ -84,3 +93,8 @@ outcome A i m B args answer = do
   j ← or_status unknown_transaction (declared_as B (descriptor A i))  -- UNKNOWN_TRANSACTION: B lacks the interface
   seen ← seen_call A i m B j args
   Ok (if is_oneway B j seen.0 then oneway seen.1 else done seen.1 (seen_answer B j seen.0 A i m answer))
+
+-- within one schema: the handler sees what was sent, with the openings of the `out` arguments, and the client has what was answered
+abbrev pub outcome_within : List Decl → ℕ → ℕ → Items → AnswerData → Done
+outcome_within S i m args answer =
+    if is_oneway S i m then oneway (opened_arguments S (arguments S i m) args) else done (opened_arguments S (arguments S i m) args) (Ok answer)

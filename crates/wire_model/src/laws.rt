@@ -10,7 +10,7 @@ ghost use Rattle.aidl_values.specs.HasType.{HasType};
 ghost use Rattle.aidl_values.specs.Nodes.{nodes_of};
 ghost use Rattle.aidl_values.specs.View.{view, views};
 ghost use Rattle.wire_model.specs.Calls.{AnswerData, answer_of, arguments, code_at, descriptor, is_oneway, method_at};
-ghost use Rattle.wire_model.specs.Outcome.{declared_as, done, method_like, oneway, outcome, received_call, seen_answer};
+ghost use Rattle.wire_model.specs.Outcome.{OneFollows, SameWays, declared_as, done, method_like, oneway, outcome, outcome_within, received_call, seen_answer};
 ghost use Rattle.wire_model.specs.ReadOf.{read_of};
 ghost use Rattle.wire_model.specs.Reads.{FrontReads, Reads};
 ghost use Rattle.wire_model.specs.Receiver.{called, client, left, opened_arguments, stub};
@@ -147,7 +147,7 @@ pub fn law_view_reads(
     c: &[u8],
     inside: bool,
 )
-    requires unbroken { (broken a.now.decls b.now.decls ≡ []) ⊎ (broken b.now.decls a.now.decls ≡ []) }
+    requires unbroken { OneFollows a.now.decls b.now.decls }
     requires same { same a.now.decls t.now b.now.decls u.now ≡ true }
     requires fits { Fits a.now.decls t.now (view value.now) }
     requires small { length (spell a.now.decls t.now (view value.now)) ≤ 1048576 }
@@ -253,7 +253,7 @@ pub fn law_request_seen(
     args: &[Value],
     bytes: &[u8],
 )
-    requires unbroken { (broken a.now.decls b.now.decls ≡ []) ⊎ (broken b.now.decls a.now.decls ≡ []) }
+    requires unbroken { OneFollows a.now.decls b.now.decls }
     requires shared { declared_as b.now.decls (descriptor a.now.decls interface) ≡ Some other }
     requires fits { ArgsFit a.now.decls interface method (views args.now) }
     requires spelled { bytes.now ≡ request a.now.decls interface method (views args.now) }
@@ -280,7 +280,7 @@ pub fn law_reply_seen(
     answer: &Answer,
     bytes: &[u8],
 )
-    requires unbroken { (broken a.now.decls b.now.decls ≡ []) ⊎ (broken b.now.decls a.now.decls ≡ []) }
+    requires unbroken { OneFollows a.now.decls b.now.decls }
     requires shared { declared_as b.now.decls (descriptor a.now.decls interface) ≡ Some other }
     requires common { method_like (method_at a.now.decls interface method) (methods_at b.now.decls other) ≡ Some other_method }
     requires fits { AnswerFits b.now.decls other other_method (answer_of answer.now) }
@@ -294,9 +294,9 @@ pub fn law_reply_seen(
     law_valid(a);
 }
 
-/// A call whose request and reply are carried unaltered comes to its `Outcome`: that without the server's interface; the status
-/// with which its stub refuses the request, which never has bytes left over; and where it calls a method, what the method
-/// sees, and what the client makes of the reply.
+/// Between two schemas of which one is a legal evolution of the other, a call whose request and reply are carried unaltered comes to
+/// its `Outcome`: that without the server's interface; the status with which its stub refuses the request, which never has bytes
+/// left over; and where it calls a method, what the method sees, and what the client makes of the reply.
 pub fn law_outcome(
     profile: Profile,
     a: &Schema,
@@ -309,25 +309,24 @@ pub fn law_outcome(
     sent: &[u8],
     replied: &[u8],
 )
-    requires unbroken { (broken a.now.decls b.now.decls ≡ []) ⊎ (broken b.now.decls a.now.decls ≡ []) }
     requires fits { ArgsFit a.now.decls interface method (views args.now) }
     requires spelled { sent.now ≡ request a.now.decls interface method (views args.now) }
     requires small { length sent.now ≤ 1048576 }
-    ensures nowhere { declared_as b.now.decls (descriptor a.now.decls interface) ≡ None
+    ensures nowhere { OneFollows a.now.decls b.now.decls → declared_as b.now.decls (descriptor a.now.decls interface) ≡ None
         → outcome a.now.decls interface method b.now.decls (views args.now) (answer_of answer.now) ≡ Err unknown_transaction }
-    ensures refused { declared_as b.now.decls (descriptor a.now.decls interface) ≡ Some other
+    ensures refused { OneFollows a.now.decls b.now.decls → declared_as b.now.decls (descriptor a.now.decls interface) ≡ Some other
         → (s : ℤ) → stub profile b.now.decls other (code_at a.now.decls interface method) sent.now ≡ Err s
         → outcome a.now.decls interface method b.now.decls (views args.now) (answer_of answer.now) ≡ Err s }
-    ensures never_left { declared_as b.now.decls (descriptor a.now.decls interface) ≡ Some other
+    ensures never_left { OneFollows a.now.decls b.now.decls → declared_as b.now.decls (descriptor a.now.decls interface) ≡ Some other
         → (n : ℕ) → stub profile b.now.decls other (code_at a.now.decls interface method) sent.now ≡ Ok (left n) → ⊥ }
-    ensures common { declared_as b.now.decls (descriptor a.now.decls interface) ≡ Some other
+    ensures common { OneFollows a.now.decls b.now.decls → declared_as b.now.decls (descriptor a.now.decls interface) ≡ Some other
         → (n : ℕ) (saw : Items) → stub profile b.now.decls other (code_at a.now.decls interface method) sent.now ≡ Ok (called n saw)
         → method_like (method_at a.now.decls interface method) (methods_at b.now.decls other) ≡ Some n }
-    ensures oneway { declared_as b.now.decls (descriptor a.now.decls interface) ≡ Some other
+    ensures oneway { OneFollows a.now.decls b.now.decls → declared_as b.now.decls (descriptor a.now.decls interface) ≡ Some other
         → (n : ℕ) (saw : Items) → stub profile b.now.decls other (code_at a.now.decls interface method) sent.now ≡ Ok (called n saw)
         → is_oneway b.now.decls other n ≡ true
         → outcome a.now.decls interface method b.now.decls (views args.now) (answer_of answer.now) ≡ Ok (oneway saw) }
-    ensures done { declared_as b.now.decls (descriptor a.now.decls interface) ≡ Some other
+    ensures done { OneFollows a.now.decls b.now.decls → declared_as b.now.decls (descriptor a.now.decls interface) ≡ Some other
         → (n : ℕ) (saw : Items) → stub profile b.now.decls other (code_at a.now.decls interface method) sent.now ≡ Ok (called n saw)
         → is_oneway b.now.decls other n ≡ false → AnswerFits b.now.decls other n (answer_of answer.now)
         → replied.now ≡ reply b.now.decls other n (answer_of answer.now)
@@ -343,11 +342,42 @@ pub fn law_outcome(
     law_valid(b);
 }
 
+/// Within one schema a call comes to what was sent and what was answered.
+pub fn law_outcome_within(
+    schema: &Schema,
+    interface: u32,
+    method: u32,
+    args: &[Value],
+    answer: &Answer,
+)
+    requires there { method < length (methods_at schema.now.decls interface) }
+    requires fits { ArgsFit schema.now.decls interface method (views args.now) }
+    requires answered { AnswerFits schema.now.decls interface method (answer_of answer.now) }
+    ensures { outcome schema.now.decls interface method schema.now.decls (views args.now) (answer_of answer.now)
+        ≡ Ok (outcome_within schema.now.decls interface method (views args.now) (answer_of answer.now)) }
+{
+    law_chain(schema, schema, schema);
+    law_meets(schema, schema);
+    law_calls_meet(schema, schema);
+    law_same_types(schema, schema);
+    law_valid(schema);
+}
+
+/// Where no evolution rule is broken from one of two schemas to the other, no code of an interface that both have is that of a oneway
+/// method in one and of a two-way method in the other.
+pub fn law_ways(a: &Schema, b: &Schema)
+    ensures { OneFollows a.now.decls b.now.decls → SameWays a.now.decls b.now.decls }
+{
+    law_valid(a);
+    law_valid(b);
+    law_unbroken(a, b);
+    law_unbroken(b, a);
+}
+
 /// Where no evolution rule is broken from one of two schemas to the other, types that are the same mean the same to both, as
 /// far as what is sent by `a` and read by `b` needs it.
 fn law_meets(a: &Schema, b: &Schema)
-    requires { (broken a.now.decls b.now.decls ≡ []) ⊎ (broken b.now.decls a.now.decls ≡ []) }
-    ensures { Meets a.now.decls b.now.decls }
+    ensures { OneFollows a.now.decls b.now.decls → Meets a.now.decls b.now.decls }
 {
     law_valid(a);
     law_valid(b);
@@ -361,8 +391,7 @@ fn law_meets(a: &Schema, b: &Schema)
 /// The same of methods: those of one name take the same calls, and no other method has the code of one that the other schema
 /// lacks.
 fn law_calls_meet(a: &Schema, b: &Schema)
-    requires { (broken a.now.decls b.now.decls ≡ []) ⊎ (broken b.now.decls a.now.decls ≡ []) }
-    ensures { CallsMeet a.now.decls b.now.decls }
+    ensures { OneFollows a.now.decls b.now.decls → CallsMeet a.now.decls b.now.decls }
 {
     law_valid(a);
     law_valid(b);

@@ -15,7 +15,7 @@ pub use aidl_schema::{
 };
 pub use aidl_values::{Answer, Value};
 pub use laws::{
-    law_client, law_nodes, law_one_reading, law_outcome, law_read_of, law_reads_or_stops,
-    law_reply_got, law_reply_seen, law_request_called, law_request_seen, law_spelled_reads,
-    law_strict_is_lenient, law_stub, law_view_reads, law_view_same,
+    law_client, law_nodes, law_one_reading, law_outcome, law_outcome_within, law_read_of,
+    law_reads_or_stops, law_reply_got, law_reply_seen, law_request_called, law_request_seen,
+    law_spelled_reads, law_strict_is_lenient, law_stub, law_view_reads, law_view_same, law_ways,
 };

@@ -11,9 +11,10 @@ use Rattle.aidl_schema.specs.declared.schema.Method.{Method}
 use Rattle.aidl_schema.specs.Broken.{same_name, same_method, same_result, is_there_and, way_code}
 use Rattle.aidl_schema.specs.Holds.{AreApart, AllHold}
 use Rattle.aidl_schema.specs.Names.{name_of, methods_of}
-use Rattle.aidl_schema.specs.Same.{same}
+use Rattle.aidl_schema.specs.Same.{same, same_bool}
 use Rattle.aidl_schema.specs.Unbroken.{Has, AreBoth, AtEach, Follows, Unbroken}
 use Rattle.wire_model.proofs.Lookups.{found_is, same_place, both_of}
+use Rattle.wire_model.specs.Outcome.{SameWays}
 use Rattle.wire_model.specs.steps.CallsMeet.{ArgumentsAgree, MethodsAgree, CallsMeet}
 
 eq_is : (m n : ℕ) → (m == n) ≡ true → m ≡ n
@@ -29,6 +30,12 @@ ways Out InOut e = cc
 ways InOut In e = cc
 ways InOut Out e = cc
 ways InOut InOut e = refl
+
+same_truth : (b c : Bool) → same_bool b c ≡ true → b ≡ c
+same_truth true true e = refl
+same_truth true false e = cc
+same_truth false true e = cc
+same_truth false false e = refl
 
 -- one passes, so one is there
 there_is : {X : Type 0} (test : X → Bool) (o : Option X) → is_there_and test o ≡ true → (x : X) × (o ≡ Some x)
@@ -70,6 +77,9 @@ module _ (old new : List Decl) (d e : Decl) (F : Follows old d new e) where
     arguments = arguments_agree old new v.args w.args (eq_is (length v.args) (length w.args) (F.argument_counts v w both)) (F.ways v w both) (F.argument_types v w both);
     result = F.results v w both;
   }
+
+  same_way : (v w : Method) → AreBoth same_method (methods_of d.kind) (methods_of e.kind) v w → v.oneway ≡ w.oneway
+  same_way v w both = same_truth v.oneway w.oneway (F.oneway v w both)
 
   -- each method of the old interface is in the new one
   stays : (v : Method) → Has (methods_of d.kind) v → (w : Method) × AreBoth same_method (methods_of d.kind) (methods_of e.kind) v w
@@ -114,3 +124,16 @@ module _ (old new : List Decl) (apart : AreApart name_of new) (new_holds : AllHo
             let wrong : true ≡ false = sym alike ∙ none w q in
             absurd (true≢false wrong);
       }
+
+  -- a method of one code is the same way in both
+  pub newer_ways : SameWays old new
+  newer_ways d e v w here there is p q id =
+      let F = U.members d e (are_both d e here there is) in
+      let x = stays old new d e F v p in
+      let found = found_is (λ z. same_method v z) (methods_of e.kind) x.0 x.1.1 in
+      let ids : x.0.id ≡ w.id = sym (kept old new d e F v x.0 x.1).id ∙ id in
+      let one : x.0 ≡ w = same_place (λ (m : Method). m.id) (methods_of e.kind) (new_holds there.0 e there.1).ids x.0 w found.0 q ids in
+      subst (λ (z : Method). v.oneway ≡ z.oneway) one (same_way old new d e F v x.0 x.1)
+
+  pub older_ways : SameWays new old
+  older_ways e d v w there here is q p id = sym (newer_ways d e w v here there (same_text_sym (name_of d) (name_of e) ∙ is) p q (sym id))

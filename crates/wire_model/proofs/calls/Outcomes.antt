@@ -60,7 +60,7 @@ module _ (A : List Decl) (i m : ℕ) (B : List Decl) (args : Items) (answer : An
               let values : y.1 ≡ saw = cc in
               is ∙ ap (λ k. let x : Result (ℕ × Items) ℤ = Ok (k, y.1) in x) method ∙ ap (λ vs. let x : Result (ℕ × Items) ℤ = Ok (n, vs) in x) values
 
-      outcome_is : outcome A i m B args answer ≡ Ok (cond (is_oneway B j n) (oneway saw) (done saw (seen_answer B j n A i m answer)))
+      pub outcome_is : outcome A i m B args answer ≡ Ok (cond (is_oneway B j n) (oneway saw) (done saw (seen_answer B j n A i m answer)))
       outcome_is = whole ∙ ap (then_seen j) seen_is
 
       -- it is the method of the same name

@@ -1,12 +1,12 @@
-use Rattle.std.proofs.Common.{◌≡◌, ◌⊎◌, [], inl, inr}
-use Rattle.aidl_schema.specs.Broken.{broken}
+use Rattle.std.proofs.Common.{inl, inr}
+use Rattle.wire_model.specs.Outcome.{OneFollows}
 use Rattle.wire_model.specs.steps.CallsMeet.{CallsMeet}
 use Rattle.wire_model.proofs.calls.Methods.{newer_receives, older_receives}
 use Rattle.wire_model.proofs.laws.law_calls_meet.Goals as goal
 
 pub returns : goal.returns
-returns c = by_order c.requires
+returns c = by_order
   where
-    by_order : (broken c.args.a.now.decls c.args.b.now.decls ≡ []) ⊎ (broken c.args.b.now.decls c.args.a.now.decls ≡ []) → CallsMeet c.args.a.now.decls c.args.b.now.decls
+    by_order : OneFollows c.args.a.now.decls c.args.b.now.decls → CallsMeet c.args.a.now.decls c.args.b.now.decls
     by_order (inl none) = newer_receives c.args.a.now.decls c.args.b.now.decls c.law_valid-2.ensures.apart c.law_valid-2.ensures.declarations (c.law_unbroken.ensures.0 none)
     by_order (inr none) = older_receives c.args.b.now.decls c.args.a.now.decls c.law_valid.ensures.apart c.law_valid.ensures.declarations (c.law_unbroken-2.ensures.0 none) c.law_same_types.ensures.back

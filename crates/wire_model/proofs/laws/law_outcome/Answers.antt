@@ -1,13 +1,18 @@
-use Rattle.std.proofs.Common.{◌≡◌, ◌≤◌, ℤ, length, Some, Result, Ok, sym, ◌∙◌, ap, subst, arith}
+use Rattle.std.proofs.Common.{◌≡◌, ◌≤◌, ℤ, List, length, inl, inr, Some, Result, Ok, sym, ◌∙◌, ap, subst, arith}
 use Rattle.aidl_base.proofs.Bytes.{AreBytes}
+use Rattle.aidl_schema.specs.declared.schema.Decl.{Decl}
 use Rattle.aidl_values.specs.View.{views}
 use Rattle.wire_model.specs.Calls.{answer_of, code_at, descriptor}
-use Rattle.wire_model.specs.Outcome.{declared_as, received_call, Done, done, seen_answer}
+use Rattle.wire_model.specs.Outcome.{OneFollows, declared_as, received_call, Done, done, seen_answer}
 use Rattle.wire_model.specs.Receiver.{stub, client}
 use Rattle.wire_model.proofs.calls.Outcomes.{nowhere, refused, never_left, like, oneway_outcome, done_outcome}
 use Rattle.wire_model.proofs.calls.Replies.{reply_seen}
 use Rattle.wire_model.proofs.calls.Requests.{request_seen}
 use Rattle.wire_model.proofs.laws.law_outcome.Goals as goal
+
+turned : (A B : List Decl) → OneFollows A B → OneFollows B A
+turned A B (inl none) = inr none
+turned A B (inr none) = inl none
 
 pub returns : goal.returns
 returns c =
@@ -21,21 +26,21 @@ returns c =
     let answer = answer_of c.args.answer.now in
     let sent : AreBytes c.args.sent.now = λ k. omega (arith, c.type_inv.sent k) in
     let replied : AreBytes c.args.replied.now = λ k. omega (arith, c.type_inv.replied k) in
-    let seen : declared_as B (descriptor A i) ≡ Some j → stub p B j (code_at A i m) c.args.sent.now ≡ received_call A i m B j args =
-    λ found. subst (λ b. stub p B j (code_at A i m) b ≡ received_call A i m B j args) (sym c.requires.spelled)
-    (request_seen p A B c.law_meets.ensures c.law_calls_meet.ensures c.law_sound-2.ensures c.law_valid-2.ensures.declarations i m j args c.requires.fits
+    let seen : OneFollows A B → declared_as B (descriptor A i) ≡ Some j → stub p B j (code_at A i m) c.args.sent.now ≡ received_call A i m B j args =
+    λ follows found. subst (λ b. stub p B j (code_at A i m) b ≡ received_call A i m B j args) (sym c.requires.spelled)
+    (request_seen p A B (c.law_meets.ensures follows) (c.law_calls_meet.ensures follows) c.law_sound-2.ensures c.law_valid-2.ensures.declarations i m j args c.requires.fits
     (subst (λ b. length b ≤ 1048576) c.requires.spelled c.requires.small) (subst AreBytes c.requires.spelled sent) found) in
     record {
-      nowhere = nowhere A i m B args answer;
-      refused = λ found s e. refused A i m B args answer j found s (sym (seen found) ∙ e);
-      never_left = λ found n e. never_left A i m B args answer j found n (sym (seen found) ∙ e);
-      common = λ found n saw e. like A i m B args answer j found n saw (sym (seen found) ∙ e);
-      oneway = λ found n saw e one. oneway_outcome A i m B args answer j found n saw (sym (seen found) ∙ e) one;
-      done = λ found n saw e two fits spelled.
+      nowhere = λ follows. nowhere A i m B args answer;
+      refused = λ follows found s e. refused A i m B args answer j found s (sym (seen follows found) ∙ e);
+      never_left = λ follows found n e. never_left A i m B args answer j found n (sym (seen follows found) ∙ e);
+      common = λ follows found n saw e. like A i m B args answer j found n saw (sym (seen follows found) ∙ e);
+      oneway = λ follows found n saw e one. oneway_outcome A i m B args answer j found n saw (sym (seen follows found) ∙ e) one;
+      done = λ follows found n saw e two fits spelled.
           let got : client p A i m c.args.replied.now ≡ seen_answer B j n A i m answer =
           subst (λ b. client p A i m b ≡ seen_answer B j n A i m answer) (sym spelled)
-          (reply_seen p A B c.law_meets-2.ensures c.law_sound.ensures c.law_calls_meet-2.ensures c.law_valid.ensures.declarations i m j n answer fits
-          (subst AreBytes spelled replied) found (like A i m B args answer j found n saw (sym (seen found) ∙ e))) in
-          done_outcome A i m B args answer j found n saw (sym (seen found) ∙ e) two
+          (reply_seen p A B (c.law_meets-2.ensures (turned A B follows)) c.law_sound.ensures (c.law_calls_meet-2.ensures (turned A B follows)) c.law_valid.ensures.declarations i m j n answer fits
+          (subst AreBytes spelled replied) found (like A i m B args answer j found n saw (sym (seen follows found) ∙ e))) in
+          done_outcome A i m B args answer j found n saw (sym (seen follows found) ∙ e) two
           ∙ ap (λ z. let x : Result Done ℤ = Ok (done saw z) in x) (sym got);
     }

@@ -1,4 +1,4 @@
-use Rattle.std.proofs.Common.{◌≡◌, sym, ◌∙◌, subst, arith}
+use Rattle.std.proofs.Common.{inl, ◌≡◌, sym, ◌∙◌, subst, arith}
 use Rattle.aidl_base.proofs.Bytes.{AreBytes}
 use Rattle.wire_model.specs.Calls.{answer_of}
 use Rattle.wire_model.specs.Outcome.{seen_answer}
@@ -13,8 +13,8 @@ returns c =
     let i = c.args.interface in
     let m = c.args.method in
     let answer = answer_of c.args.answer.now in
-    let meets = c.law_meets.ensures in
-    let calls = c.law_calls_meet.ensures in
+    let meets = c.law_meets.ensures (inl c.law_chain.ensures.itself) in
+    let calls = c.law_calls_meet.ensures (inl c.law_chain.ensures.itself) in
     let itself = c.law_same_types.ensures.itself in
     let holds = c.law_valid.ensures.declarations in
     let apart = c.law_valid.ensures.apart in

@@ -1,4 +1,4 @@
-use Rattle.std.proofs.Common.{◌≡◌, ◌≤◌, length, sym, ◌∙◌, subst, arith}
+use Rattle.std.proofs.Common.{inl, ◌≡◌, ◌≤◌, length, sym, ◌∙◌, subst, arith}
 use Rattle.aidl_base.proofs.Bytes.{AreBytes}
 use Rattle.aidl_values.specs.View.{views}
 use Rattle.wire_model.specs.Calls.{code_at}
@@ -14,8 +14,8 @@ returns c =
     let i = c.args.interface in
     let m = c.args.method in
     let args = views c.args.args.now in
-    let meets = c.law_meets.ensures in
-    let calls = c.law_calls_meet.ensures in
+    let meets = c.law_meets.ensures (inl c.law_chain.ensures.itself) in
+    let calls = c.law_calls_meet.ensures (inl c.law_chain.ensures.itself) in
     let itself = c.law_same_types.ensures.itself in
     let holds = c.law_valid.ensures.declarations in
     let apart = c.law_valid.ensures.apart in

@@ -17,5 +17,5 @@ returns c =
     let args = views c.args.args.now in
     let bytes : AreBytes c.args.bytes.now = λ k. omega (arith, c.type_inv.bytes k) in
     subst (λ b. stub c.args.profile B j (code_at A i m) b ≡ received_call A i m B j args) (sym c.requires.spelled)
-    (request_seen c.args.profile A B c.law_meets.ensures c.law_calls_meet.ensures c.law_sound.ensures c.law_valid.ensures.declarations i m j args c.requires.fits
+    (request_seen c.args.profile A B (c.law_meets.ensures c.requires.unbroken) (c.law_calls_meet.ensures c.requires.unbroken) c.law_sound.ensures c.law_valid.ensures.declarations i m j args c.requires.fits
     (subst (λ b. length b ≤ 1048576) c.requires.spelled c.requires.small) (subst AreBytes c.requires.spelled bytes) c.requires.shared)

@@ -16,7 +16,7 @@ returns c =
     let t = c.args.t.now in
     let u = c.args.u.now in
     let v = view c.args.value.now in
-    let law = view_reads p A B c.law_meets.ensures 64 t u v c.requires.same c.requires.fits.typed c.requires.fits.deep c.requires.small in
+    let law = view_reads p A B (c.law_meets.ensures c.requires.unbroken) 64 t u v c.requires.same c.requires.fits.typed c.requires.fits.deep c.requires.small in
     let outcome : (o : Option Data) → view_of A t B u v ≡ o → ReadsOrStops p B 64 u (spell A t v) o = λ o e. subst (λ o. ReadsOrStops p B 64 u (spell A t v) o) e law in
     record {
       reads = λ w e. outcome _ e;
