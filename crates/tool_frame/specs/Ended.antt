@@ -6,8 +6,9 @@ use Rattle.aidl_outside.specs.Files.{Files}
 use Rattle.aidl_outside.specs.Told.{Tells, Adds, AddsFront}
 use Rattle.aidl_outside.specs.Writes.{ChangesOnly, Write, written}
 use Rattle.tool_frame.specs.Answer.{Answer, line}
-use Rattle.tool_frame.specs.Meaning.{Meaning, Parcel, AreDue, CarriesNothing, Meant}
+use Rattle.tool_frame.specs.Meaning.{Meaning, AreDue, CarriesNothing, Meant}
 use Rattle.tool_frame.specs.Meaning.Meant.{unknown, means}
+use Rattle.tool_frame.specs.Parcel.{Parcel}
 use Rattle.tool_frame.specs.Seen.{Seen}
 use Rattle.tool_frame.specs.Verdict.{exit_of, IsVerdict}
 

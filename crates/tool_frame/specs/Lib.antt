@@ -1,8 +1,10 @@
 pub mod Answer
+pub mod Course
 pub mod Ended
 pub mod Meaning
+pub mod Parcel
 pub mod Refusals
 pub mod Seen
-pub mod steps
 pub mod Trees
 pub mod Verdict
+pub mod steps

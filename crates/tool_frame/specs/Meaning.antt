@@ -1,16 +1,11 @@
 -- What a command means over the files that a store told before.
-use Rattle.std.specs.Prelude.{◌≡◌, ℕ, List, [], ◌∷◌, ◌++◌, Option, Some, None}
+use Rattle.std.specs.Prelude.{◌≡◌, List, [], ◌∷◌, ◌++◌, Option, Some, None}
 use Rattle.aidl_outside.specs.declared.link.Carried.{Carried}
-use Rattle.aidl_outside.specs.declared.link.Way.{Way}
 use Rattle.aidl_outside.specs.Files.{Files}
 use Rattle.aidl_outside.specs.Writes.{Write}
 use Rattle.tool_frame.specs.Answer.{Answer}
-
--- a parcel that is to be carried
-pub record Parcel : Type 0 where
-  pub way : Way
-  pub code : ℕ
-  pub sent : List ℕ
+use Rattle.tool_frame.specs.Course.{Course, answer_after, due_after}
+use Rattle.tool_frame.specs.Parcel.{Parcel, parcel_of}
 
 -- The files that it writes, in order, one list of them or none. The parcel that is due after those that were carried, by what was
 -- delivered; None where no more is. And its answers, one or none: while a parcel is due, the text of an answer is what is printed
@@ -28,12 +23,13 @@ writes_by writes answers = record { writes = writes; due = λ files entries parc
 abbrev pub reads_by : (Files → Answer → Type 0) → Meaning
 reads_by answers = writes_by (λ files made. made ≡ []) answers
 
--- a command that carries, by what is due and what its answers are over the files and what was carried
-abbrev pub carries_by : (Files → List Carried → Option Parcel → Type 0) → (Files → List Carried → Answer → Type 0) → Meaning
-carries_by due answers = record { writes = λ files made. made ≡ []; due = due; answers = answers }
-
-abbrev pub parcel_of : Carried → Parcel
-parcel_of entry = record { way = entry.way; code = entry.code; sent = entry.sent }
+-- a command that writes nothing, by the courses that it may take over the files: one of them, or none
+abbrev pub carries_by : (Files → Course → Type 0) → Meaning
+carries_by takes = record {
+  writes = λ files made. made ≡ [];
+  due = λ files entries parcel. (course : Course) × takes files course × (parcel ≡ due_after course entries);
+  answers = λ files entries answer. (course : Course) × takes files course × (answer ≡ answer_after course entries);
+}
 
 -- each entry is of the parcel that was due after those before it
 abbrev pub AreDue : (List Carried → Option Parcel → Type 0) → List Carried → List Carried → Type 0
