@@ -10,7 +10,8 @@ pub struct Carries {
     edits: Row<Edit>,
     fails: Row<u64>,
     /// the lines of the log that is wanted
-    pub log: String,
+    log: String,
+    is_unseen: bool,
 }
 
 impl Carries {
@@ -19,6 +20,7 @@ impl Carries {
             edits: Row::new(alloc),
             fails: Row::new(alloc),
             log: String::new(alloc),
+            is_unseen: false,
         }
     }
 
@@ -44,8 +46,13 @@ impl Carries {
         Ok(true)
     }
 
-    /// Adds an entry to the log that is wanted: the way, the code, and what is sent and delivered in hexadecimal.
+    /// Adds an entry to the log that is wanted: the way, the code, and what is sent and delivered in hexadecimal; or that the log isn't
+    /// looked at.
     pub fn add_entry(&mut self, entry: &str) -> Result<bool, OutOfMemory> {
+        if entry == "unseen" {
+            self.is_unseen = true;
+            return Ok(true);
+        }
         self.log.push_str("carried ")?;
         self.log.push_str(entry)?;
         self.log.push('\n')?;
@@ -55,6 +62,16 @@ impl Carries {
     /// The link.
     pub fn link(self, alloc: Global) -> Result<TamperLink, OutOfMemory> {
         TamperLink::new(alloc, self.edits, self.fails)
+    }
+
+    /// The lines of the log that is wanted.
+    pub fn wanted(&self) -> &str {
+        self.log.as_str()
+    }
+
+    /// Whether the log is looked at.
+    pub fn is_seen(&self) -> bool {
+        !self.is_unseen
     }
 }
 

@@ -23,7 +23,7 @@ use std::{fs, io};
 use trees::try_trees;
 use tried::Tried;
 
-const FILES: [&str; 14] = [
+const FILES: [&str; 15] = [
     "words.rows",
     "decode.rows",
     "encode.rows",
@@ -38,6 +38,7 @@ const FILES: [&str; 14] = [
     "trees.rows",
     "judge.rows",
     "versions.rows",
+    "calls.rows",
 ];
 
 fn main(rt: HostRuntime) -> io::Result<()> {
@@ -69,6 +70,7 @@ fn try_block(alloc: Global, block: &str, tried: &mut Tried) -> Result<(), OutOfM
         "run" => try_run(alloc, block, tried),
         "runs" => try_runs(alloc, Cases::Types, block, tried),
         "trees" => try_runs(alloc, Cases::Files, block, tried),
+        "edits" => try_runs(alloc, Cases::Lines, block, tried),
         "lex" => try_sources(alloc, Kind::Tokens, block, tried),
         "count" => try_sources(alloc, Kind::Count, block, tried),
         "parse" => try_sources(alloc, Kind::Tree, block, tried),

@@ -70,7 +70,7 @@ impl Run {
         let (what, rest) = word_of(line);
         match what {
             "#" => Ok(true),
-            "run" | "runs" | "trees" => self.add_words(alloc, rest),
+            "run" | "runs" | "trees" | "edits" => self.add_words(alloc, rest),
             "word" => self.add_word(alloc, rest),
             "file" => self.add_file(alloc, rest),
             "left" => self.add_left(alloc, rest),
@@ -163,6 +163,7 @@ impl Run {
             Row::from_vec(self.store_fails),
         )?;
         let mut sink = MemSink::new(alloc, Row::from_vec(self.sink_fails))?;
+        let is_seen = self.carries.is_seen();
         let mut link = self.carries.link(alloc)?;
         let exit = aidl(
             alloc,
@@ -171,7 +172,8 @@ impl Run {
             &mut sink,
             &mut link,
         );
-        let log = shown_log(alloc, link.log())?;
+        let carried = if is_seen { link.log() } else { &[] };
+        let log = shown_log(alloc, carried)?;
         let came = ended(alloc, Some(exit), sink.bytes(), log.as_str(), store.files())?;
         tried.row(row, wanted.as_slice(), came.as_slice())
     }
@@ -183,7 +185,7 @@ impl Run {
             None => self.files.as_slice(),
         };
         let store = MemStore::new(alloc, rows_of(alloc, left)?, Row::new(alloc))?;
-        let log = self.carries.log.as_str();
+        let log = self.carries.wanted();
         ended(
             alloc,
             self.exit,

@@ -12,6 +12,8 @@ pub enum Cases {
     Types,
     /// `PATH: TEXT || PATH: TEXT`, the files of the store
     Files,
+    /// `LINE || LINE`, lines of a run
+    Lines,
 }
 
 /// Tries a block that is a table of runs. Its first lines tell what all have, and each case is
@@ -57,6 +59,7 @@ fn add_source(
     match cases {
         Cases::Types => add_types(alloc, source, run),
         Cases::Files => add_files(alloc, source, run),
+        Cases::Lines => add_lines(alloc, source, run),
     }
 }
 
@@ -79,6 +82,15 @@ fn add_files(alloc: Global, source: &str, run: &mut Run) -> Result<bool, OutOfMe
         } else {
             is_read = is_read && source.is_empty();
         }
+    }
+    Ok(is_read)
+}
+
+// Adds lines of a run. Whether each tells something.
+fn add_lines(alloc: Global, source: &str, run: &mut Run) -> Result<bool, OutOfMemory> {
+    let mut is_read = true;
+    for line in source.split(" || ") {
+        is_read = is_read && run.add(alloc, line)?;
     }
     Ok(is_read)
 }
