@@ -1,14 +1,18 @@
 -- What comes of a call is what the server's stub makes of its request, and the client of the reply.
-use Rattle.std.proofs.Common.{◌≡◌, ℕ, ℤ, true, false, cond, List, Option, Some, None, Result, Ok, Err, refl, ap, ◌∙◌}
+use Rattle.std.proofs.Common.{inl, inr, ◌≡◌, ℕ, ℤ, true, false, cond, List, Option, Some, None, Result, Ok, Err, refl, ap, ◌∙◌}
 use Rattle.aidl_base.specs.Readings.{◌>>=◌}
 use Rattle.aidl_schema.specs.declared.schema.Decl.{Decl}
 use Rattle.aidl_schema.specs.Find.{methods_at}
 use Rattle.aidl_values.specs.Data.{Items}
 use Rattle.wire_model.specs.Calls.{AnswerData, descriptor, method_at, arguments, is_oneway}
-use Rattle.wire_model.specs.Outcome.{declared_as, method_like, view_arguments, seen_call, received_call, seen_answer, Done, oneway, done, outcome}
+use Rattle.wire_model.specs.Outcome.{OneFollows, declared_as, method_like, view_arguments, seen_call, received_call, seen_answer, Done, oneway, done, outcome}
 use Rattle.wire_model.specs.Receiver.{Received, left, called, or_status}
 use Rattle.wire_model.specs.Status.{bad_value, unknown_transaction}
 use Rattle.wire_model.proofs.received.Steps.{taken}
+
+pub turned : (A B : List Decl) → OneFollows A B → OneFollows B A
+turned A B (inl none) = inr none
+turned A B (inr none) = inl none
 
 module _ (A : List Decl) (i m : ℕ) (B : List Decl) (args : Items) (answer : AnswerData) where
   -- what follows the server's interface, and what its method sees

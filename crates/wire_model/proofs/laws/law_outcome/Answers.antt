@@ -1,18 +1,13 @@
-use Rattle.std.proofs.Common.{◌≡◌, ◌≤◌, ℤ, List, length, inl, inr, Some, Result, Ok, sym, ◌∙◌, ap, subst, arith}
+use Rattle.std.proofs.Common.{◌≡◌, ◌≤◌, ℤ, length, Some, Result, Ok, sym, ◌∙◌, ap, subst, arith}
 use Rattle.aidl_base.proofs.Bytes.{AreBytes}
-use Rattle.aidl_schema.specs.declared.schema.Decl.{Decl}
 use Rattle.aidl_values.specs.View.{views}
 use Rattle.wire_model.specs.Calls.{answer_of, code_at, descriptor}
 use Rattle.wire_model.specs.Outcome.{OneFollows, declared_as, received_call, Done, done, seen_answer}
 use Rattle.wire_model.specs.Receiver.{stub, client}
-use Rattle.wire_model.proofs.calls.Outcomes.{nowhere, refused, never_left, like, oneway_outcome, done_outcome}
+use Rattle.wire_model.proofs.calls.Outcomes.{turned, nowhere, refused, never_left, like, oneway_outcome, done_outcome}
 use Rattle.wire_model.proofs.calls.Replies.{reply_seen}
 use Rattle.wire_model.proofs.calls.Requests.{request_seen}
 use Rattle.wire_model.proofs.laws.law_outcome.Goals as goal
-
-turned : (A B : List Decl) → OneFollows A B → OneFollows B A
-turned A B (inl none) = inr none
-turned A B (inr none) = inl none
 
 pub returns : goal.returns
 returns c =

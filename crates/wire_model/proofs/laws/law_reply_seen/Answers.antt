@@ -3,6 +3,7 @@ use Rattle.aidl_base.proofs.Bytes.{AreBytes}
 use Rattle.wire_model.specs.Calls.{answer_of}
 use Rattle.wire_model.specs.Outcome.{seen_answer}
 use Rattle.wire_model.specs.Receiver.{client}
+use Rattle.wire_model.proofs.calls.Outcomes.{turned}
 use Rattle.wire_model.proofs.calls.Replies.{reply_seen}
 use Rattle.wire_model.proofs.laws.law_reply_seen.Goals as goal
 
@@ -17,5 +18,5 @@ returns c =
     let answer = answer_of c.args.answer.now in
     let bytes : AreBytes c.args.bytes.now = λ k. omega (arith, c.type_inv.bytes k) in
     subst (λ b. client c.args.profile A i m b ≡ seen_answer B j n A i m answer) (sym c.requires.spelled)
-    (reply_seen c.args.profile A B (c.law_meets.ensures c.requires.unbroken) c.law_sound.ensures (c.law_calls_meet.ensures c.requires.unbroken) c.law_valid.ensures.declarations i m j n answer
+    (reply_seen c.args.profile A B (c.law_meets.ensures (turned A B c.requires.unbroken)) c.law_sound.ensures (c.law_calls_meet.ensures (turned A B c.requires.unbroken)) c.law_valid.ensures.declarations i m j n answer
     c.requires.fits (subst AreBytes c.requires.spelled bytes) c.requires.shared c.requires.common)
