@@ -2,3 +2,4 @@ pub mod EarlyEnds
 pub mod Endings
 pub mod Loaded
 pub mod TreeFiles
+pub mod Writings
