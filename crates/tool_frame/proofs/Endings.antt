@@ -32,19 +32,19 @@ pub nothing_carried : (log : Option (List Carried)) → Adds log log []
 nothing_carried None = refl
 nothing_carried (Some before) = ap (λ now. Some now) (sym (append-nil before))
 
-abbrev Nothing : Writes
+abbrev pub Nothing : Writes
 Nothing files made = made ≡ []
 
-all_written : (kept : Option Files) → WroteAll Nothing kept kept
+pub all_written : (kept : Option Files) → WroteAll Nothing kept kept
 all_written None = refl
 all_written (Some files) = ([], refl, refl)
 
-some_written : (kept : Option Files) → WroteSome Nothing kept kept
+pub some_written : (kept : Option Files) → WroteSome Nothing kept kept
 some_written None = refl
 some_written (Some files) = inl refl
 
 -- no write was due, and so none failed
-failed : (kept now : Option Files) → now ≡ kept → FailedAt Nothing kept now
+pub failed : (kept now : Option Files) → now ≡ kept → FailedAt Nothing kept now
 failed None now same = same
 failed (Some files) now same = inl (inl same)
 
