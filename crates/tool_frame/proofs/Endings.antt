@@ -12,7 +12,7 @@ use Rattle.tool_frame.specs.declared.verdict.Verdict.{Verdict}
 use Rattle.tool_frame.specs.declared.verdict.Verdict.TheVariants.{Done, Negative, LimitPassed}
 use Rattle.tool_frame.specs.Answer.{Answer}
 use Rattle.tool_frame.specs.Ended.{Ended, Writes, WroteAll, WroteSome, FailedAt, CarriedThese, EndsAsMeant, PutsFront}
-use Rattle.tool_frame.specs.Meaning.{Write, reads_by}
+use Rattle.tool_frame.specs.Meaning.{reads_by}
 use Rattle.tool_frame.specs.Seen.{Seen}
 use Rattle.tool_frame.specs.Verdict.{exit_of, IsVerdict}
 use Rattle.tool_frame.specs.declared.printed.Early.{Early}
@@ -23,28 +23,28 @@ use Rattle.tool_frame.specs.steps.Prints.{Prints}
 use Rattle.tool_frame.specs.steps.Results.{Gives, GivesOne, printed}
 use Rattle.tool_frame.proofs.Loaded.{tells}
 
-verdict_exit : (v : Verdict) → IsVerdict (exit_of v)
+pub verdict_exit : (v : Verdict) → IsVerdict (exit_of v)
 verdict_exit Done = inl (omega arith)
 verdict_exit Negative = inl (omega arith)
 verdict_exit LimitPassed = inr refl
 
-nothing_carried : (log : Option (List Carried)) → Adds log log []
+pub nothing_carried : (log : Option (List Carried)) → Adds log log []
 nothing_carried None = refl
 nothing_carried (Some before) = ap (λ now. Some now) (sym (append-nil before))
 
-abbrev Nothing : Writes
+abbrev pub Nothing : Writes
 Nothing files made = made ≡ []
 
-all_written : (kept : Option Files) → WroteAll Nothing kept kept
+pub all_written : (kept : Option Files) → WroteAll Nothing kept kept
 all_written None = refl
 all_written (Some files) = ([], refl, refl)
 
-some_written : (kept : Option Files) → WroteSome Nothing kept kept
+pub some_written : (kept : Option Files) → WroteSome Nothing kept kept
 some_written None = refl
 some_written (Some files) = inl refl
 
 -- no write was due, and so none failed
-failed : (kept now : Option Files) → now ≡ kept → FailedAt Nothing kept now
+pub failed : (kept now : Option Files) → now ≡ kept → FailedAt Nothing kept now
 failed None now same = same
 failed (Some files) now same = inl (inl same)
 
@@ -52,45 +52,45 @@ failed (Some files) now same = inl (inl same)
 abbrev pub IsReadExit : ℕ → Type 0
 IsReadExit exit = IsVerdict exit ⊎ ((exit ≡ 3) ⊎ ((exit ≡ 4) ⊎ (exit ≡ 5)))
 
-not_verdict : (exit : ℕ) → 2 ≤ exit → exit ≤ 6 → IsVerdict exit → ⊥
+pub not_verdict : (exit : ℕ) → 2 ≤ exit → exit ≤ 6 → IsVerdict exit → ⊥
 not_verdict exit low high (inl small) = omega arith
 not_verdict exit low high (inr seven) = omega arith
 
-not_six : (exit : ℕ) → IsReadExit exit → exit ≡ 6 → ⊥
+pub not_six : (exit : ℕ) → IsReadExit exit → exit ≡ 6 → ⊥
 not_six exit (inl verdict) six = not_verdict exit (omega arith) (omega arith) verdict
 not_six exit (inr (inl three)) six = omega arith
 not_six exit (inr (inr (inl four))) six = omega arith
 not_six exit (inr (inr (inr five))) six = omega arith
 
-not_both : (exit : ℕ) → exit ≡ 3 → (exit ≡ 4) ⊎ (exit ≡ 5) → ⊥
+pub not_both : (exit : ℕ) → exit ≡ 3 → (exit ≡ 4) ⊎ (exit ≡ 5) → ⊥
 not_both exit three (inl four) = omega arith
 not_both exit three (inr five) = omega arith
 
-widened : (exit : ℕ) → IsReadExit exit → IsVerdict exit ⊎ ((exit ≡ 3) ⊎ ((exit ≡ 4) ⊎ ((exit ≡ 5) ⊎ (exit ≡ 6))))
+pub widened : (exit : ℕ) → IsReadExit exit → IsVerdict exit ⊎ ((exit ≡ 3) ⊎ ((exit ≡ 4) ⊎ ((exit ≡ 5) ⊎ (exit ≡ 6))))
 widened exit (inl verdict) = inl verdict
 widened exit (inr (inl three)) = inr (inl three)
 widened exit (inr (inr (inl four))) = inr (inr (inl four))
 widened exit (inr (inr (inr five))) = inr (inr (inr (inl five)))
 
-told_always : {A : Type 0} {Q : A → Type 0} (told : Option A) → ((a : A) → Q a) → Tells told Q
+pub told_always : {A : Type 0} {Q : A → Type 0} (told : Option A) → ((a : A) → Q a) → Tells told Q
 told_always None h = tt
 told_always (Some a) h = h a
 
 -- the exits of a print
-abbrev IsPrintExit : Answer → ℕ → Type 0
+abbrev pub IsPrintExit : Answer → ℕ → Type 0
 IsPrintExit a exit = (exit ≡ exit_of a.verdict) ⊎ ((exit ≡ 4) ⊎ (exit ≡ 5))
 
-exits_of : (a : Answer) (exit : ℕ) → IsPrintExit a exit → IsReadExit exit
+pub exits_of : (a : Answer) (exit : ℕ) → IsPrintExit a exit → IsReadExit exit
 exits_of a exit (inl e) = inl (subst IsVerdict (sym e) (verdict_exit a.verdict))
 exits_of a exit (inr (inl four)) = inr (inr (inl four))
 exits_of a exit (inr (inr five)) = inr (inr (inr five))
 
-not_three : (a : Answer) (exit : ℕ) → IsPrintExit a exit → exit ≡ 3 → ⊥
+pub not_three : (a : Answer) (exit : ℕ) → IsPrintExit a exit → exit ≡ 3 → ⊥
 not_three a exit (inl e) three = not_verdict exit (omega arith) (omega arith) (subst IsVerdict (sym e) (verdict_exit a.verdict))
 not_three a exit (inr (inl four)) three = omega arith
 not_three a exit (inr (inr five)) three = omega arith
 
-verdict_is : (a : Answer) (exit : ℕ) → IsPrintExit a exit → IsVerdict exit → exit ≡ exit_of a.verdict
+pub verdict_is : (a : Answer) (exit : ℕ) → IsPrintExit a exit → IsVerdict exit → exit ≡ exit_of a.verdict
 verdict_is a exit (inl e) verdict = e
 verdict_is a exit (inr (inl four)) verdict = absurd (not_verdict exit (omega arith) (omega arith) verdict)
 verdict_is a exit (inr (inr five)) verdict = absurd (not_verdict exit (omega arith) (omega arith) verdict)

@@ -1,3 +1,4 @@
+pub mod Acts
 pub mod Answer
 pub mod Course
 pub mod Ended

@@ -1,5 +1,5 @@
 -- What a command means over the files that a store told before.
-use Rattle.std.specs.Prelude.{◌≡◌, List, [], ◌∷◌, ◌++◌, Option, Some, None}
+use Rattle.std.specs.Prelude.{◌≡◌, Bool, true, false, List, [], ◌∷◌, ◌++◌, Option, Some, None}
 use Rattle.aidl_outside.specs.declared.link.Carried.{Carried}
 use Rattle.aidl_outside.specs.Files.{Files}
 use Rattle.aidl_outside.specs.Writes.{Write}
@@ -9,15 +9,16 @@ use Rattle.tool_frame.specs.Parcel.{Parcel, parcel_of}
 
 -- The files that it writes, in order, one list of them or none. The parcel that is due after those that were carried, by what was
 -- delivered; None where no more is. And its answers, one or none: while a parcel is due, the text of an answer is what is printed
--- before that one is carried.
+-- before that one is carried. A command either never carries, whatever the files are, or may.
 pub record Meaning : Type 1 where
+  pub may_carry : Bool
   pub writes : Files → List Write → Type 0
   pub due : Files → List Carried → Option Parcel → Type 0
   pub answers : Files → List Carried → Answer → Type 0
 
 -- a command that doesn't carry, by what it writes and what its answers are over the files
 abbrev pub writes_by : (Files → List Write → Type 0) → (Files → Answer → Type 0) → Meaning
-writes_by writes answers = record { writes = writes; due = λ files entries parcel. parcel ≡ None; answers = λ files entries answer. answers files answer }
+writes_by writes answers = record { may_carry = false; writes = writes; due = λ files entries parcel. parcel ≡ None; answers = λ files entries answer. answers files answer }
 
 -- a command that neither writes nor carries, by what its answers are over the files
 abbrev pub reads_by : (Files → Answer → Type 0) → Meaning
@@ -26,6 +27,7 @@ reads_by answers = writes_by (λ files made. made ≡ []) answers
 -- a command that writes nothing, by the courses that it may take over the files: one of them, or none
 abbrev pub carries_by : (Files → Course → Type 0) → Meaning
 carries_by takes = record {
+  may_carry = true;
   writes = λ files made. made ≡ [];
   due = λ files entries parcel. (course : Course) × takes files course × (parcel ≡ due_after course entries);
   answers = λ files entries answer. (course : Course) × takes files course × (answer ≡ answer_after course entries);
@@ -38,7 +40,7 @@ AreDue due before (entry ∷ entries) = due before (Some (parcel_of entry)) × A
 
 -- no parcel is ever due
 abbrev pub CarriesNothing : Meaning → Type 0
-CarriesNothing m = (files : Files) (entries : List Carried) (parcel : Parcel) → m.due files entries (Some parcel) → ⊥
+CarriesNothing m = m.may_carry ≡ false
 
 -- what words mean: nothing that is known, or a command
 pub data Meant : Type 1 where

@@ -1,5 +1,5 @@
 -- The refusals that several commands share, each a step of their answers.
-use Rattle.std.specs.Prelude.{ℕ, nat_lt, if◌then◌else◌, List, ◌++◌, length, Option, Some, None, Result, Ok, Err, codes}
+use Rattle.std.specs.Prelude.{ℕ, nat_lt, if◌then◌else◌, List, ◌++◌, length, Option, Some, None, Ok, Err, codes}
 use Rattle.std.specs.Option.{option_map}
 use Rattle.std.specs.FinMap.{get}
 use Rattle.aidl_base.specs.declared.limit.LimitName.{LimitName}

@@ -1,3 +1,5 @@
+pub mod Acts
+pub mod Courses
 pub mod Ends
 pub mod Prints
 pub mod Results
