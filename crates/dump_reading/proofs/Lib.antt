@@ -1,3 +1,5 @@
+pub mod WalksTotals
+pub mod WalksLists
 pub mod Plain
 pub mod Spelled
 pub mod Laid
@@ -14,3 +16,11 @@ pub mod TreesLines
 pub mod TreesDeclarations
 pub mod Paths
 pub mod NamesFiles
+pub mod Numbers
+pub mod Ordered
+pub mod Entries
+pub mod NamesMembers
+pub mod NamesResolved
+pub mod NamesStand
+pub mod NamesAccepted
+pub mod Enums

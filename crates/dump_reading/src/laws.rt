@@ -1,5 +1,6 @@
 ghost use Rattle.std.specs.Prelude.{◌≡◌, [], List, map};
 ghost use Rattle.aidl_names.specs.Rules.{UnknownImport, WrongFile, in_each, other_imports};
+ghost use Rattle.aidl_names.specs.Refusals.{IsAccepted};
 ghost use Rattle.aidl_names.specs.Sources.{Source};
 ghost use Rattle.dump_reading.specs.Dumped.{AreSources};
 ghost use Rattle.std.specs.Cmp.Lexicographic.{slice_cmp};
@@ -37,6 +38,13 @@ pub fn law_dump_tree(schema: &Schema)
 /// What stands for a canonical dump breaks neither E1 nor E3, and has no import.
 pub fn law_dump_imports(schema: &Schema)
     ensures { (files : List Source) → AreSources schema.now.decls (dump_text schema.now.decls) files → (WrongFile files ≡ []) × (UnknownImport files ≡ []) × (in_each other_imports 0 files ≡ []) }
+{
+    law_valid(schema);
+}
+
+/// What stands for a canonical dump passes no limit on declarations and breaks no rule of the names stage.
+pub fn law_dump_names(schema: &Schema)
+    ensures { (files : List Source) → AreSources schema.now.decls (dump_text schema.now.decls) files → IsAccepted files }
 {
     law_valid(schema);
 }
