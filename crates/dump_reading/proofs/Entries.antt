@@ -25,7 +25,7 @@ use Rattle.api_dump.specs.Dump.{File, file_of, top_level, dump_text}
 use Rattle.dump_reading.specs.Bare.{bare_decl, bare_body, bare_members, bare_file}
 use Rattle.dump_reading.specs.DumpTrees.{each_before, constants_before, body_tree, decl_tree, decl_before, nested_trees, file_tree, field_tree, constant_tree, method_tree}
 use Rattle.dump_reading.specs.Dumped.{IsSourceOf, AreSources}
-use Rattle.dump_reading.proofs.WalksLists.{there-kept, there-last, there-cases}
+use Rattle.tree_schema.proofs.WalksLists.{there-kept, there-last, there-cases}
 use Rattle.dump_reading.proofs.FitsValues.{has_part, name_parts}
 use Rattle.dump_reading.proofs.Files.{none_is}
 use Rattle.dump_reading.proofs.NamesFiles.{package_is, name_is}

@@ -1,5 +1,3 @@
-pub mod WalksTotals
-pub mod WalksLists
 pub mod Plain
 pub mod Spelled
 pub mod Laid
@@ -24,3 +22,4 @@ pub mod NamesResolved
 pub mod NamesStand
 pub mod NamesAccepted
 pub mod Enums
+pub mod Declared

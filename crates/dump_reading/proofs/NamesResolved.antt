@@ -34,7 +34,7 @@ use Rattle.api_dump.specs.Pieces.{ident}
 use Rattle.api_dump.specs.Types.{base_name, declared_name}
 use Rattle.dump_reading.specs.Bare.{bare_body, bare_decl}
 use Rattle.dump_reading.specs.DumpTrees.{body_tree, nested_trees, constants_before}
-use Rattle.dump_reading.proofs.WalksLists.{first-passes}
+use Rattle.tree_schema.proofs.WalksLists.{first-passes}
 use Rattle.dump_reading.proofs.Spelled.{name_spelled}
 use Rattle.dump_reading.proofs.Texts.{ascii_same, word_ascii}
 use Rattle.dump_reading.proofs.FitsValues.{are_identifiers, name_parts}

@@ -19,8 +19,8 @@ use Rattle.aidl_schema.specs.Same.{same_idents}
 use Rattle.aidl_schema.proofs.Sames.{same_idents_is}
 use Rattle.api_dump.specs.Declarations.{inside}
 use Rattle.api_dump.specs.Dump.{top_level}
-use Rattle.dump_reading.proofs.WalksTotals.{total, total-append, total-plus, total-length, total-enumerate}
-use Rattle.dump_reading.proofs.WalksLists.{mapped-there, there-mapped, first-found, first-passes, one-place}
+use Rattle.tree_schema.proofs.WalksTotals.{total, total-append, total-plus, total-length, total-enumerate}
+use Rattle.tree_schema.proofs.WalksLists.{mapped-there, there-mapped, first-found, first-passes, one-place}
 use Rattle.dump_reading.proofs.FitsValues.{has_part, name_parts}
 use Rattle.dump_reading.proofs.Spelled.{is_equal}
 

@@ -2,6 +2,7 @@ ghost use Rattle.std.specs.Prelude.{◌≡◌, [], List, map};
 ghost use Rattle.aidl_names.specs.Rules.{UnknownImport, WrongFile, in_each, other_imports};
 ghost use Rattle.aidl_names.specs.Refusals.{IsAccepted};
 ghost use Rattle.aidl_names.specs.Sources.{Source};
+ghost use Rattle.dump_reading.specs.Declared.{AreDeclared};
 ghost use Rattle.dump_reading.specs.Dumped.{AreSources};
 ghost use Rattle.std.specs.Cmp.Lexicographic.{slice_cmp};
 ghost use Rattle.std.specs.List.Sorted.{IsStrictlySortedBy};
@@ -42,9 +43,11 @@ pub fn law_dump_imports(schema: &Schema)
     law_valid(schema);
 }
 
-/// What stands for a canonical dump passes no limit on declarations and breaks no rule of the names stage.
+/// What stands for a canonical dump has exactly the declarations of the schema, passes no limit on declarations and breaks no
+/// rule of the names stage.
 pub fn law_dump_names(schema: &Schema)
-    ensures { (files : List Source) → AreSources schema.now.decls (dump_text schema.now.decls) files → IsAccepted files }
+    ensures declared { (files : List Source) → AreSources schema.now.decls (dump_text schema.now.decls) files → AreDeclared schema.now.decls files }
+    ensures accepted { (files : List Source) → AreSources schema.now.decls (dump_text schema.now.decls) files → IsAccepted files }
 {
     law_valid(schema);
 }
