@@ -23,3 +23,9 @@ pub mod NamesStand
 pub mod NamesAccepted
 pub mod Enums
 pub mod Declared
+pub mod ConstLiterals
+pub mod ConstOutcomes
+pub mod ConstShapes
+pub mod ConstItems
+pub mod ConstMembers
+pub mod ConstGiven
