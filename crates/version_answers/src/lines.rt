@@ -62,6 +62,18 @@ fn push_torn(
 ) -> Result<(), OutOfMemory>
     ensures { OnOk result (string_bytes text.new ≡ string_bytes text.old ++ meant.torn_words kept.now defined.now) }
 {
+    push_reason(alloc, kept, text)?;
+    push_digits(alloc, defined, text)
+}
+
+/// Adds why a version isn't whole: `missing ` or `kept BYTES `.
+pub fn push_reason(
+    alloc: Global,
+    kept: &Option<Row<u8>>,
+    text: &mut String,
+) -> Result<(), OutOfMemory>
+    ensures { OnOk result (string_bytes text.new ≡ string_bytes text.old ++ meant.reason kept.now) }
+{
     match kept {
         None => text.push_str("missing ")?,
         Some(kept) => {
@@ -70,7 +82,7 @@ fn push_torn(
             text.push_str(" ")?;
         }
     }
-    push_digits(alloc, defined, text)
+    Ok(())
 }
 
 // Adds bytes in hexadecimal, `-` for none.
