@@ -43,8 +43,12 @@ fn torn_line(
 fn push_forty(whole: &str, text: &mut String) -> Result<(), OutOfMemory>
     ensures { OnOk result (string_bytes text.new ≡ string_bytes text.old ++ encode_utf8_all (take 40 (chars whole.now))) }
 {
-    for c in whole.chars().take(40) {
-        text.push(c)?;
+    let mut left = 40;
+    for c in whole.chars() {
+        if left > 0 {
+            text.push(c)?;
+            left -= 1;
+        }
     }
     Ok(())
 }
