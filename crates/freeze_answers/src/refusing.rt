@@ -37,7 +37,7 @@ pub fn unfrozen(alloc: Global, api: &str, fault: FreezeFault) -> Result<Early, S
             version,
             kept,
             defined,
-        } => Ok(torn(alloc, version, &kept, defined.as_str())),
+        } => Ok(torn(alloc, version, &kept, &defined)),
         FreezeFault::Unreadable {
             version,
             files,

@@ -41,6 +41,6 @@ version_line v = line (decimal v.number ++ (codes " " ++ version_words v))
 abbrev pub bad_versions : ℕ → Answer
 bad_versions missing = negative (codes "bad versions missing " ++ decimal missing)
 
--- `torn N missing HASH` or `torn N kept BYTES HASH`
+-- `torn N missing HASH` or `torn N kept BYTES HASH`, by the text that its `.hash` is to have
 abbrev pub torn : ℕ → Option (List ℕ) → List ℕ → Answer
-torn version kept text = negative (codes "torn " ++ (decimal version ++ (codes " " ++ torn_words kept text)))
+torn version kept text = negative (codes "torn " ++ (decimal version ++ (codes " " ++ torn_words kept (encode_utf8_all text))))

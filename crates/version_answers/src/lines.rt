@@ -54,7 +54,8 @@ fn push_whole(alloc: Global, kept: &Option<Row<u8>>, text: &mut String) -> Resul
     }
 }
 
-fn push_torn(
+/// Adds the words of a version that isn't whole, by the text that its `.hash` is to have: `missing HASH` or `kept BYTES HASH`.
+pub fn push_torn(
     alloc: Global,
     kept: &Option<Row<u8>>,
     defined: &[u8],
@@ -66,8 +67,8 @@ fn push_torn(
     push_digits(alloc, defined, text)
 }
 
-/// Adds why a version isn't whole: `missing ` or `kept BYTES `.
-pub fn push_reason(
+// Adds why a version isn't whole: `missing ` or `kept BYTES `.
+fn push_reason(
     alloc: Global,
     kept: &Option<Row<u8>>,
     text: &mut String,

@@ -42,7 +42,7 @@ pub fn unhashed(alloc: Global, fault: FreezeFault) -> Result<Early, StoreFault>
             version,
             kept,
             defined,
-        } => Ok(torn(alloc, version, &kept, defined.as_str())),
+        } => Ok(torn(alloc, version, &kept, &defined)),
         FreezeFault::Limit(limit) => Ok(limit_passed(alloc, limit)),
         FreezeFault::ReadFault => Err(StoreFault::Failed),
         FreezeFault::WriteFault => Err(StoreFault::Failed),
