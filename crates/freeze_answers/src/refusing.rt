@@ -88,6 +88,7 @@ fn incompatible(alloc: Global, rows: Row<Broken>) -> Early
 }
 
 // The lines for the latest version, whose files aren't a checked tree.
+#[tactic(auto, using(crate::proofs::Behind::unreadable_ends))]
 fn unreadable(
     alloc: Global,
     api: &str,
