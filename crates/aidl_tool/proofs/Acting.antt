@@ -16,7 +16,8 @@ use Rattle.aidl_tool.specs.steps.Left.{LeftBy}
 use Rattle.aidl_tool.specs.steps.Opens.{Opens}
 use Rattle.api_freeze.specs.declared.freezing.Frozen.{Frozen}
 use Rattle.api_freeze.specs.Freeze as freeze
-use Rattle.api_freeze.specs.Rehash.{hash_writes, rehash_at, rehash_of, rehash_writes, stale_numbers, whole_writes, writes_of}
+use Rattle.api_freeze.specs.Rehash.{hash_writes, rehash_at, rehash_of, rehash_writes, stale_numbers, whole_writes}
+use Rattle.api_freeze.specs.Rehash.{writes_of as writes_for}
 use Rattle.api_versions.specs.declared.fault.FreezeFault.{FreezeFault}
 use Rattle.api_versions.specs.declared.fault.FreezeFault.TheVariants as fault
 use Rattle.api_versions.specs.declared.version.Version.{Version}
@@ -143,6 +144,11 @@ module _ (acts : Files → Acts) (files : Files) (ws : List Write) (a : Answer) 
   lost_late end e (made, rest, split, wrote) =
       subst (λ r. ActsAs acts (Some files) now (ended r)) (sym e) (inr (made, rest, (a, subst (λ l. acts files l a) split is), wrote))
 
+-- the refusal, where it is one
+abbrev refusal_or : FreezeFault → Result Frozen FreezeFault → FreezeFault
+refusal_or other (Ok f) = other
+refusal_or other (Err e) = e
+
 -- Freezing.
 module _ (api : List ℕ) (S : List Decl) where
   abbrev FreezesOf : Files → Acts
@@ -164,20 +170,20 @@ module _ (api : List ℕ) (S : List Decl) where
 
     -- a refusal of the versions that were read, or of what refuses these
     plain_read : (vs : List Version) (e : FreezeFault) (end : Result Early StoreFault) → IsFound (Ok vs) → now ≡ Some files → freeze.RefusedAs vs S e → EndsIn (IsUnfrozen api e) end → ActsAs FreezesOf (Some files) now (ended end)
-    plain_read vs e end is same refused ends = refused_unwritten FreezesOf files now same (IsUnfrozen api e) end (λ a h. carried (Ok vs) [] a is (inr (refl, e, refused, h))) ends
+    plain_read vs e end is same refused ends = refused_unwritten FreezesOf files now same (IsUnfrozen api e) end (λ a h. carried (Ok vs) [] a is (inr (refl, (e, refused, h)))) ends
 
-    plain_unread : (r e : FreezeFault) (end : Result Early StoreFault) → IsFound (Err r) → now ≡ Some files → Err {A = Frozen} r ≡ Err e → EndsIn (IsUnfrozen api e) end → ActsAs FreezesOf (Some files) now (ended end)
+    plain_unread : (r e : FreezeFault) (end : Result Early StoreFault) → IsFound (Err r) → now ≡ Some files → ◌≡◌ {A = Result Frozen FreezeFault} (Err r) (Err e) → EndsIn (IsUnfrozen api e) end → ActsAs FreezesOf (Some files) now (ended end)
     plain_unread r e end is same one ends =
-        let which : r ≡ e = cc in
+        let which : r ≡ e = ap (refusal_or r) one in
         refused_unwritten FreezesOf files now same (IsUnfrozen api e) end (λ a h. carried (Err r) [] a is (refl, subst (λ x. IsUnfrozen api x a) (sym which) h)) ends
 
     refused_read : (vs : List Version) (e : FreezeFault) (end : Result Early StoreFault) → IsFound (Ok vs) → freeze.Freezes api vs S (Some files) now (Err e) → EndsBy (IsUnfrozen api) e end → ActsAs FreezesOf (Some files) now (ended end)
     refused_read vs (fault.BadVersions missing) end is told ends = absurd told
-    refused_read vs (fault.Torn version kept text) end is told ends = plain_read vs _ end is told.0 told.1 ends
-    refused_read vs (fault.Unreadable version sources why) end is told ends = plain_read vs _ end is told.0 told.1 ends
-    refused_read vs (fault.Unchanged version) end is told ends = plain_read vs _ end is told.0 told.1 ends
-    refused_read vs (fault.Incompatible rows) end is told ends = plain_read vs _ end is told.0 told.1 ends
-    refused_read vs (fault.Limit limit) end is told ends = plain_read vs _ end is told.0 told.1 ends
+    refused_read vs (fault.Torn version kept text) end is told ends = plain_read vs (fault.Torn version kept text) end is told.0 told.1 ends
+    refused_read vs (fault.Unreadable version sources why) end is told ends = plain_read vs (fault.Unreadable version sources why) end is told.0 told.1 ends
+    refused_read vs (fault.Unchanged version) end is told ends = plain_read vs (fault.Unchanged version) end is told.0 told.1 ends
+    refused_read vs (fault.Incompatible rows) end is told ends = plain_read vs (fault.Incompatible rows) end is told.0 told.1 ends
+    refused_read vs (fault.Limit limit) end is told ends = plain_read vs (fault.Limit limit) end is told.0 told.1 ends
     refused_read vs fault.ReadFault end is told ends = failed_unwritten FreezesOf files now told end ends
     refused_read vs fault.WriteFault end is (sources, ready, failed) ends =
         failed_late FreezesOf files (freeze.version_writes api (freeze.next vs) sources) (frozen (freeze.next vs) (freeze.hash_digits sources (freeze.next vs)))
@@ -188,12 +194,12 @@ module _ (api : List ℕ) (S : List Decl) where
         (carried (Ok vs) _ _ is (inl (sources, ready, refl, refl))) now end ends some
 
     refused_unread : (r e : FreezeFault) (end : Result Early StoreFault) → IsFound (Err r) → now ≡ Some files → Refuses {A = Frozen} (Err r) e → EndsBy (IsUnfrozen api) e end → ActsAs FreezesOf (Some files) now (ended end)
-    refused_unread r (fault.BadVersions missing) end is same one ends = plain_unread r _ end is same one ends
-    refused_unread r (fault.Torn version kept text) end is same one ends = plain_unread r _ end is same one ends
-    refused_unread r (fault.Unreadable version sources why) end is same one ends = plain_unread r _ end is same one ends
-    refused_unread r (fault.Unchanged version) end is same one ends = plain_unread r _ end is same one ends
-    refused_unread r (fault.Incompatible rows) end is same one ends = plain_unread r _ end is same one ends
-    refused_unread r (fault.Limit limit) end is same one ends = plain_unread r _ end is same one ends
+    refused_unread r (fault.BadVersions missing) end is same one ends = plain_unread r (fault.BadVersions missing) end is same one ends
+    refused_unread r (fault.Torn version kept text) end is same one ends = plain_unread r (fault.Torn version kept text) end is same one ends
+    refused_unread r (fault.Unreadable version sources why) end is same one ends = plain_unread r (fault.Unreadable version sources why) end is same one ends
+    refused_unread r (fault.Unchanged version) end is same one ends = plain_unread r (fault.Unchanged version) end is same one ends
+    refused_unread r (fault.Incompatible rows) end is same one ends = plain_unread r (fault.Incompatible rows) end is same one ends
+    refused_unread r (fault.Limit limit) end is same one ends = plain_unread r (fault.Limit limit) end is same one ends
     refused_unread r fault.ReadFault end is same one ends = failed_unwritten FreezesOf files now same end ends
     refused_unread r fault.WriteFault end is same one ends = failed_unwritten FreezesOf files now same end ends
     refused_unread r fault.OutOfMemory end is same one ends = lost_unwritten FreezesOf files now same end ends
@@ -222,11 +228,11 @@ no_first [] rest e = refl
 no_first (m ∷ made) rest e = absurd cc
 
 -- where hashing is refused, no write is due
-by_whole : (api : List ℕ) (vs : List Version) (e : FreezeFault) (whole : Result (Unit {0}) FreezeFault) → (whole >>= λ x. Ok (stale_numbers vs)) ≡ Err e → writes_of (λ x. hash_writes api vs) whole ≡ []
+by_whole : (api : List ℕ) (vs : List Version) (e : FreezeFault) (whole : Result (Unit {0}) FreezeFault) → (whole >>= λ x. Ok (stale_numbers vs)) ≡ Err e → writes_for (λ x. hash_writes api vs) whole ≡ []
 by_whole api vs e (Ok x) h = absurd cc
 by_whole api vs e (Err r) h = refl
 
-none_due : (api : List ℕ) (given : Result (List Version) FreezeFault) (e : FreezeFault) → (given >>= rehash_of) ≡ Err e → writes_of (whole_writes api) given ≡ []
+none_due : (api : List ℕ) (given : Result (List Version) FreezeFault) (e : FreezeFault) → (given >>= rehash_of) ≡ Err e → writes_for (whole_writes api) given ≡ []
 none_due api (Ok vs) e h = by_whole api vs e (all_whole vs) h
 none_due api (Err r) e h = refl
 
@@ -257,12 +263,12 @@ module _ (api : List ℕ) (files : Files) (now : Option Files) where
       lost_unwritten Hashes files now (subst (λ ws. Wrote ws (Some files) now) none wrote) end ends
 
   unhashed_told : (e : FreezeFault) (end : Result Early StoreFault) → Refuses (rehash_at files api) e → Left {A = List ℕ} (rehash_writes files api) (Some files) now (Err e) → EndsBy IsUnhashed e end → ActsAs Hashes (Some files) now (ended end)
-  unhashed_told (fault.BadVersions missing) end is left ends = unhashed_plain _ end is left ends
-  unhashed_told (fault.Torn version kept text) end is left ends = unhashed_plain _ end is left ends
-  unhashed_told (fault.Unreadable version sources why) end is left ends = unhashed_plain _ end is left ends
-  unhashed_told (fault.Unchanged version) end is left ends = unhashed_plain _ end is left ends
-  unhashed_told (fault.Incompatible rows) end is left ends = unhashed_plain _ end is left ends
-  unhashed_told (fault.Limit limit) end is left ends = unhashed_plain _ end is left ends
+  unhashed_told (fault.BadVersions missing) end is left ends = unhashed_plain (fault.BadVersions missing) end is left ends
+  unhashed_told (fault.Torn version kept text) end is left ends = unhashed_plain (fault.Torn version kept text) end is left ends
+  unhashed_told (fault.Unreadable version sources why) end is left ends = unhashed_plain (fault.Unreadable version sources why) end is left ends
+  unhashed_told (fault.Unchanged version) end is left ends = unhashed_plain (fault.Unchanged version) end is left ends
+  unhashed_told (fault.Incompatible rows) end is left ends = unhashed_plain (fault.Incompatible rows) end is left ends
+  unhashed_told (fault.Limit limit) end is left ends = unhashed_plain (fault.Limit limit) end is left ends
   unhashed_told fault.ReadFault end is left ends = failed_unwritten Hashes files now left end ends
   unhashed_told fault.WriteFault end is left ends = failed_by (rehash_at files api) end refl ends left
   unhashed_told fault.OutOfMemory end is left ends = lost_by (rehash_at files api) end refl ends left
