@@ -8,9 +8,11 @@ mod methods;
 mod objects;
 mod pieces;
 mod putting;
+mod running;
 mod values;
 
 pub use cutting::lines_within;
 pub use judging::judge_both;
 pub use objects::push_line;
 pub use pieces::{line_piece, trace_lines};
+pub use running::{run_lines, run_trees};
