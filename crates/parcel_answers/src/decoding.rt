@@ -129,9 +129,9 @@ fn push_value(
     Ok(())
 }
 
-// A value as compact JSON.
+/// A value of a type as compact JSON. Memory may be wanted.
 #[tactic(auto, using(crate::proofs::NoFloat::no_float))]
-fn value_text(
+pub fn value_text(
     alloc: Global,
     schema: &Schema,
     ty: &AidlType,

@@ -10,6 +10,6 @@ mod lines;
 mod steps;
 mod types;
 
-pub use decoding::decode;
+pub use decoding::{decode, value_text};
 pub use encoding::encode;
 pub use steps::parcel_of;

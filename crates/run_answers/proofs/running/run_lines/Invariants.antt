@@ -1,0 +1,18 @@
+use Rattle.std.proofs.Common.{◌≤◌, ◌+◌, length}
+use Rattle.run_answers.specs.CallLines.{lines_of}
+use Rattle.run_answers.specs.Running.{lines_course}
+use Rattle.tool_frame.specs.steps.Courses.{Went, seen_alone}
+use Rattle.run_answers.proofs.running.run_lines.Given as goal
+
+-- so far the lines went well, up to those that are left
+abbrev pub invariant-loop-rest : goal.invariant-loop-rest
+invariant-loop-rest g l = record {
+  went : Went (lines_course l.profile l.client.schema.now.decls l.server.schema.now.decls l.trace 1 (lines_of l.fn.calls))
+      (lines_course l.profile l.client.schema.now.decls l.server.schema.now.decls l.trace l.number (lines_of l.rest))
+      (seen_alone g.K.Sink.told g.K.Sink.count g.L.Link.log g.L.Link.is_faithful g.L.Link.count l.fn.sink l.fn.link)
+      (seen_alone g.K.Sink.told g.K.Sink.count g.L.Link.log g.L.Link.is_faithful g.L.Link.count l.sink l.link);
+  few : l.number + length l.rest ≤ length l.fn.calls + 1;
+}
+
+abbrev pub decreases-loop-rest : goal.decreases-loop-rest
+decreases-loop-rest g l = length l.rest
