@@ -1,9 +1,11 @@
 //! The lines of a calls file, run one after the other.
-ghost use Rattle.std.specs.Prelude.{◌≡◌, IfOk};
+ghost use Rattle.std.specs.Prelude.{◌≡◌, ◌≢◌, true, false, IfErr, IfOk};
+ghost use Rattle.aidl_outside.specs.Told.{Adds};
 ghost use Rattle.call_runner.specs.Runs.{IsTyped, line_data};
 ghost use Rattle.call_scripts.specs.Planned.{ArePlansOf};
 ghost use Rattle.call_scripts.specs.Script.{script};
 ghost use Rattle.run_answers.specs.CallLines.{lines_of};
+ghost use Rattle.run_answers.specs.Projected.{projected_line, projected_text};
 ghost use Rattle.run_answers.specs.Running.{line_course, lines_course, piece, run_course};
 ghost use Rattle.run_answers.specs.steps.Steps.{PutsText, Steps};
 ghost use Rattle.tool_frame.specs.Course.{Course};
@@ -35,8 +37,11 @@ pub fn run_trees<K: Sink, L: Link>(
     sink: &mut K,
     link: &mut L,
 ) -> u8
-    ensures { let seen = seen_alone K.told K.count L.log L.is_faithful L.count in
+    ensures ran { let seen = seen_alone K.told K.count L.log L.is_faithful L.count in
         RanCourse (run_course profile client.now.decls server.now.decls trace calls.now) (seen sink.old link.old) (seen sink.new link.new) result }
+    // Over a faithful link, between two schemas of which one may follow the other, the lines that are put have no byte of a parcel in them.
+    ensures projected { OneFollows client.now.decls server.now.decls → L.is_faithful link.old ≡ true → trace ≡ false → result ≡ 0
+        → Adds (K.told sink.old) (K.told sink.new) (projected_text client.now.decls server.now.decls 1 (lines_of calls.now)) }
 {
     match judge_both(alloc, client, server) {
         Ok(None) => run_judged(alloc, profile, client, server, trace, calls, sink, link),
@@ -57,8 +62,10 @@ fn run_judged<K: Sink, L: Link>(
     link: &mut L,
 ) -> u8
     requires { OneFollows client.now.decls server.now.decls }
-    ensures { let seen = seen_alone K.told K.count L.log L.is_faithful L.count in
+    ensures ran { let seen = seen_alone K.told K.count L.log L.is_faithful L.count in
         RanCourse (lines_course profile client.now.decls server.now.decls trace 1 (lines_of calls.now)) (seen sink.old link.old) (seen sink.new link.new) result }
+    ensures projected { L.is_faithful link.old ≡ true → trace ≡ false → result ≡ 0
+        → Adds (K.told sink.old) (K.told sink.new) (projected_text client.now.decls server.now.decls 1 (lines_of calls.now)) }
 {
     match both_plans(alloc, client, server) {
         Ok((client_plans, server_plans)) => {
@@ -123,6 +130,8 @@ pub fn run_lines<K: Sink, L: Link>(
     requires ways { SameWays client.now.schema.now.decls server.now.schema.now.decls }
     ensures ran { let seen = seen_alone K.told K.count L.log L.is_faithful L.count in
         RanCourse (lines_course profile client.now.schema.now.decls server.now.schema.now.decls trace 1 (lines_of calls.now)) (seen sink.old link.old) (seen sink.new link.new) result }
+    ensures projected { let A = client.now.schema.now.decls in let B = server.now.schema.now.decls in OneFollows A B → L.is_faithful link.old ≡ true → trace ≡ false → result ≡ 0
+        → Adds (K.told sink.old) (K.told sink.new) (projected_text A B 1 (lines_of calls.now)) }
 {
     let mut rest = calls;
     let mut number = 1;
@@ -158,6 +167,9 @@ fn run_next<K: Sink, L: Link>(
     requires ways { SameWays client.now.schema.now.decls server.now.schema.now.decls }
     ensures steps { let seen = seen_alone K.told K.count L.log L.is_faithful L.count in let A = client.now.schema.now.decls in let B = server.now.schema.now.decls in
         (next : Course) → Steps (line_course profile A B trace number (script A B line.now) next) next (seen sink.old link.old) (seen sink.new link.new) result }
+    ensures exits { IfErr result (λ exit. exit ≢ 0) }
+    ensures projected { let A = client.now.schema.now.decls in let B = server.now.schema.now.decls in OneFollows A B → L.is_faithful link.old ≡ true → trace ≡ false
+        → IfOk result (λ u. Adds (K.told sink.old) (K.told sink.new) (projected_line A B number (script A B line.now))) }
 {
     match run_line(alloc, profile, client, server, line, link) {
         Ok(run) => put_line(alloc, client, server, trace, number, &run, sink),
