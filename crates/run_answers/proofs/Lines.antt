@@ -1,6 +1,7 @@
 -- What a line of a calls file adds to a run.
-use Rattle.std.proofs.Common.{◌≡◌, ℕ, ◌+◌, ℤ, Bool, true, List, [], ◌∷◌, ◌++◌, Option, Some, None, Result, Ok, Err, refl, sym, ap, subst, arith, inl, inr}
+use Rattle.std.proofs.Common.{◌≡◌, ℕ, suc, ◌+◌, ◌==◌, ℤ, Bool, true, List, [], ◌∷◌, ◌++◌, length, Option, Some, None, Result, Ok, Err, refl, sym, ap, ◌∙◌, subst, arith, inl, inr}
 use Rattle.std.specs.Prelude.{◌≢◌, ◌⊎◌, ⊤}
+use Rattle.std.proofs.lemmas.Bool.{eqb-true}
 use Rattle.aidl_base.specs.declared.profile.Profile.{Profile}
 use Rattle.aidl_outside.specs.declared.link.Carried.{Carried}
 use Rattle.aidl_outside.specs.Causes.{Rose}
@@ -18,13 +19,14 @@ use Rattle.call_scripts.specs.Script.{script}
 use Rattle.run_answers.specs.CallLines.{lines_of}
 use Rattle.run_answers.specs.Running.{call_piece, line_course, lines_course, piece, reply_course, reply_parcel}
 use Rattle.run_answers.specs.steps.Steps.{IsCut, PutsText, Steps}
-use Rattle.tool_frame.specs.Course.{Course, prints, due_after, answer_after}
+use Rattle.tool_frame.specs.Course.{Course, ends, prints, due_after, answer_after}
+use Rattle.tool_frame.specs.declared.verdict.Verdict.TheVariants.{Done}
 use Rattle.tool_frame.specs.Meaning.{AreDue}
 use Rattle.tool_frame.specs.Parcel.{Parcel, parcel_of}
 use Rattle.tool_frame.specs.Seen.{Seen}
 use Rattle.tool_frame.specs.Verdict.{IsVerdict}
 use Rattle.tool_frame.specs.steps.Courses.{due_in, AreFaithful, CarriedBy, ComesTo, RanCourse, StopsCourse, Went}
-use Rattle.tool_frame.proofs.Courses.{comes_on, due_front, nothing_told, put_cut, put_went, went_ended, went_on}
+use Rattle.tool_frame.proofs.Courses.{comes_on, due_front, nothing_told, put_cut, put_went, ran_end, went_ended, went_on}
 use Rattle.tool_frame.proofs.Endings.{not_verdict}
 use Rattle.wire_model.specs.Calls.{AnswerData}
 use Rattle.wire_model.specs.Receiver.{Received, client}
@@ -199,3 +201,13 @@ module _ (p : Profile) (A B : List Decl) (trace : Bool) (k : ℕ) (whole : Cours
 
   pub next_ended : (exit : ℕ) → RanCourse (line_course p A B trace k (script A B line) left) now later exit → RanCourse whole start later exit
   next_ended exit ran = went_ended whole (line_course p A B trace k (script A B line) left) start now so_far later exit ran
+
+-- No line is left.
+pub lines_ended : (p : Profile) (A B : List Decl) (trace : Bool) (k : ℕ) (whole : Course) (rest : List ℕ) (start now : Seen) → rest ≡ []
+    → Went whole (lines_course p A B trace k (lines_of rest)) start now → RanCourse whole start now 0
+lines_ended p A B trace k whole rest start now none went =
+    went_ended whole (ends Done) start now (subst (λ xs. Went whole (lines_course p A B trace k (lines_of xs)) start now) none went) now 0 (ran_end now)
+
+pub empty_list : (xs : List ℕ) (t : Bool) → t ≡ (length xs == 0) → t ≡ true → xs ≡ []
+empty_list [] t e f = refl
+empty_list (x ∷ xs) t e f = let none : suc (length xs) ≡ 0 = eqb-true (length (x ∷ xs)) 0 (sym e ∙ f) in absurd (omega arith)

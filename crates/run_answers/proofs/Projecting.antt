@@ -86,6 +86,10 @@ module _ (A B : List Decl) (k : ℕ) (rest line after : List ℕ) (whole : List 
       completes later (subst (λ ls. Adds now later (projected_text A B k ls)) (sym cuts)
       (adds_both now mid later (projected_line A B k (script A B line)) (projected_text A B (k + 1) (lines_of after)) put more))
 
+pub lines_added : (A B : List Decl) (k : ℕ) (rest whole : List ℕ) (start now : Option (List ℕ)) → rest ≡ []
+    → ((later : Option (List ℕ)) → Adds now later (projected_text A B k (lines_of rest)) → Adds start later whole) → Adds start now whole
+lines_added A B k rest whole start now none completes = completes now (subst (λ xs. Adds now now (projected_text A B k (lines_of xs))) (sym none) (nothing_told now))
+
 -- where one of two may follow the other, no answer of the judge is printed
 follows_alone : (there back : List Break) → (there ≡ []) ⊎ (back ≡ []) → (lines : Course) → judged_course there back lines ≡ lines
 follows_alone [] back one lines = refl
