@@ -77,7 +77,7 @@ returns-then-is_empty-clause-projected g c =
         (g.K.Sink.told c.run_next.new.sink) (empty_list c.cut.result.1.now c.is_empty-in-loop-rest.result c.is_empty-in-loop-rest.ensures c.if-is_empty.true)
         (next_added A B c.loop-rest.number c.loop-rest.rest.now c.cut.result.0.now c.cut.result.1.now (projected_text A B 1 (lines_of c.args.calls.now)) (g.K.Sink.told c.args.sink.now)
           (g.K.Sink.told c.loop-rest.sink) c.cut.ensures.lines (c.loop-rest.invariant.completes one faithful quiet) (g.K.Sink.told c.run_next.new.sink)
-          (c.in_default.ensures.projected one (still_faithful _ _ _ _ c.loop-rest.invariant.went faithful) quiet))
+          (c.in_default.ensures.projected one (still_faithful (g.L.Link.is_faithful c.args.link.now) (g.L.Link.is_faithful c.loop-rest.link) c.loop-rest.invariant.went.link_nature faithful) quiet))
 
 pub loop-rest-preserved : goal.loop-rest-preserved
 loop-rest-preserved g c =
@@ -93,7 +93,7 @@ loop-rest-preserved g c =
       completes = λ one faithful quiet.
           (next_added A B c.loop-rest.number c.loop-rest.rest.now c.cut.result.0.now c.cut.result.1.now (projected_text A B 1 (lines_of c.args.calls.now)) (g.K.Sink.told c.args.sink.now)
           (g.K.Sink.told c.loop-rest.sink) c.cut.ensures.lines (c.loop-rest.invariant.completes one faithful quiet) (g.K.Sink.told c.run_next.new.sink)
-          (c.in_default.ensures.projected one (still_faithful _ _ _ _ c.loop-rest.invariant.went faithful) quiet));
+          (c.in_default.ensures.projected one (still_faithful (g.L.Link.is_faithful c.args.link.now) (g.L.Link.is_faithful c.loop-rest.link) c.loop-rest.invariant.went.link_nature faithful) quiet));
       few = omega arith;
     }
 
