@@ -61,7 +61,7 @@ use Rattle.dump_reading.proofs.ConstLiterals.{Fits, value_fits}
 use Rattle.dump_reading.proofs.ConstShapes.{Means, shape_of, body_bare, base_means, shape_is}
 use Rattle.dump_reading.proofs.ConstItems.{Good, AreEnumerated, enum_items, named_good}
 
-each_join : {X : Type 0} (P : X → Type 0) (xs ys : List X) → Each P xs → Each P ys → Each P (xs ++ ys)
+pub each_join : {X : Type 0} (P : X → Type 0) (xs ys : List X) → Each P xs → Each P ys → Each P (xs ++ ys)
 each_join P [] ys h k = k
 each_join P (x ∷ xs) ys h k = (h.0, each_join P xs ys h.1 k)
 
@@ -126,15 +126,41 @@ module _ (S : List Decl) where
   constant_form : (b : Base) (c : Const) → is_constant_of S b c ≡ true → schema.is_composite (form_of S b) ≡ false
   constant_form b c h = level_form b (out-Const c) h
 
-abbrev is_nested : Member → Bool
+module _ (S : List Decl) where
+  -- the fields are those of the schema, and only the first of a union has an initializer
+  abbrev pub AreFields : Bool → Bool → List Field → Type 0
+  AreFields in_union later [] = Unit {0}
+  AreFields in_union later (f ∷ fs) = (is_field_type S f ≡ true) × (has_initializer_of S f.ty f.initial ≡ true) × (later ≡ true → f.initial ≡ None) × AreFields in_union (later || in_union) fs
+
+  -- all of a parcelable, or of a union after its first
+  pub free_fields : (fs : List Field) → list_all (λ f. is_field_type S f) fs ≡ true → list_all (λ f. has_initializer_of S f.ty f.initial) fs ≡ true → AreFields false false fs
+  free_fields [] t v = tt
+  free_fields (f ∷ fs) t v =
+      let a = and_parts (is_field_type S f) (list_all (λ f. is_field_type S f) fs) t in let b = and_parts (has_initializer_of S f.ty f.initial) (list_all (λ f. has_initializer_of S f.ty f.initial) fs) v in
+      (a.0, b.0, λ yes_so. cc, free_fields fs a.1 b.1)
+
+  pub later_fields : (fs : List Field) → list_all (λ f. is_field_type S f) fs ≡ true → list_all (λ f. has_initializer_of S f.ty f.initial) fs ≡ true → list_all (λ g. is_none g.initial) fs ≡ true → AreFields true true fs
+  later_fields [] t v n = tt
+  later_fields (f ∷ fs) t v n =
+      let a = and_parts (is_field_type S f) (list_all (λ f. is_field_type S f) fs) t in let b = and_parts (has_initializer_of S f.ty f.initial) (list_all (λ f. has_initializer_of S f.ty f.initial) fs) v in
+      let c = and_parts (is_none f.initial) (list_all (λ g. is_none g.initial) fs) n in
+      (a.0, b.0, λ yes_so. none_is f.initial c.0, later_fields fs a.1 b.1 c.1)
+
+  pub union_fields : (fs : List Field) → list_all (λ f. is_field_type S f) fs ≡ true → list_all (λ f. has_initializer_of S f.ty f.initial) fs ≡ true → are_union_fields fs ≡ true → AreFields true false fs
+  union_fields [] t v n = tt
+  union_fields (f ∷ fs) t v n =
+      let a = and_parts (is_field_type S f) (list_all (λ f. is_field_type S f) fs) t in let b = and_parts (has_initializer_of S f.ty f.initial) (list_all (λ f. has_initializer_of S f.ty f.initial) fs) v in
+      (a.0, b.0, λ yes_so. cc, later_fields fs a.1 b.1 n)
+
+abbrev pub is_nested : Member → Bool
 is_nested (nested t) = true
 is_nested _ = false
 
-first_false : (later : Bool) → (later ≡ true → ⊥) → later ≡ false
+pub first_false : (later : Bool) → (later ≡ true → ⊥) → later ≡ false
 first_false true h = absurd (h refl)
 first_false false h = refl
 
-some_none : {X : Type 0} (x : X) → Some x ≡ None → ⊥
+pub some_none : {X : Type 0} (x : X) → Some x ≡ None → ⊥
 some_none x e = cc
 
 and_none : (b : Bool) → (b && false) ≡ false
@@ -234,7 +260,7 @@ module _ (S : List Decl) (H : AllHold S) (sorted : IsStrictlySortedBy (slice_cmp
 
     -- fields
 
-    list_nullable : (t : AidlType) → is_type S t ≡ true → t.shape ≡ shape.List → is_nullable_form (form_of S t.base) ≡ true
+    pub list_nullable : (t : AidlType) → is_type S t ≡ true → t.shape ≡ shape.List → is_nullable_form (form_of S t.base) ≡ true
     list_nullable t h is = sym (ap (λ w. is_well_shaped w t.nullable (form_of S t.base)) is) ∙ (and_parts (is_meant (form_of S t.base)) (is_well_shaped t.shape t.nullable (form_of S t.base)) h).1
 
     -- an initializer of a field; there is one where the schema has one
@@ -256,15 +282,10 @@ module _ (S : List Decl) (H : AllHold S) (sorted : IsStrictlySortedBy (slice_cmp
       by None v n e = cc
       by (Some c) v n e = let bare : bare_init i ≡ initial_tree S f.ty c = cc in each_good files (values_in f.ty.shape c) _ (initial_written later f t c v (first_false later (λ yes. some_none c (n yes))) ty et i bare).1
 
-    -- the fields are those of the schema, and only the first of a union has an initializer
-    abbrev pub AreFields : Bool → Bool → List Field → Type 0
-    AreFields in_union later [] = Unit {0}
-    AreFields in_union later (f ∷ fs) = (is_field_type S f ≡ true) × (has_initializer_of S f.ty f.initial ≡ true) × (later ≡ true → f.initial ≡ None) × AreFields in_union (later || in_union) fs
-
     abbrev Rest : Bool → List Member → Type 0
     Rest in_union more = (later : Bool) (ms : List Member) → map bare_member ms ≡ more → Each (IsGood files) (of_members files file scope in_union later ms)
 
-    fields_good : (in_union later : Bool) (fs : List Field) (more : List Member) → AreFields in_union later fs → Rest in_union more → (ms : List Member) → map bare_member ms ≡ map (λ f. field (field_tree S f)) fs ++ more → Each (IsGood files) (of_members files file scope in_union later ms)
+    fields_good : (in_union later : Bool) (fs : List Field) (more : List Member) → AreFields S in_union later fs → Rest in_union more → (ms : List Member) → map bare_member ms ≡ map (λ f. field (field_tree S f)) fs ++ more → Each (IsGood files) (of_members files file scope in_union later ms)
     fields_good in_union later [] more h rest ms e = rest later ms e
     fields_good in_union later (f ∷ fs) more h rest [] e = cc
     fields_good in_union later (f ∷ fs) more h rest (field x ∷ ms) e =
@@ -321,26 +342,6 @@ module _ (S : List Decl) (H : AllHold S) (sorted : IsStrictlySortedBy (slice_cmp
     constants_good in_union (c ∷ cs) more h rest later (enumerator x ∷ ms) e = cc
     constants_good in_union (c ∷ cs) more h rest later (nested x ∷ ms) e = cc
 
-    -- all of a parcelable, or of a union after its first
-    pub free_fields : (fs : List Field) → list_all (λ f. is_field_type S f) fs ≡ true → list_all (λ f. has_initializer_of S f.ty f.initial) fs ≡ true → AreFields false false fs
-    free_fields [] t v = tt
-    free_fields (f ∷ fs) t v =
-        let a = and_parts (is_field_type S f) (list_all (λ f. is_field_type S f) fs) t in let b = and_parts (has_initializer_of S f.ty f.initial) (list_all (λ f. has_initializer_of S f.ty f.initial) fs) v in
-        (a.0, b.0, λ yes_so. cc, free_fields fs a.1 b.1)
-
-    pub later_fields : (fs : List Field) → list_all (λ f. is_field_type S f) fs ≡ true → list_all (λ f. has_initializer_of S f.ty f.initial) fs ≡ true → list_all (λ g. is_none g.initial) fs ≡ true → AreFields true true fs
-    later_fields [] t v n = tt
-    later_fields (f ∷ fs) t v n =
-        let a = and_parts (is_field_type S f) (list_all (λ f. is_field_type S f) fs) t in let b = and_parts (has_initializer_of S f.ty f.initial) (list_all (λ f. has_initializer_of S f.ty f.initial) fs) v in
-        let c = and_parts (is_none f.initial) (list_all (λ g. is_none g.initial) fs) n in
-        (a.0, b.0, λ yes_so. none_is f.initial c.0, later_fields fs a.1 b.1 c.1)
-
-    pub union_fields : (fs : List Field) → list_all (λ f. is_field_type S f) fs ≡ true → list_all (λ f. has_initializer_of S f.ty f.initial) fs ≡ true → are_union_fields fs ≡ true → AreFields true false fs
-    union_fields [] t v n = tt
-    union_fields (f ∷ fs) t v n =
-        let a = and_parts (is_field_type S f) (list_all (λ f. is_field_type S f) fs) t in let b = and_parts (has_initializer_of S f.ty f.initial) (list_all (λ f. has_initializer_of S f.ty f.initial) fs) v in
-        (a.0, b.0, λ yes_so. cc, later_fields fs a.1 b.1 n)
-
     -- the items of a body
     body_good : (d : Decl) (last : tree.Members) → (may_enclose d.kind ≡ false → (d.constants ≡ []) × (last ≡ none)) → list_all is_nested (listed last) ≡ true → list_all (λ c. has_value S c) d.constants ≡ true
         → (k : Kind) → (may_enclose k ≡ false → (d.constants ≡ []) × (last ≡ none)) → is_enum k ≡ false → list_all (λ f. is_field_type S f) (fields_of k) ≡ true → list_all (λ f. has_initializer_of S f.ty f.initial) (fields_of k) ≡ true → is_union_whole k ≡ true
@@ -348,9 +349,9 @@ module _ (S : List Decl) (H : AllHold S) (sorted : IsStrictlySortedBy (slice_cmp
     body_good d last hold n c (Interface xs) bare no_enum ft fv un w (interface oneway ms) e =
         methods_good (method_tree S) false xs _ (constants_good false d.constants (listed last) c (nested_good false (listed last) n)) false (listed ms) (sym (members_bare (interface oneway ms)) ∙ ap members e ∙ members_written S d (Interface xs) last bare)
     body_good d last hold n c (Parcelable fs) bare no_enum ft fv un w (parcelable ms) e =
-        fields_good false false fs _ (free_fields fs ft fv) (constants_good false d.constants (listed last) c (nested_good false (listed last) n)) (listed ms) (sym (members_bare (parcelable ms)) ∙ ap members e ∙ members_written S d (Parcelable fs) last bare)
+        fields_good false false fs _ (free_fields S fs ft fv) (constants_good false d.constants (listed last) c (nested_good false (listed last) n)) (listed ms) (sym (members_bare (parcelable ms)) ∙ ap members e ∙ members_written S d (Parcelable fs) last bare)
     body_good d last hold n c (Union fs) bare no_enum ft fv un w (union ms) e =
-        fields_good true false fs _ (union_fields fs ft fv un) (constants_good true d.constants (listed last) c (nested_good true (listed last) n)) (listed ms) (sym (members_bare (union ms)) ∙ ap members e ∙ members_written S d (Union fs) last bare)
+        fields_good true false fs _ (union_fields S fs ft fv un) (constants_good true d.constants (listed last) c (nested_good true (listed last) n)) (listed ms) (sym (members_bare (union ms)) ∙ ap members e ∙ members_written S d (Union fs) last bare)
     body_good d last hold n c (Enum b xs) bare no_enum ft fv un w t e = cc
     body_good d last hold n c (Interface xs) bare no_enum ft fv un w (parcelable ms) e = cc
     body_good d last hold n c (Interface xs) bare no_enum ft fv un w (union ms) e = cc
@@ -362,13 +363,13 @@ module _ (S : List Decl) (H : AllHold S) (sorted : IsStrictlySortedBy (slice_cmp
     body_good d last hold n c (Union fs) bare no_enum ft fv un w (parcelable ms) e = cc
     body_good d last hold n c (Union fs) bare no_enum ft fv un w (enum ys) e = cc
 
-  enum_or : (k : Kind) (P : Type 0) → ((b : Backing) (xs : List Enumerator) → k ≡ Enum b xs → P) → (is_enum k ≡ false → P) → P
+  pub enum_or : (k : Kind) (P : Type 0) → ((b : Backing) (xs : List Enumerator) → k ≡ Enum b xs → P) → (is_enum k ≡ false → P) → P
   enum_or (Enum b xs) P one other = one b xs refl
   enum_or (Interface xs) P one other = other refl
   enum_or (Parcelable xs) P one other = other refl
   enum_or (Union xs) P one other = other refl
 
-  holds_none : (k : Kind) → may_enclose k ≡ false → is_enum k ≡ true
+  pub holds_none : (k : Kind) → may_enclose k ≡ false → is_enum k ≡ true
   holds_none (Interface ms) e = cc
   holds_none (Parcelable fs) e = cc
   holds_none (Union fs) e = cc

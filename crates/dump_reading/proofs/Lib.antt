@@ -29,3 +29,9 @@ pub mod ConstShapes
 pub mod ConstItems
 pub mod ConstMembers
 pub mod ConstGiven
+pub mod Levels
+pub mod Values
+pub mod InPlace
+pub mod WalkMembers
+pub mod Bodies
+pub mod ValuesEntries

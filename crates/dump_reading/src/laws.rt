@@ -1,4 +1,4 @@
-ghost use Rattle.std.specs.Prelude.{◌≡◌, ◌<◌, ℕ, true, [], List, length, map};
+ghost use Rattle.std.specs.Prelude.{◌≡◌, ◌<◌, ℕ, true, [], List, Some, length, map, slice_get};
 ghost use Rattle.std.specs.List.{All};
 ghost use Rattle.std.specs.List.Sorted.{IsStrictlyIncreasing};
 ghost use Rattle.aidl_syntax.specs.Walks.{places_of};
@@ -10,7 +10,9 @@ ghost use Rattle.const_eval.specs.declared.outcome.Outcome.{Outcome};
 ghost use Rattle.aidl_names.specs.Rules.{UnknownImport, WrongFile, in_each, other_imports};
 ghost use Rattle.aidl_names.specs.Refusals.{IsAccepted};
 ghost use Rattle.aidl_names.specs.Sources.{Source};
-ghost use Rattle.dump_reading.specs.Declared.{AreDeclared};
+ghost use Rattle.aidl_names.specs.Declarations.{Entry, declarations};
+ghost use Rattle.dump_reading.specs.Declared.{AreDeclared, IsDeclaration};
+ghost use Rattle.dump_reading.specs.Valued.{HasValues};
 ghost use Rattle.dump_reading.specs.Dumped.{AreSources};
 ghost use Rattle.std.specs.Cmp.Lexicographic.{slice_cmp};
 ghost use Rattle.std.specs.List.Sorted.{IsStrictlySortedBy};
@@ -65,6 +67,14 @@ pub fn law_dump_names(schema: &Schema)
 pub fn law_dump_constants(schema: &Schema)
     ensures given { (files : List Source) → AreSources schema.now.decls (dump_text schema.now.decls) files → All (λ s. IsStrictlyIncreasing (places_of s.tree)) files → (n : ℕ) (o : Outcome) → n < length (items files) → HasOutcome files n o → is_given o ≡ true }
     ensures unbroken { (files : List Source) → AreSources schema.now.decls (dump_text schema.now.decls) files → All (λ s. IsStrictlyIncreasing (places_of s.tree)) files → (outcomes : ℕ → Outcome) → AreOutcomes files outcomes → breaches outcomes (items files) ≡ [] }
+{
+    law_valid(schema);
+}
+
+/// Where the places in each tree ascend, the values of constants, initializers and enumerators in each declaration of what stands for a
+/// canonical dump are those of its declaration in the schema.
+pub fn law_dump_values(schema: &Schema)
+    ensures { (files : List Source) → AreSources schema.now.decls (dump_text schema.now.decls) files → All (λ s. IsStrictlyIncreasing (places_of s.tree)) files → (outcomes : ℕ → Outcome) → AreOutcomes files outcomes → (j : ℕ) (e : Entry) → slice_get (declarations files) j ≡ Some e → (n : ℕ) × (is : IsDeclaration schema.now.decls files n e) × HasValues files outcomes j e is.declared }
 {
     law_valid(schema);
 }
