@@ -35,3 +35,4 @@ pub mod InPlace
 pub mod WalkMembers
 pub mod Bodies
 pub mod ValuesEntries
+pub mod Marks
