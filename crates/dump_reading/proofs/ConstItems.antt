@@ -102,7 +102,7 @@ annots_backing b (a ∷ annots) more e =
     let called_so : is_backing a ≡ true = ap is_backing is in
     ap (λ t. backing_by (cond t (Some a) (find is_backing annots))) called_so ∙ params_backing b a.params (ap (λ x. x.params) is)
 
-annots_bare : (t : tree.Decl) → map bare_annot (annots_of t) ≡ annots_of (bare_decl t)
+pub annots_bare : (t : tree.Decl) → map bare_annot (annots_of t) ≡ annots_of (bare_decl t)
 annots_bare (decl o annots n b) = refl
 
 -- What stands first and passes.
@@ -251,7 +251,7 @@ name_expr (group o x) is e = cc
 name_expr (unary o s x) is e = cc
 name_expr (binary o s x y) is e = cc
 
-some_is : {X : Type 0} (x y : X) → Some x ≡ Some y → x ≡ y
+pub some_is : {X : Type 0} (x y : X) → Some x ≡ Some y → x ≡ y
 some_is x y e = cc
 
 -- it is a literal, or names one, and has this value

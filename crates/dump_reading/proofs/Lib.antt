@@ -36,3 +36,5 @@ pub mod WalkMembers
 pub mod Bodies
 pub mod ValuesEntries
 pub mod Marks
+pub mod Bases
+pub mod Uses
