@@ -123,7 +123,7 @@ module _ (S : List Decl) where
   level_form (base.Named n) (Const-F.Text x) h = cc
   level_form (base.Named n) (Const-F.Members cs) h = cc
 
-  constant_form : (b : Base) (c : Const) → is_constant_of S b c ≡ true → schema.is_composite (form_of S b) ≡ false
+  pub constant_form : (b : Base) (c : Const) → is_constant_of S b c ≡ true → schema.is_composite (form_of S b) ≡ false
   constant_form b c h = level_form b (out-Const c) h
 
 module _ (S : List Decl) where
@@ -163,7 +163,7 @@ first_false false h = refl
 pub some_none : {X : Type 0} (x : X) → Some x ≡ None → ⊥
 some_none x e = cc
 
-and_none : (b : Bool) → (b && false) ≡ false
+pub and_none : (b : Bool) → (b && false) ≡ false
 and_none true = refl
 and_none false = refl
 

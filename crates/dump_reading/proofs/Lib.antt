@@ -38,3 +38,5 @@ pub mod ValuesEntries
 pub mod Marks
 pub mod Bases
 pub mod Uses
+pub mod RulesUses
+pub mod RulesIds
