@@ -29,7 +29,7 @@ use Rattle.dump_reading.proofs.NamesMembers.{members_bare, members_written, all_
 use Rattle.dump_reading.proofs.ConstMembers.{is_nested, free_fields, union_fields}
 use Rattle.dump_reading.proofs.WalkMembers.{is_no_field, is_no_constant, OfFields, OfConstants, enumerators_free, no_constants, fields_walk, constants_walk}
 
-all_join : (test : Member → Bool) (xs ys : List Member) → list_all test xs ≡ true → list_all test ys ≡ true → list_all test (xs ++ ys) ≡ true
+pub all_join : (test : Member → Bool) (xs ys : List Member) → list_all test xs ≡ true → list_all test ys ≡ true → list_all test (xs ++ ys) ≡ true
 all_join test [] ys h k = k
 all_join test (x ∷ xs) ys h k = let two = and_parts (test x) (list_all test xs) h in and_from (test x) (list_all test (xs ++ ys)) two.0 (all_join test xs ys two.1 k)
 

@@ -83,7 +83,7 @@ init_backing : (b : Backing) (i : Init) → bare_init i ≡ single (token_tree (
 init_backing b (single x) e = let is : bare_expr x ≡ token_tree (kind.Str (backing_text b)) = cc in token_backing b x is
 init_backing b (braces o xs) e = cc
 
-type_named : (o : Option NameTree) → map_option bare_name o ≡ Some (name_tree (ident (codes "type"))) → is_type_name o ≡ true
+pub type_named : (o : Option NameTree) → map_option bare_name o ≡ Some (name_tree (ident (codes "type"))) → is_type_name o ≡ true
 unfolding lib.Utf8.encode
 type_named None e = cc
 type_named (Some n) e = let is : bare_name n ≡ name_tree (ident (codes "type")) = cc in ap (λ x. is_type_name (Some x)) is
@@ -220,7 +220,7 @@ named_at (y ∷ xs) h zero x at = let is : y ≡ x = cc in ap (λ z. is_identifi
 named_at (y ∷ xs) h (suc i) x at = named_at xs (and_parts (is_identifier y.name.0) (list_all is_identifier (map (λ x. x.name.0) xs)) h).1 i x at
 
 -- a body of an enum
-enum_body : (S : List Decl) (b : Backing) (xs : List Enumerator) (ms : tree.Members) (t : tree.Body) → bare_body t ≡ body_tree S (Enum b xs) ms → (ys : List tree.Enumerator) × (t ≡ enum ys) × (map bare_enumerator ys ≡ map (λ x. enumerator_tree b x) xs)
+pub enum_body : (S : List Decl) (b : Backing) (xs : List Enumerator) (ms : tree.Members) (t : tree.Body) → bare_body t ≡ body_tree S (Enum b xs) ms → (ys : List tree.Enumerator) × (t ≡ enum ys) × (map bare_enumerator ys ≡ map (λ x. enumerator_tree b x) xs)
 enum_body S b xs ms (enum ys) e = (ys, refl, cc)
 enum_body S b xs ms (parcelable ns) e = cc
 enum_body S b xs ms (union ns) e = cc

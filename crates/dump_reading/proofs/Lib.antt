@@ -40,3 +40,5 @@ pub mod Bases
 pub mod Uses
 pub mod RulesUses
 pub mod RulesIds
+pub mod RulesFields
+pub mod Rules

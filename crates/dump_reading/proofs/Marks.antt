@@ -30,7 +30,7 @@ use Rattle.dump_reading.specs.DumpTrees.{nullable_trees, flag_trees, backing_tre
 
 -- What speaks of no offset.
 
-literal_bare : (i : Init) → literal_of (bare_init i) ≡ literal_of i
+pub literal_bare : (i : Init) → literal_of (bare_init i) ≡ literal_of i
 literal_bare (single (literal o t)) = refl
 literal_bare (single (name o d)) = refl
 literal_bare (single (group o a)) = refl

@@ -32,7 +32,7 @@ abbrev pub is_no_constant : Member → Bool
 is_no_constant (constant c) = false
 is_no_constant _ = true
 
-field_bare : (m : Member) → is_no_field (bare_member m) ≡ is_no_field m
+pub field_bare : (m : Member) → is_no_field (bare_member m) ≡ is_no_field m
 field_bare (field f) = refl
 field_bare (constant c) = refl
 field_bare (method m) = refl

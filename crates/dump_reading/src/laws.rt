@@ -5,6 +5,8 @@ ghost use Rattle.aidl_syntax.specs.Walks.{places_of};
 ghost use Rattle.const_eval.specs.Breaches.{breaches};
 ghost use Rattle.const_eval.specs.Items.{items};
 ghost use Rattle.tree_schema.specs.Checked.{AreOutcomes};
+ghost use Rattle.type_rules.specs.Breaches as rules;
+ghost use Rattle.type_rules.specs.Unbroken.{AreUnbroken};
 ghost use Rattle.const_eval.specs.Outcomes.{HasOutcome, is_given};
 ghost use Rattle.const_eval.specs.declared.outcome.Outcome.{Outcome};
 ghost use Rattle.aidl_names.specs.Rules.{UnknownImport, WrongFile, in_each, other_imports};
@@ -75,6 +77,14 @@ pub fn law_dump_constants(schema: &Schema)
 /// canonical dump are those of its declaration in the schema.
 pub fn law_dump_values(schema: &Schema)
     ensures { (files : List Source) → AreSources schema.now.decls (dump_text schema.now.decls) files → All (λ s. IsStrictlyIncreasing (places_of s.tree)) files → (outcomes : ℕ → Outcome) → AreOutcomes files outcomes → (j : ℕ) (e : Entry) → slice_get (declarations files) j ≡ Some e → (n : ℕ) × (is : IsDeclaration schema.now.decls files n e) × HasValues files outcomes j e is.declared }
+{
+    law_valid(schema);
+}
+
+/// No declaration of what stands for a canonical dump breaks one of E13 to E21 and E24.
+pub fn law_dump_rules(schema: &Schema)
+    ensures unbroken { (files : List Source) → AreSources schema.now.decls (dump_text schema.now.decls) files → AreUnbroken files }
+    ensures unlisted { (files : List Source) → AreSources schema.now.decls (dump_text schema.now.decls) files → rules.breaches files ≡ [] }
 {
     law_valid(schema);
 }
