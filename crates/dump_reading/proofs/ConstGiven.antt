@@ -24,7 +24,7 @@ use Rattle.dump_reading.proofs.Entries.{AreEntries}
 use Rattle.dump_reading.proofs.ConstOutcomes.{plain_outcome, naming_outcome, given_by}
 use Rattle.dump_reading.proofs.ConstMembers.{IsGood, entry_good}
 
-there : {X : Type 0} (xs : List X) (n : ℕ) → n < length xs → (x : X) × (slice_get xs n ≡ Some x)
+pub there : {X : Type 0} (xs : List X) (n : ℕ) → n < length xs → (x : X) × (slice_get xs n ≡ Some x)
 there [] n lt = absurd (omega arith)
 there (x ∷ xs) zero lt = (x, refl)
 there (x ∷ xs) (suc n) lt = there xs n (omega arith)

@@ -260,7 +260,7 @@ Good files l x = ((p : IsPlain x) × (p.level ≡ l)) ⊎ ((q : IsNaming files x
 
 module _ (S : List Decl) (H : AllHold S) (sorted : IsStrictlySortedBy (slice_cmp nat_cmp) (map name_of S)) (A : AreApart name_of S) (files : List Source) (are : AreEntries S files (walks S) (declarations files)) (once : Each HasPlacesOnce files) where
   -- the entry of an enum
-  enum_entry : (w : ℕ) (e : Entry) (h : IsEntry S files (walks S) w e) (b : Backing) (xs : List Enumerator) → h.declared.kind ≡ Enum b xs
+  pub enum_entry : (w : ℕ) (e : Entry) (h : IsEntry S files (walks S) w e) (b : Backing) (xs : List Enumerator) → h.declared.kind ≡ Enum b xs
       → (ys : List tree.Enumerator) × (body e.tree ≡ enum ys) × (map bare_enumerator ys ≡ map (λ x. enumerator_tree b x) xs) × (backing_of e.tree ≡ wanted_backing b)
   enum_entry w e h b xs is =
       let last = nested_trees S h.levels w in

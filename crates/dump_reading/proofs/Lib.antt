@@ -42,3 +42,6 @@ pub mod RulesUses
 pub mod RulesIds
 pub mod RulesFields
 pub mod Rules
+pub mod SchemaOrder
+pub mod SchemaTypes
+pub mod Schema

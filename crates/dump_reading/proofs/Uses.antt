@@ -99,11 +99,11 @@ args_inward S (x ∷ xs) (a ∷ args) e h =
       inward direction.Out g = cc
       inward direction.InOut g = cc
 
-no_type : (o : Option TypeTree) → map_option bare_type o ≡ None → o ≡ None
+pub no_type : (o : Option TypeTree) → map_option bare_type o ≡ None → o ≡ None
 no_type None e = refl
 no_type (Some t) e = cc
 
-the_type : (o : Option TypeTree) (t : TypeTree) → map_option bare_type o ≡ Some t → (ty : TypeTree) × (o ≡ Some ty) × (bare_type ty ≡ t)
+pub the_type : (o : Option TypeTree) (t : TypeTree) → map_option bare_type o ≡ Some t → (ty : TypeTree) × (o ≡ Some ty) × (bare_type ty ≡ t)
 the_type None t e = cc
 the_type (Some ty) t e = (ty, refl, let is : bare_type ty ≡ t = cc in is)
 

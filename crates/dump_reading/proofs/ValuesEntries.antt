@@ -74,7 +74,7 @@ module _ (S : List Decl) (H : AllHold S) (sorted : IsStrictlySortedBy (slice_cmp
     pub holds_no : may_enclose h.declared.kind ≡ false → (h.declared.constants ≡ []) × (last ≡ none)
     holds_no c = (enums w h.declared h.at (holds_none S H sorted A files are once h.declared.kind c), no_nested S H sorted A files h.levels w (none_inside S H sorted A files w h.declared h.at c))
 
-    stands : Each (Stands files) (of_entry files j e)
+    pub stands : Each (Stands files) (of_entry files j e)
     stands = items-stand files once j e at
 
     pub fields_here : {X : Type 0} (g : _ → X) → OfFields S files outcomes e.file j (Stands files) g → map g (fields_of (kind_at files outcomes j e)) ≡ map g (fields_of h.declared.kind)

@@ -4,7 +4,8 @@ ghost use Rattle.std.specs.List.Sorted.{IsStrictlyIncreasing};
 ghost use Rattle.aidl_syntax.specs.Walks.{places_of};
 ghost use Rattle.const_eval.specs.Breaches.{breaches};
 ghost use Rattle.const_eval.specs.Items.{items};
-ghost use Rattle.tree_schema.specs.Checked.{AreOutcomes};
+ghost use Rattle.tree_schema.specs.Checked.{AreOutcomes, IsChecked};
+ghost use Rattle.tree_schema.specs.SchemaOf.{schema_of};
 ghost use Rattle.type_rules.specs.Breaches as rules;
 ghost use Rattle.type_rules.specs.Unbroken.{AreUnbroken};
 ghost use Rattle.const_eval.specs.Outcomes.{HasOutcome, is_given};
@@ -85,6 +86,15 @@ pub fn law_dump_values(schema: &Schema)
 pub fn law_dump_rules(schema: &Schema)
     ensures unbroken { (files : List Source) → AreSources schema.now.decls (dump_text schema.now.decls) files → AreUnbroken files }
     ensures unlisted { (files : List Source) → AreSources schema.now.decls (dump_text schema.now.decls) files → rules.breaches files ≡ [] }
+{
+    law_valid(schema);
+}
+
+/// Where the places in each tree ascend, the schema of what stands for a canonical dump is the one that was dumped, and all that is asked of a
+/// tree whose schema is valid holds: no rule from E6 on is broken.
+pub fn law_dump_schema(schema: &Schema)
+    ensures same { (files : List Source) → AreSources schema.now.decls (dump_text schema.now.decls) files → All (λ s. IsStrictlyIncreasing (places_of s.tree)) files → (outcomes : ℕ → Outcome) → AreOutcomes files outcomes → schema_of files outcomes ≡ schema.now.decls }
+    ensures checked { (files : List Source) → AreSources schema.now.decls (dump_text schema.now.decls) files → All (λ s. IsStrictlyIncreasing (places_of s.tree)) files → (outcomes : ℕ → Outcome) → AreOutcomes files outcomes → IsChecked files outcomes }
 {
     law_valid(schema);
 }
