@@ -4,6 +4,7 @@ use Rattle.std.specs.List.{cons_option}
 use Rattle.std.specs.List.Sorted.{IsStrictlySortedBy}
 use Rattle.std.specs.Cmp.Lexicographic.{slice_cmp}
 use Rattle.std.specs.Ordering.{nat_cmp}
+use Rattle.aidl_base.specs.declared.constant.Const.{Const}
 use Rattle.aidl_base.specs.declared.constant.Const.TheVariants as constant
 use Rattle.aidl_names.specs.Sources.{Source}
 use Rattle.aidl_names.specs.Declarations.{declarations}
@@ -51,6 +52,12 @@ module _ (S : List Decl) (H : AllHold S) (sorted : IsStrictlySortedBy (slice_cmp
     by : (x : Item) → slice_get (items files) n ≡ Some x → IsGood files x → is_given o ≡ true
     by x at (l, inl p) = let r = plain_outcome files n x at p.0 in given_by files n o r.0 h r.1
     by x at (l, inr p) = given_by files n o (constant.Number p.0.numbered.number) h (naming_outcome files n x at p.0)
+
+  pub some_outcome : (n : ℕ) → n < length (items files) → (c : Const) × HasOutcome files n (Given c)
+  some_outcome n lt = let x = there (items files) n lt in by x.0 x.1 (each-at (IsGood files) (items files) all_good n x.0 x.1) where
+    by : (x : Item) → slice_get (items files) n ≡ Some x → IsGood files x → (c : Const) × HasOutcome files n (Given c)
+    by x at (l, inl p) = let r = plain_outcome files n x at p.0 in (r.0, r.1)
+    by x at (l, inr p) = (constant.Number p.0.numbered.number, naming_outcome files n x at p.0)
 
   pub none_broken : (outcomes : ℕ → Outcome) → ((n : ℕ) → n < length (items files) → HasOutcome files n (outcomes n)) → breaches outcomes (items files) ≡ []
   none_broken outcomes h = none_from outcomes 0 (items files) (λ k lt. subst (λ (j : ℕ). is_given (outcomes j) ≡ true) (omega arith) (all_given k (outcomes k) lt (h k lt)))

@@ -45,3 +45,5 @@ pub mod Rules
 pub mod SchemaOrder
 pub mod SchemaTypes
 pub mod Schema
+pub mod Sources
+pub mod Back

@@ -222,9 +222,9 @@ module _ (S : List Decl) (H : AllHold S) (sorted : IsStrictlySortedBy (slice_cmp
   all_unbroken n e at = let r = are.each n e at in entry_unbroken r.0 n e r.2
 
   -- so no breach is listed
-  pub none_listed : breaches files ≡ []
+  pub none_found : unsorted files ≡ []
   unfolding unsorted broken_in broken_by
-  none_listed = ap in_order (each_none (broken_in files) 0 (declarations files) (λ k e at.
+  none_found = each_none (broken_in files) 0 (declarations files) (λ k e at.
       let is : 0 + k ≡ k = omega arith in
       let u = all_unbroken k e at in let es = declarations files in let us = type_uses files k e in
       subst (λ (n : ℕ). broken_in files n e ≡ []) (sym is)
@@ -237,4 +237,7 @@ module _ (S : List Decl) (H : AllHold S) (sorted : IsStrictlySortedBy (slice_cmp
       ∙ ap (λ xs. xs ++ BadConstant e us ++ BadField es e us ++ NotFixed es e us) u.ids
       ∙ ap (λ xs. xs ++ BadField es e us ++ NotFixed es e us) u.constants
       ∙ ap (λ xs. xs ++ NotFixed es e us) u.fields
-      ∙ u.fixed)))
+      ∙ u.fixed))
+
+  pub none_listed : breaches files ≡ []
+  none_listed = ap in_order none_found

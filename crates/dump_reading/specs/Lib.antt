@@ -4,3 +4,4 @@ pub mod DumpTrees
 pub mod Dumped
 pub mod Reading
 pub mod Valued
+pub mod Files

@@ -1,7 +1,17 @@
 ghost use Rattle.std.specs.Prelude.{◌≡◌, ◌<◌, ℕ, true, [], List, Some, length, map, slice_get};
 ghost use Rattle.std.specs.List.{All};
 ghost use Rattle.std.specs.List.Sorted.{IsStrictlyIncreasing};
+ghost use Rattle.aidl_base.specs.declared.breach.Breach.{Breach};
+ghost use Rattle.aidl_base.specs.declared.source_file.SourceFile.{SourceFile};
+ghost use Rattle.aidl_syntax.specs.Parses.{FileParse};
+ghost use Rattle.aidl_syntax.specs.Trees.{file_of};
 ghost use Rattle.aidl_syntax.specs.Walks.{places_of};
+ghost use Rattle.tree_files.specs.declared.fault.LexBreach.{LexBreach};
+ghost use Rattle.tree_files.specs.Parsed.{AreParsed};
+ghost use Rattle.type_check.specs.declared.fault.CheckFault.TheVariants as fault;
+ghost use Rattle.type_check.specs.Checked.{IsSchemaOf};
+ghost use Rattle.type_check.specs.Refusals.{IsRefusal};
+ghost use Rattle.dump_reading.specs.Files.{AreDumped};
 ghost use Rattle.const_eval.specs.Breaches.{breaches};
 ghost use Rattle.const_eval.specs.Items.{items};
 ghost use Rattle.tree_schema.specs.Checked.{AreOutcomes, IsChecked};
@@ -24,6 +34,7 @@ ghost use Rattle.api_dump.specs.Dump.{dump_text};
 ghost use Rattle.dump_reading.specs.Reading.{HasEachFile, HaveTokens, HaveTrees};
 
 use aidl_schema::{Schema, law_valid};
+use aidl_syntax::{ParsedFile, law_tree};
 
 /// The paths of a canonical dump ascend by their bytes, so no two files have one path, and each declaration of the schema that
 /// stands in no other has its file.
@@ -97,4 +108,33 @@ pub fn law_dump_schema(schema: &Schema)
     ensures checked { (files : List Source) → AreSources schema.now.decls (dump_text schema.now.decls) files → All (λ s. IsStrictlyIncreasing (places_of s.tree)) files → (outcomes : ℕ → Outcome) → AreOutcomes files outcomes → IsChecked files outcomes }
 {
     law_valid(schema);
+}
+
+/// Files with the paths and bytes of a canonical dump are never refused for want of tokens or of a tree.
+pub fn law_dump_parses(schema: &Schema)
+    ensures tokens { (files : List SourceFile) → AreDumped schema.now.decls files → (rows : List LexBreach) → IsRefusal files (fault.Lex rows) → ⊥ }
+    ensures trees { (files : List SourceFile) → AreDumped schema.now.decls files → (rows : List ℕ) → IsRefusal files (fault.Syntax rows) → ⊥ }
+{
+    law_dump_tree(schema);
+}
+
+/// The canonical dump reads back: where files with its paths and bytes are parsed, so that no limit on files or tokens is passed, their
+/// schema is the one that was dumped, and they pass no limit on declarations and have no breach.
+pub fn law_dump_back(schema: &Schema, parsed: &[ParsedFile])
+    ensures schema { (files : List SourceFile) → AreDumped schema.now.decls files → AreParsed files parsed.now → IsSchemaOf files schema.now.decls }
+    ensures unrefused { (files : List SourceFile) → AreDumped schema.now.decls files → AreParsed files parsed.now → (rows : List Breach) → IsRefusal files (fault.Breaches rows) → ⊥ }
+{
+    law_valid(schema);
+    law_dump_tree(schema);
+    law_dump_names(schema);
+    law_rising(parsed);
+}
+
+/// Of the tree of any bytes the places ascend.
+fn law_rising(parsed: &[ParsedFile])
+    ensures { All (λ p. (bytes : List ℕ) → FileParse bytes p.tree → IsStrictlyIncreasing (places_of (file_of p.tree))) parsed.now }
+{
+    for file in parsed {
+        law_tree(&file.tree);
+    }
 }
