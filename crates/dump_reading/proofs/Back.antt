@@ -1,48 +1,38 @@
 -- The files of a dump have the schema that was dumped, and no refusal but for a limit.
-use Rattle.std.proofs.Common.{◌≡◌, ◌≢◌, ℕ, zero, suc, ◌+◌, ◌<◌, Bool, true, false, not, ◌&&◌, nat_eq, if◌then◌else◌, List, [], ◌∷◌, ◌++◌, map, length, Option, Some, None, slice_get, IsTrue, inl, inr, ◌⊎◌, refl, sym, ap, ◌∙◌, subst, arith}
-use Rattle.std.specs.List.{All, flat_map}
+use Rattle.std.proofs.Common.{◌≡◌, ℕ, zero, suc, ◌+◌, ◌<◌, Bool, true, false, not, nat_eq, if◌then◌else◌, List, [], ◌∷◌, ◌++◌, map, length, Some, slice_get, inl, inr, refl, sym, ap, ◌∙◌, subst, arith}
+use Rattle.std.specs.List.{All}
 use Rattle.std.specs.List.Sorted.{IsStrictlySortedBy, IsStrictlyIncreasing}
 use Rattle.std.specs.Cmp.Lexicographic.{slice_cmp}
 use Rattle.std.specs.Ordering.{nat_cmp}
 use Rattle.std.proofs.lemmas.Bool.{and_parts}
 use Rattle.std.proofs.lemmas.List.{length-map}
 use Rattle.std.proofs.lemmas.Option.{slice_get_within}
-use Rattle.std.proofs.lemmas.List.Elements.{All-nil, All-cons, All-head, All-tail}
+use Rattle.std.proofs.lemmas.List.Elements.{All-head, All-tail}
 use Rattle.aidl_base.specs.declared.breach.Breach.{Breach}
-use Rattle.aidl_base.specs.declared.limit.Limit.{Limit}
 use Rattle.aidl_base.specs.declared.source_file.SourceFile.{SourceFile}
 use Rattle.aidl_base.proofs.Tests.{flipped}
-use Rattle.aidl_syntax.specs.declared.tree.ParsedFile.{ParsedFile}
-use Rattle.aidl_syntax.specs.Sources.{Source, source_of}
+use Rattle.aidl_syntax.specs.Sources.{Source}
 use Rattle.aidl_syntax.specs.Members.{declared_name}
 use Rattle.aidl_syntax.specs.Walks.{places_of}
 use Rattle.aidl_names.specs.Rules.{breach}
 use Rattle.aidl_lexer.proofs.meaning.OneLexing.{never_both}
 use Rattle.aidl_names.specs.Declarations.{declarations}
-use Rattle.aidl_names.specs.Limits.{passed}
-use Rattle.aidl_names.specs.Breaches as names
 use Rattle.aidl_names.specs.Breaches.{in_order}
 use Rattle.aidl_names.specs.Refusals.{IsAccepted}
 use Rattle.const_eval.specs.declared.outcome.Outcome.{Outcome}
 use Rattle.const_eval.specs.declared.outcome.Outcome.TheVariants.{Given}
 use Rattle.const_eval.specs.Items.{items}
 use Rattle.const_eval.specs.Outcomes.{HasOutcome, AreOutcomes, outcome_at}
-use Rattle.type_rules.specs.Breaches.{unsorted}
-use Rattle.tree_schema.specs.Numbers.{Numbered, sorted}
+use Rattle.tree_schema.specs.Numbers.{sorted}
 use Rattle.tree_schema.specs.SchemaOf.{schema_of, declared}
 use Rattle.tree_schema.proofs.ValuesLaws.{placed-files}
 use Rattle.schema_bounds.specs.declared.bound.Bound.TheVariants.{Within}
 use Rattle.schema_bounds.specs.Bounds.{bound, bound_by, reaches_cycle}
 use Rattle.tree_files.specs.declared.fault.LexBreach.{LexBreach}
-use Rattle.tree_files.specs.declared.fault.FilesFault.TheVariants as parsing
 use Rattle.tree_files.specs.Files.{HasTokens, HasTree}
-use Rattle.tree_files.specs.Refusals as parsed
 use Rattle.tree_files.specs.Refusals.{Rows, IsLexBreach, IsTreeless}
-use Rattle.type_check.specs.declared.fault.CheckFault.{CheckFault}
-use Rattle.type_check.specs.declared.fault.CheckFault.TheVariants as fault
 use Rattle.type_check.specs.Bounds.{broken, broken_at, rule_of}
 use Rattle.type_check.specs.Checked.{IsSchemaOfTrees}
-use Rattle.type_check.specs.Refusals.{IsRefusal}
 use Rattle.type_check.specs.Stages.AreBreaches.{of_names, of_constants, of_types}
 use Rattle.type_check.specs.Stages.{AreBreaches, constants_broken, schema_by, types_broken}
 use Rattle.aidl_schema.specs.declared.schema.Decl.{Decl}
@@ -51,11 +41,10 @@ use Rattle.aidl_schema.specs.Holds.{AllHold, AreApart}
 use Rattle.aidl_schema.specs.Names.{name_of, has_names}
 use Rattle.aidl_schema.specs.Sizes.{has_small_default}
 use Rattle.aidl_schema.specs.Valid.{is_enum, has_bounds, is_bounded, one_of}
-use Rattle.dump_reading.specs.Reading.{HaveTrees}
 use Rattle.dump_reading.proofs.Numbers.{walks}
 use Rattle.dump_reading.proofs.Entries.{AreEntries}
 use Rattle.dump_reading.proofs.NamesStand.{each_none}
-use Rattle.dump_reading.proofs.ConstGiven.{some_outcome, none_broken, there}
+use Rattle.dump_reading.proofs.ConstGiven.{some_outcome, none_broken}
 use Rattle.dump_reading.proofs.Rules.{none_found}
 use Rattle.dump_reading.proofs.Schema.{schema_back, bounds_back}
 

@@ -1,5 +1,5 @@
 -- What the types of a dump are in its trees, and what holds of their bases.
-use Rattle.std.proofs.Common.{◌≡◌, ℕ, Bool, true, false, not, ◌&&◌, ◌||◌, List, [], ◌∷◌, map, codes, Option, Some, None, slice_get, refl, sym, ap, ◌∙◌, subst}
+use Rattle.std.proofs.Common.{◌≡◌, ℕ, Bool, true, false, not, ◌&&◌, ◌||◌, List, [], ◌∷◌, map, codes, Option, Some, None, slice_get, refl, sym, ap, ◌∙◌}
 use Rattle.std.specs.List.{list_all}
 use Rattle.std.specs.Cmp.Lexicographic.{slice_cmp}
 use Rattle.std.specs.List.Sorted.{IsStrictlySortedBy}
@@ -9,11 +9,10 @@ use Rattle.aidl_base.specs.declared.name.Ident.{Ident}
 use Rattle.aidl_syntax.specs.declared.tree.TypeTree.{TypeTree}
 use Rattle.aidl_names.specs.declared.resolved.BuiltinName.TheVariants as built_in
 use Rattle.aidl_names.specs.declared.resolved.Resolved.{Resolved}
-use Rattle.aidl_names.specs.declared.resolved.Resolved.TheVariants.{Builtin, ListWord, LeftOut, Declared}
+use Rattle.aidl_names.specs.declared.resolved.Resolved.TheVariants.{Builtin, Declared}
 use Rattle.aidl_names.specs.Sources.{Source}
 use Rattle.aidl_names.specs.Declarations.{Entry, declarations}
 use Rattle.aidl_names.specs.Resolution.{meaning_of_word, own_meaning, first_declared, candidates, or_else, meaning_in_file, resolved}
-use Rattle.const_eval.specs.declared.shape.Shape as types
 use Rattle.const_eval.specs.declared.shape.Shape.TheVariants as typed
 use Rattle.const_eval.specs.Backing.{annots_of}
 use Rattle.const_eval.specs.Items.{shape_in}
@@ -28,7 +27,6 @@ use Rattle.aidl_schema.specs.declared.schema.Kind.TheVariants.{Interface, Parcel
 use Rattle.aidl_schema.specs.declared.schema.Backing.TheVariants as backing
 use Rattle.aidl_schema.specs.declared.schema.Base.{Base}
 use Rattle.aidl_schema.specs.declared.schema.Base.TheVariants as base
-use Rattle.aidl_schema.specs.declared.schema.Shape.TheVariants as shape
 use Rattle.aidl_schema.specs.Constants.{is_string}
 use Rattle.aidl_schema.specs.Containment as containment
 use Rattle.aidl_schema.specs.Containment.{fields_of}
@@ -46,9 +44,9 @@ use Rattle.dump_reading.specs.DumpTrees.{type_tree}
 use Rattle.dump_reading.proofs.Numbers.{walks}
 use Rattle.dump_reading.proofs.Entries.{IsEntry, AreEntries}
 use Rattle.dump_reading.proofs.NamesResolved.{number_is, named_resolved}
-use Rattle.dump_reading.proofs.ConstShapes.{is_enum_kind, is_composite_kind, enum_number, Means, shape_of, base_means, shape_is}
+use Rattle.dump_reading.proofs.ConstShapes.{is_enum_kind, is_composite_kind, enum_number, shape_of, base_means, shape_is}
 use Rattle.dump_reading.proofs.ConstItems.{annots_bare, some_is}
-use Rattle.dump_reading.proofs.Marks.{flags, fixed_kept}
+use Rattle.dump_reading.proofs.Marks.{fixed_kept}
 
 scalar_kind : (k : Kind) → is_enum_kind k ≡ schema.is_scalar (form_of_kind k)
 scalar_kind (Interface ms) = refl

@@ -1,18 +1,18 @@
 -- The fields, the constants and the enumerators of a body, beside those of its declaration in the schema.
-use Rattle.std.proofs.Common.{◌≡◌, ℕ, Bool, true, false, ◌&&◌, List, [], ◌∷◌, ◌++◌, map, None, refl, sym, ap, ◌∙◌}
+use Rattle.std.proofs.Common.{◌≡◌, ℕ, Bool, true, false, List, [], ◌∷◌, ◌++◌, map, refl, sym, ap, ◌∙◌}
 use Rattle.std.specs.List.{list_all}
 use Rattle.std.proofs.lemmas.Bool.{and_parts, and_from}
 use Rattle.aidl_syntax.specs.Trees as tree
 use Rattle.aidl_syntax.specs.Trees.Members.{none}
 use Rattle.aidl_syntax.specs.Trees.Body.{enum, parcelable, union, interface}
 use Rattle.aidl_syntax.specs.Members.{Member, listed, members}
-use Rattle.aidl_syntax.specs.Members.Member.{field, constant, method, enumerator, nested}
+use Rattle.aidl_syntax.specs.Members.Member.{field, constant, method, enumerator}
 use Rattle.aidl_names.specs.Sources.{Source}
 use Rattle.const_values.specs.declared.wanted.Wanted.{Wanted}
 use Rattle.const_eval.specs.Items.{Item, of_body}
-use Rattle.tree_schema.specs.Parts.{listed_constants, enumerator_in}
+use Rattle.tree_schema.specs.Parts.{listed_constants}
 use Rattle.tree_schema.specs.SchemaOf.{kind_of}
-use Rattle.tree_schema.specs.Values.{Outcomes, enumerator_value}
+use Rattle.tree_schema.specs.Values.{Outcomes}
 use Rattle.tree_schema.proofs.WalksPlaced.{Each}
 use Rattle.aidl_schema.specs.declared.schema.Decl.{Decl}
 use Rattle.aidl_schema.specs.declared.schema.Field.{Field}
@@ -21,12 +21,12 @@ use Rattle.aidl_schema.specs.declared.schema.Kind.{Kind}
 use Rattle.aidl_schema.specs.declared.schema.Kind.TheVariants.{Interface, Parcelable, Union, Enum}
 use Rattle.aidl_schema.specs.Containment.{fields_of}
 use Rattle.aidl_schema.specs.Methods.{is_field_type}
-use Rattle.aidl_schema.specs.Names.{may_enclose, enumerators_of}
+use Rattle.aidl_schema.specs.Names.{may_enclose}
 use Rattle.aidl_schema.specs.Valid.{has_value, has_initializer_of, is_union_whole}
 use Rattle.dump_reading.specs.Bare.{bare_body}
 use Rattle.dump_reading.specs.DumpTrees.{body_tree, constants_before, field_tree, constant_tree, method_tree}
-use Rattle.dump_reading.proofs.NamesMembers.{members_bare, members_written, all_mapped, bare_member}
-use Rattle.dump_reading.proofs.ConstMembers.{is_nested, free_fields, union_fields}
+use Rattle.dump_reading.proofs.NamesMembers.{members_bare, members_written, all_mapped}
+use Rattle.dump_reading.proofs.ConstMembers.{free_fields, union_fields}
 use Rattle.dump_reading.proofs.WalkMembers.{is_no_field, is_no_constant, OfFields, OfConstants, enumerators_free, no_constants, fields_walk, constants_walk}
 
 pub all_join : (test : Member → Bool) (xs ys : List Member) → list_all test xs ≡ true → list_all test ys ≡ true → list_all test (xs ++ ys) ≡ true
@@ -64,13 +64,13 @@ module _ (S : List Decl) (files : List Source) (outcomes : Outcomes) (file scope
       → (t : tree.Body) → bare_body t ≡ body_tree S k (constants_before S d last) → Each P (of_body files file scope w t) → map g (listed_constants files outcomes file scope (members t)) ≡ map g d.constants
   constants_of_body g one (Interface xs) bare hv (interface oneway ms) e st =
       constants_walk S files outcomes file scope P g one false false (map (λ m. method (method_tree S m)) xs) (all_mapped S is_no_constant (λ m. method (method_tree S m)) xs (λ k x q. refl)) d.constants hv (listed last) no_constant (listed ms)
-          (sym (members_bare (interface oneway ms)) ∙ ap members e ∙ members_written S d (Interface xs) last bare) st
+      (sym (members_bare (interface oneway ms)) ∙ ap members e ∙ members_written S d (Interface xs) last bare) st
   constants_of_body g one (Parcelable xs) bare hv (parcelable ms) e st =
       constants_walk S files outcomes file scope P g one false false (map (λ f. field (field_tree S f)) xs) (all_mapped S is_no_constant (λ f. field (field_tree S f)) xs (λ k x q. refl)) d.constants hv (listed last) no_constant (listed ms)
-          (sym (members_bare (parcelable ms)) ∙ ap members e ∙ members_written S d (Parcelable xs) last bare) st
+      (sym (members_bare (parcelable ms)) ∙ ap members e ∙ members_written S d (Parcelable xs) last bare) st
   constants_of_body g one (Union xs) bare hv (union ms) e st =
       constants_walk S files outcomes file scope P g one true false (map (λ f. field (field_tree S f)) xs) (all_mapped S is_no_constant (λ f. field (field_tree S f)) xs (λ k x q. refl)) d.constants hv (listed last) no_constant (listed ms)
-          (sym (members_bare (union ms)) ∙ ap members e ∙ members_written S d (Union xs) last bare) st
+      (sym (members_bare (union ms)) ∙ ap members e ∙ members_written S d (Union xs) last bare) st
   constants_of_body g one (Enum b xs) bare hv (enum ys) e st = ap (map g) (no_constants S files outcomes file scope P (map enumerator ys) (enumerators_free ys) ∙ sym (bare refl).0)
   constants_of_body g one (Enum b xs) bare hv (parcelable ms) e st = cc
   constants_of_body g one (Enum b xs) bare hv (union ms) e st = cc

@@ -316,22 +316,24 @@ module _ (S : List Decl) (H : AllHold S) (sorted : IsStrictlySortedBy (slice_cmp
       let names : x1.name.0 ≡ x0.name.0 = sym (text_is x1.name (named_at xs ids place.0 x1 row.1)) ∙ texts ∙ text_is x0.name (named_at xs ids p.0 x0 p.1) in
       let places : place.0 ≡ p.0 = (H n d at).enumerators place.0 p.0 x1 x0 (ap (λ q. slice_get (enumerators_of q) place.0) k.2 ∙ row.1) (ap (λ q. slice_get (enumerators_of q) p.0) k.2 ∙ p.1) names in
       let one_is : x1 ≡ x0 = some_is x1 x0 (sym row.1 ∙ ap (λ (j : ℕ). slice_get xs j) places ∙ p.1) in
-      let number_so : x1.value ≡ z = ap (λ w. w.value) one_is ∙ (Decides-int_eq x0.value z).0 (found_passes (λ x. int_eq x.value z) xs x0 f.1) in
-      (record {
-        judged = free;
-        offset = ne.0;
-        dotted = ne.1;
-        is = ap written ne.2;
-        file = c.file;
-        enum = num.0;
-        enumerator = y.0;
-        means = target_is;
-        wants = ap (wanted_of es) r_is ∙ ap (λ t. if t then wanted.Enum num.0 else wanted.Nothing) ((enum_number S H sorted A files are n d at).1 ∙ ap is_enum_kind k.2);
-        place = stands.0;
-        found = ap (λ (j : ℕ). items.number_at (items.items files) j (place_of y.0)) (sym it.2) ∙ ap (items.number_at (items.items files) it.0.file) (sym it.3) ∙ stands.1;
-        item = it.0;
-        numbered = record { there = stands.2; plain = plain.0; backing = b; wants = plain.2; number = x1.value; is = plain.1 };
-      }, number_so) where
+      let number_so : x1.value ≡ z = ap (λ w. w.value) one_is ∙ (Decides-int_eq x0.value z).0 (found_passes (λ x. int_eq x.value z) xs x0 f.1) in (
+        record {
+          judged = free;
+          offset = ne.0;
+          dotted = ne.1;
+          is = ap written ne.2;
+          file = c.file;
+          enum = num.0;
+          enumerator = y.0;
+          means = target_is;
+          wants = ap (wanted_of es) r_is ∙ ap (λ t. if t then wanted.Enum num.0 else wanted.Nothing) ((enum_number S H sorted A files are n d at).1 ∙ ap is_enum_kind k.2);
+          place = stands.0;
+          found = ap (λ (j : ℕ). items.number_at (items.items files) j (place_of y.0)) (sym it.2) ∙ ap (items.number_at (items.items files) it.0.file) (sym it.3) ∙ stands.1;
+          item = it.0;
+          numbered = record { there = stands.2; plain = plain.0; backing = b; wants = plain.2; number = x1.value; is = plain.1 };
+        },
+        number_so,
+      ) where
         of_parts : (x : Item) (is : List Ident) (i : Ident) → has_part is ≡ true → target_by files x (is ++ i ∷ []) ≡ member_of (declarations files) i (resolved files x.file x.scope is)
         of_parts x [] i h = cc
         of_parts x (a ∷ more) i h = target_last files x a more i

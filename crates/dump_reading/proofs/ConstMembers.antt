@@ -179,13 +179,16 @@ module _ (S : List Decl) (H : AllHold S) (sorted : IsStrictlySortedBy (slice_cmp
       by : (t : Bool) → is_named b ≡ t → Good files l (of_expression file scope (wanted_of entries r) u e)
       by false n =
           let open_so : not (is_named b) ≡ true = ap not n in
-          inl (record {
-            judged = free;
-            expr = e;
-            is = refl;
-            level = out-Const c;
-            fits = subst (λ w. Fits w e (out-Const c)) (sym (means.wants open_so)) (value_fits S b c open_so k e (bare ∙ ap (single_tree S b) (sym is)));
-          }, is)
+          inl (
+            record {
+              judged = free;
+              expr = e;
+              is = refl;
+              level = out-Const c;
+              fits = subst (λ w. Fits w e (out-Const c)) (sym (means.wants open_so)) (value_fits S b c open_so k e (bare ∙ ap (single_tree S b) (sym is)));
+            },
+            is,
+          )
       by true n = declared b l n h known bare where
         declared : (b : Base) (l : Const-F Const) → is_named b ≡ true → is_single S b l ≡ true → resolved files file scope (base_name S b) ≡ Some r → bare_expr e ≡ single_tree S b l → Good files l (of_expression file scope (wanted_of entries r) u e)
         declared base.Boolean l n h known bare = cc

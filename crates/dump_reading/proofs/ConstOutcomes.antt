@@ -132,9 +132,9 @@ module _ (files : List Source) where
       ap (judgement_of files values x) p.is ∙ ap (λ r. r >>= fitted x.wanted (named_enum files x e)) operand_is
       ∙ ap (λ w. fitted w (named_enum files x e) (operand.number back.0 q.number)) p.wants ∙ ap (λ t. fitted (wanted.Enum p.enum) t (operand.number back.0 q.number)) named
       ∙ ap (λ b. if b then Ok (constant.Number q.number) else Err fault.Mismatch) (itself p.enum) in
-        subst (λ r. HasOutcome files n (outcome_of r)) value
-            (judged n x at p.judged unknown (λ cycle. no_round cycle.0 cycle.1 one none) values
-            (λ k h. subst (λ (j : ℕ). HasOutcome files j (Given o.0)) (sym (the_one m k (subst (λ xs. Contains xs k) one h))) o.1)) where
+      subst (λ r. HasOutcome files n (outcome_of r)) value
+      (judged n x at p.judged unknown (λ cycle. no_round cycle.0 cycle.1 one none) values
+      (λ k h. subst (λ (j : ℕ). HasOutcome files j (Given o.0)) (sym (the_one m k (subst (λ xs. Contains xs k) one h))) o.1)) where
         apart : (m : ℕ) → next files n ≡ m ∷ [] → next files m ≡ [] → n ≡ m → ⊥
         apart m one none is = let r : m ∷ [] ≡ [] = sym one ∙ ap (next files) is ∙ none in cc
 

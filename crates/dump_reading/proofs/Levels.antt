@@ -1,10 +1,8 @@
 -- A constant is known by its level.
-use Rattle.std.proofs.Common.{◌≡◌, ℕ, ℤ, List, [], ◌∷◌, true, refl, sym, ap, subst, ◌∙◌}
-use Rattle.std.specs.List.{list_all}
+use Rattle.std.proofs.Common.{◌≡◌, ℤ, refl, sym, ap, subst, ◌∙◌}
 use Rattle.aidl_base.specs.declared.constant.Const.{Const, out-Const, roll-Const, map-Const, ind-Const, out-roll-Const}
 use Rattle.aidl_base.specs.declared.constant.Const.TheOpen.{Const-F}
 use Rattle.aidl_base.specs.declared.constant.Const.TheVariants as constant
-use Rattle.aidl_schema.specs.Constants.{are_members}
 
 pub roll_out : (c : Const) → roll-Const (out-Const c) ≡ c
 roll_out c = ind-Const (λ c. roll-Const (out-Const c) ≡ c) (λ x y e. subst (λ z. roll-Const (out-Const (roll-Const z)) ≡ roll-Const z) e (rolled (map-Const ((c : Const) × (roll-Const (out-Const c) ≡ c)) Const (λ s. s.0) y))) c where

@@ -1,14 +1,14 @@
 -- Annotations that stand for flags: what is kept of them, and that they break no rule.
-use Rattle.std.proofs.Common.{◌≡◌, ℕ, Bool, true, false, not, ◌&&◌, ◌||◌, if◌then◌else◌, List, [], ◌∷◌, ◌++◌, map, codes, Option, Some, None, refl, sym, ap, ◌∙◌}
-use Rattle.std.specs.List.{list_any, filter, find}
+use Rattle.std.proofs.Common.{◌≡◌, Bool, true, false, not, ◌&&◌, ◌||◌, if◌then◌else◌, List, [], ◌∷◌, ◌++◌, map, codes, Option, Some, None, refl, sym, ap, ◌∙◌}
+use Rattle.std.specs.List.{list_any, filter}
 use Rattle.std.specs.Str.{bytes_eq}
 use Rattle.aidl_syntax.specs.declared.tree.NameTree.{NameTree}
-use Rattle.aidl_syntax.specs.Trees.{Expr, Init, Param, Annot, Body, map_option}
+use Rattle.aidl_syntax.specs.Trees.{Init, Param, Annot, map_option}
 use Rattle.aidl_syntax.specs.Trees.Expr.{literal, group, unary, binary, name}
 use Rattle.aidl_syntax.specs.Trees.Init.{single, braces}
 use Rattle.aidl_names.specs.Names.{text}
-use Rattle.aidl_names.specs.Rules.{after_earlier, is_named_again}
-use Rattle.const_eval.specs.Backing.{is_type, is_backing}
+use Rattle.aidl_names.specs.Rules.{after_earlier}
+use Rattle.const_eval.specs.Backing.{is_type}
 use Rattle.const_eval.specs.declared.shape.Shape as types
 use Rattle.type_uses.specs.declared.annotation.Annotation.{Annotation}
 use Rattle.type_uses.specs.declared.annotation.Annotation.TheVariants as row
@@ -20,12 +20,10 @@ use Rattle.type_uses.specs.Parameters as parameters
 use Rattle.type_uses.specs.Parameters.{literal_in, literal_of, is_heap_name, is_heap_true, is_true_word, is_truth_word, is_type_string, is_string, is_backing_word}
 use Rattle.type_rules.specs.AnnotationRules.{is_again, breaks_row, is_bad_annotation}
 use Rattle.type_rules.specs.TypeRules.{is_bad_nullable}
-use Rattle.aidl_schema.specs.declared.schema.Backing.{Backing}
-use Rattle.aidl_schema.specs.declared.schema.Backing.TheVariants as backing
 use Rattle.aidl_schema.specs.declared.schema.Kind.{Kind}
 use Rattle.aidl_schema.specs.declared.schema.Kind.TheVariants.{Interface, Parcelable, Union, Enum}
 use Rattle.aidl_schema.specs.Valid.{is_parcelable_or_union}
-use Rattle.dump_reading.specs.Bare.{bare_name, bare_expr, bare_init, bare_param, bare_annot}
+use Rattle.dump_reading.specs.Bare.{bare_name, bare_init, bare_param, bare_annot}
 use Rattle.dump_reading.specs.DumpTrees.{nullable_trees, flag_trees, backing_trees}
 
 -- What speaks of no offset.

@@ -1,6 +1,6 @@
 -- No declaration of the trees that a dump stands for breaks a rule on types.
-use Rattle.std.proofs.Common.{◌≡◌, ℕ, zero, suc, ◌+◌, arith, Bool, true, false, not, ◌&&◌, ◌||◌, cond, if◌then◌else◌, List, [], ◌∷◌, ◌++◌, map, codes, Option, Some, None, slice_get, refl, sym, ap, ◌∙◌, subst}
-use Rattle.std.specs.List.{list_all, list_any, find, filter, flat_map}
+use Rattle.std.proofs.Common.{◌≡◌, ℕ, ◌+◌, arith, Bool, true, false, not, ◌&&◌, cond, if◌then◌else◌, List, [], ◌∷◌, ◌++◌, map, codes, Some, slice_get, refl, sym, ap, ◌∙◌, subst}
+use Rattle.std.specs.List.{list_all, list_any, find, flat_map}
 use Rattle.std.specs.Cmp.Lexicographic.{slice_cmp}
 use Rattle.std.specs.List.Sorted.{IsStrictlySortedBy}
 use Rattle.std.specs.Ordering.{nat_cmp}
@@ -25,9 +25,9 @@ use Rattle.const_eval.specs.Types.{is_enum_body}
 use Rattle.type_uses.specs.Annotations.{stand_of_body}
 use Rattle.type_uses.specs.Bases.{is_fixed_entry}
 use Rattle.type_uses.specs.Parameters.{literal_of, is_backing_word}
-use Rattle.type_uses.specs.TypeUses.{TypeUse, of_members, type_uses, is_field, annotations_of, stand_of, name_place, type_place, methods_in}
-use Rattle.type_rules.specs.AnnotationRules.{bad_annotations, BadAnnotation, BadBacking, bad_backing, is_bad_backing, names_backing}
-use Rattle.type_rules.specs.FieldRules.{BadConstant, BadField, bad_fields, empty_union, is_union_body, NotFixed, is_unfixed, is_bad_constant}
+use Rattle.type_uses.specs.TypeUses.{TypeUse, of_members, type_uses, is_field, annotations_of, stand_of, name_place, type_place}
+use Rattle.type_rules.specs.AnnotationRules.{bad_annotations, BadBacking, bad_backing, names_backing}
+use Rattle.type_rules.specs.FieldRules.{BadConstant, BadField, bad_fields, is_union_body, NotFixed, is_unfixed, is_bad_constant}
 use Rattle.type_rules.specs.Filters.{broken_where}
 use Rattle.type_rules.specs.MethodRules.{BadOneway, BadId, is_oneway_body, is_bad_oneway, bad_ids}
 use Rattle.type_rules.specs.TypeRules.{BadNullable, BadShape, BadDirection, bad_nullables_of, is_bad_shape, is_bad_direction}
@@ -41,19 +41,19 @@ use Rattle.aidl_schema.specs.declared.schema.Backing.TheVariants as backing
 use Rattle.aidl_schema.specs.declared.schema.Kind.{Kind}
 use Rattle.aidl_schema.specs.declared.schema.Kind.TheVariants.{Interface, Parcelable, Union, Enum}
 use Rattle.aidl_schema.specs.Containment.{fields_of}
-use Rattle.aidl_schema.specs.Holds.{AllHold, AreApart, Holds}
+use Rattle.aidl_schema.specs.Holds.{AllHold, AreApart}
 use Rattle.aidl_schema.specs.Methods.{is_field_type}
 use Rattle.aidl_schema.specs.Names.{name_of, may_enclose, methods_of}
 use Rattle.aidl_schema.specs.Valid.{is_enum, is_union_whole, are_union_fields, has_initializer_of, has_fixed_size}
 use Rattle.api_dump.specs.Pieces.{ident}
 use Rattle.api_dump.specs.Declarations.{backing_text}
-use Rattle.dump_reading.specs.Bare.{bare_body, bare_init, bare_param, bare_annot, bare_field}
+use Rattle.dump_reading.specs.Bare.{bare_body, bare_param, bare_annot}
 use Rattle.dump_reading.specs.DumpTrees.{body_tree, constants_before, nested_trees, backed_tree, token_tree, field_tree, constant_tree, method_tree}
 use Rattle.dump_reading.proofs.Numbers.{walks}
 use Rattle.dump_reading.proofs.Entries.{IsEntry, AreEntries, none_inside, no_nested}
 use Rattle.dump_reading.proofs.NamesStand.{each_none}
 use Rattle.dump_reading.proofs.NamesMembers.{bare_member, members_bare, members_written, all_nested, all_mapped}
-use Rattle.dump_reading.proofs.ConstShapes.{body_bare, bodies_are}
+use Rattle.dump_reading.proofs.ConstShapes.{body_bare}
 use Rattle.dump_reading.proofs.ConstItems.{annots_bare, type_named}
 use Rattle.dump_reading.proofs.ConstMembers.{is_nested, free_fields, union_fields}
 use Rattle.dump_reading.proofs.Marks.{flags, stand_of_kind, flags_fine, literal_bare}
@@ -61,7 +61,7 @@ use Rattle.dump_reading.proofs.Bases.{fixed_kind, fixed_entry}
 use Rattle.dump_reading.proofs.Uses.{IsFineUse}
 use Rattle.dump_reading.proofs.WalkMembers.{is_no_field}
 use Rattle.dump_reading.proofs.Bodies.{all_join}
-use Rattle.dump_reading.proofs.RulesUses.{Fine, uses_fine, flat_each, filter_each}
+use Rattle.dump_reading.proofs.RulesUses.{uses_fine, flat_each, filter_each}
 use Rattle.dump_reading.proofs.RulesIds.{among, among_uses, methods_written, ids_fine}
 use Rattle.dump_reading.proofs.RulesFields.{fields_pass}
 

@@ -1,7 +1,6 @@
 -- The ids of methods in a dump break no rule.
-use Rattle.std.proofs.Common.{◌≡◌, ℕ, zero, suc, ◌<◌, ◌≤◌, Bool, true, false, not, ◌&&◌, ◌||◌, nat_le, nat_eq, List, [], ◌∷◌, ◌++◌, map, take, Option, Some, None, slice_get, refl, sym, ap, ◌∙◌, subst, arith, append-nil}
+use Rattle.std.proofs.Common.{◌≡◌, ℕ, zero, suc, ◌≤◌, Bool, true, false, not, ◌||◌, nat_le, nat_eq, List, [], ◌∷◌, ◌++◌, map, take, Option, Some, None, slice_get, refl, sym, ap, ◌∙◌, arith, append-nil}
 use Rattle.std.specs.List.{list_all, list_any, flat_map}
-use Rattle.std.proofs.lemmas.Bool.{and_parts}
 use Rattle.std.proofs.lemmas.Bool.Decides.{nat_tests}
 use Rattle.aidl_syntax.specs.declared.token.Token.{Token}
 use Rattle.aidl_syntax.specs.declared.token.TokenKind.TheVariants as kind
@@ -14,7 +13,7 @@ use Rattle.aidl_syntax.specs.Members.Member.{field, constant, method, enumerator
 use Rattle.aidl_names.specs.Rules.{breach}
 use Rattle.const_eval.specs.declared.shape.Shape.{Shape}
 use Rattle.type_uses.specs.Ids.{number_of, is_id, is_id_kind, number_of_kind, has_id}
-use Rattle.type_uses.specs.TypeUses.{TypeUse, of_arg, of_member, of_members, methods_at, methods_in}
+use Rattle.type_uses.specs.TypeUses.{TypeUse, of_arg, of_members, methods_at, methods_in}
 use Rattle.type_rules.specs.MethodRules.{is_bad_id, is_bad_token, is_taken, has_value, bad_ids}
 use Rattle.aidl_schema.specs.declared.schema.Decl.{Decl}
 use Rattle.aidl_schema.specs.declared.schema.Method.{Method}

@@ -1,18 +1,16 @@
 -- The uses of types in a declaration of a dump, one by one.
-use Rattle.std.proofs.Common.{◌≡◌, ℕ, Bool, true, false, not, ◌&&◌, ◌||◌, cond, if◌then◌else◌, List, [], ◌∷◌, ◌++◌, map, Option, Some, None, slice_get, zero, suc, refl, sym, ap, ◌∙◌, subst}
+use Rattle.std.proofs.Common.{◌≡◌, ℕ, Bool, true, false, cond, List, [], ◌∷◌, ◌++◌, map, Some, None, slice_get, zero, suc, refl, sym, ap, ◌∙◌}
 use Rattle.std.specs.List.{list_all, filter, flat_map}
 use Rattle.std.specs.Cmp.Lexicographic.{slice_cmp}
 use Rattle.std.specs.List.Sorted.{IsStrictlySortedBy}
 use Rattle.std.specs.Ordering.{nat_cmp}
 use Rattle.std.proofs.lemmas.Bool.{and_parts}
-use Rattle.aidl_syntax.specs.declared.tree.TypeTree.{TypeTree}
 use Rattle.aidl_syntax.specs.Trees as tree
 use Rattle.aidl_syntax.specs.Trees.Members.{none}
 use Rattle.aidl_syntax.specs.Members.{Member, listed, members}
 use Rattle.aidl_syntax.specs.Members.Member.{field, constant, method, enumerator, nested}
 use Rattle.aidl_names.specs.Sources.{Source}
 use Rattle.aidl_names.specs.Declarations.{declarations}
-use Rattle.const_eval.specs.declared.shape.Shape as types
 use Rattle.const_eval.specs.Items.{shape_in}
 use Rattle.type_uses.specs.TypeUses.{TypeUse, of_arg, of_member, of_members}
 use Rattle.tree_schema.proofs.WalksPlaced.{Each}

@@ -1,6 +1,5 @@
 -- The schema of the trees that a dump stands for is the one that was dumped.
-use Rattle.std.proofs.Common.{◌≡◌, ℕ, ℤ, zero, suc, ◌+◌, ◌≤◌, ◌<◌, Bool, true, false, not, ◌&&◌, ◌||◌, List, [], ◌∷◌, ◌++◌, map, length, Option, Some, None, slice_get, IsTrue, refl, sym, ap, ◌∙◌, subst, arith}
-use Rattle.std.specs.List.{list_all}
+use Rattle.std.proofs.Common.{◌≡◌, ℕ, zero, suc, ◌+◌, ◌≤◌, ◌<◌, true, false, not, ◌&&◌, ◌||◌, List, [], ◌∷◌, map, length, Option, Some, None, slice_get, IsTrue, refl, sym, ap, ◌∙◌, subst, arith}
 use Rattle.std.specs.Cmp.Lexicographic.{slice_cmp}
 use Rattle.std.specs.List.Sorted.{IsStrictlySortedBy}
 use Rattle.std.specs.Ordering.{nat_cmp}
@@ -13,25 +12,22 @@ use Rattle.aidl_syntax.specs.Trees.Body.{enum, parcelable, union, interface}
 use Rattle.aidl_syntax.specs.Members.{listed, members, body}
 use Rattle.aidl_names.specs.Sources.{Source}
 use Rattle.aidl_names.specs.Declarations.{Entry, declarations}
-use Rattle.const_values.specs.declared.wanted.Wanted.{Wanted}
 use Rattle.const_eval.specs.Backing.{annots_of, backing_of}
 use Rattle.type_uses.specs.Kept.{is_fixed, is_vintf}
 use Rattle.tree_schema.specs.Checked.{AreOutcomes}
 use Rattle.tree_schema.specs.Numbers.{Numbered, bytes_of, number_of}
 use Rattle.tree_schema.specs.Numbers as numbers
-use Rattle.tree_schema.specs.Parts.{fields_in, constant_in, constants_in, enumerator_in}
+use Rattle.tree_schema.specs.Parts.{constants_in, enumerator_in}
 use Rattle.tree_schema.specs.SchemaOf.{schema_of, declared, backing_in, kind_of, outer_of}
 use Rattle.tree_schema.specs.Types.{type_of}
 use Rattle.tree_schema.specs.Values.{Outcomes, constant_value, enumerator_value, initial_of}
 use Rattle.tree_schema.proofs.NamesNumbers.{key}
 use Rattle.tree_schema.proofs.WalksPlaced.{Each}
 use Rattle.tree_schema.proofs.ValuesPlaces.{HasPlacesOnce}
-use Rattle.tree_schema.proofs.ValuesSettled.{Stands}
 use Rattle.aidl_schema.specs.declared.schema.Decl.{Decl}
 use Rattle.aidl_schema.specs.declared.schema.Field.{Field}
 use Rattle.aidl_schema.specs.declared.schema.Constant.{Constant}
 use Rattle.aidl_schema.specs.declared.schema.Enumerator.{Enumerator}
-use Rattle.aidl_schema.specs.declared.schema.AidlType.{AidlType}
 use Rattle.aidl_schema.specs.declared.schema.Backing.{Backing}
 use Rattle.aidl_schema.specs.declared.schema.Backing.TheVariants as backing
 use Rattle.aidl_schema.specs.declared.schema.Base.{Base}
@@ -46,9 +42,9 @@ use Rattle.aidl_schema.specs.Methods.{is_field_type, is_whole_type, may_be_on_he
 use Rattle.aidl_schema.specs.Names.{name_of, has_names, enumerators_of, methods_of}
 use Rattle.aidl_schema.specs.Same.{is_named}
 use Rattle.aidl_schema.specs.Types.{is_type, is_one, form_of}
-use Rattle.aidl_schema.specs.Valid.{is_enum, has_value, has_bounds, may_be_fixed, is_bounded}
-use Rattle.dump_reading.specs.Bare.{bare_annot, bare_body, bare_field, bare_constant, bare_enumerator, bare_method}
-use Rattle.dump_reading.specs.DumpTrees.{body_tree, constants_before, field_tree, constant_tree, enumerator_tree, method_tree}
+use Rattle.aidl_schema.specs.Valid.{is_enum, has_bounds, may_be_fixed, is_bounded}
+use Rattle.dump_reading.specs.Bare.{bare_annot, bare_body, bare_field, bare_enumerator, bare_method}
+use Rattle.dump_reading.specs.DumpTrees.{body_tree, constants_before, field_tree, enumerator_tree, method_tree}
 use Rattle.dump_reading.specs.Valued.{kind_at}
 use Rattle.dump_reading.proofs.Fits.{each_passes}
 use Rattle.dump_reading.proofs.Numbers.{walks, outer_is}
@@ -103,8 +99,8 @@ module _ (S : List Decl) (H : AllHold S) (sorted : IsStrictlySortedBy (slice_cmp
   field_type file scope s in_file f h x e =
       let two = and_parts (is_whole_type S f.ty) (not f.ty.heap || may_be_on_heap S f.ty) h in
       type_back S H sorted A named files are file scope s in_file f.ty (and_parts (is_type S f.ty) (not f.ty.utf8 || is_string f.ty.base) two.0).0
-          (λ on. (and_parts f.ty.nullable (is_one f.ty.shape && is_composite (form_of S f.ty.base)) (ap (λ b. not b || may_be_on_heap S f.ty) (sym on) ∙ two.1)).0)
-          x.ty (ap (λ y. y.ty) e) x.annots (ap (λ y. y.annots) e)
+      (λ on. (and_parts f.ty.nullable (is_one f.ty.shape && is_composite (form_of S f.ty.base)) (ap (λ b. not b || may_be_on_heap S f.ty) (sym on) ∙ two.1)).0)
+      x.ty (ap (λ y. y.ty) e) x.annots (ap (λ y. y.annots) e)
 
   plain_type : (b : Base) → not (is_named b) ≡ true → is_type S (record { base = b; shape = shape.One; nullable = false; heap = false; utf8 = false }) ≡ true
   plain_type base.Boolean n = refl
@@ -130,7 +126,7 @@ module _ (S : List Decl) (H : AllHold S) (sorted : IsStrictlySortedBy (slice_cmp
         let plain = (and_parts (not (is_named c.ty)) (is_constant_of S c.ty c.value) v).0 in
         ap (λ i. let z : Constant = record { name = i; ty = (type_of files e.file j x.annots x.ty).base; value = constant_value files outcomes e.file x.value } in z) (ap (λ y. y.name.name) bare)
         ∙ ap (λ b. let z : Constant = record { name = c.name; ty = b; value = constant_value files outcomes e.file x.value } in z)
-            (one_back S H sorted A named files are e.file j h.source h.placed c.ty (plain_type c.ty plain) x.ty (ap (λ y. y.ty) bare) x.annots)
+        (one_back S H sorted A named files are e.file j h.source h.placed c.ty (plain_type c.ty plain) x.ty (ap (λ y. y.ty) bare) x.annots)
         ∙ ap (λ q. let z : Constant = record { name = c.name; ty = c.ty; value = q } in z) (constant_value_is files outcomes each S H sorted A are once e.file j h.source h.placed c v x bare st))
         ∙ map_itself h.declared.constants
 

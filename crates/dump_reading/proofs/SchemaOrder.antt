@@ -1,5 +1,5 @@
 -- The declarations of the trees that a dump stands for, in the order of a schema, are those of the schema in its own.
-use Rattle.std.proofs.Common.{encode_utf8_all, ◌≡◌, ◌+◌, ◌⊎◌, inl, inr, ℕ, zero, suc, Bool, true, false, ◌&&◌, List, [], ◌∷◌, map, fold, length, Option, Some, None, slice_get, Ordering, Less, Equal, Greater, nat_cmp, is_lt, refl, sym, ap, ◌∙◌, subst, arith}
+use Rattle.std.proofs.Common.{encode_utf8_all, ◌≡◌, ◌+◌, ◌⊎◌, inl, inr, ℕ, zero, suc, true, ◌&&◌, List, [], ◌∷◌, map, fold, Option, Some, slice_get, Ordering, Less, Equal, Greater, nat_cmp, is_lt, refl, sym, ap, ◌∙◌, subst, arith}
 use Rattle.std.specs.List.{list_all, enumerate_from}
 use Rattle.std.specs.Cmp.Lexicographic.{slice_cmp}
 use Rattle.std.specs.List.Sorted.{IsStrictlySortedBy}

@@ -1,5 +1,5 @@
 -- The types, arguments and methods that the trees of a dump give are those of the schema.
-use Rattle.std.proofs.Common.{◌≡◌, ℕ, ◌+◌, ◌≤◌, nat_le, Bool, true, false, not, ◌&&◌, ◌||◌, if◌then◌else◌, List, [], ◌∷◌, ◌++◌, map, Option, Some, None, slice_get, zero, suc, refl, sym, ap, ◌∙◌, subst, arith}
+use Rattle.std.proofs.Common.{◌≡◌, ℕ, ◌+◌, ◌≤◌, nat_le, Bool, true, false, not, ◌||◌, if◌then◌else◌, List, [], ◌∷◌, map, Option, Some, None, slice_get, zero, suc, refl, sym, ap, ◌∙◌, arith}
 use Rattle.std.specs.List.{list_all}
 use Rattle.std.specs.Cmp.Lexicographic.{slice_cmp}
 use Rattle.std.specs.List.Sorted.{IsStrictlySortedBy}
@@ -41,7 +41,7 @@ use Rattle.dump_reading.proofs.Entries.{AreEntries}
 use Rattle.dump_reading.proofs.NamesResolved.{number_is}
 use Rattle.dump_reading.proofs.ConstShapes.{shape_of}
 use Rattle.dump_reading.proofs.Marks.{marks, nullable_kept, heap_kept, utf8_kept}
-use Rattle.dump_reading.proofs.Bases.{IsBase, IsTyped, typed_here}
+use Rattle.dump_reading.proofs.Bases.{IsBase, typed_here}
 use Rattle.dump_reading.proofs.Uses.{no_type, the_type}
 use Rattle.dump_reading.proofs.RulesIds.{among, token_is}
 use Rattle.dump_reading.proofs.SchemaOrder.{number_back}

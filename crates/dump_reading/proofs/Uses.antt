@@ -1,31 +1,27 @@
 -- No use of a type in a dump breaks a rule by itself.
-use Rattle.std.proofs.Common.{◌≡◌, ℕ, Bool, true, false, not, ◌&&◌, ◌||◌, if◌then◌else◌, List, [], ◌∷◌, ◌++◌, map, Option, Some, None, is_none, is_some, slice_get, refl, sym, ap, ◌∙◌, subst}
-use Rattle.std.specs.List.{list_all, list_any, filter}
+use Rattle.std.proofs.Common.{◌≡◌, ℕ, Bool, true, false, not, ◌&&◌, ◌||◌, if◌then◌else◌, List, [], ◌∷◌, map, Option, Some, None, is_some, slice_get, refl, sym, ap, ◌∙◌, subst}
+use Rattle.std.specs.List.{list_all, list_any}
 use Rattle.std.specs.Cmp.Lexicographic.{slice_cmp}
 use Rattle.std.specs.List.Sorted.{IsStrictlySortedBy}
 use Rattle.std.specs.Ordering.{nat_cmp}
 use Rattle.std.proofs.lemmas.Bool.{and_parts}
 use Rattle.aidl_syntax.specs.declared.tree.TypeTree.{TypeTree}
-use Rattle.aidl_syntax.specs.declared.tree.WayTree.{WayTree}
 use Rattle.aidl_syntax.specs.Trees as tree
 use Rattle.aidl_syntax.specs.Trees.{Annot, map_option}
 use Rattle.aidl_names.specs.declared.resolved.Resolved.{Resolved}
 use Rattle.aidl_names.specs.Sources.{Source}
 use Rattle.aidl_names.specs.Declarations.{Entry, declarations}
 use Rattle.aidl_names.specs.Rules.{breach}
-use Rattle.const_eval.specs.declared.shape.Shape as types
-use Rattle.const_eval.specs.declared.shape.Shape.TheVariants as typed
 use Rattle.const_eval.specs.Items.{shape_in}
-use Rattle.const_eval.specs.Types.{is_composite}
 use Rattle.type_uses.specs.declared.stand.Stand.TheVariants as stand
 use Rattle.type_uses.specs.Annotations.{is_text_based}
-use Rattle.type_uses.specs.Bases.{is_scalar, is_fixed_base, is_refused, is_refused_result, is_one_composite, is_one_scalar}
+use Rattle.type_uses.specs.Bases.{is_fixed_base, is_refused, is_one_composite, is_one_scalar}
 use Rattle.type_uses.specs.Kept.{is_nullable}
 use Rattle.type_uses.specs.TypeUses.{TypeUse, of_field, of_constant, of_method, of_argument, annotations_of, stand_of}
 use Rattle.type_rules.specs.AnnotationRules.{bad_annotations}
 use Rattle.type_rules.specs.TypeRules.{bad_nullables, bad_nullables_of, is_bad_shape, is_bad_direction, is_misdirected, is_outward}
 use Rattle.type_rules.specs.MethodRules.{is_bad_oneway, gives_back}
-use Rattle.type_rules.specs.FieldRules.{is_bad_constant, is_constant_type, is_unfixed, has_fixed_size}
+use Rattle.type_rules.specs.FieldRules.{is_bad_constant, is_unfixed}
 use Rattle.aidl_schema.specs.declared.schema.Decl.{Decl}
 use Rattle.aidl_schema.specs.declared.schema.Field.{Field}
 use Rattle.aidl_schema.specs.declared.schema.Constant.{Constant}
@@ -41,7 +37,7 @@ use Rattle.aidl_schema.specs.declared.schema.Shape.TheVariants as shape
 use Rattle.aidl_schema.specs.Constants.{is_string, is_constant_of}
 use Rattle.aidl_schema.specs.Containment as containment
 use Rattle.aidl_schema.specs.Holds.{AllHold, AreApart}
-use Rattle.aidl_schema.specs.Methods.{is_whole_type, may_be_on_heap, is_field_type, is_passed_type, is_result_type, has_method_types, has_way, is_in_way}
+use Rattle.aidl_schema.specs.Methods.{is_whole_type, may_be_on_heap, is_field_type, is_passed_type, is_result_type, has_way, is_in_way}
 use Rattle.aidl_schema.specs.Names.{name_of}
 use Rattle.aidl_schema.specs.Same.{is_named, decl_of}
 use Rattle.aidl_schema.specs.Types as schema

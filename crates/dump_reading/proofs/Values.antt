@@ -1,6 +1,5 @@
 -- The values of constants, initializers and enumerators in the trees that a dump stands for are those of the schema.
-use Rattle.std.proofs.Common.{◌≡◌, ℕ, ℤ, Bool, true, false, cond, not, ◌&&◌, if◌then◌else◌, List, [], ◌∷◌, map, Option, Some, None, slice_get, inl, inr, refl, sym, ap, subst, ◌∙◌}
-use Rattle.std.specs.List.{list_all}
+use Rattle.std.proofs.Common.{◌≡◌, ℕ, ℤ, Bool, true, cond, if◌then◌else◌, List, [], ◌∷◌, map, Option, Some, None, slice_get, inl, inr, refl, sym, ap, ◌∙◌}
 use Rattle.std.specs.Ordering.{nat_cmp}
 use Rattle.std.specs.Cmp.Lexicographic.{slice_cmp}
 use Rattle.std.specs.List.Sorted.{IsStrictlySortedBy}
@@ -8,7 +7,6 @@ use Rattle.std.proofs.lemmas.Option.{slice_get_within}
 use Rattle.aidl_base.specs.declared.constant.Const.{Const, out-Const, roll-Const}
 use Rattle.aidl_base.specs.declared.constant.Const.TheOpen.{Const-F}
 use Rattle.aidl_base.specs.declared.constant.Const.TheVariants as constant
-use Rattle.aidl_syntax.specs.declared.tree.TypeTree.{TypeTree}
 use Rattle.aidl_syntax.specs.Trees as tree
 use Rattle.aidl_syntax.specs.Trees.{Expr, Init, map_option}
 use Rattle.aidl_syntax.specs.Trees.Init.{single, braces}
@@ -39,7 +37,7 @@ use Rattle.aidl_schema.specs.Methods.{is_field_type}
 use Rattle.aidl_schema.specs.Names.{name_of}
 use Rattle.aidl_schema.specs.Types.{is_one}
 use Rattle.aidl_schema.specs.Valid.{has_value, has_initializer_of}
-use Rattle.dump_reading.specs.Bare.{bare_expr, bare_init, bare_field, bare_constant}
+use Rattle.dump_reading.specs.Bare.{bare_init, bare_field, bare_constant}
 use Rattle.dump_reading.specs.DumpTrees.{value_tree, brace_trees, initial_tree, field_tree, constant_tree}
 use Rattle.dump_reading.proofs.Numbers.{walks}
 use Rattle.dump_reading.proofs.Entries.{AreEntries}

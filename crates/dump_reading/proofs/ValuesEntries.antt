@@ -1,5 +1,5 @@
 -- The values in each declaration of the trees that a dump stands for are those of its declaration in the schema.
-use Rattle.std.proofs.Common.{encode_utf8_all, ◌≡◌, ℕ, Bool, true, false, ◌&&◌, List, [], ◌∷◌, map, fold, None, Some, slice_get, refl, sym, ap, ◌∙◌, subst}
+use Rattle.std.proofs.Common.{encode_utf8_all, ◌≡◌, ℕ, true, false, List, [], ◌∷◌, map, None, Some, slice_get, refl, sym, ap, ◌∙◌, subst}
 use Rattle.std.specs.List.{list_all}
 use Rattle.std.specs.Ordering.{nat_cmp}
 use Rattle.std.specs.Cmp.Lexicographic.{slice_cmp}
@@ -9,7 +9,7 @@ use Rattle.aidl_base.specs.Identifiers.{is_identifier}
 use Rattle.aidl_syntax.specs.Trees as tree
 use Rattle.aidl_syntax.specs.Trees.Members.{none}
 use Rattle.aidl_syntax.specs.Trees.Body.{enum, parcelable, union, interface}
-use Rattle.aidl_syntax.specs.Members.{members, body, listed}
+use Rattle.aidl_syntax.specs.Members.{members, body}
 use Rattle.aidl_names.specs.Sources.{Source}
 use Rattle.aidl_names.specs.Declarations.{Entry, declarations}
 use Rattle.const_values.specs.declared.wanted.Wanted.{Wanted}
@@ -81,13 +81,13 @@ module _ (S : List Decl) (H : AllHold S) (sorted : IsStrictlySortedBy (slice_cmp
     fields_here g one =
         let v = H w h.declared h.at in
         fields_of_body S files outcomes e.file j (Stands files) h.declared last (all_nested S is_no_field (λ t. refl) h.levels w) (all_nested S is_no_constant (λ t. refl) h.levels w) (backing_of e.tree) g one h.declared.kind holds_no
-            v.field_types v.initializers v.union (body e.tree) written stands
+        v.field_types v.initializers v.union (body e.tree) written stands
 
     listed_here : {X : Type 0} (g : Constant → X) → OfConstants S files outcomes e.file j (Stands files) g → map g (listed_constants files outcomes e.file j (members (body e.tree))) ≡ map g h.declared.constants
     listed_here g one =
         let v = H w h.declared h.at in
         constants_of_body S files outcomes e.file j (Stands files) h.declared last (all_nested S is_no_field (λ t. refl) h.levels w) (all_nested S is_no_constant (λ t. refl) h.levels w) (backing_of e.tree) g one h.declared.kind holds_no
-            v.values (body e.tree) written stands
+        v.values (body e.tree) written stands
 
     -- they stand in the order of their names
     ordered : constants_in files outcomes e.file j (members (body e.tree)) ≡ listed_constants files outcomes e.file j (members (body e.tree))

@@ -1,7 +1,7 @@
 -- The fields and the constants that members give, one after the other beside those of the schema.
-use Rattle.std.proofs.Common.{◌≡◌, ℕ, ◌+◌, Bool, true, false, ◌&&◌, ◌||◌, List, [], ◌∷◌, ◌++◌, map, Some, None, refl, sym, ap, ◌∙◌}
+use Rattle.std.proofs.Common.{◌≡◌, ℕ, Bool, true, false, ◌||◌, List, [], ◌∷◌, ◌++◌, map, None, refl, sym, ap, ◌∙◌}
 use Rattle.std.specs.List.{list_all}
-use Rattle.std.proofs.lemmas.Bool.{and_parts, and_from}
+use Rattle.std.proofs.lemmas.Bool.{and_parts}
 use Rattle.aidl_syntax.specs.Trees as tree
 use Rattle.aidl_syntax.specs.Members.{Member}
 use Rattle.aidl_syntax.specs.Members.Member.{field, constant, method, enumerator, nested}
@@ -18,7 +18,7 @@ use Rattle.aidl_schema.specs.Valid.{has_value, has_initializer_of}
 use Rattle.dump_reading.specs.Bare.{bare_field, bare_constant}
 use Rattle.dump_reading.specs.DumpTrees.{field_tree, constant_tree}
 use Rattle.dump_reading.proofs.NamesMembers.{bare_member, all_bare}
-use Rattle.dump_reading.proofs.ConstMembers.{is_nested, AreFields}
+use Rattle.dump_reading.proofs.ConstMembers.{AreFields}
 
 pub each_split : {X : Type 0} (P : X → Type 0) (xs ys : List X) → Each P (xs ++ ys) → Each P xs × Each P ys
 each_split P [] ys h = (tt, h)

@@ -1,7 +1,7 @@
-use Rattle.std.proofs.Common.{List, map, sym, subst}
+use Rattle.std.proofs.Common.{map, subst}
 use Rattle.std.specs.List.{All}
 use Rattle.std.specs.List.Sorted.{IsStrictlyIncreasing}
-use Rattle.aidl_syntax.specs.Sources.{Source, source_of}
+use Rattle.aidl_syntax.specs.Sources.{source_of}
 use Rattle.aidl_syntax.specs.Walks.{places_of}
 use Rattle.dump_reading.proofs.Enums.{enums_bare}
 use Rattle.dump_reading.proofs.Entries.{are_entries}
@@ -16,9 +16,12 @@ returns c =
     record {
       schema = λ files e p.
           let trees = c.args.parsed.now in
-          let h = are_sources S c.law_dump_tree.ensures files trees p.trees e in
-          (trees, p, trees_back S l.declarations l.sorted l.apart enums v.names v.bounds (map source_of trees) (are_entries S l.declarations l.sorted l.apart (map source_of trees) h)
-              (rising files trees p.trees c.law_rising.ensures) (c.law_dump_names.ensures.accepted (map source_of trees) h));
+          let h = are_sources S c.law_dump_tree.ensures files trees p.trees e in (
+            trees,
+            p,
+            trees_back S l.declarations l.sorted l.apart enums v.names v.bounds (map source_of trees) (are_entries S l.declarations l.sorted l.apart (map source_of trees) h)
+                (rising files trees p.trees c.law_rising.ensures) (c.law_dump_names.ensures.accepted (map source_of trees) h),
+          );
       unrefused = λ files e p rows r.
           let trees = r.0 in
           let h = are_sources S c.law_dump_tree.ensures files trees r.1.trees e in
