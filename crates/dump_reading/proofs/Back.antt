@@ -8,7 +8,6 @@ use Rattle.std.proofs.lemmas.Bool.{and_parts}
 use Rattle.std.proofs.lemmas.List.{length-map}
 use Rattle.std.proofs.lemmas.Option.{slice_get_within}
 use Rattle.std.proofs.lemmas.List.Elements.{All-head, All-tail}
-use Rattle.aidl_base.specs.declared.breach.Breach.{Breach}
 use Rattle.aidl_base.specs.declared.source_file.SourceFile.{SourceFile}
 use Rattle.aidl_base.proofs.Tests.{flipped}
 use Rattle.aidl_syntax.specs.Sources.{Source}
@@ -33,8 +32,7 @@ use Rattle.tree_files.specs.Files.{HasTokens, HasTree}
 use Rattle.tree_files.specs.Refusals.{Rows, IsLexBreach, IsTreeless}
 use Rattle.type_check.specs.Bounds.{broken, broken_at, rule_of}
 use Rattle.type_check.specs.Checked.{IsSchemaOfTrees}
-use Rattle.type_check.specs.Stages.AreBreaches.{of_names, of_constants, of_types}
-use Rattle.type_check.specs.Stages.{AreBreaches, constants_broken, schema_by, types_broken}
+use Rattle.type_check.specs.Stages.{constants_broken, schema_by, types_broken}
 use Rattle.aidl_schema.specs.declared.schema.Decl.{Decl}
 use Rattle.aidl_schema.specs.Containment.{holds_itself}
 use Rattle.aidl_schema.specs.Holds.{AllHold, AreApart}
@@ -107,12 +105,6 @@ module _ (S : List Decl) (H : AllHold S) (in_names : IsStrictlySortedBy (slice_c
       let os = outcomes_from files (items files) 0 (λ k lt. let r = some_outcome S H in_names A enums files are once k lt in (Given r.0, subst (λ (j : ℕ). HasOutcome files j (Given r.0)) (omega arith) r.1)) in
       let judged : AreOutcomes files os.0 = record { count = os.1; each = λ n lt. subst (λ (j : ℕ). HasOutcome files j (outcome_at os.0 n)) (omega arith) (os.2 n lt) } in
       record { names = accepted; outcomes = os.0; judged = judged; constants = none_of_constants os.0 judged; types = none_of_types os.0 judged; exact = exact os.0 judged }
-
-  -- no stage has a breach
-  pub no_breaches : IsAccepted files → (rows : List Breach) → AreBreaches files rows → ⊥
-  no_breaches accepted rows (of_names e some) = some (e ∙ accepted.1)
-  no_breaches accepted rows (of_constants n outcomes h e some) = some (e ∙ none_of_constants outcomes h)
-  no_breaches accepted rows (of_types n outcomes h c e some) = some (e ∙ none_of_types outcomes h)
 
 -- Rows of files without tokens, or without trees.
 pub no_rows : {R : Type 0} (G : SourceFile → Type 0) (IsRow : ℕ → SourceFile → R → Type 0) → ((n : ℕ) (f : SourceFile) (r : R) → G f → IsRow n f r → ⊥) → (n : ℕ) (fs : List SourceFile) → All G fs → (rows : List R) → Rows G IsRow n fs rows → rows ≡ []

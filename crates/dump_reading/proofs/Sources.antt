@@ -7,7 +7,7 @@ use Rattle.std.proofs.lemmas.List.Elements.{All-nil, All-cons, All-head, All-tai
 use Rattle.aidl_base.specs.declared.source_file.SourceFile.{SourceFile}
 use Rattle.aidl_syntax.specs.declared.token.Token.{Token}
 use Rattle.aidl_syntax.specs.declared.tree.ParsedFile.{ParsedFile}
-use Rattle.aidl_syntax.specs.Sources.{Source, source_of}
+use Rattle.aidl_syntax.specs.Sources.{source_of}
 use Rattle.aidl_syntax.specs.Tokens.{Tokens}
 use Rattle.aidl_syntax.specs.Trees as syntax
 use Rattle.aidl_syntax.specs.Productions.{IsFile}
@@ -49,21 +49,6 @@ module _ (S : List Decl) where
 
   pub are_sources : HaveTrees S → (fs : List SourceFile) (ps : List ParsedFile) → AllZip IsParsed fs ps → map file_pair fs ≡ dump_text S → AreSources S (dump_text S) (map source_of ps)
   are_sources trees fs ps h e = sources fs ps (dump_text S) h e (λ i g at. let r = trees i g at in (r.0, r.1, r.2, r.3))
-
--- what parses to the same is the same
-one_parsed : (f : SourceFile) (p q : ParsedFile) → IsParsed f p → IsParsed f q → source_of p ≡ source_of q
-one_parsed f p q h k =
-    let same : h.1.0 ≡ k.1.0 = one_list f.bytes h.1.0 k.1.0 h.1.1 k.1.1 in
-    let tree : syntax.file_of p.tree ≡ syntax.file_of q.tree = one_tree k.1.0 (syntax.file_of p.tree) (syntax.file_of q.tree) (subst (λ (ts : List Token). IsFile ts (syntax.file_of p.tree)) same h.1.2) k.1.2 in
-    ap (λ z. let s : Source = record { path = z; tree = syntax.file_of p.tree } in s) (h.0 ∙ sym k.0) ∙ ap (λ z. let s : Source = record { path = q.path; tree = z } in s) tree
-
-pub one_trees : (fs : List SourceFile) (ps qs : List ParsedFile) → AllZip IsParsed fs ps → AllZip IsParsed fs qs → map source_of ps ≡ map source_of qs
-one_trees [] [] [] h k = refl
-one_trees [] [] (q ∷ qs) h k = absurd k
-one_trees [] (p ∷ ps) qs h k = absurd h
-one_trees (f ∷ fs) [] qs h k = absurd h
-one_trees (f ∷ fs) (p ∷ ps) [] h k = absurd k
-one_trees (f ∷ fs) (p ∷ ps) (q ∷ qs) h k = ap (λ z. z ∷ map source_of ps) (one_parsed f p q h.0 k.0) ∙ ap (λ z. source_of q ∷ z) (one_trees fs ps qs h.1 k.1)
 
 -- of the tree of any bytes the places ascend
 abbrev pub IsRising : ParsedFile → Type 0

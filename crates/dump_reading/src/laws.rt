@@ -1,13 +1,13 @@
-ghost use Rattle.std.specs.Prelude.{◌≡◌, ◌<◌, ℕ, true, [], List, Some, length, map, slice_get};
+ghost use Rattle.std.specs.Prelude.{◌≡◌, ◌≢◌, ◌<◌, ℕ, true, [], List, Some, length, map, slice_get};
 ghost use Rattle.std.specs.List.{All};
 ghost use Rattle.std.specs.List.Sorted.{IsStrictlyIncreasing};
-ghost use Rattle.aidl_base.specs.declared.breach.Breach.{Breach};
 ghost use Rattle.aidl_base.specs.declared.source_file.SourceFile.{SourceFile};
 ghost use Rattle.aidl_syntax.specs.Parses.{FileParse};
 ghost use Rattle.aidl_syntax.specs.Trees.{file_of};
 ghost use Rattle.aidl_syntax.specs.Walks.{places_of};
 ghost use Rattle.tree_files.specs.declared.fault.LexBreach.{LexBreach};
 ghost use Rattle.tree_files.specs.Parsed.{AreParsed};
+ghost use Rattle.type_check.specs.declared.fault.CheckFault.{CheckFault};
 ghost use Rattle.type_check.specs.declared.fault.CheckFault.TheVariants as fault;
 ghost use Rattle.type_check.specs.Checked.{IsSchemaOf};
 ghost use Rattle.type_check.specs.Refusals.{IsRefusal};
@@ -119,10 +119,10 @@ pub fn law_dump_parses(schema: &Schema)
 }
 
 /// The canonical dump reads back: where files with its paths and bytes are parsed, so that no limit on files or tokens is passed, their
-/// schema is the one that was dumped, and they pass no limit on declarations and have no breach.
+/// schema is the one that was dumped, and they are refused for nothing: for no limit and no breach.
 pub fn law_dump_back(schema: &Schema, parsed: &[ParsedFile])
     ensures schema { (files : List SourceFile) → AreDumped schema.now.decls files → AreParsed files parsed.now → IsSchemaOf files schema.now.decls }
-    ensures unrefused { (files : List SourceFile) → AreDumped schema.now.decls files → AreParsed files parsed.now → (rows : List Breach) → IsRefusal files (fault.Breaches rows) → ⊥ }
+    ensures unrefused { (files : List SourceFile) → AreDumped schema.now.decls files → AreParsed files parsed.now → (refusal : CheckFault) → refusal ≢ fault.OutOfMemory → IsRefusal files refusal → ⊥ }
 {
     law_valid(schema);
     law_dump_tree(schema);
