@@ -134,12 +134,14 @@ module _ (p : Profile) (A B : List Decl) (trace : Bool) (k : ℕ) (next : Course
     carried_some : (m : Judged CallData) (fault : RunFault) → m ≡ meant → Stops p A B m before.is_faithful before.log log fault
         → (made : List Carried) × CarriedBy (line_course p A B trace k m next) before after_line made
     carried_some (Err why) fault same h = ([], record { log = h.0; are_due = tt; faithful = λ f i entry none. absurd (omega arith) })
-    carried_some (Ok c) fault same h =
-        (h.2, record {
-          log = h.5;
-          are_due = due_front (due_in (line_course p A B trace k (Ok c) next)) [] h.2 h.3 (subst (λ es. AreDue (due_in (line_course p A B trace k (Ok c) next)) [] es) h.4 (call_comes c h.0 h.1).are_due);
-          faithful = h.6;
-        })
+    carried_some (Ok c) fault same h = (
+      h.2,
+      record {
+        log = h.5;
+        are_due = due_front (due_in (line_course p A B trace k (Ok c) next)) [] h.2 h.3 (subst (λ es. AreDue (due_in (line_course p A B trace k (Ok c) next)) [] es) h.4 (call_comes c h.0 h.1).are_due);
+        faithful = h.6;
+      },
+    )
 
     -- Memory was wanted.
     pub line_memory : Stops p A B meant before.is_faithful before.log log OutOfMemory → faults ≡ before.link_faults → RanCourse (line_course p A B trace k meant next) before after_line 5

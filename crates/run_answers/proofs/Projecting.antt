@@ -44,7 +44,7 @@ methods_named c m (Some j) (Some t) e f g h =
     let same : j ≡ m.server = cc in
     let called : t.method ≡ m.called = cc in
     ap (λ (a : ℕ). made a c.method j t.method) (sym e) ∙ ap (λ (b : ℕ). made m.interface b j t.method) (sym f)
-        ∙ ap (λ (d : ℕ). made m.interface m.method d t.method) same ∙ ap (λ (n : ℕ). made m.interface m.method m.server n) called
+    ∙ ap (λ (d : ℕ). made m.interface m.method d t.method) same ∙ ap (λ (n : ℕ). made m.interface m.method m.server n) called
 
 module _ (A B : List Decl) (k : ℕ) where
   -- where a line has no methods its text looks at none
