@@ -137,8 +137,9 @@ pub fn run_lines<K: Sink, L: Link>(
     let mut number = 1;
     while !rest.is_empty() {
         let (line, after) = cut(rest);
-        if let Err(exit) = run_next(alloc, profile, client, server, trace, number, line, sink, link)
-        {
+        if let Err(exit) = run_next(
+            alloc, profile, client, server, trace, number, line, sink, link,
+        ) {
             return exit;
         }
         if after.is_empty() {
