@@ -1,2 +1,4 @@
+pub mod Acting
 pub mod InTree
 pub mod Meant
+pub mod steps

@@ -4,11 +4,12 @@ use Rattle.aidl_base.specs.declared.limit.LimitName.TheVariants.{TextBytes}
 use Rattle.aidl_base.specs.declared.profile.Profile.{Profile}
 use Rattle.aidl_base.specs.declared.source_file.SourceFile.{SourceFile}
 use Rattle.aidl_outside.specs.Files.{Files}
-use Rattle.tool_words.specs.Command.{Command, decode, encode, check, judge, verify}
+use Rattle.tool_words.specs.Command.{Command, decode, encode, check, dump, freeze, judge, rehash, verify}
 use Rattle.tool_words.specs.Rows.{command_of}
 use Rattle.parcel_answers.specs.Decode.{profile_of, decode_answer}
 use Rattle.parcel_answers.specs.Encode.{encode_answer}
 use Rattle.parcel_answers.specs.Refusals.{parcel_of}
+use Rattle.tool_frame.specs.Acts.{acts_by}
 use Rattle.tool_frame.specs.Answer.{Answer, Found, Then}
 use Rattle.tool_frame.specs.Meaning.{Meant, reads_by}
 use Rattle.tool_frame.specs.Meaning.Meant.{unknown, means}
@@ -18,6 +19,7 @@ use Rattle.tree_answers.specs.Checked.{IsCheckAnswer}
 use Rattle.tree_answers.specs.Judged.{IsJudgeAnswer}
 use Rattle.api_versions.specs.Versions.{versions_at}
 use Rattle.version_answers.specs.Verified.{IsVerified}
+use Rattle.aidl_tool.specs.Acting.{DumpActs, FreezeActs, RehashActs}
 use Rattle.aidl_tool.specs.InTree.{InTree}
 
 -- of a file that is there: the limits of the tree's files; what refuses the bytes; all else of the tree; and the values
@@ -58,6 +60,9 @@ meaning (encode tree types path) = means (reads_by (EncodeAnswers tree types pat
 meaning (check tree) = means (reads_by (CheckAnswers tree))
 meaning (judge old new) = means (reads_by (JudgeAnswers old new))
 meaning (verify api) = means (reads_by (VerifyAnswers api))
+meaning (dump tree out) = means (acts_by (DumpActs tree out))
+meaning (freeze tree api) = means (acts_by (FreezeActs tree api))
+meaning (rehash api) = means (acts_by (RehashActs api))
 meaning _ = unknown
 
 -- the meaning of the command that words are, if any

@@ -3,8 +3,12 @@
 
 mod checking;
 mod decoding;
+mod dumping;
 mod encoding;
+mod freezing;
 mod judging;
+mod opening;
+mod rehashing;
 mod top;
 mod verifying;
 

@@ -7,8 +7,11 @@ ghost use Rattle.tool_frame.specs.Seen.{seen_by};
 
 use crate::checking::check;
 use crate::decoding::decode;
+use crate::dumping::dump;
 use crate::encoding::encode;
+use crate::freezing::freeze;
 use crate::judging::judge;
+use crate::rehashing::rehash;
 use crate::verifying::verify;
 use aidl_base::Profile;
 use aidl_outside::{Link, Sink, Store};
@@ -66,8 +69,11 @@ fn run<S: Store, K: Sink, L: Link>(
             encode(alloc, tree, types, file, store, sink, link)
         }
         Command::Check { tree } => check(alloc, tree, store, sink, link),
+        Command::Dump { tree, out } => dump(alloc, tree, out, store, sink, link),
+        Command::Freeze { tree, api } => freeze(alloc, tree, api, store, sink, link),
         Command::Judge { old, new } => judge(alloc, old, new, store, sink, link),
         Command::Verify { api } => verify(alloc, api, store, sink, link),
+        Command::Rehash { api } => rehash(alloc, api, store, sink, link),
         _ => refuse(alloc, store, sink, link),
     }
 }

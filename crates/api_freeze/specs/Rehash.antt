@@ -37,10 +37,15 @@ rehash_at files api = do
   vs ← versions_at files api
   rehash_of vs
 
--- the writes for versions that are read
-abbrev pub writes_of : (List Version → List Write) → Result (List Version) FreezeFault → List Write
-writes_of writes (Ok vs) = writes vs
+-- the writes where nothing refuses
+abbrev pub writes_of : {A : Type 0} → (A → List Write) → Result A FreezeFault → List Write
+writes_of writes (Ok x) = writes x
 writes_of writes (Err e) = []
 
+-- for versions that are read: those for each, where each is whole
+abbrev pub whole_writes : List ℕ → List Version → List Write
+whole_writes api vs = writes_of (λ whole. hash_writes api vs) (all_whole vs)
+
+-- of what a store tells
 abbrev pub rehash_writes : Files → List ℕ → List Write
-rehash_writes files api = writes_of (hash_writes api) (versions_at files api)
+rehash_writes files api = writes_of (whole_writes api) (versions_at files api)

@@ -1,4 +1,4 @@
-ghost use Rattle.std.specs.Prelude.{◌≡◌, ◌-◌, length, map, take, Some, IfErr, IfOk};
+ghost use Rattle.std.specs.Prelude.{◌≡◌, ◌-◌, length, map, take, Some, None, IfErr, IfOk};
 ghost use Rattle.aidl_outside.specs.Told.{Tells};
 ghost use Rattle.api_freeze.specs.Freeze.{Freezes, FreezesAt, IsRead, hash_digits, version_writes};
 ghost use Rattle.api_freeze.specs.Freeze as meant;
@@ -37,6 +37,7 @@ pub fn freeze<S: Store>(
     api: &str,
 ) -> Result<Frozen, FreezeFault>
     ensures told { Tells (S.kept store.old) (λ files. FreezesAt api.now (versions_at files api.now) schema.now.decls (Some files) (S.kept store.new) result) }
+    ensures untold { S.kept store.old ≡ None → S.kept store.new ≡ None }
     ensures read { IfErr result IsRead }
     ensures cause { Cause (S.count store.old) (S.count store.new) result }
 {

@@ -1,4 +1,4 @@
-ghost use Rattle.std.specs.Prelude.{◌≡◌, ◌++◌, [], ◌∷◌, map, IfErr, IfOk, OnOk, Some, string_bytes};
+ghost use Rattle.std.specs.Prelude.{◌≡◌, ◌++◌, [], ◌∷◌, map, IfErr, IfOk, OnOk, Some, None, string_bytes};
 ghost use Rattle.aidl_outside.specs.Told.{Tells};
 ghost use Rattle.api_versions.specs.Answers.{Gives};
 ghost use Rattle.api_versions.specs.Causes.{Cause};
@@ -18,9 +18,11 @@ use std::alloc::Global;
 /// Writes the text of the second recipe into the `.hash` of each version that has another, in order of versions, and answers the numbers
 /// of these versions, ascending (own). It refuses as `versions` does, then `Torn` for the least version that isn't whole, each before any
 /// write, and `WriteFault`.
+#[tactic(auto, using(crate::proofs::Untold::untold_left))]
 pub fn rehash<S: Store>(alloc: Global, store: &mut S, api: &str) -> Result<Row<u32>, FreezeFault>
     ensures told { Tells (S.kept store.old) (λ files. Gives (meant.rehash_at files api.now) result) }
     ensures wrote { Tells (S.kept store.old) (λ files. Left (meant.rehash_writes files api.now) (Some files) (S.kept store.new) result) }
+    ensures untold { S.kept store.old ≡ None → S.kept store.new ≡ None }
     ensures cause { Cause (S.count store.old) (S.count store.new) result }
 {
     match versions(alloc, store, api) {
@@ -30,6 +32,7 @@ pub fn rehash<S: Store>(alloc: Global, store: &mut S, api: &str) -> Result<Row<u
 }
 
 // The same for versions that are read.
+#[tactic(auto, using(crate::proofs::Untold::left_whole))]
 fn rehash_all<S: Store>(
     alloc: Global,
     api: &str,
@@ -37,7 +40,7 @@ fn rehash_all<S: Store>(
     store: &mut S,
 ) -> Result<Row<u32>, FreezeFault>
     ensures defined { Gives (meant.rehash_of versions.now) result }
-    ensures wrote { Left (meant.hash_writes api.now versions.now) (S.kept store.old) (S.kept store.new) result }
+    ensures wrote { Left (meant.whole_writes api.now versions.now) (S.kept store.old) (S.kept store.new) result }
     ensures cause { Cause (S.count store.old) (S.count store.new) result }
 {
     match all_whole(alloc, versions) {

@@ -10,5 +10,6 @@ mod places;
 mod rule_names;
 
 pub use checking::{check_answer, checked};
+pub use faults::fault_answer;
 pub use judging::{judge_answer, judge_lines};
 pub use laws::law_one_check_answer;

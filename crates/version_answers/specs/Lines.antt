@@ -16,10 +16,14 @@ abbrev pub shown : List ℕ → List ℕ
 shown [] = codes "-"
 shown (b ∷ bytes) = encode_lower (b ∷ bytes)
 
+-- why a version isn't whole: `missing ` or `kept BYTES `
+abbrev pub reason : Option (List ℕ) → List ℕ
+reason None = codes "missing "
+reason (Some kept) = codes "kept " ++ (shown kept ++ codes " ")
+
 -- of a version that isn't whole: `missing HASH` or `kept BYTES HASH`, HASH by the second recipe
 abbrev pub torn_words : Option (List ℕ) → List ℕ → List ℕ
-torn_words None text = codes "missing " ++ digits text
-torn_words (Some kept) text = codes "kept " ++ (shown kept ++ (codes " " ++ digits text))
+torn_words kept text = reason kept ++ digits text
 
 -- of a version that is whole: the digits that its `.hash` keeps, and `ok`
 abbrev pub whole_words : Option (List ℕ) → List ℕ
@@ -36,3 +40,7 @@ version_line v = line (decimal v.number ++ (codes " " ++ version_words v))
 -- `bad versions missing N`, N the least number that is missing
 abbrev pub bad_versions : ℕ → Answer
 bad_versions missing = negative (codes "bad versions missing " ++ decimal missing)
+
+-- `torn N missing HASH` or `torn N kept BYTES HASH`, by the text that its `.hash` is to have
+abbrev pub torn : ℕ → Option (List ℕ) → List ℕ → Answer
+torn version kept text = negative (codes "torn " ++ (decimal version ++ (codes " " ++ torn_words kept (encode_utf8_all text))))

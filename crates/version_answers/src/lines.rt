@@ -54,13 +54,26 @@ fn push_whole(alloc: Global, kept: &Option<Row<u8>>, text: &mut String) -> Resul
     }
 }
 
-fn push_torn(
+/// Adds the words of a version that isn't whole, by the text that its `.hash` is to have: `missing HASH` or `kept BYTES HASH`.
+pub fn push_torn(
     alloc: Global,
     kept: &Option<Row<u8>>,
     defined: &[u8],
     text: &mut String,
 ) -> Result<(), OutOfMemory>
     ensures { OnOk result (string_bytes text.new ≡ string_bytes text.old ++ meant.torn_words kept.now defined.now) }
+{
+    push_reason(alloc, kept, text)?;
+    push_digits(alloc, defined, text)
+}
+
+// Adds why a version isn't whole: `missing ` or `kept BYTES `.
+fn push_reason(
+    alloc: Global,
+    kept: &Option<Row<u8>>,
+    text: &mut String,
+) -> Result<(), OutOfMemory>
+    ensures { OnOk result (string_bytes text.new ≡ string_bytes text.old ++ meant.reason kept.now) }
 {
     match kept {
         None => text.push_str("missing ")?,
@@ -70,7 +83,7 @@ fn push_torn(
             text.push_str(" ")?;
         }
     }
-    push_digits(alloc, defined, text)
+    Ok(())
 }
 
 // Adds bytes in hexadecimal, `-` for none.

@@ -23,7 +23,7 @@ use std::{fs, io};
 use trees::try_trees;
 use tried::Tried;
 
-const FILES: [&str; 15] = [
+const FILES: [&str; 17] = [
     "words.rows",
     "decode.rows",
     "encode.rows",
@@ -38,6 +38,8 @@ const FILES: [&str; 15] = [
     "trees.rows",
     "judge.rows",
     "versions.rows",
+    "dumps.rows",
+    "freezing.rows",
     "calls.rows",
 ];
 

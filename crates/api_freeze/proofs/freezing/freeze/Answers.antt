@@ -1,5 +1,7 @@
+use Rattle.std.proofs.Common.{◌∙◌}
 use Rattle.api_versions.specs.Versions.{versions_at}
 use Rattle.api_freeze.proofs.Files.{freezes_at, unread_at}
+use Rattle.api_freeze.proofs.Untold.{untold_freezes}
 use Rattle.api_freeze.proofs.freezing.freeze.Goals as goal
 
 pub returns-in-Ok-clause-told : goal.returns-in-Ok-clause-told
@@ -13,3 +15,9 @@ returns-in-Err-clause-told g c =
     let kept = g.S.Store.kept in
     unread_at c.args.api.now (kept c.args.store.now) (λ files. versions_at files c.args.api.now) c.args.schema.now.decls (kept c.versions.new.store) (g.S.Store.count c.args.store.now) (g.S.Store.count c.versions.new.store) c.in-Err.fault
     c.in-Err.ensures.unchanged c.in-Err.ensures.cause c.in-Err.ensures.told
+
+pub returns-in-Ok-clause-untold : goal.returns-in-Ok-clause-untold
+returns-in-Ok-clause-untold g c =
+    let kept = g.S.Store.kept in
+    λ none. untold_freezes c.args.api.now c.in-Ok.versions c.args.schema.now.decls (kept c.versions.new.store) (kept c.freeze_next.new.store) c.freeze_next.result
+    (c.in-Ok.ensures.unchanged ∙ none) c.freeze_next.ensures.answer

@@ -1,0 +1,9 @@
+use Rattle.std.proofs.Common.{refl}
+use Rattle.aidl_tool.specs.Acting.{DumpActs}
+use Rattle.tool_frame.proofs.Writings.{ended_wrote}
+use Rattle.aidl_tool.proofs.dumping.dump.Goals as goal
+
+pub returns : goal.returns
+returns g c =
+    let answered = c.answered-answered.ensures in
+    ended_wrote (DumpActs c.args.tree.now c.args.out.now) _ _ refl refl refl c.end.result _ answered.cause answered.acts c.end.ensures

@@ -1,0 +1,9 @@
+use Rattle.std.proofs.Common.{refl}
+use Rattle.aidl_tool.specs.Acting.{RehashActs}
+use Rattle.tool_frame.proofs.Writings.{ended_wrote}
+use Rattle.aidl_tool.proofs.rehashing.rehash.Goals as goal
+
+pub returns : goal.returns
+returns g c =
+    let answered = c.answered-answered.ensures in
+    ended_wrote (RehashActs c.args.api.now) _ _ refl refl refl c.end.result _ answered.cause answered.acts c.end.ensures

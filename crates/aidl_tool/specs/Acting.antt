@@ -1,0 +1,40 @@
+-- What the commands that write do over the files of a store.
+use Rattle.std.specs.Prelude.{◌≡◌, ◌⊎◌, ℕ, List, Result, Ok, Err}
+use Rattle.aidl_base.specs.declared.source_file.SourceFile.{SourceFile}
+use Rattle.aidl_outside.specs.Files.{Files}
+use Rattle.aidl_schema.specs.declared.schema.Decl.{Decl}
+use Rattle.api_freeze.specs.Rehash.{rehash_at, rehash_writes}
+use Rattle.api_versions.specs.Versions.{versions_at}
+use Rattle.freeze_answers.specs.Dumped.{Dumps}
+use Rattle.freeze_answers.specs.Frozen.{Freezes}
+use Rattle.tool_frame.specs.Acts.{Acts, Only}
+use Rattle.tool_frame.specs.Answer.{Answer, Found}
+use Rattle.tool_frame.specs.Trees.{AreFiles, OverTree, TreeFile, tree_at}
+use Rattle.tree_answers.specs.Faults.{IsFaultAnswer}
+use Rattle.type_check.specs.Checked.{IsSchemaOf}
+use Rattle.version_answers.specs.Rehashed.{Rehashes}
+
+-- why a tree with a root isn't checked: the limit that its files pass, or its faults
+abbrev pub Unchecked : List ℕ → Found (List TreeFile) → Answer → Type 0
+Unchecked root tree = OverTree tree (IsFaultAnswer root)
+
+-- the schema of the files of a tree
+abbrev pub HasSchema : Found (List TreeFile) → List Decl → Type 0
+HasSchema (Ok tree) S = (sources : List SourceFile) × AreFiles sources tree × IsSchemaOf sources S
+HasSchema (Err passed) S = ⊥
+
+-- the tree isn't checked, and nothing is written; or what is done by its schema
+abbrev pub BySchema : List ℕ → Found (List TreeFile) → (List Decl → Acts) → Acts
+BySchema root tree next made answer = Only (Unchecked root tree) made answer ⊎ ((S : List Decl) × HasSchema tree S × next S made answer)
+
+-- `dump TREE OUT`
+abbrev pub DumpActs : List ℕ → List ℕ → Files → Acts
+DumpActs tree out files = BySchema tree (tree_at files tree) (Dumps out)
+
+-- `freeze TREE API`
+abbrev pub FreezeActs : List ℕ → List ℕ → Files → Acts
+FreezeActs tree api files = BySchema tree (tree_at files tree) (Freezes api (versions_at files api))
+
+-- `rehash API`
+abbrev pub RehashActs : List ℕ → Files → Acts
+RehashActs api files = Rehashes (rehash_writes files api) (rehash_at files api)

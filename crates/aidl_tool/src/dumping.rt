@@ -1,0 +1,105 @@
+ghost use Rattle.std.specs.Prelude.{ℕ, List, Option, Err, map};
+ghost use Rattle.aidl_outside.specs.Causes.{StoreCause};
+ghost use Rattle.aidl_outside.specs.Files.{Files};
+ghost use Rattle.aidl_outside.specs.Writes as outside;
+ghost use Rattle.aidl_tool.specs.Acting.{DumpActs};
+ghost use Rattle.aidl_tool.specs.steps.Left.{LeftBy};
+ghost use Rattle.api_versions.specs.Causes.{FaultCause};
+ghost use Rattle.api_versions.specs.Writes.{Left};
+ghost use Rattle.api_versions.specs.steps.Early.{IsLate};
+ghost use Rattle.api_versions.specs.steps.Seen.{write_seen};
+ghost use Rattle.freeze_answers.specs.Dumped.{Dumps};
+ghost use Rattle.tool_frame.specs.Acts.{acts_by};
+ghost use Rattle.tool_frame.specs.Ended.{Ended};
+ghost use Rattle.tool_frame.specs.Seen.{seen_by};
+ghost use Rattle.tool_frame.specs.steps.Acts.{ActsAs};
+
+use crate::opening::open;
+use aidl_outside::{Link, Sink, Store, StoreFault};
+use aidl_schema::Schema;
+use api_versions::{FreezeFault, Write, write_all};
+use freeze_answers::dumped;
+use std::alloc::Global;
+use tool_frame::{Early, Printed, end};
+
+/// Runs `dump TREE OUT`. The answer is the exit status.
+pub fn dump<S: Store, K: Sink, L: Link>(
+    alloc: Global,
+    tree: &str,
+    out: &str,
+    store: &mut S,
+    sink: &mut K,
+    link: &L,
+) -> u8
+    ensures { let seen = seen_by S.kept S.count K.told K.count L.log L.is_faithful L.count in
+        Ended (acts_by (DumpActs tree.now out.now)) (seen store.old sink.old link.now) (seen store.new sink.new link.now) result }
+{
+    let answered = answered(alloc, tree, out, store);
+    end(alloc, answered, sink)
+}
+
+// What is written, and answered then.
+fn answered<S: Store>(
+    alloc: Global,
+    tree: &str,
+    out: &str,
+    store: &mut S,
+) -> Result<Result<Printed, Early>, StoreFault>
+    ensures acts { ActsAs (DumpActs tree.now out.now) (S.kept store.old) (S.kept store.new) result }
+    ensures cause { StoreCause (S.count store.old) (S.count store.new) result }
+{
+    match open(alloc, tree, store) {
+        Ok(Ok(schema)) => write_dump(alloc, out, &schema, store),
+        Ok(Err(early)) => Ok(Err(early)),
+        Err(fault) => Err(fault),
+    }
+}
+
+// Writes the dump of a schema.
+fn write_dump<S: Store>(
+    alloc: Global,
+    out: &str,
+    schema: &Schema,
+    store: &mut S,
+) -> Result<Result<Printed, Early>, StoreFault>
+    ensures acts { ActsAs (λ files. Dumps out.now schema.now.decls) (S.kept store.old) (S.kept store.new) result }
+    ensures cause { StoreCause (S.count store.old) (S.count store.new) result }
+{
+    let Ok(due) = dumped(alloc, out, schema) else {
+        return Ok(Err(Early::OutOfMemory));
+    };
+    match write_due(alloc, due.writes.as_slice(), store) {
+        Ok(()) => Ok(Ok(due.printed)),
+        Err(fault) => Err(fault),
+    }
+}
+
+// Makes the writes that are due.
+fn write_due<S: Store>(alloc: Global, writes: &[Write], store: &mut S) -> Result<(), StoreFault>
+    ensures wrote { LeftBy (map write_seen writes.now) (S.kept store.old) (S.kept store.new) result }
+    ensures cause { StoreCause (S.count store.old) (S.count store.new) result }
+{
+    match write_all(alloc, writes, store) {
+        Ok(()) => Ok(()),
+        Err(fault) => Err(store_fault(fault)),
+    }
+}
+
+// Why the writes ended before the last.
+fn store_fault(fault: FreezeFault) -> StoreFault
+    requires { IsLate fault }
+    ensures wrote { (writes : List outside.Write) (before now : Option Files) → Left {A = Unit {0}} writes before now (Err fault) → LeftBy {A = Unit {0}} writes before now (Err result) }
+    ensures cause { (before now : ℕ) → FaultCause before now fault → StoreCause {T = Unit {0}} before now (Err result) }
+{
+    match fault {
+        FreezeFault::WriteFault => StoreFault::Failed,
+        FreezeFault::OutOfMemory => StoreFault::OutOfMemory,
+        FreezeFault::BadVersions { .. } => unreachable!(),
+        FreezeFault::Torn { .. } => unreachable!(),
+        FreezeFault::Unreadable { .. } => unreachable!(),
+        FreezeFault::Unchanged { .. } => unreachable!(),
+        FreezeFault::Incompatible(_) => unreachable!(),
+        FreezeFault::Limit(_) => unreachable!(),
+        FreezeFault::ReadFault => unreachable!(),
+    }
+}

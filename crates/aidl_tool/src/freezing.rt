@@ -1,0 +1,67 @@
+ghost use Rattle.aidl_outside.specs.Causes.{StoreCause};
+ghost use Rattle.aidl_tool.specs.Acting.{FreezeActs};
+ghost use Rattle.api_versions.specs.Versions.{versions_at};
+ghost use Rattle.freeze_answers.specs.Frozen.{Freezes};
+ghost use Rattle.tool_frame.specs.Acts.{acts_by};
+ghost use Rattle.tool_frame.specs.Ended.{Ended};
+ghost use Rattle.tool_frame.specs.Seen.{seen_by};
+ghost use Rattle.tool_frame.specs.steps.Acts.{ActsAs};
+
+use crate::opening::open;
+use aidl_outside::{Link, Sink, Store, StoreFault};
+use aidl_schema::Schema;
+use freeze_answers::{frozen, unfrozen};
+use std::alloc::Global;
+use tool_frame::{Early, Printed, end};
+
+/// Runs `freeze TREE API`. The answer is the exit status.
+pub fn freeze<S: Store, K: Sink, L: Link>(
+    alloc: Global,
+    tree: &str,
+    api: &str,
+    store: &mut S,
+    sink: &mut K,
+    link: &L,
+) -> u8
+    ensures { let seen = seen_by S.kept S.count K.told K.count L.log L.is_faithful L.count in
+        Ended (acts_by (FreezeActs tree.now api.now)) (seen store.old sink.old link.now) (seen store.new sink.new link.now) result }
+{
+    let answered = answered(alloc, tree, api, store);
+    end(alloc, answered, sink)
+}
+
+// What is written, and answered then.
+fn answered<S: Store>(
+    alloc: Global,
+    tree: &str,
+    api: &str,
+    store: &mut S,
+) -> Result<Result<Printed, Early>, StoreFault>
+    ensures acts { ActsAs (FreezeActs tree.now api.now) (S.kept store.old) (S.kept store.new) result }
+    ensures cause { StoreCause (S.count store.old) (S.count store.new) result }
+{
+    match open(alloc, tree, store) {
+        Ok(Ok(schema)) => freeze_schema(alloc, api, &schema, store),
+        Ok(Err(early)) => Ok(Err(early)),
+        Err(fault) => Err(fault),
+    }
+}
+
+// Freezes a schema as the next version.
+fn freeze_schema<S: Store>(
+    alloc: Global,
+    api: &str,
+    schema: &Schema,
+    store: &mut S,
+) -> Result<Result<Printed, Early>, StoreFault>
+    ensures acts { ActsAs (λ files. Freezes api.now (versions_at files api.now) schema.now.decls) (S.kept store.old) (S.kept store.new) result }
+    ensures cause { StoreCause (S.count store.old) (S.count store.new) result }
+{
+    match api_freeze::freeze(alloc, schema, store, api) {
+        Ok(version) => Ok(frozen(alloc, &version)),
+        Err(fault) => match unfrozen(alloc, api, fault) {
+            Ok(early) => Ok(Err(early)),
+            Err(fault) => Err(fault),
+        },
+    }
+}

@@ -1,0 +1,39 @@
+ghost use Rattle.std.specs.Prelude.{◌≡◌, IfOk};
+ghost use Rattle.aidl_outside.specs.Causes.{StoreCause};
+ghost use Rattle.aidl_outside.specs.Told.{Tells};
+ghost use Rattle.aidl_tool.specs.steps.Opens.{Opens};
+ghost use Rattle.tool_frame.specs.Trees.{tree_at, tree_seen};
+
+use aidl_base::{Limit, Row, SourceFile};
+use aidl_outside::{Store, StoreFault};
+use aidl_schema::Schema;
+use std::alloc::Global;
+use tool_frame::{Early, files_of, load_tree};
+use tree_answers::checked;
+
+/// The schema of the tree below a root, or what is printed where it isn't checked.
+pub fn open<S: Store>(
+    alloc: Global,
+    root: &str,
+    store: &mut S,
+) -> Result<Result<Schema, Early>, StoreFault>
+    ensures opens { IfOk result (λ opened. Tells (S.kept store.old) (λ files. Opens root.now (tree_at files root.now) opened)) }
+    ensures unchanged { S.kept store.new ≡ S.kept store.old }
+    ensures cause { StoreCause (S.count store.old) (S.count store.new) result }
+{
+    let tree = load_tree(alloc, root, store)?;
+    Ok(open_loaded(alloc, root, tree))
+}
+
+// The same of a tree that was loaded.
+#[tactic(auto, using(crate::proofs::Opened::opens_early, crate::proofs::Opened::opens_files))]
+fn open_loaded(
+    alloc: Global,
+    root: &str,
+    tree: Result<Row<SourceFile>, Limit>,
+) -> Result<Schema, Early>
+    ensures { Opens root.now (tree_seen tree) result }
+{
+    let files = files_of(alloc, tree)?;
+    checked(alloc, root, files)
+}

@@ -1,0 +1,56 @@
+-- A store that tells nothing goes on so; and writes of versions that are whole.
+use Rattle.std.proofs.Common.{◌≡◌, ℕ, List, [], Option, Some, None, Ok, Err, refl, sym, subst, inl, inr}
+use Rattle.std.specs.Prelude.{Result}
+use Rattle.aidl_outside.specs.Files.{Files}
+use Rattle.aidl_schema.specs.declared.schema.Decl.{Decl}
+use Rattle.api_freeze.specs.declared.freezing.Frozen.{Frozen}
+use Rattle.api_freeze.specs.Freeze.{Freezes}
+use Rattle.api_freeze.specs.Rehash.{hash_writes, whole_writes, writes_of}
+use Rattle.api_versions.specs.declared.fault.FreezeFault.{FreezeFault}
+use Rattle.api_versions.specs.declared.fault.FreezeFault.TheVariants as fault
+use Rattle.api_versions.specs.declared.version.Version.{Version}
+use Rattle.api_versions.specs.Whole.{all_whole}
+use Rattle.api_versions.specs.Writes.{FailedAt, Left, Write, WroteSome}
+
+untold_some : (ws : List Write) (now : Option Files) → WroteSome ws None now → now ≡ None
+untold_some ws now (made, rest, is, wrote) = wrote
+
+untold_failed : (ws : List Write) (now : Option Files) → FailedAt ws None now → now ≡ None
+untold_failed ws now (made, rest, w, None, is, wrote, only) = only
+untold_failed ws now (made, rest, w, Some middle, is, wrote, only) = absurd cc
+
+freezes_none : (api : List ℕ) (vs : List Version) (S : List Decl) (now : Option Files) (r : Result Frozen FreezeFault) → Freezes api vs S None now r → now ≡ None
+freezes_none api vs S now (Ok frozen) (files, ready, version, hash, wrote) = wrote
+freezes_none api vs S now (Err fault.WriteFault) (files, ready, failed) = untold_failed _ now failed
+freezes_none api vs S now (Err fault.OutOfMemory) (inl same) = same
+freezes_none api vs S now (Err fault.OutOfMemory) (inr (files, ready, some)) = untold_some _ now some
+freezes_none api vs S now (Err (fault.Torn version kept text)) h = h.0
+freezes_none api vs S now (Err (fault.Unreadable version files cause)) h = h.0
+freezes_none api vs S now (Err (fault.Unchanged version)) h = h.0
+freezes_none api vs S now (Err (fault.Incompatible rows)) h = h.0
+freezes_none api vs S now (Err (fault.Limit l)) h = h.0
+freezes_none api vs S now (Err (fault.BadVersions missing)) h = absurd h
+freezes_none api vs S now (Err fault.ReadFault) h = h
+
+pub untold_freezes : (api : List ℕ) (vs : List Version) (S : List Decl) (before now : Option Files) (r : Result Frozen FreezeFault) → before ≡ None → Freezes api vs S before now r → now ≡ None
+untold_freezes api vs S before now r none h = freezes_none api vs S now r (subst (λ b. Freezes api vs S b now r) none h)
+
+left_none : {A : Type 0} (ws : List Write) (now : Option Files) (r : Result A FreezeFault) → Left ws None now r → now ≡ None
+left_none ws now (Ok x) h = h
+left_none ws now (Err (fault.BadVersions missing)) h = h
+left_none ws now (Err (fault.Torn version kept text)) h = h
+left_none ws now (Err (fault.Unchanged version)) h = h
+left_none ws now (Err (fault.Unreadable version files cause)) h = h
+left_none ws now (Err (fault.Incompatible rows)) h = h
+left_none ws now (Err (fault.Limit l)) h = h
+left_none ws now (Err fault.ReadFault) h = h
+left_none ws now (Err fault.WriteFault) h = untold_failed ws now h
+left_none ws now (Err fault.OutOfMemory) h = untold_some ws now h
+
+pub untold_left : {A : Type 0} (ws : List Write) (before now : Option Files) (r : Result A FreezeFault) → before ≡ None → Left ws before now r → now ≡ None
+untold_left ws before now r none h = left_none ws now r (subst (λ b. Left ws b now r) none h)
+
+-- where each is whole, the writes are those for each
+pub left_whole : {A : Type 0} (api : List ℕ) (vs : List Version) (before now : Option Files) (r : Result A FreezeFault)
+    → all_whole vs ≡ Ok tt → Left (hash_writes api vs) before now r → Left (whole_writes api vs) before now r
+left_whole api vs before now r whole h = subst (λ w. Left (writes_of (λ x. hash_writes api vs) w) before now r) (sym whole) h
