@@ -18,14 +18,13 @@ use Rattle.call_scripts.specs.Calls.{CallData}
 use Rattle.call_scripts.specs.Script.{script}
 use Rattle.run_answers.specs.CallLines.{lines_of}
 use Rattle.run_answers.specs.Running.{call_piece, line_course, lines_course, piece, reply_course, reply_parcel}
-use Rattle.run_answers.specs.steps.Steps.{IsCut, PutsText, Steps}
+use Rattle.run_answers.specs.steps.Steps.{PutsText, Steps}
 use Rattle.tool_frame.specs.Course.{Course, ends, prints, due_after, answer_after}
 use Rattle.tool_frame.specs.declared.verdict.Verdict.TheVariants.{Done}
 use Rattle.tool_frame.specs.Meaning.{AreDue}
 use Rattle.tool_frame.specs.Parcel.{Parcel, parcel_of}
 use Rattle.tool_frame.specs.Seen.{Seen}
-use Rattle.tool_frame.specs.Verdict.{IsVerdict}
-use Rattle.tool_frame.specs.steps.Courses.{due_in, AreFaithful, CarriedBy, ComesTo, RanCourse, StopsCourse, Went}
+use Rattle.tool_frame.specs.steps.Courses.{due_in, AreFaithful, CarriedBy, ComesTo, RanCourse, Went}
 use Rattle.tool_frame.proofs.Courses.{comes_on, due_front, nothing_told, put_cut, put_went, ran_end, went_ended, went_on}
 use Rattle.tool_frame.proofs.Endings.{not_verdict}
 use Rattle.wire_model.specs.Calls.{AnswerData}

@@ -1,5 +1,5 @@
 -- What is put of a line is what the line is projected to.
-use Rattle.std.proofs.Common.{◌≡◌, ℕ, ◌+◌, Bool, true, false, List, [], ◌∷◌, ◌++◌, Option, Some, None, option_map, Result, Ok, Err, IfOk, refl, sym, ap, ◌∙◌, subst, arith, inl, inr}
+use Rattle.std.proofs.Common.{◌≡◌, ℕ, ◌+◌, Bool, true, false, List, [], ◌∷◌, Option, Some, None, option_map, Result, Ok, Err, IfOk, refl, sym, ap, ◌∙◌, subst, arith, inl, inr}
 use Rattle.std.specs.Prelude.{◌≢◌, ◌⊎◌, ⊤, IfErr}
 use Rattle.aidl_outside.specs.declared.link.Carried.{Carried}
 use Rattle.aidl_outside.specs.Told.{Adds}
@@ -9,7 +9,6 @@ use Rattle.call_answers.specs.Refusal.{Judged}
 use Rattle.call_runner.specs.declared.line.LineOut.{LineOut}
 use Rattle.call_runner.specs.declared.line.LineOut.TheVariants as out
 use Rattle.call_runner.specs.declared.line.Methods.{Methods}
-use Rattle.call_runner.specs.Lines.{refused}
 use Rattle.call_runner.specs.Runs.{AreNamed, IsTyped, NamesOf, line_data, projected}
 use Rattle.call_scripts.specs.Calls.{CallData, TargetData}
 use Rattle.call_scripts.specs.Script.{script}

@@ -1,5 +1,4 @@
-use Rattle.std.proofs.Common.{◌≡◌, ℕ, List, Ok, Err, subst, arith}
-use Rattle.std.specs.Prelude.{⊤}
+use Rattle.std.proofs.Common.{List, Err, subst, arith}
 use Rattle.aidl_schema.specs.declared.schema.Decl.{Decl}
 use Rattle.call_answers.specs.Refusal.{Judged}
 use Rattle.call_runner.specs.declared.line.LineRun.{LineRun}

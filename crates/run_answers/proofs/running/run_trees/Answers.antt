@@ -1,4 +1,4 @@
-use Rattle.std.proofs.Common.{◌≡◌, List, Option, Some, None, refl, sym, subst, arith}
+use Rattle.std.proofs.Common.{◌≡◌, List, Option, Some, sym, subst, arith}
 use Rattle.aidl_schema.specs.declared.schema.Decl.{Decl}
 use Rattle.aidl_schema.specs.Broken.{broken}
 use Rattle.run_answers.specs.CallLines.{lines_of}
@@ -10,7 +10,6 @@ use Rattle.tool_frame.specs.declared.printed.Printed.{Printed}
 use Rattle.tool_frame.specs.steps.Courses.{RanCourse, seen_alone}
 use Rattle.tool_frame.specs.steps.Results.{printed}
 use Rattle.tool_frame.proofs.Courses.{ran_none, ran_printed}
-use Rattle.wire_model.specs.Outcome.{OneFollows}
 use Rattle.run_answers.proofs.Projecting.{never_printed}
 use Rattle.run_answers.proofs.running.run_trees.Goals as goal
 
