@@ -1,2 +1,4 @@
 pub mod InTree
 pub mod Meant
+pub mod Running
+pub mod steps

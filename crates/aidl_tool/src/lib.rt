@@ -6,6 +6,7 @@ mod decoding;
 mod encoding;
 mod judging;
 mod top;
+mod running;
 mod verifying;
 
 pub use top::aidl;
