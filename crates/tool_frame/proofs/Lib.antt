@@ -1,3 +1,4 @@
+pub mod Courses
 pub mod EarlyEnds
 pub mod Endings
 pub mod Loaded
