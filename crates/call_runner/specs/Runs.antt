@@ -54,7 +54,7 @@ AreFaithful entries = All (λ (entry : Carried). entry.delivered ≡ entry.sent)
 -- What the log gained where no answer came: the carries that succeeded. After a fault of the link one that was due failed.
 abbrev pub Stops : Profile → List Decl → List Decl → Judged CallData → Bool → Option (List Carried) → Option (List Carried) → RunFault → Type 0
 Stops p A B (Err why) faithful before now fault = Adds before now [] × (fault ≡ OutOfMemory)
-Stops p A B (Ok c) faithful before now fault = (b r : List ℕ) (made rest : List Carried) × (entries p A B c b r ≡ made ++ rest)
+Stops p A B (Ok c) faithful before now fault = (b r : List ℕ) × (made rest : List Carried) × (entries p A B c b r ≡ made ++ rest)
     × Adds before now made × (faithful ≡ true → AreFaithful made) × (fault ≡ LinkFault → rest ≢ [])
 
 -- the count of the link's faults rises with a fault of it, and with nothing else
@@ -99,3 +99,17 @@ projected A B (Ok c) = seen_line (outcome A c.interface c.method B c.args (answe
 abbrev pub within_one : List Decl → Judged CallData → LineData
 within_one S (Err why) = refused why
 within_one S (Ok c) = seen_line (Ok (outcome_within S c.interface c.method c.args (answer_by c.target)))
+
+-- what is delivered of a reply is what was sent
+abbrev pub IsReplied : Option (List ℕ) → List ℕ → Type 0
+IsReplied None delivered = Unit {0}
+IsReplied (Some sent) delivered = delivered ≡ sent
+
+-- where a line has values, its methods are those of the call's names
+abbrev pub NamesOf : CallData → Option Methods → Type 0
+NamesOf c None = Unit {0}
+NamesOf c (Some m) = (m.interface ≡ c.interface) × (m.method ≡ c.method) × (c.server ≡ Some m.server) × (option_map (λ t. t.method) c.target ≡ Some m.called)
+
+abbrev pub AreNamed : Judged CallData → Option Methods → Type 0
+AreNamed (Err why) methods = Unit {0}
+AreNamed (Ok c) methods = NamesOf c methods

@@ -1,4 +1,6 @@
 //! What a line is run between, and what comes of it.
+ghost use Rattle.std.specs.Prelude.{◌≡◌};
+
 use aidl_base::{OutOfMemory, Row};
 use aidl_outside::Carried;
 use aidl_schema::Schema;

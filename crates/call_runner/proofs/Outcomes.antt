@@ -1,0 +1,182 @@
+-- Over a link that delivers what was sent a call comes to its outcome.
+use Rattle.std.proofs.Common.{◌≡◌, ℕ, ◌+◌, ◌==◌, Bool, true, false, cond, List, [], ◌∷◌, length, Option, Some, None, option_map, slice_get, Result, Ok, Err, ℤ, refl, sym, ap, ◌∙◌, subst, arith}
+use Rattle.std.specs.Prelude.{option_and_then, if◌then◌else◌}
+use Rattle.std.specs.List.{position, position_from}
+use Rattle.std.specs.Str.{encode_utf8_all}
+use Rattle.std.proofs.lemmas.Bool.Decides.{nat_tests}
+use Rattle.std.proofs.lemmas.Iterator.Adapters.{position_from-zero}
+use Rattle.std.proofs.lemmas.Slice.Eq.{bytes_eq-Decides}
+use Rattle.std.proofs.lemmas.Str.{encodes_same}
+use Rattle.aidl_base.specs.declared.profile.Profile.{Profile}
+use Rattle.aidl_schema.specs.declared.schema.Decl.{Decl}
+use Rattle.aidl_schema.specs.declared.schema.Kind.{Kind}
+use Rattle.aidl_schema.specs.declared.schema.Kind.TheVariants.{Interface, Parcelable, Union, Enum}
+use Rattle.aidl_schema.specs.declared.schema.Method.{Method}
+use Rattle.aidl_schema.specs.Find.{methods_at, methods_of_decl, number_of_name}
+use Rattle.aidl_schema.specs.Names.{name_of, methods_of}
+use Rattle.aidl_schema.specs.Same.{same_text}
+use Rattle.aidl_values.specs.Data.{Items}
+use Rattle.call_parcels.specs.Sent.{sent_reply}
+use Rattle.call_runner.specs.Lines.{LineData, call_code, line_of, received_at, reply_at, reply_sent, reported, scripted}
+use Rattle.call_runner.specs.Lines as lines
+use Rattle.call_runner.specs.Runs.{IsReplied, NamesOf, answer_by, methods_by, projected, seen_line}
+use Rattle.call_scripts.specs.Calls.{CallData, CallFits, TargetData, TargetFits, method_of_server}
+use Rattle.call_scripts.specs.Names.{interface_named, is_interface, is_interface_kind}
+use Rattle.wire_model.specs.Calls.{AnswerData, descriptor, is_oneway, method_at}
+use Rattle.wire_model.specs.Outcome.{Done, declared_as, method_like, outcome, received_call, seen_call}
+use Rattle.wire_model.specs.Outcome as calls
+use Rattle.wire_model.specs.Receiver.{Received, left, called, stub, client}
+use Rattle.wire_model.specs.Requests.{AnswerFits, reply}
+use Rattle.wire_model.specs.Status.{unknown_transaction}
+use Rattle.wire_model.proofs.calls.Outcomes as found
+
+-- Without the server's interface
+
+same_from : {X : Type 0} (p q : X → Bool) → ((x : X) → p x ≡ q x) → (k : ℕ) (xs : List X) → position_from p k xs ≡ position_from q k xs
+same_from p q same k [] = refl
+same_from p q same k (x ∷ xs) = rw (same x, same_from p q same (k + 1) xs) refl
+
+same_position : {X : Type 0} (p q : X → Bool) → ((x : X) → p x ≡ q x) → (xs : List X) → position p xs ≡ position q xs
+same_position p q same xs = position_from-zero p xs ∙ same_from p q same 0 xs ∙ sym (position_from-zero q xs)
+
+same_test : (b c : Bool) → (b ≡ true → c ≡ true) → (c ≡ true → b ≡ true) → b ≡ c
+same_test true c f g = sym (f refl)
+same_test false true f g = g refl
+same_test false false f g = refl
+
+-- texts are the same by their bytes
+by_bytes : (x y : List ℕ) → same_text (encode_utf8_all y) (encode_utf8_all x) ≡ same_text x y
+by_bytes x y = same_test (same_text (encode_utf8_all y) (encode_utf8_all x)) (same_text x y)
+    (λ e. (bytes_eq-Decides x y).1 (sym (encodes_same y x ((bytes_eq-Decides (encode_utf8_all y) (encode_utf8_all x)).0 e))))
+    (λ e. (bytes_eq-Decides (encode_utf8_all y) (encode_utf8_all x)).1 (ap encode_utf8_all (sym ((bytes_eq-Decides x y).0 e))))
+
+-- the number of a name is that of the declaration of it
+pub number_declared : (S : List Decl) (x : List ℕ) → number_of_name S (encode_utf8_all x) ≡ declared_as S x
+number_declared S x = same_position (λ d. same_text (encode_utf8_all (name_of d)) (encode_utf8_all x)) (λ d. same_text x (name_of d)) (λ d. by_bytes x (name_of d)) S
+
+-- what is no interface has no methods
+no_methods : (S : List Decl) (k : ℕ) → is_interface S k ≡ false → methods_at S k ≡ []
+no_methods S k e = by_decl (slice_get S k) e
+  where
+    by_kind : (kind : Kind) → is_interface_kind kind ≡ false → methods_of kind ≡ []
+    by_kind (Interface ms) e = cc
+    by_kind (Parcelable fields) e = refl
+    by_kind (Union fields) e = refl
+    by_kind (Enum backing enumerators) e = refl
+
+    by_decl : (o : Option Decl) → elim o [ None ↦ false | Some d ↦ is_interface_kind d.kind ] ≡ false → methods_of_decl o ≡ []
+    by_decl None e = refl
+    by_decl (Some d) e = by_kind d.kind e
+
+no_like : (o : Option Method) → method_like o [] ≡ None
+no_like None = refl
+no_like (Some v) = refl
+
+module _ (A : List Decl) (i m : ℕ) (B : List Decl) (args : Items) (answer : AnswerData) where
+  no_method : (k : ℕ) → methods_at B k ≡ [] → received_call A i m B k args ≡ Err unknown_transaction
+  unfolding seen_call
+  no_method k none = let like : method_like (method_at A i m) (methods_at B k) ≡ None = ap (method_like (method_at A i m)) none ∙ no_like (method_at A i m) in rw like refl
+
+  pub nowhere : None ≡ interface_named B (encode_utf8_all (descriptor A i)) → outcome A i m B args answer ≡ Err unknown_transaction
+  nowhere none = by_declared (declared_as B (descriptor A i)) refl
+    where
+      chosen : (k : ℕ) (b : Bool) → None ≡ (if b then Some k else None) → b ≡ false
+      chosen k true e = cc
+      chosen k false e = refl
+
+      by_declared : (o : Option ℕ) → declared_as B (descriptor A i) ≡ o → outcome A i m B args answer ≡ Err unknown_transaction
+      by_declared None is = found.nowhere A i m B args answer is
+      by_declared (Some k) is =
+          let number : number_of_name B (encode_utf8_all (descriptor A i)) ≡ Some k = number_declared B (descriptor A i) ∙ is in
+          let not_one : None ≡ (if is_interface B k then Some k else None) = rw number at none in
+          found.refused A i m B args answer k is unknown_transaction (no_method k (no_methods B k (chosen k (is_interface B k) not_one)))
+
+-- With it
+
+-- a call that is received, by whether the server's method is oneway
+called_line : (B : List Decl) (j n : ℕ) (saw : Items) (answer : AnswerData) (target : Option TargetData) (got : Result AnswerData ℤ) (delivered : List ℕ) (out : Result Done ℤ)
+    → scripted target n ≡ answer → (is_oneway B j n ≡ true → out ≡ Ok (calls.oneway saw)) → (is_oneway B j n ≡ false → delivered ≡ reply B j n answer → out ≡ Ok (calls.done saw got))
+    → IsReplied (sent_reply B j n (scripted target n)) delivered → reported (Ok (called n saw)) (sent_reply B j n (scripted target n)) got ≡ seen_line out
+called_line B j n saw answer target got delivered out same one two = by_way (is_oneway B j n) refl
+  where
+    by_way : (b : Bool) → is_oneway B j n ≡ b → IsReplied (cond b None (Some (reply B j n (scripted target n)))) delivered
+        → reported (Ok (called n saw)) (cond b None (Some (reply B j n (scripted target n)))) got ≡ seen_line out
+    by_way true way h = ap seen_line (sym (one way))
+    by_way false way h = ap seen_line (sym (two way (h ∙ ap (reply B j n) same)))
+
+module _ (p : Profile) (A B : List Decl) (c : CallData) (fits : CallFits A B c) (sent delivered : List ℕ) where
+  -- the server lacks the interface
+  pub line_nowhere : c.server ≡ None → line_of p A B c sent delivered ≡ projected A B (Ok c)
+  line_nowhere none = rw none (ap seen_line (sym (nowhere A c.interface c.method B c.args (answer_by c.target) (sym none ∙ fits.server.named))))
+
+  pub names_nowhere : c.server ≡ None → NamesOf c (methods_by c c.server (lines.received p A B c sent))
+  names_nowhere none = rw none tt
+
+  module _ (j : ℕ) (is : c.server ≡ Some j)
+      (never_left : (n : ℕ) → stub p B j (call_code A c) sent ≡ Ok (left n) → ⊥)
+      (common : (n : ℕ) (saw : Items) → stub p B j (call_code A c) sent ≡ Ok (called n saw) → method_like (method_at A c.interface c.method) (methods_at B j) ≡ Some n) where
+    target_like : (n : ℕ) (saw : Items) → stub p B j (call_code A c) sent ≡ Ok (called n saw) → option_map (λ (t : TargetData). t.method) c.target ≡ Some n
+    target_like n saw e = fits.target ∙ ap (method_of_server A B c.interface c.method) is ∙ common n saw e
+
+    pub names_at : NamesOf c (methods_by c c.server (lines.received p A B c sent))
+    names_at = by_server c.server is
+      where
+        by_stub : (x : Result Received ℤ) → stub p B j (call_code A c) sent ≡ x → NamesOf c (methods_by c (Some j) x)
+        by_stub (Err s) e = tt
+        by_stub (Ok (left n)) e = absurd (never_left n e)
+        by_stub (Ok (called n saw)) e = (refl, refl, is, target_like n saw e)
+
+        by_server : (o : Option ℕ) → o ≡ Some j → NamesOf c (methods_by c o (received_at p B o (call_code A c) sent))
+        by_server None e = tt
+        by_server (Some k) e =
+            let same : j ≡ k = cc in
+            subst (λ k. NamesOf c (methods_by c (Some k) (stub p B k (call_code A c) sent))) same (by_stub (stub p B j (call_code A c) sent) refl)
+
+    pub line_at : (answer : AnswerData) → answer ≡ answer_by c.target
+        → ((s : ℤ) → stub p B j (call_code A c) sent ≡ Err s → outcome A c.interface c.method B c.args answer ≡ Err s)
+        → ((n : ℕ) (saw : Items) → stub p B j (call_code A c) sent ≡ Ok (called n saw) → is_oneway B j n ≡ true → outcome A c.interface c.method B c.args answer ≡ Ok (calls.oneway saw))
+        → ((n : ℕ) (saw : Items) → stub p B j (call_code A c) sent ≡ Ok (called n saw) → is_oneway B j n ≡ false → AnswerFits B j n answer → delivered ≡ reply B j n answer
+            → outcome A c.interface c.method B c.args answer ≡ Ok (calls.done saw (client p A c.interface c.method delivered)))
+        → IsReplied (reply_sent p A B c sent) delivered → line_of p A B c sent delivered ≡ projected A B (Ok c)
+    line_at answer by refused one two = whole
+      where
+        by_target : (n : ℕ) (saw : Items) → stub p B j (call_code A c) sent ≡ Ok (called n saw) → (o : Option TargetData) → c.target ≡ o → option_map (λ (t : TargetData). t.method) o ≡ Some n
+            → (scripted o n ≡ answer) × AnswerFits B j n answer
+        by_target n saw e None at like = cc
+        by_target n saw e (Some t) at like =
+            let same : t.method ≡ n = cc in
+            let test : (t.method == n) ≡ true = grind (arith, nat_tests) in
+            let theirs : t.answer ≡ answer = sym (by ∙ ap answer_by at) in
+            let fit : AnswerFits B j t.method t.answer = subst (λ (o : Option TargetData). TargetFits B (Some j) o) at (subst (λ (o : Option ℕ). TargetFits B o c.target) is fits.answer) in
+            (rw test theirs, subst (λ k. AnswerFits B j k answer) same (subst (λ a. AnswerFits B j t.method a) theirs fit))
+
+        by_stub : (x : Result Received ℤ) → stub p B j (call_code A c) sent ≡ x → IsReplied (reply_at B (Some j) c.target x) delivered
+            → reported x (reply_at B (Some j) c.target x) (client p A c.interface c.method delivered) ≡ seen_line (outcome A c.interface c.method B c.args answer)
+        by_stub (Err s) e h = ap seen_line (sym (refused s e))
+        by_stub (Ok (left n)) e h = absurd (never_left n e)
+        by_stub (Ok (called n saw)) e h =
+            let known = by_target n saw e c.target refl (target_like n saw e) in
+            called_line B j n saw answer c.target (client p A c.interface c.method delivered) delivered (outcome A c.interface c.method B c.args answer) known.0
+            (one n saw e) (λ way is. two n saw e way known.1 is) h
+
+        by_server : (o : Option ℕ) → o ≡ Some j → IsReplied (reply_at B o c.target (received_at p B o (call_code A c) sent)) delivered
+            → reported (received_at p B o (call_code A c) sent) (reply_at B o c.target (received_at p B o (call_code A c) sent)) (client p A c.interface c.method delivered)
+            ≡ seen_line (outcome A c.interface c.method B c.args answer)
+        by_server None e h = cc
+        by_server (Some k) e h = let same : k ≡ j = cc in subst (λ k. IsReplied (reply_at B (Some k) c.target (stub p B k (call_code A c) sent)) delivered
+            → reported (stub p B k (call_code A c) sent) (reply_at B (Some k) c.target (stub p B k (call_code A c) sent)) (client p A c.interface c.method delivered)
+            ≡ seen_line (outcome A c.interface c.method B c.args answer)) (sym same) (λ h. by_stub (stub p B j (call_code A c) sent) refl h) h
+
+        whole : IsReplied (reply_sent p A B c sent) delivered → line_of p A B c sent delivered ≡ projected A B (Ok c)
+        whole h = by_server c.server is h ∙ ap (λ a. seen_line (outcome A c.interface c.method B c.args a)) by
+
+    -- the same where the arguments are given otherwise
+    pub line_by : (args : Items) → args ≡ c.args → (answer : AnswerData) → answer ≡ answer_by c.target
+        → ((s : ℤ) → stub p B j (call_code A c) sent ≡ Err s → outcome A c.interface c.method B args answer ≡ Err s)
+        → ((n : ℕ) (saw : Items) → stub p B j (call_code A c) sent ≡ Ok (called n saw) → is_oneway B j n ≡ true → outcome A c.interface c.method B args answer ≡ Ok (calls.oneway saw))
+        → ((n : ℕ) (saw : Items) → stub p B j (call_code A c) sent ≡ Ok (called n saw) → is_oneway B j n ≡ false → AnswerFits B j n answer → delivered ≡ reply B j n answer
+            → outcome A c.interface c.method B args answer ≡ Ok (calls.done saw (client p A c.interface c.method delivered)))
+        → IsReplied (reply_sent p A B c sent) delivered → line_of p A B c sent delivered ≡ projected A B (Ok c)
+    line_by args same answer by refused one two =
+        let outcomes : outcome A c.interface c.method B c.args answer ≡ outcome A c.interface c.method B args answer = ap (λ vs. outcome A c.interface c.method B vs answer) (sym same) in
+        line_at answer by (λ s e. outcomes ∙ refused s e) (λ n saw e way. outcomes ∙ one n saw e way) (λ n saw e way fit is. outcomes ∙ two n saw e way fit is)

@@ -1,0 +1,4 @@
+-- What the code's steps do, for its inner contracts: no public contract or law cites it.
+pub mod Exchanges
+pub mod Served
+pub mod Typed

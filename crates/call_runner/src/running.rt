@@ -1,0 +1,146 @@
+//! A line of a calls file run between a client and a server over a link.
+ghost use Rattle.std.specs.Prelude.{◌≡◌, true, Ok, IfErr, IfOk};
+ghost use Rattle.aidl_outside.specs.Told.{Adds};
+ghost use Rattle.call_parcels.specs.Planned.{ArePlansOf};
+ghost use Rattle.call_runner.specs.Runs.{AreFaithful, AreNamed, IsTyped, LineRuns, RunCause, Stops, line_data, projected};
+ghost use Rattle.call_runner.specs.steps.Exchanges.{IsExchange, carried_of, delivered_of};
+ghost use Rattle.call_scripts.specs.Calls.{CallFits, call_of};
+ghost use Rattle.call_scripts.specs.Script.{script};
+ghost use Rattle.wire_model.specs.Outcome.{OneFollows, SameWays};
+
+use crate::exchange::{Exchange, carry_call};
+use crate::line::{LineOut, LineRun, RunFault, Side};
+use crate::meaning::{law_projected, law_received, law_typed};
+use crate::reporting::report;
+use aidl_base::{OutOfMemory, Profile, Row};
+use aidl_outside::{Carried, Link};
+use call_scripts::{Call, Script, script_of};
+use std::alloc::Global;
+
+/// Runs a line of a calls file between a client and a server, both of which read by the profile: what the line means is carried over
+/// the link as a request, the server's service transacts what is delivered, its reply is carried, and the client reads what is
+/// delivered. `line` is without its newline. A line that is refused carries nothing. Where the server lacks the interface the
+/// request is carried, and its transport status is -74. The server's handler gives the scripted answer for the line's method and
+/// exception -5 with the message `not scripted` for any other. No code of an interface that both have may be that of a oneway method
+/// in one schema and of a two-way method in the other. `LinkFault` comes only where the link's count rose.
+pub fn run_line<L: Link>(
+    alloc: Global,
+    profile: Profile,
+    client: &Side<'_>,
+    server: &Side<'_>,
+    line: &[u8],
+    link: &mut L,
+) -> Result<LineRun, RunFault>
+    requires client { ArePlansOf client.now.plans.now client.now.schema.now.decls }
+    requires server { ArePlansOf server.now.plans.now server.now.schema.now.decls }
+    requires ways { SameWays client.now.schema.now.decls server.now.schema.now.decls }
+    // What is carried, what is replied and what is reported.
+    ensures line { IfOk result (λ run. LineRuns profile client.now.schema.now.decls server.now.schema.now.decls
+        (script client.now.schema.now.decls server.now.schema.now.decls line.now) run) }
+    // The link's log gains exactly what is carried.
+    ensures log { IfOk result (λ run. Adds (L.log link.old) (L.log link.new) run.carried) }
+    ensures faithful { L.is_faithful link.old ≡ true → IfOk result (λ run. AreFaithful run.carried) }
+    // After a fault it has gained the carries that succeeded.
+    ensures stops { IfErr result (λ fault. Stops profile client.now.schema.now.decls server.now.schema.now.decls
+        (script client.now.schema.now.decls server.now.schema.now.decls line.now) (L.is_faithful link.old) (L.log link.old) (L.log link.new) fault) }
+    ensures nature { L.is_faithful link.new ≡ L.is_faithful link.old }
+    // A fault of the link comes only where its count rose.
+    ensures cause { RunCause (L.count link.old) (L.count link.new) result }
+    // The values have the types of the methods.
+    ensures typed { IfOk result (λ run. IsTyped client.now.schema.now.decls server.now.schema.now.decls run.methods run.out) }
+    // Between two schemas of which one follows the other, over a faithful link, the line comes to its outcome, and its values are those of
+    // the methods of the call's names.
+    ensures outcome { OneFollows client.now.schema.now.decls server.now.schema.now.decls → L.is_faithful link.old ≡ true
+        → IfOk result (λ run. line_data run.out ≡ projected client.now.schema.now.decls server.now.schema.now.decls
+        (script client.now.schema.now.decls server.now.schema.now.decls line.now)) }
+    ensures named { OneFollows client.now.schema.now.decls server.now.schema.now.decls → L.is_faithful link.old ≡ true
+        → IfOk result (λ run. AreNamed (script client.now.schema.now.decls server.now.schema.now.decls line.now) run.methods) }
+{
+    match script_of(
+        alloc,
+        client.schema,
+        client.plans,
+        server.schema,
+        server.plans,
+        line,
+    )? {
+        Script::Refused(why) => Ok(LineRun {
+            out: LineOut::Refused(why),
+            carried: Row::new(alloc),
+            methods: None,
+        }),
+        Script::Call(call) => run_call(alloc, profile, client, server, &call, link),
+    }
+}
+
+// Runs a call.
+fn run_call<L: Link>(
+    alloc: Global,
+    profile: Profile,
+    client: &Side<'_>,
+    server: &Side<'_>,
+    call: &Call,
+    link: &mut L,
+) -> Result<LineRun, RunFault>
+    requires client { ArePlansOf client.now.plans.now client.now.schema.now.decls }
+    requires server { ArePlansOf server.now.plans.now server.now.schema.now.decls }
+    requires ways { SameWays client.now.schema.now.decls server.now.schema.now.decls }
+    requires fits { CallFits client.now.schema.now.decls server.now.schema.now.decls (call_of call.now) }
+    ensures line { IfOk result (λ run. LineRuns profile client.now.schema.now.decls server.now.schema.now.decls (Ok (call_of call.now)) run) }
+    ensures log { IfOk result (λ run. Adds (L.log link.old) (L.log link.new) run.carried) }
+    ensures faithful { L.is_faithful link.old ≡ true → IfOk result (λ run. AreFaithful run.carried) }
+    ensures stops { IfErr result (λ fault. Stops profile client.now.schema.now.decls server.now.schema.now.decls (Ok (call_of call.now))
+        (L.is_faithful link.old) (L.log link.old) (L.log link.new) fault) }
+    ensures nature { L.is_faithful link.new ≡ L.is_faithful link.old }
+    ensures cause { RunCause (L.count link.old) (L.count link.new) result }
+    ensures typed { IfOk result (λ run. IsTyped client.now.schema.now.decls server.now.schema.now.decls run.methods run.out) }
+    ensures outcome { OneFollows client.now.schema.now.decls server.now.schema.now.decls → L.is_faithful link.old ≡ true
+        → IfOk result (λ run. line_data run.out ≡ projected client.now.schema.now.decls server.now.schema.now.decls (Ok (call_of call.now))) }
+    ensures named { OneFollows client.now.schema.now.decls server.now.schema.now.decls → L.is_faithful link.old ≡ true
+        → IfOk result (λ run. AreNamed (Ok (call_of call.now)) run.methods) }
+{
+    let exchange = carry_call(alloc, profile, client, server, call, link)?;
+    let run = report_call(alloc, profile, client, server, call, exchange)?;
+    Ok(run)
+}
+
+// What a call comes to, with all that is known of it.
+fn report_call(
+    alloc: Global,
+    profile: Profile,
+    client: &Side<'_>,
+    server: &Side<'_>,
+    call: &Call,
+    exchange: Exchange,
+) -> Result<LineRun, OutOfMemory>
+    requires client { ArePlansOf client.now.plans.now client.now.schema.now.decls }
+    requires ways { SameWays client.now.schema.now.decls server.now.schema.now.decls }
+    requires fits { CallFits client.now.schema.now.decls server.now.schema.now.decls (call_of call.now) }
+    requires exchange { IsExchange profile client.now.schema.now.decls server.now.schema.now.decls (call_of call.now) exchange }
+    ensures line { IfOk result (λ run. LineRuns profile client.now.schema.now.decls server.now.schema.now.decls (Ok (call_of call.now)) run) }
+    ensures carried { IfOk result (λ run. run.carried ≡ carried_of exchange) }
+    ensures typed { IfOk result (λ run. IsTyped client.now.schema.now.decls server.now.schema.now.decls run.methods run.out) }
+    ensures outcome { OneFollows client.now.schema.now.decls server.now.schema.now.decls → AreFaithful (carried_of exchange)
+        → IfOk result (λ run. line_data run.out ≡ projected client.now.schema.now.decls server.now.schema.now.decls (Ok (call_of call.now))) }
+    ensures named { OneFollows client.now.schema.now.decls server.now.schema.now.decls → AreFaithful (carried_of exchange)
+        → IfOk result (λ run. AreNamed (Ok (call_of call.now)) run.methods) }
+{
+    let bytes = exchange.request.delivered.as_slice();
+    let sent = exchange.request.sent.as_slice();
+    let code = exchange.request.code;
+    let reply = delivered(&exchange.reply);
+    law_typed(profile, client.schema, server.schema, call, code, bytes, reply);
+    law_projected(alloc, profile, client.schema, server.schema, call, sent, reply);
+    law_received(profile, server.schema, call, code, bytes);
+    report(alloc, profile, client, server, call, exchange)
+}
+
+// The bytes that were delivered of a reply.
+fn delivered(reply: &Option<Carried>) -> &[u8]
+    ensures { result.now ≡ delivered_of reply.now }
+{
+    match reply {
+        Some(entry) => entry.delivered.as_slice(),
+        None => &[],
+    }
+}

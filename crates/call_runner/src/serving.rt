@@ -1,0 +1,158 @@
+//! What the server answers the request of a call.
+ghost use Rattle.std.specs.Prelude.{◌≡◌, Some, codes, option_map, IfOk};
+ghost use Rattle.aidl_values.specs.View.{views};
+ghost use Rattle.call_parcels.specs.Planned.{ArePlansOf};
+ghost use Rattle.call_runner.specs.Lines as meant;
+ghost use Rattle.call_runner.specs.steps.Served.{IsServed};
+ghost use Rattle.call_scripts.specs.Calls.{TargetFits, target_of};
+ghost use Rattle.wire_model.specs.Calls.{answer_of, optional_view};
+ghost use Rattle.wire_model.specs.Receiver.{stub};
+
+use crate::line::Side;
+use aidl_base::{OutOfMemory, Profile, Row, Text};
+use aidl_values::{Answer, Value};
+use call_scripts::{Call, Target};
+use std::alloc::Global;
+use stub_dispatch::{Answered, Service};
+
+/// UNKNOWN_TRANSACTION: the server lacks the interface.
+pub const UNKNOWN_TRANSACTION: i32 = -74;
+
+/// EX_ILLEGAL_STATE, the exception of each method but the line's.
+pub const ILLEGAL_STATE: i32 = -5;
+
+// What the server answers a request with a code.
+pub fn serve(
+    alloc: Global,
+    profile: Profile,
+    server: &Side<'_>,
+    call: &Call,
+    code: u32,
+    bytes: &[u8],
+) -> Result<Answered, OutOfMemory>
+    requires plans { ArePlansOf server.now.plans.now server.now.schema.now.decls }
+    requires fits { TargetFits server.now.schema.now.decls call.now.server (option_map target_of call.now.target) }
+    ensures { IfOk result (λ a. IsServed server.now.schema.now.decls call.now.server (option_map target_of call.now.target)
+        (meant.received_at profile server.now.schema.now.decls call.now.server code bytes.now) a) }
+{
+    match call.server {
+        Some(interface) => serve_interface(
+            alloc,
+            profile,
+            server,
+            interface,
+            &call.target,
+            code,
+            bytes,
+        ),
+        None => Ok(Answered {
+            transport: UNKNOWN_TRANSACTION,
+            saw: None,
+            reply: None,
+        }),
+    }
+}
+
+// What the service of an interface answers, whose handler answers by the line.
+#[tactic(auto, using(crate::proofs::Unscripted::scripted_fits, crate::proofs::Served::serves))]
+fn serve_interface(
+    alloc: Global,
+    profile: Profile,
+    server: &Side<'_>,
+    interface: u32,
+    target: &Option<Target>,
+    code: u32,
+    bytes: &[u8],
+) -> Result<Answered, OutOfMemory>
+    requires plans { ArePlansOf server.now.plans.now server.now.schema.now.decls }
+    requires fits { TargetFits server.now.schema.now.decls (Some interface) (option_map target_of target.now) }
+    ensures { IfOk result (λ a. IsServed server.now.schema.now.decls (Some interface) (option_map target_of target.now)
+        (stub profile server.now.schema.now.decls interface code bytes.now) a) }
+{
+    let handler = |method: u32, _args: &[Value]| scripted(alloc, target, method);
+    let service = Service::new(server.schema, server.plans, profile, interface, handler);
+    service.transact(alloc, code, bytes)
+}
+
+// What the handler answers for a method: the scripted answer for the line's, and an exception for any other.
+fn scripted(alloc: Global, target: &Option<Target>, method: u32) -> Result<Answer, OutOfMemory>
+    ensures { IfOk result (λ a. answer_of a ≡ meant.scripted (option_map target_of target.now) method) }
+{
+    match target {
+        Some(target) => {
+            if target.method == method {
+                copy_answer(alloc, &target.answer)
+            } else {
+                not_scripted(alloc)
+            }
+        }
+        None => not_scripted(alloc),
+    }
+}
+
+fn not_scripted(alloc: Global) -> Result<Answer, OutOfMemory>
+    ensures { IfOk result (λ a. answer_of a ≡ meant.not_scripted) }
+{
+    let message = not_scripted_message(alloc)?;
+    Ok(Answer::Exception {
+        code: ILLEGAL_STATE,
+        message,
+        error: 0,
+    })
+}
+
+#[tactic(auto, using(crate::proofs::Unscripted::message_chars))]
+fn not_scripted_message(alloc: Global) -> Result<Text, OutOfMemory>
+    ensures { IfOk result (λ text. text ≡ codes "not scripted") }
+{
+    let text = String::from_str(alloc, "not scripted")?;
+    Ok(Text::from_string(text))
+}
+
+// The same answer.
+fn copy_answer(alloc: Global, answer: &Answer) -> Result<Answer, OutOfMemory>
+    ensures { IfOk result (λ a. answer_of a ≡ answer_of answer.now) }
+{
+    match answer {
+        Answer::Returned { result, outs } => {
+            let result = copy_result(alloc, result)?;
+            let outs = copy_values(alloc, outs.as_slice())?;
+            Ok(Answer::Returned { result, outs })
+        }
+        Answer::Exception {
+            code,
+            message,
+            error,
+        } => {
+            let message = message.try_clone(alloc)?;
+            Ok(Answer::Exception {
+                code: *code,
+                message,
+                error: *error,
+            })
+        }
+    }
+}
+
+fn copy_result(alloc: Global, value: &Option<Value>) -> Result<Option<Value>, OutOfMemory>
+    ensures { IfOk result (λ v. optional_view v ≡ optional_view value.now) }
+{
+    match value {
+        Some(value) => {
+            let copy = value.try_clone(alloc)?;
+            Ok(Some(copy))
+        }
+        None => Ok(None),
+    }
+}
+
+fn copy_values(alloc: Global, values: &[Value]) -> Result<Row<Value>, OutOfMemory>
+    ensures { IfOk result (λ vs. views vs ≡ views values.now) }
+{
+    let mut copies = Vec::with_capacity(alloc, values.len())?;
+    for value in values {
+        let copy = value.try_clone(alloc)?;
+        copies.push(copy)?;
+    }
+    Ok(Row::from_vec(copies))
+}
