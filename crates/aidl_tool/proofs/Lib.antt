@@ -1,3 +1,4 @@
 pub mod Acting
 pub mod Checks
 pub mod Opened
+pub mod Takes

@@ -10,6 +10,7 @@ mod judging;
 mod opening;
 mod rehashing;
 mod top;
+mod running;
 mod verifying;
 
 pub use top::aidl;
