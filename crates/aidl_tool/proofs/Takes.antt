@@ -1,5 +1,5 @@
 -- What is done by what a step finds is what is meant.
-use Rattle.std.proofs.Common.{◌≡◌, ℕ, List, Ok, Err, inl, inr, refl, sym, subst}
+use Rattle.std.proofs.Common.{◌≡◌, ℕ, List, Option, Ok, Err, inl, inr, refl, sym, subst, ap, ◌∙◌}
 use Rattle.aidl_base.specs.declared.source_file.SourceFile.{SourceFile}
 use Rattle.aidl_schema.specs.declared.schema.Decl.{Decl}
 use Rattle.aidl_tool.specs.Running.{Takes, TakesChecked, TakesOver, TakesThen}
@@ -7,7 +7,9 @@ use Rattle.aidl_tool.specs.steps.Loading.{RanSome, TakesEarly}
 use Rattle.tool_frame.specs.declared.printed.Early.{Early}
 use Rattle.tool_frame.specs.declared.printed.Early.TheVariants.{Answered, OutOfMemory}
 use Rattle.tool_frame.specs.Answer.{Answer, Found}
-use Rattle.tool_frame.specs.Course.{Course}
+use Rattle.tool_frame.specs.Course.{Course, at_once}
+use Rattle.tool_frame.specs.steps.Ends.{PrintsGiven}
+use Rattle.tool_frame.proofs.Courses.{ran_printed}
 use Rattle.tool_frame.specs.Seen.{Seen}
 use Rattle.tool_frame.specs.Trees.{TreeFile, file_seen}
 use Rattle.tool_frame.specs.steps.Results.{Finds, printed}
@@ -19,6 +21,13 @@ use Rattle.type_check.specs.Checked.{IsSchemaOf}
 pub ran_also : (takes more : Takes) (before now : Seen) (exit : ℕ) → ((course : Course) → takes course → more course) → RanSome takes before now exit → RanSome more before now exit
 ran_also takes more before now exit also (inl ran) = inl (ran.0, also ran.0 ran.1, ran.2)
 ran_also takes more before now exit also (inr wanted) = inr wanted
+
+-- an early end that was printed
+pub printed_early : (early : Early) (before : Seen) (told : Option (List ℕ)) (faults exit : ℕ) → PrintsGiven (Err early) before.told told before.sink_faults faults exit
+    → RanSome (TakesEarly early) before (record before { told = told; sink_faults = faults }) exit
+printed_early (Answered p) before told faults exit prints = inl (at_once (printed p), refl, ran_printed before told faults (printed p) exit prints)
+printed_early OutOfMemory before told faults exit silent =
+    inr (silent.exits, ap (λ t. let s : Seen = record before { told = t; sink_faults = faults } in s) silent.silent ∙ ap (λ n. let s : Seen = record before { sink_faults = n } in s) silent.good)
 
 -- an early end is the refusal of the step
 pub early_is : {T A : Type 0} (view : T → A) (early : Early) (found : Found A) (next : A → Takes) → Finds view (Err early) found

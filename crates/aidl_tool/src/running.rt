@@ -1,11 +1,11 @@
-ghost use Rattle.std.specs.Prelude.{◌≡◌, ◌≤◌, IfOk, length};
+ghost use Rattle.std.specs.Prelude.{◌≡◌, IfOk};
 ghost use Rattle.aidl_base.specs.Results.{◌>>=◌};
 ghost use Rattle.aidl_outside.specs.Causes.{StoreCause};
 ghost use Rattle.aidl_outside.specs.Told.{Tells};
 ghost use Rattle.aidl_tool.specs.Running.{RunTakes, TakesChecked, TakesOver, TakesThen};
 ghost use Rattle.aidl_tool.specs.steps.Loading.{LoadsFor, RanSome, TakesEarly, TakesLoaded};
 ghost use Rattle.aidl_tool.specs.Running as meant;
-ghost use Rattle.run_answers.specs.CallLines.{lines_of, within_lines};
+ghost use Rattle.run_answers.specs.CallLines.{within_lines};
 ghost use Rattle.run_answers.specs.Running.{run_course};
 ghost use Rattle.tool_frame.specs.Ended.{Ended};
 ghost use Rattle.tool_frame.specs.Meaning.{carries_by};
@@ -155,6 +155,7 @@ fn run_given<K: Sink, L: Link>(
 }
 
 // Prints how the run ends early.
+#[tactic(auto, using(crate::proofs::Takes::printed_early))]
 fn print_early<K: Sink, L: Link>(alloc: Global, early: Early, sink: &mut K, link: &L) -> u8
     ensures { let seen = seen_alone K.told K.count L.log L.is_faithful L.count in
         RanSome (TakesEarly early) (seen sink.old link.now) (seen sink.new link.now) result }
@@ -194,7 +195,6 @@ fn run_loaded<K: Sink, L: Link>(
 // The text of a calls file that passes no limit.
 fn calls_in(alloc: Global, text: Result<Vec<u8>, Limit>) -> Result<Vec<u8>, Early>
     ensures found { Finds (λ v. v.items) result (held text >>= within_lines) }
-    ensures few { IfOk result (λ v. length (lines_of v.items) ≤ 65536) }
 {
     let text = text_of(alloc, text)?;
     lines_within(alloc, text)
@@ -212,7 +212,6 @@ fn run_client<K: Sink, L: Link>(
     sink: &mut K,
     link: &mut L,
 ) -> u8
-    requires few { length (lines_of text.items) ≤ 65536 }
     ensures { let seen = seen_alone K.told K.count L.log L.is_faithful L.count in
         RanSome (TakesChecked client.entry.root.now client.entry.files (λ A. TakesChecked server.entry.root.now server.entry.files (λ B course. course ≡ run_course profile A B trace text.items)))
         (seen sink.old link.old) (seen sink.new link.new) result }
@@ -235,7 +234,6 @@ fn run_server<K: Sink, L: Link>(
     sink: &mut K,
     link: &mut L,
 ) -> u8
-    requires few { length (lines_of text.items) ≤ 65536 }
     ensures { let seen = seen_alone K.told K.count L.log L.is_faithful L.count in
         RanSome (TakesChecked server.entry.root.now server.entry.files (λ B course. course ≡ run_course profile client.now.decls B trace text.items))
         (seen sink.old link.old) (seen sink.new link.new) result }
@@ -257,7 +255,6 @@ fn run_both<K: Sink, L: Link>(
     sink: &mut K,
     link: &mut L,
 ) -> u8
-    requires few { length (lines_of calls.now) ≤ 65536 }
     ensures { let seen = seen_alone K.told K.count L.log L.is_faithful L.count in
         RanSome (λ course. course ≡ run_course profile client.now.decls server.now.decls trace calls.now) (seen sink.old link.old) (seen sink.new link.new) result }
 {

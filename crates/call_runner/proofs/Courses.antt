@@ -1,6 +1,5 @@
 -- What the log gains, step by step, and what was carried where a fault comes.
 use Rattle.std.proofs.Common.{◌≡◌, ◌≢◌, ℕ, Bool, true, List, [], ◌∷◌, ◌++◌, Option, Some, None, Ok, refl, sym, ap, ◌∙◌, subst, append_assoc, append-nil}
-use Rattle.std.specs.List.{All}
 use Rattle.std.proofs.lemmas.List.Elements.{All-nil, All-cons, All-head, All-tail}
 use Rattle.aidl_base.specs.declared.profile.Profile.{Profile}
 use Rattle.aidl_outside.specs.declared.link.Carried.{Carried}
@@ -58,7 +57,7 @@ module _ (p : Profile) (A B : List Decl) (c : CallData) (faithful : Bool) (befor
   stops_reply mid now fault request is adds still same bytes e a served ne =
       let code : request.code ≡ call_code A c = ap (λ (x : Carried). x.code) is in
       let reply : a.reply ≡ reply_sent p A B c request.delivered = served.reply ∙ ap (λ k. reply_at B c.server c.target (received_at p B c.server k bytes)) code
-          ∙ ap (λ b. reply_at B c.server c.target (received_at p B c.server (call_code A c) b)) e in
+      ∙ ap (λ b. reply_at B c.server c.target (received_at p B c.server (call_code A c) b)) e in
       stops_then now fault request is (subst (λ (o : Option (List Carried)). Adds before o (request ∷ [])) (sym still) adds) same
       (λ _. reply_due (call_code A c) (reply_sent p A B c request.delivered) (λ none. ne (reply ∙ none)))
 

@@ -1,6 +1,6 @@
 -- Over a link that delivers what was sent a call comes to its outcome.
-use Rattle.std.proofs.Common.{◌≡◌, ℕ, ◌+◌, ◌==◌, Bool, true, false, cond, List, [], ◌∷◌, length, Option, Some, None, option_map, slice_get, Result, Ok, Err, ℤ, refl, sym, ap, ◌∙◌, subst, arith}
-use Rattle.std.specs.Prelude.{option_and_then, if◌then◌else◌}
+use Rattle.std.proofs.Common.{◌≡◌, ℕ, ◌+◌, ◌==◌, Bool, true, false, cond, List, [], ◌∷◌, Option, Some, None, option_map, slice_get, Result, Ok, Err, ℤ, refl, sym, ap, ◌∙◌, subst, arith}
+use Rattle.std.specs.Prelude.{if◌then◌else◌}
 use Rattle.std.specs.List.{position, position_from}
 use Rattle.std.specs.Str.{encode_utf8_all}
 use Rattle.std.proofs.lemmas.Bool.Decides.{nat_tests}
@@ -136,7 +136,7 @@ module _ (p : Profile) (A B : List Decl) (c : CallData) (fits : CallFits A B c) 
         → ((s : ℤ) → stub p B j (call_code A c) sent ≡ Err s → outcome A c.interface c.method B c.args answer ≡ Err s)
         → ((n : ℕ) (saw : Items) → stub p B j (call_code A c) sent ≡ Ok (called n saw) → is_oneway B j n ≡ true → outcome A c.interface c.method B c.args answer ≡ Ok (calls.oneway saw))
         → ((n : ℕ) (saw : Items) → stub p B j (call_code A c) sent ≡ Ok (called n saw) → is_oneway B j n ≡ false → AnswerFits B j n answer → delivered ≡ reply B j n answer
-            → outcome A c.interface c.method B c.args answer ≡ Ok (calls.done saw (client p A c.interface c.method delivered)))
+        → outcome A c.interface c.method B c.args answer ≡ Ok (calls.done saw (client p A c.interface c.method delivered)))
         → IsReplied (reply_sent p A B c sent) delivered → line_of p A B c sent delivered ≡ projected A B (Ok c)
     line_at answer by refused one two = whole
       where
@@ -175,7 +175,7 @@ module _ (p : Profile) (A B : List Decl) (c : CallData) (fits : CallFits A B c) 
         → ((s : ℤ) → stub p B j (call_code A c) sent ≡ Err s → outcome A c.interface c.method B args answer ≡ Err s)
         → ((n : ℕ) (saw : Items) → stub p B j (call_code A c) sent ≡ Ok (called n saw) → is_oneway B j n ≡ true → outcome A c.interface c.method B args answer ≡ Ok (calls.oneway saw))
         → ((n : ℕ) (saw : Items) → stub p B j (call_code A c) sent ≡ Ok (called n saw) → is_oneway B j n ≡ false → AnswerFits B j n answer → delivered ≡ reply B j n answer
-            → outcome A c.interface c.method B args answer ≡ Ok (calls.done saw (client p A c.interface c.method delivered)))
+        → outcome A c.interface c.method B args answer ≡ Ok (calls.done saw (client p A c.interface c.method delivered)))
         → IsReplied (reply_sent p A B c sent) delivered → line_of p A B c sent delivered ≡ projected A B (Ok c)
     line_by args same answer by refused one two =
         let outcomes : outcome A c.interface c.method B c.args answer ≡ outcome A c.interface c.method B args answer = ap (λ vs. outcome A c.interface c.method B vs answer) (sym same) in

@@ -1,10 +1,9 @@
 -- What is known of what SERVER received: its method has the code, and is two-way to CLIENT where a reply is sent; the types of a line's values.
-use Rattle.std.proofs.Common.{◌≡◌, ℕ, ◌+◌, ◌==◌, ◌<◌, ℤ, Bool, true, false, cond, List, [], ◌∷◌, length, Option, Some, None, slice_get, Result, Ok, Err, refl, sym, ap, ◌∙◌, subst, arith}
+use Rattle.std.proofs.Common.{◌≡◌, ℕ, ◌+◌, ◌==◌, ◌<◌, ℤ, Bool, true, false, List, [], ◌∷◌, length, Option, Some, None, slice_get, Result, Ok, Err, refl, sym, ap, ◌∙◌, subst, arith}
 use Rattle.std.proofs.lemmas.Bool.Decides.{nat_tests}
 use Rattle.aidl_base.specs.declared.profile.Profile.{Profile}
 use Rattle.aidl_base.specs.Readings.{◌>>=◌}
 use Rattle.aidl_schema.specs.declared.schema.Decl.{Decl}
-use Rattle.aidl_schema.specs.declared.schema.Method.{Method}
 use Rattle.aidl_schema.specs.Find.{methods_at, methods_of_decl, position_of_code}
 use Rattle.aidl_schema.specs.Names.{name_of, methods_of}
 use Rattle.aidl_schema.specs.Same.{same_text}

@@ -1,14 +1,13 @@
 -- What a call comes to, by what was carried.
-use Rattle.std.proofs.Common.{◌≡◌, ◌≢◌, ℕ, ℤ, pos, Bool, true, false, List, [], ◌∷◌, Option, Some, None, Result, Ok, Err, refl, sym, ap, ◌∙◌, subst}
+use Rattle.std.proofs.Common.{◌≡◌, ◌≢◌, ℕ, ℤ, pos, Bool, true, false, List, [], ◌∷◌, Option, Some, None, Result, Ok, Err, refl, sym, ◌∙◌}
 use Rattle.std.specs.Ordering.{int_eq}
 use Rattle.std.proofs.lemmas.Bool.Decides.{Decides-int_eq}
 use Rattle.aidl_base.specs.declared.profile.Profile.{Profile}
 use Rattle.aidl_outside.specs.declared.link.Carried.{Carried}
 use Rattle.aidl_schema.specs.declared.schema.Decl.{Decl}
 use Rattle.aidl_schema.specs.Find.{methods_at, position_of_code}
-use Rattle.aidl_values.specs.Data.{Items}
 use Rattle.call_runner.specs.declared.line.Methods.{Methods}
-use Rattle.call_runner.specs.Lines.{LineData, oneway, transport, done, reply_at, reply_entries, reported}
+use Rattle.call_runner.specs.Lines.{done, reply_at, reply_entries, reported}
 use Rattle.call_runner.specs.Runs.{methods_by}
 use Rattle.call_runner.specs.steps.Served.{saw_at, transport_of, unreplied_line}
 use Rattle.call_runner.specs.steps.Typed.{method_in}

@@ -1,18 +1,17 @@
 -- What a service answers, whose handler answers by the line.
-use Rattle.std.proofs.Common.{◌≡◌, ℕ, List, Option, Some, None, option_map, Result, Ok, Err, ℤ, pos, refl, sym, ap, ◌∙◌, subst}
+use Rattle.std.proofs.Common.{◌≡◌, ℕ, List, Option, Some, Result, Ok, Err, ℤ, refl, sym, ap, subst}
 use Rattle.std.specs.Borrow.{Bor}
 use Rattle.aidl_schema.specs.declared.schema.Decl.{Decl}
 use Rattle.aidl_values.specs.Data.{Items}
-use Rattle.aidl_values.specs.View.{views}
 use Rattle.aidl_values.specs.declared.value.Answer.{Answer}
 use Rattle.aidl_values.specs.declared.value.Value.{Value}
 use Rattle.call_parcels.specs.Sent.{sent_reply}
-use Rattle.call_runner.specs.Lines.{reply_at, scripted}
+use Rattle.call_runner.specs.Lines.{scripted}
 use Rattle.call_runner.specs.steps.Served.{IsServed}
 use Rattle.call_scripts.specs.Calls.{TargetData}
 use Rattle.stub_dispatch.specs.Answers.{Answers}
 use Rattle.stub_dispatch.specs.declared.answered.Answered.{Answered}
-use Rattle.wire_model.specs.Calls.{AnswerData, answer_of}
+use Rattle.wire_model.specs.Calls.{answer_of}
 use Rattle.wire_model.specs.Receiver.{Received, left, called}
 
 pub serves : {E : Type 0} (post : ℕ → Bor (List Value) → Result Answer E → Type 0) (B : List Decl) (j : ℕ) (target : Option TargetData) (a : Answered) (r : Result Received ℤ)

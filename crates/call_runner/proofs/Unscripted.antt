@@ -7,7 +7,6 @@ use Rattle.std.proofs.lemmas.Int.{ints}
 use Rattle.aidl_base.proofs.Spelled.{length-spell_text}
 use Rattle.aidl_base.specs.Words.{units, word}
 use Rattle.aidl_schema.specs.declared.schema.Decl.{Decl}
-use Rattle.wire_model.specs.Calls.{AnswerData}
 use Rattle.wire_model.specs.Requests.{AnswerFits, ExceptionFits, spell_error}
 use Rattle.wire_model.specs.Spell.{spell_text}
 use Rattle.call_scripts.specs.Calls.{TargetData, TargetFits}

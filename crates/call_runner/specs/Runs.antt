@@ -1,14 +1,13 @@
 -- What `run_line` answers: by the script of its line and what the link delivered (own). p is the profile of reading, A is CLIENT's
 -- declarations and B SERVER's.
-use Rattle.std.specs.Prelude.{◌≡◌, ◌≢◌, ℕ, ◌<◌, ◌⊎◌, ℤ, Bool, true, if◌then◌else◌, List, [], ◌++◌, length, All, Option, Some, None, option_map, Result, Ok, Err}
-use Rattle.std.specs.Str.{encode_utf8_all}
+use Rattle.std.specs.Prelude.{◌≡◌, ◌≢◌, ℕ, ◌<◌, ℤ, Bool, true, List, [], ◌++◌, length, All, Option, Some, None, option_map, Result, Ok, Err}
 use Rattle.aidl_base.specs.declared.profile.Profile.{Profile}
 use Rattle.aidl_outside.specs.declared.link.Carried.{Carried}
 use Rattle.aidl_outside.specs.Causes.{Rose}
 use Rattle.aidl_outside.specs.Told.{Adds}
 use Rattle.aidl_schema.specs.declared.schema.Decl.{Decl}
 use Rattle.aidl_schema.specs.Find.{methods_at}
-use Rattle.aidl_values.specs.Data.{Items, none}
+use Rattle.aidl_values.specs.Data.{none}
 use Rattle.aidl_values.specs.View.{views}
 use Rattle.aidl_values.specs.declared.value.Value.{Value}
 use Rattle.call_answers.specs.Refusal.{Judged}

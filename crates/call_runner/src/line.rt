@@ -22,11 +22,18 @@ pub enum LineOut {
     /// It is no call, and nothing was sent.
     Refused(Refused),
     /// The server refused the request with this status.
-    Transport { status: i32 },
+    Transport {
+        status: i32,
+    },
     /// A oneway call: what the handler saw, if it was called.
-    OnewayDone { saw: Option<Row<Value>> },
+    OnewayDone {
+        saw: Option<Row<Value>>,
+    },
     /// What the handler saw, if it was called, and what the client made of the reply.
-    Done { saw: Option<Row<Value>>, client: Got },
+    Done {
+        saw: Option<Row<Value>>,
+        client: Got,
+    },
 }
 
 /// The methods by whose types the values of a line are: the client's, by the number of its interface and its position there, and that

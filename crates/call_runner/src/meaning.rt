@@ -69,9 +69,21 @@ pub fn law_projected(
 {
     if let Some(other) = call.server {
         match &call.target {
-            Some(target) => law_projected_at(profile, client, server, call, other, &target.answer, sent, reply),
+            Some(target) => law_projected_at(
+                profile,
+                client,
+                server,
+                call,
+                other,
+                &target.answer,
+                sent,
+                reply,
+            ),
             None => {
-                let nothing = Answer::Returned { result: None, outs: Row::new(alloc) };
+                let nothing = Answer::Returned {
+                    result: None,
+                    outs: Row::new(alloc),
+                };
                 law_projected_at(profile, client, server, call, other, &nothing, sent, reply)
             }
         }
@@ -99,5 +111,16 @@ fn law_projected_at(
         → NamesOf (call_of call.now) (methods_by (call_of call.now) call.now.server (received profile client.now.decls server.now.decls (call_of call.now) sent.now)) }
 {
     let args = call.args.as_slice();
-    law_outcome(profile, client, call.interface, call.method, server, other, args, answer, sent, reply);
+    law_outcome(
+        profile,
+        client,
+        call.interface,
+        call.method,
+        server,
+        other,
+        args,
+        answer,
+        sent,
+        reply,
+    );
 }

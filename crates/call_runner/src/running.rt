@@ -129,8 +129,24 @@ fn report_call(
     let sent = exchange.request.sent.as_slice();
     let code = exchange.request.code;
     let reply = delivered(&exchange.reply);
-    law_typed(profile, client.schema, server.schema, call, code, bytes, reply);
-    law_projected(alloc, profile, client.schema, server.schema, call, sent, reply);
+    law_typed(
+        profile,
+        client.schema,
+        server.schema,
+        call,
+        code,
+        bytes,
+        reply,
+    );
+    law_projected(
+        alloc,
+        profile,
+        client.schema,
+        server.schema,
+        call,
+        sent,
+        reply,
+    );
     law_received(profile, server.schema, call, code, bytes);
     report(alloc, profile, client, server, call, exchange)
 }

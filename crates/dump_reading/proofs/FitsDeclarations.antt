@@ -52,7 +52,7 @@ annotations_fit : (d : Decl) → Fits any (annotations d)
 unfolding reserved_of
 annotations_fit d = free_then (backing_mark_fits d.kind) (free_then (flag_fits (codes "FixedSize") refl d.fixed) (flag_fits (codes "VintfStability") refl d.vintf))
 
-last_named : (is : List Ident) → has_part is ≡ true → are_identifiers is ≡ true → is_identifier (last_part is) ≡ true
+pub last_named : (is : List Ident) → has_part is ≡ true → are_identifiers is ≡ true → is_identifier (last_part is) ≡ true
 last_named [] p h = cc
 last_named (i ∷ []) p h = (and_parts (is_identifier i.0) true h).0
 last_named (i ∷ j ∷ is) p h = last_named (j ∷ is) refl (and_parts (is_identifier i.0) (are_identifiers (j ∷ is)) h).1

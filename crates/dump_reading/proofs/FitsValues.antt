@@ -95,7 +95,7 @@ marks_fit t = free_then (nullable_fits t.nullable t.heap) (flag_fits (codes "utf
 pub small_decimal : (n : ℕ) → n ≤ 9223372036854775807 → nat_le n 9223372036854775807 ≡ true
 small_decimal n le = grind (arith, nat_tests)
 
-abbrev Small : ℤ → Type 0
+abbrev pub Small : ℤ → Type 0
 Small (pos n) = n ≤ 9223372036854775807
 Small (negsuc n) = suc n ≤ 9223372036854775807
 
@@ -103,14 +103,14 @@ decimal_fits : (long : Bool) (n : ℤ) → Small n → Fits loose (decimal_of lo
 decimal_fits long (pos n) s = words_loose (one_word (kind.Number n false long) (small_decimal n s) refl refl)
 decimal_fits long (negsuc n) s = record { at = λ rest u r. (words_loose (one_word (kind.Number (suc n) false long) (small_decimal (suc n) s) refl refl)).at rest u r }
 
-at_most : (a b : ℕ) → nat_le a b ≡ true → a ≤ b
+pub at_most : (a b : ℕ) → nat_le a b ≡ true → a ≤ b
 at_most a b e = grind (arith, nat_tests)
 
-byte_small : (n : ℤ) → is_in range.Byte n ≡ true → Small n
+pub byte_small : (n : ℤ) → is_in range.Byte n ≡ true → Small n
 byte_small (pos n) e = let h = at_most n 127 (and_parts (int_le (negsuc 127) (pos n)) (int_le (pos n) (pos 127)) e).1 in omega arith
 byte_small (negsuc n) e = let h = at_most n 127 (and_parts (int_le (negsuc 127) (negsuc n)) (int_le (negsuc n) (pos 127)) e).0 in omega arith
 
-int_small : (n : ℤ) → is_in range.Int n ≡ true → Small n
+pub int_small : (n : ℤ) → is_in range.Int n ≡ true → Small n
 int_small (pos n) e = let h = at_most n 2147483647 (and_parts (int_le (negsuc 2147483647) (pos n)) (int_le (pos n) (pos 2147483647)) e).1 in omega arith
 int_small (negsuc n) e = let h = at_most n 2147483647 (and_parts (int_le (negsuc 2147483647) (negsuc n)) (int_le (negsuc n) (pos 2147483647)) e).0 in omega arith
 
@@ -124,7 +124,7 @@ differs f n m same e = go (n == m) refl where
 below : (n m : ℕ) → n ≤ m → (n == m) ≡ false → suc n ≤ m
 below n m le e = grind (arith, nat_tests)
 
-long_small : (n : ℤ) → is_in range.Long n ≡ true → int_eq n (negsuc 9223372036854775807) ≡ false → Small n
+pub long_small : (n : ℤ) → is_in range.Long n ≡ true → int_eq n (negsuc 9223372036854775807) ≡ false → Small n
 long_small (pos n) e f = at_most n 9223372036854775807 (and_parts (int_le (negsuc 9223372036854775807) (pos n)) (int_le (pos n) (pos 9223372036854775807)) e).1
 long_small (negsuc n) e f =
     let h = at_most n 9223372036854775807 (and_parts (int_le (negsuc 9223372036854775807) (negsuc n)) (int_le (negsuc n) (pos 9223372036854775807)) e).0 in
@@ -143,7 +143,7 @@ backing_fits backing.Long n es e = long_fits n e
 
 -- Characters and texts.
 
-not_false : (b : Bool) → not b ≡ true → b ≡ false
+pub not_false : (b : Bool) → not b ≡ true → b ≡ false
 not_false true e = cc
 not_false false e = refl
 

@@ -1,5 +1,5 @@
 -- No file of a dump breaks E1, and none has an import.
-use Rattle.std.proofs.Common.{◌≡◌, ℕ, ◌+◌, Bool, true, false, not, cond, if◌then◌else◌, List, [], ◌∷◌, ◌++◌, map, codes, Option, Some, None, slice_get, refl, sym, ap, ◌∙◌, append-nil, append_assoc}
+use Rattle.std.proofs.Common.{◌≡◌, ℕ, ◌+◌, true, false, not, if◌then◌else◌, List, [], ◌∷◌, ◌++◌, map, codes, Option, Some, None, refl, sym, ap, ◌∙◌, append-nil, append_assoc}
 use Rattle.std.proofs.Common.{nat_eq, eq-eqb}
 use Rattle.std.proofs.lemmas.Bool.{and_from}
 use Rattle.std.specs.List.{flat_map, filter}
@@ -15,17 +15,16 @@ use Rattle.aidl_names.specs.Names.{text, parts_of}
 use Rattle.std.proofs.Common.{is_none}
 use Rattle.aidl_names.specs.Resolution.{number_of}
 use Rattle.aidl_names.specs.Sources.{Source}
-use Rattle.aidl_names.specs.Declarations.{Entry, declarations}
+use Rattle.aidl_names.specs.Declarations.{declarations}
 use Rattle.aidl_names.specs.Rules as rules
 use Rattle.aidl_names.specs.Rules.{in_each, wrong_file, is_wrong_file, WrongFile, unknown_imports, UnknownImport, other_imports}
 use Rattle.aidl_schema.specs.declared.schema.Decl.{Decl}
-use Rattle.aidl_schema.specs.Holds.{AllHold, Holds}
+use Rattle.aidl_schema.specs.Holds.{AllHold}
 use Rattle.aidl_schema.specs.Names.{last_part, without_last}
 use Rattle.api_dump.specs.Pieces.{ident}
-use Rattle.api_dump.specs.Dump.{File, file_of, path_of, slashed, dump_text}
+use Rattle.api_dump.specs.Dump.{File, path_of, slashed, dump_text}
 use Rattle.dump_reading.specs.Bare.{bare_dotted, bare_decl, bare_file}
 use Rattle.dump_reading.specs.DumpTrees.{file_tree, package_tree}
-use Rattle.dump_reading.specs.Reading.{IsTop}
 use Rattle.dump_reading.specs.Dumped.{IsSourceOf, AreSources}
 use Rattle.dump_reading.proofs.FitsValues.{has_part, name_parts}
 

@@ -136,10 +136,10 @@ map_append (x ∷ xs) ys = ap (λ zs. swap x ∷ zs) (map_append xs ys)
 part_stays : (i : Ident) → is_identifier i.0 ≡ true → map swap (encode_utf8_all i.0) ≡ i.0
 part_stays i h = let w = (name_spelled i.0 h).1 in ap (map swap) (ascii_same is_word_byte word_ascii i.0 w) ∙ word_stays i.0 w
 
-abbrev with_dots : List Ident → List ℕ
+abbrev pub with_dots : List Ident → List ℕ
 with_dots is = flat_map (λ j. 46 ∷ j.0) is
 
-joined_dots : (i : Ident) (is : List Ident) → dotted (i ∷ is) ≡ i.0 ++ with_dots is
+pub joined_dots : (i : Ident) (is : List Ident) → dotted (i ∷ is) ≡ i.0 ++ with_dots is
 joined_dots i [] = sym (append-nil i.0)
 joined_dots i (j ∷ is) = ap (λ t. i.0 ++ 46 ∷ t) (joined_dots j is)
 
@@ -157,7 +157,7 @@ swapped (i ∷ is) h =
     map_append (encode_utf8_all i.0) (flat_map (λ j. 47 ∷ encode_utf8_all j.0) is) ∙ ap (λ bs. bs ++ map swap (flat_map (λ j. 47 ∷ encode_utf8_all j.0) is)) (part_stays i two.0)
     ∙ ap (λ bs. i.0 ++ bs) (slashes_swapped is two.1) ∙ sym (joined_dots i is)
 
-one_name : (is js : List Ident) → are_identifiers is ≡ true → are_identifiers js ≡ true → path_of is ≡ path_of js → dotted is ≡ dotted js
+pub one_name : (is js : List Ident) → are_identifiers is ≡ true → are_identifiers js ≡ true → path_of is ≡ path_of js → dotted is ≡ dotted js
 one_name is js h k e = sym (swapped is h) ∙ ap (map swap) (append_cancel_right (slashed is) (slashed js) _ e) ∙ swapped js k
 
 module _ (S : List Decl) (H : AllHold S) (A : AreApart name_of S) where

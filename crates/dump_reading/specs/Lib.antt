@@ -1,4 +1,5 @@
 pub mod Bare
+pub mod Declared
 pub mod DumpTrees
 pub mod Dumped
 pub mod Reading

@@ -1,6 +1,16 @@
-ghost use Rattle.std.specs.Prelude.{◌≡◌, [], List, map};
+ghost use Rattle.std.specs.Prelude.{◌≡◌, ◌<◌, ℕ, true, [], List, length, map};
+ghost use Rattle.std.specs.List.{All};
+ghost use Rattle.std.specs.List.Sorted.{IsStrictlyIncreasing};
+ghost use Rattle.aidl_syntax.specs.Walks.{places_of};
+ghost use Rattle.const_eval.specs.Breaches.{breaches};
+ghost use Rattle.const_eval.specs.Items.{items};
+ghost use Rattle.tree_schema.specs.Checked.{AreOutcomes};
+ghost use Rattle.const_eval.specs.Outcomes.{HasOutcome, is_given};
+ghost use Rattle.const_eval.specs.declared.outcome.Outcome.{Outcome};
 ghost use Rattle.aidl_names.specs.Rules.{UnknownImport, WrongFile, in_each, other_imports};
+ghost use Rattle.aidl_names.specs.Refusals.{IsAccepted};
 ghost use Rattle.aidl_names.specs.Sources.{Source};
+ghost use Rattle.dump_reading.specs.Declared.{AreDeclared};
 ghost use Rattle.dump_reading.specs.Dumped.{AreSources};
 ghost use Rattle.std.specs.Cmp.Lexicographic.{slice_cmp};
 ghost use Rattle.std.specs.List.Sorted.{IsStrictlySortedBy};
@@ -37,6 +47,24 @@ pub fn law_dump_tree(schema: &Schema)
 /// What stands for a canonical dump breaks neither E1 nor E3, and has no import.
 pub fn law_dump_imports(schema: &Schema)
     ensures { (files : List Source) → AreSources schema.now.decls (dump_text schema.now.decls) files → (WrongFile files ≡ []) × (UnknownImport files ≡ []) × (in_each other_imports 0 files ≡ []) }
+{
+    law_valid(schema);
+}
+
+/// What stands for a canonical dump has exactly the declarations of the schema, passes no limit on declarations and breaks no
+/// rule of the names stage.
+pub fn law_dump_names(schema: &Schema)
+    ensures declared { (files : List Source) → AreSources schema.now.decls (dump_text schema.now.decls) files → AreDeclared schema.now.decls files }
+    ensures accepted { (files : List Source) → AreSources schema.now.decls (dump_text schema.now.decls) files → IsAccepted files }
+{
+    law_valid(schema);
+}
+
+/// Where the places in each tree ascend, as they do in a tree of tokens, each item of what stands for a canonical dump has a
+/// value, so no rule of the constants stage is broken.
+pub fn law_dump_constants(schema: &Schema)
+    ensures given { (files : List Source) → AreSources schema.now.decls (dump_text schema.now.decls) files → All (λ s. IsStrictlyIncreasing (places_of s.tree)) files → (n : ℕ) (o : Outcome) → n < length (items files) → HasOutcome files n o → is_given o ≡ true }
+    ensures unbroken { (files : List Source) → AreSources schema.now.decls (dump_text schema.now.decls) files → All (λ s. IsStrictlyIncreasing (places_of s.tree)) files → (outcomes : ℕ → Outcome) → AreOutcomes files outcomes → breaches outcomes (items files) ≡ [] }
 {
     law_valid(schema);
 }

@@ -3,4 +3,7 @@
 
 mod laws;
 
-pub use laws::{law_dump_files, law_dump_imports, law_dump_tokens, law_dump_tree};
+pub use laws::{
+    law_dump_constants, law_dump_files, law_dump_imports, law_dump_names, law_dump_tokens,
+    law_dump_tree,
+};

@@ -1,33 +1,15 @@
-use Rattle.std.proofs.Common.{◌≡◌, refl, ℕ, true, [], ◌∷◌, List, Some, slice_get, not, ◌&&◌, ◌||◌, subst, sym, ap, ◌∙◌}
-use Rattle.std.proofs.lemmas.Bool.{and_parts}
+use Rattle.std.proofs.Common.{subst, sym, ap, ◌∙◌}
 use Rattle.aidl_syntax.specs.Tokens.{Tokens}
-use Rattle.aidl_schema.specs.declared.schema.Decl.{Decl}
-use Rattle.aidl_schema.specs.declared.schema.Constant.{Constant}
-use Rattle.aidl_schema.specs.Valid.{has_enums, is_enum, is_enum_whole, has_no_constant}
 use Rattle.api_dump.specs.Dump.{file_pieces}
 use Rattle.dump_reading.proofs.Plain.{tokens_at}
 use Rattle.dump_reading.proofs.Laid.{cut_laid}
 use Rattle.dump_reading.proofs.Texts.{text_plain}
-use Rattle.dump_reading.proofs.Fits.{each_passes}
+use Rattle.dump_reading.proofs.Enums.{enums_bare}
 use Rattle.dump_reading.proofs.FitsDeclarations.{file_laid}
 use Rattle.dump_reading.proofs.TreesDeclarations.{file_made}
 use Rattle.dump_reading.proofs.Made.{kinds_at}
 use Rattle.dump_reading.proofs.Files.{IsFileOf, all_at, all_files}
 use Rattle.dump_reading.proofs.laws.law_dump_tree.Goals as goal
-
-none_left : (cs : List Constant) → has_no_constant cs ≡ true → cs ≡ []
-none_left [] e = refl
-none_left (c ∷ cs) e = cc
-
--- An enum has no constant.
-enum_bare : (d : Decl) → (is_enum_whole d.kind && (not (is_enum d.kind) || has_no_constant d.constants)) ≡ true → is_enum d.kind ≡ true → d.constants ≡ []
-enum_bare d e h =
-    let either = (and_parts (is_enum_whole d.kind) (not (is_enum d.kind) || has_no_constant d.constants) e).1 in
-    none_left d.constants (ap (λ b. not b || has_no_constant d.constants) (sym h) ∙ either)
-
-enums_bare : (S : List Decl) → has_enums S ≡ true → (n : ℕ) (d : Decl) → slice_get S n ≡ Some d → is_enum d.kind ≡ true → d.constants ≡ []
-unfolding has_enums
-enums_bare S e n d there = enum_bare d (each_passes (λ d. is_enum_whole d.kind && (not (is_enum d.kind) || has_no_constant d.constants)) S e n d there)
 
 pub returns : goal.returns
 returns c = λ i f e.
