@@ -1,5 +1,5 @@
 pub mod Acting
 pub mod Checks
+pub mod CourseEnds
 pub mod Opened
-pub mod Running
 pub mod Takes
