@@ -9,8 +9,8 @@ mod freezing;
 mod judging;
 mod opening;
 mod rehashing;
-mod top;
 mod running;
+mod top;
 mod verifying;
 
 pub use top::aidl;

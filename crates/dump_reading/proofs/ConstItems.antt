@@ -6,7 +6,10 @@ use Rattle.std.specs.Cmp.Lexicographic.{slice_cmp}
 use Rattle.std.specs.List.Sorted.{IsStrictlySortedBy}
 use Rattle.std.specs.Str.{bytes_eq}
 use Rattle.std.proofs.lemmas.Bool.{and_parts}
+use Rattle.std.proofs.lemmas.Bool.Decides.{Decides-int_eq}
+use Rattle.aidl_base.specs.Identifiers.{is_identifier}
 use Rattle.aidl_base.specs.declared.name.Ident.{Ident}
+use Rattle.aidl_base.specs.declared.constant.Const.{Const}
 use Rattle.aidl_base.specs.declared.constant.Const.TheOpen.{Const-F}
 use Rattle.aidl_syntax.specs.declared.token.TokenKind.TheVariants as kind
 use Rattle.aidl_syntax.specs.declared.tree.DottedTree.{DottedTree}
@@ -42,10 +45,10 @@ use Rattle.aidl_schema.specs.declared.schema.Kind.{Kind}
 use Rattle.aidl_schema.specs.declared.schema.Kind.TheVariants.{Interface, Parcelable, Union, Enum}
 use Rattle.aidl_schema.specs.Constants.{in_range, is_number_of, is_enumerator, is_enumerator_of}
 use Rattle.aidl_schema.specs.Holds.{AllHold, AreApart}
-use Rattle.aidl_schema.specs.Names.{name_of, enumerators_of}
+use Rattle.aidl_schema.specs.Names.{name_of, enumerators_of, enumerator_names}
 use Rattle.aidl_schema.specs.Valid.{is_enum_whole}
 use Rattle.aidl_schema.specs.Types.{form_of_kind}
-use Rattle.aidl_schema.proofs.Sames.{same_text_refl}
+use Rattle.aidl_schema.proofs.Sames.{same_text_refl, same_text_is}
 use Rattle.api_dump.specs.Pieces.{ident}
 use Rattle.api_dump.specs.Types.{base_name, declared_name}
 use Rattle.api_dump.specs.Declarations.{backing_text}
@@ -57,7 +60,7 @@ use Rattle.dump_reading.specs.DumpTrees.{name_tree, token_tree, backing_tree, ba
 use Rattle.dump_reading.proofs.FitsValues.{has_part, name_parts}
 use Rattle.dump_reading.proofs.Numbers.{walks}
 use Rattle.dump_reading.proofs.Entries.{IsEntry, AreEntries}
-use Rattle.dump_reading.proofs.NamesResolved.{number_is, named_resolved}
+use Rattle.dump_reading.proofs.NamesResolved.{number_is, named_resolved, text_is}
 use Rattle.dump_reading.proofs.ConstLiterals.{Fits, wanted_backing, in_backing, backing_fits}
 use Rattle.dump_reading.proofs.ConstOutcomes.{IsPlain, IsNaming, target_last}
 use Rattle.dump_reading.proofs.ConstShapes.{is_enum_kind, body_bare, enum_number}
@@ -80,7 +83,7 @@ init_backing : (b : Backing) (i : Init) → bare_init i ≡ single (token_tree (
 init_backing b (single x) e = let is : bare_expr x ≡ token_tree (kind.Str (backing_text b)) = cc in token_backing b x is
 init_backing b (braces o xs) e = cc
 
-type_named : (o : Option NameTree) → map_option bare_name o ≡ Some (name_tree (ident (codes "type"))) → is_type_name o ≡ true
+pub type_named : (o : Option NameTree) → map_option bare_name o ≡ Some (name_tree (ident (codes "type"))) → is_type_name o ≡ true
 unfolding lib.Utf8.encode
 type_named None e = cc
 type_named (Some n) e = let is : bare_name n ≡ name_tree (ident (codes "type")) = cc in ap (λ x. is_type_name (Some x)) is
@@ -99,7 +102,7 @@ annots_backing b (a ∷ annots) more e =
     let called_so : is_backing a ≡ true = ap is_backing is in
     ap (λ t. backing_by (cond t (Some a) (find is_backing annots))) called_so ∙ params_backing b a.params (ap (λ x. x.params) is)
 
-annots_bare : (t : tree.Decl) → map bare_annot (annots_of t) ≡ annots_of (bare_decl t)
+pub annots_bare : (t : tree.Decl) → map bare_annot (annots_of t) ≡ annots_of (bare_decl t)
 annots_bare (decl o annots n b) = refl
 
 -- What stands first and passes.
@@ -110,6 +113,13 @@ found_first p (x ∷ xs) h = by (p x) h (found_first p xs) where
   by : (b : Bool) → (b || list_any p xs) ≡ true → (list_any p xs ≡ true → (y : _) × (find p xs ≡ Some y)) → (y : _) × (cond b (Some x) (find p xs) ≡ Some y)
   by true h later = (x, refl)
   by false h later = later h
+
+found_passes : {X : Type 0} (p : X → Bool) (xs : List X) (x : X) → find p xs ≡ Some x → p x ≡ true
+found_passes p [] x h = cc
+found_passes p (y ∷ ys) x h = by (p y) refl h (found_passes p ys x) where
+  by : (b : Bool) → p y ≡ b → cond b (Some y) (find p ys) ≡ Some x → (find p ys ≡ Some x → p x ≡ true) → p x ≡ true
+  by true e h later = let is : y ≡ x = cc in ap p (sym is) ∙ e
+  by false e h later = later h
 
 found_place : {X : Type 0} (p : X → Bool) (xs : List X) (x : X) → find p xs ≡ Some x → (i : ℕ) × (slice_get xs i ≡ Some x)
 found_place p [] x h = cc
@@ -125,21 +135,36 @@ in_backing_is backing.Byte es z h = h
 in_backing_is backing.Int es z h = h
 in_backing_is backing.Long es z h = h
 
--- a plain item with a number of the backing
-abbrev pub IsEnumerated : Backing → Item → Type 0
-IsEnumerated b x = (p : IsPlain x) × (z : ℤ) × (p.level ≡ Const-F.Number z) × (x.wanted ≡ wanted_backing b)
+-- a plain item with this number of the backing
+abbrev pub IsEnumerated : Backing → ℤ → Item → Type 0
+IsEnumerated b z x = (p : IsPlain x) × (p.level ≡ Const-F.Number z) × (x.wanted ≡ wanted_backing b)
 
-one_plain : (file scope : ℕ) (w : Wanted) (b : Backing) → w ≡ wanted_backing b → (before : Option ℕ) (y : tree.Enumerator) (x : Enumerator) → bare_enumerator y ≡ enumerator_tree b x → in_backing b x.value ≡ true → IsEnumerated b (item_of file scope w before y)
+-- the items of enumerators
+abbrev pub AreEnumerated : Backing → List Enumerator → List Item → Type 0
+AreEnumerated b [] [] = Unit {0}
+AreEnumerated b [] (i ∷ is) = ⊥
+AreEnumerated b (x ∷ xs) [] = ⊥
+AreEnumerated b (x ∷ xs) (i ∷ is) = IsEnumerated b x.value i × AreEnumerated b xs is
+
+enumerated_at : (b : Backing) (xs : List Enumerator) (is : List Item) → AreEnumerated b xs is → (k : ℕ) (i : Item) → slice_get is k ≡ Some i → (x : Enumerator) × (slice_get xs k ≡ Some x) × IsEnumerated b x.value i
+enumerated_at b [] [] h k i at = cc
+enumerated_at b [] (j ∷ is) h k i at = absurd h
+enumerated_at b (x ∷ xs) [] h k i at = absurd h
+enumerated_at b (x ∷ xs) (j ∷ is) h zero i at = let same : j ≡ i = cc in (x, refl, subst (IsEnumerated b x.value) same h.0)
+enumerated_at b (x ∷ xs) (j ∷ is) h (suc k) i at = enumerated_at b xs is h.1 k i at
+
+one_plain : (file scope : ℕ) (w : Wanted) (b : Backing) → w ≡ wanted_backing b → (before : Option ℕ) (y : tree.Enumerator) (x : Enumerator) → bare_enumerator y ≡ enumerator_tree b x → in_backing b x.value ≡ true → IsEnumerated b x.value (item_of file scope w before y)
 one_plain file scope w b same before y x e r = by y.value refl (ap (λ z. z.value) e) where
-  by : (o : Option Expr) → y.value ≡ o → map_option bare_expr o ≡ Some (backing_tree b x.value) → IsEnumerated b (item_of file scope w before y)
+  by : (o : Option Expr) → y.value ≡ o → map_option bare_expr o ≡ Some (backing_tree b x.value) → IsEnumerated b x.value (item_of file scope w before y)
   by None is h = cc
   by (Some v) is h =
       let bare : bare_expr v ≡ backing_tree b x.value = cc in
-      (record { judged = refl; expr = v; is = ap (written_as before) is; level = Const-F.Number x.value; fits = subst (λ u. Fits u v (Const-F.Number x.value)) (sym same) (backing_fits b x.value r v bare) }, x.value, refl, same)
+      (record { judged = refl; expr = v; is = ap (written_as before) is; level = Const-F.Number x.value; fits = subst (λ u. Fits u v (Const-F.Number x.value)) (sym same) (backing_fits b x.value r v bare) }, refl, same)
 
 all_plain : (file scope : ℕ) (w : Wanted) (b : Backing) → w ≡ wanted_backing b → (before : Option ℕ) (ys : List tree.Enumerator) (xs : List Enumerator) → map bare_enumerator ys ≡ map (λ x. enumerator_tree b x) xs
-    → list_all (λ x. in_range (form_of_kind (Enum b [])) x.value) xs ≡ true → Each (IsEnumerated b) (of_enumerators file scope w before ys)
-all_plain file scope w b same before [] xs e h = tt
+    → list_all (λ x. in_range (form_of_kind (Enum b [])) x.value) xs ≡ true → AreEnumerated b xs (of_enumerators file scope w before ys)
+all_plain file scope w b same before [] [] e h = tt
+all_plain file scope w b same before [] (x ∷ xs) e h = cc
 all_plain file scope w b same before (y ∷ ys) [] e h = cc
 all_plain file scope w b same before (y ∷ ys) (x ∷ xs) e h =
     let two = and_parts (in_range (form_of_kind (Enum b [])) x.value) (list_all (λ x. in_range (form_of_kind (Enum b [])) x.value) xs) h in
@@ -180,8 +205,22 @@ enumerator_of_place [] i m e = cc
 enumerator_of_place (y ∷ ys) zero m e = (y, refl, let is : enumerator y ≡ m = cc in sym is)
 enumerator_of_place (y ∷ ys) (suc i) m e = enumerator_of_place ys i m e
 
+-- the name of one that is written
+name_at : (b : Backing) (ys : List tree.Enumerator) (xs : List Enumerator) → map bare_enumerator ys ≡ map (λ x. enumerator_tree b x) xs → (i : ℕ) (y : tree.Enumerator) (x : Enumerator) → slice_get ys i ≡ Some y → slice_get xs i ≡ Some x → y.name.name ≡ x.name
+name_at b [] xs e i y x at there = cc
+name_at b (z ∷ ys) [] e i y x at there = cc
+name_at b (z ∷ ys) (w ∷ xs) e zero y x at there =
+    let one : z ≡ y = cc in let two : w ≡ x = cc in let here : bare_enumerator z ≡ enumerator_tree b w = cc in
+    ap (λ u. u.name.name) (sym one) ∙ ap (λ u. u.name.name) here ∙ ap (λ u. u.name) two
+name_at b (z ∷ ys) (w ∷ xs) e (suc i) y x at there = let rest : map bare_enumerator ys ≡ map (λ x. enumerator_tree b x) xs = cc in name_at b ys xs rest i y x at there
+
+named_at : (xs : List Enumerator) → list_all is_identifier (map (λ x. x.name.0) xs) ≡ true → (i : ℕ) (x : Enumerator) → slice_get xs i ≡ Some x → is_identifier x.name.0 ≡ true
+named_at [] h i x at = cc
+named_at (y ∷ xs) h zero x at = let is : y ≡ x = cc in ap (λ z. is_identifier z.name.0) (sym is) ∙ (and_parts (is_identifier y.name.0) (list_all is_identifier (map (λ x. x.name.0) xs)) h).0
+named_at (y ∷ xs) h (suc i) x at = named_at xs (and_parts (is_identifier y.name.0) (list_all is_identifier (map (λ x. x.name.0) xs)) h).1 i x at
+
 -- a body of an enum
-enum_body : (S : List Decl) (b : Backing) (xs : List Enumerator) (ms : tree.Members) (t : tree.Body) → bare_body t ≡ body_tree S (Enum b xs) ms → (ys : List tree.Enumerator) × (t ≡ enum ys) × (map bare_enumerator ys ≡ map (λ x. enumerator_tree b x) xs)
+pub enum_body : (S : List Decl) (b : Backing) (xs : List Enumerator) (ms : tree.Members) (t : tree.Body) → bare_body t ≡ body_tree S (Enum b xs) ms → (ys : List tree.Enumerator) × (t ≡ enum ys) × (map bare_enumerator ys ≡ map (λ x. enumerator_tree b x) xs)
 enum_body S b xs ms (enum ys) e = (ys, refl, cc)
 enum_body S b xs ms (parcelable ns) e = cc
 enum_body S b xs ms (union ns) e = cc
@@ -212,16 +251,16 @@ name_expr (group o x) is e = cc
 name_expr (unary o s x) is e = cc
 name_expr (binary o s x y) is e = cc
 
-some_is : {X : Type 0} (x y : X) → Some x ≡ Some y → x ≡ y
+pub some_is : {X : Type 0} (x y : X) → Some x ≡ Some y → x ≡ y
 some_is x y e = cc
 
--- it is a literal, or names one
-abbrev pub Good : List Source → Item → Type 0
-Good files x = IsPlain x ⊎ IsNaming files x
+-- it is a literal, or names one, and has this value
+abbrev pub Good : List Source → Const-F Const → Item → Type 0
+Good files l x = ((p : IsPlain x) × (p.level ≡ l)) ⊎ ((q : IsNaming files x) × (Const-F.Number q.numbered.number ≡ l))
 
 module _ (S : List Decl) (H : AllHold S) (sorted : IsStrictlySortedBy (slice_cmp nat_cmp) (map name_of S)) (A : AreApart name_of S) (files : List Source) (are : AreEntries S files (walks S) (declarations files)) (once : Each HasPlacesOnce files) where
   -- the entry of an enum
-  enum_entry : (w : ℕ) (e : Entry) (h : IsEntry S files (walks S) w e) (b : Backing) (xs : List Enumerator) → h.declared.kind ≡ Enum b xs
+  pub enum_entry : (w : ℕ) (e : Entry) (h : IsEntry S files (walks S) w e) (b : Backing) (xs : List Enumerator) → h.declared.kind ≡ Enum b xs
       → (ys : List tree.Enumerator) × (body e.tree ≡ enum ys) × (map bare_enumerator ys ≡ map (λ x. enumerator_tree b x) xs) × (backing_of e.tree ≡ wanted_backing b)
   enum_entry w e h b xs is =
       let last = nested_trees S h.levels w in
@@ -230,16 +269,16 @@ module _ (S : List Decl) (H : AllHold S) (sorted : IsStrictlySortedBy (slice_cmp
       let annots = annots_bare e.tree ∙ ap annots_of h.written ∙ ap (λ k. backing_trees k ++ (flag_trees (codes "FixedSize") h.declared.fixed ++ flag_trees (codes "VintfStability") h.declared.vintf)) is in
       (r.0, r.1, r.2, annots_backing b (annots_of e.tree) _ annots)
 
-  pub enum_items : (w j : ℕ) (e : Entry) (h : IsEntry S files (walks S) w e) (b : Backing) (xs : List Enumerator) → h.declared.kind ≡ Enum b xs → Each (IsEnumerated b) (of_entry files j e)
+  pub enum_items : (w j : ℕ) (e : Entry) (h : IsEntry S files (walks S) w e) (b : Backing) (xs : List Enumerator) → h.declared.kind ≡ Enum b xs → AreEnumerated b xs (of_entry files j e)
   enum_items w j e h b xs is =
       let r = enum_entry w e h b xs is in
       let range = entries_inside b xs (ap is_enum_whole (sym is) ∙ (H w h.declared h.at).enum) in
-      subst (λ t. Each (IsEnumerated b) (of_body files e.file j (backing_of e.tree) t)) (sym r.1)
+      subst (λ t. AreEnumerated b xs (of_body files e.file j (backing_of e.tree) t)) (sym r.1)
       (all_plain e.file j (backing_of e.tree) b r.3 None r.0 xs r.2 (ap (λ f. list_all (λ x. in_range f x.value) xs) (same_range b [] xs) ∙ range))
 
   -- an expression that names an enumerator
   pub named_good : (file scope : ℕ) (s : Source) → slice_get files file ≡ Some s → (n : ℕ) (z : ℤ) → is_number_of S (base.Named n) z ≡ true → (r : Resolved) → resolved files file scope (base_name S (base.Named n)) ≡ Some r
-      → (u : Bool) → u ≡ false → (e : Expr) → bare_expr e ≡ number_tree S (base.Named n) z → IsNaming files (of_expression file scope (wanted_of (declarations files) r) u e)
+      → (u : Bool) → u ≡ false → (e : Expr) → bare_expr e ≡ number_tree S (base.Named n) z → (q : IsNaming files (of_expression file scope (wanted_of (declarations files) r) u e)) × (q.numbered.number ≡ z)
   named_good file scope s in_file n z h r known u free e bare =
       let es = declarations files in
       let o = enumerator_decl (slice_get S n) z h in let d = o.0 in let at = o.1 in
@@ -266,24 +305,35 @@ module _ (S : List Decl) (H : AllHold S) (sorted : IsStrictlySortedBy (slice_cmp
       ∙ ap (λ q. elim q as (λ _. Option Target) [ None ↦ None | Some v ↦ target_if v.file num.0 (called v x0.name) ]) num.4 ∙ ap (target_if c.file num.0) called_is in
       let it = item_at c.file num.0 (backing_of c.tree) None en.0 place.0 y.0 y.1 in
       let there : slice_get (of_entry files num.0 c) place.0 ≡ Some it.0 = ap (λ t. slice_get (of_body files c.file num.0 (backing_of c.tree) t) place.0) en.1 ∙ it.1 in
-      let plain = each-at (IsEnumerated b) (of_entry files num.0 c) (enum_items n num.0 c c_is b xs enum_so) place.0 it.0 there in
+      let row = enumerated_at b xs (of_entry files num.0 c) (enum_items n num.0 c c_is b xs enum_so) place.0 it.0 there in
+      let x1 = row.0 in let plain = row.2 in
       let stands = each-at (Stands files) (of_entry files num.0 c) (items-stand files once num.0 c num.4) place.0 it.0 there in
       let r_is : r ≡ Declared num.0 = some_is r (Declared num.0) (sym known ∙ ap (λ q. resolved files file scope (declared_name q)) at ∙ known_here) in
-      record {
-        judged = free;
-        offset = ne.0;
-        dotted = ne.1;
-        is = ap written ne.2;
-        file = c.file;
-        enum = num.0;
-        enumerator = y.0;
-        means = target_is;
-        wants = ap (wanted_of es) r_is ∙ ap (λ t. if t then wanted.Enum num.0 else wanted.Nothing) ((enum_number S H sorted A files are n d at).1 ∙ ap is_enum_kind k.2);
-        place = stands.0;
-        found = ap (λ (j : ℕ). items.number_at (items.items files) j (place_of y.0)) (sym it.2) ∙ ap (items.number_at (items.items files) it.0.file) (sym it.3) ∙ stands.1;
-        item = it.0;
-        numbered = record { there = stands.2; plain = plain.0; backing = b; wants = plain.3; number = plain.1; is = plain.2 };
-      } where
+      let written_name : y.0.name.name ≡ x1.name = name_at b en.0 xs en.2 place.0 y.0 x1 y.1 row.1 in
+      let ids : list_all is_identifier (map (λ w. w.name.0) xs) ≡ true = ap (λ q. list_all is_identifier (enumerator_names q)) (sym k.2) ∙ (H n d at).enumerator_identifiers in
+      let called_so : is_called (text x0.name) (enumerator y.0) ≡ true = ap (is_called (text x0.name)) (sym y.2) ∙ found_passes (is_called (text x0.name)) (map enumerator en.0) first.0 first.1 in
+      let texts : text x1.name ≡ text x0.name = ap text (sym written_name) ∙ same_text_is (text y.0.name.name) (text x0.name) called_so in
+      let names : x1.name.0 ≡ x0.name.0 = sym (text_is x1.name (named_at xs ids place.0 x1 row.1)) ∙ texts ∙ text_is x0.name (named_at xs ids p.0 x0 p.1) in
+      let places : place.0 ≡ p.0 = (H n d at).enumerators place.0 p.0 x1 x0 (ap (λ q. slice_get (enumerators_of q) place.0) k.2 ∙ row.1) (ap (λ q. slice_get (enumerators_of q) p.0) k.2 ∙ p.1) names in
+      let one_is : x1 ≡ x0 = some_is x1 x0 (sym row.1 ∙ ap (λ (j : ℕ). slice_get xs j) places ∙ p.1) in
+      let number_so : x1.value ≡ z = ap (λ w. w.value) one_is ∙ (Decides-int_eq x0.value z).0 (found_passes (λ x. int_eq x.value z) xs x0 f.1) in (
+        record {
+          judged = free;
+          offset = ne.0;
+          dotted = ne.1;
+          is = ap written ne.2;
+          file = c.file;
+          enum = num.0;
+          enumerator = y.0;
+          means = target_is;
+          wants = ap (wanted_of es) r_is ∙ ap (λ t. if t then wanted.Enum num.0 else wanted.Nothing) ((enum_number S H sorted A files are n d at).1 ∙ ap is_enum_kind k.2);
+          place = stands.0;
+          found = ap (λ (j : ℕ). items.number_at (items.items files) j (place_of y.0)) (sym it.2) ∙ ap (items.number_at (items.items files) it.0.file) (sym it.3) ∙ stands.1;
+          item = it.0;
+          numbered = record { there = stands.2; plain = plain.0; backing = b; wants = plain.2; number = x1.value; is = plain.1 };
+        },
+        number_so,
+      ) where
         of_parts : (x : Item) (is : List Ident) (i : Ident) → has_part is ≡ true → target_by files x (is ++ i ∷ []) ≡ member_of (declarations files) i (resolved files x.file x.scope is)
         of_parts x [] i h = cc
         of_parts x (a ∷ more) i h = target_last files x a more i

@@ -113,7 +113,7 @@ module _ (files : List Source) where
   itself : (n : ℕ) → (n == n) ≡ true
   itself n = grind (arith, nat_tests)
 
-  pub naming_outcome : (n : ℕ) (x : Item) → slice_get (items files) n ≡ Some x → IsNaming files x → (c : Const) × HasOutcome files n (Given c)
+  pub naming_outcome : (n : ℕ) (x : Item) → slice_get (items files) n ≡ Some x → (p : IsNaming files x) → HasOutcome files n (Given (constant.Number p.numbered.number))
   naming_outcome n x at p =
       let m = p.place in let y = p.item in let q = p.numbered in
       let o = plain_outcome m y q.there q.plain in
@@ -131,12 +131,10 @@ module _ (files : List Source) where
       let value : judgement_of files values x x.value ≡ Ok (constant.Number q.number) =
       ap (judgement_of files values x) p.is ∙ ap (λ r. r >>= fitted x.wanted (named_enum files x e)) operand_is
       ∙ ap (λ w. fitted w (named_enum files x e) (operand.number back.0 q.number)) p.wants ∙ ap (λ t. fitted (wanted.Enum p.enum) t (operand.number back.0 q.number)) named
-      ∙ ap (λ b. if b then Ok (constant.Number q.number) else Err fault.Mismatch) (itself p.enum) in (
-        constant.Number q.number,
-        subst (λ r. HasOutcome files n (outcome_of r)) value
-            (judged n x at p.judged unknown (λ cycle. no_round cycle.0 cycle.1 one none) values
-            (λ k h. subst (λ (j : ℕ). HasOutcome files j (Given o.0)) (sym (the_one m k (subst (λ xs. Contains xs k) one h))) o.1)),
-      ) where
+      ∙ ap (λ b. if b then Ok (constant.Number q.number) else Err fault.Mismatch) (itself p.enum) in
+      subst (λ r. HasOutcome files n (outcome_of r)) value
+      (judged n x at p.judged unknown (λ cycle. no_round cycle.0 cycle.1 one none) values
+      (λ k h. subst (λ (j : ℕ). HasOutcome files j (Given o.0)) (sym (the_one m k (subst (λ xs. Contains xs k) one h))) o.1)) where
         apart : (m : ℕ) → next files n ≡ m ∷ [] → next files m ≡ [] → n ≡ m → ⊥
         apart m one none is = let r : m ∷ [] ≡ [] = sym one ∙ ap (next files) is ∙ none in cc
 
@@ -148,6 +146,9 @@ module _ (files : List Source) where
 
   pub given_by : (n : ℕ) (o : Outcome) (c : Const) → HasOutcome files n o → HasOutcome files n (Given c) → is_given o ≡ true
   given_by n o c h k = ap is_given (one_outcome files n o (Given c) h k)
+
+  pub outcome_is : (n : ℕ) (o : Outcome) (c : Const) → HasOutcome files n o → HasOutcome files n (Given c) → o ≡ Given c
+  outcome_is n o c h k = one_outcome files n o (Given c) h k
 
   -- A name of several parts is a member of what the others mean.
 

@@ -69,7 +69,7 @@ module _ (S : List Decl) (H : AllHold S) (sorted : IsStrictlySortedBy (slice_cmp
     around_is (Some j) None h = absurd h
     around_is (Some j) (Some m) h = name_there j m h
 
-    declaration : (n : ℕ) (e : Entry) → IsEntry S files (walks S) n e → IsDeclaration S files n e
+    pub declaration : (n : ℕ) (e : Entry) → IsEntry S files (walks S) n e → IsDeclaration S files n e
     declaration n e h = record {
       declared = h.declared;
       at = h.at;

@@ -202,6 +202,9 @@ module _ (p : Profile) (A B : List Decl) (trace : Bool) (k : ℕ) (whole : Cours
   pub next_ended : (exit : ℕ) → RanCourse (line_course p A B trace k (script A B line) left) now later exit → RanCourse whole start later exit
   next_ended exit ran = went_ended whole (line_course p A B trace k (script A B line) left) start now so_far later exit ran
 
+pub still_faithful : (before now : Bool) → now ≡ before → before ≡ true → now ≡ true
+still_faithful before now nature faithful = nature ∙ faithful
+
 -- No line is left.
 pub lines_ended : (p : Profile) (A B : List Decl) (trace : Bool) (k : ℕ) (whole : Course) (rest : List ℕ) (start now : Seen) → rest ≡ []
     → Went whole (lines_course p A B trace k (lines_of rest)) start now → RanCourse whole start now 0

@@ -7,7 +7,7 @@ use Rattle.tool_frame.specs.Course.{Course}
 use Rattle.tool_frame.specs.Seen.{Seen}
 use Rattle.tool_frame.specs.steps.Courses.{seen_alone}
 use Rattle.tool_frame.proofs.Courses.{went_none}
-use Rattle.run_answers.proofs.Lines.{empty_list, lines_ended, next_ended, next_went}
+use Rattle.run_answers.proofs.Lines.{empty_list, lines_ended, next_ended, next_went, still_faithful}
 use Rattle.run_answers.proofs.Projecting.{lines_added, next_added}
 use Rattle.run_answers.proofs.running.run_lines.Goals as goal
 
@@ -77,7 +77,7 @@ returns-then-is_empty-clause-projected g c =
         (g.K.Sink.told c.run_next.new.sink) (empty_list c.cut.result.1.now c.is_empty-in-loop-rest.result c.is_empty-in-loop-rest.ensures c.if-is_empty.true)
         (next_added A B c.loop-rest.number c.loop-rest.rest.now c.cut.result.0.now c.cut.result.1.now (projected_text A B 1 (lines_of c.args.calls.now)) (g.K.Sink.told c.args.sink.now)
           (g.K.Sink.told c.loop-rest.sink) c.cut.ensures.lines (c.loop-rest.invariant.completes one faithful quiet) (g.K.Sink.told c.run_next.new.sink)
-          (c.in_default.ensures.projected one (c.loop-rest.invariant.went.link_nature ∙ faithful) quiet))
+          (c.in_default.ensures.projected one (still_faithful (g.L.Link.is_faithful c.args.link.now) (g.L.Link.is_faithful c.loop-rest.link) c.loop-rest.invariant.went.link_nature faithful) quiet))
 
 pub loop-rest-preserved : goal.loop-rest-preserved
 loop-rest-preserved g c =
@@ -93,7 +93,7 @@ loop-rest-preserved g c =
       completes = λ one faithful quiet.
           (next_added A B c.loop-rest.number c.loop-rest.rest.now c.cut.result.0.now c.cut.result.1.now (projected_text A B 1 (lines_of c.args.calls.now)) (g.K.Sink.told c.args.sink.now)
           (g.K.Sink.told c.loop-rest.sink) c.cut.ensures.lines (c.loop-rest.invariant.completes one faithful quiet) (g.K.Sink.told c.run_next.new.sink)
-          (c.in_default.ensures.projected one (c.loop-rest.invariant.went.link_nature ∙ faithful) quiet));
+          (c.in_default.ensures.projected one (still_faithful (g.L.Link.is_faithful c.args.link.now) (g.L.Link.is_faithful c.loop-rest.link) c.loop-rest.invariant.went.link_nature faithful) quiet));
       few = omega arith;
     }
 
