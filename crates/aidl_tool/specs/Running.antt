@@ -34,10 +34,14 @@ abbrev pub TakesChecked : List ℕ → List SourceFile → (List Decl → Takes)
 TakesChecked root files next course =
     ((answer : Answer) × IsFaultAnswer root files answer × (course ≡ at_once answer)) ⊎ ((S : List Decl) × IsSchemaOf files S × next S course)
 
+-- the text of a calls file, or the limit that it passes
+abbrev pub calls_within : Found (List ℕ) → Found (List ℕ)
+calls_within held = held >>= within_lines
+
 -- once all is loaded: the limits of CALLS; all else of CLIENT, and of SERVER; then the judge and the lines
 abbrev pub RunsLoaded : Profile → Bool → List ℕ → List SourceFile → List ℕ → List SourceFile → Found (List ℕ) → Takes
 RunsLoaded p trace client olds server news held =
-    TakesThen (held >>= within_lines) (λ text. TakesChecked client olds (λ A. TakesChecked server news (λ B course. course ≡ run_course p A B trace text)))
+    TakesThen (calls_within held) (λ text. TakesChecked client olds (λ A. TakesChecked server news (λ B course. course ≡ run_course p A B trace text)))
 
 -- `run [--trace] [--lenient] CLIENT SERVER CALLS`: `no file`; the limits of CLIENT's files, and of SERVER's; then all else
 abbrev pub RunTakes : Profile → Bool → List ℕ → List ℕ → List ℕ → Files → Takes

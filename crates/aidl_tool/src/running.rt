@@ -1,11 +1,9 @@
 ghost use Rattle.std.specs.Prelude.{◌≡◌, IfOk};
-ghost use Rattle.aidl_base.specs.Results.{◌>>=◌};
 ghost use Rattle.aidl_outside.specs.Causes.{StoreCause};
 ghost use Rattle.aidl_outside.specs.Told.{Tells};
-ghost use Rattle.aidl_tool.specs.Running.{RunTakes, TakesChecked, TakesOver, TakesThen};
+ghost use Rattle.aidl_tool.specs.Running.{RunTakes, TakesChecked, TakesOver, calls_within};
 ghost use Rattle.aidl_tool.specs.steps.Loading.{LoadsFor, RanSome, TakesEarly, TakesLoaded};
 ghost use Rattle.aidl_tool.specs.Running as meant;
-ghost use Rattle.run_answers.specs.CallLines.{within_lines};
 ghost use Rattle.run_answers.specs.Running.{run_course};
 ghost use Rattle.tool_frame.specs.Ended.{Ended};
 ghost use Rattle.tool_frame.specs.Meaning.{carries_by};
@@ -194,7 +192,7 @@ fn run_loaded<K: Sink, L: Link>(
 
 // The text of a calls file that passes no limit.
 fn calls_in(alloc: Global, text: Result<Vec<u8>, Limit>) -> Result<Vec<u8>, Early>
-    ensures found { Finds (λ v. v.items) result (held text >>= within_lines) }
+    ensures found { Finds (λ v. v.items) result (calls_within (held text)) }
 {
     let text = text_of(alloc, text)?;
     lines_within(alloc, text)

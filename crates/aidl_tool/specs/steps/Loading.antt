@@ -1,5 +1,5 @@
 -- What `run` has loaded, and what it may then do.
-use Rattle.std.specs.Prelude.{◌≡◌, ℕ, ◌×◌, ◌⊎◌, Bool, List, Result, Ok, Err}
+use Rattle.std.specs.Prelude.{◌≡◌, ℕ, ◌⊎◌, Bool, List, Result, Ok, Err}
 use Rattle.aidl_base.specs.declared.profile.Profile.{Profile}
 use Rattle.aidl_tool.specs.declared.running.Loaded.{Loaded}
 use Rattle.aidl_tool.specs.Running.{Takes, RunsLoaded}
