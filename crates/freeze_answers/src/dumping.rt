@@ -54,11 +54,7 @@ fn count_line(alloc: Global, count: usize) -> Result<String, OutOfMemory>
 }
 
 // The writes of some files below a folder.
-fn file_writes(
-    alloc: Global,
-    out: &str,
-    files: Row<SourceFile>,
-) -> Result<Vec<Write>, OutOfMemory>
+fn file_writes(alloc: Global, out: &str, files: Row<SourceFile>) -> Result<Vec<Write>, OutOfMemory>
     ensures { IfOk result (λ writes. map write_seen writes.items ≡ map (meant.file_write out.now) (map seen files)) }
 {
     let mut writes = Vec::new(alloc);

@@ -1,5 +1,5 @@
 -- A text is cut at its first newline.
-use Rattle.std.proofs.Common.{◌≡◌, ℕ, zero, suc, ◌+◌, ◌-◌, ◌==◌, Bool, true, false, cond, List, [], ◌∷◌, length, take, drop, Option, Some, None, refl, sym, ap, ◌∙◌, add-one, arith, length-drop}
+use Rattle.std.proofs.Common.{◌≡◌, ℕ, zero, suc, ◌+◌, ◌-◌, ◌==◌, Bool, true, false, cond, List, [], ◌∷◌, length, take, drop, Some, None, refl, sym, ap, ◌∙◌, add-one, arith, length-drop}
 use Rattle.std.specs.Prelude.{◌≢◌}
 use Rattle.std.specs.List.{position, position_from}
 use Rattle.std.proofs.Math.Seq.{drop-length}

@@ -18,14 +18,13 @@ use Rattle.call_scripts.specs.Calls.{CallData}
 use Rattle.call_scripts.specs.Script.{script}
 use Rattle.run_answers.specs.CallLines.{lines_of}
 use Rattle.run_answers.specs.Running.{call_piece, line_course, lines_course, piece, reply_course, reply_parcel}
-use Rattle.run_answers.specs.steps.Steps.{IsCut, PutsText, Steps}
+use Rattle.run_answers.specs.steps.Steps.{PutsText, Steps}
 use Rattle.tool_frame.specs.Course.{Course, ends, prints, due_after, answer_after}
 use Rattle.tool_frame.specs.declared.verdict.Verdict.TheVariants.{Done}
 use Rattle.tool_frame.specs.Meaning.{AreDue}
 use Rattle.tool_frame.specs.Parcel.{Parcel, parcel_of}
 use Rattle.tool_frame.specs.Seen.{Seen}
-use Rattle.tool_frame.specs.Verdict.{IsVerdict}
-use Rattle.tool_frame.specs.steps.Courses.{due_in, AreFaithful, CarriedBy, ComesTo, RanCourse, StopsCourse, Went}
+use Rattle.tool_frame.specs.steps.Courses.{due_in, AreFaithful, CarriedBy, ComesTo, RanCourse, Went}
 use Rattle.tool_frame.proofs.Courses.{comes_on, due_front, nothing_told, put_cut, put_went, ran_end, went_ended, went_on}
 use Rattle.tool_frame.proofs.Endings.{not_verdict}
 use Rattle.wire_model.specs.Calls.{AnswerData}
@@ -134,12 +133,14 @@ module _ (p : Profile) (A B : List Decl) (trace : Bool) (k : ℕ) (next : Course
     carried_some : (m : Judged CallData) (fault : RunFault) → m ≡ meant → Stops p A B m before.is_faithful before.log log fault
         → (made : List Carried) × CarriedBy (line_course p A B trace k m next) before after_line made
     carried_some (Err why) fault same h = ([], record { log = h.0; are_due = tt; faithful = λ f i entry none. absurd (omega arith) })
-    carried_some (Ok c) fault same h =
-        (h.2, record {
-          log = h.5;
-          are_due = due_front (due_in (line_course p A B trace k (Ok c) next)) [] h.2 h.3 (subst (λ es. AreDue (due_in (line_course p A B trace k (Ok c) next)) [] es) h.4 (call_comes c h.0 h.1).are_due);
-          faithful = h.6;
-        })
+    carried_some (Ok c) fault same h = (
+      h.2,
+      record {
+        log = h.5;
+        are_due = due_front (due_in (line_course p A B trace k (Ok c) next)) [] h.2 h.3 (subst (λ es. AreDue (due_in (line_course p A B trace k (Ok c) next)) [] es) h.4 (call_comes c h.0 h.1).are_due);
+        faithful = h.6;
+      },
+    )
 
     -- Memory was wanted.
     pub line_memory : Stops p A B meant before.is_faithful before.log log OutOfMemory → faults ≡ before.link_faults → RanCourse (line_course p A B trace k meant next) before after_line 5

@@ -1,5 +1,5 @@
 -- What is put of a line is what the line is projected to.
-use Rattle.std.proofs.Common.{◌≡◌, ℕ, ◌+◌, Bool, true, false, List, [], ◌∷◌, ◌++◌, Option, Some, None, option_map, Result, Ok, Err, IfOk, refl, sym, ap, ◌∙◌, subst, arith, inl, inr}
+use Rattle.std.proofs.Common.{◌≡◌, ℕ, ◌+◌, Bool, true, false, List, [], ◌∷◌, Option, Some, None, option_map, Result, Ok, Err, IfOk, refl, sym, ap, ◌∙◌, subst, arith, inl, inr}
 use Rattle.std.specs.Prelude.{◌≢◌, ◌⊎◌, ⊤, IfErr}
 use Rattle.aidl_outside.specs.declared.link.Carried.{Carried}
 use Rattle.aidl_outside.specs.Told.{Adds}
@@ -9,7 +9,6 @@ use Rattle.call_answers.specs.Refusal.{Judged}
 use Rattle.call_runner.specs.declared.line.LineOut.{LineOut}
 use Rattle.call_runner.specs.declared.line.LineOut.TheVariants as out
 use Rattle.call_runner.specs.declared.line.Methods.{Methods}
-use Rattle.call_runner.specs.Lines.{refused}
 use Rattle.call_runner.specs.Runs.{AreNamed, IsTyped, NamesOf, line_data, projected}
 use Rattle.call_scripts.specs.Calls.{CallData, TargetData}
 use Rattle.call_scripts.specs.Script.{script}
@@ -44,7 +43,7 @@ methods_named c m (Some j) (Some t) e f g h =
     let same : j ≡ m.server = cc in
     let called : t.method ≡ m.called = cc in
     ap (λ (a : ℕ). made a c.method j t.method) (sym e) ∙ ap (λ (b : ℕ). made m.interface b j t.method) (sym f)
-        ∙ ap (λ (d : ℕ). made m.interface m.method d t.method) same ∙ ap (λ (n : ℕ). made m.interface m.method m.server n) called
+    ∙ ap (λ (d : ℕ). made m.interface m.method d t.method) same ∙ ap (λ (n : ℕ). made m.interface m.method m.server n) called
 
 module _ (A B : List Decl) (k : ℕ) where
   -- where a line has no methods its text looks at none

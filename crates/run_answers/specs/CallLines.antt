@@ -1,5 +1,5 @@
 -- The lines of a calls file, and their limit (own).
-use Rattle.std.specs.Prelude.{ℕ, ◌==◌, nat_lt, if◌then◌else◌, List, [], ◌∷◌, length, Result, Ok, Err}
+use Rattle.std.specs.Prelude.{ℕ, ◌==◌, nat_lt, if◌then◌else◌, List, [], ◌∷◌, length, Ok, Err}
 use Rattle.aidl_base.specs.declared.limit.LimitName.TheVariants.{Lines}
 use Rattle.aidl_base.specs.Limits.{limit_number}
 use Rattle.tool_frame.specs.Answer.{Found, limit_passed}

@@ -1,6 +1,6 @@
 -- What is printed over a link that delivers what was sent, between two trees of which one may follow the other (own): no byte occurs in it. A is
 -- CLIENT's declarations and B SERVER's; k is the number of a line.
-use Rattle.std.specs.Prelude.{ℕ, ◌+◌, List, [], ◌∷◌, ◌++◌, Option, Some, None, Result, Ok, Err}
+use Rattle.std.specs.Prelude.{ℕ, ◌+◌, List, [], ◌∷◌, ◌++◌, Option, Some, None, Ok, Err}
 use Rattle.aidl_schema.specs.declared.schema.Decl.{Decl}
 use Rattle.call_answers.specs.Refusal.{Judged}
 use Rattle.call_runner.specs.Runs.{projected}

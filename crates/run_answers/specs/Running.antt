@@ -1,6 +1,6 @@
 -- What `run` does over two trees: the judge on both orders, and then the lines of a calls file (own). p is the profile of reading, A is CLIENT's
 -- declarations and B SERVER's; k is the number of a line, from 1 on.
-use Rattle.std.specs.Prelude.{ℕ, ◌+◌, Bool, List, [], ◌∷◌, ◌++◌, Option, Some, None, Result, Ok, Err, codes}
+use Rattle.std.specs.Prelude.{ℕ, ◌+◌, Bool, List, [], ◌∷◌, ◌++◌, Option, Some, None, Ok, Err, codes}
 use Rattle.std.specs.List.{flat_map}
 use Rattle.aidl_base.specs.declared.profile.Profile.{Profile}
 use Rattle.aidl_outside.specs.declared.link.Carried.{Carried}

@@ -41,11 +41,7 @@ pub fn judge_both(
 }
 
 // Both lists.
-fn both_printed(
-    alloc: Global,
-    there: &[Broken],
-    back: &[Broken],
-) -> Result<Printed, OutOfMemory>
+fn both_printed(alloc: Global, there: &[Broken], back: &[Broken]) -> Result<Printed, OutOfMemory>
     ensures { IfOk result (λ p. printed p ≡ neither (map seen there.now) (map seen back.now)) }
 {
     let mut text = marked(alloc, "> ", there)?;

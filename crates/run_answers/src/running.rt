@@ -39,7 +39,8 @@ pub fn run_trees<K: Sink, L: Link>(
 ) -> u8
     ensures ran { let seen = seen_alone K.told K.count L.log L.is_faithful L.count in
         RanCourse (run_course profile client.now.decls server.now.decls trace calls.now) (seen sink.old link.old) (seen sink.new link.new) result }
-    // Over a faithful link, between two schemas of which one may follow the other, the lines that are put have no byte of a parcel in them.
+    // Over a faithful link, between two schemas of which one may follow the other, and with no trace, a run that ends with 0 has put exactly
+    // what its lines are projected to.
     ensures projected { OneFollows client.now.decls server.now.decls → L.is_faithful link.old ≡ true → trace ≡ false → result ≡ 0
         → Adds (K.told sink.old) (K.told sink.new) (projected_text client.now.decls server.now.decls 1 (lines_of calls.now)) }
 {
@@ -137,8 +138,9 @@ pub fn run_lines<K: Sink, L: Link>(
     let mut number = 1;
     while !rest.is_empty() {
         let (line, after) = cut(rest);
-        if let Err(exit) = run_next(alloc, profile, client, server, trace, number, line, sink, link)
-        {
+        if let Err(exit) = run_next(
+            alloc, profile, client, server, trace, number, line, sink, link,
+        ) {
             return exit;
         }
         if after.is_empty() {

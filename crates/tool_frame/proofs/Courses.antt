@@ -210,9 +210,11 @@ module _ (course mid : Course) (a b : Seen) (went : Went course mid a b) where
   ends_on c exit h = (went.entries ++ h.0, carried_on c h.0 h.1, went.comes.due h.0 ∙ h.2, h.3 ∙ ap (λ (x : Answer). exit_of x.verdict) (sym (went.comes.answer h.0)), told_on c h.0 h.4)
 
   front_on : (c : Seen) → PutsCourseFront mid b c → PutsCourseFront course a c
-  front_on c h =
-      (went.entries ++ h.0, carried_on c h.0 h.1,
-      (went.text ++ h.2.0, h.2.1, sym (whole_text h.0) ∙ ap (λ x. went.text ++ x) h.2.2 ∙ sym (append_assoc went.text h.2.0 h.2.1), adds_both a.told b.told c.told went.text h.2.0 went.told h.2.3))
+  front_on c h = (
+    went.entries ++ h.0,
+    carried_on c h.0 h.1,
+    (went.text ++ h.2.0, h.2.1, sym (whole_text h.0) ∙ ap (λ x. went.text ++ x) h.2.2 ∙ sym (append_assoc went.text h.2.0 h.2.1), adds_both a.told b.told c.told went.text h.2.0 went.told h.2.3),
+  )
 
   stops_on : (c : Seen) → StopsCourse mid b c → StopsCourse course a c
   stops_on c h = (went.entries ++ h.0, carried_on c h.0 h.1, (h.2.0, went.comes.due h.0 ∙ h.2.1), told_on c h.0 h.3)
@@ -339,8 +341,11 @@ module _ (before : Seen) (told : Option (List ℕ)) (faults : ℕ) where
     link_good = λ other. refl;
     link_nature = refl;
     answer = λ verdict. absurd (cut_no_verdict exit exits verdict);
-    front = λ either. ([], carried_none (prints text next) before after_put refl,
-    (cut.0, cut.1 ++ (answer_after next []).text, ap (λ x. x ++ (answer_after next []).text) cut.2 ∙ append_assoc cut.0 cut.1 (answer_after next []).text, cut.3));
+    front = λ either. (
+      [],
+      carried_none (prints text next) before after_put refl,
+      (cut.0, cut.1 ++ (answer_after next []).text, ap (λ x. x ++ (answer_after next []).text) cut.2 ∙ append_assoc cut.0 cut.1 (answer_after next []).text, cut.3),
+    );
     stopped = λ six. absurd (cut_not_six exit exits six);
   }
 

@@ -68,11 +68,7 @@ pub fn push_torn(
 }
 
 // Adds why a version isn't whole: `missing ` or `kept BYTES `.
-fn push_reason(
-    alloc: Global,
-    kept: &Option<Row<u8>>,
-    text: &mut String,
-) -> Result<(), OutOfMemory>
+fn push_reason(alloc: Global, kept: &Option<Row<u8>>, text: &mut String) -> Result<(), OutOfMemory>
     ensures { OnOk result (string_bytes text.new ≡ string_bytes text.old ++ meant.reason kept.now) }
 {
     match kept {

@@ -4,7 +4,7 @@ use aidl_base::OutOfMemory;
 use std::alloc::Global;
 
 /// The bytes that a text of a row stands for: `\xNN` is the byte NN in hexadecimal, `\*COUNT:TEXT\*` is TEXT so many
-/// times, and any other backslash is itself.
+/// times, `\|COUNT:TEXT\*` the same with a newline behind each, and any other backslash is itself.
 pub fn plain(alloc: Global, text: &str) -> Result<Vec<u8>, OutOfMemory> {
     let mut bytes = Vec::new(alloc);
     let mut is_first = true;
@@ -35,7 +35,11 @@ fn push_piece(bytes: &mut Vec<u8>, piece: &str, repeats: bool) -> Result<bool, O
             Ok(false)
         }
         ([b'*', ..], false) => {
-            push_repeated(bytes, piece)?;
+            push_repeated(bytes, piece, '*', b"")?;
+            Ok(true)
+        }
+        ([b'|', ..], false) => {
+            push_repeated(bytes, piece, '|', b"\n")?;
             Ok(true)
         }
         ([b'x', high, low, rest @ ..], _) => {
@@ -51,12 +55,18 @@ fn push_piece(bytes: &mut Vec<u8>, piece: &str, repeats: bool) -> Result<bool, O
     }
 }
 
-// Adds TEXT so many times, of a piece `*COUNT:TEXT`.
-fn push_repeated(bytes: &mut Vec<u8>, piece: &str) -> Result<(), OutOfMemory> {
+// Adds TEXT and an end so many times, of a piece with a mark, COUNT, a colon and TEXT.
+fn push_repeated(
+    bytes: &mut Vec<u8>,
+    piece: &str,
+    mark: char,
+    end: &[u8],
+) -> Result<(), OutOfMemory> {
     let (count, text) = piece.split_once(':').unwrap_or((piece, ""));
-    let count = count.strip_prefix('*').unwrap_or(count);
+    let count = count.strip_prefix(mark).unwrap_or(count);
     for _ in 0..count.parse::<u32>().unwrap_or(0) {
         bytes.extend_from_slice(text.as_bytes())?;
+        bytes.extend_from_slice(end)?;
     }
     Ok(())
 }

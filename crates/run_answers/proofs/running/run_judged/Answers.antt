@@ -23,7 +23,7 @@ returns-in-Ok-clause-projected g c = λ faithful quiet zero. c.run_lines.ensures
 pub returns-in-Err-clause-ran : goal.returns-in-Err-clause-ran
 returns-in-Err-clause-ran g c =
     ran_none (lines_course c.args.profile c.args.client.now.decls c.args.server.now.decls c.args.trace 1 (lines_of c.args.calls.now))
-        (seen_alone g.K.Sink.told g.K.Sink.count g.L.Link.log g.L.Link.is_faithful g.L.Link.count c.args.sink.now c.args.link.now)
+    (seen_alone g.K.Sink.told g.K.Sink.count g.L.Link.log g.L.Link.is_faithful g.L.Link.count c.args.sink.now c.args.link.now)
 
 pub returns-in-Err-clause-projected : goal.returns-in-Err-clause-projected
 returns-in-Err-clause-projected g c = λ faithful quiet zero. absurd (omega arith)

@@ -1,4 +1,4 @@
-use Rattle.std.proofs.Common.{◌≡◌, ℕ, ◌+◌, ◌==◌, Bool, true, false, List, [], length, refl, sym, ◌∙◌, subst, arith}
+use Rattle.std.proofs.Common.{◌≡◌, ℕ, ◌+◌, ◌==◌, true, false, List, length, refl, sym, ◌∙◌, subst, arith}
 use Rattle.aidl_schema.specs.declared.schema.Decl.{Decl}
 use Rattle.run_answers.specs.CallLines.{lines_of}
 use Rattle.run_answers.specs.Projected.{projected_text}
@@ -66,18 +66,18 @@ returns-then-is_empty-clause-ran g c =
     let later : Seen = seen_alone g.K.Sink.told g.K.Sink.count g.L.Link.log g.L.Link.is_faithful g.L.Link.count c.run_next.new.sink c.run_next.new.link in
     let left : Course = lines_course c.args.profile A B c.args.trace (c.loop-rest.number + 1) (lines_of c.cut.result.1.now) in
     lines_ended c.args.profile A B c.args.trace (c.loop-rest.number + 1) whole c.cut.result.1.now start later
-        (empty_list c.cut.result.1.now c.is_empty-in-loop-rest.result c.is_empty-in-loop-rest.ensures c.if-is_empty.true)
-        (next_went c.args.profile A B c.args.trace c.loop-rest.number whole c.loop-rest.rest.now c.cut.result.0.now c.cut.result.1.now start now later c.cut.ensures.lines c.loop-rest.invariant.went (c.in_default.ensures.steps left))
+    (empty_list c.cut.result.1.now c.is_empty-in-loop-rest.result c.is_empty-in-loop-rest.ensures c.if-is_empty.true)
+    (next_went c.args.profile A B c.args.trace c.loop-rest.number whole c.loop-rest.rest.now c.cut.result.0.now c.cut.result.1.now start now later c.cut.ensures.lines c.loop-rest.invariant.went (c.in_default.ensures.steps left))
 
 pub returns-then-is_empty-clause-projected : goal.returns-then-is_empty-clause-projected
 returns-then-is_empty-clause-projected g c =
     let A : List Decl = c.args.client.now.schema.now.decls in
     let B : List Decl = c.args.server.now.schema.now.decls in
     λ one faithful quiet zero. lines_added A B (c.loop-rest.number + 1) c.cut.result.1.now (projected_text A B 1 (lines_of c.args.calls.now)) (g.K.Sink.told c.args.sink.now)
-        (g.K.Sink.told c.run_next.new.sink) (empty_list c.cut.result.1.now c.is_empty-in-loop-rest.result c.is_empty-in-loop-rest.ensures c.if-is_empty.true)
-        (next_added A B c.loop-rest.number c.loop-rest.rest.now c.cut.result.0.now c.cut.result.1.now (projected_text A B 1 (lines_of c.args.calls.now)) (g.K.Sink.told c.args.sink.now)
-          (g.K.Sink.told c.loop-rest.sink) c.cut.ensures.lines (c.loop-rest.invariant.completes one faithful quiet) (g.K.Sink.told c.run_next.new.sink)
-          (c.in_default.ensures.projected one (still_faithful (g.L.Link.is_faithful c.args.link.now) (g.L.Link.is_faithful c.loop-rest.link) c.loop-rest.invariant.went.link_nature faithful) quiet))
+    (g.K.Sink.told c.run_next.new.sink) (empty_list c.cut.result.1.now c.is_empty-in-loop-rest.result c.is_empty-in-loop-rest.ensures c.if-is_empty.true)
+    (next_added A B c.loop-rest.number c.loop-rest.rest.now c.cut.result.0.now c.cut.result.1.now (projected_text A B 1 (lines_of c.args.calls.now)) (g.K.Sink.told c.args.sink.now)
+    (g.K.Sink.told c.loop-rest.sink) c.cut.ensures.lines (c.loop-rest.invariant.completes one faithful quiet) (g.K.Sink.told c.run_next.new.sink)
+    (c.in_default.ensures.projected one (still_faithful (g.L.Link.is_faithful c.args.link.now) (g.L.Link.is_faithful c.loop-rest.link) c.loop-rest.invariant.went.link_nature faithful) quiet))
 
 pub loop-rest-preserved : goal.loop-rest-preserved
 loop-rest-preserved g c =
@@ -105,11 +105,11 @@ returns-clause-ran g c =
     let start : Seen = seen_alone g.K.Sink.told g.K.Sink.count g.L.Link.log g.L.Link.is_faithful g.L.Link.count c.args.sink.now c.args.link.now in
     let now : Seen = seen_alone g.K.Sink.told g.K.Sink.count g.L.Link.log g.L.Link.is_faithful g.L.Link.count c.loop-rest.sink c.loop-rest.link in
     lines_ended c.args.profile A B c.args.trace c.loop-rest.number whole c.loop-rest.rest.now start now
-        (empty_list c.loop-rest.rest.now c.is_empty.result c.is_empty.ensures c.loop-rest-test.false) c.loop-rest.invariant.went
+    (empty_list c.loop-rest.rest.now c.is_empty.result c.is_empty.ensures c.loop-rest-test.false) c.loop-rest.invariant.went
 
 pub returns-clause-projected : goal.returns-clause-projected
 returns-clause-projected g c =
     let A : List Decl = c.args.client.now.schema.now.decls in
     let B : List Decl = c.args.server.now.schema.now.decls in
     λ one faithful quiet zero. lines_added A B c.loop-rest.number c.loop-rest.rest.now (projected_text A B 1 (lines_of c.args.calls.now)) (g.K.Sink.told c.args.sink.now)
-        (g.K.Sink.told c.loop-rest.sink) (empty_list c.loop-rest.rest.now c.is_empty.result c.is_empty.ensures c.loop-rest-test.false) (c.loop-rest.invariant.completes one faithful quiet)
+    (g.K.Sink.told c.loop-rest.sink) (empty_list c.loop-rest.rest.now c.is_empty.result c.is_empty.ensures c.loop-rest-test.false) (c.loop-rest.invariant.completes one faithful quiet)

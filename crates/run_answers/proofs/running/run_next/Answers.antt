@@ -1,5 +1,4 @@
-use Rattle.std.proofs.Common.{◌≡◌, ℕ, List, Ok, Err, subst, arith}
-use Rattle.std.specs.Prelude.{⊤}
+use Rattle.std.proofs.Common.{List, Err, subst, arith}
 use Rattle.aidl_schema.specs.declared.schema.Decl.{Decl}
 use Rattle.call_answers.specs.Refusal.{Judged}
 use Rattle.call_runner.specs.declared.line.LineRun.{LineRun}
@@ -22,11 +21,11 @@ returns-in-Ok g c =
     let run : LineRun = c.in-Ok.run' in
     record {
       steps = λ next. line_steps c.args.profile A B c.args.trace c.args.number next meant before (g.L.Link.log c.run_line.new.link) (g.L.Link.is_faithful c.run_line.new.link)
-        (g.L.Link.count c.run_line.new.link) c.run_line.ensures.nature run (g.K.Sink.told c.put_line.new.sink) (g.K.Sink.count c.put_line.new.sink) c.put_line.result
-        c.in-Ok.ensures.line c.in-Ok.ensures.log c.in-Ok.ensures.faithful c.in-Ok.ensures.cause c.put_line.ensures;
+          (g.L.Link.count c.run_line.new.link) c.run_line.ensures.nature run (g.K.Sink.told c.put_line.new.sink) (g.K.Sink.count c.put_line.new.sink) c.put_line.result
+          c.in-Ok.ensures.line c.in-Ok.ensures.log c.in-Ok.ensures.faithful c.in-Ok.ensures.cause c.put_line.ensures;
       exits = put_stops _ _ _ _ _ c.put_line.result c.put_line.ensures;
       projected = λ one faithful quiet. put_projected A B c.args.number c.args.trace meant run.carried run.methods run.out _ _ _ _ c.put_line.result c.put_line.ensures quiet
-        c.in-Ok.ensures.typed (c.in-Ok.ensures.outcome one faithful) (c.in-Ok.ensures.named one faithful);
+          c.in-Ok.ensures.typed (c.in-Ok.ensures.outcome one faithful) (c.in-Ok.ensures.named one faithful);
     }
 
 pub returns-in-Err-LinkFault : goal.returns-in-Err-LinkFault
@@ -37,9 +36,9 @@ returns-in-Err-LinkFault g c =
     let before : Seen = seen_alone g.K.Sink.told g.K.Sink.count g.L.Link.log g.L.Link.is_faithful g.L.Link.count c.args.sink.now c.args.link.now in
     record {
       steps = λ next. line_link c.args.profile A B c.args.trace c.args.number next meant before (g.L.Link.log c.run_line.new.link) (g.L.Link.is_faithful c.run_line.new.link)
-        (g.L.Link.count c.run_line.new.link) c.run_line.ensures.nature
-        (subst (λ (f : RunFault). Stops c.args.profile A B meant before.is_faithful before.log (g.L.Link.log c.run_line.new.link) f) c.in-Err-LinkFault.field-0-is c.in-Err-LinkFault.ensures.stops)
-        (subst (λ (f : RunFault). RunCause {T = LineRun} before.link_faults (g.L.Link.count c.run_line.new.link) (Err f)) c.in-Err-LinkFault.field-0-is c.in-Err-LinkFault.ensures.cause);
+          (g.L.Link.count c.run_line.new.link) c.run_line.ensures.nature
+          (subst (λ (f : RunFault). Stops c.args.profile A B meant before.is_faithful before.log (g.L.Link.log c.run_line.new.link) f) c.in-Err-LinkFault.field-0-is c.in-Err-LinkFault.ensures.stops)
+          (subst (λ (f : RunFault). RunCause {T = LineRun} before.link_faults (g.L.Link.count c.run_line.new.link) (Err f)) c.in-Err-LinkFault.field-0-is c.in-Err-LinkFault.ensures.cause);
       exits = λ zero. omega arith;
       projected = λ one faithful quiet. tt;
     }
@@ -52,9 +51,9 @@ returns-in-Err-OutOfMemory g c =
     let before : Seen = seen_alone g.K.Sink.told g.K.Sink.count g.L.Link.log g.L.Link.is_faithful g.L.Link.count c.args.sink.now c.args.link.now in
     record {
       steps = λ next. line_memory c.args.profile A B c.args.trace c.args.number next meant before (g.L.Link.log c.run_line.new.link) (g.L.Link.is_faithful c.run_line.new.link)
-        (g.L.Link.count c.run_line.new.link) c.run_line.ensures.nature
-        (subst (λ (f : RunFault). Stops c.args.profile A B meant before.is_faithful before.log (g.L.Link.log c.run_line.new.link) f) c.in-Err-OutOfMemory.field-0-is c.in-Err-OutOfMemory.ensures.stops)
-        (subst (λ (f : RunFault). RunCause {T = LineRun} before.link_faults (g.L.Link.count c.run_line.new.link) (Err f)) c.in-Err-OutOfMemory.field-0-is c.in-Err-OutOfMemory.ensures.cause);
+          (g.L.Link.count c.run_line.new.link) c.run_line.ensures.nature
+          (subst (λ (f : RunFault). Stops c.args.profile A B meant before.is_faithful before.log (g.L.Link.log c.run_line.new.link) f) c.in-Err-OutOfMemory.field-0-is c.in-Err-OutOfMemory.ensures.stops)
+          (subst (λ (f : RunFault). RunCause {T = LineRun} before.link_faults (g.L.Link.count c.run_line.new.link) (Err f)) c.in-Err-OutOfMemory.field-0-is c.in-Err-OutOfMemory.ensures.cause);
       exits = λ zero. omega arith;
       projected = λ one faithful quiet. tt;
     }
