@@ -1,11 +1,15 @@
 -- How `run` ends, by what was loaded and what was then run.
-use Rattle.std.proofs.Common.{◌≡◌, ◌+◌, ℕ, ◌≤◌, Option, Some, None, refl, sym, ap, subst, arith, inl, inr}
-use Rattle.std.specs.Prelude.{◌≢◌, ◌⊎◌}
-use Rattle.aidl_outside.specs.Causes.{Rose}
+use Rattle.std.proofs.Common.{◌≡◌, ◌+◌, ℕ, ◌≤◌, Option, Some, None, Err, refl, sym, ap, subst, arith, inl, inr}
+use Rattle.std.specs.Prelude.{◌≢◌, ◌⊎◌, Result}
+use Rattle.aidl_outside.specs.declared.store.StoreFault.{StoreFault}
+use Rattle.aidl_outside.specs.declared.store.StoreFault.TheVariants.{Failed, OutOfMemory}
+use Rattle.aidl_outside.specs.Causes.{Rose, StoreCause}
 use Rattle.aidl_outside.specs.Files.{Files}
 use Rattle.aidl_outside.specs.Told.{Tells}
+use Rattle.aidl_tool.specs.declared.running.Loaded.{Loaded}
 use Rattle.aidl_tool.specs.Running.{Takes}
 use Rattle.aidl_tool.specs.steps.Loading.{RanSome}
+use Rattle.tool_frame.specs.declared.printed.Early.{Early}
 use Rattle.tool_frame.specs.Course.{Course}
 use Rattle.tool_frame.specs.Ended.{Ended}
 use Rattle.tool_frame.specs.Meaning.{carries_by}
@@ -17,6 +21,11 @@ use Rattle.tool_frame.proofs.Loaded.{tells}
 -- what is seen without the store
 abbrev pub alone : Seen → Seen
 alone seen = record seen { kept = None; store_faults = 0 }
+
+-- A want of memory is no fault of the store.
+pub lost_cause : (before now : ℕ) (fault : StoreFault) → fault ≡ OutOfMemory → StoreCause {T = Result Loaded Early} before now (Err fault) → now ≡ before
+lost_cause before now Failed is cause = absurd cc
+lost_cause before now OutOfMemory is cause = cause
 
 module _ (takes : Files → Takes) (before now : Seen) (kept : now.kept ≡ before.kept) where
   -- A course of what was loaded ran, or memory was wanted before any.

@@ -237,7 +237,16 @@ fn run_server<K: Sink, L: Link>(
         (seen sink.old link.old) (seen sink.new link.new) result }
 {
     match checked(alloc, server.root, server.files) {
-        Ok(schema) => run_both(alloc, profile, trace, client, &schema, text.as_slice(), sink, link),
+        Ok(schema) => run_both(
+            alloc,
+            profile,
+            trace,
+            client,
+            &schema,
+            text.as_slice(),
+            sink,
+            link,
+        ),
         Err(early) => print_early(alloc, early, sink, link),
     }
 }
