@@ -1,3 +1,5 @@
 pub mod Acting
 pub mod Checks
+pub mod CourseEnds
 pub mod Opened
+pub mod Takes

@@ -4,14 +4,14 @@ use Rattle.aidl_base.specs.declared.limit.LimitName.TheVariants.{TextBytes}
 use Rattle.aidl_base.specs.declared.profile.Profile.{Profile}
 use Rattle.aidl_base.specs.declared.source_file.SourceFile.{SourceFile}
 use Rattle.aidl_outside.specs.Files.{Files}
-use Rattle.tool_words.specs.Command.{Command, decode, encode, check, dump, freeze, judge, rehash, verify}
+use Rattle.tool_words.specs.Command.{Command, decode, encode, check, dump, freeze, judge, rehash, run, verify}
 use Rattle.tool_words.specs.Rows.{command_of}
 use Rattle.parcel_answers.specs.Decode.{profile_of, decode_answer}
 use Rattle.parcel_answers.specs.Encode.{encode_answer}
 use Rattle.parcel_answers.specs.Refusals.{parcel_of}
 use Rattle.tool_frame.specs.Acts.{acts_by}
 use Rattle.tool_frame.specs.Answer.{Answer, Found, Then}
-use Rattle.tool_frame.specs.Meaning.{Meant, reads_by}
+use Rattle.tool_frame.specs.Meaning.{Meant, carries_by, reads_by}
 use Rattle.tool_frame.specs.Meaning.Meant.{unknown, means}
 use Rattle.tool_frame.specs.Refusals.{file_at, there}
 use Rattle.tool_frame.specs.Trees.{OverTree, tree_at}
@@ -21,6 +21,7 @@ use Rattle.api_versions.specs.Versions.{versions_at}
 use Rattle.version_answers.specs.Verified.{IsVerified}
 use Rattle.aidl_tool.specs.Acting.{DumpActs, FreezeActs, RehashActs}
 use Rattle.aidl_tool.specs.InTree.{InTree}
+use Rattle.aidl_tool.specs.Running.{RunTakes}
 
 -- of a file that is there: the limits of the tree's files; what refuses the bytes; all else of the tree; and the values
 abbrev pub DecodesFile : Profile → Option (List ℕ) → List ℕ → Files → Found (List ℕ) → Answer → Type 0
@@ -63,6 +64,7 @@ meaning (verify api) = means (reads_by (VerifyAnswers api))
 meaning (dump tree out) = means (acts_by (DumpActs tree out))
 meaning (freeze tree api) = means (acts_by (FreezeActs tree api))
 meaning (rehash api) = means (acts_by (RehashActs api))
+meaning (run trace lenient client server calls) = means (carries_by (RunTakes (profile_of lenient) trace client server calls))
 meaning _ = unknown
 
 -- the meaning of the command that words are, if any

@@ -9,6 +9,7 @@ mod freezing;
 mod judging;
 mod opening;
 mod rehashing;
+mod running;
 mod top;
 mod verifying;
 

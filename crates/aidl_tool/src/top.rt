@@ -12,6 +12,7 @@ use crate::encoding::encode;
 use crate::freezing::freeze;
 use crate::judging::judge;
 use crate::rehashing::rehash;
+use crate::running::run;
 use crate::verifying::verify;
 use aidl_base::Profile;
 use aidl_outside::{Link, Sink, Store};
@@ -34,12 +35,12 @@ pub fn aidl<S: Store, K: Sink, L: Link>(
 {
     match command_of(words) {
         None => refuse(alloc, store, sink, link),
-        Some(command) => run(alloc, command, store, sink, link),
+        Some(command) => carry_out(alloc, command, store, sink, link),
     }
 }
 
 // Runs a command, where it is built.
-fn run<S: Store, K: Sink, L: Link>(
+fn carry_out<S: Store, K: Sink, L: Link>(
     alloc: Global,
     command: Command<'_>,
     store: &mut S,
@@ -72,6 +73,23 @@ fn run<S: Store, K: Sink, L: Link>(
         Command::Dump { tree, out } => dump(alloc, tree, out, store, sink, link),
         Command::Freeze { tree, api } => freeze(alloc, tree, api, store, sink, link),
         Command::Judge { old, new } => judge(alloc, old, new, store, sink, link),
+        Command::Run {
+            trace,
+            lenient,
+            client,
+            server,
+            calls,
+        } => run(
+            alloc,
+            profile_of(lenient),
+            trace,
+            client,
+            server,
+            calls,
+            store,
+            sink,
+            link,
+        ),
         Command::Verify { api } => verify(alloc, api, store, sink, link),
         Command::Rehash { api } => rehash(alloc, api, store, sink, link),
         _ => refuse(alloc, store, sink, link),
