@@ -1,0 +1,6 @@
+package lights;
+@VintfStability parcelable Light {
+  int id;
+  int ordinal;
+  lights.LightKind kind;
+}

@@ -1,0 +1,6 @@
+package lights;
+@VintfStability parcelable LightState {
+  int color;
+  int onMs;
+  int offMs;
+}
