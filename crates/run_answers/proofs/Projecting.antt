@@ -1,37 +1,65 @@
 -- What is put of a line is what the line is projected to.
 use Rattle.std.proofs.Common.{◌≡◌, ℕ, ◌+◌, Bool, true, false, List, [], ◌∷◌, Option, Some, None, option_map, Result, Ok, Err, IfOk, refl, sym, ap, ◌∙◌, subst, arith, inl, inr}
-use Rattle.std.specs.Prelude.{◌≢◌, ◌⊎◌, ⊤, IfErr}
+use Rattle.std.specs.Prelude.{◌⊎◌, ⊤, IfErr}
+use Rattle.std.proofs.lemmas.List.Elements.{All-head, All-tail}
+use Rattle.aidl_base.specs.declared.profile.Profile.{Profile}
 use Rattle.aidl_outside.specs.declared.link.Carried.{Carried}
+use Rattle.aidl_outside.specs.declared.link.Way.TheVariants.{Reply}
+use Rattle.aidl_outside.specs.Carries.{entry}
 use Rattle.aidl_outside.specs.Told.{Adds}
 use Rattle.aidl_schema.specs.declared.schema.Decl.{Decl}
 use Rattle.aidl_schema.specs.Broken.{Break}
 use Rattle.call_answers.specs.Refusal.{Judged}
+use Rattle.call_runner.specs.Lines.{call_code, entries, reply_entries, reply_sent, request_entry}
 use Rattle.call_runner.specs.declared.line.LineOut.{LineOut}
 use Rattle.call_runner.specs.declared.line.LineOut.TheVariants as out
+use Rattle.call_runner.specs.declared.line.LineRun.{LineRun}
 use Rattle.call_runner.specs.declared.line.Methods.{Methods}
-use Rattle.call_runner.specs.Runs.{AreNamed, IsTyped, NamesOf, line_data, projected}
+use Rattle.call_runner.specs.Runs.{AreFaithful, AreNamed, IsTyped, LineRuns, NamesOf, line_data, projected}
 use Rattle.call_scripts.specs.Calls.{CallData, TargetData}
 use Rattle.call_scripts.specs.Script.{script}
 use Rattle.run_answers.specs.CallLines.{lines_of}
 use Rattle.run_answers.specs.LineText.{line_text}
-use Rattle.run_answers.specs.Projected.{methods_of, named_methods, projected_line, projected_text}
+use Rattle.run_answers.specs.Projected.{call_carried, line_carried, methods_of, named_methods, projected_line, projected_piece, projected_text, reply_bytes}
 use Rattle.run_answers.specs.Running.{judged_course, piece}
+use Rattle.run_answers.specs.Trace.{trace_text}
 use Rattle.run_answers.specs.steps.Steps.{PutsText, course_by}
 use Rattle.tool_frame.specs.Course.{Course, ends, at_once}
 use Rattle.tool_frame.specs.declared.printed.Printed.{Printed}
 use Rattle.tool_frame.specs.declared.verdict.Verdict.TheVariants.{Done}
+use Rattle.tool_frame.specs.Verdict.{IsVerdict}
 use Rattle.tool_frame.specs.steps.Results.{printed}
 use Rattle.tool_frame.proofs.Courses.{adds_both, nothing_told}
+use Rattle.tool_frame.proofs.Endings.{not_verdict}
+use Rattle.wire_model.specs.Requests.{request}
 
 -- a put that fails has no exit of an answer
 pub put_stops : (text : List ℕ) (before now : Option (List ℕ)) (faults_before faults_now : ℕ) (given : Result ⊤ ℕ) → PutsText text before now faults_before faults_now given
-    → IfErr given (λ exit. exit ≢ 0)
+    → IfErr given (λ exit. IsVerdict exit → ⊥)
 put_stops text before now faults_before faults_now (Ok u) put = tt
 put_stops text before now faults_before faults_now (Err exit) put = either put.exits
   where
-    either : (exit ≡ 4) ⊎ (exit ≡ 5) → exit ≢ 0
-    either (inl four) zero = omega arith
-    either (inr five) zero = omega arith
+    either : (exit ≡ 4) ⊎ (exit ≡ 5) → IsVerdict exit → ⊥
+    either (inl four) verdict = not_verdict exit (omega arith) (omega arith) verdict
+    either (inr five) verdict = not_verdict exit (omega arith) (omega arith) verdict
+
+-- Over a link that delivers what was sent, what is carried is known.
+module _ (p : Profile) (A B : List Decl) where
+  same_reply : (code : ℕ) (sent : Option (List ℕ)) (r : List ℕ) → AreFaithful (reply_entries code sent r) → reply_entries code sent r ≡ reply_entries code sent (reply_bytes sent)
+  same_reply code None r same = refl
+  same_reply code (Some sent) r same = ap (λ x. entry Reply code sent x ∷ []) (All-head (λ (e : Carried). e.delivered ≡ e.sent) (entry Reply code sent r) [] same)
+
+  same_entries : (c : CallData) (b r : List ℕ) → AreFaithful (entries p A B c b r) → entries p A B c b r ≡ line_carried p A B (Ok c)
+  same_entries c b r same =
+      let first : b ≡ request A c.interface c.method c.args =
+          All-head (λ (e : Carried). e.delivered ≡ e.sent) (request_entry A c b) (reply_entries (call_code A c) (reply_sent p A B c b) r) same in
+      let later : AreFaithful (reply_entries (call_code A c) (reply_sent p A B c b) r) =
+          All-tail (λ (e : Carried). e.delivered ≡ e.sent) (request_entry A c b) (reply_entries (call_code A c) (reply_sent p A B c b) r) same in
+      ap (λ es. request_entry A c b ∷ es) (same_reply (call_code A c) (reply_sent p A B c b) r later) ∙ ap (call_carried p A B c) first
+
+  pub carried_is : (meant : Judged CallData) (run : LineRun) → LineRuns p A B meant run → AreFaithful run.carried → run.carried ≡ line_carried p A B meant
+  carried_is (Err why) run runs same = runs.0
+  carried_is (Ok c) run runs same = runs.2 ∙ same_entries c runs.0 runs.1 (subst AreFaithful runs.2 same)
 
 -- the methods of a line's values, by its names
 methods_named : (c : CallData) (m : Methods) (server : Option ℕ) (target : Option TargetData) → m.interface ≡ c.interface → m.method ≡ c.method → server ≡ Some m.server
@@ -64,30 +92,27 @@ module _ (A B : List Decl) (k : ℕ) where
   same_line (Err why) ms out typed e named = ap (line_text A B ms k) e
   same_line (Ok c) ms out typed e named = same_call c ms out typed e named
 
-  -- without a trace nothing else is put
-  untraced : (trace : Bool) (carried : List Carried) (ms : Option Methods) (out : LineOut) → trace ≡ false → piece A B trace k carried ms (line_data out) ≡ line_text A B ms k (line_data out)
-  untraced false carried ms out e = refl
-  untraced true carried ms out e = cc
-
-  pub put_projected : (trace : Bool) (meant : Judged CallData) (carried : List Carried) (ms : Option Methods) (out : LineOut) (before now : Option (List ℕ)) (faults_before faults_now : ℕ)
-      (given : Result ⊤ ℕ) → PutsText (piece A B trace k carried ms (line_data out)) before now faults_before faults_now given → trace ≡ false → IsTyped A B ms out
-      → line_data out ≡ projected A B meant → AreNamed meant ms → IfOk given (λ u. Adds before now (projected_line A B k meant))
-  put_projected trace meant carried ms out before now faults_before faults_now (Ok u) put quiet typed e named =
-      subst (Adds before now) (untraced trace carried ms out quiet ∙ same_line meant ms out typed e named) put.0
-  put_projected trace meant carried ms out before now faults_before faults_now (Err exit) put quiet typed e named = tt
+  pub put_projected : (p : Profile) (trace : Bool) (meant : Judged CallData) (carried : List Carried) (ms : Option Methods) (out : LineOut) (before now : Option (List ℕ))
+      (faults_before faults_now : ℕ) (given : Result ⊤ ℕ) → PutsText (piece A B trace k carried ms (line_data out)) before now faults_before faults_now given
+      → carried ≡ line_carried p A B meant → IsTyped A B ms out → line_data out ≡ projected A B meant → AreNamed meant ms
+      → IfOk given (λ u. Adds before now (projected_piece p A B trace k meant))
+  put_projected p trace meant carried ms out before now faults_before faults_now (Ok u) put same typed e named =
+      subst (Adds before now) (ap (λ es. trace_text trace es ++ line_text A B ms k (line_data out)) same
+      ∙ ap (λ t. trace_text trace (line_carried p A B meant) ++ t) (same_line meant ms out typed e named)) put.0
+  put_projected p trace meant carried ms out before now faults_before faults_now (Err exit) put same typed e named = tt
 
 -- What is left to put completes what was put so far.
-module _ (A B : List Decl) (k : ℕ) (rest line after : List ℕ) (whole : List ℕ) (start now : Option (List ℕ)) (cuts : lines_of rest ≡ line ∷ lines_of after) where
-  pub next_added : ((later : Option (List ℕ)) → Adds now later (projected_text A B k (lines_of rest)) → Adds start later whole)
-      → (mid : Option (List ℕ)) → Adds now mid (projected_line A B k (script A B line))
-      → (later : Option (List ℕ)) → Adds mid later (projected_text A B (k + 1) (lines_of after)) → Adds start later whole
+module _ (p : Profile) (A B : List Decl) (trace : Bool) (k : ℕ) (rest line after whole : List ℕ) (start now : Option (List ℕ)) (cuts : lines_of rest ≡ line ∷ lines_of after) where
+  pub next_added : ((later : Option (List ℕ)) → Adds now later (projected_text p A B trace k (lines_of rest)) → Adds start later whole)
+      → (mid : Option (List ℕ)) → Adds now mid (projected_piece p A B trace k (script A B line))
+      → (later : Option (List ℕ)) → Adds mid later (projected_text p A B trace (k + 1) (lines_of after)) → Adds start later whole
   next_added completes mid put later more =
-      completes later (subst (λ ls. Adds now later (projected_text A B k ls)) (sym cuts)
-      (adds_both now mid later (projected_line A B k (script A B line)) (projected_text A B (k + 1) (lines_of after)) put more))
+      completes later (subst (λ ls. Adds now later (projected_text p A B trace k ls)) (sym cuts)
+      (adds_both now mid later (projected_piece p A B trace k (script A B line)) (projected_text p A B trace (k + 1) (lines_of after)) put more))
 
-pub lines_added : (A B : List Decl) (k : ℕ) (rest whole : List ℕ) (start now : Option (List ℕ)) → rest ≡ []
-    → ((later : Option (List ℕ)) → Adds now later (projected_text A B k (lines_of rest)) → Adds start later whole) → Adds start now whole
-lines_added A B k rest whole start now none completes = completes now (subst (λ xs. Adds now now (projected_text A B k (lines_of xs))) (sym none) (nothing_told now))
+pub lines_added : (p : Profile) (A B : List Decl) (trace : Bool) (k : ℕ) (rest whole : List ℕ) (start now : Option (List ℕ)) → rest ≡ []
+    → ((later : Option (List ℕ)) → Adds now later (projected_text p A B trace k (lines_of rest)) → Adds start later whole) → Adds start now whole
+lines_added p A B trace k rest whole start now none completes = completes now (subst (λ xs. Adds now now (projected_text p A B trace k (lines_of xs))) (sym none) (nothing_told now))
 
 -- where one of two may follow the other, no answer of the judge is printed
 follows_alone : (there back : List Break) → (there ≡ []) ⊎ (back ≡ []) → (lines : Course) → judged_course there back lines ≡ lines

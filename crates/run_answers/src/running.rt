@@ -1,14 +1,15 @@
 //! The lines of a calls file, run one after the other.
-ghost use Rattle.std.specs.Prelude.{◌≡◌, ◌≢◌, true, false, IfErr, IfOk};
+ghost use Rattle.std.specs.Prelude.{◌≡◌, true, IfErr, IfOk};
 ghost use Rattle.aidl_outside.specs.Told.{Adds};
 ghost use Rattle.call_runner.specs.Runs.{IsTyped, line_data};
 ghost use Rattle.call_scripts.specs.Planned.{ArePlansOf};
 ghost use Rattle.call_scripts.specs.Script.{script};
 ghost use Rattle.run_answers.specs.CallLines.{lines_of};
-ghost use Rattle.run_answers.specs.Projected.{projected_line, projected_text};
+ghost use Rattle.run_answers.specs.Projected.{Projects, projected_piece, projected_text};
 ghost use Rattle.run_answers.specs.Running.{line_course, lines_course, piece, run_course};
 ghost use Rattle.run_answers.specs.steps.Steps.{PutsText, Steps};
 ghost use Rattle.tool_frame.specs.Course.{Course};
+ghost use Rattle.tool_frame.specs.Verdict.{IsVerdict};
 ghost use Rattle.tool_frame.specs.steps.Courses.{RanCourse, seen_alone};
 ghost use Rattle.wire_model.specs.Outcome.{OneFollows, SameWays};
 
@@ -39,10 +40,10 @@ pub fn run_trees<K: Sink, L: Link>(
 ) -> u8
     ensures ran { let seen = seen_alone K.told K.count L.log L.is_faithful L.count in
         RanCourse (run_course profile client.now.decls server.now.decls trace calls.now) (seen sink.old link.old) (seen sink.new link.new) result }
-    // Over a faithful link, between two schemas of which one may follow the other, and with no trace, a run that ends with 0 has put exactly
+    // Over a faithful link, between two schemas of which one may follow the other, a run that nothing stops ends with 0, and has put exactly
     // what its lines are projected to.
-    ensures projected { OneFollows client.now.decls server.now.decls → L.is_faithful link.old ≡ true → trace ≡ false → result ≡ 0
-        → Adds (K.told sink.old) (K.told sink.new) (projected_text client.now.decls server.now.decls 1 (lines_of calls.now)) }
+    ensures projected { let seen = seen_alone K.told K.count L.log L.is_faithful L.count in let A = client.now.decls in let B = server.now.decls in
+        Projects A B (projected_text profile A B trace 1 (lines_of calls.now)) (seen sink.old link.old) (seen sink.new link.new) result }
 {
     match judge_both(alloc, client, server) {
         Ok(None) => run_judged(alloc, profile, client, server, trace, calls, sink, link),
@@ -65,8 +66,8 @@ fn run_judged<K: Sink, L: Link>(
     requires { OneFollows client.now.decls server.now.decls }
     ensures ran { let seen = seen_alone K.told K.count L.log L.is_faithful L.count in
         RanCourse (lines_course profile client.now.decls server.now.decls trace 1 (lines_of calls.now)) (seen sink.old link.old) (seen sink.new link.new) result }
-    ensures projected { L.is_faithful link.old ≡ true → trace ≡ false → result ≡ 0
-        → Adds (K.told sink.old) (K.told sink.new) (projected_text client.now.decls server.now.decls 1 (lines_of calls.now)) }
+    ensures projected { let seen = seen_alone K.told K.count L.log L.is_faithful L.count in let A = client.now.decls in let B = server.now.decls in
+        Projects A B (projected_text profile A B trace 1 (lines_of calls.now)) (seen sink.old link.old) (seen sink.new link.new) result }
 {
     match both_plans(alloc, client, server) {
         Ok((client_plans, server_plans)) => {
@@ -131,8 +132,8 @@ pub fn run_lines<K: Sink, L: Link>(
     requires ways { SameWays client.now.schema.now.decls server.now.schema.now.decls }
     ensures ran { let seen = seen_alone K.told K.count L.log L.is_faithful L.count in
         RanCourse (lines_course profile client.now.schema.now.decls server.now.schema.now.decls trace 1 (lines_of calls.now)) (seen sink.old link.old) (seen sink.new link.new) result }
-    ensures projected { let A = client.now.schema.now.decls in let B = server.now.schema.now.decls in OneFollows A B → L.is_faithful link.old ≡ true → trace ≡ false → result ≡ 0
-        → Adds (K.told sink.old) (K.told sink.new) (projected_text A B 1 (lines_of calls.now)) }
+    ensures projected { let seen = seen_alone K.told K.count L.log L.is_faithful L.count in let A = client.now.schema.now.decls in let B = server.now.schema.now.decls in
+        Projects A B (projected_text profile A B trace 1 (lines_of calls.now)) (seen sink.old link.old) (seen sink.new link.new) result }
 {
     let mut rest = calls;
     let mut number = 1;
@@ -169,9 +170,9 @@ fn run_next<K: Sink, L: Link>(
     requires ways { SameWays client.now.schema.now.decls server.now.schema.now.decls }
     ensures steps { let seen = seen_alone K.told K.count L.log L.is_faithful L.count in let A = client.now.schema.now.decls in let B = server.now.schema.now.decls in
         (next : Course) → Steps (line_course profile A B trace number (script A B line.now) next) next (seen sink.old link.old) (seen sink.new link.new) result }
-    ensures exits { IfErr result (λ exit. exit ≢ 0) }
-    ensures projected { let A = client.now.schema.now.decls in let B = server.now.schema.now.decls in OneFollows A B → L.is_faithful link.old ≡ true → trace ≡ false
-        → IfOk result (λ u. Adds (K.told sink.old) (K.told sink.new) (projected_line A B number (script A B line.now))) }
+    ensures exits { IfErr result (λ exit. IsVerdict exit → ⊥) }
+    ensures projected { let A = client.now.schema.now.decls in let B = server.now.schema.now.decls in OneFollows A B → L.is_faithful link.old ≡ true
+        → IfOk result (λ u. Adds (K.told sink.old) (K.told sink.new) (projected_piece profile A B trace number (script A B line.now))) }
 {
     match run_line(alloc, profile, client, server, line, link) {
         Ok(run) => put_line(alloc, client, server, trace, number, &run, sink),

@@ -3,6 +3,7 @@ use Rattle.run_answers.specs.CallLines.{lines_of}
 use Rattle.run_answers.specs.Running.{lines_course}
 use Rattle.tool_frame.specs.steps.Courses.{seen_alone}
 use Rattle.tool_frame.proofs.Courses.{ran_none}
+use Rattle.tool_frame.proofs.Endings.{not_verdict}
 use Rattle.run_answers.proofs.running.run_judged.Goals as goal
 
 pub run_lines-requires-clause-client : goal.run_lines-requires-clause-client
@@ -18,7 +19,7 @@ pub returns-in-Ok-clause-ran : goal.returns-in-Ok-clause-ran
 returns-in-Ok-clause-ran g c = c.run_lines.ensures.ran
 
 pub returns-in-Ok-clause-projected : goal.returns-in-Ok-clause-projected
-returns-in-Ok-clause-projected g c = λ faithful quiet zero. c.run_lines.ensures.projected c.requires faithful quiet zero
+returns-in-Ok-clause-projected g c = c.run_lines.ensures.projected
 
 pub returns-in-Err-clause-ran : goal.returns-in-Err-clause-ran
 returns-in-Err-clause-ran g c =
@@ -26,4 +27,4 @@ returns-in-Err-clause-ran g c =
     (seen_alone g.K.Sink.told g.K.Sink.count g.L.Link.log g.L.Link.is_faithful g.L.Link.count c.args.sink.now c.args.link.now)
 
 pub returns-in-Err-clause-projected : goal.returns-in-Err-clause-projected
-returns-in-Err-clause-projected g c = λ faithful quiet zero. absurd (omega arith)
+returns-in-Err-clause-projected g c = λ one faithful verdict. absurd (not_verdict 5 (omega arith) (omega arith) verdict)

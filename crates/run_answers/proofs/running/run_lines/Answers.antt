@@ -37,7 +37,7 @@ loop-rest-init g c =
     let start : Seen = seen_alone g.K.Sink.told g.K.Sink.count g.L.Link.log g.L.Link.is_faithful g.L.Link.count c.args.sink.now c.args.link.now in
     record {
       went = went_none whole start;
-      completes = λ one faithful quiet later more. more;
+      completes = λ one faithful later more. more;
       few = omega arith;
     }
 
@@ -54,7 +54,7 @@ returns-in-Err-clause-ran g c =
 
 pub returns-in-Err-clause-projected : goal.returns-in-Err-clause-projected
 returns-in-Err-clause-projected g c =
-    λ one faithful quiet zero. absurd (c.in-Err.ensures.exits zero)
+    λ one faithful verdict. absurd (c.in-Err.ensures.exits verdict)
 
 pub returns-then-is_empty-clause-ran : goal.returns-then-is_empty-clause-ran
 returns-then-is_empty-clause-ran g c =
@@ -73,11 +73,11 @@ pub returns-then-is_empty-clause-projected : goal.returns-then-is_empty-clause-p
 returns-then-is_empty-clause-projected g c =
     let A : List Decl = c.args.client.now.schema.now.decls in
     let B : List Decl = c.args.server.now.schema.now.decls in
-    λ one faithful quiet zero. lines_added A B (c.loop-rest.number + 1) c.cut.result.1.now (projected_text A B 1 (lines_of c.args.calls.now)) (g.K.Sink.told c.args.sink.now)
+    λ one faithful verdict. (refl, lines_added c.args.profile A B c.args.trace (c.loop-rest.number + 1) c.cut.result.1.now (projected_text c.args.profile A B c.args.trace 1 (lines_of c.args.calls.now)) (g.K.Sink.told c.args.sink.now)
     (g.K.Sink.told c.run_next.new.sink) (empty_list c.cut.result.1.now c.is_empty-in-loop-rest.result c.is_empty-in-loop-rest.ensures c.if-is_empty.true)
-    (next_added A B c.loop-rest.number c.loop-rest.rest.now c.cut.result.0.now c.cut.result.1.now (projected_text A B 1 (lines_of c.args.calls.now)) (g.K.Sink.told c.args.sink.now)
-    (g.K.Sink.told c.loop-rest.sink) c.cut.ensures.lines (c.loop-rest.invariant.completes one faithful quiet) (g.K.Sink.told c.run_next.new.sink)
-    (c.in_default.ensures.projected one (still_faithful (g.L.Link.is_faithful c.args.link.now) (g.L.Link.is_faithful c.loop-rest.link) c.loop-rest.invariant.went.link_nature faithful) quiet))
+    (next_added c.args.profile A B c.args.trace c.loop-rest.number c.loop-rest.rest.now c.cut.result.0.now c.cut.result.1.now (projected_text c.args.profile A B c.args.trace 1 (lines_of c.args.calls.now)) (g.K.Sink.told c.args.sink.now)
+    (g.K.Sink.told c.loop-rest.sink) c.cut.ensures.lines (c.loop-rest.invariant.completes one faithful) (g.K.Sink.told c.run_next.new.sink)
+    (c.in_default.ensures.projected one (still_faithful (g.L.Link.is_faithful c.args.link.now) (g.L.Link.is_faithful c.loop-rest.link) c.loop-rest.invariant.went.link_nature faithful))))
 
 pub loop-rest-preserved : goal.loop-rest-preserved
 loop-rest-preserved g c =
@@ -90,10 +90,10 @@ loop-rest-preserved g c =
     let left : Course = lines_course c.args.profile A B c.args.trace (c.loop-rest.number + 1) (lines_of c.cut.result.1.now) in
     record {
       went = next_went c.args.profile A B c.args.trace c.loop-rest.number whole c.loop-rest.rest.now c.cut.result.0.now c.cut.result.1.now start now later c.cut.ensures.lines c.loop-rest.invariant.went (c.in_default.ensures.steps left);
-      completes = λ one faithful quiet.
-          (next_added A B c.loop-rest.number c.loop-rest.rest.now c.cut.result.0.now c.cut.result.1.now (projected_text A B 1 (lines_of c.args.calls.now)) (g.K.Sink.told c.args.sink.now)
-          (g.K.Sink.told c.loop-rest.sink) c.cut.ensures.lines (c.loop-rest.invariant.completes one faithful quiet) (g.K.Sink.told c.run_next.new.sink)
-          (c.in_default.ensures.projected one (still_faithful (g.L.Link.is_faithful c.args.link.now) (g.L.Link.is_faithful c.loop-rest.link) c.loop-rest.invariant.went.link_nature faithful) quiet));
+      completes = λ one faithful.
+          (next_added c.args.profile A B c.args.trace c.loop-rest.number c.loop-rest.rest.now c.cut.result.0.now c.cut.result.1.now (projected_text c.args.profile A B c.args.trace 1 (lines_of c.args.calls.now)) (g.K.Sink.told c.args.sink.now)
+          (g.K.Sink.told c.loop-rest.sink) c.cut.ensures.lines (c.loop-rest.invariant.completes one faithful) (g.K.Sink.told c.run_next.new.sink)
+          (c.in_default.ensures.projected one (still_faithful (g.L.Link.is_faithful c.args.link.now) (g.L.Link.is_faithful c.loop-rest.link) c.loop-rest.invariant.went.link_nature faithful)));
       few = omega arith;
     }
 
@@ -111,5 +111,5 @@ pub returns-clause-projected : goal.returns-clause-projected
 returns-clause-projected g c =
     let A : List Decl = c.args.client.now.schema.now.decls in
     let B : List Decl = c.args.server.now.schema.now.decls in
-    λ one faithful quiet zero. lines_added A B c.loop-rest.number c.loop-rest.rest.now (projected_text A B 1 (lines_of c.args.calls.now)) (g.K.Sink.told c.args.sink.now)
-    (g.K.Sink.told c.loop-rest.sink) (empty_list c.loop-rest.rest.now c.is_empty.result c.is_empty.ensures c.loop-rest-test.false) (c.loop-rest.invariant.completes one faithful quiet)
+    λ one faithful verdict. (refl, lines_added c.args.profile A B c.args.trace c.loop-rest.number c.loop-rest.rest.now (projected_text c.args.profile A B c.args.trace 1 (lines_of c.args.calls.now)) (g.K.Sink.told c.args.sink.now)
+    (g.K.Sink.told c.loop-rest.sink) (empty_list c.loop-rest.rest.now c.is_empty.result c.is_empty.ensures c.loop-rest-test.false) (c.loop-rest.invariant.completes one faithful))

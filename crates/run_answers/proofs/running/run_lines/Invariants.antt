@@ -1,4 +1,4 @@
-use Rattle.std.proofs.Common.{◌≡◌, ℕ, ◌≤◌, ◌+◌, true, false, List, length, Option}
+use Rattle.std.proofs.Common.{◌≡◌, ℕ, ◌≤◌, ◌+◌, true, List, length, Option}
 use Rattle.aidl_outside.specs.Told.{Adds}
 use Rattle.run_answers.specs.CallLines.{lines_of}
 use Rattle.run_answers.specs.Projected.{projected_text}
@@ -14,9 +14,9 @@ invariant-loop-rest g l = record {
       (lines_course l.profile l.client.schema.now.decls l.server.schema.now.decls l.trace l.number (lines_of l.rest))
       (seen_alone g.K.Sink.told g.K.Sink.count g.L.Link.log g.L.Link.is_faithful g.L.Link.count l.fn.sink l.fn.link)
       (seen_alone g.K.Sink.told g.K.Sink.count g.L.Link.log g.L.Link.is_faithful g.L.Link.count l.sink l.link);
-  completes : OneFollows l.client.schema.now.decls l.server.schema.now.decls → g.L.Link.is_faithful l.fn.link ≡ true → l.trace ≡ false
-      → (later : Option (List ℕ)) → Adds (g.K.Sink.told l.sink) later (projected_text l.client.schema.now.decls l.server.schema.now.decls l.number (lines_of l.rest))
-      → Adds (g.K.Sink.told l.fn.sink) later (projected_text l.client.schema.now.decls l.server.schema.now.decls 1 (lines_of l.fn.calls));
+  completes : OneFollows l.client.schema.now.decls l.server.schema.now.decls → g.L.Link.is_faithful l.fn.link ≡ true
+      → (later : Option (List ℕ)) → Adds (g.K.Sink.told l.sink) later (projected_text l.profile l.client.schema.now.decls l.server.schema.now.decls l.trace l.number (lines_of l.rest))
+      → Adds (g.K.Sink.told l.fn.sink) later (projected_text l.profile l.client.schema.now.decls l.server.schema.now.decls l.trace 1 (lines_of l.fn.calls));
   few : l.number + length l.rest ≤ length l.fn.calls + 1;
 }
 

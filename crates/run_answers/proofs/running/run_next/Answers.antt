@@ -8,8 +8,9 @@ use Rattle.call_scripts.specs.Calls.{CallData}
 use Rattle.call_scripts.specs.Script.{script}
 use Rattle.tool_frame.specs.Seen.{Seen}
 use Rattle.tool_frame.specs.steps.Courses.{seen_alone}
+use Rattle.tool_frame.proofs.Endings.{not_verdict}
 use Rattle.run_answers.proofs.Lines.{line_link, line_memory, line_steps}
-use Rattle.run_answers.proofs.Projecting.{put_projected, put_stops}
+use Rattle.run_answers.proofs.Projecting.{carried_is, put_projected, put_stops}
 use Rattle.run_answers.proofs.running.run_next.Goals as goal
 
 pub returns-in-Ok : goal.returns-in-Ok
@@ -24,8 +25,8 @@ returns-in-Ok g c =
           (g.L.Link.count c.run_line.new.link) c.run_line.ensures.nature run (g.K.Sink.told c.put_line.new.sink) (g.K.Sink.count c.put_line.new.sink) c.put_line.result
           c.in-Ok.ensures.line c.in-Ok.ensures.log c.in-Ok.ensures.faithful c.in-Ok.ensures.cause c.put_line.ensures;
       exits = put_stops _ _ _ _ _ c.put_line.result c.put_line.ensures;
-      projected = λ one faithful quiet. put_projected A B c.args.number c.args.trace meant run.carried run.methods run.out _ _ _ _ c.put_line.result c.put_line.ensures quiet
-          c.in-Ok.ensures.typed (c.in-Ok.ensures.outcome one faithful) (c.in-Ok.ensures.named one faithful);
+      projected = λ one faithful. put_projected A B c.args.number c.args.profile c.args.trace meant run.carried run.methods run.out _ _ _ _ c.put_line.result c.put_line.ensures
+          (carried_is c.args.profile A B meant run c.in-Ok.ensures.line (c.in-Ok.ensures.faithful faithful)) c.in-Ok.ensures.typed (c.in-Ok.ensures.outcome one faithful) (c.in-Ok.ensures.named one faithful);
     }
 
 pub returns-in-Err-LinkFault : goal.returns-in-Err-LinkFault
@@ -39,8 +40,8 @@ returns-in-Err-LinkFault g c =
           (g.L.Link.count c.run_line.new.link) c.run_line.ensures.nature
           (subst (λ (f : RunFault). Stops c.args.profile A B meant before.is_faithful before.log (g.L.Link.log c.run_line.new.link) f) c.in-Err-LinkFault.field-0-is c.in-Err-LinkFault.ensures.stops)
           (subst (λ (f : RunFault). RunCause {T = LineRun} before.link_faults (g.L.Link.count c.run_line.new.link) (Err f)) c.in-Err-LinkFault.field-0-is c.in-Err-LinkFault.ensures.cause);
-      exits = λ zero. omega arith;
-      projected = λ one faithful quiet. tt;
+      exits = λ verdict. not_verdict _ (omega arith) (omega arith) verdict;
+      projected = λ one faithful. tt;
     }
 
 pub returns-in-Err-OutOfMemory : goal.returns-in-Err-OutOfMemory
@@ -54,6 +55,6 @@ returns-in-Err-OutOfMemory g c =
           (g.L.Link.count c.run_line.new.link) c.run_line.ensures.nature
           (subst (λ (f : RunFault). Stops c.args.profile A B meant before.is_faithful before.log (g.L.Link.log c.run_line.new.link) f) c.in-Err-OutOfMemory.field-0-is c.in-Err-OutOfMemory.ensures.stops)
           (subst (λ (f : RunFault). RunCause {T = LineRun} before.link_faults (g.L.Link.count c.run_line.new.link) (Err f)) c.in-Err-OutOfMemory.field-0-is c.in-Err-OutOfMemory.ensures.cause);
-      exits = λ zero. omega arith;
-      projected = λ one faithful quiet. tt;
+      exits = λ verdict. not_verdict _ (omega arith) (omega arith) verdict;
+      projected = λ one faithful. tt;
     }

@@ -10,6 +10,7 @@ use Rattle.tool_frame.specs.declared.printed.Printed.{Printed}
 use Rattle.tool_frame.specs.steps.Courses.{RanCourse, seen_alone}
 use Rattle.tool_frame.specs.steps.Results.{printed}
 use Rattle.tool_frame.proofs.Courses.{ran_none, ran_printed}
+use Rattle.tool_frame.proofs.Endings.{not_verdict}
 use Rattle.run_answers.proofs.Projecting.{never_printed}
 use Rattle.run_answers.proofs.running.run_trees.Goals as goal
 
@@ -28,7 +29,7 @@ returns-in-Ok-None-clause-ran g c =
     subst (λ (x : Course). RanCourse x start now c.run_judged.result) (sym (course lines)) c.run_judged.ensures.ran
 
 pub returns-in-Ok-None-clause-projected : goal.returns-in-Ok-None-clause-projected
-returns-in-Ok-None-clause-projected g c = λ one faithful quiet zero. c.run_judged.ensures.projected faithful quiet zero
+returns-in-Ok-None-clause-projected g c = c.run_judged.ensures.projected
 
 pub returns-in-Ok-Some-clause-ran : goal.returns-in-Ok-Some-clause-ran
 returns-in-Ok-Some-clause-ran g c =
@@ -43,7 +44,7 @@ returns-in-Ok-Some-clause-ran g c =
     (ran_printed start (g.K.Sink.told c.print.new.sink) (g.K.Sink.count c.print.new.sink) (printed c.in-Ok-Some.printed) c.print.result c.print.ensures)
 
 pub returns-in-Ok-Some-clause-projected : goal.returns-in-Ok-Some-clause-projected
-returns-in-Ok-Some-clause-projected g c = λ one faithful quiet zero.
+returns-in-Ok-Some-clause-projected g c = λ one faithful verdict.
     let A : List Decl = c.args.client.now.decls in
     let B : List Decl = c.args.server.now.decls in
     let course : (rest : Course) → judged_course (broken A B) (broken B A) rest ≡ course_by (Some c.in-Ok-Some.printed) rest =
@@ -56,4 +57,4 @@ returns-in-Err-clause-ran g c =
     (seen_alone g.K.Sink.told g.K.Sink.count g.L.Link.log g.L.Link.is_faithful g.L.Link.count c.args.sink.now c.args.link.now)
 
 pub returns-in-Err-clause-projected : goal.returns-in-Err-clause-projected
-returns-in-Err-clause-projected g c = λ one faithful quiet zero. absurd (omega arith)
+returns-in-Err-clause-projected g c = λ one faithful verdict. absurd (not_verdict 5 (omega arith) (omega arith) verdict)
