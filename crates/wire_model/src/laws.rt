@@ -342,7 +342,8 @@ pub fn law_outcome(
     law_valid(b);
 }
 
-/// Within one schema a call comes to what was sent and what was answered.
+/// Within one schema a call comes to what was sent and what was answered: an interface and a method are found by their own names, and
+/// where the answer fits, the handler sees what was sent and the client has what was answered.
 pub fn law_outcome_within(
     schema: &Schema,
     interface: u32,
@@ -352,8 +353,10 @@ pub fn law_outcome_within(
 )
     requires there { method < length (methods_at schema.now.decls interface) }
     requires fits { ArgsFit schema.now.decls interface method (views args.now) }
-    requires answered { AnswerFits schema.now.decls interface method (answer_of answer.now) }
-    ensures { outcome schema.now.decls interface method schema.now.decls (views args.now) (answer_of answer.now)
+    ensures declared { declared_as schema.now.decls (descriptor schema.now.decls interface) ≡ Some interface }
+    ensures like { method_like (method_at schema.now.decls interface method) (methods_at schema.now.decls interface) ≡ Some method }
+    ensures comes { AnswerFits schema.now.decls interface method (answer_of answer.now)
+        → outcome schema.now.decls interface method schema.now.decls (views args.now) (answer_of answer.now)
         ≡ Ok (outcome_within schema.now.decls interface method (views args.now) (answer_of answer.now)) }
 {
     law_chain(schema, schema, schema);
