@@ -1,5 +1,9 @@
 pub mod Acting
 pub mod Checks
 pub mod CourseEnds
+pub mod JudgesOne
+pub mod Lacking
+pub mod OneTree
 pub mod Opened
+pub mod RunsOne
 pub mod Takes

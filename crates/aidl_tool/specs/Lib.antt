@@ -1,4 +1,5 @@
 pub mod Acting
+pub mod Headline
 pub mod InTree
 pub mod Meant
 pub mod Running

@@ -1,19 +1,25 @@
-ghost use Rattle.std.specs.Prelude.{◌≡◌, IfOk};
+ghost use Rattle.std.specs.Prelude.{◌≡◌, List, IfOk};
 ghost use Rattle.aidl_outside.specs.Causes.{StoreCause};
 ghost use Rattle.aidl_outside.specs.Told.{Tells};
+ghost use Rattle.aidl_schema.specs.Broken.{broken};
+ghost use Rattle.aidl_schema.specs.declared.schema.Decl.{Decl};
+ghost use Rattle.aidl_tool.specs.Acting.{HasSchema};
+ghost use Rattle.aidl_tool.specs.Headline.{IsChecked, Judges};
 ghost use Rattle.aidl_tool.specs.Meant.{JudgeAnswers, JudgesSecond};
 ghost use Rattle.tool_frame.specs.Ended.{Ended};
 ghost use Rattle.tool_frame.specs.Meaning.{reads_by};
 ghost use Rattle.tool_frame.specs.Seen.{seen_by};
 ghost use Rattle.tool_frame.specs.Trees.{OverTree, tree_seen};
 ghost use Rattle.tool_frame.specs.steps.Results.{GivesOne};
-ghost use Rattle.tree_answers.specs.Judged.{IsJudgeAnswer};
+ghost use Rattle.tree_answers.specs.Judged.{IsJudgeAnswer, judged};
+ghost use Rattle.type_check.specs.Checked.{IsSchemaOf};
 
 use aidl_base::{Limit, Row, SourceFile};
 use aidl_outside::{Link, Sink, Store, StoreFault};
 use std::alloc::Global;
 use tool_frame::{Early, Printed, end, files_of, load_tree};
 use tree_answers::judge_answer;
+use type_check::{law_never_both, law_one_schema};
 
 /// Runs `judge OLD NEW`. The answer is the exit status.
 pub fn judge<S: Store, K: Sink, L: Link>(
@@ -24,8 +30,10 @@ pub fn judge<S: Store, K: Sink, L: Link>(
     sink: &mut K,
     link: &L,
 ) -> u8
-    ensures { let seen = seen_by S.kept S.count K.told K.count L.log L.is_faithful L.count in
+    ensures ends { let seen = seen_by S.kept S.count K.told K.count L.log L.is_faithful L.count in
         Ended (reads_by (JudgeAnswers old.now new.now)) (seen store.old sink.old link.now) (seen store.new sink.new link.now) result }
+    ensures headline { let seen = seen_by S.kept S.count K.told K.count L.log L.is_faithful L.count in
+        Tells (S.kept store.old) (λ files. Judges old.now new.now files (seen store.old sink.old link.now) (seen store.new sink.new link.now) result) }
 {
     let answered = answered(alloc, old, new, store);
     end(alloc, answered, sink)
@@ -39,6 +47,8 @@ fn answered<S: Store>(
     store: &mut S,
 ) -> Result<Result<Printed, Early>, StoreFault>
     ensures answer { IfOk result (λ given. Tells (S.kept store.old) (λ files. GivesOne given (JudgeAnswers old.now new.now files))) }
+    ensures exact { (A B : List Decl) → IfOk result (λ given. Tells (S.kept store.old) (λ files. GivesOne given (λ answer.
+        IsChecked files old.now A → IsChecked files new.now B → answer ≡ judged (broken A B)))) }
     ensures unchanged { S.kept store.new ≡ S.kept store.old }
     ensures cause { StoreCause (S.count store.old) (S.count store.new) result }
 {
@@ -58,6 +68,8 @@ fn answered_of_second<S: Store>(
     store: &mut S,
 ) -> Result<Result<Printed, Early>, StoreFault>
     ensures answer { IfOk result (λ given. Tells (S.kept store.old) (λ files. GivesOne given (JudgesSecond old.now new.now files olds))) }
+    ensures exact { (A B : List Decl) → IfOk result (λ given. Tells (S.kept store.old) (λ files. GivesOne given (λ answer.
+        IsSchemaOf olds A → IsChecked files new.now B → answer ≡ judged (broken A B)))) }
     ensures unchanged { S.kept store.new ≡ S.kept store.old }
     ensures cause { StoreCause (S.count store.old) (S.count store.new) result }
 {
@@ -74,8 +86,29 @@ fn answer_of(
     new: &str,
     tree: Result<Row<SourceFile>, Limit>,
 ) -> Result<Printed, Early>
-    ensures { GivesOne result (OverTree (tree_seen tree) (λ news. IsJudgeAnswer old.now olds new.now news)) }
+    ensures answer { GivesOne result (OverTree (tree_seen tree) (λ news. IsJudgeAnswer old.now olds new.now news)) }
+    ensures exact { (A B : List Decl) → GivesOne result (λ answer. IsSchemaOf olds A → HasSchema (tree_seen tree) B → answer ≡ judged (broken A B)) }
 {
     let news = files_of(alloc, tree)?;
+    answer_of_both(alloc, old, olds, new, news)
+}
+
+// The same of the files of both trees.
+fn answer_of_both(
+    alloc: Global,
+    old: &str,
+    olds: Row<SourceFile>,
+    new: &str,
+    news: Row<SourceFile>,
+) -> Result<Printed, Early>
+    ensures answer { GivesOne result (IsJudgeAnswer old.now olds new.now news) }
+    ensures exact { (A B : List Decl) → GivesOne result (λ answer. IsSchemaOf olds A → IsSchemaOf news B → answer ≡ judged (broken A B)) }
+{
+    let first = olds.as_slice();
+    law_one_schema(first);
+    law_never_both(first);
+    let second = news.as_slice();
+    law_one_schema(second);
+    law_never_both(second);
     judge_answer(alloc, old, olds, new, news)
 }

@@ -1,16 +1,19 @@
-ghost use Rattle.std.specs.Prelude.{◌≡◌, IfOk};
+ghost use Rattle.std.specs.Prelude.{◌≡◌, List, map, IfOk};
 ghost use Rattle.aidl_outside.specs.Causes.{StoreCause};
 ghost use Rattle.aidl_outside.specs.Told.{Tells};
+ghost use Rattle.aidl_schema.specs.declared.schema.Decl.{Decl};
+ghost use Rattle.aidl_tool.specs.Headline.{Headline};
 ghost use Rattle.aidl_tool.specs.Running.{RunTakes, TakesChecked, TakesOver, calls_within};
-ghost use Rattle.aidl_tool.specs.steps.Loading.{LoadsFor, RanSome, TakesEarly, TakesLoaded};
+ghost use Rattle.aidl_tool.specs.steps.Loading.{LoadsFor, RanSome, RunsAs, RunsGivenAs, RunsLoadedAs, TakesEarly, TakesLoaded, all_held, loaded_seen, server_held, trees_held};
 ghost use Rattle.aidl_tool.specs.Running as meant;
 ghost use Rattle.run_answers.specs.Running.{run_course};
 ghost use Rattle.tool_frame.specs.Ended.{Ended};
 ghost use Rattle.tool_frame.specs.Meaning.{carries_by};
 ghost use Rattle.tool_frame.specs.Seen.{seen_by};
-ghost use Rattle.tool_frame.specs.Trees.{tree_at};
+ghost use Rattle.tool_frame.specs.Trees.{file_seen, tree_at};
 ghost use Rattle.tool_frame.specs.steps.Courses.{seen_alone};
 ghost use Rattle.tool_frame.specs.steps.Results.{Finds, held};
+ghost use Rattle.type_check.specs.Checked.{IsSchemaOf};
 
 use aidl_base::{Limit, LimitName, Profile, Row, SourceFile};
 use aidl_outside::{Link, Sink, Store, StoreFault};
@@ -19,6 +22,7 @@ use run_answers::{lines_within, run_trees};
 use std::alloc::Global;
 use tool_frame::{Early, files_of, load, load_tree, print, text_of, there};
 use tree_answers::checked;
+use type_check::{law_never_both, law_one_schema};
 
 /// Runs `run [--trace] [--lenient] CLIENT SERVER CALLS`; both sides read by the profile. The answer is the exit status.
 pub fn run<S: Store, K: Sink, L: Link>(
@@ -32,8 +36,10 @@ pub fn run<S: Store, K: Sink, L: Link>(
     sink: &mut K,
     link: &mut L,
 ) -> u8
-    ensures { let seen = seen_by S.kept S.count K.told K.count L.log L.is_faithful L.count in
+    ensures ends { let seen = seen_by S.kept S.count K.told K.count L.log L.is_faithful L.count in
         Ended (carries_by (RunTakes profile trace client.now server.now calls.now)) (seen store.old sink.old link.old) (seen store.new sink.new link.new) result }
+    ensures headline { let seen = seen_by S.kept S.count K.told K.count L.log L.is_faithful L.count in
+        Tells (S.kept store.old) (λ files. Headline profile trace client.now server.now calls.now files (seen store.old sink.old link.old) (seen store.new sink.new link.new) result) }
 {
     match load_calls(alloc, client, server, calls, store) {
         Ok(given) => run_given(alloc, profile, trace, given, sink, link),
@@ -66,6 +72,7 @@ fn load_calls<'a, S: Store>(
     store: &mut S,
 ) -> Result<Result<Loaded<'a>, Early>, StoreFault>
     ensures loads { IfOk result (λ given. Tells (S.kept store.old) (λ files. LoadsFor given (λ p trace. RunTakes p trace client.entry.now server.entry.now calls.now files))) }
+    ensures found { IfOk result (λ given. Tells (S.kept store.old) (λ files. Finds loaded_seen given (all_held files client.entry.now server.entry.now calls.now))) }
     ensures unchanged { S.kept store.new ≡ S.kept store.old }
     ensures cause { StoreCause (S.count store.old) (S.count store.new) result }
 {
@@ -87,6 +94,7 @@ fn load_trees<'a, S: Store>(
     ensures loads { IfOk result (λ given. Tells (S.kept store.old) (λ files. LoadsFor given (λ p trace.
         TakesOver (tree_at files client.entry.now) (λ olds. TakesOver (tree_at files server.entry.now) (λ news.
         meant.RunsLoaded p trace client.entry.now olds server.entry.now news (held text)))))) }
+    ensures found { IfOk result (λ given. Tells (S.kept store.old) (λ files. Finds loaded_seen given (trees_held files (held text) client.entry.now server.entry.now))) }
     ensures unchanged { S.kept store.new ≡ S.kept store.old }
     ensures cause { StoreCause (S.count store.old) (S.count store.new) result }
 {
@@ -114,6 +122,8 @@ fn load_server<'a, S: Store>(
     ensures loads { IfOk result (λ given. Tells (S.kept store.old) (λ files. LoadsFor given (λ p trace.
         TakesOver (tree_at files server.entry.now) (λ news.
         meant.RunsLoaded p trace client.entry.root.now client.entry.files server.entry.now news (held text))))) }
+    ensures found { IfOk result (λ given. Tells (S.kept store.old) (λ files. Finds loaded_seen given
+        (server_held files (held text) (map file_seen client.entry.files) server.entry.now))) }
     ensures unchanged { S.kept store.new ≡ S.kept store.old }
     ensures cause { StoreCause (S.count store.old) (S.count store.new) result }
 {
@@ -143,8 +153,10 @@ fn run_given<K: Sink, L: Link>(
     sink: &mut K,
     link: &mut L,
 ) -> u8
-    ensures { let seen = seen_alone K.told K.count L.log L.is_faithful L.count in
+    ensures ran { let seen = seen_alone K.told K.count L.log L.is_faithful L.count in
         RanSome (TakesLoaded profile trace given.entry) (seen sink.old link.old) (seen sink.new link.new) result }
+    ensures exact { let seen = seen_alone K.told K.count L.log L.is_faithful L.count in
+        RunsGivenAs profile trace given.entry (seen sink.old link.old) (seen sink.new link.new) result }
 {
     match given {
         Ok(loaded) => run_loaded(alloc, profile, trace, loaded, sink, link),
@@ -171,9 +183,11 @@ fn run_loaded<K: Sink, L: Link>(
     sink: &mut K,
     link: &mut L,
 ) -> u8
-    ensures { let seen = seen_alone K.told K.count L.log L.is_faithful L.count in
+    ensures ran { let seen = seen_alone K.told K.count L.log L.is_faithful L.count in
         RanSome (meant.RunsLoaded profile trace loaded.entry.client.root.now loaded.entry.client.files loaded.entry.server.root.now loaded.entry.server.files (held loaded.entry.text))
         (seen sink.old link.old) (seen sink.new link.new) result }
+    ensures exact { let seen = seen_alone K.told K.count L.log L.is_faithful L.count in
+        RunsLoadedAs profile trace loaded.entry (seen sink.old link.old) (seen sink.new link.new) result }
 {
     match calls_in(alloc, loaded.text) {
         Ok(text) => run_client(
@@ -210,10 +224,15 @@ fn run_client<K: Sink, L: Link>(
     sink: &mut K,
     link: &mut L,
 ) -> u8
-    ensures { let seen = seen_alone K.told K.count L.log L.is_faithful L.count in
+    ensures ran { let seen = seen_alone K.told K.count L.log L.is_faithful L.count in
         RanSome (TakesChecked client.entry.root.now client.entry.files (λ A. TakesChecked server.entry.root.now server.entry.files (λ B course. course ≡ run_course profile A B trace text.items)))
         (seen sink.old link.old) (seen sink.new link.new) result }
+    ensures exact { let seen = seen_alone K.told K.count L.log L.is_faithful L.count in
+        (A B : List Decl) → IsSchemaOf client.entry.files A → IsSchemaOf server.entry.files B → RunsAs profile trace A B text.items (seen sink.old link.old) (seen sink.new link.new) result }
 {
+    let files = client.files.as_slice();
+    law_one_schema(files);
+    law_never_both(files);
     match checked(alloc, client.root, client.files) {
         Ok(schema) => run_server(alloc, profile, trace, &schema, server, text, sink, link),
         Err(early) => print_early(alloc, early, sink, link),
@@ -232,10 +251,15 @@ fn run_server<K: Sink, L: Link>(
     sink: &mut K,
     link: &mut L,
 ) -> u8
-    ensures { let seen = seen_alone K.told K.count L.log L.is_faithful L.count in
+    ensures ran { let seen = seen_alone K.told K.count L.log L.is_faithful L.count in
         RanSome (TakesChecked server.entry.root.now server.entry.files (λ B course. course ≡ run_course profile client.now.decls B trace text.items))
         (seen sink.old link.old) (seen sink.new link.new) result }
+    ensures exact { let seen = seen_alone K.told K.count L.log L.is_faithful L.count in
+        (B : List Decl) → IsSchemaOf server.entry.files B → RunsAs profile trace client.now.decls B text.items (seen sink.old link.old) (seen sink.new link.new) result }
 {
+    let files = server.files.as_slice();
+    law_one_schema(files);
+    law_never_both(files);
     match checked(alloc, server.root, server.files) {
         Ok(schema) => run_both(
             alloc,
@@ -263,7 +287,7 @@ fn run_both<K: Sink, L: Link>(
     link: &mut L,
 ) -> u8
     ensures { let seen = seen_alone K.told K.count L.log L.is_faithful L.count in
-        RanSome (λ course. course ≡ run_course profile client.now.decls server.now.decls trace calls.now) (seen sink.old link.old) (seen sink.new link.new) result }
+        RunsAs profile trace client.now.decls server.now.decls calls.now (seen sink.old link.old) (seen sink.new link.new) result }
 {
     run_trees(alloc, profile, client, server, trace, calls, sink, link)
 }

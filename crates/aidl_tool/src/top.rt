@@ -1,5 +1,7 @@
-ghost use Rattle.std.specs.Prelude.{◌≡◌, map, string_bytes};
+ghost use Rattle.std.specs.Prelude.{◌≡◌, Some, map, string_bytes};
+ghost use Rattle.tool_words.specs.Rows as table;
 ghost use Rattle.tool_words.specs.Seen.{command_seen};
+ghost use Rattle.aidl_tool.specs.Headline.{HeadlineOf};
 ghost use Rattle.aidl_tool.specs.Meant.{meaning, meant};
 ghost use Rattle.parcel_answers.specs.Decode.{profile_of};
 ghost use Rattle.tool_frame.specs.Ended.{Ran};
@@ -30,8 +32,12 @@ pub fn aidl<S: Store, K: Sink, L: Link>(
     sink: &mut K,
     link: &mut L,
 ) -> u8
-    ensures { let seen = seen_by S.kept S.count K.told K.count L.log L.is_faithful L.count in
+    // Exits, counts, and what was printed, written and carried.
+    ensures ran { let seen = seen_by S.kept S.count K.told K.count L.log L.is_faithful L.count in
         Ran (meant (map string_bytes words.now)) (seen store.old sink.old link.old) (seen store.new sink.new link.new) result }
+    // What the judge accepts, every call keeps.
+    ensures headline { let seen = seen_by S.kept S.count K.told K.count L.log L.is_faithful L.count in
+        HeadlineOf (table.command_of (map string_bytes words.now)) (seen store.old sink.old link.old) (seen store.new sink.new link.new) result }
 {
     match command_of(words) {
         None => refuse(alloc, store, sink, link),
@@ -47,8 +53,10 @@ fn carry_out<S: Store, K: Sink, L: Link>(
     sink: &mut K,
     link: &mut L,
 ) -> u8
-    ensures { let seen = seen_by S.kept S.count K.told K.count L.log L.is_faithful L.count in
+    ensures ran { let seen = seen_by S.kept S.count K.told K.count L.log L.is_faithful L.count in
         Ran (meaning (command_seen command.entry)) (seen store.old sink.old link.old) (seen store.new sink.new link.new) result }
+    ensures headline { let seen = seen_by S.kept S.count K.told K.count L.log L.is_faithful L.count in
+        HeadlineOf (Some (command_seen command.entry)) (seen store.old sink.old link.old) (seen store.new sink.new link.new) result }
 {
     match command {
         Command::Decode {

@@ -23,7 +23,7 @@ use std::{fs, io};
 use trees::try_trees;
 use tried::Tried;
 
-const FILES: [&str; 17] = [
+const FILES: [&str; 18] = [
     "words.rows",
     "decode.rows",
     "encode.rows",
@@ -41,6 +41,7 @@ const FILES: [&str; 17] = [
     "dumps.rows",
     "freezing.rows",
     "calls.rows",
+    "headline.rows",
 ];
 
 fn main(rt: HostRuntime) -> io::Result<()> {

@@ -1,19 +1,42 @@
-use Rattle.std.proofs.Common.{refl}
+use Rattle.std.proofs.Common.{refl, arith}
+use Rattle.aidl_tool.specs.Headline.{Headline}
 use Rattle.aidl_tool.specs.Running.{RunTakes}
-use Rattle.aidl_tool.specs.steps.Loading.{LoadsFor, TakesLoaded}
+use Rattle.aidl_tool.specs.steps.Loading.{LoadsFor, TakesLoaded, all_held, loaded_seen}
 use Rattle.aidl_tool.proofs.CourseEnds.{ended_lost, ended_some, lost_cause}
+use Rattle.aidl_tool.proofs.RunsOne.{headline_run, headline_stopped, tells_any}
+use Rattle.tool_frame.specs.Seen.{Seen, seen_by}
+use Rattle.tool_frame.specs.steps.Results.{Finds}
 use Rattle.tool_frame.proofs.Loaded.{tells}
 use Rattle.aidl_tool.proofs.running.run.Goals as goal
 
-pub returns-in-Ok : goal.returns-in-Ok
-returns-in-Ok g c =
+pub returns-in-Ok-clause-ends : goal.returns-in-Ok-clause-ends
+returns-in-Ok-clause-ends g c =
     ended_some (RunTakes c.args.profile c.args.trace c.args.client.now c.args.server.now c.args.calls.now) _ _ c.in-Ok.ensures.unchanged
     (TakesLoaded c.args.profile c.args.trace c.in-Ok.given) c.run_given.result c.in-Ok.ensures.cause
     (tells _ (λ files. LoadsFor c.in-Ok.given (λ p trace. RunTakes p trace c.args.client.now c.args.server.now c.args.calls.now files)) _
     (λ files loads. loads c.args.profile c.args.trace) c.in-Ok.ensures.loads)
-    c.run_given.ensures
+    c.run_given.ensures.ran
 
-pub returns-in-Err-OutOfMemory : goal.returns-in-Err-OutOfMemory
-returns-in-Err-OutOfMemory g c =
+pub returns-in-Ok-clause-headline : goal.returns-in-Ok-clause-headline
+returns-in-Ok-clause-headline g c =
+    let before : Seen =
+        seen_by g.S.Store.kept g.S.Store.count g.K.Sink.told g.K.Sink.count g.L.Link.log g.L.Link.is_faithful g.L.Link.count c.args.store.now c.args.sink.now c.args.link.now in
+    let now : Seen =
+        seen_by g.S.Store.kept g.S.Store.count g.K.Sink.told g.K.Sink.count g.L.Link.log g.L.Link.is_faithful g.L.Link.count c.load_calls.new.store c.run_given.new.sink c.run_given.new.link in
+    tells (g.S.Store.kept c.args.store.now) (λ files. Finds loaded_seen c.in-Ok.given (all_held files c.args.client.now c.args.server.now c.args.calls.now))
+    (λ files. Headline c.args.profile c.args.trace c.args.client.now c.args.server.now c.args.calls.now files before now c.run_given.result)
+    (headline_run c.args.profile c.args.trace c.args.client.now c.args.server.now c.args.calls.now before now c.run_given.result c.in-Ok.given
+    c.run_given.ensures.ran c.run_given.ensures.exact) c.in-Ok.ensures.found
+
+pub returns-in-Err-Failed-clause-headline : goal.returns-in-Err-Failed-clause-headline
+returns-in-Err-Failed-clause-headline g c =
+    tells_any _ _ (headline_stopped c.args.profile c.args.trace c.args.client.now c.args.server.now c.args.calls.now _ _ 3 (omega arith) (omega arith))
+
+pub returns-in-Err-OutOfMemory-clause-ends : goal.returns-in-Err-OutOfMemory-clause-ends
+returns-in-Err-OutOfMemory-clause-ends g c =
     ended_lost (RunTakes c.args.profile c.args.trace c.args.client.now c.args.server.now c.args.calls.now) _ _ c.in-Err-OutOfMemory.ensures.unchanged
     (lost_cause _ _ c.in-Err-OutOfMemory.field-0 c.in-Err-OutOfMemory.field-0-is c.in-Err-OutOfMemory.ensures.cause) refl
+
+pub returns-in-Err-OutOfMemory-clause-headline : goal.returns-in-Err-OutOfMemory-clause-headline
+returns-in-Err-OutOfMemory-clause-headline g c =
+    tells_any _ _ (headline_stopped c.args.profile c.args.trace c.args.client.now c.args.server.now c.args.calls.now _ _ 5 (omega arith) (omega arith))
