@@ -27,6 +27,7 @@ use Rattle.json_values.specs.FromJson as from
 use Rattle.json_values.specs.Json.{json_among}
 use Rattle.json_values.specs.Named.{bytes_of, enumerators_of, enumerators_of_decl, enumerators_of_kind, fields_in}
 use Rattle.json_values.specs.Refusal.{Answer}
+use Rattle.json_values.specs.steps.Levels.{chosen_from}
 use Rattle.json_values.proofs.Whole.{of_base}
 
 -- texts
@@ -82,6 +83,19 @@ among_back f n (e ∷ es) apart ranged whole = by (int_eq e.value n) refl (among
     by true is back later = rw (text_itself (bytes_of e.name)) (ap (λ m. Ok (number m)) ((Decides-int_eq e.value n).0 is))
     by false is back later = later ∙ back
 
+-- a name is that of one enumerator alone
+pub enumerator_at : (k : ℕ) (es : List Enumerator) (e : Enumerator) (s : List ℕ) → slice_get es k ≡ Some e → same_text (bytes_of e.name) s ≡ true → AreApart name_of_enumerator es
+    → from.enumerator_from es s ≡ Ok (number e.value)
+enumerator_at k [] e s at is apart = cc
+enumerator_at zero (g ∷ es) e s at is apart =
+    let same : g ≡ e = cc in
+    let here : same_text (bytes_of g.name) s ≡ true = ap (λ h. same_text (bytes_of h.name) s) same ∙ is in
+    rw here (ap (λ h. Ok (number h.value)) same)
+enumerator_at (suc k) (g ∷ es) e s at is apart =
+    let other : same_text (bytes_of g.name) s ≡ false =
+    text_apart (bytes_of g.name) s (λ same. first_apart name_of_enumerator g es apart k e at (encodes_same e.name.0 g.name.0 (text_is (bytes_of e.name) s is ∙ sym same))) in
+    rw other (enumerator_at k es e s at is (later_apart name_of_enumerator g es apart))
+
 -- it is not null
 pub among_there : (n : ℤ) (es : List Enumerator) → from.is_null (json_among es n) ≡ false
 among_there n [] = refl
@@ -115,6 +129,20 @@ alternative_back read j v n (suc k) (g ∷ fs) f at apart is =
     let other : from.has_name (bytes_of f.name) g ≡ false = text_apart (bytes_of g.name) (bytes_of f.name) (λ same. names_differ g fs apart k f at (sym same)) in
     let at_n : suc n + k ≡ n + suc k = omega arith in
     rw other (alternative_back read j v (suc n) k fs f at (later_fields g fs apart) is ∙ ap (λ m. Ok (alt m v)) at_n)
+
+-- a key is the name of one field alone
+pub alternative_at : (read : AidlType → json.Data → Answer Data) (j : json.Data) (key : List ℕ) (n k : ℕ) (fs : List Field) (f : Field) → slice_get fs k ≡ Some f → from.has_name key f ≡ true → AreApart name_of_field fs
+    → chosen_from read (n + k) f key j ≡ from.alternative_from read n fs key j
+alternative_at read j key n k [] f at is apart = cc
+alternative_at read j key n zero (g ∷ fs) f at is apart =
+    let same : g ≡ f = cc in
+    let here : from.has_name key g ≡ true = ap (λ h. from.has_name key h) same ∙ is in
+    let at_n : n + zero ≡ n = omega arith in
+    rw here (ap (λ m. chosen_from read m f key j) at_n ∙ ap (λ h. chosen_from read n h key j) (sym same))
+alternative_at read j key n (suc k) (g ∷ fs) f at is apart =
+    let other : from.has_name key g ≡ false = text_apart (bytes_of g.name) key (λ same. names_differ g fs apart k f at (text_is (bytes_of f.name) key is ∙ sym same)) in
+    let at_n : n + suc k ≡ suc n + k = omega arith in
+    rw other (ap (λ m. chosen_from read m f key j) at_n ∙ alternative_at read j key (suc n) k fs f at is (later_fields g fs apart))
 
 -- a field of these is one of the keys' names
 pub among_fields : (fs : List Field) (k : ℕ) (f : Field) → slice_get fs k ≡ Some f → list_any (λ g. from.has_name (bytes_of f.name) g) fs ≡ true

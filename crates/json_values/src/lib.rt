@@ -2,6 +2,7 @@
 #![tactic(auto)]
 
 mod fault;
+mod hints;
 mod laws;
 mod named;
 mod reading;

@@ -7,7 +7,7 @@ ghost use Rattle.aidl_schema.specs.Seen.{seen};
 ghost use Rattle.aidl_schema.specs.Types.{form_of};
 ghost use Rattle.aidl_schema.specs.Holds.{AreApart};
 ghost use Rattle.aidl_schema.specs.Same.{same_text};
-ghost use Rattle.aidl_values.specs.Data.{alt};
+ghost use Rattle.aidl_values.specs.Data.{alt, number};
 ghost use Rattle.aidl_values.specs.Fits.{Fits};
 ghost use Rattle.aidl_values.specs.View.{view, views};
 ghost use Rattle.json_values.specs.FromJson as answer;
@@ -15,13 +15,14 @@ ghost use Rattle.json_values.specs.FromJson.{from_json_of, from_by};
 ghost use Rattle.json_values.specs.Gives.{refusal_of};
 ghost use Rattle.json_values.specs.Named.{bytes_of, enumerators_of};
 ghost use Rattle.json_values.specs.Refusal.{escaped, within};
-ghost use Rattle.json_values.specs.steps.Levels.{part_from, default_of};
+ghost use Rattle.json_values.specs.steps.Levels.{part_from, default_of, chosen_from};
 ghost use Rattle.aidl_values.specs.steps.Levels.{is_level_left};
 ghost use Rattle.json_values.specs.steps.Gives.{Gives};
 
 use crate::fault::{Fault, JsonFault, Reason, below_index, below_key, refused, reported};
+use crate::hints::Hints;
 use crate::named::enumerators_in;
-use aidl_base::{Ident, Row, Text};
+use aidl_base::{Ident, OutOfMemory, Row, Text};
 use aidl_schema::{
     AidlType, Base, Enumerator, Field, Form, Schema, Shape, element, form_in, is_in_range,
     law_valid,
@@ -60,13 +61,15 @@ fn read_fitting(alloc: Global, schema: &Schema, ty: AidlType, json: &Json) -> Re
 {
     law_valid(schema);
     law_sound(schema);
-    read_within(alloc, schema, ty, LEVELS, json)
+    let mut hints = Hints::new(alloc);
+    read_within(alloc, schema, &mut hints, ty, LEVELS, json)
 }
 
 #[cycle(reading)]
-fn read_within(
+fn read_within<'a>(
     alloc: Global,
-    schema: &Schema,
+    schema: &'a Schema,
+    hints: &mut Hints<'a>,
     ty: AidlType,
     levels: usize,
     json: &Json,
@@ -74,13 +77,14 @@ fn read_within(
     requires { levels ≤ 64 }
     ensures { Gives view result (from_json_of schema.now.decls levels ty (json_view json.now)) }
 {
-    read(alloc, schema, ty, levels, json)
+    read(alloc, schema, hints, ty, levels, json)
 }
 
 #[cycle(reading)]
-fn read(
+fn read<'a>(
     alloc: Global,
-    schema: &Schema,
+    schema: &'a Schema,
+    hints: &mut Hints<'a>,
     ty: AidlType,
     levels: usize,
     json: &Json,
@@ -92,9 +96,9 @@ fn read(
         return Ok(Value::Null);
     }
     match ty.shape {
-        Shape::One => read_one(alloc, schema, ty.base, levels, json),
+        Shape::One => read_one(alloc, schema, hints, ty.base, levels, json),
         Shape::Array | Shape::List => {
-            read_sequence(alloc, schema, element(schema, ty), levels, json)
+            read_sequence(alloc, schema, hints, element(schema, ty), levels, json)
         }
     }
 }
@@ -108,9 +112,10 @@ fn is_absent(nullable: bool, json: &Json) -> bool
 
 // One value that is no sequence.
 #[cycle(reading)]
-fn read_one(
+fn read_one<'a>(
     alloc: Global,
-    schema: &Schema,
+    schema: &'a Schema,
+    hints: &mut Hints<'a>,
     base: Base,
     levels: usize,
     json: &Json,
@@ -125,11 +130,11 @@ fn read_one(
     match form {
         Form::Truth => read_truth(alloc, json),
         Form::Text => read_text(alloc, json),
-        Form::Parcelable(fields) => read_record(alloc, schema, fields, levels, json),
-        Form::Union(fields) => read_union(alloc, schema, fields, levels, json),
+        Form::Parcelable(fields) => read_record(alloc, schema, hints, base, fields, levels, json),
+        Form::Union(fields) => read_union(alloc, schema, hints, base, fields, levels, json),
         Form::Nothing => Err(refused(alloc, Reason::WrongShape)),
         Form::Byte | Form::Char | Form::Int | Form::Long => {
-            read_number(alloc, enumerators_in(schema, base), &form, json)
+            read_number(alloc, schema, hints, base, &form, json)
         }
     }
 }
@@ -156,17 +161,19 @@ fn read_text(alloc: Global, json: &Json) -> Result<Value, Fault>
 }
 
 // A byte, char, int or long, or a value of an enum.
-fn read_number(
+fn read_number<'a>(
     alloc: Global,
-    enumerators: Option<&[Enumerator]>,
+    schema: &'a Schema,
+    hints: &mut Hints<'a>,
+    base: Base,
     form: &Form<'_>,
     json: &Json,
 ) -> Result<Value, Fault>
-    ensures { Gives view result (answer.number_from (option_map (λ es. es.now) enumerators.entry) (seen form.now) (json_view json.now)) }
+    ensures { Gives view result (answer.number_from (enumerators_of schema.now.decls base) (seen form.now) (json_view json.now)) }
 {
     match json {
         Json::Number(number) => read_whole(alloc, form, number),
-        Json::String(name) => read_name(alloc, enumerators, name.as_str()),
+        Json::String(name) => read_name(alloc, schema, hints, base, name.as_str()),
         _ => Err(refused(alloc, Reason::WrongShape)),
     }
 }
@@ -182,21 +189,53 @@ fn read_whole(alloc: Global, form: &Form<'_>, number: &Number) -> Result<Value, 
     }
 }
 
-fn read_name(alloc: Global, enumerators: Option<&[Enumerator]>, name: &str) -> Result<Value, Fault>
-    ensures { Gives view result (answer.name_from (option_map (λ es. es.now) enumerators.entry) name.now) }
+fn read_name<'a>(
+    alloc: Global,
+    schema: &'a Schema,
+    hints: &mut Hints<'a>,
+    base: Base,
+    name: &str,
+) -> Result<Value, Fault>
+    ensures { Gives view result (answer.name_from (enumerators_of schema.now.decls base) name.now) }
 {
-    match enumerators {
-        Some(enumerators) => read_enumerator(alloc, enumerators, name),
+    law_valid(schema);
+    match enumerators_in(schema, base) {
+        Some(enumerators) => {
+            let place = hints.enumerator_place(alloc, base, enumerators, name)?;
+            read_enumerator(alloc, enumerators, place, name)
+        }
         None => Err(refused(alloc, Reason::WrongShape)),
     }
 }
 
-fn read_enumerator(alloc: Global, enumerators: &[Enumerator], name: &str) -> Result<Value, Fault>
+// The enumerator of a name is at the place, if it is told rightly; else all are gone through.
+fn read_enumerator(
+    alloc: Global,
+    enumerators: &[Enumerator],
+    place: usize,
+    name: &str,
+) -> Result<Value, Fault>
+    requires { AreApart (λ e. e.name.0) enumerators.now }
+    ensures { Gives view result (answer.enumerator_from enumerators.now name.now) }
+{
+    match enumerators.get(place) {
+        Some(enumerator) if is_called(&enumerator.name, name) => Ok(value_of(enumerator)),
+        _ => find_enumerator(alloc, enumerators, name),
+    }
+}
+
+fn value_of(enumerator: &Enumerator) -> Value
+    ensures { view result ≡ number enumerator.now.value }
+{
+    Value::Number(enumerator.value)
+}
+
+fn find_enumerator(alloc: Global, enumerators: &[Enumerator], name: &str) -> Result<Value, Fault>
     ensures { Gives view result (answer.enumerator_from enumerators.now name.now) }
 {
     for enumerator in enumerators {
         if is_called(&enumerator.name, name) {
-            return Ok(Value::Number(enumerator.value));
+            return Ok(value_of(enumerator));
         }
     }
     Err(refused(alloc, Reason::UnknownEnumerator))
@@ -210,9 +249,10 @@ fn is_called(name: &Ident, key: &str) -> bool
 
 // An array or a List of a type.
 #[cycle(reading)]
-fn read_sequence(
+fn read_sequence<'a>(
     alloc: Global,
-    schema: &Schema,
+    schema: &'a Schema,
+    hints: &mut Hints<'a>,
     ty: AidlType,
     levels: usize,
     json: &Json,
@@ -226,13 +266,14 @@ fn read_sequence(
     if levels == 0 {
         return Err(refused(alloc, Reason::TooDeep));
     }
-    read_elements(alloc, schema, ty, levels, items.as_slice())
+    read_elements(alloc, schema, hints, ty, levels, items.as_slice())
 }
 
 #[cycle(reading)]
-fn read_elements(
+fn read_elements<'a>(
     alloc: Global,
-    schema: &Schema,
+    schema: &'a Schema,
+    hints: &mut Hints<'a>,
     ty: AidlType,
     levels: usize,
     items: &[Json],
@@ -241,16 +282,17 @@ fn read_elements(
     requires few { levels ≤ 64 }
     ensures { Gives view result (answer.elements_from (λ j. part_from schema.now.decls levels ty j) (items_view items.now)) }
 {
-    match read_items(alloc, schema, ty, levels, items) {
+    match read_items(alloc, schema, hints, ty, levels, items) {
         Ok(values) => Ok(Value::Seq(values)),
         Err(fault) => Err(fault),
     }
 }
 
 #[cycle(reading)]
-fn read_items(
+fn read_items<'a>(
     alloc: Global,
-    schema: &Schema,
+    schema: &'a Schema,
+    hints: &mut Hints<'a>,
     ty: AidlType,
     levels: usize,
     items: &[Json],
@@ -261,15 +303,16 @@ fn read_items(
 {
     let mut values = Vec::with_capacity(alloc, items.len())?;
     for (i, item) in items.iter().enumerate() {
-        values.push(read_item(alloc, schema, ty, levels, i, item)?)?;
+        values.push(read_item(alloc, schema, hints, ty, levels, i, item)?)?;
     }
     Ok(Row::from_vec(values))
 }
 
 #[cycle(reading)]
-fn read_item(
+fn read_item<'a>(
     alloc: Global,
-    schema: &Schema,
+    schema: &'a Schema,
+    hints: &mut Hints<'a>,
     ty: AidlType,
     levels: usize,
     index: usize,
@@ -279,7 +322,7 @@ fn read_item(
     requires few { levels ≤ 64 }
     ensures { Gives view result (within (decimal index) (part_from schema.now.decls levels ty (json_view json.now))) }
 {
-    match read_within(alloc, schema, ty, levels - 1, json) {
+    match read_within(alloc, schema, hints, ty, levels - 1, json) {
         Ok(value) => Ok(value),
         Err(fault) => Err(below_index(alloc, index, fault)),
     }
@@ -287,10 +330,12 @@ fn read_item(
 
 // A parcelable.
 #[cycle(reading)]
-fn read_record(
+fn read_record<'a>(
     alloc: Global,
-    schema: &Schema,
-    fields: &[Field],
+    schema: &'a Schema,
+    hints: &mut Hints<'a>,
+    base: Base,
+    fields: &'a [Field],
     levels: usize,
     json: &Json,
 ) -> Result<Value, Fault>
@@ -304,14 +349,16 @@ fn read_record(
     if levels == 0 {
         return Err(refused(alloc, Reason::TooDeep));
     }
-    read_object(alloc, schema, fields, levels, members)
+    read_object(alloc, schema, hints, base, fields, levels, members)
 }
 
 #[cycle(reading)]
-fn read_object(
+fn read_object<'a>(
     alloc: Global,
-    schema: &Schema,
-    fields: &[Field],
+    schema: &'a Schema,
+    hints: &mut Hints<'a>,
+    base: Base,
+    fields: &'a [Field],
     levels: usize,
     members: &Map<String, Json>,
 ) -> Result<Value, Fault>
@@ -320,10 +367,10 @@ fn read_object(
     requires apart { AreApart (λ f. f.name.0) fields.now }
     ensures { Gives view result (answer.object_from (λ f. default_of schema.now.decls levels f) (λ u j. part_from schema.now.decls levels u j) fields.now (members_view members.now.entries)) }
 {
-    if let Err(fault) = check_keys(alloc, fields, members) {
+    if let Err(fault) = check_keys(alloc, hints, base, fields, members) {
         return Err(fault);
     }
-    match read_fields(alloc, schema, fields, levels, members) {
+    match read_fields(alloc, schema, hints, fields, levels, members) {
         Ok(values) => Ok(Value::Rec(values)),
         Err(fault) => Err(fault),
     }
@@ -331,7 +378,13 @@ fn read_object(
 
 // Refuses the least key that names no field. Where as many fields are found as there are keys, each key names one, so
 // the keys are looked through only for a refusal.
-fn check_keys(alloc: Global, fields: &[Field], members: &Map<String, Json>) -> Result<(), Fault>
+fn check_keys<'a>(
+    alloc: Global,
+    hints: &mut Hints<'a>,
+    base: Base,
+    fields: &'a [Field],
+    members: &Map<String, Json>,
+) -> Result<(), Fault>
     requires { AreApart (λ f. f.name.0) fields.now }
     ensures { Gives (λ _. tt) result (answer.known_from (answer.unknown_in fields.now (members_view members.now.entries))) }
 {
@@ -344,7 +397,7 @@ fn check_keys(alloc: Global, fields: &[Field], members: &Map<String, Json>) -> R
     if found == members.len() {
         return Ok(());
     }
-    match unknown_key(fields, members) {
+    match unknown_key(alloc, hints, base, fields, members)? {
         Some(key) => {
             let fault = refused(alloc, Reason::UnknownKey);
             Err(below_key(alloc, key, fault))
@@ -354,18 +407,36 @@ fn check_keys(alloc: Global, fields: &[Field], members: &Map<String, Json>) -> R
 }
 
 // The least key that names no field.
-fn unknown_key<'a>(fields: &[Field], members: &'a Map<String, Json>) -> Option<&'a str>
-    ensures { option_map (λ key. key.now) result ≡ answer.unknown_in fields.now (members_view members.now.entries) }
+fn unknown_key<'a, 'm>(
+    alloc: Global,
+    hints: &mut Hints<'a>,
+    base: Base,
+    fields: &'a [Field],
+    members: &'m Map<String, Json>,
+) -> Result<Option<&'m str>, OutOfMemory>
+    ensures { IfOk result (λ o. option_map (λ key. key.now) o ≡ answer.unknown_in fields.now (members_view members.now.entries)) }
 {
     for (key, _) in members.iter() {
-        if !has_field(fields, key.as_str()) {
-            return Some(key.as_str());
+        let name = key.as_str();
+        let place = hints.field_place(alloc, base, fields, name)?;
+        if !has_field(fields, place, name) {
+            return Ok(Some(name));
         }
     }
-    None
+    Ok(None)
 }
 
-fn has_field(fields: &[Field], key: &str) -> bool
+// A field of this name is at the place, if it is told rightly; else all are gone through.
+fn has_field(fields: &[Field], place: usize, key: &str) -> bool
+    ensures { result ≡ list_any (λ f. answer.has_name key.now f) fields.now }
+{
+    match fields.get(place) {
+        Some(field) if is_called(&field.name, key) => true,
+        _ => finds_field(fields, key),
+    }
+}
+
+fn finds_field(fields: &[Field], key: &str) -> bool
     ensures { result ≡ list_any (λ f. answer.has_name key.now f) fields.now }
 {
     for field in fields {
@@ -377,9 +448,10 @@ fn has_field(fields: &[Field], key: &str) -> bool
 }
 
 #[cycle(reading)]
-fn read_fields(
+fn read_fields<'a>(
     alloc: Global,
-    schema: &Schema,
+    schema: &'a Schema,
+    hints: &mut Hints<'a>,
     fields: &[Field],
     levels: usize,
     members: &Map<String, Json>,
@@ -390,15 +462,16 @@ fn read_fields(
 {
     let mut values = Vec::with_capacity(alloc, fields.len())?;
     for field in fields {
-        values.push(read_member(alloc, schema, field, levels, members)?)?;
+        values.push(read_member(alloc, schema, hints, field, levels, members)?)?;
     }
     Ok(Row::from_vec(values))
 }
 
 #[cycle(reading)]
-fn read_member(
+fn read_member<'a>(
     alloc: Global,
-    schema: &Schema,
+    schema: &'a Schema,
+    hints: &mut Hints<'a>,
     field: &Field,
     levels: usize,
     members: &Map<String, Json>,
@@ -408,7 +481,14 @@ fn read_member(
     ensures { Gives view result (within (escaped (bytes_of field.now.name)) (answer.field_from (λ f. default_of schema.now.decls levels f) (λ u j. part_from schema.now.decls levels u j) field.now (get_member (bytes_of field.now.name) (members_view members.now.entries)))) }
 {
     let name = field.name.0.as_str();
-    match read_field(alloc, schema, field, levels, member_of(members, name)) {
+    match read_field(
+        alloc,
+        schema,
+        hints,
+        field,
+        levels,
+        member_of(members, name),
+    ) {
         Ok(value) => Ok(value),
         Err(fault) => Err(below_key(alloc, name, fault)),
     }
@@ -421,9 +501,10 @@ fn member_of<'a>(members: &'a Map<String, Json>, name: &str) -> Option<&'a Json>
 }
 
 #[cycle(reading)]
-fn read_field(
+fn read_field<'a>(
     alloc: Global,
-    schema: &Schema,
+    schema: &'a Schema,
+    hints: &mut Hints<'a>,
     field: &Field,
     levels: usize,
     json: Option<&Json>,
@@ -433,7 +514,7 @@ fn read_field(
     ensures { Gives view result (answer.field_from (λ f. default_of schema.now.decls levels f) (λ u j. part_from schema.now.decls levels u j) field.now (option_map (λ j. json_view j.now) json.entry)) }
 {
     match json {
-        Some(json) => read_within(alloc, schema, field.ty, levels - 1, json),
+        Some(json) => read_within(alloc, schema, hints, field.ty, levels - 1, json),
         None => default_within(alloc, schema, field, levels - 1),
     }
 }
@@ -458,14 +539,17 @@ fn default_within(
 
 // A union.
 #[cycle(reading)]
-fn read_union(
+fn read_union<'a>(
     alloc: Global,
-    schema: &Schema,
-    fields: &[Field],
+    schema: &'a Schema,
+    hints: &mut Hints<'a>,
+    base: Base,
+    fields: &'a [Field],
     levels: usize,
     json: &Json,
 ) -> Result<Value, Fault>
     requires few { levels ≤ 64 }
+    requires apart { AreApart (λ f. f.name.0) fields.now }
     requires fields { length fields.now ≤ 4096 }
     ensures { Gives view result (answer.union_from (is_level_left levels) (λ u j. part_from schema.now.decls levels u j) fields.now (json_view json.now)) }
 {
@@ -478,7 +562,17 @@ fn read_union(
     if levels == 0 {
         return Err(refused(alloc, Reason::TooDeep));
     }
-    read_alternative(alloc, schema, fields, levels, key.as_str(), inner)
+    let place = hints.field_place(alloc, base, fields, key.as_str())?;
+    read_alternative(
+        alloc,
+        schema,
+        hints,
+        fields,
+        place,
+        levels,
+        key.as_str(),
+        inner,
+    )
 }
 
 fn only_member(members: &Map<String, Json>) -> Option<(&String, &Json)>
@@ -491,11 +585,38 @@ fn only_member(members: &Map<String, Json>) -> Option<(&String, &Json)>
     }
 }
 
-// The one member of a union's object, under the field that it names.
+// The one member of a union's object, under the field that it names: the one at the place, if it is told rightly; else all
+// are gone through.
 #[cycle(reading)]
-fn read_alternative(
+fn read_alternative<'a>(
     alloc: Global,
-    schema: &Schema,
+    schema: &'a Schema,
+    hints: &mut Hints<'a>,
+    fields: &[Field],
+    place: usize,
+    levels: usize,
+    key: &str,
+    json: &Json,
+) -> Result<Value, Fault>
+    requires left { 0 < levels }
+    requires few { levels ≤ 64 }
+    requires apart { AreApart (λ f. f.name.0) fields.now }
+    requires fields { length fields.now ≤ 4096 }
+    ensures { Gives view result (answer.alternative_from (λ u j. part_from schema.now.decls levels u j) 0 fields.now key.now (json_view json.now)) }
+{
+    match fields.get(place) {
+        Some(field) if is_called(&field.name, key) => {
+            read_chosen(alloc, schema, hints, field, place, levels, key, json)
+        }
+        _ => find_alternative(alloc, schema, hints, fields, levels, key, json),
+    }
+}
+
+#[cycle(reading)]
+fn find_alternative<'a>(
+    alloc: Global,
+    schema: &'a Schema,
+    hints: &mut Hints<'a>,
     fields: &[Field],
     levels: usize,
     key: &str,
@@ -508,14 +629,34 @@ fn read_alternative(
 {
     for (i, field) in fields.iter().enumerate() {
         if is_called(&field.name, key) {
-            return match read_within(alloc, schema, field.ty, levels - 1, json) {
-                Ok(value) => alternative(alloc, i as u32, value),
-                Err(fault) => Err(below_key(alloc, key, fault)),
-            };
+            return read_chosen(alloc, schema, hints, field, i, levels, key, json);
         }
     }
     let fault = refused(alloc, Reason::UnknownKey);
     Err(below_key(alloc, key, fault))
+}
+
+// The value of a union's field, which is the one at a place.
+#[cycle(reading)]
+fn read_chosen<'a>(
+    alloc: Global,
+    schema: &'a Schema,
+    hints: &mut Hints<'a>,
+    field: &Field,
+    place: usize,
+    levels: usize,
+    key: &str,
+    json: &Json,
+) -> Result<Value, Fault>
+    requires left { 0 < levels }
+    requires few { levels ≤ 64 }
+    requires place { place < 4096 }
+    ensures { Gives view result (chosen_from (λ u j. part_from schema.now.decls levels u j) place field.now key.now (json_view json.now)) }
+{
+    match read_within(alloc, schema, hints, field.ty, levels - 1, json) {
+        Ok(value) => alternative(alloc, place as u32, value),
+        Err(fault) => Err(below_key(alloc, key, fault)),
+    }
 }
 
 fn alternative(alloc: Global, tag: u32, value: Value) -> Result<Value, Fault>

@@ -1,5 +1,6 @@
-use Rattle.std.proofs.Common.{◌≡◌, false, inl, inr, refl, Ok, ◌++◌, ◌∷◌, [], map, sym, subst, ap, ◌∙◌, arith, rules}
+use Rattle.std.proofs.Common.{◌≡◌, length, zero-add, false, inl, inr, refl, Ok, ◌++◌, ◌∷◌, [], map, sym, subst, ap, ◌∙◌, arith, rules}
 use Rattle.std.proofs.lemmas.Grind.{common_steps}
+use Rattle.std.proofs.lemmas.Option.{slice_get_read}
 use Rattle.serde_json.specs.Data as json
 use Rattle.serde_json.specs.View.{view as json_view, items_view, members_view}
 use Rattle.serde_json.proofs.Views.{view-Array}
@@ -9,11 +10,14 @@ use Rattle.aidl_values.specs.View.{view, views}
 use Rattle.json_values.specs.FromJson.{elements_from, sequence_from}
 use Rattle.json_values.proofs.Parts.{from_json_of-by, from_by-sequence, sequence_from-some, items_more, items_done, fields_more, fields_done}
 use Rattle.json_values.proofs.Whole.{few_fields}
-use Rattle.json_values.proofs.Names.{name_of_field, fields_apart}
+use Rattle.json_values.proofs.Names.{name_of_field, fields_apart, alternative_at}
+use Rattle.aidl_schema.specs.declared.schema.AidlType.{AidlType}
+use Rattle.aidl_values.specs.Data.{Data}
+use Rattle.json_values.specs.Refusal.{Answer}
 use Rattle.json_values.specs.Named.{fields_in}
 use Rattle.aidl_schema.specs.Holds.{AreApart}
 use Rattle.json_values.proofs.reading.+reading.Goals as goal
-use Rattle.json_values.specs.steps.Levels.{part_from, default_of}
+use Rattle.json_values.specs.steps.Levels.{part_from, default_of, chosen_from}
 use Rattle.aidl_values.specs.steps.Levels.{is_level_left}
 use Rattle.json_values.specs.steps.Gives.{Gives}
 
@@ -49,7 +53,16 @@ read_one-read_record-requires t c =
     (search rules, (c.requires, subst (λ f. AreApart name_of_field (fields_in f)) (sym c.form_in-form.ensures ∙ ap seen c.in-Parcelable.is) (fields_apart c.args.schema.now.decls c.law_valid.ensures.declarations c.args.base)))
 
 pub read_one-read_union-requires : goal.read_one-read_union-requires
-read_one-read_union-requires t c = (search rules, (c.requires, few_fields c.args.schema.now.decls c.law_sound.ensures c.args.base c.in-Union.fields.now (sym c.form_in-form.ensures ∙ ap seen c.in-Union.is)))
+read_one-read_union-requires t c = (
+  search rules,
+  (
+    c.requires,
+    (
+      subst (λ f. AreApart name_of_field (fields_in f)) (sym c.form_in-form.ensures ∙ ap seen c.in-Union.is) (fields_apart c.args.schema.now.decls c.law_valid.ensures.declarations c.args.base),
+      few_fields c.args.schema.now.decls c.law_sound.ensures c.args.base c.in-Union.fields.now (sym c.form_in-form.ensures ∙ ap seen c.in-Union.is),
+    ),
+  ),
+)
 
 pub read-returns-in-Array : goal.read-returns-in-Array
 read-returns-in-Array t c =
@@ -71,3 +84,12 @@ read_sequence-returns t c =
     ∙ sequence_from-some d read (items_view items.items) (omega arith)
     ∙ ap (λ j. sequence_from (is_level_left d) read j) (sym (ap json_view c.in-Array.is ∙ view-Array items)))
     c.read_elements.ensures
+
+pub read_alternative-returns-in-Some : goal.read_alternative-returns-in-Some
+read_alternative-returns-in-Some t c =
+    let read : AidlType → json.Data → Answer Data = λ u k. part_from c.args.schema.now.decls c.args.levels u k in
+    let j = json_view c.args.json.now in
+    subst (Gives view c.read_chosen.result)
+    (ap (λ m. chosen_from read m c.in-Some.field.now c.args.key.now j) (sym (zero-add c.args.place))
+    ∙ alternative_at read j c.args.key.now 0 c.args.place c.args.fields.now c.in-Some.field.now (slice_get_read c.args.fields.now (length c.args.fields.now) c.args.place c.in-Some.field.now refl c.in-Some.ensures.lookup.3.0 c.in-Some.ensures.lookup.1) (sym c.is_called.ensures ∙ c.if-is_called.true) c.requires.1.1.1.1.0)
+    c.read_chosen.ensures

@@ -35,7 +35,13 @@ abbrev pub decreases-read_member : goal.decreases-read_member
 decreases-read_member l = 8 * l.levels + 1
 
 abbrev pub decreases-read_alternative : goal.decreases-read_alternative
-decreases-read_alternative l = 8 * l.levels
+decreases-read_alternative l = 8 * l.levels + 2
+
+abbrev pub decreases-find_alternative : goal.decreases-find_alternative
+decreases-find_alternative l = 8 * l.levels + 1
+
+abbrev pub decreases-read_chosen : goal.decreases-read_chosen
+decreases-read_chosen l = 8 * l.levels
 
 abbrev pub decreases-read_item : goal.decreases-read_item
 decreases-read_item l = 8 * l.levels
@@ -54,8 +60,8 @@ invariant-read_fields-loop-field l =
     ≡ fields_from (λ f. default_of l.schema.decls l.levels f) (λ u j. part_from l.schema.decls l.levels u j) l.fields (λ key. get_member key (members_view l.members.entries))
 
 -- what is left decides
-abbrev pub invariant-read_alternative-loop-i : goal.invariant-read_alternative-loop-i
-invariant-read_alternative-loop-i l =
+abbrev pub invariant-find_alternative-loop-i : goal.invariant-find_alternative-loop-i
+invariant-find_alternative-loop-i l =
     alternative_from (λ u j. part_from l.schema.decls l.levels u j) l.i (drop l.i l.fields) l.key (json_view l.json)
     ≡ alternative_from (λ u j. part_from l.schema.decls l.levels u j) 0 l.fields l.key (json_view l.json)
 
