@@ -124,7 +124,7 @@ same-place [] i x f lt a b = absurd (omega arith)
 same-place (y ∷ ys) zero x f lt a b = b ∙ sym a
 same-place (y ∷ ys) (suc i) x f lt a b = same-place ys i x f (omega arith) a b
 
-position-same : {X : Type 0} (p q : X → Bool) → ((x : X) → p x ≡ q x) → (k : ℕ) (xs : List X) → position_from p k xs ≡ position_from q k xs
+pub position-same : {X : Type 0} (p q : X → Bool) → ((x : X) → p x ≡ q x) → (k : ℕ) (xs : List X) → position_from p k xs ≡ position_from q k xs
 position-same p q h k [] = refl
 position-same p q h k (x ∷ xs) = rw (h x, position-same p q h (k + 1) xs) refl
 

@@ -12,3 +12,4 @@ pub mod Alike
 pub mod Named
 pub mod Through
 pub mod OfFiles
+pub mod Copies

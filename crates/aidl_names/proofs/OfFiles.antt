@@ -3,10 +3,11 @@ use Rattle.std.proofs.Common.{◌≡◌, ◌<◌, ◌≤◌, ℕ, zero, suc, Lis
 use Rattle.std.specs.List.{slice_get}
 use Rattle.std.proofs.lemmas.Option.{slice_get_read, slice_get_past, slice_get-map}
 use Rattle.aidl_base.specs.declared.name.Ident.{Ident}
+use Rattle.aidl_syntax.specs.declared.tree.DottedTree.{DottedTree}
 use Rattle.aidl_syntax.specs.declared.tree.ParsedFile.{ParsedFile}
 use Rattle.aidl_names.specs.declared.resolved.Resolved.{Resolved}
 use Rattle.aidl_names.specs.Declarations.{Entry, declarations}
-use Rattle.aidl_names.specs.Marks.{import_marks}
+use Rattle.aidl_names.specs.Imports.{meant_through, meant_in}
 use Rattle.aidl_names.specs.Resolution.{meaning_in_file, resolved}
 use Rattle.aidl_names.specs.Sources.{Source, source_of}
 
@@ -27,11 +28,17 @@ module _ (files : List ParsedFile) (number scope : ℕ) (name : List Ident) wher
   pub in_no_file : length files ≤ number → None ≡ resolved (map source_of files) number scope name
   in_no_file le = in_file None (slice_get_past files number le)
 
--- the table of a file's imports
-pub table_at : (files : List ParsedFile) (number : ℕ) (f : ParsedFile) (tables : List (List ℕ)) (t : List ℕ) → tables ≡ map import_marks (map source_of files) → number < length files
-    → f ≡ get_or files number f → t ≡ get_or tables number t → t ≡ import_marks (source_of f)
-table_at files number f tables t e lt is at = at ∙ ap (λ (z : List (List ℕ)). get_or z number t) e ∙ go files number lt is where
-  go : (fs : List ParsedFile) (n : ℕ) → n < length fs → f ≡ get_or fs n f → get_or (map import_marks (map source_of fs)) n t ≡ import_marks (source_of f)
-  go [] n l h = absurd (omega arith)
-  go (g ∷ fs) zero l h = ap (λ (z : ParsedFile). import_marks (source_of z)) (sym h)
-  go (g ∷ fs) (suc n) l h = go fs n (omega arith) h
+-- the imports of a file, by what names mean through them
+pub table_at : (files : List ParsedFile) (number : ℕ) (f : ParsedFile) (tables : List (List DottedTree)) (t : List DottedTree) → map meant_through tables ≡ map meant_in (map source_of files) → number < length files
+    → f ≡ get_or files number f → t ≡ get_or tables number t → meant_through t ≡ meant_in (source_of f)
+table_at files number f tables t e lt is at =
+    ap meant_through at ∙ read tables number ∙ ap (λ (z : List (List Entry → List Ident → Option Resolved)). get_or z number (meant_through t)) e ∙ go files number lt is where
+      read : (ts : List (List DottedTree)) (n : ℕ) → meant_through (get_or ts n t) ≡ get_or (map meant_through ts) n (meant_through t)
+      read [] n = refl
+      read (x ∷ ts) zero = refl
+      read (x ∷ ts) (suc n) = read ts n
+
+      go : (fs : List ParsedFile) (n : ℕ) → n < length fs → f ≡ get_or fs n f → get_or (map meant_in (map source_of fs)) n (meant_through t) ≡ meant_in (source_of f)
+      go [] n l h = absurd (omega arith)
+      go (g ∷ fs) zero l h = ap (λ (z : ParsedFile). meant_in (source_of z)) (sym h)
+      go (g ∷ fs) (suc n) l h = go fs n (omega arith) h

@@ -13,3 +13,4 @@ pub mod Places
 pub mod TypeRules
 pub mod Marks
 pub mod Tables
+pub mod Imports

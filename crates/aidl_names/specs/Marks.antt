@@ -1,11 +1,10 @@
 -- A number for each name, by which it is looked up: names that are the same have the same number.
-use Rattle.std.specs.Prelude.{ℕ, ◌+◌, ◌*◌, ◌%◌, List, map}
+use Rattle.std.specs.Prelude.{ℕ, ◌+◌, ◌*◌, ◌%◌, List}
 use Rattle.std.specs.List.{fold}
 use Rattle.aidl_base.specs.declared.name.Ident.{Ident}
 use Rattle.aidl_syntax.specs.declared.tree.DottedTree.{DottedTree}
 use Rattle.aidl_names.specs.Names.{text, last}
 use Rattle.aidl_names.specs.Declarations.{Entry}
-use Rattle.aidl_names.specs.Sources.{Source}
 
 -- One more byte: a number to the base 257, modulo the largest prime below 2 ^ 55, so that a step fits in 64 bits.
 unfoldable pub with_byte : ℕ → ℕ → ℕ
@@ -24,7 +23,3 @@ mark_of_entry e = mark_of e.name
 -- the mark of the last part of an import
 abbrev pub mark_of_last : DottedTree → ℕ
 mark_of_last i = mark_of (last i.name.0)
-
--- those of the imports of a file
-abbrev pub import_marks : Source → List ℕ
-import_marks s = map mark_of_last s.tree.imports

@@ -2,7 +2,7 @@ ghost use Rattle.std.specs.Prelude.{◌≡◌, ◌≤◌, ◌<◌, ◌++◌, ◌
 ghost use Rattle.std.specs.List.{position_from};
 ghost use Rattle.aidl_names.specs.Sources.{source_of};
 ghost use Rattle.aidl_names.specs.Rules.{in_each, unknown_imports, other_imports};
-ghost use Rattle.aidl_names.specs.Marks.{import_marks, mark_of_entry, mark_of_last};
+ghost use Rattle.aidl_names.specs.Marks.{mark_of_entry, mark_of_last};
 ghost use Rattle.aidl_names.specs.Tables.{is_alike};
 ghost use Rattle.aidl_names.specs.Refusals.{entry_of};
 
@@ -56,15 +56,13 @@ fn add_unknown(
 pub fn add_other_imports(
     alloc: Global,
     files: &[ParsedFile],
-    tables: &[Table],
     rows: &mut Vec<Breach>,
 ) -> Result<(), OutOfMemory>
     requires files { length files.now ≤ 4096 }
-    requires tables { tables.now ≡ map import_marks (map source_of files.now) }
     ensures { OnOk result (rows.new.items ≡ rows.old.items ++ in_each other_imports 0 (map source_of files.now)) }
 {
     for (i, file) in files.iter().enumerate() {
-        add_others(alloc, i as u32, file, &tables[i], rows)?;
+        add_others(alloc, i as u32, file, rows)?;
     }
     Ok(())
 }
@@ -74,16 +72,15 @@ fn add_others(
     alloc: Global,
     number: u32,
     file: &ParsedFile,
-    table: &Table,
     rows: &mut Vec<Breach>,
 ) -> Result<(), OutOfMemory>
-    requires { table.now ≡ import_marks (source_of file.now) }
     ensures { OnOk result (rows.new.items ≡ rows.old.items ++ other_imports number (source_of file.now)) }
 {
     let imports = file.tree.imports.as_slice();
+    let table = Table::new(alloc, last_marks(alloc, imports)?)?;
     let mut differ = Vec::from_elem(alloc, false, imports.len())?;
     for (i, import) in imports.iter().enumerate() {
-        let first = first_place(imports, table, i, import);
+        let first = first_place(imports, &table, i, import);
         let another = !same(imports[first].name.0.as_slice(), import.name.0.as_slice());
         let other = either(differ[first], another);
         differ[first] = other;
@@ -98,27 +95,22 @@ fn either(a: bool, b: bool) -> bool
     a || b
 }
 
-/// For each file a table of the marks of the last parts of its imports.
-pub fn import_tables(alloc: Global, files: &[ParsedFile]) -> Result<Vec<Table>, OutOfMemory>
-    ensures { IfOk result (λ tables. tables.items ≡ map import_marks (map source_of files.now)) }
-{
-    let mut tables = Vec::with_capacity(alloc, files.len())?;
-    for file in files {
-        let marks = last_marks(alloc, file.tree.imports.as_slice())?;
-        tables.push(Table::new(alloc, marks)?)?;
-    }
-    Ok(tables)
-}
-
 // The marks of the last parts of imports.
 fn last_marks(alloc: Global, imports: &[DottedTree]) -> Result<Vec<u64>, OutOfMemory>
     ensures { IfOk result (λ marks. marks.items ≡ map mark_of_last imports.now) }
 {
     let mut marks = Vec::with_capacity(alloc, imports.len())?;
     for import in imports {
-        marks.push(with_parts(0, last(import.name.0.as_slice())))?;
+        marks.push(last_mark(import))?;
     }
     Ok(marks)
+}
+
+/// The mark of the last part of an import. It takes no memory.
+pub fn last_mark(import: &DottedTree) -> u64
+    ensures { result ≡ mark_of_last import.now }
+{
+    with_parts(0, last(import.name.0.as_slice()))
 }
 
 // The place of the first import that has the last part of the one at a place. It takes no memory.

@@ -6,6 +6,7 @@ mod canonical;
 mod duplicates;
 mod fault;
 mod files;
+mod imported;
 mod imports;
 mod limits;
 mod marks;

@@ -7,14 +7,16 @@ ghost use Rattle.aidl_names.specs.Called.{called_at};
 ghost use Rattle.aidl_names.specs.MemberViews.{seen_member};
 ghost use Rattle.aidl_syntax.specs.Trees.{map_option};
 ghost use Rattle.aidl_names.specs.Resolution.{resolved};
-ghost use Rattle.aidl_names.specs.Marks.{import_marks, mark_of_entry};
+ghost use Rattle.aidl_names.specs.Imports.{meant_through, meant_in};
+ghost use Rattle.aidl_names.specs.Marks.{mark_of_entry};
 ghost use Rattle.aidl_names.specs.Refusals.{IsAccepted, IsRefusal, IsScope, entry_of};
 
 use crate::called::{called, members_by_name};
 use crate::duplicates::{add_repeated, add_taken};
 use crate::fault::{NameFault, WalkFault};
 use crate::files::add_wrong_files;
-use crate::imports::{add_other_imports, add_unknown_imports, import_tables};
+use crate::imported::{Imports, imports_of_files};
+use crate::imports::{add_other_imports, add_unknown_imports};
 use crate::limits::passed;
 use crate::marks::marks;
 use crate::members::MemberRef;
@@ -46,7 +48,7 @@ pub struct Names<'a> {
     files: &'a [ParsedFile],
     found: Vec<Found<'a>>,
     table: Table,
-    imports: Vec<Table>,
+    imports: Vec<Imports<'a>>,
     members: Vec<IndexMap<&'a str, MemberRef<'a>>>,
 }
 
@@ -57,7 +59,8 @@ impl<'a> Model for Names<'a> {
     ghost use Rattle.aidl_syntax.specs.contracts.tree.ParsedFile as parsed_file;
     ghost use Rattle.aidl_names.specs.Sources.{AreOfBytes, source_of};
     ghost use Rattle.aidl_names.specs.Declarations.{declarations};
-    ghost use Rattle.aidl_names.specs.Marks.{import_marks, mark_of_entry};
+    ghost use Rattle.aidl_names.specs.Imports.{meant_through, meant_in};
+    ghost use Rattle.aidl_names.specs.Marks.{mark_of_entry};
     ghost use Rattle.aidl_names.specs.Refusals.{IsAccepted, entry_of};
     ghost use Rattle.aidl_names.specs.Called.{called, seen_table};
 
@@ -71,7 +74,7 @@ impl<'a> Model for Names<'a> {
       of_bytes : AreOfBytes names.files.now;
       accepted : IsAccepted (map source_of names.files.now);
       marks : names.table ≡ map mark_of_entry (map entry_of names.found.items);
-      imports : names.imports.items ≡ map import_marks (map source_of names.files.now);
+      imports : map meant_through names.imports.items ≡ map meant_in (map source_of names.files.now);
       all : map entry_of names.found.items ≡ declarations (map source_of names.files.now);
       called : map seen_table names.members.items ≡ map called (declarations (map source_of names.files.now));
     } };
@@ -137,7 +140,7 @@ pub fn gather<'a>(alloc: Global, files: &'a [ParsedFile]) -> Result<Names<'a>, N
         return Err(limit(which));
     }
     let table = Table::new(alloc, marks(alloc, found.as_slice())?)?;
-    let imports = import_tables(alloc, files)?;
+    let imports = imports_of_files(alloc, files)?;
     let rows = breaches(alloc, files, found.as_slice(), &table, imports.as_slice())?;
     if rows.len() > 0 {
         return Err(NameFault::Breaches(rows));
@@ -164,12 +167,12 @@ fn breaches(
     files: &[ParsedFile],
     found: &[Found<'_>],
     table: &Table,
-    imports: &[Table],
+    imports: &[Imports<'_>],
 ) -> Result<Row<Breach>, OutOfMemory>
     requires files { length files.now ≤ 4096 }
     requires count { length found.now ≤ 16384 }
     requires table { table.now ≡ map mark_of_entry (map entry_of found.now) }
-    requires imports { imports.now ≡ map import_marks (map source_of files.now) }
+    requires imports { map meant_through imports.now ≡ map meant_in (map source_of files.now) }
     requires all { map entry_of found.now ≡ declarations (map source_of files.now) }
     ensures { IfOk result (λ rows. rows ≡ breaches (map source_of files.now)) }
 {
@@ -177,7 +180,7 @@ fn breaches(
     add_wrong_files(alloc, files, &mut rows)?;
     add_repeated(alloc, found, &mut rows)?;
     add_taken(found, table, &mut rows)?;
-    add_other_imports(alloc, files, imports, &mut rows)?;
+    add_other_imports(alloc, files, &mut rows)?;
     add_unknown_imports(found, table, files, &mut rows)?;
     add_types(
         alloc,

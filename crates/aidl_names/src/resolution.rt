@@ -2,18 +2,20 @@ ghost use Rattle.std.specs.Prelude.{◌≡◌, ◌++◌, ◌≤◌, [], ◌∷�
 ghost use Rattle.aidl_names.specs.Names.{text, same, last, parts_of};
 ghost use Rattle.aidl_names.specs.Sources.{source_of};
 ghost use Rattle.aidl_names.specs.Declarations.{declarations};
-ghost use Rattle.aidl_names.specs.Resolution.{number_of, candidates, first_declared, enclosing, imported, meaning_of_word, own_meaning, meaning_in_file, resolved};
-ghost use Rattle.aidl_names.specs.Marks.{import_marks, mark_of, mark_of_entry, mark_of_last};
+ghost use Rattle.aidl_names.specs.Resolution.{number_of, candidates, first_declared, enclosing, meaning_of_word, own_meaning, meaning_in_file, resolved};
+ghost use Rattle.aidl_names.specs.Imports.{meant_through, meant_in};
+ghost use Rattle.aidl_names.specs.Marks.{mark_of, mark_of_entry};
 ghost use Rattle.aidl_names.specs.Refusals.{entry_of};
 
-use crate::marks::{with_part, with_parts};
+use crate::imported::{Imports, in_imports};
+use crate::marks::with_parts;
 use crate::names::Found;
 use crate::resolved::{BuiltinName, Resolved};
 use crate::same::{is_joined, same_part};
 use crate::table::Table;
 use crate::walk::package;
 use aidl_base::Ident;
-use aidl_syntax::{DottedTree, ParsedFile};
+use aidl_syntax::ParsedFile;
 
 /// The number of the first declaration whose canonical name is a front, which has this mark, with a back behind it. It
 /// takes no memory.
@@ -39,7 +41,8 @@ pub fn number_of(
     None
 }
 
-fn declared(
+/// What a front with a back behind it is declared as. It takes no memory.
+pub fn declared(
     found: &[Found<'_>],
     table: &Table,
     mark: u64,
@@ -62,21 +65,21 @@ pub fn resolved(
     files: &[ParsedFile],
     found: &[Found<'_>],
     table: &Table,
-    imports: &[Table],
+    imports: &[Imports<'_>],
     number: u32,
     scope: u32,
     name: &[Ident],
 ) -> Option<Resolved>
     requires count { length found.now ≤ 16384 }
     requires table { table.now ≡ map mark_of_entry (map entry_of found.now) }
-    requires imports { imports.now ≡ map import_marks (map source_of files.now) }
+    requires imports { map meant_through imports.now ≡ map meant_in (map source_of files.now) }
     requires all { map entry_of found.now ≡ declarations (map source_of files.now) }
     ensures { result ≡ resolved (map source_of files.now) number scope name.now }
 {
     match files.get(number as usize) {
         Some(file) => {
-            let marks = &imports[number as usize];
-            meaning_in_file(found, table, marks, file, scope, name)
+            let imports = &imports[number as usize];
+            meaning_in_file(found, table, imports, file, scope, name)
         }
         None => None,
     }
@@ -85,19 +88,19 @@ pub fn resolved(
 fn meaning_in_file(
     found: &[Found<'_>],
     table: &Table,
-    marks: &Table,
+    imports: &Imports<'_>,
     file: &ParsedFile,
     scope: u32,
     name: &[Ident],
 ) -> Option<Resolved>
     requires count { length found.now ≤ 16384 }
     requires table { table.now ≡ map mark_of_entry (map entry_of found.now) }
-    requires marks { marks.now ≡ import_marks (source_of file.now) }
+    requires imports { meant_through imports.now ≡ meant_in (source_of file.now) }
     ensures { result ≡ meaning_in_file (map entry_of found.now) (source_of file.now) scope name.now }
 {
     match own_meaning(name) {
         Some(meaning) => Some(meaning),
-        None => first_declared(found, table, marks, file, scope, name),
+        None => first_declared(found, table, imports, file, scope, name),
     }
 }
 
@@ -105,14 +108,14 @@ fn meaning_in_file(
 fn first_declared(
     found: &[Found<'_>],
     table: &Table,
-    marks: &Table,
+    imports: &Imports<'_>,
     file: &ParsedFile,
     scope: u32,
     name: &[Ident],
 ) -> Option<Resolved>
     requires count { length found.now ≤ 16384 }
     requires table { table.now ≡ map mark_of_entry (map entry_of found.now) }
-    requires marks { marks.now ≡ import_marks (source_of file.now) }
+    requires imports { meant_through imports.now ≡ meant_in (source_of file.now) }
     ensures { result ≡ first_declared (map entry_of found.now) (candidates (map entry_of found.now) (source_of file.now) scope name.now) }
 {
     match declared(found, table, 0, &[], name) {
@@ -123,7 +126,7 @@ fn first_declared(
         Some(meaning) => return Some(meaning),
         None => {}
     }
-    match in_imports(found, table, marks, file.tree.imports.as_slice(), name) {
+    match in_imports(found, table, imports, name) {
         Some(meaning) => return Some(meaning),
         None => {}
     }
@@ -152,69 +155,6 @@ fn in_enclosing(
     match declared(found, table, mark, around.name.0.as_slice(), name) {
         Some(meaning) => Some(meaning),
         None => in_enclosing(found, table, levels - 1, around.outer, name),
-    }
-}
-
-// Through the imports that end in the name's first part, in order.
-fn in_imports(
-    found: &[Found<'_>],
-    table: &Table,
-    marks: &Table,
-    imports: &[DottedTree],
-    name: &[Ident],
-) -> Option<Resolved>
-    requires count { length found.now ≤ 16384 }
-    requires table { table.now ≡ map mark_of_entry (map entry_of found.now) }
-    requires marks { marks.now ≡ map mark_of_last imports.now }
-    ensures { result ≡ first_declared (map entry_of found.now) (imported imports.now name.now) }
-{
-    match name {
-        [first, rest @ ..] => in_imports_of(found, table, marks, imports, first, rest),
-        [] => None,
-    }
-}
-
-fn in_imports_of(
-    found: &[Found<'_>],
-    table: &Table,
-    marks: &Table,
-    imports: &[DottedTree],
-    first: &Ident,
-    rest: &[Ident],
-) -> Option<Resolved>
-    requires count { length found.now ≤ 16384 }
-    requires table { table.now ≡ map mark_of_entry (map entry_of found.now) }
-    requires marks { marks.now ≡ map mark_of_last imports.now }
-    ensures { result ≡ first_declared (map entry_of found.now) (imported imports.now (first.now ∷ rest.now)) }
-{
-    let mut at = marks.first(with_part(0, first));
-    'places: while let Some(place) = at {
-        match through(found, table, &imports[place], first, rest) {
-            Some(meaning) => return Some(meaning),
-            None => {}
-        }
-        at = marks.next(place);
-    }
-    None
-}
-
-// Through one import, where it ends in the name's first part.
-fn through(
-    found: &[Found<'_>],
-    table: &Table,
-    import: &DottedTree,
-    first: &Ident,
-    rest: &[Ident],
-) -> Option<Resolved>
-    requires count { length found.now ≤ 16384 }
-    requires table { table.now ≡ map mark_of_entry (map entry_of found.now) }
-    ensures { result ≡ first_declared (map entry_of found.now) (imported (import.now ∷ []) (first.now ∷ rest.now)) }
-{
-    let parts = import.name.0.as_slice();
-    if ends_in(parts, first) {
-        declared(found, table, with_parts(0, parts), parts, rest)
-    } else {
-        None
     }
 }
 

@@ -7,9 +7,11 @@ ghost use Rattle.aidl_names.specs.Declarations.{declarations};
 ghost use Rattle.aidl_names.specs.Rules.{types_in, types_where, type_names, names_of_type, is_left_out, is_interface, is_interface_body};
 ghost use Rattle.aidl_names.specs.MemberViews.{seen_member};
 ghost use Rattle.aidl_names.specs.TypeRules.{breaks_of, rule_of};
-ghost use Rattle.aidl_names.specs.Marks.{import_marks, mark_of_entry};
+ghost use Rattle.aidl_names.specs.Imports.{meant_through, meant_in};
+ghost use Rattle.aidl_names.specs.Marks.{mark_of_entry};
 ghost use Rattle.aidl_names.specs.Refusals.{entry_of};
 
+use crate::imported::Imports;
 use crate::members::{MemberRef, members};
 use crate::names::Found;
 use crate::resolution::resolved;
@@ -46,13 +48,13 @@ pub fn add_types(
     files: &[ParsedFile],
     found: &[Found<'_>],
     table: &Table,
-    imports: &[Table],
+    imports: &[Imports<'_>],
     rule: TypeRule,
     rows: &mut Vec<Breach>,
 ) -> Result<(), OutOfMemory>
     requires count { length found.now ≤ 16384 }
     requires table { table.now ≡ map mark_of_entry (map entry_of found.now) }
-    requires imports { imports.now ≡ map import_marks (map source_of files.now) }
+    requires imports { map meant_through imports.now ≡ map meant_in (map source_of files.now) }
     requires all { map entry_of found.now ≡ declarations (map source_of files.now) }
     ensures { OnOk result (rows.new.items ≡ rows.old.items ++ types_where (breaks_of rule (map source_of files.now)) (rule_of rule) (map source_of files.now)) }
 {
@@ -68,7 +70,7 @@ fn add_types_in(
     files: &[ParsedFile],
     found: &[Found<'_>],
     table: &Table,
-    imports: &[Table],
+    imports: &[Imports<'_>],
     rule: TypeRule,
     number: u32,
     inside: &Found<'_>,
@@ -76,7 +78,7 @@ fn add_types_in(
 ) -> Result<(), OutOfMemory>
     requires count { length found.now ≤ 16384 }
     requires table { table.now ≡ map mark_of_entry (map entry_of found.now) }
-    requires imports { imports.now ≡ map import_marks (map source_of files.now) }
+    requires imports { map meant_through imports.now ≡ map meant_in (map source_of files.now) }
     requires all { map entry_of found.now ≡ declarations (map source_of files.now) }
     ensures { OnOk result (rows.new.items ≡ rows.old.items ++ types_in (breaks_of rule (map source_of files.now)) (rule_of rule) number (entry_of inside.now)) }
 {
@@ -101,7 +103,7 @@ fn breaks(
     files: &[ParsedFile],
     found: &[Found<'_>],
     table: &Table,
-    imports: &[Table],
+    imports: &[Imports<'_>],
     rule: TypeRule,
     file: u32,
     scope: u32,
@@ -109,7 +111,7 @@ fn breaks(
 ) -> bool
     requires count { length found.now ≤ 16384 }
     requires table { table.now ≡ map mark_of_entry (map entry_of found.now) }
-    requires imports { imports.now ≡ map import_marks (map source_of files.now) }
+    requires imports { map meant_through imports.now ≡ map meant_in (map source_of files.now) }
     requires all { map entry_of found.now ≡ declarations (map source_of files.now) }
     ensures { result ≡ breaks_of rule (map source_of files.now) file scope name.now }
 {

@@ -1,7 +1,10 @@
-use Rattle.std.proofs.Common.{◌++◌, ◌∷◌, [], Some, None, refl, sym, ◌∙◌, ap, map}
+use Rattle.std.proofs.Common.{List, ◌++◌, ◌∷◌, [], Option, Some, None, refl, sym, ◌∙◌, ap, map}
 use Rattle.std.proofs.lemmas.List.{length-map}
+use Rattle.aidl_base.specs.declared.name.Ident.{Ident}
+use Rattle.aidl_names.specs.Declarations.{Entry}
+use Rattle.aidl_names.specs.declared.resolved.Resolved.{Resolved}
 use Rattle.aidl_names.specs.Sources.{source_of}
-use Rattle.aidl_names.specs.Resolution.{first_declared, imported}
+use Rattle.aidl_names.specs.Resolution.{first_declared}
 use Rattle.aidl_names.specs.Refusals.{entry_of}
 use Rattle.aidl_names.proofs.Candidates.{tried}
 use Rattle.aidl_names.proofs.resolution.first_declared.Goals as goal
@@ -15,11 +18,11 @@ pub returns-in-Some-in_imports : goal.returns-in-Some-in_imports
 returns-in-Some-in_imports c =
     tried (map entry_of c.args.found.now) (source_of c.args.file.now) c.args.scope _ c.args.name.now None None (Some c.in-Some-in_imports.meaning) _
     c.in-None.ensures (sym (length-map c.args.found.now entry_of)) c.in-None-in_enclosing.ensures
-    (c.in-Some-in_imports.ensures ∙ ap (λ imports. first_declared (map entry_of c.args.found.now) (imported imports c.args.name.now)) c.as_slice.ensures) refl
+    (c.in-Some-in_imports.ensures ∙ ap (λ (m : List Entry → List Ident → Option Resolved). m (map entry_of c.args.found.now) c.args.name.now) c.requires.imports) refl
 
 pub returns : goal.returns
 returns c =
     tried (map entry_of c.args.found.now) (source_of c.args.file.now) c.args.scope _ c.args.name.now None None None c.declared-2.result
     c.in-None.ensures (sym (length-map c.args.found.now entry_of)) c.in-None-in_enclosing.ensures
-    (c.in-None-in_imports.ensures ∙ ap (λ imports. first_declared (map entry_of c.args.found.now) (imported imports c.args.name.now)) c.as_slice.ensures)
+    (c.in-None-in_imports.ensures ∙ ap (λ (m : List Entry → List Ident → Option Resolved). m (map entry_of c.args.found.now) c.args.name.now) c.requires.imports)
     (c.declared-2.ensures ∙ ap (λ front. first_declared (map entry_of c.args.found.now) ((front ++ c.args.name.now) ∷ [])) c.package-front.ensures)

@@ -3,8 +3,8 @@ use Rattle.aidl_names.specs.Refusals.{entry_of}
 use Rattle.aidl_names.proofs.OfFiles.{in_some_file, in_no_file, table_at}
 use Rattle.aidl_names.proofs.resolution.resolved.Goals as goal
 
-pub meaning_in_file-requires-clause-marks : goal.meaning_in_file-requires-clause-marks
-meaning_in_file-requires-clause-marks c =
+pub meaning_in_file-requires-clause-imports : goal.meaning_in_file-requires-clause-imports
+meaning_in_file-requires-clause-imports c =
     table_at c.args.files.now c.args.number c.in-Some.file.now c.args.imports.now c.index-imports-number.result c.requires.imports c.in-Some.ensures.lookup.3.0 c.in-Some.ensures.lookup.1 c.index-imports-number.is
 
 pub returns-in-Some : goal.returns-in-Some

@@ -4,12 +4,12 @@ use Rattle.aidl_names.specs.Resolution.{first_declared, imported}
 use Rattle.aidl_names.specs.Refusals.{entry_of}
 use Rattle.aidl_names.proofs.Chains.{HasMark, left}
 use Rattle.aidl_names.proofs.Through.{searched_at, through}
-use Rattle.aidl_names.proofs.resolution.in_imports_of.Given as goal
+use Rattle.aidl_names.proofs.imported.in_imports_of.Given as goal
 
 -- through none of those so far
 abbrev pub invariant-places : goal.invariant-places
 invariant-places l = record {
-  rest : searched_at (through (map entry_of l.found) l.first l.rest) l.imports l.at ≡ first_declared (map entry_of l.found) (imported l.imports (l.first ∷ l.rest));
+  rest : searched_at (through (map entry_of l.found) l.first l.rest) (map (λ d. d.now) l.imports) l.at ≡ first_declared (map entry_of l.found) (imported (map (λ d. d.now) l.imports) (l.first ∷ l.rest));
   marked : HasMark l.marks (mark_of (l.first ∷ [])) l.at;
 }
 
