@@ -1,5 +1,5 @@
 -- Over a link that delivers what was sent a call comes to its outcome.
-use Rattle.std.proofs.Common.{◌≡◌, ℕ, ◌+◌, ◌==◌, Bool, true, false, cond, List, [], ◌∷◌, Option, Some, None, option_map, slice_get, Result, Ok, Err, ℤ, refl, sym, ap, ◌∙◌, subst, arith}
+use Rattle.std.proofs.Common.{◌≡◌, ℕ, ◌+◌, ◌<◌, length, ◌==◌, Bool, true, false, cond, List, [], ◌∷◌, Option, Some, None, option_map, slice_get, Result, Ok, Err, ℤ, refl, sym, ap, ◌∙◌, subst, arith}
 use Rattle.std.specs.Prelude.{if◌then◌else◌}
 use Rattle.std.specs.List.{position, position_from}
 use Rattle.std.specs.Str.{encode_utf8_all}
@@ -19,11 +19,11 @@ use Rattle.aidl_values.specs.Data.{Items}
 use Rattle.call_parcels.specs.Sent.{sent_reply}
 use Rattle.call_runner.specs.Lines.{LineData, call_code, line_of, received_at, reply_at, reply_sent, reported, scripted}
 use Rattle.call_runner.specs.Lines as lines
-use Rattle.call_runner.specs.Runs.{IsReplied, NamesOf, answer_by, methods_by, projected, seen_line}
+use Rattle.call_runner.specs.Runs.{IsReplied, NamesOf, answer_by, methods_by, projected, seen_line, within_one}
 use Rattle.call_scripts.specs.Calls.{CallData, CallFits, TargetData, TargetFits, method_of_server}
 use Rattle.call_scripts.specs.Names.{interface_named, is_interface, is_interface_kind}
 use Rattle.wire_model.specs.Calls.{AnswerData, descriptor, is_oneway, method_at}
-use Rattle.wire_model.specs.Outcome.{Done, declared_as, method_like, outcome, received_call, seen_call}
+use Rattle.wire_model.specs.Outcome.{Done, declared_as, method_like, outcome, outcome_within, received_call, seen_call}
 use Rattle.wire_model.specs.Outcome as calls
 use Rattle.wire_model.specs.Receiver.{Received, left, called, stub, client}
 use Rattle.wire_model.specs.Requests.{AnswerFits, reply}
@@ -180,3 +180,51 @@ module _ (p : Profile) (A B : List Decl) (c : CallData) (fits : CallFits A B c) 
     line_by args same answer by refused one two =
         let outcomes : outcome A c.interface c.method B c.args answer ≡ outcome A c.interface c.method B args answer = ap (λ vs. outcome A c.interface c.method B vs answer) (sym same) in
         line_at answer by (λ s e. outcomes ∙ refused s e) (λ n saw e way. outcomes ∙ one n saw e way) (λ n saw e way fit is. outcomes ∙ two n saw e way fit is)
+
+-- Over one tree
+
+module _ (S : List Decl) (c : CallData) (fits : CallFits S S c)
+    (declared : declared_as S (descriptor S c.interface) ≡ Some c.interface)
+    (like : method_like (method_at S c.interface c.method) (methods_at S c.interface) ≡ Some c.method) where
+  -- the interface is found
+  not_nowhere : c.server ≡ None → ⊥
+  not_nowhere none = by_kind (is_interface S c.interface) refl
+    where
+      number : number_of_name S (encode_utf8_all (descriptor S c.interface)) ≡ Some c.interface
+      number = number_declared S (descriptor S c.interface) ∙ declared
+
+      named : None ≡ (if is_interface S c.interface then Some c.interface else None)
+      named = let is : None ≡ interface_named S (encode_utf8_all (descriptor S c.interface)) = sym none ∙ fits.server.named in rw number at is
+
+      by_kind : (b : Bool) → is_interface S c.interface ≡ b → ⊥
+      by_kind true is = let e : None ≡ Some c.interface = rw is at named in absurd cc
+      by_kind false is = let few : c.method < 0 = subst (λ ms. c.method < length ms) (no_methods S c.interface is) fits.there in absurd (omega arith)
+
+  found_itself : (j : ℕ) → c.server ≡ Some j → j ≡ c.interface
+  found_itself j is = let e : Some j ≡ Some c.interface = sym (fits.server.declared j is) ∙ declared in cc
+
+  itself : c.server ≡ Some c.interface
+  itself = by_server c.server refl
+    where
+      by_server : (o : Option ℕ) → c.server ≡ o → c.server ≡ Some c.interface
+      by_server None is = absurd (not_nowhere is)
+      by_server (Some j) is = is ∙ ap (λ k. let x : Option ℕ = Some k in x) (found_itself j is)
+
+  -- what its method answers fits
+  pub answered : AnswerFits S c.interface c.method (answer_by c.target)
+  answered = by_target c.target refl (fits.target ∙ ap (method_of_server S S c.interface c.method) itself ∙ like)
+    where
+      by_target : (o : Option TargetData) → c.target ≡ o → option_map (λ (t : TargetData). t.method) o ≡ Some c.method → AnswerFits S c.interface c.method (answer_by c.target)
+      by_target None is e = cc
+      by_target (Some t) is e =
+          let same : t.method ≡ c.method = cc in
+          let fit : AnswerFits S c.interface t.method t.answer = subst (λ (o : Option TargetData). TargetFits S (Some c.interface) o) is (subst (λ (o : Option ℕ). TargetFits S o c.target) itself fits.answer) in
+          subst (λ a. AnswerFits S c.interface c.method a) (ap answer_by (sym is)) (subst (λ k. AnswerFits S c.interface k t.answer) same fit)
+
+  pub line_within : (args : Items) → args ≡ c.args → (answer : AnswerData) → answer ≡ answer_by c.target
+      → (AnswerFits S c.interface c.method answer → outcome S c.interface c.method S args answer ≡ Ok (outcome_within S c.interface c.method args answer))
+      → projected S S (Ok c) ≡ within_one S (Ok c)
+  line_within args same answer by comes =
+      let fit : AnswerFits S c.interface c.method answer = subst (λ a. AnswerFits S c.interface c.method a) (sym by) answered in
+      ap seen_line (subst (λ vs. outcome S c.interface c.method S vs (answer_by c.target) ≡ Ok (outcome_within S c.interface c.method vs (answer_by c.target))) same
+      (subst (λ a. outcome S c.interface c.method S args a ≡ Ok (outcome_within S c.interface c.method args a)) by (comes fit)))

@@ -4,7 +4,7 @@ ghost use Rattle.aidl_schema.specs.Find.{methods_at};
 ghost use Rattle.aidl_values.specs.Data.{Items};
 ghost use Rattle.aidl_values.specs.View.{views};
 ghost use Rattle.call_runner.specs.Lines.{line_of, received, received_at, reply_sent};
-ghost use Rattle.call_runner.specs.Runs.{IsReplied, NamesOf, answer_by, methods_by, projected};
+ghost use Rattle.call_runner.specs.Runs.{IsReplied, NamesOf, answer_by, methods_by, projected, within_one};
 ghost use Rattle.call_runner.specs.steps.Typed.{IsTypedLine};
 ghost use Rattle.call_scripts.specs.Calls.{CallFits, call_of, target_of};
 ghost use Rattle.wire_model.specs.Calls.{answer_of, code_at};
@@ -14,11 +14,11 @@ ghost use Rattle.wire_model.specs.Requests.{request};
 ghost use Rattle.wire_model.specs.Typed.{AreArguments};
 
 use aidl_base::{Profile, Row};
-use aidl_schema::Schema;
+use aidl_schema::{Schema, law_chain};
 use aidl_values::Answer;
 use call_scripts::Call;
 use std::alloc::Global;
-use wire_model::{law_client, law_outcome, law_stub};
+use wire_model::{law_client, law_outcome, law_outcome_within, law_stub};
 
 // A status that the server refuses with isn't 0, and what its handler is called with has the types of its arguments.
 pub fn law_received(profile: Profile, server: &Schema, call: &Call, code: u32, bytes: &[u8])
@@ -123,4 +123,35 @@ fn law_projected_at(
         sent,
         reply,
     );
+}
+
+// Over one tree, which follows itself, a call's outcome is that the handler sees what was sent and the client has what was answered.
+pub fn law_within(alloc: Global, client: &Schema, server: &Schema, call: &Call)
+    requires fits { CallFits client.now.decls server.now.decls (call_of call.now) }
+    ensures follows { server.now.decls ≡ client.now.decls → OneFollows client.now.decls server.now.decls }
+    ensures within { server.now.decls ≡ client.now.decls
+        → projected client.now.decls server.now.decls (Ok (call_of call.now)) ≡ within_one client.now.decls (Ok (call_of call.now)) }
+{
+    law_chain(client, client, client);
+    match &call.target {
+        Some(target) => law_within_by(client, server, call, &target.answer),
+        None => {
+            let nothing = Answer::Returned {
+                result: None,
+                outs: Row::new(alloc),
+            };
+            law_within_by(client, server, call, &nothing)
+        }
+    }
+}
+
+// The same by what the server's method answers.
+fn law_within_by(client: &Schema, server: &Schema, call: &Call, answer: &Answer)
+    requires fits { CallFits client.now.decls server.now.decls (call_of call.now) }
+    requires answer { answer_of answer.now ≡ answer_by (option_map target_of call.now.target) }
+    ensures { server.now.decls ≡ client.now.decls
+        → projected client.now.decls server.now.decls (Ok (call_of call.now)) ≡ within_one client.now.decls (Ok (call_of call.now)) }
+{
+    let args = call.args.as_slice();
+    law_outcome_within(client, call.interface, call.method, args, answer);
 }

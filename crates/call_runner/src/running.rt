@@ -2,7 +2,7 @@
 ghost use Rattle.std.specs.Prelude.{◌≡◌, true, Ok, IfErr, IfOk};
 ghost use Rattle.aidl_outside.specs.Told.{Adds};
 ghost use Rattle.call_parcels.specs.Planned.{ArePlansOf};
-ghost use Rattle.call_runner.specs.Runs.{AreFaithful, AreNamed, IsTyped, LineRuns, RunCause, Stops, line_data, projected};
+ghost use Rattle.call_runner.specs.Runs.{AreFaithful, AreNamed, IsTyped, LineRuns, RunCause, Stops, line_data, projected, within_one};
 ghost use Rattle.call_runner.specs.steps.Exchanges.{IsExchange, carried_of, delivered_of};
 ghost use Rattle.call_scripts.specs.Calls.{CallFits, call_of};
 ghost use Rattle.call_scripts.specs.Script.{script};
@@ -10,7 +10,7 @@ ghost use Rattle.wire_model.specs.Outcome.{OneFollows, SameWays};
 
 use crate::exchange::{Exchange, carry_call};
 use crate::line::{LineOut, LineRun, RunFault, Side};
-use crate::meaning::{law_projected, law_received, law_typed};
+use crate::meaning::{law_projected, law_received, law_typed, law_within};
 use crate::reporting::report;
 use aidl_base::{OutOfMemory, Profile, Row};
 use aidl_outside::{Carried, Link};
@@ -55,6 +55,10 @@ pub fn run_line<L: Link>(
         (script client.now.schema.now.decls server.now.schema.now.decls line.now)) }
     ensures named { OneFollows client.now.schema.now.decls server.now.schema.now.decls → L.is_faithful link.old ≡ true
         → IfOk result (λ run. AreNamed (script client.now.schema.now.decls server.now.schema.now.decls line.now) run.methods) }
+    // Over one tree and a faithful link the handler sees what was sent, and the client has what was answered.
+    ensures within { server.now.schema.now.decls ≡ client.now.schema.now.decls → L.is_faithful link.old ≡ true
+        → IfOk result (λ run. line_data run.out ≡ within_one client.now.schema.now.decls
+        (script client.now.schema.now.decls server.now.schema.now.decls line.now)) }
 {
     match script_of(
         alloc,
@@ -98,6 +102,8 @@ fn run_call<L: Link>(
         → IfOk result (λ run. line_data run.out ≡ projected client.now.schema.now.decls server.now.schema.now.decls (Ok (call_of call.now))) }
     ensures named { OneFollows client.now.schema.now.decls server.now.schema.now.decls → L.is_faithful link.old ≡ true
         → IfOk result (λ run. AreNamed (Ok (call_of call.now)) run.methods) }
+    ensures within { server.now.schema.now.decls ≡ client.now.schema.now.decls → L.is_faithful link.old ≡ true
+        → IfOk result (λ run. line_data run.out ≡ within_one client.now.schema.now.decls (Ok (call_of call.now))) }
 {
     let exchange = carry_call(alloc, profile, client, server, call, link)?;
     let run = report_call(alloc, profile, client, server, call, exchange)?;
@@ -124,6 +130,8 @@ fn report_call(
         → IfOk result (λ run. line_data run.out ≡ projected client.now.schema.now.decls server.now.schema.now.decls (Ok (call_of call.now))) }
     ensures named { OneFollows client.now.schema.now.decls server.now.schema.now.decls → AreFaithful (carried_of exchange)
         → IfOk result (λ run. AreNamed (Ok (call_of call.now)) run.methods) }
+    ensures within { server.now.schema.now.decls ≡ client.now.schema.now.decls → AreFaithful (carried_of exchange)
+        → IfOk result (λ run. line_data run.out ≡ within_one client.now.schema.now.decls (Ok (call_of call.now))) }
 {
     let bytes = exchange.request.delivered.as_slice();
     let sent = exchange.request.sent.as_slice();
@@ -147,6 +155,7 @@ fn report_call(
         sent,
         reply,
     );
+    law_within(alloc, client.schema, server.schema, call);
     law_received(profile, server.schema, call, code, bytes);
     report(alloc, profile, client, server, call, exchange)
 }

@@ -54,3 +54,8 @@ returns-clause-named c follows faithful =
     let bytes : c.as_slice-sent.result.now ≡ c.args.exchange.request.delivered = c.as_slice-sent.ensures ∙ sym (request_same c.args.exchange faithful) in
     named_by call c.report.result (methods_by call call.server (received p A B call c.args.exchange.request.delivered)) c.report.ensures.methods
     (subst (λ b. NamesOf call (methods_by call call.server (received p A B call b))) bytes (c.law_projected.ensures.named follows))
+
+pub returns-clause-within : goal.returns-clause-within
+returns-clause-within c same faithful =
+    subst (λ l. IfOk c.report.result (λ run. line_data run.out ≡ l)) (c.law_within.ensures.within same)
+    (returns-clause-outcome c (c.law_within.ensures.follows same) faithful)
