@@ -2,6 +2,7 @@
 use Rattle.std.proofs.Common.{◌≡◌, ℕ, Bool, List, [], ◌∷◌, ◌++◌, map, Option, Some, None, Ok, Err, refl, sym, ap, ◌∙◌, subst, arith, inl, inr}
 use Rattle.std.specs.Prelude.{◌≢◌, ◌⊎◌, ◌≤◌, Result}
 use Rattle.std.proofs.lemmas.List.{append-nil}
+use Rattle.aidl_base.specs.declared.limit.LimitName.TheVariants.{TextBytes}
 use Rattle.aidl_base.specs.declared.profile.Profile.{Profile}
 use Rattle.aidl_base.specs.declared.source_file.SourceFile.{SourceFile}
 use Rattle.aidl_base.specs.Results.{◌>>=◌}
@@ -39,7 +40,7 @@ module _ (p : Profile) (trace : Bool) (A B : List Decl) (text : List ℕ) (befor
   -- memory was wanted before any course
   wanted_as : RanSome (TakesEarly OutOfMemory) before now exit → RunsAs p trace A B text before now exit
   wanted_as (inl ran) = absurd ran.1
-  wanted_as (inr wanted) = (inr wanted, λ one faithful verdict. absurd (not_verdict exit (let five = wanted.0 in omega arith) (let five = wanted.0 in omega arith) verdict))
+  wanted_as (inr wanted) = (inr wanted, λ one faithful verdict. absurd (not_verdict exit (let five : exit ≡ 5 = wanted.0 in omega arith) (let five : exit ≡ 5 = wanted.0 in omega arith) verdict))
 
   -- a step that found something didn't end early but for want of memory
   pub early_as : {T R : Type 0} (view : T → R) (early : Early) (found : Found R) (x : R) → Finds view (Err early) found → found ≡ Ok x
@@ -94,14 +95,14 @@ module _ (p : Profile) (trace : Bool) (client server calls : List ℕ) (before n
     as_run : (files : Files) → Finds loaded_seen given (all_held files client server calls) → (A B : List Decl) (text : List ℕ)
         → IsChecked files client A → IsChecked files server B → IsCallsText files calls text → RunsAs p trace A B text (alone before) (alone now) exit
     as_run files found A B text a b t =
-        as_loaded p trace A B text (alone before) (alone now) exit calls _ (tree_at files client) (tree_at files server) given found a b t.0 t.1 ran exact
+        as_loaded p trace A B text (alone before) (alone now) exit calls (file_at TextBytes files calls) (tree_at files client) (tree_at files server) given found a b t.0 t.1 ran exact
 
     refused_run : (A B : List Decl) (text : List ℕ) → broken A B ≢ [] → broken B A ≢ [] → IsVerdict exit
         → RanSome (λ course. course ≡ run_course p A B trace text) (alone before) (alone now) exit → (exit ≡ 1) × Adds before.told now.told (neither (broken A B) (broken B A)).text
     refused_run A B text some others verdict (inl one) =
         refused_both (broken A B) (broken B A) (lines_course p A B trace 1 (lines_of text)) one.0 (alone before) (alone now) exit one.1 some others (one.2.answer verdict)
     refused_run A B text some others verdict (inr wanted) =
-        absurd (not_verdict exit (let five = wanted.0 in omega arith) (let five = wanted.0 in omega arith) verdict)
+        absurd (not_verdict exit (let five : exit ≡ 5 = wanted.0 in omega arith) (let five : exit ≡ 5 = wanted.0 in omega arith) verdict)
 
     pub headline_run : (files : Files) → Finds loaded_seen given (all_held files client server calls) → Headline p trace client server calls files before now exit
     headline_run files found = record {
