@@ -40,7 +40,7 @@ returns-in-Err-LinkFault g c =
           (g.L.Link.count c.run_line.new.link) c.run_line.ensures.nature
           (subst (λ (f : RunFault). Stops c.args.profile A B meant before.is_faithful before.log (g.L.Link.log c.run_line.new.link) f) c.in-Err-LinkFault.field-0-is c.in-Err-LinkFault.ensures.stops)
           (subst (λ (f : RunFault). RunCause {T = LineRun} before.link_faults (g.L.Link.count c.run_line.new.link) (Err f)) c.in-Err-LinkFault.field-0-is c.in-Err-LinkFault.ensures.cause);
-      exits = λ verdict. not_verdict _ (omega arith) (omega arith) verdict;
+      exits = λ verdict. not_verdict 6 (omega arith) (omega arith) verdict;
       projected = λ one faithful. tt;
     }
 
@@ -55,6 +55,6 @@ returns-in-Err-OutOfMemory g c =
           (g.L.Link.count c.run_line.new.link) c.run_line.ensures.nature
           (subst (λ (f : RunFault). Stops c.args.profile A B meant before.is_faithful before.log (g.L.Link.log c.run_line.new.link) f) c.in-Err-OutOfMemory.field-0-is c.in-Err-OutOfMemory.ensures.stops)
           (subst (λ (f : RunFault). RunCause {T = LineRun} before.link_faults (g.L.Link.count c.run_line.new.link) (Err f)) c.in-Err-OutOfMemory.field-0-is c.in-Err-OutOfMemory.ensures.cause);
-      exits = λ verdict. not_verdict _ (omega arith) (omega arith) verdict;
+      exits = λ verdict. not_verdict 5 (omega arith) (omega arith) verdict;
       projected = λ one faithful. tt;
     }
