@@ -1,6 +1,7 @@
 pub mod Acting
 pub mod Checks
 pub mod CourseEnds
+pub mod Held
 pub mod JudgesOne
 pub mod Lacking
 pub mod OneTree
