@@ -32,7 +32,7 @@ gives_more (Err (Answered a)) P Q h p = h (printed a) p
 gives_more (Err OutOfMemory) P Q h p = tt
 
 module _ (A B : List Decl) where
-  abbrev IsJudged : Answer → Type 0
+  abbrev pub IsJudged : Answer → Type 0
   IsJudged answer = answer ≡ judged (broken A B)
 
   -- of the files of both trees
@@ -72,7 +72,7 @@ module _ (A B : List Decl) where
 
   -- over both trees
   module _ (kept : Option Files) (old new : List ℕ) (tree : Found (List TreeFile)) (told : Tells kept (λ files. tree ≡ tree_at files old)) where
-    abbrev Answers : Result Printed Early → Files → Type 0
+    abbrev pub Answers : Result Printed Early → Files → Type 0
     Answers given files = GivesOne given (λ answer. IsChecked files old A → IsChecked files new B → IsJudged answer)
 
     pub judged_both : (later : Option Files) (olds : List SourceFile) (answered : Result (Result Printed Early) StoreFault) → later ≡ kept → tree ≡ Ok (map file_seen olds)
@@ -105,10 +105,10 @@ broken_exit (b ∷ bs) some = refl
 
 -- how `judge` ends
 module _ (old new : List ℕ) (before now : Seen) (exit : ℕ) where
-  abbrev answers : List Decl → List Decl → Files → Answer → Type 0
+  abbrev pub answers : List Decl → List Decl → Files → Answer → Type 0
   answers A B files answer = IsChecked files old A → IsChecked files new B → answer ≡ judged (broken A B)
 
-  abbrev Ends : List Decl → List Decl → Files → Type 0
+  abbrev pub Ends : List Decl → List Decl → Files → Type 0
   Ends A B files = IsVerdict exit → EndsAsMeant (reads_by (answers A B)) before now exit files
 
   judges : (files : Files) → ((A B : List Decl) → Ends A B files) → Judges old new files before now exit

@@ -21,11 +21,11 @@ returns-in-Ok-clause-exact g c =
     let before : Seen = seen_alone g.K.Sink.told g.K.Sink.count g.L.Link.log g.L.Link.is_faithful g.L.Link.count c.args.sink.now c.args.link.now in
     let now : Seen = seen_alone g.K.Sink.told g.K.Sink.count g.L.Link.log g.L.Link.is_faithful g.L.Link.count c.run_server.new.sink c.run_server.new.link in
     λ A B is_client is_server. subst (λ (S : List Decl). RunsAs c.args.profile c.args.trace S B c.args.text.items before now c.run_server.result)
-    (one_schema c.as_slice.result.now c.args.client.files c.as_slice.ensures c.law_one_schema.ensures c.in-Ok.schema.decls A c.in-Ok.ensures.ok is_client)
+    (one_schema c.as_slice-files.result.now c.args.client.files c.as_slice-files.ensures c.law_one_schema.ensures c.in-Ok.schema.decls A c.in-Ok.ensures.ok is_client)
     (c.run_server.ensures.exact B is_server)
 
 pub returns-in-Err-clause-exact : goal.returns-in-Err-clause-exact
 returns-in-Err-clause-exact g c = λ A B is_client is_server.
     refused_as c.args.profile c.args.trace A B c.args.text.items _ _ c.print_early.result c.args.client.root.now c.args.client.files c.in-Err.early
-    (λ answer refused. never_refused c.as_slice.result.now c.args.client.files c.as_slice.ensures c.law_never_both.ensures c.args.client.root.now A answer is_client refused)
+    (λ answer refused. never_refused c.as_slice-files.result.now c.args.client.files c.as_slice-files.ensures c.law_never_both.ensures c.args.client.root.now A answer is_client refused)
     c.in-Err.ensures.err c.print_early.ensures

@@ -1,0 +1,9 @@
+use Rattle.tool_frame.specs.Trees.{tree_seen}
+use Rattle.aidl_tool.proofs.JudgesOne.{judged_both}
+use Rattle.aidl_tool.proofs.judging.answered.Goals as goal
+
+pub returns-in-Ok-clause-exact : goal.returns-in-Ok-clause-exact
+returns-in-Ok-clause-exact g c = λ A B.
+    judged_both A B (g.S.Store.kept c.args.store.now) c.args.old.now c.args.new.now (tree_seen c.in_ok-old_tree.old_tree) c.in_ok-old_tree.ensures.tree
+    (g.S.Store.kept c.load_tree.new.store) c.in-Ok.olds c.answered_of_second.result c.in_ok-old_tree.ensures.unchanged c.in-Ok.ensures
+    (c.answered_of_second.ensures.exact A B)
