@@ -52,9 +52,9 @@ module _ (p : Profile) (A B : List Decl) where
   same_entries : (c : CallData) (b r : List ℕ) → AreFaithful (entries p A B c b r) → entries p A B c b r ≡ line_carried p A B (Ok c)
   same_entries c b r same =
       let first : b ≡ request A c.interface c.method c.args =
-          All-head (λ (e : Carried). e.delivered ≡ e.sent) (request_entry A c b) (reply_entries (call_code A c) (reply_sent p A B c b) r) same in
+      All-head (λ (e : Carried). e.delivered ≡ e.sent) (request_entry A c b) (reply_entries (call_code A c) (reply_sent p A B c b) r) same in
       let later : AreFaithful (reply_entries (call_code A c) (reply_sent p A B c b) r) =
-          All-tail (λ (e : Carried). e.delivered ≡ e.sent) (request_entry A c b) (reply_entries (call_code A c) (reply_sent p A B c b) r) same in
+      All-tail (λ (e : Carried). e.delivered ≡ e.sent) (request_entry A c b) (reply_entries (call_code A c) (reply_sent p A B c b) r) same in
       ap (λ es. request_entry A c b ∷ es) (same_reply (call_code A c) (reply_sent p A B c b) r later) ∙ ap (call_carried p A B c) first
 
   pub carried_is : (meant : Judged CallData) (run : LineRun) → LineRuns p A B meant run → AreFaithful run.carried → run.carried ≡ line_carried p A B meant

@@ -73,11 +73,14 @@ pub returns-then-is_empty-clause-projected : goal.returns-then-is_empty-clause-p
 returns-then-is_empty-clause-projected g c =
     let A : List Decl = c.args.client.now.schema.now.decls in
     let B : List Decl = c.args.server.now.schema.now.decls in
-    λ one faithful verdict. (refl, lines_added c.args.profile A B c.args.trace (c.loop-rest.number + 1) c.cut.result.1.now (projected_text c.args.profile A B c.args.trace 1 (lines_of c.args.calls.now)) (g.K.Sink.told c.args.sink.now)
-    (g.K.Sink.told c.run_next.new.sink) (empty_list c.cut.result.1.now c.is_empty-in-loop-rest.result c.is_empty-in-loop-rest.ensures c.if-is_empty.true)
-    (next_added c.args.profile A B c.args.trace c.loop-rest.number c.loop-rest.rest.now c.cut.result.0.now c.cut.result.1.now (projected_text c.args.profile A B c.args.trace 1 (lines_of c.args.calls.now)) (g.K.Sink.told c.args.sink.now)
-    (g.K.Sink.told c.loop-rest.sink) c.cut.ensures.lines (c.loop-rest.invariant.completes one faithful) (g.K.Sink.told c.run_next.new.sink)
-    (c.in_default.ensures.projected one (still_faithful (g.L.Link.is_faithful c.args.link.now) (g.L.Link.is_faithful c.loop-rest.link) c.loop-rest.invariant.went.link_nature faithful))))
+    λ one faithful verdict. (
+      refl,
+      lines_added c.args.profile A B c.args.trace (c.loop-rest.number + 1) c.cut.result.1.now (projected_text c.args.profile A B c.args.trace 1 (lines_of c.args.calls.now)) (g.K.Sink.told c.args.sink.now)
+          (g.K.Sink.told c.run_next.new.sink) (empty_list c.cut.result.1.now c.is_empty-in-loop-rest.result c.is_empty-in-loop-rest.ensures c.if-is_empty.true)
+          (next_added c.args.profile A B c.args.trace c.loop-rest.number c.loop-rest.rest.now c.cut.result.0.now c.cut.result.1.now (projected_text c.args.profile A B c.args.trace 1 (lines_of c.args.calls.now)) (g.K.Sink.told c.args.sink.now)
+          (g.K.Sink.told c.loop-rest.sink) c.cut.ensures.lines (c.loop-rest.invariant.completes one faithful) (g.K.Sink.told c.run_next.new.sink)
+          (c.in_default.ensures.projected one (still_faithful (g.L.Link.is_faithful c.args.link.now) (g.L.Link.is_faithful c.loop-rest.link) c.loop-rest.invariant.went.link_nature faithful))),
+    )
 
 pub loop-rest-preserved : goal.loop-rest-preserved
 loop-rest-preserved g c =
@@ -111,5 +114,8 @@ pub returns-clause-projected : goal.returns-clause-projected
 returns-clause-projected g c =
     let A : List Decl = c.args.client.now.schema.now.decls in
     let B : List Decl = c.args.server.now.schema.now.decls in
-    λ one faithful verdict. (refl, lines_added c.args.profile A B c.args.trace c.loop-rest.number c.loop-rest.rest.now (projected_text c.args.profile A B c.args.trace 1 (lines_of c.args.calls.now)) (g.K.Sink.told c.args.sink.now)
-    (g.K.Sink.told c.loop-rest.sink) (empty_list c.loop-rest.rest.now c.is_empty.result c.is_empty.ensures c.loop-rest-test.false) (c.loop-rest.invariant.completes one faithful))
+    λ one faithful verdict. (
+      refl,
+      lines_added c.args.profile A B c.args.trace c.loop-rest.number c.loop-rest.rest.now (projected_text c.args.profile A B c.args.trace 1 (lines_of c.args.calls.now)) (g.K.Sink.told c.args.sink.now)
+          (g.K.Sink.told c.loop-rest.sink) (empty_list c.loop-rest.rest.now c.is_empty.result c.is_empty.ensures c.loop-rest-test.false) (c.loop-rest.invariant.completes one faithful),
+    )
