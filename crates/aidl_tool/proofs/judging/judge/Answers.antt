@@ -14,8 +14,8 @@ pub returns-clause-headline : goal.returns-clause-headline
 returns-clause-headline g c =
     let answered = c.answered-answered.ensures in
     let before : Seen =
-        seen_by g.S.Store.kept g.S.Store.count g.K.Sink.told g.K.Sink.count g.L.Link.log g.L.Link.is_faithful g.L.Link.count c.args.store.now c.args.sink.now c.args.link.now in
+    seen_by g.S.Store.kept g.S.Store.count g.K.Sink.told g.K.Sink.count g.L.Link.log g.L.Link.is_faithful g.L.Link.count c.args.store.now c.args.sink.now c.args.link.now in
     let now : Seen =
-        seen_by g.S.Store.kept g.S.Store.count g.K.Sink.told g.K.Sink.count g.L.Link.log g.L.Link.is_faithful g.L.Link.count c.answered-answered.new.store c.end.new.sink c.args.link.now in
+    seen_by g.S.Store.kept g.S.Store.count g.K.Sink.told g.K.Sink.count g.L.Link.log g.L.Link.is_faithful g.L.Link.count c.answered-answered.new.store c.end.new.sink c.args.link.now in
     judges_told c.args.old.now c.args.new.now before now c.end.result (λ A B.
     ended_read (answers c.args.old.now c.args.new.now before now c.end.result A B) before now answered.unchanged refl refl refl c.end.result _ answered.cause (answered.exact A B) c.end.ensures)

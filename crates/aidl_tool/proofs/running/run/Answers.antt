@@ -20,9 +20,9 @@ returns-in-Ok-clause-ends g c =
 pub returns-in-Ok-clause-headline : goal.returns-in-Ok-clause-headline
 returns-in-Ok-clause-headline g c =
     let before : Seen =
-        seen_by g.S.Store.kept g.S.Store.count g.K.Sink.told g.K.Sink.count g.L.Link.log g.L.Link.is_faithful g.L.Link.count c.args.store.now c.args.sink.now c.args.link.now in
+    seen_by g.S.Store.kept g.S.Store.count g.K.Sink.told g.K.Sink.count g.L.Link.log g.L.Link.is_faithful g.L.Link.count c.args.store.now c.args.sink.now c.args.link.now in
     let now : Seen =
-        seen_by g.S.Store.kept g.S.Store.count g.K.Sink.told g.K.Sink.count g.L.Link.log g.L.Link.is_faithful g.L.Link.count c.load_calls.new.store c.run_given.new.sink c.run_given.new.link in
+    seen_by g.S.Store.kept g.S.Store.count g.K.Sink.told g.K.Sink.count g.L.Link.log g.L.Link.is_faithful g.L.Link.count c.load_calls.new.store c.run_given.new.sink c.run_given.new.link in
     tells (g.S.Store.kept c.args.store.now) (λ files. Finds loaded_seen c.in-Ok.given (all_held files c.args.client.now c.args.server.now c.args.calls.now))
     (λ files. Headline c.args.profile c.args.trace c.args.client.now c.args.server.now c.args.calls.now files before now c.run_given.result)
     (headline_run c.args.profile c.args.trace c.args.client.now c.args.server.now c.args.calls.now before now c.run_given.result c.in-Ok.given
