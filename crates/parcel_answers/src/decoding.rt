@@ -7,17 +7,16 @@ ghost use Rattle.aidl_values.specs.View.{view};
 ghost use Rattle.marshal_plans.specs.Standing.{IsOf};
 ghost use Rattle.wire_model.specs.ReadOf.{read_of};
 ghost use Rattle.parcel_answers.specs.Decode.{decode_answer, items_answer, rest_answer, value_line};
-ghost use Rattle.parcel_answers.specs.ValueText.{value_text};
 ghost use Rattle.parcel_answers.specs.steps.Items.{PrintsItem};
 ghost use Rattle.parcel_answers.specs.steps.Planned.{ArePlanned};
 ghost use Rattle.tool_frame.specs.steps.Results.{Gives, printed};
 
 use crate::lines::{push_left, push_status};
 use crate::steps::known_types;
+use crate::value_text::push_value_text;
 use aidl_base::{OutOfMemory, Profile};
 use aidl_schema::{AidlType, Schema};
 use aidl_values::Value;
-use json_values::to_json;
 use marshal_plans::{PlanId, Plans, compile};
 use parcel_read::read;
 use std::alloc::Global;
@@ -123,25 +122,9 @@ fn push_value(
     requires { HasType schema.now.decls ty.now (view value.now) }
     ensures { OnOk result (string_bytes text.new ≡ string_bytes text.old ++ value_line schema.now.decls ty.now (view value.now)) }
 {
-    let written = value_text(alloc, schema, ty, value)?;
-    text.push_str(written.as_str())?;
+    push_value_text(alloc, schema, ty, value, text)?;
     text.push_str("\n")?;
     Ok(())
-}
-
-/// A value of a type as compact JSON. Memory may be wanted.
-#[tactic(auto, using(crate::proofs::NoFloat::no_float))]
-pub fn value_text(
-    alloc: Global,
-    schema: &Schema,
-    ty: &AidlType,
-    value: &Value,
-) -> Result<String, OutOfMemory>
-    requires { HasType schema.now.decls ty.now (view value.now) }
-    ensures { IfOk result (λ s. string_bytes s ≡ value_text schema.now.decls ty.now (view value.now)) }
-{
-    let json = to_json(alloc, schema, ty, value)?;
-    Ok(json.to_string(alloc)?)
 }
 
 // Adds the line for the bytes after the last item, where there are some. How the decode ends.

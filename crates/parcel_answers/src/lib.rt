@@ -9,7 +9,9 @@ mod json_file;
 mod lines;
 mod steps;
 mod types;
+mod value_text;
 
-pub use decoding::{decode, value_text};
+pub use decoding::decode;
 pub use encoding::encode;
 pub use steps::parcel_of;
+pub use value_text::push_value_text;

@@ -10,7 +10,7 @@ ghost use Rattle.wire_model.specs.Typed.{EachHasType, IsResult};
 use aidl_base::OutOfMemory;
 use aidl_schema::{AidlType, Schema};
 use aidl_values::Value;
-use parcel_answers::value_text;
+use parcel_answers::push_value_text;
 use serde_json::Value as Json;
 use std::alloc::Global;
 
@@ -109,23 +109,7 @@ fn push_behind(
     ensures { OnOk result (string_bytes out.new ≡ string_bytes out.old ++ (mark.now ++ value_text schema.now.decls ty.now (view value.now))) }
 {
     out.push_str(mark)?;
-    push_value(alloc, schema, ty, value, out)
-}
-
-// Adds a value.
-fn push_value(
-    alloc: Global,
-    schema: &Schema,
-    ty: &AidlType,
-    value: &Value,
-    out: &mut String,
-) -> Result<(), OutOfMemory>
-    requires { HasType schema.now.decls ty.now (view value.now) }
-    ensures { OnOk result (string_bytes out.new ≡ string_bytes out.old ++ value_text schema.now.decls ty.now (view value.now)) }
-{
-    let written = value_text(alloc, schema, ty, value)?;
-    out.push_str(written.as_str())?;
-    Ok(())
+    push_value_text(alloc, schema, ty, value, out)
 }
 
 /// Adds the result of a method, null for a void one.
@@ -141,7 +125,7 @@ pub fn push_result(
 {
     match ty {
         Some(ty) => match value {
-            Some(value) => push_value(alloc, schema, &ty, value, out),
+            Some(value) => push_value_text(alloc, schema, &ty, value, out),
             None => push_null(out),
         },
         None => push_null(out),
