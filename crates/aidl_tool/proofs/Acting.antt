@@ -1,6 +1,6 @@
 -- What the commands that write leave of a store, by what their steps did.
 use Rattle.std.proofs.Common.{◌≡◌, ℕ, List, [], ◌∷◌, ◌++◌, length, Option, Some, None, Ok, Err, refl, sym, ap, subst, ◌∙◌, inl, inr}
-use Rattle.std.specs.Prelude.{◌⊎◌, Result}
+use Rattle.std.specs.Prelude.{Result}
 use Rattle.std.proofs.lemmas.List.{append-nil}
 use Rattle.aidl_base.specs.Results.{◌>>=◌}
 use Rattle.aidl_outside.specs.declared.store.StoreFault.{StoreFault}
@@ -8,10 +8,10 @@ use Rattle.aidl_outside.specs.declared.store.StoreFault.TheVariants.{Failed, Out
 use Rattle.aidl_outside.specs.Causes.{StoreCause}
 use Rattle.aidl_outside.specs.Files.{Files}
 use Rattle.aidl_outside.specs.Told.{Tells}
-use Rattle.aidl_outside.specs.Writes.{ChangesOnly, Write, written}
+use Rattle.aidl_outside.specs.Writes.{ChangesOnly, Write}
 use Rattle.aidl_schema.specs.declared.schema.Decl.{Decl}
 use Rattle.aidl_schema.specs.declared.schema.Schema.{Schema}
-use Rattle.aidl_tool.specs.Acting.{BySchema, DumpActs, FreezeActs, HasSchema, RehashActs}
+use Rattle.aidl_tool.specs.Acting.{BySchema, RehashActs}
 use Rattle.aidl_tool.specs.steps.Left.{LeftBy}
 use Rattle.aidl_tool.specs.steps.Opens.{Opens}
 use Rattle.api_freeze.specs.declared.freezing.Frozen.{Frozen}
@@ -28,17 +28,16 @@ use Rattle.api_versions.specs.Versions.{versions_at}
 use Rattle.api_versions.specs.Whole.{all_whole}
 use Rattle.api_versions.specs.Writes.{Left, Wrote}
 use Rattle.api_versions.specs.Writes as versions
-use Rattle.freeze_answers.specs.Dumped.{Dumps}
 use Rattle.freeze_answers.specs.Frozen.{Freezes, IsUnfrozen, frozen}
 use Rattle.tool_frame.specs.declared.printed.Early.{Early}
 use Rattle.tool_frame.specs.declared.printed.Early.TheVariants.{Answered, OutOfMemory}
 use Rattle.tool_frame.specs.declared.printed.Printed.{Printed}
 use Rattle.tool_frame.specs.Acts.{Acts, writes_of}
-use Rattle.tool_frame.specs.Answer.{Answer, Found}
+use Rattle.tool_frame.specs.Answer.{Answer}
 use Rattle.tool_frame.specs.Ended.{FailedAt, WroteSome}
 use Rattle.tool_frame.specs.steps.Acts.{Acted, ActsAs}
 use Rattle.tool_frame.specs.steps.Results.{Gives, printed}
-use Rattle.tool_frame.specs.Trees.{TreeFile, tree_at}
+use Rattle.tool_frame.specs.Trees.{tree_at}
 use Rattle.tool_frame.proofs.Loaded.{tells}
 use Rattle.tool_frame.proofs.Writings.{acts_more, ends_unwritten}
 use Rattle.version_answers.specs.Ends.{EndsBy, EndsIn}

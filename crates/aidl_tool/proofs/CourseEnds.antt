@@ -1,6 +1,6 @@
 -- How `run` ends, by what was loaded and what was then run.
-use Rattle.std.proofs.Common.{◌≡◌, ◌+◌, ℕ, ◌≤◌, Option, Some, None, Err, refl, sym, ap, subst, arith, inl, inr}
-use Rattle.std.specs.Prelude.{◌≢◌, ◌⊎◌, Result}
+use Rattle.std.proofs.Common.{◌≡◌, ℕ, None, Err, refl, ap, arith, inl, inr}
+use Rattle.std.specs.Prelude.{Result}
 use Rattle.aidl_outside.specs.declared.store.StoreFault.{StoreFault}
 use Rattle.aidl_outside.specs.declared.store.StoreFault.TheVariants.{Failed, OutOfMemory}
 use Rattle.aidl_outside.specs.Causes.{Rose, StoreCause}
@@ -14,7 +14,6 @@ use Rattle.tool_frame.specs.Course.{Course}
 use Rattle.tool_frame.specs.Ended.{Ended}
 use Rattle.tool_frame.specs.Meaning.{carries_by}
 use Rattle.tool_frame.specs.Seen.{Seen}
-use Rattle.tool_frame.specs.steps.Courses.{RanCourse}
 use Rattle.tool_frame.proofs.Courses.{ended_carried, ended_early, with_store}
 use Rattle.tool_frame.proofs.Loaded.{tells}
 

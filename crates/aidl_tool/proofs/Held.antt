@@ -1,20 +1,16 @@
 -- What was loaded is what a store's files hold for `run`.
-use Rattle.std.proofs.Common.{◌≡◌, ℕ, List, Option, Ok, Err, IfOk, refl, sym, ap, ◌∙◌, subst, map}
+use Rattle.std.proofs.Common.{◌≡◌, Option, Ok, Err, IfOk, sym, ap, ◌∙◌, subst}
 use Rattle.std.specs.Prelude.{Result}
-use Rattle.aidl_base.specs.declared.limit.LimitName.TheVariants.{TextBytes}
-use Rattle.aidl_base.specs.declared.source_file.SourceFile.{SourceFile}
 use Rattle.aidl_base.specs.Results.{◌>>=◌}
 use Rattle.aidl_outside.specs.declared.store.StoreFault.{StoreFault}
 use Rattle.aidl_outside.specs.Files.{Files}
 use Rattle.aidl_outside.specs.Told.{Tells}
 use Rattle.aidl_tool.specs.declared.running.Loaded.{Loaded}
-use Rattle.aidl_tool.specs.steps.Loading.{HeldFiles, all_held, loaded_seen, server_held, trees_held}
+use Rattle.aidl_tool.specs.steps.Loading.{HeldFiles, loaded_seen}
 use Rattle.tool_frame.specs.declared.printed.Early.{Early}
 use Rattle.tool_frame.specs.declared.printed.Early.TheVariants.{Answered, OutOfMemory}
 use Rattle.tool_frame.specs.Answer.{Found}
-use Rattle.tool_frame.specs.Refusals.{file_at, there}
-use Rattle.tool_frame.specs.Trees.{TreeFile, file_seen, tree_at}
-use Rattle.tool_frame.specs.steps.Results.{Finds, printed}
+use Rattle.tool_frame.specs.steps.Results.{Finds}
 use Rattle.tool_frame.proofs.Loaded.{tells, tells_both}
 
 -- A step that ended early is the refusal of all.

@@ -1,6 +1,6 @@
 -- `judge` answers by the one schema that each tree has.
 use Rattle.std.proofs.Common.{◌≡◌, ℕ, List, [], ◌∷◌, map, Option, Some, None, Ok, Err, IfOk, refl, sym, ap, ◌∙◌, subst, inl, inr}
-use Rattle.std.specs.Prelude.{◌≢◌, ◌⊎◌, Result}
+use Rattle.std.specs.Prelude.{◌≢◌, Result}
 use Rattle.aidl_base.specs.declared.source_file.SourceFile.{SourceFile}
 use Rattle.aidl_outside.specs.declared.store.StoreFault.{StoreFault}
 use Rattle.aidl_outside.specs.Files.{Files}
@@ -8,7 +8,8 @@ use Rattle.aidl_outside.specs.Told.{Adds, Tells}
 use Rattle.aidl_schema.specs.Broken.{Break, broken}
 use Rattle.aidl_schema.specs.declared.schema.Decl.{Decl}
 use Rattle.aidl_tool.specs.Acting.{HasSchema}
-use Rattle.aidl_tool.specs.Headline.{IsChecked, Judges}
+use Rattle.aidl_tool.specs.Headline.{Headline, IsChecked}
+use Rattle.aidl_tool.proofs.Kept.{JudgeKeeps, headline}
 use Rattle.aidl_tool.proofs.OneTree.{one_tree}
 use Rattle.tool_frame.specs.declared.printed.Early.{Early}
 use Rattle.tool_frame.specs.declared.printed.Early.TheVariants.{Answered, OutOfMemory}
@@ -22,6 +23,7 @@ use Rattle.tool_frame.specs.Verdict.{IsVerdict, exit_of}
 use Rattle.tool_frame.specs.steps.Results.{Finds, GivesOne, printed}
 use Rattle.tool_frame.proofs.Loaded.{tells, tells_both}
 use Rattle.tree_answers.specs.Faults.{IsFaultAnswer}
+use Rattle.tool_words.specs.Command.{judge}
 use Rattle.tree_answers.specs.Judged.{IsJudgeAnswer, IsSecondAnswer, judged}
 use Rattle.type_check.specs.Checked.{IsSchemaOf}
 
@@ -111,17 +113,21 @@ module _ (old new : List ℕ) (before now : Seen) (exit : ℕ) where
   abbrev pub Ends : List Decl → List Decl → Files → Type 0
   Ends A B files = IsVerdict exit → EndsAsMeant (reads_by (answers A B)) before now exit files
 
-  judges : (files : Files) → ((A B : List Decl) → Ends A B files) → Judges old new files before now exit
+  judges : (files : Files) → ((A B : List Decl) → Ends A B files) → JudgeKeeps before now exit files old new
   judges files ends = record {
-    accepts = λ A B a b none verdict. exits A B a b verdict ∙ ap (λ bs. exit_of (judged bs).verdict) none;
-    refuses = λ A B a b some verdict. exits A B a b verdict ∙ broken_exit (broken A B) some;
-    lists = λ A B a b verdict. let e = ends A B verdict in subst (λ (x : Answer). Adds before.told now.told x.text) (e.4 a b) e.6;
+    accepts = λ A B a b none verdict.
+        (exits A B a b verdict ∙ ap (λ bs. exit_of (judged bs).verdict) none, subst (λ bs. Adds before.told now.told (judged bs).text) none (lists A B a b verdict));
+    refuses = λ A B a b some verdict. (exits A B a b verdict ∙ broken_exit (broken A B) some, lists A B a b verdict);
   }
     where
       exits : (A B : List Decl) → IsChecked files old A → IsChecked files new B → IsVerdict exit → exit ≡ exit_of (judged (broken A B)).verdict
       exits A B a b verdict = let e = ends A B verdict in e.5 ∙ ap (λ (x : Answer). exit_of x.verdict) (e.4 a b)
 
-  pub judges_told : ((A B : List Decl) → Ended (reads_by (answers A B)) before now exit) → Tells before.kept (λ files. Judges old new files before now exit)
+      lists : (A B : List Decl) → IsChecked files old A → IsChecked files new B → IsVerdict exit → Adds before.told now.told (judged (broken A B)).text
+      lists A B a b verdict = let e = ends A B verdict in subst (λ (x : Answer). Adds before.told now.told x.text) (e.4 a b) e.6
+
+  pub judges_told : ((A B : List Decl) → Ended (reads_by (answers A B)) before now exit) → Tells before.kept (Headline (Some (judge old new)) before now exit)
   judges_told ended =
-      tells before.kept (λ files. (A B : List Decl) → Ends A B files) (λ files. Judges old new files before now exit) judges
+      tells before.kept (λ files. (A B : List Decl) → Ends A B files) (Headline (Some (judge old new)) before now exit)
+      (λ files ends. headline before now exit files (Some (judge old new)) (judges files ends))
       (tells_each before.kept Ends (λ A B. tells_if before.kept (IsVerdict exit) (EndsAsMeant (reads_by (answers A B)) before now exit) (ended A B).answer))

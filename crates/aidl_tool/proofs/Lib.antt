@@ -3,6 +3,7 @@ pub mod Checks
 pub mod CourseEnds
 pub mod Held
 pub mod JudgesOne
+pub mod Kept
 pub mod Lacking
 pub mod OneTree
 pub mod Opened

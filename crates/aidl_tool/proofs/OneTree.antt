@@ -4,7 +4,6 @@ use Rattle.std.specs.Prelude.{◌≢◌}
 use Rattle.std.specs.Str.{encode_utf8_all}
 use Rattle.std.proofs.lemmas.Str.{cons_from_encodes}
 use Rattle.aidl_base.specs.declared.source_file.SourceFile.{SourceFile}
-use Rattle.aidl_outside.specs.Entries.{path_of}
 use Rattle.aidl_schema.specs.declared.schema.Decl.{Decl}
 use Rattle.aidl_tool.specs.Acting.{HasSchema}
 use Rattle.tool_frame.specs.Answer.{Answer, Found}

@@ -1,25 +1,24 @@
 -- `run` runs the one course of the schemas that both trees have.
-use Rattle.std.proofs.Common.{◌≡◌, ℕ, Bool, List, [], ◌∷◌, ◌++◌, map, Option, Some, None, Ok, Err, refl, sym, ap, ◌∙◌, subst, arith, inl, inr}
-use Rattle.std.specs.Prelude.{◌≢◌, ◌⊎◌, ◌≤◌, Result}
+use Rattle.std.proofs.Common.{◌≡◌, ℕ, Bool, List, [], ◌∷◌, Option, Some, None, Ok, Err, refl, sym, ap, ◌∙◌, subst, arith, inl, inr}
+use Rattle.std.specs.Prelude.{◌≢◌, ◌≤◌, Result}
 use Rattle.std.proofs.lemmas.List.{append-nil}
 use Rattle.aidl_base.specs.declared.limit.LimitName.TheVariants.{TextBytes}
 use Rattle.aidl_base.specs.declared.profile.Profile.{Profile}
 use Rattle.aidl_base.specs.declared.source_file.SourceFile.{SourceFile}
 use Rattle.aidl_base.specs.Results.{◌>>=◌}
 use Rattle.aidl_outside.specs.Files.{Files}
-use Rattle.aidl_outside.specs.Told.{Adds, Tells}
+use Rattle.aidl_outside.specs.Told.{Adds}
 use Rattle.aidl_schema.specs.Broken.{Break, broken}
 use Rattle.aidl_schema.specs.declared.schema.Decl.{Decl}
 use Rattle.aidl_tool.specs.Acting.{HasSchema}
-use Rattle.aidl_tool.specs.Headline.{Headline, IsCallsText, IsChecked}
+use Rattle.aidl_tool.specs.Headline.{IsCallsText, IsChecked}
 use Rattle.aidl_tool.specs.Running.{calls_within}
 use Rattle.aidl_tool.specs.declared.running.Loaded.{Loaded}
 use Rattle.aidl_tool.specs.steps.Loading.{HeldFiles, RanSome, RunsAs, RunsGivenAs, TakesEarly, TakesLoaded, all_held, loaded_seen}
 use Rattle.aidl_tool.proofs.CourseEnds.{alone}
-use Rattle.aidl_tool.proofs.Lacking.{lacking}
+use Rattle.aidl_tool.proofs.Kept.{RunKeeps}
 use Rattle.aidl_tool.proofs.OneTree.{one_tree}
 use Rattle.run_answers.specs.CallLines.{lines_of, within_lines}
-use Rattle.run_answers.specs.Projected.{projected_text}
 use Rattle.run_answers.specs.Running.{judged_course, lines_course, neither, run_course}
 use Rattle.tool_frame.specs.declared.printed.Early.{Early}
 use Rattle.tool_frame.specs.declared.printed.Early.TheVariants.{Answered, OutOfMemory}
@@ -27,14 +26,13 @@ use Rattle.tool_frame.specs.Answer.{Answer, Found}
 use Rattle.tool_frame.specs.Course.{Course}
 use Rattle.tool_frame.specs.Refusals.{file_at, there}
 use Rattle.tool_frame.specs.Seen.{Seen}
-use Rattle.tool_frame.specs.Trees.{TreeFile, file_seen, tree_at}
+use Rattle.tool_frame.specs.Trees.{TreeFile, tree_at}
 use Rattle.tool_frame.specs.Verdict.{IsVerdict}
-use Rattle.tool_frame.specs.steps.Courses.{EndsCourse, RanCourse}
-use Rattle.tool_frame.specs.steps.Results.{Finds, held, printed}
+use Rattle.tool_frame.specs.steps.Courses.{EndsCourse}
+use Rattle.tool_frame.specs.steps.Results.{Finds, printed}
 use Rattle.tool_frame.proofs.Endings.{not_verdict}
 use Rattle.tree_answers.specs.Faults.{IsFaultAnswer}
 use Rattle.tree_answers.specs.steps.Results.{EndsBy}
-use Rattle.type_check.specs.Checked.{IsSchemaOf}
 
 module _ (p : Profile) (trace : Bool) (A B : List Decl) (text : List ℕ) (before now : Seen) (exit : ℕ) where
   -- memory was wanted before any course
@@ -83,11 +81,10 @@ refused_both (b ∷ there) (c ∷ back) lines course before now exit e some othe
 
 module _ (p : Profile) (trace : Bool) (client server calls : List ℕ) (before now : Seen) where
   -- a run that was stopped
-  pub headline_stopped : (exit : ℕ) → 2 ≤ exit → exit ≤ 6 → (files : Files) → Headline p trace client server calls files before now exit
-  headline_stopped exit low high files = record {
-    projects = λ A B text a b t one faithful verdict. absurd (not_verdict exit low high verdict);
-    lacks = λ A B c. lacking A B c;
-    refuses = λ A B text a b t some others verdict. absurd (not_verdict exit low high verdict);
+  pub stopped : (exit : ℕ) → 2 ≤ exit → exit ≤ 6 → (files : Files) → RunKeeps before now exit files p trace client server calls
+  stopped exit low high files = record {
+    prints = λ text A B a b t faithful one verdict. absurd (not_verdict exit low high verdict);
+    refuses_both = λ text A B a b t some others verdict. absurd (not_verdict exit low high verdict);
   }
 
   module _ (exit : ℕ) (given : Result Loaded Early) (ran : RanSome (TakesLoaded p trace given) (alone before) (alone now) exit)
@@ -104,14 +101,8 @@ module _ (p : Profile) (trace : Bool) (client server calls : List ℕ) (before n
     refused_run A B text some others verdict (inr wanted) =
         absurd (not_verdict exit (let five : exit ≡ 5 = wanted.0 in omega arith) (let five : exit ≡ 5 = wanted.0 in omega arith) verdict)
 
-    pub headline_run : (files : Files) → Finds loaded_seen given (all_held files client server calls) → Headline p trace client server calls files before now exit
-    headline_run files found = record {
-      projects = λ A B text a b t one faithful verdict. (as_run files found A B text a b t).1 one faithful verdict;
-      lacks = λ A B c. lacking A B c;
-      refuses = λ A B text a b t some others verdict. refused_run A B text some others verdict (as_run files found A B text a b t).0;
+    pub kept_run : (files : Files) → Finds loaded_seen given (all_held files client server calls) → RunKeeps before now exit files p trace client server calls
+    kept_run files found = record {
+      prints = λ text A B a b t faithful one verdict. (as_run files found A B text a b t).1 one faithful verdict;
+      refuses_both = λ text A B a b t some others verdict. refused_run A B text some others verdict (as_run files found A B text a b t).0;
     }
-
--- what holds of all that is told
-pub tells_any : {T : Type 0} (told : Option T) (P : T → Type 0) → ((x : T) → P x) → Tells told P
-tells_any None P h = tt
-tells_any (Some x) P h = h x

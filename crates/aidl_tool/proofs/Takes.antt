@@ -6,12 +6,12 @@ use Rattle.aidl_tool.specs.Running.{Takes, TakesChecked, TakesOver, TakesThen}
 use Rattle.aidl_tool.specs.steps.Loading.{RanSome, TakesEarly}
 use Rattle.tool_frame.specs.declared.printed.Early.{Early}
 use Rattle.tool_frame.specs.declared.printed.Early.TheVariants.{Answered, OutOfMemory}
-use Rattle.tool_frame.specs.Answer.{Answer, Found}
+use Rattle.tool_frame.specs.Answer.{Found}
 use Rattle.tool_frame.specs.Course.{Course, at_once}
 use Rattle.tool_frame.specs.steps.Ends.{PrintsGiven}
 use Rattle.tool_frame.proofs.Courses.{ran_printed}
 use Rattle.tool_frame.specs.Seen.{Seen}
-use Rattle.tool_frame.specs.Trees.{TreeFile, file_seen}
+use Rattle.tool_frame.specs.Trees.{TreeFile}
 use Rattle.tool_frame.specs.steps.Results.{Finds, printed}
 use Rattle.tree_answers.specs.Faults.{IsFaultAnswer}
 use Rattle.tree_answers.specs.steps.Results.{EndsBy}

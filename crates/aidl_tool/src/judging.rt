@@ -1,16 +1,17 @@
-ghost use Rattle.std.specs.Prelude.{◌≡◌, List, IfOk};
+ghost use Rattle.std.specs.Prelude.{◌≡◌, Some, List, IfOk};
 ghost use Rattle.aidl_outside.specs.Causes.{StoreCause};
 ghost use Rattle.aidl_outside.specs.Told.{Tells};
 ghost use Rattle.aidl_schema.specs.Broken.{broken};
 ghost use Rattle.aidl_schema.specs.declared.schema.Decl.{Decl};
 ghost use Rattle.aidl_tool.specs.Acting.{HasSchema};
-ghost use Rattle.aidl_tool.specs.Headline.{IsChecked, Judges};
+ghost use Rattle.aidl_tool.specs.Headline.{Headline, IsChecked};
 ghost use Rattle.aidl_tool.specs.Meant.{JudgeAnswers, JudgesSecond};
 ghost use Rattle.tool_frame.specs.Ended.{Ended};
 ghost use Rattle.tool_frame.specs.Meaning.{reads_by};
 ghost use Rattle.tool_frame.specs.Seen.{seen_by};
 ghost use Rattle.tool_frame.specs.Trees.{OverTree, tree_seen};
 ghost use Rattle.tool_frame.specs.steps.Results.{GivesOne};
+ghost use Rattle.tool_words.specs.Command as words;
 ghost use Rattle.tree_answers.specs.Judged.{IsJudgeAnswer, judged};
 ghost use Rattle.type_check.specs.Checked.{IsSchemaOf};
 
@@ -33,7 +34,7 @@ pub fn judge<S: Store, K: Sink, L: Link>(
     ensures ends { let seen = seen_by S.kept S.count K.told K.count L.log L.is_faithful L.count in
         Ended (reads_by (JudgeAnswers old.now new.now)) (seen store.old sink.old link.now) (seen store.new sink.new link.now) result }
     ensures headline { let seen = seen_by S.kept S.count K.told K.count L.log L.is_faithful L.count in
-        Tells (S.kept store.old) (λ files. Judges old.now new.now files (seen store.old sink.old link.now) (seen store.new sink.new link.now) result) }
+        Tells (S.kept store.old) (Headline (Some (words.judge old.now new.now)) (seen store.old sink.old link.now) (seen store.new sink.new link.now) result) }
 {
     let answered = answered(alloc, old, new, store);
     end(alloc, answered, sink)

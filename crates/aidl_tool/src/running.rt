@@ -1,4 +1,4 @@
-ghost use Rattle.std.specs.Prelude.{◌≡◌, List, map, IfOk};
+ghost use Rattle.std.specs.Prelude.{◌≡◌, Bool, Some, List, map, IfOk};
 ghost use Rattle.aidl_outside.specs.Causes.{StoreCause};
 ghost use Rattle.aidl_outside.specs.Told.{Tells};
 ghost use Rattle.aidl_schema.specs.declared.schema.Decl.{Decl};
@@ -6,6 +6,7 @@ ghost use Rattle.aidl_tool.specs.Headline.{Headline};
 ghost use Rattle.aidl_tool.specs.Running.{RunTakes, TakesChecked, TakesOver, calls_within};
 ghost use Rattle.aidl_tool.specs.steps.Loading.{LoadsFor, RanSome, RunsAs, RunsGivenAs, RunsLoadedAs, TakesEarly, TakesLoaded, all_held, loaded_seen, server_held, trees_held};
 ghost use Rattle.aidl_tool.specs.Running as meant;
+ghost use Rattle.parcel_answers.specs.Decode.{profile_of};
 ghost use Rattle.run_answers.specs.Running.{run_course};
 ghost use Rattle.tool_frame.specs.Ended.{Ended};
 ghost use Rattle.tool_frame.specs.Meaning.{carries_by};
@@ -13,6 +14,7 @@ ghost use Rattle.tool_frame.specs.Seen.{seen_by};
 ghost use Rattle.tool_frame.specs.Trees.{file_seen, tree_at};
 ghost use Rattle.tool_frame.specs.steps.Courses.{seen_alone};
 ghost use Rattle.tool_frame.specs.steps.Results.{Finds, held};
+ghost use Rattle.tool_words.specs.Command as words;
 ghost use Rattle.type_check.specs.Checked.{IsSchemaOf};
 
 use aidl_base::{Limit, LimitName, Profile, Row, SourceFile};
@@ -39,7 +41,8 @@ pub fn run<S: Store, K: Sink, L: Link>(
     ensures ends { let seen = seen_by S.kept S.count K.told K.count L.log L.is_faithful L.count in
         Ended (carries_by (RunTakes profile trace client.now server.now calls.now)) (seen store.old sink.old link.old) (seen store.new sink.new link.new) result }
     ensures headline { let seen = seen_by S.kept S.count K.told K.count L.log L.is_faithful L.count in
-        Tells (S.kept store.old) (λ files. Headline profile trace client.now server.now calls.now files (seen store.old sink.old link.old) (seen store.new sink.new link.new) result) }
+        (lenient : Bool) → profile ≡ profile_of lenient → Tells (S.kept store.old)
+        (Headline (Some (words.run trace lenient client.now server.now calls.now)) (seen store.old sink.old link.old) (seen store.new sink.new link.new) result) }
 {
     match load_calls(alloc, client, server, calls, store) {
         Ok(given) => run_given(alloc, profile, trace, given, sink, link),

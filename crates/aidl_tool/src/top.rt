@@ -1,7 +1,8 @@
 ghost use Rattle.std.specs.Prelude.{◌≡◌, Some, map, string_bytes};
+ghost use Rattle.aidl_outside.specs.Told.{Tells};
 ghost use Rattle.tool_words.specs.Rows as table;
 ghost use Rattle.tool_words.specs.Seen.{command_seen};
-ghost use Rattle.aidl_tool.specs.Headline.{HeadlineOf};
+ghost use Rattle.aidl_tool.specs.Headline.{Headline};
 ghost use Rattle.aidl_tool.specs.Meant.{meaning, meant};
 ghost use Rattle.parcel_answers.specs.Decode.{profile_of};
 ghost use Rattle.tool_frame.specs.Ended.{Ran};
@@ -37,7 +38,7 @@ pub fn aidl<S: Store, K: Sink, L: Link>(
         Ran (meant (map string_bytes words.now)) (seen store.old sink.old link.old) (seen store.new sink.new link.new) result }
     // What the judge accepts, every call keeps.
     ensures headline { let seen = seen_by S.kept S.count K.told K.count L.log L.is_faithful L.count in
-        HeadlineOf (table.command_of (map string_bytes words.now)) (seen store.old sink.old link.old) (seen store.new sink.new link.new) result }
+        Tells (S.kept store.old) (Headline (table.command_of (map string_bytes words.now)) (seen store.old sink.old link.old) (seen store.new sink.new link.new) result) }
 {
     match command_of(words) {
         None => refuse(alloc, store, sink, link),
@@ -46,6 +47,7 @@ pub fn aidl<S: Store, K: Sink, L: Link>(
 }
 
 // Runs a command, where it is built.
+#[tactic(auto, using(crate::proofs::Kept::told_anyway))]
 fn carry_out<S: Store, K: Sink, L: Link>(
     alloc: Global,
     command: Command<'_>,
@@ -56,7 +58,7 @@ fn carry_out<S: Store, K: Sink, L: Link>(
     ensures ran { let seen = seen_by S.kept S.count K.told K.count L.log L.is_faithful L.count in
         Ran (meaning (command_seen command.entry)) (seen store.old sink.old link.old) (seen store.new sink.new link.new) result }
     ensures headline { let seen = seen_by S.kept S.count K.told K.count L.log L.is_faithful L.count in
-        HeadlineOf (Some (command_seen command.entry)) (seen store.old sink.old link.old) (seen store.new sink.new link.new) result }
+        Tells (S.kept store.old) (Headline (Some (command_seen command.entry)) (seen store.old sink.old link.old) (seen store.new sink.new link.new) result) }
 {
     match command {
         Command::Decode {

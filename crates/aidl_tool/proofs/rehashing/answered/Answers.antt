@@ -1,4 +1,4 @@
-use Rattle.std.proofs.Common.{Ok, Err, subst}
+use Rattle.std.proofs.Common.{Err, subst}
 use Rattle.tool_frame.specs.steps.Results.{Gives}
 use Rattle.version_answers.specs.Rehashed.{rehashed}
 use Rattle.aidl_tool.proofs.Acting.{rehash_done, rehash_refused}

@@ -1,12 +1,14 @@
-use Rattle.std.proofs.Common.{refl, arith}
+use Rattle.std.proofs.Common.{Some, refl, arith}
 use Rattle.aidl_tool.specs.Headline.{Headline}
 use Rattle.aidl_tool.specs.Running.{RunTakes}
 use Rattle.aidl_tool.specs.steps.Loading.{LoadsFor, TakesLoaded, all_held, loaded_seen}
 use Rattle.aidl_tool.proofs.CourseEnds.{ended_lost, ended_some, lost_cause}
-use Rattle.aidl_tool.proofs.RunsOne.{headline_run, headline_stopped, tells_any}
+use Rattle.aidl_tool.proofs.Kept.{run_headline, tells_any}
+use Rattle.aidl_tool.proofs.RunsOne.{kept_run, stopped}
 use Rattle.tool_frame.specs.Seen.{Seen, seen_by}
 use Rattle.tool_frame.specs.steps.Results.{Finds}
 use Rattle.tool_frame.proofs.Loaded.{tells}
+use Rattle.tool_words.specs.Command.{run}
 use Rattle.aidl_tool.proofs.running.run.Goals as goal
 
 pub returns-in-Ok-clause-ends : goal.returns-in-Ok-clause-ends
@@ -18,19 +20,21 @@ returns-in-Ok-clause-ends g c =
     c.run_given.ensures.ran
 
 pub returns-in-Ok-clause-headline : goal.returns-in-Ok-clause-headline
-returns-in-Ok-clause-headline g c =
+returns-in-Ok-clause-headline g c = λ lenient same.
     let before : Seen =
     seen_by g.S.Store.kept g.S.Store.count g.K.Sink.told g.K.Sink.count g.L.Link.log g.L.Link.is_faithful g.L.Link.count c.args.store.now c.args.sink.now c.args.link.now in
     let now : Seen =
     seen_by g.S.Store.kept g.S.Store.count g.K.Sink.told g.K.Sink.count g.L.Link.log g.L.Link.is_faithful g.L.Link.count c.load_calls.new.store c.run_given.new.sink c.run_given.new.link in
     tells (g.S.Store.kept c.args.store.now) (λ files. Finds loaded_seen c.in-Ok.given (all_held files c.args.client.now c.args.server.now c.args.calls.now))
-    (λ files. Headline c.args.profile c.args.trace c.args.client.now c.args.server.now c.args.calls.now files before now c.run_given.result)
-    (headline_run c.args.profile c.args.trace c.args.client.now c.args.server.now c.args.calls.now before now c.run_given.result c.in-Ok.given
-    c.run_given.ensures.ran c.run_given.ensures.exact) c.in-Ok.ensures.found
+    (Headline (Some (run c.args.trace lenient c.args.client.now c.args.server.now c.args.calls.now)) before now c.run_given.result)
+    (λ files found. run_headline before now c.run_given.result files c.args.profile c.args.trace c.args.client.now c.args.server.now c.args.calls.now
+    (kept_run c.args.profile c.args.trace c.args.client.now c.args.server.now c.args.calls.now before now c.run_given.result c.in-Ok.given
+    c.run_given.ensures.ran c.run_given.ensures.exact files found) lenient same) c.in-Ok.ensures.found
 
 pub returns-in-Err-Failed-clause-headline : goal.returns-in-Err-Failed-clause-headline
-returns-in-Err-Failed-clause-headline g c =
-    tells_any _ _ (headline_stopped c.args.profile c.args.trace c.args.client.now c.args.server.now c.args.calls.now _ _ 3 (omega arith) (omega arith))
+returns-in-Err-Failed-clause-headline g c = λ lenient same.
+    tells_any _ _ (λ files. run_headline _ _ 3 files c.args.profile c.args.trace c.args.client.now c.args.server.now c.args.calls.now
+    (stopped c.args.profile c.args.trace c.args.client.now c.args.server.now c.args.calls.now _ _ 3 (omega arith) (omega arith) files) lenient same)
 
 pub returns-in-Err-OutOfMemory-clause-ends : goal.returns-in-Err-OutOfMemory-clause-ends
 returns-in-Err-OutOfMemory-clause-ends g c =
@@ -38,5 +42,6 @@ returns-in-Err-OutOfMemory-clause-ends g c =
     (lost_cause _ _ c.in-Err-OutOfMemory.field-0 c.in-Err-OutOfMemory.field-0-is c.in-Err-OutOfMemory.ensures.cause) refl
 
 pub returns-in-Err-OutOfMemory-clause-headline : goal.returns-in-Err-OutOfMemory-clause-headline
-returns-in-Err-OutOfMemory-clause-headline g c =
-    tells_any _ _ (headline_stopped c.args.profile c.args.trace c.args.client.now c.args.server.now c.args.calls.now _ _ 5 (omega arith) (omega arith))
+returns-in-Err-OutOfMemory-clause-headline g c = λ lenient same.
+    tells_any _ _ (λ files. run_headline _ _ 5 files c.args.profile c.args.trace c.args.client.now c.args.server.now c.args.calls.now
+    (stopped c.args.profile c.args.trace c.args.client.now c.args.server.now c.args.calls.now _ _ 5 (omega arith) (omega arith) files) lenient same)

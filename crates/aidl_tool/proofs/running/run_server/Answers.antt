@@ -6,7 +6,7 @@ use Rattle.tool_frame.specs.steps.Courses.{seen_alone}
 use Rattle.aidl_tool.specs.steps.Loading.{RanSome, RunsAs}
 use Rattle.aidl_tool.proofs.OneTree.{never_refused, one_schema}
 use Rattle.aidl_tool.proofs.RunsOne.{refused_as}
-use Rattle.aidl_tool.proofs.Takes.{checked_early, checked_takes}
+use Rattle.aidl_tool.proofs.Takes.{checked_takes}
 use Rattle.aidl_tool.proofs.running.run_server.Goals as goal
 
 pub returns-in-Ok-clause-ran : goal.returns-in-Ok-clause-ran
