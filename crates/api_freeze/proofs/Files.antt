@@ -19,6 +19,7 @@ use Rattle.api_versions.specs.Whole.{all_whole, is_whole, torn}
 use Rattle.api_versions.specs.Writes.{Left}
 use Rattle.api_freeze.specs.declared.following.Next.{Next}
 use Rattle.api_freeze.specs.declared.freezing.Frozen.{Frozen}
+use Rattle.api_freeze.specs.Chains.{FollowsEach}
 use Rattle.api_freeze.specs.Freeze.{Forbids, Freezes, FreezesAt, IsDump, IsRead, MayFollow, Ready, RefusedAs, hash_digits, latest, next, version_writes}
 use Rattle.api_freeze.specs.steps.Following.{Follows, FollowsAll, Numbers, Prepares, are_same, is_same}
 
@@ -50,19 +51,19 @@ refused_whole vs S fault.WriteFault whole early h = early
 refused_whole vs S fault.OutOfMemory whole early h = tt
 
 -- a limit on the number or the dump, or what is prepared
-pub prepared : (vs : List Version) (S : List Decl) (files : List SourceFile) (r : Result Next FreezeFault) → all_whole vs ≡ Ok tt → MayFollow (latest vs) S → IsDump S files → Numbers (length vs) files r → Prepares vs S r
-prepared vs S files (Ok n) whole follows dump (few, number, same, fits) =
-    subst (λ fs. Ready vs S fs × (n.number ≡ next vs)) (sym same) (record { whole = whole; follows = follows; few = few; dump = dump; fits = fits }, number)
-prepared vs S files (Err (fault.Limit l)) whole follows dump (inl h) = (whole, inr (follows, inl h))
-prepared vs S files (Err (fault.Limit l)) whole follows dump (inr h) = (whole, inr (follows, inr (h.0, (files, dump, h.1))))
-prepared vs S files (Err fault.OutOfMemory) whole follows dump h = tt
-prepared vs S files (Err (fault.BadVersions missing)) whole follows dump h = absurd h
-prepared vs S files (Err (fault.Torn version kept text)) whole follows dump h = absurd h
-prepared vs S files (Err (fault.Unreadable version fs cause)) whole follows dump h = absurd h
-prepared vs S files (Err (fault.Unchanged version)) whole follows dump h = absurd h
-prepared vs S files (Err (fault.Incompatible rows)) whole follows dump h = absurd h
-prepared vs S files (Err fault.ReadFault) whole follows dump h = absurd h
-prepared vs S files (Err fault.WriteFault) whole follows dump h = absurd h
+pub prepared : (vs : List Version) (S : List Decl) (files : List SourceFile) (r : Result Next FreezeFault) → all_whole vs ≡ Ok tt → MayFollow (latest vs) S → FollowsEach vs S → IsDump S files → Numbers (length vs) files r → Prepares vs S r
+prepared vs S files (Ok n) whole follows each dump (few, number, same, fits) =
+    subst (λ fs. Ready vs S fs × (n.number ≡ next vs)) (sym same) (record { whole = whole; follows = follows; each = each; few = few; dump = dump; fits = fits }, number)
+prepared vs S files (Err (fault.Limit l)) whole follows each dump (inl h) = (whole, inr (follows, inl h))
+prepared vs S files (Err (fault.Limit l)) whole follows each dump (inr h) = (whole, inr (follows, inr (h.0, (files, dump, h.1))))
+prepared vs S files (Err fault.OutOfMemory) whole follows each dump h = tt
+prepared vs S files (Err (fault.BadVersions missing)) whole follows each dump h = absurd h
+prepared vs S files (Err (fault.Torn version kept text)) whole follows each dump h = absurd h
+prepared vs S files (Err (fault.Unreadable version fs cause)) whole follows each dump h = absurd h
+prepared vs S files (Err (fault.Unchanged version)) whole follows each dump h = absurd h
+prepared vs S files (Err (fault.Incompatible rows)) whole follows each dump h = absurd h
+prepared vs S files (Err fault.ReadFault) whole follows each dump h = absurd h
+prepared vs S files (Err fault.WriteFault) whole follows each dump h = absurd h
 
 -- a version that isn't whole
 abbrev IsTorn : FreezeFault → Type 0

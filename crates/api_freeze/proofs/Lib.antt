@@ -1,3 +1,4 @@
+pub mod Chains
 pub mod Files
 pub mod Numbered
 pub mod Untold

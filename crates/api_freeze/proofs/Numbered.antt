@@ -1,5 +1,5 @@
 -- A refusal for the limits of files, of a number that passes none.
-use Rattle.std.proofs.Common.{◌≡◌, ℕ, ◌+◌, ◌≤◌, List, Err, inr}
+use Rattle.std.proofs.Common.{ℕ, ◌+◌, ◌≤◌, List, Err, inr}
 use Rattle.aidl_base.specs.declared.source_file.SourceFile.{SourceFile}
 use Rattle.api_freeze.specs.steps.Following.{Fits, Numbers}
 use Rattle.api_versions.specs.declared.fault.FreezeFault.{FreezeFault}

@@ -16,6 +16,7 @@ use Rattle.type_check.specs.declared.fault.CheckFault.TheVariants as check
 use Rattle.type_check.specs.Checked.{IsSchemaOf}
 use Rattle.type_check.specs.Refusals.{IsRefusal}
 use Rattle.api_freeze.specs.declared.freezing.Frozen.{Frozen}
+use Rattle.api_freeze.specs.Chains.{FollowsEach}
 use Rattle.api_versions.specs.declared.fault.FreezeFault.{FreezeFault}
 use Rattle.api_versions.specs.declared.fault.FreezeFault.TheVariants as fault
 use Rattle.api_versions.specs.declared.version.Version.{Version}
@@ -76,10 +77,11 @@ IsOther files cause = IsRefusal files cause
 abbrev pub PassesNoLimit : List SourceFile → Type 0
 PassesNoLimit files = ((decls : List Decl) × IsSchemaOf files decls) ⊎ ((cause : CheckFault) × IsOther files cause)
 
--- what is asked before anything is written
+-- what is asked before anything is written; and so, along a chain of versions, the schema follows each of them
 pub record Ready (vs : List Version) (S : List Decl) (files : List SourceFile) : Type 0 where
   pub whole : all_whole vs ≡ Ok tt
   pub follows : MayFollow (latest vs) S
+  pub each : FollowsEach vs S
   pub few : next vs ≤ 9999
   pub dump : IsDump S files
   pub fits : PassesNoLimit files

@@ -1,3 +1,4 @@
+pub mod Chains
 pub mod Freeze
 pub mod Rehash
 pub mod steps

@@ -1,7 +1,8 @@
-ghost use Rattle.std.specs.Prelude.{◌≡◌, List, Some, Ok, IfErr};
+ghost use Rattle.std.specs.Prelude.{◌≡◌, List, Some, Ok, IfErr, OnOk};
 ghost use Rattle.aidl_schema.specs.declared.schema.Decl.{Decl};
+ghost use Rattle.api_freeze.specs.Chains.{FollowsEach};
 ghost use Rattle.api_freeze.specs.Freeze.{Forbids, IsDump, IsRead};
-ghost use Rattle.api_freeze.specs.steps.Following.{Compares, Fits, Follows, FollowsAll, Numbers, Prepares};
+ghost use Rattle.api_freeze.specs.steps.Following.{Compares, Fits, Follows, FollowsAll, FollowsOne, Numbers, Prepares};
 ghost use Rattle.api_freeze.specs.steps.Following as step;
 ghost use Rattle.api_versions.specs.Whole as whole;
 ghost use Rattle.type_check.specs.Refusals.{IsRefusal};
@@ -13,7 +14,7 @@ use api_dump::dump;
 use api_versions::{FreezeFault, Version, all_whole, limit_passed};
 use compat_judge::judge;
 use std::alloc::Global;
-use type_check::{CheckFault, check};
+use type_check::{CheckFault, check, law_one_schema};
 
 /// The next version: its number, and the files of the dump.
 #[derive(Debug, Drop)]
@@ -95,6 +96,7 @@ fn follow(
 ) -> Result<(), FreezeFault>
     requires { IsDump schema.now.decls files.now }
     ensures answer { FollowsAll versions schema.now.decls result }
+    ensures each { OnOk result (FollowsEach versions schema.now.decls) }
     ensures early { IfErr result IsEarly }
     ensures read { IfErr result IsRead }
 {
@@ -114,11 +116,15 @@ fn follow_latest(
 ) -> Result<(), FreezeFault>
     requires { IsDump schema.now.decls files.now }
     ensures answer { Follows latest schema.now.decls result }
+    ensures one { OnOk result (FollowsOne latest schema.now.decls) }
     ensures early { IfErr result IsEarly }
     ensures read { IfErr result IsRead }
 {
     match check(alloc, latest.files.as_slice()) {
-        Ok(old) => compare(alloc, latest.number, &old, schema, files),
+        Ok(old) => {
+            law_one_schema(latest.files.as_slice());
+            compare(alloc, latest.number, &old, schema, files)
+        }
         Err(fault) => Err(unread(latest, fault)),
     }
 }

@@ -1,5 +1,6 @@
 ghost use Rattle.std.specs.Prelude.{◌≡◌, ◌-◌, length, map, take, Some, None, IfErr, IfOk};
 ghost use Rattle.aidl_outside.specs.Told.{Tells};
+ghost use Rattle.api_freeze.specs.Chains.{FollowsEachAt};
 ghost use Rattle.api_freeze.specs.Freeze.{Freezes, FreezesAt, IsRead, hash_digits, version_writes};
 ghost use Rattle.api_freeze.specs.Freeze as meant;
 ghost use Rattle.api_versions.specs.Causes.{Cause};
@@ -30,6 +31,8 @@ pub struct Frozen {
 /// new number. It refuses as `versions` does; then `Torn` for the least version that isn't whole; what the check answers for the latest
 /// version's files, a limit as `Limit` and any other fault as `Unreadable`; `Unchanged`; `Incompatible`; the limit `versions` for a new
 /// number 10,000; and the limit that the check answers for the dump. All these come before any write, and leave the store as it was.
+/// On Ok no evolution rule is broken from the latest version to the schema; nor is one from any earlier version, where none is from each
+/// version to the next one (`FollowsEach`).
 pub fn freeze<S: Store>(
     alloc: Global,
     schema: &Schema,
@@ -37,6 +40,7 @@ pub fn freeze<S: Store>(
     api: &str,
 ) -> Result<Frozen, FreezeFault>
     ensures told { Tells (S.kept store.old) (λ files. FreezesAt api.now (versions_at files api.now) schema.now.decls (Some files) (S.kept store.new) result) }
+    ensures chains { Tells (S.kept store.old) (λ files. IfOk result (λ frozen. FollowsEachAt (versions_at files api.now) schema.now.decls)) }
     ensures untold { S.kept store.old ≡ None → S.kept store.new ≡ None }
     ensures read { IfErr result IsRead }
     ensures cause { Cause (S.count store.old) (S.count store.new) result }

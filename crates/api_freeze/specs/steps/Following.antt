@@ -7,6 +7,7 @@ use Rattle.aidl_schema.specs.Broken.{broken}
 use Rattle.api_dump.specs.Dump.{dump_text, seen}
 use Rattle.compat_judge.specs.Seen.{seen as break_of}
 use Rattle.type_check.specs.declared.fault.CheckFault.TheVariants as check
+use Rattle.type_check.specs.Checked.{IsSchemaOf}
 use Rattle.type_check.specs.Refusals.{IsRefusal}
 use Rattle.api_versions.specs.declared.fault.FreezeFault.{FreezeFault}
 use Rattle.api_versions.specs.declared.fault.FreezeFault.TheVariants as fault
@@ -26,6 +27,10 @@ Compares number old S (Err _) = ⊥
 abbrev pub Follows : Version → List Decl → Result (Unit {0}) FreezeFault → Type 0
 Follows v S (Ok x) = MayFollow (Some v) S
 Follows v S (Err e) = Forbids (Some v) S e
+
+-- it follows each schema of the version's files
+abbrev pub FollowsOne : Version → List Decl → Type 0
+FollowsOne v S = (old : List Decl) → IsSchemaOf v.files old → broken old S ≡ []
 
 -- all versions and a schema
 abbrev pub FollowsAll : List Version → List Decl → Result (Unit {0}) FreezeFault → Type 0

@@ -1,5 +1,6 @@
 use Rattle.std.proofs.Common.{◌∙◌}
 use Rattle.api_versions.specs.Versions.{versions_at}
+use Rattle.api_freeze.proofs.Chains.{follows_told}
 use Rattle.api_freeze.proofs.Files.{freezes_at, unread_at}
 use Rattle.api_freeze.proofs.Untold.{untold_freezes}
 use Rattle.api_freeze.proofs.freezing.freeze.Goals as goal
@@ -15,6 +16,12 @@ returns-in-Err-clause-told g c =
     let kept = g.S.Store.kept in
     unread_at c.args.api.now (kept c.args.store.now) (λ files. versions_at files c.args.api.now) c.args.schema.now.decls (kept c.versions.new.store) (g.S.Store.count c.args.store.now) (g.S.Store.count c.versions.new.store) c.in-Err.fault
     c.in-Err.ensures.unchanged c.in-Err.ensures.cause c.in-Err.ensures.told
+
+pub returns-in-Ok-clause-chains : goal.returns-in-Ok-clause-chains
+returns-in-Ok-clause-chains g c =
+    let kept = g.S.Store.kept in
+    follows_told c.args.api.now (kept c.args.store.now) (λ files. versions_at files c.args.api.now) c.args.schema.now.decls (kept c.freeze_next.new.store) c.freeze_next.result
+    (returns-in-Ok-clause-told g c)
 
 pub returns-in-Ok-clause-untold : goal.returns-in-Ok-clause-untold
 returns-in-Ok-clause-untold g c =

@@ -1,0 +1,30 @@
+-- *Chains*: where each version is followed by the next one, a new version follows every one of them (own). A schema is followed by
+-- another where no evolution rule is broken from it to the other.
+use Rattle.std.specs.Prelude.{◌≡◌, List, [], ◌∷◌, Result, Ok, Err}
+use Rattle.std.specs.List.{All, AllZip}
+use Rattle.aidl_schema.specs.declared.schema.Decl.{Decl}
+use Rattle.aidl_schema.specs.Broken.{broken}
+use Rattle.aidl_schema.specs.Valid.{IsValid}
+use Rattle.api_versions.specs.declared.fault.FreezeFault.{FreezeFault}
+use Rattle.api_versions.specs.declared.version.Version.{Version}
+use Rattle.type_check.specs.Checked.{IsSchemaOf}
+
+-- the schema of the files of a version
+abbrev pub IsItsSchema : Version → List Decl → Type 0
+IsItsSchema v S = IsSchemaOf v.files S
+
+-- each schema is followed by the next one
+abbrev pub IsChain : List (List Decl) → Type 0
+IsChain [] = Unit {0}
+IsChain (S ∷ []) = Unit {0}
+IsChain (S ∷ T ∷ rest) = (broken S T ≡ []) × IsChain (T ∷ rest)
+
+-- The new schema follows each version: whatever valid schemas the versions have, if each is followed by the next one.
+abbrev pub FollowsEach : List Version → List Decl → Type 0
+FollowsEach versions new = (schemas : List (List Decl)) → AllZip IsItsSchema versions schemas → All IsValid schemas
+    → IsChain schemas → All (λ S. broken S new ≡ []) schemas
+
+-- the same of the versions that a store tells, which are there
+abbrev pub FollowsEachAt : Result (List Version) FreezeFault → List Decl → Type 0
+FollowsEachAt (Ok versions) new = FollowsEach versions new
+FollowsEachAt (Err refused) new = ⊥
