@@ -10,7 +10,8 @@ use Rattle.aidl_names.specs.declared.resolved.Resolved.{Resolved}
 use Rattle.aidl_names.specs.declared.resolved.Resolved.TheVariants.{Declared}
 use Rattle.aidl_names.specs.Names.{text, same, last}
 use Rattle.aidl_names.specs.Declarations.{Entry}
-use Rattle.aidl_names.specs.Imports.{meant_through, is_at, is_at_number}
+use Rattle.aidl_names.specs.Imports.{meant_through}
+use Rattle.aidl_names.specs.steps.Copies.{is_at, is_at_number}
 use Rattle.aidl_names.specs.Resolution.{number_of, first_declared, imported, or_else}
 use Rattle.aidl_names.proofs.Alike.{same-right, same-turned, same-self, position-same}
 use Rattle.aidl_names.proofs.Candidates.{first-append}

@@ -14,3 +14,4 @@ pub mod TypeRules
 pub mod Marks
 pub mod Tables
 pub mod Imports
+pub mod steps

@@ -1,6 +1,7 @@
 ghost use Rattle.std.specs.Prelude.{◌≡◌, ◌≤◌, ◌∷◌, [], ◌++◌, map, length, IfOk, OnOk};
-ghost use Rattle.aidl_names.specs.Imports.{is_at, is_at_number, meant_through, meant_in};
+ghost use Rattle.aidl_names.specs.Imports.{meant_through, meant_in};
 ghost use Rattle.aidl_names.specs.Sources.{source_of};
+ghost use Rattle.aidl_names.specs.steps.Copies.{is_at, is_at_number};
 ghost use Rattle.aidl_names.specs.Marks.{mark_of_entry, mark_of_last};
 ghost use Rattle.aidl_names.specs.Refusals.{entry_of};
 ghost use Rattle.aidl_names.specs.Resolution.{first_declared, imported};

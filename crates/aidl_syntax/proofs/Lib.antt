@@ -1,4 +1,4 @@
 mod Rising
 mod Cutting
 mod Walking
-mod Leaves
+pub mod Leaves

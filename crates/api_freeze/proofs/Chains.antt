@@ -2,7 +2,7 @@
 use Rattle.std.proofs.Common.{◌≡◌, ℕ, List, [], ◌∷◌, Option, Some, None, Result, Ok, Err, refl, subst}
 use Rattle.std.specs.List.{All, AllZip}
 use Rattle.std.specs.Result.{IfOk, OnOk}
-use Rattle.std.proofs.lemmas.List.Elements.{All-nil, All-cons, All-head, All-tail}
+use Rattle.std.proofs.lemmas.List.Elements.{All-nil, All-cons, All-head}
 use Rattle.aidl_outside.specs.Files.{Files}
 use Rattle.aidl_outside.specs.Told.{Tells}
 use Rattle.aidl_schema.specs.declared.schema.Decl.{Decl}
@@ -12,6 +12,7 @@ use Rattle.aidl_schema.proofs.BrokenChain.{chain}
 use Rattle.aidl_schema.proofs.BrokenSelf.{distinct_names}
 use Rattle.aidl_schema.proofs.Valids.{all_hold, decls_apart}
 use Rattle.type_check.specs.Checked.{IsSchemaOf}
+use Rattle.type_check.proofs.ValidOf.{schema_valid}
 use Rattle.api_versions.specs.declared.fault.FreezeFault.{FreezeFault}
 use Rattle.api_versions.specs.declared.version.Version.{Version}
 use Rattle.api_freeze.specs.declared.freezing.Frozen.{Frozen}
@@ -34,17 +35,16 @@ module _ (new : List Decl) (valid : IsValid new) where
   along first next is step rest = chain first next new (all_hold next is) (distinct_names new (decls_apart new valid)) step rest
 
   pub follows_each : (vs : List Version) → ((v : Version) → latest vs ≡ Some v → FollowsOne v new)
-      → (schemas : List (List Decl)) → AllZip IsItsSchema vs schemas → All IsValid schemas → IsChain schemas → All IsFollowed schemas
-  follows_each [] last [] theirs are links = All-nil IsFollowed
-  follows_each [] last (S ∷ rest) theirs are links = absurd theirs
-  follows_each (v ∷ vs) last [] theirs are links = absurd theirs
-  follows_each (v ∷ []) last (S ∷ []) theirs are links = All-cons IsFollowed S [] (last v refl S theirs.0) (All-nil IsFollowed)
-  follows_each (v ∷ []) last (S ∷ T ∷ rest) theirs are links = absurd theirs.1
-  follows_each (v ∷ w ∷ vs) last (S ∷ []) theirs are links = absurd theirs.1
-  follows_each (v ∷ w ∷ vs) last (S ∷ T ∷ rest) theirs are links =
-      let others = All-tail IsValid S (T ∷ rest) are in
-      let behind = follows_each (w ∷ vs) last (T ∷ rest) theirs.1 others links.1 in
-      All-cons IsFollowed S (T ∷ rest) (along S T (All-head IsValid T rest others) links.0 (All-head IsFollowed T rest behind)) behind
+      → (schemas : List (List Decl)) → AllZip IsItsSchema vs schemas → IsChain schemas → All IsFollowed schemas
+  follows_each [] last [] theirs links = All-nil IsFollowed
+  follows_each [] last (S ∷ rest) theirs links = absurd theirs
+  follows_each (v ∷ vs) last [] theirs links = absurd theirs
+  follows_each (v ∷ []) last (S ∷ []) theirs links = All-cons IsFollowed S [] (last v refl S theirs.0) (All-nil IsFollowed)
+  follows_each (v ∷ []) last (S ∷ T ∷ rest) theirs links = absurd theirs.1
+  follows_each (v ∷ w ∷ vs) last (S ∷ []) theirs links = absurd theirs.1
+  follows_each (v ∷ w ∷ vs) last (S ∷ T ∷ rest) theirs links =
+      let behind = follows_each (w ∷ vs) last (T ∷ rest) theirs.1 links.1 in
+      All-cons IsFollowed S (T ∷ rest) (along S T (schema_valid w.files T theirs.1.0) links.0 (All-head IsFollowed T rest behind)) behind
 
   -- the latest of some versions is the only one of that place
   pub each_by_latest : (vs : List Version) (v : Version) (r : Result (Unit {0}) FreezeFault) → latest vs ≡ Some v → OnOk r (FollowsOne v new)

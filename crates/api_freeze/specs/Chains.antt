@@ -4,7 +4,6 @@ use Rattle.std.specs.Prelude.{◌≡◌, List, [], ◌∷◌, Result, Ok, Err}
 use Rattle.std.specs.List.{All, AllZip}
 use Rattle.aidl_schema.specs.declared.schema.Decl.{Decl}
 use Rattle.aidl_schema.specs.Broken.{broken}
-use Rattle.aidl_schema.specs.Valid.{IsValid}
 use Rattle.api_versions.specs.declared.fault.FreezeFault.{FreezeFault}
 use Rattle.api_versions.specs.declared.version.Version.{Version}
 use Rattle.type_check.specs.Checked.{IsSchemaOf}
@@ -19,9 +18,9 @@ IsChain [] = Unit {0}
 IsChain (S ∷ []) = Unit {0}
 IsChain (S ∷ T ∷ rest) = (broken S T ≡ []) × IsChain (T ∷ rest)
 
--- The new schema follows each version: whatever valid schemas the versions have, if each is followed by the next one.
+-- The new schema follows each version: whatever schemas the versions have, if each is followed by the next one.
 abbrev pub FollowsEach : List Version → List Decl → Type 0
-FollowsEach versions new = (schemas : List (List Decl)) → AllZip IsItsSchema versions schemas → All IsValid schemas
+FollowsEach versions new = (schemas : List (List Decl)) → AllZip IsItsSchema versions schemas
     → IsChain schemas → All (λ S. broken S new ≡ []) schemas
 
 -- the same of the versions that a store tells, which are there

@@ -4,3 +4,4 @@ pub mod Valid
 pub mod Joined
 pub mod TreesRefused
 pub mod OneAnswer
+pub mod ValidOf

@@ -1,7 +1,7 @@
 use Rattle.std.proofs.Common.{Bor, List, sym, ◌∙◌, ap}
 use Rattle.aidl_base.specs.declared.name.Ident.{Ident}
 use Rattle.aidl_syntax.specs.declared.tree.DottedTree.{DottedTree}
-use Rattle.aidl_names.specs.Imports.{is_at}
+use Rattle.aidl_names.specs.steps.Copies.{is_at}
 use Rattle.aidl_names.proofs.Copies.{left_out}
 use Rattle.aidl_names.proofs.imported.keep.Goals as goal
 
