@@ -1,3 +1,4 @@
+pub mod Digits
 pub mod Elements
 pub mod Entries
 pub mod JsonTexts
