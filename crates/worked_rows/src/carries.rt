@@ -35,6 +35,7 @@ impl Carries {
                 self.fails.push(carry)?;
                 return Ok(true);
             }
+            "cuts" => return self.add_cuts(carry, rest),
             "cut" => rest.parse::<usize>().ok().map(EditKind::Cut),
             "set" => set_of(rest),
             _ => Some(EditKind::Append(Row::from_vec(plain(alloc, rest)?))),
@@ -43,6 +44,21 @@ impl Carries {
             return Ok(false);
         };
         self.edits.push(Edit { carry, kind })?;
+        Ok(true)
+    }
+
+    // Cuts so many carries, each a step after the one before: the first to no byte, and each later one to one byte more.
+    fn add_cuts(&mut self, first: u64, rest: &str) -> Result<bool, OutOfMemory> {
+        let (step, count) = word_of(rest);
+        let (Ok(step), Ok(count)) = (step.parse::<u64>(), count.parse::<usize>()) else {
+            return Ok(false);
+        };
+        let mut carry = first;
+        for length in 0..count {
+            let kind = EditKind::Cut(length);
+            self.edits.push(Edit { carry, kind })?;
+            carry = carry.saturating_add(step);
+        }
         Ok(true)
     }
 

@@ -2,6 +2,7 @@
 //! and last how many rows there were and how many were wrong. `data/README` says how a row is written.
 #![tactic(auto)]
 
+mod again;
 mod carries;
 mod case;
 mod plain;

@@ -1,3 +1,4 @@
+use crate::again::lines_of;
 use crate::carries::{Carries, shown_log};
 use crate::case::word_of;
 use crate::plain::{plain, text_of};
@@ -65,8 +66,16 @@ impl Run {
         }
     }
 
-    /// Adds what a line tells. Whether it tells something.
+    /// Adds what a line tells, or the lines that it stands for. Whether each tells something.
     pub fn add(&mut self, alloc: Global, line: &str) -> Result<bool, OutOfMemory> {
+        let mut is_read = true;
+        for each in lines_of(alloc, line)? {
+            is_read = is_read && self.add_one(alloc, each.as_str())?;
+        }
+        Ok(is_read)
+    }
+
+    fn add_one(&mut self, alloc: Global, line: &str) -> Result<bool, OutOfMemory> {
         let (what, rest) = word_of(line);
         match what {
             "#" => Ok(true),
@@ -79,7 +88,7 @@ impl Run {
             "exit" => Ok(self.set_exit(rest)),
             "store_fails" => add_number(&mut self.store_fails, rest),
             "sink_fails" => add_number(&mut self.sink_fails, rest),
-            "link_fails" | "cut" | "set" | "append" => self.carries.add(alloc, what, rest),
+            "link_fails" | "cut" | "cuts" | "set" | "append" => self.carries.add(alloc, what, rest),
             "carried" => self.carries.add_entry(rest),
             _ => Ok(false),
         }

@@ -1,3 +1,4 @@
+use crate::again::lines_of;
 use crate::case::case_of;
 use crate::plain::text_of;
 use crate::run::Run;
@@ -101,10 +102,18 @@ fn add_wanted(alloc: Global, wanted: &str, run: &mut Run) -> Result<bool, OutOfM
     let mut is_read = false;
     for part in wanted.as_str().split(" | ") {
         if is_read {
-            run.print_line(part)?;
+            print_lines(alloc, part, run)?;
         } else {
             is_read = run.set_exit(part);
         }
     }
     Ok(is_read)
+}
+
+// Adds a line to what is to be printed, or the lines that it stands for.
+fn print_lines(alloc: Global, part: &str, run: &mut Run) -> Result<(), OutOfMemory> {
+    for line in lines_of(alloc, part)? {
+        run.print_line(line.as_str())?;
+    }
+    Ok(())
 }
