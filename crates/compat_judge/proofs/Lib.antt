@@ -1,5 +1,4 @@
 pub mod Chains
-pub mod Compared
 pub mod Found
 pub mod Listing
 pub mod PlaceTexts

@@ -10,8 +10,8 @@ use Rattle.aidl_names.specs.Breaches.{in_order, put}
 use Rattle.const_eval.specs.declared.outcome.Outcome.{Outcome}
 use Rattle.const_eval.specs.declared.outcome.Outcome.TheVariants.{Given, Fault, Unjudged}
 use Rattle.const_eval.specs.Breaches.{breach_by, breaches, breaches_from}
-use Rattle.const_eval.specs.Items.{Item}
-use Rattle.const_eval.proofs.Keys.{IsPlaced, Rises, key}
+use Rattle.const_items.specs.Items.{Item}
+use Rattle.const_items.proofs.Keys.{IsPlaced, Rises, key}
 
 -- the place of a breach among all places
 abbrev place : Breach → ℕ

@@ -1,16 +1,8 @@
 pub mod Agree
-pub mod Behind
-pub mod EachItem
-pub mod General
 pub mod InOrder
-pub mod Keys
 pub mod Meant
-pub mod Numbers
 pub mod OneItem
 pub mod OneOutcome
-pub mod Orders
-pub mod PlacesWithin
 pub mod Progress
-pub mod Scopes
 pub mod Settling
 pub mod Turns

@@ -15,11 +15,11 @@ use Rattle.const_values.specs.Evaluation.{evaluated}
 use Rattle.const_values.specs.Seen.{Answers, seen}
 use Rattle.const_values.specs.Operands.{Operand}
 use Rattle.const_values.specs.Wanted.{fitted}
-use Rattle.const_eval.specs.declared.item.ItemRef.{ItemRef}
+use Rattle.const_items.specs.declared.item.ItemRef.{ItemRef}
 use Rattle.const_eval.specs.declared.outcome.Outcome.{Outcome}
-use Rattle.const_eval.specs.Dependence.{Target, number_among, target}
-use Rattle.const_eval.specs.Items.{Item, items}
-use Rattle.const_eval.specs.ItemViews.{item_of}
+use Rattle.const_items.specs.Dependence.{Target, number_among, target}
+use Rattle.const_items.specs.Items.{Item, items}
+use Rattle.const_items.specs.ItemViews.{item_of}
 use Rattle.const_eval.specs.Known.{AreItems, meaning_for, values_in}
 use Rattle.const_eval.specs.Outcomes.{expression_of, named_enum, operand_at}
 

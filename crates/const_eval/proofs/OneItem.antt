@@ -3,11 +3,11 @@ use Rattle.std.proofs.Common.{◌≡◌, ℕ, ◌<◌, Bool, false, IsTrue, ◌�
 use Rattle.std.specs.List.{slice_get}
 use Rattle.graph_cycles.specs.Paths.{TellsCycles, flag, targets}
 use Rattle.aidl_names.specs.Sources.{Source}
-use Rattle.const_eval.specs.declared.item.ItemRef.{ItemRef}
+use Rattle.const_items.specs.declared.item.ItemRef.{ItemRef}
 use Rattle.const_eval.specs.declared.outcome.Outcome.{Outcome}
-use Rattle.const_eval.specs.Dependence.{has_unknown_name, next}
-use Rattle.const_eval.specs.Items.{items}
-use Rattle.const_eval.specs.ItemViews.{item_of}
+use Rattle.const_items.specs.Dependence.{has_unknown_name, next}
+use Rattle.const_items.specs.Items.{items}
+use Rattle.const_items.specs.ItemViews.{item_of}
 use Rattle.const_eval.specs.Known.{AreItems, AreKnown, AreNext, are_given, values_in, without_value}
 use Rattle.const_eval.specs.Outcomes.{HasOutcome, IsCyclic, judgement_of, outcome_of}
 use Rattle.const_eval.proofs.Meant.{flag_of, item_in}

@@ -5,8 +5,8 @@ use Rattle.aidl_base.specs.declared.constant.Const.{Const}
 use Rattle.aidl_names.specs.Sources.{Source}
 use Rattle.const_eval.specs.declared.outcome.Outcome.{Outcome}
 use Rattle.const_eval.specs.declared.outcome.Outcome.TheVariants.{Given}
-use Rattle.const_eval.specs.Items.{Item, items}
-use Rattle.const_eval.specs.Dependence.{depends_on, next, next_of}
+use Rattle.const_items.specs.Items.{Item, items}
+use Rattle.const_items.specs.Dependence.{depends_on, next, next_of}
 use Rattle.const_eval.specs.Outcomes.{Values, HasOutcome, is_given, judgement_of, outcome_of}
 use Rattle.const_eval.specs.Outcomes.HasOutcome.{unformed, unknown, cyclic, behind, judged}
 use Rattle.const_eval.proofs.Agree.{judged_alike}

@@ -8,11 +8,11 @@ use Rattle.std.proofs.lemmas.Grind.{get_or_default_zero}
 use Rattle.aidl_names.specs.Sources.{Source}
 use Rattle.const_eval.specs.declared.outcome.Outcome.{Outcome}
 use Rattle.const_eval.specs.declared.outcome.Outcome.TheVariants.{Unjudged}
-use Rattle.const_eval.specs.Items.{items}
+use Rattle.const_items.specs.Items.{items}
 use Rattle.const_eval.specs.Outcomes.{HasOutcome, AreOutcomes, outcome_at, wanted_of}
 use Rattle.const_eval.specs.Held.{is_held_outcome}
 use Rattle.graph_cycles.specs.Paths.{flag}
-use Rattle.const_eval.specs.Dependence.{next}
+use Rattle.const_items.specs.Dependence.{next}
 use Rattle.const_eval.specs.Known.{AreHeld, AreKnown, IsInTurn}
 
 pub record IsSettled (files : List Source) (order : List ℕ) (k : ℕ) (outcomes : List Outcome) : Type 0 where

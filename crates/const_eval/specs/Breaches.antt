@@ -6,7 +6,7 @@ use Rattle.const_values.specs.declared.fault.ConstFault.{ConstFault}
 use Rattle.const_values.specs.Faults.{fault_number}
 use Rattle.const_eval.specs.declared.outcome.Outcome.{Outcome}
 use Rattle.const_eval.specs.declared.outcome.Outcome.TheVariants.{Given, Fault, Unjudged}
-use Rattle.const_eval.specs.Items.{Item}
+use Rattle.const_items.specs.Items.{Item}
 
 -- the rules stand in the order of the faults: E6 for the first
 abbrev pub breach_of : Item → ConstFault → Breach

@@ -1,13 +1,5 @@
-pub mod Types
-pub mod Backing
-pub mod Initializers
-pub mod Items
-pub mod ItemViews
-pub mod Dependence
-pub mod TargetViews
 pub mod Outcomes
 pub mod Held
 pub mod Known
-pub mod SmallPlaces
 pub mod Numbers
 pub mod Breaches

@@ -1,15 +1,15 @@
 ghost use Rattle.std.specs.Prelude.{◌≡◌, ◌++◌, map, IfOk, OnOk};
 ghost use Rattle.std.specs.Option.{option_to_list};
 ghost use Rattle.const_eval.specs.Breaches as meant;
-ghost use Rattle.const_eval.specs.ItemViews.{item_of};
+ghost use Rattle.const_items.specs.ItemViews.{item_of};
 ghost use Rattle.const_eval.specs.Outcomes.{outcome_at};
 
-use crate::item::ItemRef;
 use crate::outcome::Outcome;
 use crate::settled::{InitId, Settled};
 use aidl_base::{Breach, OutOfMemory, Row};
 use const_values::ConstFault;
 use std::alloc::Global;
+use const_items::ItemRef;
 
 /// The breaches of E6 to E12: one for each item whose outcome is a fault, at the item's place, in the order of files and places.
 pub fn breaches(alloc: Global, settled: &Settled<'_>) -> Result<Row<Breach>, OutOfMemory>

@@ -2,20 +2,16 @@ ghost use Rattle.std.specs.Prelude.{◌≡◌, ◌<◌, ◌≤◌, ℕ, false, l
 ghost use Rattle.std.specs.List.{All, slice_get};
 ghost use Rattle.graph_cycles.specs.Paths.{TellsCycles, flag, targets};
 ghost use Rattle.aidl_names.specs.Sources.{source_of};
-ghost use Rattle.const_eval.specs.Dependence.{has_unknown_name};
+ghost use Rattle.const_items.specs.Dependence.{has_unknown_name};
 ghost use Rattle.const_eval.specs.Held.{is_held_outcome};
-ghost use Rattle.const_eval.specs.Items.{items as items_of};
-ghost use Rattle.const_eval.specs.ItemViews.{item_of};
+ghost use Rattle.const_items.specs.Items.{items as items_of};
+ghost use Rattle.const_items.specs.ItemViews.{item_of};
 ghost use Rattle.const_eval.specs.Known.{AreHeld, AreItems, AreKnown, AreNext, IsInTurn, IsItemAt, values_in, without_value};
 ghost use Rattle.const_eval.specs.Outcomes as meant;
 ghost use Rattle.const_eval.specs.Outcomes.{AreOutcomes, HasOutcome, wanted_of};
 
-use crate::counted::law_count;
-use crate::dependence::{Dependence, dependence_of};
 use crate::given::{are_given, none_known};
-use crate::item::ItemRef;
 use crate::judgement::judgement;
-use crate::numbering::{Items, numbered};
 use crate::outcome::Outcome;
 use crate::ranked::ranked;
 use crate::settled::Settled;
@@ -24,6 +20,7 @@ use aidl_names::Names;
 use const_values::{ConstFault, EvalFault};
 use graph_cycles::find_cycles;
 use std::alloc::Global;
+use const_items::{Dependence, ItemRef, Items, dependence_of, law_count, numbered};
 
 /// The outcome of each item of a tree (own, after AOSP, "AIDL language", "Constants"). Items are judged by their ranks, each behind
 /// all that it depends on.

@@ -4,23 +4,21 @@ ghost use Rattle.aidl_names.specs.Refusals.{IsScope};
 ghost use Rattle.aidl_names.specs.Sources.{source_of};
 ghost use Rattle.const_values.specs.Seen.{Answers};
 ghost use Rattle.const_eval.specs.Held.{is_held};
-ghost use Rattle.const_eval.specs.ItemViews.{item_of};
+ghost use Rattle.const_items.specs.ItemViews.{item_of};
 ghost use Rattle.const_eval.specs.Known.{AreHeld, AreItems, IsItemAt, values_in};
 ghost use Rattle.const_eval.specs.Outcomes as meant;
-ghost use Rattle.const_eval.specs.TargetViews.{seen_targets};
+ghost use Rattle.const_items.specs.TargetViews.{seen_targets};
 
 use crate::fitting::held;
-use crate::item::{ItemRef, WrittenRef};
 use crate::known::KnownValues;
-use crate::numbering::Items;
 use crate::outcome::Outcome;
 use crate::stepping::{first, one_more};
-use crate::target::{Target, target_of};
 use aidl_base::Const;
 use aidl_names::Names;
 use aidl_syntax::{ExprKind, ExprTree};
 use const_values::{EvalFault, evaluated};
 use std::alloc::Global;
+use const_items::{ItemRef, Items, Target, WrittenRef, target_of};
 
 /// The value of the item with a number, or its fault, by the values of what it depends on: the first fault in the order of
 /// evaluation, or that against the wanted type (own).

@@ -4,20 +4,18 @@ ghost use Rattle.aidl_names.specs.Sources.{source_of};
 ghost use Rattle.const_values.specs.Operands.{IsWithin};
 ghost use Rattle.const_values.specs.Seen.{answer, seen};
 ghost use Rattle.const_eval.specs.Held.{is_held_outcome};
-ghost use Rattle.const_eval.specs.ItemViews.{item_of};
+ghost use Rattle.const_items.specs.ItemViews.{item_of};
 ghost use Rattle.const_eval.specs.Known.{AreHeld, AreItems, value_of, values_in};
 ghost use Rattle.const_eval.specs.Outcomes as meant;
 ghost use Rattle.const_eval.specs.Outcomes.{outcome_at, wanted_of};
 
-use crate::item::ItemRef;
-use crate::numbering::Items;
 use crate::operands::operand_of;
 use crate::outcome::Outcome;
-use crate::target::{number_of, target_of};
 use aidl_names::Names;
 use aidl_syntax::DottedTree;
 use const_values::{ConstFault, Meanings, Operand, Wanted};
 use std::marker::Model;
+use const_items::{ItemRef, Items, number_of, target_of};
 
 /// What the names in the expression of an item mean, by the outcomes that are known. Contracts see it as the files, the
 /// number of the item and the outcomes.
@@ -35,7 +33,7 @@ impl<'a> Model for KnownValues<'a> {
     ghost use Rattle.aidl_syntax.specs.contracts.tree.ParsedFile as parsed_file;
     ghost use Rattle.const_eval.specs.contracts.outcome.Outcome as outcome;
     ghost use Rattle.aidl_names.specs.Sources.{source_of};
-    ghost use Rattle.const_eval.specs.ItemViews.{item_of};
+    ghost use Rattle.const_items.specs.ItemViews.{item_of};
     ghost use Rattle.const_eval.specs.Known.{AreHeld, AreItems, Known};
 
     ghost Value = { Known };

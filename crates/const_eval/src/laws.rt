@@ -2,13 +2,13 @@ ghost use Rattle.std.specs.Prelude.{◌≡◌, ℕ, map};
 ghost use Rattle.aidl_names.specs.Breaches.{in_order};
 ghost use Rattle.aidl_names.specs.Sources.{source_of};
 ghost use Rattle.const_eval.specs.Breaches.{breaches};
-ghost use Rattle.const_eval.specs.Items.{items};
+ghost use Rattle.const_items.specs.Items.{items};
 ghost use Rattle.const_eval.specs.Outcomes.{HasOutcome};
 ghost use Rattle.const_eval.specs.declared.outcome.Outcome.{Outcome};
 
-use crate::counted::law_places;
 use aidl_names::Names;
 use aidl_syntax::ParsedFile;
+use const_items::law_places;
 
 /// A law of the definitions: no item has two outcomes.
 pub fn law_one_outcome(files: &[ParsedFile])

@@ -1,13 +1,12 @@
 ghost use Rattle.std.specs.Prelude.{◌≡◌, ◌<◌, ◌≤◌, length, map, vec_len, IfSome};
 ghost use Rattle.std.specs.Option.{option_map};
-ghost use Rattle.const_eval.specs.Items as meant;
-ghost use Rattle.const_eval.specs.ItemViews.{item_of};
+ghost use Rattle.const_items.specs.Items as meant;
+ghost use Rattle.const_items.specs.ItemViews.{item_of};
 ghost use Rattle.const_eval.specs.Outcomes.{outcome_at};
 ghost use Rattle.const_eval.specs.Numbers.{numbered};
 
-use crate::item::ItemRef;
-use crate::numbering::Items;
 use crate::outcome::Outcome;
+use const_items::{ItemRef, Items};
 
 /// The 0-based number of an item, in the order of files and places.
 #[derive(Clone, Copy, Debug, PartialEq, Eq)]

@@ -20,7 +20,7 @@ use Rattle.aidl_names.specs.Breaches.{in_order}
 use Rattle.aidl_names.specs.Refusals.{IsAccepted}
 use Rattle.const_eval.specs.declared.outcome.Outcome.{Outcome}
 use Rattle.const_eval.specs.declared.outcome.Outcome.TheVariants.{Given}
-use Rattle.const_eval.specs.Items.{items}
+use Rattle.const_items.specs.Items.{items}
 use Rattle.const_eval.specs.Outcomes.{HasOutcome, AreOutcomes, outcome_at}
 use Rattle.tree_schema.specs.Numbers.{sorted}
 use Rattle.tree_schema.specs.SchemaOf.{schema_of, declared}

@@ -13,10 +13,10 @@ use Rattle.aidl_names.specs.declared.resolved.Resolved.TheVariants.{Builtin, Dec
 use Rattle.aidl_names.specs.Sources.{Source}
 use Rattle.aidl_names.specs.Declarations.{Entry, declarations}
 use Rattle.aidl_names.specs.Resolution.{meaning_of_word, own_meaning, first_declared, candidates, or_else, meaning_in_file, resolved}
-use Rattle.const_eval.specs.declared.shape.Shape.TheVariants as typed
-use Rattle.const_eval.specs.Backing.{annots_of}
-use Rattle.const_eval.specs.Items.{shape_in}
-use Rattle.const_eval.specs.Types.{is_composite}
+use Rattle.type_shapes.specs.declared.shape.Shape.TheVariants as typed
+use Rattle.type_shapes.specs.Backing.{annots_of}
+use Rattle.const_items.specs.Items.{shape_in}
+use Rattle.type_shapes.specs.Types.{is_composite}
 use Rattle.type_uses.specs.Annotations.{is_text}
 use Rattle.type_uses.specs.Bases.{is_scalar, is_fixed_entry, is_fixed_number, is_fixed_base}
 use Rattle.type_rules.specs.FieldRules.{is_constant_type}

@@ -9,7 +9,7 @@ use Rattle.aidl_syntax.specs.Members.{Member, listed, members}
 use Rattle.aidl_syntax.specs.Members.Member.{field, constant, method, enumerator}
 use Rattle.aidl_names.specs.Sources.{Source}
 use Rattle.const_values.specs.declared.wanted.Wanted.{Wanted}
-use Rattle.const_eval.specs.Items.{Item, of_body}
+use Rattle.const_items.specs.Items.{Item, of_body}
 use Rattle.tree_schema.specs.Parts.{listed_constants}
 use Rattle.tree_schema.specs.SchemaOf.{kind_of}
 use Rattle.tree_schema.specs.Values.{Outcomes}

@@ -11,7 +11,7 @@ use Rattle.aidl_names.specs.Declarations.{declarations}
 use Rattle.const_eval.specs.declared.outcome.Outcome.{Outcome}
 use Rattle.const_eval.specs.declared.outcome.Outcome.TheVariants.{Given, Fault, Unjudged}
 use Rattle.const_eval.specs.Breaches.{breach_by, breaches_from, breaches}
-use Rattle.const_eval.specs.Items.{Item, items}
+use Rattle.const_items.specs.Items.{Item, items}
 use Rattle.const_eval.specs.Outcomes.{HasOutcome, is_given}
 use Rattle.aidl_schema.specs.declared.schema.Decl.{Decl}
 use Rattle.aidl_schema.specs.Holds.{AllHold, AreApart}

@@ -20,12 +20,12 @@ use Rattle.aidl_names.specs.Sources.{Source}
 use Rattle.aidl_names.specs.Declarations.{Entry, declarations}
 use Rattle.aidl_names.specs.Resolution.{resolved}
 use Rattle.const_values.specs.declared.wanted.Wanted.{Wanted}
-use Rattle.const_eval.specs.declared.shape.Shape as types
-use Rattle.const_eval.specs.declared.shape.Shape.TheVariants as typed
-use Rattle.const_eval.specs.Backing.{backing_of}
-use Rattle.const_eval.specs.Initializers.{is_unjudged, is_some_list}
-use Rattle.const_eval.specs.Items.{Item, of_expression, of_typed, of_initial, of_field, of_constant, of_members, of_body, of_entry, shape_in}
-use Rattle.const_eval.specs.Types.{wanted_of, wanted_one, is_composite}
+use Rattle.type_shapes.specs.declared.shape.Shape as types
+use Rattle.type_shapes.specs.declared.shape.Shape.TheVariants as typed
+use Rattle.type_shapes.specs.Backing.{backing_of}
+use Rattle.type_shapes.specs.Initializers.{is_unjudged, is_some_list}
+use Rattle.const_items.specs.Items.{Item, of_expression, of_typed, of_initial, of_field, of_constant, of_members, of_body, of_entry, shape_in}
+use Rattle.type_shapes.specs.Types.{wanted_of, wanted_one, is_composite}
 use Rattle.aidl_schema.specs.declared.schema.Decl.{Decl}
 use Rattle.aidl_schema.specs.declared.schema.Field.{Field}
 use Rattle.aidl_schema.specs.declared.schema.Constant.{Constant}

@@ -8,8 +8,8 @@ use Rattle.aidl_syntax.specs.Trees.Expr.{literal, group, unary, binary, name}
 use Rattle.aidl_syntax.specs.Trees.Init.{single, braces}
 use Rattle.aidl_names.specs.Names.{text}
 use Rattle.aidl_names.specs.Rules.{after_earlier}
-use Rattle.const_eval.specs.Backing.{is_type}
-use Rattle.const_eval.specs.declared.shape.Shape as types
+use Rattle.type_shapes.specs.Backing.{is_type}
+use Rattle.type_shapes.specs.declared.shape.Shape as types
 use Rattle.type_uses.specs.declared.annotation.Annotation.{Annotation}
 use Rattle.type_uses.specs.declared.annotation.Annotation.TheVariants as row
 use Rattle.type_uses.specs.declared.stand.Stand.{Stand}

@@ -12,7 +12,7 @@ use Rattle.aidl_syntax.specs.Trees.Body.{enum, parcelable, union, interface}
 use Rattle.aidl_syntax.specs.Members.{listed, members, body}
 use Rattle.aidl_names.specs.Sources.{Source}
 use Rattle.aidl_names.specs.Declarations.{Entry, declarations}
-use Rattle.const_eval.specs.Backing.{annots_of, backing_of}
+use Rattle.type_shapes.specs.Backing.{annots_of, backing_of}
 use Rattle.type_uses.specs.Kept.{is_fixed, is_vintf}
 use Rattle.tree_schema.specs.Checked.{AreOutcomes}
 use Rattle.tree_schema.specs.Numbers.{Numbered, bytes_of, number_of}

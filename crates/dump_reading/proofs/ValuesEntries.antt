@@ -13,8 +13,8 @@ use Rattle.aidl_syntax.specs.Members.{members, body}
 use Rattle.aidl_names.specs.Sources.{Source}
 use Rattle.aidl_names.specs.Declarations.{Entry, declarations}
 use Rattle.const_values.specs.declared.wanted.Wanted.{Wanted}
-use Rattle.const_eval.specs.Backing.{backing_of}
-use Rattle.const_eval.specs.Items.{of_entry, of_body}
+use Rattle.type_shapes.specs.Backing.{backing_of}
+use Rattle.const_items.specs.Items.{of_entry, of_body}
 use Rattle.tree_schema.specs.Checked.{AreOutcomes}
 use Rattle.tree_schema.specs.Parts.{listed_constants, constants_in, enumerator_in, bytes_of, put}
 use Rattle.tree_schema.specs.SchemaOf.{kind_of}

@@ -6,7 +6,7 @@ use Rattle.aidl_syntax.specs.Trees as tree
 use Rattle.aidl_syntax.specs.Members.{Member}
 use Rattle.aidl_syntax.specs.Members.Member.{field, constant, method, enumerator, nested}
 use Rattle.aidl_names.specs.Sources.{Source}
-use Rattle.const_eval.specs.Items.{Item, of_field, of_constant, of_members}
+use Rattle.const_items.specs.Items.{Item, of_field, of_constant, of_members}
 use Rattle.tree_schema.specs.Parts.{field_in, fields_in, constant_in, listed_constants}
 use Rattle.tree_schema.specs.Values.{Outcomes}
 use Rattle.tree_schema.proofs.WalksPlaced.{Each}

@@ -3,7 +3,7 @@ use Rattle.std.specs.Prelude.{◌≡◌, ℕ, List, map}
 use Rattle.aidl_syntax.specs.Members.{members, body}
 use Rattle.aidl_names.specs.Sources.{Source}
 use Rattle.aidl_names.specs.Declarations.{Entry}
-use Rattle.const_eval.specs.Backing.{backing_of}
+use Rattle.type_shapes.specs.Backing.{backing_of}
 use Rattle.tree_schema.specs.Parts.{constants_in}
 use Rattle.tree_schema.specs.SchemaOf.{kind_of}
 use Rattle.tree_schema.specs.Values.{Outcomes}

@@ -13,7 +13,7 @@ ghost use Rattle.type_check.specs.Checked.{IsSchemaOf};
 ghost use Rattle.type_check.specs.Refusals.{IsRefusal};
 ghost use Rattle.dump_reading.specs.Files.{AreDumped};
 ghost use Rattle.const_eval.specs.Breaches.{breaches};
-ghost use Rattle.const_eval.specs.Items.{items};
+ghost use Rattle.const_items.specs.Items.{items};
 ghost use Rattle.tree_schema.specs.Checked.{AreOutcomes, IsChecked};
 ghost use Rattle.tree_schema.specs.SchemaOf.{schema_of};
 ghost use Rattle.type_rules.specs.Breaches as rules;

@@ -12,7 +12,7 @@ use Rattle.const_values.specs.declared.fault.ConstFault.{ConstFault}
 use Rattle.const_eval.specs.declared.outcome.Outcome.{Outcome}
 use Rattle.const_eval.specs.declared.outcome.Outcome.TheVariants.{Given, Fault, Unjudged}
 use Rattle.const_eval.specs.Breaches.{breach_by, breaches, breaches_from}
-use Rattle.const_eval.specs.Items.{Item, items}
+use Rattle.const_items.specs.Items.{Item, items}
 use Rattle.tree_schema.specs.Values.{Outcomes}
 use Rattle.tree_schema.proofs.EnumsFilled.{is_filled, file-filled}
 use Rattle.tree_schema.proofs.ValuesSettled.{AreFaultless}

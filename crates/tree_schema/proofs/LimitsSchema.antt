@@ -16,7 +16,7 @@ use Rattle.aidl_names.specs.Declarations.{Entry, declarations}
 use Rattle.aidl_names.specs.Limits.{passed, has_many_members, has_long_method, is_long_method}
 use Rattle.aidl_names.specs.Sources.{Source}
 use Rattle.const_values.specs.declared.wanted.Wanted.{Wanted}
-use Rattle.const_eval.specs.Backing.{backing_of}
+use Rattle.type_shapes.specs.Backing.{backing_of}
 use Rattle.tree_schema.specs.Numbers.{Numbered, sorted}
 use Rattle.tree_schema.specs.Parts.{methods_in, arg_in}
 use Rattle.tree_schema.specs.SchemaOf.{schema_of, declared, kind_of}

@@ -17,7 +17,7 @@ use Rattle.aidl_names.specs.Declarations.{declarations}
 use Rattle.aidl_names.specs.Rules as rules
 use Rattle.aidl_names.specs.Sources.{Source}
 use Rattle.const_values.specs.declared.wanted.Wanted.{Wanted}
-use Rattle.const_eval.specs.Backing.{backing_of}
+use Rattle.type_shapes.specs.Backing.{backing_of}
 use Rattle.tree_schema.specs.Numbers.{Numbered, sorted}
 use Rattle.tree_schema.specs.Parts.{methods_in, arg_in, listed_constants, constants_in, bytes_of}
 use Rattle.tree_schema.specs.SchemaOf.{schema_of, declared, kind_of}

@@ -14,7 +14,7 @@ use Rattle.aidl_syntax.specs.Members.{Member}
 use Rattle.aidl_syntax.specs.Members.Member.{field, constant, method, enumerator, nested}
 use Rattle.aidl_names.specs.Rules.{after_earlier}
 use Rattle.aidl_names.specs.Sources.{Source}
-use Rattle.const_eval.specs.declared.shape.Shape.{Shape}
+use Rattle.type_shapes.specs.declared.shape.Shape.{Shape}
 use Rattle.type_uses.specs.Ids.{number_of_kind, number_of, is_id_kind, is_id, has_id, id_by, id_of, ids_from, ids}
 use Rattle.type_uses.specs.TypeUses as uses
 use Rattle.type_uses.specs.TypeUses.{TypeUse, of_arg, of_members}

@@ -22,11 +22,11 @@ use Rattle.aidl_names.specs.Limits.{passed, has_many_members, has_long_method}
 use Rattle.aidl_names.specs.Rules.{breach, after_earlier}
 use Rattle.aidl_names.specs.Sources.{Source}
 use Rattle.const_values.specs.declared.wanted.Wanted.{Wanted}
-use Rattle.const_eval.specs.declared.shape.Shape.{Shape}
-use Rattle.const_eval.specs.declared.shape.Shape.TheVariants as shape
-use Rattle.const_eval.specs.Backing.{backing_of}
-use Rattle.const_eval.specs.Items.{shape_in}
-use Rattle.const_eval.specs.Types as types
+use Rattle.type_shapes.specs.declared.shape.Shape.{Shape}
+use Rattle.type_shapes.specs.declared.shape.Shape.TheVariants as shape
+use Rattle.type_shapes.specs.Backing.{backing_of}
+use Rattle.const_items.specs.Items.{shape_in}
+use Rattle.type_shapes.specs.Types as types
 use Rattle.type_uses.specs.Bases.{is_refused}
 use Rattle.type_uses.specs.Ids.{has_id, id_of}
 use Rattle.type_uses.specs.TypeUses as uses

@@ -19,7 +19,7 @@ use Rattle.aidl_names.specs.Resolution.{meaning_in, meaning_words, meaning_of_wo
 use Rattle.aidl_names.specs.Sources.{Source}
 use Rattle.aidl_names.specs.declared.resolved.Resolved.{Resolved}
 use Rattle.const_values.specs.declared.wanted.Wanted.{Wanted}
-use Rattle.const_eval.specs.Backing.{backing_of}
+use Rattle.type_shapes.specs.Backing.{backing_of}
 use Rattle.tree_schema.specs.Numbers.{Numbered, sorted, number_of}
 use Rattle.tree_schema.specs.SchemaOf.{schema_of, declared, outer_of, kind_of}
 use Rattle.tree_schema.specs.Values.{Outcomes}

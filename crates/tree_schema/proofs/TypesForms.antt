@@ -13,8 +13,8 @@ use Rattle.aidl_names.specs.Rules.{is_interface_body}
 use Rattle.aidl_names.specs.Sources.{Source}
 use Rattle.const_values.specs.declared.wanted.Wanted.{Wanted}
 use Rattle.const_values.specs.declared.wanted.Wanted.TheVariants as wanted
-use Rattle.const_eval.specs.Backing.{backing_of}
-use Rattle.const_eval.specs.Types as tree
+use Rattle.type_shapes.specs.Backing.{backing_of}
+use Rattle.type_shapes.specs.Types as tree
 use Rattle.type_uses.specs.Bases as bases
 use Rattle.aidl_schema.specs.Containment.{is_composite}
 use Rattle.aidl_schema.specs.Types.{Form, form_of, form_of_kind, is_meant, is_nullable_form, is_scalar}

@@ -18,11 +18,11 @@ use Rattle.aidl_names.specs.Breaches.{breaches}
 use Rattle.aidl_names.specs.Declarations.{Entry, declarations}
 use Rattle.aidl_names.specs.Rules.{names_of_type, names_of_returned}
 use Rattle.aidl_names.specs.Sources.{Source}
-use Rattle.const_eval.specs.declared.shape.Shape.{Shape}
-use Rattle.const_eval.specs.declared.shape.Shape.TheVariants as shape
-use Rattle.const_eval.specs.Backing.{backing_of}
-use Rattle.const_eval.specs.Items.{shape_in}
-use Rattle.const_eval.specs.Types as types
+use Rattle.type_shapes.specs.declared.shape.Shape.{Shape}
+use Rattle.type_shapes.specs.declared.shape.Shape.TheVariants as shape
+use Rattle.type_shapes.specs.Backing.{backing_of}
+use Rattle.const_items.specs.Items.{shape_in}
+use Rattle.type_shapes.specs.Types as types
 use Rattle.type_uses.specs.declared.annotation.Annotation.TheVariants as row
 use Rattle.type_uses.specs.declared.stand.Stand.TheVariants as stand
 use Rattle.type_uses.specs.Annotations.{is_text, is_text_based, row_of_name}

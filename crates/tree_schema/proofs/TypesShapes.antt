@@ -13,11 +13,11 @@ use Rattle.aidl_names.specs.Names.{text, same}
 use Rattle.aidl_names.specs.Resolution.{meaning_in, meaning_words, meaning_of_word, own_meaning, number_of, candidates, first_declared, or_else, meaning_in_file, resolved}
 use Rattle.aidl_names.specs.Rules.{is_left_out, is_interface, is_interface_body, names_of_type}
 use Rattle.aidl_names.specs.Sources.{Source}
-use Rattle.const_eval.specs.declared.shape.Shape.{Shape}
-use Rattle.const_eval.specs.declared.shape.Shape.TheVariants as shape
-use Rattle.const_eval.specs.Items.{shape_in}
-use Rattle.const_eval.specs.Types as types
-use Rattle.const_eval.specs.Types.{Meaning, is_list_element, shaped, shaped_as, list_with, list_of, plain}
+use Rattle.type_shapes.specs.declared.shape.Shape.{Shape}
+use Rattle.type_shapes.specs.declared.shape.Shape.TheVariants as shape
+use Rattle.const_items.specs.Items.{shape_in}
+use Rattle.type_shapes.specs.Types as types
+use Rattle.type_shapes.specs.Types.{Meaning, is_list_element, shaped, shaped_as, list_with, list_of, plain}
 use Rattle.tree_schema.proofs.WalksLists.{first-passes}
 
 -- the declaration is there, and no interface

@@ -13,7 +13,7 @@ use Rattle.aidl_names.specs.Names.{text}
 use Rattle.aidl_names.specs.Resolution.{resolved}
 use Rattle.aidl_names.specs.Rules.{breach, in_each, after_earlier, is_left_out, type_names, types_in}
 use Rattle.aidl_names.specs.Sources.{Source}
-use Rattle.const_eval.specs.Items.{shape_in}
+use Rattle.const_items.specs.Items.{shape_in}
 use Rattle.type_uses.specs.declared.annotation.Annotation.{Annotation}
 use Rattle.type_uses.specs.declared.stand.Stand.{Stand}
 use Rattle.type_uses.specs.Annotations.{row_of_name, may_stand, takes, is_kept}

@@ -6,7 +6,7 @@ use Rattle.aidl_syntax.specs.Members.{body}
 use Rattle.aidl_names.specs.Declarations.{Entry, declarations}
 use Rattle.aidl_names.specs.Refusals.{IsAccepted}
 use Rattle.aidl_names.specs.Sources.{Source}
-use Rattle.const_eval.specs.Items.{of_entry}
+use Rattle.const_items.specs.Items.{of_entry}
 use Rattle.type_rules.specs.Unbroken.{AreUnbroken}
 use Rattle.tree_schema.specs.SchemaOf.{schema_of}
 use Rattle.tree_schema.specs.Values.{Outcomes}

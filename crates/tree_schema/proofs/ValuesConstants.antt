@@ -19,11 +19,11 @@ use Rattle.aidl_names.specs.Breaches.{breaches}
 use Rattle.aidl_names.specs.Declarations.{Entry, declarations}
 use Rattle.aidl_names.specs.Sources.{Source}
 use Rattle.const_values.specs.declared.wanted.Wanted.{Wanted}
-use Rattle.const_eval.specs.declared.shape.Shape.{Shape}
-use Rattle.const_eval.specs.declared.shape.Shape.TheVariants as shape
-use Rattle.const_eval.specs.Backing.{backing_of}
-use Rattle.const_eval.specs.Items.{shape_in, of_entry, of_body, of_members, of_field, of_constant}
-use Rattle.const_eval.specs.Types.{wanted_of_builtin, wanted_one}
+use Rattle.type_shapes.specs.declared.shape.Shape.{Shape}
+use Rattle.type_shapes.specs.declared.shape.Shape.TheVariants as shape
+use Rattle.type_shapes.specs.Backing.{backing_of}
+use Rattle.const_items.specs.Items.{shape_in, of_entry, of_body, of_members, of_field, of_constant}
+use Rattle.type_shapes.specs.Types.{wanted_of_builtin, wanted_one}
 use Rattle.type_rules.specs.FieldRules.{is_constant_type}
 use Rattle.type_rules.specs.MethodRules.{is_oneway_body}
 use Rattle.type_rules.specs.Unbroken.{AreUnbroken}

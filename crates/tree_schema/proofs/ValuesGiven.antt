@@ -6,7 +6,7 @@ use Rattle.const_values.specs.declared.fault.ConstFault.{ConstFault}
 use Rattle.const_values.specs.declared.fault.ConstFault.TheVariants.{Cycle, UnknownName}
 use Rattle.const_eval.specs.declared.outcome.Outcome.{Outcome}
 use Rattle.const_eval.specs.declared.outcome.Outcome.TheVariants.{Given, Fault}
-use Rattle.const_eval.specs.Items.{Item, items}
+use Rattle.const_items.specs.Items.{Item, items}
 use Rattle.const_eval.specs.Outcomes.{HasOutcome, is_given, judgement_of, outcome_of}
 use Rattle.const_eval.specs.Outcomes.HasOutcome.{unformed, unknown, cyclic, behind, judged}
 

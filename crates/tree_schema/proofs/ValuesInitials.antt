@@ -30,12 +30,12 @@ use Rattle.aidl_names.specs.Sources.{Source}
 use Rattle.const_values.specs.declared.wanted.Wanted.{Wanted}
 use Rattle.const_values.specs.declared.wanted.Wanted.TheVariants as wanted
 use Rattle.const_eval.specs.declared.outcome.Outcome.TheVariants.{Given}
-use Rattle.const_eval.specs.declared.shape.Shape.{Shape}
-use Rattle.const_eval.specs.declared.shape.Shape.TheVariants as shape
-use Rattle.const_eval.specs.Backing.{backing_of}
-use Rattle.const_eval.specs.Initializers.{is_unjudged, misfits}
-use Rattle.const_eval.specs.Items.{Item, items, shape_in, of_entry, of_body, of_members, of_field, of_initial, of_init, of_expression}
-use Rattle.const_eval.specs.Types.{wanted_of, is_enum}
+use Rattle.type_shapes.specs.declared.shape.Shape.{Shape}
+use Rattle.type_shapes.specs.declared.shape.Shape.TheVariants as shape
+use Rattle.type_shapes.specs.Backing.{backing_of}
+use Rattle.type_shapes.specs.Initializers.{is_unjudged, misfits}
+use Rattle.const_items.specs.Items.{Item, items, shape_in, of_entry, of_body, of_members, of_field, of_initial, of_init, of_expression}
+use Rattle.type_shapes.specs.Types.{wanted_of, is_enum}
 use Rattle.type_uses.specs.TypeUses as uses
 use Rattle.type_uses.specs.TypeUses.{TypeUse, of_arg, is_field, type_uses}
 use Rattle.type_rules.specs.FieldRules.{empty_union, bad_fields, is_union_body}

@@ -21,8 +21,8 @@ use Rattle.aidl_names.specs.Names.{parts_of}
 use Rattle.aidl_names.specs.Rules.{in_each}
 use Rattle.aidl_names.specs.Sources.{Source}
 use Rattle.const_values.specs.declared.wanted.Wanted.{Wanted}
-use Rattle.const_eval.specs.Backing.{backing_of}
-use Rattle.const_eval.specs.Items.{Item, items, declared, is_at, of_entry, of_body, of_members, of_field, of_initial, of_expression, of_enumerators, place_by, place_of}
+use Rattle.type_shapes.specs.Backing.{backing_of}
+use Rattle.const_items.specs.Items.{Item, items, declared, is_at, of_entry, of_body, of_members, of_field, of_initial, of_expression, of_enumerators, place_by, place_of}
 use Rattle.tree_schema.proofs.WalksLists.{only-found}
 use Rattle.tree_schema.proofs.WalksPlaced.{placed, all-total, Each}
 use Rattle.tree_schema.proofs.WalksTotals.{total, total-append, total-same, is_that, counts-itself}

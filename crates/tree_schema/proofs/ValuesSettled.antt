@@ -5,7 +5,7 @@ use Rattle.aidl_base.specs.declared.constant.Const.{Const, out-Const}
 use Rattle.aidl_names.specs.Sources.{Source}
 use Rattle.const_values.specs.declared.fault.ConstFault.{ConstFault}
 use Rattle.const_eval.specs.declared.outcome.Outcome.TheVariants.{Given, Fault}
-use Rattle.const_eval.specs.Items.{Item, items, number_at}
+use Rattle.const_items.specs.Items.{Item, items, number_at}
 use Rattle.const_eval.specs.Outcomes.{HasOutcome}
 use Rattle.const_eval.proofs.OneOutcome.{one_outcome}
 use Rattle.tree_schema.specs.Values.{Outcomes, value_at, value_of, value_of_item}

@@ -19,9 +19,9 @@ use Rattle.aidl_names.specs.Names.{parts_of}
 use Rattle.aidl_names.specs.Sources.{Source}
 use Rattle.const_values.specs.declared.wanted.Wanted.{Wanted}
 use Rattle.const_values.specs.Literals.{literal_of}
-use Rattle.const_eval.specs.declared.shape.Shape.{Shape}
-use Rattle.const_eval.specs.Backing.{backing_of}
-use Rattle.const_eval.specs.Items.{Item, items, of_body, of_members, of_field, of_initial, of_init, of_expression, of_enumerators, place_of, written_as}
+use Rattle.type_shapes.specs.declared.shape.Shape.{Shape}
+use Rattle.type_shapes.specs.Backing.{backing_of}
+use Rattle.const_items.specs.Items.{Item, items, of_body, of_members, of_field, of_initial, of_init, of_expression, of_enumerators, place_of, written_as}
 use Rattle.tree_schema.proofs.WalksPlaced.{Each, each-at}
 use Rattle.tree_schema.proofs.ValuesFit.{is_plain_written}
 use Rattle.tree_schema.proofs.ValuesItems.{each-declared, each-item}

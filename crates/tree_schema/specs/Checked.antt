@@ -3,7 +3,7 @@ use Rattle.std.specs.Prelude.{◌≡◌, ◌<◌, ℕ, List, [], length, IsTrue}
 use Rattle.aidl_names.specs.Sources.{Source}
 use Rattle.aidl_schema.specs.Valid.{is_bounded}
 use Rattle.const_eval.specs.Breaches.{breaches}
-use Rattle.const_eval.specs.Items.{items}
+use Rattle.const_items.specs.Items.{items}
 use Rattle.const_eval.specs.Outcomes.{HasOutcome}
 use Rattle.type_rules.specs.Unbroken.{AreUnbroken}
 use Rattle.tree_schema.specs.SchemaOf.{schema_of}

@@ -7,7 +7,7 @@ use Rattle.aidl_names.specs.Declarations.{Entry, declarations}
 use Rattle.aidl_names.specs.Sources.{Source}
 use Rattle.const_values.specs.declared.wanted.Wanted.{Wanted}
 use Rattle.const_values.specs.declared.wanted.Wanted.TheVariants as wanted
-use Rattle.const_eval.specs.Backing.{annots_of, backing_of}
+use Rattle.type_shapes.specs.Backing.{annots_of, backing_of}
 use Rattle.aidl_schema.specs.declared.schema.Backing.{Backing}
 use Rattle.aidl_schema.specs.declared.schema.Backing.TheVariants as backing
 use Rattle.aidl_schema.specs.declared.schema.Decl as schema

@@ -4,8 +4,8 @@ use Rattle.indexmap.specs.IndexMap.{get}
 use Rattle.aidl_names.specs.Declarations.{declarations}
 use Rattle.aidl_names.specs.Refusals.{IsScope, entry_of}
 use Rattle.aidl_names.specs.Sources.{Source, source_of}
-use Rattle.const_eval.specs.Items.{items}
-use Rattle.const_eval.specs.ItemViews.{item_of}
+use Rattle.const_items.specs.Items.{items}
+use Rattle.const_items.specs.ItemViews.{item_of}
 use Rattle.const_eval.specs.Outcomes.{outcome_at}
 use Rattle.tree_schema.specs.declared.tree.Tree.{Tree}
 use Rattle.tree_schema.specs.declared.tree.Placed.{Placed}

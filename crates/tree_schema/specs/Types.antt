@@ -8,9 +8,9 @@ use Rattle.aidl_names.specs.declared.resolved.Resolved.{Resolved}
 use Rattle.aidl_names.specs.declared.resolved.Resolved.TheVariants.{Builtin, ListWord, LeftOut, Declared}
 use Rattle.aidl_names.specs.Declarations.{Entry, declarations}
 use Rattle.aidl_names.specs.Sources.{Source}
-use Rattle.const_eval.specs.declared.shape.Shape as tree
-use Rattle.const_eval.specs.declared.shape.Shape.TheVariants.{One, Array, List as ListOf, Refused}
-use Rattle.const_eval.specs.Items.{shape_in}
+use Rattle.type_shapes.specs.declared.shape.Shape as tree
+use Rattle.type_shapes.specs.declared.shape.Shape.TheVariants.{One, Array, List as ListOf, Refused}
+use Rattle.const_items.specs.Items.{shape_in}
 use Rattle.aidl_schema.specs.declared.schema.Base.{Base}
 use Rattle.aidl_schema.specs.declared.schema.Base.TheVariants as base
 use Rattle.aidl_schema.specs.declared.schema.Shape.{Shape}

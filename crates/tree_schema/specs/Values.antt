@@ -9,8 +9,8 @@ use Rattle.aidl_names.specs.Declarations.{declarations}
 use Rattle.aidl_names.specs.Sources.{Source}
 use Rattle.const_eval.specs.declared.outcome.Outcome.{Outcome}
 use Rattle.const_eval.specs.declared.outcome.Outcome.TheVariants.{Given, Fault, Unjudged}
-use Rattle.const_eval.specs.Initializers.{is_unjudged}
-use Rattle.const_eval.specs.Items.{items, number_at, place_of, shape_in}
+use Rattle.type_shapes.specs.Initializers.{is_unjudged}
+use Rattle.const_items.specs.Items.{items, number_at, place_of, shape_in}
 
 -- the outcome of each item, by its number
 abbrev pub Outcomes : Type 0

@@ -1,12 +1,12 @@
 ghost use Rattle.std.specs.Prelude.{◌≡◌};
 ghost use Rattle.aidl_syntax.specs.Trees.{annot_of, decl_of, expr_of, init_of};
-ghost use Rattle.const_eval.specs.Backing as constants;
+ghost use Rattle.type_shapes.specs.Backing as constants;
 ghost use Rattle.tree_schema.specs.SchemaOf as meant;
 
 use aidl_base::Text;
 use aidl_schema::Backing;
 use aidl_syntax::{AnnotTree, DeclTree, ExprKind, ExprTree, InitTree, TokenKind};
-use const_eval::{backing_annot, type_param};
+use type_shapes::{backing_annot, type_param};
 
 /// The type that spells the values of an enum: that of its annotation `@Backing`, or else byte. It takes no memory.
 pub fn backing_of(tree: &DeclTree) -> Backing

@@ -1,8 +1,8 @@
 ghost use Rattle.std.specs.Prelude.{◌≡◌, map, IfOk};
 ghost use Rattle.aidl_names.specs.Declarations.{declarations};
 ghost use Rattle.aidl_names.specs.Sources.{source_of};
-ghost use Rattle.const_eval.specs.Items.{items};
-ghost use Rattle.const_eval.specs.ItemViews.{item_of};
+ghost use Rattle.const_items.specs.Items.{items};
+ghost use Rattle.const_items.specs.ItemViews.{item_of};
 ghost use Rattle.const_eval.specs.Outcomes.{outcome_at};
 ghost use Rattle.tree_schema.specs.Numbers as numbers;
 ghost use Rattle.tree_schema.specs.SchemaOf as meant;

@@ -1,7 +1,7 @@
 ghost use Rattle.std.specs.Prelude.{◌≡◌, map, IfOk};
 ghost use Rattle.aidl_syntax.specs.Members.{body as inner, members};
 ghost use Rattle.aidl_syntax.specs.Trees.{body_of, decl_of, enumerator_of};
-ghost use Rattle.const_eval.specs.Backing.{backing_of as wanted_of};
+ghost use Rattle.type_shapes.specs.Backing.{backing_of as wanted_of};
 ghost use Rattle.tree_schema.specs.Parts as parts;
 ghost use Rattle.tree_schema.specs.SchemaOf as meant;
 ghost use Rattle.tree_schema.specs.TreeViews.{HasItems, HasNumbers, HasScope, files_of, outcomes_of};

@@ -8,7 +8,7 @@ use crate::bases::base_of;
 use crate::tree::Tree;
 use aidl_schema::{AidlType, Base, Shape};
 use aidl_syntax::{AnnotTree, TypeTree};
-use const_eval::{Shape as TreeShape, shaped};
+use type_shapes::{Shape as TreeShape, shaped};
 use type_uses::kept_of;
 
 /// The type in the schema that a type of a file is, below the declaration with the number `scope` and behind annotations (AOSP, "AIDL

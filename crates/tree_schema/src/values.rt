@@ -1,6 +1,6 @@
 ghost use Rattle.std.specs.Prelude.{◌≡◌, map, IfOk};
 ghost use Rattle.aidl_syntax.specs.Trees.{enumerator_of, expr_of, exprs_of, init_of, map_option};
-ghost use Rattle.const_eval.specs.Items as items;
+ghost use Rattle.const_items.specs.Items as items;
 ghost use Rattle.tree_schema.specs.TreeViews.{HasItems, HasScope, files_of, outcomes_of};
 ghost use Rattle.tree_schema.specs.Values as meant;
 
@@ -8,7 +8,8 @@ use crate::copied::copied;
 use crate::tree::Tree;
 use aidl_base::{Const, OutOfMemory, Row};
 use aidl_syntax::{EnumeratorTree, ExprTree, InitTree, TypeTree};
-use const_eval::{Outcome, is_unjudged, shaped};
+use const_eval::Outcome;
+use type_shapes::{is_unjudged, shaped};
 use std::alloc::Global;
 
 /// The initializer of a field, which may be one after the first of a union. One that E21 refuses, or whose field's type E16 refuses, isn't

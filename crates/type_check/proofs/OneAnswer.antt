@@ -12,7 +12,7 @@ use Rattle.aidl_names.specs.Sources.{Source, source_of}
 use Rattle.aidl_schema.specs.declared.schema.Decl.{Decl}
 use Rattle.const_eval.specs.declared.outcome.Outcome.{Outcome}
 use Rattle.const_eval.specs.declared.outcome.Outcome.TheVariants.{Unjudged}
-use Rattle.const_eval.specs.Items.{items}
+use Rattle.const_items.specs.Items.{items}
 use Rattle.const_eval.specs.Outcomes.{AreOutcomes, outcome_at}
 use Rattle.const_eval.proofs.OneOutcome.{one_outcome}
 use Rattle.tree_files.specs.declared.fault.FilesFault.{FilesFault}

@@ -7,7 +7,7 @@ use Rattle.aidl_names.specs.Sources.{Source}
 use Rattle.aidl_schema.specs.declared.schema.Decl.{Decl}
 use Rattle.const_eval.specs.declared.outcome.Outcome.{Outcome}
 use Rattle.const_eval.specs.Breaches as constants
-use Rattle.const_eval.specs.Items.{items}
+use Rattle.const_items.specs.Items.{items}
 use Rattle.const_eval.specs.Outcomes.{AreOutcomes, outcome_at}
 use Rattle.tree_schema.specs.SchemaOf.{schema_of}
 use Rattle.type_rules.specs.Breaches.{unsorted}

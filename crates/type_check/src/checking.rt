@@ -1,7 +1,7 @@
 ghost use Rattle.std.specs.Prelude.{◌≡◌, [], map, IfOk, IfErr};
 ghost use Rattle.aidl_names.specs.Sources.{AreOfBytes, source_of};
-ghost use Rattle.const_eval.specs.Items.{items};
-ghost use Rattle.const_eval.specs.ItemViews.{item_of};
+ghost use Rattle.const_items.specs.Items.{items};
+ghost use Rattle.const_items.specs.ItemViews.{item_of};
 ghost use Rattle.const_eval.specs.Outcomes.{AreOutcomes};
 ghost use Rattle.type_check.specs.Checked.{IsSchemaOf, IsSchemaOfTrees};
 ghost use Rattle.type_check.specs.Refusals.{IsRefusal, IsRefusalOfTrees};

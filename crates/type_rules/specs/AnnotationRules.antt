@@ -6,8 +6,8 @@ use Rattle.aidl_syntax.specs.Trees.{Param, Annot}
 use Rattle.aidl_syntax.specs.Members.{body}
 use Rattle.aidl_names.specs.Declarations.{Entry}
 use Rattle.aidl_names.specs.Rules.{breach, after_earlier, is_named_again}
-use Rattle.const_eval.specs.Backing.{annots_of, is_backing, is_type}
-use Rattle.const_eval.specs.Types.{is_enum_body}
+use Rattle.type_shapes.specs.Backing.{annots_of, is_backing, is_type}
+use Rattle.type_shapes.specs.Types.{is_enum_body}
 use Rattle.type_uses.specs.declared.annotation.Annotation.{Annotation}
 use Rattle.type_uses.specs.declared.stand.Stand.{Stand}
 use Rattle.type_uses.specs.Parameters.{literal_of, is_backing_word}

@@ -8,9 +8,9 @@ use Rattle.aidl_syntax.specs.Members.{body, declared_name}
 use Rattle.aidl_names.specs.declared.resolved.Resolved.TheVariants.{Builtin}
 use Rattle.aidl_names.specs.Declarations.{Entry}
 use Rattle.aidl_names.specs.Rules.{breach}
-use Rattle.const_eval.specs.declared.shape.Shape.{Shape}
-use Rattle.const_eval.specs.declared.shape.Shape.TheVariants as shape
-use Rattle.const_eval.specs.Initializers.{is_unjudged}
+use Rattle.type_shapes.specs.declared.shape.Shape.{Shape}
+use Rattle.type_shapes.specs.declared.shape.Shape.TheVariants as shape
+use Rattle.type_shapes.specs.Initializers.{is_unjudged}
 use Rattle.type_uses.specs.Kept.{is_nullable}
 use Rattle.type_uses.specs.TypeUses.{TypeUse, of_field, of_constant, name_place, is_field}
 use Rattle.type_uses.specs.Bases.{is_fixed_entry, is_fixed_base, is_refused}

@@ -3,7 +3,7 @@ ghost use Rattle.std.specs.List.{flat_map};
 ghost use Rattle.aidl_syntax.specs.Trees.{annot_of, decl_of};
 ghost use Rattle.aidl_syntax.specs.Members.{body};
 ghost use Rattle.aidl_names.specs.Refusals.{entry_of};
-ghost use Rattle.const_eval.specs.Backing.{annots_of};
+ghost use Rattle.type_shapes.specs.Backing.{annots_of};
 ghost use Rattle.type_uses.specs.Annotations.{row_of, stand_of_body};
 ghost use Rattle.type_rules.specs.AnnotationRules as meant;
 ghost use Rattle.type_uses.specs.TypeUses.{annotations_of, stand_of};

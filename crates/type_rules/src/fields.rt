@@ -10,7 +10,7 @@ ghost use Rattle.type_uses.specs.TypeUseViews.{seen_use};
 use aidl_base::{Breach, OutOfMemory};
 use aidl_names::{Found, add_if};
 use aidl_syntax::{BodyTree, DeclTree, InitTree};
-use const_eval::{Shape, is_unjudged};
+use type_shapes::{Shape, is_unjudged};
 use type_uses::{TypeUseRef, is_field, is_refused, name_place};
 
 /// Adds the breaches of E21 in a declaration, by the types that it uses; `all` are the declarations of the tree.

@@ -1,7 +1,7 @@
 ghost use Rattle.std.specs.Prelude.{◌≡◌, ◌++◌, map, IfOk, OnOk};
 ghost use Rattle.aidl_syntax.specs.Trees.{decl_of};
 ghost use Rattle.aidl_names.specs.Refusals.{entry_of};
-ghost use Rattle.const_eval.specs.Backing.{annots_of};
+ghost use Rattle.type_shapes.specs.Backing.{annots_of};
 ghost use Rattle.type_uses.specs.Kept as kept;
 ghost use Rattle.type_uses.specs.Bases as bases;
 ghost use Rattle.type_uses.specs.Bases.{is_fixed_entry};
@@ -13,7 +13,7 @@ ghost use Rattle.type_uses.specs.TypeUseViews.{seen_use};
 use aidl_base::{Breach, OutOfMemory};
 use aidl_names::{Found, Resolved, add_if};
 use aidl_syntax::DeclTree;
-use const_eval::{Shape, is_composite};
+use type_shapes::{Shape, is_composite};
 use std::alloc::Global;
 use type_uses::{TypeUseRef, is_fixed, is_nullable, is_refused, is_scalar, name_place};
 

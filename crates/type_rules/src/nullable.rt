@@ -9,7 +9,7 @@ ghost use Rattle.type_uses.specs.TypeUseViews.{seen_use};
 use aidl_base::{Breach, OutOfMemory};
 use aidl_names::{Found, add_if};
 use aidl_syntax::AnnotTree;
-use const_eval::Shape;
+use type_shapes::Shape;
 use type_uses::{
     TypeUseRef, annotations_of, is_heap_annot, is_nullable_annot, is_one_composite, is_one_scalar,
     is_refused, is_refused_result,

@@ -12,7 +12,7 @@ ghost use Rattle.type_uses.specs.TypeUseViews.{seen_use};
 use aidl_base::{Breach, OutOfMemory};
 use aidl_names::{Found, Resolved, add_if};
 use aidl_syntax::{ArgTree, MethodTree, WayTree};
-use const_eval::{Shape, is_composite};
+use type_shapes::{Shape, is_composite};
 use type_uses::{TypeUseRef, is_refused, is_refused_result, name_place, type_place};
 
 /// A rule that looks at each use of a type by itself.

@@ -8,8 +8,8 @@ use Rattle.aidl_names.specs.declared.resolved.BuiltinName.TheVariants as built_i
 use Rattle.aidl_names.specs.declared.resolved.Resolved.{Resolved}
 use Rattle.aidl_names.specs.declared.resolved.Resolved.TheVariants.{Builtin}
 use Rattle.aidl_names.specs.Names.{text}
-use Rattle.const_eval.specs.declared.shape.Shape.{Shape}
-use Rattle.const_eval.specs.declared.shape.Shape.TheVariants as shape
+use Rattle.type_shapes.specs.declared.shape.Shape.{Shape}
+use Rattle.type_shapes.specs.declared.shape.Shape.TheVariants as shape
 use Rattle.type_uses.specs.declared.annotation.Annotation.{Annotation}
 use Rattle.type_uses.specs.declared.annotation.Annotation.TheVariants as row
 use Rattle.type_uses.specs.declared.stand.Stand.{Stand}

@@ -4,10 +4,10 @@ use Rattle.std.specs.List.{slice_get}
 use Rattle.aidl_names.specs.declared.resolved.Resolved.{Resolved}
 use Rattle.aidl_names.specs.declared.resolved.Resolved.TheVariants.{Builtin, Declared}
 use Rattle.aidl_names.specs.Declarations.{Entry}
-use Rattle.const_eval.specs.declared.shape.Shape.{Shape}
-use Rattle.const_eval.specs.declared.shape.Shape.TheVariants as shape
-use Rattle.const_eval.specs.Backing.{annots_of}
-use Rattle.const_eval.specs.Types.{is_composite, is_enum}
+use Rattle.type_shapes.specs.declared.shape.Shape.{Shape}
+use Rattle.type_shapes.specs.declared.shape.Shape.TheVariants as shape
+use Rattle.type_shapes.specs.Backing.{annots_of}
+use Rattle.type_shapes.specs.Types.{is_composite, is_enum}
 use Rattle.type_uses.specs.Annotations.{is_text}
 use Rattle.type_uses.specs.Kept.{is_fixed}
 

@@ -10,7 +10,7 @@ use Rattle.aidl_syntax.specs.Trees.{Expr, Init, Param}
 use Rattle.aidl_syntax.specs.Trees.Expr.{literal}
 use Rattle.aidl_syntax.specs.Trees.Init.{single, braces}
 use Rattle.aidl_names.specs.Names.{text}
-use Rattle.const_eval.specs.Backing.{is_type}
+use Rattle.type_shapes.specs.Backing.{is_type}
 
 -- the single literal that a value is
 abbrev pub literal_in : Expr → Option TokenKind

@@ -7,8 +7,8 @@ use Rattle.aidl_syntax.specs.Members.{Member, members, body}
 use Rattle.aidl_syntax.specs.Members.Member.{field, constant, method, enumerator, nested}
 use Rattle.aidl_names.specs.Sources.{Source}
 use Rattle.aidl_names.specs.Declarations.{Entry}
-use Rattle.const_eval.specs.declared.shape.Shape.{Shape}
-use Rattle.const_eval.specs.Items.{shape_in}
+use Rattle.type_shapes.specs.declared.shape.Shape.{Shape}
+use Rattle.const_items.specs.Items.{shape_in}
 use Rattle.type_uses.specs.declared.stand.Stand.{Stand}
 use Rattle.type_uses.specs.declared.stand.Stand.TheVariants as stand
 

@@ -4,7 +4,7 @@ ghost use Rattle.type_uses.specs.Bases as meant;
 
 use crate::stand::is_text;
 use aidl_names::{Found, Resolved};
-use const_eval::{Shape, is_composite, is_enum};
+use type_shapes::{Shape, is_composite, is_enum};
 
 // Each takes no memory; `found` are the declarations of the tree.
 

@@ -3,7 +3,7 @@ ghost use Rattle.aidl_syntax.specs.Trees.{Members, arg_of, body_of, map_option, 
 ghost use Rattle.aidl_syntax.specs.Members.{listed, members};
 ghost use Rattle.aidl_names.specs.Refusals.{IsScope};
 ghost use Rattle.aidl_names.specs.Sources.{source_of};
-ghost use Rattle.const_eval.specs.Items.{shape_in};
+ghost use Rattle.const_items.specs.Items.{shape_in};
 ghost use Rattle.type_uses.specs.TypeUses as meant;
 ghost use Rattle.type_uses.specs.TypeUseViews.{seen_use};
 
@@ -11,7 +11,7 @@ use crate::type_use::TypeUseRef;
 use aidl_base::OutOfMemory;
 use aidl_names::Names;
 use aidl_syntax::{ArgTree, BodyTree, MemberTree, MethodTree, TypeTree};
-use const_eval::{Shape, shaped};
+use type_shapes::{Shape, shaped};
 use std::alloc::Global;
 
 /// The types that a declaration uses, by its file, its number and its body, in the order of the file.

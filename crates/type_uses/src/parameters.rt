@@ -5,7 +5,7 @@ ghost use Rattle.type_uses.specs.Parameters as meant;
 
 use aidl_base::Reserved;
 use aidl_syntax::{ExprKind, ExprTree, InitTree, NameTree, ParamTree, TokenKind};
-use const_eval::is_type;
+use type_shapes::is_type;
 
 // The single literal that a value is.
 fn literal_of(init: &InitTree) -> Option<&TokenKind>

@@ -5,7 +5,7 @@ ghost use Rattle.type_uses.specs.Annotations as meant;
 
 use aidl_names::{BuiltinName, Resolved};
 use aidl_syntax::{BodyTree, DeclTree};
-use const_eval::Shape;
+use type_shapes::Shape;
 
 /// Where annotations stand.
 #[derive(Clone, Copy)]

@@ -5,7 +5,7 @@ ghost use Rattle.type_uses.specs.TypeUseViews.{seen_use};
 
 use crate::stand::Stand;
 use aidl_syntax::{AnnotTree, ArgTree, ConstantTree, FieldTree, MethodTree, TypeTree};
-use const_eval::Shape;
+use type_shapes::Shape;
 
 /// Where a declaration uses a type, with what the type is: a field, a constant, a method, which has no type where it returns void, or
 /// an argument.

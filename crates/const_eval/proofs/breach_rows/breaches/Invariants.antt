@@ -1,6 +1,6 @@
 use Rattle.std.proofs.Common.{◌≡◌, ◌++◌, map, drop}
 use Rattle.const_eval.specs.Breaches.{breaches, breaches_from}
-use Rattle.const_eval.specs.ItemViews.{item_of}
+use Rattle.const_items.specs.ItemViews.{item_of}
 use Rattle.const_eval.specs.Outcomes.{outcome_at}
 use Rattle.const_eval.proofs.breach_rows.breaches.Given as goal
 

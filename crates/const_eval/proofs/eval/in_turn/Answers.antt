@@ -3,8 +3,8 @@ use Rattle.std.specs.List.{slice_get}
 use Rattle.std.proofs.lemmas.List.{length-map}
 use Rattle.aidl_names.specs.Sources.{source_of}
 use Rattle.const_eval.specs.Held.{is_held_outcome}
-use Rattle.const_eval.specs.Items.{items}
-use Rattle.const_eval.specs.ItemViews.{item_of}
+use Rattle.const_items.specs.Items.{items}
+use Rattle.const_items.specs.ItemViews.{item_of}
 use Rattle.const_eval.specs.Known.{AreHeld}
 use Rattle.const_eval.specs.Outcomes.{HasOutcome, outcome_at, wanted_of}
 use Rattle.const_eval.proofs.Progress.{at_first, at_last, one_more, ready}

@@ -4,7 +4,7 @@ use Rattle.std.proofs.lemmas.Result.{IfOk-weaker}
 use Rattle.graph_cycles.specs.Paths.{flag, targets}
 use Rattle.aidl_names.specs.Sources.{source_of}
 use Rattle.const_eval.specs.Held.{is_held_outcome}
-use Rattle.const_eval.specs.ItemViews.{item_of}
+use Rattle.const_items.specs.ItemViews.{item_of}
 use Rattle.const_eval.specs.Known.{are_given, values_in, without_value}
 use Rattle.const_eval.specs.Outcomes.{HasOutcome, judgement_of, outcome_of, wanted_of}
 use Rattle.const_eval.proofs.Meant.{item_at}

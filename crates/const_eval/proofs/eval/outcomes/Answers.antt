@@ -3,8 +3,8 @@ use Rattle.std.specs.List.Sorted.{IsNonDecreasingBy}
 use Rattle.std.proofs.lemmas.List.{length-map}
 use Rattle.graph_cycles.specs.Paths.{Descends, targets}
 use Rattle.aidl_names.specs.Sources.{source_of}
-use Rattle.const_eval.specs.Items.{items}
-use Rattle.const_eval.specs.ItemViews.{item_of}
+use Rattle.const_items.specs.Items.{items}
+use Rattle.const_items.specs.ItemViews.{item_of}
 use Rattle.const_eval.specs.Known.{IsInTurn}
 use Rattle.const_eval.proofs.Turns.{in_turn}
 use Rattle.const_eval.proofs.eval.outcomes.Goals as goal

@@ -2,10 +2,10 @@ use Rattle.std.proofs.Common.{map, length, ◌≤◌, subst, arith}
 use Rattle.std.specs.List.{All}
 use Rattle.std.proofs.lemmas.List.{length-map}
 use Rattle.aidl_names.specs.Sources.{source_of}
-use Rattle.const_eval.specs.Items.{items}
-use Rattle.const_eval.specs.SmallPlaces.{HasSmall}
+use Rattle.const_items.specs.Items.{items}
+use Rattle.const_items.specs.SmallPlaces.{HasSmall}
 use Rattle.const_eval.proofs.InOrder.{breaches_in_order}
-use Rattle.const_eval.proofs.PlacesWithin.{items_ascend}
+use Rattle.const_items.proofs.PlacesWithin.{items_ascend}
 use Rattle.const_eval.proofs.laws.law_breaches_in_order.Goals as goal
 
 pub returns : goal.returns

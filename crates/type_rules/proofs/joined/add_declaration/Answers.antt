@@ -5,7 +5,7 @@ use Rattle.aidl_names.specs.Sources.{source_of}
 use Rattle.aidl_names.specs.Declarations.{declarations}
 use Rattle.aidl_names.specs.Refusals.{entry_of}
 use Rattle.aidl_names.proofs.Trees.{seen_decl}
-use Rattle.const_eval.specs.Items.{shape_in}
+use Rattle.const_items.specs.Items.{shape_in}
 use Rattle.type_uses.specs.TypeUses.{of_members}
 use Rattle.type_uses.specs.TypeUseViews.{seen_use}
 use Rattle.type_rules.specs.Breaches.{broken_by, broken_in}

@@ -2,9 +2,9 @@ use Rattle.std.proofs.Common.{map, get_or, ap, ◌∙◌}
 use Rattle.aidl_names.specs.Sources.{source_of}
 use Rattle.const_values.specs.Seen.{answer}
 use Rattle.const_eval.specs.Known.{known_meaning}
-use Rattle.const_eval.specs.TargetViews.{seen_targets}
+use Rattle.const_items.specs.TargetViews.{seen_targets}
 use Rattle.const_eval.proofs.Meant.{name_means}
-use Rattle.const_eval.proofs.Scopes.{scoped}
+use Rattle.const_items.proofs.Scopes.{scoped}
 use Rattle.const_eval.proofs.known.KnownValuesMeanings.meaning.Goals as goal
 
 pub target_of-target-requires : goal.target_of-target-requires

@@ -1,9 +1,0 @@
-use Rattle.std.proofs.Common.{take}
-use Rattle.std.specs.List.{All}
-use Rattle.aidl_names.specs.Sources.{source_of}
-use Rattle.const_eval.specs.SmallPlaces.{HasSmall}
-use Rattle.const_eval.proofs.counted.law_places.Given as goal
-
--- those of the files so far
-abbrev pub invariant-loop-file : goal.invariant-loop-file
-invariant-loop-file l = All (λ f. HasSmall (source_of f)) (take l.file-index l.files)

@@ -1,0 +1,13 @@
+use Rattle.std.proofs.Common.{◌≡◌, ◌++◌, map, drop}
+use Rattle.aidl_names.specs.Sources.{source_of}
+use Rattle.aidl_names.specs.Rules.{in_each}
+use Rattle.aidl_names.specs.Refusals.{entry_of}
+use Rattle.const_items.specs.Items.{of_entry, declared}
+use Rattle.const_items.specs.ItemViews.{item_of}
+use Rattle.const_items.proofs.listing.add_all.Given as goal
+
+-- the items so far and those of the declarations that are left are all
+abbrev pub invariant-loop-i : goal.invariant-loop-i
+invariant-loop-i l =
+    map item_of l.all.items ++ in_each (of_entry (map source_of l.names)) l.i (map entry_of (drop l.i l.found))
+    ≡ map item_of l.fn.all.items ++ declared (map source_of l.names)

@@ -1,0 +1,292 @@
+ghost use Rattle.std.specs.Prelude.{◌≡◌, ◌≤◌, ◌++◌, ◌∷◌, [], None, false, map, length, IfOk, OnOk};
+ghost use Rattle.aidl_syntax.specs.Trees.{Members, body_of, constant_of, decl_of, enumerator_of, expr_of, exprs_of, field_of, init_of, map_option, member_of, members_of};
+ghost use Rattle.aidl_syntax.specs.Members.{listed};
+ghost use Rattle.aidl_names.specs.Declarations.{declarations};
+ghost use Rattle.aidl_names.specs.Refusals.{IsScope, entry_of};
+ghost use Rattle.aidl_names.specs.Sources.{source_of};
+ghost use Rattle.const_items.specs.Items as meant;
+ghost use Rattle.const_items.specs.ItemViews.{item_of, written_of};
+
+use crate::item::{ItemRef, WrittenRef};
+use aidl_base::OutOfMemory;
+use aidl_names::{Found, Names};
+use aidl_syntax::{
+    BodyTree, ConstantTree, EnumeratorTree, ExprTree, FieldTree, InitTree, MemberTree,
+};
+use const_values::Wanted;
+use std::alloc::Global;
+use type_shapes::{Shape, backing_of, is_unjudged, shaped, wanted_element, wanted_one};
+
+/// The items of a tree, in the order of the declarations.
+pub fn declared<'a>(alloc: Global, names: &Names<'a>) -> Result<Vec<ItemRef<'a>>, OutOfMemory>
+    ensures { IfOk result (λ all. map item_of all.items ≡ meant.declared (map source_of names.now)) }
+{
+    let _files = names.files();
+    let mut all = Vec::new(alloc);
+    add_all(names, names.decls(), &mut all)?;
+    Ok(all)
+}
+
+fn add_all<'a>(
+    names: &Names<'a>,
+    found: &[Found<'a>],
+    all: &mut Vec<ItemRef<'a>>,
+) -> Result<(), OutOfMemory>
+    requires count { length found.now ≤ 16384 }
+    requires found { map entry_of found.now ≡ declarations (map source_of names.now) }
+    ensures { OnOk result (map item_of all.new.items ≡ map item_of all.old.items ++ meant.declared (map source_of names.now)) }
+{
+    for (i, f) in found.iter().enumerate() {
+        add_entry(names, i as u32, f, all)?;
+    }
+    Ok(())
+}
+
+// Those of the declaration with a number.
+fn add_entry<'a>(
+    names: &Names<'a>,
+    number: u32,
+    found: &Found<'a>,
+    all: &mut Vec<ItemRef<'a>>,
+) -> Result<(), OutOfMemory>
+    requires { IsScope (map source_of names.now) found.now.file number }
+    ensures { OnOk result (map item_of all.new.items ≡ map item_of all.old.items ++ meant.of_entry (map source_of names.now) number (entry_of found.now)) }
+{
+    let backing = backing_of(found.tree);
+    add_body(names, found.file, number, backing, &found.tree.body, all)
+}
+
+fn add_body<'a>(
+    names: &Names<'a>,
+    file: u32,
+    scope: u32,
+    backing: Wanted,
+    body: &'a BodyTree,
+    all: &mut Vec<ItemRef<'a>>,
+) -> Result<(), OutOfMemory>
+    requires { IsScope (map source_of names.now) file scope }
+    ensures { OnOk result (map item_of all.new.items ≡ map item_of all.old.items ++ meant.of_body (map source_of names.now) file scope backing (body_of body.now)) }
+{
+    match body {
+        BodyTree::Parcelable(members) => {
+            add_members(names, file, scope, false, members.as_slice(), all)
+        }
+        BodyTree::Union(members) => {
+            add_members(names, file, scope, true, members.as_slice(), all)
+        }
+        BodyTree::Enum(enumerators) => {
+            add_enumerators(file, scope, backing, enumerators.as_slice(), all)
+        }
+        BodyTree::Interface { members, .. } => {
+            add_members(names, file, scope, false, members.as_slice(), all)
+        }
+    }
+}
+
+fn add_members<'a>(
+    names: &Names<'a>,
+    file: u32,
+    scope: u32,
+    in_union: bool,
+    members: &'a [MemberTree],
+    all: &mut Vec<ItemRef<'a>>,
+) -> Result<(), OutOfMemory>
+    requires { IsScope (map source_of names.now) file scope }
+    ensures { OnOk result (map item_of all.new.items ≡ map item_of all.old.items ++ meant.of_members (map source_of names.now) file scope in_union false (listed (members_of members.now))) }
+{
+    let mut later = false;
+    for member in members {
+        later = add_member(names, file, scope, in_union, later, member, all)?;
+    }
+    Ok(())
+}
+
+// Those of a member, and whether a field of a union stands before the next one.
+fn add_member<'a>(
+    names: &Names<'a>,
+    file: u32,
+    scope: u32,
+    in_union: bool,
+    later: bool,
+    member: &'a MemberTree,
+    all: &mut Vec<ItemRef<'a>>,
+) -> Result<bool, OutOfMemory>
+    requires { IsScope (map source_of names.now) file scope }
+    ensures { IfOk result (λ next. (ms : Members) → map item_of all.old.items ++ meant.of_members (map source_of names.now) file scope in_union later (listed (member_of member.now ms)) ≡ map item_of all.new.items ++ meant.of_members (map source_of names.now) file scope in_union next (listed ms)) }
+{
+    match member {
+        MemberTree::Field(field) => {
+            add_field(names, file, scope, later, field, all)?;
+            Ok(later || in_union)
+        }
+        MemberTree::Constant(constant) => {
+            add_constant(names, file, scope, constant, all)?;
+            Ok(later)
+        }
+        MemberTree::Method(_) => Ok(later),
+        MemberTree::Nested(_) => Ok(later),
+    }
+}
+
+fn add_field<'a>(
+    names: &Names<'a>,
+    file: u32,
+    scope: u32,
+    later: bool,
+    field: &'a FieldTree,
+    all: &mut Vec<ItemRef<'a>>,
+) -> Result<(), OutOfMemory>
+    requires { IsScope (map source_of names.now) file scope }
+    ensures { OnOk result (map item_of all.new.items ≡ map item_of all.old.items ++ meant.of_field (map source_of names.now) file scope later (field_of field.now)) }
+{
+    match &field.initial {
+        None => Ok(()),
+        Some(init) => {
+            let shape = shaped(names, file, scope, &field.ty);
+            add_typed(names.decls(), file, scope, later, shape, init, all)
+        }
+    }
+}
+
+fn add_typed<'a>(
+    found: &[Found<'_>],
+    file: u32,
+    scope: u32,
+    later: bool,
+    shape: Shape,
+    init: &'a InitTree,
+    all: &mut Vec<ItemRef<'a>>,
+) -> Result<(), OutOfMemory>
+    ensures { OnOk result (map item_of all.new.items ≡ map item_of all.old.items ++ meant.of_typed (map entry_of found.now) file scope later shape (init_of init.now)) }
+{
+    let unjudged = is_unjudged(found, later, shape, init);
+    match init {
+        InitTree::Single(tree) => {
+            let wanted = wanted_one(found, shape);
+            add_expression(file, scope, wanted, unjudged, tree, all)
+        }
+        InitTree::Braces { items, .. } => {
+            let wanted = wanted_element(found, shape);
+            add_each(file, scope, wanted, unjudged, items.as_slice(), all)
+        }
+    }
+}
+
+fn add_each<'a>(
+    file: u32,
+    scope: u32,
+    wanted: Wanted,
+    unjudged: bool,
+    trees: &'a [ExprTree],
+    all: &mut Vec<ItemRef<'a>>,
+) -> Result<(), OutOfMemory>
+    ensures { OnOk result (map item_of all.new.items ≡ map item_of all.old.items ++ map (meant.of_expression file scope wanted unjudged) (exprs_of trees.now)) }
+{
+    for tree in trees {
+        add_expression(file, scope, wanted, unjudged, tree, all)?;
+    }
+    Ok(())
+}
+
+fn add_expression<'a>(
+    file: u32,
+    scope: u32,
+    wanted: Wanted,
+    unjudged: bool,
+    tree: &'a ExprTree,
+    all: &mut Vec<ItemRef<'a>>,
+) -> Result<(), OutOfMemory>
+    ensures { OnOk result (map item_of all.new.items ≡ map item_of all.old.items ++ meant.of_expression file scope wanted unjudged (expr_of tree.now) ∷ []) }
+{
+    all.push(ItemRef {
+        file,
+        scope,
+        place: tree.offset,
+        enumerates: false,
+        wanted,
+        unjudged,
+        value: WrittenRef::Expression(tree),
+    })?;
+    Ok(())
+}
+
+fn add_constant<'a>(
+    names: &Names<'a>,
+    file: u32,
+    scope: u32,
+    constant: &'a ConstantTree,
+    all: &mut Vec<ItemRef<'a>>,
+) -> Result<(), OutOfMemory>
+    requires { IsScope (map source_of names.now) file scope }
+    ensures { OnOk result (map item_of all.new.items ≡ map item_of all.old.items ++ meant.of_constant (map source_of names.now) file scope (constant_of constant.now) ∷ []) }
+{
+    let shape = shaped(names, file, scope, &constant.ty);
+    let wanted = wanted_one(names.decls(), shape);
+    add_expression(file, scope, wanted, false, &constant.value, all)
+}
+
+fn add_enumerators<'a>(
+    file: u32,
+    scope: u32,
+    backing: Wanted,
+    enumerators: &'a [EnumeratorTree],
+    all: &mut Vec<ItemRef<'a>>,
+) -> Result<(), OutOfMemory>
+    ensures { OnOk result (map item_of all.new.items ≡ map item_of all.old.items ++ meant.of_enumerators file scope backing None (map enumerator_of enumerators.now)) }
+{
+    let mut before = None;
+    for enumerator in enumerators {
+        let item = of_enumerator(file, scope, backing, before, enumerator);
+        all.push(item)?;
+        before = Some(item.place);
+    }
+    Ok(())
+}
+
+fn of_enumerator(
+    file: u32,
+    scope: u32,
+    backing: Wanted,
+    before: Option<u32>,
+    enumerator: &EnumeratorTree,
+) -> ItemRef<'_>
+    ensures { item_of result ≡ meant.of_enumerator file scope backing before (enumerator_of enumerator.now) }
+{
+    ItemRef {
+        file,
+        scope,
+        place: place_by(enumerator.name.offset, &enumerator.value),
+        enumerates: true,
+        wanted: backing,
+        unjudged: false,
+        value: written_as(before, &enumerator.value),
+    }
+}
+
+/// Where an enumerator's expression begins, or else its name. It takes no memory.
+pub fn place_by(named: u32, value: &Option<ExprTree>) -> u32
+    ensures { result ≡ meant.place_by named (map_option expr_of value.now) }
+{
+    match value {
+        None => named,
+        Some(tree) => tree.offset,
+    }
+}
+
+fn written_as(before: Option<u32>, value: &Option<ExprTree>) -> WrittenRef<'_>
+    ensures { written_of result ≡ meant.written_as before (map_option expr_of value.now) }
+{
+    match value {
+        Some(tree) => WrittenRef::Expression(tree),
+        None => behind(before),
+    }
+}
+
+fn behind<'a>(before: Option<u32>) -> WrittenRef<'a>
+    ensures { written_of result ≡ meant.behind before }
+{
+    match before {
+        None => WrittenRef::First,
+        Some(place) => WrittenRef::After(place),
+    }
+}
