@@ -1,9 +1,9 @@
 //! The program `aidl`: words in, printed lines and an exit status out.
 #![tactic(auto)]
 
-use aidl_outside::PassLink;
 use aidl_tool::aidl;
 use host_outside::{FolderStore, StdoutSink};
+use memory_outside::PassLink;
 use std::io::ErrorKind;
 use std::process::ExitCode;
 use std::{env, io};

@@ -1,9 +1,6 @@
 pub mod Carries
 pub mod Causes
-pub mod Edits
 pub mod Entries
-pub mod Failing
 pub mod Files
-pub mod Mem
 pub mod Told
 pub mod Writes

@@ -1,27 +1,10 @@
 //! What the program meets outside itself: a store of files, a sink of bytes and a link that carries parcels.
 #![tactic(auto)]
 
-mod carry_log;
-mod edits;
-mod failures;
 mod link;
-mod mem_sink;
-mod mem_store;
-mod pass_link;
-mod record_link;
 mod sink;
 mod store;
-mod tamper_link;
 
-pub use edits::{Edit, EditKind, law_other_edits_change_nothing, law_set_past_the_end};
-pub use failures::{
-    law_calls_are_numbered, law_fails_by_number, law_fails_from, law_no_number_no_fault,
-};
 pub use link::{Carried, CarryFault, Link, Way};
-pub use mem_sink::MemSink;
-pub use mem_store::MemStore;
-pub use pass_link::PassLink;
-pub use record_link::RecordLink;
 pub use sink::{Sink, SinkFault};
 pub use store::{Store, StoreFault};
-pub use tamper_link::TamperLink;

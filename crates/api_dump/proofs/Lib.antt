@@ -1,3 +1,3 @@
-pub mod Texts
+mod Packages
 pub mod Placing
 mod Examples

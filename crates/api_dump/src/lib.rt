@@ -4,10 +4,8 @@
 mod declarations;
 mod dumping;
 mod lines;
-mod names;
 mod nested;
 mod nesting;
-mod types;
-mod values;
+mod paths;
 
 pub use dumping::dump;

@@ -1,9 +1,6 @@
 mod Reading
 mod Counts
-mod Names
-mod Planned
 mod Outs
-mod Parts
 mod Repeats
 mod Sums
 mod Openeds

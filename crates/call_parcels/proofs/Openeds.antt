@@ -15,7 +15,7 @@ use Rattle.parcel_cursors.proofs.Faults.{fails_then}
 use Rattle.parcel_cursors.specs.Taken.{RefusesIfMemory}
 use Rattle.parcel_cursors.specs.declared.fault.ReadFault.{ReadFault}
 use Rattle.wire_model.specs.Receiver.{argument_at, arguments_at, opened_length}
-use Rattle.call_parcels.specs.steps.Fronts.{Continues, after}
+use Rattle.call_pieces.specs.steps.Fronts.{Continues, after}
 use Rattle.call_parcels.proofs.Reading.{after_none, after_one, views_more}
 
 -- a value was read, and what is read behind it, which it says, goes on

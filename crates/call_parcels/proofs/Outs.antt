@@ -14,7 +14,7 @@ use Rattle.parcel_cursors.specs.declared.fault.ReadFault.{ReadFault}
 use Rattle.wire_model.specs.Calls.{outs_of}
 use Rattle.wire_model.specs.ReadOf.{read_of}
 use Rattle.wire_model.specs.Receiver.{values_at}
-use Rattle.call_parcels.specs.steps.Fronts.{Continues, after}
+use Rattle.call_pieces.specs.steps.Fronts.{Continues, after}
 use Rattle.call_parcels.proofs.Reading.{after_none, continues}
 
 -- no argument is left

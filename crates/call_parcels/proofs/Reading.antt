@@ -10,7 +10,7 @@ use Rattle.aidl_values.specs.declared.value.Value.{Value}
 use Rattle.parcel_cursors.specs.Place.{Place, left, is_inside, moved, MovesOn}
 use Rattle.parcel_cursors.specs.Taken.{RefusesIfMemory}
 use Rattle.parcel_cursors.specs.declared.fault.ReadFault.{ReadFault}
-use Rattle.call_parcels.specs.steps.Fronts.{after, joined, Continues}
+use Rattle.call_pieces.specs.steps.Fronts.{after, joined, Continues}
 use Rattle.std.specs.Borrow.{Bor}
 use Rattle.std.specs.Prelude.{Result}
 use Rattle.parcel_cursors.proofs.Faults.{fails_then}

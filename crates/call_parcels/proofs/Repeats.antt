@@ -4,7 +4,7 @@ use Rattle.aidl_values.specs.Data.{Data, Items, none, item}
 use Rattle.aidl_values.specs.View.{view, views}
 use Rattle.aidl_values.specs.declared.value.Value.{Value}
 use Rattle.wire_model.specs.Receiver.{repeated}
-use Rattle.call_parcels.specs.steps.Fronts.{joined}
+use Rattle.call_pieces.specs.steps.Fronts.{joined}
 use Rattle.call_parcels.proofs.Reading.{joined_assoc, joined_none, views_more}
 
 pub repeated_more : (vs us : List Value) (v : Value) (d : Data) (count i : ℕ) (total : Items) → i < count → us ≡ vs ++ v ∷ [] → view v ≡ d

@@ -4,8 +4,8 @@ use Rattle.std.specs.Prelude.{codes}
 use Rattle.std.specs.Str.{chars}
 use Rattle.aidl_base.proofs.Spelled.{length-spell_text}
 use Rattle.aidl_base.specs.Words.{units}
-use Rattle.call_parcels.specs.steps.Sent.{spell_exception}
-use Rattle.call_parcels.proofs.Parts.{exception_count}
+use Rattle.call_pieces.specs.steps.Sent.{spell_exception}
+use Rattle.call_pieces.proofs.Parts.{exception_count}
 
 pub unread_chars : (b : List ℕ) → b ≡ codes "unread argument bytes" → chars b ≡ codes "unread argument bytes"
 unfolding chars

@@ -2,16 +2,15 @@
 ghost use Rattle.std.specs.Prelude.{◌≡◌, ◌+◌, ◌≤◌};
 ghost use Rattle.aidl_values.specs.View.{view, views};
 ghost use Rattle.marshal_plans.specs.Standing.{IsOf};
-ghost use Rattle.call_parcels.specs.steps.Arguments.{ArePlanned};
-ghost use Rattle.call_parcels.specs.steps.Fronts.{Continues, Fronts};
+ghost use Rattle.call_pieces.specs.steps.Arguments.{ArePlanned};
+ghost use Rattle.call_pieces.specs.steps.Fronts.{Continues, Fronts};
 ghost use Rattle.wire_model.specs.Receiver.{argument_at, arguments_at, items_in, opened_length};
 
-use crate::call::argument_id;
-use crate::fronts::value_front;
 use crate::openings::opening_front;
 use aidl_base::Profile;
 use aidl_schema::{Arg, Direction, Schema};
 use aidl_values::Value;
+use call_pieces::{argument_id, value_front};
 use marshal_plans::{PlanId, Plans};
 use parcel_words::ReadFault;
 use std::alloc::Global;

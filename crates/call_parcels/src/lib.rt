@@ -2,15 +2,11 @@
 #![tactic(auto)]
 
 mod arguments;
-mod call;
-mod fronts;
 mod openings;
 mod receiving;
 mod replies;
 mod requests;
 mod sending;
-mod token;
-mod values;
 
 pub use parcel_write::WriteFault;
 pub use receiving::{Receipt, receive};

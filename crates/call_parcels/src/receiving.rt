@@ -1,19 +1,18 @@
 //! What a stub makes of a request.
 ghost use Rattle.std.specs.Prelude.{◌≡◌, ◌<◌, length, IfOk};
 ghost use Rattle.aidl_schema.specs.Find.{methods_at};
-ghost use Rattle.call_parcels.specs.Planned.{ArePlansOf};
+ghost use Rattle.call_pieces.specs.Planned.{ArePlansOf};
 ghost use Rattle.call_parcels.specs.Receipts.{receipt_of};
-ghost use Rattle.call_parcels.specs.steps.Arguments.{ArePlanned};
+ghost use Rattle.call_pieces.specs.steps.Arguments.{ArePlanned};
 ghost use Rattle.call_parcels.specs.steps.Calls.{arguments_received, call_received};
 ghost use Rattle.wire_model.specs.Calls.{arguments};
 ghost use Rattle.wire_model.specs.Receiver.{stub};
 
 use crate::arguments::arguments_front;
-use crate::call::{law_planned, method_of};
-use crate::token::{after_token, descriptor_of};
 use aidl_base::{OutOfMemory, Profile, Row};
 use aidl_schema::{Schema, method_of_code};
 use aidl_values::Value;
+use call_pieces::{after_token, descriptor_of, law_planned, method_of};
 use marshal_plans::Plans;
 use std::alloc::Global;
 

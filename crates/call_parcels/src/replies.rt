@@ -3,18 +3,19 @@ ghost use Rattle.std.specs.Prelude.{◌≡◌, ◌<◌, false, length, IfOk};
 ghost use Rattle.aidl_schema.specs.Find.{methods_at};
 ghost use Rattle.aidl_values.specs.View.{views};
 ghost use Rattle.call_parcels.specs.Got.{got_of};
-ghost use Rattle.call_parcels.specs.Planned.{ArePlansOf};
-ghost use Rattle.call_parcels.specs.steps.Arguments.{ArePlanned, IsResultOf, IsResultPlanned};
-ghost use Rattle.call_parcels.specs.steps.Fronts.{Continues, Fronts};
+ghost use Rattle.call_pieces.specs.Planned.{ArePlansOf};
+ghost use Rattle.call_pieces.specs.steps.Arguments.{ArePlanned, IsResultOf, IsResultPlanned};
+ghost use Rattle.call_pieces.specs.steps.Fronts.{Continues, Fronts};
 ghost use Rattle.call_parcels.specs.steps.Replies.{IsAnswer};
 ghost use Rattle.wire_model.specs.Calls.{answer_of, arguments, is_oneway, optional_view, out_types, outs_of, result_type};
 ghost use Rattle.wire_model.specs.Receiver.{client, error_at, exception_at, is_refused_status, result_at, returned_at, status_at, values_at};
 
-use crate::call::{argument_id, law_planned, method_of, result_id};
-use crate::fronts::{text_front, value_front, word_front};
 use aidl_base::{OutOfMemory, Profile, Row, Text};
 use aidl_schema::{AidlType, Arg, Direction, Method, Schema};
 use aidl_values::{Answer, Value};
+use call_pieces::{
+    argument_id, law_planned, method_of, result_id, text_front, value_front, word_front,
+};
 use marshal_plans::{PlanId, Plans};
 use parcel_words::ReadFault;
 use std::alloc::Global;

@@ -6,16 +6,17 @@ ghost use Rattle.aidl_values.specs.View.{view, views};
 ghost use Rattle.marshal_plans.specs.Standing.{IsOf};
 ghost use Rattle.parcel_cursors.specs.Written.{with_bytes};
 ghost use Rattle.parcel_write.specs.declared.parcel.WriteFault.TheVariants.{TooLarge};
-ghost use Rattle.call_parcels.specs.Planned.{ArePlansOf};
-ghost use Rattle.call_parcels.specs.steps.Arguments.{ArePlanned};
+ghost use Rattle.call_pieces.specs.Planned.{ArePlansOf};
+ghost use Rattle.call_pieces.specs.steps.Arguments.{ArePlanned};
 ghost use Rattle.wire_model.specs.Requests.{ArgsFit, ArgumentFits, ArgumentsFit, IsLength, argument_part, argument_parts, asked_length, number_or_0, request, sent_length, spell_length, sum_of_lengths};
 
-use crate::call::{argument_id, law_planned, method_of};
-use crate::token::{descriptor_of, put_token, token_length};
-use crate::values::{put_spelled, value_length};
 use aidl_base::LimitName;
 use aidl_schema::{Arg, Direction, Schema, Shape};
 use aidl_values::Value;
+use call_pieces::{
+    argument_id, descriptor_of, law_planned, method_of, put_spelled, put_token, token_length,
+    value_length,
+};
 use marshal_plans::{PlanId, Plans};
 use parcel_words::WordWriter;
 use parcel_write::WriteFault;
@@ -54,7 +55,7 @@ pub fn request(
 }
 
 // The number of bytes of the arguments' parts from one on, or `usize::MAX` where they are more.
-#[tactic(auto, using(crate::proofs::Parts::parts_count))]
+#[tactic(auto, using(call_pieces::proofs::Parts::parts_count))]
 fn parts_length(
     schema: &Schema,
     plans: &Plans,
@@ -101,7 +102,7 @@ pub fn is_array(shape: Shape) -> bool
 }
 
 // Appends the arguments' parts from one on.
-#[tactic(auto, using(crate::proofs::Parts::parts_count, parcel_cursors::proofs::Appends::with_more, parcel_cursors::proofs::Appends::with_none))]
+#[tactic(auto, using(call_pieces::proofs::Parts::parts_count, parcel_cursors::proofs::Appends::with_more, parcel_cursors::proofs::Appends::with_none))]
 fn put_parts(
     schema: &Schema,
     plans: &Plans,

@@ -4,19 +4,20 @@ ghost use Rattle.aidl_schema.specs.Find.{methods_at};
 ghost use Rattle.aidl_schema.specs.Methods.{is_in_way};
 ghost use Rattle.aidl_values.specs.View.{views};
 ghost use Rattle.parcel_cursors.specs.Written.{with_bytes};
-ghost use Rattle.call_parcels.specs.Planned.{ArePlansOf};
+ghost use Rattle.call_pieces.specs.Planned.{ArePlansOf};
 ghost use Rattle.call_parcels.specs.Sent.{sent_reply, unread};
-ghost use Rattle.call_parcels.specs.steps.Arguments.{ArePlanned, IsResultOf};
-ghost use Rattle.call_parcels.specs.steps.Sent.{spell_exception};
+ghost use Rattle.call_pieces.specs.steps.Arguments.{ArePlanned, IsResultOf};
+ghost use Rattle.call_pieces.specs.steps.Sent.{spell_exception};
 ghost use Rattle.wire_model.specs.Calls.{answer_of, is_oneway, optional_view, out_types, outs_of, result_type, returned};
 ghost use Rattle.wire_model.specs.Requests.{AnswerFits, EachFits, ResultFits, reply, spell_each, spell_error, spell_result};
 
-use crate::call::{argument_id, law_planned, method_of, methods_of, result_id};
 use crate::replies::SERVICE_SPECIFIC;
-use crate::values::{put_spelled, value_length};
 use aidl_base::{OutOfMemory, Row, Text};
 use aidl_schema::{AidlType, Arg, Direction, Schema};
 use aidl_values::{Answer, Value};
+use call_pieces::{
+    argument_id, law_planned, method_of, methods_of, put_spelled, result_id, value_length,
+};
 use marshal_plans::{PlanId, Plans};
 use parcel_words::{Wire, WordWriter};
 use std::alloc::Global;
@@ -115,7 +116,7 @@ fn answer_bytes(
 }
 
 // The bytes of the reply of a result and outs.
-#[tactic(auto, using(crate::proofs::Parts::returned_count, parcel_cursors::proofs::Appends::with_more))]
+#[tactic(auto, using(call_pieces::proofs::Parts::returned_count, parcel_cursors::proofs::Appends::with_more))]
 fn returned_bytes(
     alloc: Global,
     schema: &Schema,
@@ -200,7 +201,7 @@ fn comes_back(arg: &Arg) -> bool
 }
 
 // The number of bytes of the outs of the arguments from one on, or `usize::MAX` where they are more.
-#[tactic(auto, using(crate::proofs::Parts::each_count))]
+#[tactic(auto, using(call_pieces::proofs::Parts::each_count))]
 fn outs_length(
     schema: &Schema,
     plans: &Plans,
@@ -233,7 +234,7 @@ fn outs_length(
 }
 
 // Appends the outs of the arguments from one on.
-#[tactic(auto, using(crate::proofs::Parts::each_count, parcel_cursors::proofs::Appends::with_more, parcel_cursors::proofs::Appends::with_none))]
+#[tactic(auto, using(call_pieces::proofs::Parts::each_count, parcel_cursors::proofs::Appends::with_more, parcel_cursors::proofs::Appends::with_none))]
 fn put_outs(
     schema: &Schema,
     plans: &Plans,
@@ -269,7 +270,7 @@ fn put_outs(
 }
 
 // The bytes of the reply of an exception. The room for the bytes is taken once.
-#[tactic(auto, using(crate::proofs::Parts::exception_count))]
+#[tactic(auto, using(call_pieces::proofs::Parts::exception_count))]
 fn exception_bytes(
     alloc: Global,
     code: i32,

@@ -12,8 +12,8 @@ use crate::lookup::{at_place, places_of};
 use crate::sides::{Common, Pair};
 use aidl_base::{Ident, OutOfMemory};
 use aidl_schema::{Constant, Enumerator, Kind, Method};
-use std::alloc::Global;
 use schema_compare::{same_base_code, same_const};
+use std::alloc::Global;
 
 /// The methods of an interface; none of what is no interface.
 pub fn methods_of(kind: &Kind) -> &[Method]

@@ -12,8 +12,11 @@ use crate::shapes::{at_additions, at_arguments, at_fields, at_methods};
 use crate::sides::{Common, Pair};
 use aidl_base::OutOfMemory;
 use aidl_schema::{Decl, Field};
+use schema_compare::{
+    ArgumentTest, FieldTest, MethodTest, fields_of, fields_with_default, has_fields,
+    parcelable_fields, same_backing, same_flag, same_kind, union_fields,
+};
 use std::alloc::Global;
-use schema_compare::{ArgumentTest, FieldTest, MethodTest, fields_of, fields_with_default, has_fields, parcelable_fields, same_backing, same_flag, same_kind, union_fields};
 
 /// C2 to C19: what a declaration of old and that of its name in new break.
 pub fn broken_by(alloc: Global, pair: &Pair<'_>, found: &mut Findings) -> Result<(), OutOfMemory>

@@ -8,8 +8,11 @@ use crate::findings::Findings;
 use crate::sides::{Common, Pair};
 use aidl_base::OutOfMemory;
 use aidl_schema::{Field, Method};
+use schema_compare::{
+    ArgumentTest, FieldTest, MethodTest, argument_breaks, field_breaks, is_refused_addition,
+    method_breaks,
+};
 use std::alloc::Global;
-use schema_compare::{ArgumentTest, FieldTest, MethodTest, argument_breaks, field_breaks, is_refused_addition, method_breaks};
 
 /// Common methods that break a rule.
 pub fn at_methods(

@@ -7,9 +7,9 @@ use Rattle.aidl_syntax.specs.declared.tree.DottedTree.{DottedTree}
 use Rattle.aidl_syntax.specs.Trees.{Expr}
 use Rattle.aidl_syntax.specs.Trees.Expr.{literal, name, group, unary, binary}
 use Rattle.aidl_names.specs.Sources.{Source}
-use Rattle.const_values.specs.declared.fault.ConstFault.{ConstFault}
-use Rattle.const_values.specs.Operands.{Operand}
-use Rattle.const_values.specs.Symbols.{unary_operator, binary_operator}
+use Rattle.const_operands.specs.declared.fault.ConstFault.{ConstFault}
+use Rattle.const_operands.specs.Operands.{Operand}
+use Rattle.const_operands.specs.Symbols.{unary_operator, binary_operator}
 use Rattle.const_values.specs.Evaluation.{evaluated, before, then_right}
 use Rattle.const_values.specs.Wanted.{fitted}
 use Rattle.const_items.specs.Items.{Item, Written, written, first, after, items, number_at}

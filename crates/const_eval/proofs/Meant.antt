@@ -8,12 +8,12 @@ use Rattle.aidl_syntax.specs.declared.tree.DottedTree.{DottedTree}
 use Rattle.aidl_syntax.specs.Trees.{Expr}
 use Rattle.graph_cycles.specs.Paths.{flag}
 use Rattle.aidl_names.specs.Sources.{Source}
-use Rattle.const_values.specs.declared.fault.ConstFault.{ConstFault}
-use Rattle.const_values.specs.declared.fault.EvalFault.{EvalFault}
-use Rattle.const_values.specs.declared.fault.EvalFault.TheVariants as eval
+use Rattle.const_operands.specs.declared.fault.ConstFault.{ConstFault}
+use Rattle.const_operands.specs.declared.fault.EvalFault.{EvalFault}
+use Rattle.const_operands.specs.declared.fault.EvalFault.TheVariants as eval
 use Rattle.const_values.specs.Evaluation.{evaluated}
-use Rattle.const_values.specs.Seen.{Answers, seen}
-use Rattle.const_values.specs.Operands.{Operand}
+use Rattle.const_operands.specs.Seen.{Answers, seen}
+use Rattle.const_operands.specs.Operands.{Operand}
 use Rattle.const_values.specs.Wanted.{fitted}
 use Rattle.const_items.specs.declared.item.ItemRef.{ItemRef}
 use Rattle.const_eval.specs.declared.outcome.Outcome.{Outcome}

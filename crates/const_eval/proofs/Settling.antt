@@ -3,7 +3,7 @@ use Rattle.std.proofs.Common.{◌≡◌, ℕ, zero, suc, ◌<◌, Bool, true, fa
 use Rattle.std.specs.List.{list_all, slice_get}
 use Rattle.std.proofs.lemmas.Option.{same_Some}
 use Rattle.aidl_names.specs.Sources.{Source}
-use Rattle.const_values.specs.declared.fault.ConstFault.TheVariants.{Cycle, UnknownName}
+use Rattle.const_operands.specs.declared.fault.ConstFault.TheVariants.{Cycle, UnknownName}
 use Rattle.const_eval.specs.declared.outcome.Outcome.{Outcome}
 use Rattle.const_eval.specs.declared.outcome.Outcome.TheVariants.{Given, Fault, Unjudged}
 use Rattle.const_items.specs.Items.{Item, items}

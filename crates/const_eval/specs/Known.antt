@@ -7,9 +7,9 @@ use Rattle.aidl_syntax.specs.declared.tree.DottedTree.{DottedTree}
 use Rattle.aidl_syntax.specs.declared.tree.ParsedFile.{ParsedFile}
 use Rattle.graph_cycles.specs.Paths.{flag, targets}
 use Rattle.aidl_names.specs.Sources.{Source, source_of}
-use Rattle.const_values.specs.declared.fault.ConstFault.{ConstFault}
-use Rattle.const_values.specs.declared.fault.ConstFault.TheVariants.{Cycle, UnknownName}
-use Rattle.const_values.specs.Operands.{Operand}
+use Rattle.const_operands.specs.declared.fault.ConstFault.{ConstFault}
+use Rattle.const_operands.specs.declared.fault.ConstFault.TheVariants.{Cycle, UnknownName}
+use Rattle.const_operands.specs.Operands.{Operand}
 use Rattle.const_items.specs.declared.item.ItemRef.{ItemRef}
 use Rattle.const_eval.specs.declared.outcome.Outcome.{Outcome}
 use Rattle.const_eval.specs.declared.outcome.Outcome.TheVariants.{Given, Fault, Unjudged}

@@ -17,10 +17,10 @@ use crate::ranked::ranked;
 use crate::settled::Settled;
 use aidl_base::{OutOfMemory, Row};
 use aidl_names::Names;
-use const_values::{ConstFault, EvalFault};
+use const_items::{Dependence, ItemRef, Items, dependence_of, law_count, numbered};
+use const_operands::{ConstFault, EvalFault};
 use graph_cycles::find_cycles;
 use std::alloc::Global;
-use const_items::{Dependence, ItemRef, Items, dependence_of, law_count, numbered};
 
 /// The outcome of each item of a tree (own, after AOSP, "AIDL language", "Constants"). Items are judged by their ranks, each behind
 /// all that it depends on.

@@ -2,7 +2,7 @@ ghost use Rattle.std.specs.Prelude.{◌≡◌, map, IfOk, IsTrue};
 ghost use Rattle.aidl_syntax.specs.Trees.{expr_of};
 ghost use Rattle.aidl_names.specs.Refusals.{IsScope};
 ghost use Rattle.aidl_names.specs.Sources.{source_of};
-ghost use Rattle.const_values.specs.Seen.{Answers};
+ghost use Rattle.const_operands.specs.Seen.{Answers};
 ghost use Rattle.const_eval.specs.Held.{is_held};
 ghost use Rattle.const_items.specs.ItemViews.{item_of};
 ghost use Rattle.const_eval.specs.Known.{AreHeld, AreItems, IsItemAt, values_in};
@@ -16,9 +16,10 @@ use crate::stepping::{first, one_more};
 use aidl_base::Const;
 use aidl_names::Names;
 use aidl_syntax::{ExprKind, ExprTree};
-use const_values::{EvalFault, evaluated};
-use std::alloc::Global;
 use const_items::{ItemRef, Items, Target, WrittenRef, target_of};
+use const_operands::EvalFault;
+use const_values::evaluated;
+use std::alloc::Global;
 
 /// The value of the item with a number, or its fault, by the values of what it depends on: the first fault in the order of
 /// evaluation, or that against the wanted type (own).

@@ -15,7 +15,6 @@ mod settled;
 mod stepping;
 
 pub use breach_rows::breaches;
-pub use const_values::ConstFault;
 pub use eval::eval_all;
 pub use laws::{law_breaches_in_order, law_one_outcome};
 pub use outcome::Outcome;

@@ -1,5 +1,5 @@
 use aidl_base::Const;
-use const_values::ConstFault;
+use const_operands::ConstFault;
 
 /// What comes of an item.
 #[derive(Debug, Drop)]

@@ -3,13 +3,8 @@ pub mod Binary
 pub mod Bitwise
 pub mod Comparisons
 pub mod Evaluation
-pub mod Faults
 pub mod Literals
-pub mod Operands
-pub mod Seen
 pub mod Shifts
-pub mod Symbols
 pub mod Texts
 pub mod Unary
 pub mod Wanted
-pub mod Widths

@@ -1,12 +1,9 @@
 ghost use Rattle.std.specs.Prelude.{◌≡◌, ◌≢◌, pos, ◌+ℤ◌, ◌-ℤ◌, ◌*ℤ◌, int_div, IfOk};
 ghost use Rattle.const_values.specs.Arithmetic as meant;
-ghost use Rattle.const_values.specs.Operands.{IsWithin};
-ghost use Rattle.const_values.specs.Seen.{answer, seen};
+ghost use Rattle.const_operands.specs.Operands.{IsWithin};
+ghost use Rattle.const_operands.specs.Seen.{answer, seen};
 
-use crate::fault::ConstFault;
-use crate::operand::Operand;
-use crate::operator::Arithmetic;
-use crate::width::Width;
+use const_operands::{Arithmetic, ConstFault, Operand, Width};
 
 // `+ - * / %` of two numbers, for a result of a width.
 pub fn arithmetic_of<'a>(

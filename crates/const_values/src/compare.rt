@@ -1,7 +1,7 @@
 ghost use Rattle.std.specs.Prelude.{◌≡◌};
 ghost use Rattle.const_values.specs.Comparisons as meant;
 
-use crate::operator::{Connective, Equality, Order};
+use const_operands::{Connective, Equality, Order};
 
 // `< > <= >=` of two numbers.
 pub fn order_of(operator: Order, a: i64, b: i64) -> bool

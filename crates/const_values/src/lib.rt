@@ -7,30 +7,19 @@ mod binary_values;
 mod bitwise;
 mod compare;
 mod evaluation;
-mod fault;
 mod join;
 mod laws;
 mod literals;
-mod operand;
-mod operator;
 mod shift;
 mod unary_values;
 mod wanted;
-mod width;
 
 pub use binary_values::binary;
 pub use evaluation::{Meanings, evaluated};
-pub use fault::{ConstFault, EvalFault};
 pub use laws::{
     law_complement, law_decimal_is_its_number, law_left_shift_multiplies, law_remainder,
     law_right_shift_rounds_down,
 };
 pub use literals::literal;
-pub use operand::{Operand, Words};
-pub use operator::{
-    Arithmetic, BinaryOperator, Bitwise, Connective, Equality, Order, Shift, UnaryOperator,
-    binary_operator, unary_operator,
-};
 pub use unary_values::unary;
 pub use wanted::{Wanted, fitted};
-pub use width::Width;

@@ -22,7 +22,7 @@ use Rattle.const_eval.specs.declared.outcome.Outcome.{Outcome}
 use Rattle.const_eval.specs.declared.outcome.Outcome.TheVariants.{Given}
 use Rattle.const_items.specs.Items.{items}
 use Rattle.const_eval.specs.Outcomes.{HasOutcome, AreOutcomes, outcome_at}
-use Rattle.tree_schema.specs.Numbers.{sorted}
+use Rattle.schema_parts.specs.Numbers.{sorted}
 use Rattle.tree_schema.specs.SchemaOf.{schema_of, declared}
 use Rattle.tree_schema.proofs.ValuesLaws.{placed-files}
 use Rattle.schema_bounds.specs.declared.bound.Bound.TheVariants.{Within}

@@ -37,8 +37,8 @@ use Rattle.aidl_schema.specs.Types as schema
 use Rattle.aidl_schema.specs.Types.{form_of, form_of_decl, form_of_kind, is_meant, is_well_shaped, is_type, is_nullable_form}
 use Rattle.aidl_schema.specs.Valid as valid
 use Rattle.aidl_schema.specs.Valid.{is_parcelable_or_union, may_be_fixed, has_fixed_size}
-use Rattle.api_dump.specs.Pieces.{ident}
-use Rattle.api_dump.specs.Types.{base_name, declared_name}
+use Rattle.dump_values.specs.Pieces.{ident}
+use Rattle.dump_values.specs.Types.{base_name, declared_name}
 use Rattle.dump_reading.specs.Bare.{bare_type}
 use Rattle.dump_reading.specs.DumpTrees.{type_tree}
 use Rattle.dump_reading.proofs.Numbers.{walks}

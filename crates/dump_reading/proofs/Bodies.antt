@@ -12,7 +12,7 @@ use Rattle.const_values.specs.declared.wanted.Wanted.{Wanted}
 use Rattle.const_items.specs.Items.{Item, of_body}
 use Rattle.tree_schema.specs.Parts.{listed_constants}
 use Rattle.tree_schema.specs.SchemaOf.{kind_of}
-use Rattle.tree_schema.specs.Values.{Outcomes}
+use Rattle.schema_parts.specs.Values.{Outcomes}
 use Rattle.tree_schema.proofs.WalksPlaced.{Each}
 use Rattle.aidl_schema.specs.declared.schema.Decl.{Decl}
 use Rattle.aidl_schema.specs.declared.schema.Field.{Field}

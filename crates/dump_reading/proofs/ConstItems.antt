@@ -49,8 +49,8 @@ use Rattle.aidl_schema.specs.Names.{name_of, enumerators_of, enumerator_names}
 use Rattle.aidl_schema.specs.Valid.{is_enum_whole}
 use Rattle.aidl_schema.specs.Types.{form_of_kind}
 use Rattle.aidl_schema.proofs.Sames.{same_text_refl, same_text_is}
-use Rattle.api_dump.specs.Pieces.{ident}
-use Rattle.api_dump.specs.Types.{base_name, declared_name}
+use Rattle.dump_values.specs.Pieces.{ident}
+use Rattle.dump_values.specs.Types.{base_name, declared_name}
 use Rattle.api_dump.specs.Declarations.{backing_text}
 use Rattle.tree_schema.proofs.WalksPlaced.{Each, each-at}
 use Rattle.tree_schema.proofs.ValuesPlaces.{HasPlacesOnce, items-stand}

@@ -48,7 +48,7 @@ use Rattle.aidl_schema.specs.Names.{name_of, may_enclose}
 use Rattle.aidl_schema.specs.Same.{is_named}
 use Rattle.aidl_schema.specs.Types.{form_of, form_of_decl, form_of_kind, is_meant, is_nullable_form, is_type, is_well_shaped, is_one}
 use Rattle.aidl_schema.specs.Valid.{has_value, has_initializer_of, is_enum, is_union_whole, are_union_fields}
-use Rattle.api_dump.specs.Types.{base_name}
+use Rattle.dump_values.specs.Types.{base_name}
 use Rattle.tree_schema.proofs.WalksPlaced.{Each}
 use Rattle.tree_schema.proofs.ValuesPlaces.{HasPlacesOnce}
 use Rattle.dump_reading.specs.Bare.{bare_expr, bare_init, bare_field, bare_constant, bare_type, bare_body}

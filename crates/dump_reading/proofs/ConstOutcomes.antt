@@ -13,15 +13,15 @@ use Rattle.aidl_syntax.specs.Trees.{Expr}
 use Rattle.aidl_syntax.specs.Trees as tree
 use Rattle.aidl_syntax.specs.Trees.Expr.{name}
 use Rattle.graph_cycles.specs.Paths.{IsPath}
-use Rattle.const_values.specs.declared.fault.ConstFault.TheVariants as fault
+use Rattle.const_operands.specs.declared.fault.ConstFault.TheVariants as fault
 use Rattle.aidl_names.specs.Sources.{Source}
 use Rattle.aidl_names.specs.Declarations.{declarations}
 use Rattle.aidl_names.specs.Resolution.{resolved}
 use Rattle.const_values.specs.declared.wanted.Wanted.TheVariants as wanted
-use Rattle.const_values.specs.declared.width.Width.{Width}
-use Rattle.const_values.specs.declared.width.Width.TheVariants.{Narrow, Wide}
-use Rattle.const_values.specs.Operands.{Operand}
-use Rattle.const_values.specs.Operands as operand
+use Rattle.const_operands.specs.declared.width.Width.{Width}
+use Rattle.const_operands.specs.declared.width.Width.TheVariants.{Narrow, Wide}
+use Rattle.const_operands.specs.Operands.{Operand}
+use Rattle.const_operands.specs.Operands as operand
 use Rattle.const_values.specs.Wanted.{fitted}
 use Rattle.const_eval.specs.declared.outcome.Outcome.{Outcome}
 use Rattle.const_eval.specs.declared.outcome.Outcome.TheVariants.{Given}

@@ -36,8 +36,8 @@ use Rattle.aidl_schema.specs.Holds.{AllHold, AreApart}
 use Rattle.aidl_schema.specs.Names.{name_of}
 use Rattle.aidl_schema.specs.Same.{is_named}
 use Rattle.aidl_schema.specs.Types.{form_of, form_of_decl, form_of_kind, is_meant, is_nullable_form}
-use Rattle.api_dump.specs.Pieces.{ident}
-use Rattle.api_dump.specs.Types.{base_name, declared_name}
+use Rattle.dump_values.specs.Pieces.{ident}
+use Rattle.dump_values.specs.Types.{base_name, declared_name}
 use Rattle.dump_reading.specs.Bare.{bare_body, bare_decl, bare_type, bare_dotted}
 use Rattle.dump_reading.specs.DumpTrees.{body_tree, nested_trees, constants_before, type_tree}
 use Rattle.dump_reading.proofs.Numbers.{walks}

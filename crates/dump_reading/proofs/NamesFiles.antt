@@ -21,7 +21,7 @@ use Rattle.aidl_names.specs.Rules.{in_each, wrong_file, is_wrong_file, WrongFile
 use Rattle.aidl_schema.specs.declared.schema.Decl.{Decl}
 use Rattle.aidl_schema.specs.Holds.{AllHold}
 use Rattle.aidl_schema.specs.Names.{last_part, without_last}
-use Rattle.api_dump.specs.Pieces.{ident}
+use Rattle.dump_values.specs.Pieces.{ident}
 use Rattle.api_dump.specs.Dump.{File, path_of, slashed, dump_text}
 use Rattle.dump_reading.specs.Bare.{bare_dotted, bare_decl, bare_file}
 use Rattle.dump_reading.specs.DumpTrees.{file_tree, package_tree}

@@ -30,8 +30,8 @@ use Rattle.aidl_schema.specs.Names.{name_of, is_name, is_type_word, type_words, 
 use Rattle.aidl_schema.specs.Same.{same_text}
 use Rattle.aidl_schema.specs.Types.{form_of, form_of_decl, form_of_kind, is_meant}
 use Rattle.aidl_schema.proofs.Sames.{same_text_is, same_text_refl}
-use Rattle.api_dump.specs.Pieces.{ident}
-use Rattle.api_dump.specs.Types.{base_name, declared_name}
+use Rattle.dump_values.specs.Pieces.{ident}
+use Rattle.dump_values.specs.Types.{base_name, declared_name}
 use Rattle.dump_reading.specs.Bare.{bare_body, bare_decl}
 use Rattle.dump_reading.specs.DumpTrees.{body_tree, nested_trees, constants_before}
 use Rattle.tree_schema.proofs.WalksLists.{first-passes}

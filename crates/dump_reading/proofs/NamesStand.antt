@@ -50,8 +50,8 @@ use Rattle.aidl_schema.specs.Constants.{is_string, is_constant_of}
 use Rattle.aidl_schema.specs.Valid.{has_value, has_few, is_within_limits, is_enum}
 use Rattle.aidl_schema.proofs.Apart.{apart}
 use Rattle.aidl_schema.proofs.Sames.{same_text_is, same_text_refl}
-use Rattle.api_dump.specs.Pieces.{ident}
-use Rattle.api_dump.specs.Types.{base_name}
+use Rattle.dump_values.specs.Pieces.{ident}
+use Rattle.dump_values.specs.Types.{base_name}
 use Rattle.dump_reading.specs.Bare.{bare_decl, bare_body, bare_type, bare_dotted, bare_arg}
 use Rattle.dump_reading.specs.DumpTrees.{constants_before, body_tree, nested_trees, field_tree, constant_tree, method_tree, arg_tree, returned_tree, type_tree, enumerator_tree}
 use Rattle.dump_reading.proofs.Fits.{each_passes}

@@ -45,7 +45,7 @@ use Rattle.aidl_schema.specs.Holds.{AllHold, AreApart}
 use Rattle.aidl_schema.specs.Methods.{is_field_type}
 use Rattle.aidl_schema.specs.Names.{name_of, may_enclose, methods_of}
 use Rattle.aidl_schema.specs.Valid.{is_enum, is_union_whole, are_union_fields, has_initializer_of, has_fixed_size}
-use Rattle.api_dump.specs.Pieces.{ident}
+use Rattle.dump_values.specs.Pieces.{ident}
 use Rattle.api_dump.specs.Declarations.{backing_text}
 use Rattle.dump_reading.specs.Bare.{bare_body, bare_param, bare_annot}
 use Rattle.dump_reading.specs.DumpTrees.{body_tree, constants_before, nested_trees, backed_tree, token_tree, field_tree, constant_tree, method_tree}

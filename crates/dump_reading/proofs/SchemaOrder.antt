@@ -9,8 +9,8 @@ use Rattle.std.proofs.lemmas.Cmp.{nat_list_cmp_total}
 use Rattle.aidl_base.specs.Names.{dotted}
 use Rattle.aidl_names.specs.Sources.{Source}
 use Rattle.aidl_names.specs.Declarations.{Entry, declarations}
-use Rattle.tree_schema.specs.Numbers.{Numbered, bytes_of, number_of}
-use Rattle.tree_schema.specs.Numbers as numbers
+use Rattle.schema_parts.specs.Numbers.{Numbered, bytes_of, number_of}
+use Rattle.schema_parts.specs.Numbers as numbers
 use Rattle.tree_schema.proofs.NamesNumbers.{key, sorted-is, sorted-ascending, sorted-there, number-of_place}
 use Rattle.tree_schema.proofs.WalksAscii.{plain-dotted}
 use Rattle.tree_schema.proofs.WalksPlaced.{placed}

@@ -44,7 +44,7 @@ use Rattle.aidl_schema.specs.Types as schema
 use Rattle.aidl_schema.specs.Types.{Form, form_of, is_meant, is_well_shaped, is_type, is_nullable_form, is_one}
 use Rattle.aidl_schema.specs.Valid as valid
 use Rattle.aidl_schema.specs.Valid.{has_value}
-use Rattle.api_dump.specs.Types.{base_name}
+use Rattle.dump_values.specs.Types.{base_name}
 use Rattle.dump_reading.specs.Bare.{bare_annot, bare_type, bare_field, bare_constant, bare_arg, bare_method}
 use Rattle.dump_reading.specs.DumpTrees.{type_tree, field_tree, constant_tree, arg_tree, method_tree, returned_tree, returned_annots, way_tree}
 use Rattle.dump_reading.proofs.Numbers.{walks}

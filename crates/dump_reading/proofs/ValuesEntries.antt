@@ -18,7 +18,7 @@ use Rattle.const_items.specs.Items.{of_entry, of_body}
 use Rattle.tree_schema.specs.Checked.{AreOutcomes}
 use Rattle.tree_schema.specs.Parts.{listed_constants, constants_in, enumerator_in, bytes_of, put}
 use Rattle.tree_schema.specs.SchemaOf.{kind_of}
-use Rattle.tree_schema.specs.Values.{Outcomes, enumerator_value}
+use Rattle.schema_parts.specs.Values.{Outcomes, enumerator_value}
 use Rattle.tree_schema.proofs.WalksPlaced.{Each, placed-by}
 use Rattle.tree_schema.proofs.ValuesPlaces.{HasPlacesOnce, items-stand}
 use Rattle.tree_schema.proofs.ValuesSettled.{Stands}

@@ -19,7 +19,7 @@ use Rattle.call_runner.specs.Runs.{AreFaithful, AreNamed, IsTyped, LineRuns, Nam
 use Rattle.call_scripts.specs.Calls.{CallData, TargetData}
 use Rattle.call_scripts.specs.Script.{script}
 use Rattle.run_answers.specs.CallLines.{lines_of}
-use Rattle.run_answers.specs.LineText.{line_text}
+use Rattle.call_lines.specs.LineText.{line_text}
 use Rattle.run_answers.specs.Projected.{call_carried, line_carried, methods_of, named_methods, projected_line, projected_piece, projected_text, reply_bytes}
 use Rattle.run_answers.specs.Running.{judged_course, piece}
 use Rattle.run_answers.specs.Trace.{trace_text}

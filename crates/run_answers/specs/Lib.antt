@@ -1,5 +1,4 @@
 pub mod CallLines
-pub mod LineText
 pub mod Projected
 pub mod Running
 pub mod steps

@@ -11,7 +11,7 @@ use Rattle.call_runner.specs.Runs.{projected}
 use Rattle.call_runner.specs.declared.line.Methods.{Methods}
 use Rattle.call_scripts.specs.Calls.{CallData, TargetData}
 use Rattle.call_scripts.specs.Script.{script}
-use Rattle.run_answers.specs.LineText.{line_text}
+use Rattle.call_lines.specs.LineText.{line_text}
 use Rattle.run_answers.specs.Trace.{trace_text}
 use Rattle.tool_frame.specs.Seen.{Seen}
 use Rattle.tool_frame.specs.Verdict.{IsVerdict}

@@ -14,7 +14,7 @@ use Rattle.call_runner.specs.declared.line.Methods.{Methods}
 use Rattle.call_scripts.specs.Calls.{CallData}
 use Rattle.call_scripts.specs.Script.{script}
 use Rattle.run_answers.specs.CallLines.{lines_of}
-use Rattle.run_answers.specs.LineText.{line_text}
+use Rattle.call_lines.specs.LineText.{line_text}
 use Rattle.run_answers.specs.Trace.{trace_text}
 use Rattle.tool_frame.specs.Answer.{Answer}
 use Rattle.tool_frame.specs.Course.{Course, ends, prints, sends, at_once}

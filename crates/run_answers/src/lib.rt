@@ -1,18 +1,13 @@
 //! What `run` prints: the judge on both orders of two trees, or a line for each line of a calls file.
 #![tactic(auto)]
 
-mod clients;
 mod cutting;
 mod judging;
-mod methods;
-mod objects;
 mod pieces;
 mod putting;
 mod running;
-mod values;
 
 pub use cutting::lines_within;
 pub use judging::judge_both;
-pub use objects::push_line;
 pub use pieces::{line_piece, trace_lines};
 pub use running::{run_lines, run_trees};

@@ -6,10 +6,10 @@ ghost use Rattle.call_runner.specs.Runs.{IsTyped, line_data};
 ghost use Rattle.run_answers.specs.Running.{piece};
 ghost use Rattle.run_answers.specs.Trace.{shown, trace_line, trace_text, way_text};
 
-use crate::objects::push_line;
 use aidl_base::OutOfMemory;
 use aidl_outside::{Carried, Way};
 use aidl_schema::Schema;
+use call_lines::push_line;
 use call_runner::LineRun;
 use std::alloc::Global;
 use std::fmt::Write;

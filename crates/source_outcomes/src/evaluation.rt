@@ -1,6 +1,7 @@
 use aidl_base::{Const, OutOfMemory};
 use aidl_syntax::{BodyTree, ConstantTree, DottedTree, ExprTree, FileTree, MemberTree, TypeTree};
-use const_values::{ConstFault, EvalFault, Meanings, Operand, Wanted, evaluated, fitted};
+use const_operands::{ConstFault, EvalFault, Operand};
+use const_values::{Meanings, Wanted, evaluated, fitted};
 use std::alloc::Global;
 
 // No name has a meaning.
@@ -8,7 +9,7 @@ struct NoNames;
 
 impl Meanings for NoNames {
     ghost use Rattle.std.specs.Prelude.{Err};
-    ghost use Rattle.const_values.specs.declared.fault.ConstFault.TheVariants.{UnknownName};
+    ghost use Rattle.const_operands.specs.declared.fault.ConstFault.TheVariants.{UnknownName};
 
     ghost meaning = { λ _ _. Err UnknownName };
 

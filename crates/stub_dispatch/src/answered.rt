@@ -4,7 +4,7 @@ ghost use Rattle.aidl_schema.specs.Find.{methods_at};
 ghost use Rattle.aidl_values.specs.View.{views};
 ghost use Rattle.stub_dispatch.specs.Answers.{Answers, AnswersCall};
 ghost use Rattle.stub_dispatch.specs.Handlers.{AnswersFit, MayBeCalled};
-ghost use Rattle.call_parcels.specs.Planned.{ArePlansOf};
+ghost use Rattle.call_pieces.specs.Planned.{ArePlansOf};
 ghost use Rattle.call_parcels.specs.Sent.{sent_reply, unread};
 ghost use Rattle.wire_model.specs.Receiver.{stub};
 ghost use Rattle.wire_model.specs.Typed.{AreArguments};

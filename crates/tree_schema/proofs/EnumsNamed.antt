@@ -23,14 +23,14 @@ use Rattle.aidl_names.specs.Declarations.{Entry, declarations}
 use Rattle.aidl_names.specs.Resolution.{resolved, or_else}
 use Rattle.aidl_names.specs.Names.{text as bytes_of}
 use Rattle.aidl_names.specs.Sources.{Source}
-use Rattle.const_values.specs.declared.fault.ConstFault.{ConstFault}
-use Rattle.const_values.specs.declared.fault.ConstFault.TheVariants as fault
+use Rattle.const_operands.specs.declared.fault.ConstFault.{ConstFault}
+use Rattle.const_operands.specs.declared.fault.ConstFault.TheVariants as fault
 use Rattle.const_values.specs.declared.wanted.Wanted.{Wanted}
 use Rattle.const_values.specs.declared.wanted.Wanted.TheVariants as wanted
-use Rattle.const_values.specs.declared.width.Width.{Width}
-use Rattle.const_values.specs.declared.width.Width.TheVariants.{Narrow, Wide}
+use Rattle.const_operands.specs.declared.width.Width.{Width}
+use Rattle.const_operands.specs.declared.width.Width.TheVariants.{Narrow, Wide}
 use Rattle.const_values.specs.Evaluation.{evaluated}
-use Rattle.const_values.specs.Operands.{Operand, truth, number, character, text}
+use Rattle.const_operands.specs.Operands.{Operand, truth, number, character, text}
 use Rattle.const_values.specs.Wanted.{fitted}
 use Rattle.const_eval.specs.declared.outcome.Outcome.{Outcome}
 use Rattle.const_eval.specs.declared.outcome.Outcome.TheVariants.{Given}
@@ -40,7 +40,7 @@ use Rattle.const_eval.specs.Outcomes.{HasOutcome, Values, operand_at, of_level, 
 use Rattle.const_eval.specs.Outcomes.HasOutcome.{unformed, unknown, cyclic, behind, judged}
 use Rattle.const_eval.proofs.Agree.{kept}
 use Rattle.const_eval.proofs.OneOutcome.{one_outcome}
-use Rattle.tree_schema.specs.Values.{Outcomes, enumerator_value, whole, or_zero, value_of, value_of_item}
+use Rattle.schema_parts.specs.Values.{Outcomes, enumerator_value, whole, or_zero, value_of, value_of_item}
 use Rattle.tree_schema.proofs.WalksLists.{there-mapped}
 use Rattle.tree_schema.proofs.ValuesSettled.{AreOutcomes}
 

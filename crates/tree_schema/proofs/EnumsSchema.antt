@@ -25,7 +25,7 @@ use Rattle.type_shapes.specs.Backing.{annots_of, backing_of, backing_by, backing
 use Rattle.const_items.specs.Items.{of_entry, of_body, of_enumerator, of_enumerators, place_of}
 use Rattle.tree_schema.specs.Parts.{enumerator_in, listed_constants, constants_in, put}
 use Rattle.tree_schema.specs.SchemaOf.{schema_of, kind_of, backing_in}
-use Rattle.tree_schema.specs.Values.{Outcomes, whole, or_zero, value_at}
+use Rattle.schema_parts.specs.Values.{Outcomes, whole, or_zero, value_at}
 use Rattle.tree_schema.proofs.WalksLists.{all-from_at}
 use Rattle.tree_schema.proofs.WalksPlaced.{Each}
 use Rattle.tree_schema.proofs.NamesNumbers.{sorted-there}

@@ -12,9 +12,9 @@ use Rattle.aidl_names.specs.Declarations.{Entry, declarations}
 use Rattle.aidl_names.specs.Limits.{passed, has_many_members, has_long_method}
 use Rattle.aidl_names.specs.Refusals.{entry_of}
 use Rattle.aidl_names.specs.Sources.{Source}
-use Rattle.tree_schema.specs.declared.tree.Placed.{Placed}
-use Rattle.tree_schema.specs.Numbers.{Numbered, order, put, sorted}
-use Rattle.tree_schema.specs.TreeViews.{numbered_of}
+use Rattle.schema_parts.specs.declared.tree.Placed.{Placed}
+use Rattle.schema_parts.specs.Numbers.{Numbered, order, put, sorted}
+use Rattle.schema_parts.specs.TreeViews.{numbered_of}
 
 few_declared : (entries : List Entry) → passed entries ≡ None → length entries ≤ 16384
 few_declared entries e =

@@ -8,8 +8,8 @@ use Rattle.aidl_names.specs.Sources.{Source}
 use Rattle.aidl_names.specs.declared.names.Found.{Found}
 use Rattle.aidl_names.specs.Refusals.{entry_of}
 use Rattle.aidl_schema.specs.declared.schema.Constant.{Constant}
-use Rattle.tree_schema.specs.Numbers.{Numbered, bytes_of, order, put}
-use Rattle.tree_schema.specs.Values.{Outcomes}
+use Rattle.schema_parts.specs.Numbers.{Numbered, bytes_of, order, put}
+use Rattle.schema_parts.specs.Values.{Outcomes}
 use Rattle.tree_schema.specs.Parts as parts
 use Rattle.tree_schema.proofs.WalksPlaced.{placed}
 

@@ -33,7 +33,6 @@ pub mod ValuesWalks
 pub mod ValuesPlaces
 pub mod ValuesChecked
 pub mod ValuesLaws
-mod Within
 mod Dotted
 mod Keyed
 mod InOrder

@@ -17,10 +17,10 @@ use Rattle.aidl_names.specs.Limits.{passed, has_many_members, has_long_method, i
 use Rattle.aidl_names.specs.Sources.{Source}
 use Rattle.const_values.specs.declared.wanted.Wanted.{Wanted}
 use Rattle.type_shapes.specs.Backing.{backing_of}
-use Rattle.tree_schema.specs.Numbers.{Numbered, sorted}
+use Rattle.schema_parts.specs.Numbers.{Numbered, sorted}
 use Rattle.tree_schema.specs.Parts.{methods_in, arg_in}
 use Rattle.tree_schema.specs.SchemaOf.{schema_of, declared, kind_of}
-use Rattle.tree_schema.specs.Values.{Outcomes}
+use Rattle.schema_parts.specs.Values.{Outcomes}
 use Rattle.tree_schema.proofs.WalksTotals.{total-length, total-enumerate}
 use Rattle.tree_schema.proofs.WalksOuters.{are_named}
 use Rattle.tree_schema.proofs.NamesNumbers.{sorted-total, sorted-there}

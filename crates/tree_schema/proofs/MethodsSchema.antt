@@ -34,11 +34,11 @@ use Rattle.type_uses.specs.TypeUses.{of_arg, of_members, type_uses}
 use Rattle.type_rules.specs.MethodRules.{is_oneway_body, gives_back, is_bad_id}
 use Rattle.type_rules.specs.TypeRules.{is_outward, is_misdirected}
 use Rattle.type_rules.specs.Unbroken.{AreUnbroken}
-use Rattle.tree_schema.specs.Numbers.{Numbered}
+use Rattle.schema_parts.specs.Numbers.{Numbered}
 use Rattle.tree_schema.specs.Parts.{way_of, arg_in, method_in, methods_in}
 use Rattle.tree_schema.specs.SchemaOf.{schema_of, declared, kind_of}
-use Rattle.tree_schema.specs.Types.{base_of, typed}
-use Rattle.tree_schema.specs.Values.{Outcomes}
+use Rattle.schema_parts.specs.Types.{base_of, typed}
+use Rattle.schema_parts.specs.Values.{Outcomes}
 use Rattle.tree_schema.proofs.WalksLists.{all-from_at, none-at}
 use Rattle.tree_schema.proofs.WalksOuters.{are_named}
 use Rattle.tree_schema.proofs.WalksPlaced.{Each}

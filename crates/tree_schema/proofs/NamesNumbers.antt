@@ -15,7 +15,7 @@ use Rattle.aidl_names.specs.Names.{text, same}
 use Rattle.aidl_names.specs.Resolution.{meaning_of_word}
 use Rattle.aidl_names.specs.Rules.{is_taken}
 use Rattle.aidl_names.specs.Sources.{Source}
-use Rattle.tree_schema.specs.Numbers.{Numbered, bytes_of, put, sorted, has_number, number_of}
+use Rattle.schema_parts.specs.Numbers.{Numbered, bytes_of, put, sorted, has_number, number_of}
 use Rattle.tree_schema.proofs.WalksTotals.{total, total-enumerate, total-length, is_that}
 use Rattle.tree_schema.proofs.WalksPlaced.{placed, all-total, all-ascending, all-exact, Each, each-at, all-each, placed-by}
 use Rattle.tree_schema.proofs.WalksAscii.{is_named, plain-dotted, dotted-injective}

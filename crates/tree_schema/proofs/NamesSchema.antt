@@ -20,9 +20,9 @@ use Rattle.aidl_names.specs.Sources.{Source}
 use Rattle.aidl_names.specs.declared.resolved.Resolved.{Resolved}
 use Rattle.const_values.specs.declared.wanted.Wanted.{Wanted}
 use Rattle.type_shapes.specs.Backing.{backing_of}
-use Rattle.tree_schema.specs.Numbers.{Numbered, sorted, number_of}
+use Rattle.schema_parts.specs.Numbers.{Numbered, sorted, number_of}
 use Rattle.tree_schema.specs.SchemaOf.{schema_of, declared, outer_of, kind_of}
-use Rattle.tree_schema.specs.Values.{Outcomes}
+use Rattle.schema_parts.specs.Values.{Outcomes}
 use Rattle.tree_schema.proofs.WalksAscii.{plain-dotted, plain-identifier}
 use Rattle.tree_schema.proofs.WalksOuters.{IsAround, are_named, walked, named-itself, may_hold}
 use Rattle.tree_schema.proofs.WalksBreaches.{no-type_word}

@@ -20,10 +20,10 @@ use Rattle.aidl_schema.specs.Containment.{is_composite}
 use Rattle.aidl_schema.specs.Types.{Form, form_of, form_of_kind, is_meant, is_nullable_form, is_scalar}
 use Rattle.aidl_schema.specs.Types as form
 use Rattle.aidl_schema.specs.Same.{decl_of}
-use Rattle.tree_schema.specs.Numbers.{number_of}
+use Rattle.schema_parts.specs.Numbers.{number_of}
 use Rattle.tree_schema.specs.SchemaOf.{schema_of, declared, kind_of}
-use Rattle.tree_schema.specs.Types.{base_of, base_of_number}
-use Rattle.tree_schema.specs.Values.{Outcomes}
+use Rattle.schema_parts.specs.Types.{base_of, base_of_number}
+use Rattle.schema_parts.specs.Values.{Outcomes}
 use Rattle.tree_schema.proofs.WalksOuters.{are_named}
 use Rattle.tree_schema.proofs.NamesNumbers.{number-there}
 use Rattle.tree_schema.proofs.NamesSchema.{number-stands}

@@ -35,11 +35,11 @@ use Rattle.type_rules.specs.AnnotationRules.{bad_annotations}
 use Rattle.type_rules.specs.MethodRules.{is_oneway_body}
 use Rattle.type_rules.specs.TypeRules.{bad_nullables}
 use Rattle.type_rules.specs.Unbroken.{AreUnbroken}
-use Rattle.tree_schema.specs.Numbers.{Numbered}
+use Rattle.schema_parts.specs.Numbers.{Numbered}
 use Rattle.tree_schema.specs.Parts.{field_in, arg_in, method_in}
 use Rattle.tree_schema.specs.SchemaOf.{schema_of, declared}
-use Rattle.tree_schema.specs.Types.{base_of, typed}
-use Rattle.tree_schema.specs.Values.{Outcomes}
+use Rattle.schema_parts.specs.Types.{base_of, typed}
+use Rattle.schema_parts.specs.Values.{Outcomes}
 use Rattle.tree_schema.proofs.WalksLists.{all-from_at}
 use Rattle.tree_schema.proofs.WalksOuters.{are_named}
 use Rattle.tree_schema.proofs.WalksPlaced.{Each}

@@ -9,7 +9,7 @@ use Rattle.aidl_names.specs.Sources.{Source}
 use Rattle.const_items.specs.Items.{of_entry}
 use Rattle.type_rules.specs.Unbroken.{AreUnbroken}
 use Rattle.tree_schema.specs.SchemaOf.{schema_of}
-use Rattle.tree_schema.specs.Values.{Outcomes}
+use Rattle.schema_parts.specs.Values.{Outcomes}
 use Rattle.tree_schema.proofs.WalksOuters.{are_named}
 use Rattle.tree_schema.proofs.WalksPlaced.{Each}
 use Rattle.tree_schema.proofs.TypesSchema.{types-hold}

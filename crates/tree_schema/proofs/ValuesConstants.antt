@@ -27,11 +27,11 @@ use Rattle.type_shapes.specs.Types.{wanted_of_builtin, wanted_one}
 use Rattle.type_rules.specs.FieldRules.{is_constant_type}
 use Rattle.type_rules.specs.MethodRules.{is_oneway_body}
 use Rattle.type_rules.specs.Unbroken.{AreUnbroken}
-use Rattle.tree_schema.specs.Numbers.{Numbered}
+use Rattle.schema_parts.specs.Numbers.{Numbered}
 use Rattle.tree_schema.specs.Parts.{listed_constants, bytes_of}
 use Rattle.tree_schema.specs.SchemaOf.{schema_of, declared}
-use Rattle.tree_schema.specs.Types.{base_of_builtin, typed}
-use Rattle.tree_schema.specs.Values.{Outcomes, or_zero, value_at}
+use Rattle.schema_parts.specs.Types.{base_of_builtin, typed}
+use Rattle.schema_parts.specs.Values.{Outcomes, or_zero, value_at}
 use Rattle.tree_schema.proofs.WalksLists.{all-from_at}
 use Rattle.tree_schema.proofs.WalksPlaced.{Each, all-all}
 use Rattle.tree_schema.proofs.MembersWeights.{constants-are}

@@ -5,10 +5,10 @@ use Rattle.aidl_base.specs.Results.{◌>>=◌}
 use Rattle.aidl_base.specs.declared.constant.Const.{Const, out-Const}
 use Rattle.aidl_syntax.specs.declared.tree.DottedTree.{DottedTree}
 use Rattle.aidl_names.specs.Sources.{Source}
-use Rattle.const_values.specs.declared.fault.ConstFault.{ConstFault}
-use Rattle.const_values.specs.declared.width.Width.TheVariants.{Narrow, Wide}
+use Rattle.const_operands.specs.declared.fault.ConstFault.{ConstFault}
+use Rattle.const_operands.specs.declared.width.Width.TheVariants.{Narrow, Wide}
 use Rattle.const_values.specs.Evaluation.{evaluated}
-use Rattle.const_values.specs.Operands.{Operand, number}
+use Rattle.const_operands.specs.Operands.{Operand, number}
 use Rattle.const_values.specs.Wanted.{fitted}
 use Rattle.const_eval.specs.declared.outcome.Outcome.{Outcome}
 use Rattle.const_eval.specs.declared.outcome.Outcome.TheVariants.{Given}

@@ -40,11 +40,11 @@ use Rattle.type_uses.specs.TypeUses as uses
 use Rattle.type_uses.specs.TypeUses.{TypeUse, of_arg, is_field, type_uses}
 use Rattle.type_rules.specs.FieldRules.{empty_union, bad_fields, is_union_body}
 use Rattle.type_rules.specs.Unbroken.{AreUnbroken}
-use Rattle.tree_schema.specs.Numbers.{Numbered}
+use Rattle.schema_parts.specs.Numbers.{Numbered}
 use Rattle.tree_schema.specs.Parts.{fields_in, enumerator_in}
 use Rattle.tree_schema.specs.SchemaOf.{schema_of, declared, kind_of}
-use Rattle.tree_schema.specs.Types.{base_of, base_of_number, typed}
-use Rattle.tree_schema.specs.Values.{Outcomes, or_zero, value_at, value_of, value_of_item, constant_value, initial_of, initial_value, enumerator_value}
+use Rattle.schema_parts.specs.Types.{base_of, base_of_number, typed}
+use Rattle.schema_parts.specs.Values.{Outcomes, or_zero, value_at, value_of, value_of_item, constant_value, initial_of, initial_value, enumerator_value}
 use Rattle.tree_schema.proofs.WalksLists.{all-from_at}
 use Rattle.tree_schema.proofs.WalksOuters.{are_named}
 use Rattle.tree_schema.proofs.WalksPlaced.{Each}

@@ -19,8 +19,8 @@ use Rattle.aidl_schema.specs.declared.schema.Direction.TheVariants as direction
 use Rattle.aidl_schema.specs.declared.schema.Enumerator.{Enumerator}
 use Rattle.aidl_schema.specs.declared.schema.Field.{Field}
 use Rattle.aidl_schema.specs.declared.schema.Method.{Method}
-use Rattle.tree_schema.specs.Types.{type_of}
-use Rattle.tree_schema.specs.Values.{Outcomes, initial_of, constant_value, enumerator_value}
+use Rattle.schema_parts.specs.Types.{type_of}
+use Rattle.schema_parts.specs.Values.{Outcomes, initial_of, constant_value, enumerator_value}
 use Rattle.type_uses.specs.Ids.{id_of}
 
 -- a field, which may be one after the first of a union

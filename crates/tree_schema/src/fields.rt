@@ -2,15 +2,12 @@ ghost use Rattle.std.specs.Prelude.{◌≡◌, ◌++◌, false, IfOk};
 ghost use Rattle.aidl_syntax.specs.Members.{listed};
 ghost use Rattle.aidl_syntax.specs.Trees.{Members, field_of, member_of, members_of};
 ghost use Rattle.tree_schema.specs.Parts as meant;
-ghost use Rattle.tree_schema.specs.TreeViews.{HasItems, HasNumbers, HasScope, files_of, outcomes_of};
+ghost use Rattle.schema_parts.specs.TreeViews.{HasItems, HasNumbers, HasScope, files_of, outcomes_of};
 
-use crate::copied::copied_ident;
-use crate::tree::Tree;
-use crate::types::type_of;
-use crate::values::initial_of;
 use aidl_base::{OutOfMemory, Row};
 use aidl_schema::Field;
 use aidl_syntax::{FieldTree, MemberTree};
+use schema_parts::{Tree, copied_ident, initial_of, type_of};
 use std::alloc::Global;
 
 /// The fields among the members of a parcelable or a union, with their initializers.

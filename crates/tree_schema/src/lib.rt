@@ -2,9 +2,7 @@
 #![tactic(auto)]
 
 mod backing;
-mod bases;
 mod constants;
-mod copied;
 mod drafting;
 mod fields;
 mod kinds;
@@ -13,11 +11,7 @@ mod methods;
 mod numbers;
 mod order;
 mod texts;
-mod tree;
-mod types;
-mod values;
 
 pub use drafting::draft;
 pub use laws::{law_named, law_valid};
 pub use order::sorted;
-pub use tree::Placed;

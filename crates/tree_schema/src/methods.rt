@@ -2,15 +2,13 @@ ghost use Rattle.std.specs.Prelude.{◌≡◌, ◌<◌, ◌+◌, ◌++◌, map, 
 ghost use Rattle.aidl_syntax.specs.Members.{listed};
 ghost use Rattle.aidl_syntax.specs.Trees.{Members, annot_of, arg_of, map_option, member_of, members_of, method_of};
 ghost use Rattle.tree_schema.specs.Parts as meant;
-ghost use Rattle.tree_schema.specs.TreeViews.{HasNumbers, HasScope, files_of};
-ghost use Rattle.tree_schema.specs.Types as types;
+ghost use Rattle.schema_parts.specs.TreeViews.{HasNumbers, HasScope, files_of};
+ghost use Rattle.schema_parts.specs.Types as types;
 
-use crate::copied::copied_ident;
-use crate::tree::Tree;
-use crate::types::type_of;
 use aidl_base::{OutOfMemory, Row};
 use aidl_schema::{AidlType, Arg, Direction, Method};
 use aidl_syntax::{AnnotTree, ArgTree, MemberTree, MethodTree, TypeTree, WayTree};
+use schema_parts::{Tree, copied_ident, type_of};
 use std::alloc::Global;
 use type_uses::id_of;
 

@@ -16,7 +16,7 @@ use Rattle.tree_files.proofs.OfBytes.{of-bytes}
 use Rattle.tree_schema.specs.Checked.{IsChecked}
 use Rattle.tree_schema.specs.Named.{HasIdentifiers}
 use Rattle.tree_schema.specs.SchemaOf.{schema_of}
-use Rattle.tree_schema.specs.Values.{Outcomes}
+use Rattle.schema_parts.specs.Values.{Outcomes}
 use Rattle.tree_schema.proofs.EnumsFilled.{files-filled}
 use Rattle.tree_schema.proofs.Faultless.{faultless, filled-files}
 use Rattle.tree_schema.proofs.LimitsSchema.{limits-hold}

@@ -11,7 +11,7 @@ use Rattle.aidl_schema.specs.declared.schema.Decl.{Decl}
 use Rattle.schema_bounds.specs.declared.bound.Bound.{Bound}
 use Rattle.schema_bounds.specs.declared.bound.Bound.TheVariants.{Within, HoldsItself as Holding, TooLarge}
 use Rattle.schema_bounds.specs.Bounds.{bound}
-use Rattle.tree_schema.specs.Numbers.{Numbered, sorted}
+use Rattle.schema_parts.specs.Numbers.{Numbered, sorted}
 use Rattle.type_check.specs.Bounds.{rule_of, bound_at, broken_at, broken, HoldsItself, DefaultTooLarge}
 
 pub both-empty : {A : Type 0} (xs ys : List A) → xs ++ ys ≡ [] → (xs ≡ []) × (ys ≡ [])

@@ -10,7 +10,7 @@ use Rattle.aidl_schema.specs.declared.schema.Decl.{Decl}
 use Rattle.schema_bounds.specs.declared.bound.Bound.{Bound}
 use Rattle.schema_bounds.specs.declared.bound.Bound.TheVariants.{Within, HoldsItself as Holding, TooLarge}
 use Rattle.schema_bounds.specs.Bounds.{bound}
-use Rattle.tree_schema.specs.Numbers.{Numbered, sorted}
+use Rattle.schema_parts.specs.Numbers.{Numbered, sorted}
 
 -- the number of the rule that a declaration with a bound breaks, and 0 where it breaks none
 abbrev pub rule_of : Bound → ℕ

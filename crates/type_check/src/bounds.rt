@@ -1,13 +1,13 @@
 ghost use Rattle.std.specs.Prelude.{◌≡◌, ◌≤◌, ◌++◌, map, length, OnOk};
 ghost use Rattle.aidl_names.specs.Rules.{in_each};
-ghost use Rattle.tree_schema.specs.TreeViews.{numbered_of};
+ghost use Rattle.schema_parts.specs.TreeViews.{numbered_of};
 ghost use Rattle.type_check.specs.Bounds as meant;
 ghost use Rattle.type_check.specs.Bounds.{bound_at};
 
 use aidl_base::{Breach, OutOfMemory};
 use aidl_names::add_if;
 use schema_bounds::Bound;
-use tree_schema::Placed;
+use schema_parts::Placed;
 
 /// Adds the breaches of E22 or E23 in declarations, by the bounds of the schema that has them in the same order.
 pub fn add_broken(

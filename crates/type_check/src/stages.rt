@@ -1,6 +1,6 @@
 ghost use Rattle.std.specs.Prelude.{◌≡◌, ◌≤◌, length, map, IfOk};
 ghost use Rattle.aidl_names.specs.Sources.{source_of};
-ghost use Rattle.tree_schema.specs.Numbers.{sorted};
+ghost use Rattle.schema_parts.specs.Numbers.{sorted};
 ghost use Rattle.aidl_names.specs.Declarations.{declarations};
 ghost use Rattle.type_check.specs.Stages as meant;
 

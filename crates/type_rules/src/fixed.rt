@@ -13,8 +13,8 @@ ghost use Rattle.type_uses.specs.TypeUseViews.{seen_use};
 use aidl_base::{Breach, OutOfMemory};
 use aidl_names::{Found, Resolved, add_if};
 use aidl_syntax::DeclTree;
-use type_shapes::{Shape, is_composite};
 use std::alloc::Global;
+use type_shapes::{Shape, is_composite};
 use type_uses::{TypeUseRef, is_fixed, is_nullable, is_refused, is_scalar, name_place};
 
 /// Which declarations have `@FixedSize`, so that no list of annotations is read for each field of its type.

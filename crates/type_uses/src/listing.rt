@@ -11,8 +11,8 @@ use crate::type_use::TypeUseRef;
 use aidl_base::OutOfMemory;
 use aidl_names::Names;
 use aidl_syntax::{ArgTree, BodyTree, MemberTree, MethodTree, TypeTree};
-use type_shapes::{Shape, shaped};
 use std::alloc::Global;
+use type_shapes::{Shape, shaped};
 
 /// The types that a declaration uses, by its file, its number and its body, in the order of the file.
 pub fn listed_uses<'a>(

@@ -4,8 +4,8 @@ use crate::case::word_of;
 use crate::plain::{plain, text_of};
 use crate::tried::Tried;
 use aidl_base::{OutOfMemory, Row, SourceFile, Text};
-use aidl_outside::{MemSink, MemStore};
 use aidl_tool::aidl;
+use memory_outside::{MemSink, MemStore};
 use std::alloc::Global;
 
 /// A run of the program: its words, the files of its store, its link, the outside calls that fail, and what is to come

@@ -1,10 +1,8 @@
 //! The objects in memory with ample memory: each call once, and the calls that fail by their numbers.
 
 use aidl_base::{OutOfMemory, Row};
-use aidl_outside::{
-    CarryFault, Edit, EditKind, Link, MemSink, MemStore, PassLink, RecordLink, Sink, SinkFault,
-    Store, StoreFault, TamperLink, Way,
-};
+use aidl_outside::{CarryFault, Link, Sink, SinkFault, Store, StoreFault, Way};
+use memory_outside::{Edit, EditKind, MemSink, MemStore, PassLink, RecordLink, TamperLink};
 use std::alloc::Global;
 use std::test::Fail;
 

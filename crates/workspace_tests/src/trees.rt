@@ -1,7 +1,8 @@
 //! The call that reads a tree, over a store in memory with ample memory.
 
 use aidl_base::Row;
-use aidl_outside::{MemStore, Store, StoreFault};
+use aidl_outside::{Store, StoreFault};
+use memory_outside::MemStore;
 use std::alloc::Global;
 use std::test::Fail;
 use tool_frame::load_tree;

@@ -1,7 +1,7 @@
 use Rattle.std.proofs.Common.{codes}
-use Rattle.api_dump.proofs.Texts.{added3}
+use Rattle.dump_values.proofs.Texts.{added3}
 use Rattle.api_dump.specs.Declarations.{backing_mark}
-use Rattle.api_dump.specs.Types.{flag}
+use Rattle.dump_values.specs.Types.{flag}
 use Rattle.api_dump.proofs.declarations.push_annotations.Goals as goal
 
 pub returns : goal.returns

@@ -1,9 +1,10 @@
 use Rattle.std.proofs.Common.{arith, [], ◌∷◌, ◌++◌, string_bytes, ◌∙◌, ap, sym}
 use Rattle.aidl_base.specs.declared.reserved.Reserved.TheVariants as word
 use Rattle.aidl_syntax.specs.declared.token.Symbol.TheVariants as mark
-use Rattle.api_dump.specs.Pieces.{sign, reserved, dotted, spelling, text_of}
-use Rattle.api_dump.specs.Pieces.Piece.{space, newline}
-use Rattle.api_dump.proofs.Texts.{added3, package_some}
+use Rattle.dump_values.specs.Pieces.{sign, reserved, dotted, spelling, text_of}
+use Rattle.dump_values.specs.Pieces.Piece.{space, newline}
+use Rattle.dump_values.proofs.Texts.{added3}
+use Rattle.api_dump.proofs.Packages.{package_some}
 use Rattle.api_dump.proofs.dumping.push_package_line.Goals as goal
 
 pub returns-in_ok-push_str-in-len1-up-2 : goal.returns-in_ok-push_str-in-len1-up-2

@@ -1,7 +1,7 @@
 use Rattle.std.proofs.Common.{◌≡◌, ◌-◌}
 use Rattle.aidl_values.specs.View.{view, views}
 use Rattle.wire_model.specs.Receiver.{repeated}
-use Rattle.call_parcels.specs.steps.Fronts.{joined}
+use Rattle.call_pieces.specs.steps.Fronts.{joined}
 use Rattle.call_parcels.proofs.openings.repeated.Given as goal
 
 -- the copies made, with those that are still to be made, are all

@@ -2,7 +2,7 @@ use Rattle.std.proofs.Common.{◌≡◌, ◌++◌, false, drop}
 use Rattle.aidl_syntax.specs.Trees.{members_of}
 use Rattle.aidl_syntax.specs.Members.{listed}
 use Rattle.tree_schema.specs.Parts.{fields_in}
-use Rattle.tree_schema.specs.TreeViews.{files_of, outcomes_of}
+use Rattle.schema_parts.specs.TreeViews.{files_of, outcomes_of}
 use Rattle.tree_schema.proofs.fields.fields_in.Given as goal
 
 -- the fields so far and those that are left are all

@@ -1,7 +1,7 @@
 use Rattle.std.proofs.Common.{◌≡◌, ◌++◌, map, drop}
 use Rattle.aidl_syntax.specs.Trees.{arg_of}
 use Rattle.tree_schema.specs.Parts.{arg_in}
-use Rattle.tree_schema.specs.TreeViews.{files_of}
+use Rattle.schema_parts.specs.TreeViews.{files_of}
 use Rattle.tree_schema.proofs.methods.args_in.Given as goal
 
 -- the arguments so far and those that are left are all

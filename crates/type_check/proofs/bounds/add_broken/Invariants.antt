@@ -1,6 +1,6 @@
 use Rattle.std.proofs.Common.{◌≡◌, ◌++◌, map, drop}
 use Rattle.aidl_names.specs.Rules.{in_each}
-use Rattle.tree_schema.specs.TreeViews.{numbered_of}
+use Rattle.schema_parts.specs.TreeViews.{numbered_of}
 use Rattle.type_check.specs.Bounds.{bound_at, broken_at}
 use Rattle.type_check.proofs.bounds.add_broken.Given as goal
 

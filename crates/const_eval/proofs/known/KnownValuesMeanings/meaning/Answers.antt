@@ -1,6 +1,6 @@
 use Rattle.std.proofs.Common.{map, get_or, ap, ◌∙◌}
 use Rattle.aidl_names.specs.Sources.{source_of}
-use Rattle.const_values.specs.Seen.{answer}
+use Rattle.const_operands.specs.Seen.{answer}
 use Rattle.const_eval.specs.Known.{known_meaning}
 use Rattle.const_items.specs.TargetViews.{seen_targets}
 use Rattle.const_eval.proofs.Meant.{name_means}

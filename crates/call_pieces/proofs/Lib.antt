@@ -1,0 +1,3 @@
+mod Names
+mod Planned
+pub mod Parts

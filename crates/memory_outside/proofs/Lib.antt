@@ -1,0 +1,7 @@
+mod Below
+mod Edited
+mod Halves
+mod Kept
+mod Numbers
+mod Places
+mod Sorted

@@ -1,0 +1,95 @@
+ghost use Rattle.std.specs.Prelude.{◌≡◌, ◌≤◌, ◌++◌, ◌∷◌, [], Some, true, IfOk, IsOk, OnErr, OnOk};
+ghost use Rattle.aidl_outside.specs.Carries.{Carries, entry};
+ghost use Rattle.aidl_outside.specs.Causes.{CarryCause};
+ghost use Rattle.memory_outside.specs.Failing.{uncounted, counted, fails_next, carry_failed};
+ghost use Rattle.memory_outside.specs.Mem.{recorded, record_failures};
+ghost use Rattle.memory_outside.specs.declared.failures.Failing.TheVariants.{Numbers};
+
+use crate::carry_log::record;
+use crate::failures::{Failing, Failures};
+use aidl_base::{OutOfMemory, Row};
+use aidl_outside::{Carried, CarryFault, Link, Way};
+use std::alloc::Global;
+
+/// A faithful link in memory, which tells its log.
+#[derive(Drop)]
+pub struct RecordLink {
+    log: Vec<Carried>,
+    failures: Failures,
+}
+
+impl RecordLink {
+    /// The link with an empty log, whose calls with the 0-based numbers in `failing` fail. With none its count never
+    /// rises. It takes no memory.
+    pub fn new(alloc: Global, failing: Row<u64>) -> Result<RecordLink, OutOfMemory>
+        ensures made { IsOk result }
+        ensures log { IfOk result (λ link. recorded link ≡ []) }
+        ensures failures { IfOk result (λ link. record_failures link ≡ uncounted (Numbers failing)) }
+    {
+        Ok(RecordLink {
+            log: Vec::new(alloc),
+            failures: Failures::new(Failing::Numbers(failing)),
+        })
+    }
+
+    /// The parcels so far, in order. It takes no memory.
+    pub fn log(&self) -> &[Carried]
+        ensures { result.now ≡ recorded self.now }
+    {
+        self.log.as_slice()
+    }
+}
+
+impl Link for RecordLink {
+    ghost log = { λ link. Some (recorded link) };
+
+    ghost is_faithful = { λ _. true };
+
+    ghost count = { λ link. (record_failures link).faults };
+
+    fn carry(
+        &mut self,
+        alloc: Global,
+        way: Way,
+        code: u32,
+        bytes: &[u8],
+    ) -> Result<Vec<u8>, CarryFault>
+        ensures carried { Carries (Some (recorded self.old)) (Some (recorded self.new)) way code bytes.now result }
+        ensures faithful { IfOk result (λ delivered. delivered.items ≡ bytes.now) }
+        ensures cause { CarryCause (record_failures self.old).faults (record_failures self.new).faults result }
+        ensures never_falls { (record_failures self.old).faults ≤ (record_failures self.new).faults }
+        ensures failed { carry_failed result ≡ fails_next (record_failures self.old) }
+        ensures counts { record_failures self.new ≡ counted (record_failures self.old) }
+    {
+        if self.failures.fails_now() {
+            return Err(CarryFault::Failed);
+        }
+        match self.deliver(alloc, way, code, bytes) {
+            Ok(delivered) => Ok(delivered),
+            Err(_) => Err(CarryFault::OutOfMemory),
+        }
+    }
+
+    fn faults(&self) -> u64 {
+        self.failures.faults
+    }
+}
+
+impl RecordLink {
+    // Records the bytes as they are sent.
+    fn deliver(
+        &mut self,
+        alloc: Global,
+        way: Way,
+        code: u32,
+        bytes: &[u8],
+    ) -> Result<Vec<u8>, OutOfMemory>
+        ensures ok { OnOk result (recorded self.new ≡ recorded self.old ++ entry way code bytes.now bytes.now ∷ []) }
+        ensures err { OnErr result (recorded self.new ≡ recorded self.old) }
+        ensures delivered { IfOk result (λ delivered. delivered.items ≡ bytes.now) }
+        ensures failures { record_failures self.new ≡ record_failures self.old }
+    {
+        let delivered = Vec::from_slice(alloc, bytes)?;
+        record(alloc, &mut self.log, way, code, bytes, delivered)
+    }
+}

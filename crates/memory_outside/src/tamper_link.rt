@@ -1,0 +1,109 @@
+ghost use Rattle.std.specs.Prelude.{◌≡◌, ◌≤◌, ◌++◌, ◌∷◌, [], Some, false, IfOk, IsOk, OnErr, OnOk};
+ghost use Rattle.aidl_outside.specs.Carries.{Carries, entry};
+ghost use Rattle.aidl_outside.specs.Causes.{CarryCause};
+ghost use Rattle.memory_outside.specs.Edits.{delivered};
+ghost use Rattle.memory_outside.specs.Failing.{uncounted, counted, fails_next, carry_failed};
+ghost use Rattle.memory_outside.specs.Mem.{tampered, tamper_edits, tamper_failures};
+ghost use Rattle.memory_outside.specs.declared.failures.Failing.TheVariants.{Numbers};
+
+use crate::carry_log::record;
+use crate::edits::{Edit, edit_all};
+use crate::failures::{Failing, Failures};
+use aidl_base::{OutOfMemory, Row};
+use aidl_outside::{Carried, CarryFault, Link, Way};
+use std::alloc::Global;
+
+/// A link in memory that edits what it carries and tells its log. It isn't faithful.
+#[derive(Drop)]
+pub struct TamperLink {
+    log: Vec<Carried>,
+    edits: Row<Edit>,
+    failures: Failures,
+}
+
+impl TamperLink {
+    /// The link with an empty log, which applies the edits of each carry in their order, and whose calls with the
+    /// 0-based numbers in `failing` fail. A carry has the number of its call. It takes no memory.
+    pub fn new(
+        alloc: Global,
+        edits: Row<Edit>,
+        failing: Row<u64>,
+    ) -> Result<TamperLink, OutOfMemory>
+        ensures made { IsOk result }
+        ensures log { IfOk result (λ link. tampered link ≡ []) }
+        ensures edits { IfOk result (λ link. tamper_edits link ≡ edits) }
+        ensures failures { IfOk result (λ link. tamper_failures link ≡ uncounted (Numbers failing)) }
+    {
+        Ok(TamperLink {
+            log: Vec::new(alloc),
+            edits,
+            failures: Failures::new(Failing::Numbers(failing)),
+        })
+    }
+
+    /// The parcels so far, in order. It takes no memory.
+    pub fn log(&self) -> &[Carried]
+        ensures { result.now ≡ tampered self.now }
+    {
+        self.log.as_slice()
+    }
+}
+
+impl Link for TamperLink {
+    ghost log = { λ link. Some (tampered link) };
+
+    ghost is_faithful = { λ _. false };
+
+    ghost count = { λ link. (tamper_failures link).faults };
+
+    fn carry(
+        &mut self,
+        alloc: Global,
+        way: Way,
+        code: u32,
+        bytes: &[u8],
+    ) -> Result<Vec<u8>, CarryFault>
+        ensures carried { Carries (Some (tampered self.old)) (Some (tampered self.new)) way code bytes.now result }
+        ensures edited { IfOk result (λ bytes'. bytes'.items ≡ delivered (tamper_edits self.old) (tamper_failures self.old).calls bytes.now) }
+        ensures edits { tamper_edits self.new ≡ tamper_edits self.old }
+        ensures cause { CarryCause (tamper_failures self.old).faults (tamper_failures self.new).faults result }
+        ensures never_falls { (tamper_failures self.old).faults ≤ (tamper_failures self.new).faults }
+        ensures failed { carry_failed result ≡ fails_next (tamper_failures self.old) }
+        ensures counts { tamper_failures self.new ≡ counted (tamper_failures self.old) }
+    {
+        let carry = self.failures.calls;
+        if self.failures.fails_now() {
+            return Err(CarryFault::Failed);
+        }
+        match self.deliver(alloc, carry, way, code, bytes) {
+            Ok(delivered) => Ok(delivered),
+            Err(_) => Err(CarryFault::OutOfMemory),
+        }
+    }
+
+    fn faults(&self) -> u64 {
+        self.failures.faults
+    }
+}
+
+impl TamperLink {
+    // Records the bytes as they are sent, and as the edits of the carry leave them.
+    fn deliver(
+        &mut self,
+        alloc: Global,
+        carry: u64,
+        way: Way,
+        code: u32,
+        bytes: &[u8],
+    ) -> Result<Vec<u8>, OutOfMemory>
+        ensures ok { OnOk result (tampered self.new ≡ tampered self.old ++ entry way code bytes.now (delivered (tamper_edits self.old) carry bytes.now) ∷ []) }
+        ensures err { OnErr result (tampered self.new ≡ tampered self.old) }
+        ensures delivered { IfOk result (λ edited. edited.items ≡ delivered (tamper_edits self.old) carry bytes.now) }
+        ensures edits { tamper_edits self.new ≡ tamper_edits self.old }
+        ensures failures { tamper_failures self.new ≡ tamper_failures self.old }
+    {
+        let mut delivered = Vec::from_slice(alloc, bytes)?;
+        edit_all(self.edits.as_slice(), carry, &mut delivered)?;
+        record(alloc, &mut self.log, way, code, bytes, delivered)
+    }
+}

@@ -1,0 +1,4 @@
+pub mod Numbers
+pub mod Types
+pub mod Values
+pub mod TreeViews
