@@ -21,17 +21,17 @@ truth_for _ b = Err Mismatch
 abbrev pub in_range : Range → ℤ → Result Const ConstFault
 in_range r z = if is_in r z then Ok (value.Number z) else Err DoesNotFit
 
--- the enum of this number is the one that is named
-abbrev pub is_named : ℕ → Option ℕ → Bool
-is_named enum None = false
-is_named enum (Some named) = named == enum
+-- the named enumerator is one of this enum
+abbrev pub is_of_enum : ℕ → Option ℕ → Bool
+is_of_enum enum None = false
+is_of_enum enum (Some named) = named == enum
 
 -- byte, int and long take a number inside their range, an enum the number of an enumerator of its own that is named
 abbrev pub number_for : Wanted → Option ℕ → ℤ → Result Const ConstFault
 number_for wanted.Byte named z = in_range range.Byte z
 number_for wanted.Int named z = in_range range.Int z
 number_for wanted.Long named z = in_range range.Long z
-number_for (wanted.Enum enum) named z = if is_named enum named then Ok (value.Number z) else Err Mismatch
+number_for (wanted.Enum enum) named z = if is_of_enum enum named then Ok (value.Number z) else Err Mismatch
 number_for _ named z = Err Mismatch
 
 -- char takes a character, which is the number of its code

@@ -24,7 +24,7 @@ use Rattle.tree_schema.specs.SchemaOf.{schema_of, declared, kind_of}
 use Rattle.schema_parts.specs.Values.{Outcomes}
 use Rattle.tree_schema.proofs.WalksTotals.{total, total-map, misses, misses-none, all-by_misses, is_that, distinct-by_counts}
 use Rattle.tree_schema.proofs.WalksPlaced.{placed, all-all, all-ascending}
-use Rattle.tree_schema.proofs.WalksAscii.{is_named, plain-identifier}
+use Rattle.tree_schema.proofs.WalksAscii.{is_identifier_part, plain-identifier}
 use Rattle.tree_schema.proofs.WalksOuters.{are_named, walked}
 use Rattle.tree_schema.proofs.WalksBreaches.{name_text, members-once, arguments-once}
 use Rattle.tree_schema.proofs.NamesNumbers.{sorted-there}
@@ -81,7 +81,7 @@ constants_named files outcomes file scope (enumerator e ∷ ms) h = constants_na
 constants_named files outcomes file scope (nested d ∷ ms) h = constants_named files outcomes file scope ms (both (is_member_named (nested d)) _ h).1
 constants_named files outcomes file scope (constant c ∷ ms) h =
     let two = both (is_member_named (constant c)) (list_all is_member_named ms) h in
-    rw ((both (is_named c.name.name) true two.0).0, constants_named files outcomes file scope ms two.1) refl
+    rw ((both (is_identifier_part c.name.name) true two.0).0, constants_named files outcomes file scope ms two.1) refl
 
 constants_ascend : (files : List Source) (outcomes : Outcomes) (file scope : ℕ) (ms : List Member) → list_all is_member_named ms ≡ true
     → are_ascending (map (λ c. c.name.0) (constants_in files outcomes file scope ms)) ≡ true
@@ -110,7 +110,7 @@ module _ (files : List Source) (outcomes : Outcomes) (named : are_named files �
   identifiers : are_identifiers (member_names (schema_of files outcomes) n (declared files outcomes x)) ≡ true
   identifiers =
       let each = all-from_at (λ (m : Member). is_identifier (member_name m).name.0) (members (body x.1.tree)) (λ k m is.
-      (both (is_named (member_name m).name) (has_argument_names m) (all_at is_member_named (members (body x.1.tree)) k m all_named is)).0) in
+      (both (is_identifier_part (member_name m).name) (has_argument_names m) (all_at is_member_named (members (body x.1.tree)) k m all_named is)).0) in
       let none = misses-none (λ (m : Member). is_identifier (member_name m).name.0) (members (body x.1.tree)) each in
       let le = member_names-weigh (misses is_identifier) files outcomes named n x at in
       all-by_misses is_identifier (member_names (schema_of files outcomes) n (declared files outcomes x)) (omega arith)
@@ -126,7 +126,7 @@ module _ (files : List Source) (outcomes : Outcomes) (named : are_named files �
       let back = total-map (λ a. is_that t (name_text a)) (λ (a : Arg). a.name) m.args in
       let front = total-map (is_that t) argument_text m.args in
       omega arith) in
-      let all : list_all is_identifier (map argument_text m.args) ≡ true = list_all-map is_identifier argument_text m.args ∙ (both (is_named m.name.name) (list_all (λ a. is_identifier (argument_text a)) m.args) names).1 in
+      let all : list_all is_identifier (map argument_text m.args) ≡ true = list_all-map is_identifier argument_text m.args ∙ (both (is_identifier_part m.name.name) (list_all (λ a. is_identifier (argument_text a)) m.args) names).1 in
       rw (apart, all) refl
 
   inside_hold : list_all has_names_inside (members (body x.1.tree)) ≡ true

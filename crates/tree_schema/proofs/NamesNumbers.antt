@@ -18,7 +18,7 @@ use Rattle.aidl_names.specs.Sources.{Source}
 use Rattle.schema_parts.specs.Numbers.{Numbered, bytes_of, put, sorted, has_number, number_of}
 use Rattle.tree_schema.proofs.WalksTotals.{total, total-enumerate, total-length, is_that}
 use Rattle.tree_schema.proofs.WalksPlaced.{placed, all-total, all-ascending, all-exact, Each, each-at, all-each, placed-by}
-use Rattle.tree_schema.proofs.WalksAscii.{is_named, plain-dotted, dotted-injective}
+use Rattle.tree_schema.proofs.WalksAscii.{is_identifier_part, plain-dotted, dotted-injective}
 use Rattle.tree_schema.proofs.WalksOuters.{are_named, walked}
 use Rattle.tree_schema.proofs.WalksBreaches.{any-shown, each-once, no-taken}
 use Rattle.tree_schema.proofs.WalksLists.{first-passes, first-found, only-found, all-from_at, one-place}
@@ -110,7 +110,7 @@ same_itself (i ∷ is) = rw (same_text_refl (text i), same_itself is) refl
 
 -- the declaration's name has identifiers alone
 abbrev pub is_well_named : Entry → Bool
-is_well_named e = list_all is_named e.name
+is_well_named e = list_all is_identifier_part e.name
 
 same_bytes_same : (d e : Entry) → is_well_named d ≡ true → is_well_named e ≡ true → same_text (bytes_of e) (bytes_of d) ≡ true → same d.name e.name ≡ true
 same_bytes_same d e f g s =

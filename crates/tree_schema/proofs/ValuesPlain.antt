@@ -36,7 +36,7 @@ use Rattle.const_operands.specs.Operands.{Operand, truth, number, character, tex
 use Rattle.const_values.specs.Shifts.{shifted}
 use Rattle.const_operands.specs.Symbols.{unary_operator, binary_operator}
 use Rattle.const_values.specs.Unary as one
-use Rattle.const_values.specs.Wanted.{fitted, in_range, is_named}
+use Rattle.const_values.specs.Wanted.{fitted, in_range, is_of_enum}
 use Rattle.const_items.specs.Dependence.{names_of}
 use Rattle.const_eval.specs.Outcomes.{of_level, of_number, of_code}
 
@@ -223,7 +223,7 @@ fitted-fits wanted.Int enum (number width z) h = ranged wanted.Int range.Int z (
 fitted-fits wanted.Long enum (number width z) h = ranged wanted.Long range.Long z (λ e. e)
 fitted-fits wanted.Character enum (number width z) h = fit_fails wanted.Character fault.Mismatch
 fitted-fits wanted.Text enum (number width z) h = fit_fails wanted.Text fault.Mismatch
-fitted-fits (wanted.Enum k) enum (number width z) h = named_fits k (is_named k enum) z
+fitted-fits (wanted.Enum k) enum (number width z) h = named_fits k (is_of_enum k enum) z
 fitted-fits wanted.Nothing enum (number width z) h = fit_fails wanted.Nothing fault.Mismatch
 fitted-fits wanted.Boolean enum (character code) h = fit_fails wanted.Boolean fault.Mismatch
 fitted-fits wanted.Byte enum (character code) h = fit_fails wanted.Byte fault.Mismatch

@@ -10,8 +10,8 @@ use Rattle.aidl_base.specs.Reserved.{reserved_of}
 use Rattle.aidl_base.proofs.Tests.{both}
 
 -- the part is an identifier
-abbrev pub is_named : Ident → Bool
-is_named i = is_identifier i.0
+abbrev pub is_identifier_part : Ident → Bool
+is_identifier_part i = is_identifier i.0
 
 word_byte : (b : ℕ) → is_word_byte b ≡ true → b < 128
 word_byte b h = grind (arith, nat_tests)
@@ -45,11 +45,11 @@ by_first i [] = sym (append-nil i.0)
 by_first i (j ∷ is) = refl
 
 -- a canonical name is its own UTF-8
-pub plain-dotted : (parts : List Ident) → list_all is_named parts ≡ true → encode_utf8_all (dotted parts) ≡ dotted parts
+pub plain-dotted : (parts : List Ident) → list_all is_identifier_part parts ≡ true → encode_utf8_all (dotted parts) ≡ dotted parts
 plain-dotted [] h = refl
-plain-dotted (i ∷ []) h = plain-identifier i.0 (both (is_named i) true h).0
+plain-dotted (i ∷ []) h = plain-identifier i.0 (both (is_identifier_part i) true h).0
 plain-dotted (i ∷ j ∷ is) h =
-    let two = both (is_named i) (list_all is_named (j ∷ is)) h in
+    let two = both (is_identifier_part i) (list_all is_identifier_part (j ∷ is)) h in
     encodes-append i.0 (46 ∷ dotted (j ∷ is))
     ∙ ap (λ bs. bs ++ encode_utf8_all (46 ∷ dotted (j ∷ is))) (plain-identifier i.0 two.0)
     ∙ ap (λ dot. i.0 ++ (dot ++ encode_utf8_all (dotted (j ∷ is)))) (encode_ascii 46 (lit< tt))
@@ -70,23 +70,23 @@ front (x ∷ a) (y ∷ b) us vs h k e =
     let two = front a b us vs (both _ _ h).1 (both _ _ k).1 rest in
     (ap (λ z. z ∷ a) head ∙ ap (λ zs. y ∷ zs) two.0, two.1)
 
-not_empty : (i : Ident) (is : List Ident) → is_named i ≡ true → [] ≡ dotted (i ∷ is) → ⊥
+not_empty : (i : Ident) (is : List Ident) → is_identifier_part i ≡ true → [] ≡ dotted (i ∷ is) → ⊥
 not_empty i is h e = by i.0 (parts_of i.0 h).0 (e ∙ by_first i is) where
   by : (w : List ℕ) → begins is_letter w ≡ true → [] ≡ w ++ tailed is → ⊥
   by [] b z = cc
   by (x ∷ w) b z = cc
 
 -- names of one text are the same
-pub dotted-injective : (a b : List Ident) → list_all is_named a ≡ true → list_all is_named b ≡ true → dotted a ≡ dotted b → a ≡ b
+pub dotted-injective : (a b : List Ident) → list_all is_identifier_part a ≡ true → list_all is_identifier_part b ≡ true → dotted a ≡ dotted b → a ≡ b
 dotted-injective [] [] h k e = refl
 dotted-injective [] (j ∷ b) h k e = absurd (not_empty j b (both _ _ k).0 e)
 dotted-injective (i ∷ a) [] h k e = absurd (not_empty i a (both _ _ h).0 (sym e))
 dotted-injective (i ∷ a) (j ∷ b) h k e =
-    let two = front i.0 j.0 a b (word_bytes i.0 (both (is_named i) (list_all is_named a) h).0) (word_bytes j.0 (both (is_named j) (list_all is_named b) k).0) (sym (by_first i a) ∙ e ∙ by_first j b) in
+    let two = front i.0 j.0 a b (word_bytes i.0 (both (is_identifier_part i) (list_all is_identifier_part a) h).0) (word_bytes j.0 (both (is_identifier_part j) (list_all is_identifier_part b) k).0) (sym (by_first i a) ∙ e ∙ by_first j b) in
     let head : i ≡ j = ap (λ t. let n : Ident = record { 0 = t } in n) two.0 in
-    ap (λ n. n ∷ a) head ∙ ap (λ ns. j ∷ ns) (rest a b (both (is_named i) _ h).1 (both (is_named j) _ k).1 two.1 (dotted-injective a b)) where
-      rest : (us vs : List Ident) → list_all is_named us ≡ true → list_all is_named vs ≡ true → tailed us ≡ tailed vs
-          → (list_all is_named us ≡ true → list_all is_named vs ≡ true → dotted us ≡ dotted vs → us ≡ vs) → us ≡ vs
+    ap (λ n. n ∷ a) head ∙ ap (λ ns. j ∷ ns) (rest a b (both (is_identifier_part i) _ h).1 (both (is_identifier_part j) _ k).1 two.1 (dotted-injective a b)) where
+      rest : (us vs : List Ident) → list_all is_identifier_part us ≡ true → list_all is_identifier_part vs ≡ true → tailed us ≡ tailed vs
+          → (list_all is_identifier_part us ≡ true → list_all is_identifier_part vs ≡ true → dotted us ≡ dotted vs → us ≡ vs) → us ≡ vs
       rest [] [] p q t again = refl
       rest [] (v ∷ vs) p q t again = cc
       rest (u ∷ us) [] p q t again = cc

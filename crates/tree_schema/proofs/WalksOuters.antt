@@ -15,7 +15,7 @@ use Rattle.aidl_syntax.specs.Walks.{naming, names_of, of_option, of_each, in_ann
 use Rattle.aidl_names.specs.Declarations.{Entry, inside, with_decl, with_body, with_members, with_file, with_files, declarations}
 use Rattle.aidl_names.specs.Names.{parts_of}
 use Rattle.aidl_names.specs.Sources.{Source}
-use Rattle.tree_schema.proofs.WalksAscii.{is_named}
+use Rattle.tree_schema.proofs.WalksAscii.{is_identifier_part}
 use Rattle.tree_schema.proofs.WalksLists.{there-kept, there-last, there-cases}
 use Rattle.std.proofs.lemmas.Option.{slice_get_within}
 
@@ -35,28 +35,28 @@ IsAround entries i e (Some k) = (o : Entry) × (slice_get entries k ≡ Some o) 
 pub record IsWalked (entries : List Entry) (i : ℕ) (e : Entry) : Type 0 where
   pub front : List Ident
   pub name : e.name ≡ inside front e.tree
-  pub parts : list_all is_named e.name ≡ true
+  pub parts : list_all is_identifier_part e.name ≡ true
   pub outer : IsAround entries i e e.outer
-  pub tree : list_all is_named (in_decl naming e.tree) ≡ true
+  pub tree : list_all is_identifier_part (in_decl naming e.tree) ≡ true
 
 abbrev pub AreWalked : List Entry → Type 0
 AreWalked entries = (i : ℕ) (e : Entry) → slice_get entries i ≡ Some e → IsWalked entries i e
 
 -- the names in the files are identifiers
 abbrev pub are_named : List Source → Bool
-are_named files = list_all (λ s. list_all is_named (names_of s.tree)) files
+are_named files = list_all (λ s. list_all is_identifier_part (names_of s.tree)) files
 
 -- what stands in a list stays where it is
 abbrev pub Keeps : List Entry → List Entry → Type 0
 Keeps before after = (k : ℕ) (e : Entry) → slice_get before k ≡ Some e → slice_get after k ≡ Some e
 
-pub named-itself : (d : Decl) → list_all is_named (in_decl naming d) ≡ true → is_named (declared_name d).name ≡ true
+pub named-itself : (d : Decl) → list_all is_identifier_part (in_decl naming d) ≡ true → is_identifier_part (declared_name d).name ≡ true
 named-itself (decl offset annots n b) h =
-    let one = (all_parts is_named (in_annots naming annots) (n.name ∷ in_body naming b) h).1 in
-    (both (is_named n.name) (list_all is_named (in_body naming b)) one).0
+    let one = (all_parts is_identifier_part (in_annots naming annots) (n.name ∷ in_body naming b) h).1 in
+    (both (is_identifier_part n.name) (list_all is_identifier_part (in_body naming b)) one).0
 
-named_inside : (around : List Ident) (d : Decl) → list_all is_named around ≡ true → list_all is_named (in_decl naming d) ≡ true → list_all is_named (inside around d) ≡ true
-named_inside around d h k = list_all-append is_named around ((declared_name d).name ∷ []) ∙ rw (h, named-itself d k) refl
+named_inside : (around : List Ident) (d : Decl) → list_all is_identifier_part around ≡ true → list_all is_identifier_part (in_decl naming d) ≡ true → list_all is_identifier_part (inside around d) ≡ true
+named_inside around d h k = list_all-append is_identifier_part around ((declared_name d).name ∷ []) ∙ rw (h, named-itself d k) refl
 
 still : (before after : List Entry) → Keeps before after → (i : ℕ) (e : Entry) (o : Option ℕ) → IsAround before i e o → IsAround after i e o
 still before after keeps i e None h = tt
@@ -87,13 +87,13 @@ mutual
       → Walked before (with_decl file outer name d before)
   walked_decl file outer name (decl offset annots n b) before all one =
       let e : Entry = record { name = name; file = file; outer = outer; tree = decl offset annots n b } in
-      let names = (both (is_named n.name) (list_all is_named (in_body naming b)) (all_parts is_named (in_annots naming annots) (n.name ∷ in_body naming b) one.tree).1).1 in
+      let names = (both (is_identifier_part n.name) (list_all is_identifier_part (in_body naming b)) (all_parts is_identifier_part (in_annots naming annots) (n.name ∷ in_body naming b) one.tree).1).1 in
       let rest = walked_body file (length before) name b (before ++ e ∷ []) (pushed before e all one) e (there-last before e) refl refl one.parts names in
       (rest.0, λ k x at. rest.1 k x (there-kept before (e ∷ []) k x at))
 
   walked_body : (file number : ℕ) (name : List Ident) (b : Body) (before : List Entry)
       → AreWalked before → (o : Entry) → slice_get before number ≡ Some o → o.name ≡ name → body o.tree ≡ b
-      → list_all is_named name ≡ true → list_all is_named (in_body naming b) ≡ true
+      → list_all is_identifier_part name ≡ true → list_all is_identifier_part (in_body naming b) ≡ true
       → Walked before (with_body file number name b before)
   walked_body file number name (parcelable ms) before all o at is same parts names = walked_members file number name ms before all o at is (ap may_hold same) parts names
   walked_body file number name (union ms) before all o at is same parts names = walked_members file number name ms before all o at is (ap may_hold same) parts names
@@ -102,17 +102,17 @@ mutual
 
   walked_members : (file number : ℕ) (name : List Ident) (ms : Members) (before : List Entry)
       → AreWalked before → (o : Entry) → slice_get before number ≡ Some o → o.name ≡ name → may_hold (body o.tree) ≡ true
-      → list_all is_named name ≡ true → list_all is_named (in_members naming ms) ≡ true
+      → list_all is_identifier_part name ≡ true → list_all is_identifier_part (in_members naming ms) ≡ true
       → Walked before (with_members file number name ms before)
   walked_members file number name none before all o at is may parts names = (all, λ k x h. h)
   walked_members file number name (field f ms) before all o at is may parts names =
-      walked_members file number name ms before all o at is may parts (all_parts is_named (in_field naming f) (in_members naming ms) names).1
+      walked_members file number name ms before all o at is may parts (all_parts is_identifier_part (in_field naming f) (in_members naming ms) names).1
   walked_members file number name (constant c ms) before all o at is may parts names =
-      walked_members file number name ms before all o at is may parts (all_parts is_named (in_constant naming c) (in_members naming ms) names).1
+      walked_members file number name ms before all o at is may parts (all_parts is_identifier_part (in_constant naming c) (in_members naming ms) names).1
   walked_members file number name (method m ms) before all o at is may parts names =
-      walked_members file number name ms before all o at is may parts (all_parts is_named (in_method naming m) (in_members naming ms) names).1
+      walked_members file number name ms before all o at is may parts (all_parts is_identifier_part (in_method naming m) (in_members naming ms) names).1
   walked_members file number name (nested d ms) before all o at is may parts names =
-      let two = all_parts is_named (in_decl naming d) (in_members naming ms) names in
+      let two = all_parts is_identifier_part (in_decl naming d) (in_members naming ms) names in
       let around : IsAround before (length before) (record { name = inside name d; file = file; outer = Some number; tree = d }) (Some number) =
       (o, at, slice_get_within before number o at, ap (λ front. inside front d) (sym is), may) in
       let one : IsWalked before (length before) (record { name = inside name d; file = file; outer = Some number; tree = d }) =
@@ -125,12 +125,12 @@ package_parts : (p : Option DottedTree) → of_option naming.dotted p ≡ parts_
 package_parts None = refl
 package_parts (Some d) = refl
 
-walked_file : (file : ℕ) (s : Source) (before : List Entry) → AreWalked before → list_all is_named (names_of s.tree) ≡ true → AreWalked (with_file file s before)
+walked_file : (file : ℕ) (s : Source) (before : List Entry) → AreWalked before → list_all is_identifier_part (names_of s.tree) ≡ true → AreWalked (with_file file s before)
 unfolding names_of
 walked_file file s before all names =
-    let one = all_parts is_named (of_option naming.dotted s.tree.«package») (of_each naming.dotted s.tree.imports ++ in_decl naming s.tree.declared) names in
-    let tree = (all_parts is_named (of_each naming.dotted s.tree.imports) (in_decl naming s.tree.declared) one.1).1 in
-    let parts = subst (λ (ps : List Ident). list_all is_named ps ≡ true) (package_parts s.tree.«package») one.0 in
+    let one = all_parts is_identifier_part (of_option naming.dotted s.tree.«package») (of_each naming.dotted s.tree.imports ++ in_decl naming s.tree.declared) names in
+    let tree = (all_parts is_identifier_part (of_each naming.dotted s.tree.imports) (in_decl naming s.tree.declared) one.1).1 in
+    let parts = subst (λ (ps : List Ident). list_all is_identifier_part ps ≡ true) (package_parts s.tree.«package») one.0 in
     let name = inside (parts_of s.tree.«package») s.tree.declared in
     let e : Entry = record { name = name; file = file; outer = None; tree = s.tree.declared } in
     let entry : IsWalked before (length before) e =
@@ -140,7 +140,7 @@ walked_file file s before all names =
 walked_files : (file : ℕ) (files : List Source) (before : List Entry) → AreWalked before → are_named files ≡ true → AreWalked (with_files file files before)
 walked_files file [] before all names = all
 walked_files file (s ∷ more) before all names =
-    let two = both (list_all is_named (names_of s.tree)) (are_named more) names in
+    let two = both (list_all is_identifier_part (names_of s.tree)) (are_named more) names in
     walked_files (file + 1) more (with_file file s before) (walked_file file s before all two.0) two.1
 
 -- what holds of every declaration of files whose names are identifiers
