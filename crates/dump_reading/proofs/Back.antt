@@ -24,7 +24,7 @@ use Rattle.const_items.specs.Items.{items}
 use Rattle.const_eval.specs.Outcomes.{HasOutcome, AreOutcomes, outcome_at}
 use Rattle.schema_parts.specs.Numbers.{sorted}
 use Rattle.tree_schema.specs.SchemaOf.{schema_of, declared}
-use Rattle.tree_schema.proofs.ValuesLaws.{placed-files}
+use Rattle.tree_schema.proofs.settled.Laws.{placed-files}
 use Rattle.schema_bounds.specs.declared.bound.Bound.TheVariants.{Within}
 use Rattle.schema_bounds.specs.Bounds.{bound, bound_by, reaches_cycle}
 use Rattle.tree_files.specs.declared.fault.LexBreach.{LexBreach}
@@ -39,12 +39,12 @@ use Rattle.aidl_schema.specs.Holds.{AllHold, AreApart}
 use Rattle.aidl_schema.specs.Names.{name_of, has_names}
 use Rattle.aidl_schema.specs.Sizes.{has_small_default}
 use Rattle.aidl_schema.specs.Valid.{is_enum, has_bounds, is_bounded, one_of}
-use Rattle.dump_reading.proofs.Numbers.{walks}
-use Rattle.dump_reading.proofs.Entries.{AreEntries}
-use Rattle.dump_reading.proofs.NamesStand.{each_none}
-use Rattle.dump_reading.proofs.ConstGiven.{some_outcome, none_broken}
-use Rattle.dump_reading.proofs.Rules.{none_found}
-use Rattle.dump_reading.proofs.Schema.{schema_back, bounds_back}
+use Rattle.dump_reading.proofs.filed.Numbers.{walks}
+use Rattle.dump_reading.proofs.named.Entries.{AreEntries}
+use Rattle.dump_reading.proofs.named.Stand.{each_none}
+use Rattle.dump_reading.proofs.settled.Given.{some_outcome, none_broken}
+use Rattle.dump_reading.proofs.ruled.Rules.{none_found}
+use Rattle.dump_reading.proofs.drafted.Schema.{schema_back, bounds_back}
 
 -- A list of outcomes.
 outcomes_from : (files : List Source) {X : Type 0} (xs : List X) (i : ℕ) → ((k : ℕ) → k < length xs → (o : Outcome) × HasOutcome files (i + k) o)

@@ -17,14 +17,14 @@ use Rattle.tree_schema.specs.Checked.{IsChecked}
 use Rattle.tree_schema.specs.Named.{HasIdentifiers}
 use Rattle.tree_schema.specs.SchemaOf.{schema_of}
 use Rattle.schema_parts.specs.Values.{Outcomes}
-use Rattle.tree_schema.proofs.EnumsFilled.{files-filled}
-use Rattle.tree_schema.proofs.Faultless.{faultless, filled-files}
-use Rattle.tree_schema.proofs.LimitsSchema.{limits-hold}
-use Rattle.tree_schema.proofs.MembersSchema.{members-hold}
-use Rattle.tree_schema.proofs.NamesSchema.{names-hold}
-use Rattle.tree_schema.proofs.ValuesChecked.{checked-types, checked-methods, checked-bounds, checked-constants, checked-initializers, checked-enums}
-use Rattle.tree_schema.proofs.ValuesLaws.{placed-files, plain-files}
-use Rattle.tree_schema.proofs.WalksFiles.{named-files}
+use Rattle.tree_schema.proofs.valued.EnumsFilled.{files-filled}
+use Rattle.tree_schema.proofs.settled.Faultless.{faultless, filled-files}
+use Rattle.tree_schema.proofs.named.Limits.{limits-hold}
+use Rattle.tree_schema.proofs.named.Members.{members-hold}
+use Rattle.tree_schema.proofs.named.Schema.{names-hold}
+use Rattle.tree_schema.proofs.valued.Checked.{checked-types, checked-methods, checked-bounds, checked-constants, checked-initializers, checked-enums}
+use Rattle.tree_schema.proofs.settled.Laws.{placed-files, plain-files}
+use Rattle.tree_schema.proofs.walked.Files.{named-files}
 use Rattle.type_rules.specs.Breaches.{unsorted}
 use Rattle.type_rules.proofs.Nothing.{back_nil, front_nil, none_in_order, unbroken}
 use Rattle.type_check.specs.Checked.{IsSchemaOf}

@@ -6,9 +6,9 @@ use Rattle.tree_files.specs.Parsed.{AreParsed}
 use Rattle.type_check.proofs.OneAnswer.{never}
 use Rattle.type_check.specs.Checked.{IsSchemaOf}
 use Rattle.dump_reading.specs.Files.{AreDumped}
-use Rattle.dump_reading.proofs.Enums.{enums_bare}
-use Rattle.dump_reading.proofs.Entries.{are_entries}
-use Rattle.dump_reading.proofs.Sources.{are_sources, rising}
+use Rattle.dump_reading.proofs.valued.Enums.{enums_bare}
+use Rattle.dump_reading.proofs.named.Entries.{are_entries}
+use Rattle.dump_reading.proofs.filed.Sources.{are_sources, rising}
 use Rattle.dump_reading.proofs.Back.{trees_back}
 use Rattle.dump_reading.proofs.laws.law_dump_back.Goals as goal
 

@@ -1,7 +1,7 @@
-use Rattle.tree_schema.proofs.ValuesLaws.{placed-files}
-use Rattle.dump_reading.proofs.Enums.{enums_bare}
-use Rattle.dump_reading.proofs.Entries.{are_entries}
-use Rattle.dump_reading.proofs.ConstGiven.{all_given, none_broken}
+use Rattle.tree_schema.proofs.settled.Laws.{placed-files}
+use Rattle.dump_reading.proofs.valued.Enums.{enums_bare}
+use Rattle.dump_reading.proofs.named.Entries.{are_entries}
+use Rattle.dump_reading.proofs.settled.Given.{all_given, none_broken}
 use Rattle.dump_reading.proofs.laws.law_dump_constants.Goals as goal
 
 pub returns : goal.returns

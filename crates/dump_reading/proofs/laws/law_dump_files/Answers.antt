@@ -1,4 +1,4 @@
-use Rattle.dump_reading.proofs.Paths.{paths_sorted, has_file}
+use Rattle.dump_reading.proofs.filed.Paths.{paths_sorted, has_file}
 use Rattle.dump_reading.proofs.laws.law_dump_files.Goals as goal
 
 pub returns : goal.returns

@@ -1,4 +1,4 @@
-use Rattle.dump_reading.proofs.NamesFiles.{files_stand}
+use Rattle.dump_reading.proofs.named.Files.{files_stand}
 use Rattle.dump_reading.proofs.laws.law_dump_imports.Goals as goal
 
 pub returns : goal.returns

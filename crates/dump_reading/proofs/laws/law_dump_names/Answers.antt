@@ -1,12 +1,12 @@
 use Rattle.aidl_names.specs.Declarations.{declarations}
 use Rattle.aidl_names.specs.Rules.{WrongFile, UnknownImport, UnknownType, LeftOutType, repeated_inside, taken, in_each, other_imports}
 use Rattle.std.specs.List.{flat_map}
-use Rattle.dump_reading.proofs.Declared.{are_declared}
-use Rattle.dump_reading.proofs.Enums.{enums_bare}
-use Rattle.dump_reading.proofs.NamesFiles.{files_stand}
-use Rattle.dump_reading.proofs.Entries.{are_entries}
-use Rattle.dump_reading.proofs.NamesStand.{taken_none, inside_none, unknown_none, left_out_none, passed_none}
-use Rattle.dump_reading.proofs.NamesAccepted.{nothing}
+use Rattle.dump_reading.proofs.named.Declared.{are_declared}
+use Rattle.dump_reading.proofs.valued.Enums.{enums_bare}
+use Rattle.dump_reading.proofs.named.Files.{files_stand}
+use Rattle.dump_reading.proofs.named.Entries.{are_entries}
+use Rattle.dump_reading.proofs.named.Stand.{taken_none, inside_none, unknown_none, left_out_none, passed_none}
+use Rattle.dump_reading.proofs.named.Accepted.{nothing}
 use Rattle.dump_reading.proofs.laws.law_dump_names.Goals as goal
 
 pub returns : goal.returns

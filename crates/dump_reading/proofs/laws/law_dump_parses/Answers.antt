@@ -1,7 +1,7 @@
 use Rattle.tree_files.specs.Files.{HasTokens, HasTree}
 use Rattle.tree_files.specs.Refusals.{IsLexBreach, IsTreeless}
 use Rattle.dump_reading.proofs.Back.{no_rows, never_lexical, never_treeless}
-use Rattle.dump_reading.proofs.Sources.{all_trees, all_tokens}
+use Rattle.dump_reading.proofs.filed.Sources.{all_trees, all_tokens}
 use Rattle.dump_reading.proofs.laws.law_dump_parses.Goals as goal
 
 pub returns : goal.returns

@@ -1,6 +1,6 @@
-use Rattle.dump_reading.proofs.Enums.{enums_bare}
-use Rattle.dump_reading.proofs.Entries.{are_entries}
-use Rattle.dump_reading.proofs.Rules.{all_unbroken, none_listed}
+use Rattle.dump_reading.proofs.valued.Enums.{enums_bare}
+use Rattle.dump_reading.proofs.named.Entries.{are_entries}
+use Rattle.dump_reading.proofs.ruled.Rules.{all_unbroken, none_listed}
 use Rattle.dump_reading.proofs.laws.law_dump_rules.Goals as goal
 
 pub returns : goal.returns

@@ -1,9 +1,9 @@
-use Rattle.tree_schema.proofs.ValuesLaws.{placed-files}
-use Rattle.dump_reading.proofs.Enums.{enums_bare}
-use Rattle.dump_reading.proofs.Entries.{are_entries}
-use Rattle.dump_reading.proofs.ConstGiven.{none_broken}
-use Rattle.dump_reading.proofs.Rules.{all_unbroken}
-use Rattle.dump_reading.proofs.Schema.{schema_back, bounds_back}
+use Rattle.tree_schema.proofs.settled.Laws.{placed-files}
+use Rattle.dump_reading.proofs.valued.Enums.{enums_bare}
+use Rattle.dump_reading.proofs.named.Entries.{are_entries}
+use Rattle.dump_reading.proofs.settled.Given.{none_broken}
+use Rattle.dump_reading.proofs.ruled.Rules.{all_unbroken}
+use Rattle.dump_reading.proofs.drafted.Schema.{schema_back, bounds_back}
 use Rattle.dump_reading.proofs.laws.law_dump_schema.Goals as goal
 
 pub returns : goal.returns

@@ -1,14 +1,14 @@
 use Rattle.std.proofs.Common.{subst, sym, ap, ◌∙◌}
 use Rattle.aidl_syntax.specs.Tokens.{Tokens}
 use Rattle.api_dump.specs.Dump.{file_pieces}
-use Rattle.dump_reading.proofs.Plain.{tokens_at}
-use Rattle.dump_reading.proofs.Laid.{cut_laid}
-use Rattle.dump_reading.proofs.Texts.{text_plain}
-use Rattle.dump_reading.proofs.Enums.{enums_bare}
-use Rattle.dump_reading.proofs.FitsDeclarations.{file_laid}
-use Rattle.dump_reading.proofs.TreesDeclarations.{file_made}
-use Rattle.dump_reading.proofs.Made.{kinds_at}
-use Rattle.dump_reading.proofs.Files.{IsFileOf, all_at, all_files}
+use Rattle.dump_reading.proofs.spelled.Plain.{tokens_at}
+use Rattle.dump_reading.proofs.spelled.Laid.{cut_laid}
+use Rattle.dump_reading.proofs.spelled.Texts.{text_plain}
+use Rattle.dump_reading.proofs.valued.Enums.{enums_bare}
+use Rattle.dump_reading.proofs.spelled.Declarations.{file_laid}
+use Rattle.dump_reading.proofs.grown.Declarations.{file_made}
+use Rattle.dump_reading.proofs.grown.Made.{kinds_at}
+use Rattle.dump_reading.proofs.filed.Files.{IsFileOf, all_at, all_files}
 use Rattle.dump_reading.proofs.laws.law_dump_tree.Goals as goal
 
 pub returns : goal.returns

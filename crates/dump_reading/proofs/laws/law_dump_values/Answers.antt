@@ -1,7 +1,7 @@
-use Rattle.tree_schema.proofs.ValuesLaws.{placed-files}
-use Rattle.dump_reading.proofs.Enums.{enums_bare}
-use Rattle.dump_reading.proofs.Entries.{are_entries}
-use Rattle.dump_reading.proofs.ValuesEntries.{has_values}
+use Rattle.tree_schema.proofs.settled.Laws.{placed-files}
+use Rattle.dump_reading.proofs.valued.Enums.{enums_bare}
+use Rattle.dump_reading.proofs.named.Entries.{are_entries}
+use Rattle.dump_reading.proofs.valued.Entries.{has_values}
 use Rattle.dump_reading.proofs.laws.law_dump_values.Goals as goal
 
 pub returns : goal.returns

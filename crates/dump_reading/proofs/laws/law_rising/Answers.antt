@@ -2,7 +2,7 @@ use Rattle.std.proofs.Common.{subst, arith}
 use Rattle.std.specs.List.{All}
 use Rattle.std.proofs.lemmas.List.{take_all}
 use Rattle.std.proofs.lemmas.List.Elements.{All-more}
-use Rattle.dump_reading.proofs.Sources.{IsRising}
+use Rattle.dump_reading.proofs.filed.Sources.{IsRising}
 use Rattle.dump_reading.proofs.laws.law_rising.Goals as goal
 
 pub loop-file-preserved : goal.loop-file-preserved

@@ -1,6 +1,6 @@
 use Rattle.std.proofs.Common.{take}
 use Rattle.std.specs.List.{All}
-use Rattle.dump_reading.proofs.Sources.{IsRising}
+use Rattle.dump_reading.proofs.filed.Sources.{IsRising}
 use Rattle.dump_reading.proofs.laws.law_rising.Given as goal
 
 -- those of the files so far

@@ -4,7 +4,7 @@ use Rattle.std.proofs.lemmas.Option.{slice_get_read, slice_get-map}
 use Rattle.aidl_names.specs.Declarations.{declarations}
 use Rattle.aidl_names.specs.Refusals.{entry_of}
 use Rattle.schema_parts.specs.TreeViews.{files_of, numbered_of}
-use Rattle.tree_schema.proofs.NamesNumbers.{sorted-there}
+use Rattle.tree_schema.proofs.named.Numbers.{sorted-there}
 use Rattle.tree_schema.proofs.drafting.declared_in.Goals as goal
 
 -- the number is that of the declaration

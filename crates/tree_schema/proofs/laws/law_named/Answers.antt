@@ -2,11 +2,11 @@ use Rattle.std.proofs.Common.{◌≡◌, true, List, map, All, subst}
 use Rattle.aidl_syntax.specs.declared.tree.ParsedFile.{ParsedFile}
 use Rattle.aidl_names.specs.Sources.{source_of}
 use Rattle.tree_schema.specs.Named.{HasIdentifiers}
-use Rattle.tree_schema.proofs.WalksOuters.{are_named}
-use Rattle.tree_schema.proofs.WalksFiles.{named-files}
-use Rattle.tree_schema.proofs.NamesSchema.{names-hold}
-use Rattle.tree_schema.proofs.MembersSchema.{members-hold}
-use Rattle.tree_schema.proofs.LimitsSchema.{limits-hold}
+use Rattle.tree_schema.proofs.walked.Outers.{are_named}
+use Rattle.tree_schema.proofs.walked.Files.{named-files}
+use Rattle.tree_schema.proofs.named.Schema.{names-hold}
+use Rattle.tree_schema.proofs.named.Members.{members-hold}
+use Rattle.tree_schema.proofs.named.Limits.{limits-hold}
 use Rattle.tree_schema.proofs.laws.law_named.Goals as goal
 
 named : (files same : List ParsedFile) → same ≡ files → All HasIdentifiers (map source_of same) → are_named (map source_of files) ≡ true
