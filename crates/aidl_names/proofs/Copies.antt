@@ -43,7 +43,7 @@ same-behind (x ∷ xs) (y ∷ ys) rest e =
 
 module _ (es : List Entry) (first : Ident) (rest : List Ident) where
   -- imports with the same name find the same
-  same_finds : (a b : DottedTree) → same a.name.0 b.name.0 ≡ true → through es first rest a ≡ through es first rest b
+  pub same_finds : (a b : DottedTree) → same a.name.0 b.name.0 ≡ true → through es first rest a ≡ through es first rest b
   same_finds a b e =
       go (same (last a.name.0) (first ∷ [])) (same (last b.name.0) (first ∷ []))
       (same-turned (last a.name.0) (first ∷ []) ∙ same-right (first ∷ []) (last a.name.0) (last b.name.0) (last-same a.name.0 b.name.0 e) ∙ same-turned (first ∷ []) (last b.name.0)) where

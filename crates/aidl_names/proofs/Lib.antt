@@ -13,3 +13,6 @@ pub mod Named
 pub mod Through
 pub mod OfFiles
 pub mod Copies
+pub mod Ahead
+pub mod Leads
+pub mod Known

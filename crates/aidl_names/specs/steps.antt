@@ -1,1 +1,4 @@
 pub mod Copies
+pub mod Ends
+pub mod Behind
+pub mod Asked

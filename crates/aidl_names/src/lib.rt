@@ -1,9 +1,13 @@
 //! The declarations of a tree of files, what names mean in it, and the breaches of the check rules E1 to E5.
 #![tactic(auto)]
 
+mod asked;
+mod behind;
+mod by_name;
 mod called;
 mod canonical;
 mod duplicates;
+mod ends;
 mod fault;
 mod files;
 mod imported;
