@@ -1,6 +1,6 @@
 -- What was asked before is right, for each name that is the same.
-use Rattle.std.proofs.Common.{◌≡◌, ℕ, zero, suc, Bool, true, false, cond, ◌&&◌, nat_eq, nat_lt, List, [], ◌∷◌, ◌++◌, map, length, get_or, ◌<◌, Option, Some, None, refl, sym, ◌∙◌, ap, subst, arith}
-use Rattle.std.specs.List.{slice_get, position_from, filter}
+use Rattle.std.proofs.Common.{◌≡◌, ℕ, zero, suc, Bool, true, false, cond, ◌&&◌, nat_eq, List, [], ◌∷◌, ◌++◌, map, length, get_or, ◌<◌, Option, Some, None, refl, sym, ◌∙◌, ap, subst, arith}
+use Rattle.std.specs.List.{slice_get}
 use Rattle.std.specs.Str.{bytes_eq}
 use Rattle.std.proofs.lemmas.Bool.{and_parts}
 use Rattle.std.proofs.lemmas.Bool.Decides.{nat_tests}
@@ -16,7 +16,7 @@ use Rattle.aidl_names.specs.declared.resolved.Resolved.TheVariants.{Declared}
 use Rattle.aidl_names.specs.Names.{text, same, last}
 use Rattle.aidl_names.specs.Declarations.{Entry}
 use Rattle.aidl_names.specs.Imports.{meant_through}
-use Rattle.aidl_names.specs.Resolution.{number_of, first_declared, imported, or_else}
+use Rattle.aidl_names.specs.Resolution.{number_of, first_declared, or_else}
 use Rattle.aidl_names.specs.steps.Asked.{means, AreRight, Knows, said, said_at, said_at_number, IsSaid}
 use Rattle.aidl_names.proofs.Alike.{same-self, same-right, position-same}
 use Rattle.aidl_names.proofs.Through.{searched, through, through_all}

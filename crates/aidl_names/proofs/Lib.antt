@@ -15,4 +15,5 @@ pub mod OfFiles
 pub mod Copies
 pub mod Ahead
 pub mod Leads
+pub mod Times
 pub mod Known

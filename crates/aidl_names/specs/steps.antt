@@ -2,3 +2,4 @@ pub mod Copies
 pub mod Ends
 pub mod Behind
 pub mod Asked
+pub mod Marks

@@ -3,7 +3,8 @@ ghost use Rattle.aidl_names.specs.Imports.{meant_through};
 ghost use Rattle.aidl_names.specs.Marks.{mark_of_entry};
 ghost use Rattle.aidl_names.specs.Refusals.{entry_of};
 ghost use Rattle.aidl_names.specs.steps.Ends.{ends_of};
-ghost use Rattle.aidl_names.specs.steps.Asked.{AreRight, IsSaid, said, said_at, said_at_number, means};
+ghost use Rattle.aidl_names.specs.steps.Asked.{AreRight, IsSaid, is_told, said, said_at, said_at_number, means};
+ghost use Rattle.aidl_names.specs.steps.Marks.{is_shared_in};
 
 use crate::by_name::{ByName, by_names};
 use crate::ends::{Ends, ends_of};
@@ -27,6 +28,17 @@ pub enum Known {
     Unasked,
     /// its meaning
     Means(Option<Resolved>),
+}
+
+impl Known {
+    fn is_told(self) -> bool
+        ensures { result ≡ is_told self }
+    {
+        match self {
+            Known::Means(_) => true,
+            Known::Unasked => false,
+        }
+    }
 }
 
 /// What a name means through the imports of the file with that number.
@@ -202,7 +214,7 @@ fn ask<'a>(
     ensures { OnOk result (AreRight names.now (map entry_of found.now) asked.new) }
 {
     let parts = name.name.0.as_slice();
-    if is_shared(names, file, parts) && !is_known(asked, file, parts) {
+    if is_shared(names, file, parts) && !asked.known(file, parts).is_told() {
         let meaning = means(found, table, ends, names, file, parts);
         asked.add(file, name, meaning)?;
     }
@@ -230,16 +242,11 @@ fn means(
 }
 
 // Whether several imports of the file with a number have the first part of a name.
-fn is_shared(names: &[ByName<'_, '_>], file: u32, name: &[Ident]) -> bool {
+fn is_shared(names: &[ByName<'_, '_>], file: u32, name: &[Ident]) -> bool
+    ensures { result ≡ is_shared_in names.now file name.now }
+{
     match names.get(file as usize) {
         Some(imports) => imports.is_shared(name),
         None => false,
-    }
-}
-
-fn is_known(asked: &Asked<'_>, file: u32, name: &[Ident]) -> bool {
-    match asked.known(file, name) {
-        Known::Means(_) => true,
-        Known::Unasked => false,
     }
 }

@@ -56,11 +56,12 @@ fn first_through(
 {
     let listed = ends.listed();
     let mut best = None;
-    let mut at = ends.first(with_part(mark_back(rest), first));
+    let marks = ends.table();
+    let mut at = marks.first(with_part(mark_back(rest), first));
     'places: while let Some(place) = at {
         let other = led_at(found, table, imports, names, listed, place, first, rest);
         best = earlier(best, other);
-        at = ends.next(place);
+        at = marks.next(place);
     }
     best
 }

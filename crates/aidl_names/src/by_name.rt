@@ -3,11 +3,12 @@ ghost use Rattle.aidl_names.specs.Imports.{meant_through};
 ghost use Rattle.aidl_names.specs.Marks.{mark_of_entry};
 ghost use Rattle.aidl_names.specs.Refusals.{entry_of};
 ghost use Rattle.aidl_names.specs.steps.Ends.{ends_of, mark_of_import};
+ghost use Rattle.aidl_names.specs.steps.Marks.{is_shared};
 
 use crate::behind::behind;
-use crate::ends::Ends;
-use crate::imported::Imports;
-use crate::marks::with_parts;
+use crate::ends::{Ends, mark_back};
+use crate::imported::{Imports, in_imports};
+use crate::marks::{with_part, with_parts};
 use crate::names::Found;
 use crate::resolved::Resolved;
 use crate::table::Table;
@@ -40,7 +41,8 @@ impl<'a, 'b> Model for ByName<'a, 'b> {
 }
 
 impl<'a, 'b> ByName<'a, 'b> {
-    /// What a name means through the imports. It takes no memory.
+    /// What a name means through the imports. Asked are those with its first part, or the declarations whose names end in
+    /// it, whichever are fewer. It takes no memory.
     pub fn means(
         &self,
         found: &[Found<'_>],
@@ -55,15 +57,24 @@ impl<'a, 'b> ByName<'a, 'b> {
     {
         match name {
             [first, rest @ ..] => {
-                let kept = self.imports.kept();
-                behind(found, table, ends, kept, &self.table, first, rest)
+                if self
+                    .imports
+                    .are_fewer(first, ends, with_part(mark_back(rest), first))
+                {
+                    in_imports(found, table, self.imports, name)
+                } else {
+                    let kept = self.imports.kept();
+                    behind(found, table, ends, kept, &self.table, first, rest)
+                }
             }
             [] => None,
         }
     }
 
     /// Whether several imports have the first part of a name as their last one, as far as marks tell. It takes no memory.
-    pub fn is_shared(&self, name: &[Ident]) -> bool {
+    pub fn is_shared(&self, name: &[Ident]) -> bool
+        ensures { result ≡ is_shared self.now name.now }
+    {
         match name {
             [first, ..] => self.imports.is_shared(first),
             [] => false,

@@ -1,5 +1,4 @@
-ghost use Rattle.std.specs.Prelude.{◌≡◌, ◌<◌, ◌+◌, ◌++◌, map, length, get_or, drop, nat_eq, IfOk, OnOk};
-ghost use Rattle.std.specs.List.{position_from};
+ghost use Rattle.std.specs.Prelude.{◌≡◌, ◌++◌, map, IfOk, OnOk};
 ghost use Rattle.aidl_names.specs.steps.Ends.{mark_back, ends_in, ends_of};
 ghost use Rattle.aidl_names.specs.Refusals.{entry_of};
 
@@ -36,19 +35,11 @@ impl Model for Ends {
 }
 
 impl Ends {
-    /// The first place of an end with a mark. It takes no memory.
-    pub fn first(&self, mark: u64) -> Option<usize>
-        ensures { result ≡ position_from (nat_eq mark) 0 (map (λ e. e.mark) self.now) }
+    /// The table of their marks. It takes no memory.
+    pub fn table(&self) -> &Table
+        ensures { result.now ≡ map (λ e. e.mark) self.now }
     {
-        self.table.first(mark)
-    }
-
-    /// The next place of an end with the mark of the one at a place. It takes no memory.
-    pub fn next(&self, place: usize) -> Option<usize>
-        requires { place < length (map (λ e. e.mark) self.now) }
-        ensures { result ≡ position_from (nat_eq (get_or (map (λ e. e.mark) self.now) place 0)) (place + 1) (drop (place + 1) (map (λ e. e.mark) self.now)) }
-    {
-        self.table.next(place)
+        &self.table
     }
 
     /// The ends. It takes no memory.

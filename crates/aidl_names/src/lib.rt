@@ -17,6 +17,7 @@ mod marks;
 mod members;
 mod names;
 mod order;
+mod rarer;
 mod resolution;
 mod resolved;
 mod rows;

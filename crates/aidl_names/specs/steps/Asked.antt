@@ -1,6 +1,6 @@
 -- Names of which was asked before what they mean through the imports of a file.
-use Rattle.std.specs.Prelude.{◌≡◌, ℕ, nat_eq, Bool, false, ◌&&◌, is_some, get_or, drop, ◌+◌, if◌then◌else◌, List, map, Option, Some, None}
-use Rattle.std.specs.List.{slice_get, position_from}
+use Rattle.std.specs.Prelude.{◌≡◌, ℕ, nat_eq, Bool, true, false, ◌&&◌, if◌then◌else◌, List, map, Option, Some, None}
+use Rattle.std.specs.List.{slice_get}
 use Rattle.aidl_base.specs.declared.name.Ident.{Ident}
 use Rattle.aidl_syntax.specs.declared.tree.DottedTree.{DottedTree}
 use Rattle.aidl_names.specs.declared.asked.Answer.{Answer}
@@ -40,6 +40,7 @@ said_at answers (Some place) file name = said_at_number answers place file name
 abbrev pub IsSaid : List Answer → ℕ → List Ident → Known → Type 0
 IsSaid answers file name known = (place : Option ℕ) × (known ≡ said_at answers place file name)
 
--- a mark stands at two places
-abbrev pub is_twice : ℕ → List ℕ → Bool
-is_twice mark marks = elim (position_from (nat_eq mark) 0 marks) [ None ↦ false | Some i ↦ is_some (position_from (nat_eq (get_or marks i 0)) (i + 1) (drop (i + 1) marks)) ]
+-- a meaning is known
+abbrev pub is_told : Known → Bool
+is_told Unasked = false
+is_told (Means m) = true

@@ -1,5 +1,5 @@
 -- What a name means through imports, from the side of the declarations whose names end in it.
-use Rattle.std.specs.Prelude.{ℕ, ◌-◌, Bool, false, nat_lt, is_some, if◌then◌else◌, List, [], ◌∷◌, take, length, Option, Some, None}
+use Rattle.std.specs.Prelude.{ℕ, ◌-◌, nat_lt, is_some, if◌then◌else◌, List, [], ◌∷◌, take, length, Option, Some, None}
 use Rattle.std.specs.Borrow.{Bor}
 use Rattle.std.specs.List.{slice_get, position_from}
 use Rattle.aidl_base.specs.declared.name.Ident.{Ident}

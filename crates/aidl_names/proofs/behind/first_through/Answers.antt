@@ -1,13 +1,12 @@
 use Rattle.std.proofs.Common.{◌≡◌, ◌+◌, ◌∷◌, ℕ, Option, Some, None, List, nat_eq, get_or, drop, map, length, refl, sym, ◌∙◌, ap, subst}
 use Rattle.std.specs.List.{position_from, slice_get}
-use Rattle.std.proofs.lemmas.List.{length-map}
 use Rattle.aidl_names.specs.declared.ends.End.{End}
 use Rattle.aidl_names.specs.Marks.{with_part}
 use Rattle.aidl_names.specs.Refusals.{entry_of}
 use Rattle.aidl_names.specs.steps.Ends.{mark_back}
 use Rattle.aidl_names.specs.steps.Behind.{led_by, led_at}
 use Rattle.aidl_names.proofs.Ahead.{Covers, IsRight, covers_first, covers_next, earlier_right_too, settled, stands}
-use Rattle.aidl_names.proofs.Chains.{lies, marked, goes_on_marked, fewer}
+use Rattle.aidl_names.proofs.Chains.{lies, goes_on_marked, fewer}
 use Rattle.aidl_names.proofs.Leads.{finds, finds_at, led_right, import_there, an_end_leads}
 use Rattle.aidl_names.proofs.behind.first_through.Goals as goal
 
@@ -16,7 +15,7 @@ places-init c =
     let marks : List ℕ = map (λ (e : End). e.mark) c.args.ends.now in
     let wanted : ℕ = mark_back (c.args.first.now ∷ c.args.rest.now) in
     let a : c.first-at.result ≡ position_from (nat_eq wanted) 0 marks =
-    c.first-at.ensures ∙ ap (λ (z : ℕ). position_from (nat_eq z) 0 marks) (c.with_part.ensures ∙ ap (λ (z : ℕ). with_part z c.args.first.now) c.mark_back.ensures) in
+    c.first-at.ensures ∙ ap (λ (z : List ℕ). position_from (nat_eq c.with_part.result) 0 z) c.table-marks.ensures ∙ ap (λ (z : ℕ). position_from (nat_eq z) 0 marks) (c.with_part.ensures ∙ ap (λ (z : ℕ). with_part z c.args.first.now) c.mark_back.ensures) in
     record {
       marked = goes_on_marked marks wanted 0 c.first-at.result a;
       covers = covers_first (λ (e : End). e.mark) wanted (λ e. led_by (map entry_of c.args.found.now) c.args.first.now c.args.rest.now c.args.imports.now e.owner) c.args.ends.now c.first-at.result a;
@@ -27,7 +26,8 @@ pub places-smaller : goal.places-smaller
 places-smaller c =
     let marks : List ℕ = map (λ (e : End). e.mark) c.args.ends.now in
     let w = lies c.args.ends.now (λ (e : End). e.mark) marks _ c.places.at c.in-Some.place refl c.in-Some.is c.places.invariant.marked in
-    fewer (length c.args.ends.now) c.in-Some.place (nat_eq (get_or marks c.in-Some.place 0)) (drop (c.in-Some.place + 1) marks) c.places.at c.next-at.result c.in-Some.is w.0 c.next-at.ensures
+    fewer (length c.args.ends.now) c.in-Some.place (nat_eq (get_or marks c.in-Some.place 0)) (drop (c.in-Some.place + 1) marks) c.places.at c.next-at.result c.in-Some.is w.0
+    (c.next-at.ensures ∙ ap (λ (z : List ℕ). position_from (nat_eq (get_or z c.in-Some.place 0)) (c.in-Some.place + 1) (drop (c.in-Some.place + 1) z)) c.table-marks.ensures)
 
 pub places-preserved : goal.places-preserved
 places-preserved c =
@@ -37,7 +37,8 @@ places-preserved c =
     let w = lies c.args.ends.now (λ (e : End). e.mark) marks wanted c.places.at c.in-Some.place refl c.in-Some.is c.places.invariant.marked in
     let s = stands (λ (e : End). e.mark) wanted c.args.ends.now c.in-Some.place w.1 w.2 in
     let n : c.next-at.result ≡ position_from (nat_eq wanted) (c.in-Some.place + 1) (drop (c.in-Some.place + 1) marks) =
-    c.next-at.ensures ∙ ap (λ (z : ℕ). position_from (nat_eq z) (c.in-Some.place + 1) (drop (c.in-Some.place + 1) marks)) w.2 in
+    c.next-at.ensures ∙ ap (λ (z : List ℕ). position_from (nat_eq (get_or z c.in-Some.place 0)) (c.in-Some.place + 1) (drop (c.in-Some.place + 1) z)) c.table-marks.ensures
+    ∙ ap (λ (z : ℕ). position_from (nat_eq z) (c.in-Some.place + 1) (drop (c.in-Some.place + 1) marks)) w.2 in
     let o : c.led_at-other.result ≡ led_by es c.args.first.now c.args.rest.now c.args.imports.now s.0.owner =
     c.led_at-other.ensures ∙ ap (λ (z : List End). led_at es c.args.first.now c.args.rest.now c.args.imports.now z c.in-Some.place) c.listed-listed.ensures
     ∙ ap (λ (z : Option End). elim z as (λ _. Option ℕ) [ None ↦ None | Some e ↦ led_by es c.args.first.now c.args.rest.now c.args.imports.now e.owner ]) s.1 in

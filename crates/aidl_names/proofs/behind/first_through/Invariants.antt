@@ -1,4 +1,4 @@
-use Rattle.std.proofs.Common.{◌≡◌, ◌∷◌, map, length}
+use Rattle.std.proofs.Common.{◌∷◌, map, length}
 use Rattle.aidl_names.specs.Refusals.{entry_of}
 use Rattle.aidl_names.specs.steps.Ends.{mark_back}
 use Rattle.aidl_names.specs.steps.Behind.{led_by}

@@ -1,7 +1,5 @@
-use Rattle.std.proofs.Common.{ℕ, Bool, true, false, Bor, List, ◌≡◌, ◌+◌, nat_eq, get_or, drop, length, sym, ◌∙◌, ap}
+use Rattle.std.proofs.Common.{ℕ, ◌+◌, nat_eq, get_or, drop, length, sym, ◌∙◌, ap}
 use Rattle.std.specs.List.{position_from}
-use Rattle.aidl_base.specs.declared.name.Ident.{Ident}
-use Rattle.aidl_syntax.specs.declared.tree.DottedTree.{DottedTree}
 use Rattle.aidl_names.specs.Names.{same}
 use Rattle.aidl_names.specs.Marks.{mark_of}
 use Rattle.aidl_names.specs.steps.Ends.{mark_of_import}

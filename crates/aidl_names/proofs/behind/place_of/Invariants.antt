@@ -1,5 +1,4 @@
 use Rattle.std.proofs.Common.{◌≡◌, length}
-use Rattle.std.specs.List.{position_from}
 use Rattle.aidl_names.specs.Names.{same}
 use Rattle.aidl_names.specs.Marks.{mark_of}
 use Rattle.aidl_names.specs.steps.Behind.{place_of}
