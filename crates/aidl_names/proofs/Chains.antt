@@ -54,6 +54,10 @@ marked mark marks (x ∷ more) k e =
       go true q i = let f = drop-first k marks x more e in (f.0, grind (arith, nat_tests, f.1, q))
       go false q i = i
 
+-- a look-up from a place on lands at a place with the mark
+pub goes_on_marked : (marks : List ℕ) (mark k : ℕ) (at : Option ℕ) → at ≡ position_from (nat_eq mark) k (drop k marks) → HasMark marks mark at
+goes_on_marked marks mark k at e = let P : Option ℕ → Type 0 = HasMark marks mark in subst P (sym e) (marked mark marks (drop k marks) k refl)
+
 -- fewer places are left
 pub fewer : (n i : ℕ) (test : ℕ → Bool) (tail : List ℕ) (at next : Option ℕ) → at ≡ Some i → i < n → next ≡ position_from test (i + 1) tail → left n next < left n at
 fewer n i test tail at None a lt e = let P : Option ℕ → Type 0 = λ z. 0 < left n z in subst P (sym a) (omega arith)

@@ -1,6 +1,5 @@
 -- Imports that are copies of earlier ones may be left out.
 use Rattle.std.proofs.Common.{◌≡◌, ◌<◌, ℕ, zero, suc, Bool, true, false, cond, Bor, List, [], ◌∷◌, ◌++◌, map, length, Option, Some, None, refl, sym, ◌∙◌, ap, arith}
-use Rattle.std.specs.List.{slice_get, position_from, filter}
 use Rattle.std.specs.Str.{bytes_eq}
 use Rattle.std.proofs.lemmas.Bool.{and_parts}
 use Rattle.std.proofs.lemmas.List.{length-map}
@@ -12,9 +11,8 @@ use Rattle.aidl_names.specs.Names.{text, same, last}
 use Rattle.aidl_names.specs.Declarations.{Entry}
 use Rattle.aidl_names.specs.Imports.{meant_through}
 use Rattle.aidl_names.specs.steps.Copies.{is_at, is_at_number}
-use Rattle.aidl_names.specs.Resolution.{number_of, first_declared, imported, or_else}
+use Rattle.aidl_names.specs.Resolution.{number_of, first_declared, or_else}
 use Rattle.aidl_names.proofs.Alike.{same-right, same-turned, same-self, position-same}
-use Rattle.aidl_names.proofs.Candidates.{first-append}
 use Rattle.aidl_names.proofs.Through.{searched, through, through_all}
 
 -- a place of what f makes of a list is one of the list
@@ -43,7 +41,7 @@ same-behind (x ∷ xs) (y ∷ ys) rest e =
 
 module _ (es : List Entry) (first : Ident) (rest : List Ident) where
   -- imports with the same name find the same
-  same_finds : (a b : DottedTree) → same a.name.0 b.name.0 ≡ true → through es first rest a ≡ through es first rest b
+  pub same_finds : (a b : DottedTree) → same a.name.0 b.name.0 ≡ true → through es first rest a ≡ through es first rest b
   same_finds a b e =
       go (same (last a.name.0) (first ∷ [])) (same (last b.name.0) (first ∷ []))
       (same-turned (last a.name.0) (first ∷ []) ∙ same-right (first ∷ []) (last a.name.0) (last b.name.0) (last-same a.name.0 b.name.0 e) ∙ same-turned (first ∷ []) (last b.name.0)) where

@@ -13,3 +13,7 @@ pub mod Named
 pub mod Through
 pub mod OfFiles
 pub mod Copies
+pub mod Ahead
+pub mod Leads
+pub mod Times
+pub mod Known

@@ -1,6 +1,7 @@
 -- What a name means in the file with a number.
 use Rattle.std.proofs.Common.{◌≡◌, ◌<◌, ◌≤◌, ℕ, zero, suc, List, [], ◌∷◌, map, length, get_or, Option, Some, None, option_map, refl, sym, ◌∙◌, ap, arith}
 use Rattle.std.specs.List.{slice_get}
+use Rattle.std.proofs.lemmas.List.{length-map}
 use Rattle.std.proofs.lemmas.Option.{slice_get_read, slice_get_past, slice_get-map}
 use Rattle.aidl_base.specs.declared.name.Ident.{Ident}
 use Rattle.aidl_syntax.specs.declared.tree.DottedTree.{DottedTree}
@@ -42,3 +43,8 @@ table_at files number f tables t e lt is at =
       go [] n l h = absurd (omega arith)
       go (g ∷ fs) zero l h = ap (λ (z : ParsedFile). meant_in (source_of z)) (sym h)
       go (g ∷ fs) (suc n) l h = go fs n (omega arith) h
+
+-- there are as many of them as files
+pub as_many : (files : List ParsedFile) (tables : List (List DottedTree)) → map meant_through tables ≡ map meant_in (map source_of files) → length tables ≡ length files
+as_many files tables e =
+    sym (length-map tables meant_through) ∙ ap (λ (z : List (List Entry → List Ident → Option Resolved)). length z) e ∙ length-map (map source_of files) meant_in ∙ length-map files source_of

@@ -1,1 +1,5 @@
 pub mod Copies
+pub mod Ends
+pub mod Behind
+pub mod Asked
+pub mod Marks

@@ -2,13 +2,16 @@ ghost use Rattle.std.specs.Prelude.{◌≡◌, ◌≤◌, ◌∷◌, [], ◌++�
 ghost use Rattle.aidl_names.specs.Imports.{meant_through, meant_in};
 ghost use Rattle.aidl_names.specs.Sources.{source_of};
 ghost use Rattle.aidl_names.specs.steps.Copies.{is_at, is_at_number};
-ghost use Rattle.aidl_names.specs.Marks.{mark_of_entry, mark_of_last};
+ghost use Rattle.aidl_names.specs.Marks.{mark_of, mark_of_entry, mark_of_last};
+ghost use Rattle.aidl_names.specs.steps.Marks.{is_rarer, is_twice};
 ghost use Rattle.aidl_names.specs.Refusals.{entry_of};
 ghost use Rattle.aidl_names.specs.Resolution.{first_declared, imported};
 
+use crate::ends::Ends;
 use crate::imports::last_mark;
 use crate::marks::{with_part, with_parts};
 use crate::names::Found;
+use crate::rarer::is_rarer;
 use crate::resolution::{declared, ends_in};
 use crate::resolved::Resolved;
 use crate::same::same;
@@ -41,6 +44,32 @@ impl<'a> Model for Imports<'a> {
     ghost view = { λ imports. map (λ d. d.now) imports.kept.items };
 
     ghost invariant = { λ imports. imports.table ≡ map mark_of_last (map (λ d. d.now) imports.kept.items) };
+}
+
+impl<'a> Imports<'a> {
+    /// The imports that are kept. It takes no memory.
+    pub fn kept(&self) -> &[&'a DottedTree]
+        ensures { map (λ d. d.now) result.now ≡ self.now }
+    {
+        self.kept.as_slice()
+    }
+
+    /// Whether fewer of them have a part as their last one than ends have a mark, as far as marks tell. It takes no memory.
+    pub fn are_fewer(&self, part: &Ident, ends: &Ends, mark: u64) -> bool
+        ensures { result ≡ is_rarer (mark_of (part.now ∷ [])) (map mark_of_last self.now) mark (map (λ e. e.mark) ends.now) }
+    {
+        is_rarer(&self.table, with_part(0, part), ends.table(), mark)
+    }
+
+    /// Whether several of them have a part as their last one, as far as marks tell. It takes no memory.
+    pub fn is_shared(&self, part: &Ident) -> bool
+        ensures { result ≡ is_twice (mark_of (part.now ∷ [])) (map mark_of_last self.now) }
+    {
+        match self.table.first(with_part(0, part)) {
+            Some(place) => self.table.next(place).is_some(),
+            None => false,
+        }
+    }
 }
 
 /// Those of each file.
@@ -171,8 +200,8 @@ fn in_imports_of(
     None
 }
 
-// Through one import, where it ends in the name's first part.
-fn through(
+/// Through one import, where it ends in the name's first part. It takes no memory.
+pub fn through(
     found: &[Found<'_>],
     table: &Table,
     import: &DottedTree,

@@ -1,9 +1,13 @@
 //! The declarations of a tree of files, what names mean in it, and the breaches of the check rules E1 to E5.
 #![tactic(auto)]
 
+mod asked;
+mod behind;
+mod by_name;
 mod called;
 mod canonical;
 mod duplicates;
+mod ends;
 mod fault;
 mod files;
 mod imported;
@@ -13,6 +17,7 @@ mod marks;
 mod members;
 mod names;
 mod order;
+mod rarer;
 mod resolution;
 mod resolved;
 mod rows;

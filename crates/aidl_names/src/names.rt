@@ -11,6 +11,7 @@ ghost use Rattle.aidl_names.specs.Imports.{meant_through, meant_in};
 ghost use Rattle.aidl_names.specs.Marks.{mark_of_entry};
 ghost use Rattle.aidl_names.specs.Refusals.{IsAccepted, IsRefusal, IsScope, entry_of};
 
+use crate::asked::Known;
 use crate::called::{called, members_by_name};
 use crate::duplicates::{add_repeated, add_taken};
 use crate::fault::{NameFault, WalkFault};
@@ -24,7 +25,7 @@ use crate::order::in_order;
 use crate::resolution::resolved;
 use crate::resolved::Resolved;
 use crate::table::Table;
-use crate::types::{TypeRule, add_types};
+use crate::types::add_types;
 use crate::walk::walk;
 use aidl_base::{Breach, DottedName, Ident, Limit, LimitName, OutOfMemory, Row};
 use aidl_syntax::{DeclTree, ParsedFile};
@@ -108,6 +109,7 @@ impl<'a> Names<'a> {
             self.found.as_slice(),
             &self.table,
             self.imports.as_slice(),
+            Known::Unasked,
             file,
             scope,
             name,
@@ -182,23 +184,6 @@ fn breaches(
     add_taken(found, table, &mut rows)?;
     add_other_imports(alloc, files, &mut rows)?;
     add_unknown_imports(found, table, files, &mut rows)?;
-    add_types(
-        alloc,
-        files,
-        found,
-        table,
-        imports,
-        TypeRule::Unknown,
-        &mut rows,
-    )?;
-    add_types(
-        alloc,
-        files,
-        found,
-        table,
-        imports,
-        TypeRule::LeftOut,
-        &mut rows,
-    )?;
+    add_types(alloc, files, found, table, imports, &mut rows)?;
     in_order(alloc, rows.as_slice())
 }

@@ -6,7 +6,9 @@ ghost use Rattle.aidl_names.specs.Resolution.{number_of, candidates, first_decla
 ghost use Rattle.aidl_names.specs.Imports.{meant_through, meant_in};
 ghost use Rattle.aidl_names.specs.Marks.{mark_of, mark_of_entry};
 ghost use Rattle.aidl_names.specs.Refusals.{entry_of};
+ghost use Rattle.aidl_names.specs.steps.Asked.{Knows, means};
 
+use crate::asked::Known;
 use crate::imported::{Imports, in_imports};
 use crate::marks::with_parts;
 use crate::names::Found;
@@ -60,12 +62,14 @@ pub fn declared(
     }
 }
 
-/// What a name means in the file with that number, below the declaration with the number `scope`. It takes no memory.
+/// What a name means in the file with that number, below the declaration with the number `scope`, if so much is known of
+/// what it means through imports. It takes no memory.
 pub fn resolved(
     files: &[ParsedFile],
     found: &[Found<'_>],
     table: &Table,
     imports: &[Imports<'_>],
+    known: Known,
     number: u32,
     scope: u32,
     name: &[Ident],
@@ -74,12 +78,13 @@ pub fn resolved(
     requires table { table.now ≡ map mark_of_entry (map entry_of found.now) }
     requires imports { map meant_through imports.now ≡ map meant_in (map source_of files.now) }
     requires all { map entry_of found.now ≡ declarations (map source_of files.now) }
+    requires known { Knows (means imports.now (map entry_of found.now) number name.now) known }
     ensures { result ≡ resolved (map source_of files.now) number scope name.now }
 {
     match files.get(number as usize) {
         Some(file) => {
             let imports = &imports[number as usize];
-            meaning_in_file(found, table, imports, file, scope, name)
+            meaning_in_file(found, table, imports, known, file, scope, name)
         }
         None => None,
     }
@@ -89,6 +94,7 @@ fn meaning_in_file(
     found: &[Found<'_>],
     table: &Table,
     imports: &Imports<'_>,
+    known: Known,
     file: &ParsedFile,
     scope: u32,
     name: &[Ident],
@@ -96,11 +102,12 @@ fn meaning_in_file(
     requires count { length found.now ≤ 16384 }
     requires table { table.now ≡ map mark_of_entry (map entry_of found.now) }
     requires imports { meant_through imports.now ≡ meant_in (source_of file.now) }
+    requires known { Knows (meant_through imports.now (map entry_of found.now) name.now) known }
     ensures { result ≡ meaning_in_file (map entry_of found.now) (source_of file.now) scope name.now }
 {
     match own_meaning(name) {
         Some(meaning) => Some(meaning),
-        None => first_declared(found, table, imports, file, scope, name),
+        None => first_declared(found, table, imports, known, file, scope, name),
     }
 }
 
@@ -109,6 +116,7 @@ fn first_declared(
     found: &[Found<'_>],
     table: &Table,
     imports: &Imports<'_>,
+    known: Known,
     file: &ParsedFile,
     scope: u32,
     name: &[Ident],
@@ -116,6 +124,7 @@ fn first_declared(
     requires count { length found.now ≤ 16384 }
     requires table { table.now ≡ map mark_of_entry (map entry_of found.now) }
     requires imports { meant_through imports.now ≡ meant_in (source_of file.now) }
+    requires known { Knows (meant_through imports.now (map entry_of found.now) name.now) known }
     ensures { result ≡ first_declared (map entry_of found.now) (candidates (map entry_of found.now) (source_of file.now) scope name.now) }
 {
     match declared(found, table, 0, &[], name) {
@@ -126,12 +135,31 @@ fn first_declared(
         Some(meaning) => return Some(meaning),
         None => {}
     }
-    match in_imports(found, table, imports, name) {
+    match through_imports(found, table, imports, known, name) {
         Some(meaning) => return Some(meaning),
         None => {}
     }
     let front = package(&file.tree);
     declared(found, table, with_parts(0, front), front, name)
+}
+
+// Through the imports, where it isn't known yet.
+fn through_imports(
+    found: &[Found<'_>],
+    table: &Table,
+    imports: &Imports<'_>,
+    known: Known,
+    name: &[Ident],
+) -> Option<Resolved>
+    requires count { length found.now ≤ 16384 }
+    requires table { table.now ≡ map mark_of_entry (map entry_of found.now) }
+    requires known { Knows (meant_through imports.now (map entry_of found.now) name.now) known }
+    ensures { result ≡ meant_through imports.now (map entry_of found.now) name.now }
+{
+    match known {
+        Known::Means(meaning) => meaning,
+        Known::Unasked => in_imports(found, table, imports, name),
+    }
 }
 
 // Through the enclosing declarations, from inside out.

@@ -4,13 +4,15 @@ ghost use Rattle.aidl_syntax.specs.Members.{members, body};
 ghost use Rattle.aidl_syntax.specs.Trees.{arg_of, body_of, decl_of};
 ghost use Rattle.aidl_names.specs.Sources.{source_of};
 ghost use Rattle.aidl_names.specs.Declarations.{declarations};
-ghost use Rattle.aidl_names.specs.Rules.{types_in, types_where, type_names, names_of_type, is_left_out, is_interface, is_interface_body};
+ghost use Rattle.aidl_names.specs.Rules.{UnknownType, LeftOutType, types_in, types_where, type_names, names_of_type, is_left_out, is_interface, is_interface_body};
 ghost use Rattle.aidl_names.specs.MemberViews.{seen_member};
 ghost use Rattle.aidl_names.specs.TypeRules.{breaks_of, rule_of};
 ghost use Rattle.aidl_names.specs.Imports.{meant_through, meant_in};
 ghost use Rattle.aidl_names.specs.Marks.{mark_of_entry};
 ghost use Rattle.aidl_names.specs.Refusals.{entry_of};
+ghost use Rattle.aidl_names.specs.steps.Asked.{AreRight};
 
+use crate::asked::{Asked, asked_where};
 use crate::imported::Imports;
 use crate::members::{MemberRef, members};
 use crate::names::Found;
@@ -24,7 +26,7 @@ use std::alloc::Global;
 
 /// A rule on the names of types.
 #[derive(Clone, Copy)]
-pub enum TypeRule {
+enum TypeRule {
     /// E4
     Unknown,
     /// E5
@@ -42,13 +44,53 @@ impl TypeRule {
     }
 }
 
-/// Adds the breaches of a rule on the names of types.
+/// Adds the breaches of E4 and of E5. Where there are 64 breaches and more, so many imports may have a last part in common
+/// that names which begin with it are asked for together.
 pub fn add_types(
     alloc: Global,
     files: &[ParsedFile],
     found: &[Found<'_>],
     table: &Table,
     imports: &[Imports<'_>],
+    rows: &mut Vec<Breach>,
+) -> Result<(), OutOfMemory>
+    requires count { length found.now ≤ 16384 }
+    requires table { table.now ≡ map mark_of_entry (map entry_of found.now) }
+    requires imports { map meant_through imports.now ≡ map meant_in (map source_of files.now) }
+    requires all { map entry_of found.now ≡ declarations (map source_of files.now) }
+    ensures { OnOk result (rows.new.items ≡ rows.old.items ++ UnknownType (map source_of files.now) ++ LeftOutType (map source_of files.now)) }
+{
+    let asked = asked_where(alloc, rows.len() >= 64, found, table, imports)?;
+    add_types_by(
+        alloc,
+        files,
+        found,
+        table,
+        imports,
+        &asked,
+        TypeRule::Unknown,
+        rows,
+    )?;
+    add_types_by(
+        alloc,
+        files,
+        found,
+        table,
+        imports,
+        &asked,
+        TypeRule::LeftOut,
+        rows,
+    )
+}
+
+// Adds the breaches of a rule on the names of types.
+fn add_types_by(
+    alloc: Global,
+    files: &[ParsedFile],
+    found: &[Found<'_>],
+    table: &Table,
+    imports: &[Imports<'_>],
+    asked: &Asked<'_>,
     rule: TypeRule,
     rows: &mut Vec<Breach>,
 ) -> Result<(), OutOfMemory>
@@ -56,10 +98,13 @@ pub fn add_types(
     requires table { table.now ≡ map mark_of_entry (map entry_of found.now) }
     requires imports { map meant_through imports.now ≡ map meant_in (map source_of files.now) }
     requires all { map entry_of found.now ≡ declarations (map source_of files.now) }
+    requires asked { AreRight imports.now (map entry_of found.now) asked.now }
     ensures { OnOk result (rows.new.items ≡ rows.old.items ++ types_where (breaks_of rule (map source_of files.now)) (rule_of rule) (map source_of files.now)) }
 {
     for (i, f) in found.iter().enumerate() {
-        add_types_in(alloc, files, found, table, imports, rule, i as u32, f, rows)?;
+        add_types_in(
+            alloc, files, found, table, imports, asked, rule, i as u32, f, rows,
+        )?;
     }
     Ok(())
 }
@@ -71,6 +116,7 @@ fn add_types_in(
     found: &[Found<'_>],
     table: &Table,
     imports: &[Imports<'_>],
+    asked: &Asked<'_>,
     rule: TypeRule,
     number: u32,
     inside: &Found<'_>,
@@ -80,6 +126,7 @@ fn add_types_in(
     requires table { table.now ≡ map mark_of_entry (map entry_of found.now) }
     requires imports { map meant_through imports.now ≡ map meant_in (map source_of files.now) }
     requires all { map entry_of found.now ≡ declarations (map source_of files.now) }
+    requires asked { AreRight imports.now (map entry_of found.now) asked.now }
     ensures { OnOk result (rows.new.items ≡ rows.old.items ++ types_in (breaks_of rule (map source_of files.now)) (rule_of rule) number (entry_of inside.now)) }
 {
     let names = names_of_types(alloc, inside.tree)?;
@@ -89,6 +136,7 @@ fn add_types_in(
             found,
             table,
             imports,
+            asked,
             rule,
             inside.file,
             number,
@@ -104,6 +152,7 @@ fn breaks(
     found: &[Found<'_>],
     table: &Table,
     imports: &[Imports<'_>],
+    asked: &Asked<'_>,
     rule: TypeRule,
     file: u32,
     scope: u32,
@@ -113,9 +162,11 @@ fn breaks(
     requires table { table.now ≡ map mark_of_entry (map entry_of found.now) }
     requires imports { map meant_through imports.now ≡ map meant_in (map source_of files.now) }
     requires all { map entry_of found.now ≡ declarations (map source_of files.now) }
+    requires asked { AreRight imports.now (map entry_of found.now) asked.now }
     ensures { result ≡ breaks_of rule (map source_of files.now) file scope name.now }
 {
-    let meaning = resolved(files, found, table, imports, file, scope, name);
+    let known = asked.known(file, name);
+    let meaning = resolved(files, found, table, imports, known, file, scope, name);
     match rule {
         TypeRule::Unknown => meaning.is_none(),
         TypeRule::LeftOut => is_left_out(found, meaning),
@@ -160,8 +211,8 @@ fn is_interface_body(body: &BodyTree) -> bool
     }
 }
 
-// The names of types in a declaration, but for those in nested declarations.
-fn names_of_types(alloc: Global, tree: &DeclTree) -> Result<Vec<&DottedTree>, OutOfMemory>
+/// The names of types in a declaration, but for those in nested declarations.
+pub fn names_of_types(alloc: Global, tree: &DeclTree) -> Result<Vec<&DottedTree>, OutOfMemory>
     ensures { IfOk result (λ names. map (λ d. d.now) names.items ≡ flat_map type_names (members (body (decl_of tree.now)))) }
 {
     let all = members(alloc, tree)?;

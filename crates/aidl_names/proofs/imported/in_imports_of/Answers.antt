@@ -1,4 +1,4 @@
-use Rattle.std.proofs.Common.{Bor, List, ℕ, ◌+◌, ◌∷◌, [], nat_eq, get_or, drop, length, map, sym, ◌∙◌, ap, arith}
+use Rattle.std.proofs.Common.{Bor, List, ℕ, ◌+◌, ◌∷◌, [], nat_eq, get_or, drop, length, map, sym, ◌∙◌, ap}
 use Rattle.std.specs.List.{position_from}
 use Rattle.aidl_syntax.specs.declared.tree.DottedTree.{DottedTree}
 use Rattle.aidl_names.specs.Marks.{mark_of, mark_of_last}

@@ -1,4 +1,4 @@
-use Rattle.std.proofs.Common.{Bor, ℕ, List, ◌∷◌, [], map, take, add-one, sym, ◌∙◌, ap, arith}
+use Rattle.std.proofs.Common.{Bor, ℕ, List, map, take, add-one, sym, ◌∙◌, ap, arith}
 use Rattle.aidl_syntax.specs.declared.tree.DottedTree.{DottedTree}
 use Rattle.aidl_names.specs.Imports.{meant_through}
 use Rattle.aidl_names.proofs.Copies.{both_more}

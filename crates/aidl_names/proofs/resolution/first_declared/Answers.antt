@@ -14,15 +14,15 @@ returns-in-Some-in_enclosing c =
     tried (map entry_of c.args.found.now) (source_of c.args.file.now) c.args.scope _ c.args.name.now None (Some c.in-Some-in_enclosing.meaning) _ _
     c.in-None.ensures (sym (length-map c.args.found.now entry_of)) c.in-Some-in_enclosing.ensures refl refl
 
-pub returns-in-Some-in_imports : goal.returns-in-Some-in_imports
-returns-in-Some-in_imports c =
-    tried (map entry_of c.args.found.now) (source_of c.args.file.now) c.args.scope _ c.args.name.now None None (Some c.in-Some-in_imports.meaning) _
+pub returns-in-Some-through_imports : goal.returns-in-Some-through_imports
+returns-in-Some-through_imports c =
+    tried (map entry_of c.args.found.now) (source_of c.args.file.now) c.args.scope _ c.args.name.now None None (Some c.in-Some-through_imports.meaning) _
     c.in-None.ensures (sym (length-map c.args.found.now entry_of)) c.in-None-in_enclosing.ensures
-    (c.in-Some-in_imports.ensures ∙ ap (λ (m : List Entry → List Ident → Option Resolved). m (map entry_of c.args.found.now) c.args.name.now) c.requires.imports) refl
+    (c.in-Some-through_imports.ensures ∙ ap (λ (m : List Entry → List Ident → Option Resolved). m (map entry_of c.args.found.now) c.args.name.now) c.requires.imports) refl
 
 pub returns : goal.returns
 returns c =
     tried (map entry_of c.args.found.now) (source_of c.args.file.now) c.args.scope _ c.args.name.now None None None c.declared-2.result
     c.in-None.ensures (sym (length-map c.args.found.now entry_of)) c.in-None-in_enclosing.ensures
-    (c.in-None-in_imports.ensures ∙ ap (λ (m : List Entry → List Ident → Option Resolved). m (map entry_of c.args.found.now) c.args.name.now) c.requires.imports)
+    (c.in-None-through_imports.ensures ∙ ap (λ (m : List Entry → List Ident → Option Resolved). m (map entry_of c.args.found.now) c.args.name.now) c.requires.imports)
     (c.declared-2.ensures ∙ ap (λ front. first_declared (map entry_of c.args.found.now) ((front ++ c.args.name.now) ∷ [])) c.package-front.ensures)

@@ -3,7 +3,7 @@ use Rattle.aidl_names.specs.Sources.{source_of}
 use Rattle.aidl_names.specs.Rules.{in_each, types_in, types_where}
 use Rattle.aidl_names.specs.TypeRules.{breaks_of, rule_of}
 use Rattle.aidl_names.specs.Refusals.{entry_of}
-use Rattle.aidl_names.proofs.types.add_types.Given as goal
+use Rattle.aidl_names.proofs.types.add_types_by.Given as goal
 
 -- the breaches so far and those that are left are all
 abbrev pub invariant-loop-i : goal.invariant-loop-i
