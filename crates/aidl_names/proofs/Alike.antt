@@ -9,103 +9,18 @@ use Rattle.std.proofs.lemmas.List.Folds.{list_any-append}
 use Rattle.std.proofs.lemmas.Slice.Eq.{bytes_eq-Decides}
 use Rattle.aidl_base.specs.declared.name.Ident.{Ident}
 use Rattle.aidl_syntax.specs.declared.tree.DottedTree.{DottedTree}
-use Rattle.aidl_names.specs.Names.{text, same, last}
+use Rattle.declared_names.specs.Names.{text, same, last}
 use Rattle.aidl_names.specs.Rules.{is_other_import}
-use Rattle.aidl_names.specs.Marks.{mark_of, mark_of_last}
-use Rattle.aidl_names.specs.Tables.{is_alike}
-use Rattle.aidl_names.proofs.Earlier.{take-next}
-use Rattle.aidl_names.proofs.Taken.{found_from}
-use Rattle.aidl_names.proofs.Tables.{same_marks}
+use Rattle.declared_names.specs.Marks.{mark_of, mark_of_last}
+use Rattle.aidl_names.specs.Alike.{is_alike}
+use Rattle.declared_names.proofs.Earlier.{take-next}
+use Rattle.declared_names.proofs.Firsts.{found_from, found-passes, found-first, any-at, position-same}
+use Rattle.declared_names.proofs.SameNames.{same-self, same-right, same-turned, same-texts}
+use Rattle.name_meanings.proofs.Tables.{same_marks}
 
 -- imports with the same last part have the same mark
 pub alike_marks : (name : List Ident) (i : DottedTree) → is_alike name i ≡ true → nat_eq (mark_of (last name)) (mark_of_last i) ≡ true
 alike_marks name i h = eq-eqb (mark_of (last name)) (mark_of_last i) (sym (same_marks 0 (last i.name.0) (last name) h))
-
--- Names are the same where their texts are.
-
-self : (t : List ℕ) → bytes_eq t t ≡ true
-self t = (bytes_eq-Decides t t).1 refl
-
-pub same-texts : (a b : List Ident) → same a b ≡ true → map text a ≡ map text b
-same-texts [] [] e = refl
-same-texts [] (y ∷ ys) e = cc
-same-texts (x ∷ xs) [] e = cc
-same-texts (x ∷ xs) (y ∷ ys) e =
-    let p = and_parts (bytes_eq (text x) (text y)) (same xs ys) e in
-    let q : text x ≡ text y = (bytes_eq-Decides (text x) (text y)).0 p.0 in
-    ap (λ (t : List ℕ). t ∷ map text xs) q ∙ ap (λ (ts : List (List ℕ)). text y ∷ ts) (same-texts xs ys p.1)
-
--- as lists of texts
-abbrev eq : List (List ℕ) → List (List ℕ) → Bool
-eq [] [] = true
-eq [] (b ∷ bs) = false
-eq (a ∷ more) [] = false
-eq (a ∷ more) (b ∷ bs) = bytes_eq a b && eq more bs
-
-same-eq : (a b : List Ident) → same a b ≡ eq (map text a) (map text b)
-same-eq [] [] = refl
-same-eq [] (y ∷ ys) = refl
-same-eq (x ∷ xs) [] = refl
-same-eq (x ∷ xs) (y ∷ ys) = ap (λ z. bytes_eq (text x) (text y) && z) (same-eq xs ys)
-
-eq-self : (ts : List (List ℕ)) → eq ts ts ≡ true
-eq-self [] = refl
-eq-self (t ∷ ts) = rw (self t, eq-self ts) refl
-
-pub same-self : (a : List Ident) → same a a ≡ true
-same-self a = same-eq a a ∙ eq-self (map text a)
-
-pub same-right : (a b c : List Ident) → same b c ≡ true → same a b ≡ same a c
-same-right a b c e = same-eq a b ∙ ap (eq (map text a)) (same-texts b c e) ∙ sym (same-eq a c)
-
-pub same-turned : (a b : List Ident) → same a b ≡ same b a
-same-turned a b = go (same a b) refl (same b a) refl where
-  go : (x : Bool) → same a b ≡ x → (y : Bool) → same b a ≡ y → x ≡ y
-  go true p true q = refl
-  go false p false q = refl
-  go true p false q = let s = same-eq b a ∙ ap (λ (t : List (List ℕ)). eq t (map text a)) (sym (same-texts a b p)) ∙ eq-self (map text a) in cc
-  go false p true q = let s = same-eq a b ∙ ap (λ (t : List (List ℕ)). eq t (map text b)) (sym (same-texts b a q)) ∙ eq-self (map text b) in cc
-
--- The first place of a last part.
-
--- what is found passes the test
-pub found-passes : {X : Type 0} (p : X → Bool) (k : ℕ) (xs : List X) (r : ℕ) (x : X) → position_from p k xs ≡ Some (k + r) → x ≡ get_or xs r x → (r < length xs) × (p x ≡ true)
-found-passes p k [] r x e is = cc
-found-passes p k (y ∷ ys) r x e is = go (p y) refl (λ j i z. found-passes p (k + 1) ys j x z i) e where
-  first : (j : ℕ) → p y ≡ true → x ≡ get_or (y ∷ ys) j x → j ≡ 0 → (j < length (y ∷ ys)) × (p x ≡ true)
-  first zero q i z = (omega arith, ap p i ∙ q)
-  first (suc j) q i z = absurd (omega arith)
-
-  later : (j : ℕ) → ((j : ℕ) → x ≡ get_or ys j x → position_from p (k + 1) ys ≡ Some (k + 1 + j) → (j < length ys) × (p x ≡ true)) → x ≡ get_or (y ∷ ys) j x → position_from p (k + 1) ys ≡ Some (k + j)
-      → (j < length (y ∷ ys)) × (p x ≡ true)
-  later zero rec i z = let f = found_from p (k + 1) ys (k + 0) z in absurd (omega arith)
-  later (suc j) rec i z = let s : k + suc j ≡ k + 1 + j = omega arith in let w = rec j i (z ∙ ap Some s) in (omega (arith, w.0), w.1)
-
-  go : (b : Bool) → p y ≡ b → ((j : ℕ) → x ≡ get_or ys j x → position_from p (k + 1) ys ≡ Some (k + 1 + j) → (j < length ys) × (p x ≡ true)) → cond b (Some k) (position_from p (k + 1) ys) ≡ Some (k + r)
-      → (r < length (y ∷ ys)) × (p x ≡ true)
-  go true q rec h = first r q is (let s : k ≡ k + r = cc in omega arith)
-  go false q rec h = later r rec is h
-
--- what is found stands at no later place than another that passes the test
-pub found-first : {X : Type 0} (p : X → Bool) (k : ℕ) (xs : List X) (i : ℕ) (x : X) → i < length xs → x ≡ get_or xs i x → p x ≡ true → (r : ℕ) × (position_from p k xs ≡ Some r) × (r ≤ k + i)
-found-first p k [] i x lt is h = absurd (omega arith)
-found-first p k (y ∷ ys) zero x lt is h = (k, ap (λ b. cond b (Some k) (position_from p (k + 1) ys)) (ap p (sym is) ∙ h), omega arith)
-found-first p k (y ∷ ys) (suc i) x lt is h =
-    let w = found-first p (k + 1) ys i x (omega arith) is h in
-    go (p y) w.0 w.1 w.2 where
-      go : (b : Bool) (r : ℕ) → position_from p (k + 1) ys ≡ Some r → r ≤ k + 1 + i → (r' : ℕ) × (cond b (Some k) (position_from p (k + 1) ys) ≡ Some r') × (r' ≤ k + suc i)
-      go true r e l = (k, refl, omega arith)
-      go false r e l = (r, e, omega arith)
-
--- one of the first passes a test
-pub any-at : {X : Type 0} (t : X → Bool) (xs : List X) (i j : ℕ) (x : X) → j < i → j < length xs → x ≡ get_or xs j x → t x ≡ true → list_any t (take i xs) ≡ true
-any-at t [] i j x lt l is h = absurd (omega arith)
-any-at t (y ∷ ys) zero j x lt l is h = absurd (omega arith)
-any-at t (y ∷ ys) (suc i) zero x lt l is h = ap (λ b. b || list_any t (take i ys)) (ap t (sym is) ∙ h)
-any-at t (y ∷ ys) (suc i) (suc j) x lt l is h = or-true (t y) (list_any t (take i ys)) (any-at t ys i j x (omega arith) (omega arith) is h) where
-  or-true : (a b : Bool) → b ≡ true → (a || b) ≡ true
-  or-true true b e = refl
-  or-true false b e = e
 
 -- Whether an import is another than earlier ones with its last part.
 
@@ -123,10 +38,6 @@ same-place : {X : Type 0} (xs : List X) (i : ℕ) (x f : X) → i < length xs �
 same-place [] i x f lt a b = absurd (omega arith)
 same-place (y ∷ ys) zero x f lt a b = b ∙ sym a
 same-place (y ∷ ys) (suc i) x f lt a b = same-place ys i x f (omega arith) a b
-
-pub position-same : {X : Type 0} (p q : X → Bool) → ((x : X) → p x ≡ q x) → (k : ℕ) (xs : List X) → position_from p k xs ≡ position_from q k xs
-position-same p q h k [] = refl
-position-same p q h k (x ∷ xs) = rw (h x, position-same p q h (k + 1) xs) refl
 
 -- Beside the first import of each last part stands whether one so far with that last part differs from it.
 pub record HasMemo (imports : List DottedTree) (differ : List Bool) (i : ℕ) : Type 0 where

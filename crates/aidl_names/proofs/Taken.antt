@@ -10,49 +10,15 @@ use Rattle.aidl_syntax.specs.declared.tree.NameTree.{NameTree}
 use Rattle.aidl_syntax.specs.Trees.{decl_of}
 use Rattle.aidl_base.specs.declared.breach.Breach.{Breach}
 use Rattle.aidl_syntax.specs.Members.{Member, members, member_name, body, declared_name}
-use Rattle.aidl_names.specs.Declarations.{Entry}
+use Rattle.declared_names.specs.Declarations.{Entry}
 use Rattle.aidl_names.specs.Rules.{is_named_again, repeated, repeated_inside, argument_names}
-use Rattle.aidl_names.proofs.Earlier.{take-next}
-use Rattle.aidl_names.specs.Names.{text}
-use Rattle.aidl_names.proofs.Trees.{seen_decl}
+use Rattle.declared_names.proofs.Earlier.{take-next}
+use Rattle.declared_names.specs.Names.{text}
+use Rattle.declared_names.proofs.Trees.{seen_decl}
 
 -- the name of a declaration
 pub seen_name : (t : DeclTree) → declared_name (decl_of t) ≡ t.name
 seen_name t = ap declared_name (seen_decl t)
-
--- what is found stands at the first place or behind it
-pub found_from : {X : Type 0} (p : X → Bool) (k : ℕ) (xs : List X) (r : ℕ) → position_from p k xs ≡ Some r → k ≤ r
-found_from p k [] r e = cc
-found_from p k (x ∷ xs) r e = go (p x) (found_from p (k + 1) xs r) e where
-  go : (b : Bool) → (position_from p (k + 1) xs ≡ Some r → k + 1 ≤ r) → cond b (Some k) (position_from p (k + 1) xs) ≡ Some r → k ≤ r
-  go true h e = let q : k ≡ r = cc in omega arith
-  go false h e = let q = h e in omega arith
-
--- one of the first passes a test exactly where the first that does is among them
-pub below-some : {X : Type 0} (p : X → Bool) (k : ℕ) (xs : List X) (i r : ℕ) → position_from p k xs ≡ Some r → nat_lt r (k + i) ≡ list_any p (take i xs)
-below-some p k [] i r e = cc
-below-some p k (x ∷ xs) zero r e = let h = found_from p k (x ∷ xs) r e in grind (arith, nat_tests, h)
-below-some p k (x ∷ xs) (suc i) r e = go (p x) (below-some p (k + 1) xs i r) e where
-  go : (b : Bool) → (position_from p (k + 1) xs ≡ Some r → nat_lt r (k + 1 + i) ≡ list_any p (take i xs)) → cond b (Some k) (position_from p (k + 1) xs) ≡ Some r
-      → nat_lt r (k + suc i) ≡ (b || list_any p (take i xs))
-  go true h e = let q : k ≡ r = cc in grind (arith, nat_tests, q)
-  go false h e = let s : k + suc i ≡ k + 1 + i = omega arith in ap (nat_lt r) s ∙ h e
-
-pub below-none : {X : Type 0} (p : X → Bool) (k : ℕ) (xs : List X) (i : ℕ) → position_from p k xs ≡ None → false ≡ list_any p (take i xs)
-below-none p k [] zero e = refl
-below-none p k [] (suc i) e = refl
-below-none p k (x ∷ xs) zero e = refl
-below-none p k (x ∷ xs) (suc i) e = go (p x) (below-none p (k + 1) xs i) e where
-  go : (b : Bool) → (position_from p (k + 1) xs ≡ None → false ≡ list_any p (take i xs)) → cond b (Some k) (position_from p (k + 1) xs) ≡ None
-      → false ≡ (b || list_any p (take i xs))
-  go true h e = cc
-  go false h e = h e
-
-pub among-some : {X : Type 0} (p : X → Bool) (xs : List X) (i r : ℕ) → Some r ≡ position_from p 0 xs → nat_lt r i ≡ list_any p (take i xs)
-among-some p xs i r e = let z : i ≡ 0 + i = omega arith in ap (nat_lt r) z ∙ below-some p 0 xs i r (sym e)
-
-pub among-none : {X : Type 0} (p : X → Bool) (xs : List X) (i : ℕ) → None ≡ position_from p 0 xs → false ≡ list_any p (take i xs)
-among-none p xs i e = below-none p 0 xs i (sym e)
 
 -- What was seen, as keys and as names.
 abbrev pub AreSeen : List (Bor (List ℕ)) → List NameTree → Type 0

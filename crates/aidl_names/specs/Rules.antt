@@ -11,26 +11,18 @@ use Rattle.aidl_syntax.specs.Trees.{Body}
 use Rattle.aidl_syntax.specs.Trees.Body.{parcelable, union, enum, interface}
 use Rattle.aidl_syntax.specs.Members.{Member, members, body, declared_name, member_name}
 use Rattle.aidl_syntax.specs.Members.Member.{field, constant, method, enumerator, nested}
-use Rattle.aidl_names.specs.declared.resolved.Resolved.{Resolved}
-use Rattle.aidl_names.specs.declared.resolved.Resolved.TheVariants.{Builtin, ListWord, LeftOut, Declared}
-use Rattle.aidl_names.specs.Names.{text, same, last, parts_of}
-use Rattle.aidl_names.specs.Sources.{Source}
-use Rattle.aidl_names.specs.Declarations.{Entry, declarations}
-use Rattle.aidl_names.specs.Resolution.{meaning_of_word, number_of, resolved}
+use Rattle.name_meanings.specs.declared.meaning.Resolved.{Resolved}
+use Rattle.name_meanings.specs.declared.meaning.Resolved.TheVariants.{Builtin, ListWord, LeftOut, Declared}
+use Rattle.declared_names.specs.Names.{text, same, last, parts_of}
+use Rattle.declared_names.specs.Numbered.{in_each, after_earlier}
+use Rattle.declared_names.specs.TypeNames.{type_names}
+use Rattle.aidl_syntax.specs.Sources.{Source}
+use Rattle.declared_names.specs.Declarations.{Entry, declarations}
+use Rattle.name_meanings.specs.Resolution.{meaning_of_word, number_of, resolved}
 
 -- a breach of a rule in a file, at an offset
 abbrev pub breach : ℕ → ℕ → ℕ → Breach
 breach rule file offset = record { rule = rule; file = file; offset = offset }
-
--- what is found in each of some things, which have the numbers from one on
-abbrev pub in_each : {A B : Type 0} → (ℕ → A → List B) → ℕ → List A → List B
-in_each find number [] = []
-in_each find number (x ∷ more) = find number x ++ in_each find (number + 1) more
-
--- the things, each behind those before it, that pass a test of both
-abbrev pub after_earlier : {A : Type 0} → (List A → A → Bool) → List A → List A → List A
-after_earlier test before [] = []
-after_earlier test before (x ∷ more) = (if test before x then x ∷ [] else []) ++ after_earlier test (before ++ x ∷ []) more
 
 -- E1 WrongFile: the file's path isn't the canonical name with `/` for `.` and `.aidl`.
 
@@ -93,22 +85,6 @@ abbrev pub UnknownImport : List Source → List Breach
 UnknownImport files = in_each (unknown_imports (declarations files)) 0 files
 
 -- The names of types.
-
--- a type's name, and its element's
-abbrev pub names_of_type : TypeTree → List DottedTree
-names_of_type t = t.name ∷ (elim t.element [ None ↦ [] | Some d ↦ d ∷ [] ])
-
-abbrev pub names_of_returned : Option TypeTree → List DottedTree
-names_of_returned None = []
-names_of_returned (Some t) = names_of_type t
-
--- those of a member
-abbrev pub type_names : Member → List DottedTree
-type_names (field f) = names_of_type f.ty
-type_names (constant c) = names_of_type c.ty
-type_names (method m) = names_of_returned m.returned ++ flat_map (λ a. names_of_type a.ty) m.args
-type_names (enumerator e) = []
-type_names (nested d) = []
 
 -- the names of types in a tree that pass a test of the file, the innermost declaration around and the name
 abbrev pub types_in : (ℕ → ℕ → List Ident → Bool) → ℕ → ℕ → Entry → List Breach

@@ -3,9 +3,9 @@ use Rattle.std.specs.Prelude.{ℕ, Bool, List}
 use Rattle.aidl_base.specs.declared.name.Ident.{Ident}
 use Rattle.aidl_names.specs.declared.types.TypeRule.{TypeRule}
 use Rattle.aidl_names.specs.declared.types.TypeRule.TheVariants as rule
-use Rattle.aidl_names.specs.Sources.{Source}
-use Rattle.aidl_names.specs.Declarations.{declarations}
-use Rattle.aidl_names.specs.Resolution.{resolved}
+use Rattle.aidl_syntax.specs.Sources.{Source}
+use Rattle.declared_names.specs.Declarations.{declarations}
+use Rattle.name_meanings.specs.Resolution.{resolved}
 use Rattle.aidl_names.specs.Rules.{is_unknown, is_left_out}
 
 abbrev pub rule_of : TypeRule → ℕ

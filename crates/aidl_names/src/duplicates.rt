@@ -2,21 +2,19 @@ ghost use Rattle.std.specs.Prelude.{◌≡◌, ◌≤◌, ◌++◌, map, take, l
 ghost use Rattle.std.specs.List.{flat_map, list_any};
 ghost use Rattle.aidl_syntax.specs.Trees.{arg_of};
 ghost use Rattle.aidl_syntax.specs.Members.{member_name};
-ghost use Rattle.aidl_names.specs.Names.{same};
+ghost use Rattle.declared_names.specs.Names.{same};
 ghost use Rattle.aidl_names.specs.Rules.{repeated, repeated_inside, argument_names, taken, is_taken};
-ghost use Rattle.aidl_names.specs.MemberViews.{seen_member};
-ghost use Rattle.aidl_names.specs.Marks.{mark_of_entry};
-ghost use Rattle.aidl_names.specs.Refusals.{entry_of};
+ghost use Rattle.declared_names.specs.MemberViews.{seen_member};
+ghost use Rattle.declared_names.specs.Marks.{mark_of_entry};
+ghost use Rattle.declared_names.specs.Entries.{entry_of};
 
-use crate::members::{MemberRef, members, name_of};
-use crate::names::Found;
-use crate::resolution::{meaning_of_word, number_of};
 use crate::rows::add_if;
-use crate::table::Table;
 use aidl_base::{Breach, Ident, OutOfMemory};
 use aidl_syntax::{ArgTree, NameTree};
 use indexmap::IndexSet;
 use std::alloc::Global;
+use declared_names::{Found, MemberRef, Table, members, name_of};
+use name_meanings::{meaning_of_word, number_of};
 
 /// Adds the breaches of E2 by members and arguments.
 pub fn add_repeated(

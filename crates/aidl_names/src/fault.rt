@@ -1,5 +1,4 @@
 use aidl_base::{Breach, Limit, OutOfMemory, Row};
-use std::alloc::AllocFailed;
 
 /// Why the names of a tree are refused.
 #[derive(Debug, Drop)]
@@ -20,36 +19,5 @@ impl From<OutOfMemory> for NameFault {
 
     fn from(_fault: OutOfMemory) -> NameFault {
         NameFault::OutOfMemory
-    }
-}
-
-/// Why a walk over declarations stops.
-#[derive(Clone, Copy)]
-pub enum WalkFault {
-    /// there are more than 16,384 declarations
-    Full,
-    /// memory was wanted and was not there
-    OutOfMemory,
-}
-
-impl From<OutOfMemory> for WalkFault {
-    ghost use Rattle.std.specs.Prelude.{◌≡◌};
-    ghost use Rattle.aidl_names.specs.declared.fault.WalkFault.TheVariants as fault;
-
-    ghost from_gives = { λ _ e. e ≡ fault.OutOfMemory };
-
-    fn from(_fault: OutOfMemory) -> WalkFault {
-        WalkFault::OutOfMemory
-    }
-}
-
-impl<T: Drop> From<AllocFailed<T>> for WalkFault {
-    ghost use Rattle.std.specs.Prelude.{◌≡◌};
-    ghost use Rattle.aidl_names.specs.declared.fault.WalkFault.TheVariants as fault;
-
-    ghost from_gives = { λ _ e. e ≡ fault.OutOfMemory };
-
-    fn from(_fault: AllocFailed<T>) -> WalkFault {
-        WalkFault::OutOfMemory
     }
 }

@@ -1,20 +1,18 @@
 ghost use Rattle.std.specs.Prelude.{◌≡◌, ◌≤◌, ◌<◌, ◌++◌, ◌||◌, map, length, get_or, Some, IfOk, OnOk};
 ghost use Rattle.std.specs.List.{position_from};
-ghost use Rattle.aidl_names.specs.Sources.{source_of};
-ghost use Rattle.aidl_names.specs.Rules.{in_each, unknown_imports, other_imports};
-ghost use Rattle.aidl_names.specs.Marks.{mark_of_entry, mark_of_last};
-ghost use Rattle.aidl_names.specs.Tables.{is_alike};
-ghost use Rattle.aidl_names.specs.Refusals.{entry_of};
+ghost use Rattle.aidl_syntax.specs.Sources.{source_of};
+ghost use Rattle.aidl_names.specs.Rules.{unknown_imports, other_imports};
+ghost use Rattle.declared_names.specs.Numbered.{in_each};
+ghost use Rattle.declared_names.specs.Marks.{mark_of_entry, mark_of_last};
+ghost use Rattle.aidl_names.specs.Alike.{is_alike};
+ghost use Rattle.declared_names.specs.Entries.{entry_of};
 
-use crate::marks::with_parts;
-use crate::names::Found;
-use crate::resolution::{last, number_of};
 use crate::rows::add_if;
-use crate::same::same;
-use crate::table::Table;
 use aidl_base::{Breach, Ident, OutOfMemory};
 use aidl_syntax::{DottedTree, ParsedFile};
 use std::alloc::Global;
+use declared_names::{Found, Table, last, last_mark, same, with_parts};
+use name_meanings::number_of;
 
 /// Adds the breaches of E3.
 pub fn add_unknown_imports(
@@ -104,13 +102,6 @@ fn last_marks(alloc: Global, imports: &[DottedTree]) -> Result<Vec<u64>, OutOfMe
         marks.push(last_mark(import))?;
     }
     Ok(marks)
-}
-
-/// The mark of the last part of an import. It takes no memory.
-pub fn last_mark(import: &DottedTree) -> u64
-    ensures { result ≡ mark_of_last import.now }
-{
-    with_parts(0, last(import.name.0.as_slice()))
 }
 
 // The place of the first import that has the last part of the one at a place. It takes no memory.

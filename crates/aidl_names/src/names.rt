@@ -1,47 +1,31 @@
 ghost use Rattle.std.specs.Prelude.{◌≡◌, ◌≤◌, map, length, IfOk, IfErr};
 ghost use Rattle.aidl_names.specs.declared.fault.NameFault.TheVariants as fault;
 ghost use Rattle.aidl_names.specs.Breaches.{breaches};
-ghost use Rattle.aidl_names.specs.Sources.{AreOfBytes, source_of};
-ghost use Rattle.aidl_names.specs.Declarations.{declarations};
-ghost use Rattle.aidl_names.specs.Called.{called_at};
-ghost use Rattle.aidl_names.specs.MemberViews.{seen_member};
+ghost use Rattle.aidl_syntax.specs.Sources.{AreOfBytes, source_of};
+ghost use Rattle.declared_names.specs.Declarations.{declarations};
+ghost use Rattle.declared_names.specs.Called.{called_at};
+ghost use Rattle.declared_names.specs.MemberViews.{seen_member};
 ghost use Rattle.aidl_syntax.specs.Trees.{map_option};
-ghost use Rattle.aidl_names.specs.Resolution.{resolved};
-ghost use Rattle.aidl_names.specs.Imports.{meant_through, meant_in};
-ghost use Rattle.aidl_names.specs.Marks.{mark_of_entry};
-ghost use Rattle.aidl_names.specs.Refusals.{IsAccepted, IsRefusal, IsScope, entry_of};
+ghost use Rattle.name_meanings.specs.Resolution.{resolved};
+ghost use Rattle.name_meanings.specs.Imports.{meant_through, meant_in};
+ghost use Rattle.declared_names.specs.Marks.{mark_of_entry};
+ghost use Rattle.aidl_names.specs.Refusals.{IsAccepted, IsRefusal, IsScope};
+ghost use Rattle.declared_names.specs.Entries.{entry_of};
 
-use crate::asked::Known;
-use crate::called::{called, members_by_name};
 use crate::duplicates::{add_repeated, add_taken};
-use crate::fault::{NameFault, WalkFault};
+use crate::fault::NameFault;
 use crate::files::add_wrong_files;
-use crate::imported::{Imports, imports_of_files};
 use crate::imports::{add_other_imports, add_unknown_imports};
 use crate::limits::passed;
-use crate::marks::marks;
-use crate::members::MemberRef;
 use crate::order::in_order;
-use crate::resolution::resolved;
-use crate::resolved::Resolved;
-use crate::table::Table;
 use crate::types::add_types;
-use crate::walk::walk;
-use aidl_base::{Breach, DottedName, Ident, Limit, LimitName, OutOfMemory, Row};
-use aidl_syntax::{DeclTree, ParsedFile};
+use aidl_base::{Breach, Ident, Limit, LimitName, OutOfMemory, Row};
+use aidl_syntax::ParsedFile;
 use indexmap::IndexMap;
 use std::alloc::Global;
 use std::marker::Model;
-
-/// A declaration of a tree: its canonical name, the 0-based number of its file, the number of the declaration that
-/// encloses it, and its tree.
-#[derive(Drop)]
-pub struct Found<'a> {
-    pub name: DottedName,
-    pub file: u32,
-    pub outer: Option<u32>,
-    pub tree: &'a DeclTree,
-}
+use declared_names::{Found, MemberRef, Table, WalkFault, called, marks, members_by_name, walk};
+use name_meanings::{Imports, Known, Resolved, imports_of_files, resolved};
 
 /// A tree of files that passes no limit on declarations and breaks none of E1 to E5. Contracts see it as its files.
 #[derive(Drop)]
@@ -58,12 +42,13 @@ impl<'a> Model for Names<'a> {
     ghost use Rattle.std.specs.Coded.{codes};
     ghost use Rattle.aidl_syntax.specs.declared.tree.ParsedFile.{ParsedFile};
     ghost use Rattle.aidl_syntax.specs.contracts.tree.ParsedFile as parsed_file;
-    ghost use Rattle.aidl_names.specs.Sources.{AreOfBytes, source_of};
-    ghost use Rattle.aidl_names.specs.Declarations.{declarations};
-    ghost use Rattle.aidl_names.specs.Imports.{meant_through, meant_in};
-    ghost use Rattle.aidl_names.specs.Marks.{mark_of_entry};
-    ghost use Rattle.aidl_names.specs.Refusals.{IsAccepted, entry_of};
-    ghost use Rattle.aidl_names.specs.Called.{called, seen_table};
+    ghost use Rattle.aidl_syntax.specs.Sources.{AreOfBytes, source_of};
+    ghost use Rattle.declared_names.specs.Declarations.{declarations};
+    ghost use Rattle.name_meanings.specs.Imports.{meant_through, meant_in};
+    ghost use Rattle.declared_names.specs.Marks.{mark_of_entry};
+    ghost use Rattle.aidl_names.specs.Refusals.{IsAccepted};
+    ghost use Rattle.declared_names.specs.Entries.{entry_of};
+    ghost use Rattle.declared_names.specs.Called.{called, seen_table};
 
     ghost Value = { List ParsedFile };
 

@@ -2,27 +2,23 @@ ghost use Rattle.std.specs.Prelude.{◌≡◌, ◌≤◌, ◌++◌, map, length,
 ghost use Rattle.std.specs.List.{flat_map};
 ghost use Rattle.aidl_syntax.specs.Members.{members, body};
 ghost use Rattle.aidl_syntax.specs.Trees.{arg_of, body_of, decl_of};
-ghost use Rattle.aidl_names.specs.Sources.{source_of};
-ghost use Rattle.aidl_names.specs.Declarations.{declarations};
-ghost use Rattle.aidl_names.specs.Rules.{UnknownType, LeftOutType, types_in, types_where, type_names, names_of_type, is_left_out, is_interface, is_interface_body};
-ghost use Rattle.aidl_names.specs.MemberViews.{seen_member};
+ghost use Rattle.aidl_syntax.specs.Sources.{source_of};
+ghost use Rattle.declared_names.specs.Declarations.{declarations};
+ghost use Rattle.aidl_names.specs.Rules.{UnknownType, LeftOutType, types_in, types_where, is_left_out, is_interface, is_interface_body};
+ghost use Rattle.declared_names.specs.TypeNames.{type_names, names_of_type};
+ghost use Rattle.declared_names.specs.MemberViews.{seen_member};
 ghost use Rattle.aidl_names.specs.TypeRules.{breaks_of, rule_of};
-ghost use Rattle.aidl_names.specs.Imports.{meant_through, meant_in};
-ghost use Rattle.aidl_names.specs.Marks.{mark_of_entry};
-ghost use Rattle.aidl_names.specs.Refusals.{entry_of};
-ghost use Rattle.aidl_names.specs.steps.Asked.{AreRight};
+ghost use Rattle.name_meanings.specs.Imports.{meant_through, meant_in};
+ghost use Rattle.declared_names.specs.Marks.{mark_of_entry};
+ghost use Rattle.declared_names.specs.Entries.{entry_of};
+ghost use Rattle.name_meanings.specs.steps.Asked.{AreRight};
 
-use crate::asked::{Asked, asked_where};
-use crate::imported::Imports;
-use crate::members::{MemberRef, members};
-use crate::names::Found;
-use crate::resolution::resolved;
-use crate::resolved::Resolved;
 use crate::rows::add_if;
-use crate::table::Table;
 use aidl_base::{Breach, Ident, OutOfMemory};
 use aidl_syntax::{ArgTree, BodyTree, DeclTree, DottedTree, ParsedFile, TypeTree};
 use std::alloc::Global;
+use declared_names::{Found, MemberRef, Table, members};
+use name_meanings::{Asked, Imports, Resolved, asked_where, resolved};
 
 /// A rule on the names of types.
 #[derive(Clone, Copy)]
@@ -209,58 +205,4 @@ fn is_interface_body(body: &BodyTree) -> bool
         BodyTree::Enum(_) => false,
         BodyTree::Interface { .. } => true,
     }
-}
-
-/// The names of types in a declaration, but for those in nested declarations.
-pub fn names_of_types(alloc: Global, tree: &DeclTree) -> Result<Vec<&DottedTree>, OutOfMemory>
-    ensures { IfOk result (λ names. map (λ d. d.now) names.items ≡ flat_map type_names (members (body (decl_of tree.now)))) }
-{
-    let all = members(alloc, tree)?;
-    let mut names = Vec::new(alloc);
-    for member in all.as_slice() {
-        add_member_types(*member, &mut names)?;
-    }
-    Ok(names)
-}
-
-fn add_member_types<'a>(
-    member: MemberRef<'a>,
-    names: &mut Vec<&'a DottedTree>,
-) -> Result<(), OutOfMemory>
-    ensures { OnOk result (map (λ d. d.now) names.new.items ≡ map (λ d. d.now) names.old.items ++ type_names (seen_member member.entry)) }
-{
-    match member {
-        MemberRef::Field(field) => add_type(&field.ty, names),
-        MemberRef::Constant(constant) => add_type(&constant.ty, names),
-        MemberRef::Method(method) => {
-            if let Some(ty) = &method.result {
-                add_type(ty, names)?;
-            }
-            add_argument_types(method.args.as_slice(), names)
-        }
-        MemberRef::Enumerator(_) => Ok(()),
-        MemberRef::Nested(_) => Ok(()),
-    }
-}
-
-fn add_argument_types<'a>(
-    args: &'a [ArgTree],
-    names: &mut Vec<&'a DottedTree>,
-) -> Result<(), OutOfMemory>
-    ensures { OnOk result (map (λ d. d.now) names.new.items ≡ map (λ d. d.now) names.old.items ++ flat_map (λ a. names_of_type a.ty) (map arg_of args.now)) }
-{
-    for arg in args {
-        add_type(&arg.ty, names)?;
-    }
-    Ok(())
-}
-
-fn add_type<'a>(ty: &'a TypeTree, names: &mut Vec<&'a DottedTree>) -> Result<(), OutOfMemory>
-    ensures { OnOk result (map (λ d. d.now) names.new.items ≡ map (λ d. d.now) names.old.items ++ names_of_type ty.now) }
-{
-    names.push(&ty.name)?;
-    if let Some(element) = &ty.element {
-        names.push(element)?;
-    }
-    Ok(())
 }

@@ -6,7 +6,7 @@ use Rattle.aidl_base.specs.Results.{◌>>=◌}
 use Rattle.aidl_syntax.specs.declared.tree.DottedTree.{DottedTree}
 use Rattle.aidl_syntax.specs.Trees.{Expr}
 use Rattle.aidl_syntax.specs.Trees.Expr.{literal, name, group, unary, binary}
-use Rattle.aidl_names.specs.Sources.{Source}
+use Rattle.aidl_syntax.specs.Sources.{Source}
 use Rattle.const_operands.specs.declared.fault.ConstFault.{ConstFault}
 use Rattle.const_operands.specs.Operands.{Operand}
 use Rattle.const_operands.specs.Symbols.{unary_operator, binary_operator}

@@ -7,7 +7,7 @@ use Rattle.aidl_base.specs.Results.{◌>>=◌}
 use Rattle.aidl_syntax.specs.declared.tree.DottedTree.{DottedTree}
 use Rattle.aidl_syntax.specs.Trees.{Expr}
 use Rattle.graph_cycles.specs.Paths.{flag}
-use Rattle.aidl_names.specs.Sources.{Source}
+use Rattle.aidl_syntax.specs.Sources.{Source}
 use Rattle.const_operands.specs.declared.fault.ConstFault.{ConstFault}
 use Rattle.const_operands.specs.declared.fault.EvalFault.{EvalFault}
 use Rattle.const_operands.specs.declared.fault.EvalFault.TheVariants as eval

@@ -2,7 +2,7 @@
 use Rattle.std.proofs.Common.{◌≡◌, ℕ, ◌<◌, Bool, false, IsTrue, ◌↔◌, List, length, map, get_or, Option, Some, None, ap, ◌∙◌}
 use Rattle.std.specs.List.{slice_get}
 use Rattle.graph_cycles.specs.Paths.{TellsCycles, flag, targets}
-use Rattle.aidl_names.specs.Sources.{Source}
+use Rattle.aidl_syntax.specs.Sources.{Source}
 use Rattle.const_items.specs.declared.item.ItemRef.{ItemRef}
 use Rattle.const_eval.specs.declared.outcome.Outcome.{Outcome}
 use Rattle.const_items.specs.Dependence.{has_unknown_name, next}

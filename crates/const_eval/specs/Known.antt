@@ -6,7 +6,7 @@ use Rattle.aidl_base.specs.declared.constant.Const.TheVariants as value
 use Rattle.aidl_syntax.specs.declared.tree.DottedTree.{DottedTree}
 use Rattle.aidl_syntax.specs.declared.tree.ParsedFile.{ParsedFile}
 use Rattle.graph_cycles.specs.Paths.{flag, targets}
-use Rattle.aidl_names.specs.Sources.{Source, source_of}
+use Rattle.aidl_syntax.specs.Sources.{Source, source_of}
 use Rattle.const_operands.specs.declared.fault.ConstFault.{ConstFault}
 use Rattle.const_operands.specs.declared.fault.ConstFault.TheVariants.{Cycle, UnknownName}
 use Rattle.const_operands.specs.Operands.{Operand}

@@ -8,7 +8,7 @@ use Rattle.graph_cycles.specs.Paths.{Leads}
 use Rattle.aidl_syntax.specs.declared.tree.DottedTree.{DottedTree}
 use Rattle.aidl_syntax.specs.Trees.{Expr}
 use Rattle.aidl_syntax.specs.Trees.Expr.{name}
-use Rattle.aidl_names.specs.Sources.{Source}
+use Rattle.aidl_syntax.specs.Sources.{Source}
 use Rattle.const_operands.specs.declared.fault.ConstFault.{ConstFault}
 use Rattle.const_operands.specs.declared.fault.ConstFault.TheVariants.{Mismatch, Cycle, UnknownName}
 use Rattle.const_values.specs.declared.wanted.Wanted.{Wanted}

@@ -1,7 +1,7 @@
 ghost use Rattle.std.specs.Prelude.{◌≡◌, ◌<◌, ◌≤◌, ℕ, false, length, map, IfOk, IsTrue, Contains};
 ghost use Rattle.std.specs.List.{All, slice_get};
 ghost use Rattle.graph_cycles.specs.Paths.{TellsCycles, flag, targets};
-ghost use Rattle.aidl_names.specs.Sources.{source_of};
+ghost use Rattle.aidl_syntax.specs.Sources.{source_of};
 ghost use Rattle.const_items.specs.Dependence.{has_unknown_name};
 ghost use Rattle.const_eval.specs.Held.{is_held_outcome};
 ghost use Rattle.const_items.specs.Items.{items as items_of};

@@ -1,7 +1,7 @@
 ghost use Rattle.std.specs.Prelude.{◌≡◌, map, IfOk, IsTrue};
 ghost use Rattle.aidl_syntax.specs.Trees.{expr_of};
 ghost use Rattle.aidl_names.specs.Refusals.{IsScope};
-ghost use Rattle.aidl_names.specs.Sources.{source_of};
+ghost use Rattle.aidl_syntax.specs.Sources.{source_of};
 ghost use Rattle.const_operands.specs.Seen.{Answers};
 ghost use Rattle.const_eval.specs.Held.{is_held};
 ghost use Rattle.const_items.specs.ItemViews.{item_of};

@@ -1,6 +1,6 @@
 ghost use Rattle.std.specs.Prelude.{◌≡◌, ◌<◌, ℕ, length, map, IfOk, IsTrue};
 ghost use Rattle.std.specs.List.{slice_get};
-ghost use Rattle.aidl_names.specs.Sources.{source_of};
+ghost use Rattle.aidl_syntax.specs.Sources.{source_of};
 ghost use Rattle.const_operands.specs.Operands.{IsWithin};
 ghost use Rattle.const_operands.specs.Seen.{answer, seen};
 ghost use Rattle.const_eval.specs.Held.{is_held_outcome};
@@ -33,7 +33,7 @@ impl<'a> Model for KnownValues<'a> {
     ghost use Rattle.std.specs.Coded.{codes};
     ghost use Rattle.aidl_syntax.specs.contracts.tree.ParsedFile as parsed_file;
     ghost use Rattle.const_eval.specs.contracts.outcome.Outcome as outcome;
-    ghost use Rattle.aidl_names.specs.Sources.{source_of};
+    ghost use Rattle.aidl_syntax.specs.Sources.{source_of};
     ghost use Rattle.const_items.specs.ItemViews.{item_of};
     ghost use Rattle.const_eval.specs.Known.{AreHeld, AreItems, Known};
 

@@ -1,6 +1,6 @@
 ghost use Rattle.std.specs.Prelude.{◌≡◌, ℕ, map};
 ghost use Rattle.aidl_names.specs.Breaches.{in_order};
-ghost use Rattle.aidl_names.specs.Sources.{source_of};
+ghost use Rattle.aidl_syntax.specs.Sources.{source_of};
 ghost use Rattle.const_eval.specs.Breaches.{breaches};
 ghost use Rattle.const_items.specs.Items.{items};
 ghost use Rattle.const_eval.specs.Outcomes.{HasOutcome};

@@ -1,9 +1,9 @@
 -- The last part of a name, and the parts before it.
 use Rattle.std.proofs.Common.{◌≡◌, ◌≤◌, ◌-◌, ℕ, suc, List, [], ◌∷◌, ◌++◌, length, get_or, take, sym, ap, ◌∙◌, append_assoc, append-nil, arith, Option}
 use Rattle.aidl_base.specs.declared.name.Ident.{Ident}
-use Rattle.aidl_names.specs.Declarations.{declarations}
-use Rattle.aidl_names.specs.Resolution.{resolved}
-use Rattle.aidl_names.specs.Sources.{Source}
+use Rattle.declared_names.specs.Declarations.{declarations}
+use Rattle.name_meanings.specs.Resolution.{resolved}
+use Rattle.aidl_syntax.specs.Sources.{Source}
 use Rattle.const_items.specs.Items.{Item}
 use Rattle.const_items.specs.Dependence.{Target, member_of, target_behind, target_by}
 

@@ -6,7 +6,7 @@ use Rattle.std.proofs.lemmas.Bool.Decides.{nat_tests}
 use Rattle.std.specs.declared.cmp.Ordering.{Ordering}
 use Rattle.std.specs.declared.cmp.Ordering.TheVariants.{Less, Equal, Greater}
 use Rattle.std.specs.Ordering.{nat_cmp, ordering_then, match_ordering}
-use Rattle.aidl_names.specs.Sources.{Source}
+use Rattle.aidl_syntax.specs.Sources.{Source}
 use Rattle.const_items.specs.Items.{Item, declared, items, order, put}
 use Rattle.const_items.proofs.EachItem.{put_all, fold_all}
 

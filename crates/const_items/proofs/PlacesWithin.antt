@@ -12,9 +12,9 @@ use Rattle.aidl_syntax.specs.Trees.Body.{parcelable, union, enum, interface}
 use Rattle.aidl_syntax.specs.Trees.Members.{none, field, constant, method, nested}
 use Rattle.aidl_syntax.specs.Members.{listed, body}
 use Rattle.aidl_syntax.specs.Walks.{placing, of_option, of_each, in_annots, in_type, in_init, in_field, in_constant, in_enumerator, in_method, in_decl, in_body, in_members, places_of}
-use Rattle.aidl_names.specs.Sources.{Source}
-use Rattle.aidl_names.specs.Declarations.{Entry, declarations, with_decl, with_body, with_members, with_file, with_files, inside}
-use Rattle.aidl_names.specs.Names.{parts_of}
+use Rattle.aidl_syntax.specs.Sources.{Source}
+use Rattle.declared_names.specs.Declarations.{Entry, declarations, with_decl, with_body, with_members, with_file, with_files, inside}
+use Rattle.declared_names.specs.Names.{parts_of}
 use Rattle.const_values.specs.declared.wanted.Wanted.{Wanted}
 use Rattle.type_shapes.specs.declared.shape.Shape.{Shape}
 use Rattle.const_items.specs.SmallPlaces.{Small, HasSmall}

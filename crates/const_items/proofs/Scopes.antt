@@ -10,10 +10,10 @@ use Rattle.aidl_syntax.specs.Trees.Init.{single, braces}
 use Rattle.aidl_syntax.specs.Trees.Body.{parcelable, union, enum, interface}
 use Rattle.aidl_syntax.specs.Members.{Member, listed, body}
 use Rattle.aidl_syntax.specs.Members.Member.{field, constant, method, enumerator, nested}
-use Rattle.aidl_names.specs.Declarations.{Entry, declarations}
+use Rattle.declared_names.specs.Declarations.{Entry, declarations}
 use Rattle.aidl_names.specs.Refusals.{IsScope}
-use Rattle.aidl_names.specs.Rules.{in_each}
-use Rattle.aidl_names.specs.Sources.{Source}
+use Rattle.declared_names.specs.Numbered.{in_each}
+use Rattle.aidl_syntax.specs.Sources.{Source}
 use Rattle.const_values.specs.declared.wanted.Wanted.{Wanted}
 use Rattle.const_items.specs.declared.item.ItemRef.{ItemRef}
 use Rattle.type_shapes.specs.declared.shape.Shape.{Shape}

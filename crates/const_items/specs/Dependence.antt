@@ -8,12 +8,12 @@ use Rattle.aidl_syntax.specs.Trees.{Expr, offset_of, Constant, Enumerator}
 use Rattle.aidl_syntax.specs.Walks.{in_expr}
 use Rattle.aidl_syntax.specs.Members.{Member}
 use Rattle.aidl_syntax.specs.Members.Member.{constant, enumerator}
-use Rattle.aidl_names.specs.declared.resolved.Resolved.{Resolved}
-use Rattle.aidl_names.specs.declared.resolved.Resolved.TheVariants.{Declared}
-use Rattle.aidl_names.specs.Called.{called}
-use Rattle.aidl_names.specs.Sources.{Source}
-use Rattle.aidl_names.specs.Declarations.{Entry, declarations}
-use Rattle.aidl_names.specs.Resolution.{resolved, or_else}
+use Rattle.name_meanings.specs.declared.meaning.Resolved.{Resolved}
+use Rattle.name_meanings.specs.declared.meaning.Resolved.TheVariants.{Declared}
+use Rattle.declared_names.specs.Called.{called}
+use Rattle.aidl_syntax.specs.Sources.{Source}
+use Rattle.declared_names.specs.Declarations.{Entry, declarations}
+use Rattle.name_meanings.specs.Resolution.{resolved, or_else}
 use Rattle.const_items.specs.Items.{Item, Written, written, first, after, items, number_at, place_of}
 
 -- a constant or an enumerator, with the numbers of its file and of the declaration that has it

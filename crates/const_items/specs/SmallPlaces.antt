@@ -2,7 +2,7 @@
 use Rattle.std.specs.Prelude.{ℕ, ◌<◌, List}
 use Rattle.std.specs.List.{All}
 use Rattle.aidl_syntax.specs.Walks.{places_of}
-use Rattle.aidl_names.specs.Sources.{Source}
+use Rattle.aidl_syntax.specs.Sources.{Source}
 
 abbrev pub Small : List ℕ → Type 0
 Small = All (λ o. o < 262144)

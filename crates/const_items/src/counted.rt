@@ -1,6 +1,6 @@
 ghost use Rattle.std.specs.Prelude.{◌≤◌, length, map};
 ghost use Rattle.std.specs.List.{All};
-ghost use Rattle.aidl_names.specs.Sources.{AreOfBytes, source_of};
+ghost use Rattle.aidl_syntax.specs.Sources.{AreOfBytes, source_of};
 ghost use Rattle.const_items.specs.Items.{items};
 ghost use Rattle.const_items.specs.SmallPlaces.{HasSmall};
 

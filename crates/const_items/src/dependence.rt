@@ -1,7 +1,7 @@
 ghost use Rattle.std.specs.Prelude.{◌≡◌, ◌≤◌, ◌<◌, ◌++◌, ◌∷◌, ◌||◌, [], is_none, length, map, ℕ, IfOk, IfSome, OnOk};
 ghost use Rattle.std.specs.List.{cons_option, filter_map, list_any};
 ghost use Rattle.aidl_names.specs.Refusals.{IsScope};
-ghost use Rattle.aidl_names.specs.Sources.{source_of};
+ghost use Rattle.aidl_syntax.specs.Sources.{source_of};
 ghost use Rattle.graph_cycles.specs.Paths.{targets};
 ghost use Rattle.const_items.specs.Dependence as meant;
 ghost use Rattle.const_items.specs.Items.{items as items_of};

@@ -1,15 +1,17 @@
 ghost use Rattle.std.specs.Prelude.{◌≡◌, ◌≤◌, ◌++◌, ◌∷◌, [], None, false, map, length, IfOk, OnOk};
 ghost use Rattle.aidl_syntax.specs.Trees.{Members, body_of, constant_of, decl_of, enumerator_of, expr_of, exprs_of, field_of, init_of, map_option, member_of, members_of};
 ghost use Rattle.aidl_syntax.specs.Members.{listed};
-ghost use Rattle.aidl_names.specs.Declarations.{declarations};
-ghost use Rattle.aidl_names.specs.Refusals.{IsScope, entry_of};
-ghost use Rattle.aidl_names.specs.Sources.{source_of};
+ghost use Rattle.declared_names.specs.Declarations.{declarations};
+ghost use Rattle.aidl_names.specs.Refusals.{IsScope};
+ghost use Rattle.declared_names.specs.Entries.{entry_of};
+ghost use Rattle.aidl_syntax.specs.Sources.{source_of};
 ghost use Rattle.const_items.specs.Items as meant;
 ghost use Rattle.const_items.specs.ItemViews.{item_of, written_of};
 
 use crate::item::{ItemRef, WrittenRef};
 use aidl_base::OutOfMemory;
-use aidl_names::{Found, Names};
+use aidl_names::Names;
+use declared_names::Found;
 use aidl_syntax::{
     BodyTree, ConstantTree, EnumeratorTree, ExprTree, FieldTree, InitTree, MemberTree,
 };

@@ -1,6 +1,6 @@
 ghost use Rattle.std.specs.Prelude.{◌≡◌, [], map, IfOk};
 ghost use Rattle.std.specs.List.{fold};
-ghost use Rattle.aidl_names.specs.Sources.{source_of};
+ghost use Rattle.aidl_syntax.specs.Sources.{source_of};
 ghost use Rattle.const_items.specs.Items as meant;
 ghost use Rattle.const_items.specs.ItemViews.{item_of};
 

@@ -1,8 +1,8 @@
 ghost use Rattle.std.specs.Prelude.{◌≡◌, map};
-ghost use Rattle.aidl_names.specs.Declarations.{declarations};
-ghost use Rattle.aidl_names.specs.MemberViews.{seen_member};
+ghost use Rattle.declared_names.specs.Declarations.{declarations};
+ghost use Rattle.declared_names.specs.MemberViews.{seen_member};
 ghost use Rattle.aidl_names.specs.Refusals.{IsScope};
-ghost use Rattle.aidl_names.specs.Sources.{source_of};
+ghost use Rattle.aidl_syntax.specs.Sources.{source_of};
 ghost use Rattle.aidl_syntax.specs.Trees.{map_option};
 ghost use Rattle.const_items.specs.Dependence as meant;
 ghost use Rattle.const_items.specs.ItemViews.{item_of};
@@ -12,7 +12,9 @@ use crate::item::ItemRef;
 use crate::listing::place_by;
 use crate::numbering::Items;
 use aidl_base::Ident;
-use aidl_names::{MemberRef, Names, Resolved};
+use aidl_names::Names;
+use name_meanings::Resolved;
+use declared_names::MemberRef;
 use aidl_syntax::{ConstantTree, DottedTree, EnumeratorTree};
 
 /// What a name in an expression means: a constant or an enumerator, with the numbers of its file and of the declaration that has

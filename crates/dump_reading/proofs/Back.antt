@@ -15,7 +15,7 @@ use Rattle.aidl_syntax.specs.Members.{declared_name}
 use Rattle.aidl_syntax.specs.Walks.{places_of}
 use Rattle.aidl_names.specs.Rules.{breach}
 use Rattle.aidl_lexer.proofs.meaning.OneLexing.{never_both}
-use Rattle.aidl_names.specs.Declarations.{declarations}
+use Rattle.declared_names.specs.Declarations.{declarations}
 use Rattle.aidl_names.specs.Breaches.{in_order}
 use Rattle.aidl_names.specs.Refusals.{IsAccepted}
 use Rattle.const_eval.specs.declared.outcome.Outcome.{Outcome}

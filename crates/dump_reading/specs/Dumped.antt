@@ -2,7 +2,7 @@
 -- declaration (own). `law_dump_tree` says that the files' tokens stand for such trees.
 use Rattle.std.specs.Prelude.{◌≡◌, ℕ, List, [], ◌∷◌}
 use Rattle.std.specs.Str.{encode_utf8_all}
-use Rattle.aidl_names.specs.Sources.{Source}
+use Rattle.aidl_syntax.specs.Sources.{Source}
 use Rattle.aidl_schema.specs.declared.schema.Decl.{Decl}
 use Rattle.api_dump.specs.Dump.{File, file_of}
 use Rattle.dump_reading.specs.Bare.{bare_file}

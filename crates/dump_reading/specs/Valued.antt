@@ -1,8 +1,8 @@
 -- When the values in a declaration of trees are those of one of a schema (own).
 use Rattle.std.specs.Prelude.{◌≡◌, ℕ, List, map}
 use Rattle.aidl_syntax.specs.Members.{members, body}
-use Rattle.aidl_names.specs.Sources.{Source}
-use Rattle.aidl_names.specs.Declarations.{Entry}
+use Rattle.aidl_syntax.specs.Sources.{Source}
+use Rattle.declared_names.specs.Declarations.{Entry}
 use Rattle.type_shapes.specs.Backing.{backing_of}
 use Rattle.tree_schema.specs.Parts.{constants_in}
 use Rattle.tree_schema.specs.SchemaOf.{kind_of}

@@ -6,7 +6,7 @@ use Rattle.std.specs.Ordering.{nat_cmp, match_ordering}
 use Rattle.std.specs.Str.{encode_utf8_all}
 use Rattle.std.specs.declared.cmp.Ordering.{Ordering}
 use Rattle.aidl_base.specs.Names.{dotted}
-use Rattle.aidl_names.specs.Declarations.{Entry}
+use Rattle.declared_names.specs.Declarations.{Entry}
 
 -- a declaration with its number in the trees
 abbrev pub Numbered : Type 0

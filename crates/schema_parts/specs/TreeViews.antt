@@ -1,9 +1,10 @@
 -- How the code sees a tree of which a schema is made.
 use Rattle.std.specs.Prelude.{◌≡◌, ℕ, nat_eq, List, map}
 use Rattle.indexmap.specs.IndexMap.{get}
-use Rattle.aidl_names.specs.Declarations.{declarations}
-use Rattle.aidl_names.specs.Refusals.{IsScope, entry_of}
-use Rattle.aidl_names.specs.Sources.{Source, source_of}
+use Rattle.declared_names.specs.Declarations.{declarations}
+use Rattle.aidl_names.specs.Refusals.{IsScope}
+use Rattle.declared_names.specs.Entries.{entry_of}
+use Rattle.aidl_syntax.specs.Sources.{Source, source_of}
 use Rattle.const_items.specs.Items.{items}
 use Rattle.const_items.specs.ItemViews.{item_of}
 use Rattle.const_eval.specs.Outcomes.{outcome_at}

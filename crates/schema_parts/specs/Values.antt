@@ -5,8 +5,8 @@ use Rattle.aidl_base.specs.declared.constant.Const.TheOpen.{Const-F}
 use Rattle.aidl_syntax.specs.declared.tree.TypeTree.{TypeTree}
 use Rattle.aidl_syntax.specs.Trees.{Expr, offset_of, Init, Enumerator}
 use Rattle.aidl_syntax.specs.Trees.Init.{single, braces}
-use Rattle.aidl_names.specs.Declarations.{declarations}
-use Rattle.aidl_names.specs.Sources.{Source}
+use Rattle.declared_names.specs.Declarations.{declarations}
+use Rattle.aidl_syntax.specs.Sources.{Source}
 use Rattle.const_eval.specs.declared.outcome.Outcome.{Outcome}
 use Rattle.const_eval.specs.declared.outcome.Outcome.TheVariants.{Given, Fault, Unjudged}
 use Rattle.type_shapes.specs.Initializers.{is_unjudged}

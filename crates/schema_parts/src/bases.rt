@@ -1,11 +1,11 @@
 ghost use Rattle.std.specs.Prelude.{◌≡◌};
-ghost use Rattle.aidl_names.specs.Declarations.{declarations};
+ghost use Rattle.declared_names.specs.Declarations.{declarations};
 ghost use Rattle.schema_parts.specs.Numbers as numbers;
 ghost use Rattle.schema_parts.specs.TreeViews.{HasNumbers, files_of};
 ghost use Rattle.schema_parts.specs.Types as meant;
 
 use crate::tree::Tree;
-use aidl_names::{BuiltinName, Resolved};
+use name_meanings::{BuiltinName, Resolved};
 use aidl_schema::Base;
 
 /// The base in the schema that a name means. For the list word and for a left-out name int stands: E16 and E5 refuse them. It takes no

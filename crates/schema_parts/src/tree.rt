@@ -1,4 +1,5 @@
-use aidl_names::{Found, Names};
+use aidl_names::Names;
+use declared_names::Found;
 use const_eval::Settled;
 use indexmap::IndexMap;
 

@@ -1,6 +1,6 @@
 ghost use Rattle.std.specs.Prelude.{◌≡◌, map};
 ghost use Rattle.aidl_syntax.specs.Trees.{annot_of};
-ghost use Rattle.aidl_names.specs.Declarations.{declarations};
+ghost use Rattle.declared_names.specs.Declarations.{declarations};
 ghost use Rattle.schema_parts.specs.TreeViews.{HasNumbers, HasScope, files_of};
 ghost use Rattle.schema_parts.specs.Types as meant;
 

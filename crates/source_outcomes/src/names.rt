@@ -1,10 +1,12 @@
 ghost use Rattle.std.specs.Prelude.{map};
-ghost use Rattle.aidl_names.specs.Sources.{source_of};
+ghost use Rattle.aidl_syntax.specs.Sources.{source_of};
 ghost use Rattle.aidl_names.specs.Refusals.{IsScope};
 
 use crate::type_names::type_names;
 use aidl_base::{Breach, DottedName, OutOfMemory};
-use aidl_names::{Found, NameFault, Names, Resolved};
+use aidl_names::{NameFault, Names};
+use name_meanings::Resolved;
+use declared_names::Found;
 use aidl_syntax::{DottedTree, ParsedFile};
 use std::alloc::{AllocError, Global};
 use std::fmt::Write;

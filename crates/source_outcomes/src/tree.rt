@@ -1,6 +1,6 @@
 ghost use Rattle.std.specs.Prelude.{◌≤◌, length, IfOk, IfSome};
 ghost use Rattle.std.specs.List.{All};
-ghost use Rattle.aidl_names.specs.Sources.{IsOfBytes, AreOfBytes};
+ghost use Rattle.aidl_syntax.specs.Sources.{IsOfBytes, AreOfBytes};
 
 use crate::constants::shown_constants;
 use crate::names::shown_names;

@@ -7,11 +7,11 @@ use Rattle.std.specs.declared.cmp.Ordering.TheVariants.{Less, Equal, Greater}
 use Rattle.std.proofs.lemmas.Bool.Decides.{nat_tests}
 use Rattle.std.proofs.lemmas.List.{length-map}
 use Rattle.aidl_base.specs.declared.limit.LimitName.TheVariants as limit
-use Rattle.aidl_names.specs.declared.names.Found.{Found}
-use Rattle.aidl_names.specs.Declarations.{Entry, declarations}
+use Rattle.declared_names.specs.declared.found.Found.{Found}
+use Rattle.declared_names.specs.Declarations.{Entry, declarations}
 use Rattle.aidl_names.specs.Limits.{passed, has_many_members, has_long_method}
-use Rattle.aidl_names.specs.Refusals.{entry_of}
-use Rattle.aidl_names.specs.Sources.{Source}
+use Rattle.declared_names.specs.Entries.{entry_of}
+use Rattle.aidl_syntax.specs.Sources.{Source}
 use Rattle.schema_parts.specs.declared.tree.Placed.{Placed}
 use Rattle.schema_parts.specs.Numbers.{Numbered, order, put, sorted}
 use Rattle.schema_parts.specs.TreeViews.{numbered_of}

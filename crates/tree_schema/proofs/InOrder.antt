@@ -4,9 +4,9 @@ use Rattle.std.specs.List.{fold, enumerate_from}
 use Rattle.std.specs.Ordering.{match_ordering}
 use Rattle.aidl_syntax.specs.Trees.{Enumerator}
 use Rattle.aidl_syntax.specs.Members.Member.{enumerator}
-use Rattle.aidl_names.specs.Sources.{Source}
-use Rattle.aidl_names.specs.declared.names.Found.{Found}
-use Rattle.aidl_names.specs.Refusals.{entry_of}
+use Rattle.aidl_syntax.specs.Sources.{Source}
+use Rattle.declared_names.specs.declared.found.Found.{Found}
+use Rattle.declared_names.specs.Entries.{entry_of}
 use Rattle.aidl_schema.specs.declared.schema.Constant.{Constant}
 use Rattle.schema_parts.specs.Numbers.{Numbered, bytes_of, order, put}
 use Rattle.schema_parts.specs.Values.{Outcomes}

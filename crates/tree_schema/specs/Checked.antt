@@ -1,6 +1,6 @@
 -- What is asked, beyond E1 to E5 and the limits, of a tree whose schema is valid (own).
 use Rattle.std.specs.Prelude.{◌≡◌, ◌<◌, ℕ, List, [], length, IsTrue}
-use Rattle.aidl_names.specs.Sources.{Source}
+use Rattle.aidl_syntax.specs.Sources.{Source}
 use Rattle.aidl_schema.specs.Valid.{is_bounded}
 use Rattle.const_eval.specs.Breaches.{breaches}
 use Rattle.const_items.specs.Items.{items}

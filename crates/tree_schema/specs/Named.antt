@@ -3,7 +3,7 @@ use Rattle.std.specs.Prelude.{◌≡◌, true}
 use Rattle.std.specs.List.{All}
 use Rattle.aidl_base.specs.Identifiers.{is_identifier}
 use Rattle.aidl_syntax.specs.Walks.{names_of}
-use Rattle.aidl_names.specs.Sources.{Source}
+use Rattle.aidl_syntax.specs.Sources.{Source}
 
 -- each name, and each part of a dotted name
 abbrev pub HasIdentifiers : Source → Type 0

@@ -1,7 +1,7 @@
 ghost use Rattle.std.specs.Prelude.{map, IsTrue};
 ghost use Rattle.std.specs.List.{All};
 ghost use Rattle.std.specs.List.Sorted.{IsStrictlyIncreasing};
-ghost use Rattle.aidl_names.specs.Sources.{AreOfBytes, source_of};
+ghost use Rattle.aidl_syntax.specs.Sources.{AreOfBytes, source_of};
 ghost use Rattle.aidl_schema.specs.Names.{has_names, has_members};
 ghost use Rattle.aidl_schema.specs.Valid.{IsValid, is_within_limits};
 ghost use Rattle.aidl_syntax.specs.Parses.{Holds};

@@ -1,11 +1,11 @@
 ghost use Rattle.std.specs.Prelude.{◌≡◌, ◌≤◌, ◌++◌, length, map, IfOk};
-ghost use Rattle.aidl_names.specs.Refusals.{entry_of};
+ghost use Rattle.declared_names.specs.Entries.{entry_of};
 ghost use Rattle.schema_parts.specs.Numbers as meant;
 ghost use Rattle.schema_parts.specs.TreeViews.{numbered_of};
 
 use crate::texts::name_text;
 use aidl_base::OutOfMemory;
-use aidl_names::Found;
+use declared_names::Found;
 use schema_parts::Placed;
 use std::alloc::Global;
 use std::collections::BTreeMap;

@@ -6,12 +6,12 @@ use Rattle.std.proofs.lemmas.List.{append_assoc, length-map}
 use Rattle.std.proofs.lemmas.List.FromFn.{length-map-range_with_len}
 use Rattle.aidl_base.proofs.Tests.{both}
 use Rattle.aidl_base.specs.declared.breach.Breach.{Breach}
-use Rattle.aidl_names.specs.declared.names.Found.{Found}
+use Rattle.declared_names.specs.declared.found.Found.{Found}
 use Rattle.aidl_names.specs.Breaches.{in_order}
-use Rattle.aidl_names.specs.Declarations.{declarations}
-use Rattle.aidl_names.specs.Refusals.{entry_of}
-use Rattle.aidl_names.specs.Rules.{in_each}
-use Rattle.aidl_names.specs.Sources.{Source}
+use Rattle.declared_names.specs.Declarations.{declarations}
+use Rattle.declared_names.specs.Entries.{entry_of}
+use Rattle.declared_names.specs.Numbered.{in_each}
+use Rattle.aidl_syntax.specs.Sources.{Source}
 use Rattle.aidl_schema.specs.declared.schema.Decl.{Decl}
 use Rattle.aidl_schema.specs.Valid.{is_within_limits}
 use Rattle.schema_bounds.specs.declared.bound.Bound.{Bound}

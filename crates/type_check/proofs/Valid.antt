@@ -3,8 +3,8 @@ use Rattle.std.proofs.Common.{IsTrue, ◌≡◌, ◌<◌, ◌++◌, ℕ, List, [
 use Rattle.std.proofs.lemmas.List.{length-map}
 use Rattle.aidl_base.specs.declared.breach.Breach.{Breach}
 use Rattle.aidl_names.specs.Breaches.{in_order}
-use Rattle.aidl_names.specs.Declarations.{declarations}
-use Rattle.aidl_names.specs.Sources.{Source}
+use Rattle.declared_names.specs.Declarations.{declarations}
+use Rattle.aidl_syntax.specs.Sources.{Source}
 use Rattle.aidl_schema.specs.declared.schema.Decl.{Decl}
 use Rattle.aidl_schema.specs.Valid.{IsValid, is_bounded}
 use Rattle.const_eval.specs.declared.outcome.Outcome.{Outcome}

@@ -8,7 +8,7 @@ use Rattle.aidl_syntax.specs.declared.tree.ParsedFile.{ParsedFile}
 use Rattle.aidl_syntax.specs.Parses.{Holds}
 use Rattle.aidl_syntax.specs.Walks.{literals_of, places_of}
 use Rattle.aidl_names.specs.Refusals.{IsAccepted}
-use Rattle.aidl_names.specs.Sources.{AreOfBytes, Source, source_of}
+use Rattle.aidl_syntax.specs.Sources.{AreOfBytes, Source, source_of}
 use Rattle.aidl_schema.specs.declared.schema.Decl.{Decl}
 use Rattle.aidl_schema.specs.Valid.{IsValid}
 use Rattle.schema_bounds.proofs.Chains.{all_within}

@@ -2,7 +2,7 @@
 use Rattle.std.specs.Prelude.{◌≡◌, List, [], map}
 use Rattle.aidl_base.specs.declared.source_file.SourceFile.{SourceFile}
 use Rattle.aidl_names.specs.Refusals.{IsAccepted}
-use Rattle.aidl_names.specs.Sources.{Source, source_of}
+use Rattle.aidl_syntax.specs.Sources.{Source, source_of}
 use Rattle.aidl_schema.specs.declared.schema.Decl.{Decl}
 use Rattle.aidl_syntax.specs.declared.tree.ParsedFile.{ParsedFile}
 use Rattle.const_eval.specs.declared.outcome.Outcome.{Outcome}

@@ -1,9 +1,9 @@
 -- Why a tree is refused: each refusal says what is answered, and that no earlier one holds (own).
 use Rattle.std.specs.Prelude.{◌≡◌, List, map, ◌⊎◌, Some, None}
 use Rattle.aidl_base.specs.declared.source_file.SourceFile.{SourceFile}
-use Rattle.aidl_names.specs.Declarations.{declarations}
+use Rattle.declared_names.specs.Declarations.{declarations}
 use Rattle.aidl_names.specs.Limits.{passed}
-use Rattle.aidl_names.specs.Sources.{Source, source_of}
+use Rattle.aidl_syntax.specs.Sources.{Source, source_of}
 use Rattle.aidl_syntax.specs.declared.tree.ParsedFile.{ParsedFile}
 use Rattle.tree_files.specs.declared.fault.FilesFault.TheVariants as files
 use Rattle.tree_files.specs.Parsed.{AreParsed}

@@ -1,5 +1,5 @@
 ghost use Rattle.std.specs.Prelude.{◌≡◌, ◌≤◌, ◌++◌, map, length, OnOk};
-ghost use Rattle.aidl_names.specs.Rules.{in_each};
+ghost use Rattle.declared_names.specs.Numbered.{in_each};
 ghost use Rattle.schema_parts.specs.TreeViews.{numbered_of};
 ghost use Rattle.type_check.specs.Bounds as meant;
 ghost use Rattle.type_check.specs.Bounds.{bound_at};

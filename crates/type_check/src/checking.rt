@@ -1,5 +1,5 @@
 ghost use Rattle.std.specs.Prelude.{◌≡◌, [], map, IfOk, IfErr};
-ghost use Rattle.aidl_names.specs.Sources.{AreOfBytes, source_of};
+ghost use Rattle.aidl_syntax.specs.Sources.{AreOfBytes, source_of};
 ghost use Rattle.const_items.specs.Items.{items};
 ghost use Rattle.const_items.specs.ItemViews.{item_of};
 ghost use Rattle.const_eval.specs.Outcomes.{AreOutcomes};

@@ -1,7 +1,7 @@
 ghost use Rattle.std.specs.Prelude.{List};
 ghost use Rattle.aidl_base.specs.declared.source_file.SourceFile.{SourceFile};
 ghost use Rattle.aidl_names.specs.Refusals as names;
-ghost use Rattle.aidl_names.specs.Sources.{Source};
+ghost use Rattle.aidl_syntax.specs.Sources.{Source};
 ghost use Rattle.tree_files.specs.Refusals as files;
 ghost use Rattle.type_check.specs.Refusals.{IsRefusal, IsRefusalOfTrees};
 

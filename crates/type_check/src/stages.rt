@@ -1,7 +1,7 @@
 ghost use Rattle.std.specs.Prelude.{◌≡◌, ◌≤◌, length, map, IfOk};
-ghost use Rattle.aidl_names.specs.Sources.{source_of};
+ghost use Rattle.aidl_syntax.specs.Sources.{source_of};
 ghost use Rattle.schema_parts.specs.Numbers.{sorted};
-ghost use Rattle.aidl_names.specs.Declarations.{declarations};
+ghost use Rattle.declared_names.specs.Declarations.{declarations};
 ghost use Rattle.type_check.specs.Stages as meant;
 
 use crate::bounds::add_broken;

@@ -6,8 +6,8 @@ use Rattle.std.proofs.lemmas.List.{map-append}
 use Rattle.std.proofs.lemmas.List.Folds.{list_any-append}
 use Rattle.aidl_syntax.specs.declared.token.Token.{Token}
 use Rattle.aidl_syntax.specs.Trees.{Method}
-use Rattle.aidl_names.proofs.Earlier.{take-next}
-use Rattle.aidl_names.specs.Declarations.{Entry}
+use Rattle.declared_names.proofs.Earlier.{take-next}
+use Rattle.declared_names.specs.Declarations.{Entry}
 use Rattle.type_uses.specs.Bases.{is_fixed_entry, is_fixed_number}
 use Rattle.type_uses.specs.Ids.{is_id, number_of}
 use Rattle.type_rules.specs.MethodRules.{has_value, is_bad_token, is_taken}

@@ -5,9 +5,9 @@ use Rattle.std.specs.declared.cmp.Ordering.{Ordering}
 use Rattle.std.specs.declared.cmp.Ordering.TheVariants.{Less, Equal, Greater}
 use Rattle.std.specs.Ordering.{match_ordering}
 use Rattle.aidl_base.specs.declared.breach.Breach.{Breach}
-use Rattle.aidl_names.specs.Sources.{Source}
-use Rattle.aidl_names.specs.Declarations.{Entry, declarations}
-use Rattle.aidl_names.specs.Rules.{in_each}
+use Rattle.aidl_syntax.specs.Sources.{Source}
+use Rattle.declared_names.specs.Declarations.{Entry, declarations}
+use Rattle.declared_names.specs.Numbered.{in_each}
 use Rattle.aidl_names.specs.Breaches.{in_order, order, put}
 use Rattle.type_uses.specs.TypeUses.{TypeUse, type_uses}
 use Rattle.type_rules.specs.AnnotationRules.{BadAnnotation, BadBacking}

@@ -1,9 +1,9 @@
 -- The breaches of E13 to E21 and E24 as one list: sorted by file, offset and rule, each once.
 use Rattle.std.specs.Prelude.{ℕ, List, ◌++◌}
 use Rattle.aidl_base.specs.declared.breach.Breach.{Breach}
-use Rattle.aidl_names.specs.Sources.{Source}
-use Rattle.aidl_names.specs.Declarations.{Entry, declarations}
-use Rattle.aidl_names.specs.Rules.{in_each}
+use Rattle.aidl_syntax.specs.Sources.{Source}
+use Rattle.declared_names.specs.Declarations.{Entry, declarations}
+use Rattle.declared_names.specs.Numbered.{in_each}
 use Rattle.aidl_names.specs.Breaches.{in_order}
 use Rattle.type_uses.specs.TypeUses.{TypeUse, type_uses}
 use Rattle.type_rules.specs.AnnotationRules.{BadAnnotation, BadBacking}

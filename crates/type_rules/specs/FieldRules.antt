@@ -5,8 +5,8 @@ use Rattle.aidl_base.specs.declared.breach.Breach.{Breach}
 use Rattle.aidl_syntax.specs.Trees.{Init, Body}
 use Rattle.aidl_syntax.specs.Trees.Body.{union}
 use Rattle.aidl_syntax.specs.Members.{body, declared_name}
-use Rattle.aidl_names.specs.declared.resolved.Resolved.TheVariants.{Builtin}
-use Rattle.aidl_names.specs.Declarations.{Entry}
+use Rattle.name_meanings.specs.declared.meaning.Resolved.TheVariants.{Builtin}
+use Rattle.declared_names.specs.Declarations.{Entry}
 use Rattle.aidl_names.specs.Rules.{breach}
 use Rattle.type_shapes.specs.declared.shape.Shape.{Shape}
 use Rattle.type_shapes.specs.declared.shape.Shape.TheVariants as shape

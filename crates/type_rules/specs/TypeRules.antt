@@ -5,7 +5,7 @@ use Rattle.aidl_base.specs.declared.breach.Breach.{Breach}
 use Rattle.aidl_syntax.specs.declared.tree.WayTree.{WayTree}
 use Rattle.aidl_syntax.specs.declared.tree.WayTree.TheVariants as way
 use Rattle.aidl_syntax.specs.Trees.{Annot}
-use Rattle.aidl_names.specs.Declarations.{Entry}
+use Rattle.declared_names.specs.Declarations.{Entry}
 use Rattle.aidl_names.specs.Rules.{breach}
 use Rattle.type_shapes.specs.declared.shape.Shape.{Shape}
 use Rattle.type_shapes.specs.declared.shape.Shape.TheVariants as shape

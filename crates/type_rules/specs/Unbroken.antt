@@ -1,8 +1,8 @@
 -- What it says of a tree that none of these rules is broken.
 use Rattle.std.specs.Prelude.{◌≡◌, ℕ, List, [], Some}
 use Rattle.std.specs.List.{slice_get}
-use Rattle.aidl_names.specs.Sources.{Source}
-use Rattle.aidl_names.specs.Declarations.{Entry, declarations}
+use Rattle.aidl_syntax.specs.Sources.{Source}
+use Rattle.declared_names.specs.Declarations.{Entry, declarations}
 use Rattle.type_uses.specs.TypeUses.{TypeUse, type_uses}
 use Rattle.type_rules.specs.AnnotationRules.{BadAnnotation, BadBacking}
 use Rattle.type_rules.specs.TypeRules.{BadNullable, BadShape, BadDirection}

@@ -1,7 +1,7 @@
 -- The rules that look at each use of a type by itself, in any declaration: the number of each, its place and its test; the declaration
 -- may be an interface that is oneway.
 use Rattle.std.specs.Prelude.{ℕ, Bool, List}
-use Rattle.aidl_names.specs.Declarations.{Entry}
+use Rattle.declared_names.specs.Declarations.{Entry}
 use Rattle.type_rules.specs.declared.use_rules.UseRule.{UseRule}
 use Rattle.type_rules.specs.declared.use_rules.UseRule.TheVariants as rule
 use Rattle.type_uses.specs.TypeUses.{TypeUse, name_place, type_place}

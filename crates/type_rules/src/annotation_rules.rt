@@ -2,7 +2,7 @@ ghost use Rattle.std.specs.Prelude.{◌≡◌, ◌++◌, map, OnOk};
 ghost use Rattle.std.specs.List.{flat_map};
 ghost use Rattle.aidl_syntax.specs.Trees.{annot_of, decl_of};
 ghost use Rattle.aidl_syntax.specs.Members.{body};
-ghost use Rattle.aidl_names.specs.Refusals.{entry_of};
+ghost use Rattle.declared_names.specs.Entries.{entry_of};
 ghost use Rattle.type_shapes.specs.Backing.{annots_of};
 ghost use Rattle.type_uses.specs.Annotations.{row_of, stand_of_body};
 ghost use Rattle.type_rules.specs.AnnotationRules as meant;
@@ -10,7 +10,8 @@ ghost use Rattle.type_uses.specs.TypeUses.{annotations_of, stand_of};
 ghost use Rattle.type_uses.specs.TypeUseViews.{seen_use};
 
 use aidl_base::{Breach, OutOfMemory};
-use aidl_names::{Found, add_if};
+use aidl_names::add_if;
+use declared_names::Found;
 use aidl_syntax::{AnnotTree, DeclTree};
 use indexmap::IndexSet;
 use std::alloc::Global;

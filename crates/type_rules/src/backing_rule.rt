@@ -1,12 +1,13 @@
 ghost use Rattle.std.specs.Prelude.{◌≡◌, ◌++◌, map, OnOk};
 ghost use Rattle.std.specs.List.{find};
 ghost use Rattle.aidl_syntax.specs.Trees.{annot_of};
-ghost use Rattle.aidl_names.specs.Refusals.{entry_of};
+ghost use Rattle.declared_names.specs.Entries.{entry_of};
 ghost use Rattle.type_shapes.specs.Backing.{is_backing};
 ghost use Rattle.type_rules.specs.AnnotationRules as meant;
 
 use aidl_base::{Breach, OutOfMemory};
-use aidl_names::{Found, add_if};
+use aidl_names::add_if;
+use declared_names::Found;
 use aidl_syntax::AnnotTree;
 use type_shapes::{backing_annot, is_enum_tree, type_param};
 use type_uses::is_backing_word;

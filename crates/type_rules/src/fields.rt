@@ -2,13 +2,14 @@ ghost use Rattle.std.specs.Prelude.{◌≡◌, ◌++◌, ◌&&◌, false, map, O
 ghost use Rattle.std.specs.List.{list_any};
 ghost use Rattle.aidl_syntax.specs.Trees.{body_of, decl_of, init_of, map_option};
 ghost use Rattle.aidl_syntax.specs.Members.{body};
-ghost use Rattle.aidl_names.specs.Refusals.{entry_of};
+ghost use Rattle.declared_names.specs.Entries.{entry_of};
 ghost use Rattle.type_rules.specs.FieldRules as meant;
 ghost use Rattle.type_uses.specs.TypeUses as typed;
 ghost use Rattle.type_uses.specs.TypeUseViews.{seen_use};
 
 use aidl_base::{Breach, OutOfMemory};
-use aidl_names::{Found, add_if};
+use aidl_names::add_if;
+use declared_names::Found;
 use aidl_syntax::{BodyTree, DeclTree, InitTree};
 use type_shapes::{Shape, is_unjudged};
 use type_uses::{TypeUseRef, is_field, is_refused, name_place};

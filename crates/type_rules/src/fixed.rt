@@ -1,6 +1,6 @@
 ghost use Rattle.std.specs.Prelude.{◌≡◌, ◌++◌, map, IfOk, OnOk};
 ghost use Rattle.aidl_syntax.specs.Trees.{decl_of};
-ghost use Rattle.aidl_names.specs.Refusals.{entry_of};
+ghost use Rattle.declared_names.specs.Entries.{entry_of};
 ghost use Rattle.type_shapes.specs.Backing.{annots_of};
 ghost use Rattle.type_uses.specs.Kept as kept;
 ghost use Rattle.type_uses.specs.Bases as bases;
@@ -11,7 +11,9 @@ ghost use Rattle.type_uses.specs.TypeUses as typed;
 ghost use Rattle.type_uses.specs.TypeUseViews.{seen_use};
 
 use aidl_base::{Breach, OutOfMemory};
-use aidl_names::{Found, Resolved, add_if};
+use aidl_names::add_if;
+use name_meanings::Resolved;
+use declared_names::Found;
 use aidl_syntax::DeclTree;
 use std::alloc::Global;
 use type_shapes::{Shape, is_composite};

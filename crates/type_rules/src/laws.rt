@@ -1,7 +1,7 @@
 ghost use Rattle.std.specs.Prelude.{◌≡◌, ◌++◌, [], List, map};
 ghost use Rattle.aidl_base.specs.declared.breach.Breach.{Breach};
 ghost use Rattle.aidl_names.specs.Breaches.{in_order};
-ghost use Rattle.aidl_names.specs.Sources.{source_of};
+ghost use Rattle.aidl_syntax.specs.Sources.{source_of};
 ghost use Rattle.type_rules.specs.Breaches.{unsorted};
 ghost use Rattle.type_rules.specs.Unbroken.{AreUnbroken};
 

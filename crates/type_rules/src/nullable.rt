@@ -1,13 +1,14 @@
 ghost use Rattle.std.specs.Prelude.{◌≡◌, ◌++◌, map, OnOk};
 ghost use Rattle.std.specs.List.{flat_map};
 ghost use Rattle.aidl_syntax.specs.Trees.{annot_of};
-ghost use Rattle.aidl_names.specs.Refusals.{entry_of};
+ghost use Rattle.declared_names.specs.Entries.{entry_of};
 ghost use Rattle.type_rules.specs.TypeRules as meant;
 ghost use Rattle.type_uses.specs.TypeUses.{annotations_of};
 ghost use Rattle.type_uses.specs.TypeUseViews.{seen_use};
 
 use aidl_base::{Breach, OutOfMemory};
-use aidl_names::{Found, add_if};
+use aidl_names::add_if;
+use declared_names::Found;
 use aidl_syntax::AnnotTree;
 use type_shapes::Shape;
 use type_uses::{

@@ -1,10 +1,10 @@
 ghost use Rattle.std.specs.Prelude.{◌≡◌, map};
 ghost use Rattle.aidl_syntax.specs.Trees.{init_of};
-ghost use Rattle.aidl_names.specs.Refusals.{entry_of};
+ghost use Rattle.declared_names.specs.Entries.{entry_of};
 ghost use Rattle.type_shapes.specs.Initializers as meant;
 
 use crate::shape::{Shape, is_composite};
-use aidl_names::Found;
+use declared_names::Found;
 use aidl_syntax::InitTree;
 
 /// Whether the initializer of a field, which may be one after the first of a union, has no outcome for its form. It takes no

@@ -1,13 +1,16 @@
 ghost use Rattle.std.specs.Prelude.{◌≡◌, map};
 ghost use Rattle.aidl_syntax.specs.Trees.{body_of, decl_of};
 ghost use Rattle.aidl_syntax.specs.Members.{body};
-ghost use Rattle.aidl_names.specs.Declarations.{declarations};
-ghost use Rattle.aidl_names.specs.Refusals.{IsScope, entry_of};
-ghost use Rattle.aidl_names.specs.Sources.{source_of};
+ghost use Rattle.declared_names.specs.Declarations.{declarations};
+ghost use Rattle.aidl_names.specs.Refusals.{IsScope};
+ghost use Rattle.declared_names.specs.Entries.{entry_of};
+ghost use Rattle.aidl_syntax.specs.Sources.{source_of};
 ghost use Rattle.type_shapes.specs.Types as meant;
 ghost use Rattle.type_shapes.specs.Types.{meaning_in};
 
-use aidl_names::{BuiltinName, Found, Names, Resolved};
+use aidl_names::Names;
+use name_meanings::{BuiltinName, Resolved};
+use declared_names::Found;
 use aidl_syntax::{BodyTree, DeclTree, DottedTree, TypeTree};
 
 /// What a type is, by its base: a single value, an array or a list; or refused, as E16 has it.

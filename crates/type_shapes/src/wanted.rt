@@ -1,11 +1,12 @@
 ghost use Rattle.std.specs.Prelude.{◌≡◌, map};
 ghost use Rattle.aidl_syntax.specs.Trees.{body_of, decl_of};
 ghost use Rattle.aidl_syntax.specs.Members.{body};
-ghost use Rattle.aidl_names.specs.Refusals.{entry_of};
+ghost use Rattle.declared_names.specs.Entries.{entry_of};
 ghost use Rattle.type_shapes.specs.Types as meant;
 
 use crate::shape::Shape;
-use aidl_names::{BuiltinName, Found, Resolved};
+use name_meanings::{BuiltinName, Resolved};
+use declared_names::Found;
 use aidl_syntax::{BodyTree, DeclTree};
 use const_values::Wanted;
 

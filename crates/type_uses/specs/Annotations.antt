@@ -4,10 +4,10 @@ use Rattle.std.specs.Prelude.{ℕ, Bool, true, false, not, if◌then◌else◌, 
 use Rattle.std.specs.Str.{bytes_eq}
 use Rattle.aidl_syntax.specs.Trees.{Param, Annot, Body}
 use Rattle.aidl_syntax.specs.Trees.Body.{parcelable, union, enum, interface}
-use Rattle.aidl_names.specs.declared.resolved.BuiltinName.TheVariants as built_in
-use Rattle.aidl_names.specs.declared.resolved.Resolved.{Resolved}
-use Rattle.aidl_names.specs.declared.resolved.Resolved.TheVariants.{Builtin}
-use Rattle.aidl_names.specs.Names.{text}
+use Rattle.name_meanings.specs.declared.meaning.BuiltinName.TheVariants as built_in
+use Rattle.name_meanings.specs.declared.meaning.Resolved.{Resolved}
+use Rattle.name_meanings.specs.declared.meaning.Resolved.TheVariants.{Builtin}
+use Rattle.declared_names.specs.Names.{text}
 use Rattle.type_shapes.specs.declared.shape.Shape.{Shape}
 use Rattle.type_shapes.specs.declared.shape.Shape.TheVariants as shape
 use Rattle.type_uses.specs.declared.annotation.Annotation.{Annotation}

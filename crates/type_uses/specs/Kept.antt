@@ -4,7 +4,7 @@ use Rattle.std.specs.Prelude.{ℕ, Bool, ◌&&◌, codes, List}
 use Rattle.std.specs.List.{list_any}
 use Rattle.std.specs.Str.{bytes_eq}
 use Rattle.aidl_syntax.specs.Trees.{Annot}
-use Rattle.aidl_names.specs.Names.{text}
+use Rattle.declared_names.specs.Names.{text}
 use Rattle.type_uses.specs.declared.kept.Kept.{Kept}
 use Rattle.type_uses.specs.Parameters.{is_heap_true}
 

@@ -9,7 +9,7 @@ use Rattle.aidl_syntax.specs.declared.tree.NameTree.{NameTree}
 use Rattle.aidl_syntax.specs.Trees.{Expr, Init, Param}
 use Rattle.aidl_syntax.specs.Trees.Expr.{literal}
 use Rattle.aidl_syntax.specs.Trees.Init.{single, braces}
-use Rattle.aidl_names.specs.Names.{text}
+use Rattle.declared_names.specs.Names.{text}
 use Rattle.type_shapes.specs.Backing.{is_type}
 
 -- the single literal that a value is

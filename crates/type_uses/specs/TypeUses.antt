@@ -5,8 +5,8 @@ use Rattle.aidl_syntax.specs.declared.tree.TypeTree.{TypeTree}
 use Rattle.aidl_syntax.specs.Trees.{Annot, Field, Constant, Method, Arg, map_option}
 use Rattle.aidl_syntax.specs.Members.{Member, members, body}
 use Rattle.aidl_syntax.specs.Members.Member.{field, constant, method, enumerator, nested}
-use Rattle.aidl_names.specs.Sources.{Source}
-use Rattle.aidl_names.specs.Declarations.{Entry}
+use Rattle.aidl_syntax.specs.Sources.{Source}
+use Rattle.declared_names.specs.Declarations.{Entry}
 use Rattle.type_shapes.specs.declared.shape.Shape.{Shape}
 use Rattle.const_items.specs.Items.{shape_in}
 use Rattle.type_uses.specs.declared.stand.Stand.{Stand}

@@ -1,9 +1,10 @@
 ghost use Rattle.std.specs.Prelude.{◌≡◌, map};
-ghost use Rattle.aidl_names.specs.Refusals.{entry_of};
+ghost use Rattle.declared_names.specs.Entries.{entry_of};
 ghost use Rattle.type_uses.specs.Bases as meant;
 
 use crate::stand::is_text;
-use aidl_names::{Found, Resolved};
+use name_meanings::Resolved;
+use declared_names::Found;
 use type_shapes::{Shape, is_composite, is_enum};
 
 // Each takes no memory; `found` are the declarations of the tree.

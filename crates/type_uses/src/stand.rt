@@ -3,7 +3,7 @@ ghost use Rattle.aidl_syntax.specs.Trees.{body_of, decl_of};
 ghost use Rattle.aidl_syntax.specs.Members.{body};
 ghost use Rattle.type_uses.specs.Annotations as meant;
 
-use aidl_names::{BuiltinName, Resolved};
+use name_meanings::{BuiltinName, Resolved};
 use aidl_syntax::{BodyTree, DeclTree};
 use type_shapes::Shape;
 

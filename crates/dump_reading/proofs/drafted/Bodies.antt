@@ -7,7 +7,7 @@ use Rattle.aidl_syntax.specs.Trees.Members.{none}
 use Rattle.aidl_syntax.specs.Trees.Body.{enum, parcelable, union, interface}
 use Rattle.aidl_syntax.specs.Members.{Member, listed, members}
 use Rattle.aidl_syntax.specs.Members.Member.{field, constant, method, enumerator}
-use Rattle.aidl_names.specs.Sources.{Source}
+use Rattle.aidl_syntax.specs.Sources.{Source}
 use Rattle.const_values.specs.declared.wanted.Wanted.{Wanted}
 use Rattle.const_items.specs.Items.{Item, of_body}
 use Rattle.tree_schema.specs.Parts.{listed_constants}

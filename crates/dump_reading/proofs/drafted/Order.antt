@@ -7,8 +7,8 @@ use Rattle.std.specs.Ordering.{match_ordering, ordering_reverse}
 use Rattle.std.proofs.lemmas.Bool.{and_parts}
 use Rattle.std.proofs.lemmas.Cmp.{nat_list_cmp_total}
 use Rattle.aidl_base.specs.Names.{dotted}
-use Rattle.aidl_names.specs.Sources.{Source}
-use Rattle.aidl_names.specs.Declarations.{Entry, declarations}
+use Rattle.aidl_syntax.specs.Sources.{Source}
+use Rattle.declared_names.specs.Declarations.{Entry, declarations}
 use Rattle.schema_parts.specs.Numbers.{Numbered, bytes_of, number_of}
 use Rattle.schema_parts.specs.Numbers as numbers
 use Rattle.tree_schema.proofs.named.Numbers.{key, sorted-is, sorted-ascending, sorted-there, number-of_place}

@@ -10,8 +10,8 @@ use Rattle.aidl_syntax.specs.Trees as tree
 use Rattle.aidl_syntax.specs.Trees.Members.{none}
 use Rattle.aidl_syntax.specs.Trees.Body.{enum, parcelable, union, interface}
 use Rattle.aidl_syntax.specs.Members.{listed, members, body}
-use Rattle.aidl_names.specs.Sources.{Source}
-use Rattle.aidl_names.specs.Declarations.{Entry, declarations}
+use Rattle.aidl_syntax.specs.Sources.{Source}
+use Rattle.declared_names.specs.Declarations.{Entry, declarations}
 use Rattle.type_shapes.specs.Backing.{annots_of, backing_of}
 use Rattle.type_uses.specs.Kept.{is_fixed, is_vintf}
 use Rattle.tree_schema.specs.Checked.{AreOutcomes}

@@ -11,9 +11,9 @@ use Rattle.aidl_syntax.specs.Trees as tree
 use Rattle.aidl_syntax.specs.Trees.{Annot, map_option}
 use Rattle.aidl_syntax.specs.Members.{Member}
 use Rattle.aidl_syntax.specs.Members.Member.{field, constant, method, enumerator, nested}
-use Rattle.aidl_names.specs.declared.resolved.Resolved.{Resolved}
-use Rattle.aidl_names.specs.Sources.{Source}
-use Rattle.aidl_names.specs.Declarations.{declarations}
+use Rattle.name_meanings.specs.declared.meaning.Resolved.{Resolved}
+use Rattle.aidl_syntax.specs.Sources.{Source}
+use Rattle.declared_names.specs.Declarations.{declarations}
 use Rattle.type_uses.specs.Ids.{id_of, id_by, number_of_kind}
 use Rattle.type_uses.specs.Kept.{is_nullable, is_heap, is_utf8}
 use Rattle.tree_schema.specs.Parts.{way_of, arg_in, kept_id, method_in, method_with, methods_in}

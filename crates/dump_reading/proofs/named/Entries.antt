@@ -10,10 +10,10 @@ use Rattle.aidl_syntax.specs.Trees.Decl.{decl}
 use Rattle.aidl_syntax.specs.Trees.Body.{enum, parcelable, union, interface}
 use Rattle.aidl_syntax.specs.Trees.Members.{none, field, constant, method, nested}
 use Rattle.aidl_syntax.specs.Members.{declared_name, body}
-use Rattle.aidl_names.specs.Names.{parts_of}
-use Rattle.aidl_names.specs.Sources.{Source}
-use Rattle.aidl_names.specs.Declarations as names
-use Rattle.aidl_names.specs.Declarations.{Entry, declarations, with_decl, with_body, with_members, with_file, with_files}
+use Rattle.declared_names.specs.Names.{parts_of}
+use Rattle.aidl_syntax.specs.Sources.{Source}
+use Rattle.declared_names.specs.Declarations as names
+use Rattle.declared_names.specs.Declarations.{Entry, declarations, with_decl, with_body, with_members, with_file, with_files}
 use Rattle.aidl_schema.specs.declared.schema.Decl.{Decl}
 use Rattle.aidl_schema.specs.declared.schema.Kind.{Kind}
 use Rattle.aidl_schema.specs.declared.schema.Kind.TheVariants.{Interface, Parcelable, Union, Enum}

@@ -11,13 +11,14 @@ use Rattle.aidl_syntax.specs.Trees as tree
 use Rattle.aidl_syntax.specs.Trees.{map_option}
 use Rattle.aidl_syntax.specs.Trees.Decl.{decl}
 use Rattle.aidl_syntax.specs.Members.{declared_name}
-use Rattle.aidl_names.specs.Names.{text, parts_of}
+use Rattle.declared_names.specs.Names.{text, parts_of}
 use Rattle.std.proofs.Common.{is_none}
-use Rattle.aidl_names.specs.Resolution.{number_of}
-use Rattle.aidl_names.specs.Sources.{Source}
-use Rattle.aidl_names.specs.Declarations.{declarations}
+use Rattle.name_meanings.specs.Resolution.{number_of}
+use Rattle.aidl_syntax.specs.Sources.{Source}
+use Rattle.declared_names.specs.Declarations.{declarations}
 use Rattle.aidl_names.specs.Rules as rules
-use Rattle.aidl_names.specs.Rules.{in_each, wrong_file, is_wrong_file, WrongFile, unknown_imports, UnknownImport, other_imports}
+use Rattle.aidl_names.specs.Rules.{wrong_file, is_wrong_file, WrongFile, unknown_imports, UnknownImport, other_imports}
+use Rattle.declared_names.specs.Numbered.{in_each}
 use Rattle.aidl_schema.specs.declared.schema.Decl.{Decl}
 use Rattle.aidl_schema.specs.Holds.{AllHold}
 use Rattle.aidl_schema.specs.Names.{last_part, without_last}

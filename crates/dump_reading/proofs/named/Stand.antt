@@ -20,14 +20,16 @@ use Rattle.aidl_syntax.specs.Trees.Decl.{decl}
 use Rattle.aidl_syntax.specs.Trees.Members.{none}
 use Rattle.aidl_syntax.specs.Members.{Member, members, body, declared_name, member_name}
 use Rattle.aidl_syntax.specs.Members.Member.{field, constant, method, enumerator, nested}
-use Rattle.aidl_names.specs.Names.{text, same}
-use Rattle.aidl_names.specs.Sources.{Source}
-use Rattle.aidl_names.specs.Declarations.{Entry, declarations}
-use Rattle.aidl_names.specs.Resolution.{meaning_of_word}
+use Rattle.declared_names.specs.Names.{text, same}
+use Rattle.aidl_syntax.specs.Sources.{Source}
+use Rattle.declared_names.specs.Declarations.{Entry, declarations}
+use Rattle.name_meanings.specs.Resolution.{meaning_of_word}
 use Rattle.aidl_base.specs.declared.limit.LimitName.TheVariants as limit
 use Rattle.aidl_names.specs.Limits.{has_many_members, has_long_method, is_long_method, passed}
-use Rattle.aidl_names.specs.Rules.{breach, in_each, after_earlier, is_named_again, repeated, argument_names, repeated_inside, is_taken, taken, names_of_type, names_of_returned, type_names, types_in, is_unknown, is_left_out, UnknownType, LeftOutType}
-use Rattle.aidl_names.specs.Resolution.{resolved}
+use Rattle.aidl_names.specs.Rules.{breach, is_named_again, repeated, argument_names, repeated_inside, is_taken, taken, types_in, is_unknown, is_left_out, UnknownType, LeftOutType}
+use Rattle.declared_names.specs.TypeNames.{names_of_type, names_of_returned, type_names}
+use Rattle.declared_names.specs.Numbered.{in_each, after_earlier}
+use Rattle.name_meanings.specs.Resolution.{resolved}
 use Rattle.aidl_schema.specs.declared.schema.Decl.{Decl}
 use Rattle.aidl_schema.specs.declared.schema.Arg.{Arg}
 use Rattle.aidl_schema.specs.declared.schema.AidlType.{AidlType}

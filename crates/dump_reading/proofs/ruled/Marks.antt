@@ -6,8 +6,8 @@ use Rattle.aidl_syntax.specs.declared.tree.NameTree.{NameTree}
 use Rattle.aidl_syntax.specs.Trees.{Init, Param, Annot, map_option}
 use Rattle.aidl_syntax.specs.Trees.Expr.{literal, group, unary, binary, name}
 use Rattle.aidl_syntax.specs.Trees.Init.{single, braces}
-use Rattle.aidl_names.specs.Names.{text}
-use Rattle.aidl_names.specs.Rules.{after_earlier}
+use Rattle.declared_names.specs.Names.{text}
+use Rattle.declared_names.specs.Numbered.{after_earlier}
 use Rattle.type_shapes.specs.Backing.{is_type}
 use Rattle.type_shapes.specs.declared.shape.Shape as types
 use Rattle.type_uses.specs.declared.annotation.Annotation.{Annotation}

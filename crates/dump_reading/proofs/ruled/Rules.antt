@@ -14,8 +14,8 @@ use Rattle.aidl_syntax.specs.Trees.Init.{single}
 use Rattle.aidl_syntax.specs.Trees.Body.{enum, parcelable, union, interface}
 use Rattle.aidl_syntax.specs.Members.{Member, listed, members, body, declared_name}
 use Rattle.aidl_syntax.specs.Members.Member.{field, constant, method, enumerator, nested}
-use Rattle.aidl_names.specs.Sources.{Source}
-use Rattle.aidl_names.specs.Declarations.{Entry, declarations}
+use Rattle.aidl_syntax.specs.Sources.{Source}
+use Rattle.declared_names.specs.Declarations.{Entry, declarations}
 use Rattle.aidl_names.specs.Breaches.{in_order}
 use Rattle.aidl_names.specs.Rules.{breach}
 use Rattle.type_shapes.specs.Backing.{annots_of, is_backing, is_type}

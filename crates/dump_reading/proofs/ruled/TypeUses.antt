@@ -9,8 +9,8 @@ use Rattle.aidl_syntax.specs.Trees as tree
 use Rattle.aidl_syntax.specs.Trees.Members.{none}
 use Rattle.aidl_syntax.specs.Members.{Member, listed, members}
 use Rattle.aidl_syntax.specs.Members.Member.{field, constant, method, enumerator, nested}
-use Rattle.aidl_names.specs.Sources.{Source}
-use Rattle.aidl_names.specs.Declarations.{declarations}
+use Rattle.aidl_syntax.specs.Sources.{Source}
+use Rattle.declared_names.specs.Declarations.{declarations}
 use Rattle.const_items.specs.Items.{shape_in}
 use Rattle.type_uses.specs.TypeUses.{TypeUse, of_arg, of_member, of_members}
 use Rattle.tree_schema.proofs.walked.Placed.{Each}

@@ -8,9 +8,9 @@ use Rattle.std.proofs.lemmas.Bool.{and_parts}
 use Rattle.aidl_syntax.specs.declared.tree.TypeTree.{TypeTree}
 use Rattle.aidl_syntax.specs.Trees as tree
 use Rattle.aidl_syntax.specs.Trees.{Annot, map_option}
-use Rattle.aidl_names.specs.declared.resolved.Resolved.{Resolved}
-use Rattle.aidl_names.specs.Sources.{Source}
-use Rattle.aidl_names.specs.Declarations.{Entry, declarations}
+use Rattle.name_meanings.specs.declared.meaning.Resolved.{Resolved}
+use Rattle.aidl_syntax.specs.Sources.{Source}
+use Rattle.declared_names.specs.Declarations.{Entry, declarations}
 use Rattle.aidl_names.specs.Rules.{breach}
 use Rattle.const_items.specs.Items.{shape_in}
 use Rattle.type_uses.specs.declared.stand.Stand.TheVariants as stand

@@ -22,13 +22,13 @@ use Rattle.aidl_syntax.specs.Trees.Decl.{decl}
 use Rattle.aidl_syntax.specs.Trees.Body.{enum, parcelable, union, interface}
 use Rattle.aidl_syntax.specs.Members.{Member, members, body}
 use Rattle.aidl_syntax.specs.Members.Member.{enumerator}
-use Rattle.aidl_names.specs.Names.{text}
-use Rattle.aidl_names.specs.Called.{is_called, called}
-use Rattle.aidl_names.specs.declared.resolved.Resolved.{Resolved}
-use Rattle.aidl_names.specs.declared.resolved.Resolved.TheVariants.{Declared}
-use Rattle.aidl_names.specs.Sources.{Source}
-use Rattle.aidl_names.specs.Declarations.{Entry, declarations}
-use Rattle.aidl_names.specs.Resolution.{resolved}
+use Rattle.declared_names.specs.Names.{text}
+use Rattle.declared_names.specs.Called.{is_called, called}
+use Rattle.name_meanings.specs.declared.meaning.Resolved.{Resolved}
+use Rattle.name_meanings.specs.declared.meaning.Resolved.TheVariants.{Declared}
+use Rattle.aidl_syntax.specs.Sources.{Source}
+use Rattle.declared_names.specs.Declarations.{Entry, declarations}
+use Rattle.name_meanings.specs.Resolution.{resolved}
 use Rattle.const_values.specs.declared.wanted.Wanted.{Wanted}
 use Rattle.const_values.specs.declared.wanted.Wanted.TheVariants as wanted
 use Rattle.type_shapes.specs.Backing.{backing_of, backing_by, backing_of_param, backing_of_init, backing_of_expr, backing_of_token, is_backing, is_type, is_type_name, annots_of}

@@ -14,9 +14,9 @@ use Rattle.aidl_syntax.specs.Trees as tree
 use Rattle.aidl_syntax.specs.Trees.Expr.{name}
 use Rattle.graph_cycles.specs.Paths.{IsPath}
 use Rattle.const_operands.specs.declared.fault.ConstFault.TheVariants as fault
-use Rattle.aidl_names.specs.Sources.{Source}
-use Rattle.aidl_names.specs.Declarations.{declarations}
-use Rattle.aidl_names.specs.Resolution.{resolved}
+use Rattle.aidl_syntax.specs.Sources.{Source}
+use Rattle.declared_names.specs.Declarations.{declarations}
+use Rattle.name_meanings.specs.Resolution.{resolved}
 use Rattle.const_values.specs.declared.wanted.Wanted.TheVariants as wanted
 use Rattle.const_operands.specs.declared.width.Width.{Width}
 use Rattle.const_operands.specs.declared.width.Width.TheVariants.{Narrow, Wide}

@@ -12,13 +12,13 @@ use Rattle.aidl_syntax.specs.Trees.{map_option}
 use Rattle.aidl_syntax.specs.Trees.Decl.{decl}
 use Rattle.aidl_syntax.specs.Trees.Body.{enum, parcelable, union, interface}
 use Rattle.aidl_syntax.specs.Members.{body}
-use Rattle.aidl_names.specs.declared.resolved.BuiltinName.{BuiltinName}
-use Rattle.aidl_names.specs.declared.resolved.BuiltinName.TheVariants as built_in
-use Rattle.aidl_names.specs.declared.resolved.Resolved.{Resolved}
-use Rattle.aidl_names.specs.declared.resolved.Resolved.TheVariants.{Builtin, ListWord, Declared}
-use Rattle.aidl_names.specs.Sources.{Source}
-use Rattle.aidl_names.specs.Declarations.{Entry, declarations}
-use Rattle.aidl_names.specs.Resolution.{meaning_of_word, own_meaning, first_declared, candidates, or_else, meaning_in_file, resolved}
+use Rattle.name_meanings.specs.declared.meaning.BuiltinName.{BuiltinName}
+use Rattle.name_meanings.specs.declared.meaning.BuiltinName.TheVariants as built_in
+use Rattle.name_meanings.specs.declared.meaning.Resolved.{Resolved}
+use Rattle.name_meanings.specs.declared.meaning.Resolved.TheVariants.{Builtin, ListWord, Declared}
+use Rattle.aidl_syntax.specs.Sources.{Source}
+use Rattle.declared_names.specs.Declarations.{Entry, declarations}
+use Rattle.name_meanings.specs.Resolution.{meaning_of_word, own_meaning, first_declared, candidates, or_else, meaning_in_file, resolved}
 use Rattle.type_shapes.specs.declared.shape.Shape as types
 use Rattle.type_shapes.specs.declared.shape.Shape.TheVariants as typed
 use Rattle.const_items.specs.Items.{shape_in}

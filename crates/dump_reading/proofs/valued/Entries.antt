@@ -10,8 +10,8 @@ use Rattle.aidl_syntax.specs.Trees as tree
 use Rattle.aidl_syntax.specs.Trees.Members.{none}
 use Rattle.aidl_syntax.specs.Trees.Body.{enum, parcelable, union, interface}
 use Rattle.aidl_syntax.specs.Members.{members, body}
-use Rattle.aidl_names.specs.Sources.{Source}
-use Rattle.aidl_names.specs.Declarations.{Entry, declarations}
+use Rattle.aidl_syntax.specs.Sources.{Source}
+use Rattle.declared_names.specs.Declarations.{Entry, declarations}
 use Rattle.const_values.specs.declared.wanted.Wanted.{Wanted}
 use Rattle.type_shapes.specs.Backing.{backing_of}
 use Rattle.const_items.specs.Items.{of_entry, of_body}

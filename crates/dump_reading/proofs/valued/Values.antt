@@ -10,8 +10,8 @@ use Rattle.aidl_base.specs.declared.constant.Const.TheVariants as constant
 use Rattle.aidl_syntax.specs.Trees as tree
 use Rattle.aidl_syntax.specs.Trees.{Expr, Init, map_option}
 use Rattle.aidl_syntax.specs.Trees.Init.{single, braces}
-use Rattle.aidl_names.specs.Sources.{Source}
-use Rattle.aidl_names.specs.Declarations.{declarations}
+use Rattle.aidl_syntax.specs.Sources.{Source}
+use Rattle.declared_names.specs.Declarations.{declarations}
 use Rattle.const_values.specs.declared.wanted.Wanted.{Wanted}
 use Rattle.const_eval.specs.declared.outcome.Outcome.TheVariants.{Given}
 use Rattle.const_eval.specs.Outcomes.{HasOutcome}

@@ -5,7 +5,7 @@ use Rattle.std.proofs.lemmas.Bool.{and_parts}
 use Rattle.aidl_syntax.specs.Trees as tree
 use Rattle.aidl_syntax.specs.Members.{Member}
 use Rattle.aidl_syntax.specs.Members.Member.{field, constant, method, enumerator, nested}
-use Rattle.aidl_names.specs.Sources.{Source}
+use Rattle.aidl_syntax.specs.Sources.{Source}
 use Rattle.const_items.specs.Items.{Item, of_field, of_constant, of_members}
 use Rattle.tree_schema.specs.Parts.{field_in, fields_in, constant_in, listed_constants}
 use Rattle.schema_parts.specs.Values.{Outcomes}

@@ -10,11 +10,11 @@ use Rattle.aidl_schema.specs.Same.{same_text}
 use Rattle.aidl_schema.proofs.Sames.{same_text_refl, same_text_is}
 use Rattle.aidl_syntax.specs.Members.{declared_name}
 use Rattle.aidl_names.specs.Breaches.{breaches}
-use Rattle.aidl_names.specs.Declarations.{Entry, declarations}
-use Rattle.aidl_names.specs.Names.{text, same}
-use Rattle.aidl_names.specs.Resolution.{meaning_of_word}
+use Rattle.declared_names.specs.Declarations.{Entry, declarations}
+use Rattle.declared_names.specs.Names.{text, same}
+use Rattle.name_meanings.specs.Resolution.{meaning_of_word}
 use Rattle.aidl_names.specs.Rules.{is_taken}
-use Rattle.aidl_names.specs.Sources.{Source}
+use Rattle.aidl_syntax.specs.Sources.{Source}
 use Rattle.schema_parts.specs.Numbers.{Numbered, bytes_of, put, sorted, has_number, number_of}
 use Rattle.tree_schema.proofs.walked.Totals.{total, total-enumerate, total-length, is_that}
 use Rattle.tree_schema.proofs.walked.Placed.{placed, all-total, all-ascending, all-exact, Each, each-at, all-each, placed-by}

@@ -13,11 +13,11 @@ use Rattle.aidl_syntax.specs.Trees.{Body}
 use Rattle.aidl_syntax.specs.Trees.Body.{parcelable, union, enum, interface}
 use Rattle.aidl_syntax.specs.Members.{body, declared_name}
 use Rattle.aidl_names.specs.Breaches.{breaches}
-use Rattle.aidl_names.specs.Declarations.{Entry, declarations}
-use Rattle.aidl_names.specs.Names.{text}
-use Rattle.aidl_names.specs.Resolution.{meaning_in, meaning_words, meaning_of_word}
-use Rattle.aidl_names.specs.Sources.{Source}
-use Rattle.aidl_names.specs.declared.resolved.Resolved.{Resolved}
+use Rattle.declared_names.specs.Declarations.{Entry, declarations}
+use Rattle.declared_names.specs.Names.{text}
+use Rattle.name_meanings.specs.Resolution.{meaning_in, meaning_words, meaning_of_word}
+use Rattle.aidl_syntax.specs.Sources.{Source}
+use Rattle.name_meanings.specs.declared.meaning.Resolved.{Resolved}
 use Rattle.const_values.specs.declared.wanted.Wanted.{Wanted}
 use Rattle.type_shapes.specs.Backing.{backing_of}
 use Rattle.schema_parts.specs.Numbers.{Numbered, sorted, number_of}

@@ -7,7 +7,7 @@ use Rattle.aidl_base.specs.declared.breach.Breach.{Breach}
 use Rattle.aidl_syntax.specs.declared.token.Token.{Token}
 use Rattle.aidl_syntax.specs.declared.tree.ParsedFile.{ParsedFile}
 use Rattle.aidl_syntax.specs.Productions.{IsFile}
-use Rattle.aidl_names.specs.Sources.{Source, AreOfBytes, IsOfBytes, source_of}
+use Rattle.aidl_syntax.specs.Sources.{Source, AreOfBytes, IsOfBytes, source_of}
 use Rattle.const_operands.specs.declared.fault.ConstFault.{ConstFault}
 use Rattle.const_eval.specs.declared.outcome.Outcome.{Outcome}
 use Rattle.const_eval.specs.declared.outcome.Outcome.TheVariants.{Given, Fault, Unjudged}

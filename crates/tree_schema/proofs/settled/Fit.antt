@@ -4,7 +4,7 @@ use Rattle.std.proofs.lemmas.List.Elements.{Contains-append_left}
 use Rattle.aidl_base.specs.Results.{◌>>=◌}
 use Rattle.aidl_base.specs.declared.constant.Const.{Const, out-Const}
 use Rattle.aidl_syntax.specs.declared.tree.DottedTree.{DottedTree}
-use Rattle.aidl_names.specs.Sources.{Source}
+use Rattle.aidl_syntax.specs.Sources.{Source}
 use Rattle.const_operands.specs.declared.fault.ConstFault.{ConstFault}
 use Rattle.const_operands.specs.declared.width.Width.TheVariants.{Narrow, Wide}
 use Rattle.const_values.specs.Evaluation.{evaluated}

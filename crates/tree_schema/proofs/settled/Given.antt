@@ -1,7 +1,7 @@
 -- Where no outcome is a fault, and no item is left unjudged for its form, each item has a value.
 use Rattle.std.proofs.Common.{◌≡◌, ℕ, false, List, Some, Result, Ok, Err, slice_get, refl, ap, subst}
 use Rattle.aidl_base.specs.declared.constant.Const.{Const}
-use Rattle.aidl_names.specs.Sources.{Source}
+use Rattle.aidl_syntax.specs.Sources.{Source}
 use Rattle.const_operands.specs.declared.fault.ConstFault.{ConstFault}
 use Rattle.const_operands.specs.declared.fault.ConstFault.TheVariants.{Cycle, UnknownName}
 use Rattle.const_eval.specs.declared.outcome.Outcome.{Outcome}

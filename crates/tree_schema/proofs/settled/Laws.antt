@@ -15,7 +15,7 @@ use Rattle.aidl_syntax.specs.declared.token.TokenKind.{TokenKind}
 use Rattle.aidl_syntax.specs.declared.token.TokenKind.TheVariants as token
 use Rattle.aidl_syntax.specs.Parses.{Holds}
 use Rattle.aidl_syntax.specs.Walks.{counting, in_file, literals_of, places_of}
-use Rattle.aidl_names.specs.Sources.{Source}
+use Rattle.aidl_syntax.specs.Sources.{Source}
 use Rattle.const_values.specs.Literals.{literal_of}
 use Rattle.tree_schema.proofs.walked.Lists.{all-from_at}
 use Rattle.tree_schema.proofs.walked.Placed.{Each}

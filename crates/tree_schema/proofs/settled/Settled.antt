@@ -2,7 +2,7 @@
 use Rattle.std.proofs.Common.{◌≡◌, ◌<◌, ℕ, true, false, List, Some, length, slice_get, ap, ◌∙◌}
 use Rattle.std.proofs.lemmas.Option.{slice_get_within}
 use Rattle.aidl_base.specs.declared.constant.Const.{Const, out-Const}
-use Rattle.aidl_names.specs.Sources.{Source}
+use Rattle.aidl_syntax.specs.Sources.{Source}
 use Rattle.const_operands.specs.declared.fault.ConstFault.{ConstFault}
 use Rattle.const_eval.specs.declared.outcome.Outcome.TheVariants.{Given, Fault}
 use Rattle.const_items.specs.Items.{Item, items, number_at}

@@ -14,9 +14,9 @@ use Rattle.aidl_syntax.specs.Trees.Init.{single, braces}
 use Rattle.aidl_syntax.specs.Trees.Members.{none, field, constant, method, nested}
 use Rattle.aidl_syntax.specs.Members.{listed, body}
 use Rattle.aidl_syntax.specs.Walks.{Walk, counting, of_option, of_each, in_annots, in_type, in_init, in_field, in_constant, in_method, in_enumerator, in_decl, in_body, in_members, in_file}
-use Rattle.aidl_names.specs.Declarations.{Entry, declarations, with_decl, with_body, with_members, with_file, with_files, inside}
-use Rattle.aidl_names.specs.Names.{parts_of}
-use Rattle.aidl_names.specs.Sources.{Source}
+use Rattle.declared_names.specs.Declarations.{Entry, declarations, with_decl, with_body, with_members, with_file, with_files, inside}
+use Rattle.declared_names.specs.Names.{parts_of}
+use Rattle.aidl_syntax.specs.Sources.{Source}
 use Rattle.const_values.specs.declared.wanted.Wanted.{Wanted}
 use Rattle.const_values.specs.Literals.{literal_of}
 use Rattle.type_shapes.specs.declared.shape.Shape.{Shape}

@@ -10,7 +10,7 @@ use Rattle.aidl_syntax.specs.Trees.{Body}
 use Rattle.aidl_syntax.specs.Trees.Body.{parcelable, union, enum, interface}
 use Rattle.aidl_syntax.specs.Members.{Member, members, listed}
 use Rattle.aidl_syntax.specs.Members.Member.{field, constant, method, enumerator, nested}
-use Rattle.aidl_names.specs.Sources.{Source}
+use Rattle.aidl_syntax.specs.Sources.{Source}
 use Rattle.const_values.specs.declared.wanted.Wanted.{Wanted}
 use Rattle.type_uses.specs.Ids.{id_of}
 use Rattle.type_rules.specs.MethodRules.{is_oneway_body}

@@ -12,8 +12,8 @@ use Rattle.aidl_syntax.specs.declared.tree.TypeTree.{TypeTree}
 use Rattle.aidl_syntax.specs.Trees.{Method, Arg}
 use Rattle.aidl_syntax.specs.Members.{Member}
 use Rattle.aidl_syntax.specs.Members.Member.{field, constant, method, enumerator, nested}
-use Rattle.aidl_names.specs.Rules.{after_earlier}
-use Rattle.aidl_names.specs.Sources.{Source}
+use Rattle.declared_names.specs.Numbered.{after_earlier}
+use Rattle.aidl_syntax.specs.Sources.{Source}
 use Rattle.type_shapes.specs.declared.shape.Shape.{Shape}
 use Rattle.type_uses.specs.Ids.{number_of_kind, number_of, is_id_kind, is_id, has_id, id_by, id_of, ids_from, ids}
 use Rattle.type_uses.specs.TypeUses as uses

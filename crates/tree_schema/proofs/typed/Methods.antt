@@ -17,10 +17,11 @@ use Rattle.aidl_syntax.specs.Trees.{Annot, Arg, Method, Body, map_option}
 use Rattle.aidl_syntax.specs.Trees.Body.{parcelable, union, enum, interface}
 use Rattle.aidl_syntax.specs.Members.{members, listed, body}
 use Rattle.aidl_names.specs.Breaches.{breaches}
-use Rattle.aidl_names.specs.Declarations.{Entry, declarations}
+use Rattle.declared_names.specs.Declarations.{Entry, declarations}
 use Rattle.aidl_names.specs.Limits.{passed, has_many_members, has_long_method}
-use Rattle.aidl_names.specs.Rules.{breach, after_earlier}
-use Rattle.aidl_names.specs.Sources.{Source}
+use Rattle.aidl_names.specs.Rules.{breach}
+use Rattle.declared_names.specs.Numbered.{after_earlier}
+use Rattle.aidl_syntax.specs.Sources.{Source}
 use Rattle.const_values.specs.declared.wanted.Wanted.{Wanted}
 use Rattle.type_shapes.specs.declared.shape.Shape.{Shape}
 use Rattle.type_shapes.specs.declared.shape.Shape.TheVariants as shape

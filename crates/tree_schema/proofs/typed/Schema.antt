@@ -11,13 +11,13 @@ use Rattle.aidl_syntax.specs.Trees as tree
 use Rattle.aidl_syntax.specs.Trees.{Annot, Arg, map_option}
 use Rattle.aidl_syntax.specs.Members.{members, body}
 use Rattle.aidl_syntax.specs.Members.Member.{field, method}
-use Rattle.aidl_names.specs.declared.resolved.BuiltinName.TheVariants as built_in
-use Rattle.aidl_names.specs.declared.resolved.Resolved.{Resolved}
-use Rattle.aidl_names.specs.declared.resolved.Resolved.TheVariants.{Builtin, ListWord, LeftOut, Declared}
+use Rattle.name_meanings.specs.declared.meaning.BuiltinName.TheVariants as built_in
+use Rattle.name_meanings.specs.declared.meaning.Resolved.{Resolved}
+use Rattle.name_meanings.specs.declared.meaning.Resolved.TheVariants.{Builtin, ListWord, LeftOut, Declared}
 use Rattle.aidl_names.specs.Breaches.{breaches}
-use Rattle.aidl_names.specs.Declarations.{Entry, declarations}
-use Rattle.aidl_names.specs.Rules.{names_of_type, names_of_returned}
-use Rattle.aidl_names.specs.Sources.{Source}
+use Rattle.declared_names.specs.Declarations.{Entry, declarations}
+use Rattle.declared_names.specs.TypeNames.{names_of_type, names_of_returned}
+use Rattle.aidl_syntax.specs.Sources.{Source}
 use Rattle.type_shapes.specs.declared.shape.Shape.{Shape}
 use Rattle.type_shapes.specs.declared.shape.Shape.TheVariants as shape
 use Rattle.type_shapes.specs.Backing.{backing_of}

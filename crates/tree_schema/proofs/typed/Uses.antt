@@ -8,11 +8,13 @@ use Rattle.aidl_syntax.specs.declared.tree.DottedTree.{DottedTree}
 use Rattle.aidl_syntax.specs.Trees.{Annot}
 use Rattle.aidl_syntax.specs.Members.{Member, members, body}
 use Rattle.aidl_names.specs.Breaches.{breaches}
-use Rattle.aidl_names.specs.Declarations.{Entry, declarations}
-use Rattle.aidl_names.specs.Names.{text}
-use Rattle.aidl_names.specs.Resolution.{resolved}
-use Rattle.aidl_names.specs.Rules.{breach, in_each, after_earlier, is_left_out, type_names, types_in}
-use Rattle.aidl_names.specs.Sources.{Source}
+use Rattle.declared_names.specs.Declarations.{Entry, declarations}
+use Rattle.declared_names.specs.Names.{text}
+use Rattle.name_meanings.specs.Resolution.{resolved}
+use Rattle.aidl_names.specs.Rules.{breach, is_left_out, types_in}
+use Rattle.declared_names.specs.TypeNames.{type_names}
+use Rattle.declared_names.specs.Numbered.{in_each, after_earlier}
+use Rattle.aidl_syntax.specs.Sources.{Source}
 use Rattle.const_items.specs.Items.{shape_in}
 use Rattle.type_uses.specs.declared.annotation.Annotation.{Annotation}
 use Rattle.type_uses.specs.declared.stand.Stand.{Stand}

@@ -3,9 +3,9 @@ use Rattle.std.proofs.Common.{IsTrue, ◌≡◌, ◌<◌, ℕ, true, List, Some,
 use Rattle.aidl_schema.specs.Methods.{has_types, has_methods}
 use Rattle.aidl_schema.specs.Valid.{has_constants, has_initializers, has_enums, has_bounds, is_bounded}
 use Rattle.aidl_syntax.specs.Members.{body}
-use Rattle.aidl_names.specs.Declarations.{Entry, declarations}
+use Rattle.declared_names.specs.Declarations.{Entry, declarations}
 use Rattle.aidl_names.specs.Refusals.{IsAccepted}
-use Rattle.aidl_names.specs.Sources.{Source}
+use Rattle.aidl_syntax.specs.Sources.{Source}
 use Rattle.const_items.specs.Items.{of_entry}
 use Rattle.type_rules.specs.Unbroken.{AreUnbroken}
 use Rattle.tree_schema.specs.SchemaOf.{schema_of}

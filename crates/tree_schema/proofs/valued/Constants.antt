@@ -12,12 +12,12 @@ use Rattle.aidl_syntax.specs.Trees.{Annot, offset_of, Body, Enumerator}
 use Rattle.aidl_syntax.specs.Trees.Body.{parcelable, union, enum, interface}
 use Rattle.aidl_syntax.specs.Members.{Member, members, listed, body}
 use Rattle.aidl_syntax.specs.Members.Member.{field, constant, method, enumerator, nested}
-use Rattle.aidl_names.specs.declared.resolved.BuiltinName.{BuiltinName}
-use Rattle.aidl_names.specs.declared.resolved.BuiltinName.TheVariants as built_in
-use Rattle.aidl_names.specs.declared.resolved.Resolved.TheVariants.{Builtin, ListWord, LeftOut, Declared}
+use Rattle.name_meanings.specs.declared.meaning.BuiltinName.{BuiltinName}
+use Rattle.name_meanings.specs.declared.meaning.BuiltinName.TheVariants as built_in
+use Rattle.name_meanings.specs.declared.meaning.Resolved.TheVariants.{Builtin, ListWord, LeftOut, Declared}
 use Rattle.aidl_names.specs.Breaches.{breaches}
-use Rattle.aidl_names.specs.Declarations.{Entry, declarations}
-use Rattle.aidl_names.specs.Sources.{Source}
+use Rattle.declared_names.specs.Declarations.{Entry, declarations}
+use Rattle.aidl_syntax.specs.Sources.{Source}
 use Rattle.const_values.specs.declared.wanted.Wanted.{Wanted}
 use Rattle.type_shapes.specs.declared.shape.Shape.{Shape}
 use Rattle.type_shapes.specs.declared.shape.Shape.TheVariants as shape

@@ -11,9 +11,9 @@ use Rattle.aidl_syntax.specs.Trees.Decl.{decl}
 use Rattle.aidl_syntax.specs.Trees.Body.{parcelable, union, enum, interface}
 use Rattle.aidl_syntax.specs.Trees.Members.{none, field, constant, method, nested}
 use Rattle.aidl_syntax.specs.Members.{body}
-use Rattle.aidl_names.specs.Declarations.{Entry, declarations, with_decl, with_body, with_members, with_file, with_files, inside}
-use Rattle.aidl_names.specs.Names.{parts_of}
-use Rattle.aidl_names.specs.Sources.{Source}
+use Rattle.declared_names.specs.Declarations.{Entry, declarations, with_decl, with_body, with_members, with_file, with_files, inside}
+use Rattle.declared_names.specs.Names.{parts_of}
+use Rattle.aidl_syntax.specs.Sources.{Source}
 use Rattle.tree_schema.proofs.walked.Placed.{Each, each-at}
 use Rattle.tree_schema.proofs.valued.Enums.{has_enumerator}
 

@@ -16,13 +16,13 @@ use Rattle.aidl_syntax.specs.Trees.Expr.{literal, name, group, unary, binary}
 use Rattle.aidl_syntax.specs.Trees.Members.{none, field as with_field, constant as with_constant, method as with_method, nested as with_nested}
 use Rattle.aidl_syntax.specs.Members.{Member, members, listed, body}
 use Rattle.aidl_syntax.specs.Members.Member.{field, constant, method, enumerator, nested}
-use Rattle.aidl_names.specs.declared.resolved.Resolved.{Resolved}
-use Rattle.aidl_names.specs.declared.resolved.Resolved.TheVariants.{Builtin, ListWord, LeftOut, Declared}
-use Rattle.aidl_names.specs.Called.{called, is_called}
-use Rattle.aidl_names.specs.Declarations.{Entry, declarations}
-use Rattle.aidl_names.specs.Resolution.{resolved, or_else}
-use Rattle.aidl_names.specs.Names.{text as bytes_of}
-use Rattle.aidl_names.specs.Sources.{Source}
+use Rattle.name_meanings.specs.declared.meaning.Resolved.{Resolved}
+use Rattle.name_meanings.specs.declared.meaning.Resolved.TheVariants.{Builtin, ListWord, LeftOut, Declared}
+use Rattle.declared_names.specs.Called.{called, is_called}
+use Rattle.declared_names.specs.Declarations.{Entry, declarations}
+use Rattle.name_meanings.specs.Resolution.{resolved, or_else}
+use Rattle.declared_names.specs.Names.{text as bytes_of}
+use Rattle.aidl_syntax.specs.Sources.{Source}
 use Rattle.const_operands.specs.declared.fault.ConstFault.{ConstFault}
 use Rattle.const_operands.specs.declared.fault.ConstFault.TheVariants as fault
 use Rattle.const_values.specs.declared.wanted.Wanted.{Wanted}

@@ -11,11 +11,12 @@ use Rattle.aidl_schema.proofs.Sames.{same_text_refl, same_text_is}
 use Rattle.aidl_syntax.specs.declared.tree.NameTree.{NameTree}
 use Rattle.aidl_syntax.specs.Members.{Member, members, body, member_name, declared_name}
 use Rattle.aidl_names.specs.Breaches.{breaches, in_order, put, order}
-use Rattle.aidl_names.specs.Declarations.{Entry, declarations}
-use Rattle.aidl_names.specs.Names.{text, same}
-use Rattle.aidl_names.specs.Resolution.{meaning_of_word}
-use Rattle.aidl_names.specs.Rules.{after_earlier, in_each, WrongFile, Duplicate, UnknownImport, UnknownType, LeftOutType, repeated, repeated_inside, argument_names, taken, is_named_again, is_taken, other_imports, breach}
-use Rattle.aidl_names.specs.Sources.{Source}
+use Rattle.declared_names.specs.Declarations.{Entry, declarations}
+use Rattle.declared_names.specs.Names.{text, same}
+use Rattle.name_meanings.specs.Resolution.{meaning_of_word}
+use Rattle.aidl_names.specs.Rules.{WrongFile, Duplicate, UnknownImport, UnknownType, LeftOutType, repeated, repeated_inside, argument_names, taken, is_named_again, is_taken, other_imports, breach}
+use Rattle.declared_names.specs.Numbered.{after_earlier, in_each}
+use Rattle.aidl_syntax.specs.Sources.{Source}
 use Rattle.tree_schema.proofs.walked.Totals.{total, total-append, is_that}
 
 put_some : (bs : List Breach) (b : Breach) → put bs b ≡ [] → ⊥

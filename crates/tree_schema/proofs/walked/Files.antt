@@ -5,7 +5,7 @@ use Rattle.std.proofs.lemmas.Option.{slice_get_within, get_or_from_slice_get}
 use Rattle.aidl_base.specs.declared.name.Ident.{Ident}
 use Rattle.aidl_base.specs.Identifiers.{is_identifier}
 use Rattle.aidl_syntax.specs.Walks.{names_of}
-use Rattle.aidl_names.specs.Sources.{Source}
+use Rattle.aidl_syntax.specs.Sources.{Source}
 use Rattle.tree_schema.proofs.walked.Lists.{all-from_at}
 use Rattle.tree_schema.proofs.walked.Ascii.{is_identifier_part}
 use Rattle.tree_schema.proofs.walked.Outers.{are_named}

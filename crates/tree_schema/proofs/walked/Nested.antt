@@ -12,9 +12,9 @@ use Rattle.aidl_syntax.specs.Trees.Body.{parcelable, union, enum, interface}
 use Rattle.aidl_syntax.specs.Trees.Members.{none, field as with_field, constant as with_constant, method as with_method, nested as with_nested}
 use Rattle.aidl_syntax.specs.Members.{Member, members, listed, body}
 use Rattle.aidl_syntax.specs.Members.Member.{field, constant, method, enumerator, nested}
-use Rattle.aidl_names.specs.Declarations.{Entry, inside, with_decl, with_body, with_members, with_file, with_files, declarations}
-use Rattle.aidl_names.specs.Names.{parts_of}
-use Rattle.aidl_names.specs.Sources.{Source}
+use Rattle.declared_names.specs.Declarations.{Entry, inside, with_decl, with_body, with_members, with_file, with_files, declarations}
+use Rattle.declared_names.specs.Names.{parts_of}
+use Rattle.aidl_syntax.specs.Sources.{Source}
 use Rattle.tree_schema.proofs.walked.Lists.{there-last, elsewhere}
 use Rattle.std.proofs.lemmas.Option.{slice_get_past}
 

@@ -12,9 +12,9 @@ use Rattle.aidl_syntax.specs.Trees.Body.{parcelable, union, enum, interface}
 use Rattle.aidl_syntax.specs.Trees.Members.{none, field, constant, method, nested}
 use Rattle.aidl_syntax.specs.Members.{body, declared_name}
 use Rattle.aidl_syntax.specs.Walks.{naming, names_of, of_option, of_each, in_annots, in_field, in_constant, in_method, in_decl, in_body, in_members}
-use Rattle.aidl_names.specs.Declarations.{Entry, inside, with_decl, with_body, with_members, with_file, with_files, declarations}
-use Rattle.aidl_names.specs.Names.{parts_of}
-use Rattle.aidl_names.specs.Sources.{Source}
+use Rattle.declared_names.specs.Declarations.{Entry, inside, with_decl, with_body, with_members, with_file, with_files, declarations}
+use Rattle.declared_names.specs.Names.{parts_of}
+use Rattle.aidl_syntax.specs.Sources.{Source}
 use Rattle.tree_schema.proofs.walked.Ascii.{is_identifier_part}
 use Rattle.tree_schema.proofs.walked.Lists.{there-kept, there-last, there-cases}
 use Rattle.std.proofs.lemmas.Option.{slice_get_within}

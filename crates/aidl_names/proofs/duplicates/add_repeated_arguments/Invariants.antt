@@ -1,7 +1,7 @@
 use Rattle.std.proofs.Common.{◌≡◌, ◌++◌, map, drop}
 use Rattle.std.specs.List.{flat_map}
 use Rattle.aidl_names.specs.Rules.{repeated, argument_names}
-use Rattle.aidl_names.specs.MemberViews.{seen_member}
+use Rattle.declared_names.specs.MemberViews.{seen_member}
 use Rattle.aidl_names.proofs.duplicates.add_repeated_arguments.Given as goal
 
 -- the breaches so far and those that are left are all

@@ -3,8 +3,8 @@ use Rattle.std.specs.List.{flat_map}
 use Rattle.aidl_syntax.specs.declared.tree.NameTree.{NameTree}
 use Rattle.aidl_syntax.specs.Members.{member_name}
 use Rattle.aidl_names.specs.Rules.{repeated, argument_names}
-use Rattle.aidl_names.specs.MemberViews.{seen_member}
-use Rattle.aidl_names.specs.Refusals.{entry_of}
+use Rattle.declared_names.specs.MemberViews.{seen_member}
+use Rattle.declared_names.specs.Entries.{entry_of}
 use Rattle.aidl_names.proofs.Taken.{inside_added}
 use Rattle.aidl_names.proofs.duplicates.add_repeated_inside.Goals as goal
 

@@ -1,5 +1,6 @@
 use Rattle.std.proofs.Common.{◌≡◌, ◌++◌, map, take, drop}
-use Rattle.aidl_names.specs.Rules.{breach, after_earlier, is_named_again, repeated}
+use Rattle.aidl_names.specs.Rules.{breach, is_named_again, repeated}
+use Rattle.declared_names.specs.Numbered.{after_earlier}
 use Rattle.aidl_names.proofs.Taken.{AreSeen}
 use Rattle.aidl_names.proofs.duplicates.add_repeated_names.Given as goal
 

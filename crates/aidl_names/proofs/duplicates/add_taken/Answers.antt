@@ -1,10 +1,10 @@
 use Rattle.std.proofs.Common.{◌++◌, map, take, sym, ◌∙◌, ap, arith}
 use Rattle.aidl_syntax.specs.declared.tree.NameTree.{NameTree}
 use Rattle.aidl_syntax.specs.Members.{declared_name}
-use Rattle.aidl_names.specs.Declarations.{Entry}
+use Rattle.declared_names.specs.Declarations.{Entry}
 use Rattle.aidl_names.specs.Rules.{breach, is_taken}
-use Rattle.aidl_names.specs.Refusals.{entry_of}
-use Rattle.aidl_names.proofs.Earlier.{goes_on, earlier-next, read-map, one_if}
+use Rattle.declared_names.specs.Entries.{entry_of}
+use Rattle.declared_names.proofs.Earlier.{goes_on, earlier-next, read-map, one_if}
 use Rattle.aidl_names.proofs.Taken.{seen_name}
 use Rattle.aidl_names.proofs.duplicates.add_taken.Goals as goal
 

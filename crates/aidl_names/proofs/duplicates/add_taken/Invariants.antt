@@ -1,7 +1,8 @@
 use Rattle.std.proofs.Common.{◌≡◌, ◌++◌, map, take, drop}
 use Rattle.aidl_syntax.specs.Members.{declared_name}
-use Rattle.aidl_names.specs.Rules.{breach, after_earlier, is_taken, taken}
-use Rattle.aidl_names.specs.Refusals.{entry_of}
+use Rattle.aidl_names.specs.Rules.{breach, is_taken, taken}
+use Rattle.declared_names.specs.Numbered.{after_earlier}
+use Rattle.declared_names.specs.Entries.{entry_of}
 use Rattle.aidl_names.proofs.duplicates.add_taken.Given as goal
 
 -- the breaches so far and those that are left are all

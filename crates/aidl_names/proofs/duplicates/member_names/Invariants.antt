@@ -1,6 +1,6 @@
 use Rattle.std.proofs.Common.{◌≡◌, map, take}
 use Rattle.aidl_syntax.specs.Members.{member_name}
-use Rattle.aidl_names.specs.MemberViews.{seen_member}
+use Rattle.declared_names.specs.MemberViews.{seen_member}
 use Rattle.aidl_names.proofs.duplicates.member_names.Given as goal
 
 abbrev pub invariant-loop-member : goal.invariant-loop-member

@@ -1,6 +1,7 @@
 use Rattle.std.proofs.Common.{◌≡◌, ◌++◌, map, drop}
-use Rattle.aidl_names.specs.Sources.{source_of}
-use Rattle.aidl_names.specs.Rules.{WrongFile, in_each, wrong_file}
+use Rattle.aidl_syntax.specs.Sources.{source_of}
+use Rattle.aidl_names.specs.Rules.{WrongFile, wrong_file}
+use Rattle.declared_names.specs.Numbered.{in_each}
 use Rattle.aidl_names.proofs.files.add_wrong_files.Given as goal
 
 -- the breaches so far and those that are left are all

@@ -1,6 +1,7 @@
 use Rattle.std.proofs.Common.{◌≡◌, ◌++◌, map, drop}
-use Rattle.aidl_names.specs.Sources.{source_of}
-use Rattle.aidl_names.specs.Rules.{in_each, other_imports}
+use Rattle.aidl_syntax.specs.Sources.{source_of}
+use Rattle.aidl_names.specs.Rules.{other_imports}
+use Rattle.declared_names.specs.Numbered.{in_each}
 use Rattle.aidl_names.proofs.imports.add_other_imports.Given as goal
 
 -- the breaches so far and those that are left are all

@@ -1,6 +1,7 @@
 use Rattle.std.proofs.Common.{◌≡◌, ◌++◌, map, take, drop}
-use Rattle.aidl_names.specs.Sources.{source_of}
-use Rattle.aidl_names.specs.Rules.{breach, after_earlier, is_other_import, other_imports}
+use Rattle.aidl_syntax.specs.Sources.{source_of}
+use Rattle.aidl_names.specs.Rules.{breach, is_other_import, other_imports}
+use Rattle.declared_names.specs.Numbered.{after_earlier}
 use Rattle.aidl_names.proofs.Alike.{HasMemo}
 use Rattle.aidl_names.proofs.imports.add_others.Given as goal
 

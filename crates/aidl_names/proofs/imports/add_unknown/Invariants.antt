@@ -1,9 +1,9 @@
 use Rattle.std.proofs.Common.{◌≡◌, ◌++◌, map, drop, is_none}
 use Rattle.std.specs.List.{filter}
-use Rattle.aidl_names.specs.Sources.{source_of}
-use Rattle.aidl_names.specs.Resolution.{number_of}
+use Rattle.aidl_syntax.specs.Sources.{source_of}
+use Rattle.name_meanings.specs.Resolution.{number_of}
 use Rattle.aidl_names.specs.Rules.{breach, unknown_imports}
-use Rattle.aidl_names.specs.Refusals.{entry_of}
+use Rattle.declared_names.specs.Entries.{entry_of}
 use Rattle.aidl_names.proofs.imports.add_unknown.Given as goal
 
 -- the breaches so far and those that are left are all

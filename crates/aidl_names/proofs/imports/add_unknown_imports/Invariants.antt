@@ -1,7 +1,8 @@
 use Rattle.std.proofs.Common.{◌≡◌, ◌++◌, map, drop}
-use Rattle.aidl_names.specs.Sources.{source_of}
-use Rattle.aidl_names.specs.Rules.{in_each, unknown_imports}
-use Rattle.aidl_names.specs.Refusals.{entry_of}
+use Rattle.aidl_syntax.specs.Sources.{source_of}
+use Rattle.aidl_names.specs.Rules.{unknown_imports}
+use Rattle.declared_names.specs.Numbered.{in_each}
+use Rattle.declared_names.specs.Entries.{entry_of}
 use Rattle.aidl_names.proofs.imports.add_unknown_imports.Given as goal
 
 -- the breaches so far and those that are left are all

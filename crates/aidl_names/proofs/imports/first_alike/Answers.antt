@@ -1,11 +1,11 @@
 use Rattle.std.proofs.Common.{ℕ, ◌+◌, nat_eq, get_or, drop, length, sym, ◌∙◌, ap}
 use Rattle.std.specs.List.{position_from}
 use Rattle.aidl_syntax.specs.declared.tree.DottedTree.{DottedTree}
-use Rattle.aidl_names.specs.Names.{same, last}
-use Rattle.aidl_names.specs.Marks.{mark_of, mark_of_last}
-use Rattle.aidl_names.specs.Tables.{is_alike}
+use Rattle.declared_names.specs.Names.{same, last}
+use Rattle.declared_names.specs.Marks.{mark_of, mark_of_last}
+use Rattle.aidl_names.specs.Alike.{is_alike}
 use Rattle.aidl_names.proofs.Alike.{alike_marks}
-use Rattle.aidl_names.proofs.Chains.{begins, lands, lies, goes_behind, fewer}
+use Rattle.declared_names.proofs.Chains.{begins, lands, lies, goes_behind, fewer}
 use Rattle.aidl_names.proofs.imports.first_alike.Goals as goal
 
 pub places-init : goal.places-init

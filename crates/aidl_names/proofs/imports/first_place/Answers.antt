@@ -1,7 +1,7 @@
 use Rattle.std.proofs.Common.{◌≤◌, ℕ, Option, Some, sym, subst, ◌∙◌, ap}
 use Rattle.std.specs.Prelude.{unwrap_or}
 use Rattle.std.specs.List.{position_from}
-use Rattle.aidl_names.specs.Tables.{is_alike}
+use Rattle.aidl_names.specs.Alike.{is_alike}
 use Rattle.aidl_names.proofs.Alike.{placed}
 use Rattle.aidl_names.proofs.imports.first_place.Goals as goal
 

@@ -1,5 +1,5 @@
 use Rattle.std.proofs.Common.{◌≡◌, map, take}
-use Rattle.aidl_names.specs.Marks.{mark_of_last}
+use Rattle.declared_names.specs.Marks.{mark_of_last}
 use Rattle.aidl_names.proofs.imports.last_marks.Given as goal
 
 -- the marks of the imports so far

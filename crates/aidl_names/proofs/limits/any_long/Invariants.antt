@@ -1,7 +1,7 @@
 use Rattle.std.proofs.Common.{◌≡◌, map, drop}
 use Rattle.std.specs.List.{list_any}
 use Rattle.aidl_names.specs.Limits.{is_long_method}
-use Rattle.aidl_names.specs.MemberViews.{seen_member}
+use Rattle.declared_names.specs.MemberViews.{seen_member}
 use Rattle.aidl_names.proofs.limits.any_long.Given as goal
 
 -- what is left decides

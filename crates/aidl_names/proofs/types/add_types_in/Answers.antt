@@ -1,9 +1,9 @@
 use Rattle.std.proofs.Common.{ℕ, Bor, map, ◌++◌, ◌∙◌, ap, arith}
 use Rattle.aidl_syntax.specs.declared.tree.DottedTree.{DottedTree}
-use Rattle.aidl_names.specs.Sources.{source_of}
+use Rattle.aidl_syntax.specs.Sources.{source_of}
 use Rattle.aidl_names.specs.Rules.{breach}
 use Rattle.aidl_names.specs.TypeRules.{breaks_of, rule_of}
-use Rattle.aidl_names.proofs.Earlier.{goes_on, filter-next, read-map, one_if}
+use Rattle.declared_names.proofs.Earlier.{goes_on, filter-next, read-map, one_if}
 use Rattle.aidl_names.proofs.types.add_types_in.Goals as goal
 
 pub loop-name-preserved : goal.loop-name-preserved

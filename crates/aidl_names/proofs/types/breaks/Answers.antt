@@ -1,6 +1,6 @@
 use Rattle.std.proofs.Common.{map}
-use Rattle.aidl_names.specs.Refusals.{entry_of}
-use Rattle.aidl_names.proofs.Known.{is_right}
+use Rattle.declared_names.specs.Entries.{entry_of}
+use Rattle.name_meanings.proofs.Told.{is_right}
 use Rattle.aidl_names.proofs.types.breaks.Goals as goal
 
 pub resolved-meaning-requires-clause-known : goal.resolved-meaning-requires-clause-known

@@ -1,7 +1,7 @@
 use Rattle.std.proofs.Common.{◌<◌, IsTrue, map, length, get_or, refl, sym, ap, subst, arith}
 use Rattle.std.specs.List.{slice_get}
 use Rattle.std.proofs.lemmas.List.{length-map}
-use Rattle.aidl_names.specs.Sources.{source_of}
+use Rattle.aidl_syntax.specs.Sources.{source_of}
 use Rattle.const_eval.specs.Held.{is_held_outcome}
 use Rattle.const_items.specs.Items.{items}
 use Rattle.const_items.specs.ItemViews.{item_of}

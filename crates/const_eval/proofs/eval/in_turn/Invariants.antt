@@ -1,5 +1,5 @@
 use Rattle.std.proofs.Common.{map}
-use Rattle.aidl_names.specs.Sources.{source_of}
+use Rattle.aidl_syntax.specs.Sources.{source_of}
 use Rattle.const_eval.proofs.Progress.{IsSettled}
 use Rattle.const_eval.proofs.eval.in_turn.Given as goal
 

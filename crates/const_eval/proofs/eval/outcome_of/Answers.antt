@@ -2,7 +2,7 @@ use Rattle.std.proofs.Common.{◌≡◌, IsTrue, map, get_or, sym, ap, subst, �
 use Rattle.std.specs.List.{slice_get}
 use Rattle.std.proofs.lemmas.Result.{IfOk-weaker}
 use Rattle.graph_cycles.specs.Paths.{flag, targets}
-use Rattle.aidl_names.specs.Sources.{source_of}
+use Rattle.aidl_syntax.specs.Sources.{source_of}
 use Rattle.const_eval.specs.Held.{is_held_outcome}
 use Rattle.const_items.specs.ItemViews.{item_of}
 use Rattle.const_eval.specs.Known.{are_given, values_in, without_value}

@@ -2,7 +2,7 @@ use Rattle.std.proofs.Common.{ℕ, ◌<◌, map, length, Contains, slice_index, 
 use Rattle.std.specs.List.Sorted.{IsNonDecreasingBy}
 use Rattle.std.proofs.lemmas.List.{length-map}
 use Rattle.graph_cycles.specs.Paths.{Descends, targets}
-use Rattle.aidl_names.specs.Sources.{source_of}
+use Rattle.aidl_syntax.specs.Sources.{source_of}
 use Rattle.const_items.specs.Items.{items}
 use Rattle.const_items.specs.ItemViews.{item_of}
 use Rattle.const_eval.specs.Known.{IsInTurn}

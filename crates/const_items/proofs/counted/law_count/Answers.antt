@@ -1,7 +1,7 @@
 use Rattle.std.proofs.Common.{map, subst, arith}
 use Rattle.std.specs.List.{All}
 use Rattle.std.proofs.lemmas.List.{length-map}
-use Rattle.aidl_names.specs.Sources.{source_of}
+use Rattle.aidl_syntax.specs.Sources.{source_of}
 use Rattle.const_items.specs.SmallPlaces.{HasSmall}
 use Rattle.const_items.proofs.PlacesWithin.{items_few}
 use Rattle.const_items.proofs.counted.law_count.Goals as goal

@@ -4,7 +4,7 @@ use Rattle.std.proofs.lemmas.List.{take_all}
 use Rattle.std.proofs.lemmas.List.Elements.{All-get_or, All-map, All-more, All-weaker}
 use Rattle.aidl_syntax.specs.Trees.{file_of}
 use Rattle.aidl_syntax.specs.Walks.{places_of}
-use Rattle.aidl_names.specs.Sources.{IsOfBytes, source_of}
+use Rattle.aidl_syntax.specs.Sources.{IsOfBytes, source_of}
 use Rattle.const_items.specs.SmallPlaces.{HasSmall, Small}
 use Rattle.const_items.proofs.counted.law_places.Goals as goal
 

@@ -1,5 +1,5 @@
 use Rattle.std.proofs.Common.{◌≡◌, map, take}
-use Rattle.aidl_names.specs.Sources.{source_of}
+use Rattle.aidl_syntax.specs.Sources.{source_of}
 use Rattle.const_items.specs.Dependence.{depends_on, has_unknown_name}
 use Rattle.const_items.specs.ItemViews.{item_of}
 use Rattle.const_items.proofs.dependence.dependence_of.Given as goal

@@ -1,6 +1,6 @@
 use Rattle.std.proofs.Common.{◌≡◌, ◌++◌, ◌||◌, is_none, map, drop}
 use Rattle.std.specs.List.{filter_map, list_any}
-use Rattle.aidl_names.specs.Sources.{source_of}
+use Rattle.aidl_syntax.specs.Sources.{source_of}
 use Rattle.const_items.specs.Dependence.{number_of, target}
 use Rattle.const_items.specs.ItemViews.{item_of}
 use Rattle.const_items.proofs.dependence.of_names.Given as goal

@@ -1,7 +1,7 @@
 use Rattle.std.proofs.Common.{◌≡◌, ◌++◌, map, drop}
-use Rattle.aidl_names.specs.Sources.{source_of}
-use Rattle.aidl_names.specs.Rules.{in_each}
-use Rattle.aidl_names.specs.Refusals.{entry_of}
+use Rattle.aidl_syntax.specs.Sources.{source_of}
+use Rattle.declared_names.specs.Numbered.{in_each}
+use Rattle.declared_names.specs.Entries.{entry_of}
 use Rattle.const_items.specs.Items.{of_entry, declared}
 use Rattle.const_items.specs.ItemViews.{item_of}
 use Rattle.const_items.proofs.listing.add_all.Given as goal

@@ -1,7 +1,7 @@
 use Rattle.std.proofs.Common.{◌≡◌, ◌++◌, map, drop, false}
 use Rattle.aidl_syntax.specs.Trees.{members_of}
 use Rattle.aidl_syntax.specs.Members.{listed}
-use Rattle.aidl_names.specs.Sources.{source_of}
+use Rattle.aidl_syntax.specs.Sources.{source_of}
 use Rattle.const_items.specs.Items.{of_members}
 use Rattle.const_items.specs.ItemViews.{item_of}
 use Rattle.const_items.proofs.listing.add_members.Given as goal

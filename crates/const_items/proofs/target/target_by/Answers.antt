@@ -1,6 +1,6 @@
 use Rattle.std.proofs.Common.{◌-◌, length, refl, ap, ◌∙◌, map}
-use Rattle.aidl_names.specs.Declarations.{declarations}
-use Rattle.aidl_names.specs.Sources.{source_of}
+use Rattle.declared_names.specs.Declarations.{declarations}
+use Rattle.aidl_syntax.specs.Sources.{source_of}
 use Rattle.const_items.specs.Dependence.{member_of}
 use Rattle.const_items.specs.ItemViews.{item_of}
 use Rattle.const_items.proofs.Behind.{by_last}

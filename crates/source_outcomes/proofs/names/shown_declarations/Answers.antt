@@ -1,8 +1,8 @@
 use Rattle.std.proofs.Common.{◌≡◌, List, map, length, option_map, refl, sym, ◌∙◌, ap, arith}
 use Rattle.std.specs.List.{slice_get}
 use Rattle.std.proofs.lemmas.Option.{slice_get-map, slice_get_read}
-use Rattle.aidl_names.specs.Declarations.{Entry}
-use Rattle.aidl_names.specs.Refusals.{entry_of}
+use Rattle.declared_names.specs.Declarations.{Entry}
+use Rattle.declared_names.specs.Entries.{entry_of}
 use Rattle.source_outcomes.proofs.names.shown_declarations.Goals as goal
 
 -- it is the declaration with this number

@@ -1,7 +1,7 @@
 use Rattle.std.proofs.Common.{◌∷◌, [], Option, IfSome, ap, subst, length, length-append, arith}
 use Rattle.std.proofs.lemmas.List.Elements.{All-push, All-same}
 use Rattle.aidl_syntax.specs.declared.tree.ParsedFile.{ParsedFile}
-use Rattle.aidl_names.specs.Sources.{IsOfBytes}
+use Rattle.aidl_syntax.specs.Sources.{IsOfBytes}
 use Rattle.source_outcomes.proofs.tree.parsed.Goals as goal
 
 pub loop-file-preserved : goal.loop-file-preserved

@@ -1,6 +1,6 @@
 use Rattle.std.proofs.Common.{◌≡◌, length}
 use Rattle.std.specs.List.{All}
-use Rattle.aidl_names.specs.Sources.{IsOfBytes}
+use Rattle.aidl_syntax.specs.Sources.{IsOfBytes}
 use Rattle.source_outcomes.proofs.tree.parsed.Given as goal
 
 -- a tree of each file so far, each of some bytes

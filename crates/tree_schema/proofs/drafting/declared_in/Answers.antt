@@ -1,8 +1,8 @@
 use Rattle.std.proofs.Common.{length, option_map, refl, sym, ap, ◌∙◌, arith}
 use Rattle.std.specs.List.{slice_get}
 use Rattle.std.proofs.lemmas.Option.{slice_get_read, slice_get-map}
-use Rattle.aidl_names.specs.Declarations.{declarations}
-use Rattle.aidl_names.specs.Refusals.{entry_of}
+use Rattle.declared_names.specs.Declarations.{declarations}
+use Rattle.declared_names.specs.Entries.{entry_of}
 use Rattle.schema_parts.specs.TreeViews.{files_of, numbered_of}
 use Rattle.tree_schema.proofs.named.Numbers.{sorted-there}
 use Rattle.tree_schema.proofs.drafting.declared_in.Goals as goal

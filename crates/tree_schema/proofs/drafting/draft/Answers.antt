@@ -1,5 +1,5 @@
 use Rattle.std.proofs.Common.{length, map, ap, arith}
-use Rattle.aidl_names.specs.Sources.{source_of}
+use Rattle.aidl_syntax.specs.Sources.{source_of}
 use Rattle.tree_schema.proofs.Few.{few_of}
 use Rattle.tree_schema.proofs.drafting.draft.Goals as goal
 

@@ -1,6 +1,6 @@
 use Rattle.std.proofs.Common.{take}
 use Rattle.std.specs.List.{All}
-use Rattle.aidl_names.specs.Sources.{source_of}
+use Rattle.aidl_syntax.specs.Sources.{source_of}
 use Rattle.tree_schema.specs.Named.{HasIdentifiers}
 use Rattle.tree_schema.proofs.laws.law_identifiers.Given as goal
 

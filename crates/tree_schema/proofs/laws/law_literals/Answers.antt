@@ -2,7 +2,7 @@ use Rattle.std.proofs.Common.{sym, subst, arith}
 use Rattle.std.specs.List.{All}
 use Rattle.std.proofs.lemmas.List.{take_all}
 use Rattle.std.proofs.lemmas.List.Elements.{All-get_or, All-map, All-more}
-use Rattle.aidl_names.specs.Sources.{IsOfBytes, source_of}
+use Rattle.aidl_syntax.specs.Sources.{IsOfBytes, source_of}
 use Rattle.tree_schema.proofs.laws.law_literals.Invariants.{AreHeld}
 use Rattle.tree_schema.proofs.laws.law_literals.Goals as goal
 

@@ -3,7 +3,7 @@ use Rattle.std.specs.List.{All}
 use Rattle.aidl_syntax.specs.declared.token.Token.{Token}
 use Rattle.aidl_syntax.specs.Parses.{Holds}
 use Rattle.aidl_syntax.specs.Walks.{literals_of}
-use Rattle.aidl_names.specs.Sources.{Source, source_of}
+use Rattle.aidl_syntax.specs.Sources.{Source, source_of}
 use Rattle.tree_schema.proofs.laws.law_literals.Given as goal
 
 abbrev pub AreHeld : Source → Type 0

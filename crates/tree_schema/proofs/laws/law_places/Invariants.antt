@@ -2,7 +2,7 @@ use Rattle.std.proofs.Common.{List, take}
 use Rattle.std.specs.List.{All}
 use Rattle.std.specs.List.Sorted.{IsStrictlyIncreasing}
 use Rattle.aidl_syntax.specs.Walks.{places_of}
-use Rattle.aidl_names.specs.Sources.{Source, source_of}
+use Rattle.aidl_syntax.specs.Sources.{Source, source_of}
 use Rattle.tree_schema.proofs.laws.law_places.Given as goal
 
 abbrev pub ArePlaced : Source → Type 0

@@ -4,7 +4,7 @@ use Rattle.aidl_syntax.specs.declared.token.Token.{Token}
 use Rattle.aidl_syntax.specs.Parses.{Holds}
 use Rattle.aidl_syntax.specs.Walks.{literals_of, places_of}
 use Rattle.aidl_syntax.specs.declared.tree.ParsedFile.{ParsedFile}
-use Rattle.aidl_names.specs.Sources.{AreOfBytes, Source, source_of}
+use Rattle.aidl_syntax.specs.Sources.{AreOfBytes, Source, source_of}
 use Rattle.tree_schema.specs.Named.{HasIdentifiers}
 use Rattle.tree_schema.proofs.valued.EnumsFilled.{files-filled}
 use Rattle.tree_schema.proofs.settled.Faultless.{faultless, filled-files}

@@ -1,7 +1,7 @@
 use Rattle.std.proofs.Common.{◌≡◌, map, drop, []}
 use Rattle.std.specs.Prelude.{string_bytes}
 use Rattle.std.specs.List.{fold, enumerate_from}
-use Rattle.aidl_names.specs.Refusals.{entry_of}
+use Rattle.declared_names.specs.Entries.{entry_of}
 use Rattle.tree_schema.specs.Keyed.{IsKeyed}
 use Rattle.schema_parts.specs.Numbers.{bytes_of, put}
 use Rattle.schema_parts.specs.TreeViews.{numbered_of}

@@ -1,5 +1,5 @@
 use Rattle.std.proofs.Common.{◌<◌, ◌≤◌, length, map, sym, ap, ◌∙◌, arith}
-use Rattle.aidl_names.specs.Sources.{source_of}
+use Rattle.aidl_syntax.specs.Sources.{source_of}
 use Rattle.const_eval.specs.Outcomes.{outcome_at}
 use Rattle.type_check.specs.Stages.{schema_by, types_broken}
 use Rattle.type_check.specs.Stages.AreBreaches.{of_types}

@@ -1,5 +1,5 @@
 use Rattle.std.proofs.Common.{map}
-use Rattle.aidl_names.specs.Sources.{source_of}
+use Rattle.aidl_syntax.specs.Sources.{source_of}
 use Rattle.type_check.proofs.checking.of_trees.Goals as goal
 
 pub returns-in-Err-clause-err : goal.returns-in-Err-clause-err

@@ -1,7 +1,7 @@
 use Rattle.std.proofs.Common.{IsTrue, ◌≡◌, ◌<◌, ◌++◌, ℕ, List, [], length, map, subst}
 use Rattle.aidl_base.specs.declared.breach.Breach.{Breach}
 use Rattle.aidl_names.specs.Breaches.{in_order}
-use Rattle.aidl_names.specs.Sources.{source_of}
+use Rattle.aidl_syntax.specs.Sources.{source_of}
 use Rattle.aidl_schema.specs.declared.schema.Decl.{Decl}
 use Rattle.aidl_schema.specs.Valid.{is_bounded}
 use Rattle.aidl_syntax.specs.declared.tree.ParsedFile.{ParsedFile}

@@ -1,5 +1,5 @@
 use Rattle.std.proofs.Common.{◌≡◌, ◌++◌, false, map, drop}
-use Rattle.aidl_names.specs.Refusals.{entry_of}
+use Rattle.declared_names.specs.Entries.{entry_of}
 use Rattle.type_rules.specs.FieldRules.{bad_fields}
 use Rattle.type_uses.specs.TypeUseViews.{seen_use}
 use Rattle.type_rules.proofs.fields.add_in_uses.Given as goal

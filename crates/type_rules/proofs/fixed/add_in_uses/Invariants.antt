@@ -1,5 +1,5 @@
 use Rattle.std.proofs.Common.{◌≡◌, ◌++◌, map, drop}
-use Rattle.aidl_names.specs.Refusals.{entry_of}
+use Rattle.declared_names.specs.Entries.{entry_of}
 use Rattle.type_rules.specs.FieldRules.{is_unfixed}
 use Rattle.type_rules.specs.Filters.{broken_where}
 use Rattle.type_uses.specs.TypeUses.{name_place}

@@ -1,5 +1,5 @@
 use Rattle.std.proofs.Common.{◌≡◌, map, take}
-use Rattle.aidl_names.specs.Refusals.{entry_of}
+use Rattle.declared_names.specs.Entries.{entry_of}
 use Rattle.type_uses.specs.Bases.{is_fixed_entry}
 use Rattle.type_rules.proofs.fixed.fixed_ones.Given as goal
 

@@ -1,7 +1,7 @@
 use Rattle.std.proofs.Common.{length, option_map, refl, sym, ap, ◌∙◌, arith}
 use Rattle.std.specs.List.{slice_get}
 use Rattle.std.proofs.lemmas.Option.{slice_get_read, slice_get-map}
-use Rattle.aidl_names.specs.Refusals.{entry_of}
+use Rattle.declared_names.specs.Entries.{entry_of}
 use Rattle.type_rules.proofs.joined.add_all.Goals as goal
 
 -- the number is that of the declaration

@@ -1,7 +1,7 @@
 use Rattle.std.proofs.Common.{◌≡◌, ◌++◌, map, drop}
-use Rattle.aidl_names.specs.Sources.{source_of}
-use Rattle.aidl_names.specs.Rules.{in_each}
-use Rattle.aidl_names.specs.Refusals.{entry_of}
+use Rattle.aidl_syntax.specs.Sources.{source_of}
+use Rattle.declared_names.specs.Numbered.{in_each}
+use Rattle.declared_names.specs.Entries.{entry_of}
 use Rattle.type_rules.specs.Breaches.{broken_in, unsorted}
 use Rattle.type_rules.proofs.joined.add_all.Given as goal
 

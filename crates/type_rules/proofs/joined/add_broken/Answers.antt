@@ -1,5 +1,5 @@
 use Rattle.std.proofs.Common.{◌++◌, map, ◌∙◌, ap}
-use Rattle.aidl_names.specs.Refusals.{entry_of}
+use Rattle.declared_names.specs.Entries.{entry_of}
 use Rattle.type_uses.specs.TypeUses.{name_place}
 use Rattle.type_uses.specs.TypeUseViews.{seen_use}
 use Rattle.type_rules.specs.Filters.{broken_where}

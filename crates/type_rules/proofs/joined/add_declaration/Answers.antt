@@ -1,10 +1,10 @@
 use Rattle.std.proofs.Common.{◌≡◌, ◌++◌, map, OnOk, sym, ◌∙◌, ap, subst}
 use Rattle.aidl_syntax.specs.Trees.{Body}
 use Rattle.aidl_syntax.specs.Members.{members, body}
-use Rattle.aidl_names.specs.Sources.{source_of}
-use Rattle.aidl_names.specs.Declarations.{declarations}
-use Rattle.aidl_names.specs.Refusals.{entry_of}
-use Rattle.aidl_names.proofs.Trees.{seen_decl}
+use Rattle.aidl_syntax.specs.Sources.{source_of}
+use Rattle.declared_names.specs.Declarations.{declarations}
+use Rattle.declared_names.specs.Entries.{entry_of}
+use Rattle.declared_names.proofs.Trees.{seen_decl}
 use Rattle.const_items.specs.Items.{shape_in}
 use Rattle.type_uses.specs.TypeUses.{of_members}
 use Rattle.type_uses.specs.TypeUseViews.{seen_use}

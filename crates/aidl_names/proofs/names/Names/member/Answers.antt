@@ -1,9 +1,9 @@
 use Rattle.std.proofs.Common.{List, map, ap, ◌∙◌}
 use Rattle.aidl_syntax.specs.declared.tree.ParsedFile.{ParsedFile}
-use Rattle.aidl_names.specs.Called.{called_at, seen_table}
-use Rattle.aidl_names.specs.Declarations.{declarations}
-use Rattle.aidl_names.specs.Sources.{source_of}
-use Rattle.aidl_names.proofs.Named.{has_table, has_none}
+use Rattle.declared_names.specs.Called.{called_at, seen_table}
+use Rattle.declared_names.specs.Declarations.{declarations}
+use Rattle.aidl_syntax.specs.Sources.{source_of}
+use Rattle.declared_names.proofs.Named.{has_table, has_none}
 use Rattle.aidl_names.proofs.names.Names.member.Goals as goal
 
 pub returns-in-Some : goal.returns-in-Some

@@ -1,5 +1,5 @@
 use Rattle.std.proofs.Common.{map, get_or, ap, ◌∙◌}
-use Rattle.aidl_names.specs.Sources.{source_of}
+use Rattle.aidl_syntax.specs.Sources.{source_of}
 use Rattle.const_operands.specs.Seen.{answer}
 use Rattle.const_eval.specs.Known.{known_meaning}
 use Rattle.const_items.specs.TargetViews.{seen_targets}

@@ -1,8 +1,0 @@
-use Rattle.std.proofs.Common.{◌≡◌, map, take}
-use Rattle.aidl_names.specs.Called.{called, seen_table}
-use Rattle.aidl_names.specs.Refusals.{entry_of}
-use Rattle.aidl_names.proofs.called.members_by_name.Given as goal
-
--- those of the declarations so far
-abbrev pub invariant-loop-f : goal.invariant-loop-f
-invariant-loop-f l = map seen_table l.tables.items ≡ map called (map entry_of (take l.f-index l.found))

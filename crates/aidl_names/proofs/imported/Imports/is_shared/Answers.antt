@@ -1,6 +1,0 @@
-use Rattle.std.proofs.Common.{Some}
-use Rattle.aidl_names.proofs.Chains.{goes_on_marked}
-use Rattle.aidl_names.proofs.imported.Imports.is_shared.Goals as goal
-
-pub next-requires : goal.next-requires
-next-requires c = (goes_on_marked c.self.inside.table c.with_part.result 0 (Some c.in-Some.place) c.in-Some.ensures).0

@@ -1,9 +1,0 @@
-use Rattle.std.proofs.Common.{◌≡◌, ◌++◌, map, drop}
-use Rattle.aidl_syntax.specs.Trees.{members_of}
-use Rattle.aidl_syntax.specs.Members.{listed}
-use Rattle.aidl_names.specs.MemberViews.{seen_member}
-use Rattle.aidl_names.proofs.members.listed.Given as goal
-
--- the members so far and those that are left are all
-abbrev pub invariant-loop-member : goal.invariant-loop-member
-invariant-loop-member l = map seen_member l.all.items ++ listed (members_of (drop l.member-index l.members)) ≡ listed (members_of l.members)

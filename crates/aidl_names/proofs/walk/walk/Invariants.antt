@@ -1,9 +1,0 @@
-use Rattle.std.proofs.Common.{◌≡◌, map, drop}
-use Rattle.aidl_names.specs.Sources.{source_of}
-use Rattle.aidl_names.specs.Declarations.{with_files, declarations}
-use Rattle.aidl_names.specs.Refusals.{entry_of}
-use Rattle.aidl_names.proofs.walk.walk.Given as goal
-
--- the files that are left add what all add
-abbrev pub invariant-loop-i : goal.invariant-loop-i
-invariant-loop-i l = with_files l.i (map source_of (drop l.i l.files)) (map entry_of l.found.items) ≡ declarations (map source_of l.files)

@@ -1,0 +1,11 @@
+pub mod Names
+pub mod Declarations
+pub mod Entries
+pub mod Walks
+pub mod MemberViews
+pub mod Called
+pub mod TypeNames
+pub mod Marks
+pub mod Tables
+pub mod Numbered
+pub mod steps

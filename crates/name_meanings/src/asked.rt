@@ -1,0 +1,247 @@
+ghost use Rattle.std.specs.Prelude.{◌≡◌, ◌≤◌, ◌++◌, ◌∷◌, [], map, length, IfOk, OnOk};
+ghost use Rattle.name_meanings.specs.Imports.{meant_through};
+ghost use Rattle.declared_names.specs.Marks.{mark_of_entry};
+ghost use Rattle.declared_names.specs.Entries.{entry_of};
+ghost use Rattle.declared_names.specs.steps.Ends.{ends_of};
+ghost use Rattle.name_meanings.specs.steps.Asked.{AreRight, IsSaid, is_told, said, said_at, said_at_number, means};
+ghost use Rattle.declared_names.specs.steps.Marks.{is_shared_in};
+
+use crate::by_name::{ByName, by_names};
+use crate::imported::Imports;
+use crate::meaning::Resolved;
+use aidl_base::{Ident, OutOfMemory};
+use aidl_syntax::DottedTree;
+use indexmap::IndexMap;
+use std::alloc::Global;
+use std::marker::Model;
+use declared_names::{Ends, Found, Table, ends_of, names_of_types, same, with_parts};
+
+/// What is known of what a name means through imports.
+#[derive(Clone, Copy)]
+pub enum Known {
+    /// nothing
+    Unasked,
+    /// its meaning
+    Means(Option<Resolved>),
+}
+
+impl Known {
+    fn is_told(self) -> bool
+        ensures { result ≡ is_told self }
+    {
+        match self {
+            Known::Means(_) => true,
+            Known::Unasked => false,
+        }
+    }
+}
+
+/// What a name means through the imports of the file with that number.
+#[derive(Clone, Copy)]
+pub struct Answer<'a> {
+    pub file: u32,
+    pub name: &'a DottedTree,
+    pub meaning: Option<Resolved>,
+}
+
+/// Answers, and places where to look for them by marks. Contracts see them as these answers.
+#[derive(Drop)]
+pub struct Asked<'a> {
+    answers: Vec<Answer<'a>>,
+    places: IndexMap<u64, usize>,
+}
+
+impl<'a> Model for Asked<'a> {
+    ghost use Rattle.std.specs.Prelude.{List};
+    ghost use Rattle.name_meanings.specs.declared.asked.Answer.{Answer};
+
+    ghost Value = { List Answer };
+
+    ghost view = { λ asked. asked.answers.items };
+}
+
+impl<'a> Asked<'a> {
+    /// No answers yet. It takes no memory.
+    pub fn new(alloc: Global) -> Asked<'a>
+        ensures { result ≡ [] }
+    {
+        Asked {
+            answers: Vec::new(alloc),
+            places: IndexMap::new(alloc),
+        }
+    }
+
+    /// What is known of a name in the file with a number. It takes no memory.
+    pub fn known(&self, file: u32, name: &[Ident]) -> Known
+        ensures { IsSaid self.now file name.now result }
+    {
+        if self.answers.is_empty() {
+            return Known::Unasked;
+        }
+        let mark = with_parts(u64::from(file), name);
+        let place = self.places.get(&mark).copied();
+        said_at(self.answers.as_slice(), place, file, name)
+    }
+
+    fn add(
+        &mut self,
+        file: u32,
+        name: &'a DottedTree,
+        meaning: Option<Resolved>,
+    ) -> Result<(), OutOfMemory>
+        ensures { OnOk result (self.new ≡ self.old ++ record { file = file; name = name.entry; meaning = meaning } ∷ []) }
+    {
+        let mark = with_parts(u64::from(file), name.name.0.as_slice());
+        self.places.insert(mark, self.answers.len())?;
+        self.answers.push(Answer {
+            file,
+            name,
+            meaning,
+        })?;
+        Ok(())
+    }
+}
+
+fn said_at(answers: &[Answer<'_>], place: Option<usize>, file: u32, name: &[Ident]) -> Known
+    ensures { result ≡ said_at answers.now place file name.now }
+{
+    match place {
+        Some(number) => said_at_number(answers, number, file, name),
+        None => Known::Unasked,
+    }
+}
+
+fn said_at_number(answers: &[Answer<'_>], number: usize, file: u32, name: &[Ident]) -> Known
+    ensures { result ≡ said_at_number answers.now number file name.now }
+{
+    match answers.get(number) {
+        Some(answer) => said(answer, file, name),
+        None => Known::Unasked,
+    }
+}
+
+// What an answer says of a name in a file.
+fn said(answer: &Answer<'_>, file: u32, name: &[Ident]) -> Known
+    ensures { result ≡ said answer.now file name.now }
+{
+    if answer.file == file && same(answer.name.name.0.as_slice(), name) {
+        Known::Means(answer.meaning)
+    } else {
+        Known::Unasked
+    }
+}
+
+/// Where there are many breaches, what the names of types mean through imports of which several have their first part.
+pub fn asked_where<'a>(
+    alloc: Global,
+    many: bool,
+    found: &[Found<'a>],
+    table: &Table,
+    imports: &[Imports<'_>],
+) -> Result<Asked<'a>, OutOfMemory>
+    requires count { length found.now ≤ 16384 }
+    requires table { table.now ≡ map mark_of_entry (map entry_of found.now) }
+    ensures { IfOk result (λ asked. AreRight imports.now (map entry_of found.now) asked) }
+{
+    if many {
+        asked_of(alloc, found, table, imports)
+    } else {
+        Ok(Asked::new(alloc))
+    }
+}
+
+fn asked_of<'a>(
+    alloc: Global,
+    found: &[Found<'a>],
+    table: &Table,
+    imports: &[Imports<'_>],
+) -> Result<Asked<'a>, OutOfMemory>
+    requires count { length found.now ≤ 16384 }
+    requires table { table.now ≡ map mark_of_entry (map entry_of found.now) }
+    ensures { IfOk result (λ asked. AreRight imports.now (map entry_of found.now) asked) }
+{
+    let ends = ends_of(alloc, found)?;
+    let names = by_names(alloc, imports)?;
+    let mut asked = Asked::new(alloc);
+    for f in found {
+        ask_in(alloc, found, table, &ends, names.as_slice(), f, &mut asked)?;
+    }
+    Ok(asked)
+}
+
+// Asks for the names of types in a declaration.
+fn ask_in<'a>(
+    alloc: Global,
+    found: &[Found<'a>],
+    table: &Table,
+    ends: &Ends,
+    names: &[ByName<'_, '_>],
+    inside: &Found<'a>,
+    asked: &mut Asked<'a>,
+) -> Result<(), OutOfMemory>
+    requires count { length found.now ≤ 16384 }
+    requires table { table.now ≡ map mark_of_entry (map entry_of found.now) }
+    requires ends { ends.now ≡ ends_of (map entry_of found.now) }
+    requires right { AreRight names.now (map entry_of found.now) asked.old }
+    ensures { OnOk result (AreRight names.now (map entry_of found.now) asked.new) }
+{
+    let all = names_of_types(alloc, inside.tree)?;
+    for name in all.as_slice() {
+        ask(found, table, ends, names, inside.file, *name, asked)?;
+    }
+    Ok(())
+}
+
+// Asks for a name in a file, where it has to be asked for and was not asked for yet.
+fn ask<'a>(
+    found: &[Found<'_>],
+    table: &Table,
+    ends: &Ends,
+    names: &[ByName<'_, '_>],
+    file: u32,
+    name: &'a DottedTree,
+    asked: &mut Asked<'a>,
+) -> Result<(), OutOfMemory>
+    requires count { length found.now ≤ 16384 }
+    requires table { table.now ≡ map mark_of_entry (map entry_of found.now) }
+    requires ends { ends.now ≡ ends_of (map entry_of found.now) }
+    requires right { AreRight names.now (map entry_of found.now) asked.old }
+    ensures { OnOk result (AreRight names.now (map entry_of found.now) asked.new) }
+{
+    let parts = name.name.0.as_slice();
+    if is_shared(names, file, parts) && !asked.known(file, parts).is_told() {
+        let meaning = means(found, table, ends, names, file, parts);
+        asked.add(file, name, meaning)?;
+    }
+    Ok(())
+}
+
+// What a name means through the imports of the file with a number.
+fn means(
+    found: &[Found<'_>],
+    table: &Table,
+    ends: &Ends,
+    names: &[ByName<'_, '_>],
+    file: u32,
+    name: &[Ident],
+) -> Option<Resolved>
+    requires count { length found.now ≤ 16384 }
+    requires table { table.now ≡ map mark_of_entry (map entry_of found.now) }
+    requires ends { ends.now ≡ ends_of (map entry_of found.now) }
+    ensures { result ≡ means names.now (map entry_of found.now) file name.now }
+{
+    match names.get(file as usize) {
+        Some(imports) => imports.means(found, table, ends, name),
+        None => None,
+    }
+}
+
+// Whether several imports of the file with a number have the first part of a name.
+fn is_shared(names: &[ByName<'_, '_>], file: u32, name: &[Ident]) -> bool
+    ensures { result ≡ is_shared_in names.now file name.now }
+{
+    match names.get(file as usize) {
+        Some(imports) => imports.is_shared(name),
+        None => false,
+    }
+}

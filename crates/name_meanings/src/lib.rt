@@ -1,0 +1,14 @@
+//! What names mean in a tree of files: by themselves, through enclosing declarations, imports and packages.
+#![tactic(auto)]
+
+mod asked;
+mod behind;
+mod by_name;
+mod imported;
+mod meaning;
+mod resolution;
+
+pub use asked::{Asked, Known, asked_where};
+pub use imported::{Imports, imports_of_files};
+pub use meaning::{BuiltinName, Resolved};
+pub use resolution::{meaning_of_word, number_of, resolved};
