@@ -40,8 +40,8 @@ impl TypeRule {
     }
 }
 
-/// Adds the breaches of E4 and of E5. Where there are 64 breaches and more, so many imports may have a last part in common
-/// that names which begin with it are asked for together.
+/// Adds the breaches of E4 and of E5, behind those of the other rules. Where there are none of these no last part has two
+/// imports that differ, so each name is tried behind one import at most.
 pub fn add_types(
     alloc: Global,
     files: &[ParsedFile],
@@ -56,7 +56,7 @@ pub fn add_types(
     requires all { map entry_of found.now ≡ declarations (map source_of files.now) }
     ensures { OnOk result (rows.new.items ≡ rows.old.items ++ UnknownType (map source_of files.now) ++ LeftOutType (map source_of files.now)) }
 {
-    let asked = asked_where(alloc, rows.len() >= 64, found, table, imports)?;
+    let asked = asked_where(alloc, !rows.is_empty(), found, table, imports)?;
     add_types_by(
         alloc,
         files,

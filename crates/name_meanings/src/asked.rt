@@ -131,10 +131,11 @@ fn said(answer: &Answer<'_>, file: u32, name: &[Ident]) -> Known
     }
 }
 
-/// Where there are many breaches, what the names of types mean through imports of which several have their first part.
+/// Where rules are broken, what the names of types mean through imports of which several have their first part; each name
+/// is asked for once in a file.
 pub fn asked_where<'a>(
     alloc: Global,
-    many: bool,
+    broken: bool,
     found: &[Found<'a>],
     table: &Table,
     imports: &[Imports<'_>],
@@ -143,7 +144,7 @@ pub fn asked_where<'a>(
     requires table { table.now ≡ map mark_of_entry (map entry_of found.now) }
     ensures { IfOk result (λ asked. AreRight imports.now (map entry_of found.now) asked) }
 {
-    if many {
+    if broken {
         asked_of(alloc, found, table, imports)
     } else {
         Ok(Asked::new(alloc))
