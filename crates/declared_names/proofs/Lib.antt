@@ -2,7 +2,7 @@ pub mod Chains
 pub mod Compared
 pub mod Earlier
 pub mod Firsts
-mod Named
+pub mod Named
 pub mod SameNames
 pub mod Times
 pub mod Trees

@@ -1,7 +1,7 @@
 mod Ahead
 mod Candidates
 mod Copies
-mod Told
+pub mod Told
 mod Leads
 mod OfFiles
 pub mod Tables
