@@ -11,10 +11,10 @@ ghost use Rattle.declared_names.specs.Entries.{entry_of};
 use crate::rows::add_if;
 use aidl_base::{Breach, Ident, OutOfMemory};
 use aidl_syntax::{ArgTree, NameTree};
-use indexmap::IndexSet;
-use std::alloc::Global;
 use declared_names::{Found, MemberRef, Table, members, name_of};
+use indexmap::IndexSet;
 use name_meanings::{meaning_of_word, number_of};
+use std::alloc::Global;
 
 /// Adds the breaches of E2 by members and arguments.
 pub fn add_repeated(

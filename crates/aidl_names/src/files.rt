@@ -1,13 +1,11 @@
 ghost use Rattle.std.specs.Prelude.{◌≡◌, ◌≤◌, ◌++◌, [], ◌∷◌, map, length, IfOk, OnOk, if◌then◌else◌, string_bytes};
-ghost use Rattle.std.specs.List.{flat_map};
-ghost use Rattle.declared_names.specs.Names.{text};
 ghost use Rattle.aidl_syntax.specs.Sources.{source_of};
-ghost use Rattle.aidl_names.specs.Rules.{WrongFile, is_wrong_file, path_of, breach};
+ghost use Rattle.aidl_names.specs.Rules.{WrongFile, is_wrong_file, path_of};
 
 use aidl_base::{Breach, Ident, OutOfMemory};
 use aidl_syntax::ParsedFile;
-use std::alloc::Global;
 use declared_names::package;
+use std::alloc::Global;
 
 /// Adds the breaches of E1.
 pub fn add_wrong_files(

@@ -10,9 +10,9 @@ ghost use Rattle.declared_names.specs.Entries.{entry_of};
 use crate::rows::add_if;
 use aidl_base::{Breach, Ident, OutOfMemory};
 use aidl_syntax::{DottedTree, ParsedFile};
-use std::alloc::Global;
 use declared_names::{Found, Table, last, last_mark, same, with_parts};
 use name_meanings::number_of;
+use std::alloc::Global;
 
 /// Adds the breaches of E3.
 pub fn add_unknown_imports(

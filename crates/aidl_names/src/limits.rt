@@ -1,14 +1,13 @@
 ghost use Rattle.std.specs.Prelude.{◌≡◌, ◌≤◌, map, length, IfOk, IfNone};
 ghost use Rattle.std.specs.List.{list_any};
-ghost use Rattle.aidl_syntax.specs.Trees.{decl_of};
-ghost use Rattle.aidl_syntax.specs.Members.{members, body};
+ghost use Rattle.aidl_syntax.specs.Members.{members};
 ghost use Rattle.aidl_names.specs.Limits.{passed, has_many_members, has_long_method, is_long_method};
 ghost use Rattle.declared_names.specs.MemberViews.{seen_member};
 ghost use Rattle.declared_names.specs.Entries.{entry_of};
 
 use aidl_base::{LimitName, OutOfMemory};
-use std::alloc::Global;
 use declared_names::{Found, MemberRef, members};
+use std::alloc::Global;
 
 /// The first limit on declarations, members and arguments that declarations pass.
 pub fn passed(alloc: Global, found: &[Found<'_>]) -> Result<Option<LimitName>, OutOfMemory>

@@ -21,11 +21,11 @@ use crate::order::in_order;
 use crate::types::add_types;
 use aidl_base::{Breach, Ident, Limit, LimitName, OutOfMemory, Row};
 use aidl_syntax::ParsedFile;
+use declared_names::{Found, MemberRef, Table, WalkFault, called, marks, members_by_name, walk};
 use indexmap::IndexMap;
+use name_meanings::{Imports, Known, Resolved, imports_of_files, resolved};
 use std::alloc::Global;
 use std::marker::Model;
-use declared_names::{Found, MemberRef, Table, WalkFault, called, marks, members_by_name, walk};
-use name_meanings::{Imports, Known, Resolved, imports_of_files, resolved};
 
 /// A tree of files that passes no limit on declarations and breaks none of E1 to E5. Contracts see it as its files.
 #[derive(Drop)]

@@ -1,12 +1,9 @@
-ghost use Rattle.std.specs.Prelude.{◌≡◌, ◌≤◌, ◌++◌, map, length, OnOk, IfOk};
-ghost use Rattle.std.specs.List.{flat_map};
-ghost use Rattle.aidl_syntax.specs.Members.{members, body};
-ghost use Rattle.aidl_syntax.specs.Trees.{arg_of, body_of, decl_of};
+ghost use Rattle.std.specs.Prelude.{◌≡◌, ◌≤◌, ◌++◌, map, length, OnOk};
+ghost use Rattle.aidl_syntax.specs.Members.{body};
+ghost use Rattle.aidl_syntax.specs.Trees.{body_of, decl_of};
 ghost use Rattle.aidl_syntax.specs.Sources.{source_of};
 ghost use Rattle.declared_names.specs.Declarations.{declarations};
 ghost use Rattle.aidl_names.specs.Rules.{UnknownType, LeftOutType, types_in, types_where, is_left_out, is_interface, is_interface_body};
-ghost use Rattle.declared_names.specs.TypeNames.{type_names, names_of_type};
-ghost use Rattle.declared_names.specs.MemberViews.{seen_member};
 ghost use Rattle.aidl_names.specs.TypeRules.{breaks_of, rule_of};
 ghost use Rattle.name_meanings.specs.Imports.{meant_through, meant_in};
 ghost use Rattle.declared_names.specs.Marks.{mark_of_entry};
@@ -15,10 +12,10 @@ ghost use Rattle.name_meanings.specs.steps.Asked.{AreRight};
 
 use crate::rows::add_if;
 use aidl_base::{Breach, Ident, OutOfMemory};
-use aidl_syntax::{ArgTree, BodyTree, DeclTree, DottedTree, ParsedFile, TypeTree};
-use std::alloc::Global;
-use declared_names::{Found, MemberRef, Table, members};
+use aidl_syntax::{BodyTree, DeclTree, ParsedFile};
+use declared_names::{Found, Table, names_of_types};
 use name_meanings::{Asked, Imports, Resolved, asked_where, resolved};
+use std::alloc::Global;
 
 /// A rule on the names of types.
 #[derive(Clone, Copy)]

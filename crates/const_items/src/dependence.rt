@@ -6,7 +6,6 @@ ghost use Rattle.graph_cycles.specs.Paths.{targets};
 ghost use Rattle.const_items.specs.Dependence as meant;
 ghost use Rattle.const_items.specs.Items.{items as items_of};
 ghost use Rattle.const_items.specs.ItemViews.{item_of};
-ghost use Rattle.const_items.specs.TargetViews.{seen_targets};
 
 use crate::item::{ItemRef, WrittenRef};
 use crate::named::names_in;

@@ -1,5 +1,5 @@
 ghost use Rattle.std.specs.Prelude.{◌≡◌, ◌≤◌, ◌++◌, ◌∷◌, [], None, false, map, length, IfOk, OnOk};
-ghost use Rattle.aidl_syntax.specs.Trees.{Members, body_of, constant_of, decl_of, enumerator_of, expr_of, exprs_of, field_of, init_of, map_option, member_of, members_of};
+ghost use Rattle.aidl_syntax.specs.Trees.{Members, body_of, constant_of, enumerator_of, expr_of, exprs_of, field_of, init_of, map_option, member_of, members_of};
 ghost use Rattle.aidl_syntax.specs.Members.{listed};
 ghost use Rattle.declared_names.specs.Declarations.{declarations};
 ghost use Rattle.aidl_names.specs.Refusals.{IsScope};
@@ -11,11 +11,11 @@ ghost use Rattle.const_items.specs.ItemViews.{item_of, written_of};
 use crate::item::{ItemRef, WrittenRef};
 use aidl_base::OutOfMemory;
 use aidl_names::Names;
-use declared_names::Found;
 use aidl_syntax::{
     BodyTree, ConstantTree, EnumeratorTree, ExprTree, FieldTree, InitTree, MemberTree,
 };
 use const_values::Wanted;
+use declared_names::Found;
 use std::alloc::Global;
 use type_shapes::{Shape, backing_of, is_unjudged, shaped, wanted_element, wanted_one};
 

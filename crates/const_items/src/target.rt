@@ -13,9 +13,9 @@ use crate::listing::place_by;
 use crate::numbering::Items;
 use aidl_base::Ident;
 use aidl_names::Names;
-use name_meanings::Resolved;
-use declared_names::MemberRef;
 use aidl_syntax::{ConstantTree, DottedTree, EnumeratorTree};
+use declared_names::MemberRef;
+use name_meanings::Resolved;
 
 /// What a name in an expression means: a constant or an enumerator, with the numbers of its file and of the declaration that has
 /// it.

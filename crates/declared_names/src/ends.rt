@@ -2,8 +2,8 @@ ghost use Rattle.std.specs.Prelude.{◌≡◌, ◌++◌, map, IfOk, OnOk};
 ghost use Rattle.declared_names.specs.steps.Ends.{mark_back, ends_in, ends_of};
 ghost use Rattle.declared_names.specs.Entries.{entry_of};
 
-use crate::marking::with_part;
 use crate::found::Found;
+use crate::marking::with_part;
 use crate::table::Table;
 use aidl_base::{Ident, OutOfMemory};
 use std::alloc::Global;

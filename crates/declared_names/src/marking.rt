@@ -1,6 +1,6 @@
 ghost use Rattle.std.specs.Prelude.{◌≡◌, ◌<◌, map, IfOk};
 ghost use Rattle.std.specs.List.{fold};
-ghost use Rattle.declared_names.specs.Marks.{with_byte, with_part, mark_of, mark_of_entry};
+ghost use Rattle.declared_names.specs.Marks.{with_byte, with_part, mark_of_entry};
 ghost use Rattle.declared_names.specs.Entries.{entry_of};
 
 use crate::found::Found;

@@ -10,8 +10,8 @@ ghost use Rattle.declared_names.specs.MemberViews.{seen_member};
 ghost use Rattle.declared_names.specs.Names.{text};
 ghost use Rattle.declared_names.specs.Entries.{entry_of};
 
-use crate::member_refs::{MemberRef, members, name_of};
 use crate::found::Found;
+use crate::member_refs::{MemberRef, members, name_of};
 use aidl_base::{Ident, OutOfMemory};
 use aidl_syntax::DeclTree;
 use indexmap::IndexMap;

@@ -1,5 +1,5 @@
 ghost use Rattle.std.specs.Prelude.{◌≡◌, ◌<◌, ◌≤◌, length, map, Some, None, OnOk, IfOk, IfErr};
-ghost use Rattle.aidl_syntax.specs.Trees.{Members, decl_of, body_of, members_of, member_of, file_of};
+ghost use Rattle.aidl_syntax.specs.Trees.{Members, decl_of, body_of, members_of, member_of};
 ghost use Rattle.declared_names.specs.Names.{parts_of};
 ghost use Rattle.aidl_syntax.specs.Sources.{source_of};
 ghost use Rattle.declared_names.specs.Declarations.{with_decl, with_body, with_members, with_file, declarations};
@@ -7,8 +7,8 @@ ghost use Rattle.declared_names.specs.Entries.{entry_of};
 ghost use Rattle.declared_names.specs.Walks.{IsFull};
 
 use crate::canonical::{copied, extended};
-use crate::walk_fault::WalkFault;
 use crate::found::Found;
+use crate::walk_fault::WalkFault;
 use aidl_base::{DottedName, Ident, Row};
 use aidl_syntax::{BodyTree, DeclTree, FileTree, MemberTree, ParsedFile};
 use std::alloc::Global;

@@ -1,5 +1,4 @@
 ghost use Rattle.std.specs.Prelude.{◌≡◌, ◌≤◌, ◌++◌, ◌∷◌, [], map, length, IfOk, OnOk};
-ghost use Rattle.name_meanings.specs.Imports.{meant_through};
 ghost use Rattle.declared_names.specs.Marks.{mark_of_entry};
 ghost use Rattle.declared_names.specs.Entries.{entry_of};
 ghost use Rattle.declared_names.specs.steps.Ends.{ends_of};
@@ -11,10 +10,10 @@ use crate::imported::Imports;
 use crate::meaning::Resolved;
 use aidl_base::{Ident, OutOfMemory};
 use aidl_syntax::DottedTree;
+use declared_names::{Ends, Found, Table, ends_of, names_of_types, same, with_parts};
 use indexmap::IndexMap;
 use std::alloc::Global;
 use std::marker::Model;
-use declared_names::{Ends, Found, Table, ends_of, names_of_types, same, with_parts};
 
 /// What is known of what a name means through imports.
 #[derive(Clone, Copy)]

@@ -10,9 +10,9 @@ use crate::imported::{Imports, in_imports};
 use crate::meaning::Resolved;
 use aidl_base::{Ident, OutOfMemory};
 use aidl_syntax::DottedTree;
+use declared_names::{Ends, Found, Table, mark_back, with_part, with_parts};
 use std::alloc::Global;
 use std::marker::Model;
-use declared_names::{Ends, Found, Table, mark_back, with_part, with_parts};
 
 /// Imports, and a table of the marks of their whole names. Contracts see it as these imports.
 #[derive(Drop)]

@@ -7,14 +7,16 @@ ghost use Rattle.declared_names.specs.steps.Marks.{is_rarer, is_twice};
 ghost use Rattle.declared_names.specs.Entries.{entry_of};
 ghost use Rattle.name_meanings.specs.Resolution.{first_declared, imported};
 
-use crate::resolution::declared;
 use crate::meaning::Resolved;
+use crate::resolution::declared;
 use aidl_base::{Ident, OutOfMemory};
 use aidl_syntax::{DottedTree, ParsedFile};
+use declared_names::{
+    Ends, Found, Table, ends_in, is_rarer, last_mark, same, with_part, with_parts,
+};
 use indexmap::IndexMap;
 use std::alloc::Global;
 use std::marker::Model;
-use declared_names::{Ends, Found, Table, ends_in, is_rarer, last_mark, same, with_part, with_parts};
 
 /// Imports through which names mean what they mean through all imports of a file, and a table of the marks of their last
 /// parts. A copy of an earlier import is left out. Contracts see it as these imports.

@@ -1,5 +1,4 @@
 ghost use Rattle.std.specs.Prelude.{◌≡◌, ◌++◌, ◌≤◌, [], ◌∷◌, map, length};
-ghost use Rattle.declared_names.specs.Names.{text, same, last, parts_of};
 ghost use Rattle.aidl_syntax.specs.Sources.{source_of};
 ghost use Rattle.declared_names.specs.Declarations.{declarations};
 ghost use Rattle.name_meanings.specs.Resolution.{number_of, candidates, first_declared, enclosing, meaning_of_word, own_meaning, meaning_in_file, resolved};
@@ -13,7 +12,7 @@ use crate::imported::{Imports, in_imports};
 use crate::meaning::{BuiltinName, Resolved};
 use aidl_base::Ident;
 use aidl_syntax::ParsedFile;
-use declared_names::{Found, Table, is_joined, package, same_part, with_parts};
+use declared_names::{Found, Table, is_joined, package, with_parts};
 
 /// The number of the first declaration whose canonical name is a front, which has this mark, with a back behind it. It
 /// takes no memory.

@@ -5,8 +5,8 @@ ghost use Rattle.schema_parts.specs.TreeViews.{HasNumbers, files_of};
 ghost use Rattle.schema_parts.specs.Types as meant;
 
 use crate::tree::Tree;
-use name_meanings::{BuiltinName, Resolved};
 use aidl_schema::Base;
+use name_meanings::{BuiltinName, Resolved};
 
 /// The base in the schema that a name means. For the list word and for a left-out name int stands: E16 and E5 refuse them. It takes no
 /// memory.

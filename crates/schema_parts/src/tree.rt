@@ -1,6 +1,6 @@
 use aidl_names::Names;
-use declared_names::Found;
 use const_eval::Settled;
+use declared_names::Found;
 use indexmap::IndexMap;
 
 /// A tree of which a schema is made: its names, the outcomes of its items, and the number of each declaration in the schema.

@@ -5,9 +5,9 @@ ghost use Rattle.aidl_names.specs.Refusals.{IsScope};
 use crate::type_names::type_names;
 use aidl_base::{Breach, DottedName, OutOfMemory};
 use aidl_names::{NameFault, Names};
-use name_meanings::Resolved;
+use aidl_syntax::ParsedFile;
 use declared_names::Found;
-use aidl_syntax::{DottedTree, ParsedFile};
+use name_meanings::Resolved;
 use std::alloc::{AllocError, Global};
 use std::fmt::Write;
 

@@ -11,8 +11,8 @@ ghost use Rattle.type_uses.specs.TypeUseViews.{seen_use};
 
 use aidl_base::{Breach, OutOfMemory};
 use aidl_names::add_if;
-use declared_names::Found;
 use aidl_syntax::{AnnotTree, DeclTree};
+use declared_names::Found;
 use indexmap::IndexSet;
 use std::alloc::Global;
 use type_uses::{Stand, TypeUseRef, annotations_of, row_of, stand_of, stand_of_tree};

@@ -9,8 +9,8 @@ ghost use Rattle.type_uses.specs.TypeUseViews.{seen_use};
 
 use aidl_base::{Breach, OutOfMemory};
 use aidl_names::add_if;
-use declared_names::Found;
 use aidl_syntax::{BodyTree, DeclTree, InitTree};
+use declared_names::Found;
 use type_shapes::{Shape, is_unjudged};
 use type_uses::{TypeUseRef, is_field, is_refused, name_place};
 

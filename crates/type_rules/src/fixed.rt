@@ -12,9 +12,9 @@ ghost use Rattle.type_uses.specs.TypeUseViews.{seen_use};
 
 use aidl_base::{Breach, OutOfMemory};
 use aidl_names::add_if;
-use name_meanings::Resolved;
-use declared_names::Found;
 use aidl_syntax::DeclTree;
+use declared_names::Found;
+use name_meanings::Resolved;
 use std::alloc::Global;
 use type_shapes::{Shape, is_composite};
 use type_uses::{TypeUseRef, is_fixed, is_nullable, is_refused, is_scalar, name_place};

@@ -19,8 +19,8 @@ use crate::nullable::add_bad_nullables;
 use crate::use_rules::{UseRule, add_where};
 use aidl_base::{Breach, OutOfMemory, Row};
 use aidl_names::{Names, in_order};
-use declared_names::Found;
 use aidl_syntax::{BodyTree, DeclTree};
+use declared_names::Found;
 use std::alloc::Global;
 use type_uses::{TypeUseRef, listed_uses};
 

@@ -8,8 +8,8 @@ ghost use Rattle.type_uses.specs.TypeUseViews.{seen_use};
 
 use aidl_base::{Breach, OutOfMemory};
 use aidl_names::add_if;
-use declared_names::Found;
 use aidl_syntax::AnnotTree;
+use declared_names::Found;
 use type_shapes::Shape;
 use type_uses::{
     TypeUseRef, annotations_of, is_heap_annot, is_nullable_annot, is_one_composite, is_one_scalar,

@@ -11,9 +11,9 @@ ghost use Rattle.type_uses.specs.TypeUseViews.{seen_use};
 
 use aidl_base::{Breach, OutOfMemory};
 use aidl_names::add_if;
-use name_meanings::Resolved;
-use declared_names::Found;
 use aidl_syntax::{ArgTree, MethodTree, WayTree};
+use declared_names::Found;
+use name_meanings::Resolved;
 use type_shapes::{Shape, is_composite};
 use type_uses::{TypeUseRef, is_refused, is_refused_result, name_place, type_place};
 

@@ -4,8 +4,8 @@ ghost use Rattle.declared_names.specs.Entries.{entry_of};
 ghost use Rattle.type_shapes.specs.Initializers as meant;
 
 use crate::shape::{Shape, is_composite};
-use declared_names::Found;
 use aidl_syntax::InitTree;
+use declared_names::Found;
 
 /// Whether the initializer of a field, which may be one after the first of a union, has no outcome for its form. It takes no
 /// memory.

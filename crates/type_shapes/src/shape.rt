@@ -9,9 +9,9 @@ ghost use Rattle.type_shapes.specs.Types as meant;
 ghost use Rattle.type_shapes.specs.Types.{meaning_in};
 
 use aidl_names::Names;
-use name_meanings::{BuiltinName, Resolved};
-use declared_names::Found;
 use aidl_syntax::{BodyTree, DeclTree, DottedTree, TypeTree};
+use declared_names::Found;
+use name_meanings::{BuiltinName, Resolved};
 
 /// What a type is, by its base: a single value, an array or a list; or refused, as E16 has it.
 #[derive(Clone, Copy)]

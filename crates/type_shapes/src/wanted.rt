@@ -5,10 +5,10 @@ ghost use Rattle.declared_names.specs.Entries.{entry_of};
 ghost use Rattle.type_shapes.specs.Types as meant;
 
 use crate::shape::Shape;
-use name_meanings::{BuiltinName, Resolved};
-use declared_names::Found;
 use aidl_syntax::{BodyTree, DeclTree};
 use const_values::Wanted;
+use declared_names::Found;
+use name_meanings::{BuiltinName, Resolved};
 
 /// The value that is wanted of one expression for a type; `found` are the declarations of the tree. It takes no memory.
 pub fn wanted_one(found: &[Found<'_>], shape: Shape) -> Wanted

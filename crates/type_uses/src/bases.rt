@@ -3,8 +3,8 @@ ghost use Rattle.declared_names.specs.Entries.{entry_of};
 ghost use Rattle.type_uses.specs.Bases as meant;
 
 use crate::stand::is_text;
-use name_meanings::Resolved;
 use declared_names::Found;
+use name_meanings::Resolved;
 use type_shapes::{Shape, is_composite, is_enum};
 
 // Each takes no memory; `found` are the declarations of the tree.

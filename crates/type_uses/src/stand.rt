@@ -3,8 +3,8 @@ ghost use Rattle.aidl_syntax.specs.Trees.{body_of, decl_of};
 ghost use Rattle.aidl_syntax.specs.Members.{body};
 ghost use Rattle.type_uses.specs.Annotations as meant;
 
-use name_meanings::{BuiltinName, Resolved};
 use aidl_syntax::{BodyTree, DeclTree};
+use name_meanings::{BuiltinName, Resolved};
 use type_shapes::Shape;
 
 /// Where annotations stand.
