@@ -1,7 +1,10 @@
 ghost use Rattle.std.specs.Prelude.{◌≡◌, option_map};
+ghost use Rattle.aidl_base.specs.declared.name.Ident.{Ident};
+ghost use Rattle.aidl_schema.specs.Same.{same_text};
 ghost use Rattle.aidl_schema.specs.Seen.{seen};
-ghost use Rattle.json_values.specs.Named.{enumerators_of, fields_in};
+ghost use Rattle.json_values.specs.Named.{bytes_of, enumerators_of, fields_in};
 
+use aidl_base::Ident;
 use aidl_schema::{Base, Enumerator, Field, Form, Kind, Schema};
 
 // The enumerators of the enum that a base is.
@@ -28,4 +31,35 @@ pub fn fields_in(form: Form<'_>) -> &[Field]
         Form::Parcelable(fields) | Form::Union(fields) => fields,
         _ => &[],
     }
+}
+
+// What has a name: an enumerator or a field.
+pub trait Called {
+    ghost called: { Self → Ident };
+
+    fn name(&self) -> &Ident
+        ensures { result.now ≡ called self.now };
+}
+
+impl Called for Enumerator {
+    ghost called = { λ enumerator. enumerator.name };
+
+    fn name(&self) -> &Ident {
+        &self.name
+    }
+}
+
+impl Called for Field {
+    ghost called = { λ field. field.name };
+
+    fn name(&self) -> &Ident {
+        &self.name
+    }
+}
+
+// The key is the name.
+pub fn is_called(name: &Ident, key: &str) -> bool
+    ensures { result ≡ same_text (bytes_of name.now) key.now }
+{
+    name.0.as_str() == key
 }

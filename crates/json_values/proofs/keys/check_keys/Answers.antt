@@ -5,7 +5,7 @@ use Rattle.serde_json.specs.View.{members_view}
 use Rattle.serde_json.proofs.Views.{members_len-members_view}
 use Rattle.json_values.specs.FromJson.{known_from}
 use Rattle.json_values.proofs.Counted.{is_found, all_known}
-use Rattle.json_values.proofs.reading.check_keys.Goals as goal
+use Rattle.json_values.proofs.keys.check_keys.Goals as goal
 
 pub returns-then-found-len : goal.returns-then-found-len
 returns-then-found-len c =

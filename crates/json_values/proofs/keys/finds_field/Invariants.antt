@@ -1,7 +1,7 @@
 use Rattle.std.proofs.Common.{◌≡◌, drop}
 use Rattle.std.specs.List.{list_any}
 use Rattle.json_values.specs.FromJson.{has_name}
-use Rattle.json_values.proofs.reading.finds_field.Given as goal
+use Rattle.json_values.proofs.keys.finds_field.Given as goal
 
 -- what is left decides
 abbrev pub invariant-loop-field : goal.invariant-loop-field

@@ -2,7 +2,7 @@ use Rattle.std.proofs.Common.{Some, sym, ap, ◌∙◌}
 use Rattle.std.specs.List.{list_any}
 use Rattle.json_values.specs.FromJson.{has_name}
 use Rattle.json_values.proofs.Members.{Entry, unknown_in-known, unknown_in-first}
-use Rattle.json_values.proofs.reading.unknown_key.Goals as goal
+use Rattle.json_values.proofs.keys.unknown_key.Goals as goal
 
 pub loop-key-preserved : goal.loop-key-preserved
 loop-key-preserved c =

@@ -1,7 +1,7 @@
 use Rattle.std.proofs.Common.{◌≡◌}
 use Rattle.serde_json.specs.View.{members_view}
 use Rattle.json_values.specs.FromJson.{unknown_in}
-use Rattle.json_values.proofs.reading.unknown_key.Given as goal
+use Rattle.json_values.proofs.keys.unknown_key.Given as goal
 
 -- what is left decides
 abbrev pub invariant-loop-key : goal.invariant-loop-key
