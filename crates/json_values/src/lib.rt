@@ -19,6 +19,7 @@ mod writing;
 
 pub use fault::JsonFault;
 pub use laws::law_json_reads_back;
+pub use named::fields_of;
 pub use reading::from_json;
 pub use value_names::ValueNames;
 pub use writing::to_json;

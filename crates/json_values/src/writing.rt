@@ -6,10 +6,10 @@ ghost use Rattle.aidl_values.specs.View.{view, views};
 ghost use Rattle.json_values.specs.Json.{json_of, json_items, json_members, json_named, json_number, json_alternative};
 ghost use Rattle.json_values.specs.Named.{bytes_of, enumerators_of};
 
-use crate::named::fields_in;
+use crate::named::fields_of;
 use crate::value_names::ValueNames;
 use aidl_base::{Ident, OutOfMemory};
-use aidl_schema::{AidlType, Base, Field, Schema, element, form_in};
+use aidl_schema::{AidlType, Base, Field, Schema, element};
 use aidl_values::Value;
 use serde_json::{Map, Value as Json, put};
 use std::alloc::Global;
@@ -55,11 +55,11 @@ fn write(
             items.as_slice(),
         ),
         Value::Rec(items) => {
-            let fields = fields_in(form_in(schema, ty.base));
+            let fields = fields_of(schema, ty.base);
             write_fields(alloc, schema, names, fields, items.as_slice())
         }
         Value::Alt(tag, inner) => {
-            let fields = fields_in(form_in(schema, ty.base));
+            let fields = fields_of(schema, ty.base);
             write_alternative(alloc, schema, names, fields, *tag, inner)
         }
     }

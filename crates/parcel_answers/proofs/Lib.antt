@@ -4,6 +4,9 @@ pub mod Entries
 pub mod JsonTexts
 pub mod NamedBases
 pub mod NoFloat
+pub mod Parts
+pub mod Plain
 pub mod Planned
 pub mod ReadValues
+pub mod Rows
 pub mod WriteValues
