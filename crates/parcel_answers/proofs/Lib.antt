@@ -3,7 +3,6 @@ pub mod Elements
 pub mod Entries
 pub mod JsonTexts
 pub mod NamedBases
-pub mod NoFloat
 pub mod Parts
 pub mod Plain
 pub mod Planned

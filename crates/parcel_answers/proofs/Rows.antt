@@ -94,10 +94,3 @@ pub within_at : (n : ℕ) (row : List Member) (i : ℕ) (m : Member) → AreWith
 within_at n [] i m all lies = absurd (omega (arith, lies))
 within_at n (x ∷ row) zero m all lies = all.0
 within_at n (x ∷ row) (suc i) m all lies = within_at n row i m all.1 (omega (arith, lies))
-
--- the members from one on: that one, and those behind it
-pub next_member : (text : ℕ → List ℕ) (row : List Member) (i : ℕ) (m : Member) → i < length row
-    → row_text text (drop i row) ≡ (string_bytes (get_or row i m).key ++ text (get_or row i m).place) ++ row_text text (drop (suc i) row)
-next_member text [] i m lies = absurd (omega (arith, lies))
-next_member text (x ∷ row) zero m lies = sym (append_assoc (string_bytes x.key) (text x.place) (row_text text row))
-next_member text (x ∷ row) (suc i) m lies = next_member text row i m (omega (arith, lies))
