@@ -5,6 +5,7 @@ use Rattle.std.specs.Str.{encode_utf8_all}
 use Rattle.serde_json.specs.Data.{null, boolean, number, string, array, object, no_items, item, no_members, member, put}
 use Rattle.serde_json.specs.Data as json
 use Rattle.serde_json.specs.Find.{of_integer}
+use Rattle.aidl_base.specs.declared.name.Ident.{Ident}
 use Rattle.aidl_schema.specs.declared.schema.Decl.{Decl}
 use Rattle.aidl_schema.specs.declared.schema.Enumerator.{Enumerator}
 use Rattle.aidl_schema.specs.declared.schema.Field.{Field}
@@ -17,6 +18,11 @@ use Rattle.json_values.specs.Named.{bytes_of, fields_in, enumerators_of}
 abbrev pub json_among : List Enumerator → ℤ → json.Data
 json_among [] n = number (of_integer n)
 json_among (e ∷ es) n = if int_eq e.value n then string (bytes_of e.name) else json_among es n
+
+-- the same, by the name where there is one
+abbrev pub json_named : Option Ident → ℤ → json.Data
+json_named None n = number (of_integer n)
+json_named (Some name) n = string (bytes_of name)
 
 -- a byte, char, int or long as a whole number, an enum's value among its enumerators
 abbrev pub json_number : Option (List Enumerator) → ℤ → json.Data

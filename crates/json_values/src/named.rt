@@ -1,8 +1,11 @@
 ghost use Rattle.std.specs.Prelude.{◌≡◌, option_map};
-ghost use Rattle.aidl_schema.specs.Seen.{seen};
-ghost use Rattle.json_values.specs.Named.{enumerators_of, fields_in};
+ghost use Rattle.aidl_base.specs.declared.name.Ident.{Ident};
+ghost use Rattle.aidl_schema.specs.Same.{same_text};
+ghost use Rattle.aidl_schema.specs.Types.{form_of};
+ghost use Rattle.json_values.specs.Named.{bytes_of, enumerators_of, fields_in};
 
-use aidl_schema::{Base, Enumerator, Field, Form, Kind, Schema};
+use aidl_base::Ident;
+use aidl_schema::{Base, Enumerator, Field, Form, Kind, Schema, form_in};
 
 // The enumerators of the enum that a base is.
 pub fn enumerators_in(schema: &Schema, base: Base) -> Option<&[Enumerator]>
@@ -20,12 +23,43 @@ pub fn enumerators_in(schema: &Schema, base: Base) -> Option<&[Enumerator]>
     }
 }
 
-// The fields of a parcelable or union.
-pub fn fields_in(form: Form<'_>) -> &[Field]
-    ensures { result.now ≡ fields_in (seen form.entry) }
+/// The fields of the parcelable or union that a base is; none of another base. It takes no memory.
+pub fn fields_of(schema: &Schema, base: Base) -> &[Field]
+    ensures { result.now ≡ fields_in (form_of schema.now.decls base) }
 {
-    match form {
+    match form_in(schema, base) {
         Form::Parcelable(fields) | Form::Union(fields) => fields,
         _ => &[],
     }
+}
+
+// What has a name: an enumerator or a field.
+pub trait Called {
+    ghost called: { Self → Ident };
+
+    fn name(&self) -> &Ident
+        ensures { result.now ≡ called self.now };
+}
+
+impl Called for Enumerator {
+    ghost called = { λ enumerator. enumerator.name };
+
+    fn name(&self) -> &Ident {
+        &self.name
+    }
+}
+
+impl Called for Field {
+    ghost called = { λ field. field.name };
+
+    fn name(&self) -> &Ident {
+        &self.name
+    }
+}
+
+// The key is the name.
+pub fn is_called(name: &Ident, key: &str) -> bool
+    ensures { result ≡ same_text (bytes_of name.now) key.now }
+{
+    name.0.as_str() == key
 }

@@ -3,12 +3,13 @@ ghost use Rattle.serde_json.specs.Data.{array, object, member, no_members};
 ghost use Rattle.serde_json.specs.View.{view as json_view};
 ghost use Rattle.aidl_values.specs.HasType.{HasType};
 ghost use Rattle.aidl_values.specs.View.{view, views};
-ghost use Rattle.json_values.specs.Json.{json_of, json_items, json_members, json_number, json_among, json_alternative};
-ghost use Rattle.json_values.specs.Named.{bytes_of};
+ghost use Rattle.json_values.specs.Json.{json_of, json_items, json_members, json_named, json_number, json_alternative};
+ghost use Rattle.json_values.specs.Named.{bytes_of, enumerators_of};
 
-use crate::named::{enumerators_in, fields_in};
+use crate::named::fields_of;
+use crate::value_names::ValueNames;
 use aidl_base::{Ident, OutOfMemory};
-use aidl_schema::{AidlType, Enumerator, Field, Schema, element, form_in};
+use aidl_schema::{AidlType, Base, Field, Schema, element};
 use aidl_values::Value;
 use serde_json::{Map, Value as Json, put};
 use std::alloc::Global;
@@ -25,26 +26,41 @@ pub fn to_json(
     requires { HasType schema.now.decls ty.now (view value.now) }
     ensures { IfOk result (λ j. json_view j ≡ json_of schema.now.decls ty.now (view value.now)) }
 {
-    write(alloc, schema, *ty, value)
+    let mut names = ValueNames::new(alloc, schema);
+    write(alloc, schema, &mut names, *ty, value)
 }
 
 #[cycle(writing)]
-fn write(alloc: Global, schema: &Schema, ty: AidlType, value: &Value) -> Result<Json, OutOfMemory>
-    ensures { IfOk result (λ j. json_view j ≡ json_of schema.now.decls ty (view value.now)) }
+fn write(
+    alloc: Global,
+    schema: &Schema,
+    names: &mut ValueNames<'_>,
+    ty: AidlType,
+    value: &Value,
+) -> Result<Json, OutOfMemory>
+    requires { names.old ≡ schema.now.decls }
+    ensures same { names.new ≡ names.old }
+    ensures json { IfOk result (λ j. json_view j ≡ json_of schema.now.decls ty (view value.now)) }
 {
     match value {
         Value::Null => Ok(Json::Null),
         Value::Truth(b) => Ok(Json::Bool(*b)),
-        Value::Number(n) => write_number(alloc, enumerators_in(schema, ty.base), *n),
+        Value::Number(n) => write_number(alloc, names, ty.base, *n),
         Value::Text(text) => Ok(Json::try_from_str(alloc, text.as_str())?),
-        Value::Seq(items) => write_items(alloc, schema, element(schema, ty), items.as_slice()),
+        Value::Seq(items) => write_items(
+            alloc,
+            schema,
+            names,
+            element(schema, ty),
+            items.as_slice(),
+        ),
         Value::Rec(items) => {
-            let fields = fields_in(form_in(schema, ty.base));
-            write_fields(alloc, schema, fields, items.as_slice())
+            let fields = fields_of(schema, ty.base);
+            write_fields(alloc, schema, names, fields, items.as_slice())
         }
         Value::Alt(tag, inner) => {
-            let fields = fields_in(form_in(schema, ty.base));
-            write_alternative(alloc, schema, fields, *tag, inner)
+            let fields = fields_of(schema, ty.base);
+            write_alternative(alloc, schema, names, fields, *tag, inner)
         }
     }
 }
@@ -53,14 +69,17 @@ fn write(alloc: Global, schema: &Schema, ty: AidlType, value: &Value) -> Result<
 fn write_items(
     alloc: Global,
     schema: &Schema,
+    names: &mut ValueNames<'_>,
     ty: AidlType,
     values: &[Value],
 ) -> Result<Json, OutOfMemory>
-    ensures { IfOk result (λ j. json_view j ≡ array (json_items schema.now.decls ty (views values.now))) }
+    requires { names.old ≡ schema.now.decls }
+    ensures same { names.new ≡ names.old }
+    ensures json { IfOk result (λ j. json_view j ≡ array (json_items schema.now.decls ty (views values.now))) }
 {
     let mut items = Vec::with_capacity(alloc, values.len())?;
     for value in values {
-        items.push(write(alloc, schema, ty, value)?)?;
+        items.push(write(alloc, schema, names, ty, value)?)?;
     }
     Ok(Json::from(items))
 }
@@ -70,16 +89,19 @@ fn write_items(
 fn write_fields(
     alloc: Global,
     schema: &Schema,
+    names: &mut ValueNames<'_>,
     fields: &[Field],
     values: &[Value],
 ) -> Result<Json, OutOfMemory>
-    ensures { IfOk result (λ j. json_view j ≡ object (json_members schema.now.decls fields.now (views values.now))) }
+    requires { names.old ≡ schema.now.decls }
+    ensures same { names.new ≡ names.old }
+    ensures json { IfOk result (λ j. json_view j ≡ object (json_members schema.now.decls fields.now (views values.now))) }
 {
     let mut members = Map::new(alloc);
     let count = fields.len().min(values.len());
     for i in (0..count).rev() {
         let field = &fields[i];
-        let json = write(alloc, schema, field.ty, &values[i])?;
+        let json = write(alloc, schema, names, field.ty, &values[i])?;
         put(&mut members, alloc, field.name.0.as_str(), json)?;
     }
     Ok(Json::from(members))
@@ -89,15 +111,18 @@ fn write_fields(
 fn write_alternative(
     alloc: Global,
     schema: &Schema,
+    names: &mut ValueNames<'_>,
     fields: &[Field],
     tag: u32,
     value: &Value,
 ) -> Result<Json, OutOfMemory>
-    ensures { IfOk result (λ j. json_view j ≡ json_alternative (slice_get fields.now tag) (λ u. json_of schema.now.decls u (view value.now))) }
+    requires { names.old ≡ schema.now.decls }
+    ensures same { names.new ≡ names.old }
+    ensures json { IfOk result (λ j. json_view j ≡ json_alternative (slice_get fields.now tag) (λ u. json_of schema.now.decls u (view value.now))) }
 {
     match fields.get(tag as usize) {
         Some(field) => {
-            let json = write(alloc, schema, field.ty, value)?;
+            let json = write(alloc, schema, names, field.ty, value)?;
             one_member(alloc, &field.name, json)
         }
         None => Ok(Json::from(())),
@@ -113,27 +138,18 @@ fn one_member(alloc: Global, name: &Ident, json: Json) -> Result<Json, OutOfMemo
     Ok(Json::from(members))
 }
 
+// A number, by the name of the first enumerator of the base that has it.
 fn write_number(
     alloc: Global,
-    enumerators: Option<&[Enumerator]>,
+    names: &mut ValueNames<'_>,
+    base: Base,
     n: i64,
 ) -> Result<Json, OutOfMemory>
-    ensures { IfOk result (λ j. json_view j ≡ json_number (option_map (λ es. es.now) enumerators.entry) n) }
+    ensures same { names.new ≡ names.old }
+    ensures json { IfOk result (λ j. json_view j ≡ json_number (enumerators_of names.old base) n) }
 {
-    match enumerators {
-        Some(enumerators) => write_among(alloc, enumerators, n),
+    match names.name(alloc, base, n)? {
+        Some(name) => Ok(Json::try_from_str(alloc, name.0.as_str())?),
         None => Ok(Json::from(n)),
     }
-}
-
-// By the name of the first enumerator that has the number.
-fn write_among(alloc: Global, enumerators: &[Enumerator], n: i64) -> Result<Json, OutOfMemory>
-    ensures { IfOk result (λ j. json_view j ≡ json_among enumerators.now n) }
-{
-    for enumerator in enumerators {
-        if enumerator.value == n {
-            return Ok(Json::try_from_str(alloc, enumerator.name.0.as_str())?);
-        }
-    }
-    Ok(Json::from(n))
 }

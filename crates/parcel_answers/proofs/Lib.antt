@@ -3,7 +3,9 @@ pub mod Elements
 pub mod Entries
 pub mod JsonTexts
 pub mod NamedBases
-pub mod NoFloat
+pub mod Parts
+pub mod Plain
 pub mod Planned
 pub mod ReadValues
+pub mod Rows
 pub mod WriteValues

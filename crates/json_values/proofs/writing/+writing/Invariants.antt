@@ -6,7 +6,13 @@ use Rattle.json_values.proofs.writing.+writing.Given as goal
 
 -- the fields from here on are in
 abbrev pub invariant-write_fields-loop-i : goal.invariant-write_fields-loop-i
-invariant-write_fields-loop-i l = members_view l.members.entries ≡ json_members l.schema.decls (drop l.i l.fields) (views (drop l.i l.values))
+invariant-write_fields-loop-i l = record {
+  same : l.names ≡ l.fn.names;
+  members : members_view l.members.entries ≡ json_members l.schema.decls (drop l.i l.fields) (views (drop l.i l.values));
+}
 
 abbrev pub invariant-write_items-loop-value : goal.invariant-write_items-loop-value
-invariant-write_items-loop-value l = map json_view l.items.items ≡ map (λ v. json_of l.schema.decls l.ty (view v)) (take l.value-index l.values)
+invariant-write_items-loop-value l = record {
+  same : l.names ≡ l.fn.names;
+  items : map json_view l.items.items ≡ map (λ v. json_of l.schema.decls l.ty (view v)) (take l.value-index l.values);
+}

@@ -1,0 +1,7 @@
+use Rattle.std.proofs.Common.{◌≡◌, drop}
+use Rattle.json_values.specs.Json.{json_among}
+use Rattle.json_values.proofs.value_names.first_name.Given as goal
+
+-- what is left decides
+abbrev pub invariant-loop-enumerator : goal.invariant-loop-enumerator
+invariant-loop-enumerator l = json_among (drop l.enumerator-index l.enumerators) l.n ≡ json_among l.enumerators l.n

@@ -1,7 +1,0 @@
-use Rattle.std.proofs.Common.{◌≡◌, drop}
-use Rattle.json_values.specs.Json.{json_among}
-use Rattle.json_values.proofs.writing.write_among.Given as goal
-
--- what is left decides
-abbrev pub invariant-loop-enumerator : goal.invariant-loop-enumerator
-invariant-loop-enumerator l = json_among (drop l.enumerator-index l.enumerators) l.n ≡ json_among l.enumerators l.n

@@ -1,0 +1,98 @@
+ghost use Rattle.std.specs.Prelude.{◌<◌, ◌≤◌, decimal, Ok, Err};
+ghost use Rattle.serde_json.specs.View.{view as json_view, items_view};
+ghost use Rattle.aidl_values.specs.View.{view, views};
+ghost use Rattle.json_values.specs.FromJson as answer;
+ghost use Rattle.json_values.specs.Refusal.{within};
+ghost use Rattle.json_values.specs.steps.Levels.{part_from};
+ghost use Rattle.aidl_values.specs.steps.Levels.{is_level_left};
+ghost use Rattle.json_values.specs.steps.Gives.{Gives};
+
+use crate::fault::{Fault, Reason, below_index, refused};
+use crate::hints::Hints;
+use crate::reading::read_within;
+use aidl_base::Row;
+use aidl_schema::{AidlType, Schema};
+use aidl_values::Value;
+use serde_json::Value as Json;
+use std::alloc::Global;
+
+// An array or a List of a type.
+#[cycle(reading)]
+pub fn read_sequence<'a>(
+    alloc: Global,
+    schema: &'a Schema,
+    hints: &mut Hints<'a>,
+    ty: AidlType,
+    levels: usize,
+    json: &Json,
+) -> Result<Value, Fault>
+    requires { levels ≤ 64 }
+    ensures { Gives view result (answer.sequence_from (is_level_left levels) (λ j. part_from schema.now.decls levels ty j) (json_view json.now)) }
+{
+    let Json::Array(items) = json else {
+        return Err(refused(alloc, Reason::WrongShape));
+    };
+    if levels == 0 {
+        return Err(refused(alloc, Reason::TooDeep));
+    }
+    read_elements(alloc, schema, hints, ty, levels, items.as_slice())
+}
+
+#[cycle(reading)]
+fn read_elements<'a>(
+    alloc: Global,
+    schema: &'a Schema,
+    hints: &mut Hints<'a>,
+    ty: AidlType,
+    levels: usize,
+    items: &[Json],
+) -> Result<Value, Fault>
+    requires left { 0 < levels }
+    requires few { levels ≤ 64 }
+    ensures { Gives view result (answer.elements_from (λ j. part_from schema.now.decls levels ty j) (items_view items.now)) }
+{
+    match read_items(alloc, schema, hints, ty, levels, items) {
+        Ok(values) => Ok(Value::Seq(values)),
+        Err(fault) => Err(fault),
+    }
+}
+
+#[cycle(reading)]
+fn read_items<'a>(
+    alloc: Global,
+    schema: &'a Schema,
+    hints: &mut Hints<'a>,
+    ty: AidlType,
+    levels: usize,
+    items: &[Json],
+) -> Result<Row<Value>, Fault>
+    requires left { 0 < levels }
+    requires few { levels ≤ 64 }
+    ensures { Gives views result (answer.items_from (λ j. part_from schema.now.decls levels ty j) 0 (items_view items.now)) }
+{
+    let mut values = Vec::with_capacity(alloc, items.len())?;
+    for (i, item) in items.iter().enumerate() {
+        values.push(read_item(alloc, schema, hints, ty, levels, i, item)?)?;
+    }
+    Ok(Row::from_vec(values))
+}
+
+#[cycle(reading)]
+fn read_item<'a>(
+    alloc: Global,
+    schema: &'a Schema,
+    hints: &mut Hints<'a>,
+    ty: AidlType,
+    levels: usize,
+    index: usize,
+    json: &Json,
+) -> Result<Value, Fault>
+    requires left { 0 < levels }
+    requires few { levels ≤ 64 }
+    ensures { Gives view result (within (decimal index) (part_from schema.now.decls levels ty (json_view json.now))) }
+{
+    match read_within(alloc, schema, hints, ty, levels - 1, json) {
+        Ok(value) => Ok(value),
+        Err(fault) => Err(below_index(alloc, index, fault)),
+    }
+}

@@ -1,0 +1,146 @@
+ghost use Rattle.std.specs.Prelude.{◌≡◌, ◌<◌, ◌≤◌, length, option_map, string_bytes, Ok, Err};
+ghost use Rattle.serde_json.specs.View.{view as json_view, members_view};
+ghost use Rattle.aidl_schema.specs.Holds.{AreApart};
+ghost use Rattle.aidl_values.specs.Data.{alt};
+ghost use Rattle.aidl_values.specs.View.{view};
+ghost use Rattle.json_values.specs.FromJson as answer;
+ghost use Rattle.json_values.specs.steps.Levels.{part_from, chosen_from};
+ghost use Rattle.aidl_values.specs.steps.Levels.{is_level_left};
+ghost use Rattle.json_values.specs.steps.Gives.{Gives};
+
+use crate::fault::{Fault, Reason, below_key, refused};
+use crate::hints::Hints;
+use crate::named::is_called;
+use crate::reading::read_within;
+use aidl_schema::{Base, Field, Schema};
+use aidl_values::Value;
+use serde_json::{Map, Value as Json};
+use std::alloc::Global;
+
+// A union.
+#[cycle(reading)]
+pub fn read_union<'a>(
+    alloc: Global,
+    schema: &'a Schema,
+    hints: &mut Hints<'a>,
+    base: Base,
+    fields: &'a [Field],
+    levels: usize,
+    json: &Json,
+) -> Result<Value, Fault>
+    requires few { levels ≤ 64 }
+    requires apart { AreApart (λ f. f.name.0) fields.now }
+    requires fields { length fields.now ≤ 4096 }
+    ensures { Gives view result (answer.union_from (is_level_left levels) (λ u j. part_from schema.now.decls levels u j) fields.now (json_view json.now)) }
+{
+    let Json::Object(members) = json else {
+        return Err(refused(alloc, Reason::WrongShape));
+    };
+    let Some((key, inner)) = only_member(members) else {
+        return Err(refused(alloc, Reason::WrongShape));
+    };
+    if levels == 0 {
+        return Err(refused(alloc, Reason::TooDeep));
+    }
+    let place = hints.place(alloc, base, fields, key.as_str())?;
+    read_alternative(
+        alloc,
+        schema,
+        hints,
+        fields,
+        place,
+        levels,
+        key.as_str(),
+        inner,
+    )
+}
+
+fn only_member(members: &Map<String, Json>) -> Option<(&String, &Json)>
+    ensures { option_map (λ p. (string_bytes p.0.now, json_view p.1.now)) result ≡ answer.only_member (members_view members.now.entries) }
+{
+    if members.len() == 1 {
+        members.first_key_value()
+    } else {
+        None
+    }
+}
+
+// The one member of a union's object, under the field that it names: the one at the place, if it is told rightly; else all
+// are gone through.
+#[cycle(reading)]
+fn read_alternative<'a>(
+    alloc: Global,
+    schema: &'a Schema,
+    hints: &mut Hints<'a>,
+    fields: &[Field],
+    place: usize,
+    levels: usize,
+    key: &str,
+    json: &Json,
+) -> Result<Value, Fault>
+    requires left { 0 < levels }
+    requires few { levels ≤ 64 }
+    requires apart { AreApart (λ f. f.name.0) fields.now }
+    requires fields { length fields.now ≤ 4096 }
+    ensures { Gives view result (answer.alternative_from (λ u j. part_from schema.now.decls levels u j) 0 fields.now key.now (json_view json.now)) }
+{
+    match fields.get(place) {
+        Some(field) if is_called(&field.name, key) => {
+            read_chosen(alloc, schema, hints, field, place, levels, key, json)
+        }
+        _ => find_alternative(alloc, schema, hints, fields, levels, key, json),
+    }
+}
+
+#[cycle(reading)]
+fn find_alternative<'a>(
+    alloc: Global,
+    schema: &'a Schema,
+    hints: &mut Hints<'a>,
+    fields: &[Field],
+    levels: usize,
+    key: &str,
+    json: &Json,
+) -> Result<Value, Fault>
+    requires left { 0 < levels }
+    requires few { levels ≤ 64 }
+    requires fields { length fields.now ≤ 4096 }
+    ensures { Gives view result (answer.alternative_from (λ u j. part_from schema.now.decls levels u j) 0 fields.now key.now (json_view json.now)) }
+{
+    for (i, field) in fields.iter().enumerate() {
+        if is_called(&field.name, key) {
+            return read_chosen(alloc, schema, hints, field, i, levels, key, json);
+        }
+    }
+    let fault = refused(alloc, Reason::UnknownKey);
+    Err(below_key(alloc, key, fault))
+}
+
+// The value of a union's field, which is the one at a place.
+#[cycle(reading)]
+fn read_chosen<'a>(
+    alloc: Global,
+    schema: &'a Schema,
+    hints: &mut Hints<'a>,
+    field: &Field,
+    place: usize,
+    levels: usize,
+    key: &str,
+    json: &Json,
+) -> Result<Value, Fault>
+    requires left { 0 < levels }
+    requires few { levels ≤ 64 }
+    requires place { place < 4096 }
+    ensures { Gives view result (chosen_from (λ u j. part_from schema.now.decls levels u j) place field.now key.now (json_view json.now)) }
+{
+    match read_within(alloc, schema, hints, field.ty, levels - 1, json) {
+        Ok(value) => alternative(alloc, place as u32, value),
+        Err(fault) => Err(below_key(alloc, key, fault)),
+    }
+}
+
+fn alternative(alloc: Global, tag: u32, value: Value) -> Result<Value, Fault>
+    ensures { Gives view result (Ok (alt tag (view value))) }
+{
+    Ok(Value::Alt(tag, Box::new(alloc, value)?))
+}

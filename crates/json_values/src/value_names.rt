@@ -1,0 +1,125 @@
+ghost use Rattle.std.specs.Prelude.{◌≡◌, option_map, IfOk, Some};
+ghost use Rattle.aidl_schema.specs.declared.schema.Base.TheVariants as base;
+ghost use Rattle.json_values.specs.Json.{json_among, json_named, json_number};
+ghost use Rattle.json_values.specs.Named.{enumerators_of};
+
+use crate::named::enumerators_in;
+use crate::value_table::ValueTable;
+use crate::walks::{WALKS, Walks};
+use aidl_base::{Ident, OutOfMemory};
+use aidl_schema::{Base, Enumerator, Schema};
+use indexmap::IndexMap;
+use std::alloc::Global;
+use std::marker::Model;
+
+/// The names that the values of enums are written by, kept while one value is written: the enumerators of a large enum are
+/// gone through one by one some times, and then a table of its values is made. Contracts see it as the declarations.
+#[derive(Drop)]
+pub struct ValueNames<'a> {
+    schema: &'a Schema,
+    walks: Walks,
+    tables: IndexMap<u32, ValueTable<'a>>,
+}
+
+impl<'a> Model for ValueNames<'a> {
+    ghost use Rattle.std.specs.Prelude.{List, ℕ, ◌≡◌, nat_eq, Some, IfSome};
+    ghost use Rattle.std.specs.Coded.{codes};
+    ghost use Rattle.indexmap.specs.IndexMap.{get};
+    ghost use Rattle.aidl_base.specs.contracts.constant.Const as constant;
+    ghost use Rattle.aidl_schema.specs.declared.schema.Decl.{Decl};
+    ghost use Rattle.aidl_schema.specs.declared.schema.Base.TheVariants as base;
+    ghost use Rattle.json_values.specs.Named.{enumerators_of};
+
+    ghost Value = { List Decl };
+
+    ghost coded = { Prim.hlevel (codes, constant.the_row.coded) };
+
+    ghost view = { λ names. names.schema.now.decls };
+
+    ghost invariant = { λ names. (decl : ℕ) → IfSome (get nat_eq names.tables decl) (λ es. enumerators_of names.schema.now.decls (base.Named decl) ≡ Some es) };
+}
+
+impl<'a> ValueNames<'a> {
+    /// Without a table. It takes no memory.
+    pub fn new(alloc: Global, schema: &'a Schema) -> ValueNames<'a>
+        ensures { result ≡ schema.now.decls }
+    {
+        ValueNames {
+            schema,
+            walks: Walks::new(alloc),
+            tables: IndexMap::new(alloc),
+        }
+    }
+
+    /// The name of the first enumerator of a base that has the value. None where none has it, or the base is no enum.
+    pub fn name(
+        &mut self,
+        alloc: Global,
+        base: Base,
+        n: i64,
+    ) -> Result<Option<&'a Ident>, OutOfMemory>
+        ensures same { self.new ≡ self.old }
+        ensures name { IfOk result (λ name. json_named (option_map (λ i. i.now) name) n ≡ json_number (enumerators_of self.old base) n) }
+    {
+        match enumerators_in(self.schema, base) {
+            Some(enumerators) => self.name_among(alloc, base, enumerators, n),
+            None => Ok(None),
+        }
+    }
+
+    // The same, by the enumerators of the base.
+    fn name_among(
+        &mut self,
+        alloc: Global,
+        base: Base,
+        enumerators: &'a [Enumerator],
+        n: i64,
+    ) -> Result<Option<&'a Ident>, OutOfMemory>
+        requires { enumerators_of self.old base ≡ Some enumerators.now }
+        ensures same { self.new ≡ self.old }
+        ensures name { IfOk result (λ name. json_named (option_map (λ i. i.now) name) n ≡ json_among enumerators.now n) }
+    {
+        match base {
+            Base::Named(decl) if enumerators.len() > WALKS => {
+                self.name_of_many(alloc, decl, enumerators, n)
+            }
+            _ => Ok(first_name(enumerators, n)),
+        }
+    }
+
+    // The same, of a large enum: from its table, which is made here after so many walks.
+    fn name_of_many(
+        &mut self,
+        alloc: Global,
+        decl: u32,
+        enumerators: &'a [Enumerator],
+        n: i64,
+    ) -> Result<Option<&'a Ident>, OutOfMemory>
+        requires { enumerators_of self.old (base.Named decl) ≡ Some enumerators.now }
+        ensures same { self.new ≡ self.old }
+        ensures name { IfOk result (λ name. json_named (option_map (λ i. i.now) name) n ≡ json_among enumerators.now n) }
+    {
+        if let Some(table) = self.tables.get(&decl) {
+            return Ok(table.name(n));
+        }
+        if self.walks.is_walk(decl)? {
+            return Ok(first_name(enumerators, n));
+        }
+        let table = ValueTable::new(alloc, enumerators)?;
+        let name = table.name(n);
+        self.tables.insert(decl, table)?;
+        Ok(name)
+    }
+}
+
+// The name of the first enumerator that has the value, one after the other.
+fn first_name(enumerators: &[Enumerator], n: i64) -> Option<&Ident>
+    ensures { json_named (option_map (λ i. i.now) result) n ≡ json_among enumerators.now n }
+{
+    for enumerator in enumerators {
+        if enumerator.value == n {
+            return Some(&enumerator.name);
+        }
+    }
+    None
+}

@@ -1,0 +1,50 @@
+ghost use Rattle.std.specs.Prelude.{◌≡◌, option_map, IfOk};
+ghost use Rattle.json_values.specs.Json.{json_among, json_named};
+
+use aidl_base::{Ident, OutOfMemory};
+use aidl_schema::Enumerator;
+use indexmap::IndexMap;
+use std::alloc::Global;
+use std::marker::Model;
+
+// The name of the first enumerator of each value. Contracts see it as the enumerators.
+#[derive(Drop)]
+pub struct ValueTable<'a> {
+    enumerators: &'a [Enumerator],
+    names: IndexMap<i64, &'a Ident>,
+}
+
+impl<'a> Model for ValueTable<'a> {
+    ghost use Rattle.std.specs.Prelude.{List, ℤ, ◌≡◌, option_map};
+    ghost use Rattle.std.specs.Ordering.{int_eq};
+    ghost use Rattle.indexmap.specs.IndexMap.{get};
+    ghost use Rattle.aidl_schema.specs.declared.schema.Enumerator.{Enumerator};
+    ghost use Rattle.json_values.specs.Json.{json_among, json_named};
+
+    ghost Value = { List Enumerator };
+
+    ghost view = { λ table. table.enumerators.now };
+
+    ghost invariant = { λ table. (n : ℤ) → json_named (option_map (λ name. name.now) (get int_eq table.names n)) n ≡ json_among table.enumerators.now n };
+}
+
+impl<'a> ValueTable<'a> {
+    // From the last enumerator on, so that the first of a value stays.
+    pub fn new(alloc: Global, enumerators: &'a [Enumerator]) -> Result<ValueTable<'a>, OutOfMemory>
+        ensures { IfOk result (λ table. table ≡ enumerators.now) }
+    {
+        let mut names = IndexMap::with_capacity(alloc, enumerators.len())?;
+        for i in (0..enumerators.len()).rev() {
+            let enumerator = &enumerators[i];
+            names.insert(enumerator.value, &enumerator.name)?;
+        }
+        Ok(ValueTable { enumerators, names })
+    }
+
+    // The name of the first enumerator that has the value.
+    pub fn name(&self, n: i64) -> Option<&'a Ident>
+        ensures { json_named (option_map (λ name. name.now) result) n ≡ json_among self.now n }
+    {
+        self.names.get(&n).copied()
+    }
+}
