@@ -12,7 +12,7 @@ use Rattle.aidl_values.specs.Data.{Data, Items, none, item}
 use Rattle.call_answers.specs.Refusal.{Refusal, printed_name}
 use Rattle.call_runner.specs.declared.line.Methods.{Methods}
 use Rattle.call_runner.specs.Lines.{LineData, refused, transport, oneway, done}
-use Rattle.parcel_answers.specs.ValueText.{value_text}
+use Rattle.value_texts.specs.ValueText.{value_text}
 use Rattle.tool_frame.specs.Answer.{line}
 use Rattle.wire_model.specs.Calls as calls
 use Rattle.wire_model.specs.Calls.{AnswerData, returned, exception}

@@ -2,7 +2,7 @@
 ghost use Rattle.std.specs.Prelude.{◌≡◌, ◌++◌, codes, OnOk, string_bytes};
 ghost use Rattle.aidl_values.specs.HasType.{HasType};
 ghost use Rattle.aidl_values.specs.View.{view, views};
-ghost use Rattle.parcel_answers.specs.ValueText.{value_text};
+ghost use Rattle.value_texts.specs.ValueText.{value_text};
 ghost use Rattle.call_lines.specs.LineText.{others_text, quoted, result_text, values_text};
 ghost use Rattle.wire_model.specs.Calls.{optional_view};
 ghost use Rattle.wire_model.specs.Typed.{EachHasType, IsResult};
@@ -10,9 +10,9 @@ ghost use Rattle.wire_model.specs.Typed.{EachHasType, IsResult};
 use aidl_base::OutOfMemory;
 use aidl_schema::{AidlType, Schema};
 use aidl_values::Value;
-use parcel_answers::push_value_text;
 use serde_json::Value as Json;
 use std::alloc::Global;
+use value_texts::push_value_text;
 
 /// Adds a text as a JSON string.
 #[tactic(auto, unfolding(crate::specs::LineText::quoted))]

@@ -1,11 +1,7 @@
 pub mod Digits
-pub mod Elements
 pub mod Entries
 pub mod JsonTexts
 pub mod NamedBases
-pub mod Parts
-pub mod Plain
 pub mod Planned
 pub mod ReadValues
-pub mod Rows
 pub mod WriteValues

@@ -10,7 +10,7 @@ use Rattle.wire_model.specs.ReadOf.{read_of}
 use Rattle.tool_frame.specs.declared.verdict.Verdict.TheVariants.{Done}
 use Rattle.tool_frame.specs.Answer.{Answer, Found, ◌>>=◌, line, negative, after_text}
 use Rattle.parcel_answers.specs.Refusals.{known_types}
-use Rattle.parcel_answers.specs.ValueText.{value_text}
+use Rattle.value_texts.specs.ValueText.{value_text}
 
 -- the profile by which is read; `lenient` says that `--lenient` stands
 abbrev pub profile_of : Bool → Profile

@@ -5,4 +5,3 @@ pub mod JsonFile
 pub mod Refusals
 pub mod steps
 pub mod Types
-pub mod ValueText

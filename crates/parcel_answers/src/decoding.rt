@@ -13,7 +13,6 @@ ghost use Rattle.tool_frame.specs.steps.Results.{Gives, printed};
 
 use crate::lines::{push_left, push_status};
 use crate::steps::known_types;
-use crate::value_text::push_value_text;
 use aidl_base::{OutOfMemory, Profile};
 use aidl_schema::{AidlType, Schema};
 use aidl_values::Value;
@@ -21,6 +20,7 @@ use marshal_plans::{PlanId, Plans, compile};
 use parcel_read::read;
 use std::alloc::Global;
 use tool_frame::{Early, Printed, Verdict};
+use value_texts::push_value_text;
 
 /// What `decode` prints of a parcel's bytes, read by the profile.
 #[tactic(auto, using(tool_frame::proofs::EarlyEnds::ends_there))]

@@ -1,8 +1,8 @@
 ghost use Rattle.std.specs.Prelude.{◌≡◌, ◌++◌, ◌∷◌, [], IfOk, length, string_bytes};
 ghost use Rattle.serde_json.specs.Data.{string};
 ghost use Rattle.serde_json.specs.Written.{comma_if, compact_text};
-ghost use Rattle.parcel_answers.specs.steps.Members.{IsRow};
-ghost use Rattle.parcel_answers.specs.steps.Places.{ArePlaced};
+ghost use Rattle.value_texts.specs.steps.Members.{IsRow};
+ghost use Rattle.value_texts.specs.steps.Places.{ArePlaced};
 
 use crate::quoted::push_quoted;
 use crate::value_text::push_comma_if;

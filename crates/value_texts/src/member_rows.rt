@@ -2,7 +2,7 @@ ghost use Rattle.std.specs.Prelude.{◌≡◌, IfOk};
 ghost use Rattle.aidl_schema.specs.declared.schema.Base.TheVariants as base;
 ghost use Rattle.aidl_schema.specs.Types.{form_of};
 ghost use Rattle.json_values.specs.Named.{fields_in};
-ghost use Rattle.parcel_answers.specs.steps.Members.{IsRow};
+ghost use Rattle.value_texts.specs.steps.Members.{IsRow};
 
 use crate::members::{Member, members_of};
 use aidl_base::OutOfMemory;
@@ -29,7 +29,7 @@ impl<'a> Model for MemberRows<'a> {
     ghost use Rattle.aidl_schema.specs.declared.schema.Base.TheVariants as base;
     ghost use Rattle.aidl_schema.specs.Types.{form_of};
     ghost use Rattle.json_values.specs.Named.{fields_in};
-    ghost use Rattle.parcel_answers.specs.steps.Members.{IsRow};
+    ghost use Rattle.value_texts.specs.steps.Members.{IsRow};
 
     ghost Value = { List Decl };
 

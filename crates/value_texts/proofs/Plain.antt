@@ -6,7 +6,7 @@ use Rattle.std.proofs.lemmas.Bool.{and_parts, ne_eqb, leb-true, le-ltb}
 use Rattle.json.specs.Print.{escape_byte, escape}
 use Rattle.serde_json.specs.Data.{string}
 use Rattle.serde_json.specs.Written.{compact_text}
-use Rattle.parcel_answers.specs.steps.Plain.{is_plain_byte}
+use Rattle.value_texts.specs.steps.Plain.{is_plain_byte}
 
 fails : (b : Bool) → not b ≡ true → b ≡ false
 fails true h = sym h

@@ -1,7 +1,7 @@
 use Rattle.std.proofs.Common.{List, ℕ, ◌++◌, ◌∷◌, [], sym, ap, ◌∙◌, string_bytes}
-use Rattle.parcel_answers.proofs.Plain.{quoted_plain}
-use Rattle.parcel_answers.proofs.Rows.{three}
-use Rattle.parcel_answers.proofs.quoted.push_plain.Goals as goal
+use Rattle.value_texts.proofs.Plain.{quoted_plain}
+use Rattle.value_texts.proofs.Rows.{three}
+use Rattle.value_texts.proofs.quoted.push_plain.Goals as goal
 
 pub returns : goal.returns
 returns c =

@@ -2,7 +2,7 @@ ghost use Rattle.std.specs.Prelude.{◌≡◌, ◌++◌, true, OnOk, string_byte
 ghost use Rattle.std.specs.List.{list_all};
 ghost use Rattle.serde_json.specs.Data.{string};
 ghost use Rattle.serde_json.specs.Written.{compact_text};
-ghost use Rattle.parcel_answers.specs.steps.Plain as plain;
+ghost use Rattle.value_texts.specs.steps.Plain as plain;
 
 use aidl_base::OutOfMemory;
 use serde_json::Value as Json;

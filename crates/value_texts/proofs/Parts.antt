@@ -11,11 +11,11 @@ use Rattle.aidl_values.specs.View.{view, views}
 use Rattle.aidl_values.specs.declared.value.Value.{Value}
 use Rattle.json_values.specs.Json.{fields_of_type, json_of, json_members}
 use Rattle.json_values.specs.Named.{bytes_of, fields_in}
-use Rattle.parcel_answers.specs.ValueText.{value_text}
-use Rattle.parcel_answers.specs.declared.members.Member.{Member}
-use Rattle.parcel_answers.specs.steps.Members.{IsRow, members_from, row_text}
-use Rattle.parcel_answers.specs.steps.Parts.{parts, part_at}
-use Rattle.parcel_answers.proofs.Rows.{three}
+use Rattle.value_texts.specs.ValueText.{value_text}
+use Rattle.value_texts.specs.declared.members.Member.{Member}
+use Rattle.value_texts.specs.steps.Members.{IsRow, members_from, row_text}
+use Rattle.value_texts.specs.steps.Parts.{parts, part_at}
+use Rattle.value_texts.proofs.Rows.{three}
 
 next : (all : List json.Data) (i : ℕ) (x : json.Data) (xs : List json.Data) → drop i all ≡ x ∷ xs → (get_or all i json.null ≡ x) × (drop (suc i) all ≡ xs)
 next [] zero x xs e = cc

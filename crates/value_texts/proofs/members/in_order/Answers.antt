@@ -1,6 +1,6 @@
-use Rattle.parcel_answers.specs.steps.Places.{Placed}
-use Rattle.parcel_answers.proofs.Rows.{went_on}
-use Rattle.parcel_answers.proofs.members.in_order.Goals as goal
+use Rattle.value_texts.specs.steps.Places.{Placed}
+use Rattle.value_texts.proofs.Rows.{went_on}
+use Rattle.value_texts.proofs.members.in_order.Goals as goal
 
 pub loop-name-preserved : goal.loop-name-preserved
 loop-name-preserved c =

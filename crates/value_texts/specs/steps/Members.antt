@@ -4,7 +4,7 @@ use Rattle.serde_json.specs.Data.{Data, Members, no_members, put}
 use Rattle.serde_json.specs.Written.{compact_text, members_text}
 use Rattle.aidl_schema.specs.declared.schema.Field.{Field}
 use Rattle.json_values.specs.Named.{bytes_of}
-use Rattle.parcel_answers.specs.declared.members.Member.{Member}
+use Rattle.value_texts.specs.declared.members.Member.{Member}
 
 -- each key's text with the text of what stands at its place, before the closing bracket
 abbrev pub row_text : (ℕ → List ℕ) → List Member → List ℕ

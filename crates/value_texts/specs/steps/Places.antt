@@ -3,7 +3,7 @@ use Rattle.std.specs.Prelude.{◌≡◌, ◌<◌, ℕ, List, [], ◌∷◌, leng
 use Rattle.std.specs.Borrow.{Bor}
 use Rattle.serde_json.specs.Data.{Data, Members, no_members, member}
 use Rattle.aidl_schema.specs.declared.schema.Field.{Field}
-use Rattle.parcel_answers.specs.steps.Members.{members_from}
+use Rattle.value_texts.specs.steps.Members.{members_from}
 
 abbrev pub Placed : Type 0
 Placed = Bor (List ℕ) × ℕ

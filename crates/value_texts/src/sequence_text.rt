@@ -4,7 +4,7 @@ ghost use Rattle.aidl_values.specs.Data.{seq};
 ghost use Rattle.aidl_values.specs.HasType.{HasType, HaveType};
 ghost use Rattle.aidl_values.specs.View.{views};
 ghost use Rattle.json_values.specs.Json.{json_items};
-ghost use Rattle.parcel_answers.specs.ValueText.{value_text};
+ghost use Rattle.value_texts.specs.ValueText.{value_text};
 
 use crate::printer::Printer;
 use crate::value_text::{push_comma_if, push_value};

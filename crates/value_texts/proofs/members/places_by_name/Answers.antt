@@ -1,8 +1,8 @@
 use Rattle.std.proofs.Common.{◌≡◌, ◌+◌, ◌-◌, ◌<◌, length, sym, ap, ◌∙◌, subst, arith}
 use Rattle.aidl_schema.specs.declared.schema.Field.{Field}
 use Rattle.json_values.specs.Named.{bytes_of}
-use Rattle.parcel_answers.proofs.Rows.{ArePlacedFrom, entered}
-use Rattle.parcel_answers.proofs.members.places_by_name.Goals as goal
+use Rattle.value_texts.proofs.Rows.{ArePlacedFrom, entered}
+use Rattle.value_texts.proofs.members.places_by_name.Goals as goal
 
 pub loop-i-preserved : goal.loop-i-preserved
 loop-i-preserved c =

@@ -1,5 +1,5 @@
-use Rattle.parcel_answers.proofs.Rows.{ArePlacedFrom}
-use Rattle.parcel_answers.proofs.members.places_by_name.Given as goal
+use Rattle.value_texts.proofs.Rows.{ArePlacedFrom}
+use Rattle.value_texts.proofs.members.places_by_name.Given as goal
 
 -- the fields from i on
 abbrev pub invariant-loop-i : goal.invariant-loop-i

@@ -5,7 +5,7 @@ ghost use Rattle.aidl_schema.specs.declared.schema.Decl.{Decl};
 ghost use Rattle.aidl_schema.specs.Types.{elem, form_of};
 ghost use Rattle.json_values.specs.Json.{json_number};
 ghost use Rattle.json_values.specs.Named.{enumerators_of, fields_in};
-ghost use Rattle.parcel_answers.specs.steps.Members.{IsRow};
+ghost use Rattle.value_texts.specs.steps.Members.{IsRow};
 
 use crate::member_rows::MemberRows;
 use crate::members::Member;

@@ -3,7 +3,7 @@ ghost use Rattle.serde_json.specs.Data.{boolean, null};
 ghost use Rattle.serde_json.specs.Written.{comma_if, compact_text};
 ghost use Rattle.aidl_values.specs.HasType.{HasType};
 ghost use Rattle.aidl_values.specs.View.{view};
-ghost use Rattle.parcel_answers.specs.ValueText.{value_text};
+ghost use Rattle.value_texts.specs.ValueText.{value_text};
 
 use crate::object_text::{push_alternative, push_record};
 use crate::printer::Printer;

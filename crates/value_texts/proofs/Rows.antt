@@ -9,9 +9,9 @@ use Rattle.serde_json.specs.Data.{Data, put, string}
 use Rattle.serde_json.specs.Written.{comma_if, compact_text, members_text}
 use Rattle.aidl_schema.specs.declared.schema.Field.{Field}
 use Rattle.json_values.specs.Named.{bytes_of}
-use Rattle.parcel_answers.specs.declared.members.Member.{Member}
-use Rattle.parcel_answers.specs.steps.Members.{AreWithin, members_from, row_text}
-use Rattle.parcel_answers.specs.steps.Places.{LieWithin, Placed, members_at}
+use Rattle.value_texts.specs.declared.members.Member.{Member}
+use Rattle.value_texts.specs.steps.Members.{AreWithin, members_from, row_text}
+use Rattle.value_texts.specs.steps.Places.{LieWithin, Placed, members_at}
 
 -- the fields from a place on
 abbrev pub ArePlacedFrom : List Field → ℕ → List Placed → Type 0

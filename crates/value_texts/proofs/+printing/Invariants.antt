@@ -2,9 +2,9 @@ use Rattle.std.proofs.Common.{◌≡◌, ◌++◌, false, drop, string_bytes}
 use Rattle.serde_json.specs.Written.{compact_text, items_text}
 use Rattle.aidl_values.specs.View.{views}
 use Rattle.json_values.specs.Json.{json_items}
-use Rattle.parcel_answers.specs.steps.Members.{row_text}
-use Rattle.parcel_answers.specs.steps.Parts.{part_at}
-use Rattle.parcel_answers.proofs.+printing.Given as goal
+use Rattle.value_texts.specs.steps.Members.{row_text}
+use Rattle.value_texts.specs.steps.Parts.{part_at}
+use Rattle.value_texts.proofs.+printing.Given as goal
 
 -- what is left completes the text
 abbrev pub invariant-sequence_text::push_elements-loop-value : goal.invariant-sequence_text::push_elements-loop-value

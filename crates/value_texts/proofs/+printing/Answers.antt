@@ -8,12 +8,12 @@ use Rattle.aidl_values.specs.HasType.{HasType, FieldsHaveType}
 use Rattle.aidl_values.specs.View.{view, views}
 use Rattle.aidl_values.specs.declared.value.Value.{Value}
 use Rattle.aidl_values.proofs.value.Value.TheLaws.{the_size}
-use Rattle.parcel_answers.specs.ValueText.{value_text}
-use Rattle.parcel_answers.specs.declared.members.Member.{Member}
-use Rattle.parcel_answers.proofs.Elements.{element_typed}
-use Rattle.parcel_answers.proofs.Parts.{as_many, part_here, record_text, typed_here}
-use Rattle.parcel_answers.proofs.Rows.{within_at}
-use Rattle.parcel_answers.proofs.+printing.Goals as goal
+use Rattle.value_texts.specs.ValueText.{value_text}
+use Rattle.value_texts.specs.declared.members.Member.{Member}
+use Rattle.value_texts.proofs.Elements.{element_typed}
+use Rattle.value_texts.proofs.Parts.{as_many, part_here, record_text, typed_here}
+use Rattle.value_texts.proofs.Rows.{within_at}
+use Rattle.value_texts.proofs.+printing.Goals as goal
 
 pub object_text::push_member-bounds-values-member : goal.object_text::push_member-bounds-values-member
 object_text::push_member-bounds-values-member t c =

@@ -1,5 +1,5 @@
-use Rattle.parcel_answers.proofs.Rows.{InOrder}
-use Rattle.parcel_answers.proofs.members.in_order.Given as goal
+use Rattle.value_texts.proofs.Rows.{InOrder}
+use Rattle.value_texts.proofs.members.in_order.Given as goal
 
 -- what is left completes the row
 abbrev pub invariant-loop-name : goal.invariant-loop-name

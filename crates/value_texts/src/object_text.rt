@@ -6,9 +6,9 @@ ghost use Rattle.aidl_values.specs.HasType.{HasType, FieldsHaveType};
 ghost use Rattle.aidl_values.specs.View.{view, views};
 ghost use Rattle.json_values.specs.Json.{json_of};
 ghost use Rattle.json_values.specs.Named.{bytes_of};
-ghost use Rattle.parcel_answers.specs.ValueText.{value_text};
-ghost use Rattle.parcel_answers.specs.steps.Members.{AreWithin, row_text};
-ghost use Rattle.parcel_answers.specs.steps.Parts.{part_at};
+ghost use Rattle.value_texts.specs.ValueText.{value_text};
+ghost use Rattle.value_texts.specs.steps.Members.{AreWithin, row_text};
+ghost use Rattle.value_texts.specs.steps.Parts.{part_at};
 
 use crate::members::Member;
 use crate::printer::Printer;

@@ -1,0 +1,4 @@
+mod Elements
+mod Parts
+mod Plain
+mod Rows

@@ -1,0 +1,2 @@
+pub mod ValueText
+pub mod steps
