@@ -11,7 +11,7 @@ use Rattle.aidl_schema.specs.Broken.{same_method}
 use Rattle.aidl_schema.specs.Find.{methods_at}
 use Rattle.aidl_schema.specs.Names.{name_of}
 use Rattle.aidl_schema.specs.Same.{same_text}
-use Rattle.json_values.specs.Named.{bytes_of}
+use Rattle.json_writing.specs.Named.{bytes_of}
 use Rattle.wire_model.specs.Calls.{descriptor, name_of_decl}
 use Rattle.wire_model.specs.Outcome.{declared_as, method_like}
 use Rattle.call_scripts.specs.Calls.{IsServer, method_of_server}

@@ -7,7 +7,7 @@ use Rattle.aidl_schema.specs.declared.schema.Kind.TheVariants.{Interface}
 use Rattle.aidl_schema.specs.declared.schema.Method.{Method}
 use Rattle.aidl_schema.specs.Find.{methods_at, number_of_name}
 use Rattle.aidl_schema.specs.Same.{same_text}
-use Rattle.json_values.specs.Named.{bytes_of}
+use Rattle.json_writing.specs.Named.{bytes_of}
 
 -- the same with a byte before
 abbrev pub behind : ℕ → Option (List ℕ × List ℕ) → Option (List ℕ × List ℕ)

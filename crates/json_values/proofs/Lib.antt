@@ -5,7 +5,4 @@ pub mod Loops
 pub mod Members
 pub mod Names
 pub mod Parts
-pub mod Tables
 pub mod Texts
-pub mod Whole
-pub mod Written

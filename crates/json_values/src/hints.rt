@@ -1,8 +1,7 @@
-use crate::named::Called;
-use crate::walks::{WALKS, Walks};
 use aidl_base::OutOfMemory;
 use aidl_schema::Base;
 use indexmap::IndexMap;
+use json_writing::{Called, WALKS, Walks};
 use std::alloc::Global;
 
 // Where the members of large enums, unions and parcelables stand by their names, kept while one JSON value is read. It is

@@ -2,7 +2,7 @@ ghost use Rattle.std.specs.Prelude.{◌≡◌, Ok};
 ghost use Rattle.aidl_values.specs.Fits.{Fits};
 ghost use Rattle.aidl_values.specs.View.{view};
 ghost use Rattle.json_values.specs.FromJson.{from_json_of};
-ghost use Rattle.json_values.specs.Json.{json_of};
+ghost use Rattle.json_writing.specs.Json.{json_of};
 
 use aidl_schema::{AidlType, Schema, law_valid};
 use aidl_values::Value;

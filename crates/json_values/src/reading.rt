@@ -6,7 +6,7 @@ ghost use Rattle.aidl_values.specs.View.{view};
 ghost use Rattle.json_values.specs.FromJson as answer;
 ghost use Rattle.json_values.specs.FromJson.{from_json_of, from_by};
 ghost use Rattle.json_values.specs.Gives.{refusal_of};
-ghost use Rattle.json_values.specs.Named.{enumerators_of};
+ghost use Rattle.json_writing.specs.Named.{enumerators_of};
 ghost use Rattle.json_values.specs.steps.Levels.{part_from, default_of};
 ghost use Rattle.aidl_values.specs.steps.Levels.{is_level_left};
 ghost use Rattle.json_values.specs.steps.Gives.{Gives};

@@ -4,7 +4,7 @@ ghost use Rattle.serde_json.specs.View.{view as json_view, members_view};
 ghost use Rattle.aidl_schema.specs.Holds.{AreApart};
 ghost use Rattle.aidl_values.specs.View.{view, views};
 ghost use Rattle.json_values.specs.FromJson as answer;
-ghost use Rattle.json_values.specs.Named.{bytes_of};
+ghost use Rattle.json_writing.specs.Named.{bytes_of};
 ghost use Rattle.json_values.specs.Refusal.{escaped, within};
 ghost use Rattle.json_values.specs.steps.Levels.{part_from, default_of};
 ghost use Rattle.aidl_values.specs.steps.Levels.{is_level_left};

@@ -5,7 +5,7 @@ ghost use Rattle.aidl_schema.specs.Seen.{seen};
 ghost use Rattle.aidl_values.specs.Data.{number};
 ghost use Rattle.aidl_values.specs.View.{view};
 ghost use Rattle.json_values.specs.FromJson as answer;
-ghost use Rattle.json_values.specs.Named.{enumerators_of};
+ghost use Rattle.json_writing.specs.Named.{enumerators_of};
 ghost use Rattle.json_values.specs.steps.Gives.{Gives};
 
 use crate::enumerators::read_name;

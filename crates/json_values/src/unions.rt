@@ -10,10 +10,10 @@ ghost use Rattle.json_values.specs.steps.Gives.{Gives};
 
 use crate::fault::{Fault, Reason, below_key, refused};
 use crate::hints::Hints;
-use crate::named::is_called;
 use crate::reading::read_within;
 use aidl_schema::{Base, Field, Schema};
 use aidl_values::Value;
+use json_writing::is_called;
 use serde_json::{Map, Value as Json};
 use std::alloc::Global;
 

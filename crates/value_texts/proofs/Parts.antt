@@ -9,8 +9,8 @@ use Rattle.aidl_values.specs.Data.{rec}
 use Rattle.aidl_values.specs.HasType.{HasType, FieldsHaveType}
 use Rattle.aidl_values.specs.View.{view, views}
 use Rattle.aidl_values.specs.declared.value.Value.{Value}
-use Rattle.json_values.specs.Json.{fields_of_type, json_of, json_members}
-use Rattle.json_values.specs.Named.{bytes_of, fields_in}
+use Rattle.json_writing.specs.Json.{fields_of_type, json_of, json_members}
+use Rattle.json_writing.specs.Named.{bytes_of, fields_in}
 use Rattle.value_texts.specs.ValueText.{value_text}
 use Rattle.value_texts.specs.declared.members.Member.{Member}
 use Rattle.value_texts.specs.steps.Members.{IsRow, members_from, row_text}

@@ -8,7 +8,7 @@ use Rattle.std.specs.Ordering.{nat_cmp, match_ordering}
 use Rattle.serde_json.specs.Data.{Data, put, string}
 use Rattle.serde_json.specs.Written.{comma_if, compact_text, members_text}
 use Rattle.aidl_schema.specs.declared.schema.Field.{Field}
-use Rattle.json_values.specs.Named.{bytes_of}
+use Rattle.json_writing.specs.Named.{bytes_of}
 use Rattle.value_texts.specs.declared.members.Member.{Member}
 use Rattle.value_texts.specs.steps.Members.{AreWithin, members_from, row_text}
 use Rattle.value_texts.specs.steps.Places.{LieWithin, Placed, members_at}

@@ -1,14 +1,14 @@
 ghost use Rattle.std.specs.Prelude.{◌≡◌, IfOk};
 ghost use Rattle.aidl_schema.specs.declared.schema.Base.TheVariants as base;
 ghost use Rattle.aidl_schema.specs.Types.{form_of};
-ghost use Rattle.json_values.specs.Named.{fields_in};
+ghost use Rattle.json_writing.specs.Named.{fields_in};
 ghost use Rattle.value_texts.specs.steps.Members.{IsRow};
 
 use crate::members::{Member, members_of};
 use aidl_base::OutOfMemory;
 use aidl_schema::{Base, Schema};
 use indexmap::IndexMap;
-use json_values::fields_of;
+use json_writing::fields_of;
 use std::alloc::Global;
 use std::marker::Model;
 use std::rc::Rc;
@@ -28,7 +28,7 @@ impl<'a> Model for MemberRows<'a> {
     ghost use Rattle.aidl_schema.specs.declared.schema.Decl.{Decl};
     ghost use Rattle.aidl_schema.specs.declared.schema.Base.TheVariants as base;
     ghost use Rattle.aidl_schema.specs.Types.{form_of};
-    ghost use Rattle.json_values.specs.Named.{fields_in};
+    ghost use Rattle.json_writing.specs.Named.{fields_in};
     ghost use Rattle.value_texts.specs.steps.Members.{IsRow};
 
     ghost Value = { List Decl };

@@ -3,7 +3,7 @@ ghost use Rattle.serde_json.specs.Written.{items_text};
 ghost use Rattle.aidl_values.specs.Data.{seq};
 ghost use Rattle.aidl_values.specs.HasType.{HasType, HaveType};
 ghost use Rattle.aidl_values.specs.View.{views};
-ghost use Rattle.json_values.specs.Json.{json_items};
+ghost use Rattle.json_writing.specs.Json.{json_items};
 ghost use Rattle.value_texts.specs.ValueText.{value_text};
 
 use crate::printer::Printer;

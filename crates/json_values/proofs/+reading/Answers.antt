@@ -9,12 +9,12 @@ use Rattle.aidl_schema.specs.Types.{is_one}
 use Rattle.aidl_values.specs.View.{view, views}
 use Rattle.json_values.specs.FromJson.{elements_from, sequence_from}
 use Rattle.json_values.proofs.Parts.{from_json_of-by, from_by-sequence, sequence_from-some, items_more, items_done, fields_more, fields_done}
-use Rattle.json_values.proofs.Whole.{few_fields}
+use Rattle.json_writing.proofs.Whole.{few_fields}
 use Rattle.json_values.proofs.Names.{name_of_field, fields_apart, alternative_at}
 use Rattle.aidl_schema.specs.declared.schema.AidlType.{AidlType}
 use Rattle.aidl_values.specs.Data.{Data}
 use Rattle.json_values.specs.Refusal.{Answer}
-use Rattle.json_values.specs.Named.{fields_in}
+use Rattle.json_writing.specs.Named.{fields_in}
 use Rattle.aidl_schema.specs.Holds.{AreApart}
 use Rattle.json_values.proofs.+reading.Goals as goal
 use Rattle.json_values.specs.steps.Levels.{part_from, default_of, chosen_from}

@@ -1,7 +1,7 @@
 use Rattle.std.proofs.Common.{◌≡◌, ◌++◌, false, drop, string_bytes}
 use Rattle.serde_json.specs.Written.{compact_text, items_text}
 use Rattle.aidl_values.specs.View.{views}
-use Rattle.json_values.specs.Json.{json_items}
+use Rattle.json_writing.specs.Json.{json_items}
 use Rattle.value_texts.specs.steps.Members.{row_text}
 use Rattle.value_texts.specs.steps.Parts.{part_at}
 use Rattle.value_texts.proofs.+printing.Given as goal

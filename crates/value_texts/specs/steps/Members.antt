@@ -3,7 +3,7 @@ use Rattle.std.specs.Prelude.{◌≡◌, ◌<◌, ℕ, suc, false, List, [], ◌
 use Rattle.serde_json.specs.Data.{Data, Members, no_members, put}
 use Rattle.serde_json.specs.Written.{compact_text, members_text}
 use Rattle.aidl_schema.specs.declared.schema.Field.{Field}
-use Rattle.json_values.specs.Named.{bytes_of}
+use Rattle.json_writing.specs.Named.{bytes_of}
 use Rattle.value_texts.specs.declared.members.Member.{Member}
 
 -- each key's text with the text of what stands at its place, before the closing bracket

@@ -5,7 +5,7 @@ use Rattle.aidl_schema.specs.declared.schema.Decl.{Decl}
 use Rattle.aidl_schema.specs.declared.schema.Field.{Field}
 use Rattle.aidl_values.specs.View.{view}
 use Rattle.aidl_values.specs.declared.value.Value.{Value}
-use Rattle.json_values.specs.Json.{json_of}
+use Rattle.json_writing.specs.Json.{json_of}
 
 -- each by the type of its field
 abbrev pub parts : List Decl → List Field → List Value → List json.Data

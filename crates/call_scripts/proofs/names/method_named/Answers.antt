@@ -1,6 +1,6 @@
 use Rattle.std.proofs.Common.{◌≤◌, length, sym, subst, arith}
 use Rattle.aidl_schema.specs.Same.{same_text}
-use Rattle.json_values.specs.Named.{bytes_of}
+use Rattle.json_writing.specs.Named.{bytes_of}
 use Rattle.call_scripts.proofs.Methods.{position_within, few_methods}
 use Rattle.call_scripts.proofs.names.method_named.Goals as goal
 

@@ -2,7 +2,7 @@ use Rattle.std.proofs.Common.{◌≡◌, length, Some, sym, ap, ◌∙◌}
 use Rattle.aidl_base.specs.Words.{units}
 use Rattle.aidl_schema.specs.Find.{methods_at}
 use Rattle.aidl_schema.specs.Same.{same_text}
-use Rattle.json_values.specs.Named.{bytes_of}
+use Rattle.json_writing.specs.Named.{bytes_of}
 use Rattle.call_scripts.specs.Names.{interface_named, method_named}
 use Rattle.call_scripts.proofs.Methods.{descriptor-named, position_within}
 use Rattle.call_scripts.proofs.SameNames.{is_server, is_target, target_within}

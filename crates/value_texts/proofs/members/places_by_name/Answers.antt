@@ -1,6 +1,6 @@
 use Rattle.std.proofs.Common.{◌≡◌, ◌+◌, ◌-◌, ◌<◌, length, sym, ap, ◌∙◌, subst, arith}
 use Rattle.aidl_schema.specs.declared.schema.Field.{Field}
-use Rattle.json_values.specs.Named.{bytes_of}
+use Rattle.json_writing.specs.Named.{bytes_of}
 use Rattle.value_texts.proofs.Rows.{ArePlacedFrom, entered}
 use Rattle.value_texts.proofs.members.places_by_name.Goals as goal
 

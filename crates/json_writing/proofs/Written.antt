@@ -7,7 +7,7 @@ use Rattle.aidl_schema.specs.declared.schema.Decl.{Decl}
 use Rattle.aidl_schema.specs.declared.schema.AidlType.{AidlType}
 use Rattle.aidl_values.specs.View.{view, views}
 use Rattle.aidl_values.specs.declared.value.Value.{Value}
-use Rattle.json_values.specs.Json.{json_of, json_items}
+use Rattle.json_writing.specs.Json.{json_of, json_items}
 
 one_by_one : (S : List Decl) (t : AidlType) (vs : List Value) → items_of (map (λ v. json_of S t (view v)) vs) ≡ json_items S t (views vs)
 one_by_one S t [] = refl

@@ -1,7 +1,7 @@
 ghost use Rattle.std.specs.Prelude.{◌≡◌, option_map, IfOk, Some};
 ghost use Rattle.aidl_schema.specs.declared.schema.Base.TheVariants as base;
-ghost use Rattle.json_values.specs.Json.{json_among, json_named, json_number};
-ghost use Rattle.json_values.specs.Named.{enumerators_of};
+ghost use Rattle.json_writing.specs.Json.{json_among, json_named, json_number};
+ghost use Rattle.json_writing.specs.Named.{enumerators_of};
 
 use crate::named::enumerators_in;
 use crate::value_table::ValueTable;
@@ -28,7 +28,7 @@ impl<'a> Model for ValueNames<'a> {
     ghost use Rattle.aidl_base.specs.contracts.constant.Const as constant;
     ghost use Rattle.aidl_schema.specs.declared.schema.Decl.{Decl};
     ghost use Rattle.aidl_schema.specs.declared.schema.Base.TheVariants as base;
-    ghost use Rattle.json_values.specs.Named.{enumerators_of};
+    ghost use Rattle.json_writing.specs.Named.{enumerators_of};
 
     ghost Value = { List Decl };
 

@@ -2,7 +2,7 @@ ghost use Rattle.std.specs.Prelude.{◌≡◌, option_map};
 ghost use Rattle.aidl_base.specs.declared.name.Ident.{Ident};
 ghost use Rattle.aidl_schema.specs.Same.{same_text};
 ghost use Rattle.aidl_schema.specs.Types.{form_of};
-ghost use Rattle.json_values.specs.Named.{bytes_of, enumerators_of, fields_in};
+ghost use Rattle.json_writing.specs.Named.{bytes_of, enumerators_of, fields_in};
 
 use aidl_base::Ident;
 use aidl_schema::{Base, Enumerator, Field, Form, Kind, Schema, form_in};

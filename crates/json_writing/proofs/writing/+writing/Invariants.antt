@@ -1,8 +1,8 @@
 use Rattle.std.proofs.Common.{◌≡◌, drop, map, take}
 use Rattle.serde_json.specs.View.{view as json_view, members_view}
 use Rattle.aidl_values.specs.View.{view, views}
-use Rattle.json_values.specs.Json.{json_of, json_members}
-use Rattle.json_values.proofs.writing.+writing.Given as goal
+use Rattle.json_writing.specs.Json.{json_of, json_members}
+use Rattle.json_writing.proofs.writing.+writing.Given as goal
 
 -- the fields from here on are in
 abbrev pub invariant-write_fields-loop-i : goal.invariant-write_fields-loop-i

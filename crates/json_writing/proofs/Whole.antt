@@ -10,7 +10,7 @@ use Rattle.aidl_schema.specs.declared.schema.Base.TheVariants as base
 use Rattle.aidl_schema.specs.Types.{Form, form_of, form_of_decl, form_of_kind}
 use Rattle.aidl_schema.specs.Types as form
 use Rattle.aidl_values.specs.Sound.{IsDeclared, IsSound, fields_of}
-use Rattle.json_values.specs.Named.{fields_in}
+use Rattle.json_writing.specs.Named.{fields_in}
 
 fields_in-kind : (k : Kind) → fields_of k ≡ fields_in (form_of_kind k)
 fields_in-kind (Interface ms) = refl

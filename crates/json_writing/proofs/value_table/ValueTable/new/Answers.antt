@@ -1,8 +1,8 @@
 use Rattle.std.proofs.Common.{◌≡◌, ◌+◌, ◌-◌, ◌<◌, length, drop, refl, ap, ◌∙◌, arith, rules, FitsSigned, w64}
 use Rattle.std.proofs.lemmas.Int.{to_z-of_z}
-use Rattle.json_values.specs.Json.{json_among}
-use Rattle.json_values.proofs.Tables.{entered}
-use Rattle.json_values.proofs.value_table.ValueTable.new.Goals as goal
+use Rattle.json_writing.specs.Json.{json_among}
+use Rattle.json_writing.proofs.Tables.{entered}
+use Rattle.json_writing.proofs.value_table.ValueTable.new.Goals as goal
 
 pub loop-i-preserved : goal.loop-i-preserved
 loop-i-preserved c = λ n.

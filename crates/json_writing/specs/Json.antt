@@ -12,7 +12,7 @@ use Rattle.aidl_schema.specs.declared.schema.Field.{Field}
 use Rattle.aidl_schema.specs.declared.schema.AidlType.{AidlType}
 use Rattle.aidl_schema.specs.Types.{form_of, elem}
 use Rattle.aidl_values.specs.Data as value
-use Rattle.json_values.specs.Named.{bytes_of, fields_in, enumerators_of}
+use Rattle.json_writing.specs.Named.{bytes_of, fields_in, enumerators_of}
 
 -- a number: by the name of the first of these enumerators that has it, else a whole number
 abbrev pub json_among : List Enumerator → ℤ → json.Data

@@ -7,8 +7,8 @@ use Rattle.std.specs.Ordering.{int_eq}
 use Rattle.serde_json.specs.Data as json
 use Rattle.aidl_base.specs.declared.name.Ident.{Ident}
 use Rattle.aidl_schema.specs.declared.schema.Enumerator.{Enumerator}
-use Rattle.json_values.specs.Json.{json_among, json_named}
-use Rattle.json_values.specs.Named.{bytes_of}
+use Rattle.json_writing.specs.Json.{json_among, json_named}
+use Rattle.json_writing.specs.Named.{bytes_of}
 
 -- what a table tells of a value
 abbrev pub told : Option (Bor Ident) → ℤ → json.Data

@@ -1,5 +1,5 @@
 ghost use Rattle.std.specs.Prelude.{◌≡◌, option_map, IfOk};
-ghost use Rattle.json_values.specs.Json.{json_among, json_named};
+ghost use Rattle.json_writing.specs.Json.{json_among, json_named};
 
 use aidl_base::{Ident, OutOfMemory};
 use aidl_schema::Enumerator;
@@ -19,7 +19,7 @@ impl<'a> Model for ValueTable<'a> {
     ghost use Rattle.std.specs.Ordering.{int_eq};
     ghost use Rattle.indexmap.specs.IndexMap.{get};
     ghost use Rattle.aidl_schema.specs.declared.schema.Enumerator.{Enumerator};
-    ghost use Rattle.json_values.specs.Json.{json_among, json_named};
+    ghost use Rattle.json_writing.specs.Json.{json_among, json_named};
 
     ghost Value = { List Enumerator };
 

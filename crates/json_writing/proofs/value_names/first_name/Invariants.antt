@@ -1,6 +1,6 @@
 use Rattle.std.proofs.Common.{◌≡◌, drop}
-use Rattle.json_values.specs.Json.{json_among}
-use Rattle.json_values.proofs.value_names.first_name.Given as goal
+use Rattle.json_writing.specs.Json.{json_among}
+use Rattle.json_writing.proofs.value_names.first_name.Given as goal
 
 -- what is left decides
 abbrev pub invariant-loop-enumerator : goal.invariant-loop-enumerator

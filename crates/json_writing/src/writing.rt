@@ -3,8 +3,8 @@ ghost use Rattle.serde_json.specs.Data.{array, object, member, no_members};
 ghost use Rattle.serde_json.specs.View.{view as json_view};
 ghost use Rattle.aidl_values.specs.HasType.{HasType};
 ghost use Rattle.aidl_values.specs.View.{view, views};
-ghost use Rattle.json_values.specs.Json.{json_of, json_items, json_members, json_named, json_number, json_alternative};
-ghost use Rattle.json_values.specs.Named.{bytes_of, enumerators_of};
+ghost use Rattle.json_writing.specs.Json.{json_of, json_items, json_members, json_named, json_number, json_alternative};
+ghost use Rattle.json_writing.specs.Named.{bytes_of, enumerators_of};
 
 use crate::named::fields_of;
 use crate::value_names::ValueNames;

@@ -1,0 +1,3 @@
+mod Tables
+pub mod Whole
+pub mod Written
