@@ -1,9 +1,9 @@
 -- How often a mark stands in a list, along the chain of its places.
-use Rattle.std.proofs.Common.{◌≡◌, ◌<◌, ◌+◌, ℕ, zero, suc, Bool, true, false, cond, nat_eq, nat_lt, List, [], ◌∷◌, length, drop, get_or, add-one, Option, Some, None, refl, sym, ◌∙◌, ap, subst, arith}
+use Rattle.std.proofs.Common.{◌≡◌, ◌<◌, ◌+◌, ℕ, zero, suc, Bool, true, false, cond, nat_eq, nat_lt, is_some, List, [], ◌∷◌, length, drop, get_or, add-one, Option, Some, None, refl, sym, ◌∙◌, ap, subst, arith}
 use Rattle.std.specs.List.{filter, position_from}
 use Rattle.std.proofs.lemmas.Bool.Decides.{nat_tests}
-use Rattle.declared_names.specs.steps.Marks.{times}
-use Rattle.declared_names.proofs.Chains.{HasMark, drop-more}
+use Rattle.declared_names.specs.steps.Times.{times}
+use Rattle.declared_names.proofs.Chains.{HasMark, drop-more, goes_on_marked}
 
 -- at how many places from one on
 abbrev pub times_at : ℕ → List ℕ → Option ℕ → ℕ
@@ -48,3 +48,32 @@ both_next a b c d all p q e = go (nat_lt c d) refl ∙ e where
   go : (t : Bool) → nat_lt c d ≡ t → nat_lt c d ≡ nat_lt a b
   go true h = grind (arith, nat_tests, h, p, q)
   go false h = grind (arith, nat_tests, h, p, q)
+
+-- Whether there are two places.
+
+pub twice : (mark : ℕ) (marks : List ℕ) (i : ℕ) (next : Option ℕ) → Some i ≡ position_from (nat_eq mark) 0 marks → next ≡ position_from (nat_eq (get_or marks i 0)) (i + 1) (drop (i + 1) marks)
+    → is_some next ≡ nat_lt 1 (times mark marks)
+twice mark marks i next e n = go next refl where
+  h : HasMark marks mark (Some i)
+  h = goes_on_marked marks mark 0 (Some i) e
+
+  q : next ≡ position_from (nat_eq mark) (i + 1) (drop (i + 1) marks)
+  q = n ∙ ap (λ (z : ℕ). position_from (nat_eq z) (i + 1) (drop (i + 1) marks)) h.1
+
+  all : times mark marks ≡ suc (times_at mark marks next)
+  all = sym (times_begin mark marks (Some i) e) ∙ times_next mark marks (Some i) next i refl h n
+
+  go : (o : Option ℕ) → next ≡ o → is_some o ≡ nat_lt 1 (times mark marks)
+  go None p =
+      let z : times mark marks ≡ 1 = all ∙ ap (λ (o : Option ℕ). suc (times_at mark marks o)) p in
+      ap (nat_lt 1) (sym z)
+  go (Some j) p =
+      let later : Option ℕ = position_from (nat_eq (get_or marks j 0)) (j + 1) (drop (j + 1) marks) in
+      let z : times mark marks ≡ suc (suc (times_at mark marks later)) =
+      all ∙ ap (λ (o : Option ℕ). suc (times_at mark marks o)) p
+      ∙ ap suc (times_next mark marks (Some j) later j refl (goes_on_marked marks mark (i + 1) (Some j) (sym p ∙ q)) refl) in
+      let t : nat_lt 1 (times mark marks) ≡ true = grind (arith, nat_tests, z) in
+      sym t
+
+pub not_twice : (mark : ℕ) (marks : List ℕ) → None ≡ position_from (nat_eq mark) 0 marks → false ≡ nat_lt 1 (times mark marks)
+not_twice mark marks e = ap (nat_lt 1) (times_begin mark marks None e)

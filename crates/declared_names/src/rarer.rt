@@ -1,5 +1,5 @@
 ghost use Rattle.std.specs.Prelude.{◌≡◌};
-ghost use Rattle.declared_names.specs.steps.Marks.{is_rarer};
+ghost use Rattle.declared_names.specs.steps.Times.{is_rarer};
 
 use crate::table::Table;
 

@@ -80,6 +80,9 @@ in_each_has f k (z ∷ xs) (suc n) x i y e h =
     let w = in_each_has f (k + 1) xs n x i y e (ap (λ (m : ℕ). slice_get (f m x) i) t ∙ h) in
     in_back (f k z) (in_each f (k + 1) xs) w.0 y w.1
 
+in_all_has : {A B : Type 0} (f : ℕ → A → List B) (xs : List A) (n : ℕ) (x : A) (i : ℕ) (y : B) → slice_get xs n ≡ Some x → slice_get (f n x) i ≡ Some y → (q : ℕ) × (slice_get (in_each f 0 xs) q ≡ Some y)
+in_all_has f xs n x i y e h = let t : 0 + n ≡ n = omega arith in in_each_has f 0 xs n x i y e (ap (λ (m : ℕ). slice_get (f m x) i) t ∙ h)
+
 module _ (first : Ident) (rest : List Ident) where
   -- an end of the name
   abbrev pub end_of : ℕ → End
@@ -186,8 +189,7 @@ module _ (es : List Entry) (first : Ident) (rest : List Ident) where
         let m : ℕ = d.0 in
         let entry : Entry = d.1 in
         let h = has_end first rest m entry.name x.now.name.0 d.4 t.0 in
-        let z : 0 + m ≡ m = omega arith in
-        let q = in_each_has (λ (owner : ℕ) (z : Entry). ends_in owner z.name) 0 es m entry h.0 (end_of first rest m) d.3 (ap (λ (k : ℕ). slice_get (ends_in k entry.name) h.0) z ∙ h.1) in
+        let q = in_all_has (λ (owner : ℕ) (z : Entry). ends_in owner z.name) es m entry h.0 (end_of first rest m) d.3 h.1 in
         let l = leads_there w.0 x entry.name w.3 w.4 d.4 in (
           q.0,
           end_of first rest m,

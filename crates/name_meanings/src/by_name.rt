@@ -3,7 +3,7 @@ ghost use Rattle.name_meanings.specs.Imports.{meant_through};
 ghost use Rattle.declared_names.specs.Marks.{mark_of_entry};
 ghost use Rattle.declared_names.specs.Entries.{entry_of};
 ghost use Rattle.declared_names.specs.steps.Ends.{ends_of, mark_of_import};
-ghost use Rattle.declared_names.specs.steps.Marks.{is_shared};
+ghost use Rattle.declared_names.specs.steps.Times.{is_shared};
 
 use crate::behind::behind;
 use crate::imported::{Imports, in_imports};

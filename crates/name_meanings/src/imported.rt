@@ -3,7 +3,7 @@ ghost use Rattle.name_meanings.specs.Imports.{meant_through, meant_in};
 ghost use Rattle.aidl_syntax.specs.Sources.{source_of};
 ghost use Rattle.name_meanings.specs.steps.Copies.{is_at, is_at_number};
 ghost use Rattle.declared_names.specs.Marks.{mark_of, mark_of_entry, mark_of_last};
-ghost use Rattle.declared_names.specs.steps.Marks.{is_rarer, is_twice};
+ghost use Rattle.declared_names.specs.steps.Times.{is_rarer, is_twice};
 ghost use Rattle.declared_names.specs.Entries.{entry_of};
 ghost use Rattle.name_meanings.specs.Resolution.{first_declared, imported};
 

@@ -1,6 +1,6 @@
 -- How often marks stand in lists.
-use Rattle.std.specs.Prelude.{ℕ, ◌+◌, nat_eq, nat_lt, Bool, false, is_some, get_or, drop, length, List, [], ◌∷◌, map, Some, None}
-use Rattle.std.specs.List.{filter, slice_get, position_from}
+use Rattle.std.specs.Prelude.{ℕ, nat_eq, nat_lt, Bool, false, length, List, [], ◌∷◌, map, Some, None}
+use Rattle.std.specs.List.{filter, slice_get}
 use Rattle.aidl_base.specs.declared.name.Ident.{Ident}
 use Rattle.aidl_syntax.specs.declared.tree.DottedTree.{DottedTree}
 use Rattle.declared_names.specs.Marks.{mark_of, mark_of_last}
@@ -15,7 +15,7 @@ is_rarer mark marks other others = nat_lt (times mark marks) (times other others
 
 -- at two places and more
 abbrev pub is_twice : ℕ → List ℕ → Bool
-is_twice mark marks = elim (position_from (nat_eq mark) 0 marks) [ None ↦ false | Some i ↦ is_some (position_from (nat_eq (get_or marks i 0)) (i + 1) (drop (i + 1) marks)) ]
+is_twice mark marks = nat_lt 1 (times mark marks)
 
 -- that of a name's first part as the last one of imports
 abbrev pub is_shared : List DottedTree → List Ident → Bool
