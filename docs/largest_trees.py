@@ -82,7 +82,24 @@ def parts(tree, n):
 
 
 def unknown_behind_imports(tree, n):
-    put(tree, "P", "".join(f"import a{i}.B;" for i in range(n)) + parcelable("P", (f"B.c{i} f{i};" for i in range(n))))
+    put(tree, "P", "".join(f"import a{i}.B;" for i in range(n)) + parcelable("P", (f"B.c{i} f{i};" for i in range(n // 2))))
+
+
+def declared_behind_imports(tree, n):
+    for i in range(n):
+        put(f"{tree}/p{i}", "B", parcelable("B", [f"parcelable C{i} {{}}"]), f"package p{i}.m; ")
+    put(tree, "P", "".join(f"import p{i}.m.B;" for i in range(n)) + parcelable("P", (f"B.C{i} f{i};" for i in range(n))))
+
+
+def one_name_behind_imports(tree, n):
+    put(tree, "T", parcelable("T", (f"parcelable A{i} {{ parcelable B {{}} }}" for i in range(n))))
+    put(tree, "P", "".join(f"import a{i}.B;" for i in range(n)) + parcelable("P", (f"B f{i};" for i in range(n))))
+
+
+def two_imports_each(tree, n):
+    put(tree, "T", parcelable("T", (f"parcelable A{i} {{ parcelable B {{}} }}" for i in range(n))))
+    for i in range(n):
+        put(tree, f"P{i}", f"import a.B; import b.B; parcelable P{i} {{ B b; }}")
 
 
 KINDS = [
@@ -97,7 +114,10 @@ KINDS = [
     (inner, 400),
     (nested, 10000),
     (parts, 1200),
-    (unknown_behind_imports, 2000),
+    (unknown_behind_imports, 8000),
+    (declared_behind_imports, 4000),
+    (one_name_behind_imports, 4000),
+    (two_imports_each, 4000),
 ]
 
 for make, most in KINDS:
