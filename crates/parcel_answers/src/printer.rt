@@ -81,6 +81,7 @@ impl<'a> Printer<'a> {
     }
 
     // Adds a number, by the name of the first enumerator of the base that has it.
+    #[inline(always)]
     pub fn push_number(
         &mut self,
         alloc: Global,
@@ -92,8 +93,22 @@ impl<'a> Printer<'a> {
         ensures text { OnOk result (string_bytes text.new ≡ string_bytes text.old ++ compact_text (json_number (enumerators_of self.old base) n)) }
     {
         if is_number(base) {
-            return push_digits(n, &mut self.digits, text);
+            push_digits(n, &mut self.digits, text)
+        } else {
+            self.push_named(alloc, base, n, text)
         }
+    }
+
+    fn push_named(
+        &mut self,
+        alloc: Global,
+        base: Base,
+        n: i64,
+        text: &mut String,
+    ) -> Result<(), OutOfMemory>
+        ensures same { self.new ≡ self.old }
+        ensures text { OnOk result (string_bytes text.new ≡ string_bytes text.old ++ compact_text (json_number (enumerators_of self.old base) n)) }
+    {
         match self.names.name(alloc, base, n)? {
             Some(name) => push_quoted(alloc, name.0.as_str(), text),
             None => push_digits(n, &mut self.digits, text),
@@ -111,6 +126,7 @@ fn is_number(base: Base) -> bool
     }
 }
 
+#[inline(always)]
 fn push_digits(n: i64, digits: &mut Buffer, text: &mut String) -> Result<(), OutOfMemory>
     ensures { OnOk result (string_bytes text.new ≡ string_bytes text.old ++ signed_decimal n) }
 {

@@ -67,8 +67,8 @@ object_text::push_record-returns-clause-text t c =
     c.requires c.in_ok-row.ensures.row c.in_ok-row.ensures.same c.fields-fields.ensures (c.as_slice.ensures.value ∙ ap (λ v. v.items) c.deref.ensures)
     c.in_ok-push_str.ensures.bytes c.in_ok-push_members.ensures.text c.in_ok-push_str-2.ensures.bytes
 
-pub sequence_text::push_elements-push_value-requires : goal.sequence_text::push_elements-push_value-requires
-sequence_text::push_elements-push_value-requires t c =
+pub sequence_text::push_elements-push_element-requires : goal.sequence_text::push_elements-push_element-requires
+sequence_text::push_elements-push_element-requires t c =
     let ty = c.args.ty in
     let vs = c.args.values.now in
     let i = c.loop-value.value-index in
