@@ -81,7 +81,6 @@ impl<'a> Printer<'a> {
     }
 
     // Adds a number, by the name of the first enumerator of the base that has it.
-    #[inline(always)]
     pub fn push_number(
         &mut self,
         alloc: Global,
@@ -117,7 +116,7 @@ impl<'a> Printer<'a> {
 }
 
 // Whether values of a base are numbers that no enumerator names.
-fn is_number(base: Base) -> bool
+pub fn is_number(base: Base) -> bool
     ensures { (S : List Decl) → IsTrue result → enumerators_of S base ≡ None }
 {
     match base {
@@ -127,7 +126,7 @@ fn is_number(base: Base) -> bool
 }
 
 #[inline(always)]
-fn push_digits(n: i64, digits: &mut Buffer, text: &mut String) -> Result<(), OutOfMemory>
+pub fn push_digits(n: i64, digits: &mut Buffer, text: &mut String) -> Result<(), OutOfMemory>
     ensures { OnOk result (string_bytes text.new ≡ string_bytes text.old ++ signed_decimal n) }
 {
     text.push_str(digits.format(n))?;

@@ -1,16 +1,16 @@
 use Rattle.std.proofs.Common.{◌≡◌, ◌<◌, ◌++◌, ℕ, List, length, string_bytes, sym, ap, subst, ◌∙◌, append_assoc, arith, rules}
-use Rattle.std.specs.Prelude.{OnOk}
+use Rattle.std.specs.Prelude.{OnOk, None}
+use Rattle.json_values.specs.Named.{enumerators_of}
 use denote.Param.Weighed.{at_most}
 use Rattle.serde_json.specs.Data.{Data}
 use Rattle.serde_json.specs.Written.{compact_text}
 use Rattle.aidl_schema.specs.declared.schema.Decl.{Decl}
-use Rattle.aidl_values.specs.HasType.{HasType, FieldsHaveType}
+use Rattle.aidl_values.specs.HasType.{FieldsHaveType}
 use Rattle.aidl_values.specs.View.{view, views}
-use Rattle.aidl_values.specs.declared.value.Value.{Value}
 use Rattle.aidl_values.proofs.value.Value.TheLaws.{the_size}
 use Rattle.parcel_answers.specs.ValueText.{value_text}
 use Rattle.parcel_answers.specs.declared.members.Member.{Member}
-use Rattle.parcel_answers.proofs.Elements.{element_typed}
+use Rattle.parcel_answers.proofs.Elements.{element_here}
 use Rattle.parcel_answers.proofs.Parts.{as_many, part_here, record_text, typed_here}
 use Rattle.parcel_answers.proofs.Rows.{within_at}
 use Rattle.parcel_answers.proofs.+printing.Goals as goal
@@ -67,8 +67,18 @@ object_text::push_record-returns-clause-text t c =
     c.requires c.in_ok-row.ensures.row c.in_ok-row.ensures.same c.fields-fields.ensures (c.as_slice.ensures.value ∙ ap (λ v. v.items) c.deref.ensures)
     c.in_ok-push_str.ensures.bytes c.in_ok-push_members.ensures.text c.in_ok-push_str-2.ensures.bytes
 
-pub sequence_text::push_elements-push_element-requires : goal.sequence_text::push_elements-push_element-requires
-sequence_text::push_elements-push_element-requires t c =
+pub sequence_text::push_elements-push_value-requires : goal.sequence_text::push_elements-push_value-requires
+sequence_text::push_elements-push_value-requires t c =
+    let vs = c.args.values.now in
+    let i = c.loop-value.value-index in
+    let v = c.value-item.result in
+    let lies : i < length vs = omega arith in
+    let below = at_most the_size vs i v lies in
+    let same = ap the_size c.value-item.is in
+    (omega (arith, below, same, c.decreases), element_here c.args.printer.now c.args.ty c.loop-value.printer vs i v c.loop-value.invariant.same c.value-item.is c.requires lies)
+
+pub sequence_text::push_numbers-push_unnamed-requires : goal.sequence_text::push_numbers-push_unnamed-requires
+sequence_text::push_numbers-push_unnamed-requires t c =
     let ty = c.args.ty in
     let vs = c.args.values.now in
     let i = c.loop-value.value-index in
@@ -77,6 +87,8 @@ sequence_text::push_elements-push_element-requires t c =
     let below = at_most the_size vs i v lies in
     let same = ap the_size c.value-item.is in (
       omega (arith, below, same, c.decreases),
-      subst (λ (S : List Decl). HasType S ty (view v)) (sym c.loop-value.invariant.same)
-          (subst (λ (w : Value). HasType c.args.printer.now ty (view w)) (sym c.value-item.is) (element_typed c.args.printer.now ty vs i v c.requires lies)),
+      (
+        element_here c.args.printer.now ty c.loop-value.printer vs i v c.loop-value.invariant.same c.value-item.is c.requires.typed lies,
+        subst (λ (S : List Decl). enumerators_of S ty.base ≡ None) (sym c.loop-value.invariant.same) c.requires.unnamed,
+      ),
     )
