@@ -92,8 +92,22 @@ impl<'a> Printer<'a> {
         ensures text { OnOk result (string_bytes text.new ≡ string_bytes text.old ++ compact_text (json_number (enumerators_of self.old base) n)) }
     {
         if is_number(base) {
-            return push_digits(n, &mut self.digits, text);
+            push_digits(n, &mut self.digits, text)
+        } else {
+            self.push_named(alloc, base, n, text)
         }
+    }
+
+    fn push_named(
+        &mut self,
+        alloc: Global,
+        base: Base,
+        n: i64,
+        text: &mut String,
+    ) -> Result<(), OutOfMemory>
+        ensures same { self.new ≡ self.old }
+        ensures text { OnOk result (string_bytes text.new ≡ string_bytes text.old ++ compact_text (json_number (enumerators_of self.old base) n)) }
+    {
         match self.names.name(alloc, base, n)? {
             Some(name) => push_quoted(alloc, name.0.as_str(), text),
             None => push_digits(n, &mut self.digits, text),
@@ -102,7 +116,7 @@ impl<'a> Printer<'a> {
 }
 
 // Whether values of a base are numbers that no enumerator names.
-fn is_number(base: Base) -> bool
+pub fn is_number(base: Base) -> bool
     ensures { (S : List Decl) → IsTrue result → enumerators_of S base ≡ None }
 {
     match base {
@@ -111,7 +125,8 @@ fn is_number(base: Base) -> bool
     }
 }
 
-fn push_digits(n: i64, digits: &mut Buffer, text: &mut String) -> Result<(), OutOfMemory>
+#[inline(always)]
+pub fn push_digits(n: i64, digits: &mut Buffer, text: &mut String) -> Result<(), OutOfMemory>
     ensures { OnOk result (string_bytes text.new ≡ string_bytes text.old ++ signed_decimal n) }
 {
     text.push_str(digits.format(n))?;

@@ -1,16 +1,18 @@
-ghost use Rattle.std.specs.Prelude.{◌≡◌, ◌++◌, ◌∷◌, false, OnOk, string_bytes};
+ghost use Rattle.std.specs.Prelude.{◌≡◌, ◌++◌, ◌∷◌, false, None, OnOk, string_bytes};
 ghost use Rattle.serde_json.specs.Written.{items_text};
 ghost use Rattle.aidl_values.specs.Data.{seq};
 ghost use Rattle.aidl_values.specs.HasType.{HasType, HaveType};
-ghost use Rattle.aidl_values.specs.View.{views};
+ghost use Rattle.aidl_values.specs.View.{view, views};
 ghost use Rattle.json_writing.specs.Json.{json_items};
+ghost use Rattle.json_writing.specs.Named.{enumerators_of};
 ghost use Rattle.value_texts.specs.ValueText.{value_text};
 
-use crate::printer::Printer;
+use crate::printer::{Printer, is_number, push_digits};
 use crate::value_text::{push_comma_if, push_value};
 use aidl_base::OutOfMemory;
 use aidl_schema::AidlType;
 use aidl_values::Value;
+use itoa::Buffer;
 use std::alloc::Global;
 
 // Adds an array or a List of a type.
@@ -28,7 +30,58 @@ pub fn push_sequence(
 {
     let ty = printer.element(ty);
     text.push_str("[")?;
-    push_elements(alloc, printer, ty, values, text)
+    if is_number(ty.base) {
+        push_numbers(alloc, printer, ty, values, text)
+    } else {
+        push_elements(alloc, printer, ty, values, text)
+    }
+}
+
+// The same as `push_elements`, for numbers that no enumerator names, of which there may be many: a buffer of digits for all.
+#[cycle(printing)]
+fn push_numbers(
+    alloc: Global,
+    printer: &mut Printer<'_>,
+    ty: AidlType,
+    values: &[Value],
+    text: &mut String,
+) -> Result<(), OutOfMemory>
+    requires typed { HaveType printer.old ty (views values.now) }
+    requires unnamed { enumerators_of printer.old ty.base ≡ None }
+    ensures same { printer.new ≡ printer.old }
+    ensures text { OnOk result (string_bytes text.new ≡ string_bytes text.old ++ items_text false (json_items printer.old ty (views values.now))) }
+{
+    let mut digits = Buffer::new();
+    let mut later = false;
+    for value in values {
+        push_comma_if(later, text)?;
+        push_unnamed(alloc, printer, ty, value, &mut digits, text)?;
+        later = true;
+    }
+    text.push_str("]")?;
+    Ok(())
+}
+
+// Adds one of them.
+#[cycle(printing)]
+#[inline(always)]
+fn push_unnamed(
+    alloc: Global,
+    printer: &mut Printer<'_>,
+    ty: AidlType,
+    value: &Value,
+    digits: &mut Buffer,
+    text: &mut String,
+) -> Result<(), OutOfMemory>
+    requires typed { HasType printer.old ty (view value.now) }
+    requires unnamed { enumerators_of printer.old ty.base ≡ None }
+    ensures same { printer.new ≡ printer.old }
+    ensures text { OnOk result (string_bytes text.new ≡ string_bytes text.old ++ value_text printer.old ty (view value.now)) }
+{
+    match value {
+        Value::Number(n) => push_digits(*n, digits, text),
+        _ => push_value(alloc, printer, ty, value, text),
+    }
 }
 
 // Adds the elements and the bracket behind them.

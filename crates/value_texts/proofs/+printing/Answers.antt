@@ -1,16 +1,16 @@
 use Rattle.std.proofs.Common.{◌≡◌, ◌<◌, ◌++◌, ℕ, List, length, string_bytes, sym, ap, subst, ◌∙◌, append_assoc, arith, rules}
-use Rattle.std.specs.Prelude.{OnOk}
+use Rattle.std.specs.Prelude.{OnOk, None}
+use Rattle.json_values.specs.Named.{enumerators_of}
 use denote.Param.Weighed.{at_most}
 use Rattle.serde_json.specs.Data.{Data}
 use Rattle.serde_json.specs.Written.{compact_text}
 use Rattle.aidl_schema.specs.declared.schema.Decl.{Decl}
-use Rattle.aidl_values.specs.HasType.{HasType, FieldsHaveType}
+use Rattle.aidl_values.specs.HasType.{FieldsHaveType}
 use Rattle.aidl_values.specs.View.{view, views}
-use Rattle.aidl_values.specs.declared.value.Value.{Value}
 use Rattle.aidl_values.proofs.value.Value.TheLaws.{the_size}
 use Rattle.value_texts.specs.ValueText.{value_text}
 use Rattle.value_texts.specs.declared.members.Member.{Member}
-use Rattle.value_texts.proofs.Elements.{element_typed}
+use Rattle.value_texts.proofs.Elements.{element_here}
 use Rattle.value_texts.proofs.Parts.{as_many, part_here, record_text, typed_here}
 use Rattle.value_texts.proofs.Rows.{within_at}
 use Rattle.value_texts.proofs.+printing.Goals as goal
@@ -69,6 +69,16 @@ object_text::push_record-returns-clause-text t c =
 
 pub sequence_text::push_elements-push_value-requires : goal.sequence_text::push_elements-push_value-requires
 sequence_text::push_elements-push_value-requires t c =
+    let vs = c.args.values.now in
+    let i = c.loop-value.value-index in
+    let v = c.value-item.result in
+    let lies : i < length vs = omega arith in
+    let below = at_most the_size vs i v lies in
+    let same = ap the_size c.value-item.is in
+    (omega (arith, below, same, c.decreases), element_here c.args.printer.now c.args.ty c.loop-value.printer vs i v c.loop-value.invariant.same c.value-item.is c.requires lies)
+
+pub sequence_text::push_numbers-push_unnamed-requires : goal.sequence_text::push_numbers-push_unnamed-requires
+sequence_text::push_numbers-push_unnamed-requires t c =
     let ty = c.args.ty in
     let vs = c.args.values.now in
     let i = c.loop-value.value-index in
@@ -77,6 +87,8 @@ sequence_text::push_elements-push_value-requires t c =
     let below = at_most the_size vs i v lies in
     let same = ap the_size c.value-item.is in (
       omega (arith, below, same, c.decreases),
-      subst (λ (S : List Decl). HasType S ty (view v)) (sym c.loop-value.invariant.same)
-          (subst (λ (w : Value). HasType c.args.printer.now ty (view w)) (sym c.value-item.is) (element_typed c.args.printer.now ty vs i v c.requires lies)),
+      (
+        element_here c.args.printer.now ty c.loop-value.printer vs i v c.loop-value.invariant.same c.value-item.is c.requires.typed lies,
+        subst (λ (S : List Decl). enumerators_of S ty.base ≡ None) (sym c.loop-value.invariant.same) c.requires.unnamed,
+      ),
     )
