@@ -1,6 +1,6 @@
 use Rattle.std.proofs.Common.{◌≡◌, ◌<◌, ◌++◌, ℕ, List, length, string_bytes, sym, ap, subst, ◌∙◌, append_assoc, arith, rules}
 use Rattle.std.specs.Prelude.{OnOk, None}
-use Rattle.json_values.specs.Named.{enumerators_of}
+use Rattle.json_writing.specs.Named.{enumerators_of}
 use denote.Param.Weighed.{at_most}
 use Rattle.serde_json.specs.Data.{Data}
 use Rattle.serde_json.specs.Written.{compact_text}
