@@ -1,7 +1,6 @@
-ghost use Rattle.std.specs.Prelude.{◌≡◌, ◌++◌, IsTrue, None, List, IfOk, OnOk, string_bytes};
+ghost use Rattle.std.specs.Prelude.{◌≡◌, ◌++◌, IfOk, OnOk, string_bytes};
 ghost use Rattle.std.specs.Fmt.{signed_decimal};
 ghost use Rattle.serde_json.specs.Written.{compact_text};
-ghost use Rattle.aidl_schema.specs.declared.schema.Decl.{Decl};
 ghost use Rattle.aidl_schema.specs.Types.{elem, form_of};
 ghost use Rattle.json_writing.specs.Json.{json_number};
 ghost use Rattle.json_writing.specs.Named.{enumerators_of, fields_in};
@@ -91,23 +90,6 @@ impl<'a> Printer<'a> {
         ensures same { self.new ≡ self.old }
         ensures text { OnOk result (string_bytes text.new ≡ string_bytes text.old ++ compact_text (json_number (enumerators_of self.old base) n)) }
     {
-        if is_number(base) {
-            push_digits(n, &mut self.digits, text)
-        } else {
-            self.push_named(alloc, base, n, text)
-        }
-    }
-
-    fn push_named(
-        &mut self,
-        alloc: Global,
-        base: Base,
-        n: i64,
-        text: &mut String,
-    ) -> Result<(), OutOfMemory>
-        ensures same { self.new ≡ self.old }
-        ensures text { OnOk result (string_bytes text.new ≡ string_bytes text.old ++ compact_text (json_number (enumerators_of self.old base) n)) }
-    {
         match self.names.name(alloc, base, n)? {
             Some(name) => push_quoted(alloc, name.0.as_str(), text),
             None => push_digits(n, &mut self.digits, text),
@@ -115,16 +97,7 @@ impl<'a> Printer<'a> {
     }
 }
 
-// Whether values of a base are numbers that no enumerator names.
-pub fn is_number(base: Base) -> bool
-    ensures { (S : List Decl) → IsTrue result → enumerators_of S base ≡ None }
-{
-    match base {
-        Base::Byte | Base::Char | Base::Int | Base::Long => true,
-        Base::Boolean | Base::Text | Base::Named(_) => false,
-    }
-}
-
+// Adds a number in decimal digits.
 #[inline(always)]
 pub fn push_digits(n: i64, digits: &mut Buffer, text: &mut String) -> Result<(), OutOfMemory>
     ensures { OnOk result (string_bytes text.new ≡ string_bytes text.old ++ signed_decimal n) }

@@ -1,5 +1,6 @@
-ghost use Rattle.std.specs.Prelude.{◌≡◌, ◌++◌, ◌∷◌, false, None, OnOk, string_bytes};
+ghost use Rattle.std.specs.Prelude.{◌≡◌, ◌++◌, ◌∷◌, false, IsTrue, None, List, OnOk, string_bytes};
 ghost use Rattle.serde_json.specs.Written.{items_text};
+ghost use Rattle.aidl_schema.specs.declared.schema.Decl.{Decl};
 ghost use Rattle.aidl_values.specs.Data.{seq};
 ghost use Rattle.aidl_values.specs.HasType.{HasType, HaveType};
 ghost use Rattle.aidl_values.specs.View.{view, views};
@@ -7,10 +8,10 @@ ghost use Rattle.json_writing.specs.Json.{json_items};
 ghost use Rattle.json_writing.specs.Named.{enumerators_of};
 ghost use Rattle.value_texts.specs.ValueText.{value_text};
 
-use crate::printer::{Printer, is_number, push_digits};
+use crate::printer::{Printer, push_digits};
 use crate::value_text::{push_comma_if, push_value};
 use aidl_base::OutOfMemory;
-use aidl_schema::AidlType;
+use aidl_schema::{AidlType, Base};
 use aidl_values::Value;
 use itoa::Buffer;
 use std::alloc::Global;
@@ -34,6 +35,16 @@ pub fn push_sequence(
         push_numbers(alloc, printer, ty, values, text)
     } else {
         push_elements(alloc, printer, ty, values, text)
+    }
+}
+
+// Whether values of a base are numbers that no enumerator names.
+fn is_number(base: Base) -> bool
+    ensures { (S : List Decl) → IsTrue result → enumerators_of S base ≡ None }
+{
+    match base {
+        Base::Byte | Base::Char | Base::Int | Base::Long => true,
+        Base::Boolean | Base::Text | Base::Named(_) => false,
     }
 }
 
