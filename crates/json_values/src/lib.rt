@@ -1,4 +1,4 @@
-//! JSON as values, by the types of a schema.
+//! Values as JSON, and JSON as values, by the types of a schema.
 #![tactic(auto)]
 
 mod enumerators;
@@ -13,5 +13,6 @@ mod sequences;
 mod unions;
 
 pub use fault::JsonFault;
+pub use json_writing::to_json;
 pub use laws::law_json_reads_back;
 pub use reading::from_json;

@@ -1,4 +1,4 @@
-//! Values: the default of a parcelable with an initializer, and the copy and the depth of values. Schemas: look-ups, and what the
+//! Values: the default of a parcelable with an initializer, its JSON, and the copy and the depth of values. Schemas: look-ups, and what the
 //! judge says of a declaration that goes.
 
 ghost use Rattle.std.specs.Prelude.{◌≡◌, false, IfOk};
@@ -11,6 +11,7 @@ use aidl_schema::{
 };
 use aidl_values::{Value, default_of, depth, has_type, initial_of, law_one_default, law_sound};
 use compat_judge::judge;
+use json_values::to_json;
 use std::alloc::Global;
 use std::test::Fail;
 
@@ -86,6 +87,8 @@ fn the_default_has_the_initializer(rt: HostRuntime) -> Result<(), Fail> {
     for value in [&value, &copy] {
         assert!(rt; has_type(&schema, &ty, value));
         assert_eq!(rt; depth(value), 1);
+        let json = to_json(rt.alloc(), &schema, &ty, value)?;
+        assert_eq!(rt; json.to_string(rt.alloc())?.as_str(), r#"{"a":0,"s":"x"}"#);
         let Value::Rec(items) = value else {
             return Err("no record")?;
         };
