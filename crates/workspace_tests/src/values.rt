@@ -1,5 +1,5 @@
-//! Values: the default of a parcelable with an initializer, its JSON, and the copy and the depth of values. Schemas: look-ups, and what the
-//! judge says of a declaration that goes.
+//! Values: the default of a parcelable with an initializer, its JSON, and the copy and the depth of values. Schemas: look-ups,
+//! and what the judge says of a declaration that goes.
 
 ghost use Rattle.std.specs.Prelude.{◌≡◌, false, IfOk};
 ghost use Rattle.std.specs.Str.{chars};
