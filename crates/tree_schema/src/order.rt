@@ -11,7 +11,7 @@ use std::alloc::Global;
 use std::collections::BTreeMap;
 
 /// The declarations of a tree in the order of a schema: by the bytes of their canonical names.
-#[tactic(auto, unfolding(crate::specs::Numbers::sorted))]
+#[tactic(auto, unfolding(schema_parts::specs::Numbers::sorted))]
 pub fn sorted<'a, 'b>(
     alloc: Global,
     found: &'a [Found<'b>],
