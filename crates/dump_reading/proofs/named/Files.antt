@@ -18,7 +18,7 @@ use Rattle.aidl_syntax.specs.Sources.{Source}
 use Rattle.declared_names.specs.Declarations.{declarations}
 use Rattle.aidl_names.specs.Rules as rules
 use Rattle.aidl_names.specs.Rules.{wrong_file, is_wrong_file, WrongFile, unknown_imports, UnknownImport, other_imports}
-use Rattle.declared_names.specs.Numbered.{in_each}
+use Rattle.declared_names.specs.Numbered.{after_earlier, in_each}
 use Rattle.aidl_schema.specs.declared.schema.Decl.{Decl}
 use Rattle.aidl_schema.specs.Holds.{AllHold}
 use Rattle.aidl_schema.specs.Names.{last_part, without_last}
@@ -106,5 +106,5 @@ module _ (S : List Decl) (H : AllHold S) where
   files_stand ss h = (
     no_wrong_file 0 (dump_text S) ss h,
     no_import (unknown_imports (declarations ss)) (λ n s e. ap (λ is. map (λ i. rules.breach 3 n i.offset) (filter (λ i. is_none (number_of (declarations ss) i.name.0)) is)) e) 0 (dump_text S) ss h,
-    no_import other_imports (λ n s e. ap (λ is. map (λ i. rules.breach 2 n i.offset) (rules.after_earlier rules.is_other_import [] is)) e) 0 (dump_text S) ss h,
+    no_import other_imports (λ n s e. ap (λ is. map (λ i. rules.breach 2 n i.offset) (after_earlier rules.is_other_import [] is)) e) 0 (dump_text S) ss h,
   )
