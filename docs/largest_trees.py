@@ -102,6 +102,14 @@ def two_imports_each(tree, n):
         put(tree, f"P{i}", f"import a.B; import b.B; parcelable P{i} {{ B b; }}")
 
 
+def joined(tree, n):
+    names = [f"C{j}" for j in range(n)]
+    for i in range(n):
+        put(f"{tree}/q{i}", "B", parcelable("B", (f"parcelable {c} {{}}" for c in names)), f"package q{i}.m; ")
+        used = "".join(f"import a{i}.p{k}.B;" for k in range(n)) + parcelable(f"P{i}", (f"B.{c} f{c};" for c in names))
+        put(tree, f"P{i}", used)
+
+
 KINDS = [
     (fields, 490),
     (files, 4096),
@@ -118,6 +126,7 @@ KINDS = [
     (declared_behind_imports, 4000),
     (one_name_behind_imports, 4000),
     (two_imports_each, 4000),
+    (joined, 120),
 ]
 
 for make, most in KINDS:
