@@ -2,8 +2,7 @@
 #![tactic(auto)]
 
 use aidl_tool::aidl;
-use host_outside::{FolderStore, StdoutSink};
-use memory_outside::PassLink;
+use host_outside::{FolderStore, PassLink, StdoutSink};
 use std::io::ErrorKind;
 use std::process::ExitCode;
 use std::{env, io};

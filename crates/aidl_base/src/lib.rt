@@ -19,7 +19,7 @@ pub use constant::Const;
 pub use identifiers::{is_identifier, is_letter, is_word_byte};
 pub use limit::{Limit, LimitName};
 pub use memory::OutOfMemory;
-pub use name::{DottedName, Ident};
+pub use name::{DottedName, Ident, joined_by_dots};
 pub use profile::Profile;
 pub use range::Range;
 pub use reserved::{Reserved, reserved_of};

@@ -1,5 +1,10 @@
+ghost use Rattle.std.specs.Prelude.{◌≡◌, ◌∷◌, IfOk};
+ghost use Rattle.aidl_base.specs.Names.{dotted};
+
+use crate::OutOfMemory;
 use crate::row::Row;
 use crate::text::Text;
+use std::alloc::Global;
 
 /// An identifier.
 #[derive(Debug, Drop)]
@@ -8,3 +13,24 @@ pub struct Ident(pub Text);
 /// Identifiers joined by dots, as the name of a package or of a declaration.
 #[derive(Debug, Drop)]
 pub struct DottedName(pub Row<Ident>);
+
+/// The parts of a name joined by dots, as text.
+pub fn joined_by_dots(alloc: Global, parts: &[Ident]) -> Result<Text, OutOfMemory>
+    ensures { IfOk result (λ text. text ≡ dotted parts.now) }
+{
+    match parts {
+        [] => Ok(Text::empty(alloc)),
+        [first, others @ ..] => joined(alloc, first, others),
+    }
+}
+
+fn joined(alloc: Global, first: &Ident, others: &[Ident]) -> Result<Text, OutOfMemory>
+    ensures { IfOk result (λ text. text ≡ dotted (first.now ∷ others.now)) }
+{
+    let mut text = String::from_str(alloc, first.0.as_str())?;
+    for part in others {
+        text.push('.')?;
+        text.push_str(part.0.as_str())?;
+    }
+    Ok(Text::from_string(text))
+}

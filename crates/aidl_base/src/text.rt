@@ -37,6 +37,13 @@ impl Text {
         self.text.as_str()
     }
 
+    /// The string of a text, in UTF-8. It takes no memory.
+    pub fn into_string(self) -> String
+        ensures { string_bytes result ≡ encode_utf8_all self }
+    {
+        self.text
+    }
+
     /// The empty text. It takes no memory.
     pub fn empty(alloc: Global) -> Text
         ensures { result ≡ [] }

@@ -1,5 +1,6 @@
-pub mod Classes
-pub mod Moving
-pub mod Loop
-pub mod Runs
-pub mod meaning
+mod Classes
+mod Loop
+mod Moving
+mod Runs
+pub mod lemmas
+mod meaning

@@ -2,5 +2,4 @@ pub mod Found
 pub mod Told
 pub mod Standing
 pub mod Whole
-pub mod OneLexing
 pub mod Answered

@@ -13,10 +13,10 @@ use Rattle.declared_names.specs.Names.{text, same, last}
 use Rattle.aidl_names.specs.Rules.{is_other_import}
 use Rattle.declared_names.specs.Marks.{mark_of, mark_of_last}
 use Rattle.aidl_names.specs.Alike.{is_alike}
-use Rattle.declared_names.proofs.Earlier.{take-next}
-use Rattle.declared_names.proofs.Firsts.{found_from, found-passes, found-first, any-at, position-same}
-use Rattle.declared_names.proofs.SameNames.{same-self, same-right, same-turned, same-texts}
-use Rattle.name_meanings.proofs.Tables.{same_marks}
+use Rattle.declared_names.proofs.lemmas.Earlier.{take-next}
+use Rattle.declared_names.proofs.lemmas.Firsts.{found_from, found-passes, found-first, any-at, position-same}
+use Rattle.declared_names.proofs.lemmas.SameNames.{same-self, same-right, same-turned, same-texts}
+use Rattle.name_meanings.proofs.lemmas.Tables.{same_marks}
 
 -- imports with the same last part have the same mark
 pub alike_marks : (name : List Ident) (i : DottedTree) → is_alike name i ≡ true → nat_eq (mark_of (last name)) (mark_of_last i) ≡ true

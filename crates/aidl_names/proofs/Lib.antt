@@ -1,4 +1,4 @@
 mod Alike
 mod Examples
 mod Orders
-pub mod Taken
+pub mod lemmas

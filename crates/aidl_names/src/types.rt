@@ -1,6 +1,6 @@
 ghost use Rattle.std.specs.Prelude.{◌≡◌, ◌≤◌, ◌++◌, map, length, OnOk};
 ghost use Rattle.aidl_syntax.specs.Members.{body};
-ghost use Rattle.aidl_syntax.specs.Trees.{body_of, decl_of};
+ghost use Rattle.aidl_syntax.specs.Trees.{decl_of};
 ghost use Rattle.aidl_syntax.specs.Sources.{source_of};
 ghost use Rattle.declared_names.specs.Declarations.{declarations};
 ghost use Rattle.aidl_names.specs.Rules.{UnknownType, LeftOutType, types_in, types_where, is_left_out, is_interface, is_interface_body};
@@ -190,13 +190,7 @@ fn is_interface(found: &[Found<'_>], number: u32) -> bool
 fn is_interface_tree(tree: &DeclTree) -> bool
     ensures { result ≡ is_interface_body (body (decl_of tree.now)) }
 {
-    is_interface_body(&tree.body)
-}
-
-fn is_interface_body(body: &BodyTree) -> bool
-    ensures { result ≡ is_interface_body (body_of body.now) }
-{
-    match body {
+    match &tree.body {
         BodyTree::Parcelable(_) => false,
         BodyTree::Union(_) => false,
         BodyTree::Enum(_) => false,

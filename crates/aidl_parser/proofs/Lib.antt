@@ -1,7 +1,8 @@
-pub mod Looping
-pub mod Rounds
-pub mod Files
-pub mod MemberRounds
-pub mod Found
-pub mod Told
-pub mod productions
+mod Files
+mod Found
+mod Looping
+mod MemberRounds
+mod Rounds
+mod Told
+pub mod lemmas
+mod productions

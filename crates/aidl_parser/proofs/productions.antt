@@ -6,4 +6,3 @@ pub mod Fields
 pub mod Bodies
 pub mod Decls
 pub mod WholeFiles
-pub mod Parses

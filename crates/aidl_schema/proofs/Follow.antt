@@ -29,9 +29,9 @@ use Rattle.aidl_schema.specs.Valid.{has_initializer_of}
 use Rattle.aidl_schema.specs.Broken.{same_name, same_method, same_enumerator, same_constant, is_there_and, is_kept, kind_code, parcelable_fields, union_fields, fields_with_default, same_const, default_by, zero_in, zero_of, same_default, is_one_value, has_composite_default, is_enum_without_zero, is_refused_addition, same_marks, same_result, same_result_marks}
 use Rattle.aidl_schema.specs.Unbroken.{Has, AreBoth, AtEach, is_same_default, Unbroken}
 use Rattle.aidl_schema.proofs.SameConst.{same_const_is}
-use Rattle.aidl_schema.proofs.Sames.{same_text_is, same_text_refl, same_idents_is, same_trans}
+use Rattle.aidl_schema.proofs.lemmas.Sames.{same_text_is, same_text_refl, same_idents_is, same_trans}
 use Rattle.std.specs.Prelude.{is_none}
-use Rattle.aidl_base.proofs.Tests.{both}
+use Rattle.aidl_base.proofs.lemmas.Tests.{both}
 
 -- numbers and truth values
 pub eq_is : (m n : ℕ) → (m == n) ≡ true → m ≡ n

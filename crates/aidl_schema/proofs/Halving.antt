@@ -15,15 +15,15 @@ use Rattle.aidl_base.specs.declared.name.Ident.{Ident}
 use Rattle.aidl_base.specs.Identifiers.{is_identifier, is_letter, is_word_byte, begins}
 use Rattle.aidl_base.specs.Names.{dotted}
 use Rattle.aidl_base.specs.Reserved.{reserved_of}
-use Rattle.aidl_base.proofs.Tests.{both}
-use Rattle.aidl_schema.proofs.Orders.{tied}
+use Rattle.aidl_base.proofs.lemmas.Tests.{both}
+use Rattle.aidl_schema.proofs.lemmas.Orders.{tied}
 use Rattle.std.proofs.lemmas.Option.{slice_get-map, slice_get_within, get_or_from_slice_get}
 use Rattle.aidl_schema.specs.declared.schema.Decl.{Decl}
 use Rattle.aidl_schema.specs.Find.{number_of_name}
 use Rattle.aidl_schema.specs.Holds.{AreApart, AllHold}
 use Rattle.aidl_schema.specs.Names.{name_of, is_name, has_part, are_identifiers, is_type_word, last_part}
 use Rattle.aidl_schema.specs.Same.{same_text}
-use Rattle.aidl_schema.proofs.Sames.{same_text_is}
+use Rattle.aidl_schema.proofs.lemmas.Sames.{same_text_is}
 
 module _ {X : Type 0} (p : X → Bool) where
   found_from : (xs : List X) (k i : ℕ) (x : X) → slice_get xs i ≡ Some x → p x ≡ true → ((j : ℕ) (y : X) → slice_get xs j ≡ Some y → p y ≡ true → j ≡ i) → position_from p k xs ≡ Some (k + i)

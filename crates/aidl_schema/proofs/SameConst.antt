@@ -5,8 +5,8 @@ use Rattle.aidl_base.specs.declared.constant.Const.{Const, out-Const, roll-Const
 use Rattle.aidl_base.specs.declared.constant.Const.TheOpen.{Const-F}
 use Rattle.aidl_schema.specs.Same.{same_bool}
 use Rattle.aidl_schema.specs.Broken.{pass_each, same_level, same_const}
-use Rattle.aidl_schema.proofs.Sames.{same_text_is, same_text_refl}
-use Rattle.aidl_base.proofs.Tests.{both}
+use Rattle.aidl_schema.proofs.lemmas.Sames.{same_text_is, same_text_refl}
+use Rattle.aidl_base.proofs.lemmas.Tests.{both}
 
 same_bool_is : (a b : Bool) → same_bool a b ≡ true → a ≡ b
 same_bool_is true true h = refl

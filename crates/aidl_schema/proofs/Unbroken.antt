@@ -12,7 +12,7 @@ use Rattle.aidl_schema.specs.Same.{same_text, same_bool, same, base_code}
 use Rattle.aidl_schema.specs.Names.{methods_of, enumerators_of}
 use Rattle.aidl_schema.specs.Broken.{Break, Rule, Place, whole, member, argument, places, place_if, same_name, same_method, same_enumerator, same_constant, is_kept, in_both, kind_code, backing_code, parcelable_fields, union_fields, fields_with_default, way_code, at_methods, at_arguments_of, at_arguments, at_fields, same_const, default_in, same_default, has_composite_default, is_refused_addition, same_marks, same_result, same_result_marks, of_rule, rules, if_found, broken_by, breaks, broken, C1, C2, C3, C4, C5, C6, C7, C8, C9, C10, C11, C12, C13, C14, C15, C16, C17, C18, C19}
 use Rattle.aidl_schema.specs.Unbroken.{Has, AreBoth, AtEach, OfMethods, Follows, Unbroken}
-use Rattle.aidl_schema.proofs.Places.{both_empty, joined, each_empty, all_empty, none, no_places, not_here, nowhere, not_false, not_true, of_none, none_of, unsorted, sorted, zipped, unzipped, numbered, unnumbered, dropped, undropped, have_both, are_both}
+use Rattle.aidl_schema.proofs.lemmas.Places.{both_empty, joined, each_empty, all_empty, none, no_places, not_here, nowhere, not_false, not_true, of_none, none_of, unsorted, sorted, zipped, unzipped, numbered, unnumbered, dropped, undropped, have_both, are_both}
 
 -- a test of methods, of arguments, of fields
 methods_pass : (test : Method → Method → Bool) (d e : Decl) → at_methods (λ m w. not (test m w)) d e ≡ [] → OfMethods d e (λ m w. test m w ≡ true)

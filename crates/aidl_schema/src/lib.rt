@@ -11,7 +11,7 @@ pub use laws::{
     law_chain, law_default_sizes, law_holds_itself, law_same, law_same_types, law_unbroken,
     law_valid,
 };
-pub use meaning::{Form, element, form_in, is_in_range, is_raw, is_type};
+pub use meaning::{Form, element, form_in, is_array, is_in_range, is_raw, is_type};
 pub use schema::{
     AidlType, Arg, Backing, Base, Constant, Decl, Direction, Enumerator, Field, Kind, Method,
     Schema, Shape,

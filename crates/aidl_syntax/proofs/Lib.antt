@@ -1,4 +1,4 @@
-mod Rising
 mod Cutting
+mod Rising
 mod Walking
-pub mod Leaves
+pub mod lemmas

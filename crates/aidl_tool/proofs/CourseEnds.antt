@@ -14,8 +14,8 @@ use Rattle.tool_frame.specs.Course.{Course}
 use Rattle.tool_frame.specs.Ended.{Ended}
 use Rattle.tool_frame.specs.Meaning.{carries_by}
 use Rattle.tool_frame.specs.Seen.{Seen}
-use Rattle.tool_frame.proofs.Courses.{ended_carried, ended_early, with_store}
-use Rattle.tool_frame.proofs.Loaded.{tells}
+use Rattle.tool_frame.proofs.lemmas.Courses.{ended_carried, ended_early, with_store}
+use Rattle.tool_frame.proofs.lemmas.Loaded.{tells}
 
 -- what is seen without the store
 abbrev pub alone : Seen → Seen

@@ -1,11 +1,7 @@
-pub mod Acting
-pub mod Checks
-pub mod CourseEnds
-pub mod Held
-pub mod JudgesOne
-pub mod Kept
-pub mod Lacking
-pub mod OneTree
-pub mod Opened
-pub mod RunsOne
-pub mod Takes
+mod Acting
+mod CourseEnds
+mod Held
+mod Kept
+mod Lacking
+mod Takes
+mod schemas

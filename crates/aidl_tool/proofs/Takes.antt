@@ -9,7 +9,7 @@ use Rattle.tool_frame.specs.declared.printed.Early.TheVariants.{Answered, OutOfM
 use Rattle.tool_frame.specs.Answer.{Found}
 use Rattle.tool_frame.specs.Course.{Course, at_once}
 use Rattle.tool_frame.specs.steps.Ends.{PrintsGiven}
-use Rattle.tool_frame.proofs.Courses.{ran_printed}
+use Rattle.tool_frame.proofs.lemmas.Courses.{ran_printed}
 use Rattle.tool_frame.specs.Seen.{Seen}
 use Rattle.tool_frame.specs.Trees.{TreeFile}
 use Rattle.tool_frame.specs.steps.Results.{Finds, printed}

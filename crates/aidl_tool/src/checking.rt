@@ -45,7 +45,7 @@ fn answered<S: Store>(
 }
 
 // What is answered of a tree that was loaded.
-#[tactic(auto, using(tool_frame::proofs::EarlyEnds::over_ends, tool_frame::proofs::EarlyEnds::over_goes))]
+#[tactic(auto, using(tool_frame::proofs::lemmas::EarlyEnds::over_ends, tool_frame::proofs::lemmas::EarlyEnds::over_goes))]
 fn answer_of(
     alloc: Global,
     root: &str,

@@ -82,7 +82,7 @@ fn answered_of<S: Store>(
 }
 
 // What is answered of the file without a tree.
-#[tactic(auto, using(tool_frame::proofs::EarlyEnds::then_ends, tool_frame::proofs::EarlyEnds::then_goes, tool_frame::proofs::Endings::gives_one))]
+#[tactic(auto, using(tool_frame::proofs::lemmas::EarlyEnds::then_ends, tool_frame::proofs::lemmas::EarlyEnds::then_goes, tool_frame::proofs::lemmas::Endings::gives_one))]
 fn answer_alone(
     alloc: Global,
     profile: Profile,
@@ -97,7 +97,7 @@ fn answer_alone(
 }
 
 // What is answered of the file in a tree that was loaded.
-#[tactic(auto, using(tool_frame::proofs::EarlyEnds::over_ends, tool_frame::proofs::EarlyEnds::over_goes))]
+#[tactic(auto, using(tool_frame::proofs::lemmas::EarlyEnds::over_ends, tool_frame::proofs::lemmas::EarlyEnds::over_goes))]
 fn answer_in(
     alloc: Global,
     profile: Profile,
@@ -113,7 +113,7 @@ fn answer_in(
 }
 
 // What is answered of the file by the files of a tree.
-#[tactic(auto, using(tool_frame::proofs::EarlyEnds::then_ends, tool_frame::proofs::EarlyEnds::then_goes, crate::proofs::Checks::checked_ends, crate::proofs::Checks::checked_goes))]
+#[tactic(auto, using(tool_frame::proofs::lemmas::EarlyEnds::then_ends, tool_frame::proofs::lemmas::EarlyEnds::then_goes, crate::proofs::schemas::Checks::checked_ends, crate::proofs::schemas::Checks::checked_goes))]
 fn answer_of_files(
     alloc: Global,
     profile: Profile,

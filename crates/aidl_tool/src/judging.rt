@@ -79,7 +79,7 @@ fn answered_of_second<S: Store>(
 }
 
 // What is answered of trees that were loaded.
-#[tactic(auto, using(tool_frame::proofs::EarlyEnds::over_ends, tool_frame::proofs::EarlyEnds::over_goes))]
+#[tactic(auto, using(tool_frame::proofs::lemmas::EarlyEnds::over_ends, tool_frame::proofs::lemmas::EarlyEnds::over_goes))]
 fn answer_of(
     alloc: Global,
     old: &str,

@@ -26,7 +26,7 @@ pub fn open<S: Store>(
 }
 
 // The same of a tree that was loaded.
-#[tactic(auto, using(crate::proofs::Opened::opens_early, crate::proofs::Opened::opens_files))]
+#[tactic(auto, using(crate::proofs::schemas::Opened::opens_early, crate::proofs::schemas::Opened::opens_files))]
 fn open_loaded(
     alloc: Global,
     root: &str,

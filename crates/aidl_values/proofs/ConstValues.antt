@@ -12,7 +12,7 @@ use Rattle.aidl_schema.specs.declared.schema.AidlType.{AidlType}
 use Rattle.aidl_schema.specs.Constants.{is_single, is_constant_of, are_members, is_initializer_of}
 use Rattle.aidl_schema.specs.Sizes.{greatest_of, const_depth, const_depth_step, const_nodes, const_nodes_step}
 use Rattle.aidl_schema.specs.Types.{is_one}
-use Rattle.aidl_base.proofs.Tests.{both}
+use Rattle.aidl_base.proofs.lemmas.Tests.{both}
 use Rattle.aidl_values.specs.Data.{Data, truth, number, text, seq, depth_of, greatest}
 use Rattle.aidl_values.specs.Default.{const_step, const_value}
 use Rattle.aidl_values.specs.Nodes.{nodes_of, nodes_in}

@@ -19,7 +19,7 @@ use Rattle.aidl_schema.specs.Types as form
 use Rattle.aidl_schema.specs.Holds.{AllHold}
 use Rattle.aidl_schema.specs.Methods.{is_field_type}
 use Rattle.aidl_schema.specs.Valid.{has_initializer_of, is_union_whole, are_union_fields}
-use Rattle.aidl_base.proofs.Tests.{both}
+use Rattle.aidl_base.proofs.lemmas.Tests.{both}
 use Rattle.aidl_values.specs.Data.{Data, null, seq, Items, none, depth_of, greatest}
 use Rattle.aidl_values.specs.Default.{IsZero, AreInitial, const_value, zero_by, zero_of_form, zero_within, initial_or, initials_by}
 use Rattle.aidl_values.specs.HasType.{HasType, FieldsHaveType}

@@ -1,10 +1,7 @@
-pub mod ConstValues
-pub mod Defaults
-pub mod Fronts
-pub mod Greatest
-pub mod Levels
-pub mod OneZero
-pub mod Parts
-pub mod Sounds
-pub mod Typed
-pub mod TypeTests
+mod ConstValues
+mod Defaults
+mod Greatest
+mod Parts
+mod TypeTests
+mod Typed
+pub mod lemmas

@@ -13,16 +13,16 @@ use Rattle.aidl_schema.specs.Types.{is_type}
 use Rattle.aidl_schema.specs.Holds.{AllHold}
 use Rattle.aidl_schema.specs.Methods.{is_field_type}
 use Rattle.aidl_schema.specs.Valid.{has_initializer_of}
-use Rattle.aidl_base.proofs.Tests.{all_at}
+use Rattle.aidl_base.proofs.lemmas.Tests.{all_at}
 use Rattle.aidl_values.specs.Data.{Data, depth_of}
 use Rattle.aidl_values.specs.Default.{IsZero, IsInitial, const_value}
 use Rattle.aidl_values.specs.HasType.{HasType}
 use Rattle.aidl_values.specs.Nodes.{nodes_of}
 use Rattle.aidl_values.specs.Sound.{IsPartOf}
 use Rattle.aidl_values.proofs.ConstValues.{sized}
-use Rattle.aidl_values.proofs.Levels.{depth_within-suc, nodes_within-suc}
+use Rattle.aidl_values.proofs.lemmas.Levels.{depth_within-suc, nodes_within-suc}
 use Rattle.aidl_values.proofs.Defaults.{parcelable_whole, field_type}
-use Rattle.aidl_values.proofs.Sounds.{small, default_there, one_default}
+use Rattle.aidl_values.proofs.lemmas.Sounds.{small, default_there, one_default}
 use Rattle.aidl_values.proofs.Typed.{typed}
 
 pub record IsSmall (S : List Decl) (t : AidlType) (v : Data) : Type 0 where

@@ -5,7 +5,7 @@ use Rattle.aidl_schema.specs.declared.schema.Field.{Field}
 use Rattle.aidl_schema.specs.declared.schema.AidlType.{AidlType}
 use Rattle.aidl_schema.specs.Types.{Form, form_of, is_one, elem}
 use Rattle.aidl_schema.specs.Types as form
-use Rattle.aidl_base.proofs.Tests.{and_false, both, flipped}
+use Rattle.aidl_base.proofs.lemmas.Tests.{and_false, both, flipped}
 use Rattle.aidl_values.specs.Data.{Data, null, truth, number, text, seq, rec, alt, Items, none, item}
 use Rattle.aidl_values.specs.HasType.{HasType, HaveType, FieldsHaveType}
 use Rattle.aidl_values.specs.steps.TypeTest.{is_truth_form, is_text_form, of_parcelable, of_union, of_field, has_type_of, all_have_type, fields_have_type}

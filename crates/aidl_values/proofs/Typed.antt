@@ -21,7 +21,7 @@ use Rattle.aidl_schema.specs.Types.{form_of, form_of_kind, form_of_decl, is_one,
 use Rattle.aidl_schema.specs.Types as form
 use Rattle.aidl_schema.specs.Holds.{AllHold}
 use Rattle.aidl_schema.specs.Valid.{is_enum_whole}
-use Rattle.aidl_base.proofs.Tests.{both}
+use Rattle.aidl_base.proofs.lemmas.Tests.{both}
 use Rattle.aidl_values.specs.Default.{const_value}
 use Rattle.aidl_values.specs.HasType.{HasType, HaveType}
 use Rattle.aidl_values.specs.View.{items_of}

@@ -1,3 +1,3 @@
 mod Packages
-pub mod Placing
+mod Placing
 mod Examples

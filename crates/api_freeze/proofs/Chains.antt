@@ -8,11 +8,11 @@ use Rattle.aidl_outside.specs.Told.{Tells}
 use Rattle.aidl_schema.specs.declared.schema.Decl.{Decl}
 use Rattle.aidl_schema.specs.Broken.{broken}
 use Rattle.aidl_schema.specs.Valid.{IsValid}
-use Rattle.aidl_schema.proofs.BrokenChain.{chain}
-use Rattle.aidl_schema.proofs.BrokenSelf.{distinct_names}
-use Rattle.aidl_schema.proofs.Valids.{all_hold, decls_apart}
+use Rattle.aidl_schema.proofs.lemmas.BrokenChain.{chain}
+use Rattle.aidl_schema.proofs.lemmas.BrokenSelf.{distinct_names}
+use Rattle.aidl_schema.proofs.lemmas.Valids.{all_hold, decls_apart}
 use Rattle.type_check.specs.Checked.{IsSchemaOf}
-use Rattle.type_check.proofs.ValidOf.{schema_valid}
+use Rattle.type_check.proofs.lemmas.ValidOf.{schema_valid}
 use Rattle.api_versions.specs.declared.fault.FreezeFault.{FreezeFault}
 use Rattle.api_versions.specs.declared.version.Version.{Version}
 use Rattle.api_freeze.specs.declared.freezing.Frozen.{Frozen}

@@ -1,4 +1,4 @@
-pub mod Chains
-pub mod Files
-pub mod Numbered
-pub mod Untold
+mod Chains
+mod Files
+mod Numbered
+mod Untold

@@ -1,2 +1,2 @@
-pub mod Orders
-pub mod Sorting
+mod Orders
+mod Sorting

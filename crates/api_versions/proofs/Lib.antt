@@ -1,10 +1,10 @@
 mod Examples
-pub mod Adding
-pub mod Ascending
-pub mod Collected
-pub mod Gathered
-pub mod Kept
-pub mod Loaded
-pub mod Numbers
-pub mod Steps
-pub mod Writing
+mod Adding
+mod Ascending
+mod Collected
+mod Gathered
+mod Kept
+mod Loaded
+mod Numbers
+mod Steps
+mod Writing

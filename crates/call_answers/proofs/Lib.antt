@@ -1,7 +1,7 @@
-pub mod Entries
-pub mod Examples
-pub mod Fronts
-pub mod Members
-pub mod Outs
-pub mod Passed
-pub mod ThrownFits
+mod Entries
+mod Examples
+mod Fronts
+mod Members
+mod Outs
+mod Passed
+mod ThrownFits

@@ -16,7 +16,7 @@ use Rattle.aidl_values.specs.Data.{Data, Items, none, item}
 use Rattle.aidl_values.specs.Default.{zero_within}
 use Rattle.aidl_values.specs.View.{items_of}
 use Rattle.json_values.specs.FromJson.{from_json_of, is_null}
-use Rattle.json_values.specs.Refusal.{escaped}
+use Rattle.json_faults.specs.Refusal.{escaped}
 use Rattle.wire_model.specs.Calls.{AnswerData, returned, exception, is_oneway, out_types, result_type}
 use Rattle.wire_model.specs.Requests.{service_specific}
 use Rattle.call_answers.specs.declared.refused.RefusedName.TheVariants.{WrongShape, OutOfRange, UnknownKey}

@@ -1,6 +1,6 @@
 -- How what a step of the code answers stands to the definition.
 use Rattle.std.specs.Prelude.{◌≡◌, ℕ, List, [], ◌++◌, Option, Some, None, Result, Ok, Err, string_bytes}
-use Rattle.json_values.specs.Refusal as json
+use Rattle.json_faults.specs.Refusal as json
 use Rattle.call_answers.specs.declared.refused.Fault.{Fault}
 use Rattle.call_answers.specs.declared.refused.Fault.TheVariants.{Refused, OutOfMemory}
 use Rattle.call_answers.specs.declared.refused.Place.{Place}

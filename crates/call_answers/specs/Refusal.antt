@@ -2,7 +2,7 @@
 use Rattle.std.specs.Prelude.{ℕ, ⊤, Bool, true, false, List, ◌++◌, Result, Ok, Err, codes, decimal}
 use Rattle.call_answers.specs.declared.refused.RefusedName.{RefusedName}
 use Rattle.call_answers.specs.declared.refused.RefusedName.TheVariants.{NotJson, WrongShape, UnknownKey, UnknownMethod, OutOfRange, UnknownEnumerator, TooDeep, TooLarge}
-use Rattle.json_values.specs.Refusal as json
+use Rattle.json_faults.specs.Refusal as json
 pub use Rattle.aidl_base.specs.Results.{◌>>=◌}
 
 pub record Refusal : Type 0 where

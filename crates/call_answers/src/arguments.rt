@@ -16,7 +16,7 @@ ghost use Rattle.aidl_values.specs.Data.{null};
 use crate::line::value_from;
 use crate::refused::{Fault, Place, RefusedName, refusal};
 use aidl_base::Row;
-use aidl_schema::{Arg, Direction, Schema, Shape};
+use aidl_schema::{Arg, Direction, Schema, is_array};
 use aidl_values::Value;
 use serde_json::{Number, Value as Json};
 use std::alloc::Global;
@@ -126,13 +126,6 @@ fn is_out(way: Direction) -> bool
     ensures { result ≡ calls.is_out way }
 {
     matches!(way, Direction::Out)
-}
-
-/// Whether a shape is that of an array.
-pub fn is_array(shape: Shape) -> bool
-    ensures { result ≡ types.is_array shape }
-{
-    matches!(shape, Shape::Array)
 }
 
 // The length of an `out` array, or null where it may be null.

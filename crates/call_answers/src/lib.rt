@@ -8,6 +8,6 @@ mod refused;
 mod thrown;
 
 pub use answers::two_way_from;
-pub use arguments::{args_from, is_array};
+pub use arguments::args_from;
 pub use line::{check_keys, member_of};
 pub use refused::{Fault, Place, Refused, RefusedName, refusal};

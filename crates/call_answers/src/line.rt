@@ -1,6 +1,6 @@
 ghost use Rattle.std.specs.Prelude.{◌≡◌, [], ◌∷◌, ◌++◌, IfOk, OnOk, option_map, string_bytes};
 ghost use Rattle.std.specs.Str.{encode_utf8_all};
-ghost use Rattle.json_values.specs.Refusal.{escaped, escaped_character};
+ghost use Rattle.json_faults.specs.Refusal.{escaped, escaped_character};
 ghost use Rattle.std.specs.List.{list_any};
 ghost use Rattle.aidl_schema.specs.Same.{same_text};
 ghost use Rattle.aidl_values.specs.Fits.{Fits};
@@ -16,9 +16,10 @@ ghost use Rattle.call_answers.specs.Keys.{seen_keys};
 use crate::refused::{Fault, Place, RefusedName, below, placed, refusal};
 use aidl_schema::{AidlType, Schema};
 use aidl_values::Value;
+use json_faults::key_step;
 use json_values::from_json;
 use serde_json::{Map, Value as Json};
-use std::alloc::{AllocError, Global};
+use std::alloc::Global;
 
 /// Refuses the least key of an object that isn't known, by `UnknownKey` at the key.
 pub fn check_keys(
@@ -30,32 +31,11 @@ pub fn check_keys(
     ensures { Gives (λ _. tt) result (all_known (place_bytes place) (unknown_in (seen_keys known.now) (members_view members.now.entries))) }
 {
     match unknown_key(known, members) {
-        Some(key) => match escaped_key(alloc, key) {
+        Some(key) => match key_step(alloc, key) {
             Ok(at) => Err(below(alloc, RefusedName::UnknownKey, place, at.as_str())),
             Err(_) => Err(Fault::OutOfMemory),
         },
         None => Ok(()),
-    }
-}
-
-// A key as the last step of a pointer.
-fn escaped_key(alloc: Global, key: &str) -> Result<String, AllocError>
-    ensures { IfOk result (λ s. string_bytes s ≡ 47 ∷ escaped key.now) }
-{
-    let mut text = String::from_str(alloc, "/")?;
-    for c in key.chars() {
-        push_escaped(&mut text, c)?;
-    }
-    Ok(text)
-}
-
-fn push_escaped(text: &mut String, c: char) -> Result<(), AllocError>
-    ensures { OnOk result (string_bytes text.new ≡ string_bytes text.old ++ encode_utf8_all (escaped_character c)) }
-{
-    match c {
-        '~' => text.push_str("~0"),
-        '/' => text.push_str("~1"),
-        _ => text.push(c),
     }
 }
 

@@ -1,11 +1,11 @@
 ghost use Rattle.std.specs.Prelude.{◌≡◌, ◌++◌, decimal, IfOk, string_bytes};
 ghost use Rattle.std.specs.Str.{encode_utf8_all};
-ghost use Rattle.json_values.specs.Gives as json;
+ghost use Rattle.json_faults.specs.Gives as json;
 ghost use Rattle.call_answers.specs.Refusal.{printed_name};
 ghost use Rattle.call_answers.specs.Gives.{IsPlaced, IsRefusal, place_bytes};
 
 use aidl_base::{OutOfMemory, Text};
-use json_values::JsonFault;
+use json_faults::JsonFault;
 use std::alloc::{AllocError, AllocFailed, Global};
 
 /// Why a line of a calls file is refused.

@@ -11,7 +11,7 @@ use Rattle.aidl_schema.specs.declared.schema.Decl.{Decl}
 use Rattle.aidl_values.specs.Data.{Data, Items, item}
 use Rattle.aidl_values.specs.View.{view, views}
 use Rattle.aidl_values.specs.declared.value.Value.{Value}
-use Rattle.parcel_cursors.proofs.Faults.{fails_then}
+use Rattle.parcel_cursors.proofs.lemmas.Faults.{fails_then}
 use Rattle.parcel_cursors.specs.Taken.{RefusesIfMemory}
 use Rattle.parcel_cursors.specs.declared.fault.ReadFault.{ReadFault}
 use Rattle.wire_model.specs.Receiver.{argument_at, arguments_at, opened_length}

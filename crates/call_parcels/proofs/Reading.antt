@@ -13,7 +13,7 @@ use Rattle.parcel_cursors.specs.declared.fault.ReadFault.{ReadFault}
 use Rattle.call_pieces.specs.steps.Fronts.{after, joined, Continues}
 use Rattle.std.specs.Borrow.{Bor}
 use Rattle.std.specs.Prelude.{Result}
-use Rattle.parcel_cursors.proofs.Faults.{fails_then}
+use Rattle.parcel_cursors.proofs.lemmas.Faults.{fails_then}
 
 module _ (profile : Profile) (bytes : List ℕ) where
   -- where a reader begins

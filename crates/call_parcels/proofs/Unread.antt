@@ -2,10 +2,10 @@
 use Rattle.std.proofs.Common.{◌≡◌, ℕ, ◌≤◌, pos, negsuc, List, length, refl, ap, ◌∙◌, arith}
 use Rattle.std.specs.Prelude.{codes}
 use Rattle.std.specs.Str.{chars}
-use Rattle.aidl_base.proofs.Spelled.{length-spell_text}
+use Rattle.aidl_base.proofs.lemmas.Spelled.{length-spell_text}
 use Rattle.aidl_base.specs.Words.{units}
 use Rattle.call_pieces.specs.steps.Sent.{spell_exception}
-use Rattle.call_pieces.proofs.Parts.{exception_count}
+use Rattle.call_pieces.proofs.lemmas.Parts.{exception_count}
 
 pub unread_chars : (b : List ℕ) → b ≡ codes "unread argument bytes" → chars b ≡ codes "unread argument bytes"
 unfolding chars

@@ -5,9 +5,8 @@ ghost use Rattle.aidl_values.specs.View.{view, views};
 ghost use Rattle.call_pieces.specs.steps.Fronts.{Fronts};
 ghost use Rattle.wire_model.specs.Receiver.{array_opening, array_opening_at, length_at, opening_at, repeated};
 
-use crate::requests::is_array;
 use aidl_base::{OutOfMemory, Row};
-use aidl_schema::{AidlType, Schema, element, law_valid};
+use aidl_schema::{AidlType, Schema, element, is_array, law_valid};
 use aidl_values::{Value, default_of};
 use call_pieces::count_front;
 use parcel_words::ReadFault;

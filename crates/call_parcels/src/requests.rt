@@ -1,7 +1,6 @@
 //! The request of a call.
-ghost use Rattle.std.specs.Prelude.{◌≡◌, ◌+◌, ◌<◌, ◌≤◌, ◌↔◌, ◌^◌, ◌⊎◌, true, length, min, IfOk, IsErrOf, IsTrue};
+ghost use Rattle.std.specs.Prelude.{◌≡◌, ◌+◌, ◌<◌, ◌≤◌, ◌↔◌, ◌^◌, ◌⊎◌, true, length, IfOk, IsErrOf, IsTrue};
 ghost use Rattle.aidl_schema.specs.Find.{methods_at};
-ghost use Rattle.aidl_schema.specs.Types.{is_array};
 ghost use Rattle.aidl_values.specs.View.{view, views};
 ghost use Rattle.marshal_plans.specs.Standing.{IsOf};
 ghost use Rattle.parcel_cursors.specs.Written.{with_bytes};
@@ -11,12 +10,10 @@ ghost use Rattle.call_pieces.specs.steps.Arguments.{ArePlanned};
 ghost use Rattle.wire_model.specs.Requests.{ArgsFit, ArgumentFits, ArgumentsFit, IsLength, argument_part, argument_parts, asked_length, number_or_0, request, sent_length, spell_length, sum_of_lengths};
 
 use aidl_base::LimitName;
-use aidl_schema::{Arg, Direction, Schema, Shape};
+use aidl_schema::{Arg, Direction, Schema, is_array};
 use aidl_values::Value;
-use call_pieces::{
-    argument_id, descriptor_of, law_planned, method_of, put_spelled, put_token, token_length,
-    value_length,
-};
+use call_lengths::request_length;
+use call_pieces::{argument_id, descriptor_of, law_planned, method_of, put_spelled, put_token};
 use marshal_plans::{PlanId, Plans};
 use parcel_words::WordWriter;
 use parcel_write::WriteFault;
@@ -42,8 +39,7 @@ pub fn request(
 {
     law_planned(schema, plans, interface, method);
     let declared = method_of(schema, interface, method).args.as_slice();
-    let parts = parts_length(schema, plans, interface, method, 0, declared, args);
-    let length = token_length(schema, interface).saturating_add(parts);
+    let length = request_length(schema, plans, interface, method, args);
     if length > LimitName::ParcelBytes.number() as usize {
         return Err(WriteFault::TooLarge);
     }
@@ -54,55 +50,8 @@ pub fn request(
     Ok(to.finish())
 }
 
-// The number of bytes of the arguments' parts from one on, or `usize::MAX` where they are more.
-#[tactic(auto, using(call_pieces::proofs::Parts::parts_count))]
-fn parts_length(
-    schema: &Schema,
-    plans: &Plans,
-    interface: u32,
-    method: u32,
-    k: u32,
-    args: &[Arg],
-    values: &[Value],
-) -> usize
-    requires planned { ArePlanned plans.now schema.now.decls interface method k args.now }
-    requires fit { ArgumentsFit schema.now.decls args.now (views values.now) }
-    ensures { result ≡ min (length (argument_parts schema.now.decls args.now (views values.now))) usize.MAX }
-{
-    match args {
-        [] => 0,
-        [arg, args @ ..] => match values {
-            [] => 0,
-            [value, values @ ..] => {
-                let id = argument_id(schema, plans, interface, method, k, arg);
-                let rest = parts_length(schema, plans, interface, method, k + 1, args, values);
-                part_length(schema, plans, arg, id, value).saturating_add(rest)
-            }
-        },
-    }
-}
-
-// The number of bytes of an argument's part: its spelling, the length of an `out` array, or nothing.
-fn part_length(schema: &Schema, plans: &Plans, arg: &Arg, id: PlanId, value: &Value) -> usize
-    requires of { IsOf plans.now id schema.now.decls arg.now.ty }
-    requires fits { ArgumentFits schema.now.decls arg.now (view value.now) }
-    ensures { result ≡ min (length (argument_part schema.now.decls arg.now (view value.now))) usize.MAX }
-{
-    match arg.way {
-        Direction::In | Direction::InOut => value_length(schema, arg.ty, plans, id, value),
-        Direction::Out => { if is_array(arg.ty.shape) { 4 } else { 0 } }
-    }
-}
-
-/// Whether a shape is that of an array.
-pub fn is_array(shape: Shape) -> bool
-    ensures { result ≡ is_array shape }
-{
-    matches!(shape, Shape::Array)
-}
-
 // Appends the arguments' parts from one on.
-#[tactic(auto, using(call_pieces::proofs::Parts::parts_count, parcel_cursors::proofs::Appends::with_more, parcel_cursors::proofs::Appends::with_none))]
+#[tactic(auto, using(call_pieces::proofs::lemmas::Parts::parts_count, parcel_cursors::proofs::lemmas::Appends::with_more, parcel_cursors::proofs::lemmas::Appends::with_none))]
 fn put_parts(
     schema: &Schema,
     plans: &Plans,

@@ -1,7 +1,6 @@
 //! The bytes of a stub's reply.
-ghost use Rattle.std.specs.Prelude.{◌≡◌, ◌<◌, ◌≤◌, ◌^◌, codes, length, min, not, IfOk};
+ghost use Rattle.std.specs.Prelude.{◌≡◌, ◌<◌, ◌≤◌, ◌^◌, codes, length, IfOk};
 ghost use Rattle.aidl_schema.specs.Find.{methods_at};
-ghost use Rattle.aidl_schema.specs.Methods.{is_in_way};
 ghost use Rattle.aidl_values.specs.View.{views};
 ghost use Rattle.parcel_cursors.specs.Written.{with_bytes};
 ghost use Rattle.call_pieces.specs.Planned.{ArePlansOf};
@@ -13,11 +12,10 @@ ghost use Rattle.wire_model.specs.Requests.{AnswerFits, EachFits, ResultFits, re
 
 use crate::replies::SERVICE_SPECIFIC;
 use aidl_base::{OutOfMemory, Row, Text};
-use aidl_schema::{AidlType, Arg, Direction, Schema};
+use aidl_schema::{AidlType, Arg, Schema};
 use aidl_values::{Answer, Value};
-use call_pieces::{
-    argument_id, law_planned, method_of, methods_of, put_spelled, result_id, value_length,
-};
+use call_lengths::{comes_back, exception_length, outs_length, result_length};
+use call_pieces::{argument_id, law_planned, method_of, methods_of, put_spelled, result_id};
 use marshal_plans::{PlanId, Plans};
 use parcel_words::{Wire, WordWriter};
 use std::alloc::Global;
@@ -116,7 +114,7 @@ fn answer_bytes(
 }
 
 // The bytes of the reply of a result and outs.
-#[tactic(auto, using(call_pieces::proofs::Parts::returned_count, parcel_cursors::proofs::Appends::with_more))]
+#[tactic(auto, using(call_pieces::proofs::lemmas::Parts::returned_count, parcel_cursors::proofs::lemmas::Appends::with_more))]
 fn returned_bytes(
     alloc: Global,
     schema: &Schema,
@@ -148,27 +146,6 @@ fn returned_bytes(
     Ok(to.finish())
 }
 
-// The number of bytes of a result, or `usize::MAX` where they are more.
-fn result_length(
-    schema: &Schema,
-    ty: Option<AidlType>,
-    plans: &Plans,
-    id: Option<PlanId>,
-    value: &Option<Value>,
-) -> usize
-    requires of { IsResultOf plans.now schema.now.decls ty id }
-    requires fits { ResultFits schema.now.decls ty (optional_view value.now) }
-    ensures { result ≡ min (length (spell_result schema.now.decls ty (optional_view value.now))) usize.MAX }
-{
-    match value {
-        Some(value) => match (ty, id) {
-            (Some(ty), Some(id)) => value_length(schema, ty, plans, id, value),
-            _ => 0,
-        },
-        None => 0,
-    }
-}
-
 // Appends a result, where there is one.
 fn put_result(
     schema: &Schema,
@@ -193,48 +170,8 @@ fn put_result(
     }
 }
 
-// Whether an argument comes back.
-fn comes_back(arg: &Arg) -> bool
-    ensures { result ≡ not (is_in_way arg.now.way) }
-{
-    !matches!(arg.way, Direction::In)
-}
-
-// The number of bytes of the outs of the arguments from one on, or `usize::MAX` where they are more.
-#[tactic(auto, using(call_pieces::proofs::Parts::each_count))]
-fn outs_length(
-    schema: &Schema,
-    plans: &Plans,
-    interface: u32,
-    method: u32,
-    k: u32,
-    args: &[Arg],
-    values: &[Value],
-) -> usize
-    requires planned { ArePlanned plans.now schema.now.decls interface method k args.now }
-    requires fit { EachFits schema.now.decls (outs_of args.now) (views values.now) }
-    ensures { result ≡ min (length (spell_each schema.now.decls (outs_of args.now) (views values.now))) usize.MAX }
-{
-    match args {
-        [] => 0,
-        [arg, args @ ..] => {
-            if !comes_back(arg) {
-                return outs_length(schema, plans, interface, method, k + 1, args, values);
-            }
-            match values {
-                [] => 0,
-                [value, values @ ..] => {
-                    let id = argument_id(schema, plans, interface, method, k, arg);
-                    let rest = outs_length(schema, plans, interface, method, k + 1, args, values);
-                    value_length(schema, arg.ty, plans, id, value).saturating_add(rest)
-                }
-            }
-        }
-    }
-}
-
 // Appends the outs of the arguments from one on.
-#[tactic(auto, using(call_pieces::proofs::Parts::each_count, parcel_cursors::proofs::Appends::with_more, parcel_cursors::proofs::Appends::with_none))]
+#[tactic(auto, using(call_pieces::proofs::lemmas::Parts::each_count, parcel_cursors::proofs::lemmas::Appends::with_more, parcel_cursors::proofs::lemmas::Appends::with_none))]
 fn put_outs(
     schema: &Schema,
     plans: &Plans,
@@ -270,7 +207,6 @@ fn put_outs(
 }
 
 // The bytes of the reply of an exception. The room for the bytes is taken once.
-#[tactic(auto, using(call_pieces::proofs::Parts::exception_count))]
 fn exception_bytes(
     alloc: Global,
     code: i32,
@@ -280,9 +216,7 @@ fn exception_bytes(
     requires { length (spell_exception code message.now error) ≤ 1048576 }
     ensures { IfOk result (λ bytes. bytes.items ≡ spell_exception code message.now error) }
 {
-    let length = message
-        .length()
-        .saturating_add(8 + error_length(code, error));
+    let length = exception_length(code, message, error);
     let mut to = WordWriter::with_room(alloc, length)?;
     put_exception(code, message, error, &mut to);
     Ok(to.finish())
@@ -300,16 +234,8 @@ fn put_exception(code: i32, message: &Text, error: i32, to: &mut WordWriter)
     put_error(code, error, to);
 }
 
-// The number of bytes of the error word, which only a service's own exception has.
-fn error_length(code: i32, _error: i32) -> usize
-    ensures size { result ≡ length (spell_error code _error) }
-    ensures few { result ≤ 4 }
-{
-    if code == SERVICE_SPECIFIC { 4 } else { 0 }
-}
-
 // Appends the error word, where there is one.
-#[tactic(auto, using(parcel_cursors::proofs::Appends::with_none))]
+#[tactic(auto, using(parcel_cursors::proofs::lemmas::Appends::with_none))]
 fn put_error(code: i32, error: i32, to: &mut WordWriter)
     requires { length (spell_error code error) ≤ to.old.room }
     ensures { to.new ≡ with_bytes to.old (spell_error code error) }

@@ -1,3 +1,3 @@
 mod Names
 mod Planned
-pub mod Parts
+pub mod lemmas

@@ -11,7 +11,7 @@ ghost use Rattle.wire_model.specs.Receiver.{header_at, token_at};
 ghost use Rattle.wire_model.specs.Requests.{token};
 
 use crate::fronts::{text_front, word_front};
-use aidl_base::{Ident, OutOfMemory, Profile, Text};
+use aidl_base::{Ident, OutOfMemory, Profile, Text, joined_by_dots};
 use aidl_schema::Schema;
 use parcel_cursors::unit_count;
 use parcel_words::{ReadFault, Wire, WordWriter};
@@ -45,10 +45,7 @@ pub fn put_token(name: &Text, to: &mut WordWriter)
 pub fn descriptor_of(alloc: Global, schema: &Schema, interface: u32) -> Result<Text, OutOfMemory>
     ensures { IfOk result (λ text. text ≡ descriptor schema.now.decls interface) }
 {
-    match parts_of(schema, interface) {
-        [] => Ok(Text::empty(alloc)),
-        [first, others @ ..] => joined(alloc, first, others),
-    }
+    joined_by_dots(alloc, parts_of(schema, interface))
 }
 
 /// The bytes after the token of a name, None where the bytes don't begin with it.
@@ -105,18 +102,6 @@ fn parts_of(schema: &Schema, interface: u32) -> &[Ident]
         Some(decl) => decl.name.0.as_slice(),
         None => &[],
     }
-}
-
-// Parts joined by dots.
-fn joined(alloc: Global, first: &Ident, others: &[Ident]) -> Result<Text, OutOfMemory>
-    ensures { IfOk result (λ text. text ≡ dotted (first.now ∷ others.now)) }
-{
-    let mut text = String::from_str(alloc, first.0.as_str())?;
-    for part in others {
-        text.push('.')?;
-        text.push_str(part.0.as_str())?;
-    }
-    Ok(Text::from_string(text))
 }
 
 // The number of UTF-16 units of parts joined by dots, or `usize::MAX` where they are more.

@@ -1,7 +1,7 @@
-pub mod Codes
-pub mod Courses
-pub mod Outcomes
-pub mod Received
-pub mod Reported
-pub mod Served
-pub mod Unscripted
+mod Codes
+mod Courses
+mod Outcomes
+mod Received
+mod Reported
+mod Served
+mod Unscripted

@@ -28,7 +28,7 @@ use Rattle.wire_model.specs.Outcome as calls
 use Rattle.wire_model.specs.Receiver.{Received, left, called, stub, client}
 use Rattle.wire_model.specs.Requests.{AnswerFits, reply}
 use Rattle.wire_model.specs.Status.{unknown_transaction}
-use Rattle.wire_model.proofs.calls.Outcomes as found
+use Rattle.wire_model.proofs.lemmas.calls.Outcomes as found
 
 -- Without the server's interface
 

@@ -17,14 +17,14 @@ use Rattle.call_runner.specs.Lines as lines
 use Rattle.call_runner.specs.Runs.{IsGotBy, IsTyped, line_data, methods_by}
 use Rattle.call_runner.specs.steps.Typed.{IsTypedLine, method_in}
 use Rattle.call_scripts.specs.Calls.{CallData, CallFits}
-use Rattle.call_scripts.proofs.Methods.{found, position_within}
+use Rattle.call_scripts.proofs.lemmas.Methods.{found, position_within}
 use Rattle.wire_model.specs.Calls.{AnswerData, arguments, code_at, code_of, descriptor, is_oneway, is_oneway_of, method_at, name_of_decl}
 use Rattle.wire_model.specs.Outcome.{SameWays, declared_as}
 use Rattle.wire_model.specs.Receiver.{Received, left, called, received, or_status, stub, token_at, arguments_at, client}
 use Rattle.wire_model.specs.Status.{unknown_transaction}
 use Rattle.wire_model.specs.Typed.{AreArguments, IsGot}
-use Rattle.wire_model.proofs.calls.Itself.{method_there}
-use Rattle.wire_model.proofs.received.Steps.{taken}
+use Rattle.wire_model.proofs.lemmas.calls.Itself.{method_there}
+use Rattle.wire_model.proofs.lemmas.received.Steps.{taken}
 
 module _ (p : Profile) (S : List Decl) (i code : ℕ) (b : List ℕ) where
   is_place : (n : ℕ) (o : Option ℕ) → or_status unknown_transaction o ≡ Ok n → o ≡ Some n

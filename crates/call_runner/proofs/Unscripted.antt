@@ -4,7 +4,7 @@ use Rattle.std.specs.Prelude.{codes}
 use Rattle.std.specs.Str.{chars}
 use Rattle.std.proofs.lemmas.Bool.Decides.{nat_tests}
 use Rattle.std.proofs.lemmas.Int.{ints}
-use Rattle.aidl_base.proofs.Spelled.{length-spell_text}
+use Rattle.aidl_base.proofs.lemmas.Spelled.{length-spell_text}
 use Rattle.aidl_base.specs.Words.{units, word}
 use Rattle.aidl_schema.specs.declared.schema.Decl.{Decl}
 use Rattle.wire_model.specs.Requests.{AnswerFits, ExceptionFits, spell_error}

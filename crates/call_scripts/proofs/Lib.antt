@@ -1,9 +1,7 @@
-pub mod Dots
-pub mod Examples
-pub mod Faults
-pub mod JsonTexts
-pub mod Methods
-pub mod Parts
-pub mod Planned
-pub mod SameNames
-pub mod Types
+mod Dots
+mod Examples
+mod Faults
+mod JsonTexts
+mod SameNames
+mod Types
+pub mod lemmas

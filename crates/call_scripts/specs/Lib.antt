@@ -1,5 +1,4 @@
 pub mod Calls
 pub mod Names
-pub mod Planned
 pub mod Script
 pub mod steps

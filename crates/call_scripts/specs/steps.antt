@@ -1,5 +1,4 @@
 -- What the code's steps do, for its inner contracts: no public contract or law cites it.
 pub mod Calls
 pub mod Named
-pub mod Planned
 pub mod Seen

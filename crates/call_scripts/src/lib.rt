@@ -2,9 +2,8 @@
 #![tactic(auto)]
 
 mod json;
-mod lengths;
+mod laws;
 mod names;
-mod plans;
 mod script;
 
 pub use call_answers::{Refused, RefusedName};

@@ -5,17 +5,15 @@ ghost use Rattle.call_scripts.specs.steps.Named.{IsNamed};
 ghost use Rattle.call_scripts.specs.steps.Seen.{named_data};
 
 use aidl_schema::{Kind, Method, Schema, find, law_valid};
-use parcel_cursors::unit_count;
+use call_pieces::methods_of;
 
-// The numbers of a call's interface and method, of the server's interface of that name and of its method of that name. `units` is the
-// number of UTF-16 units of the interface's name.
+// The numbers of a call's interface and method, of the server's interface of that name and of its method of that name.
 #[derive(Clone, Copy)]
 pub struct Named {
     pub interface: u32,
     pub method: u32,
     pub server: Option<u32>,
     pub target: Option<u32>,
-    pub units: usize,
 }
 
 // The method that a text means: the canonical name of an interface, a dot and the method's name.
@@ -47,7 +45,6 @@ fn named_by(client: &Schema, server: &Schema, interface: &str, method: &str) -> 
         method: position,
         server: other,
         target: target_named(server, other, method),
-        units: unit_count(interface),
     })
 }
 
@@ -84,22 +81,9 @@ fn method_named(schema: &Schema, interface: u32, name: &str) -> Option<u32>
     ensures { result ≡ meant.method_named schema.now.decls interface name.now }
 {
     law_valid(schema);
-    match position_named(methods_at(schema, interface), name) {
+    match position_named(methods_of(schema, interface), name) {
         Some(position) => Some(position as u32),
         None => None,
-    }
-}
-
-// The methods of an interface; none of what is no interface.
-pub fn methods_at(schema: &Schema, interface: u32) -> &[Method]
-    ensures { result.now ≡ find.methods_at schema.now.decls interface }
-{
-    match schema.decls.as_slice().get(interface as usize) {
-        Some(decl) => match &decl.kind {
-            Kind::Interface(methods) => methods.as_slice(),
-            _ => &[],
-        },
-        None => &[],
     }
 }
 

@@ -1,15 +1,14 @@
 //! A line of a calls file, as a call between two schemas or its first refusal.
 ghost use Rattle.std.specs.Prelude.{◌≡◌, ◌<◌, None, length, nat_le, option_map, IfOk};
-ghost use Rattle.aidl_base.specs.Words.{units};
 ghost use Rattle.aidl_schema.specs.Find.{methods_at};
 ghost use Rattle.aidl_values.specs.Data.{none};
 ghost use Rattle.aidl_values.specs.View.{views};
 ghost use Rattle.serde_json.specs.View.{view as json_view, members_view};
-ghost use Rattle.wire_model.specs.Calls.{answer_of, descriptor, returned};
+ghost use Rattle.wire_model.specs.Calls.{answer_of, returned};
 ghost use Rattle.wire_model.specs.Requests.{IsAnswer};
 ghost use Rattle.call_answers.specs.Answers as answers;
 ghost use Rattle.call_scripts.specs.Calls.{CallFits, ScriptFits, call_of, script_data, target_of};
-ghost use Rattle.call_scripts.specs.Planned.{ArePlansOf};
+ghost use Rattle.call_pieces.specs.Planned.{ArePlansOf};
 ghost use Rattle.call_scripts.specs.Script as meant;
 ghost use Rattle.call_scripts.specs.steps.Calls.{IsAnswered, IsSent, IsTarget};
 ghost use Rattle.call_answers.specs.Gives.{Gives};
@@ -17,15 +16,16 @@ ghost use Rattle.call_scripts.specs.steps.Named.{IsNamed, IsWithin};
 ghost use Rattle.call_scripts.specs.steps.Seen.{named_data};
 
 use crate::json::json_in;
-use crate::lengths::{method_of, reply_length, request_length};
+use crate::laws::law_types;
 use crate::names::{Named, method_meant};
-use crate::plans::law_types;
 use aidl_base::{OutOfMemory, Row, Text};
 use aidl_schema::Schema;
 use aidl_values::{Answer, Value};
 use call_answers::{
     Fault, Place, Refused, RefusedName, args_from, check_keys, member_of, refusal, two_way_from,
 };
+use call_lengths::{reply_length, request_length};
+use call_pieces::method_of;
 use marshal_plans::Plans;
 use serde_json::{Map, Value as Json};
 use std::alloc::Global;
@@ -180,7 +180,6 @@ fn sent_from(
 ) -> Result<Row<Value>, Fault>
     requires plans { ArePlansOf plans.now schema.now.decls }
     requires there { named.now.method < length (methods_at schema.now.decls named.now.interface) }
-    requires units { named.now.units ≡ length (units (descriptor schema.now.decls named.now.interface)) }
     ensures gives { Gives views result (meant.sent_from schema.now.decls named.now.interface named.now.method (option_map (λ j. json_view j.now) json.entry)) }
     ensures sent { IfOk result (λ vs. IsSent schema.now.decls named.now.interface named.now.method (views vs)) }
 {
@@ -191,7 +190,6 @@ fn sent_from(
         plans,
         named.interface,
         named.method,
-        named.units,
         args.as_slice(),
     );
     if is_small(length) {

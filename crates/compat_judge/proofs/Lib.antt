@@ -1,8 +1,8 @@
-pub mod Chains
-pub mod Found
-pub mod Listing
-pub mod PlaceTexts
-pub mod SortedOnce
-pub mod Sorting
-pub mod Utf8Order
-pub mod Walk
+mod Chains
+mod Found
+mod Listing
+mod PlaceTexts
+mod SortedOnce
+mod Sorting
+mod Utf8Order
+mod Walk

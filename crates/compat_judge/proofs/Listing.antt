@@ -3,6 +3,7 @@ use Rattle.std.proofs.Common.{◌≡◌, ℕ, zero, suc, ◌+◌, ◌-◌, ◌<�
 use Rattle.std.specs.List.{find, flat_map, position_from}
 use Rattle.std.proofs.lemmas.List.{append-nil}
 use Rattle.std.proofs.lemmas.List.Concat.{flat_map-append}
+use Rattle.aidl_base.proofs.lemmas.Lists.{take_further, take_to_end}
 use Rattle.aidl_schema.specs.Broken.{Break, Place, of_rule, places}
 use Rattle.compat_judge.specs.steps.Steps.{break_if, item_at, place_of}
 use Rattle.aidl_schema.specs.Same.{same_text}
@@ -16,21 +17,6 @@ listed rule place breaks (x ∷ xs) = by (breaks x) refl (listed rule place brea
         → of_rule rule (places place breaks (x ∷ xs)) ≡ break_if rule place breaks x ++ flat_map (break_if rule place breaks) xs
     by true e rest = rw e (ap (λ r. (rule, place x) ∷ r) rest)
     by false e rest = rw e rest
-
-take_next : {X : Type 0} (xs : List X) (i : ℕ) (x : X) → i < length xs → x ≡ get_or xs i x → take (suc i) xs ≡ take i xs ++ x ∷ []
-take_next [] i x lt is = absurd (omega arith)
-take_next (y ∷ xs) zero x lt is = ap (λ z. z ∷ []) (sym is)
-take_next (y ∷ xs) (suc i) x lt is = ap (λ zs. y ∷ zs) (take_next xs i x (omega arith) is)
-
-pub take_further : {X : Type 0} (xs : List X) (i : ℕ) (x : X) → i < length xs → x ≡ get_or xs i x → take (i + 1) xs ≡ take i xs ++ x ∷ []
-take_further xs i x lt is = ap (λ k. take k xs) (add-one i) ∙ take_next xs i x lt is
-
-pub take_to_end : {X : Type 0} (xs : List X) (i : ℕ) → i ≡ length xs → take i xs ≡ xs
-take_to_end xs i e = ap (λ k. take k xs) e ∙ take_whole xs
-  where
-    take_whole : {X : Type 0} (xs : List X) → take (length xs) xs ≡ xs
-    take_whole [] = refl
-    take_whole (x ∷ xs) = ap (λ z. x ∷ z) (take_whole xs)
 
 module _ {X B : Type 0} (R : X → List B) (start : List B) (xs : List X) where
   -- what has been added after the items before i

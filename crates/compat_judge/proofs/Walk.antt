@@ -16,7 +16,8 @@ use Rattle.aidl_schema.specs.Same.{same_text}
 use Rattle.compat_judge.specs.declared.sides.Common.{Common}
 use Rattle.compat_judge.specs.steps.Steps.{both_of, break_if, item_at, place_of, places_among}
 use Rattle.compat_judge.proofs.Found.{same_text_sym}
-use Rattle.compat_judge.proofs.Listing.{added_more, item_named, take_further}
+use Rattle.aidl_base.proofs.lemmas.Lists.{take_further}
+use Rattle.compat_judge.proofs.Listing.{added_more, item_named}
 use Rattle.compat_judge.proofs.Utf8Order.{same_encoded}
 
 module _ {X : Type 0} (rule : ℕ) (d : Decl) (ident : X → Ident) (breaks : X → Bool) (start : List Break) (xs : List X) where

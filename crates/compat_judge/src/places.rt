@@ -3,29 +3,14 @@ ghost use Rattle.std.specs.Fmt.{decimal};
 ghost use Rattle.std.specs.Str.{chars};
 ghost use Rattle.aidl_base.specs.Names.{dotted};
 
-use aidl_base::{DottedName, Ident, OutOfMemory, Text};
+use aidl_base::{DottedName, Ident, OutOfMemory, Text, joined_by_dots};
 use std::alloc::Global;
 
 /// A canonical name as text.
 pub fn name_place(alloc: Global, name: &DottedName) -> Result<Text, OutOfMemory>
     ensures { IfOk result (λ text. text ≡ dotted name.now.0) }
 {
-    match name.0.as_slice() {
-        [] => Ok(Text::empty(alloc)),
-        [first, others @ ..] => joined(alloc, first, others),
-    }
-}
-
-// Parts joined by dots.
-fn joined(alloc: Global, first: &Ident, others: &[Ident]) -> Result<Text, OutOfMemory>
-    ensures { IfOk result (λ text. text ≡ dotted (first.now ∷ others.now)) }
-{
-    let mut text = String::from_str(alloc, first.0.as_str())?;
-    for part in others {
-        text.push('.')?;
-        text.push_str(part.0.as_str())?;
-    }
-    Ok(Text::from_string(text))
+    joined_by_dots(alloc, name.0.as_slice())
 }
 
 /// A canonical name with a member behind it.

@@ -11,7 +11,7 @@ use Rattle.const_eval.specs.declared.outcome.Outcome.{Outcome}
 use Rattle.const_eval.specs.declared.outcome.Outcome.TheVariants.{Given, Fault, Unjudged}
 use Rattle.const_eval.specs.Breaches.{breach_by, breaches, breaches_from}
 use Rattle.const_items.specs.Items.{Item}
-use Rattle.const_items.proofs.Keys.{IsPlaced, Rises, key}
+use Rattle.const_items.proofs.lemmas.Keys.{IsPlaced, Rises, key}
 
 -- the place of a breach among all places
 abbrev place : Breach → ℕ

@@ -1,8 +1,7 @@
-pub mod Agree
-pub mod InOrder
-pub mod Meant
-pub mod OneItem
-pub mod OneOutcome
-pub mod Progress
-pub mod Settling
-pub mod Turns
+mod InOrder
+mod Meant
+mod OneItem
+mod Progress
+mod Settling
+mod Turns
+pub mod lemmas

@@ -1,8 +1,5 @@
 mod Behind
 mod EachItem
 mod General
-pub mod Keys
-pub mod Numbers
 mod Orders
-pub mod PlacesWithin
-pub mod Scopes
+pub mod lemmas

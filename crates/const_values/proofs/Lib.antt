@@ -1,2 +1,2 @@
-pub mod LeftShift
-pub mod Numbers
+mod LeftShift
+mod Numbers

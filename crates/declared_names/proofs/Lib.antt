@@ -1,9 +1,2 @@
-pub mod Chains
-pub mod Compared
-pub mod Earlier
-pub mod Firsts
-pub mod Named
-pub mod SameNames
-pub mod Times
-pub mod Trees
 mod Walks
+pub mod lemmas

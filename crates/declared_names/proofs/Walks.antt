@@ -14,12 +14,12 @@ use Rattle.aidl_syntax.specs.Trees.Members.{none, field, constant, method, neste
 use Rattle.declared_names.specs.declared.walk_fault.WalkFault.{WalkFault}
 use Rattle.declared_names.specs.declared.walk_fault.WalkFault.TheVariants as fault
 use Rattle.declared_names.specs.declared.found.Found.{Found}
-use Rattle.declared_names.specs.Declarations.{Entry, inside, with_decl, with_body, with_members, with_file, with_files}
+use Rattle.declared_names.specs.Declarations.{Entry, name_inside, with_decl, with_body, with_members, with_file, with_files}
 use Rattle.declared_names.specs.Names.{parts_of}
 use Rattle.aidl_syntax.specs.Sources.{Source, source_of}
 use Rattle.declared_names.specs.Entries.{entry_of}
 use Rattle.declared_names.specs.Walks.{IsFull}
-use Rattle.declared_names.proofs.Trees.{seen_decl, seen_nested}
+use Rattle.declared_names.proofs.lemmas.Trees.{seen_decl, seen_nested}
 
 mutual
   pub decl_grows : (file : ℕ) (outer : Option ℕ) (name : List Ident) (d : Decl) (before : List Entry) → length before + 1 ≤ length (with_decl file outer name d before)
@@ -40,8 +40,8 @@ mutual
   members_grow file number name (constant c ms) before = members_grow file number name ms before
   members_grow file number name (method m ms) before = members_grow file number name ms before
   members_grow file number name (nested d ms) before =
-      let h = decl_grows file (Some number) (inside name d) d before in
-      let k = members_grow file number name ms (with_decl file (Some number) (inside name d) d before) in
+      let h = decl_grows file (Some number) (name_inside name d) d before in
+      let k = members_grow file number name ms (with_decl file (Some number) (name_inside name d) d before) in
       omega (arith, h, k)
 
 -- a declaration by its parts
@@ -65,8 +65,8 @@ still_full all more fault.Full le h = omega arith
 still_full all more fault.OutOfMemory le h = tt
 
 -- the canonical name of a nested declaration
-pub inside_is : (around name : List Ident) (t : DeclTree) → name ≡ around ++ t.name.name ∷ [] → name ≡ inside around (decl_of t)
-inside_is around name t e = e ∙ ap (λ d. inside around d) (sym (seen_decl t))
+pub inside_is : (around name : List Ident) (t : DeclTree) → name ≡ around ++ t.name.name ∷ [] → name ≡ name_inside around (decl_of t)
+inside_is around name t e = e ∙ ap (λ d. name_inside around d) (sym (seen_decl t))
 
 -- A member that can't be added: all members can't.
 pub first_full : (file number : ℕ) (name : List Ident) (xs ys : List MemberTree) (i : ℕ) (x : MemberTree) (before all : List Entry) (e : WalkFault)
@@ -79,7 +79,7 @@ first_full file number name xs ys i x before all e same lt is invariant full =
 
 -- a nested declaration that can't be added: it and the members behind it can't
 pub nested_full : {U : Type 0} (file number : ℕ) (name inner : List Ident) (member : MemberTree) (t : DeclTree) (before : List Entry) (r : Result U WalkFault)
-    → member ≡ Nested t → inner ≡ inside name (decl_of t)
+    → member ≡ Nested t → inner ≡ name_inside name (decl_of t)
     → IfErr r (IsFull (with_decl file (Some number) inner (decl_of t) before))
     → IfErr r (λ e. (ms : Members) → IsFull (with_members file number name (member_of member ms) before) e)
 nested_full file number name inner member t before (Ok u) is same h = tt
@@ -87,11 +87,11 @@ nested_full file number name inner member t before (Err e) is same h = λ ms.
     let P : List Entry → Type 0 = λ z. IsFull z e in
     let Q : List Ident → Type 0 = λ z. IsFull (with_decl file (Some number) z (decl_of t) before) e in
     subst P (sym (ap (λ (f : Members → Members). with_members file number name (f ms) before) (ap member_of is ∙ seen_nested t)))
-    (still_full (with_decl file (Some number) (inside name (decl_of t)) (decl_of t) before) _ e (members_grow file number name ms _) (subst Q same h))
+    (still_full (with_decl file (Some number) (name_inside name (decl_of t)) (decl_of t) before) _ e (members_grow file number name ms _) (subst Q same h))
 
 -- A file whose declarations are too many: those of all files are.
 pub file_grows : (file : ℕ) (s : Source) (before : List Entry) → length before ≤ length (with_file file s before)
-file_grows file s before = let h = decl_grows file None (inside (parts_of s.tree.«package») s.tree.declared) s.tree.declared before in omega (arith, h)
+file_grows file s before = let h = decl_grows file None (name_inside (parts_of s.tree.«package») s.tree.declared) s.tree.declared before in omega (arith, h)
 
 pub files_grow : (file : ℕ) (files : List Source) (before : List Entry) → length before ≤ length (with_files file files before)
 files_grow file [] before = omega arith

@@ -17,8 +17,8 @@ pub record Entry : Type 0 where
   pub tree : Decl
 
 -- the canonical name of what a declaration encloses, or of what a package does
-abbrev pub inside : List Ident → Decl → List Ident
-inside around d = around ++ (declared_name d).name ∷ []
+abbrev pub name_inside : List Ident → Decl → List Ident
+name_inside around d = around ++ (declared_name d).name ∷ []
 
 -- A walk adds each declaration, with its canonical name, behind those before it. So its number is how many these are.
 abbrev mutual
@@ -38,11 +38,11 @@ abbrev mutual
   with_members file number name (field f ms) before = with_members file number name ms before
   with_members file number name (constant c ms) before = with_members file number name ms before
   with_members file number name (method m ms) before = with_members file number name ms before
-  with_members file number name (nested d ms) before = with_members file number name ms (with_decl file (Some number) (inside name d) d before)
+  with_members file number name (nested d ms) before = with_members file number name ms (with_decl file (Some number) (name_inside name d) d before)
 
 -- the declarations of a file
 abbrev pub with_file : ℕ → Source → List Entry → List Entry
-with_file file s before = with_decl file None (inside (parts_of s.tree.«package») s.tree.declared) s.tree.declared before
+with_file file s before = with_decl file None (name_inside (parts_of s.tree.«package») s.tree.declared) s.tree.declared before
 
 -- those of files that have the numbers from one on
 abbrev pub with_files : ℕ → List Source → List Entry → List Entry

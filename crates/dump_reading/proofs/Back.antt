@@ -9,12 +9,12 @@ use Rattle.std.proofs.lemmas.List.{length-map}
 use Rattle.std.proofs.lemmas.Option.{slice_get_within}
 use Rattle.std.proofs.lemmas.List.Elements.{All-head, All-tail}
 use Rattle.aidl_base.specs.declared.source_file.SourceFile.{SourceFile}
-use Rattle.aidl_base.proofs.Tests.{flipped}
+use Rattle.aidl_base.proofs.lemmas.Tests.{flipped}
 use Rattle.aidl_syntax.specs.Sources.{Source}
 use Rattle.aidl_syntax.specs.Members.{declared_name}
 use Rattle.aidl_syntax.specs.Walks.{places_of}
 use Rattle.aidl_names.specs.Rules.{breach}
-use Rattle.aidl_lexer.proofs.meaning.OneLexing.{never_both}
+use Rattle.aidl_lexer.proofs.lemmas.meaning.OneLexing.{never_both}
 use Rattle.declared_names.specs.Declarations.{declarations}
 use Rattle.aidl_names.specs.Breaches.{in_order}
 use Rattle.aidl_names.specs.Refusals.{IsAccepted}
@@ -24,7 +24,7 @@ use Rattle.const_items.specs.Items.{items}
 use Rattle.const_eval.specs.Outcomes.{HasOutcome, AreOutcomes, outcome_at}
 use Rattle.schema_parts.specs.Numbers.{sorted}
 use Rattle.tree_schema.specs.SchemaOf.{schema_of, declared}
-use Rattle.tree_schema.proofs.settled.Laws.{placed-files}
+use Rattle.tree_schema.proofs.lemmas.settled.Laws.{placed-files}
 use Rattle.schema_bounds.specs.declared.bound.Bound.TheVariants.{Within}
 use Rattle.schema_bounds.specs.Bounds.{bound, bound_by, reaches_cycle}
 use Rattle.tree_files.specs.declared.fault.LexBreach.{LexBreach}

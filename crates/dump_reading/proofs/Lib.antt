@@ -1,9 +1,9 @@
-pub mod Back
-pub mod spelled
-pub mod grown
-pub mod filed
-pub mod named
-pub mod settled
-pub mod valued
-pub mod ruled
-pub mod drafted
+mod Back
+mod spelled
+mod grown
+mod filed
+mod named
+mod settled
+mod valued
+mod ruled
+mod drafted

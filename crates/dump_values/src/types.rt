@@ -7,7 +7,7 @@ use aidl_base::OutOfMemory;
 use aidl_schema::{AidlType, Base, Decl, Shape};
 
 /// Appends what stands before a type.
-#[tactic(auto, using(crate::proofs::Texts::text_append), unfolding(crate::specs::Pieces::spelling))]
+#[tactic(auto, using(crate::proofs::lemmas::Texts::text_append), unfolding(crate::specs::Pieces::spelling))]
 pub fn push_marks(out: &mut String, ty: &AidlType) -> Result<(), OutOfMemory>
     ensures { OnOk result (string_bytes out.new ≡ string_bytes out.old ++ text_of (meant.marks ty.now)) }
 {
@@ -38,7 +38,7 @@ fn push_utf8(out: &mut String, utf8: bool) -> Result<(), OutOfMemory>
 }
 
 /// Appends a type without what stands before it.
-#[tactic(auto, using(crate::proofs::Texts::text_append), unfolding(crate::specs::Pieces::spelling))]
+#[tactic(auto, using(crate::proofs::lemmas::Texts::text_append), unfolding(crate::specs::Pieces::spelling))]
 pub fn push_type(out: &mut String, decls: &[Decl], ty: &AidlType) -> Result<(), OutOfMemory>
     ensures { OnOk result (string_bytes out.new ≡ string_bytes out.old ++ text_of (meant.plain_type decls.now ty.now)) }
 {

@@ -15,7 +15,7 @@ use aidl_schema::{AidlType, Backing, Base, Decl, Enumerator, Kind, Shape};
 use std::fmt::Write;
 
 /// Appends ` = VALUE`, where there is an initializer.
-#[tactic(auto, using(crate::proofs::Texts::text_append), unfolding(crate::specs::Pieces::spelling))]
+#[tactic(auto, using(crate::proofs::lemmas::Texts::text_append), unfolding(crate::specs::Pieces::spelling))]
 pub fn push_initial(
     out: &mut String,
     decls: &[Decl],
@@ -49,7 +49,7 @@ fn push_initial_value(
 }
 
 // Appends a brace list.
-#[tactic(auto, using(crate::proofs::Texts::text_append), unfolding(crate::specs::Pieces::spelling))]
+#[tactic(auto, using(crate::proofs::lemmas::Texts::text_append), unfolding(crate::specs::Pieces::spelling))]
 fn push_braced(
     out: &mut String,
     decls: &[Decl],
@@ -101,7 +101,7 @@ fn push_values(
 }
 
 // Appends values, each behind a comma.
-#[tactic(auto, using(crate::proofs::Texts::text_append), unfolding(crate::specs::Pieces::spelling))]
+#[tactic(auto, using(crate::proofs::lemmas::Texts::text_append), unfolding(crate::specs::Pieces::spelling))]
 fn push_others(
     out: &mut String,
     decls: &[Decl],

@@ -1,1 +1,1 @@
-pub mod Behind
+mod Behind

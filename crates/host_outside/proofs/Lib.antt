@@ -1,1 +1,1 @@
-pub mod Ascending
+mod Ascending

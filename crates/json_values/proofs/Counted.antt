@@ -12,7 +12,7 @@ use Rattle.serde_json.specs.Find.{get_member}
 use Rattle.serde_json.specs.Events.{members_len}
 use Rattle.aidl_schema.specs.declared.schema.Field.{Field}
 use Rattle.aidl_schema.specs.Holds.{AreApart}
-use Rattle.aidl_base.proofs.Tests.{neither}
+use Rattle.aidl_base.proofs.lemmas.Tests.{neither}
 use Rattle.json_values.specs.FromJson.{has_name, unknown_in}
 use Rattle.json_writing.specs.Named.{bytes_of}
 use Rattle.json_values.proofs.Names.{name_of_field, later_fields, names_differ, text_apart}

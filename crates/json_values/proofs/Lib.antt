@@ -1,8 +1,9 @@
-pub mod Back
-pub mod Counted
-pub mod Fits
-pub mod Loops
-pub mod Members
-pub mod Names
-pub mod Parts
-pub mod Texts
+mod Back
+mod Counted
+mod Fits
+mod Loops
+mod Members
+mod Names
+mod Parts
+mod Plain
+mod Texts

@@ -1,8 +1,8 @@
 -- Reading parts one after another: the first of some parts, and the rest.
 use Rattle.std.proofs.Common.{◌≡◌, List, [], ◌∷◌, ◌++◌, Ok, Err, refl}
 use Rattle.aidl_values.specs.Data.{Data, Items, item}
-use Rattle.aidl_values.proofs.Fronts.{with_front, front_more}
-use Rattle.json_values.specs.Refusal.{Answer, Refusal, ◌>>=◌}
+use Rattle.aidl_values.proofs.lemmas.Fronts.{with_front, front_more}
+use Rattle.json_faults.specs.Refusal.{Answer, Refusal, ◌>>=◌}
 
 abbrev pub first_of : Answer Data → Answer Items → Answer Items
 first_of first rest = first >>= (λ v. rest >>= (λ vs. Ok (item v vs)))

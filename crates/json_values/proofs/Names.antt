@@ -26,9 +26,9 @@ use Rattle.aidl_values.specs.Data.{Data, number, alt}
 use Rattle.json_values.specs.FromJson as from
 use Rattle.json_writing.specs.Json.{json_among}
 use Rattle.json_writing.specs.Named.{bytes_of, enumerators_of, enumerators_of_decl, enumerators_of_kind, fields_in}
-use Rattle.json_values.specs.Refusal.{Answer}
+use Rattle.json_faults.specs.Refusal.{Answer}
 use Rattle.json_values.specs.steps.Levels.{chosen_from}
-use Rattle.json_writing.proofs.Whole.{of_base}
+use Rattle.json_writing.proofs.lemmas.Whole.{of_base}
 
 -- texts
 nat_itself : (n : ℕ) → (n == n) ≡ true

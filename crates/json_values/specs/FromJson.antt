@@ -19,7 +19,7 @@ use Rattle.aidl_values.specs.Data.{depth_of}
 use Rattle.aidl_values.specs.Data as value
 use Rattle.aidl_values.specs.Sound.{initial_in}
 use Rattle.json_writing.specs.Named.{bytes_of, enumerators_of}
-use Rattle.json_values.specs.Refusal.{Answer, ◌>>=◌, refuse, wrong_shape, out_of_range, unknown_key, unknown_enumerator, too_deep, escaped, within}
+use Rattle.json_faults.specs.Refusal.{Answer, ◌>>=◌, refuse, wrong_shape, out_of_range, unknown_key, unknown_enumerator, too_deep, escaped, within}
 
 -- boolean: true or false
 abbrev pub truth_from : json.Data → Answer value.Data

@@ -1,4 +1,2 @@
 pub mod FromJson
-pub mod Gives
-pub mod Refusal
 pub mod steps

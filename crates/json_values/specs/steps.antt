@@ -1,3 +1,3 @@
 -- What the code's steps do, for its inner contracts: no public contract or law cites it.
-pub mod Gives
 pub mod Levels
+pub mod Plain

@@ -4,12 +4,12 @@ ghost use Rattle.aidl_values.specs.Data.{number};
 ghost use Rattle.aidl_values.specs.View.{view};
 ghost use Rattle.json_values.specs.FromJson as answer;
 ghost use Rattle.json_writing.specs.Named.{enumerators_of};
-ghost use Rattle.json_values.specs.steps.Gives.{Gives};
+ghost use Rattle.json_faults.specs.steps.Gives.{Gives};
 
-use crate::fault::{Fault, Reason, refused};
 use crate::hints::Hints;
 use aidl_schema::{Base, Enumerator, Schema, law_valid};
 use aidl_values::Value;
+use json_faults::{Fault, Reason, refused};
 use json_writing::{enumerators_in, is_called};
 use std::alloc::Global;
 

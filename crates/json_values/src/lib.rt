@@ -2,7 +2,6 @@
 #![tactic(auto)]
 
 mod enumerators;
-mod fault;
 mod hints;
 mod keys;
 mod laws;
@@ -12,7 +11,7 @@ mod scalars;
 mod sequences;
 mod unions;
 
-pub use fault::JsonFault;
+pub use json_faults::JsonFault;
 pub use json_writing::to_json;
 pub use laws::law_json_reads_back;
 pub use reading::from_json;

@@ -1,3 +1,3 @@
 mod Tables
-pub mod Whole
-pub mod Written
+mod Written
+pub mod lemmas

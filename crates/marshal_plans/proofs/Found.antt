@@ -16,7 +16,7 @@ use Rattle.marshal_plans.specs.Places.{HasStart, IsMethod, StandsForResult}
 use Rattle.marshal_plans.specs.Slots.{slots}
 use Rattle.marshal_plans.specs.Standing.{StandFor, StandsFor, IsStartOf}
 use Rattle.marshal_plans.specs.steps.Rising.{order_to}
-use Rattle.marshal_plans.proofs.Matching.{matched, matched_back}
+use Rattle.marshal_plans.proofs.lemmas.Matching.{matched, matched_back}
 use Rattle.marshal_plans.proofs.Orders.{tied, ties}
 use Rattle.marshal_plans.proofs.Places.{IsPlaceOf, slot_at, has_slot, slot_is}
 

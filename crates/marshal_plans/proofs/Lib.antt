@@ -1,5 +1,5 @@
-pub mod Found
-pub mod Matching
-pub mod Orders
-pub mod Places
-pub mod Standings
+mod Found
+mod Orders
+mod Places
+mod Standings
+pub mod lemmas

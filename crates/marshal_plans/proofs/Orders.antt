@@ -15,7 +15,7 @@ use Rattle.marshal_plans.specs.declared.plans.PlanId.{PlanId}
 use Rattle.marshal_plans.specs.Slots.{Slot, argument_slots, result_slots, method_slots, slots_from, slots}
 use Rattle.marshal_plans.specs.Standing.{OneForOne, IsStartOf}
 use Rattle.marshal_plans.specs.steps.Rising.{place_order, order_to, AreRising}
-use Rattle.marshal_plans.proofs.Matching.{matched_back}
+use Rattle.marshal_plans.proofs.lemmas.Matching.{matched_back}
 use Rattle.marshal_plans.proofs.Places.{slot_small, IsSmallPlace}
 
 same_numbers : (a b : ℕ) → a ≡ b → nat_cmp a b ≡ Equal

@@ -3,7 +3,7 @@ use Rattle.std.proofs.Common.{◌≡◌, ℕ, zero, suc, ◌+◌, Bool, true, fa
 use Rattle.std.specs.Prelude.{MatchBool, if◌then◌else◌}
 use Rattle.std.specs.List.{list_all}
 use Rattle.std.proofs.lemmas.List.{drop-drop}
-use Rattle.aidl_base.proofs.Tests.{both}
+use Rattle.aidl_base.proofs.lemmas.Tests.{both}
 use Rattle.aidl_schema.specs.declared.schema.AidlType.{AidlType}
 use Rattle.aidl_schema.specs.declared.schema.Arg.{Arg}
 use Rattle.aidl_schema.specs.declared.schema.Backing.TheVariants as backing
@@ -22,7 +22,7 @@ use Rattle.aidl_schema.specs.Names.{methods_of}
 use Rattle.aidl_schema.specs.Types.{Form, form_of, form_of_kind, form_of_decl, is_one, is_raw, is_type, is_meant, elem}
 use Rattle.aidl_schema.specs.Types as form
 use Rattle.aidl_schema.specs.Valid.{IsValid}
-use Rattle.aidl_schema.proofs.Elements.{elem_is_type}
+use Rattle.aidl_schema.proofs.lemmas.Elements.{elem_is_type}
 use Rattle.marshal_plans.specs.declared.plans.PlanId.{PlanId}
 use Rattle.marshal_plans.specs.declared.plans.PlanItem.{PlanItem}
 use Rattle.marshal_plans.specs.declared.plans.PlanItem.TheVariants.{Raw, Seq}
@@ -31,7 +31,7 @@ use Rattle.marshal_plans.specs.declared.plans.Plans.{Plans}
 use Rattle.marshal_plans.specs.Slots.{Slot, argument_slots, result_slots, method_slots, slots_from, slots}
 use Rattle.marshal_plans.specs.Standing.{OneForOne, StandsFor, IsEntryOf, AreEntriesOf, IsOneItem, IsManyItem, IsItemOf, first_of, IsStartOf, StandFor}
 use Rattle.marshal_plans.specs.steps.Compiled.{firsts_from, first_in, one_item, single, Added, pushed, sequence_after, added, entered, with_fields, with_decls, started, with_arguments, with_result, with_method, with_methods, with_interfaces, extended, with_extras}
-use Rattle.marshal_plans.proofs.Matching.{same_length, both_more, matched, matched_with, front_matches, rest_matches, weaker, get_front, get_last}
+use Rattle.marshal_plans.proofs.lemmas.Matching.{same_length, both_more, matched, matched_with, front_matches, rest_matches, weaker, get_front, get_last}
 
 -- the fields of all declarations
 abbrev pub decl_fields : List Decl → List Field

@@ -1,5 +1,4 @@
-//! A store, a sink and links in memory: a link that passes all, and objects that keep what they are given and fail where they
-//! are told to.
+//! A store, a sink and links in memory, which keep what they are given and fail where they are told to.
 #![tactic(auto)]
 
 mod carry_log;
@@ -7,7 +6,6 @@ mod edits;
 mod failures;
 mod mem_sink;
 mod mem_store;
-mod pass_link;
 mod record_link;
 mod tamper_link;
 
@@ -17,6 +15,5 @@ pub use failures::{
 };
 pub use mem_sink::MemSink;
 pub use mem_store::MemStore;
-pub use pass_link::PassLink;
 pub use record_link::RecordLink;
 pub use tamper_link::TamperLink;

@@ -17,19 +17,19 @@ use Rattle.name_meanings.specs.Resolution.{number_of, first_declared, imported, 
 use Rattle.declared_names.specs.Numbered.{in_each}
 use Rattle.declared_names.specs.steps.Ends.{mark_back, ends_in, ends_of, mark_of_import}
 use Rattle.name_meanings.specs.steps.Behind.{through, through_at, place_of, without, if_through, led, led_by, first_through}
-use Rattle.declared_names.proofs.SameNames.{same-right, same-turned}
-use Rattle.declared_names.proofs.Firsts.{found-first}
-use Rattle.declared_names.proofs.Compared.{same-split}
+use Rattle.declared_names.proofs.lemmas.SameNames.{same-right, same-turned}
+use Rattle.declared_names.proofs.lemmas.Firsts.{found-first}
+use Rattle.declared_names.proofs.lemmas.Compared.{same-split}
 use Rattle.name_meanings.proofs.Copies.{same_finds}
-use Rattle.name_meanings.proofs.Tables.{same_marks}
+use Rattle.name_meanings.proofs.lemmas.Tables.{same_marks}
 use Rattle.name_meanings.proofs.Through.{searched, through_all}
 
 -- an import has a whole name
-abbrev pub is_named : List Ident → Bor DottedTree → Bool
-is_named name i = same i.now.name.0 name
+abbrev pub has_name : List Ident → Bor DottedTree → Bool
+has_name name i = same i.now.name.0 name
 
 -- imports with the same whole name have the same mark
-pub named_marks : (name : List Ident) (i : Bor DottedTree) → is_named name i ≡ true → nat_eq (mark_of name) (mark_of_import i.now) ≡ true
+pub named_marks : (name : List Ident) (i : Bor DottedTree) → has_name name i ≡ true → nat_eq (mark_of name) (mark_of_import i.now) ≡ true
 named_marks name i h = eq-eqb (mark_of name) (mark_of_import i.now) (sym (same_marks 0 i.now.name.0 name h))
 
 -- what is found stands there and passes the test
@@ -168,8 +168,8 @@ module _ (es : List Entry) (first : Ident) (rest : List Ident) where
         let front = without name (length rest) in
         let s : same front x.now.name.0 ≡ true = front_same name x.now.name.0 rest e in
         let t : same x.now.name.0 front ≡ true = same-turned x.now.name.0 front ∙ s in
-        let w = found-first (is_named front) 0 imports i x (slice_get_within imports i x is) (sym (get_or_from_slice_get imports i x x is)) t in
-        let f = found_at (is_named front) 0 imports w.0 w.1 in
+        let w = found-first (has_name front) 0 imports i x (slice_get_within imports i x is) (sym (get_or_from_slice_get imports i x x is)) t in
+        let f = found_at (has_name front) 0 imports w.0 w.1 in
         let y : Bor DottedTree = f.1 in
         let u : same y.now.name.0 x.now.name.0 ≡ true = sym (same-right y.now.name.0 front x.now.name.0 s) ∙ f.4 in
         let k : w.0 ≡ f.0 = omega (arith, f.2) in

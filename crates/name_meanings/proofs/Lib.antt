@@ -1,8 +1,7 @@
 mod Ahead
 mod Candidates
 mod Copies
-pub mod Told
 mod Leads
 mod OfFiles
-pub mod Tables
 mod Through
+pub mod lemmas

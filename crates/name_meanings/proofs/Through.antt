@@ -10,8 +10,8 @@ use Rattle.declared_names.specs.Declarations.{Entry}
 use Rattle.declared_names.specs.Marks.{mark_of, mark_of_last}
 use Rattle.name_meanings.specs.Resolution.{first_declared, imported, or_else}
 use Rattle.name_meanings.proofs.Candidates.{first-append}
-use Rattle.declared_names.proofs.Chains.{HasMark, drop-more, marked}
-use Rattle.name_meanings.proofs.Tables.{same_marks}
+use Rattle.declared_names.proofs.lemmas.Chains.{HasMark, drop-more, marked}
+use Rattle.name_meanings.proofs.lemmas.Tables.{same_marks}
 
 module _ {X R : Type 0} (f : X → Option R) where
   -- the first that is found

@@ -1,7 +1,7 @@
-pub mod Digits
-pub mod Entries
-pub mod JsonTexts
-pub mod NamedBases
-pub mod Planned
-pub mod ReadValues
-pub mod WriteValues
+mod Digits
+mod Entries
+mod JsonTexts
+mod NamedBases
+mod Planned
+mod ReadValues
+mod WriteValues

@@ -5,7 +5,7 @@ use Rattle.aidl_schema.specs.declared.schema.Decl.{Decl}
 use Rattle.marshal_plans.specs.declared.plans.PlanId.{PlanId}
 use Rattle.marshal_plans.specs.declared.plans.Plans.{Plans}
 use Rattle.marshal_plans.specs.Standing.{IsOf, OneForOne, StandFor, StandsFor}
-use Rattle.marshal_plans.proofs.Matching.{weaker, same_length}
+use Rattle.marshal_plans.proofs.lemmas.Matching.{weaker, same_length}
 use Rattle.std.proofs.lemmas.List.{at_drop_more}
 use Rattle.aidl_schema.specs.Types.{no_type}
 use Rattle.aidl_base.specs.Readings.{Read, bad_value, not_enough, unexpected_null}

@@ -10,7 +10,7 @@ use Rattle.aidl_schema.specs.declared.schema.AidlType.{AidlType}
 use Rattle.aidl_values.specs.Data.{Data}
 use Rattle.aidl_values.specs.Fits.{Fits}
 use Rattle.json_values.specs.FromJson.{from_json_of}
-use Rattle.json_values.specs.Refusal.{Answer, Refusal, ◌>>=◌, refuse, within, wrong_shape}
+use Rattle.json_faults.specs.Refusal.{Answer, Refusal, ◌>>=◌, refuse, within, wrong_shape}
 use Rattle.parcel_answers.specs.JsonFile.{AreTyped, elements, values_from, values_of}
 
 -- the values read before, and the answer for the rest

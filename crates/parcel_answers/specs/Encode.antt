@@ -6,8 +6,8 @@ use Rattle.aidl_base.specs.declared.limit.LimitName.TheVariants.{ParcelBytes}
 use Rattle.aidl_schema.specs.declared.schema.Decl.{Decl}
 use Rattle.aidl_schema.specs.declared.schema.AidlType.{AidlType}
 use Rattle.aidl_values.specs.Data.{Data}
-use Rattle.json_values.specs.Refusal as refusal
-use Rattle.json_values.specs.Refusal.{Reason, Refusal, wrong_shape, out_of_range, unknown_key, unknown_enumerator, too_deep}
+use Rattle.json_faults.specs.Refusal as refusal
+use Rattle.json_faults.specs.Refusal.{Reason, Refusal, wrong_shape, out_of_range, unknown_key, unknown_enumerator, too_deep}
 use Rattle.wire_model.specs.Spell.{spell}
 use Rattle.tool_frame.specs.Answer.{Answer, Found, ◌>>=◌, done, negative}
 use Rattle.parcel_answers.specs.JsonFile.{json_of, values_of}

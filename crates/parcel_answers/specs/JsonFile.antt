@@ -10,8 +10,8 @@ use Rattle.aidl_schema.specs.declared.schema.AidlType.{AidlType}
 use Rattle.aidl_values.specs.Data.{Data}
 use Rattle.aidl_values.specs.Fits.{Fits}
 use Rattle.json_values.specs.FromJson.{from_json_of}
-use Rattle.json_values.specs.Gives.{refusal_of}
-use Rattle.json_values.specs.Refusal.{Answer, ◌>>=◌, Refusal, below, refuse, within, wrong_shape}
+use Rattle.json_faults.specs.Gives.{refusal_of}
+use Rattle.json_faults.specs.Refusal.{Answer, ◌>>=◌, Refusal, below, refuse, within, wrong_shape}
 use Rattle.parcel_answers.specs.declared.json_file.Unread.{Unread}
 use Rattle.parcel_answers.specs.declared.json_file.Unread.TheVariants as unread
 

@@ -23,7 +23,7 @@ use tool_frame::{Early, Printed, Verdict};
 use value_texts::push_value_text;
 
 /// What `decode` prints of a parcel's bytes, read by the profile.
-#[tactic(auto, using(tool_frame::proofs::EarlyEnds::ends_there))]
+#[tactic(auto, using(tool_frame::proofs::lemmas::EarlyEnds::ends_there))]
 pub fn decode(
     alloc: Global,
     profile: Profile,

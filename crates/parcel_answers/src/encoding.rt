@@ -5,7 +5,7 @@ ghost use Rattle.hex.specs.Hex.{encode_lower};
 ghost use Rattle.serde_json.specs.View.{view as json_view};
 ghost use Rattle.aidl_schema.specs.Types.{is_type};
 ghost use Rattle.aidl_values.specs.View.{view};
-ghost use Rattle.json_values.specs.Gives.{refusal_of};
+ghost use Rattle.json_faults.specs.Gives.{refusal_of};
 ghost use Rattle.parcel_cursors.specs.Written.{with_bytes};
 ghost use Rattle.tool_frame.specs.Answer.{done};
 ghost use Rattle.parcel_answers.specs.Encode.{encode_answer, json_found, reason_name, refused, spell_values, values_found};
@@ -20,7 +20,7 @@ use crate::steps::known_types;
 use aidl_base::{Limit, LimitName, OutOfMemory};
 use aidl_schema::{AidlType, Schema};
 use aidl_values::Value;
-use json_values::JsonFault;
+use json_faults::JsonFault;
 use marshal_plans::{Plans, compile};
 use parcel_words::WordWriter;
 use parcel_write::{put_value, spelled_length};
@@ -29,7 +29,7 @@ use std::alloc::Global;
 use tool_frame::{Early, Printed, Verdict, limit_passed, refusal};
 
 /// What `encode` prints of the text of its file.
-#[tactic(auto, using(tool_frame::proofs::EarlyEnds::ends_there))]
+#[tactic(auto, using(tool_frame::proofs::lemmas::EarlyEnds::ends_there))]
 pub fn encode(alloc: Global, schema: &Schema, types: &str, text: &[u8]) -> Result<Printed, Early>
     ensures { Gives result (encode_answer schema.now.decls types.now text.now) }
 {

@@ -4,13 +4,14 @@ ghost use Rattle.serde_json.specs.View.{view as json_view, items_view};
 ghost use Rattle.aidl_values.specs.Fits.{Fits};
 ghost use Rattle.aidl_values.specs.View.{view};
 ghost use Rattle.json_values.specs.FromJson.{from_json_of};
-ghost use Rattle.json_values.specs.Refusal.{within};
+ghost use Rattle.json_faults.specs.Refusal.{within};
 ghost use Rattle.parcel_answers.specs.JsonFile.{AreTyped, json_of, unread_refusal, values_from, values_of};
 
 use aidl_base::OutOfMemory;
 use aidl_schema::{AidlType, Schema};
 use aidl_values::Value;
-use json_values::{JsonFault, from_json};
+use json_faults::JsonFault;
+use json_values::from_json;
 use serde_json::Value as Json;
 use std::alloc::{AllocError, AllocFailed, Global};
 

@@ -1,5 +1,2 @@
-pub mod Appends
-pub mod Faults
-pub mod Moves
-pub mod Places
-pub mod Records
+mod Places
+pub mod lemmas

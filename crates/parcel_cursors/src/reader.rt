@@ -148,7 +148,7 @@ impl<'a> WordReader<'a> {
     /// Takes a text of at most 2147483647 units, where None is null. It refuses as `word` does; by `UnexpectedNull` a
     /// count of -1 unless it may be null; and by `BadValue` another negative count, and a block inside the limit whose
     /// units aren't well-formed UTF-16, whose next unit isn't zero, or whose padding the profile doesn't permit.
-    #[tactic(auto, using(crate::proofs::Moves::on_and_on), unfolding(aidl_base::specs::Readings::text_at))]
+    #[tactic(auto, using(crate::proofs::lemmas::Moves::on_and_on), unfolding(aidl_base::specs::Readings::text_at))]
     pub fn text(&mut self, alloc: Global, nullable: bool) -> Result<Option<String>, ReadFault>
         ensures taken { TakesIfMemory (option_map (λ x. chars (string_bytes x))) result
             (here (text_at self.old.profile nullable) self.old) (left self.new) }

@@ -1,7 +1,7 @@
 -- The default of an id is that of the type for which it stands.
 use Rattle.std.proofs.Common.{◌≡◌, ℕ, zero, suc, Bool, true, false, ◌&&◌, List, [], ◌∷◌, length, take, drop, Some, refl, ap, ◌∙◌}
 use Rattle.std.specs.Prelude.{MatchBool, if◌then◌else◌}
-use Rattle.aidl_base.proofs.Tests.{both}
+use Rattle.aidl_base.proofs.lemmas.Tests.{both}
 use Rattle.aidl_schema.specs.declared.schema.AidlType.{AidlType}
 use Rattle.aidl_schema.specs.declared.schema.Decl.{Decl}
 use Rattle.aidl_schema.specs.declared.schema.Field.{Field}
@@ -18,7 +18,7 @@ use Rattle.marshal_plans.specs.declared.plans.PlanItem.{PlanItem}
 use Rattle.marshal_plans.specs.declared.plans.PlanItem.TheVariants.{Raw, Seq}
 use Rattle.marshal_plans.specs.declared.plans.Plans.{Plans}
 use Rattle.marshal_plans.specs.Standing.{OneForOne, StandsFor, IsEntryOf, IsOneItem, IsItemOf, StandFor}
-use Rattle.marshal_plans.proofs.Matching.{matched}
+use Rattle.marshal_plans.proofs.lemmas.Matching.{matched}
 use Rattle.parcel_read.specs.steps.PlanDefault.{entry_default, entry_defaults, first_default, item_default, plan_default, initial_by_plan}
 
 -- one level, from parts that have the defaults of their types

@@ -2,26 +2,26 @@
 use Rattle.std.proofs.Common.{◌≡◌, ℕ, ℤ, ◌-◌, ◌*◌, ◌≤◌, Bool, true, List, ◌++◌, length, Ok, Err, sym, ap, ◌∙◌, subst, arith, length-append}
 use Rattle.std.specs.Prelude.{◌↔◌}
 use Rattle.aidl_base.specs.declared.profile.Profile.{Profile}
-use Rattle.aidl_base.proofs.Bytes.{AreBytes}
+use Rattle.aidl_base.proofs.lemmas.Lists.{AreBytes}
 use Rattle.aidl_schema.specs.declared.schema.AidlType.{AidlType}
 use Rattle.aidl_schema.specs.declared.schema.Decl.{Decl}
 use Rattle.aidl_schema.specs.Sizes.{AreSteady}
 use Rattle.aidl_schema.specs.Types.{is_type}
 use Rattle.aidl_schema.specs.Valid.{IsValid}
-use Rattle.aidl_schema.proofs.Counts.{depth_steady, nodes_steady}
-use Rattle.aidl_schema.proofs.Valids.{all_hold}
+use Rattle.aidl_schema.proofs.lemmas.Counts.{depth_steady, nodes_steady}
+use Rattle.aidl_schema.proofs.lemmas.Valids.{all_hold}
 use Rattle.aidl_values.specs.Data.{Data}
 use Rattle.aidl_values.specs.Default.{IsZero}
 use Rattle.aidl_values.specs.HasType.{HasType}
 use Rattle.aidl_values.specs.Nodes.{nodes_of}
 use Rattle.aidl_values.specs.Sound.{IsSound}
-use Rattle.aidl_values.proofs.Sounds.{is_sound, default_fits, one_default}
+use Rattle.aidl_values.proofs.lemmas.Sounds.{is_sound, default_fits, one_default}
 use Rattle.wire_model.specs.ReadOf.{read_of}
 use Rattle.wire_model.specs.Reads.{Reads}
 use Rattle.wire_model.specs.Stop.{Stop}
-use Rattle.wire_model.proofs.Nodes.{nodes}
-use Rattle.wire_model.proofs.Reading.{reads_read, read_reads, read_typed, stop_read, read_stop}
-use Rattle.wire_model.proofs.Sound.{is_whole}
+use Rattle.wire_model.proofs.lemmas.Nodes.{nodes}
+use Rattle.wire_model.proofs.lemmas.Reading.{reads_read, read_reads, read_typed, stop_read, read_stop}
+use Rattle.wire_model.proofs.lemmas.Sound.{is_whole}
 
 module _ (p : Profile) (S : List Decl) (valid : IsValid S) (t : AidlType) (known : is_type S t ≡ true) (d : ℕ) (b : List ℕ) (bytes : AreBytes b) (inside : Bool) where
   steady : AreSteady S

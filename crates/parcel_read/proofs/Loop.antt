@@ -4,10 +4,10 @@ use Rattle.std.proofs.lemmas.List.{drop_all}
 use Rattle.aidl_base.specs.Readings.{Read, ◌>>=◌}
 use Rattle.aidl_values.specs.Data.{Data, Items, item}
 use Rattle.aidl_values.specs.View.{items_of}
-use Rattle.aidl_values.proofs.Fronts.{onto, onto-push, onto-none, with_front, front_more}
+use Rattle.aidl_values.proofs.lemmas.Fronts.{onto, onto-push, onto-none, with_front, front_more}
 use Rattle.parcel_cursors.specs.declared.fault.ReadFault.{ReadFault}
 use Rattle.parcel_cursors.specs.Taken.{RefusesIfMemory}
-use Rattle.parcel_cursors.proofs.Faults.{fails_as}
+use Rattle.parcel_cursors.proofs.lemmas.Faults.{fails_as}
 use Rattle.wire_model.specs.ReadOf.{each_at}
 use Rattle.marshal_plans.specs.declared.plans.PlanField.{PlanField}
 use Rattle.marshal_plans.specs.declared.plans.PlanId.{PlanId}

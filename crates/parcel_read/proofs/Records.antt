@@ -13,8 +13,8 @@ use Rattle.parcel_cursors.specs.Taken.{RefusesIfMemory}
 use Rattle.parcel_cursors.specs.declared.fault.ReadFault.{ReadFault}
 use Rattle.wire_model.specs.ReadOf.{body_at}
 use Rattle.parcel_read.specs.steps.PlanRead.{entries_body_at, entries_at}
-use Rattle.parcel_cursors.proofs.Faults.{fails_as}
-use Rattle.parcel_cursors.proofs.Records.{left_moved, left_opened}
+use Rattle.parcel_cursors.proofs.lemmas.Faults.{fails_as}
+use Rattle.parcel_cursors.proofs.lemmas.Records.{left_moved, left_opened}
 
 -- a body after its size, which is there and fits
 abbrev after_size : Read ℕ → Read (List ℕ)

@@ -18,7 +18,7 @@ use Rattle.marshal_plans.specs.declared.plans.PlanItem.{PlanItem}
 use Rattle.marshal_plans.specs.declared.plans.PlanItem.TheVariants.{Raw, Seq}
 use Rattle.marshal_plans.specs.declared.plans.Plans.{Plans}
 use Rattle.marshal_plans.specs.Standing.{OneForOne, StandsFor, IsEntryOf, IsOneItem, IsManyItem, IsItemOf, StandFor}
-use Rattle.marshal_plans.proofs.Matching.{matched}
+use Rattle.marshal_plans.proofs.lemmas.Matching.{matched}
 use Rattle.parcel_read.specs.steps.PlanDefault.{initial_by_plan}
 use Rattle.parcel_read.specs.steps.PlanRead.{entry_at, entries_at, entries_body_at, plan_record_at, ok_entry, plan_tagged_at, plan_union_at, item_at, item_or_none_at, plan_read}
 use Rattle.parcel_read.proofs.Defaults.{initial_is}

@@ -2,7 +2,7 @@
 use Rattle.std.proofs.Common.{◌≡◌, ℕ, ℤ, ◌+◌, ◌-◌, ◌≤◌, Bool, false, List, [], ◌++◌, length, take, drop, Ok, Err, IfSome, refl, sym, ap, ◌∙◌, subst, arith, length-append, length-drop}
 use Rattle.std.proofs.lemmas.List.{take_all, take-append-drop}
 use Rattle.std.specs.Prelude.{◌↔◌}
-use Rattle.aidl_base.proofs.Lists.{take_front}
+use Rattle.aidl_base.proofs.lemmas.Lists.{take_front}
 use Rattle.aidl_base.specs.Readings.{Read, bad_value, not_enough, unexpected_null}
 use Rattle.aidl_base.specs.declared.profile.Profile.{Profile}
 use Rattle.aidl_values.specs.Data.{Data}

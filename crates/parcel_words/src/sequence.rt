@@ -38,7 +38,7 @@ pub fn put_sequence<W: Wire>(items: &[W], to: &mut WordWriter)
 
 /// Takes a sequence, where None is null. It refuses as `word` does, by the rules for counts, and as an item is refused.
 /// It takes room for an item only once the item was read.
-#[tactic(auto, using(parcel_cursors::proofs::Moves::on_and_on), unfolding(aidl_base::specs::Readings::sequence_at))]
+#[tactic(auto, using(parcel_cursors::proofs::lemmas::Moves::on_and_on), unfolding(aidl_base::specs::Readings::sequence_at))]
 pub fn take_sequence<W: Wire>(
     alloc: Global,
     nullable: bool,

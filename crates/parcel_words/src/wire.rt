@@ -81,7 +81,7 @@ impl Wire for bool {
         Ok(word != 0)
     }
 
-    ghost use Rattle.aidl_base.proofs.Values.{truth_again, truth_prefix};
+    ghost use Rattle.aidl_base.proofs.lemmas.Values.{truth_again, truth_prefix};
 
     ghost taken_again = { λ x p inside rest _ _. truth_again p x inside rest };
 
@@ -118,7 +118,7 @@ impl Wire for i8 {
         Ok(low.cast_signed())
     }
 
-    ghost use Rattle.aidl_base.proofs.Values.{byte_again, byte_prefix};
+    ghost use Rattle.aidl_base.proofs.lemmas.Values.{byte_again, byte_prefix};
 
     ghost taken_again = { λ x p inside rest value _. byte_again p x inside rest value };
 
@@ -154,7 +154,7 @@ impl Wire for u16 {
         Ok((word.cast_unsigned() % 65_536) as u16)
     }
 
-    ghost use Rattle.aidl_base.proofs.Values.{char_again, char_prefix};
+    ghost use Rattle.aidl_base.proofs.lemmas.Values.{char_again, char_prefix};
 
     ghost taken_again = { λ x p inside rest value _. char_again p x inside rest value };
 
@@ -183,8 +183,8 @@ impl Wire for i32 {
         from.word()
     }
 
-    ghost use Rattle.aidl_base.proofs.Words.{word_again};
-    ghost use Rattle.aidl_base.proofs.Values.{word_prefix};
+    ghost use Rattle.aidl_base.proofs.lemmas.Words.{word_again};
+    ghost use Rattle.aidl_base.proofs.lemmas.Values.{word_prefix};
 
     ghost taken_again = { λ x _ inside rest value _. word_again x inside rest value };
 
@@ -213,8 +213,8 @@ impl Wire for i64 {
         from.long()
     }
 
-    ghost use Rattle.aidl_base.proofs.Words.{long_again};
-    ghost use Rattle.aidl_base.proofs.Values.{long_prefix};
+    ghost use Rattle.aidl_base.proofs.lemmas.Words.{long_again};
+    ghost use Rattle.aidl_base.proofs.lemmas.Values.{long_prefix};
 
     ghost taken_again = { λ x _ inside rest value _. long_again x inside rest value };
 
@@ -247,7 +247,7 @@ impl Wire for Text {
         }
     }
 
-    ghost use Rattle.aidl_base.proofs.Spelled.{present_text_again, text_prefix};
+    ghost use Rattle.aidl_base.proofs.lemmas.Spelled.{present_text_again, text_prefix};
 
     ghost taken_again = { λ x p inside rest value can. present_text_again p x inside rest value can };
 

@@ -7,7 +7,7 @@ use Rattle.aidl_values.specs.declared.value.Value.{Value}
 use Rattle.marshal_plans.specs.declared.plans.PlanId.{PlanId}
 use Rattle.marshal_plans.specs.declared.plans.Plans.{Plans}
 use Rattle.wire_model.specs.Spell.{raw_bytes}
-use Rattle.wire_model.proofs.spelled.Sizes.{length-pad, length-raw_bytes}
+use Rattle.wire_model.proofs.lemmas.spelled.Sizes.{length-pad, length-raw_bytes}
 use Rattle.parcel_write.specs.steps.PlanSpell.{is_raw_item, item_of, plan_spell}
 
 pub count_views : (vs : List Value) → count (views vs) ≡ length vs

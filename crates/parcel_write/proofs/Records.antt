@@ -1,7 +1,7 @@
 -- A record's marker, size and fields, one after the other.
 use Rattle.std.proofs.Common.{◌≡◌, ℕ, ◌+◌, ◌-◌, pos, List, ◌++◌, length, take, drop, refl, ap, ◌∙◌, arith, append_assoc, length-append}
 use Rattle.aidl_base.specs.Words.{word}
-use Rattle.aidl_base.proofs.Lists.{take_front, drop_front}
+use Rattle.aidl_base.proofs.lemmas.Lists.{take_front, drop_front}
 use Rattle.wire_model.specs.Spell.{body}
 use Rattle.parcel_cursors.specs.Written.{Written, with_bytes, sized, with_size}
 

@@ -3,14 +3,14 @@ use Rattle.std.proofs.Common.{◌≡◌, ℕ, ◌<◌, ◌^◌, ℤ, pos, negsuc
 use Rattle.std.specs.Prelude.{MatchBool, if◌then◌else◌}
 use Rattle.std.proofs.lemmas.Option.{slice_get_within}
 use Rattle.aidl_base.specs.Words.{word, pad}
-use Rattle.aidl_base.proofs.Ranges.{byte_fits, byte_fits_word, char_fits, int_fits}
+use Rattle.aidl_base.proofs.lemmas.Ranges.{byte_fits, byte_fits_word, char_fits, int_fits}
 use Rattle.aidl_schema.specs.declared.schema.AidlType.{AidlType}
 use Rattle.aidl_schema.specs.declared.schema.Decl.{Decl}
 use Rattle.aidl_schema.specs.declared.schema.Field.{Field}
 use Rattle.aidl_schema.specs.Constants.{in_range}
 use Rattle.aidl_schema.specs.Types.{Form, form_of, is_one, is_array, is_byte, is_raw, elem, type_of_field}
 use Rattle.aidl_schema.specs.Types as form
-use Rattle.aidl_base.proofs.Tests.{both}
+use Rattle.aidl_base.proofs.lemmas.Tests.{both}
 use Rattle.aidl_values.specs.Data.{Data, null, truth, number, text, seq, rec, alt, Items, none, item, count}
 use Rattle.aidl_values.specs.HasType.{HasType, HaveType, FieldsHaveType}
 use Rattle.wire_model.specs.Spell.{spell, spell_items, spell_fields, spell_number, null_word, parcelable_fields, union_fields, raw_bytes, body}
@@ -20,7 +20,7 @@ use Rattle.marshal_plans.specs.declared.plans.PlanItem.{PlanItem}
 use Rattle.marshal_plans.specs.declared.plans.PlanItem.TheVariants.{Raw, Seq}
 use Rattle.marshal_plans.specs.declared.plans.Plans.{Plans}
 use Rattle.marshal_plans.specs.Standing.{OneForOne, StandsFor, IsEntryOf, IsOneItem, IsManyItem, IsItemOf, StandFor}
-use Rattle.marshal_plans.proofs.Matching.{matched}
+use Rattle.marshal_plans.proofs.lemmas.Matching.{matched}
 use Rattle.parcel_write.specs.steps.Bytes.{AreByteValues}
 use Rattle.parcel_write.specs.steps.PlanSpell.{number_by, null_word_by, is_raw_item, element_of, record_entries, union_entries, id_of_entry, item_of, plan_spell, plan_spell_items, plan_spell_entries, SuitsNumber, Suits, EachSuits, EntriesSuit}
 

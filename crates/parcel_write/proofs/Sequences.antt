@@ -1,7 +1,7 @@
 -- The parts of a sequence's spelling.
 use Rattle.std.proofs.Common.{◌≡◌, ℕ, ◌^◌, ◌<◌, ◌≤◌, ℤ, pos, Bool, true, false, List, ◌++◌, length, Option, Some, None, slice_get, refl, ap, arith, length-append}
 use Rattle.aidl_base.specs.Words.{word, pad}
-use Rattle.aidl_base.proofs.Spelled.{length-spell_text}
+use Rattle.aidl_base.proofs.lemmas.Spelled.{length-spell_text}
 use Rattle.aidl_values.specs.Data.{Data, null, truth, number, text, seq, rec, alt, Items, none, item, count}
 use Rattle.aidl_values.specs.View.{views}
 use Rattle.aidl_values.specs.declared.value.Value.{Value}
@@ -11,7 +11,7 @@ use Rattle.marshal_plans.specs.declared.plans.PlanItem.TheVariants.{Word, Long, 
 use Rattle.marshal_plans.specs.declared.plans.Plans.{Plans}
 use Rattle.wire_model.specs.Spell.{raw_bytes, body}
 use Rattle.parcel_cursors.specs.Written.{Written, with_bytes}
-use Rattle.parcel_cursors.proofs.Appends.{with_more}
+use Rattle.parcel_cursors.proofs.lemmas.Appends.{with_more}
 use Rattle.parcel_write.specs.steps.PlanSpell.{number_by, is_raw_item, element_of, record_entries, union_entries, id_of_entry, item_of, plan_spell, plan_spell_items, plan_spell_entries}
 use Rattle.parcel_write.proofs.Raw.{count_views, length_raw_sequence}
 

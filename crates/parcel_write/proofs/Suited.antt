@@ -2,16 +2,16 @@
 use Rattle.std.proofs.Common.{◌≡◌, List, arith}
 use Rattle.aidl_schema.specs.declared.schema.AidlType.{AidlType}
 use Rattle.aidl_schema.specs.declared.schema.Decl.{Decl}
-use Rattle.aidl_schema.proofs.Counts.{depth_steady, nodes_steady}
-use Rattle.aidl_schema.proofs.Valids.{all_hold}
+use Rattle.aidl_schema.proofs.lemmas.Counts.{depth_steady, nodes_steady}
+use Rattle.aidl_schema.proofs.lemmas.Valids.{all_hold}
 use Rattle.aidl_values.specs.Data.{Data}
 use Rattle.aidl_values.specs.Fits.{Fits}
-use Rattle.aidl_values.proofs.Sounds.{is_sound}
+use Rattle.aidl_values.proofs.lemmas.Sounds.{is_sound}
 use Rattle.marshal_plans.specs.declared.plans.PlanId.{PlanId}
 use Rattle.marshal_plans.specs.declared.plans.Plans.{Plans}
 use Rattle.marshal_plans.specs.Standing.{IsOf}
 use Rattle.wire_model.specs.Spell.{spell}
-use Rattle.wire_model.proofs.Sound.{is_whole}
+use Rattle.wire_model.proofs.lemmas.Sound.{is_whole}
 use Rattle.parcel_write.specs.steps.PlanSpell.{Suits, plan_spell}
 use Rattle.parcel_write.proofs.SameSpellings.{same_spelling, suits}
 

@@ -9,7 +9,7 @@ use aidl_values::Value;
 use parcel_words::WordWriter;
 
 /// Appends the elements of an array of bytes, one raw byte each, and their padding.
-#[tactic(auto, using(crate::proofs::Raw::length_raw, parcel_cursors::proofs::Appends::with_more))]
+#[tactic(auto, using(crate::proofs::Raw::length_raw, parcel_cursors::proofs::lemmas::Appends::with_more))]
 pub(crate) fn put_raw(items: &[Value], to: &mut WordWriter)
     requires bytes { AreByteValues (views items.now) }
     requires room { length (pad (raw_bytes (views items.now))) ≤ to.old.room }

@@ -92,7 +92,7 @@ fn put_tag(tag: u32, to: &mut WordWriter)
 
 /// Appends the elements of a sequence.
 #[cycle(put)]
-#[tactic(auto, using(parcel_cursors::proofs::Appends::with_more, parcel_cursors::proofs::Appends::with_none))]
+#[tactic(auto, using(parcel_cursors::proofs::lemmas::Appends::with_more, parcel_cursors::proofs::lemmas::Appends::with_none))]
 fn put_items(plans: &Plans, element: PlanId, items: &[Value], to: &mut WordWriter)
     requires suits { EachSuits plans.now element (views items.now) }
     requires small { length (plan_spell_items plans.now element (views items.now)) < 2 ^ 31 }

@@ -3,7 +3,7 @@ use Rattle.std.proofs.Common.{◌≡◌, ℕ, zero, suc, Bool, true, false, ◌&
 use Rattle.std.specs.List.{list_all}
 use Rattle.parse_places.specs.declared.terminal.Terminal.{Terminal}
 use Rattle.parse_places.specs.declared.terminal.Terminal.TheVariants as terminal
-use Rattle.parse_places.proofs.Follows.{terminals}
+use Rattle.parse_places.proofs.runs.Follows.{terminals}
 
 pub and_parts : (a b : Bool) → (a && b) ≡ true → (a ≡ true) × (b ≡ true)
 and_parts true b e = (refl, e)

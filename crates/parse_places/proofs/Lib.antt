@@ -1,20 +1,7 @@
-pub mod Stacks
-pub mod Runs
-pub mod Follows
-pub mod Tables
-pub mod Bools
-pub mod Steps
-pub mod Tokens
-pub mod Finish
-pub mod Walks
-pub mod Laws
-pub mod Lists
-pub mod TypeLaws
-pub mod ExpressionLaws
-pub mod AnnotationLaws
-pub mod MemberLaws
-pub mod MethodLaws
-pub mod DeclLaws
-pub mod FileLaws
-pub mod Viability
-pub mod Examples
+mod Bools
+mod Examples
+mod Tables
+mod Tokens
+mod Viability
+mod productions
+mod runs

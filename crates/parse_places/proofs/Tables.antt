@@ -8,7 +8,7 @@ use Rattle.parse_places.specs.declared.expected.Expected.{Expected}
 use Rattle.parse_places.specs.declared.expected.Expected.TheVariants.{Token, Once, Maybe, Many, Commas, MaybeListed, CommasTrailing, MaybeTrailing}
 use Rattle.parse_places.specs.steps.Rows.{row}
 use Rattle.parse_places.specs.steps.Moves.{same_terminal, moves, skips}
-use Rattle.parse_places.proofs.Follows.{refuses, proper, may_begin, apart, fits, fits_maybe, guards, right}
+use Rattle.parse_places.proofs.runs.Follows.{refuses, proper, may_begin, apart, fits, fits_maybe, guards, right}
 
 once_right : (x : Part) → right (Once x) ≡ true
 unfolding row same_terminal moves skips refuses proper may_begin apart fits fits_maybe guards right

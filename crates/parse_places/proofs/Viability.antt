@@ -13,12 +13,12 @@ use Rattle.parse_places.specs.steps.Rows.{row}
 use Rattle.parse_places.specs.steps.Moves.{same_terminal, moves, skips}
 use Rattle.parse_places.specs.steps.Places.{place_from, whole}
 use Rattle.parse_places.specs.Viable.{HasTree, Viable, IsFaultPlace}
-use Rattle.parse_places.proofs.Runs.{Run, Goes, goes_map}
-use Rattle.parse_places.proofs.Follows.{refuses, proper, may_begin, apart, fits}
-use Rattle.parse_places.proofs.Steps.{all, Good, good_append}
-use Rattle.parse_places.proofs.Finish.{finish}
-use Rattle.parse_places.proofs.Walks.{run_none, none_run, Stops, place_stops}
-use Rattle.parse_places.proofs.FileLaws.{file_law}
+use Rattle.parse_places.proofs.runs.Runs.{Run, Goes, goes_map}
+use Rattle.parse_places.proofs.runs.Follows.{refuses, proper, may_begin, apart, fits}
+use Rattle.parse_places.proofs.runs.Steps.{all, Good, good_append}
+use Rattle.parse_places.proofs.runs.Finish.{finish}
+use Rattle.parse_places.proofs.runs.Walks.{run_none, none_run, Stops, place_stops}
+use Rattle.parse_places.proofs.productions.FileLaws.{file_law}
 
 whole_fits : fits whole all ≡ true
 unfolding row same_terminal moves skips refuses proper may_begin apart fits

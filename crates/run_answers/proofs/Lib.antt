@@ -1,3 +1,3 @@
-pub mod Cuts
-pub mod Lines
-pub mod Projecting
+mod Cuts
+mod Lines
+mod Projecting

@@ -25,8 +25,8 @@ use Rattle.tool_frame.specs.Meaning.{AreDue}
 use Rattle.tool_frame.specs.Parcel.{Parcel, parcel_of}
 use Rattle.tool_frame.specs.Seen.{Seen}
 use Rattle.tool_frame.specs.steps.Courses.{due_in, AreFaithful, CarriedBy, ComesTo, RanCourse, Went}
-use Rattle.tool_frame.proofs.Courses.{comes_on, due_front, nothing_told, put_cut, put_went, ran_end, went_ended, went_on}
-use Rattle.tool_frame.proofs.Endings.{not_verdict}
+use Rattle.tool_frame.proofs.lemmas.Courses.{comes_on, due_front, nothing_told, put_cut, put_went, ran_end, went_ended, went_on}
+use Rattle.tool_frame.proofs.lemmas.Endings.{not_verdict}
 use Rattle.wire_model.specs.Calls.{AnswerData}
 use Rattle.wire_model.specs.Receiver.{Received, client}
 

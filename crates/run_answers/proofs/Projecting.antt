@@ -29,8 +29,8 @@ use Rattle.tool_frame.specs.declared.printed.Printed.{Printed}
 use Rattle.tool_frame.specs.declared.verdict.Verdict.TheVariants.{Done}
 use Rattle.tool_frame.specs.Verdict.{IsVerdict}
 use Rattle.tool_frame.specs.steps.Results.{printed}
-use Rattle.tool_frame.proofs.Courses.{adds_both, nothing_told}
-use Rattle.tool_frame.proofs.Endings.{not_verdict}
+use Rattle.tool_frame.proofs.lemmas.Courses.{adds_both, nothing_told}
+use Rattle.tool_frame.proofs.lemmas.Endings.{not_verdict}
 use Rattle.wire_model.specs.Requests.{request}
 
 -- a put that fails has no exit of an answer

@@ -2,7 +2,7 @@
 ghost use Rattle.std.specs.Prelude.{◌≡◌, true, IfErr, IfOk};
 ghost use Rattle.aidl_outside.specs.Told.{Adds};
 ghost use Rattle.call_runner.specs.Runs.{IsTyped, line_data};
-ghost use Rattle.call_scripts.specs.Planned.{ArePlansOf};
+ghost use Rattle.call_pieces.specs.Planned.{ArePlansOf};
 ghost use Rattle.call_scripts.specs.Script.{script};
 ghost use Rattle.run_answers.specs.CallLines.{lines_of};
 ghost use Rattle.run_answers.specs.Projected.{Projects, projected_piece, projected_text};

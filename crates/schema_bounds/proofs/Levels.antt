@@ -15,7 +15,7 @@ use Rattle.aidl_schema.specs.Sizes.{const_depth, const_nodes, initial_size, fiel
 use Rattle.aidl_schema.specs.Types.{Form, form_of, form_of_kind, form_of_decl, is_one}
 use Rattle.aidl_schema.specs.Types as form
 use Rattle.aidl_schema.specs.Valid.{one_of}
-use Rattle.aidl_schema.proofs.Counts.{default_depth-by, default_nodes-by}
+use Rattle.aidl_schema.proofs.lemmas.Counts.{default_depth-by, default_nodes-by}
 use Rattle.schema_bounds.specs.declared.measure.Measure.{Measure}
 use Rattle.schema_bounds.specs.declared.measure.Measure.TheVariants.{Depth, Nodes}
 use Rattle.schema_bounds.proofs.Totals.{greatest_is, sum_is}

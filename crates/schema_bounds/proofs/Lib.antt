@@ -1,6 +1,6 @@
-pub mod Chains
-pub mod Graphs
-pub mod Levels
-pub mod Lists
-pub mod Smalls
-pub mod Totals
+mod Graphs
+mod Levels
+mod Lists
+mod Smalls
+mod Totals
+pub mod lemmas

@@ -1,5 +1,4 @@
 use crate::evaluation::constant_text;
-use crate::outline::Outline;
 use crate::place::shown_place;
 use crate::tokens::shown_tokens;
 use aidl_base::{LimitName, OutOfMemory};
@@ -7,6 +6,7 @@ use aidl_lexer::{LexFault, lex};
 use aidl_parser::{ParseFault, parse};
 use aidl_syntax::{FileTree, Token};
 use std::alloc::Global;
+use tree_outlines::Outline;
 
 /// What is asked of a source text.
 #[derive(Clone, Copy)]

@@ -1,6 +1,2 @@
-pub mod Courses
-pub mod EarlyEnds
-pub mod Endings
-pub mod Loaded
-pub mod TreeFiles
-pub mod Writings
+mod TreeFiles
+pub mod lemmas

@@ -1,3 +1,3 @@
-pub mod Commas
-pub mod Cuts
-pub mod Decimals
+mod Commas
+mod Cuts
+mod Decimals

@@ -1,4 +1,4 @@
-pub mod Short
-pub mod Adding
-pub mod Results
-pub mod OneAnswer
+mod Short
+mod Adding
+mod Results
+mod OneAnswer

@@ -2,7 +2,7 @@
 use Rattle.std.proofs.Common.{◌≡◌, ◌≢◌, ◌⊎◌, ◌<◌, ◌≤◌, ◌+◌, ℕ, zero, suc, List, [], ◌∷◌, ◌++◌, take, length, Option, Some, None, slice_get, inl, inr, refl, sym, ◌∙◌, ap, subst, append_assoc, arith}
 use Rattle.aidl_base.specs.declared.source_file.SourceFile.{SourceFile}
 use Rattle.aidl_schema.specs.declared.schema.Decl.{Decl}
-use Rattle.aidl_lexer.proofs.meaning.OneLexing.{one_list}
+use Rattle.aidl_lexer.proofs.lemmas.meaning.OneLexing.{one_list}
 use Rattle.aidl_syntax.specs.declared.token.Token.{Token}
 use Rattle.parse_places.specs.Viable.{HasTree, Viable, IsFaultPlace}
 use Rattle.tool_frame.specs.Answer.{Answer}

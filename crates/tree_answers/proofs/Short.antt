@@ -6,7 +6,7 @@ use Rattle.std.proofs.lemmas.List.Elements.{All-nil, All-cons}
 use Rattle.std.proofs.lemmas.Option.{slice_get_within, get_or_from_slice_get}
 use Rattle.aidl_base.specs.declared.limit.LimitName.{LimitName}
 use Rattle.aidl_base.specs.declared.source_file.SourceFile.{SourceFile}
-use Rattle.aidl_base.proofs.Tests.{neither}
+use Rattle.aidl_base.proofs.lemmas.Tests.{neither}
 use Rattle.tree_files.specs.Sizes.{is_long, oversized}
 
 -- neither of two tests found a limit

@@ -1,5 +1,4 @@
-pub mod Rows
-pub mod Limits
-pub mod Standing
-pub mod OneAnswer
-pub mod OfBytes
+mod Limits
+mod Rows
+mod Standing
+pub mod lemmas

@@ -3,7 +3,7 @@ use Rattle.std.proofs.Common.{nat_eq, ◌≡◌, ◌≢◌, ℕ, true, false, Li
 use Rattle.std.specs.List.{AllZip}
 use Rattle.std.proofs.lemmas.List.Elements.{All-push}
 use Rattle.std.specs.Option.{is_none}
-use Rattle.aidl_base.proofs.Tests.{both}
+use Rattle.aidl_base.proofs.lemmas.Tests.{both}
 use Rattle.aidl_base.specs.declared.limit.LimitName.{LimitName}
 use Rattle.aidl_base.specs.declared.source_file.SourceFile.{SourceFile}
 use Rattle.aidl_syntax.specs.declared.tree.ParsedFile.{ParsedFile}
@@ -11,7 +11,7 @@ use Rattle.aidl_syntax.specs.declared.token.Token.{Token}
 use Rattle.aidl_syntax.specs.Tokens.{Tokens}
 use Rattle.aidl_syntax.specs.Productions.{IsFile}
 use Rattle.aidl_syntax.specs.Trees.{File, file_of}
-use Rattle.aidl_lexer.proofs.meaning.OneLexing.{one_list}
+use Rattle.aidl_lexer.proofs.lemmas.meaning.OneLexing.{one_list}
 use Rattle.aidl_lexer.specs.declared.fault.LexFault.{LexFault}
 use Rattle.aidl_lexer.specs.declared.fault.LexFault.TheVariants as lexical
 use Rattle.aidl_lexer.specs.Naming.{number_of, offset_of}

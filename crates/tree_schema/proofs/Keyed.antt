@@ -7,7 +7,7 @@ use Rattle.std.specs.Ordering.{nat_cmp, match_ordering}
 use Rattle.std.specs.FinMap.{slice_cmp-IsAntisymmetric, nat_cmp-IsAntisymmetric}
 use Rattle.std.specs.BTreeMap.{insert_entry}
 use Rattle.tree_schema.specs.Keyed.{IsKeyed}
-use Rattle.tree_schema.proofs.walked.Placed.{placed}
+use Rattle.tree_schema.proofs.lemmas.walked.Placed.{placed}
 
 module _ {K X V : Type 0} (text : K → List ℕ) (see : X → V) (key : V → List ℕ) where
   abbrev pub seen : K × X → V

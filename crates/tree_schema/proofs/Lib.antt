@@ -1,9 +1,9 @@
-mod Dotted
-mod Keyed
-mod InOrder
 mod Few
-pub mod walked
-pub mod named
-pub mod typed
-pub mod settled
-pub mod valued
+mod InOrder
+mod Keyed
+pub mod lemmas
+mod named
+mod settled
+mod typed
+mod valued
+mod walked

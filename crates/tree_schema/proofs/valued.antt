@@ -1,7 +1,5 @@
 -- Rules 5 to 7 of a valid schema: constants, initializers, enumerators.
-pub mod Checked
 pub mod Constants
 pub mod Enums
-pub mod EnumsFilled
 pub mod EnumsNamed
 pub mod Initials

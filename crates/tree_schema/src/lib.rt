@@ -10,7 +10,6 @@ mod laws;
 mod methods;
 mod numbers;
 mod order;
-mod texts;
 
 pub use drafting::draft;
 pub use laws::{law_named, law_valid};

@@ -3,8 +3,7 @@ ghost use Rattle.declared_names.specs.Entries.{entry_of};
 ghost use Rattle.schema_parts.specs.Numbers as meant;
 ghost use Rattle.schema_parts.specs.TreeViews.{numbered_of};
 
-use crate::texts::name_text;
-use aidl_base::OutOfMemory;
+use aidl_base::{OutOfMemory, joined_by_dots};
 use declared_names::Found;
 use schema_parts::Placed;
 use std::alloc::Global;
@@ -21,7 +20,7 @@ pub fn sorted<'a, 'b>(
 {
     let mut places = BTreeMap::new(alloc);
     for (i, f) in found.iter().enumerate() {
-        let text = name_text(alloc, f.name.0.as_slice())?;
+        let text = joined_by_dots(alloc, f.name.0.as_slice())?.into_string();
         let placed = Placed {
             number: i as u32,
             found: f,

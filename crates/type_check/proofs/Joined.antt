@@ -4,7 +4,7 @@ use Rattle.std.specs.List.{range_with_len}
 use Rattle.std.proofs.lemmas.Bool.Decides.{nat_tests}
 use Rattle.std.proofs.lemmas.List.{append_assoc, length-map}
 use Rattle.std.proofs.lemmas.List.FromFn.{length-map-range_with_len}
-use Rattle.aidl_base.proofs.Tests.{both}
+use Rattle.aidl_base.proofs.lemmas.Tests.{both}
 use Rattle.aidl_base.specs.declared.breach.Breach.{Breach}
 use Rattle.declared_names.specs.declared.found.Found.{Found}
 use Rattle.aidl_names.specs.Breaches.{in_order}

@@ -1,7 +1,6 @@
-pub mod Within
-pub mod Results
-pub mod Valid
-pub mod Joined
-pub mod TreesRefused
-pub mod OneAnswer
-pub mod ValidOf
+mod Joined
+mod Results
+mod TreesRefused
+mod Valid
+mod Within
+pub mod lemmas

@@ -1,3 +1,3 @@
 mod Examples
-pub mod Loops
-pub mod Nothing
+mod Loops
+pub mod lemmas

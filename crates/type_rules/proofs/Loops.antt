@@ -6,7 +6,7 @@ use Rattle.std.proofs.lemmas.List.{map-append}
 use Rattle.std.proofs.lemmas.List.Folds.{list_any-append}
 use Rattle.aidl_syntax.specs.declared.token.Token.{Token}
 use Rattle.aidl_syntax.specs.Trees.{Method}
-use Rattle.declared_names.proofs.Earlier.{take-next}
+use Rattle.declared_names.proofs.lemmas.Earlier.{take-next}
 use Rattle.declared_names.specs.Declarations.{Entry}
 use Rattle.type_uses.specs.Bases.{is_fixed_entry, is_fixed_number}
 use Rattle.type_uses.specs.Ids.{is_id, number_of}

@@ -1,1 +1,1 @@
-pub mod Enums
+mod Enums

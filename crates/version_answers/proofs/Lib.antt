@@ -1,1 +1,1 @@
-pub mod Forty
+mod Forty

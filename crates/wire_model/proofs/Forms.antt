@@ -6,7 +6,7 @@ use Rattle.aidl_schema.specs.declared.schema.Shape.{Shape}
 use Rattle.aidl_schema.specs.declared.schema.Shape.TheVariants as shape
 use Rattle.aidl_schema.specs.Types.{Form, form_of, is_one, is_raw, is_array, is_byte, is_type, is_meant, is_well_shaped, is_nullable_form, elem}
 use Rattle.aidl_schema.specs.Types as form
-use Rattle.aidl_base.proofs.Tests.{both}
+use Rattle.aidl_base.proofs.lemmas.Tests.{both}
 
 elem_type : (f : Form) (nullable : Bool) → is_meant f ≡ true → (is_meant f && (not (nullable && is_nullable_form f) || is_nullable_form f)) ≡ true
 elem_type form.truth true h = refl

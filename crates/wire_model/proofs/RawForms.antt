@@ -12,8 +12,8 @@ use Rattle.aidl_values.specs.HasType.{HaveType}
 use Rattle.wire_model.specs.Spell.{raw_bytes}
 use Rattle.wire_model.specs.ReadOf.{raw_items}
 use Rattle.aidl_schema.specs.Constants.{in_range}
-use Rattle.aidl_base.proofs.Ranges.{fits_byte}
-use Rattle.aidl_base.proofs.Bytes.{AreBytes}
+use Rattle.aidl_base.proofs.lemmas.Ranges.{fits_byte}
+use Rattle.aidl_base.proofs.lemmas.Lists.{AreBytes}
 
 -- Bytes are those of the numbers that they are read as.
 pub bytes_of_items : (xs : List ℕ) → AreBytes xs → raw_bytes (raw_items xs) ≡ xs

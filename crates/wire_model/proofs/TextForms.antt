@@ -3,8 +3,8 @@ use Rattle.std.proofs.Common.{◌≡◌, ℕ, ◌*◌, Bool, true, false, List, 
 use Rattle.std.specs.Char.Utf16.{has_unpaired_surrogate}
 use Rattle.aidl_base.specs.declared.profile.Profile.{Profile}
 use Rattle.aidl_base.specs.Readings.{units_of, ends_text, text_of}
-use Rattle.aidl_base.proofs.Blocks.{block_of}
-use Rattle.aidl_base.proofs.Bytes.{AreBytes}
+use Rattle.aidl_base.proofs.lemmas.Blocks.{block_of}
+use Rattle.aidl_base.proofs.lemmas.Lists.{AreBytes}
 use Rattle.wire_model.specs.Stop.{block_len, IsBlock}
 
 module _ (p : Profile) (n : ℕ) (b : List ℕ) (bytes : AreBytes b) (len : length b ≡ block_len n) where

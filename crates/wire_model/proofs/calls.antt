@@ -1,9 +1,7 @@
 -- What is sent of a call is received: requests, replies, and what comes of a call between two schemas.
 pub mod Arguments
 pub mod Exceptions
-pub mod Itself
 pub mod Methods
-pub mod Outcomes
 pub mod Replies
 pub mod Requests
 pub mod Tokens

@@ -3,5 +3,4 @@ pub mod Answers
 pub mod Arguments
 pub mod Rests
 pub mod Statuses
-pub mod Steps
 pub mod Values

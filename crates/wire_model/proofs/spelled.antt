@@ -1,3 +1,2 @@
 -- What spells a value is a reading of it: `law_spelled_reads`.
 pub mod Reads
-pub mod Sizes

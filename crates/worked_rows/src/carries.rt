@@ -1,8 +1,7 @@
-use crate::case::word_of;
-use crate::plain::plain;
 use aidl_base::{OutOfMemory, Row};
 use aidl_outside::{Carried, Way};
 use memory_outside::{Edit, EditKind, TamperLink};
+use row_texts::{plain, word_of};
 use std::alloc::Global;
 
 /// The link of a run: the edits of its carries and the carries that fail; and the log that is wanted.

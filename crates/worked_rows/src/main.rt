@@ -2,27 +2,23 @@
 //! and last how many rows there were and how many were wrong. `data/README` says how a row is written.
 #![tactic(auto)]
 
-mod again;
 mod carries;
-mod case;
-mod plain;
 mod run;
 mod runs;
 mod sources;
 mod trees;
-mod tried;
 
 use aidl_base::OutOfMemory;
-use case::word_of;
+use row_texts::{Tried, word_of};
 use run::try_run;
 use runs::{Cases, try_runs};
-use source_outcomes::{Asked, Kind};
+use source_outcomes::Kind;
 use sources::try_sources;
 use std::alloc::Global;
 use std::io::ErrorKind;
 use std::{fs, io};
+use tree_outcomes::Asked;
 use trees::try_trees;
-use tried::Tried;
 
 const FILES: [&str; 18] = [
     "words.rows",

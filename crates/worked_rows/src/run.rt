@@ -1,11 +1,8 @@
-use crate::again::lines_of;
 use crate::carries::{Carries, shown_log};
-use crate::case::word_of;
-use crate::plain::{plain, text_of};
-use crate::tried::Tried;
 use aidl_base::{OutOfMemory, Row, SourceFile, Text};
 use aidl_tool::aidl;
 use memory_outside::{MemSink, MemStore};
+use row_texts::{Tried, lines_of, plain, text_of, word_of};
 use std::alloc::Global;
 
 /// A run of the program: its words, the files of its store, its link, the outside calls that fail, and what is to come

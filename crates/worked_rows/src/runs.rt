@@ -1,9 +1,6 @@
-use crate::again::lines_of;
-use crate::case::case_of;
-use crate::plain::text_of;
 use crate::run::Run;
-use crate::tried::Tried;
 use aidl_base::OutOfMemory;
+use row_texts::{Tried, case_of, lines_of, text_of};
 use std::alloc::Global;
 
 /// What stands in front of the arrow of a case.

@@ -1,7 +1,5 @@
-use crate::case::{case_of, word_of};
-use crate::plain::plain;
-use crate::tried::Tried;
 use aidl_base::OutOfMemory;
+use row_texts::{Tried, case_of, plain, word_of};
 use source_outcomes::{Kind, outcome_of};
 use std::alloc::Global;
 

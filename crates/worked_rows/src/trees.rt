@@ -1,9 +1,7 @@
-use crate::case::case_of;
-use crate::plain::plain;
-use crate::tried::Tried;
 use aidl_base::{OutOfMemory, Row, SourceFile, Text};
-use source_outcomes::{Asked, answer_of};
+use row_texts::{Tried, case_of, plain};
 use std::alloc::Global;
+use tree_outcomes::{Asked, answer_of};
 
 /// Tries a block that is a table of trees: `PATH: TEXT || PATH: TEXT .. => WANTED` each.
 pub fn try_trees(

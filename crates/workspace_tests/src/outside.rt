@@ -2,7 +2,8 @@
 
 use aidl_base::{OutOfMemory, Row};
 use aidl_outside::{CarryFault, Link, Sink, SinkFault, Store, StoreFault, Way};
-use memory_outside::{Edit, EditKind, MemSink, MemStore, PassLink, RecordLink, TamperLink};
+use host_outside::PassLink;
+use memory_outside::{Edit, EditKind, MemSink, MemStore, RecordLink, TamperLink};
 use std::alloc::Global;
 use std::test::Fail;
 

@@ -1,9 +1,7 @@
 -- What is known of the numbers that names mean.
 use Rattle.std.specs.Prelude.{◌≡◌, ℕ, ◌<◌, List, length, Option, Some, None}
-use Rattle.aidl_base.specs.Words.{units}
 use Rattle.aidl_schema.specs.declared.schema.Decl.{Decl}
 use Rattle.aidl_schema.specs.Find.{methods_at}
-use Rattle.wire_model.specs.Calls.{descriptor}
 use Rattle.call_scripts.specs.declared.names.Named as code
 use Rattle.call_scripts.specs.Calls.{IsServer, method_of_server}
 
@@ -16,7 +14,6 @@ IsWithin B server None = Unit {0}
 -- the numbers of a call between the declarations A and B
 pub record IsNamed (A B : List Decl) (n : code.Named) : Type 0 where
   pub there : n.method < length (methods_at A n.interface)
-  pub units : n.units ≡ length (units (descriptor A n.interface))
   pub server : IsServer A B n.interface n.server
   pub target : n.target ≡ method_of_server A B n.interface n.method n.server
   pub within : IsWithin B n.server n.target

@@ -13,7 +13,7 @@ use Rattle.const_items.specs.Items.{Item, of_body}
 use Rattle.tree_schema.specs.Parts.{listed_constants}
 use Rattle.tree_schema.specs.SchemaOf.{kind_of}
 use Rattle.schema_parts.specs.Values.{Outcomes}
-use Rattle.tree_schema.proofs.walked.Placed.{Each}
+use Rattle.tree_schema.proofs.lemmas.walked.Placed.{Each}
 use Rattle.aidl_schema.specs.declared.schema.Decl.{Decl}
 use Rattle.aidl_schema.specs.declared.schema.Field.{Field}
 use Rattle.aidl_schema.specs.declared.schema.Constant.{Constant}

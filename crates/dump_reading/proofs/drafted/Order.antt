@@ -11,14 +11,14 @@ use Rattle.aidl_syntax.specs.Sources.{Source}
 use Rattle.declared_names.specs.Declarations.{Entry, declarations}
 use Rattle.schema_parts.specs.Numbers.{Numbered, bytes_of, number_of}
 use Rattle.schema_parts.specs.Numbers as numbers
-use Rattle.tree_schema.proofs.named.Numbers.{key, sorted-is, sorted-ascending, sorted-there, number-of_place}
-use Rattle.tree_schema.proofs.walked.Ascii.{plain-dotted}
-use Rattle.tree_schema.proofs.walked.Placed.{placed}
+use Rattle.tree_schema.proofs.lemmas.named.Numbers.{key, sorted-is, sorted-ascending, sorted-there, number-of_place}
+use Rattle.tree_schema.proofs.lemmas.walked.Ascii.{plain-dotted}
+use Rattle.tree_schema.proofs.lemmas.walked.Placed.{placed}
 use Rattle.aidl_schema.specs.declared.schema.Decl.{Decl}
 use Rattle.aidl_schema.specs.Holds.{AllHold, AreApart}
 use Rattle.aidl_schema.specs.Names.{name_of, are_ascending, is_before, has_names, is_name, is_outer}
-use Rattle.aidl_schema.proofs.Orders.{tied}
-use Rattle.tree_schema.proofs.walked.Lists.{mapped-there}
+use Rattle.aidl_schema.proofs.lemmas.Orders.{tied}
+use Rattle.tree_schema.proofs.lemmas.walked.Lists.{mapped-there}
 use Rattle.dump_reading.proofs.spelled.Values.{name_parts}
 use Rattle.dump_reading.proofs.filed.Numbers.{walks, place_once}
 use Rattle.dump_reading.proofs.named.Entries.{IsEntry, AreEntries}

@@ -5,7 +5,7 @@ use Rattle.std.specs.List.Sorted.{IsStrictlySortedBy}
 use Rattle.std.specs.Ordering.{nat_cmp}
 use Rattle.std.proofs.lemmas.Bool.{and_parts}
 use Rattle.std.proofs.lemmas.List.{length-map}
-use Rattle.aidl_base.proofs.Tests.{all_numbered}
+use Rattle.aidl_base.proofs.lemmas.Tests.{all_numbered}
 use Rattle.aidl_syntax.specs.Trees as tree
 use Rattle.aidl_syntax.specs.Trees.Members.{none}
 use Rattle.aidl_syntax.specs.Trees.Body.{enum, parcelable, union, interface}
@@ -21,9 +21,9 @@ use Rattle.tree_schema.specs.Parts.{constants_in, enumerator_in}
 use Rattle.tree_schema.specs.SchemaOf.{schema_of, declared, backing_in, kind_of, outer_of}
 use Rattle.schema_parts.specs.Types.{type_of}
 use Rattle.schema_parts.specs.Values.{Outcomes, constant_value, enumerator_value, initial_of}
-use Rattle.tree_schema.proofs.named.Numbers.{key}
-use Rattle.tree_schema.proofs.walked.Placed.{Each}
-use Rattle.tree_schema.proofs.settled.Places.{HasPlacesOnce}
+use Rattle.tree_schema.proofs.lemmas.named.Numbers.{key}
+use Rattle.tree_schema.proofs.lemmas.walked.Placed.{Each}
+use Rattle.tree_schema.proofs.lemmas.settled.Places.{HasPlacesOnce}
 use Rattle.aidl_schema.specs.declared.schema.Decl.{Decl}
 use Rattle.aidl_schema.specs.declared.schema.Field.{Field}
 use Rattle.aidl_schema.specs.declared.schema.Constant.{Constant}

@@ -6,7 +6,7 @@ use Rattle.std.specs.Ordering.{match_ordering, ordering_reverse}
 use Rattle.std.proofs.lemmas.Cmp.{nat_list_cmp_total}
 use Rattle.std.proofs.lemmas.Bool.{and_parts, and_from}
 use Rattle.aidl_schema.specs.Names.{are_ascending, is_before}
-use Rattle.tree_schema.proofs.walked.Placed.{placed}
+use Rattle.tree_schema.proofs.lemmas.walked.Placed.{placed}
 
 less_is : (o : Ordering) → is_lt o ≡ true → o ≡ Less
 less_is Less e = refl

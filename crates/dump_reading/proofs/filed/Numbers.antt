@@ -16,11 +16,11 @@ use Rattle.aidl_schema.specs.declared.schema.Decl.{Decl}
 use Rattle.aidl_schema.specs.Holds.{AllHold}
 use Rattle.aidl_schema.specs.Names.{name_of, last_part, without_last, is_inside, is_outer, encloses, may_enclose}
 use Rattle.aidl_schema.specs.Same.{same_idents}
-use Rattle.aidl_schema.proofs.Sames.{same_idents_is}
+use Rattle.aidl_schema.proofs.lemmas.Sames.{same_idents_is}
 use Rattle.api_dump.specs.Declarations.{inside}
 use Rattle.api_dump.specs.Dump.{top_level}
-use Rattle.tree_schema.proofs.walked.Totals.{total, total-append, total-plus, total-length, total-enumerate}
-use Rattle.tree_schema.proofs.walked.Lists.{mapped-there, there-mapped, first-found, first-passes, one-place}
+use Rattle.tree_schema.proofs.lemmas.walked.Totals.{total, total-append, total-plus, total-length, total-enumerate}
+use Rattle.tree_schema.proofs.lemmas.walked.Lists.{mapped-there, there-mapped, first-found, first-passes, one-place}
 use Rattle.dump_reading.proofs.spelled.Values.{has_part, name_parts}
 use Rattle.dump_reading.proofs.spelled.Spelled.{is_equal}
 

@@ -17,7 +17,7 @@ use Rattle.aidl_schema.specs.declared.schema.Decl.{Decl}
 use Rattle.aidl_schema.specs.Holds.{AllHold}
 use Rattle.aidl_schema.specs.Names.{name_of}
 use Rattle.api_dump.specs.Dump.{File, file_of, path_of, top_level, placed, dump_text}
-use Rattle.tree_schema.proofs.walked.Lists.{mapped-there}
+use Rattle.tree_schema.proofs.lemmas.walked.Lists.{mapped-there}
 use Rattle.dump_reading.proofs.spelled.Spelled.{name_spelled, is_equal}
 use Rattle.dump_reading.proofs.spelled.Texts.{ascii_same, word_ascii}
 use Rattle.dump_reading.proofs.spelled.Values.{are_identifiers, name_parts}

@@ -13,8 +13,8 @@ use Rattle.aidl_syntax.specs.Trees as syntax
 use Rattle.aidl_syntax.specs.Productions.{IsFile}
 use Rattle.aidl_syntax.specs.Walks.{places_of}
 use Rattle.aidl_syntax.specs.Parses.{FileParse}
-use Rattle.aidl_lexer.proofs.meaning.OneLexing.{one_list}
-use Rattle.aidl_parser.proofs.productions.Parses.{one_tree}
+use Rattle.aidl_lexer.proofs.lemmas.meaning.OneLexing.{one_list}
+use Rattle.aidl_parser.proofs.lemmas.productions.Parses.{one_tree}
 use Rattle.tree_files.specs.Files.{IsParsed, HasTokens, HasTree}
 use Rattle.aidl_schema.specs.declared.schema.Decl.{Decl}
 use Rattle.api_dump.specs.Dump.{File, file_of, dump_text}

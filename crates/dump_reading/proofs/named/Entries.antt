@@ -25,7 +25,7 @@ use Rattle.api_dump.specs.Dump.{File, file_of, top_level, dump_text}
 use Rattle.dump_reading.specs.Bare.{bare_decl, bare_body, bare_members, bare_file}
 use Rattle.dump_reading.specs.DumpTrees.{each_before, constants_before, body_tree, decl_tree, decl_before, nested_trees, file_tree, field_tree, constant_tree, method_tree}
 use Rattle.dump_reading.specs.Dumped.{IsSourceOf, AreSources}
-use Rattle.tree_schema.proofs.walked.Lists.{there-kept, there-last, there-cases}
+use Rattle.tree_schema.proofs.lemmas.walked.Lists.{there-kept, there-last, there-cases}
 use Rattle.dump_reading.proofs.spelled.Values.{has_part, name_parts}
 use Rattle.dump_reading.proofs.filed.Files.{none_is}
 use Rattle.dump_reading.proofs.named.Files.{package_is, name_is}
@@ -204,11 +204,11 @@ module _ (S : List Decl) (H : AllHold S) (sorted : IsStrictlySortedBy (slice_cmp
             let tree_is : bare_decl x ≡ decl_tree S c (nested_trees S levels m) = cc in
             let rest_is : bare_members more ≡ Inner levels ms = cc in
             let after = is_after S H sorted m n c g o in
-            let named : names.inside d.name.0 x ≡ c.name.0 =
+            let named : names.name_inside d.name.0 x ≡ c.name.0 =
             ap (λ i. d.name.0 ++ i ∷ []) (name_of_bare x (ident (last_part c.name.0)) (decl_tree S c (nested_trees S levels m)) tree_is refl) ∙ last_named m n c d g o at in
             let out : IsOuterOf ws (Some number) c.outer = subst (λ p. IsOuterOf ws (Some number) p) (sym o) there in
             let one : Are (ws ++ walk S levels m) (with_decl file (Some number) c.name.0 x es) = walked m c file s (Some number) x ws es are in_file g (omega arith) tree_is out in
-            subst (λ vs. Are vs (with_members file number d.name.0 more (with_decl file (Some number) (names.inside d.name.0 x) x es))) (append_assoc ws (walk S levels m) (flat_map (λ m. walk S levels m) ms))
+            subst (λ vs. Are vs (with_members file number d.name.0 more (with_decl file (Some number) (names.name_inside d.name.0 x) x es))) (append_assoc ws (walk S levels m) (flat_map (λ m. walk S levels m) ms))
             (subst (λ name. Are ((ws ++ walk S levels m) ++ flat_map (λ m. walk S levels m) ms) (with_members file number d.name.0 more (with_decl file (Some number) name x es))) (sym named)
             (later more (ws ++ walk S levels m) (with_decl file (Some number) c.name.0 x es) rest_is one (there-kept ws (walk S levels m) number n there)))
 
@@ -293,7 +293,7 @@ module _ (S : List Decl) (H : AllHold S) (sorted : IsStrictlySortedBy (slice_cmp
   files_walked i (x ∷ xs) (s ∷ ss) top h at ws es are =
       let t = top zero x refl in
       let in_file : slice_get files i ≡ Some s = subst (λ (j : ℕ). slice_get files j ≡ Some s) (omega arith) (at zero s refl) in
-      let named : names.inside (parts_of s.tree.«package») s.tree.declared ≡ x.1.name.0 =
+      let named : names.name_inside (parts_of s.tree.«package») s.tree.declared ≡ x.1.name.0 =
       ap (λ is. is ++ (declared_name s.tree.declared).name ∷ []) (package_is S x s.tree h.0) ∙ ap (λ i. without_last x.1.name.0 ++ i ∷ []) (name_is S x s.tree h.0)
       ∙ joined x.1.name.0 (name_parts x.1.name.0 (H x.0 x.1 t.0).name).0 in
       let out : IsOuterOf ws None x.1.outer = subst (λ p. IsOuterOf ws None p) (sym (none_is x.1.outer t.1)) tt in

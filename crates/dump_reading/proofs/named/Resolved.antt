@@ -6,7 +6,7 @@ use Rattle.std.proofs.lemmas.Bool.{and_parts, and_from}
 use Rattle.aidl_base.specs.Identifiers.{is_identifier, is_word_byte}
 use Rattle.aidl_base.specs.Names.{dotted}
 use Rattle.aidl_base.specs.declared.name.Ident.{Ident}
-use Rattle.aidl_base.proofs.Tests.{flipped, neither}
+use Rattle.aidl_base.proofs.lemmas.Tests.{flipped, neither}
 use Rattle.aidl_syntax.specs.Trees as tree
 use Rattle.aidl_syntax.specs.Trees.Decl.{decl}
 use Rattle.aidl_syntax.specs.Trees.Body.{enum, parcelable, union, interface}
@@ -29,12 +29,12 @@ use Rattle.aidl_schema.specs.Names as schema
 use Rattle.aidl_schema.specs.Names.{name_of, is_name, is_type_word, type_words, last_part}
 use Rattle.aidl_schema.specs.Same.{same_text}
 use Rattle.aidl_schema.specs.Types.{form_of, form_of_decl, form_of_kind, is_meant}
-use Rattle.aidl_schema.proofs.Sames.{same_text_is, same_text_refl}
+use Rattle.aidl_schema.proofs.lemmas.Sames.{same_text_is, same_text_refl}
 use Rattle.dump_values.specs.Pieces.{ident}
 use Rattle.dump_values.specs.Types.{base_name, declared_name}
 use Rattle.dump_reading.specs.Bare.{bare_body, bare_decl}
 use Rattle.dump_reading.specs.DumpTrees.{body_tree, nested_trees, constants_before}
-use Rattle.tree_schema.proofs.walked.Lists.{first-passes}
+use Rattle.tree_schema.proofs.lemmas.walked.Lists.{first-passes}
 use Rattle.dump_reading.proofs.spelled.Spelled.{name_spelled}
 use Rattle.dump_reading.proofs.spelled.Texts.{ascii_same, word_ascii}
 use Rattle.dump_reading.proofs.spelled.Values.{are_identifiers, name_parts}

@@ -10,7 +10,7 @@ use Rattle.std.proofs.lemmas.Bool.Decides.{nat_tests}
 use Rattle.std.proofs.lemmas.List.{length-map}
 use Rattle.aidl_base.specs.Identifiers.{is_identifier}
 use Rattle.aidl_base.specs.declared.name.Ident.{Ident}
-use Rattle.aidl_base.proofs.Tests.{all_numbered}
+use Rattle.aidl_base.proofs.lemmas.Tests.{all_numbered}
 use Rattle.aidl_syntax.specs.declared.tree.NameTree.{NameTree}
 use Rattle.aidl_syntax.specs.declared.tree.DottedTree.{DottedTree}
 use Rattle.aidl_syntax.specs.declared.tree.TypeTree.{TypeTree}
@@ -50,8 +50,8 @@ use Rattle.aidl_schema.specs.Same.{same_text, is_named}
 use Rattle.aidl_schema.specs.Types.{form_of, is_type, is_meant, is_well_shaped}
 use Rattle.aidl_schema.specs.Constants.{is_string, is_constant_of}
 use Rattle.aidl_schema.specs.Valid.{has_value, has_few, is_within_limits, is_enum}
-use Rattle.aidl_schema.proofs.Apart.{apart}
-use Rattle.aidl_schema.proofs.Sames.{same_text_is, same_text_refl}
+use Rattle.aidl_schema.proofs.lemmas.Apart.{apart}
+use Rattle.aidl_schema.proofs.lemmas.Sames.{same_text_is, same_text_refl}
 use Rattle.dump_values.specs.Pieces.{ident}
 use Rattle.dump_values.specs.Types.{base_name}
 use Rattle.dump_reading.specs.Bare.{bare_decl, bare_body, bare_type, bare_dotted, bare_arg}

@@ -33,7 +33,7 @@ use Rattle.type_rules.specs.MethodRules.{BadOneway, BadId, is_oneway_body, is_ba
 use Rattle.type_rules.specs.TypeRules.{BadNullable, BadShape, BadDirection, bad_nullables_of, is_bad_shape, is_bad_direction}
 use Rattle.type_rules.specs.Breaches.{broken_by, broken_in, unsorted, breaches}
 use Rattle.type_rules.specs.Unbroken.{IsUnbroken, AreUnbroken}
-use Rattle.tree_schema.proofs.walked.Placed.{Each}
+use Rattle.tree_schema.proofs.lemmas.walked.Placed.{Each}
 use Rattle.aidl_schema.specs.declared.schema.Decl.{Decl}
 use Rattle.aidl_schema.specs.declared.schema.Field.{Field}
 use Rattle.aidl_schema.specs.declared.schema.Backing.{Backing}

@@ -13,7 +13,7 @@ use Rattle.aidl_syntax.specs.Sources.{Source}
 use Rattle.declared_names.specs.Declarations.{declarations}
 use Rattle.const_items.specs.Items.{shape_in}
 use Rattle.type_uses.specs.TypeUses.{TypeUse, of_arg, of_member, of_members}
-use Rattle.tree_schema.proofs.walked.Placed.{Each}
+use Rattle.tree_schema.proofs.lemmas.walked.Placed.{Each}
 use Rattle.aidl_schema.specs.declared.schema.Decl.{Decl}
 use Rattle.aidl_schema.specs.declared.schema.Arg.{Arg}
 use Rattle.aidl_schema.specs.declared.schema.Method.{Method}

@@ -17,9 +17,9 @@ use Rattle.aidl_schema.specs.declared.schema.Decl.{Decl}
 use Rattle.aidl_schema.specs.Holds.{AllHold, AreApart}
 use Rattle.aidl_schema.specs.Names.{name_of}
 use Rattle.aidl_schema.specs.Valid.{is_enum}
-use Rattle.tree_schema.proofs.walked.Placed.{Each, each-at}
-use Rattle.tree_schema.proofs.settled.Items.{each-declared, each-item}
-use Rattle.tree_schema.proofs.settled.Places.{HasPlacesOnce}
+use Rattle.tree_schema.proofs.lemmas.walked.Placed.{Each, each-at}
+use Rattle.tree_schema.proofs.lemmas.settled.Items.{each-declared, each-item}
+use Rattle.tree_schema.proofs.lemmas.settled.Places.{HasPlacesOnce}
 use Rattle.dump_reading.proofs.filed.Numbers.{walks}
 use Rattle.dump_reading.proofs.named.Entries.{AreEntries}
 use Rattle.dump_reading.proofs.settled.Outcomes.{plain_outcome, naming_outcome, given_by}

@@ -48,13 +48,13 @@ use Rattle.aidl_schema.specs.Holds.{AllHold, AreApart}
 use Rattle.aidl_schema.specs.Names.{name_of, enumerators_of, enumerator_names}
 use Rattle.aidl_schema.specs.Valid.{is_enum_whole}
 use Rattle.aidl_schema.specs.Types.{form_of_kind}
-use Rattle.aidl_schema.proofs.Sames.{same_text_refl, same_text_is}
+use Rattle.aidl_schema.proofs.lemmas.Sames.{same_text_refl, same_text_is}
 use Rattle.dump_values.specs.Pieces.{ident}
 use Rattle.dump_values.specs.Types.{base_name, declared_name}
 use Rattle.api_dump.specs.Declarations.{backing_text}
-use Rattle.tree_schema.proofs.walked.Placed.{Each, each-at}
-use Rattle.tree_schema.proofs.settled.Places.{HasPlacesOnce, items-stand}
-use Rattle.tree_schema.proofs.settled.Settled.{Stands}
+use Rattle.tree_schema.proofs.lemmas.walked.Placed.{Each, each-at}
+use Rattle.tree_schema.proofs.lemmas.settled.Places.{HasPlacesOnce, items-stand}
+use Rattle.tree_schema.proofs.lemmas.settled.Settled.{Stands}
 use Rattle.dump_reading.specs.Bare.{bare_name, bare_expr, bare_init, bare_param, bare_annot, bare_enumerator, bare_body, bare_decl}
 use Rattle.dump_reading.specs.DumpTrees.{name_tree, token_tree, backing_tree, backed_tree, number_tree, named_parts, name_where, enumerator_tree, body_tree, constants_before, backing_trees, flag_trees, nested_trees}
 use Rattle.dump_reading.proofs.spelled.Values.{has_part, name_parts}

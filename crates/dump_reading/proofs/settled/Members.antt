@@ -49,8 +49,8 @@ use Rattle.aidl_schema.specs.Same.{is_named}
 use Rattle.aidl_schema.specs.Types.{form_of, form_of_decl, form_of_kind, is_meant, is_nullable_form, is_type, is_well_shaped, is_one}
 use Rattle.aidl_schema.specs.Valid.{has_value, has_initializer_of, is_enum, is_union_whole, are_union_fields}
 use Rattle.dump_values.specs.Types.{base_name}
-use Rattle.tree_schema.proofs.walked.Placed.{Each}
-use Rattle.tree_schema.proofs.settled.Places.{HasPlacesOnce}
+use Rattle.tree_schema.proofs.lemmas.walked.Placed.{Each}
+use Rattle.tree_schema.proofs.lemmas.settled.Places.{HasPlacesOnce}
 use Rattle.dump_reading.specs.Bare.{bare_expr, bare_init, bare_field, bare_constant, bare_type, bare_body}
 use Rattle.dump_reading.specs.DumpTrees.{value_tree, single_tree, initial_tree, brace_trees, field_tree, constant_tree, method_tree, type_tree, body_tree, constants_before, nested_trees}
 use Rattle.dump_reading.proofs.filed.Files.{none_is}

@@ -29,7 +29,7 @@ use Rattle.const_items.specs.Items.{Item, written, items, number_at, place_of}
 use Rattle.const_items.specs.Dependence.{of_enumerator, target, target_by, target_behind, member_of, number_of, names_in, has_unknown_name, depends_on, number_before, next, next_of}
 use Rattle.const_eval.specs.Outcomes as outcomes
 use Rattle.const_eval.specs.Outcomes.{HasOutcome, IsCyclic, Values, judged, judgement_of, expression_of, outcome_of, meaning, operand_at, operand_of, of_level, wanted_of, named_enum, is_given}
-use Rattle.const_eval.proofs.OneOutcome.{one_outcome}
+use Rattle.const_eval.proofs.lemmas.OneOutcome.{one_outcome}
 use Rattle.aidl_schema.specs.declared.schema.Backing.{Backing}
 use Rattle.aidl_schema.specs.declared.schema.Backing.TheVariants as backing
 use Rattle.dump_reading.proofs.settled.Literals.{Fits, wanted_backing}

@@ -19,9 +19,9 @@ use Rattle.tree_schema.specs.Checked.{AreOutcomes}
 use Rattle.tree_schema.specs.Parts.{listed_constants, constants_in, enumerator_in, bytes_of, put}
 use Rattle.tree_schema.specs.SchemaOf.{kind_of}
 use Rattle.schema_parts.specs.Values.{Outcomes, enumerator_value}
-use Rattle.tree_schema.proofs.walked.Placed.{Each, placed-by}
-use Rattle.tree_schema.proofs.settled.Places.{HasPlacesOnce, items-stand}
-use Rattle.tree_schema.proofs.settled.Settled.{Stands}
+use Rattle.tree_schema.proofs.lemmas.walked.Placed.{Each, placed-by}
+use Rattle.tree_schema.proofs.lemmas.settled.Places.{HasPlacesOnce, items-stand}
+use Rattle.tree_schema.proofs.lemmas.settled.Settled.{Stands}
 use Rattle.aidl_schema.specs.declared.schema.Decl.{Decl}
 use Rattle.aidl_schema.specs.declared.schema.Constant.{Constant}
 use Rattle.aidl_schema.specs.declared.schema.Enumerator.{Enumerator}

@@ -1,4 +1,6 @@
-use Rattle.std.proofs.Common.{◌≡◌, length, zero-add, false, inl, inr, refl, Ok, ◌++◌, ◌∷◌, [], map, sym, subst, ap, ◌∙◌, arith, rules}
+use Rattle.std.proofs.Common.{◌≡◌, to_z, of_z, length, zero-add, false, inl, inr, refl, Ok, ◌++◌, ◌∷◌, [], map, sym, subst, ap, ◌∙◌, arith, rules}
+use Rattle.std.specs.Prelude.{IfSome}
+use Rattle.std.specs.Int.{w64}
 use Rattle.std.proofs.lemmas.Grind.{common_steps}
 use Rattle.std.proofs.lemmas.Option.{slice_get_read}
 use Rattle.serde_json.specs.Data as json
@@ -9,20 +11,30 @@ use Rattle.aidl_schema.specs.Types.{is_one}
 use Rattle.aidl_values.specs.View.{view, views}
 use Rattle.json_values.specs.FromJson.{elements_from, sequence_from}
 use Rattle.json_values.proofs.Parts.{from_json_of-by, from_by-sequence, sequence_from-some, items_more, items_done, fields_more, fields_done}
-use Rattle.json_writing.proofs.Whole.{few_fields}
+use Rattle.json_writing.proofs.lemmas.Whole.{few_fields}
 use Rattle.json_values.proofs.Names.{name_of_field, fields_apart, alternative_at}
 use Rattle.aidl_schema.specs.declared.schema.AidlType.{AidlType}
-use Rattle.aidl_values.specs.Data.{Data}
-use Rattle.json_values.specs.Refusal.{Answer}
+use Rattle.aidl_values.specs.Data.{Data, number}
+use Rattle.json_faults.specs.Refusal.{Answer}
 use Rattle.json_writing.specs.Named.{fields_in}
 use Rattle.aidl_schema.specs.Holds.{AreApart}
 use Rattle.json_values.proofs.+reading.Goals as goal
 use Rattle.json_values.specs.steps.Levels.{part_from, default_of, chosen_from}
+use Rattle.json_values.specs.steps.Plain.{IsPlain}
 use Rattle.aidl_values.specs.steps.Levels.{is_level_left}
-use Rattle.json_values.specs.steps.Gives.{Gives}
+use Rattle.json_faults.specs.steps.Gives.{Gives}
 
-pub reading::read_within-returns : goal.reading::read_within-returns
-reading::read_within-returns t c = subst (Gives view c.read.result) (from_json_of-by c.args.schema.now.decls c.args.levels c.args.ty _) c.read.ensures
+pub reading::read_within-returns-in-Some : goal.reading::read_within-returns-in-Some
+reading::read_within-returns-in-Some t c =
+    let S = c.args.schema.now.decls in
+    let d = c.args.levels in
+    let j = json_view c.args.json.now in
+    let plain : IsPlain c.args.ty j c.in-Some.n = subst (λ o. IfSome o (λ n. IsPlain c.args.ty j n)) c.in-Some.is c.plain_number.ensures in
+    let same : to_z w64 (of_z w64 c.in-Some.n) ≡ c.in-Some.n = search rules in
+    sym (from_json_of-by S d c.args.ty j) ∙ plain S (is_level_left d) (λ f. default_of S d f) (λ u k. part_from S d u k) ∙ ap (λ n. Ok (number n)) (sym same) ∙ ap Ok (sym c.number_value.ensures)
+
+pub reading::read_within-returns-in-None : goal.reading::read_within-returns-in-None
+reading::read_within-returns-in-None t c = subst (Gives view c.read.result) (from_json_of-by c.args.schema.now.decls c.args.levels c.args.ty _) c.read.ensures
 
 pub sequences::read_items-loop-i-preserved : goal.sequences::read_items-loop-i-preserved
 sequences::read_items-loop-i-preserved t c =

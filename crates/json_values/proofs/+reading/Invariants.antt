@@ -3,7 +3,7 @@ use Rattle.serde_json.specs.Find.{get_member}
 use Rattle.serde_json.specs.View.{view as json_view, items_view, members_view}
 use Rattle.aidl_values.specs.View.{view}
 use Rattle.json_values.specs.FromJson.{items_from, fields_from, alternative_from}
-use Rattle.aidl_values.proofs.Fronts.{with_front}
+use Rattle.aidl_values.proofs.lemmas.Fronts.{with_front}
 use Rattle.json_values.proofs.+reading.Given as goal
 use Rattle.json_values.specs.steps.Levels.{part_from, default_of}
 

@@ -1,9 +1,9 @@
 -- The names of members and of arguments are identifiers, where all names of a tree are.
 use Rattle.std.proofs.Common.{◌≡◌, ℕ, Bool, true, ◌&&◌, List, [], ◌∷◌, ◌++◌, map, refl}
 use Rattle.std.specs.List.{list_all}
-use Rattle.aidl_base.proofs.Tests.{both}
+use Rattle.aidl_base.proofs.lemmas.Tests.{both}
 use Rattle.aidl_base.specs.Identifiers.{is_identifier}
-use Rattle.aidl_schema.proofs.Apart.{all_parts}
+use Rattle.aidl_schema.proofs.lemmas.Apart.{all_parts}
 use Rattle.aidl_syntax.specs.Trees.{Field, Constant, Enumerator, Arg, Method, Decl, Body, Members}
 use Rattle.aidl_syntax.specs.Trees.Decl.{decl}
 use Rattle.aidl_syntax.specs.Trees.Body.{parcelable, union, enum, interface}
@@ -11,7 +11,7 @@ use Rattle.aidl_syntax.specs.Trees.Members.{none, field as with_field, constant 
 use Rattle.aidl_syntax.specs.Members.{Member, members, listed, body, member_name}
 use Rattle.aidl_syntax.specs.Members.Member.{field, constant, method, enumerator, nested}
 use Rattle.aidl_syntax.specs.Walks.{naming, of_option, of_each, in_type, in_init, in_annots, in_field, in_constant, in_enumerator, in_arg, in_method, in_decl, in_body, in_members}
-use Rattle.tree_schema.proofs.walked.Ascii.{is_identifier_part}
+use Rattle.tree_schema.proofs.lemmas.walked.Ascii.{is_identifier_part}
 use Rattle.tree_schema.proofs.walked.Outers.{named-itself}
 
 -- the text of the name of an argument

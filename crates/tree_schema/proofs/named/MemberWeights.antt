@@ -16,12 +16,12 @@ use Rattle.schema_parts.specs.Numbers.{Numbered, sorted, number_of}
 use Rattle.tree_schema.specs.Parts.{fields_in, methods_in, enumerator_in, listed_constants, constants_in, bytes_of, put}
 use Rattle.tree_schema.specs.SchemaOf.{schema_of, declared, outer_of, kind_of}
 use Rattle.schema_parts.specs.Values.{Outcomes}
-use Rattle.tree_schema.proofs.walked.Totals.{total, total-append, total-map, total-filter, total-enumerate, total-le_at}
-use Rattle.tree_schema.proofs.walked.Placed.{placed, all-total, placed-by}
+use Rattle.tree_schema.proofs.lemmas.walked.Totals.{total, total-append, total-map, total-filter, total-enumerate, total-le_at}
+use Rattle.tree_schema.proofs.lemmas.walked.Placed.{placed, all-total, placed-by}
 use Rattle.tree_schema.proofs.walked.Outers.{are_named, walked, IsWalked}
 use Rattle.tree_schema.proofs.walked.Nested.{nested_of, children-are}
-use Rattle.tree_schema.proofs.named.Numbers.{sorted-total, sorted-there, number-there}
-use Rattle.tree_schema.proofs.named.Schema.{last-inside}
+use Rattle.tree_schema.proofs.lemmas.named.Numbers.{sorted-total, sorted-there, number-there}
+use Rattle.tree_schema.proofs.lemmas.named.Schema.{last-inside}
 
 -- what the name of a member weighs, and the same of the members of one kind alone
 abbrev pub weight : (List ℕ → ℕ) → Member → ℕ

@@ -16,7 +16,7 @@ use Rattle.const_items.specs.Dependence.{target, number_of, names_in, number_bef
 use Rattle.const_items.specs.Items.{Item, Written, written, first, after, items, number_at}
 use Rattle.const_eval.specs.Outcomes.{HasOutcome, Values, operand_at, operand_of, wanted_of, meaning, judgement_of, outcome_of, named_enum, one_more, number_in}
 use Rattle.const_eval.specs.Outcomes.HasOutcome.{unformed, unknown, cyclic, behind, judged}
-use Rattle.const_eval.proofs.Agree.{kept}
+use Rattle.const_eval.proofs.lemmas.Agree.{kept}
 use Rattle.tree_schema.proofs.settled.Plain.{is_plain, is_plain_expr, evaluated-plain, fits, fitted-fits, level-plain}
 
 -- each literal in what is written holds what its kind may hold

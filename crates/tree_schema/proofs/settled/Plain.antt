@@ -10,7 +10,7 @@ use Rattle.aidl_base.specs.declared.constant.Const.TheVariants as value
 use Rattle.aidl_base.specs.declared.range.Range.{Range}
 use Rattle.aidl_base.specs.declared.range.Range.TheVariants as range
 use Rattle.aidl_base.specs.Ranges.{is_in}
-use Rattle.aidl_base.proofs.Tests.{both}
+use Rattle.aidl_base.proofs.lemmas.Tests.{both}
 use Rattle.aidl_schema.specs.Constants.{is_char_literal, is_string_character}
 use Rattle.aidl_syntax.specs.declared.tree.DottedTree.{DottedTree}
 use Rattle.aidl_syntax.specs.Trees.{Expr}

@@ -2,8 +2,8 @@
 use Rattle.std.proofs.Common.{◌≡◌, ◌+◌, ℕ, Bool, true, false, ◌||◌, List, [], ◌∷◌, ◌++◌, map, length, Option, Some, None, slice_get, refl}
 use Rattle.std.specs.List.{list_all}
 use Rattle.aidl_base.specs.declared.name.Ident.{Ident}
-use Rattle.aidl_base.proofs.Tests.{both}
-use Rattle.aidl_schema.proofs.Apart.{all_parts}
+use Rattle.aidl_base.proofs.lemmas.Tests.{both}
+use Rattle.aidl_schema.proofs.lemmas.Apart.{all_parts}
 use Rattle.aidl_syntax.specs.declared.token.Token.{Token}
 use Rattle.aidl_syntax.specs.declared.tree.TypeTree.{TypeTree}
 use Rattle.aidl_syntax.specs.Trees.{Expr, Init, Enumerator, Decl, Body, Members}
@@ -14,7 +14,7 @@ use Rattle.aidl_syntax.specs.Trees.Init.{single, braces}
 use Rattle.aidl_syntax.specs.Trees.Members.{none, field, constant, method, nested}
 use Rattle.aidl_syntax.specs.Members.{listed, body}
 use Rattle.aidl_syntax.specs.Walks.{Walk, counting, of_option, of_each, in_annots, in_type, in_init, in_field, in_constant, in_method, in_enumerator, in_decl, in_body, in_members, in_file}
-use Rattle.declared_names.specs.Declarations.{Entry, declarations, with_decl, with_body, with_members, with_file, with_files, inside}
+use Rattle.declared_names.specs.Declarations.{Entry, declarations, with_decl, with_body, with_members, with_file, with_files, name_inside}
 use Rattle.declared_names.specs.Names.{parts_of}
 use Rattle.aidl_syntax.specs.Sources.{Source}
 use Rattle.const_values.specs.declared.wanted.Wanted.{Wanted}
@@ -22,9 +22,9 @@ use Rattle.const_values.specs.Literals.{literal_of}
 use Rattle.type_shapes.specs.declared.shape.Shape.{Shape}
 use Rattle.type_shapes.specs.Backing.{backing_of}
 use Rattle.const_items.specs.Items.{Item, items, of_body, of_members, of_field, of_initial, of_init, of_expression, of_enumerators, place_of, written_as}
-use Rattle.tree_schema.proofs.walked.Placed.{Each, each-at}
+use Rattle.tree_schema.proofs.lemmas.walked.Placed.{Each, each-at}
 use Rattle.tree_schema.proofs.settled.Fit.{is_plain_written}
-use Rattle.tree_schema.proofs.settled.Items.{each-declared, each-item}
+use Rattle.tree_schema.proofs.lemmas.settled.Items.{each-declared, each-item}
 use Rattle.tree_schema.proofs.settled.Plain.{is_plain_option, is_plain_expr}
 
 each_push : {X : Type 0} (P : X → Type 0) (xs : List X) (x : X) → Each P xs → P x → Each P (xs ++ x ∷ [])
@@ -58,7 +58,7 @@ module _ {A : Type 0} (w : Walk A) (p : A → Bool) where
     members_pass file number part (method m ms) before h old = members_pass file number part ms before (behind (in_method w m) (in_members w ms) h) old
     members_pass file number part (nested d ms) before h old =
         let two = all_parts p (in_decl w d) (in_members w ms) h in
-        members_pass file number part ms (with_decl file (Some number) (inside part d) d before) two.1 (decl_passes file (Some number) (inside part d) d before two.0 old)
+        members_pass file number part ms (with_decl file (Some number) (name_inside part d) d before) two.1 (decl_passes file (Some number) (name_inside part d) d before two.0 old)
 
   files_pass : (n : ℕ) (fs : List Source) (before : List Entry) → list_all (λ s. list_all p (in_file w s.tree)) fs ≡ true → Each Passes before → Each Passes (with_files n fs before)
   files_pass n [] before h old = old
@@ -66,7 +66,7 @@ module _ {A : Type 0} (w : Walk A) (p : A → Bool) where
       let two = both (list_all p (in_file w s.tree)) (list_all (λ (r : Source). list_all p (in_file w r.tree)) fs) h in
       let rest = behind (of_option w.dotted s.tree.«package») (of_each w.dotted s.tree.imports ++ in_decl w s.tree.declared) two.0 in
       let inner = behind (of_each w.dotted s.tree.imports) (in_decl w s.tree.declared) rest in
-      files_pass (n + 1) fs (with_file n s before) two.1 (decl_passes n None (inside (parts_of s.tree.«package») s.tree.declared) s.tree.declared before inner old)
+      files_pass (n + 1) fs (with_file n s before) two.1 (decl_passes n None (name_inside (parts_of s.tree.«package») s.tree.declared) s.tree.declared before inner old)
 
   pub declarations-pass : (files : List Source) → list_all (λ s. list_all p (in_file w s.tree)) files ≡ true → (k : ℕ) (e : Entry) → slice_get (declarations files) k ≡ Some e → list_all p (in_decl w e.tree) ≡ true
   declarations-pass files h k e at = each-at Passes (declarations files) (files_pass 0 files [] h tt) k e at

@@ -2,8 +2,8 @@
 use Rattle.std.proofs.Common.{IsTrue, ◌≡◌, ◌<◌, ℕ, Bool, true, false, not, ◌&&◌, ◌||◌, if◌then◌else◌, codes, List, [], flat_map, length, Option, Some, None, slice_get, refl, sym, ap, ◌∙◌, subst}
 use Rattle.std.specs.List.{list_all}
 use Rattle.std.proofs.lemmas.Option.{slice_get_within}
-use Rattle.aidl_base.proofs.Tests.{both, neither}
-use Rattle.aidl_schema.proofs.Places.{both_empty}
+use Rattle.aidl_base.proofs.lemmas.Tests.{both, neither}
+use Rattle.aidl_schema.proofs.lemmas.Places.{both_empty}
 use Rattle.aidl_schema.specs.declared.schema.Decl as schema
 use Rattle.aidl_schema.specs.Containment.{fields_of}
 use Rattle.aidl_schema.specs.Same.{decl_of}
@@ -42,10 +42,10 @@ use Rattle.tree_schema.specs.SchemaOf.{schema_of, declared, kind_of}
 use Rattle.schema_parts.specs.Types.{base_of, typed}
 use Rattle.schema_parts.specs.Values.{Outcomes}
 use Rattle.tree_schema.proofs.walked.Outers.{are_named}
-use Rattle.tree_schema.proofs.walked.Placed.{Each}
-use Rattle.tree_schema.proofs.named.Numbers.{sorted-there}
-use Rattle.tree_schema.proofs.named.Schema.{schema-there}
-use Rattle.tree_schema.proofs.named.Members.{numbered-from_at}
+use Rattle.tree_schema.proofs.lemmas.walked.Placed.{Each}
+use Rattle.tree_schema.proofs.lemmas.named.Numbers.{sorted-there}
+use Rattle.tree_schema.proofs.lemmas.named.Schema.{schema-there}
+use Rattle.tree_schema.proofs.lemmas.named.Members.{numbered-from_at}
 use Rattle.tree_schema.proofs.typed.Forms.{base-scalar, decl-there}
 use Rattle.tree_schema.proofs.typed.Members.{fields-hold}
 use Rattle.tree_schema.proofs.typed.Uses.{IsFineMember, each-both, each-flat, each-from_at, where-passes, stands-well, members-fine}

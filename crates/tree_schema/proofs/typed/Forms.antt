@@ -1,6 +1,6 @@
 -- What a base means in the schema is what its declaration is in the trees.
 use Rattle.std.proofs.Common.{◌≡◌, ℕ, Bool, true, false, not, List, [], Option, Some, None, slice_get, refl, ap, ◌∙◌}
-use Rattle.aidl_base.proofs.Tests.{flipped}
+use Rattle.aidl_base.proofs.lemmas.Tests.{flipped}
 use Rattle.aidl_syntax.specs.Trees.{Body}
 use Rattle.aidl_syntax.specs.Trees.Body.{parcelable, union, enum, interface}
 use Rattle.aidl_syntax.specs.Members.{body}
@@ -25,8 +25,8 @@ use Rattle.tree_schema.specs.SchemaOf.{schema_of, declared, kind_of}
 use Rattle.schema_parts.specs.Types.{base_of, base_of_number}
 use Rattle.schema_parts.specs.Values.{Outcomes}
 use Rattle.tree_schema.proofs.walked.Outers.{are_named}
-use Rattle.tree_schema.proofs.named.Numbers.{number-there}
-use Rattle.tree_schema.proofs.named.Schema.{number-stands}
+use Rattle.tree_schema.proofs.lemmas.named.Numbers.{number-there}
+use Rattle.tree_schema.proofs.lemmas.named.Schema.{number-stands}
 use Rattle.tree_schema.proofs.typed.Shapes.{is_base, is_base_entry}
 
 module _ (files : List Source) (outcomes : Outcomes) (file number : ℕ) where

@@ -17,7 +17,7 @@ use Rattle.type_rules.specs.MethodRules.{is_oneway_body}
 use Rattle.tree_schema.specs.Parts.{field_in, fields_in, method_in, methods_in}
 use Rattle.tree_schema.specs.SchemaOf.{kind_of}
 use Rattle.schema_parts.specs.Values.{Outcomes}
-use Rattle.tree_schema.proofs.walked.Placed.{Each}
+use Rattle.tree_schema.proofs.lemmas.walked.Placed.{Each}
 
 module _ (files : List Source) (outcomes : Outcomes) (file scope : ℕ) (P : Member → Type 0) where
   module _ (q : Field → Bool) (each : (f : tree.Field) (later : Bool) → P (field f) → q (field_in files outcomes file scope later f) ≡ true) where

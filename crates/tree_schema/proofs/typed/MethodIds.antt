@@ -2,7 +2,7 @@
 use Rattle.std.proofs.Common.{if◌then◌else◌, ◌≡◌, ◌≤◌, ◌<◌, ◌+◌, ℕ, Bool, true, false, not, ◌&&◌, ◌||◌, nat_eq, nat_le, List, [], ◌∷◌, ◌++◌, map, length, Option, Some, None, is_some, slice_get, refl, sym, ap, ◌∙◌, arith}
 use Rattle.std.specs.List.{list_any, list_all}
 use Rattle.std.proofs.lemmas.Bool.Decides.{nat_tests}
-use Rattle.aidl_base.proofs.Tests.{both, neither}
+use Rattle.aidl_base.proofs.lemmas.Tests.{both, neither}
 use Rattle.aidl_schema.specs.Methods.{last_id}
 use Rattle.aidl_schema.specs.Names.{are_distinct}
 use Rattle.aidl_syntax.specs.declared.token.Token.{Token}
@@ -21,7 +21,7 @@ use Rattle.type_uses.specs.TypeUses.{TypeUse, of_arg, of_members}
 use Rattle.type_rules.specs.MethodRules.{has_value, is_taken, is_bad_token, is_bad_id}
 use Rattle.tree_schema.specs.Parts.{kept_id, methods_in}
 use Rattle.tree_schema.proofs.walked.Breaches.{none-earlier}
-use Rattle.tree_schema.proofs.walked.Lists.{there-kept, there-last}
+use Rattle.tree_schema.proofs.lemmas.walked.Lists.{there-kept, there-last}
 use Rattle.tree_schema.proofs.typed.Uses.{any-at}
 
 -- no method has an id: the ids are the positions

@@ -4,7 +4,7 @@ use Rattle.std.specs.List.{list_any, list_all}
 use Rattle.std.proofs.lemmas.Bool.Decides.{nat_tests}
 use Rattle.std.proofs.lemmas.List.Folds.{list_all-map}
 use Rattle.aidl_base.specs.declared.limit.LimitName.TheVariants as limit
-use Rattle.aidl_base.proofs.Tests.{both, neither}
+use Rattle.aidl_base.proofs.lemmas.Tests.{both, neither}
 use Rattle.aidl_schema.specs.declared.schema.Decl as schema
 use Rattle.aidl_schema.specs.declared.schema.Method as made
 use Rattle.aidl_schema.specs.Containment.{is_composite}
@@ -40,11 +40,11 @@ use Rattle.tree_schema.specs.Parts.{way_of, arg_in, method_in, methods_in}
 use Rattle.tree_schema.specs.SchemaOf.{schema_of, declared, kind_of}
 use Rattle.schema_parts.specs.Types.{base_of, typed}
 use Rattle.schema_parts.specs.Values.{Outcomes}
-use Rattle.tree_schema.proofs.walked.Lists.{all-from_at, none-at}
+use Rattle.tree_schema.proofs.lemmas.walked.Lists.{all-from_at, none-at}
 use Rattle.tree_schema.proofs.walked.Outers.{are_named}
-use Rattle.tree_schema.proofs.walked.Placed.{Each}
-use Rattle.tree_schema.proofs.named.Numbers.{sorted-there}
-use Rattle.tree_schema.proofs.named.Schema.{schema-there}
+use Rattle.tree_schema.proofs.lemmas.walked.Placed.{Each}
+use Rattle.tree_schema.proofs.lemmas.named.Numbers.{sorted-there}
+use Rattle.tree_schema.proofs.lemmas.named.Schema.{schema-there}
 use Rattle.tree_schema.proofs.typed.MethodIds.{ids-hold, methods-are, methods-few}
 use Rattle.tree_schema.proofs.typed.Forms.{base-composite}
 use Rattle.tree_schema.proofs.typed.Members.{methods-hold as each-method}

@@ -40,16 +40,16 @@ use Rattle.tree_schema.specs.Parts.{field_in, arg_in, method_in}
 use Rattle.tree_schema.specs.SchemaOf.{schema_of, declared}
 use Rattle.schema_parts.specs.Types.{base_of, typed}
 use Rattle.schema_parts.specs.Values.{Outcomes}
-use Rattle.tree_schema.proofs.walked.Lists.{all-from_at}
+use Rattle.tree_schema.proofs.lemmas.walked.Lists.{all-from_at}
 use Rattle.tree_schema.proofs.walked.Outers.{are_named}
-use Rattle.tree_schema.proofs.walked.Placed.{Each}
-use Rattle.tree_schema.proofs.named.Numbers.{sorted-there}
-use Rattle.tree_schema.proofs.named.Schema.{schema-there}
+use Rattle.tree_schema.proofs.lemmas.walked.Placed.{Each}
+use Rattle.tree_schema.proofs.lemmas.named.Numbers.{sorted-there}
+use Rattle.tree_schema.proofs.lemmas.named.Schema.{schema-there}
 use Rattle.tree_schema.proofs.typed.Forms.{base-composite, base-meant, base-nullable, element-nullable}
 use Rattle.tree_schema.proofs.typed.Members.{fields-hold, methods-hold}
 use Rattle.tree_schema.proofs.typed.Shapes.{is_base, is_sound, shape-sound}
 use Rattle.tree_schema.proofs.typed.Uses.{IsFine, IsFineMember, is_left, any-parts, no-nullable, heap-nullable, stands-well, members-fine}
-use Rattle.aidl_base.proofs.Tests.{both}
+use Rattle.aidl_base.proofs.lemmas.Tests.{both}
 
 joined_true : (a b : Bool) → a ≡ true → b ≡ true → (a && b) ≡ true
 joined_true true true e h = refl

@@ -2,7 +2,7 @@
 use Rattle.std.proofs.Common.{◌≡◌, ℕ, Bool, true, false, not, ◌&&◌, if◌then◌else◌, List, [], ◌∷◌, Option, Some, None, slice_get, bytes_eq, refl, sym, ap, ◌∙◌, subst, arith}
 use Rattle.std.specs.List.{list_any, list_all}
 use Rattle.aidl_base.specs.declared.name.Ident.{Ident}
-use Rattle.aidl_base.proofs.Tests.{both, neither}
+use Rattle.aidl_base.proofs.lemmas.Tests.{both, neither}
 use Rattle.aidl_syntax.specs.declared.tree.DottedTree.{DottedTree}
 use Rattle.aidl_syntax.specs.declared.tree.TypeTree.{TypeTree}
 use Rattle.aidl_syntax.specs.Members.{body}
@@ -19,7 +19,7 @@ use Rattle.type_shapes.specs.declared.shape.Shape.TheVariants as shape
 use Rattle.const_items.specs.Items.{shape_in}
 use Rattle.type_shapes.specs.Types as types
 use Rattle.type_shapes.specs.Types.{Meaning, is_list_element, shaped, shaped_as, list_with, list_of, plain}
-use Rattle.tree_schema.proofs.walked.Lists.{first-passes}
+use Rattle.tree_schema.proofs.lemmas.walked.Lists.{first-passes}
 
 -- the declaration is there, and no interface
 abbrev pub is_base_entry : Option Entry → Bool

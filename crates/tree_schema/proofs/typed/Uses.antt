@@ -1,9 +1,9 @@
 -- What holds of each use of a type in a tree that breaks none of the rules on types.
 use Rattle.std.proofs.Common.{◌≡◌, ◌+◌, ℕ, zero, suc, Bool, true, false, not, ◌&&◌, ◌||◌, if◌then◌else◌, List, [], ◌∷◌, ◌++◌, map, filter, flat_map, Some, slice_get, refl, sym, ap, ◌∙◌, subst, arith}
 use Rattle.std.specs.List.{list_any}
-use Rattle.aidl_base.proofs.Tests.{neither}
-use Rattle.aidl_schema.proofs.Places.{both_empty, each_empty}
-use Rattle.aidl_schema.proofs.Sames.{same_text_is}
+use Rattle.aidl_base.proofs.lemmas.Tests.{neither}
+use Rattle.aidl_schema.proofs.lemmas.Places.{both_empty, each_empty}
+use Rattle.aidl_schema.proofs.lemmas.Sames.{same_text_is}
 use Rattle.aidl_syntax.specs.declared.tree.DottedTree.{DottedTree}
 use Rattle.aidl_syntax.specs.Trees.{Annot}
 use Rattle.aidl_syntax.specs.Members.{Member, members, body}
@@ -28,7 +28,7 @@ use Rattle.type_rules.specs.Filters.{broken_where}
 use Rattle.type_rules.specs.MethodRules.{is_bad_oneway, is_oneway_body}
 use Rattle.type_rules.specs.TypeRules.{is_bad_shape, is_bad_direction, bad_nullables, bad_nullables_of, is_bad_nullable}
 use Rattle.type_rules.specs.Unbroken.{AreUnbroken}
-use Rattle.tree_schema.proofs.walked.Placed.{Each}
+use Rattle.tree_schema.proofs.lemmas.walked.Placed.{Each}
 use Rattle.tree_schema.proofs.walked.Breaches.{none-broken, each-fails}
 
 -- Lists

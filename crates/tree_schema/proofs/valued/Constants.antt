@@ -32,14 +32,14 @@ use Rattle.tree_schema.specs.Parts.{listed_constants, bytes_of}
 use Rattle.tree_schema.specs.SchemaOf.{schema_of, declared}
 use Rattle.schema_parts.specs.Types.{base_of_builtin, typed}
 use Rattle.schema_parts.specs.Values.{Outcomes, or_zero, value_at}
-use Rattle.tree_schema.proofs.walked.Lists.{all-from_at}
-use Rattle.tree_schema.proofs.walked.Placed.{Each, all-all}
+use Rattle.tree_schema.proofs.lemmas.walked.Lists.{all-from_at}
+use Rattle.tree_schema.proofs.lemmas.walked.Placed.{Each, all-all}
 use Rattle.tree_schema.proofs.named.MemberWeights.{constants-are}
-use Rattle.tree_schema.proofs.named.Numbers.{sorted-there}
-use Rattle.tree_schema.proofs.named.Schema.{schema-there}
+use Rattle.tree_schema.proofs.lemmas.named.Numbers.{sorted-there}
+use Rattle.tree_schema.proofs.lemmas.named.Schema.{schema-there}
 use Rattle.tree_schema.proofs.typed.Uses.{IsFineMember, members-fine}
 use Rattle.tree_schema.proofs.settled.Plain.{fits}
-use Rattle.tree_schema.proofs.settled.Settled.{AreSettled, Stands, value-there}
+use Rattle.tree_schema.proofs.lemmas.settled.Settled.{AreSettled, Stands, value-there}
 
 -- a value that fits a built-in type is one of the base
 pub builtin-single : (S : List schema.Decl) (b : BuiltinName) (level : Const-F Const) → fits (wanted_of_builtin b) level ≡ true → is_single S (base_of_builtin b) level ≡ true

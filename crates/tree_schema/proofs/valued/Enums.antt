@@ -26,12 +26,12 @@ use Rattle.const_items.specs.Items.{of_entry, of_body, of_enumerator, of_enumera
 use Rattle.tree_schema.specs.Parts.{enumerator_in, listed_constants, constants_in, put}
 use Rattle.tree_schema.specs.SchemaOf.{schema_of, kind_of, backing_in}
 use Rattle.schema_parts.specs.Values.{Outcomes, whole, or_zero, value_at}
-use Rattle.tree_schema.proofs.walked.Lists.{all-from_at}
-use Rattle.tree_schema.proofs.walked.Placed.{Each}
-use Rattle.tree_schema.proofs.named.Numbers.{sorted-there}
-use Rattle.tree_schema.proofs.named.Schema.{schema-there}
+use Rattle.tree_schema.proofs.lemmas.walked.Lists.{all-from_at}
+use Rattle.tree_schema.proofs.lemmas.walked.Placed.{Each}
+use Rattle.tree_schema.proofs.lemmas.named.Numbers.{sorted-there}
+use Rattle.tree_schema.proofs.lemmas.named.Schema.{schema-there}
 use Rattle.tree_schema.proofs.settled.Plain.{fits}
-use Rattle.tree_schema.proofs.settled.Settled.{AreSettled, Stands, value-there}
+use Rattle.tree_schema.proofs.lemmas.settled.Settled.{AreSettled, Stands, value-there}
 
 -- byte, int or long
 abbrev pub is_integer : Wanted → Bool

@@ -38,11 +38,11 @@ use Rattle.const_items.specs.Dependence.{Target, of_constant, of_enumerator, tar
 use Rattle.const_items.specs.Items.{Item, Written, written, first, after, items, number_at, place_of}
 use Rattle.const_eval.specs.Outcomes.{HasOutcome, Values, operand_at, of_level, of_number, wanted_of, meaning, judgement_of, outcome_of, named_enum, enum_of, one_more, number_in}
 use Rattle.const_eval.specs.Outcomes.HasOutcome.{unformed, unknown, cyclic, behind, judged}
-use Rattle.const_eval.proofs.Agree.{kept}
-use Rattle.const_eval.proofs.OneOutcome.{one_outcome}
+use Rattle.const_eval.proofs.lemmas.Agree.{kept}
+use Rattle.const_eval.proofs.lemmas.OneOutcome.{one_outcome}
 use Rattle.schema_parts.specs.Values.{Outcomes, enumerator_value, whole, or_zero, value_of, value_of_item}
-use Rattle.tree_schema.proofs.walked.Lists.{there-mapped}
-use Rattle.tree_schema.proofs.settled.Settled.{AreOutcomes}
+use Rattle.tree_schema.proofs.lemmas.walked.Lists.{there-mapped}
+use Rattle.tree_schema.proofs.lemmas.settled.Settled.{AreOutcomes}
 
 -- it is an enumerator of the enum with that number, in that file
 abbrev pub IsOf : List Entry → ℕ → ℕ → Enumerator → Type 0

@@ -8,8 +8,8 @@ use Rattle.aidl_base.specs.declared.breach.Breach.{Breach}
 use Rattle.aidl_base.specs.declared.constant.Const.{Const, out-Const, roll-Const, out-roll-Const}
 use Rattle.aidl_base.specs.declared.constant.Const.TheOpen.{Const-F}
 use Rattle.aidl_base.specs.declared.constant.Const.TheVariants as value
-use Rattle.aidl_base.proofs.Tests.{neither}
-use Rattle.aidl_schema.proofs.Places.{both_empty}
+use Rattle.aidl_base.proofs.lemmas.Tests.{neither}
+use Rattle.aidl_schema.proofs.lemmas.Places.{both_empty}
 use Rattle.aidl_schema.specs.declared.schema.Decl as schema
 use Rattle.aidl_schema.specs.declared.schema.Enumerator as made
 use Rattle.aidl_schema.specs.Constants.{is_single, is_enumerator, is_enumerator_of, is_constant_of, are_members}
@@ -45,15 +45,15 @@ use Rattle.tree_schema.specs.Parts.{fields_in, enumerator_in}
 use Rattle.tree_schema.specs.SchemaOf.{schema_of, declared, kind_of}
 use Rattle.schema_parts.specs.Types.{base_of, base_of_number, typed}
 use Rattle.schema_parts.specs.Values.{Outcomes, or_zero, value_at, value_of, value_of_item, constant_value, initial_of, initial_value, enumerator_value}
-use Rattle.tree_schema.proofs.walked.Lists.{all-from_at}
+use Rattle.tree_schema.proofs.lemmas.walked.Lists.{all-from_at}
 use Rattle.tree_schema.proofs.walked.Outers.{are_named}
-use Rattle.tree_schema.proofs.walked.Placed.{Each}
-use Rattle.tree_schema.proofs.named.Numbers.{sorted-there}
-use Rattle.tree_schema.proofs.named.Schema.{schema-there, number-stands}
+use Rattle.tree_schema.proofs.lemmas.walked.Placed.{Each}
+use Rattle.tree_schema.proofs.lemmas.named.Numbers.{sorted-there}
+use Rattle.tree_schema.proofs.lemmas.named.Schema.{schema-there, number-stands}
 use Rattle.tree_schema.proofs.valued.EnumsNamed.{IsEnumerated, enum-value}
 use Rattle.tree_schema.proofs.valued.Constants.{builtin-single, each-parts}
 use Rattle.tree_schema.proofs.settled.Plain.{fits}
-use Rattle.tree_schema.proofs.settled.Settled.{AreOutcomes, AreSettled, Stands}
+use Rattle.tree_schema.proofs.lemmas.settled.Settled.{AreOutcomes, AreSettled, Stands}
 
 out_number : (z : ℤ) → out-Const (value.Number z) ≡ Const-F.Number z
 unfolding out-Const denote.Hole.Carrier.out

@@ -4,10 +4,10 @@ use Rattle.std.specs.List.{list_any, list_all}
 use Rattle.std.specs.Ordering.{match_ordering}
 use Rattle.std.proofs.lemmas.List.Folds.{list_all-append}
 use Rattle.aidl_base.specs.declared.breach.Breach.{Breach}
-use Rattle.aidl_base.proofs.Tests.{both, neither}
+use Rattle.aidl_base.proofs.lemmas.Tests.{both, neither}
 use Rattle.aidl_schema.specs.Same.{same_text}
-use Rattle.aidl_schema.proofs.Places.{both_empty, each_empty}
-use Rattle.aidl_schema.proofs.Sames.{same_text_refl, same_text_is}
+use Rattle.aidl_schema.proofs.lemmas.Places.{both_empty, each_empty}
+use Rattle.aidl_schema.proofs.lemmas.Sames.{same_text_refl, same_text_is}
 use Rattle.aidl_syntax.specs.declared.tree.NameTree.{NameTree}
 use Rattle.aidl_syntax.specs.Members.{Member, members, body, member_name, declared_name}
 use Rattle.aidl_names.specs.Breaches.{breaches, in_order, put, order}
@@ -17,7 +17,7 @@ use Rattle.name_meanings.specs.Resolution.{meaning_of_word}
 use Rattle.aidl_names.specs.Rules.{WrongFile, Duplicate, UnknownImport, UnknownType, LeftOutType, repeated, repeated_inside, argument_names, taken, is_named_again, is_taken, other_imports, breach}
 use Rattle.declared_names.specs.Numbered.{after_earlier, in_each}
 use Rattle.aidl_syntax.specs.Sources.{Source}
-use Rattle.tree_schema.proofs.walked.Totals.{total, total-append, is_that}
+use Rattle.tree_schema.proofs.lemmas.walked.Totals.{total, total-append, is_that}
 
 put_some : (bs : List Breach) (b : Breach) → put bs b ≡ [] → ⊥
 put_some [] b e = cc

@@ -5,17 +5,17 @@ use Rattle.std.proofs.lemmas.List.{map-append}
 use Rattle.std.proofs.lemmas.List.Elements.{filter-append}
 use Rattle.aidl_base.specs.declared.name.Ident.{Ident}
 use Rattle.aidl_schema.specs.Names.{is_inside}
-use Rattle.aidl_schema.proofs.Places.{both_empty}
+use Rattle.aidl_schema.proofs.lemmas.Places.{both_empty}
 use Rattle.aidl_syntax.specs.Trees.{Decl, Body, Members, Enumerator}
 use Rattle.aidl_syntax.specs.Trees.Decl.{decl}
 use Rattle.aidl_syntax.specs.Trees.Body.{parcelable, union, enum, interface}
 use Rattle.aidl_syntax.specs.Trees.Members.{none, field as with_field, constant as with_constant, method as with_method, nested as with_nested}
 use Rattle.aidl_syntax.specs.Members.{Member, members, listed, body}
 use Rattle.aidl_syntax.specs.Members.Member.{field, constant, method, enumerator, nested}
-use Rattle.declared_names.specs.Declarations.{Entry, inside, with_decl, with_body, with_members, with_file, with_files, declarations}
+use Rattle.declared_names.specs.Declarations.{Entry, name_inside, with_decl, with_body, with_members, with_file, with_files, declarations}
 use Rattle.declared_names.specs.Names.{parts_of}
 use Rattle.aidl_syntax.specs.Sources.{Source}
-use Rattle.tree_schema.proofs.walked.Lists.{there-last, elsewhere}
+use Rattle.tree_schema.proofs.lemmas.walked.Lists.{there-last, elsewhere}
 use Rattle.std.proofs.lemmas.Option.{slice_get_past}
 
 -- the declarations among members
@@ -115,14 +115,14 @@ mutual
   nested_members more file number name (with_constant c ms) before h = nested_members more file number name ms before h
   nested_members more file number name (with_method m ms) before h = nested_members more file number name ms before h
   nested_members more file number name (with_nested d ms) before h =
-      nested_members more file number name ms (with_decl file (Some number) (inside name d) d before)
-      (nested_decl (λ k. one_if (number == k) (nested_of (listed ms)) ++ more k) file (Some number) (inside name d) d before
+      nested_members more file number name ms (with_decl file (Some number) (name_inside name d) d before)
+      (nested_decl (λ k. one_if (number == k) (nested_of (listed ms)) ++ more k) file (Some number) (name_inside name d) d before
       (λ k. ap (λ z. children k before ++ z) (sym (split_front (number == k) d (nested_of (listed ms)) (more k))) ∙ h k))
 
 nested_files : (file : ℕ) (files : List Source) (before : List Entry) → AreNested (λ k. []) before → AreNested (λ k. []) (with_files file files before)
 nested_files file [] before h = h
 nested_files file (s ∷ more) before h =
-    nested_files (file + 1) more (with_file file s before) (nested_decl (λ k. []) file None (inside (parts_of s.tree.«package») s.tree.declared) s.tree.declared before h)
+    nested_files (file + 1) more (with_file file s before) (nested_decl (λ k. []) file None (name_inside (parts_of s.tree.«package») s.tree.declared) s.tree.declared before h)
 
 -- the declarations with a number around them are those nested in the declaration that has it
 pub children-are : (files : List Source) (k : ℕ) (e : Entry) → slice_get (declarations files) k ≡ Some e → children k (declarations files) ≡ nested_of (members (body e.tree))

@@ -3,8 +3,8 @@ use Rattle.std.proofs.Common.{◌≡◌, ◌<◌, ◌+◌, ℕ, Bool, true, fals
 use Rattle.std.specs.List.{list_all}
 use Rattle.std.proofs.lemmas.List.Folds.{list_all-append}
 use Rattle.aidl_base.specs.declared.name.Ident.{Ident}
-use Rattle.aidl_base.proofs.Tests.{both}
-use Rattle.aidl_schema.proofs.Apart.{all_parts}
+use Rattle.aidl_base.proofs.lemmas.Tests.{both}
+use Rattle.aidl_schema.proofs.lemmas.Apart.{all_parts}
 use Rattle.aidl_syntax.specs.declared.tree.DottedTree.{DottedTree}
 use Rattle.aidl_syntax.specs.Trees.{Decl, Body, Members}
 use Rattle.aidl_syntax.specs.Trees.Decl.{decl}
@@ -12,11 +12,11 @@ use Rattle.aidl_syntax.specs.Trees.Body.{parcelable, union, enum, interface}
 use Rattle.aidl_syntax.specs.Trees.Members.{none, field, constant, method, nested}
 use Rattle.aidl_syntax.specs.Members.{body, declared_name}
 use Rattle.aidl_syntax.specs.Walks.{naming, names_of, of_option, of_each, in_annots, in_field, in_constant, in_method, in_decl, in_body, in_members}
-use Rattle.declared_names.specs.Declarations.{Entry, inside, with_decl, with_body, with_members, with_file, with_files, declarations}
+use Rattle.declared_names.specs.Declarations.{Entry, name_inside, with_decl, with_body, with_members, with_file, with_files, declarations}
 use Rattle.declared_names.specs.Names.{parts_of}
 use Rattle.aidl_syntax.specs.Sources.{Source}
-use Rattle.tree_schema.proofs.walked.Ascii.{is_identifier_part}
-use Rattle.tree_schema.proofs.walked.Lists.{there-kept, there-last, there-cases}
+use Rattle.tree_schema.proofs.lemmas.walked.Ascii.{is_identifier_part}
+use Rattle.tree_schema.proofs.lemmas.walked.Lists.{there-kept, there-last, there-cases}
 use Rattle.std.proofs.lemmas.Option.{slice_get_within}
 
 -- a body that may hold declarations
@@ -29,12 +29,12 @@ may_hold (interface oneway ms) = true
 -- There is none around it. Or the one around it is an earlier one that may hold others, and has its name without the last part.
 abbrev pub IsAround : List Entry → ℕ → Entry → Option ℕ → Type 0
 IsAround entries i e None = Unit {0}
-IsAround entries i e (Some k) = (o : Entry) × (slice_get entries k ≡ Some o) × (k < i) × (e.name ≡ inside o.name e.tree) × (may_hold (body o.tree) ≡ true)
+IsAround entries i e (Some k) = (o : Entry) × (slice_get entries k ≡ Some o) × (k < i) × (e.name ≡ name_inside o.name e.tree) × (may_hold (body o.tree) ≡ true)
 
 -- what holds of the declaration with a number
 pub record IsWalked (entries : List Entry) (i : ℕ) (e : Entry) : Type 0 where
   pub front : List Ident
-  pub name : e.name ≡ inside front e.tree
+  pub name : e.name ≡ name_inside front e.tree
   pub parts : list_all is_identifier_part e.name ≡ true
   pub outer : IsAround entries i e e.outer
   pub tree : list_all is_identifier_part (in_decl naming e.tree) ≡ true
@@ -55,7 +55,7 @@ named-itself (decl offset annots n b) h =
     let one = (all_parts is_identifier_part (in_annots naming annots) (n.name ∷ in_body naming b) h).1 in
     (both (is_identifier_part n.name) (list_all is_identifier_part (in_body naming b)) one).0
 
-named_inside : (around : List Ident) (d : Decl) → list_all is_identifier_part around ≡ true → list_all is_identifier_part (in_decl naming d) ≡ true → list_all is_identifier_part (inside around d) ≡ true
+named_inside : (around : List Ident) (d : Decl) → list_all is_identifier_part around ≡ true → list_all is_identifier_part (in_decl naming d) ≡ true → list_all is_identifier_part (name_inside around d) ≡ true
 named_inside around d h k = list_all-append is_identifier_part around ((declared_name d).name ∷ []) ∙ rw (h, named-itself d k) refl
 
 still : (before after : List Entry) → Keeps before after → (i : ℕ) (e : Entry) (o : Option ℕ) → IsAround before i e o → IsAround after i e o
@@ -113,12 +113,12 @@ mutual
       walked_members file number name ms before all o at is may parts (all_parts is_identifier_part (in_method naming m) (in_members naming ms) names).1
   walked_members file number name (nested d ms) before all o at is may parts names =
       let two = all_parts is_identifier_part (in_decl naming d) (in_members naming ms) names in
-      let around : IsAround before (length before) (record { name = inside name d; file = file; outer = Some number; tree = d }) (Some number) =
-      (o, at, slice_get_within before number o at, ap (λ front. inside front d) (sym is), may) in
-      let one : IsWalked before (length before) (record { name = inside name d; file = file; outer = Some number; tree = d }) =
+      let around : IsAround before (length before) (record { name = name_inside name d; file = file; outer = Some number; tree = d }) (Some number) =
+      (o, at, slice_get_within before number o at, ap (λ front. name_inside front d) (sym is), may) in
+      let one : IsWalked before (length before) (record { name = name_inside name d; file = file; outer = Some number; tree = d }) =
       record { front = name; name = refl; parts = named_inside name d parts two.0; outer = around; tree = two.0 } in
-      let first = walked_decl file (Some number) (inside name d) d before all one in
-      let rest = walked_members file number name ms (with_decl file (Some number) (inside name d) d before) first.0 o (first.1 number o at) is may parts two.1 in
+      let first = walked_decl file (Some number) (name_inside name d) d before all one in
+      let rest = walked_members file number name ms (with_decl file (Some number) (name_inside name d) d before) first.0 o (first.1 number o at) is may parts two.1 in
       (rest.0, λ k x h. rest.1 k x (first.1 k x h))
 
 package_parts : (p : Option DottedTree) → of_option naming.dotted p ≡ parts_of p
@@ -131,7 +131,7 @@ walked_file file s before all names =
     let one = all_parts is_identifier_part (of_option naming.dotted s.tree.«package») (of_each naming.dotted s.tree.imports ++ in_decl naming s.tree.declared) names in
     let tree = (all_parts is_identifier_part (of_each naming.dotted s.tree.imports) (in_decl naming s.tree.declared) one.1).1 in
     let parts = subst (λ (ps : List Ident). list_all is_identifier_part ps ≡ true) (package_parts s.tree.«package») one.0 in
-    let name = inside (parts_of s.tree.«package») s.tree.declared in
+    let name = name_inside (parts_of s.tree.«package») s.tree.declared in
     let e : Entry = record { name = name; file = file; outer = None; tree = s.tree.declared } in
     let entry : IsWalked before (length before) e =
     record { front = parts_of s.tree.«package»; name = refl; parts = named_inside (parts_of s.tree.«package») s.tree.declared parts tree; outer = tt; tree = tree } in

@@ -19,22 +19,22 @@ use Rattle.aidl_values.specs.Sound.{initial_in, HaveDefaults, AreTypes}
 use Rattle.wire_model.specs.Reads.{Readings, Reads, EachReads, FieldsRead, NumberReads, IsMarker}
 use Rattle.wire_model.specs.Spell.{null_word, raw_bytes}
 use Rattle.wire_model.specs.ReadOf.{Read, read_as, text_data, one_at, count_at, array_at, elements_at, marker_at, body_at, field_at, fields_at, body_value_at, record_at, tag_at, tagged_at, union_at, read_of}
-use Rattle.aidl_values.proofs.OneZero.{one_zero}
+use Rattle.aidl_values.proofs.lemmas.OneZero.{one_zero}
 use Rattle.wire_model.proofs.Parts.{read_of-parts}
 use Rattle.wire_model.proofs.again.Words.{number_again, each_again}
-use Rattle.aidl_base.proofs.Blocks.{bytes_again}
+use Rattle.aidl_base.proofs.lemmas.Blocks.{bytes_again}
 use Rattle.wire_model.proofs.again.Texts.{AreByteNumbers, raw_items_again}
-use Rattle.aidl_base.proofs.Spelled.{text_again}
-use Rattle.aidl_base.proofs.Values.{is_word_again, truth_word}
+use Rattle.aidl_base.proofs.lemmas.Spelled.{text_again}
+use Rattle.aidl_base.proofs.lemmas.Values.{is_word_again, truth_word}
 use Rattle.wire_model.proofs.Forms.{elem_is_type, well_one, raw_form}
-use Rattle.wire_model.proofs.Sound.{IsWhole, field_type}
+use Rattle.wire_model.proofs.lemmas.Sound.{IsWhole, field_type}
 use Rattle.wire_model.proofs.Steps.{text_block_at, text_value_steps, then_marker, then_size, then_tag, then_text, then_elements, then_seq, then_there, then_fields, then_others, with_field, then_rec, then_alternative, then_field, with_tag}
 use Rattle.aidl_schema.specs.Constants.{in_range}
-use Rattle.aidl_base.proofs.Ranges.{byte_fits}
-use Rattle.aidl_base.proofs.Tests.{and_false, both}
+use Rattle.aidl_base.proofs.lemmas.Ranges.{byte_fits}
+use Rattle.aidl_base.proofs.lemmas.Tests.{and_false, both}
 use Rattle.std.proofs.lemmas.Option.{slice_get_within}
-use Rattle.aidl_base.proofs.Lists.{no_front}
-use Rattle.aidl_base.proofs.Words.{word_again, fits_pos, count_again, null_again}
+use Rattle.aidl_base.proofs.lemmas.Lists.{no_front}
+use Rattle.aidl_base.proofs.lemmas.Words.{word_again, fits_pos, count_again, null_again}
 use Rattle.wire_model.specs.steps.Levels.{read_parts}
 use Rattle.aidl_values.specs.steps.Levels.{is_level_left}
 

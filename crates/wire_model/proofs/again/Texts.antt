@@ -5,11 +5,11 @@ use Rattle.std.specs.Int.{w8, cast_signed, cast_unsigned}
 use Rattle.std.proofs.lemmas.Int.{to_z-of_z}
 use Rattle.aidl_base.specs.declared.profile.Profile.{Profile}
 use Rattle.aidl_base.specs.Profiles.{IsPadded}
-use Rattle.aidl_base.proofs.Blocks.{raw_again}
+use Rattle.aidl_base.proofs.lemmas.Blocks.{raw_again}
 use Rattle.aidl_values.specs.Data.{number, Items, none, item, count}
 use Rattle.wire_model.specs.Spell.{raw_byte, raw_bytes}
 use Rattle.wire_model.specs.ReadOf.{Read, ◌>>=◌, raw_items, raw_items_at}
-use Rattle.wire_model.proofs.spelled.Sizes.{length-raw_bytes}
+use Rattle.wire_model.proofs.lemmas.spelled.Sizes.{length-raw_bytes}
 
 -- numbers that are bytes
 abbrev pub AreByteNumbers : Items → Type 0

@@ -3,9 +3,9 @@ use Rattle.std.proofs.Common.{◌≡◌, ℕ, ℤ, Bool, true, List, ◌++◌, O
 use Rattle.aidl_base.specs.declared.profile.Profile.{Profile}
 use Rattle.aidl_base.specs.Profiles.{is_byte_word, byte_of, is_char_word, char_of}
 use Rattle.aidl_base.specs.Words.{word_of}
-use Rattle.aidl_base.proofs.Words.{word_again, long_again}
-use Rattle.aidl_base.proofs.Values.{is_word_again}
-use Rattle.aidl_base.proofs.Ranges.{int_fits, long_fits}
+use Rattle.aidl_base.proofs.lemmas.Words.{word_again, long_again}
+use Rattle.aidl_base.proofs.lemmas.Values.{is_word_again}
+use Rattle.aidl_base.proofs.lemmas.Ranges.{int_fits, long_fits}
 use Rattle.aidl_schema.specs.Constants.{in_range}
 use Rattle.aidl_schema.specs.Types.{Form}
 use Rattle.aidl_schema.specs.Types as form

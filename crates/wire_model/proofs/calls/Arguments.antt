@@ -2,8 +2,8 @@
 -- first that has no view.
 use Rattle.std.proofs.Common.{◌≡◌, ℕ, zero, suc, ◌+◌, ◌≤◌, pos, negsuc, Bool, true, false, nat_le, List, [], ◌∷◌, ◌++◌, length, Option, Some, None, Ok, refl, sym, ap, ◌∙◌, subst, arith, length-append}
 use Rattle.std.proofs.lemmas.Bool.Decides.{nat_tests}
-use Rattle.aidl_base.proofs.Bytes.{AreBytes, AreBytes-rest}
-use Rattle.aidl_base.proofs.Words.{count_again, null_again}
+use Rattle.aidl_base.proofs.lemmas.Lists.{AreBytes, AreBytes-rest}
+use Rattle.aidl_base.proofs.lemmas.Words.{count_again, null_again}
 use Rattle.aidl_base.specs.declared.profile.Profile.{Profile}
 use Rattle.aidl_base.specs.Readings.{◌>>=◌}
 use Rattle.aidl_schema.specs.declared.schema.AidlType.{AidlType}

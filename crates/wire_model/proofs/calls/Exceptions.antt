@@ -5,8 +5,8 @@ use Rattle.std.specs.Int.{w32}
 use Rattle.std.specs.Ordering.{int_eq}
 use Rattle.std.proofs.lemmas.Int.{ints}
 use Rattle.std.proofs.lemmas.Bool.Decides.{nat_tests}
-use Rattle.aidl_base.proofs.Spelled.{present_text_again, length-spell_text}
-use Rattle.aidl_base.proofs.Words.{word_again, fits_pos}
+use Rattle.aidl_base.proofs.lemmas.Spelled.{present_text_again, length-spell_text}
+use Rattle.aidl_base.proofs.lemmas.Words.{word_again, fits_pos}
 use Rattle.aidl_base.specs.declared.profile.Profile.{Profile}
 use Rattle.aidl_base.specs.Ranges.{is_between}
 use Rattle.aidl_base.specs.Readings.{Read, ◌>>=◌, word_at}

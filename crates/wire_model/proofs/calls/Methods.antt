@@ -1,7 +1,7 @@
 -- Where no evolution rule is broken from one of two schemas to the other, methods of one name take the same calls.
 use Rattle.std.proofs.Common.{◌≡◌, ℕ, suc, Bool, true, false, ◌==◌, List, [], ◌∷◌, length, Option, Some, None, find, refl, sym, ◌∙◌, subst, arith, true≢false}
 use Rattle.std.proofs.lemmas.Bool.Decides.{nat_tests}
-use Rattle.aidl_schema.proofs.Sames.{same_text_is, same_text_sym}
+use Rattle.aidl_schema.proofs.lemmas.Sames.{same_text_is, same_text_sym}
 use Rattle.aidl_schema.specs.declared.schema.AidlType.{AidlType}
 use Rattle.aidl_schema.specs.declared.schema.Arg.{Arg}
 use Rattle.aidl_schema.specs.declared.schema.Decl.{Decl}

@@ -2,12 +2,12 @@
 use Rattle.std.proofs.Common.{◌≡◌, ℕ, ◌≤◌, ℤ, pos, true, false, List, [], ◌++◌, length, Option, Some, None, slice_get, Result, Ok, refl, sym, ap, ◌∙◌, subst, arith, length-append}
 use Rattle.std.proofs.lemmas.List.{append-nil}
 use Rattle.std.specs.List.{position}
-use Rattle.aidl_base.proofs.Bytes.{AreBytes, AreBytes-rest}
-use Rattle.aidl_base.proofs.Words.{word_again, fits_pos}
+use Rattle.aidl_base.proofs.lemmas.Lists.{AreBytes, AreBytes-rest}
+use Rattle.aidl_base.proofs.lemmas.Words.{word_again, fits_pos}
 use Rattle.aidl_base.specs.declared.profile.Profile.{Profile}
 use Rattle.aidl_base.specs.Readings.{Read, ◌>>=◌}
 use Rattle.aidl_base.specs.Words.{word}
-use Rattle.aidl_schema.proofs.Sames.{same_text_sym}
+use Rattle.aidl_schema.proofs.lemmas.Sames.{same_text_sym}
 use Rattle.aidl_schema.specs.declared.schema.AidlType.{AidlType}
 use Rattle.aidl_schema.specs.declared.schema.Decl.{Decl}
 use Rattle.aidl_schema.specs.declared.schema.Method.{Method}

@@ -3,13 +3,13 @@ use Rattle.std.proofs.Common.{◌≡◌, ℕ, ◌+◌, ◌≤◌, ℤ, pos, negs
 use Rattle.std.specs.List.{position}
 use Rattle.std.specs.Str.{all_scalars}
 use Rattle.std.proofs.lemmas.Bool.Decides.{nat_tests}
-use Rattle.aidl_base.proofs.Bytes.{AreBytes, AreBytes-rest}
-use Rattle.aidl_base.proofs.Spelled.{length-spell_text}
+use Rattle.aidl_base.proofs.lemmas.Lists.{AreBytes, AreBytes-rest}
+use Rattle.aidl_base.proofs.lemmas.Spelled.{length-spell_text}
 use Rattle.aidl_base.specs.declared.profile.Profile.{Profile}
 use Rattle.aidl_base.specs.Readings.{◌>>=◌}
 use Rattle.aidl_base.specs.Spellings.{spell_text}
 use Rattle.aidl_base.specs.Words.{word, units}
-use Rattle.aidl_schema.proofs.Sames.{same_text_is}
+use Rattle.aidl_schema.proofs.lemmas.Sames.{same_text_is}
 use Rattle.aidl_schema.specs.declared.schema.Decl.{Decl}
 use Rattle.aidl_schema.specs.declared.schema.Method.{Method}
 use Rattle.aidl_schema.specs.Broken.{same_name, same_method}

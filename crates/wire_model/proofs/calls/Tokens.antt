@@ -13,11 +13,11 @@ use Rattle.aidl_base.specs.Reserved.{reserved_of}
 use Rattle.aidl_base.specs.Readings.{Read, ◌>>=◌, word_at, present_text_at}
 use Rattle.aidl_base.specs.Spellings.{spell_text}
 use Rattle.aidl_base.specs.Words.{word, units}
-use Rattle.aidl_base.proofs.Blocks.{bytes_again}
-use Rattle.aidl_base.proofs.Spelled.{present_text_again}
-use Rattle.aidl_base.proofs.Tests.{both}
-use Rattle.aidl_base.proofs.Words.{word_again, fits_pos}
-use Rattle.aidl_schema.proofs.Sames.{same_text_refl}
+use Rattle.aidl_base.proofs.lemmas.Blocks.{bytes_again}
+use Rattle.aidl_base.proofs.lemmas.Spelled.{present_text_again}
+use Rattle.aidl_base.proofs.lemmas.Tests.{both}
+use Rattle.aidl_base.proofs.lemmas.Words.{word_again, fits_pos}
+use Rattle.aidl_schema.proofs.lemmas.Sames.{same_text_refl}
 use Rattle.aidl_schema.specs.declared.schema.Decl.{Decl}
 use Rattle.aidl_schema.specs.Names.{name_of, is_name, has_part, are_identifiers, is_type_word, last_part}
 use Rattle.wire_model.specs.Receiver.{header_at, is_token, accepted, token_at}

@@ -1,7 +1,7 @@
 -- The types of a method of a valid schema are types of the schema.
 use Rattle.std.proofs.Common.{◌≡◌, ℕ, Bool, true, false, not, ◌||◌, List, [], ◌∷◌, Option, Some, None, slice_get, refl}
 use Rattle.std.specs.List.{list_all}
-use Rattle.aidl_base.proofs.Tests.{both, all_at}
+use Rattle.aidl_base.proofs.lemmas.Tests.{both, all_at}
 use Rattle.aidl_schema.specs.declared.schema.AidlType.{AidlType}
 use Rattle.aidl_schema.specs.declared.schema.Arg.{Arg}
 use Rattle.aidl_schema.specs.declared.schema.Decl.{Decl}

@@ -1,6 +1,6 @@
 -- What is read of values that another schema spelled: their views, or BAD_VALUE at the first that has none.
 use Rattle.std.proofs.Common.{◌≡◌, ℕ, ◌≤◌, true, false, List, [], ◌∷◌, ◌++◌, length, Option, Some, None, option_map, Ok, Err, refl, ap, ◌∙◌, subst, arith, append_assoc, length-append}
-use Rattle.aidl_base.proofs.Bytes.{AreBytes, AreBytes-rest}
+use Rattle.aidl_base.proofs.lemmas.Lists.{AreBytes, AreBytes-rest}
 use Rattle.aidl_base.specs.declared.profile.Profile.{Profile}
 use Rattle.aidl_base.specs.Readings.{◌>>=◌}
 use Rattle.aidl_schema.specs.declared.schema.AidlType.{AidlType}
@@ -18,7 +18,7 @@ use Rattle.wire_model.specs.Spell.{spell}
 use Rattle.wire_model.specs.Status.{bad_value}
 use Rattle.wire_model.specs.View.{view_of, item_first}
 use Rattle.wire_model.specs.steps.Meets.{Meets}
-use Rattle.wire_model.proofs.Reading.{reads_read, stop_read}
+use Rattle.wire_model.proofs.lemmas.Reading.{reads_read, stop_read}
 use Rattle.wire_model.proofs.viewed.Parts.{ReadsOrStops}
 use Rattle.wire_model.proofs.viewed.Reads.{view_reads}
 

@@ -1,7 +1,7 @@
 -- What a client reads has the types of the method's result and outs.
 use Rattle.std.proofs.Common.{◌≡◌, ℕ, ℤ, pos, Bool, true, false, List, [], ◌∷◌, Option, slice_get, Ok, Err, refl, ap, subst}
 use Rattle.std.specs.Ordering.{int_eq}
-use Rattle.aidl_base.proofs.Bytes.{AreBytes}
+use Rattle.aidl_base.proofs.lemmas.Lists.{AreBytes}
 use Rattle.aidl_base.specs.declared.profile.Profile.{Profile}
 use Rattle.aidl_base.specs.Readings.{Read, ◌>>=◌, word_at, present_text_at}
 use Rattle.aidl_schema.specs.declared.schema.AidlType.{AidlType}
@@ -14,7 +14,7 @@ use Rattle.wire_model.specs.Receiver.{values_at, result_at, returned_at, after_t
 use Rattle.wire_model.specs.Status.{bad_value}
 use Rattle.wire_model.specs.Typed.{EachHasType, IsResult, IsGot}
 use Rattle.wire_model.proofs.calls.Types.{method_typed}
-use Rattle.wire_model.proofs.received.Steps.{taken}
+use Rattle.wire_model.proofs.lemmas.received.Steps.{taken}
 use Rattle.wire_model.proofs.received.Rests.{word_bytes}
 use Rattle.wire_model.proofs.received.Values.{AreTypesOf, outs_typed, values_typed, result_typed}
 

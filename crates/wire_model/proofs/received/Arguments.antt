@@ -1,6 +1,6 @@
 -- What a stub reads has the types of the method's arguments.
 use Rattle.std.proofs.Common.{◌≡◌, ℕ, zero, suc, ◌+◌, ℤ, Bool, true, false, nat_lt, nat_le, List, [], ◌∷◌, length, Option, Some, None, slice_get, Result, Ok, Err, refl, ap, ◌∙◌, subst}
-use Rattle.aidl_base.proofs.Bytes.{AreBytes, AreBytes-rest}
+use Rattle.aidl_base.proofs.lemmas.Lists.{AreBytes, AreBytes-rest}
 use Rattle.aidl_base.specs.declared.profile.Profile.{Profile}
 use Rattle.aidl_base.specs.Readings.{Read, ◌>>=◌, count_at}
 use Rattle.aidl_schema.specs.declared.schema.AidlType.{AidlType}
@@ -23,7 +23,7 @@ use Rattle.wire_model.proofs.calls.Arguments.{HaveTypes, LengthFits}
 use Rattle.wire_model.proofs.calls.Types.{method_typed}
 use Rattle.wire_model.proofs.told.Words.{Told, CountReads, count_told}
 use Rattle.wire_model.specs.Stop.{CountStop}
-use Rattle.wire_model.proofs.received.Steps.{taken}
+use Rattle.wire_model.proofs.lemmas.received.Steps.{taken}
 use Rattle.wire_model.proofs.received.Rests.{token_bytes}
 use Rattle.wire_model.proofs.received.Values.{value_typed, joined}
 

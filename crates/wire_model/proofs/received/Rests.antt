@@ -1,6 +1,6 @@
 -- What is left after a word, a text, or the token of a request, is bytes again.
 use Rattle.std.proofs.Common.{◌≡◌, ℕ, ℤ, Bool, true, false, nat_lt, List, length, take, drop, Result, Ok, Err, refl, ap, subst}
-use Rattle.aidl_base.proofs.Bytes.{AreBytes, AreBytes-rest, AreBytes-drop}
+use Rattle.aidl_base.proofs.lemmas.Lists.{AreBytes, AreBytes-rest, AreBytes-drop}
 use Rattle.aidl_base.specs.declared.profile.Profile.{Profile}
 use Rattle.aidl_base.specs.Readings.{Read, ◌>>=◌, bytes_at, word_at, text_at, not_null, present_text_at}
 use Rattle.aidl_base.specs.Words.{word_of}
@@ -10,7 +10,7 @@ use Rattle.wire_model.specs.Status.{not_enough, bad_type}
 use Rattle.wire_model.proofs.told.Words.{Told}
 use Rattle.wire_model.specs.Stop.{TextStop}
 use Rattle.wire_model.proofs.told.Texts.{TextReads, text_told}
-use Rattle.wire_model.proofs.received.Steps.{taken}
+use Rattle.wire_model.proofs.lemmas.received.Steps.{taken}
 
 pub word_bytes : (b : List ℕ) (x : ℤ × List ℕ) → AreBytes b → word_at false b ≡ Ok x → AreBytes x.1
 word_bytes b x bytes e = by_test (nat_lt (length b) 4) refl

@@ -1,7 +1,7 @@
 -- With which statuses a request and a reply are refused.
 use Rattle.std.proofs.Common.{◌≡◌, ℕ, ◌+◌, ℤ, pos, Bool, true, false, nat_lt, nat_le, List, [], ◌∷◌, length, take, drop, slice_get, Option, Some, None, Result, Ok, Err, inl, inr, refl, ap, subst}
 use Rattle.std.specs.Ordering.{int_eq}
-use Rattle.aidl_base.proofs.Bytes.{AreBytes}
+use Rattle.aidl_base.proofs.lemmas.Lists.{AreBytes}
 use Rattle.aidl_base.specs.declared.profile.Profile.{Profile}
 use Rattle.aidl_base.specs.Readings.{Read, ◌>>=◌, word_at, count_at, text_at, not_null, present_text_at}
 use Rattle.aidl_base.specs.Words.{word_of}
@@ -21,12 +21,12 @@ use Rattle.wire_model.specs.Receiver.{Received, received, or_status, zero_in, ar
 use Rattle.wire_model.specs.Requests.{service_specific}
 use Rattle.wire_model.specs.Status.{bad_value, not_enough, unexpected_null, unknown_transaction, bad_type, IsStatus, IsTransport}
 use Rattle.wire_model.specs.Stop.{CountStop, TextStop}
-use Rattle.wire_model.proofs.Reading.{read_stop}
+use Rattle.wire_model.proofs.lemmas.Reading.{read_stop}
 use Rattle.wire_model.proofs.calls.Arguments.{HaveTypes}
 use Rattle.wire_model.proofs.calls.Types.{passed, method_typed}
 use Rattle.wire_model.proofs.received.Arguments.{argument_typed}
 use Rattle.wire_model.proofs.received.Rests.{word_bytes, token_bytes}
-use Rattle.wire_model.proofs.received.Steps.{Stopped, stopped}
+use Rattle.wire_model.proofs.lemmas.received.Steps.{Stopped, stopped}
 use Rattle.wire_model.proofs.received.Values.{AreTypesOf, outs_typed, value_typed, result_typed}
 use Rattle.wire_model.proofs.stopped.Statuses.{stop_status, count_status, text_status}
 use Rattle.wire_model.proofs.told.Texts.{TextReads, text_told}

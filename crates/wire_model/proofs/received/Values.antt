@@ -1,6 +1,6 @@
 -- Values that are read have the types that they are read by.
 use Rattle.std.proofs.Common.{◌≡◌, ℕ, Bool, true, false, List, [], ◌∷◌, Option, Some, None, Ok, refl, ap, subst}
-use Rattle.aidl_base.proofs.Bytes.{AreBytes, AreBytes-rest}
+use Rattle.aidl_base.proofs.lemmas.Lists.{AreBytes, AreBytes-rest}
 use Rattle.aidl_base.specs.declared.profile.Profile.{Profile}
 use Rattle.aidl_base.specs.Readings.{Read, ◌>>=◌}
 use Rattle.aidl_schema.specs.declared.schema.AidlType.{AidlType}
@@ -15,10 +15,10 @@ use Rattle.wire_model.specs.Calls.{outs_of}
 use Rattle.wire_model.specs.ReadOf.{read_of}
 use Rattle.wire_model.specs.Receiver.{values_at, result_at}
 use Rattle.wire_model.specs.Typed.{EachHasType, IsResult}
-use Rattle.wire_model.proofs.Reading.{read_reads, read_typed}
+use Rattle.wire_model.proofs.lemmas.Reading.{read_reads, read_typed}
 use Rattle.wire_model.proofs.calls.Arguments.{HaveTypes}
 use Rattle.wire_model.proofs.calls.Types.{passed}
-use Rattle.wire_model.proofs.received.Steps.{taken}
+use Rattle.wire_model.proofs.lemmas.received.Steps.{taken}
 
 -- each of these is a type of the schema
 abbrev pub AreTypesOf : List Decl → List AidlType → Type 0

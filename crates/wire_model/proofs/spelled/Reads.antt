@@ -4,9 +4,9 @@ use Rattle.std.specs.Prelude.{MatchBool}
 use Rattle.aidl_base.specs.declared.profile.Profile.{Profile}
 use Rattle.aidl_base.specs.Profiles.{IsPadded}
 use Rattle.aidl_base.specs.Words.{word, pad, units, unit_bytes, block}
-use Rattle.aidl_base.proofs.Profiles.{padded}
-use Rattle.aidl_base.proofs.Ranges.{byte_fits}
-use Rattle.aidl_base.proofs.Values.{truth_word, byte_word, char_number_word}
+use Rattle.aidl_base.proofs.lemmas.Profiles.{padded}
+use Rattle.aidl_base.proofs.lemmas.Ranges.{byte_fits}
+use Rattle.aidl_base.proofs.lemmas.Values.{truth_word, byte_word, char_number_word}
 use Rattle.aidl_schema.specs.Constants.{in_range}
 use Rattle.aidl_schema.specs.Types as form
 use Rattle.aidl_schema.specs.declared.schema.Decl.{Decl}
@@ -17,8 +17,8 @@ use Rattle.aidl_values.specs.Data.{Data, null, truth, number, text, seq, rec, al
 use Rattle.aidl_values.specs.HasType.{HasType, HaveType, FieldsHaveType}
 use Rattle.wire_model.specs.Spell.{spell, spell_number, spell_items, spell_fields, spell_text, raw_bytes, body, parcelable_fields, union_fields}
 use Rattle.wire_model.specs.Reads.{Reads, EachReads, FieldsRead, NumberReads}
-use Rattle.wire_model.proofs.spelled.Sizes.{length-word, pad_whole, length-raw_bytes, spell_items_whole, spell_fields_whole}
-use Rattle.aidl_base.proofs.Blocks.{length-unit_bytes}
+use Rattle.wire_model.proofs.lemmas.spelled.Sizes.{length-word, pad_whole, length-raw_bytes, spell_items_whole, spell_fields_whole}
+use Rattle.aidl_base.proofs.lemmas.Blocks.{length-unit_bytes}
 
 -- every value of the type whose depth is at most d and whose spelling is small enough is read from it
 Lawful : Profile → List Decl → ℕ → Type 0

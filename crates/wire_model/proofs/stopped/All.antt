@@ -7,7 +7,7 @@ use Rattle.std.proofs.lemmas.Option.{slice_get_past}
 use Rattle.aidl_base.specs.declared.profile.Profile.{Profile}
 use Rattle.aidl_base.specs.Profiles.{is_truth_word, truth_of, is_byte_word, byte_of, is_char_word, char_of, is_padding, IsPadded}
 use Rattle.aidl_base.specs.Words.{padding}
-use Rattle.aidl_base.proofs.Profiles.{permits_written, padded_by}
+use Rattle.aidl_base.proofs.lemmas.Profiles.{permits_written, padded_by}
 use Rattle.aidl_schema.specs.declared.schema.Decl.{Decl}
 use Rattle.aidl_schema.specs.declared.schema.Field.{Field}
 use Rattle.aidl_schema.specs.declared.schema.AidlType.{AidlType}
@@ -21,13 +21,12 @@ use Rattle.wire_model.specs.Reads.{Readings, IsMarker, Reads, EachReads}
 use Rattle.wire_model.specs.Status.{bad_value, past}
 use Rattle.wire_model.specs.ReadOf.{Read, ◌>>=◌, word_at, word_as, truth_at, text_at, read_as, char_data, text_data, count_at, marker_at, bytes_at, raw_items, raw_items_at, each_at, elements_at, array_at, field_at, fields_at, size_of, body_at, body_value_at, record_at, tag_at, tagged_at, union_at, one_at, read_by, read_of}
 use Rattle.wire_model.proofs.Forms.{elem_is_type}
-use Rattle.wire_model.proofs.Sound.{IsWhole, field_type}
+use Rattle.wire_model.proofs.lemmas.Sound.{IsWhole, field_type}
 use Rattle.wire_model.proofs.TextForms.{text_form}
 use Rattle.wire_model.proofs.again.All.{again, marker_again}
 use Rattle.wire_model.proofs.Steps.{ok_text, text_block_at, text_value_steps, raw_items_steps, then_count, then_marker, then_size, then_tag, then_text, then_elements, then_block, then_raw, then_items, with_item, then_seq, then_there, then_inner, then_fields, then_others, with_field, then_rec, then_alternative, then_field}
-use Rattle.aidl_base.proofs.Tests.{both}
-use Rattle.aidl_base.proofs.Lists.{no_rest}
-use Rattle.aidl_base.proofs.Bytes.{AreBytes, AreBytes-take, AreBytes-drop, AreBytes-rest}
+use Rattle.aidl_base.proofs.lemmas.Tests.{both}
+use Rattle.aidl_base.proofs.lemmas.Lists.{AreBytes, AreBytes-drop, AreBytes-rest, AreBytes-take, no_rest}
 
 pub short_word : (inside : Bool) (b : List ℕ) → length b < 4 → word_at inside b ≡ Err (past inside)
 short_word inside b lt = let e : nat_lt (length b) 4 ≡ true = grind (arith, nat_tests) in rw e refl

@@ -21,16 +21,16 @@ use Rattle.wire_model.specs.Spell.{spell, raw_bytes}
 use Rattle.wire_model.specs.Status.{bad_value}
 use Rattle.wire_model.specs.ReadOf.{Read, read_as, char_data, text_data, word_at, long_at, truth_at, byte_at, char_at, text_at, one_at, record_at, union_at, array_at, read_by, read_of}
 use Rattle.wire_model.proofs.Forms.{elem_is_type}
-use Rattle.wire_model.proofs.Sound.{IsWhole}
+use Rattle.wire_model.proofs.lemmas.Sound.{IsWhole}
 use Rattle.wire_model.proofs.told.Words.{Told, told_as, told_value, word_as_told, word_told, long_told}
 use Rattle.wire_model.proofs.told.Texts.{TextReads, text_told}
 use Rattle.wire_model.proofs.told.Records.{RecordReads, record_told}
 use Rattle.wire_model.proofs.told.Unions.{UnionReads, union_told}
 use Rattle.wire_model.proofs.told.Sequences.{SequenceReads, sequence_told}
-use Rattle.aidl_base.proofs.Ranges.{fits_byte, fits_int, fits_long, below_char}
-use Rattle.aidl_base.proofs.Profiles.{byte_of-fits, char_of-below}
-use Rattle.aidl_base.proofs.Tests.{both}
-use Rattle.aidl_base.proofs.Bytes.{AreBytes}
+use Rattle.aidl_base.proofs.lemmas.Ranges.{fits_byte, fits_int, fits_long, below_char}
+use Rattle.aidl_base.proofs.lemmas.Profiles.{byte_of-fits, char_of-below}
+use Rattle.aidl_base.proofs.lemmas.Tests.{both}
+use Rattle.aidl_base.proofs.lemmas.Lists.{AreBytes}
 
 -- a word means a byte, and a char
 is_byte : (w n : ℤ) → byte_of w ≡ n → is_in range.Byte n ≡ true

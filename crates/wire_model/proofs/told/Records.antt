@@ -23,8 +23,8 @@ use Rattle.wire_model.proofs.told.Words.{Told, told_then, spells_word, word_fits
 use Rattle.wire_model.proofs.told.Defaults.{initials_in, are_initial, initials_typed}
 use Rattle.wire_model.proofs.stopped.All.{after_len, a_size}
 use Rattle.wire_model.proofs.Steps.{then_inner, then_fields, then_others, with_field, then_rec}
-use Rattle.aidl_base.proofs.Tests.{both}
-use Rattle.aidl_base.proofs.Bytes.{AreBytes, AreBytes-take, AreBytes-drop, AreBytes-rest}
+use Rattle.aidl_base.proofs.lemmas.Tests.{both}
+use Rattle.aidl_base.proofs.lemmas.Lists.{AreBytes, AreBytes-take, AreBytes-drop, AreBytes-rest}
 
 -- a size word, the bytes that it counts, and the rest
 abbrev pub BodySplit : List ℕ → List ℕ → List ℕ → Type 0

@@ -6,7 +6,7 @@ use Rattle.std.proofs.lemmas.Bool.{ltb-true, ltb-false}
 use Rattle.aidl_base.specs.declared.profile.Profile.{Profile}
 use Rattle.aidl_base.specs.Profiles.{is_padding, IsPadded}
 use Rattle.aidl_base.specs.Words.{word, padding}
-use Rattle.aidl_base.proofs.Profiles.{padded_by, tail_padded}
+use Rattle.aidl_base.proofs.lemmas.Profiles.{padded_by, tail_padded}
 use Rattle.aidl_schema.specs.declared.schema.Decl.{Decl}
 use Rattle.aidl_schema.specs.declared.schema.AidlType.{AidlType}
 use Rattle.aidl_schema.specs.Types.{form_of, is_raw, elem}
@@ -22,7 +22,7 @@ use Rattle.wire_model.proofs.Forms.{raw_form}
 use Rattle.wire_model.proofs.RawForms.{bytes_of_items, count_of_items, items_typed}
 use Rattle.wire_model.proofs.told.Words.{Told, told_then, CountReads, count_told, begins, tail_word}
 use Rattle.wire_model.proofs.Steps.{raw_items_steps, then_items, with_item, then_seq}
-use Rattle.aidl_base.proofs.Bytes.{AreBytes, AreBytes-take, AreBytes-rest}
+use Rattle.aidl_base.proofs.lemmas.Lists.{AreBytes, AreBytes-take, AreBytes-rest}
 
 module _ (PartReads : List ℕ → Data → Type 0) (PartStops : List ℕ → ℤ → Type 0) (read : List ℕ → Read Data) (law : (b : List ℕ) → AreBytes b → Told PartReads (λ s. PartStops b s) b (read b)) where
   abbrev pub CountRead : ℕ → List ℕ → Items → Type 0

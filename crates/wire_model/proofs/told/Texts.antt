@@ -11,12 +11,12 @@ use Rattle.aidl_values.specs.Data.{Data, null, text}
 use Rattle.wire_model.specs.Status.{bad_value, past}
 use Rattle.wire_model.specs.Stop.{BlockStop, TextStop, CountStop, block_len, IsBlock}
 use Rattle.aidl_base.specs.Readings.{count_at, text_at, text_of, ends_text, units_of}
-use Rattle.aidl_base.proofs.Blocks.{text_back}
+use Rattle.aidl_base.proofs.lemmas.Blocks.{text_back}
 use Rattle.wire_model.specs.ReadOf.{Read, read_as, text_data}
 use Rattle.wire_model.proofs.Steps.{ok_text, text_block_at, text_value_steps}
 use Rattle.wire_model.proofs.told.Words.{Told, told_then, CountReads, count_told, begins, tail_word}
 use Rattle.wire_model.proofs.TextForms.{is_block}
-use Rattle.aidl_base.proofs.Bytes.{AreBytes, AreBytes-take, AreBytes-rest}
+use Rattle.aidl_base.proofs.lemmas.Lists.{AreBytes, AreBytes-take, AreBytes-rest}
 
 -- texts
 abbrev pub TextReads : Profile → Bool → List ℕ → Data → Type 0

@@ -14,10 +14,10 @@ use Rattle.wire_model.specs.Stop.{Stoppings, first_word, after_word, Begins, Mar
 use Rattle.wire_model.specs.Reads.{Readings, IsMarker}
 use Rattle.wire_model.specs.Status.{bad_value, past}
 use Rattle.wire_model.specs.ReadOf.{Read, ◌>>=◌, marker_at, marked_at, tag_of, tag_at, tagged_at, union_at}
-use Rattle.wire_model.proofs.Sound.{field_type}
+use Rattle.wire_model.proofs.lemmas.Sound.{field_type}
 use Rattle.wire_model.proofs.told.Words.{Told, told_then, spells_word, MarkerReads, marker_told, marks, after_is}
 use Rattle.wire_model.proofs.Steps.{then_alternative, then_field, with_tag}
-use Rattle.aidl_base.proofs.Bytes.{AreBytes, AreBytes-drop, AreBytes-rest}
+use Rattle.aidl_base.proofs.lemmas.Lists.{AreBytes, AreBytes-drop, AreBytes-rest}
 
 -- what is read at a union's place; `left` says that a level is left
 abbrev pub UnionReads : Profile → Bool → Readings → Bool → List Field → List ℕ → Data → Type 0

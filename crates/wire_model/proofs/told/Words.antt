@@ -8,14 +8,13 @@ use Rattle.std.proofs.lemmas.List.{take-append-drop, length-take-le}
 use Rattle.aidl_base.specs.declared.profile.Profile.{Profile}
 use Rattle.aidl_base.specs.Profiles.{is_truth_word, truth_of, IsWord}
 use Rattle.aidl_base.specs.Words.{word, word_of, long_word, long_of}
-use Rattle.aidl_base.proofs.Lists.{take_front, drop_front}
+use Rattle.aidl_base.proofs.lemmas.Lists.{AreBytes, AreBytes-front, AreBytes-take, drop_front, take_front}
 use Rattle.aidl_values.specs.Data.{Data}
 use Rattle.wire_model.specs.Reads.{IsMarker}
 use Rattle.wire_model.specs.Stop.{first_word, after_word, WordStop, LongStop, Begins, CountStop, MarkerStop}
 use Rattle.aidl_base.specs.Readings.{count_of}
 use Rattle.wire_model.specs.ReadOf.{Read, ◌>>=◌, read_as, word_as, word_at, long_at, truth_at, count_at, there_of, marker_at}
-use Rattle.aidl_base.proofs.Words.{word-word_of, word_of-fits, long_word-long_of, long_of-fits, word_of-word, fits_pos}
-use Rattle.aidl_base.proofs.Bytes.{AreBytes, AreBytes-take, AreBytes-front}
+use Rattle.aidl_base.proofs.lemmas.Words.{word-word_of, word_of-fits, long_word-long_of, long_of-fits, word_of-word, fits_pos}
 
 module _ (b : List ℕ) (bytes : AreBytes b) where
   pub spells_word : 4 ≤ length b → word (word_of (take 4 b)) ≡ take 4 b

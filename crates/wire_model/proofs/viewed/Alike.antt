@@ -1,7 +1,7 @@
 -- What types that are the same in two schemas have in common.
 use Rattle.std.proofs.Common.{◌≡◌, ℤ, Bool, true, false, ◌==◌, ◌&&◌, List, refl, sym, ap, ◌∙◌}
-use Rattle.aidl_base.proofs.Tests.{both}
-use Rattle.aidl_schema.proofs.Sames.{same_bool_refl}
+use Rattle.aidl_base.proofs.lemmas.Tests.{both}
+use Rattle.aidl_schema.proofs.lemmas.Sames.{same_bool_refl}
 use Rattle.aidl_schema.specs.Constants.{in_range}
 use Rattle.aidl_schema.specs.declared.schema.Decl.{Decl}
 use Rattle.aidl_schema.specs.declared.schema.Field.{Field}

@@ -2,8 +2,8 @@
 use Rattle.std.proofs.Common.{◌≡◌, ℕ, zero, suc, ◌≤◌, Bool, true, false, cond, ◌==◌, ◌&&◌, List, [], ◌∷◌, length, Option, Some, None, slice_get, refl, sym, ap, ◌∙◌, subst, arith}
 use Rattle.std.proofs.lemmas.Bool.Decides.{nat_tests}
 use Rattle.aidl_base.specs.Names.{dotted}
-use Rattle.aidl_base.proofs.Tests.{both}
-use Rattle.aidl_schema.proofs.Sames.{same_text_refl, same_text_is, same_idents_is, same_idents_sym}
+use Rattle.aidl_base.proofs.lemmas.Tests.{both}
+use Rattle.aidl_schema.proofs.lemmas.Sames.{same_text_refl, same_text_is, same_idents_is, same_idents_sym}
 use Rattle.aidl_schema.specs.declared.schema.Decl.{Decl}
 use Rattle.aidl_schema.specs.declared.schema.Field.{Field}
 use Rattle.aidl_schema.specs.declared.schema.Kind.{Kind}

@@ -1,7 +1,7 @@
 -- What is sent of a list of values is read by the receiver item by item, up to the first that stops.
 use Rattle.std.proofs.Common.{◌≡◌, ◌≢◌, ℕ, zero, suc, ◌+◌, ◌≤◌, Bool, true, false, List, [], ◌∷◌, ◌++◌, length, Some, None, Option, slice_get, ◌⊎◌, inl, inr, refl, sym, ap, ◌∙◌, subst, arith, append_assoc, length-append}
 use Rattle.aidl_base.specs.declared.profile.Profile.{Profile}
-use Rattle.aidl_schema.proofs.Sames.{same_text_refl, same_text_sym}
+use Rattle.aidl_schema.proofs.lemmas.Sames.{same_text_refl, same_text_sym}
 use Rattle.aidl_schema.specs.declared.schema.Decl.{Decl}
 use Rattle.aidl_schema.specs.declared.schema.Field.{Field}
 use Rattle.aidl_schema.specs.declared.schema.AidlType.{AidlType}
@@ -15,7 +15,7 @@ use Rattle.wire_model.specs.Reads.{Reads, EachReads, FieldsRead}
 use Rattle.wire_model.specs.Stop.{Stop, ElementsStop, FieldsStop}
 use Rattle.wire_model.specs.View.{item_first, each_field, or_initial, field_named, view_of, view_items, view_named}
 use Rattle.wire_model.specs.steps.Meets.{IsAbsent, AreDistinct, FieldsAgree}
-use Rattle.wire_model.proofs.spelled.Sizes.{spell_whole}
+use Rattle.wire_model.proofs.lemmas.spelled.Sizes.{spell_whole}
 use Rattle.wire_model.proofs.told.All.{reads_type}
 use Rattle.wire_model.proofs.told.Defaults.{initials_in, are_initial, initials_typed}
 

@@ -3,10 +3,10 @@ use Rattle.std.proofs.Common.{◌≡◌, ℕ, zero, suc, ◌+◌, ◌-◌, ◌%�
 use Rattle.std.proofs.lemmas.Option.{slice_get_within}
 use Rattle.aidl_base.specs.declared.profile.Profile.{Profile}
 use Rattle.aidl_base.specs.Words.{word, pad, block}
-use Rattle.aidl_base.proofs.Lists.{take_front}
-use Rattle.aidl_base.proofs.Profiles.{padded}
-use Rattle.aidl_base.proofs.Tests.{and_false}
-use Rattle.aidl_base.proofs.Values.{truth_word}
+use Rattle.aidl_base.proofs.lemmas.Lists.{take_front}
+use Rattle.aidl_base.proofs.lemmas.Profiles.{padded}
+use Rattle.aidl_base.proofs.lemmas.Tests.{and_false}
+use Rattle.aidl_base.proofs.lemmas.Values.{truth_word}
 use Rattle.aidl_schema.specs.Constants.{in_range}
 use Rattle.aidl_schema.specs.declared.schema.Decl.{Decl}
 use Rattle.aidl_schema.specs.declared.schema.Field.{Field}
@@ -24,7 +24,7 @@ use Rattle.wire_model.specs.View.{agree, when, in_field, in_place, field_named, 
 use Rattle.wire_model.specs.steps.Meets.{FormsMeet, Meets}
 use Rattle.wire_model.proofs.Forms.{raw_form}
 use Rattle.wire_model.proofs.spelled.Reads.{number_spelled, units_small, items_small}
-use Rattle.wire_model.proofs.spelled.Sizes.{spell_fields_whole}
+use Rattle.wire_model.proofs.lemmas.spelled.Sizes.{spell_fields_whole}
 use Rattle.wire_model.proofs.told.All.{reads_type}
 use Rattle.wire_model.proofs.told.Words.{begins}
 use Rattle.wire_model.proofs.viewed.Alike.{number_form, nullable_is, one_is, raw_is, null_is, elem_is}

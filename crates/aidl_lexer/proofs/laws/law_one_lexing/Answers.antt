@@ -1,4 +1,4 @@
-use Rattle.aidl_lexer.proofs.meaning.OneLexing as law
+use Rattle.aidl_lexer.proofs.lemmas.meaning.OneLexing as law
 use Rattle.aidl_lexer.proofs.laws.law_one_lexing.Goals as goal
 
 pub returns-clause-some : goal.returns-clause-some

@@ -5,7 +5,7 @@ use Rattle.aidl_syntax.specs.Members.{member_name}
 use Rattle.aidl_names.specs.Rules.{repeated, argument_names}
 use Rattle.declared_names.specs.MemberViews.{seen_member}
 use Rattle.declared_names.specs.Entries.{entry_of}
-use Rattle.aidl_names.proofs.Taken.{inside_added}
+use Rattle.aidl_names.proofs.lemmas.Taken.{inside_added}
 use Rattle.aidl_names.proofs.duplicates.add_repeated_inside.Goals as goal
 
 pub returns : goal.returns

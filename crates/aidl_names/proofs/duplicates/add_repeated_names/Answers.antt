@@ -1,8 +1,8 @@
 use Rattle.std.proofs.Common.{◌++◌, Bor, map, refl, ◌∙◌, ap, arith}
 use Rattle.aidl_syntax.specs.declared.tree.NameTree.{NameTree}
 use Rattle.aidl_names.specs.Rules.{breach, is_named_again}
-use Rattle.declared_names.proofs.Earlier.{goes_on, earlier-next, read-map, one_if}
-use Rattle.aidl_names.proofs.Taken.{again-is, seen-more}
+use Rattle.declared_names.proofs.lemmas.Earlier.{goes_on, earlier-next, read-map, one_if}
+use Rattle.aidl_names.proofs.lemmas.Taken.{again-is, seen-more}
 use Rattle.aidl_names.proofs.duplicates.add_repeated_names.Goals as goal
 
 pub loop-n-preserved : goal.loop-n-preserved

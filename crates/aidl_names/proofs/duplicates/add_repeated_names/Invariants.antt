@@ -1,7 +1,7 @@
 use Rattle.std.proofs.Common.{◌≡◌, ◌++◌, map, take, drop}
 use Rattle.aidl_names.specs.Rules.{breach, is_named_again, repeated}
 use Rattle.declared_names.specs.Numbered.{after_earlier}
-use Rattle.aidl_names.proofs.Taken.{AreSeen}
+use Rattle.aidl_names.proofs.lemmas.Taken.{AreSeen}
 use Rattle.aidl_names.proofs.duplicates.add_repeated_names.Given as goal
 
 -- the breaches so far and those that are left are all; the names so far were seen

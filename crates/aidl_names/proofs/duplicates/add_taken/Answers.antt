@@ -4,8 +4,8 @@ use Rattle.aidl_syntax.specs.Members.{declared_name}
 use Rattle.declared_names.specs.Declarations.{Entry}
 use Rattle.aidl_names.specs.Rules.{breach, is_taken}
 use Rattle.declared_names.specs.Entries.{entry_of}
-use Rattle.declared_names.proofs.Earlier.{goes_on, earlier-next, read-map, one_if}
-use Rattle.aidl_names.proofs.Taken.{seen_name}
+use Rattle.declared_names.proofs.lemmas.Earlier.{goes_on, earlier-next, read-map, one_if}
+use Rattle.aidl_names.proofs.lemmas.Taken.{seen_name}
 use Rattle.aidl_names.proofs.duplicates.add_taken.Goals as goal
 
 pub loop-i-preserved : goal.loop-i-preserved

@@ -1,7 +1,7 @@
 use Rattle.std.proofs.Common.{map}
 use Rattle.declared_names.specs.Names.{same}
 use Rattle.declared_names.specs.Entries.{entry_of}
-use Rattle.declared_names.proofs.Firsts.{among-some, among-none}
+use Rattle.declared_names.proofs.lemmas.Firsts.{among-some, among-none}
 use Rattle.aidl_names.proofs.duplicates.is_again.Goals as goal
 
 pub returns-in-Some : goal.returns-in-Some

@@ -4,7 +4,7 @@ use Rattle.aidl_syntax.specs.declared.tree.DottedTree.{DottedTree}
 use Rattle.declared_names.specs.Names.{same}
 use Rattle.aidl_names.specs.Rules.{breach, is_other_import}
 use Rattle.declared_names.specs.Numbered.{after_earlier}
-use Rattle.declared_names.proofs.Earlier.{goes_on, earlier-next, one_if}
+use Rattle.declared_names.proofs.lemmas.Earlier.{goes_on, earlier-next, one_if}
 use Rattle.aidl_names.proofs.Alike.{memo-begins, memo-next, other-is}
 use Rattle.aidl_names.proofs.imports.add_others.Goals as goal
 

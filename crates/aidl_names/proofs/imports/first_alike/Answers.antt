@@ -5,7 +5,7 @@ use Rattle.declared_names.specs.Names.{same, last}
 use Rattle.declared_names.specs.Marks.{mark_of, mark_of_last}
 use Rattle.aidl_names.specs.Alike.{is_alike}
 use Rattle.aidl_names.proofs.Alike.{alike_marks}
-use Rattle.declared_names.proofs.Chains.{begins, lands, lies, goes_behind, fewer}
+use Rattle.declared_names.proofs.lemmas.Chains.{begins, lands, lies, goes_behind, fewer}
 use Rattle.aidl_names.proofs.imports.first_alike.Goals as goal
 
 pub places-init : goal.places-init

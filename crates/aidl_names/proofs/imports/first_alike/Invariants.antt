@@ -3,7 +3,7 @@ use Rattle.std.specs.List.{position_from}
 use Rattle.declared_names.specs.Names.{last}
 use Rattle.declared_names.specs.Marks.{mark_of}
 use Rattle.aidl_names.specs.Alike.{is_alike}
-use Rattle.declared_names.proofs.Chains.{left_at, HasMark, left}
+use Rattle.declared_names.proofs.lemmas.Chains.{left_at, HasMark, left}
 use Rattle.aidl_names.proofs.imports.first_alike.Given as goal
 
 -- it is none of those so far

@@ -3,7 +3,7 @@ use Rattle.aidl_syntax.specs.declared.tree.DottedTree.{DottedTree}
 use Rattle.aidl_syntax.specs.Sources.{source_of}
 use Rattle.aidl_names.specs.Rules.{breach}
 use Rattle.aidl_names.specs.TypeRules.{breaks_of, rule_of}
-use Rattle.declared_names.proofs.Earlier.{goes_on, filter-next, read-map, one_if}
+use Rattle.declared_names.proofs.lemmas.Earlier.{goes_on, filter-next, read-map, one_if}
 use Rattle.aidl_names.proofs.types.add_types_in.Goals as goal
 
 pub loop-name-preserved : goal.loop-name-preserved

@@ -1,6 +1,6 @@
 use Rattle.std.proofs.Common.{map}
 use Rattle.declared_names.specs.Entries.{entry_of}
-use Rattle.name_meanings.proofs.Told.{is_right}
+use Rattle.name_meanings.proofs.lemmas.Told.{is_right}
 use Rattle.aidl_names.proofs.types.breaks.Goals as goal
 
 pub resolved-meaning-requires-clause-known : goal.resolved-meaning-requires-clause-known

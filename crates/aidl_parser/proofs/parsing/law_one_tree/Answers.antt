@@ -1,4 +1,4 @@
-use Rattle.aidl_parser.proofs.productions.Parses.{one_tree}
+use Rattle.aidl_parser.proofs.lemmas.productions.Parses.{one_tree}
 use Rattle.aidl_parser.proofs.parsing.law_one_tree.Goals as goal
 
 pub returns : goal.returns

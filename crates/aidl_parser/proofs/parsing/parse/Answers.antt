@@ -1,4 +1,4 @@
-use Rattle.aidl_parser.proofs.productions.Parses as law
+use Rattle.aidl_parser.proofs.lemmas.productions.Parses as law
 use Rattle.aidl_parser.proofs.parsing.parse.Goals as goal
 
 pub returns-clause-tree : goal.returns-clause-tree

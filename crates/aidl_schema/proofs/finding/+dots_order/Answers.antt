@@ -1,5 +1,5 @@
 use Rattle.std.proofs.Common.{◌∙◌}
-use Rattle.aidl_schema.proofs.Orders.{with_head, dots_on}
+use Rattle.aidl_schema.proofs.lemmas.Orders.{with_head, dots_on}
 use Rattle.aidl_schema.proofs.finding.+dots_order.Goals as goal
 
 pub returns-in-Ok : goal.returns-in-Ok

@@ -1,6 +1,6 @@
 use Rattle.std.proofs.Common.{◌++◌, ◌-◌, length, drop, length-drop, sym, ap, ◌∙◌, arith, rules}
 use Rattle.std.proofs.lemmas.List.{take_all}
-use Rattle.aidl_schema.proofs.Orders.{begins, begins_otherwise}
+use Rattle.aidl_schema.proofs.lemmas.Orders.{begins, begins_otherwise}
 use Rattle.aidl_schema.proofs.finding.front_order.Goals as goal
 
 pub returns-in-Equal : goal.returns-in-Equal

@@ -1,5 +1,5 @@
 use Rattle.std.proofs.Common.{◌∙◌}
-use Rattle.aidl_schema.proofs.Orders.{with_head, name_on, name_ends}
+use Rattle.aidl_schema.proofs.lemmas.Orders.{with_head, name_on, name_ends}
 use Rattle.aidl_schema.proofs.finding.name_order.Goals as goal
 
 pub returns-in-Ok : goal.returns-in-Ok

@@ -1,6 +1,6 @@
-use Rattle.aidl_schema.proofs.BrokenChain.{chain}
-use Rattle.aidl_schema.proofs.BrokenSelf.{broken_self, distinct_names}
-use Rattle.aidl_schema.proofs.Valids.{all_hold, decls_apart}
+use Rattle.aidl_schema.proofs.lemmas.BrokenChain.{chain}
+use Rattle.aidl_schema.proofs.lemmas.BrokenSelf.{broken_self, distinct_names}
+use Rattle.aidl_schema.proofs.lemmas.Valids.{all_hold, decls_apart}
 use Rattle.aidl_schema.proofs.laws.law_chain.Goals as goal
 
 pub returns : goal.returns

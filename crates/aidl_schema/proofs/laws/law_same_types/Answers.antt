@@ -1,4 +1,4 @@
-use Rattle.aidl_schema.proofs.Sames.{same_refl, same_sym}
+use Rattle.aidl_schema.proofs.lemmas.Sames.{same_refl, same_sym}
 use Rattle.aidl_schema.proofs.laws.law_same_types.Goals as goal
 
 pub returns : goal.returns

@@ -1,6 +1,6 @@
-use Rattle.aidl_schema.proofs.Valids.{all_hold, names_ascend, decls_apart, few_decls}
-use Rattle.aidl_schema.proofs.Counts.{depth_steady, nodes_steady}
-use Rattle.aidl_schema.proofs.Elements.{elem_is_type}
+use Rattle.aidl_schema.proofs.lemmas.Valids.{all_hold, names_ascend, decls_apart, few_decls}
+use Rattle.aidl_schema.proofs.lemmas.Counts.{depth_steady, nodes_steady}
+use Rattle.aidl_schema.proofs.lemmas.Elements.{elem_is_type}
 use Rattle.aidl_schema.proofs.laws.law_valid.Goals as goal
 
 pub returns : goal.returns

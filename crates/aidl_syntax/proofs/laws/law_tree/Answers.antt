@@ -1,5 +1,5 @@
 use Rattle.aidl_syntax.specs.Trees.{file_of}
-use Rattle.aidl_syntax.proofs.Leaves as leaves
+use Rattle.aidl_syntax.proofs.lemmas.Leaves as leaves
 use Rattle.aidl_syntax.proofs.laws.law_tree.Goals as goal
 
 pub returns-clause-ascend : goal.returns-clause-ascend

@@ -1,6 +1,6 @@
 use Rattle.std.proofs.Common.{refl}
 use Rattle.aidl_tool.specs.Meant.{CheckAnswers}
-use Rattle.tool_frame.proofs.Endings.{ended_read}
+use Rattle.tool_frame.proofs.lemmas.Endings.{ended_read}
 use Rattle.aidl_tool.proofs.checking.check.Goals as goal
 
 pub returns : goal.returns

@@ -1,7 +1,7 @@
 use Rattle.std.proofs.Common.{refl}
 use Rattle.aidl_tool.specs.Meant.{DecodeAnswers}
 use Rattle.tool_words.specs.Seen.{tree_seen}
-use Rattle.tool_frame.proofs.Endings.{ended_read}
+use Rattle.tool_frame.proofs.lemmas.Endings.{ended_read}
 use Rattle.aidl_tool.proofs.decoding.decode.Goals as goal
 
 pub returns : goal.returns

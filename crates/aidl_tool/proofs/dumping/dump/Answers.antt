@@ -1,6 +1,6 @@
 use Rattle.std.proofs.Common.{refl}
 use Rattle.aidl_tool.specs.Acting.{DumpActs}
-use Rattle.tool_frame.proofs.Writings.{ended_wrote}
+use Rattle.tool_frame.proofs.lemmas.Writings.{ended_wrote}
 use Rattle.aidl_tool.proofs.dumping.dump.Goals as goal
 
 pub returns : goal.returns

@@ -1,5 +1,5 @@
 use Rattle.tool_frame.specs.Trees.{tree_seen}
-use Rattle.aidl_tool.proofs.JudgesOne.{judged_over}
+use Rattle.aidl_tool.proofs.schemas.JudgesOne.{judged_over}
 use Rattle.aidl_tool.proofs.judging.answer_of.Goals as goal
 
 pub returns-clause-exact : goal.returns-clause-exact

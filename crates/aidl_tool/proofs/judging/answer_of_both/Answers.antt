@@ -1,5 +1,5 @@
-use Rattle.aidl_tool.proofs.JudgesOne.{gives_judged}
-use Rattle.aidl_tool.proofs.OneTree.{never_refused, one_schema}
+use Rattle.aidl_tool.proofs.schemas.JudgesOne.{gives_judged}
+use Rattle.aidl_tool.proofs.schemas.OneTree.{never_refused, one_schema}
 use Rattle.aidl_tool.proofs.judging.answer_of_both.Goals as goal
 
 pub returns-clause-exact : goal.returns-clause-exact

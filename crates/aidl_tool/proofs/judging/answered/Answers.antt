@@ -1,5 +1,5 @@
 use Rattle.tool_frame.specs.Trees.{tree_seen}
-use Rattle.aidl_tool.proofs.JudgesOne.{judged_both}
+use Rattle.aidl_tool.proofs.schemas.JudgesOne.{judged_both}
 use Rattle.aidl_tool.proofs.judging.answered.Goals as goal
 
 pub returns-in-Ok-clause-exact : goal.returns-in-Ok-clause-exact

@@ -1,8 +1,8 @@
 use Rattle.std.proofs.Common.{refl}
 use Rattle.aidl_tool.specs.Meant.{JudgeAnswers}
-use Rattle.aidl_tool.proofs.JudgesOne.{answers, judges_told}
+use Rattle.aidl_tool.proofs.schemas.JudgesOne.{answers, judges_told}
 use Rattle.tool_frame.specs.Seen.{Seen, seen_by}
-use Rattle.tool_frame.proofs.Endings.{ended_read}
+use Rattle.tool_frame.proofs.lemmas.Endings.{ended_read}
 use Rattle.aidl_tool.proofs.judging.judge.Goals as goal
 
 pub returns-clause-ends : goal.returns-clause-ends

@@ -4,10 +4,10 @@ use Rattle.aidl_tool.specs.Running.{RunTakes}
 use Rattle.aidl_tool.specs.steps.Loading.{LoadsFor, TakesLoaded, all_held, loaded_seen}
 use Rattle.aidl_tool.proofs.CourseEnds.{ended_lost, ended_some, lost_cause}
 use Rattle.aidl_tool.proofs.Kept.{run_headline, tells_any}
-use Rattle.aidl_tool.proofs.RunsOne.{kept_run, stopped}
+use Rattle.aidl_tool.proofs.schemas.RunsOne.{kept_run, stopped}
 use Rattle.tool_frame.specs.Seen.{Seen, seen_by}
 use Rattle.tool_frame.specs.steps.Results.{Finds}
-use Rattle.tool_frame.proofs.Loaded.{tells}
+use Rattle.tool_frame.proofs.lemmas.Loaded.{tells}
 use Rattle.tool_words.specs.Command.{run}
 use Rattle.aidl_tool.proofs.running.run.Goals as goal
 

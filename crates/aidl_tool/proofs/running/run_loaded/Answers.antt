@@ -5,7 +5,7 @@ use Rattle.tool_frame.specs.steps.Courses.{seen_alone}
 use Rattle.tool_frame.specs.steps.Results.{held}
 use Rattle.aidl_tool.specs.Running.{calls_within}
 use Rattle.aidl_tool.specs.steps.Loading.{RunsAs}
-use Rattle.aidl_tool.proofs.RunsOne.{early_as}
+use Rattle.aidl_tool.proofs.schemas.RunsOne.{early_as}
 use Rattle.aidl_tool.proofs.running.run_loaded.Goals as goal
 
 pub returns-in-Ok-clause-exact : goal.returns-in-Ok-clause-exact

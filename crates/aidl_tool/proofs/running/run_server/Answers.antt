@@ -4,8 +4,8 @@ use Rattle.run_answers.specs.Running.{run_course}
 use Rattle.tool_frame.specs.Seen.{Seen}
 use Rattle.tool_frame.specs.steps.Courses.{seen_alone}
 use Rattle.aidl_tool.specs.steps.Loading.{RanSome, RunsAs}
-use Rattle.aidl_tool.proofs.OneTree.{never_refused, one_schema}
-use Rattle.aidl_tool.proofs.RunsOne.{refused_as}
+use Rattle.aidl_tool.proofs.schemas.OneTree.{never_refused, one_schema}
+use Rattle.aidl_tool.proofs.schemas.RunsOne.{refused_as}
 use Rattle.aidl_tool.proofs.Takes.{checked_takes}
 use Rattle.aidl_tool.proofs.running.run_server.Goals as goal
 

@@ -1,6 +1,6 @@
 use Rattle.std.proofs.Common.{refl}
 use Rattle.aidl_tool.specs.Meant.{VerifyAnswers}
-use Rattle.tool_frame.proofs.Endings.{ended_read}
+use Rattle.tool_frame.proofs.lemmas.Endings.{ended_read}
 use Rattle.aidl_tool.proofs.verifying.verify.Goals as goal
 
 pub returns : goal.returns

@@ -1,6 +1,6 @@
 use Rattle.std.proofs.Common.{◌≡◌, IfOk, sym, subst}
 use Rattle.aidl_values.specs.View.{view}
-use Rattle.aidl_values.proofs.Levels.{zero_within-parts}
+use Rattle.aidl_values.proofs.lemmas.Levels.{zero_within-parts}
 use Rattle.aidl_values.proofs.default.+default.Goals as goal
 
 pub default_within-returns : goal.default_within-returns

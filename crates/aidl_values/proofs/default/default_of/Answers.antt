@@ -2,7 +2,7 @@ use Rattle.std.proofs.Common.{◌≡◌, sym, subst}
 use Rattle.std.proofs.lemmas.Result.{IfOk-weaker}
 use Rattle.aidl_values.specs.Default.{IsZero, zero_within}
 use Rattle.aidl_values.specs.View.{view}
-use Rattle.aidl_values.proofs.Sounds.{default_there}
+use Rattle.aidl_values.proofs.lemmas.Sounds.{default_there}
 use Rattle.aidl_values.proofs.default.default_of.Goals as goal
 
 pub returns-clause-zero : goal.returns-clause-zero

@@ -3,7 +3,7 @@ use Rattle.std.proofs.lemmas.Result.{IfOk-weaker}
 use Rattle.aidl_values.specs.Default.{IsInitial, zero_within}
 use Rattle.aidl_values.specs.Sound.{IsFieldOf, initial_in}
 use Rattle.aidl_values.specs.View.{view}
-use Rattle.aidl_values.proofs.Sounds.{has_default}
+use Rattle.aidl_values.proofs.lemmas.Sounds.{has_default}
 use Rattle.aidl_values.proofs.default.initial_of.Goals as goal
 
 pub returns-in-None-clause-initial : goal.returns-in-None-clause-initial

@@ -1,6 +1,6 @@
 use Rattle.std.proofs.Common.{sym, subst}
 use Rattle.aidl_values.specs.View.{view}
-use Rattle.aidl_values.proofs.Sounds.{IsSizedDefault, one_default, default_fits}
+use Rattle.aidl_values.proofs.lemmas.Sounds.{IsSizedDefault, one_default, default_fits}
 use Rattle.aidl_values.proofs.laws.law_default_fits.Goals as goal
 
 pub returns : goal.returns

@@ -1,7 +1,7 @@
 use Rattle.std.proofs.Common.{sym, subst}
 use Rattle.aidl_values.specs.Default.{IsZero}
 use Rattle.aidl_values.specs.View.{view}
-use Rattle.aidl_values.proofs.Sounds.{default_there, one_default}
+use Rattle.aidl_values.proofs.lemmas.Sounds.{default_there, one_default}
 use Rattle.aidl_values.proofs.laws.law_one_default.Goals as goal
 
 pub returns : goal.returns

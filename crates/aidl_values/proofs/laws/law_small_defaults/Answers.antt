@@ -1,6 +1,6 @@
 use Rattle.std.proofs.Common.{◌≤◌, sym, subst}
 use Rattle.aidl_values.specs.Nodes.{nodes_of}
-use Rattle.aidl_values.proofs.Sounds.{default_fits, one_default}
+use Rattle.aidl_values.proofs.lemmas.Sounds.{default_fits, one_default}
 use Rattle.aidl_values.proofs.laws.law_small_defaults.Goals as goal
 
 pub returns : goal.returns

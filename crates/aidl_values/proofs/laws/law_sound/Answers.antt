@@ -1,4 +1,4 @@
-use Rattle.aidl_values.proofs.Sounds.{is_sound}
+use Rattle.aidl_values.proofs.lemmas.Sounds.{is_sound}
 use Rattle.aidl_values.proofs.laws.law_sound.Goals as goal
 
 pub returns : goal.returns

@@ -1,4 +1,4 @@
-use Rattle.aidl_values.proofs.Sounds.{default_there}
+use Rattle.aidl_values.proofs.lemmas.Sounds.{default_there}
 use Rattle.aidl_values.proofs.laws.law_typed_defaults.Goals as goal
 
 pub returns : goal.returns

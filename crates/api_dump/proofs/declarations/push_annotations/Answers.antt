@@ -1,5 +1,5 @@
 use Rattle.std.proofs.Common.{codes}
-use Rattle.dump_values.proofs.Texts.{added3}
+use Rattle.dump_values.proofs.lemmas.Texts.{added3}
 use Rattle.api_dump.specs.Declarations.{backing_mark}
 use Rattle.dump_values.specs.Types.{flag}
 use Rattle.api_dump.proofs.declarations.push_annotations.Goals as goal

@@ -3,7 +3,7 @@ use Rattle.aidl_base.specs.declared.reserved.Reserved.TheVariants as word
 use Rattle.aidl_syntax.specs.declared.token.Symbol.TheVariants as mark
 use Rattle.dump_values.specs.Pieces.{sign, reserved, dotted, spelling, text_of}
 use Rattle.dump_values.specs.Pieces.Piece.{space, newline}
-use Rattle.dump_values.proofs.Texts.{added3}
+use Rattle.dump_values.proofs.lemmas.Texts.{added3}
 use Rattle.api_dump.proofs.Packages.{package_some}
 use Rattle.api_dump.proofs.dumping.push_package_line.Goals as goal
 

@@ -3,7 +3,7 @@ use Rattle.aidl_schema.specs.Names.{without_last}
 use Rattle.dump_values.specs.Pieces.{text_of}
 use Rattle.api_dump.specs.Declarations.{declaration}
 use Rattle.api_dump.specs.Dump.{package_line}
-use Rattle.dump_values.proofs.Texts.{added}
+use Rattle.dump_values.proofs.lemmas.Texts.{added}
 use Rattle.api_dump.proofs.dumping.text_of.Goals as goal
 
 pub returns : goal.returns

@@ -1,7 +1,7 @@
 use Rattle.std.proofs.Common.{[], ◌∷◌}
 use Rattle.dump_values.specs.Pieces.{name, reserved}
 use Rattle.dump_values.specs.Pieces.Piece.{space}
-use Rattle.dump_values.proofs.Texts.{added4}
+use Rattle.dump_values.proofs.lemmas.Texts.{added4}
 use Rattle.dump_values.specs.Types.{marks, plain_type}
 use Rattle.api_dump.specs.Lines.{way}
 use Rattle.api_dump.proofs.lines.push_argument.Goals as goal

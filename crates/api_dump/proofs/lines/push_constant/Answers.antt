@@ -3,7 +3,7 @@ use Rattle.aidl_base.specs.declared.reserved.Reserved.TheVariants as word
 use Rattle.aidl_syntax.specs.declared.token.Symbol.TheVariants as mark
 use Rattle.dump_values.specs.Pieces.{sign, name, reserved, dotted, spelling}
 use Rattle.dump_values.specs.Pieces.Piece.{space, newline}
-use Rattle.dump_values.proofs.Texts.{added, added5}
+use Rattle.dump_values.proofs.lemmas.Texts.{added, added5}
 use Rattle.dump_values.specs.Types.{base_name}
 use Rattle.dump_values.specs.Values.{value}
 use Rattle.api_dump.proofs.lines.push_constant.Goals as goal

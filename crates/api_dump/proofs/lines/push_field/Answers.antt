@@ -2,7 +2,7 @@ use Rattle.std.proofs.Common.{[], ◌∷◌}
 use Rattle.aidl_syntax.specs.declared.token.Symbol.TheVariants as mark
 use Rattle.dump_values.specs.Pieces.{sign, name, spelling}
 use Rattle.dump_values.specs.Pieces.Piece.{space, newline}
-use Rattle.dump_values.proofs.Texts.{added5}
+use Rattle.dump_values.proofs.lemmas.Texts.{added5}
 use Rattle.dump_values.specs.Types.{marks, plain_type}
 use Rattle.dump_values.specs.Values.{initial}
 use Rattle.api_dump.proofs.lines.push_field.Goals as goal

@@ -1,4 +1,4 @@
-use Rattle.dump_values.proofs.Texts.{added}
+use Rattle.dump_values.proofs.lemmas.Texts.{added}
 use Rattle.dump_values.specs.Types.{marks, plain_type}
 use Rattle.api_dump.proofs.lines.push_whole_type.Goals as goal
 

@@ -1,6 +1,6 @@
 use Rattle.std.proofs.Common.{arith}
-use Rattle.aidl_base.proofs.Spelled.{length-spell_text}
-use Rattle.call_pieces.proofs.Parts.{exception_count}
+use Rattle.aidl_base.proofs.lemmas.Spelled.{length-spell_text}
+use Rattle.call_pieces.proofs.lemmas.Parts.{exception_count}
 use Rattle.call_parcels.proofs.sending.put_exception.Goals as goal
 
 pub put-requires-clause-can : goal.put-requires-clause-can

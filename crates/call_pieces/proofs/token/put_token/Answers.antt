@@ -2,7 +2,7 @@ use Rattle.std.proofs.Common.{pos, negsuc, arith}
 use Rattle.aidl_base.specs.Words.{word}
 use Rattle.wire_model.specs.Spell.{spell_text}
 use Rattle.call_pieces.proofs.Names.{token_count}
-use Rattle.call_pieces.proofs.Parts.{four_puts}
+use Rattle.call_pieces.proofs.lemmas.Parts.{four_puts}
 use Rattle.call_pieces.proofs.token.put_token.Goals as goal
 
 pub put-requires-clause-can : goal.put-requires-clause-can

@@ -1,10 +1,9 @@
-use Rattle.std.proofs.Common.{◌≡◌, length, Some, sym, ap, ◌∙◌}
-use Rattle.aidl_base.specs.Words.{units}
+use Rattle.std.proofs.Common.{◌≡◌, Some, sym, ◌∙◌}
 use Rattle.aidl_schema.specs.Find.{methods_at}
 use Rattle.aidl_schema.specs.Same.{same_text}
 use Rattle.json_writing.specs.Named.{bytes_of}
 use Rattle.call_scripts.specs.Names.{interface_named, method_named}
-use Rattle.call_scripts.proofs.Methods.{descriptor-named, position_within}
+use Rattle.call_scripts.proofs.lemmas.Methods.{position_within}
 use Rattle.call_scripts.proofs.SameNames.{is_server, is_target, target_within}
 use Rattle.call_scripts.proofs.names.named_by.Goals as goal
 
@@ -19,7 +18,6 @@ returns-clause-known c =
     let at : method_named A i c.args.method.now ≡ Some m = sym c.method_named.ensures ∙ c.in_ok-position.was in
     rw (c.target_named.ensures, c.interface_named-other.ensures) (record {
       there = position_within (λ w. same_text (bytes_of w.name) c.args.method.now) (methods_at A i) m at;
-      units = c.unit_count.ensures.count ∙ ap (λ x. length (units x)) (sym (descriptor-named A name i c.utf8.interface is));
       server = is_server A B name i is;
       target = is_target A B i m c.args.method.now (interface_named B name) at;
       within = target_within B (interface_named B name) c.args.method.now;

@@ -1,7 +1,8 @@
 use Rattle.std.proofs.Common.{ap, arith, lit<, ◌++◌, ◌∷◌, ◌∙◌, ◌<◌, ◌^◌, sym, append_assoc}
 use Rattle.std.specs.Fmt.{decimal}
 use Rattle.std.specs.Str.{chars}
-use Rattle.compat_judge.proofs.PlaceTexts.{Spells, decimal_spells, marked, read_back}
+use Rattle.aidl_base.proofs.lemmas.Joined.{Spells, marked, read_back}
+use Rattle.compat_judge.proofs.PlaceTexts.{decimal_spells}
 use Rattle.compat_judge.proofs.places.argument_place.Goals as goal
 
 pub returns : goal.returns

@@ -1,6 +1,6 @@
 use Rattle.std.proofs.Common.{ap, lit<, ◌++◌, ◌∷◌, ◌∙◌}
 use Rattle.std.specs.Str.{chars}
-use Rattle.compat_judge.proofs.PlaceTexts.{marked, read_back}
+use Rattle.aidl_base.proofs.lemmas.Joined.{marked, read_back}
 use Rattle.compat_judge.proofs.places.member_place.Goals as goal
 
 pub returns : goal.returns

@@ -5,7 +5,7 @@ use Rattle.const_values.specs.Evaluation.{evaluated}
 use Rattle.const_operands.specs.Seen.{Answers, seen}
 use Rattle.const_eval.specs.Known.{known_meaning}
 use Rattle.const_eval.proofs.Meant.{expression_fails}
-use Rattle.const_items.proofs.Scopes.{scoped}
+use Rattle.const_items.proofs.lemmas.Scopes.{scoped}
 use Rattle.const_eval.proofs.judgement.of_expression.Goals as goal
 
 pub named_enum-requires : goal.named_enum-requires

@@ -5,7 +5,7 @@ use Rattle.aidl_syntax.specs.Sources.{source_of}
 use Rattle.const_items.specs.Items.{items}
 use Rattle.const_items.specs.SmallPlaces.{HasSmall}
 use Rattle.const_eval.proofs.InOrder.{breaches_in_order}
-use Rattle.const_items.proofs.PlacesWithin.{items_ascend}
+use Rattle.const_items.proofs.lemmas.PlacesWithin.{items_ascend}
 use Rattle.const_eval.proofs.laws.law_breaches_in_order.Goals as goal
 
 pub returns : goal.returns

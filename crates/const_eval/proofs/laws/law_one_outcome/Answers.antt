@@ -1,6 +1,6 @@
 use Rattle.std.proofs.Common.{map}
 use Rattle.aidl_syntax.specs.Sources.{source_of}
-use Rattle.const_eval.proofs.OneOutcome.{one_outcome}
+use Rattle.const_eval.proofs.lemmas.OneOutcome.{one_outcome}
 use Rattle.const_eval.proofs.laws.law_one_outcome.Goals as goal
 
 pub returns : goal.returns

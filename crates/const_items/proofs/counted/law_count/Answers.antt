@@ -3,7 +3,7 @@ use Rattle.std.specs.List.{All}
 use Rattle.std.proofs.lemmas.List.{length-map}
 use Rattle.aidl_syntax.specs.Sources.{source_of}
 use Rattle.const_items.specs.SmallPlaces.{HasSmall}
-use Rattle.const_items.proofs.PlacesWithin.{items_few}
+use Rattle.const_items.proofs.lemmas.PlacesWithin.{items_few}
 use Rattle.const_items.proofs.counted.law_count.Goals as goal
 
 pub returns : goal.returns

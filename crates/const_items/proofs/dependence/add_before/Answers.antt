@@ -1,5 +1,5 @@
 use Rattle.std.proofs.Common.{◌<◌, IfSome, ℕ, Option, sym, subst}
-use Rattle.const_items.proofs.Numbers.{at_within}
+use Rattle.const_items.proofs.lemmas.Numbers.{at_within}
 use Rattle.const_items.proofs.dependence.add_before.Goals as goal
 
 -- there are few items

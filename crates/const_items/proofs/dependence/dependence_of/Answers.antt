@@ -1,7 +1,7 @@
 use Rattle.std.proofs.Common.{map, ap, ◌∙◌, arith}
 use Rattle.aidl_syntax.specs.Sources.{source_of}
 use Rattle.const_items.specs.ItemViews.{item_of}
-use Rattle.const_items.proofs.Scopes.{scoped}
+use Rattle.const_items.proofs.lemmas.Scopes.{scoped}
 use Rattle.const_items.proofs.dependence.dependence_of.Goals as goal
 
 -- an item stands in a declaration of its file

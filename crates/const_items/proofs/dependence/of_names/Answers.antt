@@ -1,6 +1,6 @@
 use Rattle.std.proofs.Common.{◌<◌, IfSome, ℕ, Option, sym, subst}
 use Rattle.const_items.specs.TargetViews.{seen_targets}
-use Rattle.const_items.proofs.Numbers.{among_within}
+use Rattle.const_items.proofs.lemmas.Numbers.{among_within}
 use Rattle.const_items.proofs.dependence.of_names.Goals as goal
 
 -- there are few items

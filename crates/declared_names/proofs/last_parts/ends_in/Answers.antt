@@ -1,4 +1,4 @@
-use Rattle.declared_names.proofs.Compared.{same-last}
+use Rattle.declared_names.proofs.lemmas.Compared.{same-last}
 use Rattle.declared_names.proofs.last_parts.ends_in.Goals as goal
 
 pub returns-in-len1-up : goal.returns-in-len1-up

@@ -1,5 +1,5 @@
 use Rattle.std.proofs.Common.{◌∙◌, arith}
-use Rattle.declared_names.proofs.Compared.{last-drop}
+use Rattle.declared_names.proofs.lemmas.Compared.{last-drop}
 use Rattle.declared_names.proofs.last_parts.last.Goals as goal
 
 pub returns : goal.returns

@@ -5,7 +5,7 @@ use Rattle.indexmap.specs.IndexMap.{get_by}
 use Rattle.aidl_syntax.specs.Trees.{map_option}
 use Rattle.declared_names.specs.MemberViews.{seen_member}
 use Rattle.declared_names.specs.Names.{text}
-use Rattle.declared_names.proofs.Named.{goes_before}
+use Rattle.declared_names.proofs.lemmas.Named.{goes_before}
 use Rattle.declared_names.proofs.members_named.by_name.Goals as goal
 
 -- the member, or else what was there

@@ -1,7 +1,7 @@
 use Rattle.std.proofs.Common.{arith}
 use Rattle.declared_names.specs.Called.{called, seen_table}
 use Rattle.declared_names.specs.Entries.{entry_of}
-use Rattle.declared_names.proofs.Named.{one_more}
+use Rattle.declared_names.proofs.lemmas.Named.{one_more}
 use Rattle.declared_names.proofs.members_named.members_by_name.Goals as goal
 
 pub loop-f-preserved : goal.loop-f-preserved

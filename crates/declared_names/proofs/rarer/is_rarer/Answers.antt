@@ -1,7 +1,7 @@
 use Rattle.std.proofs.Common.{◌≡◌, ◌+◌, ℕ, List, Option, Some, nat_eq, nat_lt, get_or, drop, length, ◌∙◌, ap, subst}
 use Rattle.std.specs.List.{position_from}
-use Rattle.declared_names.proofs.Chains.{HasMark, goes_on_marked, fewer}
-use Rattle.declared_names.proofs.Times.{times_at, times_begin, times_next, both_next}
+use Rattle.declared_names.proofs.lemmas.Chains.{HasMark, goes_on_marked, fewer}
+use Rattle.declared_names.proofs.lemmas.Times.{times_at, times_begin, times_next, both_next}
 use Rattle.declared_names.proofs.rarer.is_rarer.Goals as goal
 
 pub places-init : goal.places-init

@@ -1,6 +1,6 @@
 use Rattle.std.proofs.Common.{sym, ◌∙◌, ap}
 use Rattle.declared_names.specs.Names.{same}
-use Rattle.declared_names.proofs.Compared.{same-short, same-front, same-not-front}
+use Rattle.declared_names.proofs.lemmas.Compared.{same-short, same-front, same-not-front}
 use Rattle.declared_names.proofs.sameness.is_joined.Goals as goal
 
 pub returns-then-name-front : goal.returns-then-name-front

@@ -1,5 +1,5 @@
 use Rattle.std.proofs.Common.{sym}
-use Rattle.declared_names.proofs.Compared.{same-lengths}
+use Rattle.declared_names.proofs.lemmas.Compared.{same-lengths}
 use Rattle.declared_names.proofs.sameness.same.Goals as goal
 
 pub returns-then-a-b : goal.returns-then-a-b

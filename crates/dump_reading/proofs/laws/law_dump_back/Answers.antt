@@ -1,9 +1,9 @@
 use Rattle.std.proofs.Common.{List, map}
 use Rattle.aidl_base.specs.declared.source_file.SourceFile.{SourceFile}
 use Rattle.aidl_syntax.specs.Sources.{source_of}
-use Rattle.tree_files.proofs.OneAnswer as files
+use Rattle.tree_files.proofs.lemmas.OneAnswer as files
 use Rattle.tree_files.specs.Parsed.{AreParsed}
-use Rattle.type_check.proofs.OneAnswer.{never}
+use Rattle.type_check.proofs.lemmas.OneAnswer.{never}
 use Rattle.type_check.specs.Checked.{IsSchemaOf}
 use Rattle.dump_reading.specs.Files.{AreDumped}
 use Rattle.dump_reading.proofs.valued.Enums.{enums_bare}

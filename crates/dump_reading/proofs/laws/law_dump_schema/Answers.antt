@@ -1,4 +1,4 @@
-use Rattle.tree_schema.proofs.settled.Laws.{placed-files}
+use Rattle.tree_schema.proofs.lemmas.settled.Laws.{placed-files}
 use Rattle.dump_reading.proofs.valued.Enums.{enums_bare}
 use Rattle.dump_reading.proofs.named.Entries.{are_entries}
 use Rattle.dump_reading.proofs.settled.Given.{none_broken}

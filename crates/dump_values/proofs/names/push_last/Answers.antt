@@ -1,7 +1,7 @@
 use Rattle.std.proofs.Common.{arith, ◌++◌, refl, string_bytes, length, ◌-◌, ◌∙◌, ap, sym, append-nil}
 use Rattle.std.specs.Str.{encode_utf8_all}
 use Rattle.dump_values.specs.Pieces.{spelling}
-use Rattle.dump_values.proofs.Texts.{last_is}
+use Rattle.dump_values.proofs.lemmas.Texts.{last_is}
 use Rattle.dump_values.proofs.names.push_last.Goals as goal
 
 pub returns-in_ok-push_str-in-len1-up : goal.returns-in_ok-push_str-in-len1-up

@@ -1,7 +1,7 @@
 use Rattle.std.proofs.Common.{[], ◌∷◌, ◌++◌, string_bytes}
 use Rattle.aidl_syntax.specs.declared.token.Symbol.TheVariants as mark
 use Rattle.dump_values.specs.Pieces.{sign, name, ident, dotted, spelling, text_of}
-use Rattle.dump_values.proofs.Texts.{added, added3}
+use Rattle.dump_values.proofs.lemmas.Texts.{added, added3}
 use Rattle.std.proofs.Common.{◌≡◌, subst, sym, codes}
 use Rattle.dump_values.specs.Types.{base_name, shaped}
 use lib.Utf8.{encode}

@@ -2,7 +2,7 @@ use Rattle.std.proofs.Common.{◌++◌, string_bytes, ◌∙◌, ap}
 use Rattle.std.specs.List.{find}
 use Rattle.std.specs.Ordering.{int_eq}
 use Rattle.dump_values.specs.Pieces.{dotted, text_of}
-use Rattle.dump_values.proofs.Texts.{added}
+use Rattle.dump_values.proofs.lemmas.Texts.{added}
 use Rattle.dump_values.specs.Values.{after_dot}
 use Rattle.aidl_schema.specs.Names.{enumerators_of}
 use Rattle.dump_values.proofs.values.push_first.Goals as goal

@@ -2,7 +2,7 @@ use Rattle.std.proofs.Common.{arith, [], ◌∷◌}
 use Rattle.aidl_syntax.specs.declared.token.Symbol.TheVariants as mark
 use Rattle.dump_values.specs.Pieces.{sign, spelling}
 use Rattle.dump_values.specs.Pieces.Piece.{space}
-use Rattle.dump_values.proofs.Texts.{added, next_line}
+use Rattle.dump_values.proofs.lemmas.Texts.{added, next_line}
 use Rattle.dump_values.specs.Values.{value}
 use Rattle.dump_values.proofs.values.push_others.Goals as goal
 

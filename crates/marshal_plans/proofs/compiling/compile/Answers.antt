@@ -2,7 +2,7 @@ use Rattle.std.proofs.Common.{ℕ, List, ap, ◌∙◌}
 use Rattle.marshal_plans.specs.steps.Compiled.{firsts_from, with_decls, with_interfaces, with_extras}
 use Rattle.marshal_plans.specs.declared.plans.Plans.{Plans}
 use Rattle.marshal_plans.proofs.Standings.{compiled}
-use Rattle.aidl_schema.proofs.Valids.{all_hold}
+use Rattle.aidl_schema.proofs.lemmas.Valids.{all_hold}
 use Rattle.marshal_plans.proofs.compiling.compile.Goals as goal
 
 pub returns : goal.returns

@@ -6,7 +6,7 @@ use Rattle.declared_names.specs.Entries.{entry_of}
 use Rattle.declared_names.specs.steps.Ends.{mark_back}
 use Rattle.name_meanings.specs.steps.Behind.{led_by, led_at}
 use Rattle.name_meanings.proofs.Ahead.{Covers, IsRight, covers_first, covers_next, earlier_right_too, settled, stands}
-use Rattle.declared_names.proofs.Chains.{lies, goes_on_marked, fewer}
+use Rattle.declared_names.proofs.lemmas.Chains.{lies, goes_on_marked, fewer}
 use Rattle.name_meanings.proofs.Leads.{finds, finds_at, led_right, import_there, an_end_leads}
 use Rattle.name_meanings.proofs.behind.first_through.Goals as goal
 

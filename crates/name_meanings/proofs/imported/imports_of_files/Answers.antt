@@ -1,7 +1,7 @@
 use Rattle.std.proofs.Common.{◌∙◌, ap, arith}
 use Rattle.name_meanings.specs.Imports.{meant_through, meant_in}
 use Rattle.aidl_syntax.specs.Sources.{source_of}
-use Rattle.declared_names.proofs.Named.{one_more}
+use Rattle.declared_names.proofs.lemmas.Named.{one_more}
 use Rattle.name_meanings.proofs.imported.imports_of_files.Goals as goal
 
 pub loop-file-preserved : goal.loop-file-preserved

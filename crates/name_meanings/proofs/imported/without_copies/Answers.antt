@@ -2,7 +2,7 @@ use Rattle.std.proofs.Common.{Bor, ℕ, List, map, take, add-one, sym, ◌∙◌
 use Rattle.aidl_syntax.specs.declared.tree.DottedTree.{DottedTree}
 use Rattle.name_meanings.specs.Imports.{meant_through}
 use Rattle.name_meanings.proofs.Copies.{both_more}
-use Rattle.declared_names.proofs.Earlier.{take-next}
+use Rattle.declared_names.proofs.lemmas.Earlier.{take-next}
 use Rattle.name_meanings.proofs.imported.without_copies.Goals as goal
 
 -- one more import

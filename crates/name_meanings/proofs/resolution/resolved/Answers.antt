@@ -1,6 +1,6 @@
 use Rattle.std.proofs.Common.{map, arith}
 use Rattle.declared_names.specs.Entries.{entry_of}
-use Rattle.name_meanings.proofs.Told.{known_there}
+use Rattle.name_meanings.proofs.lemmas.Told.{known_there}
 use Rattle.name_meanings.proofs.OfFiles.{in_some_file, in_no_file, table_at, as_many}
 use Rattle.name_meanings.proofs.resolution.resolved.Goals as goal
 

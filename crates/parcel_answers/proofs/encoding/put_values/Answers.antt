@@ -1,7 +1,7 @@
 use Rattle.std.proofs.Common.{length, drop, map, ◌+◌, ap, sym, ◌∙◌, arith, length-append}
 use Rattle.aidl_values.specs.View.{view}
 use Rattle.parcel_cursors.specs.Written.{with_bytes}
-use Rattle.parcel_cursors.proofs.Appends.{with_more}
+use Rattle.parcel_cursors.proofs.lemmas.Appends.{with_more}
 use Rattle.wire_model.specs.Spell.{spell}
 use Rattle.parcel_answers.specs.Encode.{spell_values}
 use Rattle.parcel_answers.proofs.Planned.{as_many, next}

@@ -1,7 +1,7 @@
 use Rattle.std.proofs.Common.{◌/◌, length, map, refl, ap, ◌∙◌}
 use Rattle.std.specs.Int.{w16, from_le_bytes}
 use Rattle.std.proofs.lemmas.List.{take_all}
-use Rattle.aidl_base.proofs.Blocks.{units_of_pairs}
+use Rattle.aidl_base.proofs.lemmas.Blocks.{units_of_pairs}
 use Rattle.parcel_cursors.proofs.units.units_of.Goals as goal
 
 pub returns : goal.returns

@@ -3,7 +3,7 @@ use Rattle.std.specs.Option.{option_map}
 use Rattle.std.specs.Result.{IfOk, is_err, result_ok}
 use Rattle.std.specs.Str.{chars, encode_utf8_all}
 use Rattle.std.specs.Char.Utf16.{has_unpaired_surrogate, utf16_lossy_chars}
-use Rattle.aidl_base.proofs.Texts.{AreUnits, chars_of_units}
+use Rattle.aidl_base.proofs.lemmas.Texts.{AreUnits, chars_of_units}
 use Rattle.parcel_cursors.proofs.units.well_formed.Goals as goal
 
 -- a text by its bytes, where some units spell it

@@ -5,8 +5,8 @@ use Rattle.std.proofs.lemmas.Iterator.Consumers.{YieldsList-turn, YieldsList-end
 use Rattle.std.proofs.lemmas.List.{length_push, at_drop_all}
 use Rattle.std.proofs.lemmas.Str.{encodes-chars}
 use Rattle.aidl_base.specs.Words.{units}
-use Rattle.aidl_base.proofs.Texts.{units_le}
-use Rattle.parcel_cursors.proofs.Appends.{counts_next}
+use Rattle.aidl_base.proofs.lemmas.Texts.{units_le}
+use Rattle.parcel_cursors.proofs.lemmas.Appends.{counts_next}
 use Rattle.parcel_cursors.proofs.writer.unit_count.Goals as goal
 
 pub overflow_add-count : goal.overflow_add-count

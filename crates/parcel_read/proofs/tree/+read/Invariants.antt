@@ -2,7 +2,7 @@ use Rattle.std.proofs.Common.{◌≡◌, ◌+◌, ◌-◌, ◌*◌, true, map, d
 use Rattle.aidl_values.specs.View.{view}
 use Rattle.parcel_cursors.specs.Place.{left, is_inside, MovesOn}
 use Rattle.wire_model.specs.ReadOf.{each_at}
-use Rattle.aidl_values.proofs.Fronts.{with_front}
+use Rattle.aidl_values.proofs.lemmas.Fronts.{with_front}
 use Rattle.parcel_read.proofs.Loop.{with_items}
 use Rattle.parcel_read.proofs.tree.+read.Given as goal
 use Rattle.parcel_read.specs.steps.PlanDefault.{initial_by_plan}

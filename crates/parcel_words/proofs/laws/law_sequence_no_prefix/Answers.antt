@@ -1,5 +1,5 @@
 use Rattle.aidl_base.specs.declared.profile.Profile.TheVariants.{Strict}
-use Rattle.aidl_base.proofs.Spelled.{sequence_prefix}
+use Rattle.aidl_base.proofs.lemmas.Spelled.{sequence_prefix}
 use Rattle.parcel_words.proofs.laws.law_sequence_no_prefix.Goals as goal
 
 pub returns : goal.returns

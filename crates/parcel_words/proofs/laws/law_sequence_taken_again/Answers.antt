@@ -1,4 +1,4 @@
-use Rattle.aidl_base.proofs.Spelled.{sequence_again}
+use Rattle.aidl_base.proofs.lemmas.Spelled.{sequence_again}
 use Rattle.parcel_words.proofs.laws.law_sequence_taken_again.Goals as goal
 
 pub returns : goal.returns

@@ -3,7 +3,7 @@ use Rattle.std.proofs.lemmas.Result.{err_from_is_err_and}
 use Rattle.aidl_base.specs.Readings.{items_at}
 use Rattle.parcel_cursors.specs.Place.{Place, left, is_inside}
 use Rattle.parcel_cursors.specs.Taken.{RefusesIfMemory}
-use Rattle.parcel_cursors.proofs.Moves.{on_and_on}
+use Rattle.parcel_cursors.proofs.lemmas.Moves.{on_and_on}
 use Rattle.parcel_words.proofs.Items.{goes_on, ends, is_done}
 use Rattle.parcel_words.proofs.sequence.take_each.Goals as goal
 

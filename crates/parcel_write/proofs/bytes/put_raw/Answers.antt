@@ -2,7 +2,7 @@ use Rattle.std.proofs.Common.{◌+◌, ap, arith}
 use Rattle.aidl_base.specs.Words.{padding}
 use Rattle.aidl_values.specs.View.{views}
 use Rattle.wire_model.specs.Spell.{raw_bytes}
-use Rattle.wire_model.proofs.spelled.Sizes.{length-pad}
+use Rattle.wire_model.proofs.lemmas.spelled.Sizes.{length-pad}
 use Rattle.parcel_write.proofs.Raw.{length_raw}
 use Rattle.parcel_write.proofs.bytes.put_raw.Goals as goal
 

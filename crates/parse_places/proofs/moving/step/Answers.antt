@@ -1,7 +1,7 @@
 use Rattle.std.proofs.Common.{◌≡◌, reverse, refl, sym, ap, ◌∙◌, length, arith}
 use Rattle.std.proofs.lemmas.List.{nil_from_length}
 use Rattle.parse_places.specs.steps.Moves.{moves, skips, step}
-use Rattle.parse_places.proofs.Stacks.{popped, went, stayed}
+use Rattle.parse_places.proofs.runs.Stacks.{popped, went, stayed}
 use Rattle.parse_places.proofs.moving.step.Goals as goal
 
 pub returns-then-branch : goal.returns-then-branch

@@ -1,7 +1,7 @@
 use Rattle.std.proofs.Common.{◌≡◌, ℕ, cond, reverse, drop, length, ◌+◌, Option, Some, None, sym, ap, ◌∙◌, arith}
 use Rattle.parse_places.specs.steps.Moves.{step, ends}
 use Rattle.parse_places.specs.steps.Places.{place_from, place_or}
-use Rattle.parse_places.proofs.Stacks.{place_at, place_after, ends_turned, refused, accepted}
+use Rattle.parse_places.proofs.runs.Stacks.{place_at, place_after, ends_turned, refused, accepted}
 use Rattle.parse_places.proofs.placing.place.Goals as goal
 
 pub returns-then-not-branch : goal.returns-then-not-branch

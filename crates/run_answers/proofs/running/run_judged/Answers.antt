@@ -2,8 +2,8 @@ use Rattle.std.proofs.Common.{arith}
 use Rattle.run_answers.specs.CallLines.{lines_of}
 use Rattle.run_answers.specs.Running.{lines_course}
 use Rattle.tool_frame.specs.steps.Courses.{seen_alone}
-use Rattle.tool_frame.proofs.Courses.{ran_none}
-use Rattle.tool_frame.proofs.Endings.{not_verdict}
+use Rattle.tool_frame.proofs.lemmas.Courses.{ran_none}
+use Rattle.tool_frame.proofs.lemmas.Endings.{not_verdict}
 use Rattle.run_answers.proofs.running.run_judged.Goals as goal
 
 pub run_lines-requires-clause-client : goal.run_lines-requires-clause-client

@@ -8,7 +8,7 @@ use Rattle.call_scripts.specs.Calls.{CallData}
 use Rattle.call_scripts.specs.Script.{script}
 use Rattle.tool_frame.specs.Seen.{Seen}
 use Rattle.tool_frame.specs.steps.Courses.{seen_alone}
-use Rattle.tool_frame.proofs.Endings.{not_verdict}
+use Rattle.tool_frame.proofs.lemmas.Endings.{not_verdict}
 use Rattle.run_answers.proofs.Lines.{line_link, line_memory, line_steps}
 use Rattle.run_answers.proofs.Projecting.{carried_is, put_projected, put_stops}
 use Rattle.run_answers.proofs.running.run_next.Goals as goal

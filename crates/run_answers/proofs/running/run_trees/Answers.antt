@@ -9,8 +9,8 @@ use Rattle.tool_frame.specs.Seen.{Seen}
 use Rattle.tool_frame.specs.declared.printed.Printed.{Printed}
 use Rattle.tool_frame.specs.steps.Courses.{RanCourse, seen_alone}
 use Rattle.tool_frame.specs.steps.Results.{printed}
-use Rattle.tool_frame.proofs.Courses.{ran_none, ran_printed}
-use Rattle.tool_frame.proofs.Endings.{not_verdict}
+use Rattle.tool_frame.proofs.lemmas.Courses.{ran_none, ran_printed}
+use Rattle.tool_frame.proofs.lemmas.Endings.{not_verdict}
 use Rattle.run_answers.proofs.Projecting.{never_printed}
 use Rattle.run_answers.proofs.running.run_trees.Goals as goal
 

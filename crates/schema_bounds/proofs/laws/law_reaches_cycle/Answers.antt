@@ -1,4 +1,4 @@
-use Rattle.schema_bounds.proofs.Chains.{told}
+use Rattle.schema_bounds.proofs.lemmas.Chains.{told}
 use Rattle.schema_bounds.proofs.laws.law_reaches_cycle.Goals as goal
 
 pub returns : goal.returns

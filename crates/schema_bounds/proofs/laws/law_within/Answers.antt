@@ -1,4 +1,4 @@
-use Rattle.schema_bounds.proofs.Chains.{all_within}
+use Rattle.schema_bounds.proofs.lemmas.Chains.{all_within}
 use Rattle.schema_bounds.proofs.laws.law_within.Goals as goal
 
 pub returns : goal.returns

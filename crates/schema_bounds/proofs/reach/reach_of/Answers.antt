@@ -1,5 +1,5 @@
 use Rattle.std.proofs.Common.{◌∙◌}
-use Rattle.schema_bounds.proofs.Chains.{inside, on_cycle, reach}
+use Rattle.schema_bounds.proofs.lemmas.Chains.{inside, on_cycle, reach}
 use Rattle.schema_bounds.proofs.reach.reach_of.Goals as goal
 
 pub reaching-requires-clause-inside : goal.reaching-requires-clause-inside

@@ -1,7 +1,7 @@
 use Rattle.std.proofs.Common.{◌∙◌, map, length, sym, arith}
 use Rattle.const_items.specs.Items.{number_at}
 use Rattle.const_items.specs.ItemViews.{item_of}
-use Rattle.const_items.proofs.Numbers.{at_within}
+use Rattle.const_items.proofs.lemmas.Numbers.{at_within}
 use Rattle.schema_parts.proofs.Within.{numbered_within}
 use Rattle.schema_parts.proofs.values.value_at.Goals as goal
 

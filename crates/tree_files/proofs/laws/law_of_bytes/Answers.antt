@@ -1,4 +1,4 @@
-use Rattle.tree_files.proofs.OfBytes.{of-bytes}
+use Rattle.tree_files.proofs.lemmas.OfBytes.{of-bytes}
 use Rattle.tree_files.proofs.laws.law_of_bytes.Goals as goal
 
 pub returns : goal.returns

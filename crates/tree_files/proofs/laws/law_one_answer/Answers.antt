@@ -1,4 +1,4 @@
-use Rattle.tree_files.proofs.OneAnswer as law
+use Rattle.tree_files.proofs.lemmas.OneAnswer as law
 use Rattle.tree_files.proofs.laws.law_one_answer.Goals as goal
 
 pub returns-clause-one_list : goal.returns-clause-one_list

@@ -7,7 +7,7 @@ use Rattle.tree_files.specs.declared.found.Found.{Found}
 use Rattle.tree_files.specs.Sizes.{oversized}
 use Rattle.tree_files.specs.Parsed.{AreParsed}
 use Rattle.tree_files.specs.steps.Standing.{Stands}
-use Rattle.tree_files.proofs.OfBytes.{of-bytes}
+use Rattle.tree_files.proofs.lemmas.OfBytes.{of-bytes}
 use Rattle.tree_files.proofs.parsing.parsed.Goals as goal
 
 answered : (r : Result (List ParsedFile) FilesFault) (fs : List SourceFile) (s : Found) → IfOk r (λ ps. (gs : List SourceFile) → oversized gs ≡ None → Stands gs s → AreParsed gs ps)

@@ -4,7 +4,7 @@ use Rattle.std.proofs.lemmas.Option.{slice_get_read, slice_get-map}
 use Rattle.declared_names.specs.Declarations.{declarations}
 use Rattle.declared_names.specs.Entries.{entry_of}
 use Rattle.schema_parts.specs.TreeViews.{files_of, numbered_of}
-use Rattle.tree_schema.proofs.named.Numbers.{sorted-there}
+use Rattle.tree_schema.proofs.lemmas.named.Numbers.{sorted-there}
 use Rattle.tree_schema.proofs.drafting.declared_in.Goals as goal
 
 -- the number is that of the declaration

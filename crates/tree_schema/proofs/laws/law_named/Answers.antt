@@ -3,10 +3,10 @@ use Rattle.aidl_syntax.specs.declared.tree.ParsedFile.{ParsedFile}
 use Rattle.aidl_syntax.specs.Sources.{source_of}
 use Rattle.tree_schema.specs.Named.{HasIdentifiers}
 use Rattle.tree_schema.proofs.walked.Outers.{are_named}
-use Rattle.tree_schema.proofs.walked.Files.{named-files}
-use Rattle.tree_schema.proofs.named.Schema.{names-hold}
-use Rattle.tree_schema.proofs.named.Members.{members-hold}
-use Rattle.tree_schema.proofs.named.Limits.{limits-hold}
+use Rattle.tree_schema.proofs.lemmas.walked.Files.{named-files}
+use Rattle.tree_schema.proofs.lemmas.named.Schema.{names-hold}
+use Rattle.tree_schema.proofs.lemmas.named.Members.{members-hold}
+use Rattle.tree_schema.proofs.lemmas.named.Limits.{limits-hold}
 use Rattle.tree_schema.proofs.laws.law_named.Goals as goal
 
 named : (files same : List ParsedFile) → same ≡ files → All HasIdentifiers (map source_of same) → are_named (map source_of files) ≡ true

@@ -6,11 +6,11 @@ use Rattle.aidl_syntax.specs.Walks.{literals_of, places_of}
 use Rattle.aidl_syntax.specs.declared.tree.ParsedFile.{ParsedFile}
 use Rattle.aidl_syntax.specs.Sources.{AreOfBytes, Source, source_of}
 use Rattle.tree_schema.specs.Named.{HasIdentifiers}
-use Rattle.tree_schema.proofs.valued.EnumsFilled.{files-filled}
-use Rattle.tree_schema.proofs.settled.Faultless.{faultless, filled-files}
-use Rattle.tree_schema.proofs.valued.Checked.{checked-types, checked-methods, checked-bounds, checked-constants, checked-initializers, checked-enums}
-use Rattle.tree_schema.proofs.settled.Laws.{placed-files, plain-files}
-use Rattle.tree_schema.proofs.walked.Files.{named-files}
+use Rattle.tree_schema.proofs.lemmas.valued.EnumsFilled.{files-filled}
+use Rattle.tree_schema.proofs.lemmas.settled.Faultless.{faultless, filled-files}
+use Rattle.tree_schema.proofs.lemmas.valued.Checked.{checked-types, checked-methods, checked-bounds, checked-constants, checked-initializers, checked-enums}
+use Rattle.tree_schema.proofs.lemmas.settled.Laws.{placed-files, plain-files}
+use Rattle.tree_schema.proofs.lemmas.walked.Files.{named-files}
 use Rattle.tree_schema.proofs.laws.law_valid.Goals as goal
 
 abbrev ArePlaced : Source → Type 0

@@ -1,4 +1,4 @@
-use Rattle.type_check.proofs.OneAnswer.{never}
+use Rattle.type_check.proofs.lemmas.OneAnswer.{never}
 use Rattle.type_check.proofs.laws.law_never_both.Goals as goal
 
 pub returns : goal.returns

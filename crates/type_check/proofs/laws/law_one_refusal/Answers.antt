@@ -1,4 +1,4 @@
-use Rattle.type_check.proofs.OneAnswer.{one_refusal}
+use Rattle.type_check.proofs.lemmas.OneAnswer.{one_refusal}
 use Rattle.type_check.proofs.laws.law_one_refusal.Goals as goal
 
 pub returns : goal.returns

@@ -1,7 +1,7 @@
 use Rattle.std.proofs.Common.{◌++◌, map}
 use Rattle.aidl_syntax.specs.Sources.{source_of}
 use Rattle.type_rules.specs.Breaches.{unsorted}
-use Rattle.type_rules.proofs.Nothing.{back_nil, front_nil, none_in_order, unbroken}
+use Rattle.type_rules.proofs.lemmas.Nothing.{back_nil, front_nil, none_in_order, unbroken}
 use Rattle.type_rules.proofs.laws.law_unbroken.Goals as goal
 
 pub returns : goal.returns

@@ -1,5 +1,5 @@
 use Rattle.std.proofs.Common.{arith}
-use Rattle.aidl_base.proofs.Bytes.{AreBytes}
+use Rattle.aidl_base.proofs.lemmas.Lists.{AreBytes}
 use Rattle.wire_model.proofs.received.Answers.{got_typed}
 use Rattle.wire_model.proofs.received.Statuses.{client_status}
 use Rattle.wire_model.proofs.laws.law_client.Goals as goal

@@ -1,6 +1,6 @@
 use Rattle.aidl_values.specs.View.{view}
-use Rattle.wire_model.proofs.Nodes.{nodes}
-use Rattle.wire_model.proofs.Sound.{is_whole}
+use Rattle.wire_model.proofs.lemmas.Nodes.{nodes}
+use Rattle.wire_model.proofs.lemmas.Sound.{is_whole}
 use Rattle.wire_model.proofs.laws.law_nodes.Goals as goal
 
 pub returns : goal.returns

@@ -1,6 +1,6 @@
 use Rattle.aidl_values.specs.View.{view}
 use Rattle.wire_model.proofs.again.All.{one_reading}
-use Rattle.wire_model.proofs.Sound.{is_whole}
+use Rattle.wire_model.proofs.lemmas.Sound.{is_whole}
 use Rattle.wire_model.proofs.laws.law_one_reading.Goals as goal
 
 pub returns : goal.returns

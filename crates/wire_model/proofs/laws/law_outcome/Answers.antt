@@ -1,10 +1,10 @@
 use Rattle.std.proofs.Common.{◌≡◌, ◌≤◌, ℤ, length, Some, Result, Ok, sym, ◌∙◌, ap, subst, arith}
-use Rattle.aidl_base.proofs.Bytes.{AreBytes}
+use Rattle.aidl_base.proofs.lemmas.Lists.{AreBytes}
 use Rattle.aidl_values.specs.View.{views}
 use Rattle.wire_model.specs.Calls.{answer_of, code_at, descriptor}
 use Rattle.wire_model.specs.Outcome.{OneFollows, declared_as, received_call, Done, done, seen_answer}
 use Rattle.wire_model.specs.Receiver.{stub, client}
-use Rattle.wire_model.proofs.calls.Outcomes.{turned, nowhere, refused, never_left, like, oneway_outcome, done_outcome}
+use Rattle.wire_model.proofs.lemmas.calls.Outcomes.{turned, nowhere, refused, never_left, like, oneway_outcome, done_outcome}
 use Rattle.wire_model.proofs.calls.Replies.{reply_seen}
 use Rattle.wire_model.proofs.calls.Requests.{request_seen}
 use Rattle.wire_model.proofs.laws.law_outcome.Goals as goal

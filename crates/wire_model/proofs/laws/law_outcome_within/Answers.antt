@@ -3,8 +3,8 @@ use Rattle.aidl_values.specs.View.{views}
 use Rattle.wire_model.specs.Calls.{AnswerData, answer_of, arguments, is_oneway}
 use Rattle.wire_model.specs.Outcome.{Done, oneway, done}
 use Rattle.wire_model.specs.Receiver.{opened_arguments}
-use Rattle.wire_model.proofs.calls.Itself.{method_there, declared_itself, like_itself, called_itself, got_itself}
-use Rattle.wire_model.proofs.calls.Outcomes.{outcome_is}
+use Rattle.wire_model.proofs.lemmas.calls.Itself.{method_there, declared_itself, like_itself, called_itself, got_itself}
+use Rattle.wire_model.proofs.lemmas.calls.Outcomes.{outcome_is}
 use Rattle.wire_model.proofs.laws.law_outcome_within.Goals as goal
 
 pub returns : goal.returns

@@ -1,9 +1,9 @@
 use Rattle.std.proofs.Common.{length, ap, ◌∙◌, arith, length-append}
-use Rattle.aidl_base.proofs.Bytes.{AreBytes}
-use Rattle.wire_model.proofs.Nodes.{nodes}
-use Rattle.wire_model.proofs.Sound.{is_whole}
+use Rattle.aidl_base.proofs.lemmas.Lists.{AreBytes}
+use Rattle.wire_model.proofs.lemmas.Nodes.{nodes}
+use Rattle.wire_model.proofs.lemmas.Sound.{is_whole}
 use Rattle.wire_model.specs.ReadOf.{read_of}
-use Rattle.wire_model.proofs.Reading.{reads_read, read_reads, read_typed, stop_read, read_stop}
+use Rattle.wire_model.proofs.lemmas.Reading.{reads_read, read_reads, read_typed, stop_read, read_stop}
 use Rattle.wire_model.proofs.laws.law_read_of.Goals as goal
 
 pub returns : goal.returns

@@ -1,6 +1,6 @@
 use Rattle.std.proofs.Common.{arith}
-use Rattle.aidl_base.proofs.Bytes.{AreBytes}
-use Rattle.wire_model.proofs.Reading.{reads_or_stops, not_both, one_status}
+use Rattle.aidl_base.proofs.lemmas.Lists.{AreBytes}
+use Rattle.wire_model.proofs.lemmas.Reading.{reads_or_stops, not_both, one_status}
 use Rattle.wire_model.proofs.stopped.Statuses.{stop_status}
 use Rattle.wire_model.proofs.laws.law_reads_or_stops.Goals as goal
 

@@ -1,9 +1,9 @@
 use Rattle.std.proofs.Common.{inl, ◌≡◌, sym, ◌∙◌, subst, arith}
-use Rattle.aidl_base.proofs.Bytes.{AreBytes}
+use Rattle.aidl_base.proofs.lemmas.Lists.{AreBytes}
 use Rattle.wire_model.specs.Calls.{answer_of}
 use Rattle.wire_model.specs.Outcome.{seen_answer}
 use Rattle.wire_model.specs.Receiver.{client}
-use Rattle.wire_model.proofs.calls.Itself.{method_there, declared_itself, like_itself, got_itself}
+use Rattle.wire_model.proofs.lemmas.calls.Itself.{method_there, declared_itself, like_itself, got_itself}
 use Rattle.wire_model.proofs.calls.Replies.{reply_seen}
 use Rattle.wire_model.proofs.laws.law_reply_got.Goals as goal
 

@@ -1,10 +1,10 @@
 use Rattle.std.proofs.Common.{inl, ◌≡◌, ◌≤◌, length, sym, ◌∙◌, subst, arith}
-use Rattle.aidl_base.proofs.Bytes.{AreBytes}
+use Rattle.aidl_base.proofs.lemmas.Lists.{AreBytes}
 use Rattle.aidl_values.specs.View.{views}
 use Rattle.wire_model.specs.Calls.{code_at}
 use Rattle.wire_model.specs.Outcome.{received_call}
 use Rattle.wire_model.specs.Receiver.{stub}
-use Rattle.wire_model.proofs.calls.Itself.{method_there, declared_itself, called_itself}
+use Rattle.wire_model.proofs.lemmas.calls.Itself.{method_there, declared_itself, called_itself}
 use Rattle.wire_model.proofs.calls.Requests.{request_seen}
 use Rattle.wire_model.proofs.laws.law_request_called.Goals as goal
 

@@ -1,5 +1,5 @@
 use Rattle.std.proofs.Common.{◌≡◌, ◌≤◌, length, sym, subst, arith}
-use Rattle.aidl_base.proofs.Bytes.{AreBytes}
+use Rattle.aidl_base.proofs.lemmas.Lists.{AreBytes}
 use Rattle.aidl_values.specs.View.{views}
 use Rattle.wire_model.specs.Calls.{code_at}
 use Rattle.wire_model.specs.Outcome.{received_call}

@@ -3,7 +3,7 @@ use Rattle.aidl_syntax.specs.declared.tree.ParsedFile.{ParsedFile}
 use Rattle.declared_names.specs.Called.{called_at, seen_table}
 use Rattle.declared_names.specs.Declarations.{declarations}
 use Rattle.aidl_syntax.specs.Sources.{source_of}
-use Rattle.declared_names.proofs.Named.{has_table, has_none}
+use Rattle.declared_names.proofs.lemmas.Named.{has_table, has_none}
 use Rattle.aidl_names.proofs.names.Names.member.Goals as goal
 
 pub returns-in-Some : goal.returns-in-Some

@@ -1,4 +1,4 @@
-use Rattle.aidl_schema.proofs.Valids.{valid_empty}
+use Rattle.aidl_schema.proofs.lemmas.Valids.{valid_empty}
 use Rattle.aidl_schema.proofs.schema.Schema.empty.Goals as goal
 
 pub invariant_of-result : goal.invariant_of-result

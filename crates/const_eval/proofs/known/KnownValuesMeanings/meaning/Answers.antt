@@ -4,7 +4,7 @@ use Rattle.const_operands.specs.Seen.{answer}
 use Rattle.const_eval.specs.Known.{known_meaning}
 use Rattle.const_items.specs.TargetViews.{seen_targets}
 use Rattle.const_eval.proofs.Meant.{name_means}
-use Rattle.const_items.proofs.Scopes.{scoped}
+use Rattle.const_items.proofs.lemmas.Scopes.{scoped}
 use Rattle.const_eval.proofs.known.KnownValuesMeanings.meaning.Goals as goal
 
 pub target_of-target-requires : goal.target_of-target-requires

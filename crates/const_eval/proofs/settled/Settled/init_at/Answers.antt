@@ -3,7 +3,7 @@ use Rattle.std.proofs.lemmas.Option.{MatchOption-at_some}
 use Rattle.const_items.specs.declared.item.ItemRef.{ItemRef}
 use Rattle.const_items.specs.Items.{number_at}
 use Rattle.const_items.specs.ItemViews.{item_of}
-use Rattle.const_items.proofs.Numbers.{at_within}
+use Rattle.const_items.proofs.lemmas.Numbers.{at_within}
 use Rattle.const_eval.proofs.settled.Settled.init_at.Goals as goal
 
 below : (list : List ItemRef) (most file place n : ℕ) (o : Option ℕ) → length list ≤ most → o ≡ number_at (map item_of list) file place → o ≡ Some n → n < most

@@ -1,5 +1,5 @@
 use Rattle.std.proofs.Common.{◌≡◌, Some, refl, sym, ap, ◌∙◌, subst, arith}
-use Rattle.aidl_schema.proofs.Valids.{all_hold}
+use Rattle.aidl_schema.proofs.lemmas.Valids.{all_hold}
 use Rattle.marshal_plans.specs.Places.{HasStart}
 use Rattle.marshal_plans.specs.Standing.{StandsFor}
 use Rattle.marshal_plans.specs.steps.Rising.{AreRising}

@@ -2,7 +2,7 @@ use Rattle.std.proofs.Common.{◌≡◌, ◌<◌, Some, length, get_or, slice_ge
 use Rattle.std.proofs.lemmas.Option.{slice_get-get_or}
 use Rattle.marshal_plans.specs.declared.plans.PlanId.{PlanId}
 use Rattle.marshal_plans.specs.Standing.{StandsFor}
-use Rattle.marshal_plans.proofs.Matching.{matched_with}
+use Rattle.marshal_plans.proofs.lemmas.Matching.{matched_with}
 use Rattle.marshal_plans.proofs.plans.Plans.extra.Goals as goal
 
 pub returns-clause-stands : goal.returns-clause-stands

@@ -1,6 +1,6 @@
 use Rattle.std.proofs.Common.{None, sym, subst, arith}
 use Rattle.std.specs.Prelude.{MatchOption}
-use Rattle.aidl_schema.proofs.Valids.{all_hold}
+use Rattle.aidl_schema.proofs.lemmas.Valids.{all_hold}
 use Rattle.marshal_plans.specs.declared.plans.PlanId.{PlanId}
 use Rattle.marshal_plans.specs.Places.{HasStart}
 use Rattle.marshal_plans.specs.steps.Rising.{AreRising}

@@ -1,9 +1,9 @@
 use Rattle.std.proofs.Common.{◌≡◌, ℕ, ◌+◌, ◌*◌, [], ◌∷◌, length, take, replicate, sym, ap, ◌∙◌, arith}
 use Rattle.std.specs.Str.{chars}
 use Rattle.aidl_base.specs.Words.{padding, units, unit_bytes}
-use Rattle.aidl_base.proofs.Blocks.{block_is, length_block_parts}
+use Rattle.aidl_base.proofs.lemmas.Blocks.{block_is, length_block_parts}
 use Rattle.parcel_cursors.specs.Written.{with_bytes}
-use Rattle.parcel_cursors.proofs.Appends.{five_zeros, with_more}
+use Rattle.parcel_cursors.proofs.lemmas.Appends.{five_zeros, with_more}
 use Rattle.parcel_cursors.proofs.writer.WordWriter.block.Goals as goal
 
 pub append-requires : goal.append-requires

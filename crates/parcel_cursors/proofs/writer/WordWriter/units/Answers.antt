@@ -6,7 +6,7 @@ use Rattle.std.proofs.lemmas.Iterator.Consumers.{YieldsList-turn, YieldsList-end
 use Rattle.std.proofs.lemmas.List.{length_push, at_drop_all}
 use Rattle.aidl_base.specs.Words.{units, unit_bytes}
 use Rattle.parcel_cursors.specs.Written.{with_bytes}
-use Rattle.parcel_cursors.proofs.Appends.{unit_bytes_next, with_more, with_none}
+use Rattle.parcel_cursors.proofs.lemmas.Appends.{unit_bytes_next, with_more, with_none}
 use Rattle.parcel_cursors.proofs.writer.WordWriter.units.Goals as goal
 
 pub character-requires : goal.character-requires

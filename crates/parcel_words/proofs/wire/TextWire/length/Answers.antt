@@ -1,7 +1,7 @@
 use Rattle.std.proofs.Common.{◌≡◌, ◌+◌, ◌*◌, ◌/◌, ◌-◌, ◌^◌, length, min, ap, sym, ◌∙◌, arith}
 use Rattle.aidl_base.specs.Words.{units}
 use Rattle.aidl_base.specs.Spellings.{spell_text}
-use Rattle.aidl_base.proofs.Spelled.{length-spell_text}
+use Rattle.aidl_base.proofs.lemmas.Spelled.{length-spell_text}
 use Rattle.parcel_words.proofs.wire.TextWire.length.Goals as goal
 
 pub returns : goal.returns

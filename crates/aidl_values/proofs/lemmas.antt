@@ -1,0 +1,5 @@
+-- Laws of this crate's definitions that crates above cite.
+pub mod Fronts
+pub mod Levels
+pub mod OneZero
+pub mod Sounds

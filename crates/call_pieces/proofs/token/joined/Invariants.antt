@@ -1,8 +1,0 @@
-use Rattle.std.proofs.Common.{◌∷◌, take}
-use Rattle.std.specs.Prelude.{string_bytes}
-use Rattle.aidl_base.specs.Names.{dotted}
-use Rattle.call_pieces.proofs.Names.{Spells}
-use Rattle.call_pieces.proofs.token.joined.Given as goal
-
-abbrev pub invariant-loop-part : goal.invariant-loop-part
-invariant-loop-part l = Spells (string_bytes l.text) (dotted (l.first ∷ take l.part-index l.others))

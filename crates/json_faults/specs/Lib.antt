@@ -1,0 +1,3 @@
+pub mod Gives
+pub mod Refusal
+pub mod steps

@@ -1,0 +1,46 @@
+-- Numbers that are read without a look at the schema.
+use Rattle.std.proofs.Common.{◌≡◌, ℤ, Bool, true, false, ◌&&◌, List, Option, Some, None, Ok, refl, ◌∙◌, arith}
+use Rattle.std.proofs.lemmas.Bool.{and_right}
+use Rattle.std.proofs.lemmas.Bool.Decides.{nat_tests}
+use Rattle.serde_json.specs.Data.{Num, unsigned, negative, float}
+use Rattle.serde_json.specs.Data as json
+use Rattle.serde_json.specs.Find.{as_i64, as_integer}
+use Rattle.aidl_schema.specs.declared.schema.AidlType.{AidlType}
+use Rattle.aidl_schema.specs.declared.schema.Base.{Base}
+use Rattle.aidl_schema.specs.declared.schema.Base.TheVariants as base
+use Rattle.aidl_schema.specs.declared.schema.Decl.{Decl}
+use Rattle.aidl_schema.specs.declared.schema.Field.{Field}
+use Rattle.aidl_schema.specs.Constants.{in_range}
+use Rattle.aidl_schema.specs.Types.{Form, form_of, is_one}
+use Rattle.aidl_schema.specs.Types as form
+use Rattle.aidl_values.specs.Data as value
+use Rattle.json_writing.specs.Named.{enumerators_of}
+use Rattle.json_faults.specs.Refusal.{Answer}
+use Rattle.json_values.specs.FromJson.{whole_from, one_from, from_by}
+use Rattle.json_values.specs.steps.Plain.{is_in_base, IsPlain}
+
+-- what fits into 64 bits with a sign is the whole number
+whole : (x : Num) (n : ℤ) → as_i64 x ≡ Some n → as_integer x ≡ Some n
+whole (unsigned m) n e = grind (arith, nat_tests)
+whole (negative z) n e = e
+whole (float x) n e = cc
+
+whole_in : (f : Form) (o : Option ℤ) (n : ℤ) → o ≡ Some n → in_range f n ≡ true → whole_from f o ≡ Ok (value.number n)
+whole_in f o n is lies = rw (is, lies) refl
+
+module _ (S : List Decl) (left : Bool) (default : Field → Answer value.Data) (read : AidlType → json.Data → Answer value.Data) where
+  one : (b : Base) (x : Num) (n : ℤ) → as_integer x ≡ Some n → is_in_base b n ≡ true → one_from left default read (enumerators_of S b) (form_of S b) (json.number x) ≡ Ok (value.number n)
+  one base.Byte x n is lies = whole_in form.byte (as_integer x) n is lies
+  one base.Char x n is lies = whole_in form.char (as_integer x) n is lies
+  one base.Int x n is lies = whole_in form.int (as_integer x) n is lies
+  one base.Long x n is lies = whole_in form.long (as_integer x) n is lies
+  one base.Boolean x n is lies = cc
+  one base.Text x n is lies = cc
+  one (base.Named d) x n is lies = cc
+
+  -- a type that is no sequence
+  by_one : (t : AidlType) (x : Num) (n : ℤ) → is_one t.shape ≡ true → as_i64 x ≡ Some n → is_in_base t.base n ≡ true → from_by S left default read t (json.number x) ≡ Ok (value.number n)
+  by_one t x n is at lies = rw (and_right t.nullable false refl, is) (one t.base x n (whole x n at) lies)
+
+pub plain : (t : AidlType) (x : Num) (n : ℤ) → is_one t.shape ≡ true → as_i64 x ≡ Some n → is_in_base t.base n ≡ true → IsPlain t (json.number x) n
+plain t x n is at lies S left default read = by_one S left default read t x n is at lies

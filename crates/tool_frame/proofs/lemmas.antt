@@ -1,0 +1,6 @@
+-- Laws of this crate's definitions that crates above cite.
+pub mod Courses
+pub mod EarlyEnds
+pub mod Endings
+pub mod Loaded
+pub mod Writings

@@ -1,0 +1,206 @@
+-- How a run of a command ends that writes and doesn't carry.
+use Rattle.std.proofs.Common.{◌≡◌, ℕ, ◌≤◌, List, [], Option, Some, None, refl, sym, subst, arith, inl, inr}
+use Rattle.std.specs.Prelude.{◌≢◌, ◌⊎◌, Result, Ok, Err}
+use Rattle.std.proofs.lemmas.List.{append-nil}
+use Rattle.aidl_outside.specs.declared.store.StoreFault.{StoreFault}
+use Rattle.aidl_outside.specs.declared.store.StoreFault.TheVariants.{Failed, OutOfMemory as StoreMemory}
+use Rattle.aidl_outside.specs.Causes.{Rose, StoreCause}
+use Rattle.aidl_outside.specs.Files.{Files}
+use Rattle.aidl_outside.specs.Told.{Tells, Adds, AddsFront}
+use Rattle.aidl_outside.specs.Writes.{Write}
+use Rattle.tool_frame.specs.Acts.{Acts, acts_by, writes_of, answers_of}
+use Rattle.tool_frame.specs.Answer.{Answer}
+use Rattle.tool_frame.specs.Ended.{Ended, WroteAll, WroteSome, FailedAt, CarriedThese, EndsAsMeant, PutsFront}
+use Rattle.tool_frame.specs.Seen.{Seen}
+use Rattle.tool_frame.specs.Verdict.{exit_of, IsVerdict}
+use Rattle.tool_frame.specs.declared.printed.Early.{Early}
+use Rattle.tool_frame.specs.declared.printed.Early.TheVariants.{Answered, OutOfMemory}
+use Rattle.tool_frame.specs.declared.printed.Printed.{Printed}
+use Rattle.tool_frame.specs.steps.Acts.{Acted, ActsAs}
+use Rattle.tool_frame.specs.steps.Ends.{EndsRead}
+use Rattle.tool_frame.specs.steps.Prints.{Prints}
+use Rattle.tool_frame.specs.steps.Results.{printed}
+use Rattle.tool_frame.proofs.lemmas.Endings.{IsReadExit, exits_of, nothing_carried, not_both, not_six, not_three, not_verdict, told_always, verdict_is, widened}
+use Rattle.tool_frame.proofs.lemmas.Loaded.{tells}
+
+module _ (acts : Files → Acts) where
+  -- all that was meant is some of it
+  some_of_all : (before now : Option Files) → WroteAll (writes_of acts) before now → WroteSome (writes_of acts) before now
+  some_of_all None now same = same
+  some_of_all (Some files) now (made, is, e) = inr (made, [], subst (λ ws. writes_of acts files ws) (sym (append-nil made)) is, e)
+
+  failed_of_some : (before now : Option Files) → WroteSome (writes_of acts) before now → FailedAt (writes_of acts) before now
+  failed_of_some None now same = same
+  failed_of_some (Some files) now some = inl some
+
+  all_acted : (before now : Option Files) (a : Answer) → Acted acts before now a → WroteAll (writes_of acts) before now
+  all_acted None now a same = same
+  all_acted (Some files) now a (made, is, e) = (made, (a, is), e)
+
+  answers_acted : (before now : Option Files) (a : Answer) → Acted acts before now a → Tells before (λ files. answers_of acts files a)
+  answers_acted None now a same = tt
+  answers_acted (Some files) now a (made, is, e) = (made, is)
+
+module _ (acts : Files → Acts) (before now : Seen) (exit : ℕ)
+    (log : now.log ≡ before.log) (link : now.link_faults ≡ before.link_faults) (nature : now.is_faithful ≡ before.is_faithful) where
+  -- the exit and the text are those of an answer
+  abbrev IsMeant : Files → Type 0
+  IsMeant files = (answer : Answer) × answers_of acts files answer × (exit ≡ exit_of answer.verdict) × Adds before.told now.told answer.text
+
+  -- nothing was put, or a front of the text of an answer
+  abbrev IsFront : Files → Type 0
+  IsFront files = (now.told ≡ before.told) ⊎ ((answer : Answer) × answers_of acts files answer × AddsFront before.told now.told answer.text)
+
+  these : (files : Files) → CarriedThese (acts_by acts) files before now []
+  these files = (subst (λ l. Adds before.log l []) (sym log) (nothing_carried before.log), tt, λ faithful k entry none. absurd (omega arith))
+
+  as_meant : Tells before.kept IsMeant → Tells before.kept (EndsAsMeant (acts_by acts) before now exit)
+  as_meant told = tells before.kept _ _ (λ files meant. ([], these files, refl, meant.0, meant.1, meant.2, meant.3)) told
+
+  puts_front : Tells before.kept IsFront → Tells before.kept (PutsFront (acts_by acts) before now)
+  puts_front told = tells before.kept _ _ (λ files front. ([], these files, front)) told
+
+  complete_by : IsReadExit exit → (exit ≡ 3 → Rose before.store_faults now.store_faults) → (exit ≡ 4 → Rose before.sink_faults now.sink_faults)
+      → (IsVerdict exit → Tells before.kept (EndsAsMeant (acts_by acts) before now exit))
+      → (Rose before.store_faults now.store_faults → ⊥) → (Rose before.sink_faults now.sink_faults → ⊥)
+      → (exit ≡ 5) ⊎ (IsVerdict exit × Tells before.kept (EndsAsMeant (acts_by acts) before now exit))
+  complete_by (inl verdict) store sink meant no_store no_sink = inr (verdict, meant verdict)
+  complete_by (inr (inl three)) store sink meant no_store no_sink = absurd (no_store (store three))
+  complete_by (inr (inr (inl four))) store sink meant no_store no_sink = absurd (no_sink (sink four))
+  complete_by (inr (inr (inr five))) store sink meant no_store no_sink = inl five
+
+  ended : (exits : IsReadExit exit)
+      → (store_fault : exit ≡ 3 → Rose before.store_faults now.store_faults)
+      → (store_good : exit ≢ 3 → now.store_faults ≡ before.store_faults)
+      → (sink_fault : exit ≡ 4 → Rose before.sink_faults now.sink_faults)
+      → (sink_good : exit ≢ 4 → now.sink_faults ≡ before.sink_faults)
+      → (wrote : IsVerdict exit ⊎ ((exit ≡ 4) ⊎ (exit ≡ 6)) → WroteAll (writes_of acts) before.kept now.kept)
+      → (wrote_some : exit ≡ 5 → WroteSome (writes_of acts) before.kept now.kept)
+      → (write_failed : exit ≡ 3 → FailedAt (writes_of acts) before.kept now.kept)
+      → (answered : IsVerdict exit → Tells before.kept IsMeant)
+      → (silent : exit ≡ 3 → now.told ≡ before.told)
+      → (front : (exit ≡ 4) ⊎ (exit ≡ 5) → Tells before.kept IsFront)
+      → Ended (acts_by acts) before now exit
+  ended exits store_fault store_good sink_fault sink_good wrote wrote_some write_failed answered silent front = record {
+    exits = widened exit exits;
+    store_fault = store_fault;
+    store_good = store_good;
+    sink_fault = sink_fault;
+    sink_good = sink_good;
+    link_fault = λ six. absurd (not_six exit exits six);
+    link_good = λ other. link;
+    link_nature = nature;
+    wrote = wrote;
+    wrote_some = wrote_some;
+    write_failed = write_failed;
+    carries_nothing = λ why. log;
+    answer = λ verdict. as_meant (answered verdict);
+    silent = silent;
+    front = λ ends. puts_front (front ends);
+    stopped = λ six. absurd (not_six exit exits six);
+    complete = λ no_store no_sink no_link. complete_by exits store_fault sink_fault (λ verdict. as_meant (answered verdict)) no_store no_sink;
+  }
+
+no_write_exit : (exit : ℕ) → 2 ≤ exit → exit ≤ 3 → IsVerdict exit ⊎ ((exit ≡ 4) ⊎ (exit ≡ 6)) → ⊥
+no_write_exit exit low high (inl verdict) = not_verdict exit (omega arith) (omega arith) verdict
+no_write_exit exit low high (inr (inl four)) = omega arith
+no_write_exit exit low high (inr (inr six)) = omega arith
+
+no_write_five : (exit : ℕ) → exit ≡ 5 → IsVerdict exit ⊎ ((exit ≡ 4) ⊎ (exit ≡ 6)) → ⊥
+no_write_five exit five (inl verdict) = not_verdict exit (omega arith) (omega arith) verdict
+no_write_five exit five (inr (inl four)) = omega arith
+no_write_five exit five (inr (inr six)) = omega arith
+
+module _ (acts : Files → Acts) (before now : Seen)
+    (log : now.log ≡ before.log) (link : now.link_faults ≡ before.link_faults) (nature : now.is_faithful ≡ before.is_faithful) where
+  -- a call of the store that failed
+  ended_by_store : FailedAt (writes_of acts) before.kept now.kept → Rose before.store_faults now.store_faults → now.told ≡ before.told
+      → now.sink_faults ≡ before.sink_faults → Ended (acts_by acts) before now 3
+  ended_by_store failed rose told sink =
+      ended acts before now 3 log link nature (inr (inl refl)) (λ three. rose) (λ other. absurd (other refl)) (λ four. absurd (omega arith)) (λ other. sink)
+      (λ why. absurd (no_write_exit 3 (omega arith) (omega arith) why)) (λ five. absurd (omega arith)) (λ three. failed)
+      (λ verdict. absurd (not_verdict 3 (omega arith) (omega arith) verdict)) (λ three. told) (λ ends. absurd (not_both 3 refl ends))
+
+  -- want of memory before anything was put
+  ended_by_memory : WroteSome (writes_of acts) before.kept now.kept → now.store_faults ≡ before.store_faults → now.told ≡ before.told
+      → now.sink_faults ≡ before.sink_faults → Ended (acts_by acts) before now 5
+  ended_by_memory some store told sink =
+      ended acts before now 5 log link nature (inr (inr (inr refl))) (λ three. absurd (omega arith)) (λ other. store) (λ four. absurd (omega arith)) (λ other. sink)
+      (λ why. absurd (no_write_five 5 refl why)) (λ five. some) (λ three. absurd (omega arith))
+      (λ verdict. absurd (not_verdict 5 (omega arith) (omega arith) verdict)) (λ three. absurd (omega arith))
+      (λ ends. told_always before.kept (λ files. inl told))
+
+  -- an answer that was printed
+  ended_by_print : (a : Answer) (exit : ℕ) → Acted acts before.kept now.kept a → now.store_faults ≡ before.store_faults
+      → Prints a before.told now.told before.sink_faults now.sink_faults exit → Ended (acts_by acts) before now exit
+  ended_by_print a exit acted store prints =
+      let all = all_acted acts before.kept now.kept a acted in
+      let is = answers_acted acts before.kept now.kept a acted in
+      ended acts before now exit log link nature (exits_of a exit prints.exits) (λ three. absurd (not_three a exit prints.exits three)) (λ other. store) prints.fault prints.good
+      (λ why. all) (λ five. some_of_all acts before.kept now.kept all) (λ three. absurd (not_three a exit prints.exits three))
+      (λ verdict. let e = verdict_is a exit prints.exits verdict in tells before.kept _ _ (λ files meant. (a, meant, e, prints.whole e)) is)
+      (λ three. absurd (not_three a exit prints.exits three))
+      (λ ends. tells before.kept _ _ (λ files meant. inr (a, meant, prints.front)) is)
+
+  -- what was answered, by what was left of the store
+  pub ended_wrote : (exit : ℕ) (answered : Result (Result Printed Early) StoreFault) → StoreCause before.store_faults now.store_faults answered
+      → ActsAs acts before.kept now.kept answered
+      → EndsRead answered before.told now.told before.sink_faults now.sink_faults exit → Ended (acts_by acts) before now exit
+  ended_wrote exit (Ok (Ok p)) cause acted ends = ended_by_print (printed p) exit acted cause ends
+  ended_wrote exit (Ok (Err (Answered p))) cause acted ends = ended_by_print (printed p) exit acted cause ends
+  ended_wrote exit (Ok (Err OutOfMemory)) cause some ends = subst (Ended (acts_by acts) before now) (sym ends.exits) (ended_by_memory some cause ends.silent ends.good)
+  ended_wrote exit (Err Failed) cause failed ends = subst (Ended (acts_by acts) before now) (sym ends.exits) (ended_by_store failed cause ends.silent ends.good)
+  ended_wrote exit (Err StoreMemory) cause some ends = subst (Ended (acts_by acts) before now) (sym ends.exits) (ended_by_memory some cause ends.silent ends.good)
+
+-- nothing was written yet
+none_yet : (acts : Files → Acts) (before now : Option Files) → now ≡ before → WroteSome (writes_of acts) before now
+none_yet acts None now same = same
+none_yet acts (Some files) now same = inl same
+
+-- a call of the store failed before any write
+pub fails_unwritten : (acts : Files → Acts) (before now : Option Files) (e : StoreFault) → now ≡ before → ActsAs acts before now (Err e)
+fails_unwritten acts before now Failed same = failed_of_some acts before now (none_yet acts before now same)
+fails_unwritten acts before now StoreMemory same = none_yet acts before now same
+
+-- an answer with nothing written
+acted_unwritten : (acts : Files → Acts) (before now : Option Files) (a : Answer) → now ≡ before → Tells before (λ files. acts files [] a) → Acted acts before now a
+acted_unwritten acts None now a same is = same
+acted_unwritten acts (Some files) now a same is = ([], is, same)
+
+-- an end before any write, with an answer that may be given so
+abbrev pub MayEnd : (Files → Acts) → Option Files → Early → Type 0
+MayEnd acts before (Answered p) = Tells before (λ files. acts files [] (printed p))
+MayEnd acts before OutOfMemory = Unit {0}
+
+pub ends_unwritten : (acts : Files → Acts) (before now : Option Files) (early : Early) → now ≡ before → MayEnd acts before early → ActsAs acts before now (Ok (Err early))
+ends_unwritten acts before now (Answered p) same may = acted_unwritten acts before now (printed p) same may
+ends_unwritten acts before now OutOfMemory same may = none_yet acts before now same
+
+-- what implies it
+module _ (less more : Files → Acts) (files : Files) (wider : (made : List Write) (a : Answer) → less files made a → more files made a) where
+  some_more : (now : Option Files) → WroteSome (writes_of less) (Some files) now → WroteSome (writes_of more) (Some files) now
+  some_more now (inl same) = inl same
+  some_more now (inr (made, rest, (a, is), e)) = inr (made, rest, (a, wider _ a is), e)
+
+  failed_more : (now : Option Files) → FailedAt (writes_of less) (Some files) now → FailedAt (writes_of more) (Some files) now
+  failed_more now (inl some) = inl (some_more now some)
+  failed_more now (inr (made, rest, w, (a, is), changes)) = inr (made, rest, w, (a, wider _ a is), changes)
+
+  told_more : (now : Option Files) (answered : Result (Result Printed Early) StoreFault) → ActsAs less (Some files) now answered → ActsAs more (Some files) now answered
+  told_more now (Ok (Ok p)) (made, is, e) = (made, wider _ _ is, e)
+  told_more now (Ok (Err (Answered p))) (made, is, e) = (made, wider _ _ is, e)
+  told_more now (Ok (Err OutOfMemory)) some = some_more now some
+  told_more now (Err Failed) failed = failed_more now failed
+  told_more now (Err StoreMemory) some = some_more now some
+
+same_untold : (less more : Files → Acts) (now : Option Files) (answered : Result (Result Printed Early) StoreFault) → ActsAs less None now answered → ActsAs more None now answered
+same_untold less more now (Ok (Ok p)) h = h
+same_untold less more now (Ok (Err (Answered p))) h = h
+same_untold less more now (Ok (Err OutOfMemory)) h = h
+same_untold less more now (Err Failed) h = h
+same_untold less more now (Err StoreMemory) h = h
+
+pub acts_more : (less more : Files → Acts) (before now : Option Files) (answered : Result (Result Printed Early) StoreFault)
+    → Tells before (λ files. (made : List Write) (a : Answer) → less files made a → more files made a) → ActsAs less before now answered → ActsAs more before now answered
+acts_more less more None now answered wider h = same_untold less more now answered h
+acts_more less more (Some files) now answered wider h = told_more less more files wider now answered h

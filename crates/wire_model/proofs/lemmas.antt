@@ -1,0 +1,7 @@
+-- Laws of this crate's definitions that crates above cite.
+pub mod Nodes
+pub mod Reading
+pub mod Sound
+pub mod calls
+pub mod received
+pub mod spelled

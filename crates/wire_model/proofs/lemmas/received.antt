@@ -1,0 +1,2 @@
+-- What a stub and a client make of any bytes: `law_stub` and `law_client`.
+pub mod Steps
