@@ -13,18 +13,23 @@ say() {
     echo "aidl: $*" >&2
 }
 
-# Proves the crates that the program stands on, builds it and runs it once. It refuses to be run without words.
+# Proves the crates that the program stands on, as many at a time as there are processors, and names each.
+prove() {
+    (cd "$top/crates/aidl" && rt all check --jobs "$(nproc)" </dev/null 2>&1) | sed -un '/^== /{s///;h};/^logic=proved/{g;s/^/aidl: proved /p}' >&2
+}
+
+# Builds the program of what is proved, and runs it once: it refuses to be run without words. What isn't proved is shown here.
 build() {
-    (cd "$top/crates/aidl" && rt run 2>&1 >"$log.answer" </dev/null) | tee "$log" | sed -un 's/^crate \([a-z_]*\): .*/aidl: proved \1/p' >&2
-    [ "$(cat "$log.answer")" = "refused words" ] && touch "$program"
+    answer=$(cd "$top/crates/aidl" && rt run </dev/null 2>"$1")
+    [ "$answer" = "refused words" ] && touch "$program"
 }
 
 if ! is_current; then
     command -v rt >/dev/null || { say "there is no rt: README.md says where it comes from"; exit 9; }
     say "building first, crate by crate; README.md says how long that takes"
+    prove
     log=$(mktemp) || exit 9
-    trap 'rm -f "$log" "$log.answer"' EXIT
-    build || { cat "$log" >&2; exit 9; }
-    rm -f "$log" "$log.answer"
+    build "$log" || { cat "$log" >&2; rm -f "$log"; exit 9; }
+    rm -f "$log"
 fi
 exec "$program" "$@"
