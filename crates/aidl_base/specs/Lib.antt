@@ -9,4 +9,5 @@ pub mod Spellings
 pub mod Words
 pub mod Reserved
 pub mod Identifiers
+pub mod Kept
 pub mod steps

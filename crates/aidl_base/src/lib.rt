@@ -4,6 +4,7 @@
 mod breach;
 mod constant;
 mod identifiers;
+mod kept;
 mod limit;
 mod memory;
 mod name;

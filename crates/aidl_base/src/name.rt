@@ -19,7 +19,7 @@ pub fn joined_by_dots(alloc: Global, parts: &[Ident]) -> Result<Text, OutOfMemor
     ensures { IfOk result (λ text. text ≡ dotted parts.now) }
 {
     match parts {
-        [] => Ok(Text::empty(alloc)),
+        [] => Ok(Text::empty()),
         [first, others @ ..] => joined(alloc, first, others),
     }
 }

@@ -2,22 +2,26 @@ ghost use Rattle.std.specs.Prelude.{◌≡◌, string_bytes, IfOk, true, []};
 ghost use Rattle.std.specs.Str.{chars, all_scalars, encode_utf8_all};
 
 use crate::OutOfMemory;
+use crate::kept::Kept;
+use arrayvec::ArrayString;
 use std::alloc::Global;
+use std::fmt;
 use std::marker::Model;
 
-/// A text, which contracts see as the list of its Unicode scalars.
-#[derive(Debug, Drop)]
+/// A text, which contracts see as the list of its Unicode scalars. One of at most 16 bytes in UTF-8 takes no memory of its own.
+#[derive(Drop)]
 pub struct Text {
-    text: String,
+    kept: Kept,
 }
 
 impl Model for Text {
-    ghost use Rattle.std.specs.Prelude.{List, ℕ, string_bytes};
+    ghost use Rattle.std.specs.Prelude.{List, ℕ};
     ghost use Rattle.std.specs.Str.{chars};
+    ghost use Rattle.aidl_base.specs.Kept.{bytes_of};
 
     ghost Value = { List ℕ };
 
-    ghost view = { λ it. chars (string_bytes it.text) };
+    ghost view = { λ it. chars (bytes_of it.kept) };
 }
 
 impl Text {
@@ -25,7 +29,17 @@ impl Text {
     pub fn from_string(text: String) -> Text
         ensures { result ≡ chars (string_bytes text) }
     {
-        Text { text }
+        Text {
+            kept: Kept::Long(text),
+        }
+    }
+
+    /// The text that is read. It takes no memory where it has at most 16 bytes.
+    pub fn from_str(alloc: Global, text: &str) -> Result<Text, OutOfMemory>
+        ensures { IfOk result (λ made. made ≡ chars text.now) }
+    {
+        let kept = Kept::from_str(alloc, text)?;
+        Ok(Text { kept })
     }
 
     /// The text in UTF-8. It takes no memory.
@@ -34,30 +48,29 @@ impl Text {
         ensures scalars { all_scalars self.now ≡ true }
         ensures bytes { result.now ≡ encode_utf8_all self.now }
     {
-        self.text.as_str()
-    }
-
-    /// The string of a text, in UTF-8. It takes no memory.
-    pub fn into_string(self) -> String
-        ensures { string_bytes result ≡ encode_utf8_all self }
-    {
-        self.text
+        self.kept.as_str()
     }
 
     /// The empty text. It takes no memory.
-    pub fn empty(alloc: Global) -> Text
+    pub fn empty() -> Text
         ensures { result ≡ [] }
     {
         Text {
-            text: String::new(alloc),
+            kept: Kept::Short(ArrayString::new()),
         }
     }
 
-    /// The same text.
+    /// The same text. It takes no memory where it has at most 16 bytes.
     pub fn try_clone(&self, alloc: Global) -> Result<Text, OutOfMemory>
         ensures { IfOk result (λ text. text ≡ self.now) }
     {
-        let text = String::from_str(alloc, self.text.as_str())?;
-        Ok(Text { text })
+        let kept = self.kept.try_clone(alloc)?;
+        Ok(Text { kept })
+    }
+}
+
+impl fmt::Debug for Text {
+    fn fmt<W: fmt::Write>(&self, f: &mut fmt::Formatter<W>) -> fmt::Result {
+        fmt::Debug::fmt(&self.as_str(), f)
     }
 }

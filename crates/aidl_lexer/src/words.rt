@@ -43,5 +43,5 @@ pub fn text_of(alloc: Global, bytes: &[u8]) -> Result<Text, OutOfMemory>
     ensures { IfOk result (λ text. text ≡ bytes.now) }
 {
     let text = unsafe { std::str::from_utf8_unchecked(bytes) };
-    Ok(Text::from_string(String::from_str(alloc, text)?))
+    Text::from_str(alloc, text)
 }

@@ -82,7 +82,7 @@ fn default_of_form(
     match form {
         Form::Truth => Ok(Value::Truth(false)),
         Form::Byte | Form::Char | Form::Int | Form::Long => Ok(Value::Number(0)),
-        Form::Text => Ok(Value::Text(Text::empty(alloc))),
+        Form::Text => Ok(Value::Text(Text::empty())),
         Form::Parcelable(fields) => Ok(Value::Rec(initials(alloc, schema, fields, levels)?)),
         Form::Union([first, ..]) => {
             let value = initial(alloc, schema, first, levels)?;

@@ -64,8 +64,7 @@ pub fn unread_reply(
 fn unread_message(alloc: Global) -> Result<Text, OutOfMemory>
     ensures { IfOk result (λ text. text ≡ codes "unread argument bytes") }
 {
-    let text = String::from_str(alloc, "unread argument bytes")?;
-    Ok(Text::from_string(text))
+    Text::from_str(alloc, "unread argument bytes")
 }
 
 /// EX_BAD_PARCELABLE, the exception of a request with bytes left over.

@@ -105,8 +105,7 @@ fn not_scripted(alloc: Global) -> Result<Answer, OutOfMemory>
 fn not_scripted_message(alloc: Global) -> Result<Text, OutOfMemory>
     ensures { IfOk result (λ text. text ≡ codes "not scripted") }
 {
-    let text = String::from_str(alloc, "not scripted")?;
-    Ok(Text::from_string(text))
+    Text::from_str(alloc, "not scripted")
 }
 
 // The same answer.

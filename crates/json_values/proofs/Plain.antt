@@ -1,5 +1,5 @@
 -- Numbers that are read without a look at the schema.
-use Rattle.std.proofs.Common.{◌≡◌, ℤ, Bool, true, false, ◌&&◌, List, Option, Some, None, Ok, refl, ◌∙◌, arith}
+use Rattle.std.proofs.Common.{◌≡◌, ℕ, zero, suc, ℤ, ◌<◌, Bool, true, false, ◌&&◌, List, Option, Some, None, Ok, refl, sym, ap, ◌∙◌, arith}
 use Rattle.std.proofs.lemmas.Bool.{and_right}
 use Rattle.std.proofs.lemmas.Bool.Decides.{nat_tests}
 use Rattle.serde_json.specs.Data.{Num, unsigned, negative, float}
@@ -15,9 +15,12 @@ use Rattle.aidl_schema.specs.Types.{Form, form_of, is_one}
 use Rattle.aidl_schema.specs.Types as form
 use Rattle.aidl_values.specs.Data as value
 use Rattle.json_writing.specs.Named.{enumerators_of}
-use Rattle.json_faults.specs.Refusal.{Answer}
+use Rattle.aidl_values.specs.steps.Levels.{is_level_left}
+use Rattle.json_faults.specs.Refusal.{Answer, within}
 use Rattle.json_values.specs.FromJson.{whole_from, one_from, from_by}
+use Rattle.json_values.specs.steps.Levels.{part_from, default_of}
 use Rattle.json_values.specs.steps.Plain.{is_in_base, IsPlain}
+use Rattle.json_values.proofs.Parts.{from_json_of-by}
 
 -- what fits into 64 bits with a sign is the whole number
 whole : (x : Num) (n : ℤ) → as_i64 x ≡ Some n → as_integer x ≡ Some n
@@ -44,3 +47,9 @@ module _ (S : List Decl) (left : Bool) (default : Field → Answer value.Data) (
 
 pub plain : (t : AidlType) (x : Num) (n : ℤ) → is_one t.shape ≡ true → as_i64 x ≡ Some n → is_in_base t.base n ≡ true → IsPlain t (json.number x) n
 plain t x n is at lies S left default read = by_one S left default read t x n is at lies
+
+-- and so is a part, at whatever step
+pub plain_part : (step : List ℕ) (S : List Decl) (d : ℕ) (t : AidlType) (j : json.Data) (n : ℤ) → 0 < d → IsPlain t j n → within step (part_from S d t j) ≡ Ok (value.number n)
+plain_part step S zero t j n some is = absurd (omega (arith, some))
+plain_part step S (suc d) t j n some is =
+    ap (λ a. within step a) (sym (from_json_of-by S d t j) ∙ is S (is_level_left d) (λ f. default_of S d f) (λ u k. part_from S d u k))

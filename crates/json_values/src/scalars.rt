@@ -33,10 +33,7 @@ pub fn read_text(alloc: Global, json: &Json) -> Result<Value, Fault>
     ensures { Gives view result (answer.text_from (json_view json.now)) }
 {
     match json {
-        Json::String(text) => {
-            let text = String::from_str(alloc, text.as_str())?;
-            Ok(Value::Text(Text::from_string(text)))
-        }
+        Json::String(text) => Ok(Value::Text(Text::from_str(alloc, text.as_str())?)),
         _ => Err(refused(alloc, Reason::WrongShape)),
     }
 }

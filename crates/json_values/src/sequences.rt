@@ -9,6 +9,7 @@ ghost use Rattle.json_faults.specs.steps.Gives.{Gives};
 
 use crate::hints::Hints;
 use crate::reading::read_within;
+use crate::scalars::{number_value, plain_number};
 use aidl_base::Row;
 use aidl_schema::{AidlType, Schema};
 use aidl_values::Value;
@@ -57,6 +58,7 @@ fn read_elements<'a>(
     }
 }
 
+// Numbers, of which there may be many, are put where they are found.
 #[cycle(reading)]
 fn read_items<'a>(
     alloc: Global,
@@ -72,7 +74,10 @@ fn read_items<'a>(
 {
     let mut values = Vec::with_capacity(alloc, items.len())?;
     for (i, item) in items.iter().enumerate() {
-        values.push(read_item(alloc, schema, hints, ty, levels, i, item)?)?;
+        match plain_number(ty, item) {
+            Some(n) => values.push(number_value(n))?,
+            None => values.push(read_item(alloc, schema, hints, ty, levels, i, item)?)?,
+        }
     }
     Ok(Row::from_vec(values))
 }

@@ -192,10 +192,10 @@ fn file_of(alloc: Global, path: &str, bytes: &[u8]) -> Result<SourceFile, OutOfM
     ensures path { IfOk result (λ file. path_of file ≡ path.now) }
     ensures bytes { IfOk result (λ file. file.bytes ≡ bytes.now) }
 {
-    let text = String::from_str(alloc, path)?;
+    let path = Text::from_str(alloc, path)?;
     let bytes = Vec::from_slice(alloc, bytes)?;
     Ok(SourceFile {
-        path: Text::from_string(text),
+        path,
         bytes: Row::from_vec(bytes),
     })
 }

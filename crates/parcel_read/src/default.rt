@@ -50,7 +50,7 @@ fn default_of_item(
         Some(PlanItem::Word { kind }) => Ok(word_default(kind)),
         Some(PlanItem::Long) => Ok(Value::Number(0)),
         Some(PlanItem::Text { nullable: true }) => Ok(Value::Null),
-        Some(PlanItem::Text { nullable: false }) => Ok(Value::Text(Text::empty(alloc))),
+        Some(PlanItem::Text { nullable: false }) => Ok(Value::Text(Text::empty())),
         Some(PlanItem::Raw { nullable }) => Ok(no_elements(alloc, nullable)),
         Some(PlanItem::Seq { nullable, .. }) => Ok(no_elements(alloc, nullable)),
         Some(PlanItem::Rec { nullable: true, .. }) => Ok(Value::Null),

@@ -9,7 +9,7 @@ fn record(alloc: Global, number: u32, count: usize) -> Result<Decl, OutOfMemory>
     let mut fields = Row::new(alloc);
     for _ in 0..count {
         fields.push(Field {
-            name: Ident(Text::empty(alloc)),
+            name: Ident(Text::empty()),
             ty: AidlType {
                 base: Base::Named(number),
                 shape: Shape::One,

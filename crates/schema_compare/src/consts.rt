@@ -43,12 +43,12 @@ fn same_consts(a: &[Const], b: &[Const]) -> bool
 }
 
 // What a base has as its default; a parcelable or a union has no constant.
-fn zero_of(alloc: Global, form: &Form<'_>) -> Option<Const>
+fn zero_of(form: &Form<'_>) -> Option<Const>
     ensures { result ≡ broken.zero_of (seen form.now) }
 {
     match form {
         Form::Truth => Some(Const::Truth(false)),
-        Form::Text => Some(Const::Text(Text::empty(alloc))),
+        Form::Text => Some(Const::Text(Text::empty())),
         Form::Byte | Form::Char | Form::Int | Form::Long => Some(Const::Number(0)),
         _ => None,
     }
@@ -62,7 +62,7 @@ fn zero_in(alloc: Global, schema: &Schema, ty: AidlType) -> Option<Const>
         return None;
     }
     match ty.shape {
-        Shape::One => zero_of(alloc, &form_in(schema, ty.base)),
+        Shape::One => zero_of(&form_in(schema, ty.base)),
         _ => Some(Const::Members(Row::new(alloc))),
     }
 }

@@ -20,7 +20,8 @@ pub fn sorted<'a, 'b>(
 {
     let mut places = BTreeMap::new(alloc);
     for (i, f) in found.iter().enumerate() {
-        let text = joined_by_dots(alloc, f.name.0.as_slice())?.into_string();
+        let name = joined_by_dots(alloc, f.name.0.as_slice())?;
+        let text = String::from_str(alloc, name.as_str())?;
         let placed = Placed {
             number: i as u32,
             found: f,

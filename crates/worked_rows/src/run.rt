@@ -239,7 +239,7 @@ fn rows_of(alloc: Global, files: &[File]) -> Result<Row<SourceFile>, OutOfMemory
     let mut rows = Row::new(alloc);
     for file in files {
         rows.push(SourceFile {
-            path: Text::from_string(String::from_str(alloc, file.path.as_str())?),
+            path: Text::from_str(alloc, file.path.as_str())?,
             bytes: Row::from_vec(Vec::from_slice(alloc, file.bytes.as_slice())?),
         })?;
     }

@@ -24,7 +24,7 @@ fn files_of(alloc: Global, sources: &str) -> Result<Vec<SourceFile>, OutOfMemory
     for source in sources.split(" || ") {
         let (path, text) = source.split_once(": ").unwrap_or((source, ""));
         files.push(SourceFile {
-            path: Text::from_string(String::from_str(alloc, path)?),
+            path: Text::from_str(alloc, path)?,
             bytes: Row::from_vec(plain(alloc, text)?),
         })?;
     }

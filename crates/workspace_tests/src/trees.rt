@@ -23,7 +23,7 @@ fn a_tree_has_the_sources_below_its_root(rt: HostRuntime) -> Result<(), Fail> {
     let tree = tree_text(alloc, "t", &mut store)?;
     assert_eq!(rt;
         tree.as_str(),
-        "Ok(Row { items: [SourceFile { path: Text { text: \"a.aidl\" }, bytes: Row { items: [50, 51] } }, SourceFile { path: Text { text: \"a/B.aidl\" }, bytes: Row { items: [49] } }] })"
+        "Ok(Row { items: [SourceFile { path: \"a.aidl\", bytes: Row { items: [50, 51] } }, SourceFile { path: \"a/B.aidl\", bytes: Row { items: [49] } }] })"
     );
     let missing = tree_text(alloc, "missing", &mut store)?;
     assert_eq!(rt; missing.as_str(), "Ok(Row { items: [] })");

@@ -30,7 +30,7 @@ fn one(base: Base) -> AidlType
 fn text(alloc: Global, letters: &str) -> Result<Text, OutOfMemory>
     ensures { IfOk result (λ text. text ≡ chars letters.now) }
 {
-    Ok(Text::from_string(String::from_str(alloc, letters)?))
+    Text::from_str(alloc, letters)
 }
 
 // parcelable P { int a; String s = "x"; }

@@ -1,5 +1,5 @@
 use Rattle.std.proofs.Common.{◌≡◌, to_z, of_z, length, zero-add, false, inl, inr, refl, Ok, ◌++◌, ◌∷◌, [], map, sym, subst, ap, ◌∙◌, arith, rules}
-use Rattle.std.specs.Prelude.{IfSome}
+use Rattle.std.specs.Prelude.{IfSome, decimal}
 use Rattle.std.specs.Int.{w64}
 use Rattle.std.proofs.lemmas.Grind.{common_steps}
 use Rattle.std.proofs.lemmas.Option.{slice_get_read}
@@ -12,6 +12,7 @@ use Rattle.aidl_values.specs.View.{view, views}
 use Rattle.json_values.specs.FromJson.{elements_from, sequence_from}
 use Rattle.json_values.proofs.Parts.{from_json_of-by, from_by-sequence, sequence_from-some, items_more, items_done, fields_more, fields_done}
 use Rattle.json_writing.proofs.lemmas.Whole.{few_fields}
+use Rattle.json_values.proofs.Plain.{plain_part}
 use Rattle.json_values.proofs.Names.{name_of_field, fields_apart, alternative_at}
 use Rattle.aidl_schema.specs.declared.schema.AidlType.{AidlType}
 use Rattle.aidl_values.specs.Data.{Data, number}
@@ -36,10 +37,21 @@ reading::read_within-returns-in-Some t c =
 pub reading::read_within-returns-in-None : goal.reading::read_within-returns-in-None
 reading::read_within-returns-in-None t c = subst (Gives view c.read.result) (from_json_of-by c.args.schema.now.decls c.args.levels c.args.ty _) c.read.ensures
 
-pub sequences::read_items-loop-i-preserved : goal.sequences::read_items-loop-i-preserved
-sequences::read_items-loop-i-preserved t c =
+pub sequences::read_items-loop-i-preserved-in-Some : goal.sequences::read_items-loop-i-preserved-in-Some
+sequences::read_items-loop-i-preserved-in-Some t c =
+    let S = c.args.schema.now.decls in
+    let d = c.args.levels in
     let ds = map view c.loop-i.values.items in
-    let more : map view c.push.new.self.items ≡ ds ++ view c.in_ok-read_item.field-0 ∷ [] = grind (arith, common_steps) in
+    let item = c.index-items-i.result in
+    let is : IsPlain c.args.ty (json_view item) c.in-Some.n = subst (λ o. IfSome o (λ n. IsPlain c.args.ty (json_view item) n)) c.in-Some.is c.plain_number.ensures in
+    let read = plain_part (decimal c.loop-i.i) S d c.args.ty (json_view item) c.in-Some.n c.requires.0 is in
+    let more : map view c.push.new.self.items ≡ ds ++ number c.in-Some.n ∷ [] = grind (arith, common_steps) in
+    rw more (sym (items_more (λ j. part_from S d c.args.ty j) c.args.items.now c.loop-i.i item ds (number c.in-Some.n) (omega arith) (search rules) read) ∙ c.loop-i.invariant)
+
+pub sequences::read_items-loop-i-preserved-in-None : goal.sequences::read_items-loop-i-preserved-in-None
+sequences::read_items-loop-i-preserved-in-None t c =
+    let ds = map view c.loop-i.values.items in
+    let more : map view c.push-1.new.self.items ≡ ds ++ view c.in_ok-read_item.field-0 ∷ [] = grind (arith, common_steps) in
     rw more (sym (items_more (λ j. part_from c.args.schema.now.decls c.args.levels c.args.ty j) c.args.items.now c.loop-i.i c.index-items-i.result ds (view c.in_ok-read_item.field-0) (omega arith) (search rules) c.in_ok-read_item.ensures) ∙ c.loop-i.invariant)
 
 pub sequences::read_items-returns : goal.sequences::read_items-returns

@@ -10,7 +10,7 @@ use Rattle.tree_schema.proofs.order.sorted.Goals as goal
 pub loop-i-preserved : goal.loop-i-preserved
 loop-i-preserved c =
     let w =
-    went (λ t. string_bytes t) numbered_of key _ (λ a b. refl) c.into_string-text.result _ (c.into_string-text.ensures ∙ ap encode_utf8_all (c.in_ok-joined_by_dots.ensures ∙ ap dotted c.as_slice.ensures)) c.loop-i.places.entries c.insert.new.self.entries
+    went (λ t. string_bytes t) numbered_of key _ (λ a b. refl) c.in_ok-text.text _ (c.in_ok-text.ensures.ok ∙ c.as_str.ensures.bytes ∙ ap encode_utf8_all (c.in_ok-name.ensures ∙ ap dotted c.as_slice.ensures)) c.loop-i.places.entries c.insert.new.self.entries
     c.in_ok-insert.ensures.entries c.loop-i.invariant.0 in (
       w.0,
       next_in (map (λ e. numbered_of e.1) c.loop-i.places.entries) (map (λ e. numbered_of e.1) c.insert.new.self.entries) _ c.args.found.now c.index-found-i.result c.loop-i.i _
