@@ -3,7 +3,6 @@ mod Examples
 mod ExamplesValid
 mod Follow
 mod Halving
-mod Lookups
 mod SameConst
 mod Shapes
 mod Unbroken

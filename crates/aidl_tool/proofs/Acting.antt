@@ -38,7 +38,7 @@ use Rattle.tool_frame.specs.Ended.{FailedAt, WroteSome}
 use Rattle.tool_frame.specs.steps.Acts.{Acted, ActsAs}
 use Rattle.tool_frame.specs.steps.Results.{Gives, printed}
 use Rattle.tool_frame.specs.Trees.{tree_at}
-use Rattle.tool_frame.proofs.lemmas.Loaded.{tells}
+use Rattle.aidl_outside.proofs.lemmas.Telling.{tells}
 use Rattle.tool_frame.proofs.lemmas.Writings.{acts_more, ends_unwritten}
 use Rattle.version_answers.specs.Ends.{EndsBy, EndsIn}
 use Rattle.version_answers.specs.Rehashed.{IsUnhashed, Rehashes, rehashed}

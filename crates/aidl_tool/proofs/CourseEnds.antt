@@ -15,7 +15,7 @@ use Rattle.tool_frame.specs.Ended.{Ended}
 use Rattle.tool_frame.specs.Meaning.{carries_by}
 use Rattle.tool_frame.specs.Seen.{Seen}
 use Rattle.tool_frame.proofs.lemmas.Courses.{ended_carried, ended_early, with_store}
-use Rattle.tool_frame.proofs.lemmas.Loaded.{tells}
+use Rattle.aidl_outside.proofs.lemmas.Telling.{tells}
 
 -- what is seen without the store
 abbrev pub alone : Seen → Seen

@@ -11,7 +11,7 @@ use Rattle.tool_frame.specs.declared.printed.Early.{Early}
 use Rattle.tool_frame.specs.declared.printed.Early.TheVariants.{Answered, OutOfMemory}
 use Rattle.tool_frame.specs.Answer.{Found}
 use Rattle.tool_frame.specs.steps.Results.{Finds}
-use Rattle.tool_frame.proofs.lemmas.Loaded.{tells, tells_both}
+use Rattle.aidl_outside.proofs.lemmas.Telling.{tells, tells_both}
 
 -- A step that ended early is the refusal of all.
 early_then : {T A : Type 0} (view : T → A) (early : Early) (found : Found A) (next : A → Found HeldFiles) → Finds view (Err early) found → Finds loaded_seen (Err early) (found >>= next)

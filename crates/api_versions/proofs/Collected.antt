@@ -14,7 +14,7 @@ use Rattle.aidl_outside.specs.Told.{Tells}
 use Rattle.api_versions.specs.declared.fault.FreezeFault.{FreezeFault}
 use Rattle.api_versions.specs.Versions.{file_at, path_below, source, sources_at}
 use Rattle.api_versions.specs.steps.Onto.{onto}
-use Rattle.api_versions.proofs.Loaded.{tells, tells_both}
+use Rattle.aidl_outside.proofs.lemmas.Telling.{tells, tells_both}
 
 -- the first were added, and the others are still to come
 pub onto_first : {A : Type 0} (before now first : List A) (others : Result (List A) FreezeFault) → now ≡ before ++ first

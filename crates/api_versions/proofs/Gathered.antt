@@ -19,7 +19,7 @@ use Rattle.api_versions.specs.Versions.{AreNumbered, are_ascending, complete, pa
 use Rattle.api_versions.specs.steps.Onto.{onto}
 use Rattle.api_versions.specs.steps.Seen.{folder_seen}
 use Rattle.api_versions.proofs.Collected.{onto_first, onto_none}
-use Rattle.api_versions.proofs.Loaded.{tells, tells_both}
+use Rattle.aidl_outside.proofs.lemmas.Telling.{tells, tells_both}
 
 module _ (api : List ℕ) where
   first_version : (files : Files) (f : Folder) (left : List Folder) (before now : List Version) (v : Version) → now ≡ before ++ v ∷ []

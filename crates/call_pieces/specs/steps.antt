@@ -1,4 +1,4 @@
--- What the code's steps need, for its inner contracts: no public contract of a layer above cites it.
+-- What the code's steps need, for contracts between the crates that make requests and replies: no contract of the runner or of a command cites it.
 pub mod Arguments
 pub mod Fronts
 pub mod Names

@@ -17,7 +17,8 @@ use Rattle.call_runner.specs.Lines as lines
 use Rattle.call_runner.specs.Runs.{IsGotBy, IsTyped, line_data, methods_by}
 use Rattle.call_runner.specs.steps.Typed.{IsTypedLine, method_in}
 use Rattle.call_scripts.specs.Calls.{CallData, CallFits}
-use Rattle.call_scripts.proofs.lemmas.Methods.{found, position_within}
+use Rattle.aidl_base.proofs.lemmas.Lists.{position_within}
+use Rattle.call_scripts.proofs.lemmas.Methods.{found}
 use Rattle.wire_model.specs.Calls.{AnswerData, arguments, code_at, code_of, descriptor, is_oneway, is_oneway_of, method_at, name_of_decl}
 use Rattle.wire_model.specs.Outcome.{SameWays, declared_as}
 use Rattle.wire_model.specs.Receiver.{Received, left, called, received, or_status, stub, token_at, arguments_at, client}

@@ -17,7 +17,8 @@ use Rattle.wire_model.specs.Outcome.{declared_as, method_like}
 use Rattle.call_scripts.specs.Calls.{IsServer, method_of_server}
 use Rattle.call_scripts.specs.Names.{interface_named, method_named, position_named, target_named}
 use Rattle.call_scripts.specs.steps.Named.{IsWithin}
-use Rattle.call_scripts.proofs.lemmas.Methods.{found, number-named, position_within}
+use Rattle.aidl_base.proofs.lemmas.Lists.{position_within}
+use Rattle.call_scripts.proofs.lemmas.Methods.{found, number-named}
 
 same_from : {X : Type 0} (p q : X → Bool) → ((x : X) → p x ≡ q x) → (k : ℕ) (xs : List X) → position_from p k xs ≡ position_from q k xs
 same_from p q same k [] = refl

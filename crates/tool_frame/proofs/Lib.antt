@@ -1,2 +1,3 @@
+mod Loaded
 mod TreeFiles
 pub mod lemmas

@@ -13,7 +13,7 @@ use Rattle.tool_frame.specs.Answer.{Found}
 use Rattle.tool_frame.specs.Refusals.{file_at}
 use Rattle.tool_frame.specs.Trees.{TreeFile, file_seen, files_at, file_found, path_below}
 use Rattle.tool_frame.specs.steps.Trees.{onto, so_far}
-use Rattle.tool_frame.proofs.lemmas.Loaded.{tells, tells_both}
+use Rattle.aidl_outside.proofs.lemmas.Telling.{tells, tells_both}
 
 -- what is kept of a list, by what its items are seen as
 module _ {X Y : Type 0} (seen : X → Y) (test : Y → Bool) where

@@ -2,5 +2,4 @@
 pub mod Courses
 pub mod EarlyEnds
 pub mod Endings
-pub mod Loaded
 pub mod Writings

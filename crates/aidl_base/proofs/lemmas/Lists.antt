@@ -1,5 +1,6 @@
 -- Lists: fronts and rests, lists of bytes, and bytes that are all zero.
-use Rattle.std.proofs.Common.{◌≡◌, ℕ, zero, suc, ◌+◌, ◌<◌, List, [], ◌∷◌, ◌++◌, length, take, drop, get_or, refl, sym, ap, ◌∙◌, arith, add-one, true, false, replicate, eqb, length-append, true≢false}
+use Rattle.std.proofs.Common.{◌≡◌, ℕ, zero, suc, ◌+◌, ◌<◌, Bool, true, false, cond, List, [], ◌∷◌, ◌++◌, length, take, drop, get_or, Some, None, nat_lt, refl, sym, ap, ◌∙◌, arith, add-one, replicate, eqb, length-append, true≢false}
+use Rattle.std.specs.List.{position, position_or_len}
 use Rattle.std.proofs.Math.Seq.{take-append_seam, drop-append_seam}
 use Rattle.std.proofs.lemmas.List.{length-take-le, take-append-drop}
 use Rattle.std.proofs.lemmas.Bool.Decides.{nat_tests}
@@ -77,3 +78,11 @@ rest_is k m b len zeros =
     let whole : length (take k b) + length (drop k b) ≡ k + m = sym (length-append (take k b) (drop k b)) ∙ ap length (take-append-drop k b) ∙ len in
     let rest : length (drop k b) ≡ m = omega arith in
     all_zero_is (drop k b) zeros ∙ ap (λ n. replicate n 0) rest
+
+-- what is found stands within the list
+pub position_within : {X : Type 0} (p : X → Bool) (xs : List X) (i : ℕ) → position p xs ≡ Some i → i < length xs
+position_within p xs i e = by (nat_lt (position_or_len p xs) (length xs)) refl e
+  where
+    by : (b : Bool) → nat_lt (position_or_len p xs) (length xs) ≡ b → cond b (Some (position_or_len p xs)) None ≡ Some i → i < length xs
+    by true lt is = let same : position_or_len p xs ≡ i = cc in grind (arith, nat_tests)
+    by false lt is = cc

@@ -21,7 +21,7 @@ use Rattle.tool_frame.specs.Seen.{Seen}
 use Rattle.tool_frame.specs.Trees.{TreeFile, file_seen, tree_at}
 use Rattle.tool_frame.specs.Verdict.{IsVerdict, exit_of}
 use Rattle.tool_frame.specs.steps.Results.{Finds, GivesOne, printed}
-use Rattle.tool_frame.proofs.lemmas.Loaded.{tells, tells_both}
+use Rattle.aidl_outside.proofs.lemmas.Telling.{tells, tells_both}
 use Rattle.tree_answers.specs.Faults.{IsFaultAnswer}
 use Rattle.tool_words.specs.Command.{judge}
 use Rattle.tree_answers.specs.Judged.{IsJudgeAnswer, IsSecondAnswer, judged}

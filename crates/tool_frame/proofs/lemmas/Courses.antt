@@ -17,7 +17,7 @@ use Rattle.tool_frame.specs.Verdict.{exit_of, IsVerdict}
 use Rattle.tool_frame.specs.steps.Courses.{due_in, AreFaithful, CarriedBy, EndsCourse, PutsCourseFront, StopsCourse, RanCourse, ComesTo, Went}
 use Rattle.tool_frame.specs.steps.Prints.{Prints}
 use Rattle.tool_frame.proofs.lemmas.Endings.{Nothing, all_written, some_written, failed, not_verdict, nothing_carried, told_always, verdict_exit}
-use Rattle.tool_frame.proofs.lemmas.Loaded.{tells}
+use Rattle.aidl_outside.proofs.lemmas.Telling.{tells}
 
 -- the exits of a course
 abbrev IsCourseExit : ℕ → Type 0

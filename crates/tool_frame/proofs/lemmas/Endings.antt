@@ -21,7 +21,7 @@ use Rattle.tool_frame.specs.declared.printed.Printed.{Printed}
 use Rattle.tool_frame.specs.steps.Ends.{EndsRead}
 use Rattle.tool_frame.specs.steps.Prints.{Prints}
 use Rattle.tool_frame.specs.steps.Results.{Gives, GivesOne, printed}
-use Rattle.tool_frame.proofs.lemmas.Loaded.{tells}
+use Rattle.aidl_outside.proofs.lemmas.Telling.{tells}
 
 pub verdict_exit : (v : Verdict) → IsVerdict (exit_of v)
 verdict_exit Done = inl (omega arith)

@@ -21,7 +21,7 @@ use Rattle.tool_frame.specs.steps.Ends.{EndsRead}
 use Rattle.tool_frame.specs.steps.Prints.{Prints}
 use Rattle.tool_frame.specs.steps.Results.{printed}
 use Rattle.tool_frame.proofs.lemmas.Endings.{IsReadExit, exits_of, nothing_carried, not_both, not_six, not_three, not_verdict, told_always, verdict_is, widened}
-use Rattle.tool_frame.proofs.lemmas.Loaded.{tells}
+use Rattle.aidl_outside.proofs.lemmas.Telling.{tells}
 
 module _ (acts : Files → Acts) where
   -- all that was meant is some of it

@@ -1,6 +1,7 @@
 use Rattle.std.proofs.Common.{◌+◌, ◌≤◌, length, sym, subst, arith}
 use Rattle.std.specs.Prelude.{◌==◌}
-use Rattle.aidl_schema.proofs.Lookups.{position_within, few_methods}
+use Rattle.aidl_base.proofs.lemmas.Lists.{position_within}
+use Rattle.aidl_schema.proofs.lemmas.Counts.{few_methods}
 use Rattle.aidl_schema.proofs.finding.method_of_code.Goals as goal
 
 pub overflow_cast-result : goal.overflow_cast-result

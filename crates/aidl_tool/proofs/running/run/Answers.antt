@@ -7,7 +7,7 @@ use Rattle.aidl_tool.proofs.Kept.{run_headline, tells_any}
 use Rattle.aidl_tool.proofs.schemas.RunsOne.{kept_run, stopped}
 use Rattle.tool_frame.specs.Seen.{Seen, seen_by}
 use Rattle.tool_frame.specs.steps.Results.{Finds}
-use Rattle.tool_frame.proofs.lemmas.Loaded.{tells}
+use Rattle.aidl_outside.proofs.lemmas.Telling.{tells}
 use Rattle.tool_words.specs.Command.{run}
 use Rattle.aidl_tool.proofs.running.run.Goals as goal
 

@@ -2,7 +2,8 @@ use Rattle.std.proofs.Common.{◌∙◌, sym, subst}
 use Rattle.std.specs.FinMap.{get}
 use Rattle.aidl_outside.specs.Files.{IsRead}
 use Rattle.api_versions.specs.Versions.{file_at}
-use Rattle.api_versions.proofs.Loaded.{gives_same, tells, within_read}
+use Rattle.aidl_outside.proofs.lemmas.Telling.{tells}
+use Rattle.api_versions.proofs.Loaded.{gives_same, within_read}
 use Rattle.api_versions.proofs.load.load.Goals as goal
 
 pub returns-in-Ok-clause-told : goal.returns-in-Ok-clause-told

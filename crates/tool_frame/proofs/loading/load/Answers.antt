@@ -1,7 +1,8 @@
 use Rattle.std.proofs.Common.{◌∙◌, subst}
 use Rattle.std.specs.FinMap.{get}
 use Rattle.aidl_outside.specs.Files.{IsRead}
-use Rattle.tool_frame.proofs.lemmas.Loaded.{tells, within_read}
+use Rattle.aidl_outside.proofs.lemmas.Telling.{tells}
+use Rattle.tool_frame.proofs.Loaded.{within_read}
 use Rattle.tool_frame.proofs.loading.load.Goals as goal
 
 pub returns-in-Ok-clause-file : goal.returns-in-Ok-clause-file
