@@ -14,8 +14,6 @@ mod reach;
 mod reaching;
 mod sizes;
 mod small;
-#[cfg(test)]
-mod tests;
 
 pub use bound::{Bound, bounds};
 pub use laws::{law_reaches_cycle, law_within};

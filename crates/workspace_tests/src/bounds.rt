@@ -1,6 +1,8 @@
-use crate::bound::{Bound, bounds};
+//! The bounds of declarations that form chains as long as may be.
+
 use aidl_base::{DottedName, Ident, OutOfMemory, Row, Text};
 use aidl_schema::{AidlType, Base, Decl, Field, Kind, Shape};
+use schema_bounds::{Bound, bounds};
 use std::alloc::Global;
 use std::test::Fail;
 
