@@ -1,4 +1,2 @@
-mod Alike
 mod Examples
 mod Orders
-pub mod lemmas

@@ -5,7 +5,5 @@ pub mod Walks
 pub mod MemberViews
 pub mod Called
 pub mod TypeNames
-pub mod Marks
-pub mod Tables
 pub mod Numbered
 pub mod steps

@@ -1,3 +1,1 @@
 -- What the code looks up by, for inner contracts: no public contract above cites it.
-pub mod Ends
-pub mod Times

@@ -13,7 +13,7 @@ use Rattle.aidl_base.proofs.lemmas.Tests.{flipped}
 use Rattle.aidl_syntax.specs.Sources.{Source}
 use Rattle.aidl_syntax.specs.Members.{declared_name}
 use Rattle.aidl_syntax.specs.Walks.{places_of}
-use Rattle.aidl_names.specs.Rules.{breach}
+use Rattle.name_rules.specs.Rules.{breach}
 use Rattle.aidl_lexer.proofs.lemmas.meaning.OneLexing.{never_both}
 use Rattle.declared_names.specs.Declarations.{declarations}
 use Rattle.aidl_names.specs.Breaches.{in_order}

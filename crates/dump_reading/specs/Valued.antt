@@ -4,7 +4,7 @@ use Rattle.aidl_syntax.specs.Members.{members, body}
 use Rattle.aidl_syntax.specs.Sources.{Source}
 use Rattle.declared_names.specs.Declarations.{Entry}
 use Rattle.type_shapes.specs.Backing.{backing_of}
-use Rattle.tree_schema.specs.Parts.{constants_in}
+use Rattle.schema_parts.specs.Parts.{constants_in}
 use Rattle.tree_schema.specs.SchemaOf.{kind_of}
 use Rattle.schema_parts.specs.Values.{Outcomes}
 use Rattle.aidl_schema.specs.declared.schema.Decl.{Decl}

@@ -5,7 +5,7 @@ use Rattle.std.proofs.lemmas.Bool.Decides.{nat_tests}
 use Rattle.std.proofs.lemmas.List.{drop-map}
 use Rattle.std.proofs.lemmas.Option.{slice_get_within, get_or_from_slice_get}
 use Rattle.name_meanings.specs.steps.Behind.{earlier}
-use Rattle.declared_names.proofs.lemmas.Firsts.{found-first}
+use Rattle.name_marks.proofs.lemmas.Firsts.{found-first}
 
 -- a place is still ahead
 abbrev pub IsAhead : Option ℕ → ℕ → Type 0

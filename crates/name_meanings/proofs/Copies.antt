@@ -12,8 +12,8 @@ use Rattle.declared_names.specs.Declarations.{Entry}
 use Rattle.name_meanings.specs.Imports.{meant_through}
 use Rattle.name_meanings.specs.steps.Copies.{is_at, is_at_number}
 use Rattle.name_meanings.specs.Resolution.{number_of, first_declared, or_else}
-use Rattle.declared_names.proofs.lemmas.SameNames.{same-right, same-turned, same-self}
-use Rattle.declared_names.proofs.lemmas.Firsts.{position-same}
+use Rattle.name_marks.proofs.lemmas.SameNames.{same-right, same-turned, same-self}
+use Rattle.name_marks.proofs.lemmas.Firsts.{position-same}
 use Rattle.name_meanings.proofs.Through.{searched, through, through_all}
 
 -- a place of what f makes of a list is one of the list

@@ -7,19 +7,19 @@ use Rattle.std.proofs.lemmas.Option.{slice_get_within, get_or_from_slice_get}
 use Rattle.std.proofs.lemmas.Slice.Eq.{bytes_eq-Decides}
 use Rattle.aidl_base.specs.declared.name.Ident.{Ident}
 use Rattle.aidl_syntax.specs.declared.tree.DottedTree.{DottedTree}
-use Rattle.declared_names.specs.declared.ends.End.{End}
+use Rattle.name_marks.specs.declared.ends.End.{End}
 use Rattle.name_meanings.specs.declared.meaning.Resolved.{Resolved}
 use Rattle.name_meanings.specs.declared.meaning.Resolved.TheVariants.{Declared}
 use Rattle.declared_names.specs.Names.{text, same, last}
-use Rattle.declared_names.specs.Marks.{with_byte, mark_of}
+use Rattle.name_marks.specs.Marks.{with_byte, mark_of}
 use Rattle.declared_names.specs.Declarations.{Entry}
 use Rattle.name_meanings.specs.Resolution.{number_of, first_declared, imported, or_else}
 use Rattle.declared_names.specs.Numbered.{in_each}
-use Rattle.declared_names.specs.steps.Ends.{mark_back, ends_in, ends_of, mark_of_import}
+use Rattle.name_marks.specs.steps.Ends.{mark_back, ends_in, ends_of, mark_of_import}
 use Rattle.name_meanings.specs.steps.Behind.{through, through_at, place_of, without, if_through, led, led_by, first_through}
-use Rattle.declared_names.proofs.lemmas.SameNames.{same-right, same-turned}
-use Rattle.declared_names.proofs.lemmas.Firsts.{found-first}
-use Rattle.declared_names.proofs.lemmas.Compared.{same-split}
+use Rattle.name_marks.proofs.lemmas.SameNames.{same-right, same-turned}
+use Rattle.name_marks.proofs.lemmas.Firsts.{found-first}
+use Rattle.name_marks.proofs.lemmas.Compared.{same-split}
 use Rattle.name_meanings.proofs.Copies.{same_finds}
 use Rattle.name_meanings.proofs.lemmas.Tables.{same_marks}
 use Rattle.name_meanings.proofs.Through.{searched, through_all}

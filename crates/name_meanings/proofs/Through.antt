@@ -7,10 +7,10 @@ use Rattle.aidl_syntax.specs.declared.tree.DottedTree.{DottedTree}
 use Rattle.name_meanings.specs.declared.meaning.Resolved.{Resolved}
 use Rattle.declared_names.specs.Names.{same, last}
 use Rattle.declared_names.specs.Declarations.{Entry}
-use Rattle.declared_names.specs.Marks.{mark_of, mark_of_last}
+use Rattle.name_marks.specs.Marks.{mark_of, mark_of_last}
 use Rattle.name_meanings.specs.Resolution.{first_declared, imported, or_else}
 use Rattle.name_meanings.proofs.Candidates.{first-append}
-use Rattle.declared_names.proofs.lemmas.Chains.{HasMark, drop-more, marked}
+use Rattle.name_marks.proofs.lemmas.Chains.{HasMark, drop-more, marked}
 use Rattle.name_meanings.proofs.lemmas.Tables.{same_marks}
 
 module _ {X R : Type 0} (f : X → Option R) where

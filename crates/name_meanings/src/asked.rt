@@ -4,7 +4,7 @@ ghost use Rattle.name_meanings.specs.steps.Asked.{IsSaid, is_told, said, said_at
 use crate::meaning::Resolved;
 use aidl_base::{Ident, OutOfMemory};
 use aidl_syntax::DottedTree;
-use declared_names::{same, with_parts};
+use name_marks::{same, with_parts};
 use indexmap::IndexMap;
 use std::alloc::Global;
 use std::marker::Model;

@@ -1,15 +1,16 @@
 ghost use Rattle.std.specs.Prelude.{◌≡◌, ◌≤◌, ◌∷◌, [], map, length};
-ghost use Rattle.declared_names.specs.Marks.{mark_of_entry};
+ghost use Rattle.name_marks.specs.Marks.{mark_of_entry};
 ghost use Rattle.declared_names.specs.Entries.{entry_of};
 ghost use Rattle.name_meanings.specs.Resolution.{first_declared, imported};
-ghost use Rattle.declared_names.specs.steps.Ends.{ends_of, mark_of_import};
+ghost use Rattle.name_marks.specs.steps.Ends.{ends_of, mark_of_import};
 ghost use Rattle.name_meanings.specs.steps.Behind.{through_at, place_of, without, if_through, led, led_by, led_at, earlier, first_through};
 
 use crate::imported::through;
 use crate::meaning::Resolved;
 use aidl_base::Ident;
 use aidl_syntax::DottedTree;
-use declared_names::{End, Ends, Found, Table, mark_back, same, with_part, with_parts};
+use declared_names::Found;
+use name_marks::{End, Ends, Table, mark_back, same, with_part, with_parts};
 
 /// What a name means through imports, whose whole names are in a table: by the first with which it is declared, of those
 /// that end in its first part. Asked are the declarations whose names end in it. It takes no memory.

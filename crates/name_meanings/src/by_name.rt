@@ -1,16 +1,17 @@
 ghost use Rattle.std.specs.Prelude.{◌≡◌, ◌≤◌, map, length, IfOk};
 ghost use Rattle.name_meanings.specs.Imports.{meant_through};
-ghost use Rattle.declared_names.specs.Marks.{mark_of_entry};
+ghost use Rattle.name_marks.specs.Marks.{mark_of_entry};
 ghost use Rattle.declared_names.specs.Entries.{entry_of};
-ghost use Rattle.declared_names.specs.steps.Ends.{ends_of, mark_of_import};
-ghost use Rattle.declared_names.specs.steps.Times.{is_shared};
+ghost use Rattle.name_marks.specs.steps.Ends.{ends_of, mark_of_import};
+ghost use Rattle.name_marks.specs.steps.Times.{is_shared};
 
 use crate::behind::behind;
 use crate::imported::{Imports, in_imports};
 use crate::meaning::Resolved;
 use aidl_base::{Ident, OutOfMemory};
 use aidl_syntax::DottedTree;
-use declared_names::{Ends, Found, Table, mark_back, with_part, with_parts};
+use declared_names::Found;
+use name_marks::{Ends, Table, mark_back, with_part, with_parts};
 use std::alloc::Global;
 use std::marker::Model;
 
@@ -26,7 +27,7 @@ impl<'a, 'b> Model for ByName<'a, 'b> {
     ghost use Rattle.std.specs.Coded.{codes};
     ghost use Rattle.aidl_syntax.specs.declared.tree.DottedTree.{DottedTree};
     ghost use Rattle.aidl_syntax.specs.contracts.tree.DottedTree as dotted_tree;
-    ghost use Rattle.declared_names.specs.steps.Ends.{mark_of_import};
+    ghost use Rattle.name_marks.specs.steps.Ends.{mark_of_import};
 
     ghost Value = { List DottedTree };
 

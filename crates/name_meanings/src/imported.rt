@@ -2,8 +2,8 @@ ghost use Rattle.std.specs.Prelude.{◌≡◌, ◌≤◌, ◌∷◌, [], ◌++�
 ghost use Rattle.name_meanings.specs.Imports.{meant_through, meant_in};
 ghost use Rattle.aidl_syntax.specs.Sources.{source_of};
 ghost use Rattle.name_meanings.specs.steps.Copies.{is_at, is_at_number};
-ghost use Rattle.declared_names.specs.Marks.{mark_of, mark_of_entry, mark_of_last};
-ghost use Rattle.declared_names.specs.steps.Times.{is_rarer, is_twice};
+ghost use Rattle.name_marks.specs.Marks.{mark_of, mark_of_entry, mark_of_last};
+ghost use Rattle.name_marks.specs.steps.Times.{is_rarer, is_twice};
 ghost use Rattle.declared_names.specs.Entries.{entry_of};
 ghost use Rattle.name_meanings.specs.Resolution.{first_declared, imported};
 
@@ -11,9 +11,8 @@ use crate::meaning::Resolved;
 use crate::resolution::declared;
 use aidl_base::{Ident, OutOfMemory};
 use aidl_syntax::{DottedTree, ParsedFile};
-use declared_names::{
-    Ends, Found, Table, ends_in, is_rarer, last_mark, same, with_part, with_parts,
-};
+use declared_names::Found;
+use name_marks::{Ends, Table, ends_in, is_rarer, last_mark, same, with_part, with_parts};
 use indexmap::IndexMap;
 use std::alloc::Global;
 use std::marker::Model;
@@ -31,7 +30,7 @@ impl<'a> Model for Imports<'a> {
     ghost use Rattle.std.specs.Coded.{codes};
     ghost use Rattle.aidl_syntax.specs.declared.tree.DottedTree.{DottedTree};
     ghost use Rattle.aidl_syntax.specs.contracts.tree.DottedTree as dotted_tree;
-    ghost use Rattle.declared_names.specs.Marks.{mark_of_last};
+    ghost use Rattle.name_marks.specs.Marks.{mark_of_last};
 
     ghost Value = { List DottedTree };
 

@@ -3,7 +3,7 @@ ghost use Rattle.aidl_syntax.specs.Sources.{source_of};
 ghost use Rattle.declared_names.specs.Declarations.{declarations};
 ghost use Rattle.name_meanings.specs.Resolution.{number_of, candidates, first_declared, enclosing, meaning_of_word, own_meaning, meaning_in_file, resolved};
 ghost use Rattle.name_meanings.specs.Imports.{meant_through, meant_in};
-ghost use Rattle.declared_names.specs.Marks.{mark_of, mark_of_entry};
+ghost use Rattle.name_marks.specs.Marks.{mark_of, mark_of_entry};
 ghost use Rattle.declared_names.specs.Entries.{entry_of};
 ghost use Rattle.name_meanings.specs.steps.Asked.{Knows, means};
 
@@ -12,7 +12,8 @@ use crate::imported::{Imports, in_imports};
 use crate::meaning::{BuiltinName, Resolved};
 use aidl_base::Ident;
 use aidl_syntax::ParsedFile;
-use declared_names::{Found, Table, is_joined, package, with_parts};
+use declared_names::{Found, package};
+use name_marks::{Table, is_joined, with_parts};
 
 /// The number of the first declaration whose canonical name is a front, which has this mark, with a back behind it. It
 /// takes no memory.

@@ -1,4 +1,5 @@
 pub mod Numbers
+pub mod Parts
+pub mod TreeViews
 pub mod Types
 pub mod Values
-pub mod TreeViews

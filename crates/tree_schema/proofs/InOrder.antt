@@ -10,7 +10,7 @@ use Rattle.declared_names.specs.Entries.{entry_of}
 use Rattle.aidl_schema.specs.declared.schema.Constant.{Constant}
 use Rattle.schema_parts.specs.Numbers.{Numbered, bytes_of, order, put}
 use Rattle.schema_parts.specs.Values.{Outcomes}
-use Rattle.tree_schema.specs.Parts as parts
+use Rattle.schema_parts.specs.Parts as parts
 use Rattle.tree_schema.proofs.lemmas.walked.Placed.{placed}
 
 abbrev pub key : Numbered → List ℕ

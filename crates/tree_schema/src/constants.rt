@@ -3,7 +3,7 @@ ghost use Rattle.std.specs.List.{fold};
 ghost use Rattle.aidl_syntax.specs.Members.{listed};
 ghost use Rattle.aidl_syntax.specs.Trees.{Members, constant_of, member_of, members_of};
 ghost use Rattle.tree_schema.specs.Keyed.{IsKeyed, values_at};
-ghost use Rattle.tree_schema.specs.Parts as meant;
+ghost use Rattle.schema_parts.specs.Parts as meant;
 ghost use Rattle.schema_parts.specs.TreeViews.{HasItems, HasNumbers, HasScope, files_of, outcomes_of};
 
 use aidl_base::{OutOfMemory, Row};

@@ -4,10 +4,8 @@
 mod backing;
 mod constants;
 mod drafting;
-mod fields;
 mod kinds;
 mod laws;
-mod methods;
 mod numbers;
 mod order;
 

@@ -4,7 +4,7 @@ use Rattle.std.specs.List.{slice_index_or}
 use Rattle.aidl_base.specs.declared.breach.Breach.{Breach}
 use Rattle.aidl_syntax.specs.Members.{declared_name}
 use Rattle.declared_names.specs.Declarations.{declarations}
-use Rattle.aidl_names.specs.Rules.{breach}
+use Rattle.name_rules.specs.Rules.{breach}
 use Rattle.declared_names.specs.Numbered.{in_each}
 use Rattle.aidl_syntax.specs.Sources.{Source}
 use Rattle.aidl_schema.specs.declared.schema.Decl.{Decl}

@@ -5,7 +5,7 @@ ghost use Rattle.type_check.specs.Bounds as meant;
 ghost use Rattle.type_check.specs.Bounds.{bound_at};
 
 use aidl_base::{Breach, OutOfMemory};
-use aidl_names::add_if;
+use name_rules::add_if;
 use schema_bounds::Bound;
 use schema_parts::Placed;
 

@@ -7,7 +7,7 @@ use Rattle.aidl_syntax.specs.Trees.Body.{union}
 use Rattle.aidl_syntax.specs.Members.{body, declared_name}
 use Rattle.name_meanings.specs.declared.meaning.Resolved.TheVariants.{Builtin}
 use Rattle.declared_names.specs.Declarations.{Entry}
-use Rattle.aidl_names.specs.Rules.{breach}
+use Rattle.name_rules.specs.Rules.{breach}
 use Rattle.type_shapes.specs.declared.shape.Shape.{Shape}
 use Rattle.type_shapes.specs.declared.shape.Shape.TheVariants as shape
 use Rattle.type_shapes.specs.Initializers.{is_unjudged}

@@ -2,7 +2,7 @@
 use Rattle.std.specs.Prelude.{ℕ, Bool, List, map}
 use Rattle.std.specs.List.{filter}
 use Rattle.aidl_base.specs.declared.breach.Breach.{Breach}
-use Rattle.aidl_names.specs.Rules.{breach}
+use Rattle.name_rules.specs.Rules.{breach}
 use Rattle.type_uses.specs.TypeUses.{TypeUse}
 
 -- the uses that pass a test, as breaches of a rule at a place of each

@@ -7,7 +7,7 @@ use Rattle.aidl_syntax.specs.Trees.{Method, Body}
 use Rattle.aidl_syntax.specs.Trees.Body.{interface}
 use Rattle.aidl_syntax.specs.Members.{body}
 use Rattle.declared_names.specs.Declarations.{Entry}
-use Rattle.aidl_names.specs.Rules.{breach}
+use Rattle.name_rules.specs.Rules.{breach}
 use Rattle.declared_names.specs.Numbered.{after_earlier}
 use Rattle.type_uses.specs.TypeUses.{TypeUse, of_method, name_place, methods_in}
 use Rattle.type_rules.specs.TypeRules.{is_outward}

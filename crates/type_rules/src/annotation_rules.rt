@@ -10,7 +10,7 @@ ghost use Rattle.type_uses.specs.TypeUses.{annotations_of, stand_of};
 ghost use Rattle.type_uses.specs.TypeUseViews.{seen_use};
 
 use aidl_base::{Breach, OutOfMemory};
-use aidl_names::add_if;
+use name_rules::add_if;
 use aidl_syntax::{AnnotTree, DeclTree};
 use declared_names::Found;
 use indexmap::IndexSet;

@@ -6,7 +6,7 @@ ghost use Rattle.type_shapes.specs.Backing.{is_backing};
 ghost use Rattle.type_rules.specs.AnnotationRules as meant;
 
 use aidl_base::{Breach, OutOfMemory};
-use aidl_names::add_if;
+use name_rules::add_if;
 use aidl_syntax::AnnotTree;
 use declared_names::Found;
 use type_shapes::{backing_annot, is_enum_tree, type_param};

@@ -8,7 +8,7 @@ ghost use Rattle.type_uses.specs.TypeUses as typed;
 ghost use Rattle.type_uses.specs.TypeUseViews.{seen_use};
 
 use aidl_base::{Breach, OutOfMemory};
-use aidl_names::add_if;
+use name_rules::add_if;
 use aidl_syntax::{MethodTree, Token};
 use indexmap::IndexSet;
 use std::alloc::Global;

@@ -7,7 +7,7 @@ ghost use Rattle.type_uses.specs.TypeUses.{annotations_of};
 ghost use Rattle.type_uses.specs.TypeUseViews.{seen_use};
 
 use aidl_base::{Breach, OutOfMemory};
-use aidl_names::add_if;
+use name_rules::add_if;
 use aidl_syntax::AnnotTree;
 use declared_names::Found;
 use type_shapes::Shape;

@@ -10,7 +10,7 @@ ghost use Rattle.type_rules.specs.FieldRules as fields;
 ghost use Rattle.type_uses.specs.TypeUseViews.{seen_use};
 
 use aidl_base::{Breach, OutOfMemory};
-use aidl_names::add_if;
+use name_rules::add_if;
 use aidl_syntax::{ArgTree, MethodTree, WayTree};
 use declared_names::Found;
 use name_meanings::Resolved;

@@ -16,7 +16,7 @@ use Rattle.aidl_syntax.specs.Sources.{Source}
 use Rattle.declared_names.specs.Declarations.{declarations}
 use Rattle.type_uses.specs.Ids.{id_of, id_by, number_of_kind}
 use Rattle.type_uses.specs.Kept.{is_nullable, is_heap, is_utf8}
-use Rattle.tree_schema.specs.Parts.{way_of, arg_in, kept_id, method_in, method_with, methods_in}
+use Rattle.schema_parts.specs.Parts.{way_of, arg_in, kept_id, method_in, method_with, methods_in}
 use Rattle.schema_parts.specs.Types.{base_of, base_of_number, typed, type_of}
 use Rattle.aidl_schema.specs.declared.schema.Decl.{Decl}
 use Rattle.aidl_schema.specs.declared.schema.Arg.{Arg}

@@ -16,8 +16,8 @@ use Rattle.std.proofs.Common.{is_none}
 use Rattle.name_meanings.specs.Resolution.{number_of}
 use Rattle.aidl_syntax.specs.Sources.{Source}
 use Rattle.declared_names.specs.Declarations.{declarations}
-use Rattle.aidl_names.specs.Rules as rules
-use Rattle.aidl_names.specs.Rules.{wrong_file, is_wrong_file, WrongFile, unknown_imports, UnknownImport, other_imports}
+use Rattle.name_rules.specs.Rules as rules
+use Rattle.name_rules.specs.Rules.{wrong_file, is_wrong_file, WrongFile, unknown_imports, UnknownImport, other_imports}
 use Rattle.declared_names.specs.Numbered.{after_earlier, in_each}
 use Rattle.aidl_schema.specs.declared.schema.Decl.{Decl}
 use Rattle.aidl_schema.specs.Holds.{AllHold}

@@ -18,7 +18,7 @@ use Rattle.declared_names.specs.Names.{text, same}
 use Rattle.aidl_syntax.specs.Sources.{Source}
 use Rattle.declared_names.specs.Declarations.{Entry, declarations}
 use Rattle.name_meanings.specs.Resolution.{meaning_words, meaning_in, meaning_of_word, own_meaning, number_of, first_declared, candidates, or_else, meaning_in_file, resolved}
-use Rattle.aidl_names.specs.Rules.{is_interface_body, is_interface, is_unknown, is_left_out}
+use Rattle.name_rules.specs.Rules.{is_interface_body, is_interface, is_unknown, is_left_out}
 use Rattle.aidl_schema.specs.declared.schema.Decl.{Decl}
 use Rattle.aidl_schema.specs.declared.schema.Kind.{Kind}
 use Rattle.aidl_schema.specs.declared.schema.Kind.TheVariants.{Interface, Parcelable, Union, Enum}

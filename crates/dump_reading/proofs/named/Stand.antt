@@ -25,8 +25,8 @@ use Rattle.aidl_syntax.specs.Sources.{Source}
 use Rattle.declared_names.specs.Declarations.{Entry, declarations}
 use Rattle.name_meanings.specs.Resolution.{meaning_of_word}
 use Rattle.aidl_base.specs.declared.limit.LimitName.TheVariants as limit
-use Rattle.aidl_names.specs.Limits.{has_many_members, has_long_method, is_long_method, passed}
-use Rattle.aidl_names.specs.Rules.{breach, is_named_again, repeated, argument_names, repeated_inside, is_taken, taken, types_in, is_unknown, is_left_out, UnknownType, LeftOutType}
+use Rattle.name_rules.specs.Limits.{has_many_members, has_long_method, is_long_method, passed}
+use Rattle.name_rules.specs.Rules.{breach, is_named_again, repeated, argument_names, repeated_inside, is_taken, taken, types_in, is_unknown, is_left_out, UnknownType, LeftOutType}
 use Rattle.declared_names.specs.TypeNames.{names_of_type, names_of_returned, type_names}
 use Rattle.declared_names.specs.Numbered.{in_each, after_earlier}
 use Rattle.name_meanings.specs.Resolution.{resolved}

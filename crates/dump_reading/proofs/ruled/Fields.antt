@@ -16,7 +16,7 @@ use Rattle.aidl_syntax.specs.Members.Member.{field, constant, method, enumerator
 use Rattle.name_meanings.specs.declared.meaning.Resolved.{Resolved}
 use Rattle.aidl_syntax.specs.Sources.{Source}
 use Rattle.declared_names.specs.Declarations.{Entry, declarations}
-use Rattle.aidl_names.specs.Rules.{breach}
+use Rattle.name_rules.specs.Rules.{breach}
 use Rattle.type_shapes.specs.declared.shape.Shape as types
 use Rattle.type_shapes.specs.Initializers.{is_unjudged, is_some_list}
 use Rattle.const_items.specs.Items.{shape_in}

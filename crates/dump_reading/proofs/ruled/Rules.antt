@@ -17,7 +17,7 @@ use Rattle.aidl_syntax.specs.Members.Member.{field, constant, method, enumerator
 use Rattle.aidl_syntax.specs.Sources.{Source}
 use Rattle.declared_names.specs.Declarations.{Entry, declarations}
 use Rattle.aidl_names.specs.Breaches.{in_order}
-use Rattle.aidl_names.specs.Rules.{breach}
+use Rattle.name_rules.specs.Rules.{breach}
 use Rattle.type_shapes.specs.Backing.{annots_of, is_backing, is_type}
 use Rattle.type_shapes.specs.declared.shape.Shape as types
 use Rattle.const_items.specs.Items.{shape_in}

@@ -11,7 +11,7 @@ use Rattle.aidl_syntax.specs.Trees.{Annot, map_option}
 use Rattle.name_meanings.specs.declared.meaning.Resolved.{Resolved}
 use Rattle.aidl_syntax.specs.Sources.{Source}
 use Rattle.declared_names.specs.Declarations.{Entry, declarations}
-use Rattle.aidl_names.specs.Rules.{breach}
+use Rattle.name_rules.specs.Rules.{breach}
 use Rattle.const_items.specs.Items.{shape_in}
 use Rattle.type_uses.specs.declared.stand.Stand.TheVariants as stand
 use Rattle.type_uses.specs.Annotations.{is_text_based}

@@ -11,9 +11,9 @@ use Rattle.declared_names.specs.Declarations.{Entry}
 use Rattle.name_meanings.specs.Resolution.{number_of}
 use Rattle.declared_names.specs.declared.found.Found.{Found}
 use Rattle.declared_names.specs.Entries.{entry_of}
-use Rattle.declared_names.proofs.lemmas.Chains.{left_at, HasMark, skip, marked}
+use Rattle.name_marks.proofs.lemmas.Chains.{left_at, HasMark, skip, marked}
 use Rattle.std.proofs.lemmas.List.{length-map, drop-map}
-use Rattle.declared_names.specs.Marks.{with_byte, with_part, mark_of, mark_of_entry}
+use Rattle.name_marks.specs.Marks.{with_byte, with_part, mark_of, mark_of_entry}
 
 -- names that are the same have the same mark
 pub same_marks : (m : ℕ) (a b : List Ident) → same a b ≡ true → fold with_part m a ≡ fold with_part m b

@@ -18,8 +18,8 @@ use Rattle.declared_names.specs.Declarations.{Entry}
 use Rattle.name_meanings.specs.Imports.{meant_through}
 use Rattle.name_meanings.specs.Resolution.{number_of, first_declared, or_else}
 use Rattle.name_meanings.specs.steps.Asked.{means, AreRight, Knows, said, said_at, said_at_number, IsSaid}
-use Rattle.declared_names.proofs.lemmas.SameNames.{same-self, same-right}
-use Rattle.declared_names.proofs.lemmas.Firsts.{position-same}
+use Rattle.name_marks.proofs.lemmas.SameNames.{same-self, same-right}
+use Rattle.name_marks.proofs.lemmas.Firsts.{position-same}
 use Rattle.name_meanings.proofs.Through.{searched, through, through_all}
 
 -- Names that are the same mean the same through imports.

@@ -4,7 +4,7 @@ use Rattle.std.specs.Borrow.{Bor}
 use Rattle.std.specs.List.{slice_get, position_from}
 use Rattle.aidl_base.specs.declared.name.Ident.{Ident}
 use Rattle.aidl_syntax.specs.declared.tree.DottedTree.{DottedTree}
-use Rattle.declared_names.specs.declared.ends.End.{End}
+use Rattle.name_marks.specs.declared.ends.End.{End}
 use Rattle.name_meanings.specs.declared.meaning.Resolved.{Resolved}
 use Rattle.declared_names.specs.Names.{same}
 use Rattle.declared_names.specs.Declarations.{Entry}

@@ -13,7 +13,7 @@ use Rattle.aidl_syntax.specs.Sources.{Source}
 use Rattle.const_values.specs.declared.wanted.Wanted.{Wanted}
 use Rattle.type_shapes.specs.Backing.{backing_of}
 use Rattle.schema_parts.specs.Numbers.{Numbered, sorted, number_of}
-use Rattle.tree_schema.specs.Parts.{fields_in, methods_in, enumerator_in, listed_constants, constants_in, bytes_of, put}
+use Rattle.schema_parts.specs.Parts.{fields_in, methods_in, enumerator_in, listed_constants, constants_in, bytes_of, put}
 use Rattle.tree_schema.specs.SchemaOf.{schema_of, declared, outer_of, kind_of}
 use Rattle.schema_parts.specs.Values.{Outcomes}
 use Rattle.tree_schema.proofs.lemmas.walked.Totals.{total, total-append, total-map, total-filter, total-enumerate, total-le_at}

@@ -36,7 +36,7 @@ use Rattle.type_rules.specs.MethodRules.{is_oneway_body}
 use Rattle.type_rules.specs.TypeRules.{bad_nullables}
 use Rattle.type_rules.specs.Unbroken.{AreUnbroken}
 use Rattle.schema_parts.specs.Numbers.{Numbered}
-use Rattle.tree_schema.specs.Parts.{field_in, arg_in, method_in}
+use Rattle.schema_parts.specs.Parts.{field_in, arg_in, method_in}
 use Rattle.tree_schema.specs.SchemaOf.{schema_of, declared}
 use Rattle.schema_parts.specs.Types.{base_of, typed}
 use Rattle.schema_parts.specs.Values.{Outcomes}

@@ -11,7 +11,7 @@ use Rattle.aidl_names.specs.Breaches.{breaches}
 use Rattle.declared_names.specs.Declarations.{Entry, declarations}
 use Rattle.declared_names.specs.Names.{text}
 use Rattle.name_meanings.specs.Resolution.{resolved}
-use Rattle.aidl_names.specs.Rules.{breach, is_left_out, types_in}
+use Rattle.name_rules.specs.Rules.{breach, is_left_out, types_in}
 use Rattle.declared_names.specs.TypeNames.{type_names}
 use Rattle.declared_names.specs.Numbered.{in_each, after_earlier}
 use Rattle.aidl_syntax.specs.Sources.{Source}

@@ -28,7 +28,7 @@ use Rattle.type_rules.specs.FieldRules.{is_constant_type}
 use Rattle.type_rules.specs.MethodRules.{is_oneway_body}
 use Rattle.type_rules.specs.Unbroken.{AreUnbroken}
 use Rattle.schema_parts.specs.Numbers.{Numbered}
-use Rattle.tree_schema.specs.Parts.{listed_constants, bytes_of}
+use Rattle.schema_parts.specs.Parts.{listed_constants, bytes_of}
 use Rattle.tree_schema.specs.SchemaOf.{schema_of, declared}
 use Rattle.schema_parts.specs.Types.{base_of_builtin, typed}
 use Rattle.schema_parts.specs.Values.{Outcomes, or_zero, value_at}

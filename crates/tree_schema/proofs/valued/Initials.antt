@@ -25,7 +25,7 @@ use Rattle.name_meanings.specs.declared.meaning.Resolved.{Resolved}
 use Rattle.name_meanings.specs.declared.meaning.Resolved.TheVariants.{Builtin, ListWord, LeftOut, Declared}
 use Rattle.aidl_names.specs.Breaches.{breaches}
 use Rattle.declared_names.specs.Declarations.{Entry, declarations}
-use Rattle.aidl_names.specs.Rules.{breach}
+use Rattle.name_rules.specs.Rules.{breach}
 use Rattle.aidl_syntax.specs.Sources.{Source}
 use Rattle.const_values.specs.declared.wanted.Wanted.{Wanted}
 use Rattle.const_values.specs.declared.wanted.Wanted.TheVariants as wanted
@@ -41,7 +41,7 @@ use Rattle.type_uses.specs.TypeUses.{TypeUse, of_arg, is_field, type_uses}
 use Rattle.type_rules.specs.FieldRules.{empty_union, bad_fields, is_union_body}
 use Rattle.type_rules.specs.Unbroken.{AreUnbroken}
 use Rattle.schema_parts.specs.Numbers.{Numbered}
-use Rattle.tree_schema.specs.Parts.{fields_in, enumerator_in}
+use Rattle.schema_parts.specs.Parts.{fields_in, enumerator_in}
 use Rattle.tree_schema.specs.SchemaOf.{schema_of, declared, kind_of}
 use Rattle.schema_parts.specs.Types.{base_of, base_of_number, typed}
 use Rattle.schema_parts.specs.Values.{Outcomes, or_zero, value_at, value_of, value_of_item, constant_value, initial_of, initial_value, enumerator_value}

@@ -1,12 +1,12 @@
 use Rattle.std.proofs.Common.{◌≡◌, ◌+◌, ◌∷◌, ℕ, Option, Some, None, List, nat_eq, get_or, drop, map, length, refl, sym, ◌∙◌, ap, subst}
 use Rattle.std.specs.List.{position_from, slice_get}
-use Rattle.declared_names.specs.declared.ends.End.{End}
-use Rattle.declared_names.specs.Marks.{with_part}
+use Rattle.name_marks.specs.declared.ends.End.{End}
+use Rattle.name_marks.specs.Marks.{with_part}
 use Rattle.declared_names.specs.Entries.{entry_of}
-use Rattle.declared_names.specs.steps.Ends.{mark_back}
+use Rattle.name_marks.specs.steps.Ends.{mark_back}
 use Rattle.name_meanings.specs.steps.Behind.{led_by, led_at}
 use Rattle.name_meanings.proofs.Ahead.{Covers, IsRight, covers_first, covers_next, earlier_right_too, settled, stands}
-use Rattle.declared_names.proofs.lemmas.Chains.{lies, goes_on_marked, fewer}
+use Rattle.name_marks.proofs.lemmas.Chains.{lies, goes_on_marked, fewer}
 use Rattle.name_meanings.proofs.Leads.{finds, finds_at, led_right, import_there, an_end_leads}
 use Rattle.name_meanings.proofs.behind.first_through.Goals as goal
 

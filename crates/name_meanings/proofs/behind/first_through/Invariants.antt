@@ -1,9 +1,9 @@
 use Rattle.std.proofs.Common.{◌∷◌, map, length}
 use Rattle.declared_names.specs.Entries.{entry_of}
-use Rattle.declared_names.specs.steps.Ends.{mark_back}
+use Rattle.name_marks.specs.steps.Ends.{mark_back}
 use Rattle.name_meanings.specs.steps.Behind.{led_by}
 use Rattle.name_meanings.proofs.Ahead.{Covers, IsRight}
-use Rattle.declared_names.proofs.lemmas.Chains.{HasMark, left}
+use Rattle.name_marks.proofs.lemmas.Chains.{HasMark, left}
 use Rattle.name_meanings.proofs.Leads.{finds_at}
 use Rattle.name_meanings.proofs.behind.first_through.Given as goal
 

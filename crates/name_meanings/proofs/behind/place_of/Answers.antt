@@ -1,10 +1,10 @@
 use Rattle.std.proofs.Common.{ℕ, ◌+◌, nat_eq, get_or, drop, length, sym, ◌∙◌, ap}
 use Rattle.std.specs.List.{position_from}
 use Rattle.declared_names.specs.Names.{same}
-use Rattle.declared_names.specs.Marks.{mark_of}
-use Rattle.declared_names.specs.steps.Ends.{mark_of_import}
+use Rattle.name_marks.specs.Marks.{mark_of}
+use Rattle.name_marks.specs.steps.Ends.{mark_of_import}
 use Rattle.name_meanings.proofs.Leads.{named_marks, has_name}
-use Rattle.declared_names.proofs.lemmas.Chains.{begins, lands, lies, goes_behind, fewer}
+use Rattle.name_marks.proofs.lemmas.Chains.{begins, lands, lies, goes_behind, fewer}
 use Rattle.name_meanings.proofs.behind.place_of.Goals as goal
 
 pub places-init : goal.places-init

@@ -1,8 +1,8 @@
 use Rattle.std.proofs.Common.{◌≡◌, length}
 use Rattle.declared_names.specs.Names.{same}
-use Rattle.declared_names.specs.Marks.{mark_of}
+use Rattle.name_marks.specs.Marks.{mark_of}
 use Rattle.name_meanings.specs.steps.Behind.{place_of}
-use Rattle.declared_names.proofs.lemmas.Chains.{left_at, HasMark, left}
+use Rattle.name_marks.proofs.lemmas.Chains.{left_at, HasMark, left}
 use Rattle.name_meanings.proofs.behind.place_of.Given as goal
 
 -- it is none of those so far

@@ -1,5 +1,5 @@
 use Rattle.std.proofs.Common.{◌≡◌, map, take}
-use Rattle.declared_names.specs.steps.Ends.{mark_of_import}
+use Rattle.name_marks.specs.steps.Ends.{mark_of_import}
 use Rattle.name_meanings.proofs.by_name.marks_of.Given as goal
 
 -- the marks of the imports so far

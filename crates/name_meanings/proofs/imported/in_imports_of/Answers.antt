@@ -1,9 +1,9 @@
 use Rattle.std.proofs.Common.{Bor, List, ℕ, ◌+◌, ◌∷◌, [], nat_eq, get_or, drop, length, map, sym, ◌∙◌, ap}
 use Rattle.std.specs.List.{position_from}
 use Rattle.aidl_syntax.specs.declared.tree.DottedTree.{DottedTree}
-use Rattle.declared_names.specs.Marks.{mark_of, mark_of_last}
+use Rattle.name_marks.specs.Marks.{mark_of, mark_of_last}
 use Rattle.declared_names.specs.Entries.{entry_of}
-use Rattle.declared_names.proofs.lemmas.Chains.{lies, fewer}
+use Rattle.name_marks.proofs.lemmas.Chains.{lies, fewer}
 use Rattle.name_meanings.proofs.Copies.{within_map}
 use Rattle.declared_names.proofs.lemmas.Earlier.{read-map}
 use Rattle.name_meanings.proofs.Through.{through, through_all, through_other, search_begins, search_goes_on, search_ends}

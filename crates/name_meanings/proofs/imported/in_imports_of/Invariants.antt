@@ -1,8 +1,8 @@
 use Rattle.std.proofs.Common.{◌≡◌, ◌∷◌, [], map, length}
-use Rattle.declared_names.specs.Marks.{mark_of}
+use Rattle.name_marks.specs.Marks.{mark_of}
 use Rattle.name_meanings.specs.Resolution.{first_declared, imported}
 use Rattle.declared_names.specs.Entries.{entry_of}
-use Rattle.declared_names.proofs.lemmas.Chains.{HasMark, left}
+use Rattle.name_marks.proofs.lemmas.Chains.{HasMark, left}
 use Rattle.name_meanings.proofs.Through.{searched_at, through}
 use Rattle.name_meanings.proofs.imported.in_imports_of.Given as goal
 

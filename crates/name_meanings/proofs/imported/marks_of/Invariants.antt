@@ -1,5 +1,5 @@
 use Rattle.std.proofs.Common.{◌≡◌, map, take}
-use Rattle.declared_names.specs.Marks.{mark_of_last}
+use Rattle.name_marks.specs.Marks.{mark_of_last}
 use Rattle.name_meanings.proofs.imported.marks_of.Given as goal
 
 -- the marks of the imports so far

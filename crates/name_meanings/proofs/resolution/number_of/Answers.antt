@@ -1,7 +1,7 @@
 use Rattle.std.proofs.Common.{◌+◌, ◌++◌, nat_eq, get_or, drop, length, sym, ◌∙◌, ap}
 use Rattle.declared_names.specs.declared.found.Found.{Found}
 use Rattle.declared_names.specs.Names.{same}
-use Rattle.declared_names.proofs.lemmas.Chains.{fewer}
+use Rattle.name_marks.proofs.lemmas.Chains.{fewer}
 use Rattle.name_meanings.proofs.lemmas.Tables.{started, landed, within, went_on}
 use Rattle.name_meanings.proofs.resolution.number_of.Goals as goal
 

@@ -1,9 +1,9 @@
 use Rattle.std.proofs.Common.{◌≡◌, ◌++◌, map, length}
 use Rattle.declared_names.specs.Names.{same}
 use Rattle.name_meanings.specs.Resolution.{number_of}
-use Rattle.declared_names.specs.Marks.{mark_of}
+use Rattle.name_marks.specs.Marks.{mark_of}
 use Rattle.declared_names.specs.Entries.{entry_of}
-use Rattle.declared_names.proofs.lemmas.Chains.{left_at, HasMark, left}
+use Rattle.name_marks.proofs.lemmas.Chains.{left_at, HasMark, left}
 use Rattle.name_meanings.proofs.resolution.number_of.Given as goal
 
 -- it is none of those so far

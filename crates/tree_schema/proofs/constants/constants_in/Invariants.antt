@@ -4,7 +4,7 @@ use Rattle.std.specs.List.{fold}
 use Rattle.aidl_syntax.specs.Trees.{members_of}
 use Rattle.aidl_syntax.specs.Members.{listed}
 use Rattle.tree_schema.specs.Keyed.{IsKeyed, values_at}
-use Rattle.tree_schema.specs.Parts.{bytes_of, put, listed_constants}
+use Rattle.schema_parts.specs.Parts.{bytes_of, put, listed_constants}
 use Rattle.schema_parts.specs.TreeViews.{files_of, outcomes_of}
 use Rattle.tree_schema.proofs.constants.constants_in.Given as goal
 

@@ -13,7 +13,7 @@ use Rattle.aidl_names.specs.Breaches.{breaches}
 use Rattle.declared_names.specs.Declarations.{Entry, declarations}
 use Rattle.declared_names.specs.Names.{text, same}
 use Rattle.name_meanings.specs.Resolution.{meaning_of_word}
-use Rattle.aidl_names.specs.Rules.{is_taken}
+use Rattle.name_rules.specs.Rules.{is_taken}
 use Rattle.aidl_syntax.specs.Sources.{Source}
 use Rattle.schema_parts.specs.Numbers.{Numbered, bytes_of, put, sorted, has_number, number_of}
 use Rattle.tree_schema.proofs.lemmas.walked.Totals.{total, total-enumerate, total-length, is_that}

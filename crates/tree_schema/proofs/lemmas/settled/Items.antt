@@ -11,7 +11,7 @@ use Rattle.aidl_syntax.specs.Members.{Member, members, listed, body}
 use Rattle.aidl_syntax.specs.Members.Member.{field, constant, method, enumerator, nested}
 use Rattle.aidl_names.specs.Breaches.{breaches}
 use Rattle.declared_names.specs.Declarations.{Entry, declarations}
-use Rattle.aidl_names.specs.Rules.{breach}
+use Rattle.name_rules.specs.Rules.{breach}
 use Rattle.declared_names.specs.Numbered.{in_each}
 use Rattle.aidl_syntax.specs.Sources.{Source}
 use Rattle.const_values.specs.declared.wanted.Wanted.{Wanted}

@@ -2,7 +2,7 @@ use Rattle.std.proofs.Common.{nat_eq, ◌++◌, ◌||◌, Bor, map, take, sym, �
 use Rattle.indexmap.specs.IndexSet.{contains}
 use Rattle.aidl_syntax.specs.declared.tree.MethodTree.{MethodTree}
 use Rattle.aidl_syntax.specs.Trees.{Method, method_of}
-use Rattle.aidl_names.specs.Rules.{breach}
+use Rattle.name_rules.specs.Rules.{breach}
 use Rattle.declared_names.proofs.lemmas.Earlier.{goes_on, earlier-next, read-map, one_if}
 use Rattle.type_rules.specs.MethodRules.{has_value, is_bad_id, is_taken}
 use Rattle.type_rules.proofs.Loops.{token-same, taken-next}

@@ -1,7 +1,7 @@
 use Rattle.std.proofs.Common.{◌≡◌, ◌++◌, ℕ, nat_eq, map, take, drop}
 use Rattle.indexmap.specs.IndexSet.{contains}
 use Rattle.aidl_syntax.specs.Trees.{method_of}
-use Rattle.aidl_names.specs.Rules.{breach}
+use Rattle.name_rules.specs.Rules.{breach}
 use Rattle.declared_names.specs.Numbered.{after_earlier}
 use Rattle.type_rules.specs.MethodRules.{bad_ids, is_bad_id, is_taken}
 use Rattle.type_rules.proofs.ids.add_in_list.Given as goal

@@ -1,7 +1,7 @@
 use Rattle.std.proofs.Common.{Bor, ◌∙◌, sym, ap, map}
 use Rattle.std.proofs.lemmas.Simd.{map-map}
 use Rattle.aidl_syntax.specs.declared.tree.DottedTree.{DottedTree}
-use Rattle.declared_names.specs.steps.Ends.{mark_of_import}
+use Rattle.name_marks.specs.steps.Ends.{mark_of_import}
 use Rattle.name_meanings.proofs.by_name.ByName.means.Goals as goal
 
 pub behind-requires-clause-names : goal.behind-requires-clause-names

@@ -1,0 +1,13 @@
+use Rattle.std.proofs.Common.{◌≡◌, ◌++◌, map, drop}
+use Rattle.aidl_syntax.specs.Sources.{source_of}
+use Rattle.name_rules.specs.Rules.{types_in, types_where}
+use Rattle.declared_names.specs.Numbered.{in_each}
+use Rattle.name_rules.specs.TypeRules.{breaks_of, rule_of}
+use Rattle.declared_names.specs.Entries.{entry_of}
+use Rattle.name_rules.proofs.types.add_types_by.Given as goal
+
+-- the breaches so far and those that are left are all
+abbrev pub invariant-loop-i : goal.invariant-loop-i
+invariant-loop-i l =
+    l.rows.items ++ in_each (types_in (breaks_of l.rule (map source_of l.files)) (rule_of l.rule)) l.i (map entry_of (drop l.i l.found))
+    ≡ l.fn.rows.items ++ types_where (breaks_of l.rule (map source_of l.files)) (rule_of l.rule) (map source_of l.files)

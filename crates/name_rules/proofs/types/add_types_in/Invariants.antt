@@ -1,0 +1,13 @@
+use Rattle.std.proofs.Common.{◌≡◌, ◌++◌, map, drop}
+use Rattle.std.specs.List.{filter}
+use Rattle.aidl_syntax.specs.Sources.{source_of}
+use Rattle.name_rules.specs.Rules.{breach, types_in}
+use Rattle.name_rules.specs.TypeRules.{breaks_of, rule_of}
+use Rattle.declared_names.specs.Entries.{entry_of}
+use Rattle.name_rules.proofs.types.add_types_in.Given as goal
+
+-- the breaches so far and those that are left are all
+abbrev pub invariant-loop-name : goal.invariant-loop-name
+invariant-loop-name l =
+    l.rows.items ++ map (λ d. breach (rule_of l.rule) l.inside.file d.offset) (filter (λ d. breaks_of l.rule (map source_of l.files) l.inside.file l.number d.name.0) (drop l.name-index (map (λ d. d.now) l.name-items)))
+    ≡ l.fn.rows.items ++ types_in (breaks_of l.rule (map source_of l.files)) (rule_of l.rule) l.number (entry_of l.inside)

@@ -1,0 +1,4 @@
+pub mod Alike
+pub mod Limits
+pub mod Rules
+pub mod TypeRules

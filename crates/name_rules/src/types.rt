@@ -1,0 +1,200 @@
+ghost use Rattle.std.specs.Prelude.{◌≡◌, ◌≤◌, ◌++◌, map, length, OnOk};
+ghost use Rattle.aidl_syntax.specs.Members.{body};
+ghost use Rattle.aidl_syntax.specs.Trees.{decl_of};
+ghost use Rattle.aidl_syntax.specs.Sources.{source_of};
+ghost use Rattle.declared_names.specs.Declarations.{declarations};
+ghost use Rattle.name_rules.specs.Rules.{UnknownType, LeftOutType, types_in, types_where, is_left_out, is_interface, is_interface_body};
+ghost use Rattle.name_rules.specs.TypeRules.{breaks_of, rule_of};
+ghost use Rattle.name_meanings.specs.Imports.{meant_through, meant_in};
+ghost use Rattle.name_marks.specs.Marks.{mark_of_entry};
+ghost use Rattle.declared_names.specs.Entries.{entry_of};
+ghost use Rattle.name_meanings.specs.steps.Asked.{AreRight};
+
+use crate::rows::add_if;
+use aidl_base::{Breach, Ident, OutOfMemory};
+use aidl_syntax::{BodyTree, DeclTree, ParsedFile};
+use declared_names::{Found, names_of_types};
+use name_marks::Table;
+use name_meanings::{Asked, Imports, Resolved, asked_where, resolved};
+use std::alloc::Global;
+
+/// A rule on the names of types.
+#[derive(Clone, Copy)]
+enum TypeRule {
+    /// E4
+    Unknown,
+    /// E5
+    LeftOut,
+}
+
+impl TypeRule {
+    fn number(self) -> u8
+        ensures { result ≡ rule_of self }
+    {
+        match self {
+            TypeRule::Unknown => 4,
+            TypeRule::LeftOut => 5,
+        }
+    }
+}
+
+/// Adds the breaches of E4 and of E5, behind those of the other rules. Where there are none of these no last part has two
+/// imports that differ, so each name is tried behind one import at most.
+pub fn add_types(
+    alloc: Global,
+    files: &[ParsedFile],
+    found: &[Found<'_>],
+    table: &Table,
+    imports: &[Imports<'_>],
+    rows: &mut Vec<Breach>,
+) -> Result<(), OutOfMemory>
+    requires count { length found.now ≤ 16384 }
+    requires table { table.now ≡ map mark_of_entry (map entry_of found.now) }
+    requires imports { map meant_through imports.now ≡ map meant_in (map source_of files.now) }
+    requires all { map entry_of found.now ≡ declarations (map source_of files.now) }
+    ensures { OnOk result (rows.new.items ≡ rows.old.items ++ UnknownType (map source_of files.now) ++ LeftOutType (map source_of files.now)) }
+{
+    let asked = asked_where(alloc, !rows.is_empty(), found, table, imports)?;
+    add_types_by(
+        alloc,
+        files,
+        found,
+        table,
+        imports,
+        &asked,
+        TypeRule::Unknown,
+        rows,
+    )?;
+    add_types_by(
+        alloc,
+        files,
+        found,
+        table,
+        imports,
+        &asked,
+        TypeRule::LeftOut,
+        rows,
+    )
+}
+
+// Adds the breaches of a rule on the names of types.
+fn add_types_by(
+    alloc: Global,
+    files: &[ParsedFile],
+    found: &[Found<'_>],
+    table: &Table,
+    imports: &[Imports<'_>],
+    asked: &Asked<'_>,
+    rule: TypeRule,
+    rows: &mut Vec<Breach>,
+) -> Result<(), OutOfMemory>
+    requires count { length found.now ≤ 16384 }
+    requires table { table.now ≡ map mark_of_entry (map entry_of found.now) }
+    requires imports { map meant_through imports.now ≡ map meant_in (map source_of files.now) }
+    requires all { map entry_of found.now ≡ declarations (map source_of files.now) }
+    requires asked { AreRight imports.now (map entry_of found.now) asked.now }
+    ensures { OnOk result (rows.new.items ≡ rows.old.items ++ types_where (breaks_of rule (map source_of files.now)) (rule_of rule) (map source_of files.now)) }
+{
+    for (i, f) in found.iter().enumerate() {
+        add_types_in(
+            alloc, files, found, table, imports, asked, rule, i as u32, f, rows,
+        )?;
+    }
+    Ok(())
+}
+
+// Those in one declaration, which has this number.
+fn add_types_in(
+    alloc: Global,
+    files: &[ParsedFile],
+    found: &[Found<'_>],
+    table: &Table,
+    imports: &[Imports<'_>],
+    asked: &Asked<'_>,
+    rule: TypeRule,
+    number: u32,
+    inside: &Found<'_>,
+    rows: &mut Vec<Breach>,
+) -> Result<(), OutOfMemory>
+    requires count { length found.now ≤ 16384 }
+    requires table { table.now ≡ map mark_of_entry (map entry_of found.now) }
+    requires imports { map meant_through imports.now ≡ map meant_in (map source_of files.now) }
+    requires all { map entry_of found.now ≡ declarations (map source_of files.now) }
+    requires asked { AreRight imports.now (map entry_of found.now) asked.now }
+    ensures { OnOk result (rows.new.items ≡ rows.old.items ++ types_in (breaks_of rule (map source_of files.now)) (rule_of rule) number (entry_of inside.now)) }
+{
+    let names = names_of_types(alloc, inside.tree)?;
+    for name in names.as_slice() {
+        let broken = breaks(
+            files,
+            found,
+            table,
+            imports,
+            asked,
+            rule,
+            inside.file,
+            number,
+            name.name.0.as_slice(),
+        );
+        add_if(broken, rule.number(), inside.file, name.offset, rows)?;
+    }
+    Ok(())
+}
+
+fn breaks(
+    files: &[ParsedFile],
+    found: &[Found<'_>],
+    table: &Table,
+    imports: &[Imports<'_>],
+    asked: &Asked<'_>,
+    rule: TypeRule,
+    file: u32,
+    scope: u32,
+    name: &[Ident],
+) -> bool
+    requires count { length found.now ≤ 16384 }
+    requires table { table.now ≡ map mark_of_entry (map entry_of found.now) }
+    requires imports { map meant_through imports.now ≡ map meant_in (map source_of files.now) }
+    requires all { map entry_of found.now ≡ declarations (map source_of files.now) }
+    requires asked { AreRight imports.now (map entry_of found.now) asked.now }
+    ensures { result ≡ breaks_of rule (map source_of files.now) file scope name.now }
+{
+    let known = asked.known(file, name);
+    let meaning = resolved(files, found, table, imports, known, file, scope, name);
+    match rule {
+        TypeRule::Unknown => meaning.is_none(),
+        TypeRule::LeftOut => is_left_out(found, meaning),
+    }
+}
+
+fn is_left_out(found: &[Found<'_>], meaning: Option<Resolved>) -> bool
+    ensures { result ≡ is_left_out (map entry_of found.now) meaning }
+{
+    match meaning {
+        Some(Resolved::LeftOut) => true,
+        Some(Resolved::Declared(number)) => is_interface(found, number),
+        Some(Resolved::Builtin(_)) => false,
+        Some(Resolved::ListWord) => false,
+        None => false,
+    }
+}
+
+fn is_interface(found: &[Found<'_>], number: u32) -> bool
+    ensures { result ≡ is_interface (map entry_of found.now) number }
+{
+    match found.get(number as usize) {
+        Some(f) => is_interface_tree(f.tree),
+        None => false,
+    }
+}
+
+fn is_interface_tree(tree: &DeclTree) -> bool
+    ensures { result ≡ is_interface_body (body (decl_of tree.now)) }
+{
+    match &tree.body {
+        BodyTree::Parcelable(_) => false,
+        BodyTree::Union(_) => false,
+        BodyTree::Enum(_) => false,
+        BodyTree::Interface { .. } => true,
+    }
+}
