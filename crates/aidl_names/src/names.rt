@@ -21,7 +21,8 @@ use indexmap::IndexMap;
 use name_marks::{Table, marks};
 use name_meanings::{Imports, Known, Resolved, imports_of_files, resolved};
 use name_rules::{
-    add_other_imports, add_repeated, add_taken, add_types, add_unknown_imports, add_wrong_files, passed,
+    add_other_imports, add_repeated, add_taken, add_types, add_unknown_imports, add_wrong_files,
+    passed,
 };
 use std::alloc::Global;
 use std::marker::Model;

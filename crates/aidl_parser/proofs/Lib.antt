@@ -1,8 +1,5 @@
 mod Files
-mod Found
-mod Looping
 mod MemberRounds
 mod Rounds
-mod Told
 pub mod lemmas
 mod productions

@@ -3,8 +3,8 @@ use Rattle.std.specs.Prelude.{◌≡◌, List, Some, None}
 use Rattle.aidl_syntax.specs.declared.token.Token.{Token}
 use Rattle.aidl_syntax.specs.Trees.{File}
 use Rattle.aidl_syntax.specs.Productions.{IsFile}
-use Rattle.aidl_parser.specs.declared.fault.ParseFault.{ParseFault}
-use Rattle.aidl_parser.specs.declared.fault.ParseFault.TheVariants as fault
+use Rattle.expr_parser.specs.declared.fault.ParseFault.{ParseFault}
+use Rattle.expr_parser.specs.declared.fault.ParseFault.TheVariants as fault
 use Rattle.aidl_parser.specs.Limits.{passed}
 
 -- why the tokens are refused: a limit that they pass, or that no tree stands for them while they pass none

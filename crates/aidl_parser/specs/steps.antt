@@ -1,5 +1,3 @@
-pub mod Reading
-pub mod Levels
 pub mod Parts
 pub mod Types
 pub mod Inits

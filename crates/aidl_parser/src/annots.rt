@@ -5,15 +5,14 @@ ghost use Rattle.aidl_syntax.specs.Productions as form;
 ghost use Rattle.aidl_parser.specs.steps.Parts as part;
 ghost use Rattle.aidl_parser.specs.steps.Types.{ident as ident_at};
 ghost use Rattle.aidl_parser.specs.steps.Inits as read;
-ghost use Rattle.aidl_parser.specs.Gives.{Gives};
+ghost use Rattle.expr_parser.specs.Gives.{Gives};
 
-use crate::fault::ParseFault;
 use crate::lists::{Part, Repeat, in_parens, many};
 use crate::parts::{begins, quoted};
-use crate::tokens::{first, is_name};
 use crate::types::ident;
 use aidl_base::Row;
 use aidl_syntax::{AnnotTree, InitTree, NameTree, ParamTree, Symbol, Token};
+use expr_parser::{ParseFault, first, is_name};
 use std::alloc::Global;
 
 // {"@" ident ["(" [param {"," param}] ")"]}

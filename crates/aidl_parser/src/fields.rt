@@ -4,20 +4,17 @@ ghost use Rattle.aidl_syntax.specs.Trees.{Enumerator, annots_of, expr_of, enumer
 ghost use Rattle.aidl_parser.specs.steps.Parts as part;
 ghost use Rattle.aidl_parser.specs.steps.Members as read;
 ghost use Rattle.aidl_parser.specs.steps.Decls as decls;
-ghost use Rattle.aidl_parser.specs.Gives.{Gives};
+ghost use Rattle.expr_parser.specs.Gives.{Gives};
 
-use crate::expr::expr;
-use crate::fault::ParseFault;
-use crate::levels::Level;
 use crate::lists::{Part, maybe_behind};
 use crate::parts::{quoted, worded};
-use crate::tokens::first;
 use crate::types::{ident, type_of};
 use aidl_base::Row;
 use aidl_syntax::{
     AnnotTree, ConstantTree, EnumeratorTree, ExprTree, FieldTree, MemberTree, Reserved, Symbol,
     Token,
 };
+use expr_parser::{Level, ParseFault, expr, first};
 use std::alloc::Global;
 
 // type ident ["=" init] ";"

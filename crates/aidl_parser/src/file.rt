@@ -1,18 +1,19 @@
 ghost use Rattle.std.specs.Prelude.{◌≡◌, ◌^◌, ◌<◌, length, map, [], Some, IfOk, ◌≤◌};
 ghost use Rattle.aidl_base.specs.declared.reserved.Reserved.TheVariants as word;
+ghost use Rattle.aidl_syntax.specs.declared.tree.DottedTree.{DottedTree};
 ghost use Rattle.aidl_syntax.specs.Trees.{decl_of, file_of};
 ghost use Rattle.aidl_parser.specs.steps.Parts as part;
 ghost use Rattle.aidl_parser.specs.steps.Decls as read;
-ghost use Rattle.aidl_parser.specs.Gives.{Gives};
+ghost use Rattle.expr_parser.specs.Gives.{Gives};
+ghost use Rattle.expr_parser.specs.steps.Reading as names;
 
 use crate::annots::annots;
 use crate::decls::decl;
-use crate::fault::ParseFault;
-use crate::lists::{Repeat, many, statement};
+use crate::lists::{Part, Repeat, many, statement};
 use crate::parts::begins_word;
-use crate::tokens::first;
 use aidl_base::Row;
 use aidl_syntax::{DeclTree, DottedTree, FileTree, Reserved, Token};
+use expr_parser::{ParseFault, dotted, first};
 use std::alloc::Global;
 
 // The file that all of the tokens are. Each level and each round takes a token at least, so that the fuel, one more than
@@ -84,4 +85,20 @@ fn imports<'a>(
     ensures left { IfOk result (λ x. length x.1.now ≤ length tokens.entry.now) }
 {
     many(alloc, fuel, Repeat::Imports, Row::new(alloc), tokens)
+}
+
+impl Part for DottedTree {
+    ghost Seen = { DottedTree };
+
+    ghost seen = { λ d. d };
+
+    ghost read = { λ _ ts. names.dotted ts };
+
+    fn part<'a>(
+        alloc: Global,
+        _fuel: usize,
+        tokens: &'a [Token],
+    ) -> Result<(Self, &'a [Token]), ParseFault> {
+        dotted(alloc, tokens)
+    }
 }

@@ -3,16 +3,13 @@ ghost use Rattle.aidl_syntax.specs.declared.token.Symbol.TheVariants as mark;
 ghost use Rattle.aidl_syntax.specs.Trees.{Expr, Init, expr_of, init_of};
 ghost use Rattle.aidl_parser.specs.steps.Parts as part;
 ghost use Rattle.aidl_parser.specs.steps.Inits as read;
-ghost use Rattle.aidl_parser.specs.Gives.{Gives};
+ghost use Rattle.expr_parser.specs.Gives.{Gives};
 
-use crate::expr::expr;
-use crate::fault::ParseFault;
-use crate::levels::Level;
 use crate::lists::{Part, maybe_trailing};
 use crate::parts::{begins, quoted};
-use crate::tokens::first;
 use aidl_base::Row;
 use aidl_syntax::{ExprTree, InitTree, Symbol, Token};
+use expr_parser::{Level, ParseFault, expr, first};
 use std::alloc::Global;
 
 // expr | "{" [expr {"," expr} [","]] "}"

@@ -3,20 +3,14 @@
 
 mod annots;
 mod decls;
-mod expr;
-mod fault;
 mod fields;
 mod file;
 mod inits;
-mod levels;
 mod limits;
 mod lists;
 mod methods;
-mod names;
 mod parsing;
 mod parts;
-mod tokens;
 mod types;
 
-pub use fault::ParseFault;
 pub use parsing::{law_one_tree, parse};

@@ -2,16 +2,16 @@ ghost use Rattle.std.specs.Prelude.{◌≡◌, ℕ, List, Option, map, length, I
 ghost use Rattle.aidl_syntax.specs.declared.token.Token.{Token};
 ghost use Rattle.aidl_syntax.specs.declared.token.Symbol.TheVariants as mark;
 ghost use Rattle.aidl_syntax.specs.Trees.{map_option};
-ghost use Rattle.aidl_parser.specs.steps.Reading.{Read};
+ghost use Rattle.expr_parser.specs.steps.Reading.{Read};
 ghost use Rattle.aidl_parser.specs.steps.Parts as part;
 ghost use Rattle.aidl_parser.specs.steps.Inits as inits;
 ghost use Rattle.aidl_parser.specs.steps.Repeats as repeats;
-ghost use Rattle.aidl_parser.specs.Gives.{Gives};
+ghost use Rattle.expr_parser.specs.Gives.{Gives};
 
-use crate::fault::ParseFault;
 use crate::parts::{begins, begins_word, quoted, worded};
 use aidl_base::Row;
 use aidl_syntax::{Reserved, Symbol, Token};
+use expr_parser::ParseFault;
 use std::alloc::Global;
 
 /// A part of the productions that stands in lists or behind a symbol, read by its type.

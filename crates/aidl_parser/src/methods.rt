@@ -6,20 +6,18 @@ ghost use Rattle.aidl_parser.specs.steps.Parts as part;
 ghost use Rattle.aidl_parser.specs.steps.Members as read;
 ghost use Rattle.aidl_parser.specs.steps.Decls as decls;
 ghost use Rattle.aidl_syntax.specs.declared.token.Token.{Token as SeenToken};
-ghost use Rattle.aidl_parser.specs.Gives.{Gives};
+ghost use Rattle.expr_parser.specs.Gives.{Gives};
 
 use crate::annots::annots;
-use crate::expr::clone_token;
-use crate::fault::ParseFault;
 use crate::lists::{Part, Repeat, in_parens, many, maybe_behind};
 use crate::parts::{begins, begins_word, quoted, worded};
-use crate::tokens::first;
 use crate::types::{ident, type_of};
 use aidl_base::Row;
 use aidl_syntax::{
     AnnotTree, ArgTree, MemberTree, MethodTree, Reserved, Symbol, Token, TokenKind, TypeTree,
     WayTree,
 };
+use expr_parser::{ParseFault, clone_token, first};
 use std::alloc::Global;
 
 // ["oneway"] (type | "void") ident "(" [arg {"," arg}] ")" ["=" number] ";"

@@ -2,18 +2,18 @@ ghost use Rattle.std.specs.Prelude.{◌≡◌, IfOk, IfErr, Some, None, Err};
 ghost use Rattle.aidl_base.specs.declared.limit.LimitName.{LimitName};
 ghost use Rattle.aidl_syntax.specs.Trees.{File, file_of};
 ghost use Rattle.aidl_syntax.specs.Productions.{IsFile, Tree};
-ghost use Rattle.aidl_parser.specs.declared.fault.ParseFault.TheVariants as fault;
+ghost use Rattle.expr_parser.specs.declared.fault.ParseFault.TheVariants as fault;
 ghost use Rattle.aidl_parser.specs.Limits.{passed};
 ghost use Rattle.aidl_parser.specs.steps.Decls.{whole_of};
 ghost use Rattle.aidl_parser.specs.Refusals.{IsRefusal};
 ghost use Rattle.aidl_parser.specs.steps.Answers.{Answers};
-ghost use Rattle.aidl_parser.specs.Gives.{Gives};
+ghost use Rattle.expr_parser.specs.Gives.{Gives};
 
-use crate::fault::ParseFault;
 use crate::file::whole;
 use crate::limits::limit_of;
 use aidl_base::Limit;
 use aidl_syntax::{FileTree, Token};
+use expr_parser::ParseFault;
 use std::alloc::Global;
 
 /// The tree that the tokens stand for by the productions. It refuses tokens that pass a limit, `nesting` before

@@ -1,10 +1,9 @@
 ghost use Rattle.std.specs.Prelude.{◌≡◌, length, IfOk, ◌<◌};
 ghost use Rattle.aidl_parser.specs.steps.Parts as read;
-ghost use Rattle.aidl_parser.specs.Gives.{Gives};
+ghost use Rattle.expr_parser.specs.Gives.{Gives};
 
-use crate::fault::ParseFault;
-use crate::tokens::mark_of;
 use aidl_syntax::{Reserved, Symbol, Token, TokenKind};
+use expr_parser::{ParseFault, mark_of};
 
 // Whether the symbol stands first.
 #[tactic(auto, unfolding(crate::specs::steps::Parts::same_symbol))]

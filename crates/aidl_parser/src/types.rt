@@ -2,13 +2,11 @@ ghost use Rattle.std.specs.Prelude.{◌≡◌, length, IfOk, ◌<◌, ◌≤◌}
 ghost use Rattle.aidl_syntax.specs.declared.token.Symbol.TheVariants as mark;
 ghost use Rattle.aidl_parser.specs.steps.Parts as part;
 ghost use Rattle.aidl_parser.specs.steps.Types as read;
-ghost use Rattle.aidl_parser.specs.Gives.{Gives};
+ghost use Rattle.expr_parser.specs.Gives.{Gives};
 
-use crate::fault::ParseFault;
-use crate::names::dotted;
 use crate::parts::{begins, quoted};
-use crate::tokens::{first, name_of};
 use aidl_syntax::{DottedTree, NameTree, Symbol, Token, TypeTree};
+use expr_parser::{ParseFault, dotted, first, name_of};
 use std::alloc::Global;
 
 // dotted ["<" dotted ">"] ["[" "]"]

@@ -2,10 +2,10 @@ ghost use Rattle.std.specs.Prelude.{◌≡◌, ◌++◌, map, IfOk, OnOk};
 ghost use Rattle.name_marks.specs.steps.Ends.{mark_back, ends_in, ends_of};
 ghost use Rattle.declared_names.specs.Entries.{entry_of};
 
-use declared_names::Found;
 use crate::marking::with_part;
 use crate::table::Table;
 use aidl_base::{Ident, OutOfMemory};
+use declared_names::Found;
 use std::alloc::Global;
 use std::marker::Model;
 

@@ -3,8 +3,8 @@ ghost use Rattle.std.specs.List.{fold};
 ghost use Rattle.name_marks.specs.Marks.{with_byte, with_part, mark_of_entry};
 ghost use Rattle.declared_names.specs.Entries.{entry_of};
 
-use declared_names::Found;
 use aidl_base::{Ident, OutOfMemory};
+use declared_names::Found;
 use std::alloc::Global;
 
 #[tactic(auto, unfolding(crate::specs::Marks::with_byte))]

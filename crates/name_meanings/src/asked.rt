@@ -4,8 +4,8 @@ ghost use Rattle.name_meanings.specs.steps.Asked.{IsSaid, is_told, said, said_at
 use crate::meaning::Resolved;
 use aidl_base::{Ident, OutOfMemory};
 use aidl_syntax::DottedTree;
-use name_marks::{same, with_parts};
 use indexmap::IndexMap;
+use name_marks::{same, with_parts};
 use std::alloc::Global;
 use std::marker::Model;
 

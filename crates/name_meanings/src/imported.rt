@@ -12,8 +12,8 @@ use crate::resolution::declared;
 use aidl_base::{Ident, OutOfMemory};
 use aidl_syntax::{DottedTree, ParsedFile};
 use declared_names::Found;
-use name_marks::{Ends, Table, ends_in, is_rarer, last_mark, same, with_part, with_parts};
 use indexmap::IndexMap;
+use name_marks::{Ends, Table, ends_in, is_rarer, last_mark, same, with_part, with_parts};
 use std::alloc::Global;
 use std::marker::Model;
 

@@ -3,8 +3,9 @@ use crate::place::shown_place;
 use crate::tokens::shown_tokens;
 use aidl_base::{LimitName, OutOfMemory};
 use aidl_lexer::{LexFault, lex};
-use aidl_parser::{ParseFault, parse};
+use aidl_parser::parse;
 use aidl_syntax::{FileTree, Token};
+use expr_parser::ParseFault;
 use std::alloc::Global;
 use tree_outlines::Outline;
 

@@ -10,8 +10,9 @@ ghost use Rattle.tree_files.specs.steps.Standing.{Stands, Extends, wants_trees};
 use crate::fault::{FilesFault, LexBreach};
 use aidl_base::{Limit, LimitName, OutOfMemory, Row, SourceFile};
 use aidl_lexer::{LexFault, lex};
-use aidl_parser::{ParseFault, parse};
+use aidl_parser::parse;
 use aidl_syntax::{ParsedFile, Token};
+use expr_parser::ParseFault;
 use std::alloc::Global;
 
 /// What is found of the first files of a tree. Once a file has no tokens only `faults` counts; once a limit on tokens

@@ -11,7 +11,7 @@ use Rattle.aidl_syntax.specs.declared.tree.WayTree.{WayTree}
 use Rattle.aidl_syntax.specs.declared.tree.WayTree.TheVariants as way
 use Rattle.aidl_syntax.specs.Parts.{first}
 use Rattle.aidl_syntax.specs.Trees.{Expr, Init, Annot, Enumerator, Arg}
-use Rattle.aidl_parser.specs.steps.Reading.{Read, ◌>>=◌}
+use Rattle.expr_parser.specs.steps.Reading.{Read, ◌>>=◌}
 use Rattle.aidl_parser.specs.steps.Parts.{begins, begins_word, worded, both, alter, second, behind, upto, placed, maybe, as_some, with_items}
 use Rattle.aidl_parser.specs.steps.Types.{ident, as_true, type_at}
 use Rattle.aidl_parser.specs.steps.Inits.{expr_at, init_at, annots_at, maybe_listed}

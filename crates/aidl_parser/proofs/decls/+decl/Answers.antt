@@ -4,7 +4,7 @@ use Rattle.aidl_syntax.specs.declared.token.Symbol.TheVariants as mark
 use Rattle.aidl_syntax.specs.Trees.{ahead_of, member_of}
 use Rattle.aidl_parser.specs.steps.Parts.{begins}
 use Rattle.aidl_parser.specs.steps.Decls.{members_at, member_at}
-use Rattle.aidl_parser.proofs.Looping.{fails_over}
+use Rattle.expr_parser.proofs.lemmas.Looping.{fails_over}
 use Rattle.aidl_parser.proofs.MemberRounds.{stops, fails, goes_on}
 use Rattle.aidl_parser.proofs.decls.+decl.Goals as goal
 

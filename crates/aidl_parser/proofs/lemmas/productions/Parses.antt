@@ -6,9 +6,9 @@ use Rattle.aidl_syntax.specs.declared.token.Token.{Token}
 use Rattle.aidl_syntax.specs.declared.tree.FileTree.{FileTree}
 use Rattle.aidl_syntax.specs.Trees.{File, file_of}
 use Rattle.aidl_syntax.specs.Productions.{IsFile, Tree}
-use Rattle.aidl_parser.specs.declared.fault.ParseFault.{ParseFault}
-use Rattle.aidl_parser.specs.declared.fault.ParseFault.TheVariants as fault
-use Rattle.aidl_parser.specs.Gives.{Gives}
+use Rattle.expr_parser.specs.declared.fault.ParseFault.{ParseFault}
+use Rattle.expr_parser.specs.declared.fault.ParseFault.TheVariants as fault
+use Rattle.expr_parser.specs.Gives.{Gives}
 use Rattle.aidl_parser.specs.Limits.{passed}
 use Rattle.aidl_parser.specs.steps.Decls.{whole_of}
 use Rattle.aidl_parser.specs.Refusals.{IsRefusal}

@@ -2,7 +2,7 @@ use Rattle.std.proofs.Common.{◌≡◌, ◌-◌, ◌<◌, ◌≤◌, length, ma
 use Rattle.std.proofs.lemmas.Result.{err_from_is_err_and}
 use Rattle.aidl_parser.specs.steps.Parts.{with_items}
 use Rattle.aidl_parser.specs.steps.Repeats.{goes_on, round, many_by}
-use Rattle.aidl_parser.proofs.Looping.{fails_over}
+use Rattle.expr_parser.proofs.lemmas.Looping.{fails_over}
 use Rattle.aidl_parser.proofs.Rounds as rounds
 use Rattle.aidl_parser.proofs.lists.many.Goals as goal
 

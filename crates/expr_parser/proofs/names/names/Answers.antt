@@ -1,8 +1,8 @@
 use Rattle.std.proofs.Common.{◌≡◌, ◌<◌, ◌≤◌, suc, sym, ap, ◌∙◌, true, length, arith}
 use Rattle.std.proofs.lemmas.Result.{err_from_is_err_and}
-use Rattle.aidl_parser.specs.steps.Reading.{names, name_of}
-use Rattle.aidl_parser.proofs.Looping.{name_dot, name_last, name_none, name_no_more, fails_over}
-use Rattle.aidl_parser.proofs.names.names.Goals as goal
+use Rattle.expr_parser.specs.steps.Reading.{names, name_of}
+use Rattle.expr_parser.proofs.lemmas.Looping.{name_dot, name_last, name_none, name_no_more, fails_over}
+use Rattle.expr_parser.proofs.names.names.Goals as goal
 
 pub returns-in_err-name_of-clause-gives : goal.returns-in_err-name_of-clause-gives
 returns-in_err-name_of-clause-gives c =

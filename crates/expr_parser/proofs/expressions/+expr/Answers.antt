@@ -1,10 +1,10 @@
 use Rattle.std.proofs.Common.{◌≡◌, ◌+◌, ◌-◌, ◌<◌, ◌≤◌, suc, length, sym, ◌∙◌, ap, arith}
 use Rattle.std.proofs.lemmas.Result.{err_from_is_err_and}
 use Rattle.aidl_syntax.specs.Trees.{expr_of}
-use Rattle.aidl_parser.specs.steps.Levels.{rank}
-use Rattle.aidl_parser.specs.steps.Reading.{climb, expr}
-use Rattle.aidl_parser.proofs.Looping.{climb_end, climb_stop, climb_none, climb_more, fails_over}
-use Rattle.aidl_parser.proofs.expr.+expr.Goals as goal
+use Rattle.expr_parser.specs.steps.Levels.{rank}
+use Rattle.expr_parser.specs.steps.Reading.{climb, expr}
+use Rattle.expr_parser.proofs.lemmas.Looping.{climb_end, climb_stop, climb_none, climb_more, fails_over}
+use Rattle.expr_parser.proofs.expressions.+expr.Goals as goal
 
 pub climb-returns-in_default-operator-clause-gives : goal.climb-returns-in_default-operator-clause-gives
 climb-returns-in_default-operator-clause-gives t c =

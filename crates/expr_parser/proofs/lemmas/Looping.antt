@@ -5,10 +5,10 @@ use Rattle.aidl_syntax.specs.declared.token.Symbol.{Symbol}
 use Rattle.aidl_syntax.specs.declared.token.Token.{Token}
 use Rattle.aidl_syntax.specs.Trees.{Expr, offset_of}
 use Rattle.aidl_syntax.specs.Trees.Expr.{binary}
-use Rattle.aidl_parser.specs.declared.fault.ParseFault.{ParseFault}
-use Rattle.aidl_parser.specs.declared.fault.ParseFault.TheVariants as fault
-use Rattle.aidl_parser.specs.Gives.{Fails}
-use Rattle.aidl_parser.specs.steps.Reading.{Read, mark_of, name_of, is_dot, after_dot, onto, names, with_names, operand, climb, expr, goes_on, level_by, with_sign, ◌>>=◌}
+use Rattle.expr_parser.specs.declared.fault.ParseFault.{ParseFault}
+use Rattle.expr_parser.specs.declared.fault.ParseFault.TheVariants as fault
+use Rattle.expr_parser.specs.Gives.{Fails}
+use Rattle.expr_parser.specs.steps.Reading.{Read, mark_of, name_of, is_dot, after_dot, onto, names, with_names, operand, climb, expr, goes_on, level_by, with_sign, ◌>>=◌}
 
 with_onto : (front : List Ident) (i : Ident) (r : Read (List Ident)) → with_names front (onto i r) ≡ with_names (front ++ i ∷ []) r
 with_onto front i None = refl

@@ -1,10 +1,8 @@
 ghost use Rattle.std.specs.Prelude.{◌≡◌, true, length, IfOk, ◌<◌, IfSome};
-ghost use Rattle.aidl_syntax.specs.declared.tree.DottedTree.{DottedTree};
-ghost use Rattle.aidl_parser.specs.steps.Reading as read;
-ghost use Rattle.aidl_parser.specs.Gives.{Gives};
+ghost use Rattle.expr_parser.specs.steps.Reading as read;
+ghost use Rattle.expr_parser.specs.Gives.{Gives};
 
 use crate::fault::ParseFault;
-use crate::lists::Part;
 use crate::tokens::{first, mark_of, name_of, next};
 use aidl_base::{DottedName, Ident, Row};
 use aidl_syntax::{DottedTree, Symbol, Token};
@@ -60,21 +58,5 @@ fn after_dot<'a>(tokens: &'a [Token]) -> Option<&'a [Token]>
             _ => None,
         },
         [] => None,
-    }
-}
-
-impl Part for DottedTree {
-    ghost Seen = { DottedTree };
-
-    ghost seen = { λ d. d };
-
-    ghost read = { λ _ ts. read.dotted ts };
-
-    fn part<'a>(
-        alloc: Global,
-        _fuel: usize,
-        tokens: &'a [Token],
-    ) -> Result<(Self, &'a [Token]), ParseFault> {
-        dotted(alloc, tokens)
     }
 }

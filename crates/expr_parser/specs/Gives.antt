@@ -1,7 +1,7 @@
 -- What a function returned, seen by a view, is what reading gives, unless memory ran out.
 use Rattle.std.specs.Prelude.{◌≡◌, Option, Some, None, Result, Ok, Err}
-use Rattle.aidl_parser.specs.declared.fault.ParseFault.{ParseFault}
-use Rattle.aidl_parser.specs.declared.fault.ParseFault.TheVariants as fault
+use Rattle.expr_parser.specs.declared.fault.ParseFault.{ParseFault}
+use Rattle.expr_parser.specs.declared.fault.ParseFault.TheVariants as fault
 
 abbrev pub Fails : {Y : Type 0} → ParseFault → Option Y → Type 0
 Fails (fault.Limit limit) read = ⊥

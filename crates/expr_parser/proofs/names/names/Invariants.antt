@@ -1,6 +1,6 @@
 use Rattle.std.proofs.Common.{◌≡◌, ◌≤◌, length, true}
-use Rattle.aidl_parser.specs.steps.Reading.{names, with_names}
-use Rattle.aidl_parser.proofs.names.names.Given as goal
+use Rattle.expr_parser.specs.steps.Reading.{names, with_names}
+use Rattle.expr_parser.proofs.names.names.Given as goal
 
 -- what was read, and then what is still read, is all
 abbrev pub invariant-loop-t : goal.invariant-loop-t

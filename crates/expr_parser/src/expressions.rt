@@ -3,10 +3,10 @@ ghost use Rattle.aidl_syntax.specs.Trees.{expr_of};
 ghost use Rattle.aidl_syntax.specs.Trees.Expr.{unary as unary_tree, binary as binary_tree};
 ghost use Rattle.aidl_syntax.specs.Trees as shown;
 ghost use Rattle.aidl_syntax.specs.Productions as form;
-ghost use Rattle.aidl_parser.specs.steps.Reading as read;
-ghost use Rattle.aidl_parser.specs.steps.Levels.{rank};
-ghost use Rattle.aidl_parser.specs.Gives.{Gives};
-ghost use Rattle.aidl_parser.specs.declared.fault.ParseFault.TheVariants as fault;
+ghost use Rattle.expr_parser.specs.steps.Reading as read;
+ghost use Rattle.expr_parser.specs.steps.Levels.{rank};
+ghost use Rattle.expr_parser.specs.Gives.{Gives};
+ghost use Rattle.expr_parser.specs.declared.fault.ParseFault.TheVariants as fault;
 
 use crate::fault::ParseFault;
 use crate::levels::{Level, above, operator};
@@ -16,7 +16,7 @@ use aidl_syntax::{ExprKind, ExprTree, Reserved, Symbol, Token, TokenKind};
 use std::alloc::Global;
 
 #[cycle(expr)]
-#[tactic(auto, using(crate::proofs::Looping::expr_step))]
+#[tactic(auto, using(crate::proofs::lemmas::Looping::expr_step))]
 pub fn expr<'a>(
     alloc: Global,
     fuel: usize,

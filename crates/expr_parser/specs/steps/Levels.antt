@@ -1,9 +1,9 @@
 -- The levels of expressions by the numbers of their productions.
 use Rattle.std.specs.Prelude.{◌≡◌, ◌≤◌, ℕ, true, Option, Some, None}
 use Rattle.aidl_syntax.specs.declared.token.Symbol.{Symbol}
-use Rattle.aidl_parser.specs.declared.levels.Level.{Level}
-use Rattle.aidl_parser.specs.declared.levels.Level.TheVariants.{Or, And, BitOr, BitXor, BitAnd, Equal, Less, Shift, Sum, Product, Unary}
-use Rattle.aidl_parser.specs.steps.Reading.{goes_on, level_by}
+use Rattle.expr_parser.specs.declared.levels.Level.{Level}
+use Rattle.expr_parser.specs.declared.levels.Level.TheVariants.{Or, And, BitOr, BitXor, BitAnd, Equal, Less, Shift, Sum, Product, Unary}
+use Rattle.expr_parser.specs.steps.Reading.{goes_on, level_by}
 
 abbrev pub rank : Level → ℕ
 rank Or = 1

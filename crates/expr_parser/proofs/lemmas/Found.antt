@@ -3,7 +3,7 @@ use Rattle.std.proofs.Common.{◌≡◌, ℕ, zero, suc, ◌+◌, ◌-◌, ◌<�
 use Rattle.std.proofs.lemmas.Bool.Decides.{nat_tests}
 use Rattle.aidl_base.specs.declared.name.Ident.{Ident}
 use Rattle.aidl_base.specs.declared.text.Text.{Text}
-use Rattle.aidl_parser.proofs.Looping.{climb_more}
+use Rattle.expr_parser.proofs.lemmas.Looping.{climb_more}
 use Rattle.aidl_syntax.specs.declared.token.Symbol.{Symbol}
 use Rattle.aidl_syntax.specs.declared.token.Symbol.TheVariants as mark
 use Rattle.aidl_syntax.specs.declared.token.TokenKind.{TokenKind}
@@ -13,9 +13,9 @@ use Rattle.aidl_syntax.specs.declared.tree.DottedTree.{DottedTree}
 use Rattle.aidl_syntax.specs.Trees.{Expr, offset_of}
 use Rattle.aidl_syntax.specs.Trees.Expr.{literal, name, group, unary, binary}
 use Rattle.aidl_syntax.specs.Parts.{first}
-use Rattle.aidl_parser.specs.steps.Reading.{IsMark}
+use Rattle.expr_parser.specs.steps.Reading.{IsMark}
 use Rattle.aidl_syntax.specs.Productions.{AreNames, IsDotted, is_literal, is_sign, level, IsOf, IsExpr}
-use Rattle.aidl_parser.specs.steps.Reading.{Read, mark_of, is_dot, is_open, names, dotted, by_name, operand, climb, expr, goes_on, level_by}
+use Rattle.expr_parser.specs.steps.Reading.{Read, mark_of, is_dot, is_open, names, dotted, by_name, operand, climb, expr, goes_on, level_by}
 
 -- the first token isn't a dot
 abbrev pub no_dot : List Token → Bool

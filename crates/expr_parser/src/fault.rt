@@ -14,7 +14,7 @@ pub enum ParseFault {
 
 impl From<OutOfMemory> for ParseFault {
     ghost use Rattle.std.specs.Prelude.{◌≡◌};
-    ghost use Rattle.aidl_parser.specs.declared.fault.ParseFault.TheVariants.{OutOfMemory};
+    ghost use Rattle.expr_parser.specs.declared.fault.ParseFault.TheVariants.{OutOfMemory};
 
     ghost from_gives = { λ _ e. e ≡ OutOfMemory };
 
@@ -25,7 +25,7 @@ impl From<OutOfMemory> for ParseFault {
 
 impl From<AllocError> for ParseFault {
     ghost use Rattle.std.specs.Prelude.{◌≡◌};
-    ghost use Rattle.aidl_parser.specs.declared.fault.ParseFault.TheVariants.{OutOfMemory};
+    ghost use Rattle.expr_parser.specs.declared.fault.ParseFault.TheVariants.{OutOfMemory};
 
     ghost from_gives = { λ _ e. e ≡ OutOfMemory };
 
@@ -36,7 +36,7 @@ impl From<AllocError> for ParseFault {
 
 impl<T: Drop> From<AllocFailed<T>> for ParseFault {
     ghost use Rattle.std.specs.Prelude.{◌≡◌};
-    ghost use Rattle.aidl_parser.specs.declared.fault.ParseFault.TheVariants.{OutOfMemory};
+    ghost use Rattle.expr_parser.specs.declared.fault.ParseFault.TheVariants.{OutOfMemory};
 
     ghost from_gives = { λ _ e. e ≡ OutOfMemory };
 

@@ -1,8 +1,8 @@
 use Rattle.std.proofs.Common.{◌≡◌, ◌+◌, ◌*◌, ◌<◌, ◌≤◌, length}
 use Rattle.aidl_syntax.specs.Trees.{expr_of}
-use Rattle.aidl_parser.specs.steps.Levels.{rank}
-use Rattle.aidl_parser.specs.steps.Reading.{climb, expr}
-use Rattle.aidl_parser.proofs.expr.+expr.Given as goal
+use Rattle.expr_parser.specs.steps.Levels.{rank}
+use Rattle.expr_parser.specs.steps.Reading.{climb, expr}
+use Rattle.expr_parser.proofs.expressions.+expr.Given as goal
 
 abbrev pub decreases-expr : goal.decreases-expr
 decreases-expr l = 8 * l.fuel
