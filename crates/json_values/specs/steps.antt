@@ -1,3 +1,4 @@
 -- What the code's steps do, for its inner contracts: no public contract or law cites it.
 pub mod Levels
 pub mod Plain
+pub mod Puts

@@ -4,6 +4,7 @@ ghost use Rattle.aidl_values.specs.View.{view, views};
 ghost use Rattle.json_values.specs.FromJson as answer;
 ghost use Rattle.json_faults.specs.Refusal.{within};
 ghost use Rattle.json_values.specs.steps.Levels.{part_from};
+ghost use Rattle.json_values.specs.steps.Puts.{Puts};
 ghost use Rattle.aidl_values.specs.steps.Levels.{is_level_left};
 ghost use Rattle.json_faults.specs.steps.Gives.{Gives};
 
@@ -58,7 +59,6 @@ fn read_elements<'a>(
     }
 }
 
-// Numbers, of which there may be many, are put where they are found.
 #[cycle(reading)]
 fn read_items<'a>(
     alloc: Global,
@@ -74,12 +74,32 @@ fn read_items<'a>(
 {
     let mut values = Vec::with_capacity(alloc, items.len())?;
     for (i, item) in items.iter().enumerate() {
-        match plain_number(ty, item) {
-            Some(n) => values.push(number_value(n))?,
-            None => values.push(read_item(alloc, schema, hints, ty, levels, i, item)?)?,
-        }
+        push_item(alloc, schema, hints, ty, levels, i, item, &mut values)?;
     }
     Ok(Row::from_vec(values))
+}
+
+// Puts an element behind those before it. Numbers, of which there may be many, are put where they are found.
+#[cycle(reading)]
+#[inline(always)]
+fn push_item<'a>(
+    alloc: Global,
+    schema: &'a Schema,
+    hints: &mut Hints<'a>,
+    ty: AidlType,
+    levels: usize,
+    index: usize,
+    json: &Json,
+    values: &mut Vec<Value>,
+) -> Result<(), Fault>
+    requires left { 0 < levels }
+    requires few { levels ≤ 64 }
+    ensures { Puts values.old.items values.new.items result (within (decimal index) (part_from schema.now.decls levels ty (json_view json.now))) }
+{
+    match plain_number(ty, json) {
+        Some(n) => Ok(values.push(number_value(n))?),
+        None => Ok(values.push(read_item(alloc, schema, hints, ty, levels, index, json)?)?),
+    }
 }
 
 #[cycle(reading)]

@@ -37,22 +37,24 @@ reading::read_within-returns-in-Some t c =
 pub reading::read_within-returns-in-None : goal.reading::read_within-returns-in-None
 reading::read_within-returns-in-None t c = subst (Gives view c.read.result) (from_json_of-by c.args.schema.now.decls c.args.levels c.args.ty _) c.read.ensures
 
-pub sequences::read_items-loop-i-preserved-in-Some : goal.sequences::read_items-loop-i-preserved-in-Some
-sequences::read_items-loop-i-preserved-in-Some t c =
-    let S = c.args.schema.now.decls in
-    let d = c.args.levels in
+pub sequences::read_items-loop-i-preserved : goal.sequences::read_items-loop-i-preserved
+sequences::read_items-loop-i-preserved t c =
     let ds = map view c.loop-i.values.items in
-    let item = c.index-items-i.result in
-    let is : IsPlain c.args.ty (json_view item) c.in-Some.n = subst (λ o. IfSome o (λ n. IsPlain c.args.ty (json_view item) n)) c.in-Some.is c.plain_number.ensures in
-    let read = plain_part (decimal c.loop-i.i) S d c.args.ty (json_view item) c.in-Some.n c.requires.0 is in
-    let more : map view c.push.new.self.items ≡ ds ++ number c.in-Some.n ∷ [] = grind (arith, common_steps) in
-    rw more (sym (items_more (λ j. part_from S d c.args.ty j) c.args.items.now c.loop-i.i item ds (number c.in-Some.n) (omega arith) (search rules) read) ∙ c.loop-i.invariant)
+    let put = c.in_ok-push_item.ensures in
+    let more : map view c.push_item.new.values.items ≡ ds ++ view put.0 ∷ [] = grind (arith, common_steps, put.1) in
+    rw more (sym (items_more (λ j. part_from c.args.schema.now.decls c.args.levels c.args.ty j) c.args.items.now c.loop-i.i c.index-items-i.result ds (view put.0) (omega arith) (search rules) put.2) ∙ c.loop-i.invariant)
 
-pub sequences::read_items-loop-i-preserved-in-None : goal.sequences::read_items-loop-i-preserved-in-None
-sequences::read_items-loop-i-preserved-in-None t c =
-    let ds = map view c.loop-i.values.items in
-    let more : map view c.push-1.new.self.items ≡ ds ++ view c.in_ok-read_item.field-0 ∷ [] = grind (arith, common_steps) in
-    rw more (sym (items_more (λ j. part_from c.args.schema.now.decls c.args.levels c.args.ty j) c.args.items.now c.loop-i.i c.index-items-i.result ds (view c.in_ok-read_item.field-0) (omega arith) (search rules) c.in_ok-read_item.ensures) ∙ c.loop-i.invariant)
+pub sequences::push_item-returns-in_ok-push-in-Some : goal.sequences::push_item-returns-in_ok-push-in-Some
+sequences::push_item-returns-in_ok-push-in-Some t c =
+    let j = json_view c.args.json.now in
+    let n = c.in-Some.n in
+    let is : IsPlain c.args.ty j n = subst (λ o. IfSome o (λ m. IsPlain c.args.ty j m)) c.in-Some.is c.plain_number.ensures in
+    let read = plain_part (decimal c.args.index) c.args.schema.now.decls c.args.levels c.args.ty j n c.requires.left is in
+    let same : to_z w64 (of_z w64 n) ≡ n = search rules in
+    (c.number_value.result, grind (arith, common_steps), read ∙ ap (λ m. Ok (number m)) (sym same) ∙ ap Ok (sym c.number_value.ensures))
+
+pub sequences::push_item-returns-in_ok-push-in-None : goal.sequences::push_item-returns-in_ok-push-in-None
+sequences::push_item-returns-in_ok-push-in-None t c = (c.in_ok-read_item-in-None.field-0, grind (arith, common_steps), c.in_ok-read_item-in-None.ensures)
 
 pub sequences::read_items-returns : goal.sequences::read_items-returns
 sequences::read_items-returns t c =

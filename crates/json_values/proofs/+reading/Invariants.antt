@@ -26,7 +26,10 @@ abbrev pub decreases-unions::read_union : goal.decreases-unions::read_union
 decreases-unions::read_union l = 8 * l.levels + 3
 
 abbrev pub decreases-sequences::read_items : goal.decreases-sequences::read_items
-decreases-sequences::read_items l = 8 * l.levels + 1
+decreases-sequences::read_items l = 8 * l.levels + 2
+
+abbrev pub decreases-sequences::push_item : goal.decreases-sequences::push_item
+decreases-sequences::push_item l = 8 * l.levels + 1
 
 abbrev pub decreases-records::read_fields : goal.decreases-records::read_fields
 decreases-records::read_fields l = 8 * l.levels + 2
@@ -66,7 +69,7 @@ invariant-unions::find_alternative-loop-i l =
     ≡ alternative_from (λ u j. part_from l.schema.decls l.levels u j) 0 l.fields l.key (json_view l.json)
 
 abbrev pub decreases-sequences::read_elements : goal.decreases-sequences::read_elements
-decreases-sequences::read_elements l = 8 * l.levels + 2
+decreases-sequences::read_elements l = 8 * l.levels + 3
 
 abbrev pub decreases-records::read_object : goal.decreases-records::read_object
 decreases-records::read_object l = 8 * l.levels + 3
