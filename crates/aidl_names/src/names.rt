@@ -19,7 +19,8 @@ use aidl_syntax::ParsedFile;
 use declared_names::{Found, MemberRef, WalkFault, called, members_by_name, walk};
 use indexmap::IndexMap;
 use name_marks::{Table, marks};
-use name_meanings::{Imports, Known, Resolved, imports_of_files, resolved};
+use name_meanings::{Imports, Resolved, imports_of_files};
+use name_resolution::{Known, resolved};
 use name_rules::{
     add_other_imports, add_repeated, add_taken, add_types, add_unknown_imports, add_wrong_files,
     passed,

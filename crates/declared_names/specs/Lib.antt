@@ -6,4 +6,3 @@ pub mod MemberViews
 pub mod Called
 pub mod TypeNames
 pub mod Numbered
-pub mod steps

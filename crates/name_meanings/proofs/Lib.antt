@@ -2,6 +2,5 @@ mod Ahead
 mod Candidates
 mod Copies
 mod Leads
-mod OfFiles
 mod Through
 pub mod lemmas

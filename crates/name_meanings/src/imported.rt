@@ -8,7 +8,7 @@ ghost use Rattle.declared_names.specs.Entries.{entry_of};
 ghost use Rattle.name_meanings.specs.Resolution.{first_declared, imported};
 
 use crate::meaning::Resolved;
-use crate::resolution::declared;
+use crate::numbers::declared;
 use aidl_base::{Ident, OutOfMemory};
 use aidl_syntax::{DottedTree, ParsedFile};
 use declared_names::Found;

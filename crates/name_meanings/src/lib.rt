@@ -1,16 +1,13 @@
-//! What names mean in a tree of files: by themselves, through enclosing declarations, imports and packages.
+//! What names mean in a tree of files, and how the code finds what one means through the imports of its file.
 #![tactic(auto)]
 
-mod asked;
-mod asking;
 mod behind;
 mod by_name;
 mod imported;
 mod meaning;
-mod resolution;
+mod numbers;
 
-pub use asked::{Asked, Known};
-pub use asking::asked_where;
-pub use imported::{Imports, imports_of_files};
+pub use by_name::{ByName, by_names};
+pub use imported::{Imports, imports_of_files, in_imports};
 pub use meaning::{BuiltinName, Resolved};
-pub use resolution::{meaning_of_word, number_of, resolved};
+pub use numbers::{declared, number_of};

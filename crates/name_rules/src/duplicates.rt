@@ -14,7 +14,8 @@ use aidl_syntax::{ArgTree, NameTree};
 use declared_names::{Found, MemberRef, members, name_of};
 use indexmap::IndexSet;
 use name_marks::Table;
-use name_meanings::{meaning_of_word, number_of};
+use name_meanings::number_of;
+use name_resolution::meaning_of_word;
 use std::alloc::Global;
 
 /// Adds the breaches of E2 by members and arguments.

@@ -8,14 +8,15 @@ ghost use Rattle.name_rules.specs.TypeRules.{breaks_of, rule_of};
 ghost use Rattle.name_meanings.specs.Imports.{meant_through, meant_in};
 ghost use Rattle.name_marks.specs.Marks.{mark_of_entry};
 ghost use Rattle.declared_names.specs.Entries.{entry_of};
-ghost use Rattle.name_meanings.specs.steps.Asked.{AreRight};
+ghost use Rattle.name_resolution.specs.steps.Asked.{AreRight};
 
 use crate::rows::add_if;
 use aidl_base::{Breach, Ident, OutOfMemory};
 use aidl_syntax::{BodyTree, DeclTree, ParsedFile};
 use declared_names::{Found, names_of_types};
 use name_marks::Table;
-use name_meanings::{Asked, Imports, Resolved, asked_where, resolved};
+use name_meanings::{Imports, Resolved};
+use name_resolution::{Asked, asked_where, resolved};
 use std::alloc::Global;
 
 /// A rule on the names of types.

@@ -1,6 +1,6 @@
 use Rattle.std.proofs.Common.{map}
 use Rattle.declared_names.specs.Entries.{entry_of}
-use Rattle.name_meanings.proofs.lemmas.Told.{is_right}
+use Rattle.name_resolution.proofs.lemmas.Told.{is_right}
 use Rattle.name_rules.proofs.types.breaks.Goals as goal
 
 pub resolved-meaning-requires-clause-known : goal.resolved-meaning-requires-clause-known

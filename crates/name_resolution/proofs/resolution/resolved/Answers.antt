@@ -1,8 +1,8 @@
 use Rattle.std.proofs.Common.{map, arith}
 use Rattle.declared_names.specs.Entries.{entry_of}
-use Rattle.name_meanings.proofs.lemmas.Told.{known_there}
-use Rattle.name_meanings.proofs.OfFiles.{in_some_file, in_no_file, table_at, as_many}
-use Rattle.name_meanings.proofs.resolution.resolved.Goals as goal
+use Rattle.name_resolution.proofs.lemmas.Told.{known_there}
+use Rattle.name_resolution.proofs.OfFiles.{in_some_file, in_no_file, table_at, as_many}
+use Rattle.name_resolution.proofs.resolution.resolved.Goals as goal
 
 pub meaning_in_file-requires-clause-imports : goal.meaning_in_file-requires-clause-imports
 meaning_in_file-requires-clause-imports c =

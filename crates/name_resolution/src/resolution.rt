@@ -1,62 +1,18 @@
 ghost use Rattle.std.specs.Prelude.{◌≡◌, ◌++◌, ◌≤◌, [], ◌∷◌, map, length};
 ghost use Rattle.aidl_syntax.specs.Sources.{source_of};
 ghost use Rattle.declared_names.specs.Declarations.{declarations};
-ghost use Rattle.name_meanings.specs.Resolution.{number_of, candidates, first_declared, enclosing, meaning_of_word, own_meaning, meaning_in_file, resolved};
+ghost use Rattle.name_meanings.specs.Resolution.{candidates, first_declared, enclosing, meaning_of_word, own_meaning, meaning_in_file, resolved};
 ghost use Rattle.name_meanings.specs.Imports.{meant_through, meant_in};
 ghost use Rattle.name_marks.specs.Marks.{mark_of, mark_of_entry};
 ghost use Rattle.declared_names.specs.Entries.{entry_of};
-ghost use Rattle.name_meanings.specs.steps.Asked.{Knows, means};
+ghost use Rattle.name_resolution.specs.steps.Asked.{Knows, means};
 
 use crate::asked::Known;
-use crate::imported::{Imports, in_imports};
-use crate::meaning::{BuiltinName, Resolved};
 use aidl_base::Ident;
 use aidl_syntax::ParsedFile;
 use declared_names::{Found, package};
 use name_marks::{Table, is_joined, with_parts};
-
-/// The number of the first declaration whose canonical name is a front, which has this mark, with a back behind it. It
-/// takes no memory.
-pub fn number_of(
-    found: &[Found<'_>],
-    table: &Table,
-    mark: u64,
-    front: &[Ident],
-    back: &[Ident],
-) -> Option<u32>
-    requires count { length found.now ≤ 16384 }
-    requires table { table.now ≡ map mark_of_entry (map entry_of found.now) }
-    requires mark { mark ≡ mark_of front.now }
-    ensures { result ≡ number_of (map entry_of found.now) (front.now ++ back.now) }
-{
-    let mut at = table.first(with_parts(mark, back));
-    'places: while let Some(place) = at {
-        if is_joined(found[place].name.0.as_slice(), front, back) {
-            return Some(place as u32);
-        }
-        at = table.next(place);
-    }
-    None
-}
-
-/// What a front with a back behind it is declared as. It takes no memory.
-pub fn declared(
-    found: &[Found<'_>],
-    table: &Table,
-    mark: u64,
-    front: &[Ident],
-    back: &[Ident],
-) -> Option<Resolved>
-    requires count { length found.now ≤ 16384 }
-    requires table { table.now ≡ map mark_of_entry (map entry_of found.now) }
-    requires mark { mark ≡ mark_of front.now }
-    ensures { result ≡ first_declared (map entry_of found.now) ((front.now ++ back.now) ∷ []) }
-{
-    match number_of(found, table, mark, front, back) {
-        Some(number) => Some(Resolved::Declared(number)),
-        None => None,
-    }
-}
+use name_meanings::{BuiltinName, Imports, Resolved, declared, in_imports};
 
 /// What a name means in the file with that number, below the declaration with the number `scope`, if so much is known of
 /// what it means through imports. It takes no memory.
@@ -193,7 +149,7 @@ fn own_meaning(name: &[Ident]) -> Option<Resolved>
 }
 
 /// The meaning of a built-in type, of the list word or of a left-out name. It takes no memory.
-#[tactic(auto, unfolding(crate::specs::Resolution::meaning_of_word))]
+#[tactic(auto, unfolding(name_meanings::specs::Resolution::meaning_of_word))]
 pub fn meaning_of_word(word: &str) -> Option<Resolved>
     ensures { result ≡ meaning_of_word word.now }
 {

@@ -1,7 +1,7 @@
 use Rattle.std.proofs.Common.{map}
 use Rattle.declared_names.specs.Entries.{entry_of}
-use Rattle.name_meanings.specs.steps.Asked.{AreRight}
-use Rattle.name_meanings.proofs.asking.asked_of.Given as goal
+use Rattle.name_resolution.specs.steps.Asked.{AreRight}
+use Rattle.name_resolution.proofs.asking.asked_of.Given as goal
 
 -- the answers so far are right
 abbrev pub invariant-loop-f : goal.invariant-loop-f

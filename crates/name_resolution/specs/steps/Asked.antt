@@ -3,9 +3,9 @@ use Rattle.std.specs.Prelude.{◌≡◌, ℕ, nat_eq, Bool, true, false, ◌&&�
 use Rattle.std.specs.List.{slice_get}
 use Rattle.aidl_base.specs.declared.name.Ident.{Ident}
 use Rattle.aidl_syntax.specs.declared.tree.DottedTree.{DottedTree}
-use Rattle.name_meanings.specs.declared.asked.Answer.{Answer}
-use Rattle.name_meanings.specs.declared.asked.Known.{Known}
-use Rattle.name_meanings.specs.declared.asked.Known.TheVariants.{Unasked, Means}
+use Rattle.name_resolution.specs.declared.asked.Answer.{Answer}
+use Rattle.name_resolution.specs.declared.asked.Known.{Known}
+use Rattle.name_resolution.specs.declared.asked.Known.TheVariants.{Unasked, Means}
 use Rattle.name_meanings.specs.declared.meaning.Resolved.{Resolved}
 use Rattle.declared_names.specs.Names.{same}
 use Rattle.declared_names.specs.Declarations.{Entry}

@@ -4,7 +4,7 @@ use Rattle.name_meanings.specs.Resolution.{number_of}
 use Rattle.name_marks.specs.Marks.{mark_of}
 use Rattle.declared_names.specs.Entries.{entry_of}
 use Rattle.name_marks.proofs.lemmas.Chains.{left_at, HasMark, left}
-use Rattle.name_meanings.proofs.resolution.number_of.Given as goal
+use Rattle.name_meanings.proofs.numbers.number_of.Given as goal
 
 -- it is none of those so far
 abbrev pub invariant-places : goal.invariant-places

@@ -1,7 +1,7 @@
 use Rattle.std.proofs.Common.{map}
 use Rattle.declared_names.specs.Entries.{entry_of}
-use Rattle.name_meanings.specs.steps.Asked.{AreRight}
-use Rattle.name_meanings.proofs.asking.ask_in.Given as goal
+use Rattle.name_resolution.specs.steps.Asked.{AreRight}
+use Rattle.name_resolution.proofs.asking.ask_in.Given as goal
 
 -- the answers so far are right
 abbrev pub invariant-loop-name : goal.invariant-loop-name

@@ -3,7 +3,7 @@ use Rattle.declared_names.specs.declared.found.Found.{Found}
 use Rattle.declared_names.specs.Names.{same}
 use Rattle.name_marks.proofs.lemmas.Chains.{fewer}
 use Rattle.name_meanings.proofs.lemmas.Tables.{started, landed, within, went_on}
-use Rattle.name_meanings.proofs.resolution.number_of.Goals as goal
+use Rattle.name_meanings.proofs.numbers.number_of.Goals as goal
 
 pub places-init : goal.places-init
 places-init c =

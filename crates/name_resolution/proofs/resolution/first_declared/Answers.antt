@@ -7,7 +7,7 @@ use Rattle.aidl_syntax.specs.Sources.{source_of}
 use Rattle.name_meanings.specs.Resolution.{first_declared}
 use Rattle.declared_names.specs.Entries.{entry_of}
 use Rattle.name_meanings.proofs.Candidates.{tried}
-use Rattle.name_meanings.proofs.resolution.first_declared.Goals as goal
+use Rattle.name_resolution.proofs.resolution.first_declared.Goals as goal
 
 pub returns-in-Some-in_enclosing : goal.returns-in-Some-in_enclosing
 returns-in-Some-in_enclosing c =

@@ -5,7 +5,7 @@ use Rattle.name_meanings.specs.Resolution.{first_declared, enclosing}
 use Rattle.name_meanings.proofs.Candidates.{outward, inward}
 use Rattle.name_marks.specs.Marks.{mark_of}
 use Rattle.name_meanings.proofs.lemmas.Tables.{mark_at}
-use Rattle.name_meanings.proofs.resolution.+in_enclosing.Goals as goal
+use Rattle.name_resolution.proofs.resolution.+in_enclosing.Goals as goal
 
 -- it has none of the names of this declaration, so those that enclose it are asked
 pub returns-in-None : goal.returns-in-None

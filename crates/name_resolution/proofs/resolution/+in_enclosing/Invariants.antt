@@ -1,4 +1,4 @@
-use Rattle.name_meanings.proofs.resolution.+in_enclosing.Given as goal
+use Rattle.name_resolution.proofs.resolution.+in_enclosing.Given as goal
 
 abbrev pub decreases-in_enclosing : goal.decreases-in_enclosing
 decreases-in_enclosing l = l.levels

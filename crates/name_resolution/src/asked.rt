@@ -1,11 +1,11 @@
 ghost use Rattle.std.specs.Prelude.{◌≡◌, ◌++◌, ◌∷◌, [], OnOk};
-ghost use Rattle.name_meanings.specs.steps.Asked.{IsSaid, is_told, said, said_at, said_at_number};
+ghost use Rattle.name_resolution.specs.steps.Asked.{IsSaid, is_told, said, said_at, said_at_number};
 
-use crate::meaning::Resolved;
 use aidl_base::{Ident, OutOfMemory};
 use aidl_syntax::DottedTree;
 use indexmap::IndexMap;
 use name_marks::{same, with_parts};
+use name_meanings::Resolved;
 use std::alloc::Global;
 use std::marker::Model;
 
@@ -47,7 +47,7 @@ pub struct Asked<'a> {
 
 impl<'a> Model for Asked<'a> {
     ghost use Rattle.std.specs.Prelude.{List};
-    ghost use Rattle.name_meanings.specs.declared.asked.Answer.{Answer};
+    ghost use Rattle.name_resolution.specs.declared.asked.Answer.{Answer};
 
     ghost Value = { List Answer };
 

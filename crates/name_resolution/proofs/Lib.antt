@@ -1,0 +1,2 @@
+mod OfFiles
+pub mod lemmas
