@@ -41,10 +41,10 @@ fn answer_of(alloc: Global, thrown: &Thrown<'_>) -> Result<Answer, Fault>
     if !is_thrown(thrown.code, thrown.error) {
         return Err(refusal(alloc, RefusedName::OutOfRange, Place::Exception));
     }
-    let message = Text::from_str(alloc, thrown.message)?;
+    let message = String::from_str(alloc, thrown.message)?;
     Ok(Answer::Exception {
         code: thrown.code as i32,
-        message,
+        message: Text::from_string(message),
         error: thrown.error as i32,
     })
 }

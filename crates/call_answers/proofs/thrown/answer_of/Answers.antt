@@ -8,10 +8,11 @@ use Rattle.call_answers.proofs.thrown.answer_of.Goals as goal
 
 pub returns-clause-fits : goal.returns-clause-fits
 returns-clause-fits c =
+    let text = string_bytes c.in_ok-message.message in
     let code = c.args.thrown.now.code in
     let error = c.args.thrown.now.error in
     let same_code : to_z w128 (of_z w128 code) ≡ code = search rules in
     let same_error : to_z w128 (of_z w128 error) ≡ error = search rules in
     let test = sym c.is_thrown.ensures ∙ c.if-not-is_thrown.false in
     let ranges : are_in_range code error ≡ true = subst (λ x. are_in_range x error ≡ true) same_code (subst (λ y. are_in_range (to_z w128 (of_z w128 code)) y ≡ true) same_error test) in
-    thrown_fits code error c.in_ok-message.message ranges (ap all_scalars c.in_ok-message.ensures ∙ scalars-chars c.args.thrown.now.message.now c.args.thrown.now.message.utf8) c.requires
+    thrown_fits code error c.from_string.result ranges (ap all_scalars c.from_string.ensures ∙ scalars-chars text (IsUtf8-string_bytes c.in_ok-message.message)) c.requires
