@@ -14,7 +14,7 @@ use Rattle.name_meanings.specs.steps.Copies.{is_at, is_at_number}
 use Rattle.name_meanings.specs.Resolution.{number_of, first_declared, or_else}
 use Rattle.name_marks.proofs.lemmas.SameNames.{same-right, same-turned, same-self}
 use Rattle.name_marks.proofs.lemmas.Firsts.{position-same}
-use Rattle.name_meanings.proofs.Through.{searched, through, through_all}
+use Rattle.name_meanings.proofs.lemmas.Through.{searched, through, through_all}
 
 -- a place of what f makes of a list is one of the list
 pub within_map : {A B : Type 0} (f : A → B) (xs : List A) (i : ℕ) → i < length (map f xs) → i < length xs

@@ -22,7 +22,7 @@ use Rattle.name_marks.proofs.lemmas.Firsts.{found-first}
 use Rattle.name_marks.proofs.lemmas.Compared.{same-split}
 use Rattle.name_meanings.proofs.Copies.{same_finds}
 use Rattle.name_meanings.proofs.lemmas.Tables.{same_marks}
-use Rattle.name_meanings.proofs.Through.{searched, through_all}
+use Rattle.name_meanings.proofs.lemmas.Through.{searched, through_all}
 
 -- an import has a whole name
 abbrev pub has_name : List Ident → Bor DottedTree → Bool

@@ -1,2 +1,4 @@
 -- Laws of this crate's definitions that crates above cite.
+pub mod Candidates
 pub mod Tables
+pub mod Through

@@ -20,7 +20,7 @@ use Rattle.name_meanings.specs.Resolution.{number_of, first_declared, or_else}
 use Rattle.name_resolution.specs.steps.Asked.{means, AreRight, Knows, said, said_at, said_at_number, IsSaid}
 use Rattle.name_marks.proofs.lemmas.SameNames.{same-self, same-right}
 use Rattle.name_marks.proofs.lemmas.Firsts.{position-same}
-use Rattle.name_meanings.proofs.Through.{searched, through, through_all}
+use Rattle.name_meanings.proofs.lemmas.Through.{searched, through, through_all}
 
 -- Names that are the same mean the same through imports.
 

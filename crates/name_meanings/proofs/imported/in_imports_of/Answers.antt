@@ -6,7 +6,7 @@ use Rattle.declared_names.specs.Entries.{entry_of}
 use Rattle.name_marks.proofs.lemmas.Chains.{lies, fewer}
 use Rattle.name_meanings.proofs.Copies.{within_map}
 use Rattle.declared_names.proofs.lemmas.Earlier.{read-map}
-use Rattle.name_meanings.proofs.Through.{through, through_all, through_other, search_begins, search_goes_on, search_ends}
+use Rattle.name_meanings.proofs.lemmas.Through.{through, through_all, through_other, search_begins, search_goes_on, search_ends}
 use Rattle.name_meanings.proofs.imported.in_imports_of.Goals as goal
 
 pub places-init : goal.places-init

@@ -3,7 +3,7 @@ use Rattle.name_marks.specs.Marks.{mark_of}
 use Rattle.name_meanings.specs.Resolution.{first_declared, imported}
 use Rattle.declared_names.specs.Entries.{entry_of}
 use Rattle.name_marks.proofs.lemmas.Chains.{HasMark, left}
-use Rattle.name_meanings.proofs.Through.{searched_at, through}
+use Rattle.name_meanings.proofs.lemmas.Through.{searched_at, through}
 use Rattle.name_meanings.proofs.imported.in_imports_of.Given as goal
 
 -- through none of those so far

@@ -6,7 +6,7 @@ use Rattle.name_meanings.specs.declared.meaning.Resolved.{Resolved}
 use Rattle.aidl_syntax.specs.Sources.{source_of}
 use Rattle.name_meanings.specs.Resolution.{first_declared}
 use Rattle.declared_names.specs.Entries.{entry_of}
-use Rattle.name_meanings.proofs.Candidates.{tried}
+use Rattle.name_meanings.proofs.lemmas.Candidates.{tried}
 use Rattle.name_resolution.proofs.resolution.first_declared.Goals as goal
 
 pub returns-in-Some-in_enclosing : goal.returns-in-Some-in_enclosing

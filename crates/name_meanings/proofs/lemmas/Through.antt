@@ -9,7 +9,7 @@ use Rattle.declared_names.specs.Names.{same, last}
 use Rattle.declared_names.specs.Declarations.{Entry}
 use Rattle.name_marks.specs.Marks.{mark_of, mark_of_last}
 use Rattle.name_meanings.specs.Resolution.{first_declared, imported, or_else}
-use Rattle.name_meanings.proofs.Candidates.{first-append}
+use Rattle.name_meanings.proofs.lemmas.Candidates.{first-append}
 use Rattle.name_marks.proofs.lemmas.Chains.{HasMark, drop-more, marked}
 use Rattle.name_meanings.proofs.lemmas.Tables.{same_marks}
 
