@@ -27,11 +27,12 @@ pub fn dotted<'a>(
     ))
 }
 
+// Most names have one part, so room for one is taken first.
 fn names<'a>(alloc: Global, tokens: &'a [Token]) -> Result<(Row<Ident>, &'a [Token]), ParseFault>
     ensures gives { Gives (λ x. (x.0, x.1.now)) result (read.names true tokens.now) }
     ensures left { IfOk result (λ x. length x.1.now < length tokens.entry.now) }
 {
-    let mut items = Row::new(alloc);
+    let mut items = Vec::with_capacity(alloc, 1)?;
     let mut rest = tokens;
     while let Some((t, after)) = next(rest) {
         items.push(name_of(alloc, &t.kind)?)?;
@@ -40,7 +41,7 @@ fn names<'a>(alloc: Global, tokens: &'a [Token]) -> Result<(Row<Ident>, &'a [Tok
                 rest = next;
             }
             None => {
-                return Ok((items, after));
+                return Ok((Row::from_vec(items), after));
             }
         }
     }

@@ -5,7 +5,7 @@ use Rattle.expr_parser.proofs.names.names.Given as goal
 -- what was read, and then what is still read, is all
 abbrev pub invariant-loop-t : goal.invariant-loop-t
 invariant-loop-t l = record {
-  read : with_names l.items (names true l.rest) ≡ names true l.tokens;
+  read : with_names l.items.items (names true l.rest) ≡ names true l.tokens;
   left : length l.rest ≤ length l.tokens;
 }
 
