@@ -8,9 +8,9 @@ ghost use Rattle.type_uses.specs.TypeUses as typed;
 ghost use Rattle.type_uses.specs.TypeUseViews.{seen_use};
 
 use aidl_base::{Breach, OutOfMemory};
-use name_rules::add_if;
 use aidl_syntax::{BodyTree, DeclTree, InitTree};
 use declared_names::Found;
+use name_rules::add_if;
 use type_shapes::{Shape, is_unjudged};
 use type_uses::{TypeUseRef, is_field, is_refused, name_place};
 

@@ -11,10 +11,10 @@ ghost use Rattle.type_uses.specs.TypeUses as typed;
 ghost use Rattle.type_uses.specs.TypeUseViews.{seen_use};
 
 use aidl_base::{Breach, OutOfMemory};
-use name_rules::add_if;
 use aidl_syntax::DeclTree;
 use declared_names::Found;
 use name_meanings::Resolved;
+use name_rules::add_if;
 use std::alloc::Global;
 use type_shapes::{Shape, is_composite};
 use type_uses::{TypeUseRef, is_fixed, is_nullable, is_refused, is_scalar, name_place};

@@ -8,9 +8,9 @@ ghost use Rattle.type_uses.specs.TypeUses as typed;
 ghost use Rattle.type_uses.specs.TypeUseViews.{seen_use};
 
 use aidl_base::{Breach, OutOfMemory};
-use name_rules::add_if;
 use aidl_syntax::{MethodTree, Token};
 use indexmap::IndexSet;
+use name_rules::add_if;
 use std::alloc::Global;
 use type_uses::{TypeUseRef, is_id, number_of};
 

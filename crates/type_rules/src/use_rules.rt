@@ -10,10 +10,10 @@ ghost use Rattle.type_rules.specs.FieldRules as fields;
 ghost use Rattle.type_uses.specs.TypeUseViews.{seen_use};
 
 use aidl_base::{Breach, OutOfMemory};
-use name_rules::add_if;
 use aidl_syntax::{ArgTree, MethodTree, WayTree};
 use declared_names::Found;
 use name_meanings::Resolved;
+use name_rules::add_if;
 use type_shapes::{Shape, is_composite};
 use type_uses::{TypeUseRef, is_refused, is_refused_result, name_place, type_place};
 
