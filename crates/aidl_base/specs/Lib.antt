@@ -10,4 +10,5 @@ pub mod Words
 pub mod Reserved
 pub mod Identifiers
 pub mod Kept
+pub mod KeptParts
 pub mod steps

@@ -2,7 +2,7 @@ ghost use Rattle.std.specs.Prelude.{◌≡◌, ◌∷◌, IfOk};
 ghost use Rattle.aidl_base.specs.Names.{dotted};
 
 use crate::OutOfMemory;
-use crate::row::Row;
+use crate::parts::Parts;
 use crate::text::Text;
 use std::alloc::Global;
 
@@ -12,7 +12,7 @@ pub struct Ident(pub Text);
 
 /// Identifiers joined by dots, as the name of a package or of a declaration.
 #[derive(Debug, Drop)]
-pub struct DottedName(pub Row<Ident>);
+pub struct DottedName(pub Parts);
 
 /// The parts of a name joined by dots, as text.
 pub fn joined_by_dots(alloc: Global, parts: &[Ident]) -> Result<Text, OutOfMemory>

@@ -9,9 +9,15 @@ use std::fmt;
 use std::marker::Model;
 
 /// A text, which contracts see as the list of its Unicode scalars. One of at most 16 bytes in UTF-8 takes no memory of its own.
-#[derive(Drop)]
 pub struct Text {
     kept: Kept,
+}
+
+// By hand, so that one who drops a text meets one call and not both ways to keep it.
+impl Drop for Text {
+    fn drop(self) {
+        let Text { kept: _ } = self;
+    }
 }
 
 impl Model for Text {
@@ -29,9 +35,11 @@ impl Text {
     pub fn from_string(text: String) -> Text
         ensures { result ≡ chars (string_bytes text) }
     {
-        Text {
-            kept: Kept::Long(text),
-        }
+        let kept = match ArrayString::from(text.as_str()).ok() {
+            Some(short) => Kept::Short(short),
+            None => Kept::Long(text),
+        };
+        Text { kept }
     }
 
     /// The text that is read. It takes no memory where it has at most 16 bytes.

@@ -9,7 +9,7 @@ ghost use Rattle.declared_names.specs.Walks.{IsFull};
 use crate::canonical::{copied, extended};
 use crate::found::Found;
 use crate::walk_fault::WalkFault;
-use aidl_base::{DottedName, Ident, Row};
+use aidl_base::{DottedName, Ident, Parts, Row};
 use aidl_syntax::{BodyTree, DeclTree, FileTree, MemberTree, ParsedFile};
 use std::alloc::Global;
 
@@ -69,7 +69,7 @@ fn add_decl<'a>(
         return Err(WalkFault::Full);
     }
     let copy = copied(alloc, name)?;
-    let name_row = DottedName(Row::from_vec(copy));
+    let name_row = DottedName(Parts::from_row(Row::from_vec(copy)));
     found.push(Found {
         name: name_row,
         file,

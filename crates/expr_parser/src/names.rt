@@ -1,10 +1,10 @@
-ghost use Rattle.std.specs.Prelude.{◌≡◌, true, length, IfOk, ◌<◌, IfSome};
+ghost use Rattle.std.specs.Prelude.{◌≡◌, [], ◌∷◌, true, length, IfOk, ◌<◌, IfSome};
 ghost use Rattle.expr_parser.specs.steps.Reading as read;
 ghost use Rattle.expr_parser.specs.Gives.{Gives};
 
 use crate::fault::ParseFault;
 use crate::tokens::{first, mark_of, name_of, next};
-use aidl_base::{DottedName, Ident, Row};
+use aidl_base::{DottedName, Ident, Parts, Row};
 use aidl_syntax::{DottedTree, Symbol, Token};
 use std::alloc::Global;
 
@@ -17,22 +17,44 @@ pub fn dotted<'a>(
     ensures gives { Gives (λ x. (x.0, x.1.now)) result (read.dotted tokens.now) }
     ensures left { IfOk result (λ x. length x.1.now < length tokens.entry.now) }
 {
-    let (names, rest) = names(alloc, tokens)?;
+    let (parts, rest) = parts(alloc, tokens)?;
     Ok((
         DottedTree {
             offset: first(tokens),
-            name: DottedName(names),
+            name: DottedName(parts),
         },
         rest,
     ))
 }
 
-// Most names have one part, so room for one is taken first.
-fn names<'a>(alloc: Global, tokens: &'a [Token]) -> Result<(Row<Ident>, &'a [Token]), ParseFault>
+// Most names have one part, which needs no list.
+fn parts<'a>(alloc: Global, tokens: &'a [Token]) -> Result<(Parts, &'a [Token]), ParseFault>
     ensures gives { Gives (λ x. (x.0, x.1.now)) result (read.names true tokens.now) }
     ensures left { IfOk result (λ x. length x.1.now < length tokens.entry.now) }
 {
-    let mut items = Vec::with_capacity(alloc, 1)?;
+    match next(tokens) {
+        Some((t, after)) => {
+            let part = name_of(alloc, &t.kind)?;
+            match after_dot(after) {
+                Some(rest) => parts_behind(alloc, part, rest),
+                None => Ok((Parts::one(part), after)),
+            }
+        }
+        None => Err(ParseFault::Syntax),
+    }
+}
+
+// A part, and those behind its dot.
+fn parts_behind<'a>(
+    alloc: Global,
+    part: Ident,
+    tokens: &'a [Token],
+) -> Result<(Parts, &'a [Token]), ParseFault>
+    ensures gives { Gives (λ x. (x.0, x.1.now)) result (read.with_names (part ∷ []) (read.names true tokens.now)) }
+    ensures left { IfOk result (λ x. length x.1.now < length tokens.entry.now) }
+{
+    let mut items = Vec::with_capacity(alloc, 4)?;
+    items.push(part)?;
     let mut rest = tokens;
     while let Some((t, after)) = next(rest) {
         items.push(name_of(alloc, &t.kind)?)?;
@@ -41,7 +63,7 @@ fn names<'a>(alloc: Global, tokens: &'a [Token]) -> Result<(Row<Ident>, &'a [Tok
                 rest = next;
             }
             None => {
-                return Ok((Row::from_vec(items), after));
+                return Ok((Parts::from_row(Row::from_vec(items)), after));
             }
         }
     }

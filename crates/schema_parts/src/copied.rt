@@ -1,6 +1,6 @@
 ghost use Rattle.std.specs.Prelude.{◌≡◌, IfOk};
 
-use aidl_base::{Const, Ident, OutOfMemory, Row};
+use aidl_base::{Const, Ident, OutOfMemory, Parts, Row};
 use std::alloc::Global;
 
 /// The same identifier.
@@ -11,14 +11,14 @@ pub fn copied_ident(alloc: Global, ident: &Ident) -> Result<Ident, OutOfMemory>
 }
 
 /// The same parts of a name.
-pub fn copied_parts(alloc: Global, parts: &[Ident]) -> Result<Row<Ident>, OutOfMemory>
+pub fn copied_parts(alloc: Global, parts: &[Ident]) -> Result<Parts, OutOfMemory>
     ensures { IfOk result (λ copy. copy ≡ parts.now) }
 {
     let mut copy = Vec::with_capacity(alloc, parts.len())?;
     for part in parts {
         copy.push(copied_ident(alloc, part)?)?;
     }
-    Ok(Row::from_vec(copy))
+    Ok(Parts::from_row(Row::from_vec(copy)))
 }
 
 /// The same constant.

@@ -1,6 +1,6 @@
 //! The bounds of declarations that form chains as long as may be.
 
-use aidl_base::{DottedName, Ident, OutOfMemory, Row, Text};
+use aidl_base::{DottedName, Ident, OutOfMemory, Parts, Row, Text};
 use aidl_schema::{AidlType, Base, Decl, Field, Kind, Shape};
 use schema_bounds::{Bound, bounds};
 use std::alloc::Global;
@@ -23,7 +23,7 @@ fn record(alloc: Global, number: u32, count: usize) -> Result<Decl, OutOfMemory>
         })?;
     }
     Ok(Decl {
-        name: DottedName(Row::new(alloc)),
+        name: DottedName(Parts::from_row(Row::new(alloc))),
         outer: None,
         kind: Kind::Parcelable(fields),
         vintf: false,

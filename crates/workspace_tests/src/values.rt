@@ -5,7 +5,7 @@ ghost use Rattle.std.specs.Prelude.{◌≡◌, false, IfOk};
 ghost use Rattle.std.specs.Str.{chars};
 ghost use Rattle.aidl_schema.specs.Valid.{IsValid};
 
-use aidl_base::{Const, DottedName, Ident, OutOfMemory, Row, Text};
+use aidl_base::{Const, DottedName, Ident, OutOfMemory, Parts, Row, Text};
 use aidl_schema::{
     AidlType, Base, Decl, Field, Kind, Schema, Shape, find, is_type, method_of_code,
 };
@@ -52,7 +52,7 @@ fn decls(alloc: Global) -> Result<Row<Decl>, OutOfMemory>
     parts.push(Ident(text(alloc, "P")?))?;
     let mut decls = Row::new(alloc);
     decls.push(Decl {
-        name: DottedName(parts),
+        name: DottedName(Parts::from_row(parts)),
         outer: None,
         kind: Kind::Parcelable(fields),
         vintf: false,

@@ -54,6 +54,10 @@ pub name_no_more : (front : List Ident) (all : List Token) → all ≡ [] → wi
 unfolding names
 name_no_more front all whole = rw whole refl
 
+pub with_no_names : (r : Read (List Ident)) → with_names [] r ≡ r
+with_no_names None = refl
+with_no_names (Some r) = refl
+
 -- one level of an expression
 pub expr_step : (n least : ℕ) (ts : List Token) → 0 < n
     → expr n least ts ≡ (operand (λ k us. expr (n - 1) k us) ts >>= λ a. climb (λ k us. expr (n - 1) k us) (n - 1) least a.0 a.1)
