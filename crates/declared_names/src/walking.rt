@@ -69,9 +69,9 @@ fn add_decl<'a>(
         return Err(WalkFault::Full);
     }
     let copy = copied(alloc, name)?;
-    let name_row = DottedName(Parts::from_row(Row::from_vec(copy)));
+    let parts = DottedName(Parts::from_row(Row::from_vec(copy)));
     found.push(Found {
-        name: name_row,
+        name: parts,
         file,
         outer,
         tree,

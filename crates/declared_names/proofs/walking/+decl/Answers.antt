@@ -17,13 +17,13 @@ add_decl-returns-then-number-ge16384-clause-err t c =
 pub add_decl-returns-clause-ok : goal.add_decl-returns-clause-ok
 add_decl-returns-clause-ok t c =
     rw (added c.args.file c.args.outer c.args.name.now c.args.tree.now c.args.found.now.items c.push.new.self.items _ c.in_ok-push.ensures.items
-    (ap (λ (n : List Ident). record { name = n; file = c.args.file; outer = c.args.outer; tree = decl_of c.args.tree.now }) (c.from_vec.ensures ∙ c.in_ok-copy.ensures)))
+    (ap (λ (n : List Ident). record { name = n; file = c.args.file; outer = c.args.outer; tree = decl_of c.args.tree.now }) (c.from_row.ensures ∙ c.from_vec.ensures ∙ c.in_ok-copy.ensures)))
     (rw (c.len-number.ensures, c.args.found.now.ok.0) at c.add_body.ensures.ok)
 
 pub add_decl-returns-clause-err : goal.add_decl-returns-clause-err
 add_decl-returns-clause-err t c =
     rw (added c.args.file c.args.outer c.args.name.now c.args.tree.now c.args.found.now.items c.push.new.self.items _ c.in_ok-push.ensures.items
-    (ap (λ (n : List Ident). record { name = n; file = c.args.file; outer = c.args.outer; tree = decl_of c.args.tree.now }) (c.from_vec.ensures ∙ c.in_ok-copy.ensures)))
+    (ap (λ (n : List Ident). record { name = n; file = c.args.file; outer = c.args.outer; tree = decl_of c.args.tree.now }) (c.from_row.ensures ∙ c.from_vec.ensures ∙ c.in_ok-copy.ensures)))
     (rw (c.len-number.ensures, c.args.found.now.ok.0) at c.add_body.ensures.err)
 
 pub add_members-returns-in_err-add_member-clause-err : goal.add_members-returns-in_err-add_member-clause-err
