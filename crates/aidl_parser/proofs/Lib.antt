@@ -1,5 +1,4 @@
 mod Files
 mod MemberRounds
-mod Rounds
 pub mod lemmas
 mod productions

@@ -1,20 +1,17 @@
 ghost use Rattle.std.specs.Prelude.{◌≡◌, map, length, IfOk, ◌<◌};
 ghost use Rattle.aidl_syntax.specs.declared.token.Symbol.TheVariants as mark;
-ghost use Rattle.aidl_syntax.specs.Trees.{Enumerator, annots_of, expr_of, enumerator_of, member_of};
-ghost use Rattle.aidl_parser.specs.steps.Parts as part;
+ghost use Rattle.aidl_syntax.specs.Trees.{annots_of, expr_of, member_of};
+ghost use Rattle.part_parser.specs.steps.Parts as part;
 ghost use Rattle.aidl_parser.specs.steps.Members as read;
 ghost use Rattle.aidl_parser.specs.steps.Decls as decls;
 ghost use Rattle.expr_parser.specs.Gives.{Gives};
 
-use crate::lists::{Part, maybe_behind};
-use crate::parts::{quoted, worded};
-use crate::types::{ident, type_of};
 use aidl_base::Row;
 use aidl_syntax::{
-    AnnotTree, ConstantTree, EnumeratorTree, ExprTree, FieldTree, MemberTree, Reserved, Symbol,
-    Token,
+    AnnotTree, ConstantTree, ExprTree, FieldTree, MemberTree, Reserved, Symbol, Token,
 };
-use expr_parser::{Level, ParseFault, expr, first};
+use expr_parser::{Level, ParseFault, expr};
+use part_parser::{ident, maybe_behind, quoted, type_of, worded};
 use std::alloc::Global;
 
 // type ident ["=" init] ";"
@@ -90,31 +87,4 @@ fn value<'a>(
     let (value, rest) = expr(alloc, fuel, Level::Or, rest)?;
     let (_end, rest) = quoted(Symbol::Semicolon, rest)?;
     Ok((value, rest))
-}
-
-// ident ["=" expr]
-impl Part for EnumeratorTree {
-    ghost Seen = { Enumerator };
-
-    ghost seen = { enumerator_of };
-
-    ghost read = { read.enumerator_at };
-
-    #[tactic(auto, unfolding(crate::specs::steps::Members::enumerator_at, crate::specs::steps::Members::given_at))]
-    fn part<'a>(
-        alloc: Global,
-        fuel: usize,
-        tokens: &'a [Token],
-    ) -> Result<(Self, &'a [Token]), ParseFault> {
-        let (name, rest) = ident(alloc, tokens)?;
-        let (value, rest) = maybe_behind(alloc, fuel, Symbol::Equal, rest)?;
-        Ok((
-            EnumeratorTree {
-                offset: first(tokens),
-                name,
-                value,
-            },
-            rest,
-        ))
-    }
 }

@@ -1,19 +1,15 @@
 ghost use Rattle.std.specs.Prelude.{◌≡◌, ◌^◌, ◌<◌, length, map, [], Some, IfOk, ◌≤◌};
 ghost use Rattle.aidl_base.specs.declared.reserved.Reserved.TheVariants as word;
-ghost use Rattle.aidl_syntax.specs.declared.tree.DottedTree.{DottedTree};
 ghost use Rattle.aidl_syntax.specs.Trees.{decl_of, file_of};
-ghost use Rattle.aidl_parser.specs.steps.Parts as part;
+ghost use Rattle.part_parser.specs.steps.Parts as part;
 ghost use Rattle.aidl_parser.specs.steps.Decls as read;
 ghost use Rattle.expr_parser.specs.Gives.{Gives};
-ghost use Rattle.expr_parser.specs.steps.Reading as names;
 
-use crate::annots::annots;
 use crate::decls::decl;
-use crate::lists::{Part, Repeat, many, statement};
-use crate::parts::begins_word;
 use aidl_base::Row;
-use aidl_syntax::{DeclTree, DottedTree, FileTree, Reserved, Token};
-use expr_parser::{ParseFault, dotted, first};
+use aidl_syntax::{DottedTree, FileTree, Reserved, Token};
+use expr_parser::{ParseFault, first};
+use part_parser::{Repeat, annots, begins_word, many, statement};
 use std::alloc::Global;
 
 // The file that all of the tokens are. Each level and each round takes a token at least, so that the fuel, one more than
@@ -74,7 +70,7 @@ fn maybe_package<'a>(
 }
 
 // {"import" dotted ";"}
-#[tactic(auto, unfolding(crate::specs::steps::Decls::imports_at, crate::specs::steps::Decls::named_at), using(crate::proofs::Rounds::with_none))]
+#[tactic(auto, unfolding(crate::specs::steps::Decls::imports_at, crate::specs::steps::Decls::named_at), using(part_parser::proofs::lemmas::Rounds::with_none))]
 fn imports<'a>(
     alloc: Global,
     fuel: usize,
@@ -85,20 +81,4 @@ fn imports<'a>(
     ensures left { IfOk result (λ x. length x.1.now ≤ length tokens.entry.now) }
 {
     many(alloc, fuel, Repeat::Imports, Row::new(alloc), tokens)
-}
-
-impl Part for DottedTree {
-    ghost Seen = { DottedTree };
-
-    ghost seen = { λ d. d };
-
-    ghost read = { λ _ ts. names.dotted ts };
-
-    fn part<'a>(
-        alloc: Global,
-        _fuel: usize,
-        tokens: &'a [Token],
-    ) -> Result<(Self, &'a [Token]), ParseFault> {
-        dotted(alloc, tokens)
-    }
 }

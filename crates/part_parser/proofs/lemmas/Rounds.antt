@@ -3,7 +3,7 @@ use Rattle.std.proofs.Common.{◌≡◌, ℕ, zero, suc, ◌-◌, ◌<◌, Bool,
 use Rattle.std.proofs.lemmas.List.{map-append}
 use Rattle.aidl_syntax.specs.declared.token.Token.{Token}
 use Rattle.expr_parser.specs.steps.Reading.{Read, ◌>>=◌}
-use Rattle.aidl_parser.specs.steps.Parts.{many, more_at, ahead, with_items}
+use Rattle.part_parser.specs.steps.Parts.{many, more_at, ahead, with_items}
 
 pub stops : {A : Type 0} (goes : List Token → Bool) (r : List Token → Read A) (n : ℕ) (items : List A) (ts : List Token) → goes ts ≡ false → with_items items (many n goes r ts) ≡ Some (items, ts)
 stops goes r zero items ts e = rw e (ap (λ xs. Some (xs, ts)) (append-nil items))

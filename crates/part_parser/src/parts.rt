@@ -1,5 +1,5 @@
 ghost use Rattle.std.specs.Prelude.{◌≡◌, length, IfOk, ◌<◌};
-ghost use Rattle.aidl_parser.specs.steps.Parts as read;
+ghost use Rattle.part_parser.specs.steps.Parts as read;
 ghost use Rattle.expr_parser.specs.Gives.{Gives};
 
 use aidl_syntax::{Reserved, Symbol, Token, TokenKind};

@@ -1,9 +1,12 @@
 ghost use Rattle.std.specs.Prelude.{◌≡◌, length, IfOk, ◌<◌, ◌≤◌};
 ghost use Rattle.aidl_syntax.specs.declared.token.Symbol.TheVariants as mark;
-ghost use Rattle.aidl_parser.specs.steps.Parts as part;
-ghost use Rattle.aidl_parser.specs.steps.Types as read;
+ghost use Rattle.part_parser.specs.steps.Parts as part;
+ghost use Rattle.part_parser.specs.steps.Types as read;
 ghost use Rattle.expr_parser.specs.Gives.{Gives};
+ghost use Rattle.expr_parser.specs.steps.Reading as names;
+ghost use Rattle.aidl_syntax.specs.declared.tree.DottedTree.{DottedTree};
 
+use crate::lists::Part;
 use crate::parts::{begins, quoted};
 use aidl_syntax::{DottedTree, NameTree, Symbol, Token, TypeTree};
 use expr_parser::{ParseFault, dotted, first, name_of};
@@ -82,5 +85,21 @@ pub fn ident<'a>(alloc: Global, tokens: &'a [Token]) -> Result<(NameTree, &'a [T
             ))
         }
         [] => Err(ParseFault::Syntax),
+    }
+}
+
+impl Part for DottedTree {
+    ghost Seen = { DottedTree };
+
+    ghost seen = { λ d. d };
+
+    ghost read = { λ _ ts. names.dotted ts };
+
+    fn part<'a>(
+        alloc: Global,
+        _fuel: usize,
+        tokens: &'a [Token],
+    ) -> Result<(Self, &'a [Token]), ParseFault> {
+        dotted(alloc, tokens)
     }
 }

@@ -1,10 +1,10 @@
 use Rattle.std.proofs.Common.{◌≡◌, ◌-◌, ◌<◌, ◌≤◌, length, map, sym, ◌∙◌, true, false, arith}
 use Rattle.std.proofs.lemmas.Result.{err_from_is_err_and}
-use Rattle.aidl_parser.specs.steps.Parts.{with_items}
-use Rattle.aidl_parser.specs.steps.Repeats.{goes_on, round, many_by}
+use Rattle.part_parser.specs.steps.Parts.{with_items}
+use Rattle.part_parser.specs.steps.Repeats.{goes_on, round, many_by}
 use Rattle.expr_parser.proofs.lemmas.Looping.{fails_over}
-use Rattle.aidl_parser.proofs.Rounds as rounds
-use Rattle.aidl_parser.proofs.lists.many.Goals as goal
+use Rattle.part_parser.proofs.lemmas.Rounds as rounds
+use Rattle.part_parser.proofs.lists.many.Goals as goal
 
 pub rounds-preserved : goal.rounds-preserved
 rounds-preserved g c =

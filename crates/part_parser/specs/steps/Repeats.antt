@@ -3,11 +3,11 @@ use Rattle.std.specs.Prelude.{ℕ, Bool, List}
 use Rattle.aidl_base.specs.declared.reserved.Reserved.TheVariants as word
 use Rattle.aidl_syntax.specs.declared.token.Symbol.TheVariants as mark
 use Rattle.aidl_syntax.specs.declared.token.Token.{Token}
-use Rattle.aidl_parser.specs.declared.lists.Repeat.{Repeat}
-use Rattle.aidl_parser.specs.declared.lists.Repeat.TheVariants.{Commas, CommasInBraces, Annotations, Imports}
+use Rattle.part_parser.specs.declared.lists.Repeat.{Repeat}
+use Rattle.part_parser.specs.declared.lists.Repeat.TheVariants.{Commas, CommasInBraces, Annotations, Imports}
 use Rattle.expr_parser.specs.steps.Reading.{Read, ◌>>=◌}
-use Rattle.aidl_parser.specs.steps.Parts.{begins, begins_word, worded, both, alter, second, behind, upto, many, more_at}
-use Rattle.aidl_parser.specs.steps.Inits.{goes_inside}
+use Rattle.part_parser.specs.steps.Parts.{begins, begins_word, worded, both, alter, second, behind, upto, many, more_at}
+use Rattle.part_parser.specs.steps.Inits.{goes_inside}
 
 -- one more item stands there
 abbrev pub goes_on : Repeat → List Token → Bool

@@ -1,8 +1,8 @@
 ghost use Rattle.std.specs.Prelude.{◌≡◌, map, [], ◌∷◌, length, IfOk, ◌<◌};
 ghost use Rattle.aidl_syntax.specs.declared.token.Symbol.TheVariants as mark;
 ghost use Rattle.aidl_syntax.specs.Trees.{Expr, Init, expr_of, init_of};
-ghost use Rattle.aidl_parser.specs.steps.Parts as part;
-ghost use Rattle.aidl_parser.specs.steps.Inits as read;
+ghost use Rattle.part_parser.specs.steps.Parts as part;
+ghost use Rattle.part_parser.specs.steps.Inits as read;
 ghost use Rattle.expr_parser.specs.Gives.{Gives};
 
 use crate::lists::{Part, maybe_trailing};

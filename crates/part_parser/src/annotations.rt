@@ -2,9 +2,9 @@ ghost use Rattle.std.specs.Prelude.{◌≡◌, map, [], ◌∷◌, length, IfOk,
 ghost use Rattle.aidl_syntax.specs.declared.token.Symbol.TheVariants as mark;
 ghost use Rattle.aidl_syntax.specs.Trees.{Param, Annot, param_of, annot_of, map_option};
 ghost use Rattle.aidl_syntax.specs.Productions as form;
-ghost use Rattle.aidl_parser.specs.steps.Parts as part;
-ghost use Rattle.aidl_parser.specs.steps.Types.{ident as ident_at};
-ghost use Rattle.aidl_parser.specs.steps.Inits as read;
+ghost use Rattle.part_parser.specs.steps.Parts as part;
+ghost use Rattle.part_parser.specs.steps.Types.{ident as ident_at};
+ghost use Rattle.part_parser.specs.steps.Inits as read;
 ghost use Rattle.expr_parser.specs.Gives.{Gives};
 
 use crate::lists::{Part, Repeat, in_parens, many};
@@ -16,7 +16,7 @@ use expr_parser::{ParseFault, first, is_name};
 use std::alloc::Global;
 
 // {"@" ident ["(" [param {"," param}] ")"]}
-#[tactic(auto, unfolding(crate::specs::steps::Inits::annots_at), using(crate::proofs::Rounds::with_none))]
+#[tactic(auto, unfolding(crate::specs::steps::Inits::annots_at), using(crate::proofs::lemmas::Rounds::with_none))]
 pub fn annots<'a>(
     alloc: Global,
     fuel: usize,

@@ -3,9 +3,9 @@ ghost use Rattle.aidl_syntax.specs.declared.token.Token.{Token};
 ghost use Rattle.aidl_syntax.specs.declared.token.Symbol.TheVariants as mark;
 ghost use Rattle.aidl_syntax.specs.Trees.{map_option};
 ghost use Rattle.expr_parser.specs.steps.Reading.{Read};
-ghost use Rattle.aidl_parser.specs.steps.Parts as part;
-ghost use Rattle.aidl_parser.specs.steps.Inits as inits;
-ghost use Rattle.aidl_parser.specs.steps.Repeats as repeats;
+ghost use Rattle.part_parser.specs.steps.Parts as part;
+ghost use Rattle.part_parser.specs.steps.Inits as inits;
+ghost use Rattle.part_parser.specs.steps.Repeats as repeats;
 ghost use Rattle.expr_parser.specs.Gives.{Gives};
 
 use crate::parts::{begins, begins_word, quoted, worded};
@@ -162,7 +162,7 @@ pub fn maybe_behind<'a, T: Part>(
 }
 
 // x and the rounds behind it
-#[tactic(auto, using(crate::proofs::Rounds::with_first))]
+#[tactic(auto, using(crate::proofs::lemmas::Rounds::with_first))]
 fn listed<'a, T: Part>(
     alloc: Global,
     fuel: usize,

@@ -1,7 +1,7 @@
 use Rattle.std.proofs.Common.{◌≡◌, ◌<◌, ◌≤◌, length, map}
-use Rattle.aidl_parser.specs.steps.Parts.{with_items}
-use Rattle.aidl_parser.specs.steps.Repeats.{many_by}
-use Rattle.aidl_parser.proofs.lists.many.Given as goal
+use Rattle.part_parser.specs.steps.Parts.{with_items}
+use Rattle.part_parser.specs.steps.Repeats.{many_by}
+use Rattle.part_parser.proofs.lists.many.Given as goal
 
 -- what was read, and then what is still read, is all
 abbrev pub invariant-rounds : goal.invariant-rounds

@@ -1,0 +1,5 @@
+pub mod Parts
+pub mod Types
+pub mod Inits
+pub mod Repeats
+pub mod Items
