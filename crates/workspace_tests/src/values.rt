@@ -48,11 +48,10 @@ fn decls(alloc: Global) -> Result<Row<Decl>, OutOfMemory>
         ty: one(Base::Text),
         initial: Some(Const::Text(text(alloc, "x")?)),
     })?;
-    let mut parts = Row::new(alloc);
-    parts.push(Ident(text(alloc, "P")?))?;
+    let name = Ident(text(alloc, "P")?);
     let mut decls = Row::new(alloc);
     decls.push(Decl {
-        name: DottedName(Parts::from_row(parts)),
+        name: DottedName(Parts::one(name)),
         outer: None,
         kind: Kind::Parcelable(fields),
         vintf: false,

@@ -63,10 +63,9 @@ letter_p = refl
 pub returns : goal.returns
 returns c =
     rw (
-      c.in_ok-push-4.ensures.ok,
-      c.new-decls.ensures,
       c.in_ok-push-3.ensures.ok,
-      c.new-parts.ensures,
+      c.new-decls.ensures,
+      c.one-3.ensures,
       c.in_ok-push-2.ensures.ok,
       c.in_ok-push.ensures.ok,
       c.new-fields.ensures,

@@ -1,0 +1,35 @@
+"""Makes the values of the tables of `decode` and `encode` in PERFORMANCE.md, and the tree of their records, below the folder that is named:
+
+python3 docs/largest_values.py /tmp/values
+valgrind --tool=callgrind crates/aidl/out/aidl encode 'int[]' /tmp/values/ints.json
+valgrind --tool=callgrind crates/aidl/out/aidl encode 'byte[]' /tmp/values/bytes.json
+valgrind --tool=callgrind crates/aidl/out/aidl encode String /tmp/values/text.json
+valgrind --tool=callgrind crates/aidl/out/aidl encode --tree /tmp/values/tree 'm.P[]' /tmp/values/records.json
+
+What `encode` prints is the file for `decode` of the same type.
+"""
+
+import json
+import os
+import sys
+
+
+def put(path, text):
+    os.makedirs(os.path.dirname(path), exist_ok=True)
+    with open(path, "w", encoding="utf-8") as file:
+        file.write(f"{text}\n")
+
+
+def values(folder):
+    compact = {"separators": (",", ":")}
+    ints = [k * 2654435761 % 2**32 - 2**31 for k in range(262_143)]
+    put(f"{folder}/ints.json", json.dumps([ints], **compact))
+    small = [k * 2654435761 % 2**32 // 2**24 - 128 for k in range(1_048_572)]
+    put(f"{folder}/bytes.json", json.dumps([small], **compact))
+    put(f"{folder}/text.json", json.dumps(["a" * 500_000]))
+    records = [{"a": k, "b": k * 1_000_003, "c": f"record {k}"} for k in range(20_000)]
+    put(f"{folder}/records.json", json.dumps([records], **compact))
+    put(f"{folder}/tree/m/P.aidl", "package m; parcelable P { int a; long b; String c; }")
+
+
+values(sys.argv[1])
