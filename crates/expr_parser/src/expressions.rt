@@ -15,6 +15,8 @@ use crate::tokens::{first, mark_of, next};
 use aidl_syntax::{ExprKind, ExprTree, Reserved, Symbol, Token, TokenKind};
 use std::alloc::Global;
 
+/// The expression that stands first, with binary operators of this level or above, and what follows it; `Syntax` where
+/// none stands there. `fuel` is more than the tokens, so that there are steps for all of them.
 #[cycle(expr)]
 #[tactic(auto, using(crate::proofs::lemmas::Looping::expr_step))]
 pub fn expr<'a>(
@@ -179,6 +181,7 @@ fn binary(
     })
 }
 
+/// The same token once more, with a text of its own. It can only lack memory.
 pub fn clone_token(alloc: Global, t: &Token) -> Result<Token, ParseFault>
     ensures ok { IfOk result (λ u. u ≡ t.now) }
     ensures fault { IfErr result (λ e. e ≡ fault.OutOfMemory) }

@@ -8,7 +8,7 @@ use aidl_base::{DottedName, Ident, Parts, Row};
 use aidl_syntax::{DottedTree, Symbol, Token};
 use std::alloc::Global;
 
-// Identifiers joined by dots.
+/// Identifiers joined by dots, and what follows them; `Syntax` where no identifier stands first, or none behind a dot.
 #[tactic(auto, unfolding(crate::specs::steps::Reading::dotted))]
 pub fn dotted<'a>(
     alloc: Global,
@@ -53,6 +53,7 @@ fn parts_behind<'a>(
     ensures gives { Gives (λ x. (x.0, x.1.now)) result (read.with_names (part ∷ []) (read.names true tokens.now)) }
     ensures left { IfOk result (λ x. length x.1.now < length tokens.entry.now) }
 {
+    // Few names have more than four parts.
     let mut items = Vec::with_capacity(alloc, 4)?;
     items.push(part)?;
     let mut rest = tokens;

@@ -8,7 +8,7 @@ use aidl_base::Ident;
 use aidl_syntax::{Symbol, Token, TokenKind};
 use std::alloc::Global;
 
-// The symbol that a token is.
+/// The symbol that a token is.
 pub fn mark_of(kind: &TokenKind) -> Option<Symbol>
     ensures { result ≡ read.mark_of kind.now }
 {
@@ -18,7 +18,7 @@ pub fn mark_of(kind: &TokenKind) -> Option<Symbol>
     }
 }
 
-// The identifier that a token is.
+/// The identifier that a token is, as a text of its own; `Syntax` where it is another token.
 pub fn name_of(alloc: Global, kind: &TokenKind) -> Result<Ident, ParseFault>
     ensures { Gives (λ i. i) result (read.name_of kind.now) }
 {
@@ -28,7 +28,7 @@ pub fn name_of(alloc: Global, kind: &TokenKind) -> Result<Ident, ParseFault>
     }
 }
 
-// The first token, and those after it.
+/// The first token, and those after it.
 pub fn next<'a>(tokens: &'a [Token]) -> Option<(&'a Token, &'a [Token])>
     ensures { MatchOption result (tokens.now ≡ []) (λ x. tokens.now ≡ x.0.now ∷ x.1.now) }
 {
@@ -38,7 +38,7 @@ pub fn next<'a>(tokens: &'a [Token]) -> Option<(&'a Token, &'a [Token])>
     }
 }
 
-// The offset of the first token.
+/// The offset of the first token in its file, in bytes; 0 where there is none.
 pub fn first(tokens: &[Token]) -> u32
     ensures { result ≡ part.first tokens.now }
 {
@@ -48,7 +48,7 @@ pub fn first(tokens: &[Token]) -> u32
     }
 }
 
-// Whether a token is an identifier.
+/// Whether a token is an identifier.
 pub fn is_name(kind: &TokenKind) -> bool
     ensures { result ≡ is_some (read.name_of kind.now) }
 {

@@ -15,7 +15,8 @@ use aidl_syntax::{AnnotTree, InitTree, NameTree, ParamTree, Symbol, Token};
 use expr_parser::{ParseFault, first, is_name};
 use std::alloc::Global;
 
-// {"@" ident ["(" [param {"," param}] ")"]}
+/// `{"@" ident ["(" [param {"," param}] ")"]}`: the annotations that stand first, and what follows them. `Syntax` where one
+/// begins and is none.
 #[tactic(auto, unfolding(crate::specs::steps::Inits::annots_at), using(crate::proofs::lemmas::Rounds::with_none))]
 pub fn annots<'a>(
     alloc: Global,

@@ -46,8 +46,8 @@ pub enum Repeat {
     Imports,
 }
 
-// Items as long as one more stands there, behind those that were read. Each round takes a token at least, so that there
-// are rounds for all of them.
+/// Items as long as one more stands there, behind those that were read, and what follows them. The first item that can't
+/// be read refuses them all. Each round takes a token at least, so that there are rounds for all of them.
 pub fn many<'a, T: Part>(
     alloc: Global,
     fuel: usize,
@@ -110,7 +110,7 @@ fn round<'a, T: Part>(
     }
 }
 
-// A reserved word, x and ";".
+/// A reserved word, x and ";", and what follows them; `Syntax` where another token stands.
 pub fn statement<'a, T: Part>(
     alloc: Global,
     fuel: usize,
@@ -142,7 +142,7 @@ pub fn behind<'a, T: Part>(
     T::part(alloc, fuel, rest)
 }
 
-// [s x]
+/// `[s x]`: what stands behind the symbol, where the symbol stands first.
 pub fn maybe_behind<'a, T: Part>(
     alloc: Global,
     fuel: usize,
@@ -179,7 +179,7 @@ fn listed<'a, T: Part>(
     many(alloc, fuel, repeat, items, rest)
 }
 
-// "(" [x {"," x}] ")"
+/// `"(" [x {"," x}] ")"`: the items, and what follows the closing sign; `Syntax` where a sign is wanted and isn't there.
 pub fn in_parens<'a, T: Part>(
     alloc: Global,
     fuel: usize,
@@ -231,7 +231,7 @@ pub fn maybe_trailing<'a, T: Part>(
     }
 }
 
-// x {"," x} [","]
+/// `x {"," x} [","]`: at least one item before "}", where a comma may stand behind the last.
 #[tactic(auto, unfolding(crate::specs::steps::Inits::trailing))]
 pub fn trailing<'a, T: Part>(
     alloc: Global,

@@ -5,7 +5,7 @@ ghost use Rattle.expr_parser.specs.Gives.{Gives};
 use aidl_syntax::{Reserved, Symbol, Token, TokenKind};
 use expr_parser::{ParseFault, mark_of};
 
-// Whether the symbol stands first.
+/// Whether the symbol stands first.
 #[tactic(auto, unfolding(crate::specs::steps::Parts::same_symbol))]
 pub fn begins(s: Symbol, tokens: &[Token]) -> bool
     ensures { result ≡ read.begins s tokens.now }
@@ -19,7 +19,7 @@ pub fn begins(s: Symbol, tokens: &[Token]) -> bool
     }
 }
 
-// Whether the reserved word stands first.
+/// Whether the reserved word stands first.
 #[tactic(auto, unfolding(crate::specs::steps::Parts::same_word))]
 pub fn begins_word(r: Reserved, tokens: &[Token]) -> bool
     ensures { result ≡ read.begins_word r tokens.now }
@@ -33,7 +33,7 @@ pub fn begins_word(r: Reserved, tokens: &[Token]) -> bool
     }
 }
 
-// The symbol, and what follows it.
+/// What follows the symbol; `Syntax` where it doesn't stand first.
 pub fn quoted<'a>(s: Symbol, tokens: &'a [Token]) -> Result<((), &'a [Token]), ParseFault>
     ensures gives { Gives (λ x. (x.0, x.1.now)) result (read.quoted s tokens.entry.now) }
     ensures left { IfOk result (λ x. length x.1.now < length tokens.entry.now) }
@@ -45,7 +45,7 @@ pub fn quoted<'a>(s: Symbol, tokens: &'a [Token]) -> Result<((), &'a [Token]), P
     }
 }
 
-// The reserved word, and what follows it.
+/// What follows the reserved word; `Syntax` where it doesn't stand first.
 pub fn worded<'a>(r: Reserved, tokens: &'a [Token]) -> Result<((), &'a [Token]), ParseFault>
     ensures gives { Gives (λ x. (x.0, x.1.now)) result (read.worded r tokens.entry.now) }
     ensures left { IfOk result (λ x. length x.1.now < length tokens.entry.now) }
@@ -57,7 +57,7 @@ pub fn worded<'a>(r: Reserved, tokens: &'a [Token]) -> Result<((), &'a [Token]),
     }
 }
 
-// The reserved word that a token is.
+/// The reserved word that a token is.
 pub fn word_of(kind: &TokenKind) -> Option<Reserved>
     ensures { result ≡ read.word_of kind.now }
 {

@@ -12,7 +12,7 @@ use aidl_syntax::{DottedTree, NameTree, Symbol, Token, TypeTree};
 use expr_parser::{ParseFault, dotted, first, name_of};
 use std::alloc::Global;
 
-// dotted ["<" dotted ">"] ["[" "]"]
+/// `dotted ["<" dotted ">"] ["[" "]"]`: the type, and what follows it; `Syntax` where none stands first.
 #[tactic(auto, unfolding(crate::specs::steps::Types::type_at))]
 pub fn type_of<'a>(
     alloc: Global,
@@ -68,7 +68,7 @@ fn array<'a>(tokens: &'a [Token]) -> Result<(bool, &'a [Token]), ParseFault>
     }
 }
 
-// The identifier, and what follows it.
+/// The identifier, and what follows it; `Syntax` where none stands first.
 pub fn ident<'a>(alloc: Global, tokens: &'a [Token]) -> Result<(NameTree, &'a [Token]), ParseFault>
     ensures gives { Gives (λ x. (x.0, x.1.now)) result (read.ident tokens.entry.now) }
     ensures left { IfOk result (λ x. length x.1.now < length tokens.entry.now) }
