@@ -1,3 +1,4 @@
 pub mod Breaches
 pub mod Refusals
 pub mod Places
+pub mod TypeRules

@@ -14,6 +14,7 @@ ghost use Rattle.declared_names.specs.Entries.{entry_of};
 
 use crate::fault::NameFault;
 use crate::order::in_order;
+use crate::types::add_types;
 use aidl_base::{Breach, Ident, Limit, LimitName, OutOfMemory, Row};
 use aidl_syntax::ParsedFile;
 use declared_names::{Found, MemberRef, WalkFault, called, members_by_name, walk};
@@ -22,8 +23,7 @@ use name_marks::{Table, marks};
 use name_meanings::{Imports, Resolved, imports_of_files};
 use name_resolution::{Known, resolved};
 use name_rules::{
-    add_other_imports, add_repeated, add_taken, add_types, add_unknown_imports, add_wrong_files,
-    passed,
+    add_other_imports, add_repeated, add_taken, add_unknown_imports, add_wrong_files, passed,
 };
 use std::alloc::Global;
 use std::marker::Model;

@@ -1,4 +1,3 @@
 pub mod Alike
 pub mod Limits
 pub mod Rules
-pub mod TypeRules

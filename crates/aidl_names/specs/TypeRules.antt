@@ -1,8 +1,8 @@
 -- The two rules on the names of types: the number of each, and its test.
 use Rattle.std.specs.Prelude.{ℕ, Bool, List}
 use Rattle.aidl_base.specs.declared.name.Ident.{Ident}
-use Rattle.name_rules.specs.declared.types.TypeRule.{TypeRule}
-use Rattle.name_rules.specs.declared.types.TypeRule.TheVariants as rule
+use Rattle.aidl_names.specs.declared.types.TypeRule.{TypeRule}
+use Rattle.aidl_names.specs.declared.types.TypeRule.TheVariants as rule
 use Rattle.aidl_syntax.specs.Sources.{Source}
 use Rattle.declared_names.specs.Declarations.{declarations}
 use Rattle.name_meanings.specs.Resolution.{resolved}

@@ -2,9 +2,9 @@ use Rattle.std.proofs.Common.{◌≡◌, ◌++◌, map, drop}
 use Rattle.std.specs.List.{filter}
 use Rattle.aidl_syntax.specs.Sources.{source_of}
 use Rattle.name_rules.specs.Rules.{breach, types_in}
-use Rattle.name_rules.specs.TypeRules.{breaks_of, rule_of}
+use Rattle.aidl_names.specs.TypeRules.{breaks_of, rule_of}
 use Rattle.declared_names.specs.Entries.{entry_of}
-use Rattle.name_rules.proofs.types.add_types_in.Given as goal
+use Rattle.aidl_names.proofs.types.add_types_in.Given as goal
 
 -- the breaches so far and those that are left are all
 abbrev pub invariant-loop-name : goal.invariant-loop-name
