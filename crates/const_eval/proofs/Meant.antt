@@ -17,7 +17,7 @@ use Rattle.const_operands.specs.Operands.{Operand}
 use Rattle.const_values.specs.Wanted.{fitted}
 use Rattle.const_items.specs.declared.item.ItemRef.{ItemRef}
 use Rattle.const_eval.specs.declared.outcome.Outcome.{Outcome}
-use Rattle.const_items.specs.Dependence.{Target, number_among, target}
+use Rattle.const_dependence.specs.Dependence.{Target, number_among, target}
 use Rattle.const_items.specs.Items.{Item, items}
 use Rattle.const_items.specs.ItemViews.{item_of}
 use Rattle.const_eval.specs.Known.{AreItems, meaning_for, values_in}

@@ -7,7 +7,7 @@ use Rattle.const_operands.specs.declared.fault.ConstFault.TheVariants.{Cycle, Un
 use Rattle.const_eval.specs.declared.outcome.Outcome.{Outcome}
 use Rattle.const_eval.specs.declared.outcome.Outcome.TheVariants.{Given, Fault, Unjudged}
 use Rattle.const_items.specs.Items.{Item, items}
-use Rattle.const_items.specs.Dependence.{next, has_unknown_name}
+use Rattle.const_dependence.specs.Dependence.{next, has_unknown_name}
 use Rattle.const_eval.specs.Known.{AreKnown, are_given, value_of, values_in, without_value}
 use Rattle.const_eval.specs.Outcomes.{HasOutcome, IsCyclic, is_given, judgement_of, outcome_at, outcome_of}
 use Rattle.const_eval.specs.Outcomes.HasOutcome.{unformed, unknown, cyclic, behind, judged}

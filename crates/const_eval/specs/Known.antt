@@ -14,7 +14,7 @@ use Rattle.const_items.specs.declared.item.ItemRef.{ItemRef}
 use Rattle.const_eval.specs.declared.outcome.Outcome.{Outcome}
 use Rattle.const_eval.specs.declared.outcome.Outcome.TheVariants.{Given, Fault, Unjudged}
 use Rattle.const_items.specs.Items.{Item, items}
-use Rattle.const_items.specs.Dependence.{next}
+use Rattle.const_dependence.specs.Dependence.{next}
 use Rattle.const_eval.specs.Held.{is_held_outcome}
 use Rattle.const_eval.specs.Outcomes.{HasOutcome, Values, is_given, meaning, outcome_at, wanted_of}
 

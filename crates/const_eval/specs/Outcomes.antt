@@ -20,7 +20,7 @@ use Rattle.const_values.specs.Wanted.{fitted}
 use Rattle.const_eval.specs.declared.outcome.Outcome.{Outcome}
 use Rattle.const_eval.specs.declared.outcome.Outcome.TheVariants.{Given, Fault, Unjudged}
 use Rattle.const_items.specs.Items.{Item, Written, written, first, after, items, number_at}
-use Rattle.const_items.specs.Dependence.{Target, of_enumerator, target, number_of, has_unknown_name, next}
+use Rattle.const_dependence.specs.Dependence.{Target, of_enumerator, target, number_of, has_unknown_name, next}
 
 -- What the value of a constant or enumerator is in an expression, by the value that was wanted of it.
 

@@ -7,7 +7,7 @@ ghost use Rattle.const_eval.specs.Held.{is_held};
 ghost use Rattle.const_items.specs.ItemViews.{item_of};
 ghost use Rattle.const_eval.specs.Known.{AreHeld, AreItems, IsItemAt, values_in};
 ghost use Rattle.const_eval.specs.Outcomes as meant;
-ghost use Rattle.const_items.specs.TargetViews.{seen_targets};
+ghost use Rattle.const_dependence.specs.TargetViews.{seen_targets};
 
 use crate::fitting::held;
 use crate::known::KnownValues;
@@ -16,7 +16,8 @@ use crate::stepping::{first, one_more};
 use aidl_base::Const;
 use aidl_names::Names;
 use aidl_syntax::{ExprKind, ExprTree};
-use const_items::{ItemRef, Items, Target, WrittenRef, target_of};
+use const_dependence::{Target, target_of};
+use const_items::{ItemRef, Items, WrittenRef};
 use const_operands::EvalFault;
 use const_values::evaluated;
 use std::alloc::Global;

@@ -1,4 +1,3 @@
-mod Behind
 mod EachItem
 mod General
 mod Orders

@@ -1,5 +1,3 @@
 pub mod Items
 pub mod ItemViews
-pub mod Dependence
-pub mod TargetViews
 pub mod SmallPlaces

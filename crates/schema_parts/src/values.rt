@@ -1,6 +1,5 @@
 ghost use Rattle.std.specs.Prelude.{◌≡◌, map, IfOk};
 ghost use Rattle.aidl_syntax.specs.Trees.{enumerator_of, expr_of, exprs_of, init_of, map_option};
-ghost use Rattle.const_items.specs.Items as items;
 ghost use Rattle.schema_parts.specs.TreeViews.{HasItems, HasScope, files_of, outcomes_of};
 ghost use Rattle.schema_parts.specs.Values as meant;
 
@@ -9,6 +8,7 @@ use crate::tree::Tree;
 use aidl_base::{Const, OutOfMemory, Row};
 use aidl_syntax::{EnumeratorTree, ExprTree, InitTree, TypeTree};
 use const_eval::Outcome;
+use const_items::place_by;
 use std::alloc::Global;
 use type_shapes::{is_unjudged, shaped};
 
@@ -102,15 +102,6 @@ pub fn enumerator_value(tree: &Tree<'_, '_>, file: u32, enumerator: &EnumeratorT
     match value_at(tree, file, place) {
         None => 0,
         Some(value) => whole(value),
-    }
-}
-
-fn place_by(named: u32, value: &Option<ExprTree>) -> u32
-    ensures { result ≡ items.place_by named (map_option expr_of value.now) }
-{
-    match value {
-        None => named,
-        Some(expr) => expr.offset,
     }
 }
 

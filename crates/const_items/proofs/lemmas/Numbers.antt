@@ -2,11 +2,9 @@
 use Rattle.std.proofs.Common.{◌<◌, ◌≤◌, ◌+◌, ℕ, Bool, true, false, cond, List, [], ◌∷◌, length, map, Option, Some, None, IfSome, arith}
 use Rattle.std.specs.List.{position_from}
 use Rattle.std.proofs.lemmas.List.{length-map}
-use Rattle.aidl_syntax.specs.Trees.{offset_of}
 use Rattle.const_items.specs.declared.item.ItemRef.{ItemRef}
 use Rattle.const_items.specs.ItemViews.{item_of}
-use Rattle.const_items.specs.Items.{is_at, number_at, place_of}
-use Rattle.const_items.specs.Dependence.{Target, of_constant, of_enumerator, number_among}
+use Rattle.const_items.specs.Items.{is_at, number_at}
 
 found_within : {X : Type 0} (p : X → Bool) (k : ℕ) (xs : List X) (most : ℕ) → k + length xs ≤ most → IfSome (position_from p k xs) (λ n. n < most)
 found_within p k [] most l = tt
@@ -18,9 +16,3 @@ found_within p k (x ∷ xs) most l = go (p x) (found_within p (k + 1) xs most (o
 -- of an item at a place
 pub at_within : (list : List ItemRef) (most file place : ℕ) → length list ≤ most → IfSome (number_at (map item_of list) file place) (λ n. n < most)
 at_within list most file place l = found_within (is_at file place) 0 (map item_of list) most (omega (arith, length-map list item_of))
-
--- of one that is meant
-pub among_within : (list : List ItemRef) (most : ℕ) (t : Option Target) → length list ≤ most → IfSome (number_among (map item_of list) t) (λ n. n < most)
-among_within list most None l = tt
-among_within list most (Some (of_constant file number c)) l = at_within list most file (offset_of c.value) l
-among_within list most (Some (of_enumerator file number e)) l = at_within list most file (place_of e) l

@@ -32,7 +32,7 @@ use Rattle.const_operands.specs.Operands.{Operand}
 use Rattle.const_values.specs.Unary.{of_number}
 use Rattle.const_values.specs.Wanted.{fitted, in_range}
 use Rattle.const_operands.specs.Widths.{is_within}
-use Rattle.const_items.specs.Dependence.{names_of}
+use Rattle.const_dependence.specs.Dependence.{names_of}
 use Rattle.aidl_schema.specs.declared.schema.Decl.{Decl}
 use Rattle.aidl_schema.specs.declared.schema.Base.{Base}
 use Rattle.aidl_schema.specs.declared.schema.Base.TheVariants as base

@@ -26,7 +26,7 @@ use Rattle.const_values.specs.Wanted.{fitted}
 use Rattle.const_eval.specs.declared.outcome.Outcome.{Outcome}
 use Rattle.const_eval.specs.declared.outcome.Outcome.TheVariants.{Given}
 use Rattle.const_items.specs.Items.{Item, written, items, number_at, place_of}
-use Rattle.const_items.specs.Dependence.{of_enumerator, target, target_by, target_behind, member_of, number_of, names_in, has_unknown_name, depends_on, number_before, next, next_of}
+use Rattle.const_dependence.specs.Dependence.{of_enumerator, target, target_by, target_behind, member_of, number_of, names_in, has_unknown_name, depends_on, number_before, next, next_of}
 use Rattle.const_eval.specs.Outcomes as outcomes
 use Rattle.const_eval.specs.Outcomes.{HasOutcome, IsCyclic, Values, judged, judgement_of, expression_of, outcome_of, meaning, operand_at, operand_of, of_level, wanted_of, named_enum, is_given}
 use Rattle.const_eval.proofs.lemmas.OneOutcome.{one_outcome}

@@ -37,7 +37,7 @@ use Rattle.const_values.specs.Shifts.{shifted}
 use Rattle.const_operands.specs.Symbols.{unary_operator, binary_operator}
 use Rattle.const_values.specs.Unary as one
 use Rattle.const_values.specs.Wanted.{fitted, in_range, is_of_enum}
-use Rattle.const_items.specs.Dependence.{names_of}
+use Rattle.const_dependence.specs.Dependence.{names_of}
 use Rattle.const_eval.specs.Outcomes.{of_level, of_number, of_code}
 
 -- a character of a literal, or a text of such as a string may hold

@@ -34,7 +34,7 @@ use Rattle.const_operands.specs.Operands.{Operand, truth, number, character, tex
 use Rattle.const_values.specs.Wanted.{fitted}
 use Rattle.const_eval.specs.declared.outcome.Outcome.{Outcome}
 use Rattle.const_eval.specs.declared.outcome.Outcome.TheVariants.{Given}
-use Rattle.const_items.specs.Dependence.{Target, of_constant, of_enumerator, target, target_by, target_behind, target_of_part, target_if, member_at, member_of, is_enumerator, only_enumerators, only_constants, constant_around, enumerator_beside, number_of, names_in, number_before, depends_on, next, next_of}
+use Rattle.const_dependence.specs.Dependence.{Target, of_constant, of_enumerator, target, target_by, target_behind, target_of_part, target_if, member_at, member_of, is_enumerator, only_enumerators, only_constants, constant_around, enumerator_beside, number_of, names_in, number_before, depends_on, next, next_of}
 use Rattle.const_items.specs.Items.{Item, Written, written, first, after, items, number_at, place_of}
 use Rattle.const_eval.specs.Outcomes.{HasOutcome, Values, operand_at, of_level, of_number, wanted_of, meaning, judgement_of, outcome_of, named_enum, enum_of, one_more, number_in}
 use Rattle.const_eval.specs.Outcomes.HasOutcome.{unformed, unknown, cyclic, behind, judged}

@@ -1,6 +1,6 @@
 use Rattle.std.proofs.Common.{◌<◌, IfSome, ℕ, Option, sym, subst}
 use Rattle.const_items.proofs.lemmas.Numbers.{at_within}
-use Rattle.const_items.proofs.dependence.add_before.Goals as goal
+use Rattle.const_dependence.proofs.dependence.add_before.Goals as goal
 
 -- there are few items
 pub add_found-requires : goal.add_found-requires

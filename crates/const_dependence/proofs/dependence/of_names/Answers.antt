@@ -1,7 +1,7 @@
 use Rattle.std.proofs.Common.{◌<◌, IfSome, ℕ, Option, sym, subst}
-use Rattle.const_items.specs.TargetViews.{seen_targets}
-use Rattle.const_items.proofs.lemmas.Numbers.{among_within}
-use Rattle.const_items.proofs.dependence.of_names.Goals as goal
+use Rattle.const_dependence.specs.TargetViews.{seen_targets}
+use Rattle.const_dependence.proofs.Within.{among_within}
+use Rattle.const_dependence.proofs.dependence.of_names.Goals as goal
 
 -- there are few items
 pub add_found-requires : goal.add_found-requires

@@ -1,10 +1,10 @@
 use Rattle.std.proofs.Common.{◌-◌, length, refl, ap, ◌∙◌, map}
 use Rattle.declared_names.specs.Declarations.{declarations}
 use Rattle.aidl_syntax.specs.Sources.{source_of}
-use Rattle.const_items.specs.Dependence.{member_of}
+use Rattle.const_dependence.specs.Dependence.{member_of}
 use Rattle.const_items.specs.ItemViews.{item_of}
-use Rattle.const_items.proofs.Behind.{by_last}
-use Rattle.const_items.proofs.target.target_by.Goals as goal
+use Rattle.const_dependence.proofs.Behind.{by_last}
+use Rattle.const_dependence.proofs.target.target_by.Goals as goal
 
 -- the last part is a member of what those before it mean
 pub returns-in-len1-up : goal.returns-in-len1-up

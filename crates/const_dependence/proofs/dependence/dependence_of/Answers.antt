@@ -2,7 +2,7 @@ use Rattle.std.proofs.Common.{map, ap, ◌∙◌, arith}
 use Rattle.aidl_syntax.specs.Sources.{source_of}
 use Rattle.const_items.specs.ItemViews.{item_of}
 use Rattle.const_items.proofs.lemmas.Scopes.{scoped}
-use Rattle.const_items.proofs.dependence.dependence_of.Goals as goal
+use Rattle.const_dependence.proofs.dependence.dependence_of.Goals as goal
 
 -- an item stands in a declaration of its file
 pub of_item-requires-clause-scope : goal.of_item-requires-clause-scope

@@ -1,8 +1,8 @@
 use Rattle.std.proofs.Common.{◌≡◌, map, take}
 use Rattle.aidl_syntax.specs.Sources.{source_of}
-use Rattle.const_items.specs.Dependence.{depends_on, has_unknown_name}
+use Rattle.const_dependence.specs.Dependence.{depends_on, has_unknown_name}
 use Rattle.const_items.specs.ItemViews.{item_of}
-use Rattle.const_items.proofs.dependence.dependence_of.Given as goal
+use Rattle.const_dependence.proofs.dependence.dependence_of.Given as goal
 
 -- those of the items so far
 abbrev pub invariant-loop-item : goal.invariant-loop-item

@@ -1,11 +1,11 @@
 ghost use Rattle.std.specs.Prelude.{◌≡◌, ◌++◌, map, IfOk, OnOk};
 ghost use Rattle.aidl_syntax.specs.Trees.{expr_of};
-ghost use Rattle.const_items.specs.Dependence as meant;
+ghost use Rattle.const_dependence.specs.Dependence as meant;
 ghost use Rattle.const_items.specs.ItemViews.{item_of};
 
-use crate::item::{ItemRef, WrittenRef};
 use aidl_base::OutOfMemory;
 use aidl_syntax::{DottedTree, ExprKind, ExprTree};
+use const_items::{ItemRef, WrittenRef};
 use std::alloc::Global;
 
 /// The names in what is written of an item, in the order of the file.

@@ -1,9 +1,9 @@
 use Rattle.std.proofs.Common.{◌≡◌, ◌++◌, ◌||◌, is_none, map, drop}
 use Rattle.std.specs.List.{filter_map, list_any}
 use Rattle.aidl_syntax.specs.Sources.{source_of}
-use Rattle.const_items.specs.Dependence.{number_of, target}
+use Rattle.const_dependence.specs.Dependence.{number_of, target}
 use Rattle.const_items.specs.ItemViews.{item_of}
-use Rattle.const_items.proofs.dependence.of_names.Given as goal
+use Rattle.const_dependence.proofs.dependence.of_names.Given as goal
 
 -- what is found and what is left to find is all
 abbrev pub invariant-loop-name : goal.invariant-loop-name

@@ -4,16 +4,14 @@ ghost use Rattle.declared_names.specs.MemberViews.{seen_member};
 ghost use Rattle.aidl_names.specs.Refusals.{IsScope};
 ghost use Rattle.aidl_syntax.specs.Sources.{source_of};
 ghost use Rattle.aidl_syntax.specs.Trees.{map_option};
-ghost use Rattle.const_items.specs.Dependence as meant;
+ghost use Rattle.const_dependence.specs.Dependence as meant;
 ghost use Rattle.const_items.specs.ItemViews.{item_of};
-ghost use Rattle.const_items.specs.TargetViews.{seen_targets};
+ghost use Rattle.const_dependence.specs.TargetViews.{seen_targets};
 
-use crate::item::ItemRef;
-use crate::listing::place_by;
-use crate::numbering::Items;
 use aidl_base::Ident;
 use aidl_names::Names;
 use aidl_syntax::{ConstantTree, DottedTree, EnumeratorTree};
+use const_items::{ItemRef, Items, place_by};
 use declared_names::MemberRef;
 use name_meanings::Resolved;
 

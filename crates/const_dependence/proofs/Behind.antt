@@ -5,7 +5,7 @@ use Rattle.declared_names.specs.Declarations.{declarations}
 use Rattle.name_meanings.specs.Resolution.{resolved}
 use Rattle.aidl_syntax.specs.Sources.{Source}
 use Rattle.const_items.specs.Items.{Item}
-use Rattle.const_items.specs.Dependence.{Target, member_of, target_behind, target_by}
+use Rattle.const_dependence.specs.Dependence.{Target, member_of, target_behind, target_by}
 
 module _ (files : List Source) (x : Item) where
   -- a member of what some parts mean

@@ -3,17 +3,16 @@ ghost use Rattle.std.specs.List.{cons_option, filter_map, list_any};
 ghost use Rattle.aidl_names.specs.Refusals.{IsScope};
 ghost use Rattle.aidl_syntax.specs.Sources.{source_of};
 ghost use Rattle.graph_cycles.specs.Paths.{targets};
-ghost use Rattle.const_items.specs.Dependence as meant;
+ghost use Rattle.const_dependence.specs.Dependence as meant;
 ghost use Rattle.const_items.specs.Items.{items as items_of};
 ghost use Rattle.const_items.specs.ItemViews.{item_of};
 
-use crate::item::{ItemRef, WrittenRef};
 use crate::named::names_in;
-use crate::numbering::Items;
 use crate::target::{number_of, target_of};
 use aidl_base::{OutOfMemory, Row};
 use aidl_names::Names;
 use aidl_syntax::DottedTree;
+use const_items::{ItemRef, Items, WrittenRef};
 use std::alloc::Global;
 
 /// Of each item in order the numbers of those that it depends on, and whether a name in it has no meaning.
