@@ -10,26 +10,11 @@ use Rattle.declared_names.proofs.lemmas.Earlier.{take-next}
 use Rattle.declared_names.specs.Declarations.{Entry}
 use Rattle.type_uses.specs.Bases.{is_fixed_entry, is_fixed_number}
 use Rattle.type_uses.specs.Ids.{is_id, number_of}
-use Rattle.type_rules.specs.MethodRules.{has_value, is_bad_token, is_taken}
+use Rattle.member_rules.specs.IdRules.{has_value, is_bad_token, is_taken}
 
 -- what f makes of one more of the first
 pub mapped-next : {A B : Type 0} (f : A → B) (xs : List A) (i : ℕ) (x : A) → i < length xs → x ≡ get_or xs i x → map f (take (i + 1) xs) ≡ map f (take i xs) ++ f x ∷ []
 mapped-next f xs i x lt is = ap (λ (j : ℕ). map f (take j xs)) (add-one i) ∙ ap (map f) (take-next xs i x lt is) ∙ map-append f (take i xs) (x ∷ [])
-
--- only what is held decides
-pub token-same : (some : Bool) (f g : ℕ → Bool) → ((n : ℕ) → f n ≡ g n) → (id : Option Token) → is_bad_token some f id ≡ is_bad_token some g id
-token-same some f g same None = refl
-token-same some f g same (Some t) = ap (λ b. not (is_id t) || b) (same (number_of t))
-
-or-false : (b : Bool) → (b || false) ≡ b
-or-false true = refl
-or-false false = refl
-
--- one more id is taken
-pub taken-next : (ms : List Method) (i : ℕ) (m : Method) → i < length ms → m ≡ get_or ms i m → (n : ℕ) → is_taken (take (i + 1) ms) n ≡ (is_taken (take i ms) n || has_value n m.id)
-taken-next ms i m lt is n =
-    let has = λ (x : Method). has_value n x.id in
-    ap (λ (j : ℕ). list_any has (take j ms)) (add-one i) ∙ ap (list_any has) (take-next ms i m lt is) ∙ list_any-append has (take i ms) (m ∷ []) ∙ ap (λ b. list_any has (take i ms) || b) (or-false (has_value n m.id))
 
 -- what is added ten times, one after the other
 pub joined : {U E : Type 0} {B : Type 0} (r : Result U E) (r0 r1 r2 r3 r4 r5 r6 r7 r8 r9 last x1 x2 x3 x4 x5 x6 x7 x8 x9 x : List B)
@@ -48,21 +33,3 @@ joined r r0 r1 r2 r3 r4 r5 r6 r7 r8 r9 last x1 x2 x3 x4 x5 x6 x7 x8 x9 x e1 e2 e
   where
     more : {B : Type 0} (r0 acc x r s : List B) → r ≡ r0 ++ acc → s ≡ r ++ x → s ≡ r0 ++ (acc ++ x)
     more r0 acc x r s e f = f ∙ ap (λ z. z ++ x) e ∙ append_assoc r0 acc x
-
--- whether the declaration with a number has `@FixedSize`, by a list that says it of each
-abbrev by_list : Option Bool → Bool
-by_list None = false
-by_list (Some b) = b
-
-fixed_by : (entries : List Entry) (n : ℕ) → by_list (slice_get (map is_fixed_entry entries) n) ≡ is_fixed_number entries n
-fixed_by entries n = ap by_list (slice_get-map is_fixed_entry entries n) ∙ go (slice_get entries n)
-  where
-    go : (o : Option Entry) → by_list (option_map is_fixed_entry o) ≡ (elim o [ None ↦ false | Some e ↦ is_fixed_entry e ])
-    go None = refl
-    go (Some e) = refl
-
-pub fixed_some : (entries : List Entry) (fixed : List Bool) (n : ℕ) (b : Bool) → fixed ≡ map is_fixed_entry entries → Some b ≡ slice_get fixed n → b ≡ is_fixed_number entries n
-fixed_some entries fixed n b is at = ap by_list at ∙ ap (λ bs. by_list (slice_get bs n)) is ∙ fixed_by entries n
-
-pub fixed_none : (entries : List Entry) (fixed : List Bool) (n : ℕ) → fixed ≡ map is_fixed_entry entries → None ≡ slice_get fixed n → false ≡ is_fixed_number entries n
-fixed_none entries fixed n is at = ap by_list at ∙ ap (λ bs. by_list (slice_get bs n)) is ∙ fixed_by entries n

@@ -8,8 +8,10 @@ use Rattle.aidl_names.specs.Breaches.{in_order}
 use Rattle.type_uses.specs.TypeUses.{TypeUse, type_uses}
 use Rattle.type_rules.specs.AnnotationRules.{BadAnnotation, BadBacking}
 use Rattle.type_rules.specs.TypeRules.{BadNullable, BadShape, BadDirection}
-use Rattle.type_rules.specs.MethodRules.{BadOneway, BadId}
-use Rattle.type_rules.specs.FieldRules.{BadConstant, BadField, NotFixed}
+use Rattle.member_rules.specs.IdRules.{BadId}
+use Rattle.type_rules.specs.MethodRules.{BadOneway}
+use Rattle.member_rules.specs.FieldRules.{BadField, NotFixed}
+use Rattle.type_rules.specs.TypeRules.{BadConstant}
 
 -- those of a declaration, by the types that it uses
 unfoldable pub broken_by : List Entry → Entry → List TypeUse → List Breach

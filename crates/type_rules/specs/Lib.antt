@@ -1,8 +1,6 @@
 pub mod AnnotationRules
 pub mod TypeRules
 pub mod MethodRules
-pub mod FieldRules
-pub mod Filters
 pub mod UseRules
 pub mod Breaches
 pub mod Unbroken

@@ -1,18 +1,14 @@
--- The check rules on methods, each as the list of its breaches in a declaration (own in number and wording).
-use Rattle.std.specs.Prelude.{ℕ, Bool, false, not, ◌&&◌, ◌||◌, nat_eq, List, [], map, Option, Some, None, is_some}
+-- The check rule on methods that are oneway, as the list of its breaches in a declaration (own in number and wording).
+use Rattle.std.specs.Prelude.{Bool, false, ◌&&◌, ◌||◌, List, is_some}
 use Rattle.std.specs.List.{list_any}
 use Rattle.aidl_base.specs.declared.breach.Breach.{Breach}
-use Rattle.aidl_syntax.specs.declared.token.Token.{Token}
 use Rattle.aidl_syntax.specs.Trees.{Method, Body}
 use Rattle.aidl_syntax.specs.Trees.Body.{interface}
 use Rattle.aidl_syntax.specs.Members.{body}
 use Rattle.declared_names.specs.Declarations.{Entry}
-use Rattle.name_rules.specs.Rules.{breach}
-use Rattle.declared_names.specs.Numbered.{after_earlier}
-use Rattle.type_uses.specs.TypeUses.{TypeUse, of_method, name_place, methods_in}
+use Rattle.type_uses.specs.TypeUses.{TypeUse, of_method, name_place}
+use Rattle.member_rules.specs.Filters.{broken_where}
 use Rattle.type_rules.specs.TypeRules.{is_outward}
-use Rattle.type_uses.specs.Ids.{number_of, is_id, has_id}
-use Rattle.type_rules.specs.Filters.{broken_where}
 
 -- E18 BadOneway: a method that is oneway, by itself or by its interface, returns a value or has an `out` or `inout` argument.
 
@@ -30,29 +26,3 @@ is_bad_oneway oneway _ = false
 
 abbrev pub BadOneway : Entry → List TypeUse → List Breach
 BadOneway e uses = broken_where (is_bad_oneway (is_oneway_body (body e.tree))) 18 name_place e.file uses
-
--- E19 BadId: a method has no id while another method of its interface has one; an id is no decimal without suffix from 0 to
--- 16777114; an id is that of an earlier method. Ids are compared by their values.
-
-abbrev pub has_value : ℕ → Option Token → Bool
-has_value id None = false
-has_value id (Some t) = nat_eq id (number_of t)
-
--- an earlier method has that id
-abbrev pub is_taken : List Method → ℕ → Bool
-is_taken before id = list_any (λ m. has_value id m.id) before
-
--- `some` says that a method of the interface has an id, and `taken` which ids earlier ones have
-abbrev pub is_bad_token : Bool → (ℕ → Bool) → Option Token → Bool
-is_bad_token some taken None = some
-is_bad_token some taken (Some t) = not (is_id t) || taken (number_of t)
-
-abbrev pub is_bad_id : Bool → List Method → Method → Bool
-is_bad_id some before m = is_bad_token some (is_taken before) m.id
-
--- of the methods of an interface
-abbrev pub bad_ids : ℕ → List Method → List Breach
-bad_ids file ms = map (λ m. breach 19 file m.name.offset) (after_earlier (is_bad_id (list_any has_id ms)) [] ms)
-
-abbrev pub BadId : Entry → List TypeUse → List Breach
-BadId e uses = bad_ids e.file (methods_in uses)

@@ -5,6 +5,7 @@ use Rattle.aidl_base.specs.declared.breach.Breach.{Breach}
 use Rattle.aidl_syntax.specs.declared.tree.WayTree.{WayTree}
 use Rattle.aidl_syntax.specs.declared.tree.WayTree.TheVariants as way
 use Rattle.aidl_syntax.specs.Trees.{Annot}
+use Rattle.name_meanings.specs.declared.meaning.Resolved.TheVariants.{Builtin}
 use Rattle.declared_names.specs.Declarations.{Entry}
 use Rattle.name_rules.specs.Rules.{breach}
 use Rattle.type_shapes.specs.declared.shape.Shape.{Shape}
@@ -13,7 +14,7 @@ use Rattle.type_shapes.specs.Types.{is_composite}
 use Rattle.type_uses.specs.Kept.{is_nullable_annot, is_heap_annot}
 use Rattle.type_uses.specs.TypeUses.{TypeUse, of_field, of_constant, of_method, of_argument, annotations_of, name_place, type_place}
 use Rattle.type_uses.specs.Bases.{is_one_composite, is_one_scalar, is_refused, is_refused_result}
-use Rattle.type_rules.specs.Filters.{broken_where}
+use Rattle.member_rules.specs.Filters.{broken_where}
 
 -- E14 BadNullable: `@nullable` on a type of shape one whose base is a primitive or an enum, or on void; `heap=true` elsewhere than
 -- on a field of shape one whose base is a parcelable or union. A type that E16 refuses has no breach.
@@ -81,3 +82,16 @@ is_bad_direction entries _ = false
 
 abbrev pub BadDirection : List Entry → Entry → List TypeUse → List Breach
 BadDirection entries e uses = broken_where (is_bad_direction entries) 17 name_place e.file uses
+
+-- E20 BadConstant: a constant's type isn't boolean, byte, char, int, long or String of shape one.
+
+abbrev pub is_constant_type : Shape → Bool
+is_constant_type (shape.One (Builtin b)) = true
+is_constant_type _ = false
+
+abbrev pub is_bad_constant : TypeUse → Bool
+is_bad_constant (of_constant c t) = not (is_constant_type t)
+is_bad_constant _ = false
+
+abbrev pub BadConstant : Entry → List TypeUse → List Breach
+BadConstant e uses = broken_where is_bad_constant 20 name_place e.file uses

@@ -7,7 +7,7 @@ use Rattle.type_rules.specs.declared.use_rules.UseRule.TheVariants as rule
 use Rattle.type_uses.specs.TypeUses.{TypeUse, name_place, type_place}
 use Rattle.type_rules.specs.TypeRules.{is_bad_shape, is_bad_direction}
 use Rattle.type_rules.specs.MethodRules.{is_bad_oneway}
-use Rattle.type_rules.specs.FieldRules.{is_bad_constant}
+use Rattle.type_rules.specs.TypeRules.{is_bad_constant}
 
 abbrev pub rule_of : UseRule → ℕ
 rule_of rule.Shape = 16

@@ -2,11 +2,10 @@ ghost use Rattle.std.specs.Prelude.{◌≡◌, ◌++◌, map, OnOk};
 ghost use Rattle.std.specs.List.{list_any};
 ghost use Rattle.aidl_syntax.specs.Trees.{arg_of, method_of};
 ghost use Rattle.declared_names.specs.Entries.{entry_of};
-ghost use Rattle.type_rules.specs.Filters.{broken_where};
+ghost use Rattle.member_rules.specs.Filters.{broken_where};
 ghost use Rattle.type_rules.specs.UseRules as meant;
 ghost use Rattle.type_rules.specs.TypeRules as types;
 ghost use Rattle.type_rules.specs.MethodRules as methods;
-ghost use Rattle.type_rules.specs.FieldRules as fields;
 ghost use Rattle.type_uses.specs.TypeUseViews.{seen_use};
 
 use aidl_base::{Breach, OutOfMemory};
@@ -158,7 +157,7 @@ fn has_outward(args: &[ArgTree]) -> bool
 }
 
 fn is_bad_constant(used: TypeUseRef<'_>) -> bool
-    ensures { result ≡ fields.is_bad_constant (seen_use used.entry) }
+    ensures { result ≡ types.is_bad_constant (seen_use used.entry) }
 {
     match used {
         TypeUseRef::Constant(_, shape) => !is_constant_type(shape),
@@ -167,7 +166,7 @@ fn is_bad_constant(used: TypeUseRef<'_>) -> bool
 }
 
 fn is_constant_type(shape: Shape) -> bool
-    ensures { result ≡ fields.is_constant_type shape }
+    ensures { result ≡ types.is_constant_type shape }
 {
     match shape {
         Shape::One(Resolved::Builtin(_)) => true,

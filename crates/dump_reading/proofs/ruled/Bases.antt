@@ -19,7 +19,7 @@ use Rattle.const_items.specs.Items.{shape_in}
 use Rattle.type_shapes.specs.Types.{is_composite}
 use Rattle.type_uses.specs.Annotations.{is_text}
 use Rattle.type_uses.specs.Bases.{is_scalar, is_fixed_entry, is_fixed_number, is_fixed_base}
-use Rattle.type_rules.specs.FieldRules.{is_constant_type}
+use Rattle.type_rules.specs.TypeRules.{is_constant_type}
 use Rattle.aidl_schema.specs.declared.schema.Decl.{Decl}
 use Rattle.aidl_schema.specs.declared.schema.AidlType.{AidlType}
 use Rattle.aidl_schema.specs.declared.schema.Kind.{Kind}

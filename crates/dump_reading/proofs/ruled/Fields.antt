@@ -23,7 +23,7 @@ use Rattle.const_items.specs.Items.{shape_in}
 use Rattle.type_shapes.specs.Types.{is_composite}
 use Rattle.type_uses.specs.Bases.{is_refused}
 use Rattle.type_uses.specs.TypeUses.{TypeUse, of_field, of_constant, of_method, of_argument, of_arg, of_members, is_field, name_place}
-use Rattle.type_rules.specs.FieldRules.{is_bad_initial, is_bad_field, bad_fields}
+use Rattle.member_rules.specs.FieldRules.{is_bad_initial, is_bad_field, bad_fields}
 use Rattle.aidl_schema.specs.declared.schema.Decl.{Decl}
 use Rattle.aidl_schema.specs.declared.schema.Field.{Field}
 use Rattle.aidl_schema.specs.declared.schema.AidlType.{AidlType}

@@ -14,7 +14,7 @@ use Rattle.name_rules.specs.Rules.{breach}
 use Rattle.type_shapes.specs.declared.shape.Shape.{Shape}
 use Rattle.type_uses.specs.Ids.{number_of, is_id, is_id_kind, number_of_kind, has_id}
 use Rattle.type_uses.specs.TypeUses.{TypeUse, of_arg, of_members, methods_at, methods_in}
-use Rattle.type_rules.specs.MethodRules.{is_bad_id, is_bad_token, is_taken, has_value, bad_ids}
+use Rattle.member_rules.specs.IdRules.{is_bad_id, is_bad_token, is_taken, has_value, bad_ids}
 use Rattle.aidl_schema.specs.declared.schema.Decl.{Decl}
 use Rattle.aidl_schema.specs.declared.schema.Method.{Method}
 use Rattle.aidl_schema.specs.declared.schema.Kind.{Kind}

@@ -27,9 +27,11 @@ use Rattle.type_uses.specs.Bases.{is_fixed_entry}
 use Rattle.type_uses.specs.Parameters.{literal_of, is_backing_word}
 use Rattle.type_uses.specs.TypeUses.{TypeUse, of_members, type_uses, is_field, annotations_of, stand_of, name_place, type_place}
 use Rattle.type_rules.specs.AnnotationRules.{bad_annotations, BadBacking, bad_backing, names_backing}
-use Rattle.type_rules.specs.FieldRules.{BadConstant, BadField, bad_fields, is_union_body, NotFixed, is_unfixed, is_bad_constant}
-use Rattle.type_rules.specs.Filters.{broken_where}
-use Rattle.type_rules.specs.MethodRules.{BadOneway, BadId, is_oneway_body, is_bad_oneway, bad_ids}
+use Rattle.member_rules.specs.FieldRules.{BadField, bad_fields, is_union_body, NotFixed, is_unfixed}
+use Rattle.type_rules.specs.TypeRules.{BadConstant, is_bad_constant}
+use Rattle.member_rules.specs.Filters.{broken_where}
+use Rattle.member_rules.specs.IdRules.{BadId, bad_ids}
+use Rattle.type_rules.specs.MethodRules.{BadOneway, is_oneway_body, is_bad_oneway}
 use Rattle.type_rules.specs.TypeRules.{BadNullable, BadShape, BadDirection, bad_nullables_of, is_bad_shape, is_bad_direction}
 use Rattle.type_rules.specs.Breaches.{broken_by, broken_in, unsorted, breaches}
 use Rattle.type_rules.specs.Unbroken.{IsUnbroken, AreUnbroken}

@@ -21,7 +21,8 @@ use Rattle.type_uses.specs.TypeUses.{TypeUse, of_field, of_constant, of_method, 
 use Rattle.type_rules.specs.AnnotationRules.{bad_annotations}
 use Rattle.type_rules.specs.TypeRules.{bad_nullables, bad_nullables_of, is_bad_shape, is_bad_direction, is_misdirected, is_outward}
 use Rattle.type_rules.specs.MethodRules.{is_bad_oneway, gives_back}
-use Rattle.type_rules.specs.FieldRules.{is_bad_constant, is_unfixed}
+use Rattle.member_rules.specs.FieldRules.{is_unfixed}
+use Rattle.type_rules.specs.TypeRules.{is_bad_constant}
 use Rattle.aidl_schema.specs.declared.schema.Decl.{Decl}
 use Rattle.aidl_schema.specs.declared.schema.Field.{Field}
 use Rattle.aidl_schema.specs.declared.schema.Constant.{Constant}

@@ -32,9 +32,9 @@ use Rattle.type_uses.specs.Bases.{is_fixed_base, is_fixed_entry, is_fixed_number
 use Rattle.type_uses.specs.Kept.{is_nullable}
 use Rattle.type_uses.specs.TypeUses.{of_member, type_uses, annotations_of, stand_of, name_place}
 use Rattle.type_rules.specs.AnnotationRules.{bad_annotations}
-use Rattle.type_rules.specs.FieldRules.{is_unfixed}
-use Rattle.type_rules.specs.FieldRules as rules
-use Rattle.type_rules.specs.Filters.{broken_where}
+use Rattle.member_rules.specs.FieldRules.{is_unfixed}
+use Rattle.member_rules.specs.FieldRules as rules
+use Rattle.member_rules.specs.Filters.{broken_where}
 use Rattle.type_rules.specs.MethodRules.{is_oneway_body}
 use Rattle.type_rules.specs.Unbroken.{AreUnbroken}
 use Rattle.schema_parts.specs.Numbers.{Numbered}

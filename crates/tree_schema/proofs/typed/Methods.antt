@@ -32,7 +32,8 @@ use Rattle.type_uses.specs.Bases.{is_refused}
 use Rattle.type_uses.specs.Ids.{has_id, id_of}
 use Rattle.type_uses.specs.TypeUses as uses
 use Rattle.type_uses.specs.TypeUses.{of_arg, of_members, type_uses}
-use Rattle.type_rules.specs.MethodRules.{is_oneway_body, gives_back, is_bad_id}
+use Rattle.member_rules.specs.IdRules.{is_bad_id}
+use Rattle.type_rules.specs.MethodRules.{is_oneway_body, gives_back}
 use Rattle.type_rules.specs.TypeRules.{is_outward, is_misdirected}
 use Rattle.type_rules.specs.Unbroken.{AreUnbroken}
 use Rattle.schema_parts.specs.Numbers.{Numbered}

@@ -23,8 +23,8 @@ use Rattle.type_uses.specs.Kept.{is_called, is_nullable_annot, is_heap_annot}
 use Rattle.type_uses.specs.Parameters.{is_heap_true}
 use Rattle.type_uses.specs.TypeUses.{TypeUse, of_member, type_uses, annotations_of, stand_of}
 use Rattle.type_rules.specs.AnnotationRules.{bad_annotations, is_bad_annotation, breaks_row, is_again}
-use Rattle.type_rules.specs.FieldRules.{is_bad_constant}
-use Rattle.type_rules.specs.Filters.{broken_where}
+use Rattle.type_rules.specs.TypeRules.{is_bad_constant}
+use Rattle.member_rules.specs.Filters.{broken_where}
 use Rattle.type_rules.specs.MethodRules.{is_bad_oneway, is_oneway_body}
 use Rattle.type_rules.specs.TypeRules.{is_bad_shape, is_bad_direction, bad_nullables, bad_nullables_of, is_bad_nullable}
 use Rattle.type_rules.specs.Unbroken.{AreUnbroken}

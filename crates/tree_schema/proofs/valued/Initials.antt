@@ -38,7 +38,7 @@ use Rattle.const_items.specs.Items.{Item, items, shape_in, of_entry, of_body, of
 use Rattle.type_shapes.specs.Types.{wanted_of, is_enum}
 use Rattle.type_uses.specs.TypeUses as uses
 use Rattle.type_uses.specs.TypeUses.{TypeUse, of_arg, is_field, type_uses}
-use Rattle.type_rules.specs.FieldRules.{empty_union, bad_fields, is_union_body}
+use Rattle.member_rules.specs.FieldRules.{empty_union, bad_fields, is_union_body}
 use Rattle.type_rules.specs.Unbroken.{AreUnbroken}
 use Rattle.schema_parts.specs.Numbers.{Numbered}
 use Rattle.schema_parts.specs.Parts.{fields_in, enumerator_in}

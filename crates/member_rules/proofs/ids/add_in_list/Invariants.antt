@@ -3,8 +3,8 @@ use Rattle.indexmap.specs.IndexSet.{contains}
 use Rattle.aidl_syntax.specs.Trees.{method_of}
 use Rattle.name_rules.specs.Rules.{breach}
 use Rattle.declared_names.specs.Numbered.{after_earlier}
-use Rattle.type_rules.specs.MethodRules.{bad_ids, is_bad_id, is_taken}
-use Rattle.type_rules.proofs.ids.add_in_list.Given as goal
+use Rattle.member_rules.specs.IdRules.{bad_ids, is_bad_id, is_taken}
+use Rattle.member_rules.proofs.ids.add_in_list.Given as goal
 
 -- the breaches so far and those that are left are all; the ids so far are taken
 abbrev pub invariant-loop-method : goal.invariant-loop-method

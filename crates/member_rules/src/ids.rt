@@ -3,7 +3,7 @@ ghost use Rattle.std.specs.List.{list_any};
 ghost use Rattle.indexmap.specs.IndexSet.{contains};
 ghost use Rattle.aidl_syntax.specs.Trees.{method_of};
 ghost use Rattle.type_uses.specs.Ids as meant;
-ghost use Rattle.type_rules.specs.MethodRules as rules;
+ghost use Rattle.member_rules.specs.IdRules as rules;
 ghost use Rattle.type_uses.specs.TypeUses as typed;
 ghost use Rattle.type_uses.specs.TypeUseViews.{seen_use};
 

@@ -5,8 +5,8 @@ ghost use Rattle.type_shapes.specs.Backing.{annots_of};
 ghost use Rattle.type_uses.specs.Kept as kept;
 ghost use Rattle.type_uses.specs.Bases as bases;
 ghost use Rattle.type_uses.specs.Bases.{is_fixed_entry};
-ghost use Rattle.type_rules.specs.FieldRules as meant;
-ghost use Rattle.type_rules.specs.Filters.{broken_where};
+ghost use Rattle.member_rules.specs.FieldRules as meant;
+ghost use Rattle.member_rules.specs.Filters.{broken_where};
 ghost use Rattle.type_uses.specs.TypeUses as typed;
 ghost use Rattle.type_uses.specs.TypeUseViews.{seen_use};
 

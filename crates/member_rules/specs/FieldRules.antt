@@ -1,33 +1,19 @@
--- The check rules on constants and fields, each as the list of its breaches in a declaration (own in number and wording).
+-- The check rules on fields, each as the list of its breaches in a declaration (own in number and wording).
 use Rattle.std.specs.Prelude.{ℕ, Bool, true, false, not, ◌&&◌, ◌||◌, if◌then◌else◌, List, [], ◌∷◌, ◌++◌, Option, Some, None}
 use Rattle.std.specs.List.{list_any}
 use Rattle.aidl_base.specs.declared.breach.Breach.{Breach}
 use Rattle.aidl_syntax.specs.Trees.{Init, Body}
 use Rattle.aidl_syntax.specs.Trees.Body.{union}
 use Rattle.aidl_syntax.specs.Members.{body, declared_name}
-use Rattle.name_meanings.specs.declared.meaning.Resolved.TheVariants.{Builtin}
 use Rattle.declared_names.specs.Declarations.{Entry}
 use Rattle.name_rules.specs.Rules.{breach}
 use Rattle.type_shapes.specs.declared.shape.Shape.{Shape}
 use Rattle.type_shapes.specs.declared.shape.Shape.TheVariants as shape
 use Rattle.type_shapes.specs.Initializers.{is_unjudged}
 use Rattle.type_uses.specs.Kept.{is_nullable}
-use Rattle.type_uses.specs.TypeUses.{TypeUse, of_field, of_constant, name_place, is_field}
+use Rattle.type_uses.specs.TypeUses.{TypeUse, of_field, name_place, is_field}
 use Rattle.type_uses.specs.Bases.{is_fixed_entry, is_fixed_base, is_refused}
-use Rattle.type_rules.specs.Filters.{broken_where}
-
--- E20 BadConstant: a constant's type isn't boolean, byte, char, int, long or String of shape one.
-
-abbrev pub is_constant_type : Shape → Bool
-is_constant_type (shape.One (Builtin b)) = true
-is_constant_type _ = false
-
-abbrev pub is_bad_constant : TypeUse → Bool
-is_bad_constant (of_constant c t) = not (is_constant_type t)
-is_bad_constant _ = false
-
-abbrev pub BadConstant : Entry → List TypeUse → List Breach
-BadConstant e uses = broken_where is_bad_constant 20 name_place e.file uses
+use Rattle.member_rules.specs.Filters.{broken_where}
 
 -- E21 BadField: a brace list on shape one; an expression on another shape; a brace list with members for a sequence of parcelables or
 -- unions; an initializer on a field of shape one whose base is a parcelable or union; an initializer on a union's field other than

@@ -3,7 +3,7 @@ ghost use Rattle.std.specs.List.{list_any};
 ghost use Rattle.aidl_syntax.specs.Trees.{body_of, decl_of, init_of, map_option};
 ghost use Rattle.aidl_syntax.specs.Members.{body};
 ghost use Rattle.declared_names.specs.Entries.{entry_of};
-ghost use Rattle.type_rules.specs.FieldRules as meant;
+ghost use Rattle.member_rules.specs.FieldRules as meant;
 ghost use Rattle.type_uses.specs.TypeUses as typed;
 ghost use Rattle.type_uses.specs.TypeUseViews.{seen_use};
 

@@ -4,9 +4,9 @@ use Rattle.aidl_syntax.specs.declared.tree.MethodTree.{MethodTree}
 use Rattle.aidl_syntax.specs.Trees.{Method, method_of}
 use Rattle.name_rules.specs.Rules.{breach}
 use Rattle.declared_names.proofs.lemmas.Earlier.{goes_on, earlier-next, read-map, one_if}
-use Rattle.type_rules.specs.MethodRules.{has_value, is_bad_id, is_taken}
-use Rattle.type_rules.proofs.Loops.{token-same, taken-next}
-use Rattle.type_rules.proofs.ids.add_in_list.Goals as goal
+use Rattle.member_rules.specs.IdRules.{has_value, is_bad_id, is_taken}
+use Rattle.member_rules.proofs.Loops.{token-same, taken-next}
+use Rattle.member_rules.proofs.ids.add_in_list.Goals as goal
 
 pub loop-method-preserved : goal.loop-method-preserved
 loop-method-preserved c =

@@ -1,8 +1,8 @@
 use Rattle.std.proofs.Common.{◌≡◌, ◌++◌, false, map, drop}
 use Rattle.declared_names.specs.Entries.{entry_of}
-use Rattle.type_rules.specs.FieldRules.{bad_fields}
+use Rattle.member_rules.specs.FieldRules.{bad_fields}
 use Rattle.type_uses.specs.TypeUseViews.{seen_use}
-use Rattle.type_rules.proofs.fields.add_in_uses.Given as goal
+use Rattle.member_rules.proofs.fields.add_in_uses.Given as goal
 
 -- the breaches so far and those that are left are all
 abbrev pub invariant-loop-used : goal.invariant-loop-used

@@ -2,7 +2,7 @@ use Rattle.std.proofs.Common.{◌≡◌, map, drop}
 use Rattle.std.specs.List.{list_any}
 use Rattle.aidl_syntax.specs.Trees.{method_of}
 use Rattle.type_uses.specs.Ids.{has_id}
-use Rattle.type_rules.proofs.ids.has_ids.Given as goal
+use Rattle.member_rules.proofs.ids.has_ids.Given as goal
 
 -- what is left decides
 abbrev pub invariant-loop-method : goal.invariant-loop-method

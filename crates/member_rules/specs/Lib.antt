@@ -1,0 +1,3 @@
+pub mod IdRules
+pub mod FieldRules
+pub mod Filters
