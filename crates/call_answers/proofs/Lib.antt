@@ -1,6 +1,4 @@
-mod Entries
 mod Examples
-mod Fronts
 mod Members
 mod Outs
 mod Passed

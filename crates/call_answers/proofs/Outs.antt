@@ -14,7 +14,7 @@ use Rattle.json_values.specs.FromJson.{from_json_of}
 use Rattle.wire_model.specs.Requests.{EachFits}
 use Rattle.call_answers.specs.Answers.{default_outs, values_from}
 use Rattle.call_answers.specs.Refusal.{Judged, ◌>>=◌, at_value, placed}
-use Rattle.call_answers.proofs.Fronts.{onto, onto-none, onto-push, read_first, with_front}
+use Rattle.aidl_values.proofs.lemmas.Fronts.{front_more, onto, onto-none, onto-push, with_front}
 
 module _ (S : List Decl) (ts : List AidlType) where
   -- what fits the types that are left completes what was read
@@ -61,5 +61,5 @@ module _ (S : List Decl) (ts : List AidlType) where
       values_more v e =
           let rest = values_from S (suc k) (drop (k + 1) ts) (items_view (drop (k + 1) js)) in
           let one : values_from S k (get_or ts k no_type ∷ drop (k + 1) ts) (items_view (j ∷ drop (k + 1) js)) ≡ (rest >>= (λ vs. Ok (item v vs))) = rw e refl in
-          here ∙ ap (with_front ds) one ∙ read_first ds v rest
+          here ∙ ap (with_front ds) one ∙ front_more ds v rest
           ∙ ap (λ n. with_front (ds ++ v ∷ []) (values_from S n (drop (k + 1) ts) (items_view (drop (k + 1) js)))) (sym (add-one k))

@@ -1,5 +1,4 @@
 pub mod Answers
-pub mod Arguments
 pub mod Fits
 pub mod Gives
 pub mod Keys

@@ -1,3 +1,2 @@
 -- What the code's steps do, for its inner contracts: no public contract or law cites it.
 pub mod Exceptions
-pub mod Lengths

@@ -13,8 +13,7 @@ ghost use Rattle.call_answers.specs.Answers as meant;
 ghost use Rattle.call_answers.specs.Fits.{IsAnswerOf};
 ghost use Rattle.call_answers.specs.Gives.{Gives};
 
-use crate::arguments::is_count;
-use crate::line::{check_keys, member_of, value_from};
+use crate::line::{check_keys, is_count, member_of, value_from};
 use crate::refused::{Fault, Place, RefusedName, refusal};
 use crate::thrown::exception_from;
 use aidl_base::{OutOfMemory, Row};

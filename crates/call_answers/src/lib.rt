@@ -1,13 +1,11 @@
-//! Parts of a line of a calls file: the arguments of a call and what its handler answers, or why the line is refused.
+//! Parts of a line of a calls file: the values that stand in it, what the handler of a call answers, and why the line is refused.
 #![tactic(auto)]
 
 mod answers;
-mod arguments;
 mod line;
 mod refused;
 mod thrown;
 
 pub use answers::two_way_from;
-pub use arguments::args_from;
-pub use line::{check_keys, member_of};
+pub use line::{check_keys, is_count, member_of, value_from};
 pub use refused::{Fault, Place, Refused, RefusedName, refusal};

@@ -1,4 +1,4 @@
-ghost use Rattle.std.specs.Prelude.{◌≡◌, [], ◌∷◌, ◌++◌, IfOk, OnOk, option_map, string_bytes};
+ghost use Rattle.std.specs.Prelude.{◌≡◌, ◌==◌, [], ◌∷◌, ◌++◌, length, IfOk, OnOk, option_map, string_bytes};
 ghost use Rattle.std.specs.Str.{encode_utf8_all};
 ghost use Rattle.json_faults.specs.Refusal.{escaped, escaped_character};
 ghost use Rattle.std.specs.List.{list_any};
@@ -6,8 +6,9 @@ ghost use Rattle.aidl_schema.specs.Same.{same_text};
 ghost use Rattle.aidl_values.specs.Fits.{Fits};
 ghost use Rattle.aidl_values.specs.View.{view};
 ghost use Rattle.json_values.specs.FromJson.{from_json_of};
+ghost use Rattle.serde_json.specs.Events.{items_len};
 ghost use Rattle.serde_json.specs.Find.{get_member};
-ghost use Rattle.serde_json.specs.View.{view as json_view, members_view};
+ghost use Rattle.serde_json.specs.View.{view as json_view, items_view, members_view};
 ghost use Rattle.call_answers.specs.Answers.{all_known, unknown_in};
 ghost use Rattle.call_answers.specs.Refusal.{placed};
 ghost use Rattle.call_answers.specs.Gives.{Gives, place_bytes};
@@ -69,7 +70,16 @@ pub fn member_of<'a>(members: &'a Map<String, Json>, name: &str) -> Option<&'a J
     members.get(name)
 }
 
-// The value of a type that stands at a place.
+/// Whether an array has exactly `count` items.
+pub fn is_count(items: &[Json], count: usize) -> bool
+    ensures json { result ≡ (items_len (items_view items.now) == count) }
+    ensures count { result ≡ (length items.now == count) }
+{
+    items.len() == count
+}
+
+/// The value of a type that stands at `place`, by `from_json` of `json_values`. It refuses exactly what that refuses, by the same name, and
+/// the place in the value comes behind `place` (own).
 pub fn value_from(
     alloc: Global,
     schema: &Schema,

@@ -1,4 +1,5 @@
 mod Dots
+mod Entries
 mod Examples
 mod Faults
 mod JsonTexts

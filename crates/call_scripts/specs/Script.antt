@@ -11,7 +11,7 @@ use Rattle.wire_model.specs.Requests.{reply, request}
 use Rattle.call_answers.specs.declared.refused.RefusedName.{RefusedName}
 use Rattle.call_answers.specs.declared.refused.RefusedName.TheVariants.{NotJson, WrongShape, UnknownMethod, TooLarge}
 use Rattle.call_answers.specs.Answers.{all_known, answer_from, unknown_in}
-use Rattle.call_answers.specs.Arguments.{args_from}
+use Rattle.call_scripts.specs.Arguments.{args_from}
 use Rattle.call_scripts.specs.Calls.{CallData, TargetData}
 use Rattle.call_scripts.specs.Names.{Named, method_meant}
 use Rattle.call_answers.specs.Refusal.{Judged, ◌>>=◌, refuse, unless, at_call, at_args, at_answer}

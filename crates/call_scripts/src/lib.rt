@@ -1,6 +1,8 @@
-//! Lines of a calls file: what each means between a client's schema and a server's, or why it is refused.
+//! Lines of a calls file: what each means between a client's schema and a server's, with the arguments of its call, or why it is
+//! refused.
 #![tactic(auto)]
 
+mod arguments;
 mod json;
 mod laws;
 mod names;

@@ -15,6 +15,7 @@ ghost use Rattle.call_answers.specs.Gives.{Gives};
 ghost use Rattle.call_scripts.specs.steps.Named.{IsNamed, IsWithin};
 ghost use Rattle.call_scripts.specs.steps.Seen.{named_data};
 
+use crate::arguments::args_from;
 use crate::json::json_in;
 use crate::laws::law_types;
 use crate::names::{Named, method_meant};
@@ -22,7 +23,7 @@ use aidl_base::{OutOfMemory, Row, Text};
 use aidl_schema::Schema;
 use aidl_values::{Answer, Value};
 use call_answers::{
-    Fault, Place, Refused, RefusedName, args_from, check_keys, member_of, refusal, two_way_from,
+    Fault, Place, Refused, RefusedName, check_keys, member_of, refusal, two_way_from,
 };
 use call_lengths::{reply_length, request_length};
 use call_pieces::method_of;

@@ -8,9 +8,9 @@ use Rattle.aidl_schema.specs.declared.schema.Decl.{Decl}
 use Rattle.aidl_values.specs.Data.{Data, Items, none, item}
 use Rattle.aidl_values.specs.View.{items_of}
 use Rattle.wire_model.specs.Requests.{ArgumentFits, ArgumentsFit, asked_length, sum_of_lengths}
-use Rattle.call_answers.specs.Arguments.{entries_from, entry_from}
+use Rattle.call_scripts.specs.Arguments.{entries_from, entry_from}
 use Rattle.call_answers.specs.Refusal.{Judged, Refusal, ◌>>=◌, at_entry}
-use Rattle.call_answers.proofs.Fronts.{onto, onto-none, onto-push, read_first, with_front}
+use Rattle.aidl_values.proofs.lemmas.Fronts.{front_more, onto, onto-none, onto-push, with_front}
 
 module _ (S : List Decl) (xs : List Arg) (js : List Json) where
   -- what comes of the entries from a place on
@@ -39,7 +39,7 @@ module _ (S : List Decl) (xs : List Arg) (js : List Json) where
     entries_more v is =
         let rest = entries_from S (suc k) (sum + asked_length a v) (drop (k + 1) xs) (items_view (drop (k + 1) js)) in
         let one : entries_from S k sum (a ∷ drop (k + 1) xs) (items_view (j ∷ drop (k + 1) js)) ≡ (rest >>= (λ vs. Ok (item v vs))) = rw is refl in
-        here ∙ ap (with_front ds) one ∙ read_first ds v rest
+        here ∙ ap (with_front ds) one ∙ front_more ds v rest
         ∙ ap (λ n. with_front (ds ++ v ∷ []) (entries_from S n (sum + asked_length a v) (drop (k + 1) xs) (items_view (drop (k + 1) js)))) (sym (add-one k))
 
     -- one is refused

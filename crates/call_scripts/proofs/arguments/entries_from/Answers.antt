@@ -2,8 +2,8 @@ use Rattle.std.proofs.Common.{◌≡◌, ◌<◌, ◌+◌, [], ◌∷◌, ◌++�
 use Rattle.std.proofs.lemmas.Grind.{common_steps}
 use Rattle.aidl_values.specs.View.{view, views}
 use Rattle.wire_model.specs.Requests.{ArgumentsFit, asked_length, sum_of_lengths}
-use Rattle.call_answers.proofs.Entries.{entries_more, entries_done, fit_more, fit_done, sum_more, sum_done}
-use Rattle.call_answers.proofs.arguments.entries_from.Goals as goal
+use Rattle.call_scripts.proofs.Entries.{entries_more, entries_done, fit_more, fit_done, sum_more, sum_done}
+use Rattle.call_scripts.proofs.arguments.entries_from.Goals as goal
 
 pub loop-k-preserved : goal.loop-k-preserved
 loop-k-preserved c =

@@ -1,31 +1,29 @@
-ghost use Rattle.std.specs.Prelude.{◌≡◌, ◌==◌, ◌+◌, ◌≤◌, false, length, option_map, IfOk};
+//! The arguments of a call.
+ghost use Rattle.std.specs.Prelude.{◌≡◌, ◌+◌, ◌≤◌, false, length, option_map, IfOk};
 ghost use Rattle.serde_json.specs.View.{view as json_view, items_view, number_view};
-ghost use Rattle.serde_json.specs.Events.{items_len};
 ghost use Rattle.serde_json.specs.Find.{as_integer};
-ghost use Rattle.aidl_schema.specs.Types as types;
 ghost use Rattle.aidl_values.specs.View.{view, views};
 ghost use Rattle.wire_model.specs.Calls as calls;
 ghost use Rattle.wire_model.specs.Requests as requests;
 ghost use Rattle.wire_model.specs.Requests.{ArgumentFits, ArgumentsFit, sum_of_lengths};
-ghost use Rattle.call_answers.specs.Arguments as meant;
+ghost use Rattle.call_scripts.specs.Arguments as meant;
 ghost use Rattle.call_answers.specs.Refusal.{at_entry};
 ghost use Rattle.call_answers.specs.Gives.{Gives};
-ghost use Rattle.call_answers.specs.steps.Lengths.{IsLengthWithin};
+ghost use Rattle.call_scripts.specs.steps.Lengths.{IsLengthWithin};
 ghost use Rattle.aidl_values.specs.Data.{null};
 
-use crate::line::value_from;
-use crate::refused::{Fault, Place, RefusedName, refusal};
 use aidl_base::Row;
 use aidl_schema::{Arg, Direction, Schema, is_array};
 use aidl_values::Value;
+use call_answers::{Fault, Place, RefusedName, is_count, refusal, value_from};
 use serde_json::{Number, Value as Json};
 use std::alloc::Global;
 
 // The most that the lengths of `out` arrays may add up to.
 const MOST: u64 = 65_536;
 
-/// The entries of `args`, one for each argument: a value, or for an `out` argument the length of its array or null. It refuses exactly by
-/// the rules of *Script* (own), the first entry first.
+// The entries of `args`, one for each argument: a value, or for an `out` argument the length of its array or null. It refuses exactly by
+// the rules of *Script* (own), the first entry first.
 pub fn args_from(
     alloc: Global,
     schema: &Schema,
@@ -58,13 +56,6 @@ fn counted_entries(
     } else {
         Err(refusal(alloc, RefusedName::WrongShape, Place::Args))
     }
-}
-
-pub fn is_count(items: &[Json], count: usize) -> bool
-    ensures json { result ≡ (items_len (items_view items.now) == count) }
-    ensures count { result ≡ (length items.now == count) }
-{
-    items.len() == count
 }
 
 fn entries_from(

@@ -1,9 +1,9 @@
 use Rattle.std.proofs.Common.{◌≡◌, ◌≤◌, length, map}
 use Rattle.serde_json.specs.View.{items_view}
 use Rattle.aidl_values.specs.View.{view}
-use Rattle.call_answers.specs.Arguments.{entries_from}
-use Rattle.call_answers.proofs.Entries.{FitSoFar, SumSoFar, left_at}
-use Rattle.call_answers.proofs.arguments.entries_from.Given as goal
+use Rattle.call_scripts.specs.Arguments.{entries_from}
+use Rattle.call_scripts.proofs.Entries.{FitSoFar, SumSoFar, left_at}
+use Rattle.call_scripts.proofs.arguments.entries_from.Given as goal
 
 -- with the entries that are left, the answer is that of all, and what fits what is left completes what was read
 abbrev pub invariant-loop-k : goal.invariant-loop-k
