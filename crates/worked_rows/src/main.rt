@@ -2,23 +2,15 @@
 //! and last how many rows there were and how many were wrong. `data/README` says how a row is written.
 #![tactic(auto)]
 
-mod carries;
-mod run;
-mod runs;
-mod sources;
-mod trees;
-
 use aidl_base::OutOfMemory;
+use row_runs::try_run;
 use row_texts::{Tried, word_of};
-use run::try_run;
-use runs::{Cases, try_runs};
+use row_trials::{Cases, try_runs, try_sources, try_trees};
 use source_outcomes::Kind;
-use sources::try_sources;
 use std::alloc::Global;
 use std::io::ErrorKind;
 use std::{fs, io};
 use tree_outcomes::Asked;
-use trees::try_trees;
 
 const FILES: [&str; 18] = [
     "words.rows",

@@ -1,5 +1,5 @@
-use crate::run::Run;
 use aidl_base::OutOfMemory;
+use row_runs::Run;
 use row_texts::{Tried, case_of, lines_of, text_of};
 use std::alloc::Global;
 

@@ -1,7 +1,7 @@
-use crate::carries::{Carries, shown_log};
 use aidl_base::{OutOfMemory, Row, SourceFile, Text};
 use aidl_tool::aidl;
 use memory_outside::{MemSink, MemStore};
+use row_links::{Carries, shown_log};
 use row_texts::{Tried, lines_of, plain, text_of, word_of};
 use std::alloc::Global;
 
