@@ -31,6 +31,7 @@ use Rattle.aidl_values.specs.View.{view}
 use Rattle.aidl_values.specs.declared.value.Value.{Value}
 use Rattle.json_values.specs.FromJson as from
 use Rattle.json_values.specs.FromJson.{from_json_of}
+use Rattle.json_scalars.specs.Scalars as scalar
 use Rattle.json_faults.specs.declared.fault.Fault.{Fault}
 use Rattle.json_writing.specs.Named.{bytes_of, enumerators_of, enumerators_of_decl, enumerators_of_kind, fields_in}
 use Rattle.json_faults.specs.Refusal.{Answer, ◌>>=◌, refuse, too_deep, out_of_range, within, escaped}
@@ -74,7 +75,7 @@ module _ (S : List Decl) (t : AidlType) (d : ℕ) where
     whole_case f n true is e = ((one, subst (λ g. in_range g n ≡ true) (sym is) e), omega arith)
     whole_case f n false is e = tt
 
-    whole_fits : (f : Form) (o : Option ℤ) → form_of S t.base ≡ f → FitsAs S t d (from.whole_from f o)
+    whole_fits : (f : Form) (o : Option ℤ) → form_of S t.base ≡ f → FitsAs S t d (scalar.whole_from f o)
     whole_fits f None is = tt
     whole_fits f (Some n) is = whole_case f n (in_range f n) is refl
 
@@ -83,17 +84,17 @@ module _ (S : List Decl) (t : AidlType) (d : ℕ) where
     enumerator_case f e rest true is here later = ((one, subst (λ g. in_range g e.value ≡ true) (sym is) here), omega arith)
     enumerator_case f e rest false is here later = later
 
-    enumerator_fits : (f : Form) (es : List Enumerator) (s : List ℕ) → form_of S t.base ≡ f → list_all (λ e. in_range f e.value) es ≡ true → FitsAs S t d (from.enumerator_from es s)
+    enumerator_fits : (f : Form) (es : List Enumerator) (s : List ℕ) → form_of S t.base ≡ f → list_all (λ e. in_range f e.value) es ≡ true → FitsAs S t d (scalar.enumerator_from es s)
     enumerator_fits f [] s is all = tt
     enumerator_fits f (e ∷ es) s is all =
         let two = both (in_range f e.value) (list_all (λ x. in_range f x.value) es) all in
-        enumerator_case f e (from.enumerator_from es s) (same_text (bytes_of e.name) s) is two.0 (enumerator_fits f es s is two.1)
+        enumerator_case f e (scalar.enumerator_from es s) (same_text (bytes_of e.name) s) is two.0 (enumerator_fits f es s is two.1)
 
-    name_fits : (f : Form) (es : Option (List Enumerator)) (s : List ℕ) → form_of S t.base ≡ f → AreWithin f es → FitsAs S t d (from.name_from es s)
+    name_fits : (f : Form) (es : Option (List Enumerator)) (s : List ℕ) → form_of S t.base ≡ f → AreWithin f es → FitsAs S t d (scalar.name_from es s)
     name_fits f None s is all = tt
     name_fits f (Some es) s is all = enumerator_fits f es s is all
 
-    number_fits : (f : Form) (es : Option (List Enumerator)) (j : json.Data) → form_of S t.base ≡ f → AreWithin f es → FitsAs S t d (from.number_from es f j)
+    number_fits : (f : Form) (es : Option (List Enumerator)) (j : json.Data) → form_of S t.base ≡ f → AreWithin f es → FitsAs S t d (scalar.number_from es f j)
     number_fits f es json.null is all = tt
     number_fits f es (json.boolean b) is all = tt
     number_fits f es (json.number n) is all = whole_fits f (as_integer n) is
@@ -101,7 +102,7 @@ module _ (S : List Decl) (t : AidlType) (d : ℕ) where
     number_fits f es (json.array js) is all = tt
     number_fits f es (json.object ms) is all = tt
 
-    truth_fits : (j : json.Data) → form_of S t.base ≡ form.truth → FitsAs S t d (from.truth_from j)
+    truth_fits : (j : json.Data) → form_of S t.base ≡ form.truth → FitsAs S t d (scalar.truth_from j)
     truth_fits json.null is = tt
     truth_fits (json.boolean b) is = ((one, is), omega arith)
     truth_fits (json.number n) is = tt
@@ -109,7 +110,7 @@ module _ (S : List Decl) (t : AidlType) (d : ℕ) where
     truth_fits (json.array js) is = tt
     truth_fits (json.object ms) is = tt
 
-    text_fits : (j : json.Data) → HasTexts j → form_of S t.base ≡ form.text → FitsAs S t d (from.text_from j)
+    text_fits : (j : json.Data) → HasTexts j → form_of S t.base ≡ form.text → FitsAs S t d (scalar.text_from j)
     text_fits json.null texts is = tt
     text_fits (json.boolean b) texts is = tt
     text_fits (json.number n) texts is = tt

@@ -1,100 +1,56 @@
--- In a valid schema a name finds the field, or the enumerator, that it names.
-use Rattle.std.proofs.Common.{◌≡◌, ℕ, zero, suc, ◌+◌, ℤ, Bool, true, false, List, [], ◌∷◌, Option, Some, None, slice_get, Ok, Ordering, Less, Equal, Greater, refl, sym, ap, ◌∙◌, subst, arith}
-use Rattle.std.specs.Prelude.{◌==◌, ◌||◌, if◌then◌else◌}
+-- In a valid schema a name finds the field that it names, and what an enumerator is written as is read as its value.
+use Rattle.std.proofs.Common.{◌≡◌, ℕ, zero, suc, ◌+◌, ℤ, Bool, true, false, List, [], ◌∷◌, Option, Some, None, slice_get, Ok, Ordering, Less, Equal, Greater, refl, sym, ap, ◌∙◌, arith}
+use Rattle.std.specs.Prelude.{◌||◌, if◌then◌else◌}
 use Rattle.std.specs.List.{list_any}
 use Rattle.std.specs.Cmp.Lexicographic.{slice_cmp}
 use Rattle.std.specs.Ordering.{int_eq, nat_cmp, match_ordering}
-use Rattle.std.proofs.lemmas.Bool.Decides.{Decides-int_eq, nat_tests}
-use Rattle.std.proofs.lemmas.Slice.Eq.{bytes_eq-Decides}
+use Rattle.std.proofs.lemmas.Bool.Decides.{Decides-int_eq}
 use Rattle.std.proofs.lemmas.Str.{encodes_same}
 use Rattle.serde_json.specs.Data as json
 use Rattle.serde_json.specs.Find.{as_integer, of_integer}
 use Rattle.aidl_schema.specs.declared.schema.Decl.{Decl}
 use Rattle.aidl_schema.specs.declared.schema.Enumerator.{Enumerator}
 use Rattle.aidl_schema.specs.declared.schema.Field.{Field}
-use Rattle.aidl_schema.specs.declared.schema.Kind.{Kind}
-use Rattle.aidl_schema.specs.declared.schema.Kind.TheVariants.{Interface, Parcelable, Union, Enum}
 use Rattle.aidl_schema.specs.declared.schema.Base.{Base}
-use Rattle.aidl_schema.specs.declared.schema.Base.TheVariants as base
 use Rattle.aidl_schema.specs.declared.schema.AidlType.{AidlType}
 use Rattle.aidl_schema.specs.Constants.{in_range}
 use Rattle.aidl_schema.specs.Holds.{AreApart, AllHold}
-use Rattle.aidl_schema.specs.Names.{enumerators_of as those_of}
 use Rattle.aidl_schema.specs.Same.{same_text}
 use Rattle.aidl_schema.specs.Types.{Form, form_of}
 use Rattle.aidl_values.specs.Data.{Data, number, alt}
 use Rattle.json_values.specs.FromJson as from
 use Rattle.json_writing.specs.Json.{json_among}
-use Rattle.json_writing.specs.Named.{bytes_of, enumerators_of, enumerators_of_decl, enumerators_of_kind, fields_in}
+use Rattle.json_writing.specs.Named.{bytes_of, fields_in}
 use Rattle.json_faults.specs.Refusal.{Answer}
 use Rattle.json_values.specs.steps.Levels.{chosen_from}
 use Rattle.json_writing.proofs.lemmas.Whole.{of_base}
-
--- texts
-nat_itself : (n : ℕ) → (n == n) ≡ true
-nat_itself n = grind (arith, nat_tests)
-
-pub text_itself : (x : List ℕ) → same_text x x ≡ true
-text_itself [] = refl
-text_itself (b ∷ x) = rw (nat_itself b, text_itself x) refl
-
-text_is : (x y : List ℕ) → same_text x y ≡ true → x ≡ y
-text_is x y h = (bytes_eq-Decides x y).0 h
-
-pub text_apart : (x y : List ℕ) → (x ≡ y → ⊥) → same_text x y ≡ false
-text_apart x y differs = by (same_text x y) refl
-  where
-    by : (b : Bool) → same_text x y ≡ b → b ≡ false
-    by true e = absurd (differs (text_is x y e))
-    by false e = refl
-
--- the items after the first are apart, and none has the key of the first
-later_apart : {X K : Type 0} (key : X → K) (x : X) (xs : List X) → AreApart key (x ∷ xs) → AreApart key xs
-later_apart key x xs apart j k y z p q e = let same : suc j ≡ suc k = apart (suc j) (suc k) y z p q e in omega arith
-
-first_apart : {X K : Type 0} (key : X → K) (x : X) (xs : List X) → AreApart key (x ∷ xs) → (k : ℕ) (y : X) → slice_get xs k ≡ Some y → key y ≡ key x → ⊥
-first_apart key x xs apart k y at e = let same : suc k ≡ zero = apart (suc k) zero y x at refl e in cc
+use Rattle.json_scalars.specs.Scalars.{whole_from, number_from}
+use Rattle.json_scalars.proofs.lemmas.Names.{text_itself, text_is, text_apart, later_apart, first_apart, name_of_enumerator}
 
 -- enumerators
-abbrev name_of_enumerator : Enumerator → List ℕ
-name_of_enumerator e = e.name.0
-
 among_later : (f : Form) (n : ℤ) (e : Enumerator) (es rest : List Enumerator) → ((k : ℕ) (x : Enumerator) → slice_get rest k ≡ Some x → same_text (bytes_of e.name) (bytes_of x.name) ≡ false)
-    → from.number_from (Some (e ∷ es)) f (json_among rest n) ≡ from.number_from (Some es) f (json_among rest n)
+    → number_from (Some (e ∷ es)) f (json_among rest n) ≡ number_from (Some es) f (json_among rest n)
 among_later f n e es [] differs = refl
 among_later f n e es (x ∷ rest) differs = by (int_eq x.value n) (differs zero x refl) (among_later f n e es rest (λ k y at. differs (suc k) y at))
   where
-    by : (b : Bool) → same_text (bytes_of e.name) (bytes_of x.name) ≡ false → from.number_from (Some (e ∷ es)) f (json_among rest n) ≡ from.number_from (Some es) f (json_among rest n)
-        → from.number_from (Some (e ∷ es)) f (if b then json.string (bytes_of x.name) else json_among rest n)
-        ≡ from.number_from (Some es) f (if b then json.string (bytes_of x.name) else json_among rest n)
+    by : (b : Bool) → same_text (bytes_of e.name) (bytes_of x.name) ≡ false → number_from (Some (e ∷ es)) f (json_among rest n) ≡ number_from (Some es) f (json_among rest n)
+        → number_from (Some (e ∷ es)) f (if b then json.string (bytes_of x.name) else json_among rest n)
+        ≡ number_from (Some es) f (if b then json.string (bytes_of x.name) else json_among rest n)
     by true other later = rw other refl
     by false other later = later
 
 -- a number, written by the name of its first enumerator where it has one, is read as the number
-pub among_back : (f : Form) (n : ℤ) (es : List Enumerator) → AreApart name_of_enumerator es → in_range f n ≡ true → from.whole_from f (as_integer (of_integer n)) ≡ Ok (number n)
-    → from.number_from (Some es) f (json_among es n) ≡ Ok (number n)
+pub among_back : (f : Form) (n : ℤ) (es : List Enumerator) → AreApart name_of_enumerator es → in_range f n ≡ true → whole_from f (as_integer (of_integer n)) ≡ Ok (number n)
+    → number_from (Some es) f (json_among es n) ≡ Ok (number n)
 among_back f n [] apart ranged whole = whole
 among_back f n (e ∷ es) apart ranged whole = by (int_eq e.value n) refl (among_back f n es (later_apart name_of_enumerator e es apart) ranged whole)
     (among_later f n e es es (λ k x at. text_apart (bytes_of e.name) (bytes_of x.name) (λ same. first_apart name_of_enumerator e es apart k x at (sym (encodes_same e.name.0 x.name.0 same)))))
   where
-    by : (b : Bool) → int_eq e.value n ≡ b → from.number_from (Some es) f (json_among es n) ≡ Ok (number n)
-        → from.number_from (Some (e ∷ es)) f (json_among es n) ≡ from.number_from (Some es) f (json_among es n)
-        → from.number_from (Some (e ∷ es)) f (if b then json.string (bytes_of e.name) else json_among es n) ≡ Ok (number n)
+    by : (b : Bool) → int_eq e.value n ≡ b → number_from (Some es) f (json_among es n) ≡ Ok (number n)
+        → number_from (Some (e ∷ es)) f (json_among es n) ≡ number_from (Some es) f (json_among es n)
+        → number_from (Some (e ∷ es)) f (if b then json.string (bytes_of e.name) else json_among es n) ≡ Ok (number n)
     by true is back later = rw (text_itself (bytes_of e.name)) (ap (λ m. Ok (number m)) ((Decides-int_eq e.value n).0 is))
     by false is back later = later ∙ back
-
--- a name is that of one enumerator alone
-pub enumerator_at : (k : ℕ) (es : List Enumerator) (e : Enumerator) (s : List ℕ) → slice_get es k ≡ Some e → same_text (bytes_of e.name) s ≡ true → AreApart name_of_enumerator es
-    → from.enumerator_from es s ≡ Ok (number e.value)
-enumerator_at k [] e s at is apart = cc
-enumerator_at zero (g ∷ es) e s at is apart =
-    let same : g ≡ e = cc in
-    let here : same_text (bytes_of g.name) s ≡ true = ap (λ h. same_text (bytes_of h.name) s) same ∙ is in
-    rw here (ap (λ h. Ok (number h.value)) same)
-enumerator_at (suc k) (g ∷ es) e s at is apart =
-    let other : same_text (bytes_of g.name) s ≡ false =
-    text_apart (bytes_of g.name) s (λ same. first_apart name_of_enumerator g es apart k e at (encodes_same e.name.0 g.name.0 (text_is (bytes_of e.name) s is ∙ sym same))) in
-    rw other (enumerator_at k es e s at is (later_apart name_of_enumerator g es apart))
 
 -- it is not null
 pub among_there : (n : ℤ) (es : List Enumerator) → from.is_null (json_among es n) ≡ false
@@ -179,22 +135,3 @@ known_put all key j (json.member l i ms) known rest =
 module _ (S : List Decl) (hold : AllHold S) where
   pub fields_apart : (b : Base) → AreApart name_of_field (fields_in (form_of S b))
   fields_apart b = of_base S (λ fs. AreApart name_of_field fs) (λ j k x y p q e. cc) (λ d at. (hold at.0 d at.1).fields) b
-
-  apart_of_kind : (k : Kind) (es : List Enumerator) → AreApart name_of_enumerator (those_of k) → enumerators_of_kind k ≡ Some es → AreApart name_of_enumerator es
-  apart_of_kind (Enum b fs) es apart is = let same : fs ≡ es = cc in subst (λ xs. AreApart name_of_enumerator xs) same apart
-  apart_of_kind (Interface ms) es apart is = cc
-  apart_of_kind (Parcelable fs) es apart is = cc
-  apart_of_kind (Union fs) es apart is = cc
-
-  apart_of_decl : (n : ℕ) (o : Option Decl) (es : List Enumerator) → slice_get S n ≡ o → enumerators_of_decl o ≡ Some es → AreApart name_of_enumerator es
-  apart_of_decl n None es at is = cc
-  apart_of_decl n (Some d) es at is = apart_of_kind d.kind es (hold n d at).enumerators is
-
-  pub enumerators_apart : (b : Base) (es : List Enumerator) → enumerators_of S b ≡ Some es → AreApart name_of_enumerator es
-  enumerators_apart base.Boolean es is = cc
-  enumerators_apart base.Byte es is = cc
-  enumerators_apart base.Char es is = cc
-  enumerators_apart base.Int es is = cc
-  enumerators_apart base.Long es is = cc
-  enumerators_apart base.Text es is = cc
-  enumerators_apart (base.Named n) es is = apart_of_decl n (slice_get S n) es refl is

@@ -1,17 +1,15 @@
 -- The value that a JSON value stands for, or the first refusal (own). S is the schema's declarations, d the levels left, t
 -- the type. The order is: the kind of the value; its depth; the least unknown key; the elements in order, or the fields in
 -- the order of the declaration. `left` says that a level is left, `read` reads a part of a type.
-use Rattle.std.specs.Prelude.{ℕ, zero, suc, ℤ, ⊤, nat_le, Bool, true, false, ◌&&◌, if◌then◌else◌, List, [], ◌∷◌, Option, Some, None, decimal, Ok}
+use Rattle.std.specs.Prelude.{ℕ, zero, suc, ⊤, nat_le, Bool, true, false, ◌&&◌, if◌then◌else◌, List, [], ◌∷◌, Option, Some, None, decimal, Ok}
 use Rattle.std.specs.List.{list_any}
-use Rattle.std.specs.Str.{chars}
-use Rattle.serde_json.specs.Data.{null, boolean, number, string, array, object, no_items, item, no_members, member}
+use Rattle.serde_json.specs.Data.{null, array, object, no_items, item, no_members, member}
 use Rattle.serde_json.specs.Data as json
-use Rattle.serde_json.specs.Find.{as_integer, get_member}
+use Rattle.serde_json.specs.Find.{get_member}
 use Rattle.aidl_schema.specs.declared.schema.Decl.{Decl}
 use Rattle.aidl_schema.specs.declared.schema.Enumerator.{Enumerator}
 use Rattle.aidl_schema.specs.declared.schema.Field.{Field}
 use Rattle.aidl_schema.specs.declared.schema.AidlType.{AidlType}
-use Rattle.aidl_schema.specs.Constants.{in_range}
 use Rattle.aidl_schema.specs.Same.{same_text}
 use Rattle.aidl_schema.specs.Types.{Form, form_of, is_one, elem}
 use Rattle.aidl_schema.specs.Types as form
@@ -19,38 +17,8 @@ use Rattle.aidl_values.specs.Data.{depth_of}
 use Rattle.aidl_values.specs.Data as value
 use Rattle.aidl_values.specs.Sound.{initial_in}
 use Rattle.json_writing.specs.Named.{bytes_of, enumerators_of}
-use Rattle.json_faults.specs.Refusal.{Answer, ◌>>=◌, refuse, wrong_shape, out_of_range, unknown_key, unknown_enumerator, too_deep, escaped, within}
-
--- boolean: true or false
-abbrev pub truth_from : json.Data → Answer value.Data
-truth_from (boolean b) = Ok (value.truth b)
-truth_from _ = refuse wrong_shape
-
--- a whole number in the type's range; None is a number that isn't whole
-abbrev pub whole_from : Form → Option ℤ → Answer value.Data
-whole_from f None = refuse wrong_shape
-whole_from f (Some n) = if in_range f n then Ok (value.number n) else refuse out_of_range
-
--- the value of the enumerator of this name
-abbrev pub enumerator_from : List Enumerator → List ℕ → Answer value.Data
-enumerator_from [] s = refuse unknown_enumerator
-enumerator_from (e ∷ es) s = if same_text (bytes_of e.name) s then Ok (value.number e.value) else enumerator_from es s
-
--- a string: for an enum the name of an enumerator
-abbrev pub name_from : Option (List Enumerator) → List ℕ → Answer value.Data
-name_from None s = refuse wrong_shape
-name_from (Some es) s = enumerator_from es s
-
--- byte, char, int, long: a whole number; an enum: a name, or a whole number in its backing's range
-abbrev pub number_from : Option (List Enumerator) → Form → json.Data → Answer value.Data
-number_from es f (number n) = whole_from f (as_integer n)
-number_from es f (string s) = name_from es s
-number_from es f _ = refuse wrong_shape
-
--- String: a string
-abbrev pub text_from : json.Data → Answer value.Data
-text_from (string s) = Ok (value.text (chars s))
-text_from _ = refuse wrong_shape
+use Rattle.json_faults.specs.Refusal.{Answer, ◌>>=◌, refuse, wrong_shape, unknown_key, too_deep, escaped, within}
+use Rattle.json_scalars.specs.Scalars.{truth_from, number_from, text_from}
 
 -- the elements, the first of which is at this index
 abbrev pub items_from : (json.Data → Answer value.Data) → ℕ → json.Items → Answer value.Items

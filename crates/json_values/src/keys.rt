@@ -7,11 +7,11 @@ ghost use Rattle.json_values.specs.FromJson as answer;
 ghost use Rattle.json_writing.specs.Named.{bytes_of};
 ghost use Rattle.json_faults.specs.steps.Gives.{Gives};
 
-use crate::hints::Hints;
 use crate::records::member_of;
 use aidl_base::{Ident, OutOfMemory};
 use aidl_schema::{Base, Field};
 use json_faults::{Fault, Reason, below_key, refused};
+use json_scalars::Hints;
 use json_writing::is_called;
 use serde_json::{Map, Value as Json};
 use std::alloc::Global;

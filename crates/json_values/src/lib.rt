@@ -1,13 +1,11 @@
 //! Values as JSON, and JSON as values, by the types of a schema.
 #![tactic(auto)]
 
-mod enumerators;
-mod hints;
 mod keys;
 mod laws;
+mod numbers;
 mod reading;
 mod records;
-mod scalars;
 mod sequences;
 mod unions;
 

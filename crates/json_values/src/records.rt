@@ -10,13 +10,13 @@ ghost use Rattle.json_values.specs.steps.Levels.{part_from, default_of};
 ghost use Rattle.aidl_values.specs.steps.Levels.{is_level_left};
 ghost use Rattle.json_faults.specs.steps.Gives.{Gives};
 
-use crate::hints::Hints;
 use crate::keys::check_keys;
 use crate::reading::read_within;
 use aidl_base::Row;
 use aidl_schema::{Base, Field, Schema};
 use aidl_values::{Value, depth, initial_of};
 use json_faults::{Fault, Reason, below_key, refused};
+use json_scalars::Hints;
 use serde_json::{Map, Value as Json};
 use std::alloc::Global;
 

@@ -8,13 +8,13 @@ ghost use Rattle.json_values.specs.steps.Puts.{Puts};
 ghost use Rattle.aidl_values.specs.steps.Levels.{is_level_left};
 ghost use Rattle.json_faults.specs.steps.Gives.{Gives};
 
-use crate::hints::Hints;
+use crate::numbers::{number_value, plain_number};
 use crate::reading::read_within;
-use crate::scalars::{number_value, plain_number};
 use aidl_base::Row;
 use aidl_schema::{AidlType, Schema};
 use aidl_values::Value;
 use json_faults::{Fault, Reason, below_index, refused};
+use json_scalars::Hints;
 use serde_json::Value as Json;
 use std::alloc::Global;
 

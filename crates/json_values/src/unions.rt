@@ -8,11 +8,11 @@ ghost use Rattle.json_values.specs.steps.Levels.{part_from, chosen_from};
 ghost use Rattle.aidl_values.specs.steps.Levels.{is_level_left};
 ghost use Rattle.json_faults.specs.steps.Gives.{Gives};
 
-use crate::hints::Hints;
 use crate::reading::read_within;
 use aidl_schema::{Base, Field, Schema};
 use aidl_values::Value;
 use json_faults::{Fault, Reason, below_key, refused};
+use json_scalars::Hints;
 use json_writing::is_called;
 use serde_json::{Map, Value as Json};
 use std::alloc::Global;

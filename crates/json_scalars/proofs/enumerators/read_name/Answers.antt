@@ -1,6 +1,6 @@
 use Rattle.std.proofs.Common.{option_map, sym, ap, ◌∙◌}
-use Rattle.json_values.proofs.Names.{enumerators_apart}
-use Rattle.json_values.proofs.enumerators.read_name.Goals as goal
+use Rattle.json_scalars.proofs.lemmas.Names.{enumerators_apart}
+use Rattle.json_scalars.proofs.enumerators.read_name.Goals as goal
 
 pub read_enumerator-requires : goal.read_enumerator-requires
 read_enumerator-requires c =

@@ -1,6 +1,6 @@
 use Rattle.std.proofs.Common.{◌≡◌, drop}
-use Rattle.json_values.specs.FromJson.{enumerator_from}
-use Rattle.json_values.proofs.enumerators.find_enumerator.Given as goal
+use Rattle.json_scalars.specs.Scalars.{enumerator_from}
+use Rattle.json_scalars.proofs.enumerators.find_enumerator.Given as goal
 
 -- what is left decides
 abbrev pub invariant-loop-enumerator : goal.invariant-loop-enumerator

@@ -4,8 +4,8 @@ use indexmap::IndexMap;
 use json_writing::{Called, WALKS, Walks};
 use std::alloc::Global;
 
-// Where the members of large enums, unions and parcelables stand by their names, kept while one JSON value is read. It is
-// only tried: a place is taken only if the member there has the name.
+/// Where the members of large enums, unions and parcelables stand by their names, kept while one JSON value is read. It is
+/// only tried: a place is taken only if the member there has the name.
 #[derive(Drop)]
 pub struct Hints<'a> {
     walks: Walks,
@@ -13,7 +13,7 @@ pub struct Hints<'a> {
 }
 
 impl<'a> Hints<'a> {
-    // Without a table. It takes no memory.
+    /// Without a table. It takes no memory.
     pub fn new(alloc: Global) -> Hints<'a> {
         Hints {
             walks: Walks::new(alloc),
@@ -21,7 +21,7 @@ impl<'a> Hints<'a> {
         }
     }
 
-    // Where the member of this name may stand. Any place may be told.
+    /// Where the member of this name may stand, or want of memory. Any place may be told, also one behind the last member.
     pub fn place<M: Called>(
         &mut self,
         alloc: Global,

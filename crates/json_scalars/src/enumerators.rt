@@ -2,7 +2,7 @@ ghost use Rattle.std.specs.Prelude.{◌≡◌, ◌<◌, Ok, Err};
 ghost use Rattle.aidl_schema.specs.Holds.{AreApart};
 ghost use Rattle.aidl_values.specs.Data.{number};
 ghost use Rattle.aidl_values.specs.View.{view};
-ghost use Rattle.json_values.specs.FromJson as answer;
+ghost use Rattle.json_scalars.specs.Scalars as answer;
 ghost use Rattle.json_writing.specs.Named.{enumerators_of};
 ghost use Rattle.json_faults.specs.steps.Gives.{Gives};
 

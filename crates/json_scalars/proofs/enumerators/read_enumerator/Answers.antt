@@ -1,9 +1,9 @@
 use Rattle.std.proofs.Common.{◌≡◌, length, Ok, refl, sym, ap, ◌∙◌}
 use Rattle.std.proofs.lemmas.Option.{slice_get_read}
 use Rattle.aidl_values.specs.Data.{number}
-use Rattle.json_values.specs.FromJson.{enumerator_from}
-use Rattle.json_values.proofs.Names.{enumerator_at}
-use Rattle.json_values.proofs.enumerators.read_enumerator.Goals as goal
+use Rattle.json_scalars.specs.Scalars.{enumerator_from}
+use Rattle.json_scalars.proofs.lemmas.Names.{enumerator_at}
+use Rattle.json_scalars.proofs.enumerators.read_enumerator.Goals as goal
 
 pub returns-in-Some : goal.returns-in-Some
 returns-in-Some c =
