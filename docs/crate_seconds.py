@@ -1,0 +1,76 @@
+"""Runs `rt ci` with the words given, and prints the processor seconds, user and system, of what it runs, crate by crate: the own
+proof of a crate, its tests, its edits with the check that they begin with, and for a program its compilation by both compilers. What
+is kept isn't run, so isn't read.
+
+python3 docs/crate_seconds.py --anew
+python3 docs/crate_seconds.py type_rules
+
+They are read off /proc each half second, so a check of a few seconds may be read short. What else runs on the machine isn't read,
+but lengthens them.
+"""
+
+import os
+import subprocess
+import sys
+import time
+
+TICKS = os.sysconf("SC_CLK_TCK")
+KINDS = ("own proof", "tests", "edits", "compilation")
+
+
+def kind_of(words, folder):
+    """Which of the kinds a run of rattle in a folder is, if it is one."""
+    if len(words) < 2 or not words[0].endswith("rattle") or "--crate-name" not in words:
+        return None
+    if "--test" in words:
+        return "tests"
+    if "rt-edit" in folder:
+        return "edits"
+    return "compilation" if words[1] == "build" and "--toolchain" in words else "own proof"
+
+
+def seconds_of(number, session):
+    """The crate, the kind and the processor seconds of a process by its number, or None where it is no check of the session."""
+    try:
+        with open(f"/proc/{number}/cmdline", encoding="utf-8") as file:
+            words = file.read().split("\0")
+        with open(f"/proc/{number}/stat", encoding="utf-8") as file:
+            fields = file.read().rsplit(")", 1)[1].split()
+        folder = os.readlink(f"/proc/{number}/cwd")
+    except OSError:
+        return None
+    kind = kind_of(words, folder)
+    if kind is None or fields[3] != session:
+        return None
+    crate = words[words.index("--crate-name") + 1]
+    return (number, fields[19]), crate, kind, (int(fields[11]) + int(fields[12])) / TICKS
+
+
+def read(run):
+    """What each check took until the run ended, by the process and when it began."""
+    checks = {}
+    while run.poll() is None:
+        for number in filter(str.isdigit, os.listdir("/proc")):
+            found = seconds_of(number, str(run.pid))
+            if found:
+                checks[found[0]] = found[1:]
+        time.sleep(0.5)
+    return checks
+
+
+def main():
+    run = subprocess.Popen(["rt", "ci", *sys.argv[1:]], start_new_session=True)
+    table = {}
+    for crate, kind, seconds in read(run).values():
+        row = table.setdefault(crate, dict.fromkeys(KINDS, 0.0))
+        row[kind] += seconds
+    print(f"| Crate | {' | '.join(KINDS)} |")
+    for crate, row in sorted(table.items()):
+        print(f"| `{crate}` | {' | '.join(f'{row[kind]:.0f}' for kind in KINDS)} |")
+    together = [sum(row[kind] for row in table.values()) for kind in KINDS]
+    print(f"| together | {' | '.join(f'{seconds:.0f}' for seconds in together)} |")
+    sys.exit(run.returncode)
+
+
+if __name__ == "__main__":
+    main()
