@@ -3,14 +3,11 @@
 #![tactic(auto)]
 
 use aidl_base::OutOfMemory;
-use row_runs::try_run;
 use row_texts::{Tried, word_of};
-use row_trials::{Cases, try_runs, try_sources, try_trees};
-use source_outcomes::Kind;
+use row_trials::{Asked, Cases, Kind, try_run, try_runs, try_sources, try_trees};
 use std::alloc::Global;
 use std::io::ErrorKind;
 use std::{fs, io};
-use tree_outcomes::Asked;
 
 const FILES: [&str; 18] = [
     "words.rows",
