@@ -1,3 +1,4 @@
+//! Values of constants and initializers, and their copies.
 ghost use Rattle.std.specs.Prelude.{◌≡◌, IfOk};
 
 use crate::OutOfMemory;

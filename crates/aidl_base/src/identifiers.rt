@@ -1,3 +1,4 @@
+//! Identifiers as bytes, and the bytes of which they are made.
 ghost use Rattle.std.specs.Prelude.{◌≡◌};
 ghost use Rattle.std.specs.List.{list_all};
 ghost use Rattle.aidl_base.specs.Identifiers as identifiers;

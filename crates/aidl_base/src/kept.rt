@@ -1,3 +1,4 @@
+//! How the UTF-8 of a text is kept: a short one in place, a longer one as a string.
 ghost use Rattle.std.specs.Prelude.{◌≡◌, string_bytes, IfOk};
 ghost use Rattle.aidl_base.specs.Kept.{bytes_of};
 

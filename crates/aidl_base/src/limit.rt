@@ -1,3 +1,4 @@
+//! The limits: their quantities, the printed names and the numbers.
 ghost use Rattle.std.specs.Prelude.{◌≡◌};
 ghost use Rattle.aidl_base.specs.Limits.{limit_name, limit_number};
 

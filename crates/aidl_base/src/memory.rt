@@ -1,3 +1,5 @@
+//! Want of memory as a fault, and what turns into it.
+
 use std::alloc::{AllocError, AllocFailed};
 
 /// Memory was wanted and was not there.

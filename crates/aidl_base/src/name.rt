@@ -1,3 +1,4 @@
+//! Identifiers and dotted names as values.
 ghost use Rattle.std.specs.Prelude.{◌≡◌, ◌∷◌, IfOk};
 ghost use Rattle.aidl_base.specs.Names.{dotted};
 

@@ -1,3 +1,4 @@
+//! How the parts of a dotted name are kept: one in place, more in a row.
 ghost use Rattle.std.specs.Prelude.{◌≡◌, [], ◌∷◌};
 
 use crate::name::Ident;

@@ -1,3 +1,4 @@
+//! The profiles of a reader: strict, and lenient.
 ghost use Rattle.std.specs.Prelude.{◌≡◌};
 ghost use Rattle.aidl_base.specs.Profiles.{permits};
 

@@ -1,3 +1,4 @@
+//! Ranges of whole numbers.
 ghost use Rattle.std.specs.Prelude.{◌≡◌};
 ghost use Rattle.aidl_base.specs.Ranges.{is_in};
 

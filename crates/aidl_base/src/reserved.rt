@@ -1,3 +1,4 @@
+//! The reserved words: how they are written, and which one some bytes are.
 ghost use Rattle.std.specs.Prelude.{◌≡◌};
 ghost use Rattle.aidl_base.specs.Reserved.{word_of, word_in, reserved_of};
 ghost use Rattle.aidl_base.specs.steps.Keys.{of_key, those_of};

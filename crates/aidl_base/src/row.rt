@@ -1,3 +1,4 @@
+//! Rows: vectors that contracts see as lists.
 ghost use Rattle.std.specs.Prelude.{◌≡◌, [], ◌∷◌, ◌++◌, length, OnOk, OnErr};
 
 use crate::OutOfMemory;

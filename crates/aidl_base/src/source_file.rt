@@ -1,3 +1,5 @@
+//! A source file as its path and its bytes.
+
 use crate::row::Row;
 use crate::text::Text;
 

@@ -1,3 +1,4 @@
+//! Texts: UTF-8 that contracts see as Unicode scalars.
 ghost use Rattle.std.specs.Prelude.{◌≡◌, string_bytes, IfOk, true, []};
 ghost use Rattle.std.specs.Str.{chars, all_scalars, encode_utf8_all};
 

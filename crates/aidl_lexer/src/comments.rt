@@ -1,3 +1,4 @@
+//! What begins with `/`: comments, and the symbol `/`.
 ghost use Rattle.std.specs.Prelude.{◌≡◌, ◌≤◌, ◌<◌, ◌+◌, ◌^◌, length, IfSome};
 ghost use Rattle.aidl_lexer.specs.steps.Reading as read;
 

@@ -1,3 +1,4 @@
+//! The faults of the lexer: their kinds, printed numbers and names, and places.
 ghost use Rattle.std.specs.Prelude.{◌≡◌};
 ghost use Rattle.std.specs.Option.{option_copied};
 ghost use Rattle.aidl_lexer.specs.Naming.{fault_number, number_of, offset_of, name_of};

@@ -1,3 +1,4 @@
+//! The front of some bytes: a piece of a gap, a token or a fault.
 ghost use Rattle.std.specs.Prelude.{◌≡◌, ◌<◌, ◌^◌, length, IfOk};
 ghost use Rattle.aidl_lexer.specs.steps.Reading as read;
 

@@ -1,3 +1,4 @@
+//! A law of the lexer's definitions: bytes have one list of tokens or one fault, and never both.
 ghost use Rattle.std.specs.Prelude.{◌≡◌, ℕ, List, ◌⊎◌};
 ghost use Rattle.aidl_syntax.specs.declared.token.Token.{Token};
 ghost use Rattle.aidl_syntax.specs.Tokens.{Tokens};

@@ -1,3 +1,4 @@
+//! The lexer: the tokens of a whole file, or its first fault.
 ghost use Rattle.std.specs.Prelude.{◌≡◌, ◌+◌, ◌^◌, drop, ◌≤◌, ◌<◌, ℕ, List, length, IfOk, IfErr, Ok, Err};
 ghost use Rattle.aidl_syntax.specs.declared.token.Token.{Token};
 ghost use Rattle.aidl_syntax.specs.Tokens.{Tokens};

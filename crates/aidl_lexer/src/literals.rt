@@ -1,3 +1,4 @@
+//! Character literals and string literals.
 ghost use Rattle.std.specs.Prelude.{◌≡◌, ◌<◌, ◌^◌, length, IfOk};
 ghost use Rattle.aidl_lexer.specs.steps.Reading as read;
 

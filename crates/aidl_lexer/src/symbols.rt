@@ -1,3 +1,4 @@
+//! Symbols of one byte and of two.
 ghost use Rattle.std.specs.Prelude.{◌≡◌, ◌<◌, length};
 ghost use Rattle.aidl_syntax.specs.Tables as tables;
 ghost use Rattle.aidl_lexer.specs.steps.Reading as read;

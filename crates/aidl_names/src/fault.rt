@@ -1,3 +1,5 @@
+//! Faults of the names stage: a limit, breaches, or want of memory.
+
 use aidl_base::{Breach, Limit, OutOfMemory, Row};
 
 /// Why the names of a tree are refused.

@@ -1,3 +1,4 @@
+//! The names of a tree of files: its declarations, what a name means, and members by name.
 ghost use Rattle.std.specs.Prelude.{◌≡◌, ◌≤◌, map, length, IfOk, IfErr};
 ghost use Rattle.aidl_names.specs.declared.fault.NameFault.TheVariants as fault;
 ghost use Rattle.aidl_names.specs.Breaches.{breaches};

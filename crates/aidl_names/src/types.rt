@@ -1,3 +1,4 @@
+//! The names of types in declarations: the breaches of E4 and E5.
 ghost use Rattle.std.specs.Prelude.{◌≡◌, ◌≤◌, ◌++◌, map, length, OnOk};
 ghost use Rattle.aidl_syntax.specs.Members.{body};
 ghost use Rattle.aidl_syntax.specs.Trees.{decl_of};

@@ -1,3 +1,4 @@
+//! The trait of links, which carry parcels between a client and a server.
 ghost use Rattle.std.specs.Prelude.{◌≡◌, ◌≤◌, ℕ, List, Option, Bool, true, IfOk};
 ghost use Rattle.aidl_outside.specs.Causes.{CarryCause};
 ghost use Rattle.aidl_outside.specs.Carries.{Carries};

@@ -1,3 +1,4 @@
+//! The trait of sinks, which take printed bytes.
 ghost use Rattle.std.specs.Prelude.{◌≡◌, ◌≤◌, ℕ, List, Option};
 ghost use Rattle.aidl_outside.specs.Causes.{SinkCause};
 ghost use Rattle.aidl_outside.specs.Told.{Puts};

@@ -1,3 +1,4 @@
+//! The trait of stores, which hold files by their paths.
 ghost use Rattle.std.specs.Prelude.{◌≡◌, ◌≤◌, ◌<◌, ℕ, List, Option, IfOk, map, string_bytes, true};
 ghost use Rattle.std.specs.FinMap as files_map;
 ghost use Rattle.aidl_outside.specs.Causes.{StoreCause};

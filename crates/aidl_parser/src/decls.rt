@@ -1,3 +1,4 @@
+//! Declarations: the productions of parcelables, unions, enums and interfaces, and of their members.
 ghost use Rattle.std.specs.Prelude.{◌≡◌, ◌+◌, ◌-◌, ◌<◌, map, Some, length, IfOk, ◌≤◌};
 ghost use Rattle.aidl_syntax.specs.declared.token.Symbol.TheVariants as mark;
 ghost use Rattle.aidl_base.specs.declared.reserved.Reserved.TheVariants as word;

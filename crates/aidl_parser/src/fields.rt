@@ -1,3 +1,4 @@
+//! Fields and constants: their productions.
 ghost use Rattle.std.specs.Prelude.{◌≡◌, map, length, IfOk, ◌<◌};
 ghost use Rattle.aidl_syntax.specs.declared.token.Symbol.TheVariants as mark;
 ghost use Rattle.aidl_syntax.specs.Trees.{annots_of, expr_of, member_of};

@@ -1,3 +1,4 @@
+//! Whole files: the productions of the package, the imports and the one declaration.
 ghost use Rattle.std.specs.Prelude.{◌≡◌, ◌^◌, ◌<◌, length, map, [], Some, IfOk, ◌≤◌};
 ghost use Rattle.aidl_base.specs.declared.reserved.Reserved.TheVariants as word;
 ghost use Rattle.aidl_syntax.specs.Trees.{decl_of, file_of};

@@ -1,3 +1,4 @@
+//! The limits on tokens: `nesting` and `run-length`.
 ghost use Rattle.std.specs.Prelude.{◌≡◌, max};
 ghost use Rattle.aidl_syntax.specs.Measures as measure;
 ghost use Rattle.aidl_parser.specs.Limits.{passed};

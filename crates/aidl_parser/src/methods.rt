@@ -1,3 +1,4 @@
+//! Methods: their production, with `oneway` and the result.
 ghost use Rattle.std.specs.Prelude.{◌≡◌, map, [], ◌++◌, length, IfOk, ◌<◌, ◌≤◌};
 ghost use Rattle.aidl_syntax.specs.declared.token.Symbol.TheVariants as mark;
 ghost use Rattle.aidl_base.specs.declared.reserved.Reserved.TheVariants as word;

@@ -1,3 +1,4 @@
+//! The parser: the tree of a file's tokens or a refusal, and the law that no tokens have two trees.
 ghost use Rattle.std.specs.Prelude.{◌≡◌, IfOk, IfErr, Some, None, Err};
 ghost use Rattle.aidl_base.specs.declared.limit.LimitName.{LimitName};
 ghost use Rattle.aidl_syntax.specs.Trees.{File, file_of};

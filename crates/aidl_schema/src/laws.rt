@@ -1,3 +1,4 @@
+//! Laws of schemas: same types, containment, sizes of defaults, validity, and the evolution rules.
 ghost use Rattle.std.specs.Prelude.{◌≡◌, ◌↔◌, ◌≤◌, true, IsTrue, length, map, min, []};
 ghost use Rattle.std.specs.Cmp.Lexicographic.{slice_cmp};
 ghost use Rattle.std.specs.List.Sorted.{IsStrictlySortedBy};

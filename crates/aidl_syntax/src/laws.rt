@@ -1,3 +1,4 @@
+//! Laws of the definitions of tokens and trees: places ascend inside the bytes, and each part is well formed.
 ghost use Rattle.std.specs.Prelude.{◌≡◌, ◌<◌, ℕ, true, List, length, map};
 ghost use Rattle.std.specs.List.{All};
 ghost use Rattle.std.specs.List.Sorted.{IsStrictlyIncreasing};

@@ -1,3 +1,5 @@
+//! Tokens: their kinds, the symbols, and their places.
+
 use aidl_base::{Reserved, Text};
 
 /// The symbols, of one byte and of two (AOSP, "AIDL language": the punctuation and the operators of constants).

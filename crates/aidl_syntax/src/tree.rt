@@ -1,3 +1,5 @@
+//! Syntax trees: files, declarations, members, types, annotations and expressions.
+
 use crate::token::{Symbol, Token};
 use aidl_base::{DottedName, Ident, Row, Text};
 

@@ -1,3 +1,4 @@
+//! The command `dump`: the canonical dump of a tree, written below a folder.
 ghost use Rattle.std.specs.Prelude.{ℕ, List, Option, Err, map};
 ghost use Rattle.aidl_outside.specs.Causes.{StoreCause};
 ghost use Rattle.aidl_outside.specs.Files.{Files};

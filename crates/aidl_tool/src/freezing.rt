@@ -1,3 +1,4 @@
+//! The command `freeze`: a tree as the next version of an API.
 ghost use Rattle.aidl_outside.specs.Causes.{StoreCause};
 ghost use Rattle.aidl_tool.specs.Acting.{FreezeActs};
 ghost use Rattle.api_versions.specs.Versions.{versions_at};

@@ -1,3 +1,4 @@
+//! The command `judge`: the evolution rules that a new tree breaks.
 ghost use Rattle.std.specs.Prelude.{◌≡◌, Some, List, IfOk};
 ghost use Rattle.aidl_outside.specs.Causes.{StoreCause};
 ghost use Rattle.aidl_outside.specs.Told.{Tells};

@@ -1,3 +1,4 @@
+//! The command `rehash`: the hashes of an API's versions, written again.
 ghost use Rattle.aidl_outside.specs.Causes.{StoreCause};
 ghost use Rattle.aidl_tool.specs.Acting.{RehashActs};
 ghost use Rattle.tool_frame.specs.Acts.{acts_by};

@@ -1,3 +1,4 @@
+//! The command `run`: the calls of a file between a client's tree and a server's.
 ghost use Rattle.std.specs.Prelude.{◌≡◌, Bool, Some, List, map, IfOk};
 ghost use Rattle.aidl_outside.specs.Causes.{StoreCause};
 ghost use Rattle.aidl_outside.specs.Told.{Tells};

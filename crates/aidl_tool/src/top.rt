@@ -1,3 +1,4 @@
+//! The whole program: its words to a command, and the command to an exit status.
 ghost use Rattle.std.specs.Prelude.{◌≡◌, Some, map, string_bytes};
 ghost use Rattle.aidl_outside.specs.Told.{Tells};
 ghost use Rattle.tool_words.specs.Rows as table;

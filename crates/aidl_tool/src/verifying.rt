@@ -1,3 +1,4 @@
+//! The command `verify`: whether the versions of an API are whole.
 ghost use Rattle.std.specs.Prelude.{◌≡◌, ℕ, IfOk};
 ghost use Rattle.aidl_outside.specs.Causes.{StoreCause};
 ghost use Rattle.aidl_outside.specs.Told.{Tells};

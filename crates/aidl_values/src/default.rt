@@ -1,3 +1,4 @@
+//! Defaults of types and of fields, and constants as values.
 ghost use Rattle.std.specs.Prelude.{◌≡◌, true, map, IfOk};
 ghost use Rattle.aidl_schema.specs.Seen.{seen};
 ghost use Rattle.aidl_schema.specs.Types.{is_type};

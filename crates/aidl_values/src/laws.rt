@@ -1,3 +1,4 @@
+//! Laws of defaults: each type of a schema has one, of its type, and of bounded depth and size.
 ghost use Rattle.std.specs.Prelude.{◌≡◌, ◌≤◌, ◌↔◌, true};
 ghost use Rattle.aidl_schema.specs.Sizes.{default_depth, default_nodes};
 ghost use Rattle.aidl_schema.specs.Types.{is_type};

@@ -1,3 +1,4 @@
+//! Whether a value has a type of a schema.
 ghost use Rattle.std.specs.Prelude.{◌≡◌, ◌↔◌, IsTrue, slice_get};
 ghost use Rattle.aidl_schema.specs.Types as types;
 ghost use Rattle.aidl_values.specs.HasType.{HasType};

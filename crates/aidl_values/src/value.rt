@@ -1,3 +1,4 @@
+//! Values with their copies and depths, and the answers of handlers.
 ghost use Rattle.std.specs.Prelude.{◌≡◌, min, map, IfOk};
 ghost use Rattle.aidl_values.specs.Data.{depth_of, greatest};
 ghost use Rattle.aidl_values.specs.View.{view, views};

@@ -1,3 +1,4 @@
+//! Declarations in the canonical dump: annotations, heading, lines of members and constants, and closing brace.
 ghost use Rattle.std.specs.Prelude.{◌≡◌, ◌≤◌, ◌+◌, ◌++◌, ◌∷◌, [], codes, slice_get, string_bytes, OnOk};
 ghost use Rattle.std.specs.List.{flat_map};
 ghost use Rattle.api_dump.specs.Declarations as meant;

@@ -1,3 +1,4 @@
+//! The files of the canonical dump, each with its path and text.
 ghost use Rattle.std.specs.Prelude.{◌≡◌, ◌≤◌, ◌++◌, length, map, string_bytes, IfOk, OnOk};
 ghost use Rattle.aidl_schema.specs.Names.{without_last};
 ghost use Rattle.api_dump.specs.Dump as meant;

@@ -1,3 +1,4 @@
+//! The lines of members in the canonical dump: fields, constants, methods and enumerators.
 ghost use Rattle.std.specs.Prelude.{◌≡◌, ◌++◌, ◌∷◌, [], string_bytes, OnOk};
 ghost use Rattle.std.specs.List.{flat_map};
 ghost use Rattle.aidl_syntax.specs.declared.token.Symbol.TheVariants as mark;

@@ -1,3 +1,4 @@
+//! A declaration in the canonical dump, with the declarations inside it.
 ghost use Rattle.std.specs.Prelude.{◌≡◌, ◌≤◌, ◌<◌, ◌+◌, ◌++◌, length, suc, string_bytes, OnOk};
 ghost use Rattle.api_dump.specs.Declarations as meant;
 ghost use Rattle.dump_values.specs.Pieces.{text_of};

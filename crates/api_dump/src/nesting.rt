@@ -1,3 +1,4 @@
+//! Which declarations stand inside which.
 ghost use Rattle.std.specs.Prelude.{◌≡◌, ◌≤◌, ◌<◌, ℕ, Some, [], length, IfOk, OnOk};
 ghost use Rattle.api_dump.specs.steps.Tables.{IsAdded, IsTable, row_at};
 

@@ -1,3 +1,4 @@
+//! Whether a schema may follow the versions of an API, and the next version that it makes.
 ghost use Rattle.std.specs.Prelude.{◌≡◌, List, Some, Ok, IfErr, OnOk};
 ghost use Rattle.aidl_schema.specs.declared.schema.Decl.{Decl};
 ghost use Rattle.api_freeze.specs.Chains.{FollowsEach};

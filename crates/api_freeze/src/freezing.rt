@@ -1,3 +1,4 @@
+//! Freezing: the next version of an API, written to a store.
 ghost use Rattle.std.specs.Prelude.{◌≡◌, ◌-◌, length, map, take, Some, None, IfErr, IfOk};
 ghost use Rattle.aidl_outside.specs.Told.{Tells};
 ghost use Rattle.api_freeze.specs.Chains.{FollowsEachAt};

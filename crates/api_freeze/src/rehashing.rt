@@ -1,3 +1,4 @@
+//! Rehashing: the text of the second recipe for each version whose `.hash` has another.
 ghost use Rattle.std.specs.Prelude.{◌≡◌, ◌++◌, [], ◌∷◌, map, IfErr, IfOk, OnOk, Some, None, string_bytes};
 ghost use Rattle.aidl_outside.specs.Told.{Tells};
 ghost use Rattle.api_versions.specs.Answers.{Gives};

@@ -1,3 +1,4 @@
+//! SHA-1 in hexadecimal digits.
 ghost use Rattle.std.specs.Prelude.{◌≡◌, IfOk, string_bytes};
 ghost use Rattle.api_hash.specs.HashText as meant;
 

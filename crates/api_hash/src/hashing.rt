@@ -1,3 +1,4 @@
+//! The two recipes of a version's hash, and the text of its `.hash`.
 ghost use Rattle.std.specs.Prelude.{◌≡◌, ◌++◌, IfOk, OnOk, string_bytes};
 ghost use Rattle.api_hash.specs.HashText as meant;
 

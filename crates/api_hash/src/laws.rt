@@ -1,3 +1,4 @@
+//! A law of the order of files: their paths strictly ascend.
 ghost use Rattle.std.specs.Prelude.{map};
 ghost use Rattle.std.specs.Cmp.Lexicographic.{slice_cmp};
 ghost use Rattle.std.specs.List.Sorted.{IsPermutation, IsStrictlySortedBy};

@@ -1,3 +1,4 @@
+//! The lines that a hash is made from, one for each file.
 ghost use Rattle.std.specs.Prelude.{◌≡◌, ◌++◌, IfOk, OnOk, map, string_bytes};
 ghost use Rattle.std.specs.List.{flat_map};
 ghost use Rattle.api_hash.specs.HashText as meant;

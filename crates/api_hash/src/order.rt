@@ -1,3 +1,4 @@
+//! Files sorted by the bytes of their paths.
 ghost use Rattle.std.specs.Prelude.{◌≡◌, ◌++◌, [], IfOk, map};
 ghost use Rattle.std.specs.List.{fold};
 ghost use Rattle.api_hash.specs.HashText as meant;

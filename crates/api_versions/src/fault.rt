@@ -1,3 +1,4 @@
+//! The faults of freezing, and of reading the versions of an API.
 ghost use Rattle.std.specs.Prelude.{◌≡◌};
 ghost use Rattle.api_versions.specs.Answers.{ReadAs};
 ghost use Rattle.api_versions.specs.Versions.{passed};

@@ -1,3 +1,4 @@
+//! The folder of one version, as a listing shows it.
 ghost use Rattle.std.specs.Prelude.{◌≡◌, false, [], OnOk};
 ghost use Rattle.api_versions.specs.Folders as meant;
 ghost use Rattle.api_versions.specs.steps.Seen.{folder_seen};

@@ -1,3 +1,4 @@
+//! The folders of an API's versions, by the paths of a listing.
 ghost use Rattle.std.specs.Prelude.{◌≡◌, ◌≤◌, ◌<◌, length, map, min, IfOk, OnOk, string_bytes};
 ghost use Rattle.std.specs.List.{range_with_len};
 ghost use Rattle.api_versions.specs.Folders as meant;

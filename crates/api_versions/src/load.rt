@@ -1,3 +1,4 @@
+//! One file of a store, up to the limit on its bytes.
 ghost use Rattle.std.specs.Prelude.{◌≡◌, List, ℕ, Option};
 ghost use Rattle.std.specs.Option.{option_map};
 ghost use Rattle.aidl_outside.specs.Told.{Tells};

@@ -1,3 +1,4 @@
+//! Paths below an API: a version's folder, its files and its `.hash`.
 ghost use Rattle.std.specs.Prelude.{◌≡◌, IfOk, string_bytes};
 ghost use Rattle.api_versions.specs.Versions as meant;
 

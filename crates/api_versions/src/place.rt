@@ -1,3 +1,4 @@
+//! The version to which a path below an API belongs.
 ghost use Rattle.std.specs.Prelude.{◌≡◌, ◌<◌, min, true, IfSome};
 ghost use Rattle.std.specs.Char.{is_ascii_digit};
 ghost use Rattle.std.specs.List.{list_all};

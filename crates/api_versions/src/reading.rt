@@ -1,3 +1,4 @@
+//! All versions of an API, read from a store.
 ghost use Rattle.std.specs.Prelude.{◌≡◌, length, map, true, IfOk, Ok, string_bytes};
 ghost use Rattle.std.specs.List.{list_all, range_with_len};
 ghost use Rattle.aidl_outside.specs.Entries.{path_of};

@@ -1,3 +1,4 @@
+//! The source files of a version, read from a store.
 ghost use Rattle.std.specs.Prelude.{◌≡◌, ◌++◌, map, true, IfOk, OnOk, string_bytes};
 ghost use Rattle.aidl_outside.specs.Entries.{path_of};
 ghost use Rattle.aidl_outside.specs.Files.{is_ascending};

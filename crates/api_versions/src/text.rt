@@ -1,3 +1,4 @@
+//! Bytes as a text, one character for each.
 ghost use Rattle.std.specs.Prelude.{◌≡◌, IfOk, string_bytes};
 ghost use Rattle.std.specs.Str.{encode_utf8_all};
 

@@ -1,3 +1,5 @@
+//! A frozen version of an API, as it was read.
+
 use aidl_base::{Row, SourceFile};
 
 /// A frozen version: its number, the `.aidl` files below its folder, sorted by the bytes of their paths, which are relative to the

@@ -1,3 +1,4 @@
+//! Whether versions are whole: the `.hash` that each keeps, against what the recipes give.
 ghost use Rattle.std.specs.Prelude.{◌≡◌, IfErr, IfOk};
 ghost use Rattle.api_versions.specs.Answers.{Gives};
 ghost use Rattle.api_versions.specs.Whole as meant;

@@ -1,3 +1,4 @@
+//! The limits on an API's folders, and which version numbers are missing.
 ghost use Rattle.std.specs.Prelude.{◌≡◌, ℕ, map, string_bytes};
 ghost use Rattle.std.specs.List.{filter, list_any};
 ghost use Rattle.api_versions.specs.Answers.{GivesAs, ReadCause};

@@ -1,3 +1,4 @@
+//! Writes that are due, and making them in order.
 ghost use Rattle.std.specs.Prelude.{map, IfErr};
 ghost use Rattle.api_versions.specs.Causes.{Cause};
 ghost use Rattle.api_versions.specs.Writes.{Left};

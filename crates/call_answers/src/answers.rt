@@ -1,3 +1,4 @@
+//! The answer of a two-way method from the JSON at `answer`: an exception, or a result and the `out` values.
 ghost use Rattle.std.specs.Prelude.{◌≡◌, ◌==◌, true, length, option_map, IfOk};
 ghost use Rattle.std.specs.List.{list_all};
 ghost use Rattle.serde_json.specs.Events.{members_len};

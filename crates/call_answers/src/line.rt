@@ -1,3 +1,4 @@
+//! The JSON of a line: its keys, its counts and the values of its types.
 ghost use Rattle.std.specs.Prelude.{◌≡◌, ◌==◌, [], ◌∷◌, ◌++◌, length, IfOk, OnOk, option_map, string_bytes};
 ghost use Rattle.std.specs.Str.{encode_utf8_all};
 ghost use Rattle.json_faults.specs.Refusal.{escaped, escaped_character};

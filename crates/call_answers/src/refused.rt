@@ -1,3 +1,4 @@
+//! Refusals of a line of a calls file: their names, their places and their JSON pointers.
 ghost use Rattle.std.specs.Prelude.{◌≡◌, ◌++◌, decimal, IfOk, string_bytes};
 ghost use Rattle.std.specs.Str.{encode_utf8_all};
 ghost use Rattle.json_faults.specs.Gives as json;

@@ -1,3 +1,4 @@
+//! Exceptions in an answer: the code, the message and the error number.
 ghost use Rattle.std.specs.Prelude.{◌≡◌, IfOk, IfSome, option_map};
 ghost use Rattle.serde_json.specs.View.{view as json_view, items_view};
 ghost use Rattle.wire_model.specs.Calls.{answer_of};

@@ -1,3 +1,4 @@
+//! Which method a line's `call` names, in the client's schema and in the server's.
 ghost use Rattle.std.specs.Prelude.{◌≡◌, option_map, IfSome};
 ghost use Rattle.aidl_schema.specs.Find as find;
 ghost use Rattle.call_scripts.specs.Names as meant;

@@ -1,3 +1,4 @@
+//! Look-ups by name: a declaration in the new schema, and the places of names among others.
 ghost use Rattle.std.specs.Prelude.{◌≡◌, ℕ, List, map, IfOk};
 ghost use Rattle.std.specs.List.{find, position_from};
 ghost use Rattle.std.specs.Option.{option_copied};

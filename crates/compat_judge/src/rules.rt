@@ -1,3 +1,4 @@
+//! The rules C2 to C19 on a pair of declarations, by their kinds.
 ghost use Rattle.std.specs.Prelude.{◌≡◌, ◌++◌, ◌==◌, ◌&&◌, ◌||◌, map, not, true, OnOk, nat_lt, length, drop};
 ghost use Rattle.aidl_schema.specs.Broken as broken;
 ghost use Rattle.aidl_schema.specs.Broken.{in_both, same_method};

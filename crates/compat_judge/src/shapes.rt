@@ -1,3 +1,4 @@
+//! Where a rule is asked: at common methods, at their arguments, and at common or added fields.
 ghost use Rattle.std.specs.Prelude.{◌≡◌, ◌++◌, map, length, drop, OnOk};
 ghost use Rattle.std.specs.List.{enumerate_from, flat_map, zip};
 ghost use Rattle.aidl_schema.specs.Broken.{argument, at_arguments_of, is_refused_addition, member, of_rule, places};

@@ -1,3 +1,4 @@
+//! What the judge compares: pairs of declarations, and of methods.
 ghost use Rattle.std.specs.Prelude.{◌≡◌, map};
 ghost use Rattle.aidl_schema.specs.Broken.{whole};
 

@@ -1,3 +1,4 @@
+//! The dependence of items on each other, as the edges of a graph.
 ghost use Rattle.std.specs.Prelude.{◌≡◌, ◌≤◌, ◌<◌, ◌++◌, ◌∷◌, ◌||◌, [], is_none, length, map, ℕ, IfOk, IfSome, OnOk};
 ghost use Rattle.std.specs.List.{cons_option, filter_map, list_any};
 ghost use Rattle.aidl_names.specs.Refusals.{IsScope};

@@ -1,3 +1,4 @@
+//! The names that stand in the expression of an item.
 ghost use Rattle.std.specs.Prelude.{◌≡◌, ◌++◌, map, IfOk, OnOk};
 ghost use Rattle.aidl_syntax.specs.Trees.{expr_of};
 ghost use Rattle.const_dependence.specs.Dependence as meant;

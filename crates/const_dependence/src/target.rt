@@ -1,3 +1,4 @@
+//! The constant or the enumerator that a name in an expression means.
 ghost use Rattle.std.specs.Prelude.{◌≡◌, map};
 ghost use Rattle.declared_names.specs.Declarations.{declarations};
 ghost use Rattle.declared_names.specs.MemberViews.{seen_member};

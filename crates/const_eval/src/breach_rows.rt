@@ -1,3 +1,4 @@
+//! The faults of items as breaches of E6 to E12.
 ghost use Rattle.std.specs.Prelude.{◌≡◌, ◌++◌, map, IfOk, OnOk};
 ghost use Rattle.std.specs.Option.{option_to_list};
 ghost use Rattle.const_eval.specs.Breaches as meant;

@@ -1,3 +1,4 @@
+//! The evaluation of all items of a tree, each behind those that it depends on.
 ghost use Rattle.std.specs.Prelude.{◌≡◌, ◌<◌, ◌≤◌, ℕ, false, length, map, IfOk, IsTrue, Contains};
 ghost use Rattle.std.specs.List.{All, slice_get};
 ghost use Rattle.graph_cycles.specs.Paths.{TellsCycles, flag, targets};

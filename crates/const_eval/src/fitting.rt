@@ -1,3 +1,4 @@
+//! Operands as values of a wanted type that can be operands again.
 ghost use Rattle.std.specs.Prelude.{◌≡◌, ◌<◌, ◌^◌, IfOk, IsTrue};
 ghost use Rattle.const_operands.specs.Seen.{Answers, seen};
 ghost use Rattle.const_values.specs.Wanted as meant;

@@ -1,3 +1,4 @@
+//! Which items have a value already, among outcomes that are still being found.
 ghost use Rattle.std.specs.Prelude.{◌≡◌, ℕ, IfOk, vec_len};
 ghost use Rattle.const_eval.specs.declared.outcome.Outcome.TheVariants.{Unjudged};
 ghost use Rattle.const_eval.specs.Outcomes.{is_given, outcome_at};

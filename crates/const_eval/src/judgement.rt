@@ -1,3 +1,4 @@
+//! The value or the fault of one item, by the values of those that it depends on.
 ghost use Rattle.std.specs.Prelude.{◌≡◌, map, IfOk, IsTrue};
 ghost use Rattle.aidl_syntax.specs.Trees.{expr_of};
 ghost use Rattle.aidl_names.specs.Refusals.{IsScope};

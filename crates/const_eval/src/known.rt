@@ -1,3 +1,4 @@
+//! The meanings of names while a tree is evaluated, by the outcomes that are known so far.
 ghost use Rattle.std.specs.Prelude.{◌≡◌, ◌<◌, ℕ, length, map, IfOk, IsTrue};
 ghost use Rattle.std.specs.List.{slice_get};
 ghost use Rattle.aidl_syntax.specs.Sources.{source_of};

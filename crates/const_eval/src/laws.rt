@@ -1,3 +1,4 @@
+//! Laws of the definitions of outcomes: no item has two, and their breaches are in order.
 ghost use Rattle.std.specs.Prelude.{◌≡◌, ℕ, map};
 ghost use Rattle.aidl_names.specs.Breaches.{in_order};
 ghost use Rattle.aidl_syntax.specs.Sources.{source_of};

@@ -1,3 +1,4 @@
+//! Values of constants and enumerators as operands of other expressions.
 ghost use Rattle.std.specs.Prelude.{◌≡◌, IfOk, IsTrue};
 ghost use Rattle.const_operands.specs.Operands as operand;
 ghost use Rattle.const_operands.specs.Operands.{IsWithin};

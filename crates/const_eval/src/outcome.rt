@@ -1,3 +1,5 @@
+//! The outcome of an item: a value, a fault, or not judged.
+
 use aidl_base::Const;
 use const_operands::ConstFault;
 

@@ -1,3 +1,4 @@
+//! The items of a tree with their outcomes, once all are found.
 ghost use Rattle.std.specs.Prelude.{◌≡◌, ◌<◌, ◌≤◌, length, map, vec_len, IfSome};
 ghost use Rattle.std.specs.Option.{option_map};
 ghost use Rattle.const_items.specs.Items as meant;

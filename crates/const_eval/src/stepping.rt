@@ -1,3 +1,4 @@
+//! Enumerators without an expression: the first of an enum, and one more than the one before.
 ghost use Rattle.std.specs.Prelude.{◌≡◌, None, pos, ◌+ℤ◌, IfOk, IsTrue, Err};
 ghost use Rattle.aidl_base.specs.declared.constant.Const.{out-Const};
 ghost use Rattle.const_operands.specs.Operands as operand;

@@ -1,3 +1,4 @@
+//! Laws of the numbers and places of items: how many a tree has, and how far their places reach.
 ghost use Rattle.std.specs.Prelude.{◌≤◌, length, map};
 ghost use Rattle.std.specs.List.{All};
 ghost use Rattle.aidl_syntax.specs.Sources.{AreOfBytes, source_of};

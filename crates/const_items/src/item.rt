@@ -1,3 +1,5 @@
+//! An item, and what is written of it.
+
 use aidl_syntax::ExprTree;
 use const_values::Wanted;
 

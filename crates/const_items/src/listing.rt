@@ -1,3 +1,4 @@
+//! The items of each declaration: its fields, constants and enumerators, and the members of brace lists.
 ghost use Rattle.std.specs.Prelude.{◌≡◌, ◌≤◌, ◌++◌, ◌∷◌, [], None, false, map, length, IfOk, OnOk};
 ghost use Rattle.aidl_syntax.specs.Trees.{Members, body_of, constant_of, enumerator_of, expr_of, exprs_of, field_of, init_of, map_option, member_of, members_of};
 ghost use Rattle.aidl_syntax.specs.Members.{listed};

@@ -1,3 +1,4 @@
+//! The numbers of items, and the look-up of an item by its place.
 ghost use Rattle.std.specs.Prelude.{◌≡◌, ℕ, map, IfOk};
 ghost use Rattle.indexmap.specs.IndexMap.{get};
 ghost use Rattle.aidl_syntax.specs.Sources.{source_of};

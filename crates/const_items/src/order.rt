@@ -1,3 +1,4 @@
+//! The items of a tree, sorted by file and place.
 ghost use Rattle.std.specs.Prelude.{◌≡◌, [], map, IfOk};
 ghost use Rattle.std.specs.List.{fold};
 ghost use Rattle.aidl_syntax.specs.Sources.{source_of};

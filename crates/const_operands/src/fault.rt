@@ -1,3 +1,4 @@
+//! The faults of evaluating an expression, with their numbers.
 ghost use Rattle.std.specs.Prelude.{◌≡◌};
 ghost use Rattle.const_operands.specs.Faults.{fault_number};
 ghost use Rattle.const_operands.specs.Seen.{Gives, answer};

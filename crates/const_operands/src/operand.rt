@@ -1,3 +1,4 @@
+//! Operands: the values that expressions have before a type is wanted.
 ghost use Rattle.std.specs.Prelude.{◌≡◌, IfOk};
 ghost use Rattle.const_operands.specs.Seen.{words_of};
 

@@ -1,3 +1,4 @@
+//! The operators of expressions, and the symbols that they are written as.
 ghost use Rattle.std.specs.Prelude.{◌≡◌};
 ghost use Rattle.const_operands.specs.Symbols as symbols;
 

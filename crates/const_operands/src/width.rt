@@ -1,3 +1,4 @@
+//! The widths of numbers: 32 bits and 64.
 ghost use Rattle.std.specs.Prelude.{◌≡◌};
 ghost use Rattle.aidl_base.specs.Ranges.{is_in};
 ghost use Rattle.const_operands.specs.Widths.{bit_count, is_within, wider};

@@ -1,3 +1,4 @@
+//! The arithmetic operators `+ - * / %`, and the check that a result lies in its width.
 ghost use Rattle.std.specs.Prelude.{◌≡◌, ◌≢◌, pos, ◌+ℤ◌, ◌-ℤ◌, ◌*ℤ◌, int_div, IfOk};
 ghost use Rattle.const_values.specs.Arithmetic as meant;
 ghost use Rattle.const_operands.specs.Operands.{IsWithin};

@@ -1,3 +1,4 @@
+//! Binary operators on numbers, truth values and texts.
 ghost use Rattle.std.specs.Prelude.{◌≡◌, IfOk, IsTrue};
 ghost use Rattle.const_values.specs.Binary as meant;
 ghost use Rattle.const_operands.specs.Operands.{IsWithin};

@@ -1,3 +1,4 @@
+//! The bitwise operators `& | ^ ~`.
 ghost use Rattle.std.specs.Prelude.{◌≡◌, IsTrue};
 ghost use Rattle.std.specs.Int.{w32, w64};
 ghost use Rattle.const_values.specs.Bitwise as meant;

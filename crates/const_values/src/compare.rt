@@ -1,3 +1,4 @@
+//! The comparison operators, and the connectives `&&` and `||`.
 ghost use Rattle.std.specs.Prelude.{◌≡◌};
 ghost use Rattle.const_values.specs.Comparisons as meant;
 

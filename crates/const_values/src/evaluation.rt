@@ -1,3 +1,4 @@
+//! The evaluation of an expression, with the trait that says what its names mean.
 ghost use Rattle.std.specs.Prelude.{◌≡◌, IfOk, Result};
 ghost use Rattle.aidl_syntax.specs.Trees.{expr_of};
 ghost use Rattle.aidl_syntax.specs.declared.tree.DottedTree.{DottedTree};

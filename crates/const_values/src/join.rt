@@ -1,3 +1,4 @@
+//! The concatenation of texts by `+`.
 ghost use Rattle.std.specs.Prelude.{◌≡◌, ◌++◌, length, IfOk};
 ghost use Rattle.const_operands.specs.Operands.{IsWithin};
 ghost use Rattle.const_operands.specs.Seen.{Gives, seen};

@@ -1,3 +1,4 @@
+//! Laws of the arithmetic of constants: decimals, remainders, shifts and the complement.
 ghost use Rattle.std.specs.Prelude.{◌≡◌, ◌<◌, ◌*◌, ◌^◌, ◌≤ℤ◌, ◌<ℤ◌, pos, neg_ℤ, ◌+ℤ◌, ◌-ℤ◌, ◌*ℤ◌, int_div, int_rem, unsigned_abs, IsTrue, true, false, if◌then◌else◌, nat_le};
 ghost use Rattle.std.specs.Int.{int_bit_not, int_shl, int_shr};
 ghost use Rattle.const_values.specs.Literals.{number_of};

@@ -1,3 +1,4 @@
+//! Literals as operands, with the widths of numbers.
 ghost use Rattle.std.specs.Prelude.{◌≡◌, ◌<◌, ◌^◌, IfSome};
 ghost use Rattle.std.specs.Option.{option_map};
 ghost use Rattle.const_values.specs.Literals.{literal_of, narrow_limit, number_of, of_bits};

@@ -1,3 +1,4 @@
+//! The shift operators `<< >>`.
 ghost use Rattle.std.specs.Prelude.{◌≡◌, ◌<◌, IfOk, IsTrue};
 ghost use Rattle.std.specs.Int.{int_shl};
 ghost use Rattle.const_operands.specs.Operands.{IsWithin};

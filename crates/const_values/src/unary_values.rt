@@ -1,3 +1,4 @@
+//! Unary operators on numbers and truth values.
 ghost use Rattle.std.specs.Prelude.{◌≡◌, IfOk, IsTrue};
 ghost use Rattle.const_operands.specs.Operands.{IsWithin};
 ghost use Rattle.const_operands.specs.Seen.{answer, seen};

@@ -1,3 +1,4 @@
+//! Wanted types, and the conversion of operands to values of them.
 ghost use Rattle.std.specs.Prelude.{◌≡◌};
 ghost use Rattle.const_operands.specs.Seen.{Answers, seen, words_of};
 ghost use Rattle.const_values.specs.Wanted as meant;

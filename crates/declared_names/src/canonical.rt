@@ -1,3 +1,4 @@
+//! The parts of canonical names, copied and extended.
 ghost use Rattle.std.specs.Prelude.{◌≡◌, ◌++◌, [], ◌∷◌, IfOk};
 
 use aidl_base::{Ident, OutOfMemory};

@@ -1,3 +1,5 @@
+//! A declaration as the walk over a tree finds it.
+
 use aidl_base::DottedName;
 use aidl_syntax::DeclTree;
 

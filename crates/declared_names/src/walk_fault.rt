@@ -1,3 +1,5 @@
+//! The faults of a walk over declarations.
+
 use aidl_base::OutOfMemory;
 use std::alloc::AllocFailed;
 

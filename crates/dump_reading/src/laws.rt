@@ -1,3 +1,4 @@
+//! Laws of the canonical dump: its tokens, trees, names, constants and rules, and that it reads back as its schema.
 ghost use Rattle.std.specs.Prelude.{◌≡◌, ◌≢◌, ◌<◌, ℕ, true, [], List, Some, length, map, slice_get};
 ghost use Rattle.std.specs.List.{All};
 ghost use Rattle.std.specs.List.Sorted.{IsStrictlyIncreasing};

@@ -1,3 +1,4 @@
+//! Names in a canonical dump, dotted and simple.
 ghost use Rattle.std.specs.Prelude.{◌≡◌, ◌∷◌, ◌++◌, string_bytes, OnOk, []};
 ghost use Rattle.std.specs.List.{flat_map};
 ghost use Rattle.aidl_schema.specs.Names.{last_part};

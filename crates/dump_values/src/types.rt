@@ -1,3 +1,4 @@
+//! Types in a canonical dump, with the annotations before them.
 ghost use Rattle.std.specs.Prelude.{◌≡◌, ◌++◌, string_bytes, OnOk, codes, slice_get};
 ghost use Rattle.dump_values.specs.Pieces.{dotted, text_of};
 ghost use Rattle.dump_values.specs.Types as meant;

@@ -1,3 +1,4 @@
+//! Values in a canonical dump: initializers, constants and the values of enumerators.
 ghost use Rattle.std.specs.Prelude.{◌≡◌, ◌++◌, ◌∷◌, [], false, true, slice_get, string_bytes, OnOk};
 ghost use Rattle.aidl_base.specs.declared.constant.Const.{out-Const};
 ghost use Rattle.aidl_syntax.specs.declared.token.TokenKind.TheVariants as kind;

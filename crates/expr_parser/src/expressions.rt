@@ -1,3 +1,4 @@
+//! Expressions: literals, names, parentheses, signs and binary operators by their levels.
 ghost use Rattle.std.specs.Prelude.{◌≡◌, IfErr, ◌+◌, ◌-◌, ◌≤◌, ◌<◌, IfOk, MatchOption, false, length};
 ghost use Rattle.aidl_syntax.specs.Trees.{expr_of};
 ghost use Rattle.aidl_syntax.specs.Trees.Expr.{unary as unary_tree, binary as binary_tree};

@@ -1,3 +1,5 @@
+//! The faults of the parser.
+
 use aidl_base::{Limit, OutOfMemory};
 use std::alloc::{AllocError, AllocFailed};
 

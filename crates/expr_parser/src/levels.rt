@@ -1,3 +1,4 @@
+//! The levels of binary operators: which one binds more than which.
 ghost use Rattle.std.specs.Prelude.{◌≡◌, ◌+◌, ◌<◌, ◌≤◌, MatchOption, false};
 ghost use Rattle.aidl_syntax.specs.Productions as form;
 ghost use Rattle.expr_parser.specs.steps.Levels.{rank as rank_of, level_rank, IsOperator};

@@ -1,3 +1,4 @@
+//! Dotted names at the front of tokens.
 ghost use Rattle.std.specs.Prelude.{◌≡◌, [], ◌∷◌, true, length, IfOk, ◌<◌, IfSome};
 ghost use Rattle.expr_parser.specs.steps.Reading as read;
 ghost use Rattle.expr_parser.specs.Gives.{Gives};

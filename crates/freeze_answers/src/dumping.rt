@@ -1,3 +1,4 @@
+//! The writes and the printed line of `dump`.
 ghost use Rattle.std.specs.Prelude.{◌≡◌, ◌++◌, codes, decimal, length, map, IfOk, string_bytes};
 ghost use Rattle.api_dump.specs.Dump.{dump_text, seen};
 ghost use Rattle.api_versions.specs.steps.Seen.{write_seen};

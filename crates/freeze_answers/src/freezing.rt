@@ -1,3 +1,4 @@
+//! The printed line of a version that `freeze` made.
 ghost use Rattle.std.specs.Prelude.{◌≡◌, ◌++◌, codes, decimal, IfOk, string_bytes};
 ghost use Rattle.freeze_answers.specs.Frozen as meant;
 ghost use Rattle.tool_frame.specs.Answer.{line};

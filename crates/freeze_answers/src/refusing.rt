@@ -1,3 +1,4 @@
+//! The printed lines of a refused `freeze`.
 ghost use Rattle.std.specs.Prelude.{◌≡◌, ◌++◌, codes, decimal, map, IfOk, string_bytes};
 ghost use Rattle.std.specs.List.{flat_map};
 ghost use Rattle.api_freeze.specs.Freeze.{IsRead};

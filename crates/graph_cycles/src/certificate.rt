@@ -1,3 +1,4 @@
+//! The check of a certificate: ranks and marks against the edges of a graph.
 ghost use Rattle.std.specs.Prelude.{◌≡◌, ℕ, ◌<◌, ◌≤◌, false, slice_index, IsTrue, Contains};
 ghost use Rattle.graph_cycles.specs.Paths.{flag, targets};
 ghost use Rattle.graph_cycles.specs.steps.Marks.{IsCertificate};

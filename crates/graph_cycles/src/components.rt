@@ -1,3 +1,5 @@
+//! The strongly connected components of a graph, with ranks.
+
 use crate::marks::{is_set, no_flags, number_at, put, set, targets_of};
 use aidl_base::{OutOfMemory, Row};
 use std::alloc::Global;

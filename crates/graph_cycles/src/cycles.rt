@@ -1,3 +1,4 @@
+//! The nodes on cycles, by a certified search or else by a slow one.
 ghost use Rattle.std.specs.Prelude.{◌≡◌, length, IfOk, IfSome, vec_len};
 ghost use Rattle.graph_cycles.specs.Paths.{Descends, TellsCycles, targets};
 ghost use Rattle.graph_cycles.specs.steps.Marks.{OnCycles, AfterRoots, BeforeRoots};

@@ -1,3 +1,5 @@
+//! Depth-first search, with the orders in which it enters and leaves the nodes.
+
 use crate::marks::{is_set, no_flags, set, targets_of};
 use aidl_base::{OutOfMemory, Row};
 use std::alloc::Global;

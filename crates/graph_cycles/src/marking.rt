@@ -1,3 +1,4 @@
+//! Marks on the nodes that are led to from their root, or lead to it.
 ghost use Rattle.std.specs.Prelude.{◌≡◌, length, slice_index, IsTrue};
 ghost use Rattle.graph_cycles.specs.Paths.{Leads, targets};
 ghost use Rattle.graph_cycles.specs.steps.Marks.{OnCycles, AfterRoots, BeforeRoots, IsOrLeads};

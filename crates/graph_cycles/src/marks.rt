@@ -1,3 +1,4 @@
+//! Flags, numbers and edges by node, with what stands for a node beyond the last.
 ghost use Rattle.std.specs.Prelude.{◌≡◌, ℕ, true, false, length, IfOk, vec_len, slice_index, slice_set};
 ghost use Rattle.graph_cycles.specs.Paths.{flag, targets};
 

@@ -1,3 +1,4 @@
+//! The slow search for nodes on cycles, one search from each node.
 ghost use Rattle.std.specs.Prelude.{◌≡◌, ℕ, ◌+◌, ◌<◌, ◌↔◌, true, false, length, IfOk, IfSome, IfNone, vec_len, IsTrue};
 ghost use Rattle.graph_cycles.specs.Paths.{Descends, IsEdge, Leads, TellsCycles, flag, targets};
 ghost use Rattle.graph_cycles.specs.steps.Marks.{AfterNode, IsClosed, IsRank, unmarked};

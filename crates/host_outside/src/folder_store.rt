@@ -1,3 +1,4 @@
+//! The host's folders as a store.
 ghost use Rattle.std.specs.Prelude.{◌≡◌, ◌≤◌, None, Err};
 ghost use Rattle.aidl_outside.specs.Causes.{StoreCause};
 ghost use Rattle.host_outside.specs.HostFaults.{store_fault};

@@ -1,3 +1,4 @@
+//! Faults of the host: want of memory, or a failed call.
 ghost use Rattle.std.specs.Prelude.{◌≡◌};
 
 use std::alloc::AllocError;

@@ -1,3 +1,4 @@
+//! The listing of all files below a folder of the host.
 ghost use Rattle.std.specs.Prelude.{◌≡◌, ◌≤◌, ◌+◌, true, IfOk, IsTrue, OnErr, OnOk, map, string_bytes, vec_len};
 ghost use Rattle.aidl_outside.specs.Files.{is_ascending};
 

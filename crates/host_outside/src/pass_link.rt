@@ -1,3 +1,4 @@
+//! The link that delivers each parcel as it was sent.
 ghost use Rattle.std.specs.Prelude.{◌≡◌, ◌≤◌, None, true, IfErr, IfOk};
 ghost use Rattle.aidl_outside.specs.Carries.{Carries};
 ghost use Rattle.aidl_outside.specs.Causes.{CarryCause};

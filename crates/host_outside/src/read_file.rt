@@ -1,3 +1,4 @@
+//! Reading a file of the host, up to a number of bytes.
 ghost use Rattle.std.specs.Prelude.{◌≡◌, ◌≤◌, ◌<◌, ◌+◌, IfOk, IfSome, length, take};
 ghost use Rattle.aidl_outside.specs.Files.{IsWithin};
 

@@ -1,3 +1,4 @@
+//! The host's standard output as a sink.
 ghost use Rattle.std.specs.Prelude.{◌≡◌, None};
 
 use aidl_outside::{Sink, SinkFault};

@@ -1,3 +1,5 @@
+//! Writing a file of the host.
+
 use crate::host_fault::HostFault;
 use std::fs::{File, Files};
 use std::io::{ErrorKind, Write};

@@ -1,3 +1,4 @@
+//! The faults of reading a JSON value: those that are reported, and those on the way.
 ghost use Rattle.std.specs.Prelude.{◌≡◌, [], String, string_bytes};
 ghost use Rattle.std.specs.Str.{encode_utf8_all};
 ghost use Rattle.std.specs.declared.alloc.Global.{Global};

@@ -1,3 +1,4 @@
+//! The JSON pointer of a fault, lengthened step by step from the inside out.
 ghost use Rattle.std.specs.Prelude.{◌≡◌, ◌∷◌, ◌++◌, decimal, IfOk, OnOk, string_bytes};
 ghost use Rattle.std.specs.Str.{encode_utf8_all};
 ghost use Rattle.json_faults.specs.Refusal.{escaped, escaped_character};

@@ -1,3 +1,4 @@
+//! Enumerators by their names in JSON.
 ghost use Rattle.std.specs.Prelude.{◌≡◌, ◌<◌, Ok, Err};
 ghost use Rattle.aidl_schema.specs.Holds.{AreApart};
 ghost use Rattle.aidl_values.specs.Data.{number};

@@ -1,3 +1,5 @@
+//! Tables that tell where a member of a name may stand.
+
 use aidl_base::OutOfMemory;
 use aidl_schema::Base;
 use indexmap::IndexMap;

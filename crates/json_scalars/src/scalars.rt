@@ -1,3 +1,4 @@
+//! Booleans, strings and numbers as values.
 ghost use Rattle.std.specs.Prelude.{◌≡◌, ◌<◌, Ok, Err};
 ghost use Rattle.serde_json.specs.View.{view as json_view, number_view};
 ghost use Rattle.serde_json.specs.Find.{as_integer};

@@ -1,3 +1,4 @@
+//! The keys of a parcelable's object: which is the least that names no field.
 ghost use Rattle.std.specs.Prelude.{◌≡◌, ◌<◌, option_map, IfOk, Ok, Err};
 ghost use Rattle.std.specs.List.{list_any};
 ghost use Rattle.serde_json.specs.View.{members_view};

@@ -1,3 +1,4 @@
+//! Numbers as values, without a look at the schema.
 ghost use Rattle.std.specs.Prelude.{◌≡◌, IfSome};
 ghost use Rattle.serde_json.specs.View.{view as json_view};
 ghost use Rattle.aidl_values.specs.Data.{number};

@@ -1,3 +1,4 @@
+//! JSON values as values of a type, up to the greatest depth.
 ghost use Rattle.std.specs.Prelude.{◌≡◌, ◌<◌, ◌&&◌, ◌≤◌, IfOk, IfErr, IfSome, Ok, Err};
 ghost use Rattle.serde_json.specs.View.{view as json_view};
 ghost use Rattle.aidl_schema.specs.Types.{form_of};

@@ -1,3 +1,4 @@
+//! JSON objects as parcelables, with the defaults of missing fields.
 ghost use Rattle.std.specs.Prelude.{◌≡◌, ◌<◌, ◌≤◌, option_map, Ok, Err};
 ghost use Rattle.serde_json.specs.Find.{get_member};
 ghost use Rattle.serde_json.specs.View.{view as json_view, members_view};

@@ -1,3 +1,4 @@
+//! JSON arrays as arrays and Lists.
 ghost use Rattle.std.specs.Prelude.{◌<◌, ◌≤◌, decimal, Ok, Err};
 ghost use Rattle.serde_json.specs.View.{view as json_view, items_view};
 ghost use Rattle.aidl_values.specs.View.{view, views};

@@ -1,3 +1,4 @@
+//! JSON objects of one key as unions.
 ghost use Rattle.std.specs.Prelude.{◌≡◌, ◌<◌, ◌≤◌, length, option_map, string_bytes, Ok, Err};
 ghost use Rattle.serde_json.specs.View.{view as json_view, members_view};
 ghost use Rattle.aidl_schema.specs.Holds.{AreApart};

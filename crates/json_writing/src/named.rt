@@ -1,3 +1,4 @@
+//! Members that have a name in JSON: the enumerators and the fields of a base.
 ghost use Rattle.std.specs.Prelude.{◌≡◌, option_map};
 ghost use Rattle.aidl_base.specs.declared.name.Ident.{Ident};
 ghost use Rattle.aidl_schema.specs.Same.{same_text};

@@ -1,3 +1,4 @@
+//! The names of enum values while a value is written.
 ghost use Rattle.std.specs.Prelude.{◌≡◌, option_map, IfOk, Some};
 ghost use Rattle.aidl_schema.specs.declared.schema.Base.TheVariants as base;
 ghost use Rattle.json_writing.specs.Json.{json_among, json_named, json_number};

@@ -1,3 +1,4 @@
+//! A table of an enum's names by value.
 ghost use Rattle.std.specs.Prelude.{◌≡◌, option_map, IfOk};
 ghost use Rattle.json_writing.specs.Json.{json_among, json_named};
 
