@@ -1,3 +1,5 @@
+//! How often the members of a declaration are gone through one by one before a table of them is made.
+
 use aidl_base::OutOfMemory;
 use indexmap::IndexMap;
 use std::alloc::Global;

@@ -1,3 +1,5 @@
+//! The data of marshalling plans: the items, what their words say, the fields, and where a method's arguments and result begin.
+
 use aidl_base::{Const, Row};
 
 /// The number of an item. It stands for the type of that item.

@@ -1,3 +1,4 @@
+//! Fields whose initializer doesn't fit their type or can't be there, and unions without a field: the breaches of E21.
 ghost use Rattle.std.specs.Prelude.{◌≡◌, ◌++◌, ◌&&◌, false, map, OnOk};
 ghost use Rattle.std.specs.List.{list_any};
 ghost use Rattle.aidl_syntax.specs.Trees.{body_of, decl_of, init_of, map_option};

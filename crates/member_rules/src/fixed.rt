@@ -1,3 +1,4 @@
+//! Fields that a declaration with `@FixedSize` may not have: the breaches of E24.
 ghost use Rattle.std.specs.Prelude.{◌≡◌, ◌++◌, map, IfOk, OnOk};
 ghost use Rattle.aidl_syntax.specs.Trees.{decl_of};
 ghost use Rattle.declared_names.specs.Entries.{entry_of};

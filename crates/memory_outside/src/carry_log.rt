@@ -1,3 +1,4 @@
+//! The log of a link in memory: how one carry is recorded, with what was sent and what was delivered.
 ghost use Rattle.std.specs.Prelude.{◌≡◌, ◌++◌, ◌∷◌, [], IfOk, OnErr, OnOk};
 ghost use Rattle.aidl_outside.specs.Carries.{entry};
 

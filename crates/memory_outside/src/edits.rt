@@ -1,3 +1,4 @@
+//! Edits of the bytes that a link in memory delivers, by the number of the carry.
 ghost use Rattle.std.specs.Prelude.{◌≡◌, ◌≢◌, ◌≤◌, ℕ, All, List, OnOk, length};
 ghost use Rattle.memory_outside.specs.Edits.{edited, delivered};
 ghost use Rattle.memory_outside.specs.declared.edits.EditKind.TheVariants.{Set};

@@ -1,3 +1,4 @@
+//! Which calls of an object in memory fail, and the count of its calls and faults.
 ghost use Rattle.std.specs.Prelude.{◌≡◌, ◌↔◌, ◌-◌, ◌^◌, ◌≤◌, ◌<◌, ℕ, [], min, Contains, IsTrue};
 ghost use Rattle.memory_outside.specs.Failing.{uncounted, fails_at, fails_next, counted, after_calls};
 ghost use Rattle.memory_outside.specs.declared.failures.Failing.{Failing};

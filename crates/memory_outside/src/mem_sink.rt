@@ -1,3 +1,4 @@
+//! The sink in memory: it keeps the bytes that are put, and fails at given calls.
 ghost use Rattle.std.specs.Prelude.{◌≡◌, ◌≤◌, Some, [], IfOk, IsOk, IsTrue, vec_capacity};
 ghost use Rattle.aidl_outside.specs.Causes.{SinkCause};
 ghost use Rattle.memory_outside.specs.Failing.{AddsHalf, uncounted, counted, fails_next, sink_failed};

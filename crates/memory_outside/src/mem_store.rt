@@ -1,3 +1,4 @@
+//! The store in memory: listing, reading and writing files that are kept sorted by path, with given calls that fail.
 ghost use Rattle.std.specs.Prelude.{◌≡◌, ◌<◌, ◌≤◌, ◌+◌, ◌++◌, true, Some, IfOk, OnErr, OnOk, IsTrue, length, map, string_bytes};
 ghost use Rattle.std.specs.Option.{option_map, option_to_list};
 ghost use Rattle.std.specs.List.{filter_map};

@@ -1,3 +1,4 @@
+//! The link in memory that delivers what is sent unaltered, and keeps a log of it.
 ghost use Rattle.std.specs.Prelude.{◌≡◌, ◌≤◌, ◌++◌, ◌∷◌, [], Some, true, IfOk, IsOk, OnErr, OnOk};
 ghost use Rattle.aidl_outside.specs.Carries.{Carries, entry};
 ghost use Rattle.aidl_outside.specs.Causes.{CarryCause};

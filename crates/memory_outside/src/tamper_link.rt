@@ -1,3 +1,4 @@
+//! The link in memory that delivers edited bytes, and keeps a log of what was sent and delivered.
 ghost use Rattle.std.specs.Prelude.{◌≡◌, ◌≤◌, ◌++◌, ◌∷◌, [], Some, false, IfOk, IsOk, OnErr, OnOk};
 ghost use Rattle.aidl_outside.specs.Carries.{Carries, entry};
 ghost use Rattle.aidl_outside.specs.Causes.{CarryCause};

@@ -1,3 +1,4 @@
+//! The ends of the names of all declarations, each found by its mark, which is counted from the back of the name.
 ghost use Rattle.std.specs.Prelude.{◌≡◌, ◌++◌, map, IfOk, OnOk};
 ghost use Rattle.name_marks.specs.steps.Ends.{mark_back, ends_in, ends_of};
 ghost use Rattle.declared_names.specs.Entries.{entry_of};

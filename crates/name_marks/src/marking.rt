@@ -1,3 +1,4 @@
+//! How the mark of a name is counted, part by part from the front, and the marks of all declarations.
 ghost use Rattle.std.specs.Prelude.{◌≡◌, ◌<◌, map, IfOk};
 ghost use Rattle.std.specs.List.{fold};
 ghost use Rattle.name_marks.specs.Marks.{with_byte, with_part, mark_of_entry};

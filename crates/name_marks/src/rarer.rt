@@ -1,3 +1,4 @@
+//! Which of two marks stands at fewer places, each of them in a table of its own.
 ghost use Rattle.std.specs.Prelude.{◌≡◌};
 ghost use Rattle.name_marks.specs.steps.Times.{is_rarer};
 

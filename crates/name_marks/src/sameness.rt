@@ -1,3 +1,4 @@
+//! Whether names are the same, compared part by part.
 ghost use Rattle.std.specs.Prelude.{◌≡◌, ◌++◌, length};
 ghost use Rattle.std.specs.Str.{bytes_eq};
 ghost use Rattle.declared_names.specs.Names.{text, same};

@@ -1,3 +1,4 @@
+//! A table of the places of marks in a list.
 ghost use Rattle.std.specs.Prelude.{◌≡◌, ◌<◌, ◌+◌, nat_eq, get_or, drop, length, IfOk};
 ghost use Rattle.std.specs.List.{position_from};
 

@@ -1,3 +1,4 @@
+//! What a name means through imports, found by way of the declarations whose names end in it.
 ghost use Rattle.std.specs.Prelude.{◌≡◌, ◌≤◌, ◌∷◌, [], map, length};
 ghost use Rattle.name_marks.specs.Marks.{mark_of_entry};
 ghost use Rattle.declared_names.specs.Entries.{entry_of};

@@ -1,3 +1,4 @@
+//! The imports of a file found by their whole names, and what a name means through them by the shorter of two ways.
 ghost use Rattle.std.specs.Prelude.{◌≡◌, ◌≤◌, map, length, IfOk};
 ghost use Rattle.name_meanings.specs.Imports.{meant_through};
 ghost use Rattle.name_marks.specs.Marks.{mark_of_entry};

@@ -1,3 +1,4 @@
+//! The imports of a file without repeated ones, found by their last parts, and what a name means through them.
 ghost use Rattle.std.specs.Prelude.{◌≡◌, ◌≤◌, ◌∷◌, [], ◌++◌, map, length, IfOk, OnOk};
 ghost use Rattle.name_meanings.specs.Imports.{meant_through, meant_in};
 ghost use Rattle.aidl_syntax.specs.Sources.{source_of};

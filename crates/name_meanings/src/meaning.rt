@@ -1,3 +1,5 @@
+//! The meanings that a name can have: a built-in type, the word `List`, a left-out name or a declaration.
+
 /// A built-in type (AOSP, "AIDL language", as far as the profile goes). `Text` is `String`.
 #[derive(Clone, Copy, Debug, PartialEq, Eq)]
 pub enum BuiltinName {

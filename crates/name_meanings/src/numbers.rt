@@ -1,3 +1,4 @@
+//! The declaration that has a canonical name, where the name is given as a front and a back.
 ghost use Rattle.std.specs.Prelude.{◌≡◌, ◌++◌, ◌≤◌, [], ◌∷◌, map, length};
 ghost use Rattle.declared_names.specs.Entries.{entry_of};
 ghost use Rattle.name_marks.specs.Marks.{mark_of, mark_of_entry};

@@ -1,3 +1,4 @@
+//! The answers that are known of what names mean through the imports of files, found by their marks.
 ghost use Rattle.std.specs.Prelude.{◌≡◌, ◌++◌, ◌∷◌, [], OnOk};
 ghost use Rattle.name_resolution.specs.steps.Asked.{IsSaid, is_told, said, said_at, said_at_number};
 

@@ -1,3 +1,4 @@
+//! What a name means below a declaration: a word of the language, or the first candidate that is declared.
 ghost use Rattle.std.specs.Prelude.{◌≡◌, ◌++◌, ◌≤◌, [], ◌∷◌, map, length};
 ghost use Rattle.aidl_syntax.specs.Sources.{source_of};
 ghost use Rattle.declared_names.specs.Declarations.{declarations};

@@ -1,3 +1,4 @@
+//! Names of members, arguments and declarations that are declared twice: breaches of E2.
 ghost use Rattle.std.specs.Prelude.{◌≡◌, ◌≤◌, ◌++◌, map, take, length, OnOk, IfOk};
 ghost use Rattle.std.specs.List.{flat_map, list_any};
 ghost use Rattle.aidl_syntax.specs.Trees.{arg_of};

@@ -1,3 +1,4 @@
+//! Imports of what isn't declared, the breaches of E3, and different imports with one last part, which break E2.
 ghost use Rattle.std.specs.Prelude.{◌≡◌, ◌≤◌, ◌<◌, ◌++◌, ◌||◌, map, length, get_or, Some, IfOk, OnOk};
 ghost use Rattle.std.specs.List.{position_from};
 ghost use Rattle.aidl_syntax.specs.Sources.{source_of};

@@ -1,3 +1,4 @@
+//! How a breach is added to the list of breaches, by the outcome of a test.
 ghost use Rattle.std.specs.Prelude.{◌≡◌, ◌++◌, [], ◌∷◌, OnOk, if◌then◌else◌};
 ghost use Rattle.name_rules.specs.Rules.{breach};
 

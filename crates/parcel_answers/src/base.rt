@@ -1,3 +1,4 @@
+//! What the form and the name of an entry of TYPES stand for in a schema: the shape and the base of a type.
 ghost use Rattle.std.specs.Prelude.{◌≡◌};
 ghost use Rattle.parcel_answers.specs.Types.{base_of, named_base, shape_of};
 

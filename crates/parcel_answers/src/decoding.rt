@@ -1,3 +1,4 @@
+//! What `decode` prints: a line for each item of a parcel, and one for the bytes that are left or for a refusal.
 ghost use Rattle.std.specs.Prelude.{◌≡◌, ◌++◌, true, false, IfOk, OnOk, string_bytes};
 ghost use Rattle.std.specs.List.{list_all};
 ghost use Rattle.std.specs.Option.{option_map};

@@ -1,3 +1,4 @@
+//! What `encode` prints: the bytes of the values of a JSON file as a line of hexadecimal, or a refusal.
 ghost use Rattle.std.specs.Prelude.{◌≡◌, ◌≤◌, ◌<◌, ◌^◌, ℕ, true, List, IfOk, MatchOption, length, map, min, string_bytes};
 ghost use Rattle.std.specs.List.{list_all};
 ghost use Rattle.std.specs.Option.{option_map};

@@ -1,3 +1,4 @@
+//! The bytes that a file of hexadecimal digits and blanks stands for.
 ghost use Rattle.std.specs.Prelude.{◌≡◌, IfOk, not};
 ghost use Rattle.std.specs.List.{filter};
 ghost use Rattle.std.specs.Option.{option_map};

@@ -1,3 +1,4 @@
+//! The values that a file of JSON stands for, one for each of some types.
 ghost use Rattle.std.specs.Prelude.{◌≡◌, ◌≤◌, Ok, Err, IfOk, IfErr, IfSome, decimal, length, map};
 ghost use Rattle.std.specs.Option.{option_map};
 ghost use Rattle.serde_json.specs.View.{view as json_view, items_view};

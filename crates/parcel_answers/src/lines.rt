@@ -1,3 +1,4 @@
+//! The printed lines for refused values, refused items and bytes that are left.
 ghost use Rattle.std.specs.Prelude.{◌≡◌, ◌++◌, codes, OnOk, IfOk, string_bytes};
 ghost use Rattle.std.specs.Fmt.{decimal, signed_decimal};
 ghost use Rattle.tool_frame.specs.Answer.{line, negative};

@@ -1,3 +1,4 @@
+//! Steps that may end a command early: the bytes of a file of hexadecimal, and the types that TYPES names.
 ghost use Rattle.std.specs.Prelude.{◌≡◌, true, IfOk};
 ghost use Rattle.std.specs.List.{list_all};
 ghost use Rattle.aidl_schema.specs.Types.{is_type};

@@ -1,3 +1,4 @@
+//! The types of a schema that the entries of TYPES name, or the first entry that names none.
 ghost use Rattle.std.specs.Prelude.{◌≡◌, true, IfOk, IfSome};
 ghost use Rattle.aidl_schema.specs.Types.{is_type};
 ghost use Rattle.tool_words.specs.Entries.{entries_of};

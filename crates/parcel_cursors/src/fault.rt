@@ -1,3 +1,4 @@
+//! The faults of reading words, with the status number of each.
 ghost use Rattle.std.specs.Prelude.{◌≡◌};
 ghost use Rattle.parcel_cursors.specs.declared.fault.ReadFault.TheVariants.{OutOfMemory as NoMemory};
 

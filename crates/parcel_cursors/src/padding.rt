@@ -1,3 +1,4 @@
+//! The zeros that pad an item to a multiple of four bytes.
 ghost use Rattle.std.specs.Prelude.{◌≡◌};
 ghost use Rattle.aidl_base.specs.Words.{padding};
 ghost use Rattle.aidl_base.specs.Profiles.{all_zero};

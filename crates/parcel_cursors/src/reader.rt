@@ -1,3 +1,4 @@
+//! The reader of a parcel: words, longs, raw bytes, counts, texts and records off the front of its bytes.
 ghost use Rattle.std.specs.Prelude.{◌≡◌, ℕ, ◌+◌, ◌^◌, ◌<◌, ◌≤◌, [], ◌∷◌, true, IsTrue, ◌↔◌, length, MatchResult, IfOk, IfErr, OnOk, OnErr, IfSome, drop, string_bytes};
 ghost use Rattle.std.specs.Option.{option_map};
 ghost use Rattle.std.specs.Str.{chars};

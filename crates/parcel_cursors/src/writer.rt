@@ -1,3 +1,4 @@
+//! The writer of a parcel: words, longs, raw bytes, counts, texts and records, behind those that were written before.
 ghost use Rattle.std.specs.Prelude.{◌≡◌, ◌+◌, ◌-◌, ◌^◌, ◌<◌, ◌≤◌, pos, [], ◌∷◌, length, IfOk, replicate};
 ghost use Rattle.std.specs.Str.{chars};
 ghost use Rattle.std.specs.Char.Escape.{encode_utf16};

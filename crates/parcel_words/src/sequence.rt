@@ -1,3 +1,4 @@
+//! Sequences of values of a built-in type: their length in bytes, and how they are written and read.
 ghost use Rattle.std.specs.Prelude.{◌≡◌, ◌≤◌, [], ◌++◌, pos, ℕ, List, Bool, Ok, Some, length, min, OnOk, OnErr, All, option_map};
 ghost use Rattle.aidl_base.specs.Words.{word};
 ghost use Rattle.aidl_base.specs.Spellings.{spell_sequence};

@@ -1,3 +1,4 @@
+//! Values of boolean, byte, char, int, long and String as words: how each is counted, written and read.
 ghost use Rattle.std.specs.Prelude.{◌≡◌, ◌^◌, ◌<◌, ◌≤◌, true, pos, ℤ, ℕ, List, [], ◌++◌, Bool, Ok, length, min, OnOk, OnErr, FitsSigned};
 ghost use Rattle.std.specs.Int.{w8, w32, w64};
 ghost use Rattle.std.specs.Str.{all_scalars};

@@ -1,3 +1,4 @@
+//! Arrays of bytes, which are written as they are, with their padding.
 ghost use Rattle.std.specs.Prelude.{◌≡◌, ◌≤◌, length};
 ghost use Rattle.aidl_base.specs.Words.{pad};
 ghost use Rattle.aidl_values.specs.View.{view, views};

@@ -1,3 +1,4 @@
+//! The number of bytes that a value takes in a parcel.
 ghost use Rattle.std.specs.Prelude.{◌≡◌, ◌+◌, ℤ, length, min};
 ghost use Rattle.aidl_base.specs.Words.{padding};
 ghost use Rattle.aidl_values.specs.View.{view, views};

@@ -1,3 +1,4 @@
+//! How a number is written, by its item.
 ghost use Rattle.std.specs.Prelude.{◌≡◌, ◌≤◌, length};
 ghost use Rattle.parcel_cursors.specs.Written.{with_bytes};
 ghost use Rattle.parcel_write.specs.steps.PlanSpell.{number_by, SuitsNumber};

@@ -1,3 +1,4 @@
+//! The bytes of one value, or why it isn't written.
 ghost use Rattle.std.specs.Prelude.{◌≡◌, ◌<◌, ◌↔◌, length, IfOk, IsErrOf};
 ghost use Rattle.aidl_values.specs.View.{view};
 ghost use Rattle.parcel_write.specs.Fitting.{FitsSome, OfEachFit};

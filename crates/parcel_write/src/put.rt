@@ -1,3 +1,4 @@
+//! How a value of any item is written: null, markers, tags, sequences, and the fields of records.
 ghost use Rattle.std.specs.Prelude.{◌≡◌, ◌≤◌, ◌<◌, ◌^◌, pos, length};
 ghost use Rattle.aidl_base.specs.Words.{word};
 ghost use Rattle.aidl_values.specs.View.{view, views};

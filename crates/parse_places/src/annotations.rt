@@ -1,3 +1,4 @@
+//! The table's rows for annotations and their parameters.
 ghost use Rattle.std.specs.Prelude.{◌≡◌};
 ghost use Rattle.parse_places.specs.steps.Seen.{seen};
 ghost use Rattle.parse_places.specs.steps.Annotations as rows;

@@ -1,3 +1,4 @@
+//! The table's rows for declarations, enumerators and the members of parcelables and unions.
 ghost use Rattle.std.specs.Prelude.{◌≡◌};
 ghost use Rattle.parse_places.specs.steps.Seen.{seen};
 ghost use Rattle.parse_places.specs.steps.Declarations as rows;

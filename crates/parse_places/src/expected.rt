@@ -1,3 +1,5 @@
+//! What the stack of the automaton holds: the parts of the productions, and the signs around them.
+
 use crate::terminal::Terminal;
 
 // The parts of the productions, each without what may be left out or repeated, so that it begins with a terminal.

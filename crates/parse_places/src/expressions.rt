@@ -1,3 +1,4 @@
+//! The table's rows for constant expressions, initializers and the ids of methods.
 ghost use Rattle.std.specs.Prelude.{◌≡◌};
 ghost use Rattle.parse_places.specs.steps.Seen.{seen};
 ghost use Rattle.parse_places.specs.steps.Expressions as rows;

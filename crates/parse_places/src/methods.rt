@@ -1,3 +1,4 @@
+//! The table's rows for methods, their arguments and the members of interfaces.
 ghost use Rattle.std.specs.Prelude.{◌≡◌};
 ghost use Rattle.parse_places.specs.steps.Seen.{seen};
 ghost use Rattle.parse_places.specs.steps.Methods as rows;

@@ -1,3 +1,4 @@
+//! The steps of the automaton: how its stack changes by a terminal, and when it may end.
 ghost use Rattle.std.specs.Prelude.{◌≡◌, ◌++◌, IfOk, reverse};
 ghost use Rattle.parse_places.specs.steps.Moves as moves;
 ghost use Rattle.parse_places.specs.steps.Seen.{seen, gone_on, Went, and_last, of_option};

@@ -1,3 +1,4 @@
+//! The table's rows for packages, imports, dotted names and types.
 ghost use Rattle.std.specs.Prelude.{◌≡◌};
 ghost use Rattle.parse_places.specs.steps.Seen.{seen};
 ghost use Rattle.parse_places.specs.steps.Names as rows;

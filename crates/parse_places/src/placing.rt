@@ -1,3 +1,4 @@
+//! The place of the syntax fault of a list of tokens, found by running the automaton over them.
 ghost use Rattle.std.specs.Prelude.{◌≡◌, ℕ, map, reverse, Some, None, IfOk, MatchOption};
 ghost use Rattle.parse_places.specs.Viable.{HasTree, Viable, IsFaultPlace};
 ghost use Rattle.parse_places.specs.steps.Places as places;

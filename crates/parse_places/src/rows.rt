@@ -1,3 +1,4 @@
+//! The table of the productions: which row each part has for a terminal.
 ghost use Rattle.std.specs.Prelude.{◌≡◌};
 ghost use Rattle.parse_places.specs.steps.Seen.{seen};
 ghost use Rattle.parse_places.specs.steps.Rows.{row};

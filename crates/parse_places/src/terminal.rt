@@ -1,3 +1,4 @@
+//! The terminals of the productions, and which of them a token is.
 ghost use Rattle.std.specs.Prelude.{◌≡◌};
 ghost use Rattle.parse_places.specs.steps.Terminals as terminals;
 

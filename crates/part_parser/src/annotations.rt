@@ -1,3 +1,4 @@
+//! Parsing annotations and their parameters.
 ghost use Rattle.std.specs.Prelude.{◌≡◌, map, [], ◌∷◌, length, IfOk, ◌<◌, ◌≤◌};
 ghost use Rattle.aidl_syntax.specs.declared.token.Symbol.TheVariants as mark;
 ghost use Rattle.aidl_syntax.specs.Trees.{Param, Annot, param_of, annot_of, map_option};

@@ -1,3 +1,4 @@
+//! Parsing the arguments of methods with their directions, and the token of a number.
 ghost use Rattle.std.specs.Prelude.{◌≡◌, map, [], ◌++◌, length, IfOk, ◌<◌, ◌≤◌};
 ghost use Rattle.aidl_base.specs.declared.reserved.Reserved.TheVariants as word;
 ghost use Rattle.aidl_syntax.specs.Trees.{Arg, arg_of};

@@ -1,3 +1,4 @@
+//! Parsing enumerators.
 ghost use Rattle.std.specs.Prelude.{◌≡◌, map, length, IfOk, ◌<◌};
 ghost use Rattle.aidl_syntax.specs.Trees.{Enumerator, expr_of, enumerator_of};
 ghost use Rattle.part_parser.specs.steps.Items as read;

@@ -1,3 +1,4 @@
+//! Parsing initializers: an expression, or expressions between braces.
 ghost use Rattle.std.specs.Prelude.{◌≡◌, map, [], ◌∷◌, length, IfOk, ◌<◌};
 ghost use Rattle.aidl_syntax.specs.declared.token.Symbol.TheVariants as mark;
 ghost use Rattle.aidl_syntax.specs.Trees.{Expr, Init, expr_of, init_of};

@@ -1,3 +1,4 @@
+//! Parsing lists, repetitions and optional parts, whatever part of the productions stands in them.
 ghost use Rattle.std.specs.Prelude.{◌≡◌, ℕ, List, Option, map, length, IfOk, ◌<◌, ◌≤◌};
 ghost use Rattle.aidl_syntax.specs.declared.token.Token.{Token};
 ghost use Rattle.aidl_syntax.specs.declared.token.Symbol.TheVariants as mark;

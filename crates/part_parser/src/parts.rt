@@ -1,3 +1,4 @@
+//! Parsing one symbol or one reserved word.
 ghost use Rattle.std.specs.Prelude.{◌≡◌, length, IfOk, ◌<◌};
 ghost use Rattle.part_parser.specs.steps.Parts as read;
 ghost use Rattle.expr_parser.specs.Gives.{Gives};

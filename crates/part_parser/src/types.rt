@@ -1,3 +1,4 @@
+//! Parsing types, dotted names and identifiers.
 ghost use Rattle.std.specs.Prelude.{◌≡◌, length, IfOk, ◌<◌, ◌≤◌};
 ghost use Rattle.aidl_syntax.specs.declared.token.Symbol.TheVariants as mark;
 ghost use Rattle.part_parser.specs.steps.Parts as part;

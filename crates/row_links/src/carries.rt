@@ -1,3 +1,5 @@
+//! The link that the lines of a row describe, and its log as lines.
+
 use aidl_base::{OutOfMemory, Row};
 use aidl_outside::{Carried, Way};
 use memory_outside::{Edit, EditKind, TamperLink};

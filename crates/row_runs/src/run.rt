@@ -1,3 +1,5 @@
+//! A run as the lines of a row describe it, how it is tried, and how it ended as text.
+
 use aidl_base::{OutOfMemory, Row, SourceFile, Text};
 use aidl_tool::aidl;
 use memory_outside::{MemSink, MemStore};

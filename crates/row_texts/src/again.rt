@@ -1,3 +1,5 @@
+//! Lines with the word `again`, which stand for several lines.
+
 use crate::case::word_of;
 use aidl_base::OutOfMemory;
 use std::alloc::Global;

@@ -1,3 +1,5 @@
+//! How a line is cut: at its first word, or into the source and the wanted text of a case.
+
 /// The first word of a line, and what follows the blank behind it.
 pub fn word_of(line: &str) -> (&str, &str) {
     line.split_once(' ').unwrap_or((line, ""))

@@ -1,3 +1,4 @@
+//! The escapes of a text of a row: bytes in hexadecimal and repetitions.
 ghost use Rattle.std.specs.Prelude.{◌<◌};
 
 use aidl_base::OutOfMemory;

@@ -1,3 +1,5 @@
+//! The count of the rows that were tried, and those that came out otherwise.
+
 use aidl_base::OutOfMemory;
 use std::alloc::Global;
 

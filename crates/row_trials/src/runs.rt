@@ -1,3 +1,5 @@
+//! Tables of runs, which have lines in common.
+
 use aidl_base::OutOfMemory;
 use row_runs::Run;
 use row_texts::{Tried, case_of, lines_of, text_of};

@@ -1,3 +1,5 @@
+//! Tables of source texts, each with what is wanted of it.
+
 use aidl_base::OutOfMemory;
 use row_texts::{Tried, case_of, plain, word_of};
 use source_outcomes::{Kind, outcome_of};

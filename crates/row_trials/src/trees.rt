@@ -1,3 +1,5 @@
+//! Tables of trees of files, each with what is wanted of it.
+
 use aidl_base::{OutOfMemory, Row, SourceFile, Text};
 use row_texts::{Tried, case_of, plain};
 use std::alloc::Global;

@@ -1,3 +1,4 @@
+//! The bound of each declaration: E22 broken, E23 broken, or neither.
 ghost use Rattle.std.specs.Prelude.{◌≡◌, ◌≤◌, length, map, IfOk};
 ghost use Rattle.std.specs.List.{range_with_len};
 ghost use Rattle.schema_bounds.specs.Bounds as meant;

@@ -1,3 +1,4 @@
+//! The size of a constant, by either measure.
 ghost use Rattle.std.specs.Prelude.{◌≡◌, ◌-◌, ◌<◌, ◌^◌, length, map, min};
 ghost use Rattle.schema_bounds.specs.steps.Measures as measures;
 

@@ -1,3 +1,4 @@
+//! The containment of declarations: which parcelables and unions each one has in its fields.
 ghost use Rattle.std.specs.Prelude.{◌≡◌, Some, map, IfOk};
 ghost use Rattle.aidl_schema.specs.declared.schema.Base.TheVariants as base;
 ghost use Rattle.aidl_schema.specs.Containment as containment;

@@ -1,3 +1,4 @@
+//! The size of one declaration's default, from given sizes of the defaults of all declarations.
 ghost use Rattle.std.specs.Prelude.{◌≡◌, ◌-◌, map, min};
 ghost use Rattle.schema_bounds.specs.steps.Measures as measures;
 

@@ -1,3 +1,4 @@
+//! Laws of the bounds: which declarations reach a cycle of containment, and what holds where all are within bounds.
 ghost use Rattle.std.specs.Prelude.{◌≡◌, ℕ, ◌<◌, ◌↔◌, IsTrue, length};
 ghost use Rattle.aidl_schema.specs.Valid.{is_bounded};
 ghost use Rattle.schema_bounds.specs.Bounds.{ReachesCycle, bound, reaches_cycle};

@@ -1,3 +1,4 @@
+//! The two measures of a default, its depth and its nodes, and how sizes are counted by each.
 ghost use Rattle.std.specs.Prelude.{◌≡◌, min};
 ghost use Rattle.schema_bounds.specs.steps.Measures as measures;
 

@@ -1,3 +1,5 @@
+//! An order of the declarations by the defaults in their defaults, and the sizes that are found in this order.
+
 use crate::containment::{fields_of, is_composite, is_one};
 use crate::kind_size::kind_size;
 use crate::measure::Measure;

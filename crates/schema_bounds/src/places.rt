@@ -1,3 +1,4 @@
+//! Reading a list at a place that may lie beyond its end, and setting a number of it.
 ghost use Rattle.std.specs.Prelude.{◌≡◌, slice_index_or};
 ghost use Rattle.graph_cycles.specs.Paths.{flag};
 

@@ -1,3 +1,4 @@
+//! Which declarations lie on a cycle of containment, and which of them reach one.
 ghost use Rattle.std.specs.Prelude.{◌≡◌, ℕ, ◌≤◌, ◌<◌, length, IfOk};
 ghost use Rattle.aidl_schema.specs.Containment.{holds_itself};
 ghost use Rattle.graph_cycles.specs.Paths.{flag};

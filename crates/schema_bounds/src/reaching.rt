@@ -1,3 +1,4 @@
+//! Which nodes of a graph reach a cycle, found by adding one node to the graph.
 ghost use Rattle.std.specs.Prelude.{◌≡◌, ℕ, ◌≤◌, ◌<◌, ◌++◌, ◌↔◌, IsTrue, length, map, IfOk, vec_len};
 ghost use Rattle.std.specs.List.{range_with_len};
 ghost use Rattle.graph_cycles.specs.Paths.{TellsCycles, flag, targets};

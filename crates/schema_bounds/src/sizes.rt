@@ -1,3 +1,4 @@
+//! The sizes of the defaults of all declarations, counted until they are right.
 ghost use Rattle.std.specs.Prelude.{◌≡◌, map, min, IfOk};
 ghost use Rattle.schema_bounds.specs.steps.Measures as measures;
 

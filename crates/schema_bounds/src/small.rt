@@ -1,3 +1,4 @@
+//! Which declarations have a default that isn't too large for E23.
 ghost use Rattle.std.specs.Prelude.{◌≡◌, ◌&&◌, nat_le, length, map, IfOk};
 ghost use Rattle.std.specs.List.{range_with_len};
 ghost use Rattle.aidl_schema.specs.Sizes.{has_small_default};

@@ -1,3 +1,4 @@
+//! Sameness of texts, bases, types, results, flags, directions and kinds, between two schemas.
 ghost use Rattle.std.specs.Prelude.{◌≡◌, ◌==◌};
 ghost use Rattle.aidl_schema.specs.Same as same;
 ghost use Rattle.aidl_schema.specs.Broken as broken;

@@ -1,3 +1,4 @@
+//! Sameness of constants and of the defaults of fields, and which fields may not be added.
 ghost use Rattle.std.specs.Prelude.{◌≡◌, ◌==◌, pos, map, not, ◌&&◌};
 ghost use Rattle.std.specs.List.{list_any};
 ghost use Rattle.std.specs.Option.{option_copied};

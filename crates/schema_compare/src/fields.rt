@@ -1,3 +1,4 @@
+//! The fields of a declaration by its kind, and sameness of the backings of enums.
 ghost use Rattle.std.specs.Prelude.{◌≡◌, ◌==◌, ◌||◌, take};
 ghost use Rattle.aidl_schema.specs.Broken as broken;
 ghost use Rattle.aidl_schema.specs.Containment as containment;

@@ -1,3 +1,4 @@
+//! The differences that are asked of two methods, of two arguments and of two fields.
 ghost use Rattle.std.specs.Prelude.{◌≡◌};
 ghost use Rattle.schema_compare.specs.steps.Tests as tests;
 

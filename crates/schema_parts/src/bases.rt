@@ -1,3 +1,4 @@
+//! The base of a type in the schema, by what its name means.
 ghost use Rattle.std.specs.Prelude.{◌≡◌};
 ghost use Rattle.declared_names.specs.Declarations.{declarations};
 ghost use Rattle.schema_parts.specs.Numbers as numbers;

@@ -1,3 +1,4 @@
+//! Copies of identifiers, names and constants.
 ghost use Rattle.std.specs.Prelude.{◌≡◌, IfOk};
 
 use aidl_base::{Const, Ident, OutOfMemory, Parts, Row};

@@ -1,3 +1,4 @@
+//! The fields of a parcelable or a union in the schema.
 ghost use Rattle.std.specs.Prelude.{◌≡◌, ◌++◌, false, IfOk};
 ghost use Rattle.aidl_syntax.specs.Members.{listed};
 ghost use Rattle.aidl_syntax.specs.Trees.{Members, field_of, member_of, members_of};

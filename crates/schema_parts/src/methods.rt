@@ -1,3 +1,4 @@
+//! The methods of an interface in the schema, with their ids, arguments and results.
 ghost use Rattle.std.specs.Prelude.{◌≡◌, ◌<◌, ◌+◌, ◌++◌, map, IfOk};
 ghost use Rattle.aidl_syntax.specs.Members.{listed};
 ghost use Rattle.aidl_syntax.specs.Trees.{Members, annot_of, arg_of, map_option, member_of, members_of, method_of};

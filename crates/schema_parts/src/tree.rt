@@ -1,3 +1,5 @@
+//! What a schema is made of: a tree with its outcomes, and its declarations with their numbers.
+
 use aidl_names::Names;
 use const_eval::Settled;
 use declared_names::Found;

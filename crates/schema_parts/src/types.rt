@@ -1,3 +1,4 @@
+//! The type in the schema of a type that is written in a file, with the flags of its annotations.
 ghost use Rattle.std.specs.Prelude.{◌≡◌, map};
 ghost use Rattle.aidl_syntax.specs.Trees.{annot_of};
 ghost use Rattle.declared_names.specs.Declarations.{declarations};

@@ -1,3 +1,4 @@
+//! The values in the schema of initializers, constants and enumerators, by the outcomes of their expressions.
 ghost use Rattle.std.specs.Prelude.{◌≡◌, map, IfOk};
 ghost use Rattle.aidl_syntax.specs.Trees.{enumerator_of, expr_of, exprs_of, init_of, map_option};
 ghost use Rattle.schema_parts.specs.TreeViews.{HasItems, HasScope, files_of, outcomes_of};

@@ -1,3 +1,5 @@
+//! The value of a file's first constant as text.
+
 use aidl_base::{Const, OutOfMemory};
 use aidl_syntax::{BodyTree, ConstantTree, DottedTree, ExprTree, FileTree, MemberTree, TypeTree};
 use const_operands::{ConstFault, EvalFault, Operand};

@@ -1,3 +1,5 @@
+//! What can be asked of a source text, and the answer as text.
+
 use crate::evaluation::constant_text;
 use crate::place::shown_place;
 use crate::tokens::shown_tokens;

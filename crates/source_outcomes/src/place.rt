@@ -1,3 +1,5 @@
+//! The place of a syntax fault as text.
+
 use aidl_base::OutOfMemory;
 use aidl_syntax::Token;
 use parse_places::fault_place;

@@ -1,3 +1,5 @@
+//! The tokens of a source text as text.
+
 use aidl_base::OutOfMemory;
 use aidl_syntax::{Token, TokenKind};
 use std::alloc::{AllocError, Global};

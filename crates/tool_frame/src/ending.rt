@@ -1,3 +1,4 @@
+//! The end of a command that only reads: its answer is printed, unless the store failed.
 ghost use Rattle.tool_frame.specs.steps.Ends.{EndsRead};
 
 use crate::printed::{Early, Printed};

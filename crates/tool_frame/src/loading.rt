@@ -1,3 +1,4 @@
+//! Loading one file from a store, within a limit on its bytes.
 ghost use Rattle.std.specs.Prelude.{◌≡◌, ◌≤◌, length, Option, IfOk};
 ghost use Rattle.std.specs.Option.{option_map};
 ghost use Rattle.aidl_base.specs.Limits.{limit_number};

@@ -1,3 +1,4 @@
+//! What a command prints with its verdict, and how it ends early: by a refusal, a passed limit or want of memory.
 ghost use Rattle.std.specs.Prelude.{◌≡◌, ◌++◌, ℕ, codes, IfOk, string_bytes};
 ghost use Rattle.std.specs.Fmt.{decimal};
 ghost use Rattle.tool_frame.specs.Answer.{line, negative, limit_passed};

@@ -1,3 +1,4 @@
+//! Printing what a command answers, and the exit status of it.
 ghost use Rattle.std.specs.Prelude.{◌≡◌};
 ghost use Rattle.tool_frame.specs.steps.Ends.{PrintsGiven};
 ghost use Rattle.tool_frame.specs.steps.Prints.{Prints};

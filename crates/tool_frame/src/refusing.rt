@@ -1,3 +1,4 @@
+//! The end of a run whose words are refused.
 ghost use Rattle.tool_frame.specs.Ended.{Refused};
 ghost use Rattle.tool_frame.specs.Seen.{seen_by};
 

@@ -1,3 +1,4 @@
+//! Steps that may end a command early: a file that isn't there, or a limit that is passed.
 ghost use Rattle.std.specs.Prelude.{◌≡◌, map};
 ghost use Rattle.tool_frame.specs.Refusals as step;
 ghost use Rattle.tool_frame.specs.Trees.{file_seen, tree_seen};

@@ -1,3 +1,4 @@
+//! The verdicts of commands that met no fault, with their exit statuses.
 ghost use Rattle.std.specs.Prelude.{◌≡◌};
 ghost use Rattle.tool_frame.specs.Verdict.{exit_of};
 

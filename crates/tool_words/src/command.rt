@@ -1,3 +1,5 @@
+//! The commands of the program, each with its words.
+
 /// A command and its words, one variant for each row of the table of commands. Paths are neither empty nor do they start
 /// with `--`; TYPES is one to 255 well-formed entries.
 #[derive(Clone, Copy, Debug)]

@@ -1,3 +1,4 @@
+//! The entries of TYPES: how the list is cut into them, and each into its name, form and flag.
 ghost use Rattle.std.specs.Prelude.{◌≡◌, ◌<◌, ◌∷◌, IfSome, bytes_eq, codes, drop, length, take};
 ghost use Rattle.std.specs.Option.{option_map};
 ghost use Rattle.tool_words.specs.Cut.{pieces_left};

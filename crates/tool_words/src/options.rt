@@ -1,3 +1,4 @@
+//! The options that may stand before the other words: flags, and `--tree` with its path.
 ghost use Rattle.std.specs.Prelude.{◌≡◌, map, string_bytes};
 ghost use Rattle.std.specs.Option.{option_map};
 ghost use Rattle.tool_words.specs.Options as option;

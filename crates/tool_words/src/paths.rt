@@ -1,3 +1,4 @@
+//! Words that are paths.
 ghost use Rattle.std.specs.Prelude.{◌≡◌, List, ℕ, take, codes, bytes_eq, map, string_bytes};
 ghost use Rattle.std.specs.Option.{option_map};
 ghost use Rattle.tool_words.specs.Paths as path;

@@ -1,3 +1,4 @@
+//! The table of commands: which command the words of the program are.
 ghost use Rattle.std.specs.Prelude.{◌≡◌, map, string_bytes};
 ghost use Rattle.std.specs.Option.{option_map};
 ghost use Rattle.tool_words.specs.Rows as table;

@@ -1,3 +1,4 @@
+//! Words that are TYPES, a list of well-formed entries, and the path of a file.
 ghost use Rattle.std.specs.Prelude.{◌≡◌, ◌==◌, List, ℕ, map, string_bytes};
 ghost use Rattle.std.specs.List.{count_by};
 ghost use Rattle.std.specs.Option.{option_map};

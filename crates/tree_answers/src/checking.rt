@@ -1,3 +1,4 @@
+//! The schema of a tree or what is printed of its refusal, and what `check` prints.
 ghost use Rattle.std.specs.Prelude.{◌≡◌, ◌++◌, ℕ, codes, IfOk, IfErr, string_bytes};
 ghost use Rattle.std.specs.Fmt.{decimal};
 ghost use Rattle.tool_frame.specs.Answer.{line};

@@ -1,3 +1,4 @@
+//! What is printed of a tree that is refused, for each sort of refusal.
 ghost use Rattle.tree_answers.specs.Faults.{IsAnswerOf, IsFaultAnswer};
 ghost use Rattle.tree_answers.specs.steps.Results.{EndsBy, EndsWith};
 ghost use Rattle.type_check.specs.Refusals.{IsRefusal};

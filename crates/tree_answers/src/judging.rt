@@ -1,3 +1,4 @@
+//! What `judge` prints of two trees: the broken evolution rules, or that none is.
 ghost use Rattle.std.specs.Prelude.{◌≡◌, ◌++◌, codes, IfOk, OnOk, map, string_bytes};
 ghost use Rattle.std.specs.List.{flat_map};
 ghost use Rattle.aidl_schema.specs.Broken.{broken};

@@ -1,3 +1,4 @@
+//! A law of the answers of `check`.
 ghost use Rattle.std.specs.Prelude.{◌≡◌};
 ghost use Rattle.tool_frame.specs.Answer.{Answer};
 ghost use Rattle.tree_answers.specs.Checked.{IsCheckAnswer};

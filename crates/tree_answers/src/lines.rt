@@ -1,3 +1,4 @@
+//! The printed lines of faults in files: files without tokens, syntax faults and broken check rules.
 ghost use Rattle.std.specs.Prelude.{◌≡◌, ◌++◌, IfOk, OnOk, codes, string_bytes};
 ghost use Rattle.std.specs.Fmt.{decimal};
 ghost use Rattle.std.specs.List.{flat_map};

@@ -1,3 +1,4 @@
+//! The lines of files without a tree, each with the offset of its syntax fault.
 ghost use Rattle.std.specs.Prelude.{◌≡◌, ◌≤◌, length, IfOk, OnOk, string_bytes};
 ghost use Rattle.std.specs.List.{All};
 ghost use Rattle.aidl_syntax.specs.Tokens.{Tokens};

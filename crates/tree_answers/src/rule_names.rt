@@ -1,3 +1,4 @@
+//! The names of the check rules E1 to E24.
 ghost use Rattle.std.specs.Prelude.{◌≡◌};
 ghost use Rattle.tree_answers.specs.RuleNames as meant;
 

@@ -1,3 +1,5 @@
+//! The refusals of the files of a tree, before any rule is checked.
+
 use aidl_base::{Limit, OutOfMemory, Row};
 use aidl_lexer::LexFault;
 

@@ -1,3 +1,4 @@
+//! What is found of the files of a tree, one after another.
 ghost use Rattle.std.specs.Prelude.{◌≡◌, ◌≤◌, [], length, List, IfOk, IfErr, OnOk, None};
 ghost use Rattle.aidl_base.specs.declared.source_file.SourceFile.{SourceFile};
 ghost use Rattle.aidl_syntax.specs.Tokens.{Tokens};

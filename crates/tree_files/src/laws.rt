@@ -1,3 +1,4 @@
+//! Laws of parsed files: files have at most one answer, and parsed ones are within the limit on their number.
 ghost use Rattle.std.specs.Prelude.{◌≡◌, ◌≢◌, List, map};
 ghost use Rattle.aidl_syntax.specs.declared.tree.ParsedFile.{ParsedFile};
 ghost use Rattle.aidl_syntax.specs.Sources.{AreOfBytes, source_of};

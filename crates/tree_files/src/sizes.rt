@@ -1,3 +1,4 @@
+//! The limits on the number of files and on the bytes of each.
 ghost use Rattle.std.specs.Prelude.{◌≡◌, ◌≤◌, length, IfNone};
 ghost use Rattle.std.specs.List.{All, list_any};
 ghost use Rattle.tree_files.specs.Sizes.{oversized, is_long};

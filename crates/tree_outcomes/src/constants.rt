@@ -1,3 +1,5 @@
+//! The outcomes of constant expressions and their breaches, as text.
+
 use crate::names::{comma, shown_breaches};
 use aidl_base::{Const, OutOfMemory};
 use aidl_names::{NameFault, Names};

@@ -1,3 +1,4 @@
+//! Declarations, the meanings of the names of their types, and breaches, as text.
 ghost use Rattle.std.specs.Prelude.{map};
 ghost use Rattle.aidl_syntax.specs.Sources.{source_of};
 ghost use Rattle.aidl_names.specs.Refusals.{IsScope};

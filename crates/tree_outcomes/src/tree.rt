@@ -1,3 +1,4 @@
+//! What can be asked of a tree of files, and the answer as text.
 ghost use Rattle.std.specs.Prelude.{◌≤◌, length, IfOk, IfSome};
 ghost use Rattle.std.specs.List.{All};
 ghost use Rattle.aidl_syntax.specs.Sources.{IsOfBytes, AreOfBytes};

@@ -1,3 +1,5 @@
+//! The breaches of the rules on types, as text.
+
 use crate::names::{shown_breaches, shown_names};
 use aidl_base::OutOfMemory;
 use aidl_names::{NameFault, Names};

@@ -1,3 +1,5 @@
+//! The names of types that stand in the members of a declaration.
+
 use aidl_base::OutOfMemory;
 use aidl_syntax::{BodyTree, DeclTree, DottedTree, MemberTree, MethodTree, TypeTree};
 use std::alloc::{AllocError, Global};

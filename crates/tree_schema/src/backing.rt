@@ -1,3 +1,4 @@
+//! The backing type of an enum in the schema.
 ghost use Rattle.std.specs.Prelude.{◌≡◌};
 ghost use Rattle.aidl_syntax.specs.Trees.{annot_of, decl_of, expr_of, init_of};
 ghost use Rattle.type_shapes.specs.Backing as constants;

@@ -1,3 +1,4 @@
+//! The constants of a declaration in the schema, sorted by their names.
 ghost use Rattle.std.specs.Prelude.{◌≡◌, string_bytes, IfOk, OnOk};
 ghost use Rattle.std.specs.List.{fold};
 ghost use Rattle.aidl_syntax.specs.Members.{listed};

@@ -1,3 +1,4 @@
+//! The draft of a schema: all declarations of a tree, valid or not.
 ghost use Rattle.std.specs.Prelude.{◌≡◌, map, IfOk};
 ghost use Rattle.declared_names.specs.Declarations.{declarations};
 ghost use Rattle.aidl_syntax.specs.Sources.{source_of};

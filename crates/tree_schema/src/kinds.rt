@@ -1,3 +1,4 @@
+//! What a declaration is in the schema, with its fields, methods or enumerators, and its constants.
 ghost use Rattle.std.specs.Prelude.{◌≡◌, map, IfOk};
 ghost use Rattle.aidl_syntax.specs.Members.{body as inner, members};
 ghost use Rattle.aidl_syntax.specs.Trees.{body_of, decl_of, enumerator_of};

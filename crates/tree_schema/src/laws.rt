@@ -1,3 +1,4 @@
+//! Laws of drafts: which rules of a valid schema a draft keeps, and when it is valid.
 ghost use Rattle.std.specs.Prelude.{map, IsTrue};
 ghost use Rattle.std.specs.List.{All};
 ghost use Rattle.std.specs.List.Sorted.{IsStrictlyIncreasing};

@@ -1,3 +1,4 @@
+//! The numbers of declarations in the schema, by their numbers in the trees.
 ghost use Rattle.std.specs.Prelude.{◌≡◌, ◌≤◌, ℕ, nat_eq, length, map, IfOk};
 ghost use Rattle.std.specs.List.{position_from};
 ghost use Rattle.indexmap.specs.IndexMap.{get};

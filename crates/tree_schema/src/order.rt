@@ -1,3 +1,4 @@
+//! The order of the declarations in the schema.
 ghost use Rattle.std.specs.Prelude.{◌≡◌, ◌≤◌, ◌++◌, length, map, IfOk};
 ghost use Rattle.declared_names.specs.Entries.{entry_of};
 ghost use Rattle.schema_parts.specs.Numbers as meant;

@@ -1,3 +1,4 @@
+//! The breaches of E22 and E23, made of the bounds of the declarations in the schema.
 ghost use Rattle.std.specs.Prelude.{◌≡◌, ◌≤◌, ◌++◌, map, length, OnOk};
 ghost use Rattle.declared_names.specs.Numbered.{in_each};
 ghost use Rattle.schema_parts.specs.TreeViews.{numbered_of};

@@ -1,3 +1,4 @@
+//! The check of a tree of files, stage by stage.
 ghost use Rattle.std.specs.Prelude.{◌≡◌, [], map, IfOk, IfErr};
 ghost use Rattle.aidl_syntax.specs.Sources.{AreOfBytes, source_of};
 ghost use Rattle.const_items.specs.Items.{items};

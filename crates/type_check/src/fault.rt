@@ -1,3 +1,5 @@
+//! The refusals of a tree of files that is checked.
+
 use aidl_base::{Breach, Limit, OutOfMemory, Row};
 use tree_files::LexBreach;
 

@@ -1,3 +1,4 @@
+//! Laws of the check: files have at most one answer, which is a schema or a refusal.
 ghost use Rattle.std.specs.Prelude.{◌≡◌, ◌≢◌, List};
 ghost use Rattle.aidl_schema.specs.declared.schema.Decl.{Decl};
 ghost use Rattle.type_check.specs.declared.fault.CheckFault.{CheckFault};

@@ -1,3 +1,4 @@
+//! The refusals of parsing and of names, as refusals of the check.
 ghost use Rattle.std.specs.Prelude.{List};
 ghost use Rattle.aidl_base.specs.declared.source_file.SourceFile.{SourceFile};
 ghost use Rattle.aidl_names.specs.Refusals as names;

@@ -1,3 +1,4 @@
+//! Annotations that the table of annotations doesn't permit, or that are repeated and kept: the breaches of E13.
 ghost use Rattle.std.specs.Prelude.{◌≡◌, ◌++◌, map, OnOk};
 ghost use Rattle.std.specs.List.{flat_map};
 ghost use Rattle.aidl_syntax.specs.Trees.{annot_of, decl_of};

@@ -1,3 +1,4 @@
+//! Enums whose annotation `Backing` names no backing type: the breaches of E15.
 ghost use Rattle.std.specs.Prelude.{◌≡◌, ◌++◌, map, OnOk};
 ghost use Rattle.std.specs.List.{find};
 ghost use Rattle.aidl_syntax.specs.Trees.{annot_of};

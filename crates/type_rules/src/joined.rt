@@ -1,3 +1,4 @@
+//! The breaches of E13 to E21 and E24 in all declarations of a tree, joined and sorted.
 ghost use Rattle.std.specs.Prelude.{◌≡◌, ◌≤◌, ◌++◌, map, length, IfOk, OnOk};
 ghost use Rattle.aidl_syntax.specs.Trees.{body_of, decl_of};
 ghost use Rattle.aidl_syntax.specs.Members.{body};

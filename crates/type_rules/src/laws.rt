@@ -1,3 +1,4 @@
+//! A law of what it means that the joined breaches are none.
 ghost use Rattle.std.specs.Prelude.{◌≡◌, ◌++◌, [], List, map};
 ghost use Rattle.aidl_base.specs.declared.breach.Breach.{Breach};
 ghost use Rattle.aidl_names.specs.Breaches.{in_order};

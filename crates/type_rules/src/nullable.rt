@@ -1,3 +1,4 @@
+//! Annotations `@nullable` that the type or the place doesn't permit: the breaches of E14.
 ghost use Rattle.std.specs.Prelude.{◌≡◌, ◌++◌, map, OnOk};
 ghost use Rattle.std.specs.List.{flat_map};
 ghost use Rattle.aidl_syntax.specs.Trees.{annot_of};

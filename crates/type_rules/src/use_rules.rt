@@ -1,3 +1,4 @@
+//! The rules on single uses of types: shapes (E16), directions (E17), oneway methods (E18) and types of constants (E20).
 ghost use Rattle.std.specs.Prelude.{◌≡◌, ◌++◌, map, OnOk};
 ghost use Rattle.std.specs.List.{list_any};
 ghost use Rattle.aidl_syntax.specs.Trees.{arg_of, method_of};

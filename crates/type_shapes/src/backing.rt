@@ -1,3 +1,4 @@
+//! The backing of an enum, as its annotation `Backing` writes it, and the values that its enumerators take.
 ghost use Rattle.std.specs.Prelude.{◌≡◌, codes, map};
 ghost use Rattle.std.specs.List.{find};
 ghost use Rattle.aidl_syntax.specs.Trees.{annot_of, decl_of, expr_of, init_of, map_option, param_of};

@@ -1,3 +1,4 @@
+//! Which initializers aren't judged, as their form doesn't fit the field or its type.
 ghost use Rattle.std.specs.Prelude.{◌≡◌, map};
 ghost use Rattle.aidl_syntax.specs.Trees.{init_of};
 ghost use Rattle.declared_names.specs.Entries.{entry_of};

@@ -1,3 +1,4 @@
+//! The shape of a type that is written in a file, and which bases are parcelables or unions.
 ghost use Rattle.std.specs.Prelude.{◌≡◌, map};
 ghost use Rattle.aidl_syntax.specs.Trees.{body_of, decl_of};
 ghost use Rattle.aidl_syntax.specs.Members.{body};

@@ -1,3 +1,4 @@
+//! The value that a constant expression is to have, by the type that it stands for.
 ghost use Rattle.std.specs.Prelude.{◌≡◌, map};
 ghost use Rattle.aidl_syntax.specs.Trees.{body_of, decl_of};
 ghost use Rattle.aidl_syntax.specs.Members.{body};

@@ -1,3 +1,4 @@
+//! The table of annotations: where each may stand, which parameters it takes, and whether it is kept.
 ghost use Rattle.std.specs.Prelude.{◌≡◌, map};
 ghost use Rattle.aidl_syntax.specs.Trees.{annot_of, param_of};
 ghost use Rattle.type_uses.specs.Annotations as meant;

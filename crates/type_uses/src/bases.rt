@@ -1,3 +1,4 @@
+//! Sorts of types, by base and shape: scalars, parcelables and unions, and types that E16 refuses.
 ghost use Rattle.std.specs.Prelude.{◌≡◌, map};
 ghost use Rattle.declared_names.specs.Entries.{entry_of};
 ghost use Rattle.type_uses.specs.Bases as meant;

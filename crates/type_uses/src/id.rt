@@ -1,3 +1,4 @@
+//! The ids of methods: the number written or the position, and which numbers are ids.
 ghost use Rattle.std.specs.Prelude.{◌≡◌};
 ghost use Rattle.aidl_syntax.specs.Trees.{method_of};
 ghost use Rattle.type_uses.specs.Ids as meant;

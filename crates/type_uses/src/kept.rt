@@ -1,3 +1,4 @@
+//! The annotations of a list that the schema keeps.
 ghost use Rattle.std.specs.Prelude.{◌≡◌, codes, map};
 ghost use Rattle.std.specs.List.{list_any};
 ghost use Rattle.aidl_syntax.specs.Trees.{annot_of};

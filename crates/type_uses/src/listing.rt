@@ -1,3 +1,4 @@
+//! The list of the uses of types in a declaration.
 ghost use Rattle.std.specs.Prelude.{◌≡◌, ◌++◌, map, IfOk, OnOk};
 ghost use Rattle.aidl_syntax.specs.Trees.{Members, arg_of, body_of, map_option, member_of, members_of, method_of};
 ghost use Rattle.aidl_syntax.specs.Members.{listed, members};

@@ -1,3 +1,4 @@
+//! The parameters of annotations: `heap` with a truth value, and `type` with a string.
 ghost use Rattle.std.specs.Prelude.{◌≡◌, map};
 ghost use Rattle.std.specs.List.{list_any};
 ghost use Rattle.aidl_syntax.specs.Trees.{expr_of, init_of, map_option, param_of};

@@ -1,3 +1,4 @@
+//! A use of a type, with its annotations and its places in the file.
 ghost use Rattle.std.specs.Prelude.{◌≡◌, map};
 ghost use Rattle.aidl_syntax.specs.Trees.{annot_of};
 ghost use Rattle.type_uses.specs.TypeUses as meant;

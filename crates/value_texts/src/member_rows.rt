@@ -1,3 +1,4 @@
+//! The rows of members of parcelables, which are kept while a value is printed.
 ghost use Rattle.std.specs.Prelude.{◌≡◌, IfOk};
 ghost use Rattle.aidl_schema.specs.declared.schema.Base.TheVariants as base;
 ghost use Rattle.aidl_schema.specs.Types.{form_of};

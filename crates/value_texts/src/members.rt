@@ -1,3 +1,4 @@
+//! The members of the object of a parcelable, sorted by their keys.
 ghost use Rattle.std.specs.Prelude.{◌≡◌, ◌++◌, ◌∷◌, [], IfOk, length, string_bytes};
 ghost use Rattle.serde_json.specs.Data.{string};
 ghost use Rattle.serde_json.specs.Written.{comma_if, compact_text};

@@ -1,3 +1,4 @@
+//! The JSON arrays of arrays and Lists.
 ghost use Rattle.std.specs.Prelude.{◌≡◌, ◌++◌, ◌∷◌, false, IsTrue, None, List, OnOk, string_bytes};
 ghost use Rattle.serde_json.specs.Written.{items_text};
 ghost use Rattle.aidl_schema.specs.declared.schema.Decl.{Decl};

@@ -1,3 +1,4 @@
+//! The JSON text of a value of any type, and of null, booleans and the commas between parts.
 ghost use Rattle.std.specs.Prelude.{◌≡◌, ◌++◌, OnOk, string_bytes};
 ghost use Rattle.serde_json.specs.Data.{boolean, null};
 ghost use Rattle.serde_json.specs.Written.{comma_if, compact_text};

@@ -1,3 +1,4 @@
+//! The line that `verify` prints of a version, and the words for a version that isn't whole.
 ghost use Rattle.std.specs.Prelude.{◌≡◌, ◌++◌, codes, decimal, take, OnOk, string_bytes};
 ghost use Rattle.api_versions.specs.Whole as whole;
 ghost use Rattle.version_answers.specs.Lines as meant;

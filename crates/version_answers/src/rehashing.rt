@@ -1,3 +1,4 @@
+//! What `rehash` prints: how many hashes were written, or why none was.
 ghost use Rattle.std.specs.Prelude.{◌≡◌, ◌++◌, codes, decimal, IfOk, string_bytes};
 ghost use Rattle.tool_frame.specs.Answer.{line};
 ghost use Rattle.tool_frame.specs.steps.Results.{Gives};

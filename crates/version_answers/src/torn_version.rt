@@ -1,3 +1,4 @@
+//! How a command is refused where a frozen version isn't whole.
 ghost use Rattle.std.specs.Prelude.{◌≡◌, ◌++◌, codes, decimal, IfOk, string_bytes};
 ghost use Rattle.tool_frame.specs.Answer.{line};
 ghost use Rattle.tool_frame.specs.steps.Results.{EndsAs};

@@ -1,3 +1,4 @@
+//! What `verify` prints: a line for each version, with the verdict on all.
 ghost use Rattle.std.specs.Prelude.{◌≡◌, ◌++◌, true, IfOk, OnOk, string_bytes};
 ghost use Rattle.std.specs.List.{flat_map, list_all};
 ghost use Rattle.api_versions.specs.Whole as whole;
