@@ -13,23 +13,50 @@ say() {
     echo "aidl: $*" >&2
 }
 
-# Proves the crates that the program stands on, as many at a time as there are processors, and names each.
-prove() {
-    (cd "$top/crates/aidl" && rt all check --jobs "$(nproc)" </dev/null 2>&1) | sed -un '/^== /{s///;h};/^logic=proved/{g;s/^/aidl: proved /p}' >&2
+# The lines of crates.txt that the program stands on, and its own.
+lines_below() {
+    awk -F: '
+        function take(name,    names, count, at) {
+            if (!(name in below) || name in taken) return
+            taken[name]
+            print name ":" below[name]
+            count = split(below[name], names, " ")
+            for (at = 1; at <= count; at++) take(names[at])
+        }
+        { sub(/#.*/, "") }
+        NF > 1 { below[$1] = $2 }
+        END { take("aidl") }' "$top/crates.txt"
 }
 
-# Builds the program of what is proved, and runs it once: it refuses to be run without words. What isn't proved is shown here.
-build() {
-    answer=$(cd "$top/crates/aidl" && rt run </dev/null 2>"$1")
-    [ "$answer" = "refused words" ] && touch "$program"
+# Copies the crates of these lines into a folder, without the edits that the proofs have to refuse.
+copy() {
+    lines_below >"$1/crates.txt" && cp "$top/HANDLES" "$1" || return
+    for crate in $(cut -d: -f1 "$1/crates.txt"); do
+        mkdir -p "$1/crates/$crate" || return
+        for part in "$top/crates/$crate"/*; do
+            case ${part##*/} in
+                out | must-fail) ;;
+                *) cp -r "$part" "$1/crates/$crate" || return ;;
+            esac
+        done
+    done
 }
+
+# Proves the copy, which takes the longest row of crates first and gives each the processors that are idle, and takes the program
+# from there, with the time at which the copy was begun.
+build() (
+    room=$(mktemp -d) || exit
+    trap 'rm -rf "$room"' EXIT
+    trap 'exit 9' HUP INT TERM
+    mkdir "$room/copy" && copy "$room/copy" || exit
+    (cd "$room/copy" && rt ci </dev/null 2>&1) | tee "$room/log" | sed -un 's/^rt: \([a-z0-9_]*\) proved$/aidl: proved \1/p' >&2
+    tail -n 1 "$room/log" | grep -q ' 0 failed$' || { cat "$room/log" >&2; exit 9; }
+    touch -r "$room/copy/crates.txt" "$room/copy/crates/aidl/out/aidl" && mkdir -p "${program%/*}" && mv "$room/copy/crates/aidl/out/aidl" "$program"
+)
 
 if ! is_current; then
     command -v rt >/dev/null || { say "there is no rt: README.md says where it comes from"; exit 9; }
     say "building first, crate by crate; README.md says how long that takes"
-    prove
-    log=$(mktemp) || exit 9
-    build "$log" || { cat "$log" >&2; rm -f "$log"; exit 9; }
-    rm -f "$log"
+    build || exit 9
 fi
 exec "$program" "$@"
