@@ -42,16 +42,17 @@ copy() {
     done
 }
 
-# Proves the copy, which takes the longest row of crates first and gives each the processors that are idle, and takes the program
-# from there, with the time at which the copy was begun.
+# Proves the copy, the longest row of crates first and each by the processors that are idle, and takes the program from there, with
+# the time at which the copy was begun.
 build() (
     room=$(mktemp -d) || exit
     trap 'rm -rf "$room"' EXIT
-    trap 'exit 9' HUP INT TERM
-    mkdir "$room/copy" && copy "$room/copy" || exit
-    (cd "$room/copy" && rt ci </dev/null 2>&1) | tee "$room/log" | sed -un 's/^rt: \([a-z0-9_]*\) proved$/aidl: proved \1/p' >&2
-    tail -n 1 "$room/log" | grep -q ' 0 failed$' || { cat "$room/log" >&2; exit 9; }
-    touch -r "$room/copy/crates.txt" "$room/copy/crates/aidl/out/aidl" && mkdir -p "${program%/*}" && mv "$room/copy/crates/aidl/out/aidl" "$program"
+    mkdir "$room/copy" && touch "$room/log" && copy "$room/copy" && cd "$room/copy" || exit
+    rt ci </dev/null >"$room/log" 2>&1 &
+    trap 'kill $!; wait; exit 9' HUP INT TERM
+    tail -n +1 -f --pid=$! "$room/log" | sed -un 's/^rt: \([a-z0-9_]*\) proved$/aidl: proved \1/p' >&2
+    wait $! || { cat "$room/log" >&2; exit 9; }
+    touch -r crates.txt crates/aidl/out/aidl && mkdir -p "${program%/*}" && mv crates/aidl/out/aidl "$program"
 )
 
 if ! is_current; then

@@ -4,6 +4,9 @@ is kept isn't run, so isn't read.
 
 python3 docs/crate_seconds.py --anew
 python3 docs/crate_seconds.py type_rules
+python3 docs/crate_seconds.py --layers --anew
+
+With `--layers` first the table goes by the layers of crates.txt, lowest first, each with the number of its crates that were run.
 
 They are read off /proc each half second, so a check of a few seconds may be read short. What else runs on the machine isn't read,
 but lengthens them.
@@ -13,6 +16,8 @@ import os
 import subprocess
 import sys
 import time
+
+import layers
 
 TICKS = os.sysconf("SC_CLK_TCK")
 KINDS = ("own proof", "tests", "edits", "compilation")
@@ -58,15 +63,28 @@ def read(run):
     return checks
 
 
+def by_layer(table):
+    """The table by the layers of crates.txt in place of the crates."""
+    found = {}
+    for title, crates in layers.LAYERS:
+        rows = [table[crate] for crate in crates if crate in table]
+        if rows:
+            found[f"{title} ({len(rows)})"] = {kind: sum(row[kind] for row in rows) for kind in KINDS}
+    return found
+
+
 def main():
-    run = subprocess.Popen(["rt", "ci", *sys.argv[1:]], start_new_session=True)
+    words = sys.argv[1:]
+    goes_by_layer = words[:1] == ["--layers"]
+    run = subprocess.Popen(["rt", "ci", *words[goes_by_layer:]], start_new_session=True)
     table = {}
     for crate, kind, seconds in read(run).values():
         row = table.setdefault(crate, dict.fromkeys(KINDS, 0.0))
         row[kind] += seconds
-    print(f"| Crate | {' | '.join(KINDS)} |")
-    for crate, row in sorted(table.items()):
-        print(f"| `{crate}` | {' | '.join(f'{row[kind]:.0f}' for kind in KINDS)} |")
+    rows = by_layer(table) if goes_by_layer else {f"`{crate}`": table[crate] for crate in sorted(table)}
+    print(f"| {'Layer' if goes_by_layer else 'Crate'} | {' | '.join(KINDS)} |")
+    for name, row in rows.items():
+        print(f"| {name} | {' | '.join(f'{row[kind]:.0f}' for kind in KINDS)} |")
     together = [sum(row[kind] for row in table.values()) for kind in KINDS]
     print(f"| together | {' | '.join(f'{seconds:.0f}' for seconds in together)} |")
     sys.exit(run.returncode)
