@@ -2,7 +2,6 @@ mod CallExamples
 mod Examples
 mod Forms
 mod Lenient
-mod Lookups
 mod Parts
 mod RawForms
 mod Steps
@@ -12,7 +11,6 @@ mod again
 mod calls
 pub mod lemmas
 mod received
-mod spelled
 mod stopped
 mod told
 mod viewed

@@ -4,6 +4,5 @@ pub mod Exceptions
 pub mod Methods
 pub mod Replies
 pub mod Requests
-pub mod Tokens
 pub mod Types
 pub mod Values

@@ -13,7 +13,7 @@ use Rattle.aidl_schema.specs.Holds.{AreApart, AllHold}
 use Rattle.aidl_schema.specs.Names.{name_of, methods_of}
 use Rattle.aidl_schema.specs.Same.{same, same_bool}
 use Rattle.aidl_schema.specs.Unbroken.{Has, AreBoth, AtEach, Follows, Unbroken}
-use Rattle.wire_model.proofs.Lookups.{found_is, same_place, both_of}
+use Rattle.wire_model.proofs.lemmas.Lookups.{found_is, same_place, both_of}
 use Rattle.wire_model.specs.Outcome.{SameWays}
 use Rattle.wire_model.specs.steps.CallsMeet.{ArgumentsAgree, MethodsAgree, CallsMeet}
 

@@ -25,7 +25,7 @@ use Rattle.wire_model.specs.Requests.{spell_each, spell_result, EachFits, Result
 use Rattle.wire_model.specs.Status.{bad_value}
 use Rattle.wire_model.specs.steps.CallsMeet.{CallsMeet}
 use Rattle.wire_model.specs.steps.Meets.{Meets}
-use Rattle.wire_model.proofs.Lookups.{position_passes}
+use Rattle.wire_model.proofs.lemmas.Lookups.{position_passes}
 use Rattle.wire_model.proofs.calls.Exceptions.{then_status, then_whole, exception_got}
 use Rattle.wire_model.proofs.calls.Types.{argument_types, result_is, outs_agree, results_agree}
 use Rattle.wire_model.proofs.calls.Values.{TypesAgree, ResultsAgree, seen_at, values_seen, result_seen}

@@ -27,9 +27,9 @@ use Rattle.wire_model.specs.Requests.{ArgsFit, argument_parts, request, token}
 use Rattle.wire_model.specs.Status.{bad_value, unknown_transaction}
 use Rattle.wire_model.specs.steps.CallsMeet.{ArgumentsAgree, InterfacesAgree, CallsMeet}
 use Rattle.wire_model.specs.steps.Meets.{Meets}
-use Rattle.wire_model.proofs.Lookups.{position_is, position_none, position_passes, none_passes}
+use Rattle.wire_model.proofs.lemmas.Lookups.{position_is, position_none, position_passes, none_passes}
 use Rattle.wire_model.proofs.calls.Arguments.{arguments_seen}
-use Rattle.wire_model.proofs.calls.Tokens.{name_scalars, token_again}
+use Rattle.wire_model.proofs.lemmas.calls.Tokens.{name_scalars, token_again}
 use Rattle.wire_model.proofs.calls.Types.{argument_types}
 use Rattle.wire_model.proofs.calls.Values.{seen_at}
 

@@ -22,7 +22,7 @@ use Rattle.wire_model.specs.Reads.{Readings, Reads, EachReads, FieldsRead}
 use Rattle.wire_model.specs.Spell.{raw_bytes}
 use Rattle.wire_model.proofs.again.All.{are_bytes, unique_initial, reads_some}
 use Rattle.wire_model.proofs.again.Texts.{AreByteNumbers}
-use Rattle.wire_model.proofs.told.Defaults.{initials_in, are_initial}
+use Rattle.wire_model.proofs.lemmas.Defaults.{initials_in, are_initial}
 use Rattle.wire_model.proofs.lemmas.spelled.Sizes.{length-raw_bytes}
 use Rattle.wire_model.proofs.Forms.{raw_form}
 use Rattle.wire_model.proofs.lemmas.Sound.{IsWhole}

@@ -20,7 +20,7 @@ use Rattle.wire_model.specs.Reads.{Readings, BodyReads, FieldsRead, IsMarker}
 use Rattle.wire_model.specs.Status.{bad_value}
 use Rattle.wire_model.specs.ReadOf.{Read, marker_at, marked_at, bytes_at, fields_at, size_of, body_at, body_value_at, record_at}
 use Rattle.wire_model.proofs.told.Words.{Told, told_then, spells_word, word_fits, MarkerReads, marker_told, marks, after_is}
-use Rattle.wire_model.proofs.told.Defaults.{initials_in, are_initial, initials_typed}
+use Rattle.wire_model.proofs.lemmas.Defaults.{initials_in, are_initial, initials_typed}
 use Rattle.wire_model.proofs.stopped.All.{after_len, a_size}
 use Rattle.wire_model.proofs.Steps.{then_inner, then_fields, then_others, with_field, then_rec}
 use Rattle.aidl_base.proofs.lemmas.Tests.{both}

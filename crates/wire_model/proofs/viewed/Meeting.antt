@@ -20,7 +20,7 @@ use Rattle.aidl_schema.specs.Types.{Form, form_of, form_of_decl, form_of_kind}
 use Rattle.aidl_schema.specs.Types as form
 use Rattle.aidl_schema.specs.Unbroken.{AreBoth, AtEach, Unbroken}
 use Rattle.aidl_values.specs.Sound.{IsDeclared, HaveDefaults, IsSound, fields_of}
-use Rattle.wire_model.proofs.Lookups.{both_of}
+use Rattle.wire_model.proofs.lemmas.Lookups.{both_of}
 use Rattle.wire_model.specs.View.{same_kind}
 use Rattle.wire_model.specs.steps.Meets.{IsAbsent, AreDistinct, FieldsAgree, FormsMeet, Meets}
 

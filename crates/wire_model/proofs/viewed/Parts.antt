@@ -17,7 +17,7 @@ use Rattle.wire_model.specs.View.{item_first, each_field, or_initial, field_name
 use Rattle.wire_model.specs.steps.Meets.{IsAbsent, AreDistinct, FieldsAgree}
 use Rattle.wire_model.proofs.lemmas.spelled.Sizes.{spell_whole}
 use Rattle.wire_model.proofs.told.All.{reads_type}
-use Rattle.wire_model.proofs.told.Defaults.{initials_in, are_initial, initials_typed}
+use Rattle.wire_model.proofs.lemmas.Defaults.{initials_in, are_initial, initials_typed}
 
 -- The bytes are a reading of what the view is; or, if there is none, reading stops whatever follows.
 abbrev pub ReadsOrStops : Profile → List Decl → ℕ → AidlType → List ℕ → Option Data → Type 0

@@ -23,7 +23,7 @@ use Rattle.wire_model.specs.Stop.{Stop, SequenceStop, RecordStop, UnionStop, Tag
 use Rattle.wire_model.specs.View.{agree, when, in_field, in_place, field_named, view_of, view_items, item_first}
 use Rattle.wire_model.specs.steps.Meets.{FormsMeet, Meets}
 use Rattle.wire_model.proofs.Forms.{raw_form}
-use Rattle.wire_model.proofs.spelled.Reads.{number_spelled, units_small, items_small}
+use Rattle.wire_model.proofs.lemmas.spelled.Reads.{number_spelled, units_small, items_small}
 use Rattle.wire_model.proofs.lemmas.spelled.Sizes.{spell_fields_whole}
 use Rattle.wire_model.proofs.told.All.{reads_type}
 use Rattle.wire_model.proofs.told.Words.{begins}

@@ -1,5 +1,5 @@
 use Rattle.aidl_values.specs.View.{view}
-use Rattle.wire_model.proofs.spelled.Reads.{spelled_reads}
+use Rattle.wire_model.proofs.lemmas.spelled.Reads.{spelled_reads}
 use Rattle.wire_model.proofs.laws.law_spelled_reads.Goals as goal
 
 pub returns : goal.returns

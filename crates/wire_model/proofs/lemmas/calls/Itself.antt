@@ -20,7 +20,7 @@ use Rattle.wire_model.specs.Requests.{sent_length, ArgumentFits, ArgumentsFit, E
 use Rattle.wire_model.specs.View.{item_first}
 use Rattle.wire_model.specs.steps.CallsMeet.{CallsMeet}
 use Rattle.wire_model.specs.steps.Meets.{Meets}
-use Rattle.wire_model.proofs.Lookups.{position_is}
+use Rattle.wire_model.proofs.lemmas.Lookups.{position_is}
 use Rattle.wire_model.proofs.calls.Arguments.{HaveTypes}
 use Rattle.wire_model.proofs.calls.Types.{argument_types, result_is, outs_agree, results_agree}
 use Rattle.wire_model.proofs.calls.Values.{TypesAgree, ResultsAgree}

@@ -1,2 +1,0 @@
--- What spells a value is a reading of it: `law_spelled_reads`.
-pub mod Reads
