@@ -6,6 +6,7 @@ pub mod Meaning
 pub mod Parcel
 pub mod Refusals
 pub mod Seen
+pub mod Shown
 pub mod Trees
 pub mod Verdict
 pub mod steps

@@ -24,14 +24,19 @@ writes_by writes answers = record { may_carry = false; writes = writes; due = λ
 abbrev pub reads_by : (Files → Answer → Type 0) → Meaning
 reads_by answers = writes_by (λ files made. made ≡ []) answers
 
--- a command that writes nothing, by the courses that it may take over the files: one of them, or none
-abbrev pub carries_by : (Files → Course → Type 0) → Meaning
-carries_by takes = record {
+-- A command that first writes and then carries, by what it writes, and by the courses that it may take: one of them, or none. Both go by
+-- the files that the store told before.
+abbrev pub does_by : (Files → List Write → Type 0) → (Files → Course → Type 0) → Meaning
+does_by writes takes = record {
   may_carry = true;
-  writes = λ files made. made ≡ [];
+  writes = writes;
   due = λ files entries parcel. (course : Course) × takes files course × (parcel ≡ due_after course entries);
   answers = λ files entries answer. (course : Course) × takes files course × (answer ≡ answer_after course entries);
 }
+
+-- a command that carries and writes nothing
+abbrev pub carries_by : (Files → Course → Type 0) → Meaning
+carries_by takes = does_by (λ files made. made ≡ []) takes
 
 -- each entry is of the parcel that was due after those before it
 abbrev pub AreDue : (List Carried → Option Parcel → Type 0) → List Carried → List Carried → Type 0

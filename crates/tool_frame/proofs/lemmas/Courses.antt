@@ -1,20 +1,21 @@
 -- How a run of a command ends that carries, by how its course ran; and courses step by step.
-use Rattle.std.proofs.Common.{◌≡◌, ℕ, ◌≤◌, true, List, [], ◌∷◌, ◌++◌, Option, Some, None, refl, sym, ap, ◌∙◌, subst, arith, inl, inr, append_assoc, append-nil}
+use Rattle.std.proofs.Common.{◌≡◌, ℕ, List, [], ◌∷◌, ◌++◌, Option, Some, None, refl, sym, ap, ◌∙◌, subst, arith, inl, inr, append_assoc, append-nil}
 use Rattle.std.specs.Prelude.{◌≢◌, ◌⊎◌}
 use Rattle.std.proofs.lemmas.List.Elements.{All-append}
 use Rattle.aidl_outside.specs.declared.link.Carried.{Carried}
 use Rattle.aidl_outside.specs.Causes.{Rose}
 use Rattle.aidl_outside.specs.Files.{Files}
 use Rattle.aidl_outside.specs.Told.{Tells, Adds, AddsFront}
+use Rattle.aidl_outside.specs.Writes.{Write}
 use Rattle.tool_frame.specs.declared.verdict.Verdict.TheVariants.{Done}
 use Rattle.tool_frame.specs.Answer.{Answer, after_text}
 use Rattle.tool_frame.specs.Course.{Course, prints, ends, at_once, due_after, answer_after}
-use Rattle.tool_frame.specs.Ended.{Ended, WroteAll, WroteSome, CarriedThese, EndsAsMeant, PutsFront, StopsAtCarry}
-use Rattle.tool_frame.specs.Meaning.{AreDue, carries_by, CarriesNothing}
+use Rattle.tool_frame.specs.Ended.{Ended, WroteAll, WroteSome, FailedAt, CarriedThese, EndsAsMeant, PutsFront, StopsAtCarry}
+use Rattle.tool_frame.specs.Meaning.{AreDue, carries_by, CarriesNothing, does_by}
 use Rattle.tool_frame.specs.Parcel.{Parcel}
 use Rattle.tool_frame.specs.Seen.{Seen}
 use Rattle.tool_frame.specs.Verdict.{exit_of, IsVerdict}
-use Rattle.tool_frame.specs.steps.Courses.{due_in, AreFaithful, CarriedBy, EndsCourse, PutsCourseFront, StopsCourse, RanCourse, ComesTo, Went}
+use Rattle.tool_frame.specs.steps.Courses.{due_in, CarriedBy, EndsCourse, PutsCourseFront, StopsCourse, RanCourse, ComesTo, Went}
 use Rattle.tool_frame.specs.steps.Prints.{Prints}
 use Rattle.tool_frame.proofs.lemmas.Endings.{Nothing, all_written, some_written, failed, not_verdict, nothing_carried, told_always, verdict_exit}
 use Rattle.aidl_outside.proofs.lemmas.Telling.{tells}
@@ -35,42 +36,56 @@ widened exit (inr (inl four)) = inr (inr (inl four))
 widened exit (inr (inr (inl five))) = inr (inr (inr (inl five)))
 widened exit (inr (inr (inr six))) = inr (inr (inr (inr six)))
 
--- Where the course is one that the command may take over the files, what it does is what is meant.
-module _ (takes : Files → Course → Type 0) (files : Files) (course : Course) (is : takes files course) (before now : Seen) where
-  due_also : (front entries : List Carried) → AreDue (due_in course) front entries → AreDue ((carries_by takes).due files) front entries
+-- Where the course is one that the command may take over the files, what it does is what is meant. It begins once the writes are made,
+-- which leave the files `kept`.
+module _ (writes : Files → List Write → Type 0) (takes : Files → Course → Type 0) (files : Files) (course : Course) (is : takes files course) (kept : Option Files) (before now : Seen) where
+  -- what was seen once the writes were made
+  abbrev written : Seen
+  written = record before { kept = kept }
+
+  due_also : (front entries : List Carried) → AreDue (due_in course) front entries → AreDue ((does_by writes takes).due files) front entries
   due_also front [] h = tt
   due_also front (entry ∷ entries) h = ((course, is, h.0), due_also (front ++ entry ∷ []) entries h.1)
 
-  these : (entries : List Carried) → CarriedBy course before now entries → CarriedThese (carries_by takes) files before now entries
+  these : (entries : List Carried) → CarriedBy course written now entries → CarriedThese (does_by writes takes) files before now entries
   these entries h = (h.log, due_also [] entries h.are_due, h.faithful)
 
-  as_meant : (exit : ℕ) → EndsCourse course before now exit → EndsAsMeant (carries_by takes) before now exit files
+  as_meant : (exit : ℕ) → EndsCourse course written now exit → EndsAsMeant (does_by writes takes) before now exit files
   as_meant exit h = (h.0, these h.0 h.1, (course, is, sym h.2), answer_after course h.0, (course, is, refl), h.3, h.4)
 
-  puts_front : PutsCourseFront course before now → PutsFront (carries_by takes) before now files
+  puts_front : PutsCourseFront course written now → PutsFront (does_by writes takes) before now files
   puts_front h = (h.0, these h.0 h.1, inr (answer_after course h.0, (course, is, refl), h.2))
 
-  stops : StopsCourse course before now → StopsAtCarry (carries_by takes) before now files
+  stops : StopsCourse course written now → StopsAtCarry (does_by writes takes) before now files
   stops h = (h.0, these h.0 h.1, (h.2.0, (course, is, sym h.2.1)), answer_after course h.0, (course, is, refl), h.3)
 
--- The run ended as its course did.
-module _ (takes : Files → Course → Type 0) (course : Course) (before now : Seen) (exit : ℕ) (is : Tells before.kept (λ files. takes files course)) (ran : RanCourse course before now exit) where
-  told_ends : IsVerdict exit → Tells before.kept (EndsAsMeant (carries_by takes) before now exit)
-  told_ends verdict = tells before.kept _ _ (λ files taken. as_meant takes files course taken before now exit (ran.answer verdict)) is
+-- all writes are some of them
+some_of_all : (writes : Files → List Write → Type 0) (before now : Option Files) → WroteAll writes before now → WroteSome writes before now
+some_of_all writes None now same = same
+some_of_all writes (Some files) now (made, meant, e) = inr (made, [], subst (λ ws. writes files ws) (sym (append-nil made)) meant, e)
+
+-- The writes were made, and the run ended as its course did.
+module _ (writes : Files → List Write → Type 0) (takes : Files → Course → Type 0) (course : Course) (kept : Option Files) (before now : Seen) (exit : ℕ)
+    (wrote : WroteAll writes before.kept kept) (is : Tells before.kept (λ files. takes files course)) (ran : RanCourse course (record before { kept = kept }) now exit) where
+  told_ends : IsVerdict exit → Tells before.kept (EndsAsMeant (does_by writes takes) before now exit)
+  told_ends verdict = tells before.kept _ _ (λ files taken. as_meant writes takes files course taken kept before now exit (ran.answer verdict)) is
 
   complete_by : IsCourseExit exit → (Rose before.sink_faults now.sink_faults → ⊥) → (Rose before.link_faults now.link_faults → ⊥)
-      → (exit ≡ 5) ⊎ (IsVerdict exit × Tells before.kept (EndsAsMeant (carries_by takes) before now exit))
+      → (exit ≡ 5) ⊎ (IsVerdict exit × Tells before.kept (EndsAsMeant (does_by writes takes) before now exit))
   complete_by (inl verdict) no_sink no_link = inr (verdict, told_ends verdict)
   complete_by (inr (inl four)) no_sink no_link = absurd (no_sink (ran.sink_fault four))
   complete_by (inr (inr (inl five))) no_sink no_link = inl five
   complete_by (inr (inr (inr six))) no_sink no_link = absurd (no_link (ran.link_fault six))
 
-  never_quiet : CarriesNothing (carries_by takes) ⊎ (exit ≡ 3) → now.log ≡ before.log
+  never_quiet : CarriesNothing (does_by writes takes) ⊎ (exit ≡ 3) → now.log ≡ before.log
   never_quiet (inl quiet) = cc
   never_quiet (inr three) = absurd (not_three exit ran.exits three)
 
-  pub ended_carried : Ended (carries_by takes) before now exit
-  ended_carried = record {
+  all : WroteAll writes before.kept now.kept
+  all = subst (λ k. WroteAll writes before.kept k) (sym ran.kept) wrote
+
+  pub ended_done : Ended (does_by writes takes) before now exit
+  ended_done = record {
     exits = widened exit ran.exits;
     store_fault = λ three. absurd (not_three exit ran.exits three);
     store_good = λ other. ran.store_good;
@@ -79,65 +94,75 @@ module _ (takes : Files → Course → Type 0) (course : Course) (before now : S
     link_fault = ran.link_fault;
     link_good = ran.link_good;
     link_nature = ran.link_nature;
-    wrote = λ ends. subst (λ k. WroteAll Nothing before.kept k) (sym ran.kept) (all_written before.kept);
-    wrote_some = λ five. subst (λ k. WroteSome Nothing before.kept k) (sym ran.kept) (some_written before.kept);
-    write_failed = λ three. failed before.kept now.kept ran.kept;
+    wrote = λ ends. all;
+    wrote_some = λ five. some_of_all writes before.kept now.kept all;
+    write_failed = λ three. absurd (not_three exit ran.exits three);
     carries_nothing = never_quiet;
     answer = told_ends;
     silent = λ three. absurd (not_three exit ran.exits three);
-    front = λ ends. tells before.kept _ _ (λ files taken. puts_front takes files course taken before now (ran.front ends)) is;
-    stopped = λ six. tells before.kept _ _ (λ files taken. stops takes files course taken before now (ran.stopped six)) is;
+    front = λ ends. tells before.kept _ _ (λ files taken. puts_front writes takes files course taken kept before now (ran.front ends)) is;
+    stopped = λ six. tells before.kept _ _ (λ files taken. stops writes takes files course taken kept before now (ran.stopped six)) is;
     complete = λ no_store no_sink no_link. complete_by ran.exits no_sink no_link;
   }
 
--- The run ended before its course was known: a call of the store failed, or memory was wanted.
-module _ (takes : Files → Course → Type 0) (before now : Seen) (exit : ℕ)
+-- The same of a command that writes nothing.
+pub ended_carried : (takes : Files → Course → Type 0) (course : Course) (before now : Seen) (exit : ℕ) → Tells before.kept (λ files. takes files course) → RanCourse course before now exit
+    → Ended (carries_by takes) before now exit
+ended_carried takes course before now exit is ran = ended_done Nothing takes course before.kept before now exit (all_written before.kept) is ran
+
+-- The run ended before its course began: a call of the store failed, or memory was wanted.
+module _ (writes : Files → List Write → Type 0) (takes : Files → Course → Type 0) (before now : Seen) (exit : ℕ)
     (exits : (exit ≡ 3) ⊎ (exit ≡ 5)) (fault : exit ≡ 3 → Rose before.store_faults now.store_faults) (good : exit ≢ 3 → now.store_faults ≡ before.store_faults)
-    (kept : now.kept ≡ before.kept) (told : now.told ≡ before.told) (sink : now.sink_faults ≡ before.sink_faults)
+    (failed_at : exit ≡ 3 → FailedAt writes before.kept now.kept) (some : exit ≡ 5 → WroteSome writes before.kept now.kept)
+    (told : now.told ≡ before.told) (sink : now.sink_faults ≡ before.sink_faults)
     (log : now.log ≡ before.log) (link : now.link_faults ≡ before.link_faults) (nature : now.is_faithful ≡ before.is_faithful) where
-  no_verdict : (exit ≡ 3) ⊎ (exit ≡ 5) → IsVerdict exit → ⊥
-  no_verdict (inl three) verdict = not_verdict exit (omega arith) (omega arith) verdict
-  no_verdict (inr five) verdict = not_verdict exit (omega arith) (omega arith) verdict
-
-  not_four : (exit ≡ 3) ⊎ (exit ≡ 5) → exit ≡ 4 → ⊥
-  not_four (inl three) four = omega arith
-  not_four (inr five) four = omega arith
-
-  not_six : (exit ≡ 3) ⊎ (exit ≡ 5) → exit ≡ 6 → ⊥
-  not_six (inl three) six = omega arith
-  not_six (inr five) six = omega arith
+  no_end : (exit ≡ 3) ⊎ (exit ≡ 5) → IsVerdict exit ⊎ ((exit ≡ 4) ⊎ (exit ≡ 6)) → ⊥
+  no_end (inl three) (inl verdict) = not_verdict exit (omega arith) (omega arith) verdict
+  no_end (inl three) (inr (inl four)) = omega arith
+  no_end (inl three) (inr (inr six)) = omega arith
+  no_end (inr five) (inl verdict) = not_verdict exit (omega arith) (omega arith) verdict
+  no_end (inr five) (inr (inl four)) = omega arith
+  no_end (inr five) (inr (inr six)) = omega arith
 
   early_exits : (exit ≡ 3) ⊎ (exit ≡ 5) → IsVerdict exit ⊎ ((exit ≡ 3) ⊎ ((exit ≡ 4) ⊎ ((exit ≡ 5) ⊎ (exit ≡ 6))))
   early_exits (inl three) = inr (inl three)
   early_exits (inr five) = inr (inr (inr (inl five)))
 
-  early_complete : (exit ≡ 3) ⊎ (exit ≡ 5) → (Rose before.store_faults now.store_faults → ⊥) → (exit ≡ 5) ⊎ (IsVerdict exit × Tells before.kept (EndsAsMeant (carries_by takes) before now exit))
+  early_complete : (exit ≡ 3) ⊎ (exit ≡ 5) → (Rose before.store_faults now.store_faults → ⊥) → (exit ≡ 5) ⊎ (IsVerdict exit × Tells before.kept (EndsAsMeant (does_by writes takes) before now exit))
   early_complete (inl three) no_store = absurd (no_store (fault three))
   early_complete (inr five) no_store = inl five
 
-  nothing : (files : Files) → CarriedThese (carries_by takes) files before now []
+  nothing : (files : Files) → CarriedThese (does_by writes takes) files before now []
   nothing files = (subst (λ l. Adds before.log l []) (sym log) (nothing_carried before.log), tt, λ faithful k entry none. absurd (omega arith))
 
-  pub ended_early : Ended (carries_by takes) before now exit
-  ended_early = record {
+  pub ended_before : Ended (does_by writes takes) before now exit
+  ended_before = record {
     exits = early_exits exits;
     store_fault = fault;
     store_good = good;
-    sink_fault = λ four. absurd (not_four exits four);
+    sink_fault = λ four. absurd (no_end exits (inr (inl four)));
     sink_good = λ other. sink;
-    link_fault = λ six. absurd (not_six exits six);
+    link_fault = λ six. absurd (no_end exits (inr (inr six)));
     link_good = λ other. link;
     link_nature = nature;
-    wrote = λ ends. subst (λ k. WroteAll Nothing before.kept k) (sym kept) (all_written before.kept);
-    wrote_some = λ five. subst (λ k. WroteSome Nothing before.kept k) (sym kept) (some_written before.kept);
-    write_failed = λ three. failed before.kept now.kept kept;
+    wrote = λ ends. absurd (no_end exits ends);
+    wrote_some = some;
+    write_failed = failed_at;
     carries_nothing = λ why. log;
-    answer = λ verdict. absurd (no_verdict exits verdict);
+    answer = λ verdict. absurd (no_end exits (inl verdict));
     silent = λ three. told;
     front = λ ends. told_always before.kept (λ files. ([], nothing files, inl told));
-    stopped = λ six. absurd (not_six exits six);
+    stopped = λ six. absurd (no_end exits (inr (inr six)));
     complete = λ no_store no_sink no_link. early_complete exits no_store;
   }
+
+-- The same of a command that writes nothing.
+pub ended_early : (takes : Files → Course → Type 0) (before now : Seen) (exit : ℕ)
+    → (exit ≡ 3) ⊎ (exit ≡ 5) → (exit ≡ 3 → Rose before.store_faults now.store_faults) → (exit ≢ 3 → now.store_faults ≡ before.store_faults)
+    → now.kept ≡ before.kept → now.told ≡ before.told → now.sink_faults ≡ before.sink_faults
+    → now.log ≡ before.log → now.link_faults ≡ before.link_faults → now.is_faithful ≡ before.is_faithful → Ended (carries_by takes) before now exit
+ended_early takes before now exit exits fault good kept told sink log link nature =
+    ended_before Nothing takes before now exit exits fault good (λ three. failed before.kept now.kept kept) (λ five. subst (λ k. WroteSome Nothing before.kept k) (sym kept) (some_written before.kept)) told sink log link nature
 
 -- it was delivered as it was sent
 abbrev delivered_so : Carried → Type 0

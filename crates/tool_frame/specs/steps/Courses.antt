@@ -1,9 +1,9 @@
 -- How a run of one course goes: what it left of the outside, which told its files or not.
-use Rattle.std.specs.Prelude.{◌≡◌, ◌≢◌, ℕ, ◌⊎◌, Bool, true, List, [], ◌∷◌, ◌++◌, Option, Some, None, All}
+use Rattle.std.specs.Prelude.{◌≡◌, ◌≢◌, ℕ, ◌⊎◌, Bool, true, List, [], ◌++◌, Option, Some, None, All}
 use Rattle.aidl_outside.specs.declared.link.Carried.{Carried}
 use Rattle.aidl_outside.specs.Causes.{Rose}
 use Rattle.aidl_outside.specs.Told.{Adds, AddsFront}
-use Rattle.tool_frame.specs.Answer.{Answer, after_text}
+use Rattle.tool_frame.specs.Answer.{after_text}
 use Rattle.tool_frame.specs.Course.{Course, due_after, answer_after}
 use Rattle.tool_frame.specs.Meaning.{AreDue}
 use Rattle.tool_frame.specs.Parcel.{Parcel}
