@@ -6,7 +6,7 @@ mod consts;
 mod fields;
 mod tests;
 
-pub use alike::{same_base_code, same_flag, same_kind};
+pub use alike::{same_base_code, same_flag, same_kind, same_text, same_type};
 pub use consts::{is_refused_addition, same_const};
 pub use fields::{
     fields_of, fields_with_default, has_fields, parcelable_fields, same_backing, union_fields,
