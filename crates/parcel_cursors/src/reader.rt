@@ -208,9 +208,9 @@ impl<'a> WordReader<'a> {
         self.position -= count;
     }
 
-    /// Takes the block of a text of so many units.
+    /// Takes the block of a text of so many units. It refuses as `text` does once its count is read.
     #[tactic(auto, unfolding(aidl_base::specs::Readings::block_at))]
-    fn block(&mut self, alloc: Global, units: usize) -> Result<String, ReadFault>
+    pub fn block(&mut self, alloc: Global, units: usize) -> Result<String, ReadFault>
         requires { units < 2 ^ 31 }
         ensures taken { TakesIfMemory (λ x. chars (string_bytes x)) result
             (here (block_at self.old.profile units) self.old) (left self.new) }
