@@ -8,8 +8,9 @@ use Rattle.parcel_cursors.specs.Place.{Place, left, is_inside, closed, MovesOn}
 use Rattle.parcel_cursors.specs.Taken.{TakesIfMemory, RefusesIfMemory}
 use Rattle.parcel_cursors.proofs.lemmas.Moves.{on_and_on}
 use Rattle.parcel_cursors.proofs.lemmas.Faults.{refused_if_memory}
+use Rattle.parcel_cursors.proofs.lemmas.Records.{stays, leaves}
 use Rattle.parcel_read.proofs.Loop.{goes_on, ends, is_done, field_on, fields_done}
-use Rattle.parcel_read.proofs.Records.{stays, leaves, body_is, record_is, record_fails, no_record}
+use Rattle.parcel_read.proofs.Records.{body_is, record_is, record_fails, no_record}
 use Rattle.parcel_read.proofs.tree.+read.Goals as goal
 use Rattle.parcel_read.specs.steps.PlanDefault.{initial_by_plan}
 use Rattle.parcel_read.specs.steps.PlanRead.{entry_at, entries_at, plan_read, plan_parts}
