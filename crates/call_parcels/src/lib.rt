@@ -8,8 +8,9 @@ mod replies;
 mod requests;
 mod sending;
 
+pub use openings::opening;
 pub use parcel_write::WriteFault;
 pub use receiving::{Receipt, receive};
 pub use replies::{Got, reply};
 pub use requests::request;
-pub use sending::{answer_reply, unread_reply};
+pub use sending::{answer_reply, unread_bytes, unread_reply};

@@ -3,7 +3,7 @@ ghost use Rattle.std.specs.Prelude.{◌≡◌, ◌+◌, ◌≤◌, true, IfOk};
 ghost use Rattle.aidl_schema.specs.Types.{elem, is_type};
 ghost use Rattle.aidl_values.specs.View.{view, views};
 ghost use Rattle.call_pieces.specs.steps.Fronts.{Fronts};
-ghost use Rattle.wire_model.specs.Receiver.{array_opening, array_opening_at, length_at, opening_at, repeated};
+ghost use Rattle.wire_model.specs.Receiver.{array_opening, array_opening_at, length_at, opening, opening_at, repeated};
 
 use aidl_base::{OutOfMemory, Row};
 use aidl_schema::{AidlType, Schema, element, is_array, law_valid};
@@ -14,6 +14,23 @@ use std::alloc::Global;
 
 /// The sum of the lengths of the `out` arrays of one request is at most this.
 pub const MOST_ITEMS: usize = 65_536;
+
+/// What an `out` argument starts as, by the length that is sent of it: an array as so many default values, or null where there is no
+/// length; any other argument as a default value, whatever the length is.
+pub fn opening(
+    alloc: Global,
+    schema: &Schema,
+    ty: AidlType,
+    length: Option<usize>,
+) -> Result<Value, OutOfMemory>
+    requires { is_type schema.now.decls ty ≡ true }
+    ensures { IfOk result (λ v. view v ≡ opening schema.now.decls ty length) }
+{
+    if is_array(ty.shape) {
+        return array_opening(alloc, schema, ty, length);
+    }
+    default_of(alloc, schema, &ty)
+}
 
 /// An `out` argument: an array has its length word, any other has nothing. `sum` is that of the lengths before.
 pub fn opening_front<'a>(

@@ -1,5 +1,5 @@
 //! The bytes of a stub's reply.
-ghost use Rattle.std.specs.Prelude.{◌≡◌, ◌<◌, ◌≤◌, ◌^◌, codes, length, IfOk};
+ghost use Rattle.std.specs.Prelude.{◌≡◌, ◌<◌, ◌≤◌, ◌^◌, codes, length, negsuc, pos, IfOk};
 ghost use Rattle.aidl_schema.specs.Find.{methods_at};
 ghost use Rattle.aidl_values.specs.View.{views};
 ghost use Rattle.parcel_cursors.specs.Written.{with_bytes};
@@ -42,7 +42,6 @@ pub fn answer_reply(
 }
 
 /// The bytes of the reply to a request with bytes left over, None of a oneway method.
-#[tactic(auto, using(crate::proofs::Unread::unread_small))]
 pub fn unread_reply(
     alloc: Global,
     schema: &Schema,
@@ -54,9 +53,17 @@ pub fn unread_reply(
     if is_oneway(schema, interface, method) {
         return Ok(None);
     }
-    let message = unread_message(alloc)?;
-    let bytes = exception_bytes(alloc, BAD_PARCELABLE, &message, 0)?;
+    let bytes = unread_bytes(alloc)?;
     Ok(Some(Row::from_vec(bytes)))
+}
+
+/// The bytes of the reply to a request with bytes left over: an exception, the same of every method that isn't oneway.
+#[tactic(auto, using(crate::proofs::Unread::unread_small))]
+pub fn unread_bytes(alloc: Global) -> Result<Vec<u8>, OutOfMemory>
+    ensures { IfOk result (λ bytes. bytes.items ≡ spell_exception (negsuc 1) (codes "unread argument bytes") (pos 0)) }
+{
+    let message = unread_message(alloc)?;
+    exception_bytes(alloc, BAD_PARCELABLE, &message, 0)
 }
 
 // The message where bytes are left over.
