@@ -1,3 +1,4 @@
 pub mod Answers
 pub mod Handlers
 pub mod Services
+pub mod Unscripted

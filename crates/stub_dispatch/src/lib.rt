@@ -3,7 +3,9 @@
 
 mod answered;
 mod service;
+mod unscripted;
 
 pub use answered::Answered;
 pub use call_parcels::{Got, WriteFault, reply, request};
 pub use service::Service;
+pub use unscripted::not_scripted;
