@@ -1,3 +1,3 @@
 mod Cuts
-mod Lines
 mod Projecting
+pub mod lemmas

@@ -26,28 +26,36 @@ use Rattle.tree_answers.specs.Judged.{break_line}
 abbrev pub piece : List Decl → List Decl → Bool → ℕ → List Carried → Option Methods → LineData → List ℕ
 piece A B trace k carried ms out = trace_text trace carried ++ line_text A B ms k out
 
+-- What is done once a line is at its end: by what was carried, the methods of its values, and what it comes to.
+abbrev pub After : Type 0
+After = List Carried → Option Methods → LineData → Course
+
 -- of a call, by the bytes that were delivered
-abbrev pub call_piece : Profile → List Decl → List Decl → Bool → ℕ → CallData → List ℕ → List ℕ → List ℕ
-call_piece p A B trace k c b r = piece A B trace k (entries p A B c b r) (methods_by c c.server (received p A B c b)) (line_of p A B c b r)
+abbrev pub call_after : Profile → List Decl → List Decl → After → CallData → List ℕ → List ℕ → Course
+call_after p A B after c b r = after (entries p A B c b r) (methods_by c c.server (received p A B c b)) (line_of p A B c b r)
 
 -- the reply, where SERVER sends one
 abbrev pub reply_parcel : List Decl → CallData → List ℕ → Parcel
 reply_parcel A c sent = record { way = Reply; code = call_code A c; sent = sent }
 
--- after the request was delivered as b: the reply is sent, where there is one, and the line is put
-abbrev pub reply_course : Profile → List Decl → List Decl → Bool → ℕ → CallData → Course → List ℕ → Option (List ℕ) → Course
-reply_course p A B trace k c next b None = prints (call_piece p A B trace k c b []) next
-reply_course p A B trace k c next b (Some sent) = sends (reply_parcel A c sent) (λ r. prints (call_piece p A B trace k c b r) next)
+-- after the request was delivered as b: the reply is sent, where there is one
+abbrev pub reply_course : Profile → List Decl → List Decl → After → CallData → List ℕ → Option (List ℕ) → Course
+reply_course p A B after c b None = call_after p A B after c b []
+reply_course p A B after c b (Some sent) = sends (reply_parcel A c sent) (λ r. call_after p A B after c b r)
 
--- a line that is refused is put at once; of a call the request is sent first
-abbrev pub line_course : Profile → List Decl → List Decl → Bool → ℕ → Judged CallData → Course → Course
-line_course p A B trace k (Err why) next = prints (piece A B trace k [] None (refused why)) next
-line_course p A B trace k (Ok c) next = sends (parcel_of (request_entry A c [])) (λ b. reply_course p A B trace k c next b (reply_sent p A B c b))
+-- a line that is refused is at its end at once; of a call the request is sent first
+abbrev pub line_course : Profile → List Decl → List Decl → After → Judged CallData → Course
+line_course p A B after (Err why) = after [] None (refused why)
+line_course p A B after (Ok c) = sends (parcel_of (request_entry A c [])) (λ b. reply_course p A B after c b (reply_sent p A B c b))
+
+-- a line's text is put, and then the next one is run
+abbrev pub puts : List Decl → List Decl → Bool → ℕ → Course → After
+puts A B trace k next carried ms out = prints (piece A B trace k carried ms out) next
 
 -- the lines in order
 abbrev pub lines_course : Profile → List Decl → List Decl → Bool → ℕ → List (List ℕ) → Course
 lines_course p A B trace k [] = ends Done
-lines_course p A B trace k (line ∷ lines) = line_course p A B trace k (script A B line) (lines_course p A B trace (k + 1) lines)
+lines_course p A B trace k (line ∷ lines) = line_course p A B (puts A B trace k (lines_course p A B trace (k + 1) lines)) (script A B line)
 
 -- the lines of the judge, each behind a mark
 abbrev pub marked : List ℕ → List Break → List ℕ

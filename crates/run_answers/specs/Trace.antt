@@ -1,21 +1,16 @@
 -- The lines of `--trace`: each parcel that was carried, before what its line comes to (own).
-use Rattle.std.specs.Prelude.{ℕ, Bool, true, false, List, [], ◌∷◌, ◌++◌, codes}
+use Rattle.std.specs.Prelude.{ℕ, Bool, true, false, List, [], ◌++◌, codes}
 use Rattle.std.specs.Fmt.{decimal}
 use Rattle.std.specs.List.{flat_map}
-use Rattle.hex.specs.Hex.{encode_lower}
 use Rattle.aidl_outside.specs.declared.link.Carried.{Carried}
 use Rattle.aidl_outside.specs.declared.link.Way.{Way}
 use Rattle.aidl_outside.specs.declared.link.Way.TheVariants.{Request, Reply}
 use Rattle.tool_frame.specs.Answer.{line}
+use Rattle.tool_frame.specs.Shown.{shown}
 
 abbrev pub way_text : Way → List ℕ
 way_text Request = codes "request"
 way_text Reply = codes "reply"
-
--- lower-case hexadecimal, `-` for no bytes
-abbrev pub shown : List ℕ → List ℕ
-shown [] = codes "-"
-shown (b ∷ bytes) = encode_lower (b ∷ bytes)
 
 -- `request CODE SENT DELIVERED`
 abbrev pub trace_line : Carried → List ℕ

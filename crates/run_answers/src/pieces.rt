@@ -4,7 +4,7 @@ ghost use Rattle.std.specs.Fmt.{decimal};
 ghost use Rattle.std.specs.List.{flat_map};
 ghost use Rattle.call_runner.specs.Runs.{IsTyped, line_data};
 ghost use Rattle.run_answers.specs.Running.{piece};
-ghost use Rattle.run_answers.specs.Trace.{shown, trace_line, trace_text, way_text};
+ghost use Rattle.run_answers.specs.Trace.{trace_line, trace_text, way_text};
 
 use aidl_base::OutOfMemory;
 use aidl_outside::{Carried, Way};
@@ -13,6 +13,7 @@ use call_lines::push_line;
 use call_runner::LineRun;
 use std::alloc::Global;
 use std::fmt::Write;
+use tool_frame::push_shown;
 
 /// What is put of a line: the trace lines of what was carried, where they are asked for, and then its own.
 pub fn line_piece(
@@ -81,17 +82,4 @@ fn way_name(way: Way) -> &'static str
         Way::Request => "request",
         Way::Reply => "reply",
     }
-}
-
-// Adds bytes in hexadecimal.
-fn push_shown(alloc: Global, bytes: &[u8], text: &mut String) -> Result<(), OutOfMemory>
-    ensures { OnOk result (string_bytes text.new ≡ string_bytes text.old ++ shown bytes.now) }
-{
-    if bytes.is_empty() {
-        text.push_str("-")?;
-        return Ok(());
-    }
-    let digits = hex::encode(alloc, bytes)?;
-    text.push_str(digits.as_str())?;
-    Ok(())
 }

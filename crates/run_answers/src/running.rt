@@ -6,7 +6,7 @@ ghost use Rattle.call_pieces.specs.Planned.{ArePlansOf};
 ghost use Rattle.call_scripts.specs.Script.{script};
 ghost use Rattle.run_answers.specs.CallLines.{lines_of};
 ghost use Rattle.run_answers.specs.Projected.{Projects, projected_piece, projected_text};
-ghost use Rattle.run_answers.specs.Running.{line_course, lines_course, piece, run_course};
+ghost use Rattle.run_answers.specs.Running.{line_course, lines_course, piece, puts, run_course};
 ghost use Rattle.run_answers.specs.steps.Steps.{PutsText, Steps};
 ghost use Rattle.tool_frame.specs.Course.{Course};
 ghost use Rattle.tool_frame.specs.Verdict.{IsVerdict};
@@ -169,7 +169,7 @@ fn run_next<K: Sink, L: Link>(
     requires server { ArePlansOf server.now.plans.now server.now.schema.now.decls }
     requires ways { SameWays client.now.schema.now.decls server.now.schema.now.decls }
     ensures steps { let seen = seen_alone K.told K.count L.log L.is_faithful L.count in let A = client.now.schema.now.decls in let B = server.now.schema.now.decls in
-        (next : Course) → Steps (line_course profile A B trace number (script A B line.now) next) next (seen sink.old link.old) (seen sink.new link.new) result }
+        (next : Course) → Steps (line_course profile A B (puts A B trace number next) (script A B line.now)) next (seen sink.old link.old) (seen sink.new link.new) result }
     ensures exits { IfErr result (λ exit. IsVerdict exit → ⊥) }
     ensures projected { let A = client.now.schema.now.decls in let B = server.now.schema.now.decls in OneFollows A B → L.is_faithful link.old ≡ true
         → IfOk result (λ u. Adds (K.told sink.old) (K.told sink.new) (projected_piece profile A B trace number (script A B line.now))) }

@@ -1,22 +1,17 @@
 -- What is printed of frozen versions (own).
-use Rattle.std.specs.Prelude.{ℕ, ◌++◌, List, [], ◌∷◌, take, if◌then◌else◌, Option, Some, None, codes}
+use Rattle.std.specs.Prelude.{ℕ, ◌++◌, List, [], take, if◌then◌else◌, Option, Some, None, codes}
 use Rattle.std.specs.Fmt.{decimal}
 use Rattle.std.specs.Str.{encode_utf8_all}
-use Rattle.hex.specs.Hex.{encode_lower}
 use Rattle.api_versions.specs.declared.version.Version.{Version}
 use Rattle.api_versions.specs.Whole.{defined, is_whole}
 use Rattle.tool_frame.specs.Answer.{Answer, line, negative}
+use Rattle.tool_frame.specs.Shown.{shown}
 
 -- the 40 digits of the text of a `.hash`
 abbrev pub digits : List ℕ → List ℕ
 digits text = encode_utf8_all (take 40 text)
 
--- bytes in hexadecimal, `-` for none
-abbrev pub shown : List ℕ → List ℕ
-shown [] = codes "-"
-shown (b ∷ bytes) = encode_lower (b ∷ bytes)
-
--- why a version isn't whole: `missing ` or `kept BYTES `
+-- why a version isn't whole: `missing ` or `kept BYTES `, BYTES as they are shown
 abbrev pub reason : Option (List ℕ) → List ℕ
 reason None = codes "missing "
 reason (Some kept) = codes "kept " ++ (shown kept ++ codes " ")

@@ -7,6 +7,7 @@ use aidl_base::{OutOfMemory, Row};
 use api_versions::{Version, defined_text, text_of};
 use std::alloc::Global;
 use std::fmt::Write;
+use tool_frame::push_shown;
 
 /// Adds the line of a version: `N HASH ok` of one that is whole, else `N missing HASH` or `N kept BYTES HASH`.
 pub fn push_version(
@@ -80,19 +81,6 @@ fn push_reason(alloc: Global, kept: &Option<Row<u8>>, text: &mut String) -> Resu
             text.push_str(" ")?;
         }
     }
-    Ok(())
-}
-
-// Adds bytes in hexadecimal, `-` for none.
-fn push_shown(alloc: Global, bytes: &[u8], text: &mut String) -> Result<(), OutOfMemory>
-    ensures { OnOk result (string_bytes text.new ≡ string_bytes text.old ++ meant.shown bytes.now) }
-{
-    if bytes.is_empty() {
-        text.push_str("-")?;
-        return Ok(());
-    }
-    let digits = hex::encode(alloc, bytes)?;
-    text.push_str(digits.as_str())?;
     Ok(())
 }
 

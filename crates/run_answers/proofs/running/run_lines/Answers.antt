@@ -7,7 +7,7 @@ use Rattle.tool_frame.specs.Course.{Course}
 use Rattle.tool_frame.specs.Seen.{Seen}
 use Rattle.tool_frame.specs.steps.Courses.{seen_alone}
 use Rattle.tool_frame.proofs.lemmas.Courses.{went_none}
-use Rattle.run_answers.proofs.Lines.{empty_list, lines_ended, next_ended, next_went, still_faithful}
+use Rattle.run_answers.proofs.lemmas.Lines.{empty_list, lines_ended, next_ended, next_went, still_faithful}
 use Rattle.run_answers.proofs.Projecting.{lines_added, next_added}
 use Rattle.run_answers.proofs.running.run_lines.Goals as goal
 

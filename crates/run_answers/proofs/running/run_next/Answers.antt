@@ -6,10 +6,11 @@ use Rattle.call_runner.specs.declared.line.RunFault.{RunFault}
 use Rattle.call_runner.specs.Runs.{RunCause, Stops}
 use Rattle.call_scripts.specs.Calls.{CallData}
 use Rattle.call_scripts.specs.Script.{script}
+use Rattle.run_answers.specs.Running.{puts}
 use Rattle.tool_frame.specs.Seen.{Seen}
 use Rattle.tool_frame.specs.steps.Courses.{seen_alone}
 use Rattle.tool_frame.proofs.lemmas.Endings.{not_verdict}
-use Rattle.run_answers.proofs.Lines.{line_link, line_memory, line_steps}
+use Rattle.run_answers.proofs.lemmas.Lines.{line_link, line_memory, line_steps}
 use Rattle.run_answers.proofs.Projecting.{carried_is, put_projected, put_stops}
 use Rattle.run_answers.proofs.running.run_next.Goals as goal
 
@@ -36,7 +37,7 @@ returns-in-Err-LinkFault g c =
     let meant : Judged CallData = script A B c.args.line.now in
     let before : Seen = seen_alone g.K.Sink.told g.K.Sink.count g.L.Link.log g.L.Link.is_faithful g.L.Link.count c.args.sink.now c.args.link.now in
     record {
-      steps = λ next. line_link c.args.profile A B c.args.trace c.args.number next meant before (g.L.Link.log c.run_line.new.link) (g.L.Link.is_faithful c.run_line.new.link)
+      steps = λ next. line_link c.args.profile A B (puts A B c.args.trace c.args.number next) meant before (g.L.Link.log c.run_line.new.link) (g.L.Link.is_faithful c.run_line.new.link)
           (g.L.Link.count c.run_line.new.link) c.run_line.ensures.nature
           (subst (λ (f : RunFault). Stops c.args.profile A B meant before.is_faithful before.log (g.L.Link.log c.run_line.new.link) f) c.in-Err-LinkFault.field-0-is c.in-Err-LinkFault.ensures.stops)
           (subst (λ (f : RunFault). RunCause {T = LineRun} before.link_faults (g.L.Link.count c.run_line.new.link) (Err f)) c.in-Err-LinkFault.field-0-is c.in-Err-LinkFault.ensures.cause);
@@ -51,7 +52,7 @@ returns-in-Err-OutOfMemory g c =
     let meant : Judged CallData = script A B c.args.line.now in
     let before : Seen = seen_alone g.K.Sink.told g.K.Sink.count g.L.Link.log g.L.Link.is_faithful g.L.Link.count c.args.sink.now c.args.link.now in
     record {
-      steps = λ next. line_memory c.args.profile A B c.args.trace c.args.number next meant before (g.L.Link.log c.run_line.new.link) (g.L.Link.is_faithful c.run_line.new.link)
+      steps = λ next. line_memory c.args.profile A B (puts A B c.args.trace c.args.number next) meant before (g.L.Link.log c.run_line.new.link) (g.L.Link.is_faithful c.run_line.new.link)
           (g.L.Link.count c.run_line.new.link) c.run_line.ensures.nature
           (subst (λ (f : RunFault). Stops c.args.profile A B meant before.is_faithful before.log (g.L.Link.log c.run_line.new.link) f) c.in-Err-OutOfMemory.field-0-is c.in-Err-OutOfMemory.ensures.stops)
           (subst (λ (f : RunFault). RunCause {T = LineRun} before.link_faults (g.L.Link.count c.run_line.new.link) (Err f)) c.in-Err-OutOfMemory.field-0-is c.in-Err-OutOfMemory.ensures.cause);

@@ -1,4 +1,4 @@
--- What a line of a calls file adds to a run.
+-- What a line of a calls file adds to a run, whatever is done at its end; and the lines of a run, each of which is put.
 use Rattle.std.proofs.Common.{◌≡◌, ℕ, suc, ◌+◌, ◌==◌, ℤ, Bool, true, List, [], ◌∷◌, ◌++◌, length, Option, Some, None, Result, Ok, Err, refl, sym, ap, ◌∙◌, subst, arith, inl, inr}
 use Rattle.std.specs.Prelude.{◌≢◌, ◌⊎◌, ⊤}
 use Rattle.std.proofs.lemmas.Bool.{eqb-true}
@@ -17,7 +17,7 @@ use Rattle.call_runner.specs.Runs.{LineRuns, Stops, line_data, methods_by}
 use Rattle.call_scripts.specs.Calls.{CallData}
 use Rattle.call_scripts.specs.Script.{script}
 use Rattle.run_answers.specs.CallLines.{lines_of}
-use Rattle.run_answers.specs.Running.{call_piece, line_course, lines_course, piece, reply_course, reply_parcel}
+use Rattle.run_answers.specs.Running.{After, call_after, line_course, lines_course, piece, puts, reply_course, reply_parcel}
 use Rattle.run_answers.specs.steps.Steps.{PutsText, Steps}
 use Rattle.tool_frame.specs.Course.{Course, ends, prints, due_after, answer_after}
 use Rattle.tool_frame.specs.declared.verdict.Verdict.TheVariants.{Done}
@@ -41,50 +41,50 @@ none_left : (ms rest : List Carried) → ◌≡◌ {A = List Carried} [] (ms ++ 
 none_left [] rest e = sym e
 none_left (m ∷ ms) rest e = cc
 
-module _ (p : Profile) (A B : List Decl) (trace : Bool) (k : ℕ) (next : Course) where
-  -- once these were carried, the rest of a line's course is that its text is put
+module _ (p : Profile) (A B : List Decl) (after : After) where
+  -- once these were carried, the rest of a line's course is what is done at its end
   abbrev LineComes : Judged CallData → List Carried → Option Methods → LineData → Type 0
-  LineComes meant carried ms out = ComesTo (line_course p A B trace k meant next) carried [] (prints (piece A B trace k carried ms out) next)
+  LineComes meant carried ms out = ComesTo (line_course p A B after meant) carried [] (after carried ms out)
 
   module _ (c : CallData) (b r : List ℕ) where
-    abbrev piece_by : Option (List ℕ) → List ℕ → List ℕ
-    piece_by sent reply = piece A B trace k (request_entry A c b ∷ reply_entries (call_code A c) sent reply) (methods_by c c.server (received p A B c b))
+    abbrev after_by : Option (List ℕ) → List ℕ → Course
+    after_by sent reply = after (request_entry A c b ∷ reply_entries (call_code A c) sent reply) (methods_by c c.server (received p A B c b))
         (reported (received p A B c b) sent (client p A c.interface c.method reply))
 
     -- where no reply is sent, none is looked at
-    same_piece : (sent : Option (List ℕ)) → sent ≡ None → piece_by sent r ≡ piece_by sent []
-    same_piece None e = ap (λ out. piece A B trace k (request_entry A c b ∷ []) (methods_by c c.server (received p A B c b)) out)
+    same_after : (sent : Option (List ℕ)) → sent ≡ None → after_by sent r ≡ after_by sent []
+    same_after None e = ap (λ out. after (request_entry A c b ∷ []) (methods_by c c.server (received p A B c b)) out)
         (same_report (received p A B c b) (client p A c.interface c.method r) (client p A c.interface c.method []))
-    same_piece (Some sent) e = cc
+    same_after (Some sent) e = cc
 
-    reply_comes : (sent : Option (List ℕ)) → (sent ≡ None → call_piece p A B trace k c b r ≡ call_piece p A B trace k c b [])
-        → ComesTo (reply_course p A B trace k c next b sent) (reply_entries (call_code A c) sent r) [] (prints (call_piece p A B trace k c b r) next)
+    reply_comes : (sent : Option (List ℕ)) → (sent ≡ None → call_after p A B after c b r ≡ call_after p A B after c b [])
+        → ComesTo (reply_course p A B after c b sent) (reply_entries (call_code A c) sent r) [] (call_after p A B after c b r)
     reply_comes None same =
-        subst (λ t. ComesTo (prints (call_piece p A B trace k c b []) next) [] [] (prints t next)) (sym (same refl)) (comes_at (prints (call_piece p A B trace k c b []) next))
+        subst (λ course. ComesTo (call_after p A B after c b []) [] [] course) (sym (same refl)) (comes_at (call_after p A B after c b []))
     reply_comes (Some sent) same = record { are_due = (refl, tt); due = λ more. refl; answer = λ more. refl }
 
-    request_comes : ComesTo (line_course p A B trace k (Ok c) next) (request_entry A c b ∷ []) [] (reply_course p A B trace k c next b (reply_sent p A B c b))
+    request_comes : ComesTo (line_course p A B after (Ok c)) (request_entry A c b ∷ []) [] (reply_course p A B after c b (reply_sent p A B c b))
     request_comes = record { are_due = (refl, tt); due = λ more. refl; answer = λ more. refl }
 
     call_comes : LineComes (Ok c) (entries p A B c b r) (methods_by c c.server (received p A B c b)) (line_of p A B c b r)
-    call_comes = comes_on (line_course p A B trace k (Ok c) next) (reply_course p A B trace k c next b (reply_sent p A B c b)) (prints (call_piece p A B trace k c b r) next)
-        (request_entry A c b ∷ []) (reply_entries (call_code A c) (reply_sent p A B c b) r) [] [] request_comes (reply_comes (reply_sent p A B c b) (same_piece (reply_sent p A B c b)))
+    call_comes = comes_on (line_course p A B after (Ok c)) (reply_course p A B after c b (reply_sent p A B c b)) (call_after p A B after c b r)
+        (request_entry A c b ∷ []) (reply_entries (call_code A c) (reply_sent p A B c b) r) [] [] request_comes (reply_comes (reply_sent p A B c b) (same_after (reply_sent p A B c b)))
 
     -- A parcel is due after some of what is carried, and nothing was put yet.
     abbrev StopsAt : Course → List Carried → Type 0
     StopsAt course made = ((parcel : Parcel) × (due_after course made ≡ Some parcel)) × ((answer_after course made).text ≡ [])
 
-    stop_reply : (sent : Option (List ℕ)) (ms rest : List Carried) → reply_entries (call_code A c) sent r ≡ ms ++ rest → rest ≢ [] → StopsAt (reply_course p A B trace k c next b sent) ms
+    stop_reply : (sent : Option (List ℕ)) (ms rest : List Carried) → reply_entries (call_code A c) sent r ≡ ms ++ rest → rest ≢ [] → StopsAt (reply_course p A B after c b sent) ms
     stop_reply None ms rest e ne = absurd (ne (none_left ms rest e))
     stop_reply (Some sent) [] rest e ne = ((reply_parcel A c sent, refl), refl)
     stop_reply (Some sent) (m ∷ ms) rest e ne = let more : ◌≡◌ {A = List Carried} [] (ms ++ rest) = cc in absurd (ne (none_left ms rest more))
 
-    stop_call : (made rest : List Carried) → entries p A B c b r ≡ made ++ rest → rest ≢ [] → StopsAt (line_course p A B trace k (Ok c) next) made
+    stop_call : (made rest : List Carried) → entries p A B c b r ≡ made ++ rest → rest ≢ [] → StopsAt (line_course p A B after (Ok c)) made
     stop_call [] rest e ne = ((parcel_of (request_entry A c []), refl), refl)
     stop_call (m ∷ ms) rest e ne =
         let first : m ≡ request_entry A c b = cc in
         let more : reply_entries (call_code A c) (reply_sent p A B c b) r ≡ ms ++ rest = cc in
-        subst (λ x. StopsAt (line_course p A B trace k (Ok c) next) (x ∷ ms)) (sym first) (stop_reply (reply_sent p A B c b) ms rest more ne)
+        subst (λ x. StopsAt (line_course p A B after (Ok c)) (x ∷ ms)) (sym first) (stop_reply (reply_sent p A B c b) ms rest more ne)
 
   along : (meant : Judged CallData) (run : LineRun) (es : List Carried) (ms : Option Methods) (out : LineData) → run.carried ≡ es → run.methods ≡ ms → line_data run.out ≡ out
       → LineComes meant es ms out → LineComes meant run.carried run.methods (line_data run.out)
@@ -92,7 +92,7 @@ module _ (p : Profile) (A B : List Decl) (trace : Bool) (k : ℕ) (next : Course
       subst (λ x. LineComes meant x run.methods (line_data run.out)) (sym e) (subst (λ x. LineComes meant es x (line_data run.out)) (sym f) (subst (λ x. LineComes meant es ms x) (sym g) h))
 
   line_comes : (meant : Judged CallData) (run : LineRun) → LineRuns p A B meant run → LineComes meant run.carried run.methods (line_data run.out)
-  line_comes (Err why) run h = along (Err why) run [] None (refused why) h.0 h.2 h.1 (comes_at (line_course p A B trace k (Err why) next))
+  line_comes (Err why) run h = along (Err why) run [] None (refused why) h.0 h.2 h.1 (comes_at (line_course p A B after (Err why)))
   line_comes (Ok c) run h = along (Ok c) run (entries p A B c h.0 h.1) (methods_by c c.server (received p A B c h.0)) (line_of p A B c h.0 h.1) h.2 h.4 h.3 (call_comes c h.0 h.1)
 
   -- what a link tells after a line
@@ -100,8 +100,9 @@ module _ (p : Profile) (A B : List Decl) (trace : Bool) (k : ℕ) (next : Course
     abbrev after_line : Seen
     after_line = record before { log = log; is_faithful = is_faithful; link_faults = faults }
 
-    line_went : (run : LineRun) → LineRuns p A B meant run → Adds before.log log run.carried → (before.is_faithful ≡ true → AreFaithful run.carried) → faults ≡ before.link_faults
-        → Went (line_course p A B trace k meant next) (prints (piece A B trace k run.carried run.methods (line_data run.out)) next) before after_line
+    -- The line was run, up to what is done at its end.
+    pub line_went : (run : LineRun) → LineRuns p A B meant run → Adds before.log log run.carried → (before.is_faithful ≡ true → AreFaithful run.carried) → faults ≡ before.link_faults
+        → Went (line_course p A B after meant) (after run.carried run.methods (line_data run.out)) before after_line
     line_went run runs adds faithful good = record {
       entries = run.carried;
       text = [];
@@ -116,34 +117,20 @@ module _ (p : Profile) (A B : List Decl) (trace : Bool) (k : ℕ) (next : Course
       link_nature = nature;
     }
 
-    -- The line was run, and its text was put, or not all of it.
-    pub line_steps : (run : LineRun) (told : Option (List ℕ)) (puts : ℕ) (given : Result ⊤ ℕ) → LineRuns p A B meant run → Adds before.log log run.carried
-        → (before.is_faithful ≡ true → AreFaithful run.carried) → faults ≡ before.link_faults
-        → PutsText (piece A B trace k run.carried run.methods (line_data run.out)) before.told told before.sink_faults puts given
-        → Steps (line_course p A B trace k meant next) next before (record after_line { told = told; sink_faults = puts }) given
-    line_steps run told puts (Ok u) runs adds faithful good put =
-        let text = piece A B trace k run.carried run.methods (line_data run.out) in
-        went_on (line_course p A B trace k meant next) (prints text next) before after_line (line_went run runs adds faithful good) next (record after_line { told = told; sink_faults = puts })
-        (put_went after_line told puts text next put.0 put.1)
-    line_steps run told puts (Err exit) runs adds faithful good put =
-        let text = piece A B trace k run.carried run.methods (line_data run.out) in
-        went_ended (line_course p A B trace k meant next) (prints text next) before after_line (line_went run runs adds faithful good) (record after_line { told = told; sink_faults = puts }) exit
-        (put_cut after_line told puts text next exit put.exits put.fault put.good put.front)
-
     carried_some : (m : Judged CallData) (fault : RunFault) → m ≡ meant → Stops p A B m before.is_faithful before.log log fault
-        → (made : List Carried) × CarriedBy (line_course p A B trace k m next) before after_line made
+        → (made : List Carried) × CarriedBy (line_course p A B after m) before after_line made
     carried_some (Err why) fault same h = ([], record { log = h.0; are_due = tt; faithful = λ f i entry none. absurd (omega arith) })
     carried_some (Ok c) fault same h = (
       h.2,
       record {
         log = h.5;
-        are_due = due_front (due_in (line_course p A B trace k (Ok c) next)) [] h.2 h.3 (subst (λ es. AreDue (due_in (line_course p A B trace k (Ok c) next)) [] es) h.4 (call_comes c h.0 h.1).are_due);
+        are_due = due_front (due_in (line_course p A B after (Ok c))) [] h.2 h.3 (subst (λ es. AreDue (due_in (line_course p A B after (Ok c))) [] es) h.4 (call_comes c h.0 h.1).are_due);
         faithful = h.6;
       },
     )
 
     -- Memory was wanted.
-    pub line_memory : Stops p A B meant before.is_faithful before.log log OutOfMemory → faults ≡ before.link_faults → RanCourse (line_course p A B trace k meant next) before after_line 5
+    pub line_memory : Stops p A B meant before.is_faithful before.log log OutOfMemory → faults ≡ before.link_faults → RanCourse (line_course p A B after meant) before after_line 5
     line_memory stops good = record {
       exits = inr (inr (inl refl));
       kept = refl;
@@ -154,7 +141,7 @@ module _ (p : Profile) (A B : List Decl) (trace : Bool) (k : ℕ) (next : Course
       link_good = λ other. good;
       link_nature = nature;
       answer = λ verdict. absurd (not_verdict 5 (omega arith) (omega arith) verdict);
-      front = λ either. let some = carried_some meant OutOfMemory refl stops in (some.0, some.1, ([], (answer_after (line_course p A B trace k meant next) some.0).text, refl, nothing_told before.told));
+      front = λ either. let some = carried_some meant OutOfMemory refl stops in (some.0, some.1, ([], (answer_after (line_course p A B after meant) some.0).text, refl, nothing_told before.told));
       stopped = λ six. absurd (omega arith);
     }
 
@@ -165,7 +152,7 @@ module _ (p : Profile) (A B : List Decl) (trace : Bool) (k : ℕ) (next : Course
   -- A call of the link failed.
   pub line_link : (meant : Judged CallData) (before : Seen) (log : Option (List Carried)) (is_faithful : Bool) (faults : ℕ) → is_faithful ≡ before.is_faithful
       → Stops p A B meant before.is_faithful before.log log LinkFault → Rose before.link_faults faults
-      → RanCourse (line_course p A B trace k meant next) before (record before { log = log; is_faithful = is_faithful; link_faults = faults }) 6
+      → RanCourse (line_course p A B after meant) before (record before { log = log; is_faithful = is_faithful; link_faults = faults }) 6
   unfolding carried_some
   line_link (Err why) before log is_faithful faults nature stops rose = let never : ⊥ = cc in absurd never
   line_link (Ok c) before log is_faithful faults nature stops rose = record {
@@ -182,11 +169,33 @@ module _ (p : Profile) (A B : List Decl) (trace : Bool) (k : ℕ) (next : Course
     stopped = λ six. (some.0, some.1, stop.0, subst (Adds before.told before.told) (sym stop.1) (nothing_told before.told));
   }
     where
-      some : (made : List Carried) × CarriedBy (line_course p A B trace k (Ok c) next) before (record before { log = log; is_faithful = is_faithful; link_faults = faults }) made
+      some : (made : List Carried) × CarriedBy (line_course p A B after (Ok c)) before (record before { log = log; is_faithful = is_faithful; link_faults = faults }) made
       some = carried_some (Ok c) before log is_faithful faults nature (Ok c) LinkFault refl stops
 
-      stop : StopsAt c stops.0 stops.1 (line_course p A B trace k (Ok c) next) stops.2
+      stop : StopsAt c stops.0 stops.1 (line_course p A B after (Ok c)) stops.2
       stop = stop_call c stops.0 stops.1 stops.2 stops.3 stops.4 (stops.7 refl)
+
+-- A line was run, and its text was put, or not all of it.
+module _ (p : Profile) (A B : List Decl) (trace : Bool) (k : ℕ) (next : Course) (meant : Judged CallData)
+    (before : Seen) (log : Option (List Carried)) (is_faithful : Bool) (faults : ℕ) (nature : is_faithful ≡ before.is_faithful) where
+  abbrev whole : Course
+  whole = line_course p A B (puts A B trace k next) meant
+
+  abbrev ran : Seen
+  ran = record before { log = log; is_faithful = is_faithful; link_faults = faults }
+
+  pub line_steps : (run : LineRun) (told : Option (List ℕ)) (count : ℕ) (given : Result ⊤ ℕ) → LineRuns p A B meant run → Adds before.log log run.carried
+      → (before.is_faithful ≡ true → AreFaithful run.carried) → faults ≡ before.link_faults
+      → PutsText (piece A B trace k run.carried run.methods (line_data run.out)) before.told told before.sink_faults count given
+      → Steps whole next before (record ran { told = told; sink_faults = count }) given
+  line_steps run told count (Ok u) runs adds faithful good put =
+      let text = piece A B trace k run.carried run.methods (line_data run.out) in
+      went_on whole (prints text next) before ran (line_went p A B (puts A B trace k next) meant before log is_faithful faults nature run runs adds faithful good) next (record ran { told = told; sink_faults = count })
+      (put_went ran told count text next put.0 put.1)
+  line_steps run told count (Err exit) runs adds faithful good put =
+      let text = piece A B trace k run.carried run.methods (line_data run.out) in
+      went_ended whole (prints text next) before ran (line_went p A B (puts A B trace k next) meant before log is_faithful faults nature run runs adds faithful good) (record ran { told = told; sink_faults = count }) exit
+      (put_cut ran told count text next exit put.exits put.fault put.good put.front)
 
 -- A line of those that are left went well, or the run ended in it.
 module _ (p : Profile) (A B : List Decl) (trace : Bool) (k : ℕ) (whole : Course) (rest line after : List ℕ) (start now later : Seen)
@@ -194,14 +203,17 @@ module _ (p : Profile) (A B : List Decl) (trace : Bool) (k : ℕ) (whole : Cours
   abbrev left : Course
   left = lines_course p A B trace (k + 1) (lines_of after)
 
-  so_far : Went whole (line_course p A B trace k (script A B line) left) start now
+  abbrev here : Course
+  here = line_course p A B (puts A B trace k left) (script A B line)
+
+  so_far : Went whole here start now
   so_far = subst (λ ls. Went whole (lines_course p A B trace k ls) start now) cuts went
 
-  pub next_went : Went (line_course p A B trace k (script A B line) left) left now later → Went whole left start later
-  next_went more = went_on whole (line_course p A B trace k (script A B line) left) start now so_far left later more
+  pub next_went : Went here left now later → Went whole left start later
+  next_went more = went_on whole here start now so_far left later more
 
-  pub next_ended : (exit : ℕ) → RanCourse (line_course p A B trace k (script A B line) left) now later exit → RanCourse whole start later exit
-  next_ended exit ran = went_ended whole (line_course p A B trace k (script A B line) left) start now so_far later exit ran
+  pub next_ended : (exit : ℕ) → RanCourse here now later exit → RanCourse whole start later exit
+  next_ended exit ran = went_ended whole here start now so_far later exit ran
 
 pub still_faithful : (before now : Bool) → now ≡ before → before ≡ true → now ≡ true
 still_faithful before now nature faithful = nature ∙ faithful
