@@ -1,4 +1,4 @@
-//! What `run` prints of one call: its line.
+//! What `run` prints of one call: its line, and the parts of it that other commands print too.
 #![tactic(auto)]
 
 mod clients;
@@ -6,4 +6,5 @@ mod methods;
 mod objects;
 mod values;
 
-pub use objects::push_line;
+pub use clients::push_saw;
+pub use objects::{push_line, push_object};

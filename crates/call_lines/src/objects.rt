@@ -36,7 +36,8 @@ pub fn push_line(
     Ok(())
 }
 
-fn push_object(
+/// Adds the object that the line with a number comes to, without a newline. Memory may be wanted.
+pub fn push_object(
     alloc: Global,
     client: &Schema,
     server: &Schema,
@@ -45,6 +46,7 @@ fn push_object(
     methods: Option<Methods>,
     out: &mut String,
 ) -> Result<(), OutOfMemory>
+    // Its values have the types of these methods.
     requires { IsTyped client.now.decls server.now.decls methods line.now }
     ensures { OnOk result (string_bytes out.new ≡ string_bytes out.old ++ object_text client.now.decls server.now.decls methods number (line_data line.now)) }
 {

@@ -12,4 +12,4 @@ mod types;
 
 pub use decoding::decode;
 pub use encoding::encode;
-pub use steps::parcel_of;
+pub use steps::{known_types, parcel_of};
