@@ -1,6 +1,6 @@
 -- What comes of a call that a line of a calls file means: what is carried of it, and what is made of that (own). p is the profile of reading, A
 -- is CLIENT's declarations and B SERVER's, c the call, b the bytes of the request and r those of the reply as they were delivered.
-use Rattle.std.specs.Prelude.{ℕ, ◌==◌, ℤ, pos, negsuc, if◌then◌else◌, List, [], ◌∷◌, Option, Some, None, Result, Ok, Err, codes}
+use Rattle.std.specs.Prelude.{ℕ, ◌==◌, ℤ, if◌then◌else◌, List, [], ◌∷◌, Option, Some, None, Result, Ok, Err}
 use Rattle.aidl_base.specs.declared.profile.Profile.{Profile}
 use Rattle.aidl_outside.specs.declared.link.Carried.{Carried}
 use Rattle.aidl_outside.specs.declared.link.Way.TheVariants.{Request, Reply}
@@ -10,7 +10,8 @@ use Rattle.aidl_values.specs.Data.{Items}
 use Rattle.call_answers.specs.Refusal.{Refusal}
 use Rattle.call_parcels.specs.Sent.{sent_reply, unread}
 use Rattle.call_scripts.specs.Calls.{CallData, TargetData}
-use Rattle.wire_model.specs.Calls.{AnswerData, exception, code_at}
+use Rattle.stub_dispatch.specs.Unscripted.{not_scripted}
+use Rattle.wire_model.specs.Calls.{AnswerData, code_at}
 use Rattle.wire_model.specs.Receiver.{Received, left, called, stub, client}
 use Rattle.wire_model.specs.Requests.{request}
 use Rattle.wire_model.specs.Status.{unknown_transaction}
@@ -27,11 +28,7 @@ received_at p B (Some j) code b = stub p B j code b
 abbrev pub received : Profile → List Decl → List Decl → CallData → List ℕ → Result Received ℤ
 received p A B c b = received_at p B c.server (call_code A c) b
 
--- EX_ILLEGAL_STATE, which SERVER's handler answers for every method but the line's (own)
-abbrev pub not_scripted : AnswerData
-not_scripted = exception (negsuc 4) (codes "not scripted") (pos 0)
-
--- what SERVER's handler answers for the method m
+-- what SERVER's handler answers for the method m: what the line says of it, or else an exception
 abbrev pub scripted : Option TargetData → ℕ → AnswerData
 scripted None m = not_scripted
 scripted (Some t) m = if t.method == m then t.answer else not_scripted

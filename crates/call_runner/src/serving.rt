@@ -1,5 +1,5 @@
 //! What the server answers the request of a call.
-ghost use Rattle.std.specs.Prelude.{◌≡◌, Some, codes, option_map, IfOk};
+ghost use Rattle.std.specs.Prelude.{◌≡◌, Some, option_map, IfOk};
 ghost use Rattle.aidl_values.specs.View.{views};
 ghost use Rattle.call_pieces.specs.Planned.{ArePlansOf};
 ghost use Rattle.call_runner.specs.Lines as meant;
@@ -9,17 +9,14 @@ ghost use Rattle.wire_model.specs.Calls.{answer_of, optional_view};
 ghost use Rattle.wire_model.specs.Receiver.{stub};
 
 use crate::line::Side;
-use aidl_base::{OutOfMemory, Profile, Row, Text};
+use aidl_base::{OutOfMemory, Profile, Row};
 use aidl_values::{Answer, Value};
 use call_scripts::{Call, Target};
 use std::alloc::Global;
-use stub_dispatch::{Answered, Service};
+use stub_dispatch::{Answered, Service, not_scripted};
 
 /// UNKNOWN_TRANSACTION: the server lacks the interface.
 pub const UNKNOWN_TRANSACTION: i32 = -74;
-
-/// EX_ILLEGAL_STATE, the exception of each method but the line's.
-pub const ILLEGAL_STATE: i32 = -5;
 
 // What the server answers a request with a code.
 pub fn serve(
@@ -88,24 +85,6 @@ fn scripted(alloc: Global, target: &Option<Target>, method: u32) -> Result<Answe
         }
         None => not_scripted(alloc),
     }
-}
-
-fn not_scripted(alloc: Global) -> Result<Answer, OutOfMemory>
-    ensures { IfOk result (λ a. answer_of a ≡ meant.not_scripted) }
-{
-    let message = not_scripted_message(alloc)?;
-    Ok(Answer::Exception {
-        code: ILLEGAL_STATE,
-        message,
-        error: 0,
-    })
-}
-
-#[tactic(auto, using(crate::proofs::Unscripted::message_chars))]
-fn not_scripted_message(alloc: Global) -> Result<Text, OutOfMemory>
-    ensures { IfOk result (λ text. text ≡ codes "not scripted") }
-{
-    Text::from_str(alloc, "not scripted")
 }
 
 // The same answer.
