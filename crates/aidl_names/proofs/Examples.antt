@@ -7,10 +7,10 @@ use Rattle.aidl_syntax.specs.Trees.{Field}
 use Rattle.aidl_syntax.specs.Trees.Decl.{decl}
 use Rattle.aidl_syntax.specs.Trees.Body.{parcelable}
 use Rattle.aidl_syntax.specs.Trees.Members.{none, field, nested}
-use Rattle.name_meanings.specs.declared.meaning.Resolved.TheVariants.{Declared}
+use Rattle.name_resolution.specs.declared.meaning.Resolved.TheVariants.{Declared}
 use Rattle.aidl_syntax.specs.Sources.{Source}
-use Rattle.name_meanings.specs.Resolution.{resolved, meaning_of_word}
-use Rattle.name_rules.specs.Rules.{breach}
+use Rattle.name_resolution.specs.Resolution.{resolved, meaning_of_word}
+use Rattle.aidl_names.specs.Rules.{breach}
 use Rattle.aidl_names.specs.Breaches.{breaches}
 
 abbrev ident : List ℕ → Ident

@@ -1,2 +1,4 @@
+mod Alike
+pub mod lemmas
 mod Examples
 mod Orders

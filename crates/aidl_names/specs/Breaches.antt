@@ -5,7 +5,7 @@ use Rattle.std.specs.Ordering.{nat_cmp, ordering_then, match_ordering}
 use Rattle.std.specs.List.{fold}
 use Rattle.aidl_base.specs.declared.breach.Breach.{Breach}
 use Rattle.aidl_syntax.specs.Sources.{Source}
-use Rattle.name_rules.specs.Rules.{WrongFile, Duplicate, UnknownImport, UnknownType, LeftOutType}
+use Rattle.aidl_names.specs.Rules.{WrongFile, Duplicate, UnknownImport, UnknownType, LeftOutType}
 
 -- the order of two breaches: by file, then by offset, then by rule
 abbrev pub order : Breach → Breach → Ordering

@@ -5,7 +5,7 @@ use Rattle.aidl_names.specs.declared.fault.NameFault.{NameFault}
 use Rattle.aidl_names.specs.declared.fault.NameFault.TheVariants as fault
 use Rattle.aidl_syntax.specs.Sources.{Source}
 use Rattle.declared_names.specs.Declarations.{Entry, declarations}
-use Rattle.name_rules.specs.Limits.{passed}
+use Rattle.aidl_names.specs.Limits.{passed}
 use Rattle.aidl_names.specs.Breaches.{breaches}
 
 -- a limit is passed; or none is, and these are the breaches, of which there are some

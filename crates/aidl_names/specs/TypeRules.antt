@@ -5,8 +5,8 @@ use Rattle.aidl_names.specs.declared.types.TypeRule.{TypeRule}
 use Rattle.aidl_names.specs.declared.types.TypeRule.TheVariants as rule
 use Rattle.aidl_syntax.specs.Sources.{Source}
 use Rattle.declared_names.specs.Declarations.{declarations}
-use Rattle.name_meanings.specs.Resolution.{resolved}
-use Rattle.name_rules.specs.Rules.{is_unknown, is_left_out}
+use Rattle.name_resolution.specs.Resolution.{resolved}
+use Rattle.aidl_names.specs.Rules.{is_unknown, is_left_out}
 
 abbrev pub rule_of : TypeRule → ℕ
 rule_of rule.Unknown = 4

@@ -1,12 +1,18 @@
-//! The names of a tree of files, what they mean, and the breaches of the check rules E1 to E5: those of E4 and E5, on the names
-//! of types, and all of them in order.
+//! The names of a tree of files gathered, with the breaches of the check rules E1 to E5 in order: the limits on members and
+//! arguments, files whose path isn't their declaration's name, names declared twice, imports, and names of types.
 #![tactic(auto)]
 
+mod duplicates;
 mod fault;
+mod files;
+mod imports;
+mod limits;
 mod names;
 mod order;
+mod rows;
 mod types;
 
 pub use fault::NameFault;
 pub use names::{Names, gather};
 pub use order::in_order;
+pub use rows::add_if;

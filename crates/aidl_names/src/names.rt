@@ -7,25 +7,24 @@ ghost use Rattle.declared_names.specs.Declarations.{declarations};
 ghost use Rattle.declared_names.specs.Called.{called_at};
 ghost use Rattle.declared_names.specs.MemberViews.{seen_member};
 ghost use Rattle.aidl_syntax.specs.Trees.{map_option};
-ghost use Rattle.name_meanings.specs.Resolution.{resolved};
-ghost use Rattle.name_meanings.specs.Imports.{meant_through, meant_in};
-ghost use Rattle.name_marks.specs.Marks.{mark_of_entry};
+ghost use Rattle.name_resolution.specs.Resolution.{resolved};
+ghost use Rattle.name_resolution.specs.Imports.{meant_through, meant_in};
+ghost use Rattle.declared_names.specs.Marks.{mark_of_entry};
 ghost use Rattle.aidl_names.specs.Refusals.{IsAccepted, IsRefusal, IsScope};
 ghost use Rattle.declared_names.specs.Entries.{entry_of};
 
+use crate::duplicates::{add_repeated, add_taken};
 use crate::fault::NameFault;
+use crate::files::add_wrong_files;
+use crate::imports::{add_other_imports, add_unknown_imports};
+use crate::limits::passed;
 use crate::order::in_order;
 use crate::types::add_types;
 use aidl_base::{Breach, Ident, Limit, LimitName, OutOfMemory, Row};
 use aidl_syntax::ParsedFile;
-use declared_names::{Found, MemberRef, WalkFault, called, members_by_name, walk};
+use declared_names::{Found, MemberRef, Table, WalkFault, called, marks, members_by_name, walk};
 use indexmap::IndexMap;
-use name_marks::{Table, marks};
-use name_meanings::{Imports, Resolved, imports_of_files};
-use name_resolution::{Known, resolved};
-use name_rules::{
-    add_other_imports, add_repeated, add_taken, add_unknown_imports, add_wrong_files, passed,
-};
+use name_resolution::{Imports, Known, Resolved, imports_of_files, resolved};
 use std::alloc::Global;
 use std::marker::Model;
 
@@ -46,8 +45,8 @@ impl<'a> Model for Names<'a> {
     ghost use Rattle.aidl_syntax.specs.contracts.tree.ParsedFile as parsed_file;
     ghost use Rattle.aidl_syntax.specs.Sources.{AreOfBytes, source_of};
     ghost use Rattle.declared_names.specs.Declarations.{declarations};
-    ghost use Rattle.name_meanings.specs.Imports.{meant_through, meant_in};
-    ghost use Rattle.name_marks.specs.Marks.{mark_of_entry};
+    ghost use Rattle.name_resolution.specs.Imports.{meant_through, meant_in};
+    ghost use Rattle.declared_names.specs.Marks.{mark_of_entry};
     ghost use Rattle.aidl_names.specs.Refusals.{IsAccepted};
     ghost use Rattle.declared_names.specs.Entries.{entry_of};
     ghost use Rattle.declared_names.specs.Called.{called, seen_table};

@@ -4,20 +4,18 @@ ghost use Rattle.aidl_syntax.specs.Members.{body};
 ghost use Rattle.aidl_syntax.specs.Trees.{decl_of};
 ghost use Rattle.aidl_syntax.specs.Sources.{source_of};
 ghost use Rattle.declared_names.specs.Declarations.{declarations};
-ghost use Rattle.name_rules.specs.Rules.{UnknownType, LeftOutType, types_in, types_where, is_left_out, is_interface, is_interface_body};
+ghost use Rattle.aidl_names.specs.Rules.{UnknownType, LeftOutType, types_in, types_where, is_left_out, is_interface, is_interface_body};
 ghost use Rattle.aidl_names.specs.TypeRules.{breaks_of, rule_of};
-ghost use Rattle.name_meanings.specs.Imports.{meant_through, meant_in};
-ghost use Rattle.name_marks.specs.Marks.{mark_of_entry};
+ghost use Rattle.name_resolution.specs.Imports.{meant_through, meant_in};
+ghost use Rattle.declared_names.specs.Marks.{mark_of_entry};
 ghost use Rattle.declared_names.specs.Entries.{entry_of};
 ghost use Rattle.name_resolution.specs.steps.Asked.{AreRight};
 
+use crate::rows::add_if;
 use aidl_base::{Breach, Ident, OutOfMemory};
 use aidl_syntax::{BodyTree, DeclTree, ParsedFile};
-use declared_names::{Found, names_of_types};
-use name_marks::Table;
-use name_meanings::{Imports, Resolved};
-use name_resolution::{Asked, asked_where, resolved};
-use name_rules::add_if;
+use declared_names::{Found, Table, names_of_types};
+use name_resolution::{Asked, Imports, Resolved, asked_where, resolved};
 use std::alloc::Global;
 
 /// A rule on the names of types.

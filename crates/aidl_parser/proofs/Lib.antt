@@ -1,4 +1,4 @@
+pub mod lemmas
 mod Files
 mod MemberRounds
-pub mod lemmas
 mod productions

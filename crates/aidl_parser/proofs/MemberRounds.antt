@@ -7,7 +7,7 @@ use Rattle.aidl_syntax.specs.declared.tree.MemberTree.{MemberTree}
 use Rattle.aidl_syntax.specs.Trees.{Annot, Members, ahead_of, member_of}
 use Rattle.aidl_syntax.specs.Trees.Members.{none}
 use Rattle.expr_parser.specs.steps.Reading.{Read, ◌>>=◌}
-use Rattle.part_parser.specs.steps.Parts.{begins, alter}
+use Rattle.aidl_parser.specs.steps.Parts.{begins, alter}
 use Rattle.aidl_parser.specs.steps.Decls.{decl_at, declared, body_by, members_at, members_by, members_behind, joined, member_at, member_with, with_members}
 
 pub decl_step : (n o : ℕ) (annots : List Annot) (ts : List Token) → 0 < n → decl_at n o annots ts ≡ alter (declared o annots) (body_by (λ inside us. members_at n n inside us) n) ts

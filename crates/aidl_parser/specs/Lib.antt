@@ -1,3 +1,3 @@
+pub mod steps
 pub mod Limits
 pub mod Refusals
-pub mod steps

@@ -5,18 +5,21 @@ ghost use Rattle.aidl_base.specs.declared.reserved.Reserved.TheVariants as word;
 ghost use Rattle.aidl_syntax.specs.Trees.{annots_of, enumerator_of, members_of, member_of, body_of, decl_of};
 ghost use Rattle.aidl_syntax.specs.Trees.Decl.{decl as decl_seen};
 ghost use Rattle.aidl_syntax.specs.Trees.Body.{parcelable, union, enum as enum_seen, interface};
-ghost use Rattle.part_parser.specs.steps.Parts as part;
+ghost use Rattle.aidl_parser.specs.steps.Parts as part;
 ghost use Rattle.aidl_parser.specs.steps.Decls as read;
 ghost use Rattle.expr_parser.specs.Gives.{Gives};
 
+use crate::annotations::annots;
 use crate::fields::{constant, field};
+use crate::lists::trailing;
 use crate::methods::{method, oneway};
+use crate::parts::{begins, begins_word, quoted, word_of, worded};
+use crate::types::ident;
 use aidl_base::Row;
 use aidl_syntax::{
     AnnotTree, BodyTree, DeclTree, EnumeratorTree, MemberTree, NameTree, Reserved, Symbol, Token,
 };
 use expr_parser::{ParseFault, first};
-use part_parser::{annots, begins, begins_word, ident, quoted, trailing, word_of, worded};
 use std::alloc::Global;
 
 // A declaration, behind its annotations.

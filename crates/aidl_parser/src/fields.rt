@@ -2,17 +2,19 @@
 ghost use Rattle.std.specs.Prelude.{◌≡◌, map, length, IfOk, ◌<◌};
 ghost use Rattle.aidl_syntax.specs.declared.token.Symbol.TheVariants as mark;
 ghost use Rattle.aidl_syntax.specs.Trees.{annots_of, expr_of, member_of};
-ghost use Rattle.part_parser.specs.steps.Parts as part;
+ghost use Rattle.aidl_parser.specs.steps.Parts as part;
 ghost use Rattle.aidl_parser.specs.steps.Members as read;
 ghost use Rattle.aidl_parser.specs.steps.Decls as decls;
 ghost use Rattle.expr_parser.specs.Gives.{Gives};
 
+use crate::lists::maybe_behind;
+use crate::parts::{quoted, worded};
+use crate::types::{ident, type_of};
 use aidl_base::Row;
 use aidl_syntax::{
     AnnotTree, ConstantTree, ExprTree, FieldTree, MemberTree, Reserved, Symbol, Token,
 };
 use expr_parser::{Level, ParseFault, expr};
-use part_parser::{ident, maybe_behind, quoted, type_of, worded};
 use std::alloc::Global;
 
 // type ident ["=" init] ";"

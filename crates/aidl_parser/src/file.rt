@@ -2,15 +2,17 @@
 ghost use Rattle.std.specs.Prelude.{◌≡◌, ◌^◌, ◌<◌, length, map, [], Some, IfOk, ◌≤◌};
 ghost use Rattle.aidl_base.specs.declared.reserved.Reserved.TheVariants as word;
 ghost use Rattle.aidl_syntax.specs.Trees.{decl_of, file_of};
-ghost use Rattle.part_parser.specs.steps.Parts as part;
+ghost use Rattle.aidl_parser.specs.steps.Parts as part;
 ghost use Rattle.aidl_parser.specs.steps.Decls as read;
 ghost use Rattle.expr_parser.specs.Gives.{Gives};
 
+use crate::annotations::annots;
 use crate::decls::decl;
+use crate::lists::{Repeat, many, statement};
+use crate::parts::begins_word;
 use aidl_base::Row;
 use aidl_syntax::{DottedTree, FileTree, Reserved, Token};
 use expr_parser::{ParseFault, first};
-use part_parser::{Repeat, annots, begins_word, many, statement};
 use std::alloc::Global;
 
 // The file that all of the tokens are. Each level and each round takes a token at least, so that the fuel, one more than
@@ -71,7 +73,7 @@ fn maybe_package<'a>(
 }
 
 // {"import" dotted ";"}
-#[tactic(auto, unfolding(crate::specs::steps::Decls::imports_at, crate::specs::steps::Decls::named_at), using(part_parser::proofs::lemmas::Rounds::with_none))]
+#[tactic(auto, unfolding(crate::specs::steps::Decls::imports_at, crate::specs::steps::Decls::named_at), using(crate::proofs::lemmas::Rounds::with_none))]
 fn imports<'a>(
     alloc: Global,
     fuel: usize,

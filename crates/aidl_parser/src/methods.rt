@@ -3,15 +3,17 @@ ghost use Rattle.std.specs.Prelude.{◌≡◌, map, [], ◌++◌, length, IfOk, 
 ghost use Rattle.aidl_syntax.specs.declared.token.Symbol.TheVariants as mark;
 ghost use Rattle.aidl_base.specs.declared.reserved.Reserved.TheVariants as word;
 ghost use Rattle.aidl_syntax.specs.Trees.{annots_of, arg_of, member_of};
-ghost use Rattle.part_parser.specs.steps.Parts as part;
+ghost use Rattle.aidl_parser.specs.steps.Parts as part;
 ghost use Rattle.aidl_parser.specs.steps.Members as read;
 ghost use Rattle.aidl_parser.specs.steps.Decls as decls;
 ghost use Rattle.expr_parser.specs.Gives.{Gives};
 
+use crate::lists::{in_parens, maybe_behind};
+use crate::parts::{begins_word, quoted, worded};
+use crate::types::{ident, type_of};
 use aidl_base::Row;
 use aidl_syntax::{AnnotTree, MemberTree, MethodTree, Reserved, Symbol, Token, TypeTree};
 use expr_parser::ParseFault;
-use part_parser::{begins_word, ident, in_parens, maybe_behind, quoted, type_of, worded};
 use std::alloc::Global;
 
 // ["oneway"] (type | "void") ident "(" [arg {"," arg}] ")" ["=" number] ";"

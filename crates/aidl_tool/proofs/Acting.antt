@@ -28,7 +28,7 @@ use Rattle.api_versions.specs.Versions.{versions_at}
 use Rattle.api_versions.specs.Whole.{all_whole}
 use Rattle.api_versions.specs.Writes.{Left, Wrote}
 use Rattle.api_versions.specs.Writes as versions
-use Rattle.freeze_answers.specs.Frozen.{Freezes, IsUnfrozen, frozen}
+use Rattle.version_output.specs.Frozen.{Freezes, IsUnfrozen, frozen}
 use Rattle.tool_frame.specs.declared.printed.Early.{Early}
 use Rattle.tool_frame.specs.declared.printed.Early.TheVariants.{Answered, OutOfMemory}
 use Rattle.tool_frame.specs.declared.printed.Printed.{Printed}
@@ -40,8 +40,8 @@ use Rattle.tool_frame.specs.steps.Results.{Gives, printed}
 use Rattle.tool_frame.specs.Trees.{tree_at}
 use Rattle.aidl_outside.proofs.lemmas.Telling.{tells}
 use Rattle.tool_frame.proofs.lemmas.Writings.{acts_more, ends_unwritten}
-use Rattle.version_answers.specs.Ends.{EndsBy, EndsIn}
-use Rattle.version_answers.specs.Rehashed.{IsUnhashed, Rehashes, rehashed}
+use Rattle.version_output.specs.Ends.{EndsBy, EndsIn}
+use Rattle.version_output.specs.Rehashed.{IsUnhashed, Rehashes, rehashed}
 
 -- Writes that were made, of a list that goes with an answer.
 module _ (acts : Acts) (ws : List Write) (a : Answer) (is : acts ws a) where

@@ -8,14 +8,14 @@ use Rattle.aidl_schema.specs.Broken.{broken}
 use Rattle.aidl_schema.specs.declared.schema.Decl.{Decl}
 use Rattle.aidl_tool.specs.Headline.{Headline, IsCallsText, IsChecked}
 use Rattle.aidl_tool.proofs.Lacking.{unknown_answered, unknown_method, unknown_sent}
-use Rattle.parcel_answers.specs.Decode.{profile_of}
-use Rattle.run_answers.specs.CallLines.{lines_of}
-use Rattle.run_answers.specs.Projected.{projected_text}
-use Rattle.run_answers.specs.Running.{neither}
+use Rattle.parcel_output.specs.Decode.{profile_of}
+use Rattle.run_output.specs.CallLines.{lines_of}
+use Rattle.run_output.specs.Projected.{projected_text}
+use Rattle.run_output.specs.Running.{neither}
 use Rattle.tool_frame.specs.Seen.{Seen}
 use Rattle.tool_frame.specs.Verdict.{IsVerdict}
 use Rattle.tool_words.specs.Command.{Command, judge, run}
-use Rattle.tree_answers.specs.Judged.{judged}
+use Rattle.tree_output.specs.Judged.{judged}
 use Rattle.wire_model.specs.Outcome.{OneFollows}
 
 module _ (before now : Seen) (exit : ℕ) (files : Files) where

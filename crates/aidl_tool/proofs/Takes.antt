@@ -13,8 +13,8 @@ use Rattle.tool_frame.proofs.lemmas.Courses.{ran_printed}
 use Rattle.tool_frame.specs.Seen.{Seen}
 use Rattle.tool_frame.specs.Trees.{TreeFile}
 use Rattle.tool_frame.specs.steps.Results.{Finds, printed}
-use Rattle.tree_answers.specs.Faults.{IsFaultAnswer}
-use Rattle.tree_answers.specs.steps.Results.{EndsBy}
+use Rattle.tree_output.specs.Faults.{IsFaultAnswer}
+use Rattle.tree_output.specs.steps.Results.{EndsBy}
 use Rattle.type_check.specs.Checked.{IsSchemaOf}
 
 -- a course of some is one of others

@@ -5,14 +5,14 @@ use Rattle.aidl_outside.specs.Files.{Files}
 use Rattle.aidl_schema.specs.declared.schema.Decl.{Decl}
 use Rattle.api_freeze.specs.Rehash.{rehash_at, rehash_writes}
 use Rattle.api_versions.specs.Versions.{versions_at}
-use Rattle.freeze_answers.specs.Dumped.{Dumps}
-use Rattle.freeze_answers.specs.Frozen.{Freezes}
+use Rattle.version_output.specs.Dumped.{Dumps}
+use Rattle.version_output.specs.Frozen.{Freezes}
 use Rattle.tool_frame.specs.Acts.{Acts, Only}
 use Rattle.tool_frame.specs.Answer.{Answer, Found}
 use Rattle.tool_frame.specs.Trees.{AreFiles, OverTree, TreeFile, tree_at}
-use Rattle.tree_answers.specs.Faults.{IsFaultAnswer}
+use Rattle.tree_output.specs.Faults.{IsFaultAnswer}
 use Rattle.type_check.specs.Checked.{IsSchemaOf}
-use Rattle.version_answers.specs.Rehashed.{Rehashes}
+use Rattle.version_output.specs.Rehashed.{Rehashes}
 
 -- why a tree with a root isn't checked: the limit that its files pass, or its faults
 abbrev pub Unchecked : List ℕ → Found (List TreeFile) → Answer → Type 0

@@ -14,16 +14,16 @@ use Rattle.aidl_tool.specs.Acting.{HasSchema}
 use Rattle.call_runner.specs.Lines.{transport, done}
 use Rattle.call_runner.specs.Runs.{answer_by, projected}
 use Rattle.call_scripts.specs.Calls.{CallData}
-use Rattle.parcel_answers.specs.Decode.{profile_of}
-use Rattle.run_answers.specs.CallLines.{lines_of, within_lines}
-use Rattle.run_answers.specs.Projected.{projected_text}
-use Rattle.run_answers.specs.Running.{neither}
+use Rattle.parcel_output.specs.Decode.{profile_of}
+use Rattle.run_output.specs.CallLines.{lines_of, within_lines}
+use Rattle.run_output.specs.Projected.{projected_text}
+use Rattle.run_output.specs.Running.{neither}
 use Rattle.tool_frame.specs.Refusals.{file_at}
 use Rattle.tool_frame.specs.Seen.{Seen}
 use Rattle.tool_frame.specs.Trees.{tree_at}
 use Rattle.tool_frame.specs.Verdict.{IsVerdict}
 use Rattle.tool_words.specs.Command.{Command, judge, run}
-use Rattle.tree_answers.specs.Judged.{judged}
+use Rattle.tree_output.specs.Judged.{judged}
 use Rattle.wire_model.specs.Calls.{returned, arguments, descriptor, is_oneway, method_at, out_types, result_type}
 use Rattle.wire_model.specs.Outcome.{OneFollows, declared_as, method_like, view_arguments, view_result, view_values}
 use Rattle.wire_model.specs.Status.{bad_value, unknown_transaction}

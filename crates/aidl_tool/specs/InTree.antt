@@ -5,7 +5,7 @@ use Rattle.aidl_outside.specs.Files.{Files}
 use Rattle.aidl_schema.specs.declared.schema.Decl.{Decl}
 use Rattle.tool_frame.specs.Answer.{Answer}
 use Rattle.tool_frame.specs.Trees.{OverTree, tree_at}
-use Rattle.tree_answers.specs.Faults.{IsFaultAnswer}
+use Rattle.tree_output.specs.Faults.{IsFaultAnswer}
 use Rattle.type_check.specs.Checked.{IsSchemaOf}
 
 -- what is answered by the declarations of a schema

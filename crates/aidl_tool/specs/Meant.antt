@@ -6,19 +6,19 @@ use Rattle.aidl_base.specs.declared.source_file.SourceFile.{SourceFile}
 use Rattle.aidl_outside.specs.Files.{Files}
 use Rattle.tool_words.specs.Command.{Command, decode, encode, check, dump, freeze, judge, rehash, run, verify}
 use Rattle.tool_words.specs.Rows.{command_of}
-use Rattle.parcel_answers.specs.Decode.{profile_of, decode_answer}
-use Rattle.parcel_answers.specs.Encode.{encode_answer}
-use Rattle.parcel_answers.specs.Refusals.{parcel_of}
+use Rattle.parcel_output.specs.Decode.{profile_of, decode_answer}
+use Rattle.parcel_output.specs.Encode.{encode_answer}
+use Rattle.parcel_output.specs.Refusals.{parcel_of}
 use Rattle.tool_frame.specs.Acts.{acts_by}
 use Rattle.tool_frame.specs.Answer.{Answer, Found, Then}
 use Rattle.tool_frame.specs.Meaning.{Meant, carries_by, reads_by}
 use Rattle.tool_frame.specs.Meaning.Meant.{unknown, means}
 use Rattle.tool_frame.specs.Refusals.{file_at, there}
 use Rattle.tool_frame.specs.Trees.{OverTree, tree_at}
-use Rattle.tree_answers.specs.Checked.{IsCheckAnswer}
-use Rattle.tree_answers.specs.Judged.{IsJudgeAnswer}
+use Rattle.tree_output.specs.Checked.{IsCheckAnswer}
+use Rattle.tree_output.specs.Judged.{IsJudgeAnswer}
 use Rattle.api_versions.specs.Versions.{versions_at}
-use Rattle.version_answers.specs.Verified.{IsVerified}
+use Rattle.version_output.specs.Verified.{IsVerified}
 use Rattle.aidl_tool.specs.Acting.{DumpActs, FreezeActs, RehashActs}
 use Rattle.aidl_tool.specs.InTree.{InTree}
 use Rattle.aidl_tool.specs.Running.{RunTakes}

@@ -6,13 +6,13 @@ use Rattle.aidl_base.specs.declared.source_file.SourceFile.{SourceFile}
 use Rattle.aidl_base.specs.Results.{◌>>=◌}
 use Rattle.aidl_outside.specs.Files.{Files}
 use Rattle.aidl_schema.specs.declared.schema.Decl.{Decl}
-use Rattle.run_answers.specs.CallLines.{within_lines}
-use Rattle.run_answers.specs.Running.{run_course}
+use Rattle.run_output.specs.CallLines.{within_lines}
+use Rattle.run_output.specs.Running.{run_course}
 use Rattle.tool_frame.specs.Answer.{Answer, Found}
 use Rattle.tool_frame.specs.Course.{Course, at_once}
 use Rattle.tool_frame.specs.Refusals.{file_at, there}
 use Rattle.tool_frame.specs.Trees.{TreeFile, AreFiles, tree_at}
-use Rattle.tree_answers.specs.Faults.{IsFaultAnswer}
+use Rattle.tree_output.specs.Faults.{IsFaultAnswer}
 use Rattle.type_check.specs.Checked.{IsSchemaOf}
 
 -- what a command does that carries

@@ -8,13 +8,13 @@ ghost use Rattle.tool_frame.specs.Meaning.{reads_by};
 ghost use Rattle.tool_frame.specs.Seen.{seen_by};
 ghost use Rattle.tool_frame.specs.Trees.{OverTree, tree_seen};
 ghost use Rattle.tool_frame.specs.steps.Results.{GivesOne};
-ghost use Rattle.tree_answers.specs.Checked.{IsCheckAnswer};
+ghost use Rattle.tree_output.specs.Checked.{IsCheckAnswer};
 
 use aidl_base::{Limit, Row, SourceFile};
 use aidl_outside::{Link, Sink, Store, StoreFault};
 use std::alloc::Global;
 use tool_frame::{Early, Printed, end, files_of, load_tree};
-use tree_answers::check_answer;
+use tree_output::check_answer;
 
 /// Runs `check TREE`. The answer is the exit status.
 pub fn check<S: Store, K: Sink, L: Link>(

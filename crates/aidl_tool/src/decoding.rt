@@ -5,8 +5,8 @@ ghost use Rattle.aidl_outside.specs.Told.{Tells};
 ghost use Rattle.tool_words.specs.Seen.{tree_seen};
 ghost use Rattle.aidl_tool.specs.InTree.{Checked};
 ghost use Rattle.aidl_tool.specs.Meant.{DecodeAnswers, DecodesFile};
-ghost use Rattle.parcel_answers.specs.Decode.{decode_answer};
-ghost use Rattle.parcel_answers.specs.Refusals.{parcel_of};
+ghost use Rattle.parcel_output.specs.Decode.{decode_answer};
+ghost use Rattle.parcel_output.specs.Refusals.{parcel_of};
 ghost use Rattle.tool_frame.specs.Answer.{Then};
 ghost use Rattle.tool_frame.specs.Ended.{Ended};
 ghost use Rattle.tool_frame.specs.Meaning.{reads_by};
@@ -17,10 +17,10 @@ ghost use Rattle.tool_frame.specs.steps.Results.{GivesOne, held};
 use aidl_base::{Limit, LimitName, Profile, Row, SourceFile};
 use aidl_outside::{Link, Sink, Store, StoreFault};
 use aidl_schema::Schema;
-use parcel_answers::parcel_of;
+use parcel_output::parcel_of;
 use std::alloc::Global;
 use tool_frame::{Early, Printed, end, files_of, load, load_tree, there};
-use tree_answers::checked;
+use tree_output::checked;
 
 /// Runs `decode [--lenient] [--tree TREE] TYPES FILE`, and reads by the profile. The answer is the exit status.
 pub fn decode<S: Store, K: Sink, L: Link>(
@@ -94,7 +94,7 @@ fn answer_alone(
 {
     let parcel = parcel_of(alloc, file)?;
     let schema = Schema::empty(alloc);
-    parcel_answers::decode(alloc, profile, &schema, types, parcel.as_slice())
+    parcel_output::decode(alloc, profile, &schema, types, parcel.as_slice())
 }
 
 // What is answered of the file in a tree that was loaded.
@@ -127,5 +127,5 @@ fn answer_of_files(
 {
     let parcel = parcel_of(alloc, file)?;
     let schema = checked(alloc, root, files)?;
-    parcel_answers::decode(alloc, profile, &schema, types, parcel.as_slice())
+    parcel_output::decode(alloc, profile, &schema, types, parcel.as_slice())
 }

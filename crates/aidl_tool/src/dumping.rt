@@ -9,7 +9,7 @@ ghost use Rattle.api_versions.specs.Causes.{FaultCause};
 ghost use Rattle.api_versions.specs.Writes.{Left};
 ghost use Rattle.api_versions.specs.steps.Early.{IsLate};
 ghost use Rattle.api_versions.specs.steps.Seen.{write_seen};
-ghost use Rattle.freeze_answers.specs.Dumped.{Dumps};
+ghost use Rattle.version_output.specs.Dumped.{Dumps};
 ghost use Rattle.tool_frame.specs.Acts.{acts_by};
 ghost use Rattle.tool_frame.specs.Ended.{Ended};
 ghost use Rattle.tool_frame.specs.Seen.{seen_by};
@@ -19,9 +19,9 @@ use crate::opening::open;
 use aidl_outside::{Link, Sink, Store, StoreFault};
 use aidl_schema::Schema;
 use api_versions::{FreezeFault, Write, write_all};
-use freeze_answers::dumped;
 use std::alloc::Global;
 use tool_frame::{Early, Printed, end};
+use version_output::dumped;
 
 /// Runs `dump TREE OUT`. The answer is the exit status.
 pub fn dump<S: Store, K: Sink, L: Link>(

@@ -5,7 +5,7 @@ ghost use Rattle.aidl_outside.specs.Told.{Tells};
 ghost use Rattle.tool_words.specs.Seen.{tree_seen};
 ghost use Rattle.aidl_tool.specs.InTree.{Checked};
 ghost use Rattle.aidl_tool.specs.Meant.{EncodeAnswers, EncodesFile};
-ghost use Rattle.parcel_answers.specs.Encode.{encode_answer};
+ghost use Rattle.parcel_output.specs.Encode.{encode_answer};
 ghost use Rattle.tool_frame.specs.Answer.{Then};
 ghost use Rattle.tool_frame.specs.Ended.{Ended};
 ghost use Rattle.tool_frame.specs.Meaning.{reads_by};
@@ -18,7 +18,7 @@ use aidl_outside::{Link, Sink, Store, StoreFault};
 use aidl_schema::Schema;
 use std::alloc::Global;
 use tool_frame::{Early, Printed, end, files_of, load, load_tree, text_of, there};
-use tree_answers::checked;
+use tree_output::checked;
 
 /// Runs `encode [--tree TREE] TYPES FILE`. The answer is the exit status.
 pub fn encode<S: Store, K: Sink, L: Link>(
@@ -84,7 +84,7 @@ fn answer_alone(alloc: Global, types: &str, file: Result<Vec<u8>, Limit>) -> Res
 {
     let text = text_of(alloc, file)?;
     let schema = Schema::empty(alloc);
-    parcel_answers::encode(alloc, &schema, types, text.as_slice())
+    parcel_output::encode(alloc, &schema, types, text.as_slice())
 }
 
 // What is answered of the file in a tree that was loaded.
@@ -115,5 +115,5 @@ fn answer_of_files(
 {
     let text = text_of(alloc, file)?;
     let schema = checked(alloc, root, files)?;
-    parcel_answers::encode(alloc, &schema, types, text.as_slice())
+    parcel_output::encode(alloc, &schema, types, text.as_slice())
 }

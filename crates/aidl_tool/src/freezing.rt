@@ -2,7 +2,7 @@
 ghost use Rattle.aidl_outside.specs.Causes.{StoreCause};
 ghost use Rattle.aidl_tool.specs.Acting.{FreezeActs};
 ghost use Rattle.api_versions.specs.Versions.{versions_at};
-ghost use Rattle.freeze_answers.specs.Frozen.{Freezes};
+ghost use Rattle.version_output.specs.Frozen.{Freezes};
 ghost use Rattle.tool_frame.specs.Acts.{acts_by};
 ghost use Rattle.tool_frame.specs.Ended.{Ended};
 ghost use Rattle.tool_frame.specs.Seen.{seen_by};
@@ -11,9 +11,9 @@ ghost use Rattle.tool_frame.specs.steps.Acts.{ActsAs};
 use crate::opening::open;
 use aidl_outside::{Link, Sink, Store, StoreFault};
 use aidl_schema::Schema;
-use freeze_answers::{frozen, unfrozen};
 use std::alloc::Global;
 use tool_frame::{Early, Printed, end};
+use version_output::{frozen, unfrozen};
 
 /// Runs `freeze TREE API`. The answer is the exit status.
 pub fn freeze<S: Store, K: Sink, L: Link>(

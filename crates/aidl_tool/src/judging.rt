@@ -13,14 +13,14 @@ ghost use Rattle.tool_frame.specs.Seen.{seen_by};
 ghost use Rattle.tool_frame.specs.Trees.{OverTree, tree_seen};
 ghost use Rattle.tool_frame.specs.steps.Results.{GivesOne};
 ghost use Rattle.tool_words.specs.Command as words;
-ghost use Rattle.tree_answers.specs.Judged.{IsJudgeAnswer, judged};
+ghost use Rattle.tree_output.specs.Judged.{IsJudgeAnswer, judged};
 ghost use Rattle.type_check.specs.Checked.{IsSchemaOf};
 
 use aidl_base::{Limit, Row, SourceFile};
 use aidl_outside::{Link, Sink, Store, StoreFault};
 use std::alloc::Global;
 use tool_frame::{Early, Printed, end, files_of, load_tree};
-use tree_answers::judge_answer;
+use tree_output::judge_answer;
 use type_check::{law_never_both, law_one_schema};
 
 /// Runs `judge OLD NEW`. The answer is the exit status.

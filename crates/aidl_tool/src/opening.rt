@@ -10,7 +10,7 @@ use aidl_outside::{Store, StoreFault};
 use aidl_schema::Schema;
 use std::alloc::Global;
 use tool_frame::{Early, files_of, load_tree};
-use tree_answers::checked;
+use tree_output::checked;
 
 /// The schema of the tree below a root, or what is printed where it isn't checked.
 pub fn open<S: Store>(

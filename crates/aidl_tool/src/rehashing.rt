@@ -9,7 +9,7 @@ ghost use Rattle.tool_frame.specs.steps.Acts.{ActsAs};
 use aidl_outside::{Link, Sink, Store, StoreFault};
 use std::alloc::Global;
 use tool_frame::{Early, Printed, end};
-use version_answers::{rehashed, unhashed};
+use version_output::{rehashed, unhashed};
 
 /// Runs `rehash API`. The answer is the exit status.
 pub fn rehash<S: Store, K: Sink, L: Link>(

@@ -7,8 +7,8 @@ ghost use Rattle.aidl_tool.specs.Headline.{Headline};
 ghost use Rattle.aidl_tool.specs.Running.{RunTakes, TakesChecked, TakesOver, calls_within};
 ghost use Rattle.aidl_tool.specs.steps.Loading.{LoadsFor, RanSome, RunsAs, RunsGivenAs, RunsLoadedAs, TakesEarly, TakesLoaded, all_held, loaded_seen, server_held, trees_held};
 ghost use Rattle.aidl_tool.specs.Running as meant;
-ghost use Rattle.parcel_answers.specs.Decode.{profile_of};
-ghost use Rattle.run_answers.specs.Running.{run_course};
+ghost use Rattle.parcel_output.specs.Decode.{profile_of};
+ghost use Rattle.run_output.specs.Running.{run_course};
 ghost use Rattle.tool_frame.specs.Ended.{Ended};
 ghost use Rattle.tool_frame.specs.Meaning.{carries_by};
 ghost use Rattle.tool_frame.specs.Seen.{seen_by};
@@ -21,10 +21,10 @@ ghost use Rattle.type_check.specs.Checked.{IsSchemaOf};
 use aidl_base::{Limit, LimitName, Profile, Row, SourceFile};
 use aidl_outside::{Link, Sink, Store, StoreFault};
 use aidl_schema::Schema;
-use run_answers::{lines_within, run_trees};
+use run_output::{lines_within, run_trees};
 use std::alloc::Global;
 use tool_frame::{Early, files_of, load, load_tree, print, text_of, there};
-use tree_answers::checked;
+use tree_output::checked;
 use type_check::{law_never_both, law_one_schema};
 
 /// Runs `run [--trace] [--lenient] CLIENT SERVER CALLS`; both sides read by the profile. The answer is the exit status.

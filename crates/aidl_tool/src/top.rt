@@ -5,7 +5,7 @@ ghost use Rattle.tool_words.specs.Rows as table;
 ghost use Rattle.tool_words.specs.Seen.{command_seen};
 ghost use Rattle.aidl_tool.specs.Headline.{Headline};
 ghost use Rattle.aidl_tool.specs.Meant.{meaning, meant};
-ghost use Rattle.parcel_answers.specs.Decode.{profile_of};
+ghost use Rattle.parcel_output.specs.Decode.{profile_of};
 ghost use Rattle.tool_frame.specs.Ended.{Ran};
 ghost use Rattle.tool_frame.specs.Seen.{seen_by};
 

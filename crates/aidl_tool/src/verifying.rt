@@ -8,13 +8,13 @@ ghost use Rattle.tool_frame.specs.Ended.{Ended};
 ghost use Rattle.tool_frame.specs.Meaning.{reads_by};
 ghost use Rattle.tool_frame.specs.Seen.{seen_by};
 ghost use Rattle.tool_frame.specs.steps.Results.{GivesOne};
-ghost use Rattle.version_answers.specs.Verified.{IsUnread};
+ghost use Rattle.version_output.specs.Verified.{IsUnread};
 
 use aidl_outside::{Link, Sink, Store, StoreFault};
 use api_versions::{FreezeFault, versions};
 use std::alloc::Global;
 use tool_frame::{Early, Printed, end, limit_passed};
-use version_answers::{bad_versions, verified};
+use version_output::{bad_versions, verified};
 
 /// Runs `verify API`. The answer is the exit status.
 pub fn verify<S: Store, K: Sink, L: Link>(

@@ -14,7 +14,7 @@ use Rattle.aidl_schema.specs.declared.schema.Base.TheVariants as base
 use Rattle.aidl_schema.specs.declared.schema.Shape.{Shape}
 use Rattle.aidl_schema.specs.declared.schema.Shape.TheVariants as shape
 use Rattle.aidl_schema.specs.declared.schema.AidlType.{AidlType}
-use Rattle.dump_values.specs.Pieces.{spelling}
+use Rattle.api_dump.specs.Pieces.{spelling}
 use Rattle.api_dump.specs.Dump.{dump_text}
 use lib.Utf8.{encode}
 

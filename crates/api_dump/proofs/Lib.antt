@@ -1,3 +1,4 @@
+pub mod lemmas
 mod Packages
 mod Placing
 mod Examples

@@ -12,7 +12,7 @@ use Rattle.std.specs.declared.cmp.Ordering.TheVariants.{Less, Equal, Greater}
 use Rattle.aidl_schema.specs.declared.schema.Decl.{Decl}
 use Rattle.api_dump.specs.Dump.{File, file_of, placed}
 use Rattle.api_dump.specs.steps.Tables.{with_file}
-use Rattle.dump_values.proofs.lemmas.Texts.{drop_next}
+use Rattle.api_dump.proofs.lemmas.Texts.{drop_next}
 
 module _ {K X : Type 0} (key : K → List ℕ) (see : X → List ℕ) (cmp : K → K → Ordering) (by : (a b : K) → cmp a b ≡ slice_cmp nat_cmp (key a) (key b)) where
   abbrev pub both : K × X → File

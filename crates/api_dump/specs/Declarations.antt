@@ -11,9 +11,9 @@ use Rattle.aidl_schema.specs.declared.schema.Kind.TheVariants.{Interface, Parcel
 use Rattle.aidl_schema.specs.declared.schema.Backing.{Backing}
 use Rattle.aidl_schema.specs.declared.schema.Backing.TheVariants as backing
 use Rattle.aidl_schema.specs.Names.{last_part, is_inside}
-use Rattle.dump_values.specs.Pieces.{Piece, sign, reserved, name, ident}
-use Rattle.dump_values.specs.Pieces.Piece.{space, newline, token}
-use Rattle.dump_values.specs.Types.{flag}
+use Rattle.api_dump.specs.Pieces.{Piece, sign, reserved, name, ident}
+use Rattle.api_dump.specs.Pieces.Piece.{space, newline, token}
+use Rattle.api_dump.specs.Types.{flag}
 use Rattle.api_dump.specs.Lines.{field, constant, method, enumerator}
 
 -- two spaces a level

@@ -11,8 +11,8 @@ use Rattle.aidl_base.specs.declared.reserved.Reserved.TheVariants as word
 use Rattle.aidl_syntax.specs.declared.token.Symbol.TheVariants as mark
 use Rattle.aidl_schema.specs.declared.schema.Decl.{Decl}
 use Rattle.aidl_schema.specs.Names.{without_last}
-use Rattle.dump_values.specs.Pieces.{Piece, sign, reserved, dotted, text_of}
-use Rattle.dump_values.specs.Pieces.Piece.{space, newline}
+use Rattle.api_dump.specs.Pieces.{Piece, sign, reserved, dotted, text_of}
+use Rattle.api_dump.specs.Pieces.Piece.{space, newline}
 use Rattle.api_dump.specs.Declarations.{declaration}
 
 -- a path and bytes

@@ -1,3 +1,6 @@
+pub mod Pieces
+pub mod Types
+pub mod Values
 pub mod Lines
 pub mod Declarations
 pub mod Dump

@@ -14,10 +14,10 @@ use Rattle.aidl_schema.specs.declared.schema.Direction.{Direction}
 use Rattle.aidl_schema.specs.declared.schema.Direction.TheVariants as direction
 use Rattle.aidl_schema.specs.declared.schema.Backing.{Backing}
 use Rattle.aidl_schema.specs.declared.schema.AidlType.{AidlType}
-use Rattle.dump_values.specs.Pieces.{Piece, sign, reserved, name, dotted, joined}
-use Rattle.dump_values.specs.Pieces.Piece.{space, newline, token}
-use Rattle.dump_values.specs.Types.{base_name, marks, plain_type}
-use Rattle.dump_values.specs.Values.{of_backing, value, initial}
+use Rattle.api_dump.specs.Pieces.{Piece, sign, reserved, name, dotted, joined}
+use Rattle.api_dump.specs.Pieces.Piece.{space, newline, token}
+use Rattle.api_dump.specs.Types.{base_name, marks, plain_type}
+use Rattle.api_dump.specs.Values.{of_backing, value, initial}
 
 -- TYPE NAME = VALUE;
 abbrev pub field : List Decl → Field → List Piece

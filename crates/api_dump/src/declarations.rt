@@ -3,14 +3,14 @@ ghost use Rattle.std.specs.Prelude.{◌≡◌, ◌≤◌, ◌+◌, ◌++◌, ◌
 ghost use Rattle.std.specs.List.{flat_map};
 ghost use Rattle.api_dump.specs.Declarations as meant;
 ghost use Rattle.api_dump.specs.Lines.{constant, enumerator, field, method};
-ghost use Rattle.dump_values.specs.Pieces.{reserved, text_of};
-ghost use Rattle.dump_values.specs.Pieces.Piece.{space};
-ghost use Rattle.dump_values.specs.Types.{flag};
+ghost use Rattle.api_dump.specs.Pieces.{reserved, text_of};
+ghost use Rattle.api_dump.specs.Pieces.Piece.{space};
+ghost use Rattle.api_dump.specs.Types.{flag};
 
 use crate::lines::{push_constant, push_enumerator, push_field, push_method};
+use crate::names::push_last;
 use aidl_base::OutOfMemory;
 use aidl_schema::{Backing, Constant, Decl, Enumerator, Field, Kind, Method};
-use dump_values::push_last;
 
 /// Appends the annotations, the heading and the own lines of a declaration.
 pub fn push_front(
@@ -71,7 +71,7 @@ fn push_backing(out: &mut String, kind: &Kind) -> Result<(), OutOfMemory>
     }
 }
 
-#[tactic(auto, unfolding(dump_values::specs::Pieces::spelling))]
+#[tactic(auto, unfolding(crate::specs::Pieces::spelling))]
 fn push_backed(out: &mut String, backing: Backing) -> Result<(), OutOfMemory>
     ensures { OnOk result (string_bytes out.new ≡ string_bytes out.old ++ text_of (meant.backed backing)) }
 {
@@ -83,7 +83,7 @@ fn push_backed(out: &mut String, backing: Backing) -> Result<(), OutOfMemory>
     Ok(())
 }
 
-#[tactic(auto, unfolding(dump_values::specs::Pieces::spelling))]
+#[tactic(auto, unfolding(crate::specs::Pieces::spelling))]
 fn push_fixed(out: &mut String, fixed: bool) -> Result<(), OutOfMemory>
     ensures { OnOk result (string_bytes out.new ≡ string_bytes out.old ++ text_of (flag (codes "FixedSize") fixed)) }
 {
@@ -93,7 +93,7 @@ fn push_fixed(out: &mut String, fixed: bool) -> Result<(), OutOfMemory>
     Ok(())
 }
 
-#[tactic(auto, unfolding(dump_values::specs::Pieces::spelling))]
+#[tactic(auto, unfolding(crate::specs::Pieces::spelling))]
 fn push_vintf(out: &mut String, vintf: bool) -> Result<(), OutOfMemory>
     ensures { OnOk result (string_bytes out.new ≡ string_bytes out.old ++ text_of (flag (codes "VintfStability") vintf)) }
 {
@@ -113,7 +113,7 @@ fn push_heading(out: &mut String, decl: &Decl) -> Result<(), OutOfMemory>
     Ok(())
 }
 
-#[tactic(auto, unfolding(dump_values::specs::Pieces::spelling))]
+#[tactic(auto, unfolding(crate::specs::Pieces::spelling))]
 fn push_kind(out: &mut String, kind: &Kind) -> Result<(), OutOfMemory>
     ensures { OnOk result (string_bytes out.new ≡ string_bytes out.old ++ text_of (reserved (meant.kind_word kind.now) ∷ space ∷ [])) }
 {

@@ -2,15 +2,15 @@
 ghost use Rattle.std.specs.Prelude.{◌≡◌, ◌≤◌, ◌++◌, length, map, string_bytes, IfOk, OnOk};
 ghost use Rattle.aidl_schema.specs.Names.{without_last};
 ghost use Rattle.api_dump.specs.Dump as meant;
-ghost use Rattle.dump_values.specs.Pieces.{text_of};
+ghost use Rattle.api_dump.specs.Pieces.{text_of};
 ghost use Rattle.api_dump.specs.steps.Tables.{IsTable, with_file};
 
+use crate::names::push_dotted;
 use crate::nested::push_declaration;
 use crate::nesting::nesting;
 use crate::paths::push_slashed;
 use aidl_base::{Ident, OutOfMemory, Row, SourceFile, Text};
 use aidl_schema::{Decl, Schema, law_valid};
-use dump_values::push_dotted;
 use std::alloc::Global;
 use std::collections::BTreeMap;
 

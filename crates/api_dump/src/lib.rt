@@ -1,11 +1,14 @@
-//! The canonical dump of a schema.
+//! The canonical dump of a schema: names, types, values, and the files that hold them.
 #![tactic(auto)]
 
 mod declarations;
 mod dumping;
 mod lines;
+mod names;
 mod nested;
 mod nesting;
 mod paths;
+mod types;
+mod values;
 
 pub use dumping::dump;

@@ -3,14 +3,14 @@ ghost use Rattle.std.specs.Prelude.{◌≡◌, ◌++◌, ◌∷◌, [], string_b
 ghost use Rattle.std.specs.List.{flat_map};
 ghost use Rattle.aidl_syntax.specs.declared.token.Symbol.TheVariants as mark;
 ghost use Rattle.api_dump.specs.Lines as meant;
-ghost use Rattle.dump_values.specs.Pieces.{joined, reserved, sign, text_of};
-ghost use Rattle.dump_values.specs.Pieces.Piece.{space};
+ghost use Rattle.api_dump.specs.Pieces.{joined, reserved, sign, text_of};
+ghost use Rattle.api_dump.specs.Pieces.Piece.{space};
 
+use crate::names::push_name;
+use crate::types::{push_base, push_marks, push_type};
+use crate::values::{push_backed, push_initial, push_value};
 use aidl_base::OutOfMemory;
 use aidl_schema::{AidlType, Arg, Backing, Constant, Decl, Direction, Enumerator, Field, Method};
-use dump_values::{
-    push_backed, push_base, push_initial, push_marks, push_name, push_type, push_value,
-};
 use std::fmt::Write;
 
 /// Appends the line of a field.
@@ -54,7 +54,7 @@ pub fn push_method(out: &mut String, decls: &[Decl], method: &Method) -> Result<
     Ok(())
 }
 
-#[tactic(auto, unfolding(dump_values::specs::Pieces::spelling))]
+#[tactic(auto, unfolding(crate::specs::Pieces::spelling))]
 fn push_oneway(out: &mut String, oneway: bool) -> Result<(), OutOfMemory>
     ensures { OnOk result (string_bytes out.new ≡ string_bytes out.old ++ text_of (meant.oneway oneway)) }
 {
@@ -65,7 +65,7 @@ fn push_oneway(out: &mut String, oneway: bool) -> Result<(), OutOfMemory>
 }
 
 // Appends the type of a result, or `void`.
-#[tactic(auto, unfolding(dump_values::specs::Pieces::spelling))]
+#[tactic(auto, unfolding(crate::specs::Pieces::spelling))]
 fn push_returned(
     out: &mut String,
     decls: &[Decl],
@@ -137,7 +137,7 @@ fn push_argument(out: &mut String, decls: &[Decl], arg: &Arg) -> Result<(), OutO
     Ok(())
 }
 
-#[tactic(auto, unfolding(dump_values::specs::Pieces::spelling))]
+#[tactic(auto, unfolding(crate::specs::Pieces::spelling))]
 fn push_way(out: &mut String, way: Direction) -> Result<(), OutOfMemory>
     ensures { OnOk result (string_bytes out.new ≡ string_bytes out.old ++ text_of (reserved (meant.way way) ∷ space ∷ [])) }
 {
@@ -150,7 +150,7 @@ fn push_way(out: &mut String, way: Direction) -> Result<(), OutOfMemory>
 }
 
 // Appends the end of the line of a method.
-#[tactic(auto, unfolding(dump_values::specs::Pieces::spelling))]
+#[tactic(auto, unfolding(crate::specs::Pieces::spelling))]
 fn push_id(out: &mut String, id: u32) -> Result<(), OutOfMemory>
     ensures { OnOk result (string_bytes out.new ≡ string_bytes out.old ++ text_of (meant.identity id)) }
 {

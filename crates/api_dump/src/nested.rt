@@ -1,7 +1,7 @@
 //! A declaration in the canonical dump, with the declarations inside it.
 ghost use Rattle.std.specs.Prelude.{◌≡◌, ◌≤◌, ◌<◌, ◌+◌, ◌++◌, length, suc, string_bytes, OnOk};
 ghost use Rattle.api_dump.specs.Declarations as meant;
-ghost use Rattle.dump_values.specs.Pieces.{text_of};
+ghost use Rattle.api_dump.specs.Pieces.{text_of};
 ghost use Rattle.api_dump.specs.steps.Tables.{IsTable, row_at};
 
 use crate::declarations::{push_closing, push_front};

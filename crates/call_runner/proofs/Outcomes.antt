@@ -16,7 +16,7 @@ use Rattle.aidl_schema.specs.Find.{methods_at, methods_of_decl, number_of_name}
 use Rattle.aidl_schema.specs.Names.{name_of, methods_of}
 use Rattle.aidl_schema.specs.Same.{same_text}
 use Rattle.aidl_values.specs.Data.{Items}
-use Rattle.call_parcels.specs.Sent.{sent_reply}
+use Rattle.stub_dispatch.specs.Sent.{sent_reply}
 use Rattle.call_runner.specs.Lines.{LineData, call_code, line_of, received_at, reply_at, reply_sent, reported, scripted}
 use Rattle.call_runner.specs.Lines as lines
 use Rattle.call_runner.specs.Runs.{IsReplied, NamesOf, answer_by, methods_by, projected, seen_line, within_one}

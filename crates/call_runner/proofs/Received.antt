@@ -8,7 +8,7 @@ use Rattle.aidl_schema.specs.Find.{methods_at, methods_of_decl, position_of_code
 use Rattle.aidl_schema.specs.Names.{name_of, methods_of}
 use Rattle.aidl_schema.specs.Same.{same_text}
 use Rattle.aidl_values.specs.Data.{Items}
-use Rattle.call_parcels.specs.Sent.{sent_reply, unread}
+use Rattle.stub_dispatch.specs.Sent.{sent_reply, unread}
 use Rattle.call_runner.specs.declared.line.LineOut.{LineOut}
 use Rattle.call_runner.specs.declared.line.LineOut.TheVariants as out
 use Rattle.call_runner.specs.declared.line.Methods.{Methods}

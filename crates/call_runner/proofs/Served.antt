@@ -5,7 +5,7 @@ use Rattle.aidl_schema.specs.declared.schema.Decl.{Decl}
 use Rattle.aidl_values.specs.Data.{Items}
 use Rattle.aidl_values.specs.declared.value.Answer.{Answer}
 use Rattle.aidl_values.specs.declared.value.Value.{Value}
-use Rattle.call_parcels.specs.Sent.{sent_reply}
+use Rattle.stub_dispatch.specs.Sent.{sent_reply}
 use Rattle.call_runner.specs.Lines.{scripted}
 use Rattle.call_runner.specs.steps.Served.{IsServed}
 use Rattle.call_scripts.specs.Calls.{TargetData}

@@ -7,8 +7,8 @@ use Rattle.aidl_outside.specs.declared.link.Way.TheVariants.{Request, Reply}
 use Rattle.aidl_outside.specs.Carries.{entry}
 use Rattle.aidl_schema.specs.declared.schema.Decl.{Decl}
 use Rattle.aidl_values.specs.Data.{Items}
-use Rattle.call_answers.specs.Refusal.{Refusal}
-use Rattle.call_parcels.specs.Sent.{sent_reply, unread}
+use Rattle.call_scripts.specs.Refusal.{Refusal}
+use Rattle.stub_dispatch.specs.Sent.{sent_reply, unread}
 use Rattle.call_scripts.specs.Calls.{CallData, TargetData}
 use Rattle.stub_dispatch.specs.Unscripted.{not_scripted}
 use Rattle.wire_model.specs.Calls.{AnswerData, code_at}

@@ -10,8 +10,8 @@ use Rattle.aidl_schema.specs.Find.{methods_at}
 use Rattle.aidl_values.specs.Data.{none}
 use Rattle.aidl_values.specs.View.{views}
 use Rattle.aidl_values.specs.declared.value.Value.{Value}
-use Rattle.call_answers.specs.Refusal.{Judged}
-use Rattle.call_parcels.specs.Got.{got_of}
+use Rattle.call_scripts.specs.Refusal.{Judged}
+use Rattle.stub_dispatch.specs.Got.{got_of}
 use Rattle.call_scripts.specs.Calls.{CallData, TargetData, refusal_of}
 use Rattle.wire_model.specs.Calls.{AnswerData, returned}
 use Rattle.wire_model.specs.Outcome.{Done, outcome, outcome_within}

@@ -2,7 +2,7 @@
 ghost use Rattle.std.specs.Prelude.{◌≡◌, ◌≢◌, true, option_map, IfOk, None, OnErr};
 ghost use Rattle.aidl_outside.specs.Carries.{entry};
 ghost use Rattle.aidl_schema.specs.Find.{methods_at};
-ghost use Rattle.call_pieces.specs.Planned.{ArePlansOf};
+ghost use Rattle.stub_dispatch.specs.Planned.{ArePlansOf};
 ghost use Rattle.call_runner.specs.Lines.{reply_entries, request_entry};
 ghost use Rattle.call_runner.specs.Runs.{AreFaithful, RunCause};
 ghost use Rattle.call_runner.specs.steps.Exchanges.{AddsListed, AddsOne, CanBeSent, delivered_of, listed};

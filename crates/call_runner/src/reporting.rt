@@ -2,8 +2,8 @@
 ghost use Rattle.std.specs.Prelude.{◌≡◌, ◌≢◌, ◌<◌, ◌∷◌, [], ℤ, Err, None, Some, false, length, option_map, pos, IfOk};
 ghost use Rattle.aidl_schema.specs.Find as find;
 ghost use Rattle.aidl_values.specs.View.{views};
-ghost use Rattle.call_parcels.specs.Got.{got_of};
-ghost use Rattle.call_pieces.specs.Planned.{ArePlansOf};
+ghost use Rattle.stub_dispatch.specs.Got.{got_of};
+ghost use Rattle.stub_dispatch.specs.Planned.{ArePlansOf};
 ghost use Rattle.call_runner.specs.Lines.{line_of, received, received_at};
 ghost use Rattle.call_runner.specs.Runs.{line_data, methods_by};
 ghost use Rattle.call_runner.specs.steps.Exchanges.{IsExchange, carried_of, delivered_of};

@@ -1,7 +1,7 @@
 //! What the server answers the request of a call.
 ghost use Rattle.std.specs.Prelude.{◌≡◌, Some, option_map, IfOk};
 ghost use Rattle.aidl_values.specs.View.{views};
-ghost use Rattle.call_pieces.specs.Planned.{ArePlansOf};
+ghost use Rattle.stub_dispatch.specs.Planned.{ArePlansOf};
 ghost use Rattle.call_runner.specs.Lines as meant;
 ghost use Rattle.call_runner.specs.steps.Served.{IsServed};
 ghost use Rattle.call_scripts.specs.Calls.{TargetFits, target_of};

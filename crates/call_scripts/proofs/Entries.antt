@@ -9,7 +9,7 @@ use Rattle.aidl_values.specs.Data.{Data, Items, none, item}
 use Rattle.aidl_values.specs.View.{items_of}
 use Rattle.wire_model.specs.Requests.{ArgumentFits, ArgumentsFit, asked_length, sum_of_lengths}
 use Rattle.call_scripts.specs.Arguments.{entries_from, entry_from}
-use Rattle.call_answers.specs.Refusal.{Judged, Refusal, ◌>>=◌, at_entry}
+use Rattle.call_scripts.specs.Refusal.{Judged, Refusal, ◌>>=◌, at_entry}
 use Rattle.aidl_values.proofs.lemmas.Fronts.{front_more, onto, onto-none, onto-push, with_front}
 
 module _ (S : List Decl) (xs : List Arg) (js : List Json) where

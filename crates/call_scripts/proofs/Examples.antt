@@ -4,9 +4,9 @@ use Rattle.std.specs.Prelude.{codes}
 use Rattle.serde_json.specs.Data as json
 use Rattle.serde_json.specs.Data.{member, no_members}
 use Rattle.aidl_values.specs.Data.{number, null}
-use Rattle.call_answers.specs.declared.refused.RefusedName.TheVariants.{WrongShape, OutOfRange}
-use Rattle.call_answers.specs.Answers.{unknown_in}
-use Rattle.call_answers.specs.Refusal.{refuse}
+use Rattle.call_scripts.specs.declared.refused.RefusedName.TheVariants.{WrongShape, OutOfRange}
+use Rattle.call_scripts.specs.Answers.{unknown_in}
+use Rattle.call_scripts.specs.Refusal.{refuse}
 use Rattle.call_scripts.specs.Arguments.{array_from, length_from, null_from}
 use Rattle.call_scripts.specs.Names.{at_last_dot}
 use Rattle.call_scripts.specs.Script.{line_keys}

@@ -1,10 +1,10 @@
 -- Faults as refusals.
 use Rattle.std.proofs.Common.{◌≡◌, ℕ, List, String, Global, string_bytes, ap, subst}
-use Rattle.call_answers.specs.declared.refused.Fault.{Fault}
-use Rattle.call_answers.specs.declared.refused.Fault.TheVariants.{Refused}
-use Rattle.call_answers.specs.declared.refused.RefusedName.{RefusedName}
-use Rattle.call_answers.specs.Gives.{Fails}
-use Rattle.call_answers.specs.Refusal.{Judged, refuse}
+use Rattle.call_scripts.specs.declared.refused.Fault.{Fault}
+use Rattle.call_scripts.specs.declared.refused.Fault.TheVariants.{Refused}
+use Rattle.call_scripts.specs.declared.refused.RefusedName.{RefusedName}
+use Rattle.call_scripts.specs.Gives.{Fails}
+use Rattle.call_scripts.specs.Refusal.{Judged, refuse}
 
 -- a refusal by its place
 pub same_refusal : {X : Type 0} (name : RefusedName) (a b : List ℕ) → a ≡ b → refuse {A = X} name a ≡ refuse name b

@@ -1,3 +1,8 @@
+mod AnswerExamples
+mod Members
+mod Outs
+mod Passed
+mod ThrownFits
 mod Dots
 mod Entries
 mod Examples

@@ -10,8 +10,8 @@ use Rattle.aidl_values.specs.Data.{Data, null, number, Items, none, item}
 use Rattle.json_values.specs.FromJson.{from_json_of}
 use Rattle.wire_model.specs.Calls.{is_out}
 use Rattle.wire_model.specs.Requests.{asked_length}
-use Rattle.call_answers.specs.declared.refused.RefusedName.TheVariants.{WrongShape, OutOfRange}
-use Rattle.call_answers.specs.Refusal.{Judged, ◌>>=◌, refuse, placed, at_args, at_entry}
+use Rattle.call_scripts.specs.declared.refused.RefusedName.TheVariants.{WrongShape, OutOfRange}
+use Rattle.call_scripts.specs.Refusal.{Judged, ◌>>=◌, refuse, placed, at_args, at_entry}
 
 -- a length that is not below 0 and takes the sum of those before it no further than 65,536
 abbrev pub length_from : ℕ → List ℕ → Option ℤ → Judged Data

@@ -12,9 +12,9 @@ use Rattle.call_scripts.specs.declared.script.Call.{Call}
 use Rattle.call_scripts.specs.declared.script.Script.{Script}
 use Rattle.call_scripts.specs.declared.script.Script.TheVariants as script
 use Rattle.call_scripts.specs.declared.script.Target.{Target}
-use Rattle.call_answers.specs.declared.refused.Refused.{Refused}
+use Rattle.call_scripts.specs.declared.refused.Refused.{Refused}
 use Rattle.call_scripts.specs.Names.{interface_named}
-use Rattle.call_answers.specs.Refusal.{Judged, Refusal}
+use Rattle.call_scripts.specs.Refusal.{Judged, Refusal}
 
 -- SERVER's method of the call's names, and its answer
 pub record TargetData : Type 0 where

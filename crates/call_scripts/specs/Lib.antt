@@ -1,5 +1,10 @@
+pub mod Answers
+pub mod Fits
+pub mod Gives
+pub mod Keys
+pub mod Refusal
+pub mod steps
 pub mod Arguments
 pub mod Calls
 pub mod Names
 pub mod Script
-pub mod steps

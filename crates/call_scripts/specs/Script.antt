@@ -8,13 +8,13 @@ use Rattle.aidl_schema.specs.declared.schema.Decl.{Decl}
 use Rattle.aidl_values.specs.Data.{Items}
 use Rattle.wire_model.specs.Calls.{arguments}
 use Rattle.wire_model.specs.Requests.{reply, request}
-use Rattle.call_answers.specs.declared.refused.RefusedName.{RefusedName}
-use Rattle.call_answers.specs.declared.refused.RefusedName.TheVariants.{NotJson, WrongShape, UnknownMethod, TooLarge}
-use Rattle.call_answers.specs.Answers.{all_known, answer_from, unknown_in}
+use Rattle.call_scripts.specs.declared.refused.RefusedName.{RefusedName}
+use Rattle.call_scripts.specs.declared.refused.RefusedName.TheVariants.{NotJson, WrongShape, UnknownMethod, TooLarge}
+use Rattle.call_scripts.specs.Answers.{all_known, answer_from, unknown_in}
 use Rattle.call_scripts.specs.Arguments.{args_from}
 use Rattle.call_scripts.specs.Calls.{CallData, TargetData}
 use Rattle.call_scripts.specs.Names.{Named, method_meant}
-use Rattle.call_answers.specs.Refusal.{Judged, ◌>>=◌, refuse, unless, at_call, at_args, at_answer}
+use Rattle.call_scripts.specs.Refusal.{Judged, ◌>>=◌, refuse, unless, at_call, at_args, at_answer}
 
 -- the value that `serde_json` reads; None where the line isn't UTF-8, or is no JSON text
 unfoldable pub json_of : List ℕ → Option json.Data

@@ -7,15 +7,16 @@ ghost use Rattle.wire_model.specs.Calls as calls;
 ghost use Rattle.wire_model.specs.Requests as requests;
 ghost use Rattle.wire_model.specs.Requests.{ArgumentFits, ArgumentsFit, sum_of_lengths};
 ghost use Rattle.call_scripts.specs.Arguments as meant;
-ghost use Rattle.call_answers.specs.Refusal.{at_entry};
-ghost use Rattle.call_answers.specs.Gives.{Gives};
+ghost use Rattle.call_scripts.specs.Refusal.{at_entry};
+ghost use Rattle.call_scripts.specs.Gives.{Gives};
 ghost use Rattle.call_scripts.specs.steps.Lengths.{IsLengthWithin};
 ghost use Rattle.aidl_values.specs.Data.{null};
 
+use crate::line::{is_count, value_from};
+use crate::refused::{Fault, Place, RefusedName, refusal};
 use aidl_base::Row;
 use aidl_schema::{Arg, Direction, Schema, is_array};
 use aidl_values::Value;
-use call_answers::{Fault, Place, RefusedName, is_count, refusal, value_from};
 use serde_json::{Number, Value as Json};
 use std::alloc::Global;
 

@@ -1,12 +1,12 @@
 //! The JSON value of a line.
 ghost use Rattle.std.specs.Prelude.{◌≡◌, [], IfOk, option_map};
-ghost use Rattle.call_answers.specs.Gives.{Gives};
-ghost use Rattle.call_answers.specs.declared.refused.RefusedName.TheVariants.{NotJson};
+ghost use Rattle.call_scripts.specs.Gives.{Gives};
+ghost use Rattle.call_scripts.specs.declared.refused.RefusedName.TheVariants.{NotJson};
 ghost use Rattle.call_scripts.specs.Script.{json_of, or_refuse};
 ghost use Rattle.serde_json.specs.View.{view as json_view};
 
+use crate::refused::{Fault, Place, RefusedName, refusal};
 use aidl_base::OutOfMemory;
-use call_answers::{Fault, Place, RefusedName, refusal};
 use serde_json::Value as Json;
 use std::alloc::Global;
 

@@ -6,7 +6,7 @@ ghost use Rattle.call_scripts.specs.steps.Named.{IsNamed};
 ghost use Rattle.call_scripts.specs.steps.Seen.{named_data};
 
 use aidl_schema::{Kind, Method, Schema, find, law_valid};
-use call_pieces::methods_of;
+use stub_dispatch::methods_of;
 
 // The numbers of a call's interface and method, of the server's interface of that name and of its method of that name.
 #[derive(Clone, Copy)]

@@ -6,30 +6,29 @@ ghost use Rattle.aidl_values.specs.View.{views};
 ghost use Rattle.serde_json.specs.View.{view as json_view, members_view};
 ghost use Rattle.wire_model.specs.Calls.{answer_of, returned};
 ghost use Rattle.wire_model.specs.Requests.{IsAnswer};
-ghost use Rattle.call_answers.specs.Answers as answers;
+ghost use Rattle.call_scripts.specs.Answers as answers;
 ghost use Rattle.call_scripts.specs.Calls.{CallFits, ScriptFits, call_of, script_data, target_of};
-ghost use Rattle.call_pieces.specs.Planned.{ArePlansOf};
+ghost use Rattle.stub_dispatch.specs.Planned.{ArePlansOf};
 ghost use Rattle.call_scripts.specs.Script as meant;
 ghost use Rattle.call_scripts.specs.steps.Calls.{IsAnswered, IsSent, IsTarget};
-ghost use Rattle.call_answers.specs.Gives.{Gives};
+ghost use Rattle.call_scripts.specs.Gives.{Gives};
 ghost use Rattle.call_scripts.specs.steps.Named.{IsNamed, IsWithin};
 ghost use Rattle.call_scripts.specs.steps.Seen.{named_data};
 
+use crate::answers::two_way_from;
 use crate::arguments::args_from;
 use crate::json::json_in;
 use crate::laws::law_types;
+use crate::line::{check_keys, member_of};
 use crate::names::{Named, method_meant};
+use crate::refused::{Fault, Place, Refused, RefusedName, refusal};
 use aidl_base::{OutOfMemory, Row, Text};
 use aidl_schema::Schema;
 use aidl_values::{Answer, Value};
-use call_answers::{
-    Fault, Place, Refused, RefusedName, check_keys, member_of, refusal, two_way_from,
-};
-use call_lengths::{reply_length, request_length};
-use call_pieces::method_of;
 use marshal_plans::Plans;
 use serde_json::{Map, Value as Json};
 use std::alloc::Global;
+use stub_dispatch::{method_of, reply_length, request_length};
 
 /// A method of the server, by its position in the interface, and what its handler answers.
 #[derive(Debug, Drop)]

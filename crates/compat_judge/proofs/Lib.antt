@@ -1,3 +1,4 @@
+mod Compared
 mod Chains
 mod Found
 mod Listing

@@ -1,6 +1,9 @@
-//! Which evolution rules a new schema breaks, and where.
+//! Which evolution rules a new schema breaks, and where: the parts of two schemas that stand beside each other, compared.
 #![tactic(auto)]
 
+mod alike;
+mod consts;
+mod fields;
 mod findings;
 mod judging;
 mod lookup;
@@ -9,6 +12,9 @@ mod places;
 mod rules;
 mod shapes;
 mod sides;
+mod tests;
 
 pub use aidl_schema::law_chain;
+pub use alike::{same_text, same_type};
 pub use judging::{Broken, judge};
+pub use tests::{ArgumentTest, FieldTest, MethodTest};

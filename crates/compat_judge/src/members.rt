@@ -8,12 +8,13 @@ ghost use Rattle.aidl_schema.specs.Names.{enumerators_of, methods_of};
 ghost use Rattle.aidl_schema.specs.Same.{base_code};
 ghost use Rattle.compat_judge.specs.steps.Steps.{both_of, names_of, places_among};
 
+use crate::alike::same_base_code;
+use crate::consts::same_const;
 use crate::findings::Findings;
 use crate::lookup::{at_place, places_of};
 use crate::sides::{Common, Pair};
 use aidl_base::{Ident, OutOfMemory};
 use aidl_schema::{Constant, Enumerator, Kind, Method};
-use schema_compare::{same_base_code, same_const};
 use std::alloc::Global;
 
 /// The methods of an interface; none of what is no interface.

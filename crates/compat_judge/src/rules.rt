@@ -7,16 +7,17 @@ ghost use Rattle.aidl_schema.specs.Names.{methods_of};
 ghost use Rattle.aidl_schema.specs.Same.{same_bool};
 ghost use Rattle.compat_judge.specs.steps.Steps.{both_of, breaks_in, data_rules, interface_rules, other_rules, parcelable_rules};
 
+use crate::alike::{same_flag, same_kind};
+use crate::fields::{
+    fields_of, fields_with_default, has_fields, parcelable_fields, same_backing, union_fields,
+};
 use crate::findings::Findings;
 use crate::members::{c3, c17, c18, common_methods, method_places, methods_of};
 use crate::shapes::{at_additions, at_arguments, at_fields, at_methods};
 use crate::sides::{Common, Pair};
+use crate::tests::{ArgumentTest, FieldTest, MethodTest};
 use aidl_base::OutOfMemory;
 use aidl_schema::{Decl, Field};
-use schema_compare::{
-    ArgumentTest, FieldTest, MethodTest, fields_of, fields_with_default, has_fields,
-    parcelable_fields, same_backing, same_flag, same_kind, union_fields,
-};
 use std::alloc::Global;
 
 /// C2 to C19: what a declaration of old and that of its name in new break.

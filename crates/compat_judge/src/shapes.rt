@@ -3,16 +3,16 @@ ghost use Rattle.std.specs.Prelude.{◌≡◌, ◌++◌, map, length, drop, OnOk
 ghost use Rattle.std.specs.List.{enumerate_from, flat_map, zip};
 ghost use Rattle.aidl_schema.specs.Broken.{argument, at_arguments_of, is_refused_addition, member, of_rule, places};
 ghost use Rattle.compat_judge.specs.steps.Steps.{both_of};
-ghost use Rattle.schema_compare.specs.steps.Tests as tests;
+ghost use Rattle.compat_judge.specs.steps.Tests as tests;
 
+use crate::consts::is_refused_addition;
 use crate::findings::Findings;
 use crate::sides::{Common, Pair};
+use crate::tests::{
+    ArgumentTest, FieldTest, MethodTest, argument_breaks, field_breaks, method_breaks,
+};
 use aidl_base::OutOfMemory;
 use aidl_schema::{Field, Method};
-use schema_compare::{
-    ArgumentTest, FieldTest, MethodTest, argument_breaks, field_breaks, is_refused_addition,
-    method_breaks,
-};
 use std::alloc::Global;
 
 /// Common methods that break a rule.

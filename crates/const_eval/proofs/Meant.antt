@@ -8,16 +8,16 @@ use Rattle.aidl_syntax.specs.declared.tree.DottedTree.{DottedTree}
 use Rattle.aidl_syntax.specs.Trees.{Expr}
 use Rattle.graph_cycles.specs.Paths.{flag}
 use Rattle.aidl_syntax.specs.Sources.{Source}
-use Rattle.const_operands.specs.declared.fault.ConstFault.{ConstFault}
-use Rattle.const_operands.specs.declared.fault.EvalFault.{EvalFault}
-use Rattle.const_operands.specs.declared.fault.EvalFault.TheVariants as eval
+use Rattle.const_values.specs.declared.fault.ConstFault.{ConstFault}
+use Rattle.const_values.specs.declared.fault.EvalFault.{EvalFault}
+use Rattle.const_values.specs.declared.fault.EvalFault.TheVariants as eval
 use Rattle.const_values.specs.Evaluation.{evaluated}
-use Rattle.const_operands.specs.Seen.{Answers, seen}
-use Rattle.const_operands.specs.Operands.{Operand}
+use Rattle.const_values.specs.Seen.{Answers, seen}
+use Rattle.const_values.specs.Operands.{Operand}
 use Rattle.const_values.specs.Wanted.{fitted}
 use Rattle.const_items.specs.declared.item.ItemRef.{ItemRef}
 use Rattle.const_eval.specs.declared.outcome.Outcome.{Outcome}
-use Rattle.const_dependence.specs.Dependence.{Target, number_among, target}
+use Rattle.const_items.specs.Dependence.{Target, number_among, target}
 use Rattle.const_items.specs.Items.{Item, items}
 use Rattle.const_items.specs.ItemViews.{item_of}
 use Rattle.const_eval.specs.Known.{AreItems, meaning_for, values_in}

@@ -5,7 +5,7 @@ use Rattle.graph_cycles.specs.Paths.{TellsCycles, flag, targets}
 use Rattle.aidl_syntax.specs.Sources.{Source}
 use Rattle.const_items.specs.declared.item.ItemRef.{ItemRef}
 use Rattle.const_eval.specs.declared.outcome.Outcome.{Outcome}
-use Rattle.const_dependence.specs.Dependence.{has_unknown_name, next}
+use Rattle.const_items.specs.Dependence.{has_unknown_name, next}
 use Rattle.const_items.specs.Items.{items}
 use Rattle.const_items.specs.ItemViews.{item_of}
 use Rattle.const_eval.specs.Known.{AreItems, AreKnown, AreNext, are_given, values_in, without_value}

@@ -12,7 +12,7 @@ use Rattle.const_items.specs.Items.{items}
 use Rattle.const_eval.specs.Outcomes.{HasOutcome, AreOutcomes, outcome_at, wanted_of}
 use Rattle.const_eval.specs.Held.{is_held_outcome}
 use Rattle.graph_cycles.specs.Paths.{flag}
-use Rattle.const_dependence.specs.Dependence.{next}
+use Rattle.const_items.specs.Dependence.{next}
 use Rattle.const_eval.specs.Known.{AreHeld, AreKnown, IsInTurn}
 
 pub record IsSettled (files : List Source) (order : List ℕ) (k : ℕ) (outcomes : List Outcome) : Type 0 where

@@ -3,11 +3,11 @@ use Rattle.std.proofs.Common.{◌≡◌, ℕ, zero, suc, ◌<◌, Bool, true, fa
 use Rattle.std.specs.List.{list_all, slice_get}
 use Rattle.std.proofs.lemmas.Option.{same_Some}
 use Rattle.aidl_syntax.specs.Sources.{Source}
-use Rattle.const_operands.specs.declared.fault.ConstFault.TheVariants.{Cycle, UnknownName}
+use Rattle.const_values.specs.declared.fault.ConstFault.TheVariants.{Cycle, UnknownName}
 use Rattle.const_eval.specs.declared.outcome.Outcome.{Outcome}
 use Rattle.const_eval.specs.declared.outcome.Outcome.TheVariants.{Given, Fault, Unjudged}
 use Rattle.const_items.specs.Items.{Item, items}
-use Rattle.const_dependence.specs.Dependence.{next, has_unknown_name}
+use Rattle.const_items.specs.Dependence.{next, has_unknown_name}
 use Rattle.const_eval.specs.Known.{AreKnown, are_given, value_of, values_in, without_value}
 use Rattle.const_eval.specs.Outcomes.{HasOutcome, IsCyclic, is_given, judgement_of, outcome_at, outcome_of}
 use Rattle.const_eval.specs.Outcomes.HasOutcome.{unformed, unknown, cyclic, behind, judged}

@@ -11,7 +11,7 @@ use Rattle.graph_cycles.specs.Paths.{Leads, TellsCycles, Descends, flag, targets
 use Rattle.aidl_syntax.specs.Trees.{offset_of}
 use Rattle.aidl_syntax.specs.Sources.{Source}
 use Rattle.const_items.specs.Items.{Item, Written, written, first, after, items, is_at, number_at, place_of}
-use Rattle.const_dependence.specs.Dependence.{Target, of_constant, of_enumerator, target, number_of, number_before, names_in, next, next_of}
+use Rattle.const_items.specs.Dependence.{Target, of_constant, of_enumerator, target, number_of, number_before, names_in, next, next_of}
 use Rattle.const_eval.specs.Known.{AreNext, IsInTurn}
 use Rattle.const_eval.specs.Outcomes.{IsCyclic}
 

@@ -4,9 +4,9 @@ use Rattle.aidl_base.specs.declared.constant.Const.{Const, out-Const}
 use Rattle.aidl_base.specs.declared.constant.Const.TheOpen.{Const-F}
 use Rattle.const_values.specs.declared.wanted.Wanted.{Wanted}
 use Rattle.const_values.specs.declared.wanted.Wanted.TheVariants as wanted
-use Rattle.const_operands.specs.declared.width.Width.TheVariants.{Narrow}
+use Rattle.const_values.specs.declared.width.Width.TheVariants.{Narrow}
 use Rattle.aidl_base.specs.Ranges.{is_between}
-use Rattle.const_operands.specs.Widths.{is_within}
+use Rattle.const_values.specs.Widths.{is_within}
 use Rattle.const_eval.specs.declared.outcome.Outcome.{Outcome}
 use Rattle.const_eval.specs.declared.outcome.Outcome.TheVariants.{Given, Fault, Unjudged}
 

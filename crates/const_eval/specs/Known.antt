@@ -7,14 +7,14 @@ use Rattle.aidl_syntax.specs.declared.tree.DottedTree.{DottedTree}
 use Rattle.aidl_syntax.specs.declared.tree.ParsedFile.{ParsedFile}
 use Rattle.graph_cycles.specs.Paths.{flag, targets}
 use Rattle.aidl_syntax.specs.Sources.{Source, source_of}
-use Rattle.const_operands.specs.declared.fault.ConstFault.{ConstFault}
-use Rattle.const_operands.specs.declared.fault.ConstFault.TheVariants.{Cycle, UnknownName}
-use Rattle.const_operands.specs.Operands.{Operand}
+use Rattle.const_values.specs.declared.fault.ConstFault.{ConstFault}
+use Rattle.const_values.specs.declared.fault.ConstFault.TheVariants.{Cycle, UnknownName}
+use Rattle.const_values.specs.Operands.{Operand}
 use Rattle.const_items.specs.declared.item.ItemRef.{ItemRef}
 use Rattle.const_eval.specs.declared.outcome.Outcome.{Outcome}
 use Rattle.const_eval.specs.declared.outcome.Outcome.TheVariants.{Given, Fault, Unjudged}
 use Rattle.const_items.specs.Items.{Item, items}
-use Rattle.const_dependence.specs.Dependence.{next}
+use Rattle.const_items.specs.Dependence.{next}
 use Rattle.const_eval.specs.Held.{is_held_outcome}
 use Rattle.const_eval.specs.Outcomes.{HasOutcome, Values, is_given, meaning, outcome_at, wanted_of}
 

@@ -9,18 +9,18 @@ use Rattle.aidl_syntax.specs.declared.tree.DottedTree.{DottedTree}
 use Rattle.aidl_syntax.specs.Trees.{Expr}
 use Rattle.aidl_syntax.specs.Trees.Expr.{name}
 use Rattle.aidl_syntax.specs.Sources.{Source}
-use Rattle.const_operands.specs.declared.fault.ConstFault.{ConstFault}
-use Rattle.const_operands.specs.declared.fault.ConstFault.TheVariants.{Mismatch, Cycle, UnknownName}
+use Rattle.const_values.specs.declared.fault.ConstFault.{ConstFault}
+use Rattle.const_values.specs.declared.fault.ConstFault.TheVariants.{Mismatch, Cycle, UnknownName}
 use Rattle.const_values.specs.declared.wanted.Wanted.{Wanted}
 use Rattle.const_values.specs.declared.wanted.Wanted.TheVariants as wanted
-use Rattle.const_operands.specs.declared.width.Width.TheVariants.{Narrow, Wide}
-use Rattle.const_operands.specs.Operands.{Operand, truth, number, character, text}
+use Rattle.const_values.specs.declared.width.Width.TheVariants.{Narrow, Wide}
+use Rattle.const_values.specs.Operands.{Operand, truth, number, character, text}
 use Rattle.const_values.specs.Evaluation.{evaluated}
 use Rattle.const_values.specs.Wanted.{fitted}
 use Rattle.const_eval.specs.declared.outcome.Outcome.{Outcome}
 use Rattle.const_eval.specs.declared.outcome.Outcome.TheVariants.{Given, Fault, Unjudged}
 use Rattle.const_items.specs.Items.{Item, Written, written, first, after, items, number_at}
-use Rattle.const_dependence.specs.Dependence.{Target, of_enumerator, target, number_of, has_unknown_name, next}
+use Rattle.const_items.specs.Dependence.{Target, of_enumerator, target, number_of, has_unknown_name, next}
 
 -- What the value of a constant or enumerator is in an expression, by the value that was wanted of it.
 

@@ -9,7 +9,7 @@ use crate::outcome::Outcome;
 use crate::settled::{InitId, Settled};
 use aidl_base::{Breach, OutOfMemory, Row};
 use const_items::ItemRef;
-use const_operands::ConstFault;
+use const_values::ConstFault;
 use std::alloc::Global;
 
 /// The breaches of E6 to E12: one for each item whose outcome is a fault, at the item's place, in the order of files and places.

@@ -3,7 +3,7 @@ ghost use Rattle.std.specs.Prelude.{◌≡◌, ◌<◌, ◌≤◌, ℕ, false, l
 ghost use Rattle.std.specs.List.{All, slice_get};
 ghost use Rattle.graph_cycles.specs.Paths.{TellsCycles, flag, targets};
 ghost use Rattle.aidl_syntax.specs.Sources.{source_of};
-ghost use Rattle.const_dependence.specs.Dependence.{has_unknown_name};
+ghost use Rattle.const_items.specs.Dependence.{has_unknown_name};
 ghost use Rattle.const_eval.specs.Held.{is_held_outcome};
 ghost use Rattle.const_items.specs.Items.{items as items_of};
 ghost use Rattle.const_items.specs.ItemViews.{item_of};
@@ -18,9 +18,8 @@ use crate::ranked::ranked;
 use crate::settled::Settled;
 use aidl_base::{OutOfMemory, Row};
 use aidl_names::Names;
-use const_dependence::{Dependence, dependence_of};
-use const_items::{ItemRef, Items, law_count, numbered};
-use const_operands::{ConstFault, EvalFault};
+use const_items::{Dependence, ItemRef, Items, dependence_of, law_count, numbered};
+use const_values::{ConstFault, EvalFault};
 use graph_cycles::find_cycles;
 use std::alloc::Global;
 

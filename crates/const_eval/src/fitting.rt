@@ -1,13 +1,12 @@
 //! Operands as values of a wanted type that can be operands again.
 ghost use Rattle.std.specs.Prelude.{◌≡◌, ◌<◌, ◌^◌, IfOk, IsTrue};
-ghost use Rattle.const_operands.specs.Seen.{Answers, seen};
+ghost use Rattle.const_values.specs.Seen.{Answers, seen};
 ghost use Rattle.const_values.specs.Wanted as meant;
-ghost use Rattle.const_operands.specs.Operands as operand;
+ghost use Rattle.const_values.specs.Operands as operand;
 ghost use Rattle.const_eval.specs.Held.{is_held};
 
 use aidl_base::Const;
-use const_operands::{EvalFault, Operand};
-use const_values::{Wanted, fitted};
+use const_values::{EvalFault, Operand, Wanted, fitted};
 use std::alloc::Global;
 
 /// The value of the wanted type that an operand is, which can stand in an expression again.

@@ -3,12 +3,12 @@ ghost use Rattle.std.specs.Prelude.{◌≡◌, map, IfOk, IsTrue};
 ghost use Rattle.aidl_syntax.specs.Trees.{expr_of};
 ghost use Rattle.aidl_names.specs.Refusals.{IsScope};
 ghost use Rattle.aidl_syntax.specs.Sources.{source_of};
-ghost use Rattle.const_operands.specs.Seen.{Answers};
+ghost use Rattle.const_values.specs.Seen.{Answers};
 ghost use Rattle.const_eval.specs.Held.{is_held};
 ghost use Rattle.const_items.specs.ItemViews.{item_of};
 ghost use Rattle.const_eval.specs.Known.{AreHeld, AreItems, IsItemAt, values_in};
 ghost use Rattle.const_eval.specs.Outcomes as meant;
-ghost use Rattle.const_dependence.specs.TargetViews.{seen_targets};
+ghost use Rattle.const_items.specs.TargetViews.{seen_targets};
 
 use crate::fitting::held;
 use crate::known::KnownValues;
@@ -17,10 +17,8 @@ use crate::stepping::{first, one_more};
 use aidl_base::Const;
 use aidl_names::Names;
 use aidl_syntax::{ExprKind, ExprTree};
-use const_dependence::{Target, target_of};
-use const_items::{ItemRef, Items, WrittenRef};
-use const_operands::EvalFault;
-use const_values::evaluated;
+use const_items::{ItemRef, Items, Target, WrittenRef, target_of};
+use const_values::{EvalFault, evaluated};
 use std::alloc::Global;
 
 /// The value of the item with a number, or its fault, by the values of what it depends on: the first fault in the order of

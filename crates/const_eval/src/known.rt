@@ -2,8 +2,8 @@
 ghost use Rattle.std.specs.Prelude.{◌≡◌, ◌<◌, ℕ, length, map, IfOk, IsTrue};
 ghost use Rattle.std.specs.List.{slice_get};
 ghost use Rattle.aidl_syntax.specs.Sources.{source_of};
-ghost use Rattle.const_operands.specs.Operands.{IsWithin};
-ghost use Rattle.const_operands.specs.Seen.{answer, seen};
+ghost use Rattle.const_values.specs.Operands.{IsWithin};
+ghost use Rattle.const_values.specs.Seen.{answer, seen};
 ghost use Rattle.const_eval.specs.Held.{is_held_outcome};
 ghost use Rattle.const_items.specs.ItemViews.{item_of};
 ghost use Rattle.const_eval.specs.Known.{AreHeld, AreItems, value_of, values_in};
@@ -14,10 +14,8 @@ use crate::operands::operand_of;
 use crate::outcome::Outcome;
 use aidl_names::Names;
 use aidl_syntax::DottedTree;
-use const_dependence::{number_of, target_of};
-use const_items::{ItemRef, Items};
-use const_operands::{ConstFault, Operand};
-use const_values::{Meanings, Wanted};
+use const_items::{ItemRef, Items, number_of, target_of};
+use const_values::{ConstFault, Meanings, Operand, Wanted};
 use std::marker::Model;
 
 /// What the names in the expression of an item mean, by the outcomes that are known. Contracts see it as the files, the

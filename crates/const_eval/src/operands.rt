@@ -1,15 +1,14 @@
 //! Values of constants and enumerators as operands of other expressions.
 ghost use Rattle.std.specs.Prelude.{◌≡◌, IfOk, IsTrue};
-ghost use Rattle.const_operands.specs.Operands as operand;
-ghost use Rattle.const_operands.specs.Operands.{IsWithin};
-ghost use Rattle.const_operands.specs.Seen.{answer, seen};
+ghost use Rattle.const_values.specs.Operands as operand;
+ghost use Rattle.const_values.specs.Operands.{IsWithin};
+ghost use Rattle.const_values.specs.Seen.{answer, seen};
 ghost use Rattle.const_eval.specs.Held.{is_held, is_held_number};
 ghost use Rattle.const_eval.specs.Outcomes as meant;
 ghost use Rattle.const_values.specs.declared.wanted.Wanted.TheVariants as wanted;
 
 use aidl_base::Const;
-use const_operands::{ConstFault, Operand, Width, Words};
-use const_values::Wanted;
+use const_values::{ConstFault, Operand, Wanted, Width, Words};
 
 /// What the value of a constant or enumerator is in an expression, by the value that was wanted of it. A text is borrowed. It
 /// takes no memory.

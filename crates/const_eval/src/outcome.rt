@@ -1,7 +1,7 @@
 //! The outcome of an item: a value, a fault, or not judged.
 
 use aidl_base::Const;
-use const_operands::ConstFault;
+use const_values::ConstFault;
 
 /// What comes of an item.
 #[derive(Debug, Drop)]

@@ -1,10 +1,10 @@
 //! Enumerators without an expression: the first of an enum, and one more than the one before.
 ghost use Rattle.std.specs.Prelude.{◌≡◌, None, pos, ◌+ℤ◌, IfOk, IsTrue, Err};
 ghost use Rattle.aidl_base.specs.declared.constant.Const.{out-Const};
-ghost use Rattle.const_operands.specs.Operands as operand;
-ghost use Rattle.const_operands.specs.Seen.{Answers, seen};
+ghost use Rattle.const_values.specs.Operands as operand;
+ghost use Rattle.const_values.specs.Seen.{Answers, seen};
 ghost use Rattle.const_values.specs.Wanted.{fitted};
-ghost use Rattle.const_operands.specs.declared.width.Width.TheVariants.{Narrow, Wide};
+ghost use Rattle.const_values.specs.declared.width.Width.TheVariants.{Narrow, Wide};
 ghost use Rattle.const_eval.specs.Held.{is_held};
 ghost use Rattle.const_eval.specs.Outcomes as meant;
 ghost use Rattle.const_eval.specs.Known.{value_of, values_in};
@@ -12,8 +12,7 @@ ghost use Rattle.const_eval.specs.Known.{value_of, values_in};
 use crate::fitting::held;
 use crate::outcome::Outcome;
 use aidl_base::Const;
-use const_operands::{ConstFault, EvalFault, Operand, Width};
-use const_values::Wanted;
+use const_values::{ConstFault, EvalFault, Operand, Wanted, Width};
 use std::alloc::Global;
 
 /// The value of an enumerator without an expression that is the first of its enum.

@@ -2,3 +2,5 @@ mod EachItem
 mod General
 mod Orders
 pub mod lemmas
+mod Behind
+mod Within

@@ -1,3 +1,5 @@
 pub mod Items
 pub mod ItemViews
 pub mod SmallPlaces
+pub mod Dependence
+pub mod TargetViews

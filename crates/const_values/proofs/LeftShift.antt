@@ -6,9 +6,9 @@ use mir.Val.{bits, hbits}
 use Rattle.std.proofs.lemmas.Int.{ints, to_z-of_z, to_z_pos}
 use Rattle.std.proofs.lemmas.Nat.{mod-mul-add, pow_pos}
 use Rattle.std.proofs.Math.Nat.{mod-eq_of_lt, le-mul_of_pos_right, mul-pos}
-use Rattle.const_operands.specs.declared.width.Width.{Width}
-use Rattle.const_operands.specs.declared.width.Width.TheVariants.{Narrow, Wide}
-use Rattle.const_operands.specs.Widths.{form_of, is_within}
+use Rattle.const_values.specs.declared.width.Width.{Width}
+use Rattle.const_values.specs.declared.width.Width.TheVariants.{Narrow, Wide}
+use Rattle.const_values.specs.Widths.{form_of, is_within}
 
 more_copies : (d s j : ℕ) → s * suc j ≤ s + d → d * suc j ≡ j * (s + d) + ((s + d) - s * suc j)
 more_copies d s j h = grind arith

@@ -5,8 +5,8 @@ use Rattle.std.specs.Int.{w128}
 use Rattle.std.specs.Ordering.{int_eq}
 use Rattle.std.proofs.lemmas.Bool.Decides.{Decides-int_eq}
 use Rattle.std.proofs.lemmas.Int.{ints, quot-rem, rem_is, to_z-of_z}
-use Rattle.const_operands.specs.declared.fault.ConstFault.{ConstFault}
-use Rattle.const_operands.specs.Operands.{Operand}
+use Rattle.const_values.specs.declared.fault.ConstFault.{ConstFault}
+use Rattle.const_values.specs.Operands.{Operand}
 use Rattle.const_values.specs.Arithmetic.{unless_zero}
 
 rest_is : (x r a : ℤ) → x +ℤ r ≡ a → r ≡ a -ℤ x

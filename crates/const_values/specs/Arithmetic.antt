@@ -1,13 +1,13 @@
 -- Whole numbers, and where they leave their width (own, after AOSP, "AIDL language").
 use Rattle.std.specs.Prelude.{ℤ, pos, ◌+ℤ◌, ◌-ℤ◌, ◌*ℤ◌, int_div, if◌then◌else◌, Result, Ok, Err}
 use Rattle.std.specs.Ordering.{int_eq}
-use Rattle.const_operands.specs.declared.width.Width.{Width}
-use Rattle.const_operands.specs.declared.fault.ConstFault.{ConstFault}
-use Rattle.const_operands.specs.declared.fault.ConstFault.TheVariants.{Overflow, DivideByZero}
-use Rattle.const_operands.specs.Operands.{Operand, number}
-use Rattle.const_operands.specs.declared.operator.Arithmetic.{Arithmetic}
-use Rattle.const_operands.specs.declared.operator.Arithmetic.TheVariants.{Add, Subtract, Multiply, Divide, Remainder}
-use Rattle.const_operands.specs.Widths.{is_within}
+use Rattle.const_values.specs.declared.width.Width.{Width}
+use Rattle.const_values.specs.declared.fault.ConstFault.{ConstFault}
+use Rattle.const_values.specs.declared.fault.ConstFault.TheVariants.{Overflow, DivideByZero}
+use Rattle.const_values.specs.Operands.{Operand, number}
+use Rattle.const_values.specs.declared.operator.Arithmetic.{Arithmetic}
+use Rattle.const_values.specs.declared.operator.Arithmetic.TheVariants.{Add, Subtract, Multiply, Divide, Remainder}
+use Rattle.const_values.specs.Widths.{is_within}
 
 -- the number itself, where it lies in the width
 abbrev pub in_width : Width → ℤ → Result Operand ConstFault

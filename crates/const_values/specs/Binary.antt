@@ -2,20 +2,20 @@
 use Rattle.std.specs.Prelude.{ℕ, ℤ, Bool, List, Result, Ok, Err}
 use Rattle.std.specs.Bool.{beq}
 use Rattle.std.specs.Ordering.{int_eq}
-use Rattle.const_operands.specs.declared.width.Width.{Width}
-use Rattle.const_operands.specs.declared.fault.ConstFault.{ConstFault}
-use Rattle.const_operands.specs.declared.fault.ConstFault.TheVariants.{Mismatch}
-use Rattle.const_operands.specs.Operands.{Operand}
-use Rattle.const_operands.specs.Operands as operand
-use Rattle.const_operands.specs.declared.operator.Arithmetic.TheVariants.{Add}
-use Rattle.const_operands.specs.declared.operator.BinaryOperator.{BinaryOperator}
-use Rattle.const_operands.specs.declared.operator.BinaryOperator.TheVariants.{Arithmetic, Bitwise, Shift, Order, Equality, Connective}
+use Rattle.const_values.specs.declared.width.Width.{Width}
+use Rattle.const_values.specs.declared.fault.ConstFault.{ConstFault}
+use Rattle.const_values.specs.declared.fault.ConstFault.TheVariants.{Mismatch}
+use Rattle.const_values.specs.Operands.{Operand}
+use Rattle.const_values.specs.Operands as operand
+use Rattle.const_values.specs.declared.operator.Arithmetic.TheVariants.{Add}
+use Rattle.const_values.specs.declared.operator.BinaryOperator.{BinaryOperator}
+use Rattle.const_values.specs.declared.operator.BinaryOperator.TheVariants.{Arithmetic, Bitwise, Shift, Order, Equality, Connective}
 use Rattle.const_values.specs.Arithmetic.{arithmetic_of}
 use Rattle.const_values.specs.Bitwise.{bitwise_of}
 use Rattle.const_values.specs.Comparisons.{order_of, equality_of, connective_of}
 use Rattle.const_values.specs.Shifts.{shift_of}
 use Rattle.const_values.specs.Texts.{joined}
-use Rattle.const_operands.specs.Widths.{wider}
+use Rattle.const_values.specs.Widths.{wider}
 
 -- Of two numbers. The result has the wider width, and that of the left one where it is a shift.
 abbrev pub of_numbers : BinaryOperator → Width → ℤ → Width → ℤ → Result Operand ConstFault

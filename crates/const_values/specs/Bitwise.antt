@@ -2,11 +2,11 @@
 use Rattle.std.specs.Prelude.{ℤ}
 use Rattle.std.specs.Int as int
 use Rattle.std.specs.Int.{int_bit_and, int_bit_or, int_bit_xor, int_bit_not}
-use Rattle.const_operands.specs.declared.width.Width.{Width}
-use Rattle.const_operands.specs.Operands.{Operand, number}
-use Rattle.const_operands.specs.declared.operator.Bitwise.{Bitwise}
-use Rattle.const_operands.specs.declared.operator.Bitwise.TheVariants.{And, Or, ExclusiveOr}
-use Rattle.const_operands.specs.Widths.{form_of}
+use Rattle.const_values.specs.declared.width.Width.{Width}
+use Rattle.const_values.specs.Operands.{Operand, number}
+use Rattle.const_values.specs.declared.operator.Bitwise.{Bitwise}
+use Rattle.const_values.specs.declared.operator.Bitwise.TheVariants.{And, Or, ExclusiveOr}
+use Rattle.const_values.specs.Widths.{form_of}
 
 -- the number whose bits are those of both, of either, or of one alone
 abbrev pub on_bits : Bitwise → int.Width → ℤ → ℤ → ℤ

@@ -1,11 +1,11 @@
 -- Operators that give a truth value (own, after AOSP, "AIDL language").
 use Rattle.std.specs.Prelude.{ℤ, int_lt, int_le, Bool, not, ◌&&◌, ◌||◌}
-use Rattle.const_operands.specs.declared.operator.Order.{Order}
-use Rattle.const_operands.specs.declared.operator.Order.TheVariants.{Less, Greater, LessEqual, GreaterEqual}
-use Rattle.const_operands.specs.declared.operator.Equality.{Equality}
-use Rattle.const_operands.specs.declared.operator.Equality.TheVariants.{Equal, NotEqual}
-use Rattle.const_operands.specs.declared.operator.Connective.{Connective}
-use Rattle.const_operands.specs.declared.operator.Connective.TheVariants.{And, Or}
+use Rattle.const_values.specs.declared.operator.Order.{Order}
+use Rattle.const_values.specs.declared.operator.Order.TheVariants.{Less, Greater, LessEqual, GreaterEqual}
+use Rattle.const_values.specs.declared.operator.Equality.{Equality}
+use Rattle.const_values.specs.declared.operator.Equality.TheVariants.{Equal, NotEqual}
+use Rattle.const_values.specs.declared.operator.Connective.{Connective}
+use Rattle.const_values.specs.declared.operator.Connective.TheVariants.{And, Or}
 
 -- the order of whole numbers
 abbrev pub order_of : Order → ℤ → ℤ → Bool

@@ -3,13 +3,13 @@ use Rattle.std.specs.Prelude.{Option, Some, None, Result, Ok, Err}
 use Rattle.aidl_base.specs.Results.{◌>>=◌}
 use Rattle.aidl_syntax.specs.declared.tree.DottedTree.{DottedTree}
 use Rattle.aidl_syntax.specs.Trees.{Expr, literal, name, group, unary, binary}
-use Rattle.const_operands.specs.declared.fault.ConstFault.{ConstFault}
-use Rattle.const_operands.specs.declared.fault.ConstFault.TheVariants.{Mismatch}
-use Rattle.const_operands.specs.declared.operator.UnaryOperator.{UnaryOperator}
-use Rattle.const_operands.specs.declared.operator.BinaryOperator.{BinaryOperator}
-use Rattle.const_operands.specs.Operands.{Operand}
+use Rattle.const_values.specs.declared.fault.ConstFault.{ConstFault}
+use Rattle.const_values.specs.declared.fault.ConstFault.TheVariants.{Mismatch}
+use Rattle.const_values.specs.declared.operator.UnaryOperator.{UnaryOperator}
+use Rattle.const_values.specs.declared.operator.BinaryOperator.{BinaryOperator}
+use Rattle.const_values.specs.Operands.{Operand}
 use Rattle.const_values.specs.Literals.{literal_of}
-use Rattle.const_operands.specs.Symbols.{unary_operator, binary_operator}
+use Rattle.const_values.specs.Symbols.{unary_operator, binary_operator}
 use Rattle.const_values.specs.Unary as one
 use Rattle.const_values.specs.Binary as two
 

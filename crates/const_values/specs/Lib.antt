@@ -1,3 +1,8 @@
+pub mod Faults
+pub mod Operands
+pub mod Seen
+pub mod Symbols
+pub mod Widths
 pub mod Arithmetic
 pub mod Binary
 pub mod Bitwise

@@ -4,11 +4,11 @@ use Rattle.std.specs.Int.{cast_signed}
 use Rattle.aidl_base.specs.declared.reserved.Reserved.TheVariants as word
 use Rattle.aidl_syntax.specs.declared.token.TokenKind.{TokenKind}
 use Rattle.aidl_syntax.specs.declared.token.TokenKind.TheVariants as kind
-use Rattle.const_operands.specs.declared.width.Width.{Width}
-use Rattle.const_operands.specs.declared.width.Width.TheVariants.{Narrow, Wide}
-use Rattle.const_operands.specs.Operands.{Operand}
-use Rattle.const_operands.specs.Operands as operand
-use Rattle.const_operands.specs.Widths.{form_of}
+use Rattle.const_values.specs.declared.width.Width.{Width}
+use Rattle.const_values.specs.declared.width.Width.TheVariants.{Narrow, Wide}
+use Rattle.const_values.specs.Operands.{Operand}
+use Rattle.const_values.specs.Operands as operand
+use Rattle.const_values.specs.Widths.{form_of}
 
 -- the number whose two's complement in a width is this
 abbrev pub of_bits : Width → ℕ → Operand

@@ -1,13 +1,13 @@
 -- Shifts of two's complement bits (own, after AOSP, "AIDL language").
 use Rattle.std.specs.Prelude.{ℕ, ℤ, pos, int_le, int_lt, unsigned_abs, ◌&&◌, if◌then◌else◌, Result, Ok, Err}
 use Rattle.std.specs.Int.{int_shl, int_shr}
-use Rattle.const_operands.specs.declared.width.Width.{Width}
-use Rattle.const_operands.specs.declared.fault.ConstFault.{ConstFault}
-use Rattle.const_operands.specs.declared.fault.ConstFault.TheVariants.{BadShift}
-use Rattle.const_operands.specs.Operands.{Operand, number}
-use Rattle.const_operands.specs.declared.operator.Shift.{Shift}
-use Rattle.const_operands.specs.declared.operator.Shift.TheVariants.{Left, Right}
-use Rattle.const_operands.specs.Widths.{form_of, bit_count}
+use Rattle.const_values.specs.declared.width.Width.{Width}
+use Rattle.const_values.specs.declared.fault.ConstFault.{ConstFault}
+use Rattle.const_values.specs.declared.fault.ConstFault.TheVariants.{BadShift}
+use Rattle.const_values.specs.Operands.{Operand, number}
+use Rattle.const_values.specs.declared.operator.Shift.{Shift}
+use Rattle.const_values.specs.declared.operator.Shift.TheVariants.{Left, Right}
+use Rattle.const_values.specs.Widths.{form_of, bit_count}
 
 -- `<<` drops the bits that leave the width. `>>` repeats the sign: it divides by a power of two and rounds down.
 abbrev pub shifted : Shift → Width → ℤ → ℕ → Operand

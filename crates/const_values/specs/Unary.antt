@@ -1,12 +1,12 @@
 -- What an operator makes of the operand after it (own, after AOSP, "AIDL language").
 use Rattle.std.specs.Prelude.{ℤ, neg_ℤ, Bool, not, Result, Ok, Err}
-use Rattle.const_operands.specs.declared.width.Width.{Width}
-use Rattle.const_operands.specs.declared.fault.ConstFault.{ConstFault}
-use Rattle.const_operands.specs.declared.fault.ConstFault.TheVariants as fault
-use Rattle.const_operands.specs.Operands.{Operand}
-use Rattle.const_operands.specs.Operands as operand
-use Rattle.const_operands.specs.declared.operator.UnaryOperator.{UnaryOperator}
-use Rattle.const_operands.specs.declared.operator.UnaryOperator.TheVariants.{Plus, Minus, Complement, Not}
+use Rattle.const_values.specs.declared.width.Width.{Width}
+use Rattle.const_values.specs.declared.fault.ConstFault.{ConstFault}
+use Rattle.const_values.specs.declared.fault.ConstFault.TheVariants as fault
+use Rattle.const_values.specs.Operands.{Operand}
+use Rattle.const_values.specs.Operands as operand
+use Rattle.const_values.specs.declared.operator.UnaryOperator.{UnaryOperator}
+use Rattle.const_values.specs.declared.operator.UnaryOperator.TheVariants.{Plus, Minus, Complement, Not}
 use Rattle.const_values.specs.Arithmetic.{in_width}
 use Rattle.const_values.specs.Bitwise.{complement}
 

@@ -5,10 +5,10 @@ use Rattle.aidl_base.specs.declared.constant.Const.TheVariants as value
 use Rattle.aidl_base.specs.declared.range.Range.{Range}
 use Rattle.aidl_base.specs.declared.range.Range.TheVariants as range
 use Rattle.aidl_base.specs.Ranges.{is_in}
-use Rattle.const_operands.specs.declared.fault.ConstFault.{ConstFault}
-use Rattle.const_operands.specs.declared.fault.ConstFault.TheVariants.{Mismatch, DoesNotFit}
-use Rattle.const_operands.specs.Operands.{Operand}
-use Rattle.const_operands.specs.Operands as operand
+use Rattle.const_values.specs.declared.fault.ConstFault.{ConstFault}
+use Rattle.const_values.specs.declared.fault.ConstFault.TheVariants.{Mismatch, DoesNotFit}
+use Rattle.const_values.specs.Operands.{Operand}
+use Rattle.const_values.specs.Operands as operand
 use Rattle.const_values.specs.declared.wanted.Wanted.{Wanted}
 use Rattle.const_values.specs.declared.wanted.Wanted.TheVariants as wanted
 

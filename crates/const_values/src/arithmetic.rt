@@ -1,10 +1,13 @@
 //! The arithmetic operators `+ - * / %`, and the check that a result lies in its width.
 ghost use Rattle.std.specs.Prelude.{◌≡◌, ◌≢◌, pos, ◌+ℤ◌, ◌-ℤ◌, ◌*ℤ◌, int_div, IfOk};
 ghost use Rattle.const_values.specs.Arithmetic as meant;
-ghost use Rattle.const_operands.specs.Operands.{IsWithin};
-ghost use Rattle.const_operands.specs.Seen.{answer, seen};
+ghost use Rattle.const_values.specs.Operands.{IsWithin};
+ghost use Rattle.const_values.specs.Seen.{answer, seen};
 
-use const_operands::{Arithmetic, ConstFault, Operand, Width};
+use crate::fault::ConstFault;
+use crate::operand::Operand;
+use crate::operator::Arithmetic;
+use crate::width::Width;
 
 // `+ - * / %` of two numbers, for a result of a width.
 pub fn arithmetic_of<'a>(

@@ -1,19 +1,20 @@
 //! Binary operators on numbers, truth values and texts.
 ghost use Rattle.std.specs.Prelude.{◌≡◌, IfOk, IsTrue};
 ghost use Rattle.const_values.specs.Binary as meant;
-ghost use Rattle.const_operands.specs.Operands.{IsWithin};
-ghost use Rattle.const_operands.specs.Seen.{Gives, answer, seen};
-ghost use Rattle.const_operands.specs.Widths.{is_within};
+ghost use Rattle.const_values.specs.Operands.{IsWithin};
+ghost use Rattle.const_values.specs.Seen.{Gives, answer, seen};
+ghost use Rattle.const_values.specs.Widths.{is_within};
 
 use crate::arithmetic::arithmetic_of;
 use crate::bitwise::bitwise_of;
 use crate::compare::{connective_of, equality_of, order_of};
+use crate::fault::{ConstFault, EvalFault, without_memory};
 use crate::join::join;
+use crate::operand::Operand;
+use crate::operator::{Arithmetic, BinaryOperator};
 use crate::shift::shift_of;
+use crate::width::Width;
 use aidl_base::Text;
-use const_operands::{
-    Arithmetic, BinaryOperator, ConstFault, EvalFault, Operand, Width, without_memory,
-};
 use std::alloc::Global;
 
 /// What an operator makes of the operands around it (own). It takes memory for two texts alone.

@@ -2,12 +2,14 @@
 ghost use Rattle.std.specs.Prelude.{◌≡◌, IsTrue};
 ghost use Rattle.std.specs.Int.{w32, w64};
 ghost use Rattle.const_values.specs.Bitwise as meant;
-ghost use Rattle.const_operands.specs.Operands.{IsWithin};
-ghost use Rattle.const_operands.specs.Seen.{seen};
-ghost use Rattle.const_operands.specs.Widths.{is_within};
-ghost use Rattle.const_operands.specs.declared.width.Width.TheVariants.{Narrow};
+ghost use Rattle.const_values.specs.Operands.{IsWithin};
+ghost use Rattle.const_values.specs.Seen.{seen};
+ghost use Rattle.const_values.specs.Widths.{is_within};
+ghost use Rattle.const_values.specs.declared.width.Width.TheVariants.{Narrow};
 
-use const_operands::{Bitwise, Operand, Width};
+use crate::operand::Operand;
+use crate::operator::Bitwise;
+use crate::width::Width;
 
 // `& | ^` on the bits of two numbers of a width.
 pub fn bitwise_of<'a>(operator: Bitwise, width: Width, a: i64, b: i64) -> Operand<'a>

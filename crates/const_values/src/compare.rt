@@ -2,7 +2,7 @@
 ghost use Rattle.std.specs.Prelude.{◌≡◌};
 ghost use Rattle.const_values.specs.Comparisons as meant;
 
-use const_operands::{Connective, Equality, Order};
+use crate::operator::{Connective, Equality, Order};
 
 // `< > <= >=` of two numbers.
 pub fn order_of(operator: Order, a: i64, b: i64) -> bool

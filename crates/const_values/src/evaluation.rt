@@ -4,19 +4,18 @@ ghost use Rattle.aidl_syntax.specs.Trees.{expr_of};
 ghost use Rattle.aidl_syntax.specs.declared.tree.DottedTree.{DottedTree};
 ghost use Rattle.const_values.specs.Evaluation as meant;
 ghost use Rattle.const_values.specs.Literals.{literal_of};
-ghost use Rattle.const_operands.specs.Operands as operand;
-ghost use Rattle.const_operands.specs.Operands.{IsWithin};
-ghost use Rattle.const_operands.specs.Seen.{Gives, answer, seen};
-ghost use Rattle.const_operands.specs.declared.fault.ConstFault.{ConstFault};
+ghost use Rattle.const_values.specs.Operands as operand;
+ghost use Rattle.const_values.specs.Operands.{IsWithin};
+ghost use Rattle.const_values.specs.Seen.{Gives, answer, seen};
+ghost use Rattle.const_values.specs.declared.fault.ConstFault.{ConstFault};
 
 use crate::binary_values::binary;
+use crate::fault::{ConstFault, EvalFault, without_memory};
 use crate::literals::literal;
+use crate::operand::Operand;
+use crate::operator::{BinaryOperator, UnaryOperator, binary_operator, unary_operator};
 use crate::unary_values::unary;
 use aidl_syntax::{DottedTree, ExprKind, ExprTree, Token};
-use const_operands::{
-    BinaryOperator, ConstFault, EvalFault, Operand, UnaryOperator, binary_operator, unary_operator,
-    without_memory,
-};
 use std::alloc::Global;
 
 /// What the names in expressions mean.

@@ -1,11 +1,12 @@
 //! The concatenation of texts by `+`.
 ghost use Rattle.std.specs.Prelude.{◌≡◌, ◌++◌, length, IfOk};
-ghost use Rattle.const_operands.specs.Operands.{IsWithin};
-ghost use Rattle.const_operands.specs.Seen.{Gives, seen};
+ghost use Rattle.const_values.specs.Operands.{IsWithin};
+ghost use Rattle.const_values.specs.Seen.{Gives, seen};
 ghost use Rattle.const_values.specs.Texts.{joined};
 
+use crate::fault::{ConstFault, EvalFault};
+use crate::operand::{Operand, Words};
 use aidl_base::{OutOfMemory, Text};
-use const_operands::{ConstFault, EvalFault, Operand, Words};
 use std::alloc::Global;
 
 // Two texts as one, of at most 4,096 characters.

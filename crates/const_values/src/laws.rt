@@ -2,11 +2,11 @@
 ghost use Rattle.std.specs.Prelude.{◌≡◌, ◌<◌, ◌*◌, ◌^◌, ◌≤ℤ◌, ◌<ℤ◌, pos, neg_ℤ, ◌+ℤ◌, ◌-ℤ◌, ◌*ℤ◌, int_div, int_rem, unsigned_abs, IsTrue, true, false, if◌then◌else◌, nat_le};
 ghost use Rattle.std.specs.Int.{int_bit_not, int_shl, int_shr};
 ghost use Rattle.const_values.specs.Literals.{number_of};
-ghost use Rattle.const_operands.specs.Widths.{form_of, is_within};
-ghost use Rattle.const_operands.specs.Operands.{number};
-ghost use Rattle.const_operands.specs.declared.width.Width.TheVariants.{Narrow, Wide};
+ghost use Rattle.const_values.specs.Widths.{form_of, is_within};
+ghost use Rattle.const_values.specs.Operands.{number};
+ghost use Rattle.const_values.specs.declared.width.Width.TheVariants.{Narrow, Wide};
 
-use const_operands::Width;
+use crate::width::Width;
 
 /// A law of the definitions: a decimal, which is at most 9223372036854775807, is its number, with the suffix or without.
 pub fn law_decimal_is_its_number(bits: u64)

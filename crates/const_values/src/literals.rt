@@ -2,12 +2,13 @@
 ghost use Rattle.std.specs.Prelude.{◌≡◌, ◌<◌, ◌^◌, IfSome};
 ghost use Rattle.std.specs.Option.{option_map};
 ghost use Rattle.const_values.specs.Literals.{literal_of, narrow_limit, number_of, of_bits};
-ghost use Rattle.const_operands.specs.Operands.{IsWithin};
-ghost use Rattle.const_operands.specs.Seen.{seen};
-ghost use Rattle.const_operands.specs.declared.width.Width.TheVariants.{Narrow, Wide};
+ghost use Rattle.const_values.specs.Operands.{IsWithin};
+ghost use Rattle.const_values.specs.Seen.{seen};
+ghost use Rattle.const_values.specs.declared.width.Width.TheVariants.{Narrow, Wide};
 
+use crate::operand::{Operand, Words};
+use crate::width::Width;
 use aidl_syntax::{Reserved, TokenKind};
-use const_operands::{Operand, Width, Words};
 
 /// What a token is as an operand, and None where it is no literal (own). A string is borrowed. It takes no memory.
 pub fn literal(token: &TokenKind) -> Option<Operand<'_>>

@@ -1,13 +1,16 @@
 //! The shift operators `<< >>`.
 ghost use Rattle.std.specs.Prelude.{◌≡◌, ◌<◌, IfOk, IsTrue};
 ghost use Rattle.std.specs.Int.{int_shl};
-ghost use Rattle.const_operands.specs.Operands.{IsWithin};
-ghost use Rattle.const_operands.specs.Seen.{answer, seen};
+ghost use Rattle.const_values.specs.Operands.{IsWithin};
+ghost use Rattle.const_values.specs.Seen.{answer, seen};
 ghost use Rattle.const_values.specs.Shifts as meant;
-ghost use Rattle.const_operands.specs.Widths.{bit_count, form_of, is_within};
+ghost use Rattle.const_values.specs.Widths.{bit_count, form_of, is_within};
 
 use crate::bitwise::as_narrow;
-use const_operands::{ConstFault, Operand, Shift, Width};
+use crate::fault::ConstFault;
+use crate::operand::Operand;
+use crate::operator::Shift;
+use crate::width::Width;
 
 // `<< >>` of a number of a width.
 pub fn shift_of<'a>(

@@ -1,13 +1,16 @@
 //! Unary operators on numbers and truth values.
 ghost use Rattle.std.specs.Prelude.{◌≡◌, IfOk, IsTrue};
-ghost use Rattle.const_operands.specs.Operands.{IsWithin};
-ghost use Rattle.const_operands.specs.Seen.{answer, seen};
+ghost use Rattle.const_values.specs.Operands.{IsWithin};
+ghost use Rattle.const_values.specs.Seen.{answer, seen};
 ghost use Rattle.const_values.specs.Unary as meant;
-ghost use Rattle.const_operands.specs.Widths.{is_within};
+ghost use Rattle.const_values.specs.Widths.{is_within};
 
 use crate::arithmetic::in_width;
 use crate::bitwise::complement;
-use const_operands::{ConstFault, Operand, UnaryOperator, Width};
+use crate::fault::ConstFault;
+use crate::operand::Operand;
+use crate::operator::UnaryOperator;
+use crate::width::Width;
 
 /// What an operator makes of the operand after it (own). It takes no memory.
 pub fn unary<'a>(operator: UnaryOperator, operand: &Operand<'_>) -> Result<Operand<'a>, ConstFault>

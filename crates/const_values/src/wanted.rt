@@ -1,10 +1,11 @@
 //! Wanted types, and the conversion of operands to values of them.
 ghost use Rattle.std.specs.Prelude.{◌≡◌};
-ghost use Rattle.const_operands.specs.Seen.{Answers, seen, words_of};
+ghost use Rattle.const_values.specs.Seen.{Answers, seen, words_of};
 ghost use Rattle.const_values.specs.Wanted as meant;
 
+use crate::fault::{ConstFault, EvalFault};
+use crate::operand::{Operand, Words};
 use aidl_base::{Const, Range};
-use const_operands::{ConstFault, EvalFault, Operand, Words};
 use std::alloc::Global;
 
 /// The type that is wanted of an expression. That of an enumerator is its enum's backing. `Enum` has the number of a

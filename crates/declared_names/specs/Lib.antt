@@ -6,3 +6,6 @@ pub mod MemberViews
 pub mod Called
 pub mod TypeNames
 pub mod Numbered
+pub mod Marks
+pub mod Tables
+pub mod steps

@@ -13,7 +13,7 @@ use Rattle.aidl_base.proofs.lemmas.Tests.{flipped}
 use Rattle.aidl_syntax.specs.Sources.{Source}
 use Rattle.aidl_syntax.specs.Members.{declared_name}
 use Rattle.aidl_syntax.specs.Walks.{places_of}
-use Rattle.name_rules.specs.Rules.{breach}
+use Rattle.aidl_names.specs.Rules.{breach}
 use Rattle.aidl_lexer.proofs.lemmas.meaning.OneLexing.{never_both}
 use Rattle.declared_names.specs.Declarations.{declarations}
 use Rattle.aidl_names.specs.Breaches.{in_order}
@@ -22,7 +22,7 @@ use Rattle.const_eval.specs.declared.outcome.Outcome.{Outcome}
 use Rattle.const_eval.specs.declared.outcome.Outcome.TheVariants.{Given}
 use Rattle.const_items.specs.Items.{items}
 use Rattle.const_eval.specs.Outcomes.{HasOutcome, AreOutcomes, outcome_at}
-use Rattle.schema_parts.specs.Numbers.{sorted}
+use Rattle.tree_schema.specs.Numbers.{sorted}
 use Rattle.tree_schema.specs.SchemaOf.{schema_of, declared}
 use Rattle.tree_schema.proofs.lemmas.settled.Laws.{placed-files}
 use Rattle.schema_bounds.specs.declared.bound.Bound.TheVariants.{Within}

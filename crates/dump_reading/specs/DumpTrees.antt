@@ -40,9 +40,9 @@ use Rattle.aidl_schema.specs.declared.schema.Shape.TheVariants as shape
 use Rattle.aidl_schema.specs.declared.schema.AidlType.{AidlType}
 use Rattle.aidl_schema.specs.Types.{is_one}
 use Rattle.aidl_schema.specs.Names.{enumerators_of, last_part, without_last}
-use Rattle.dump_values.specs.Pieces.{ident}
-use Rattle.dump_values.specs.Types.{base_name}
-use Rattle.dump_values.specs.Values.{character_of, truth}
+use Rattle.api_dump.specs.Pieces.{ident}
+use Rattle.api_dump.specs.Types.{base_name}
+use Rattle.api_dump.specs.Values.{character_of, truth}
 use Rattle.api_dump.specs.Declarations.{backing_text, inside}
 
 abbrev pub name_tree : Ident → NameTree

@@ -4,9 +4,9 @@ use Rattle.aidl_syntax.specs.Members.{members, body}
 use Rattle.aidl_syntax.specs.Sources.{Source}
 use Rattle.declared_names.specs.Declarations.{Entry}
 use Rattle.type_shapes.specs.Backing.{backing_of}
-use Rattle.schema_parts.specs.Parts.{constants_in}
+use Rattle.tree_schema.specs.Parts.{constants_in}
 use Rattle.tree_schema.specs.SchemaOf.{kind_of}
-use Rattle.schema_parts.specs.Values.{Outcomes}
+use Rattle.tree_schema.specs.Values.{Outcomes}
 use Rattle.aidl_schema.specs.declared.schema.Decl.{Decl}
 use Rattle.aidl_schema.specs.declared.schema.Kind.{Kind}
 use Rattle.aidl_schema.specs.Containment.{fields_of}

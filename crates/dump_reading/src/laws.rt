@@ -21,7 +21,7 @@ ghost use Rattle.type_rules.specs.Breaches as rules;
 ghost use Rattle.type_rules.specs.Unbroken.{AreUnbroken};
 ghost use Rattle.const_eval.specs.Outcomes.{HasOutcome, is_given};
 ghost use Rattle.const_eval.specs.declared.outcome.Outcome.{Outcome};
-ghost use Rattle.name_rules.specs.Rules.{UnknownImport, WrongFile, other_imports};
+ghost use Rattle.aidl_names.specs.Rules.{UnknownImport, WrongFile, other_imports};
 ghost use Rattle.declared_names.specs.Numbered.{in_each};
 ghost use Rattle.aidl_names.specs.Refusals.{IsAccepted};
 ghost use Rattle.aidl_syntax.specs.Sources.{Source};

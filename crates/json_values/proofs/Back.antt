@@ -19,11 +19,11 @@ use Rattle.aidl_values.specs.HasType.{HasType, HaveType, FieldsHaveType}
 use Rattle.json_values.specs.FromJson.{from_json_of, from_by, is_null, one_from, items_from, fields_from, unknown_in, default_from, alternative_from}
 use Rattle.json_writing.specs.Json.{json_of, json_items, json_members, json_number, json_alternative}
 use Rattle.json_writing.specs.Named.{bytes_of, enumerators_of, fields_in}
-use Rattle.json_faults.specs.Refusal.{Answer}
+use Rattle.json_values.specs.Refusal.{Answer}
 use Rattle.json_values.proofs.Names.{among_back, among_there, name_of_field, names_differ, later_fields, alternative_back, among_fields, known_put, fields_apart}
 use Rattle.json_values.proofs.Parts.{from_json_of-by}
-use Rattle.json_scalars.specs.Scalars.{number_from, whole_from}
-use Rattle.json_scalars.proofs.lemmas.Names.{enumerators_apart}
+use Rattle.json_values.specs.Scalars.{number_from, whole_from}
+use Rattle.json_values.proofs.lemmas.Names.{enumerators_apart}
 
 as_integer-of_integer : (n : ℤ) → as_integer (of_integer n) ≡ Some n
 as_integer-of_integer (pos n) = refl

@@ -16,7 +16,7 @@ use Rattle.aidl_base.proofs.lemmas.Tests.{neither}
 use Rattle.json_values.specs.FromJson.{has_name, unknown_in}
 use Rattle.json_writing.specs.Named.{bytes_of}
 use Rattle.json_values.proofs.Names.{name_of_field, later_fields, names_differ}
-use Rattle.json_scalars.proofs.lemmas.Names.{text_apart}
+use Rattle.json_values.proofs.lemmas.Names.{text_apart}
 
 abbrev one_if : Bool → ℕ
 one_if b = cond b 1 0

@@ -31,13 +31,13 @@ use Rattle.aidl_values.specs.View.{view}
 use Rattle.aidl_values.specs.declared.value.Value.{Value}
 use Rattle.json_values.specs.FromJson as from
 use Rattle.json_values.specs.FromJson.{from_json_of}
-use Rattle.json_scalars.specs.Scalars as scalar
-use Rattle.json_faults.specs.declared.fault.Fault.{Fault}
+use Rattle.json_values.specs.Scalars as scalar
+use Rattle.json_values.specs.declared.fault.Fault.{Fault}
 use Rattle.json_writing.specs.Named.{bytes_of, enumerators_of, enumerators_of_decl, enumerators_of_kind, fields_in}
-use Rattle.json_faults.specs.Refusal.{Answer, ◌>>=◌, refuse, too_deep, out_of_range, within, escaped}
+use Rattle.json_values.specs.Refusal.{Answer, ◌>>=◌, refuse, too_deep, out_of_range, within, escaped}
 use Rattle.json_values.proofs.Texts.{HasTexts, HaveTexts, MembersHaveTexts}
 use Rattle.json_writing.proofs.lemmas.Whole.{of_base}
-use Rattle.json_faults.specs.steps.Gives.{Gives}
+use Rattle.json_values.specs.steps.Gives.{Gives}
 
 abbrev pub FitsAs : List Decl → AidlType → ℕ → Answer Data → Type 0
 FitsAs S t d (Ok v) = HasType S t v × (depth_of v ≤ d)

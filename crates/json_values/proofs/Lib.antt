@@ -1,3 +1,4 @@
+pub mod lemmas
 mod Back
 mod Counted
 mod Fits

@@ -2,7 +2,7 @@
 use Rattle.std.proofs.Common.{◌≡◌, List, [], ◌∷◌, ◌++◌, Ok, Err, refl}
 use Rattle.aidl_values.specs.Data.{Data, Items, item}
 use Rattle.aidl_values.proofs.lemmas.Fronts.{with_front, front_more}
-use Rattle.json_faults.specs.Refusal.{Answer, Refusal, ◌>>=◌}
+use Rattle.json_values.specs.Refusal.{Answer, Refusal, ◌>>=◌}
 
 abbrev pub first_of : Answer Data → Answer Items → Answer Items
 first_of first rest = first >>= (λ v. rest >>= (λ vs. Ok (item v vs)))

@@ -21,11 +21,11 @@ use Rattle.aidl_values.specs.Data.{Data, number, alt}
 use Rattle.json_values.specs.FromJson as from
 use Rattle.json_writing.specs.Json.{json_among}
 use Rattle.json_writing.specs.Named.{bytes_of, fields_in}
-use Rattle.json_faults.specs.Refusal.{Answer}
+use Rattle.json_values.specs.Refusal.{Answer}
 use Rattle.json_values.specs.steps.Levels.{chosen_from}
 use Rattle.json_writing.proofs.lemmas.Whole.{of_base}
-use Rattle.json_scalars.specs.Scalars.{whole_from, number_from}
-use Rattle.json_scalars.proofs.lemmas.Names.{text_itself, text_is, text_apart, later_apart, first_apart, name_of_enumerator}
+use Rattle.json_values.specs.Scalars.{whole_from, number_from}
+use Rattle.json_values.proofs.lemmas.Names.{text_itself, text_is, text_apart, later_apart, first_apart, name_of_enumerator}
 
 -- enumerators
 among_later : (f : Form) (n : ℤ) (e : Enumerator) (es rest : List Enumerator) → ((k : ℕ) (x : Enumerator) → slice_get rest k ≡ Some x → same_text (bytes_of e.name) (bytes_of x.name) ≡ false)

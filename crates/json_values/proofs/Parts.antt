@@ -13,7 +13,7 @@ use Rattle.aidl_values.specs.Data.{Data}
 use Rattle.aidl_values.specs.View.{items_of}
 use Rattle.json_values.specs.FromJson.{from_by, from_json_of, is_null, sequence_from, elements_from, items_from, fields_from, field_from}
 use Rattle.json_writing.specs.Named.{bytes_of}
-use Rattle.json_faults.specs.Refusal.{Answer, within, escaped}
+use Rattle.json_values.specs.Refusal.{Answer, within, escaped}
 use Rattle.aidl_values.proofs.lemmas.Fronts.{onto-none, with_front}
 use Rattle.aidl_values.proofs.lemmas.Levels.{level_left}
 use Rattle.json_values.proofs.Loops.{goes_on}

@@ -16,9 +16,9 @@ use Rattle.aidl_schema.specs.Types as form
 use Rattle.aidl_values.specs.Data as value
 use Rattle.json_writing.specs.Named.{enumerators_of}
 use Rattle.aidl_values.specs.steps.Levels.{is_level_left}
-use Rattle.json_faults.specs.Refusal.{Answer, within}
+use Rattle.json_values.specs.Refusal.{Answer, within}
 use Rattle.json_values.specs.FromJson.{one_from, from_by}
-use Rattle.json_scalars.specs.Scalars.{whole_from}
+use Rattle.json_values.specs.Scalars.{whole_from}
 use Rattle.json_values.specs.steps.Levels.{part_from, default_of}
 use Rattle.json_values.specs.steps.Plain.{is_in_base, IsPlain}
 use Rattle.json_values.proofs.Parts.{from_json_of-by}

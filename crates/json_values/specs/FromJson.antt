@@ -17,8 +17,8 @@ use Rattle.aidl_values.specs.Data.{depth_of}
 use Rattle.aidl_values.specs.Data as value
 use Rattle.aidl_values.specs.Sound.{initial_in}
 use Rattle.json_writing.specs.Named.{bytes_of, enumerators_of}
-use Rattle.json_faults.specs.Refusal.{Answer, ◌>>=◌, refuse, wrong_shape, unknown_key, too_deep, escaped, within}
-use Rattle.json_scalars.specs.Scalars.{truth_from, number_from, text_from}
+use Rattle.json_values.specs.Refusal.{Answer, ◌>>=◌, refuse, wrong_shape, unknown_key, too_deep, escaped, within}
+use Rattle.json_values.specs.Scalars.{truth_from, number_from, text_from}
 
 -- the elements, the first of which is at this index
 abbrev pub items_from : (json.Data → Answer value.Data) → ℕ → json.Items → Answer value.Items

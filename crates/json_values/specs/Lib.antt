@@ -1,2 +1,5 @@
-pub mod FromJson
+pub mod Gives
+pub mod Refusal
 pub mod steps
+pub mod Scalars
+pub mod FromJson

@@ -6,13 +6,14 @@ ghost use Rattle.aidl_schema.specs.Holds.{AreApart};
 ghost use Rattle.aidl_schema.specs.Same.{same_text};
 ghost use Rattle.json_values.specs.FromJson as answer;
 ghost use Rattle.json_writing.specs.Named.{bytes_of};
-ghost use Rattle.json_faults.specs.steps.Gives.{Gives};
+ghost use Rattle.json_values.specs.steps.Gives.{Gives};
 
+use crate::fault::{Fault, Reason, refused};
+use crate::hints::Hints;
+use crate::pointer::below_key;
 use crate::records::member_of;
 use aidl_base::{Ident, OutOfMemory};
 use aidl_schema::{Base, Field};
-use json_faults::{Fault, Reason, below_key, refused};
-use json_scalars::Hints;
 use json_writing::is_called;
 use serde_json::{Map, Value as Json};
 use std::alloc::Global;

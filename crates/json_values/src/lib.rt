@@ -1,15 +1,22 @@
-//! Values as JSON, and JSON as values, by the types of a schema.
+//! JSON as values, by the types of a schema, with refusals that name their place as a JSON pointer (RFC 6901).
 #![tactic(auto)]
 
+mod enumerators;
+mod fault;
+mod hints;
 mod keys;
 mod laws;
 mod numbers;
+mod pointer;
 mod reading;
 mod records;
+mod scalars;
 mod sequences;
 mod unions;
 
-pub use json_faults::JsonFault;
+pub use fault::{Fault, JsonFault, Reason};
+pub use hints::Hints;
 pub use json_writing::to_json;
 pub use laws::law_json_reads_back;
+pub use pointer::key_step;
 pub use reading::from_json;

@@ -6,21 +6,22 @@ ghost use Rattle.aidl_values.specs.Fits.{Fits};
 ghost use Rattle.aidl_values.specs.View.{view};
 ghost use Rattle.json_values.specs.FromJson as answer;
 ghost use Rattle.json_values.specs.FromJson.{from_json_of, from_by};
-ghost use Rattle.json_faults.specs.Gives.{refusal_of};
+ghost use Rattle.json_values.specs.Gives.{refusal_of};
 ghost use Rattle.json_writing.specs.Named.{enumerators_of};
 ghost use Rattle.json_values.specs.steps.Levels.{part_from, default_of};
 ghost use Rattle.aidl_values.specs.steps.Levels.{is_level_left};
-ghost use Rattle.json_faults.specs.steps.Gives.{Gives};
+ghost use Rattle.json_values.specs.steps.Gives.{Gives};
 
+use crate::fault::{Fault, JsonFault, Reason, refused, reported};
+use crate::hints::Hints;
 use crate::numbers::{number_value, plain_number};
 use crate::records::read_record;
+use crate::scalars::{read_number, read_text, read_truth};
 use crate::sequences::read_sequence;
 use crate::unions::read_union;
 use aidl_base::Text;
 use aidl_schema::{AidlType, Base, Form, Schema, Shape, element, form_in, law_valid};
 use aidl_values::{Value, law_sound};
-use json_faults::{Fault, JsonFault, Reason, refused, reported};
-use json_scalars::{Hints, read_number, read_text, read_truth};
 use serde_json::Value as Json;
 use std::alloc::Global;
 

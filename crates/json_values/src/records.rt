@@ -6,18 +6,19 @@ ghost use Rattle.aidl_schema.specs.Holds.{AreApart};
 ghost use Rattle.aidl_values.specs.View.{view, views};
 ghost use Rattle.json_values.specs.FromJson as answer;
 ghost use Rattle.json_writing.specs.Named.{bytes_of};
-ghost use Rattle.json_faults.specs.Refusal.{escaped, within};
+ghost use Rattle.json_values.specs.Refusal.{escaped, within};
 ghost use Rattle.json_values.specs.steps.Levels.{part_from, default_of};
 ghost use Rattle.aidl_values.specs.steps.Levels.{is_level_left};
-ghost use Rattle.json_faults.specs.steps.Gives.{Gives};
+ghost use Rattle.json_values.specs.steps.Gives.{Gives};
 
+use crate::fault::{Fault, Reason, refused};
+use crate::hints::Hints;
 use crate::keys::check_keys;
+use crate::pointer::below_key;
 use crate::reading::read_within;
 use aidl_base::Row;
 use aidl_schema::{Base, Field, Schema};
 use aidl_values::{Value, depth, initial_of};
-use json_faults::{Fault, Reason, below_key, refused};
-use json_scalars::Hints;
 use serde_json::{Map, Value as Json};
 use std::alloc::Global;
 

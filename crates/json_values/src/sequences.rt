@@ -3,19 +3,20 @@ ghost use Rattle.std.specs.Prelude.{◌<◌, ◌≤◌, decimal, Ok, Err};
 ghost use Rattle.serde_json.specs.View.{view as json_view, items_view};
 ghost use Rattle.aidl_values.specs.View.{view, views};
 ghost use Rattle.json_values.specs.FromJson as answer;
-ghost use Rattle.json_faults.specs.Refusal.{within};
+ghost use Rattle.json_values.specs.Refusal.{within};
 ghost use Rattle.json_values.specs.steps.Levels.{part_from};
 ghost use Rattle.json_values.specs.steps.Puts.{Puts};
 ghost use Rattle.aidl_values.specs.steps.Levels.{is_level_left};
-ghost use Rattle.json_faults.specs.steps.Gives.{Gives};
+ghost use Rattle.json_values.specs.steps.Gives.{Gives};
 
+use crate::fault::{Fault, Reason, refused};
+use crate::hints::Hints;
 use crate::numbers::{number_value, plain_number};
+use crate::pointer::below_index;
 use crate::reading::read_within;
 use aidl_base::Row;
 use aidl_schema::{AidlType, Schema};
 use aidl_values::Value;
-use json_faults::{Fault, Reason, below_index, refused};
-use json_scalars::Hints;
 use serde_json::Value as Json;
 use std::alloc::Global;
 

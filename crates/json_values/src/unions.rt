@@ -7,13 +7,14 @@ ghost use Rattle.aidl_values.specs.View.{view};
 ghost use Rattle.json_values.specs.FromJson as answer;
 ghost use Rattle.json_values.specs.steps.Levels.{part_from, chosen_from};
 ghost use Rattle.aidl_values.specs.steps.Levels.{is_level_left};
-ghost use Rattle.json_faults.specs.steps.Gives.{Gives};
+ghost use Rattle.json_values.specs.steps.Gives.{Gives};
 
+use crate::fault::{Fault, Reason, refused};
+use crate::hints::Hints;
+use crate::pointer::below_key;
 use crate::reading::read_within;
 use aidl_schema::{Base, Field, Schema};
 use aidl_values::Value;
-use json_faults::{Fault, Reason, below_key, refused};
-use json_scalars::Hints;
 use json_writing::is_called;
 use serde_json::{Map, Value as Json};
 use std::alloc::Global;

@@ -1,3 +1,7 @@
 mod Tables
 mod Written
 pub mod lemmas
+mod Elements
+mod Parts
+mod Plain
+mod Rows

@@ -1,2 +1,4 @@
 pub mod Json
 pub mod Named
+pub mod ValueText
+pub mod steps

@@ -1,13 +1,21 @@
-//! Values as JSON, and the names of the members that JSON has.
+//! Values as JSON: as a value of `serde_json`, and as compact text that is printed piece by piece.
 #![tactic(auto)]
 
+mod member_rows;
+mod members;
 mod named;
+mod object_text;
+mod printer;
+mod quoted;
+mod sequence_text;
 mod value_names;
 mod value_table;
+mod value_text;
 mod walks;
 mod writing;
 
 pub use named::{Called, enumerators_in, fields_of, is_called};
 pub use value_names::ValueNames;
+pub use value_text::push_value_text;
 pub use walks::{WALKS, Walks};
 pub use writing::to_json;

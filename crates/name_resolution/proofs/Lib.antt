@@ -1,2 +1,5 @@
-mod OfFiles
+mod Ahead
+mod Copies
+mod Leads
 pub mod lemmas
+mod OfFiles

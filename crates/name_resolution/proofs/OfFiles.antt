@@ -6,10 +6,10 @@ use Rattle.std.proofs.lemmas.Option.{slice_get_read, slice_get_past, slice_get-m
 use Rattle.aidl_base.specs.declared.name.Ident.{Ident}
 use Rattle.aidl_syntax.specs.declared.tree.DottedTree.{DottedTree}
 use Rattle.aidl_syntax.specs.declared.tree.ParsedFile.{ParsedFile}
-use Rattle.name_meanings.specs.declared.meaning.Resolved.{Resolved}
+use Rattle.name_resolution.specs.declared.meaning.Resolved.{Resolved}
 use Rattle.declared_names.specs.Declarations.{Entry, declarations}
-use Rattle.name_meanings.specs.Imports.{meant_through, meant_in}
-use Rattle.name_meanings.specs.Resolution.{meaning_in_file, resolved}
+use Rattle.name_resolution.specs.Imports.{meant_through, meant_in}
+use Rattle.name_resolution.specs.Resolution.{meaning_in_file, resolved}
 use Rattle.aidl_syntax.specs.Sources.{Source, source_of}
 
 module _ (files : List ParsedFile) (number scope : ℕ) (name : List Ident) where

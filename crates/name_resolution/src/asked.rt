@@ -2,11 +2,11 @@
 ghost use Rattle.std.specs.Prelude.{◌≡◌, ◌++◌, ◌∷◌, [], OnOk};
 ghost use Rattle.name_resolution.specs.steps.Asked.{IsSaid, is_told, said, said_at, said_at_number};
 
+use crate::meaning::Resolved;
 use aidl_base::{Ident, OutOfMemory};
 use aidl_syntax::DottedTree;
+use declared_names::{same, with_parts};
 use indexmap::IndexMap;
-use name_marks::{same, with_parts};
-use name_meanings::Resolved;
 use std::alloc::Global;
 use std::marker::Model;
 

@@ -1,17 +1,18 @@
 //! What the names of types mean through imports, where several imports end in a name's first part.
 ghost use Rattle.std.specs.Prelude.{◌≡◌, ◌≤◌, map, length, IfOk, OnOk};
-ghost use Rattle.name_marks.specs.Marks.{mark_of_entry};
+ghost use Rattle.declared_names.specs.Marks.{mark_of_entry};
 ghost use Rattle.declared_names.specs.Entries.{entry_of};
-ghost use Rattle.name_marks.specs.steps.Ends.{ends_of};
+ghost use Rattle.declared_names.specs.steps.Ends.{ends_of};
 ghost use Rattle.name_resolution.specs.steps.Asked.{AreRight, means};
-ghost use Rattle.name_marks.specs.steps.Times.{is_shared_in};
+ghost use Rattle.declared_names.specs.steps.Times.{is_shared_in};
 
 use crate::asked::Asked;
+use crate::by_name::{ByName, by_names};
+use crate::imported::Imports;
+use crate::meaning::Resolved;
 use aidl_base::{Ident, OutOfMemory};
 use aidl_syntax::DottedTree;
-use declared_names::{Found, names_of_types};
-use name_marks::{Ends, Table, ends_of};
-use name_meanings::{ByName, Imports, Resolved, by_names};
+use declared_names::{Ends, Found, Table, ends_of, names_of_types};
 use std::alloc::Global;
 
 /// Where rules are broken, what the names of types mean through imports of which several have their first part; each name

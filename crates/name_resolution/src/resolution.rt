@@ -2,18 +2,19 @@
 ghost use Rattle.std.specs.Prelude.{◌≡◌, ◌++◌, ◌≤◌, [], ◌∷◌, map, length};
 ghost use Rattle.aidl_syntax.specs.Sources.{source_of};
 ghost use Rattle.declared_names.specs.Declarations.{declarations};
-ghost use Rattle.name_meanings.specs.Resolution.{candidates, first_declared, enclosing, meaning_of_word, own_meaning, meaning_in_file, resolved};
-ghost use Rattle.name_meanings.specs.Imports.{meant_through, meant_in};
-ghost use Rattle.name_marks.specs.Marks.{mark_of, mark_of_entry};
+ghost use Rattle.name_resolution.specs.Resolution.{candidates, first_declared, enclosing, meaning_of_word, own_meaning, meaning_in_file, resolved};
+ghost use Rattle.name_resolution.specs.Imports.{meant_through, meant_in};
+ghost use Rattle.declared_names.specs.Marks.{mark_of, mark_of_entry};
 ghost use Rattle.declared_names.specs.Entries.{entry_of};
 ghost use Rattle.name_resolution.specs.steps.Asked.{Knows, means};
 
 use crate::asked::Known;
+use crate::imported::{Imports, in_imports};
+use crate::meaning::{BuiltinName, Resolved};
+use crate::numbers::declared;
 use aidl_base::Ident;
 use aidl_syntax::ParsedFile;
-use declared_names::{Found, package};
-use name_marks::{Table, is_joined, with_parts};
-use name_meanings::{BuiltinName, Imports, Resolved, declared, in_imports};
+use declared_names::{Found, Table, is_joined, package, with_parts};
 
 /// What a name means in the file with that number, below the declaration with the number `scope`, if so much is known of
 /// what it means through imports. It takes no memory.
@@ -150,7 +151,7 @@ fn own_meaning(name: &[Ident]) -> Option<Resolved>
 }
 
 /// The meaning of a built-in type, of the list word or of a left-out name. It takes no memory.
-#[tactic(auto, unfolding(name_meanings::specs::Resolution::meaning_of_word))]
+#[tactic(auto, unfolding(crate::specs::Resolution::meaning_of_word))]
 pub fn meaning_of_word(word: &str) -> Option<Resolved>
     ensures { result ≡ meaning_of_word word.now }
 {

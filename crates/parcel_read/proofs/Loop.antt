@@ -5,9 +5,9 @@ use Rattle.aidl_base.specs.Readings.{Read, ◌>>=◌}
 use Rattle.aidl_values.specs.Data.{Data, Items, item}
 use Rattle.aidl_values.specs.View.{items_of}
 use Rattle.aidl_values.proofs.lemmas.Fronts.{onto, onto-push, onto-none, with_front, front_more}
-use Rattle.parcel_cursors.specs.declared.fault.ReadFault.{ReadFault}
-use Rattle.parcel_cursors.specs.Taken.{RefusesIfMemory}
-use Rattle.parcel_cursors.proofs.lemmas.Faults.{fails_as}
+use Rattle.parcel_words.specs.declared.fault.ReadFault.{ReadFault}
+use Rattle.parcel_words.specs.Taken.{RefusesIfMemory}
+use Rattle.parcel_words.proofs.lemmas.Faults.{fails_as}
 use Rattle.wire_model.specs.ReadOf.{each_at}
 use Rattle.marshal_plans.specs.declared.plans.PlanField.{PlanField}
 use Rattle.marshal_plans.specs.declared.plans.PlanId.{PlanId}

@@ -4,13 +4,13 @@ use Rattle.aidl_base.specs.Readings.{Read, ◌>>=◌}
 use Rattle.marshal_plans.specs.declared.plans.PlanField.{PlanField}
 use Rattle.marshal_plans.specs.declared.plans.PlanId.{PlanId}
 use Rattle.aidl_values.specs.Data.{Data, Items, rec}
-use Rattle.parcel_cursors.specs.Place.{Place, left, closed, size_at, MovesOn, Enters, is_inside}
-use Rattle.parcel_cursors.specs.Taken.{RefusesIfMemory}
-use Rattle.parcel_cursors.specs.declared.fault.ReadFault.{ReadFault}
+use Rattle.parcel_words.specs.Place.{Place, left, closed, size_at, MovesOn, Enters, is_inside}
+use Rattle.parcel_words.specs.Taken.{RefusesIfMemory}
+use Rattle.parcel_words.specs.declared.fault.ReadFault.{ReadFault}
 use Rattle.wire_model.specs.ReadOf.{body_at}
 use Rattle.parcel_read.specs.steps.PlanRead.{entries_body_at, entries_at}
-use Rattle.parcel_cursors.proofs.lemmas.Faults.{fails_as}
-use Rattle.parcel_cursors.proofs.lemmas.Records as cursor
+use Rattle.parcel_words.proofs.lemmas.Faults.{fails_as}
+use Rattle.parcel_words.proofs.lemmas.Records as cursor
 
 -- a record that was entered at p, and left when the reader was at r
 pub body_is : (p q r : Place) → Enters p q → MovesOn q r → body_at (is_inside p) (left p) ≡ Ok (left q, left (closed r))

@@ -6,10 +6,10 @@ use Rattle.aidl_base.proofs.lemmas.Lists.{take_front}
 use Rattle.aidl_base.specs.Readings.{Read, bad_value, not_enough, unexpected_null}
 use Rattle.aidl_base.specs.declared.profile.Profile.{Profile}
 use Rattle.aidl_values.specs.Data.{Data}
-use Rattle.parcel_cursors.specs.Place.{Place, left, is_inside, moved, MovesOn}
-use Rattle.parcel_cursors.specs.Taken.{RefusesIfMemory, status_of}
-use Rattle.parcel_cursors.specs.declared.fault.ReadFault.{ReadFault}
-use Rattle.parcel_cursors.specs.declared.fault.ReadFault.TheVariants.{NotEnough, UnexpectedNull, BadValue, OutOfMemory}
+use Rattle.parcel_words.specs.Place.{Place, left, is_inside, moved, MovesOn}
+use Rattle.parcel_words.specs.Taken.{RefusesIfMemory, status_of}
+use Rattle.parcel_words.specs.declared.fault.ReadFault.{ReadFault}
+use Rattle.parcel_words.specs.declared.fault.ReadFault.TheVariants.{NotEnough, UnexpectedNull, BadValue, OutOfMemory}
 
 module _ (profile : Profile) (bytes : List ℕ) where
   -- where a reader begins

@@ -3,8 +3,8 @@ ghost use Rattle.std.specs.Prelude.{OnOk};
 ghost use Rattle.aidl_base.specs.Readings.{truth_at, byte_at, char_at, word_at, long_at, text_at};
 ghost use Rattle.aidl_values.specs.Data.{truth, number};
 ghost use Rattle.aidl_values.specs.View.{view};
-ghost use Rattle.parcel_cursors.specs.Place.{left, here, is_inside, MovesOn};
-ghost use Rattle.parcel_cursors.specs.Taken.{TakesIfMemory};
+ghost use Rattle.parcel_words.specs.Place.{left, here, is_inside, MovesOn};
+ghost use Rattle.parcel_words.specs.Taken.{TakesIfMemory};
 ghost use Rattle.parcel_read.specs.steps.PlanRead.{word_by};
 ghost use Rattle.wire_model.specs.ReadOf.{read_as, char_data, text_data};
 

@@ -1,7 +1,7 @@
 //! Words that say what follows them.
 ghost use Rattle.std.specs.Prelude.{◌≡◌, OnOk};
-ghost use Rattle.parcel_cursors.specs.Place.{left, is_inside, MovesOn};
-ghost use Rattle.parcel_cursors.specs.Taken.{TakesIfMemory};
+ghost use Rattle.parcel_words.specs.Place.{left, is_inside, MovesOn};
+ghost use Rattle.parcel_words.specs.Taken.{TakesIfMemory};
 ghost use Rattle.wire_model.specs.ReadOf.{marker_at, tag_at};
 
 use parcel_words::{ReadFault, Wire, WordReader};

@@ -1,8 +1,8 @@
 //! Arrays of bytes, which stand in a parcel as they are.
 ghost use Rattle.std.specs.Prelude.{◌≡◌, IfOk, OnOk};
 ghost use Rattle.aidl_values.specs.View.{views};
-ghost use Rattle.parcel_cursors.specs.Place.{left, is_inside, MovesOn};
-ghost use Rattle.parcel_cursors.specs.Taken.{TakesIfMemory};
+ghost use Rattle.parcel_words.specs.Place.{left, is_inside, MovesOn};
+ghost use Rattle.parcel_words.specs.Taken.{TakesIfMemory};
 ghost use Rattle.wire_model.specs.ReadOf.{raw_items, raw_items_at};
 
 use aidl_base::{OutOfMemory, Row};

@@ -3,8 +3,8 @@ ghost use Rattle.std.specs.Prelude.{◌≡◌, ◌+◌, ◌<◌, ◌≤◌, true
 ghost use Rattle.std.specs.Option.{option_copied};
 ghost use Rattle.aidl_values.specs.View.{view, views};
 ghost use Rattle.aidl_values.specs.steps.Levels.{is_level_left};
-ghost use Rattle.parcel_cursors.specs.Place.{left, is_inside, MovesOn};
-ghost use Rattle.parcel_cursors.specs.Taken.{TakesIfMemory, RefusesIfMemory};
+ghost use Rattle.parcel_words.specs.Place.{left, is_inside, MovesOn};
+ghost use Rattle.parcel_words.specs.Taken.{TakesIfMemory, RefusesIfMemory};
 ghost use Rattle.parcel_read.specs.steps.PlanDefault.{initial_by_plan};
 ghost use Rattle.parcel_read.specs.steps.PlanRead.{entry_at, entries_at, entries_body_at, plan_record_at, plan_tagged_at, plan_union_at, item_at, plan_read, plan_parts};
 ghost use Rattle.wire_model.specs.ReadOf.{each_at, elements_at, array_at};

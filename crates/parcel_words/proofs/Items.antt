@@ -2,9 +2,9 @@
 use Rattle.std.proofs.Common.{◌≡◌, ℕ, suc, ◌-◌, ◌+◌, ◌≤◌, ◌<◌, ℤ, List, [], ◌∷◌, ◌++◌, Ok, Err, refl, sym, ap, ◌∙◌, arith, append_assoc}
 use Rattle.std.proofs.lemmas.List.{append-nil}
 use Rattle.aidl_base.specs.Readings.{Read, ◌>>=◌, items_at}
-use Rattle.parcel_cursors.specs.declared.fault.ReadFault.{ReadFault}
-use Rattle.parcel_cursors.specs.Taken.{RefusesIfMemory}
-use Rattle.parcel_cursors.proofs.lemmas.Faults.{fails_as}
+use Rattle.parcel_words.specs.declared.fault.ReadFault.{ReadFault}
+use Rattle.parcel_words.specs.Taken.{RefusesIfMemory}
+use Rattle.parcel_words.proofs.lemmas.Faults.{fails_as}
 
 -- what was read before, and what is still read
 abbrev pub after_front : {A : Type 0} → List A → Read (List A) → Read (List A)

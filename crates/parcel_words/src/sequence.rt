@@ -3,13 +3,15 @@ ghost use Rattle.std.specs.Prelude.{◌≡◌, ◌≤◌, [], ◌++◌, pos, ℕ
 ghost use Rattle.aidl_base.specs.Words.{word};
 ghost use Rattle.aidl_base.specs.Spellings.{spell_sequence};
 ghost use Rattle.aidl_base.specs.Readings.{items_at, sequence_at};
-ghost use Rattle.parcel_cursors.specs.Place.{left, here, MovesOn};
-ghost use Rattle.parcel_cursors.specs.Taken.{TakesIfMemory};
-ghost use Rattle.parcel_cursors.specs.Written.{with_bytes};
+ghost use Rattle.parcel_words.specs.Place.{left, here, MovesOn};
+ghost use Rattle.parcel_words.specs.Taken.{TakesIfMemory};
+ghost use Rattle.parcel_words.specs.Written.{with_bytes};
 
+use crate::fault::ReadFault;
+use crate::reader::WordReader;
 use crate::wire::Wire;
+use crate::writer::WordWriter;
 use aidl_base::Row;
-use parcel_cursors::{ReadFault, WordReader, WordWriter};
 use std::alloc::Global;
 
 /// The number of bytes of the spelling of a sequence, its count included, or `usize::MAX` where they are more. It
@@ -39,7 +41,7 @@ pub fn put_sequence<W: Wire>(items: &[W], to: &mut WordWriter)
 
 /// Takes a sequence, where None is null. It refuses as `word` does, by the rules for counts, and as an item is refused.
 /// It takes room for an item only once the item was read.
-#[tactic(auto, using(parcel_cursors::proofs::lemmas::Moves::on_and_on), unfolding(aidl_base::specs::Readings::sequence_at))]
+#[tactic(auto, using(crate::proofs::lemmas::Moves::on_and_on), unfolding(aidl_base::specs::Readings::sequence_at))]
 pub fn take_sequence<W: Wire>(
     alloc: Global,
     nullable: bool,

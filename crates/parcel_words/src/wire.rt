@@ -6,12 +6,14 @@ ghost use Rattle.aidl_base.specs.declared.profile.Profile.{Profile};
 ghost use Rattle.aidl_base.specs.Words.{word, long_word, units};
 ghost use Rattle.aidl_base.specs.Spellings.{spell_truth, spell_text};
 ghost use Rattle.aidl_base.specs.Readings.{Read, truth_at, byte_at, char_at, word_at, long_at, present_text_at};
-ghost use Rattle.parcel_cursors.specs.Place.{left, here, MovesOn};
-ghost use Rattle.parcel_cursors.specs.Taken.{TakesIfMemory};
-ghost use Rattle.parcel_cursors.specs.Written.{with_bytes};
+ghost use Rattle.parcel_words.specs.Place.{left, here, MovesOn};
+ghost use Rattle.parcel_words.specs.Taken.{TakesIfMemory};
+ghost use Rattle.parcel_words.specs.Written.{with_bytes};
 
+use crate::fault::ReadFault;
+use crate::reader::WordReader;
+use crate::writer::{WordWriter, unit_count};
 use aidl_base::{Range, Text};
-use parcel_cursors::{ReadFault, WordReader, WordWriter, unit_count};
 use std::alloc::Global;
 
 /// A value of a built-in type, as words of a parcel.

@@ -3,7 +3,7 @@ use Rattle.std.proofs.Common.{◌≡◌, ℕ, ◌+◌, ◌-◌, pos, List, ◌++
 use Rattle.aidl_base.specs.Words.{word}
 use Rattle.aidl_base.proofs.lemmas.Lists.{take_front, drop_front}
 use Rattle.wire_model.specs.Spell.{body}
-use Rattle.parcel_cursors.specs.Written.{Written, with_bytes, sized, with_size}
+use Rattle.parcel_words.specs.Written.{Written, with_bytes, sized, with_size}
 
 -- a front, a size and fields
 joined : (f g b c : List ℕ) (m : ℕ) → f ≡ g → m ≡ 4 + length c → b ≡ c → f ++ (word (pos m) ++ b) ≡ g ++ body c

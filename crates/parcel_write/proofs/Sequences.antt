@@ -10,8 +10,8 @@ use Rattle.marshal_plans.specs.declared.plans.PlanItem.{PlanItem}
 use Rattle.marshal_plans.specs.declared.plans.PlanItem.TheVariants.{Word, Long, Text, Raw, Seq, Rec, Alt}
 use Rattle.marshal_plans.specs.declared.plans.Plans.{Plans}
 use Rattle.wire_model.specs.Spell.{raw_bytes, body}
-use Rattle.parcel_cursors.specs.Written.{Written, with_bytes}
-use Rattle.parcel_cursors.proofs.lemmas.Appends.{with_more}
+use Rattle.parcel_words.specs.Written.{Written, with_bytes}
+use Rattle.parcel_words.proofs.lemmas.Appends.{with_more}
 use Rattle.parcel_write.specs.steps.PlanSpell.{number_by, is_raw_item, element_of, record_entries, union_entries, id_of_entry, item_of, plan_spell, plan_spell_items, plan_spell_entries}
 use Rattle.parcel_write.proofs.Raw.{count_views, length_raw_sequence}
 

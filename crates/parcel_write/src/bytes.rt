@@ -2,7 +2,7 @@
 ghost use Rattle.std.specs.Prelude.{◌≡◌, ◌≤◌, length};
 ghost use Rattle.aidl_base.specs.Words.{pad};
 ghost use Rattle.aidl_values.specs.View.{view, views};
-ghost use Rattle.parcel_cursors.specs.Written.{with_bytes};
+ghost use Rattle.parcel_words.specs.Written.{with_bytes};
 ghost use Rattle.parcel_write.specs.steps.Bytes.{IsByte, AreByteValues};
 ghost use Rattle.wire_model.specs.Spell.{raw_byte, raw_bytes};
 
@@ -10,7 +10,7 @@ use aidl_values::Value;
 use parcel_words::WordWriter;
 
 /// Appends the elements of an array of bytes, one raw byte each, and their padding.
-#[tactic(auto, using(crate::proofs::Raw::length_raw, parcel_cursors::proofs::lemmas::Appends::with_more))]
+#[tactic(auto, using(crate::proofs::Raw::length_raw, parcel_words::proofs::lemmas::Appends::with_more))]
 pub(crate) fn put_raw(items: &[Value], to: &mut WordWriter)
     requires bytes { AreByteValues (views items.now) }
     requires room { length (pad (raw_bytes (views items.now))) ≤ to.old.room }

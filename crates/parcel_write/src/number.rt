@@ -1,6 +1,6 @@
 //! How a number is written, by its item.
 ghost use Rattle.std.specs.Prelude.{◌≡◌, ◌≤◌, length};
-ghost use Rattle.parcel_cursors.specs.Written.{with_bytes};
+ghost use Rattle.parcel_words.specs.Written.{with_bytes};
 ghost use Rattle.parcel_write.specs.steps.PlanSpell.{number_by, SuitsNumber};
 
 use marshal_plans::PlanItem;

@@ -2,7 +2,7 @@
 ghost use Rattle.std.specs.Prelude.{◌≡◌, ◌≤◌, ◌<◌, ◌^◌, pos, length};
 ghost use Rattle.aidl_base.specs.Words.{word};
 ghost use Rattle.aidl_values.specs.View.{view, views};
-ghost use Rattle.parcel_cursors.specs.Written.{with_bytes};
+ghost use Rattle.parcel_words.specs.Written.{with_bytes};
 ghost use Rattle.parcel_write.specs.Fitting.{FitsRoom, OfEachFit};
 ghost use Rattle.parcel_write.specs.steps.PlanSpell.{EachSuits, EntriesSuit, Suits, null_word_by, plan_spell, plan_spell_entries, plan_spell_items};
 ghost use Rattle.wire_model.specs.Spell.{spell};
@@ -93,7 +93,7 @@ fn put_tag(tag: u32, to: &mut WordWriter)
 
 /// Appends the elements of a sequence.
 #[cycle(put)]
-#[tactic(auto, using(parcel_cursors::proofs::lemmas::Appends::with_more, parcel_cursors::proofs::lemmas::Appends::with_none))]
+#[tactic(auto, using(parcel_words::proofs::lemmas::Appends::with_more, parcel_words::proofs::lemmas::Appends::with_none))]
 fn put_items(plans: &Plans, element: PlanId, items: &[Value], to: &mut WordWriter)
     requires suits { EachSuits plans.now element (views items.now) }
     requires small { length (plan_spell_items plans.now element (views items.now)) < 2 ^ 31 }

@@ -7,7 +7,7 @@ use Rattle.aidl_values.specs.declared.value.Value.{Value}
 use Rattle.aidl_values.specs.View.{views}
 use Rattle.wire_model.specs.Calls.{answer_of}
 use Rattle.wire_model.specs.Receiver.{Received, left, called}
-use Rattle.call_parcels.specs.Sent.{sent_reply, unread}
+use Rattle.stub_dispatch.specs.Sent.{sent_reply, unread}
 use Rattle.stub_dispatch.specs.declared.answered.Answered.{Answered}
 
 -- An answer that the handler may give on arguments that are seen so, and its reply; `post` is what a call of the handler may answer.

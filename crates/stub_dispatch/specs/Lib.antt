@@ -1,3 +1,8 @@
+pub mod Planned
+pub mod steps
+pub mod Got
+pub mod Receipts
+pub mod Sent
 pub mod Answers
 pub mod Handlers
 pub mod Services

@@ -4,7 +4,7 @@ use Rattle.std.specs.Coded.{Coded, code_by, coded×, coded_bool, coded_list, cod
 use Rattle.std.proofs.Common.{ap}
 use Rattle.aidl_base.specs.declared.profile.Profile.{Profile}
 use Rattle.aidl_schema.specs.declared.schema.Decl.{Decl}
-use Rattle.parcel_cursors.specs.Place.{is_strict, strict_or_lenient, profile_back}
+use Rattle.parcel_words.specs.Place.{is_strict, strict_or_lenient, profile_back}
 
 -- the schema's declarations, the profile of reading, the interface's number, and the handler
 pub record Seen (F : Type 0) : Type 0 where

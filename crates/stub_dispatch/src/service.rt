@@ -2,7 +2,7 @@
 ghost use Rattle.std.specs.Prelude.{◌≡◌, IfOk};
 ghost use Rattle.stub_dispatch.specs.Answers.{Answers};
 ghost use Rattle.stub_dispatch.specs.Handlers.{AnswersFit, MayBeCalled};
-ghost use Rattle.call_pieces.specs.Planned.{ArePlansOf};
+ghost use Rattle.stub_dispatch.specs.Planned.{ArePlansOf};
 ghost use Rattle.wire_model.specs.Receiver.{stub};
 
 use crate::answered::{Answered, answer_request};
@@ -26,7 +26,7 @@ pub struct Service<'a, F> {
 
 impl<'a, F> Model for Service<'a, F> {
     ghost use Rattle.aidl_schema.specs.contracts.schema.Decl as decl;
-    ghost use Rattle.call_pieces.specs.Planned.{ArePlansOf};
+    ghost use Rattle.stub_dispatch.specs.Planned.{ArePlansOf};
     ghost use Rattle.stub_dispatch.specs.Services.{Seen, seen_code};
 
     ghost Value = { Seen F };

@@ -9,12 +9,12 @@ use Rattle.std.proofs.lemmas.List.{length-map}
 use Rattle.aidl_base.specs.declared.limit.LimitName.TheVariants as limit
 use Rattle.declared_names.specs.declared.found.Found.{Found}
 use Rattle.declared_names.specs.Declarations.{Entry, declarations}
-use Rattle.name_rules.specs.Limits.{passed, has_many_members, has_long_method}
+use Rattle.aidl_names.specs.Limits.{passed, has_many_members, has_long_method}
 use Rattle.declared_names.specs.Entries.{entry_of}
 use Rattle.aidl_syntax.specs.Sources.{Source}
-use Rattle.schema_parts.specs.declared.tree.Placed.{Placed}
-use Rattle.schema_parts.specs.Numbers.{Numbered, order, put, sorted}
-use Rattle.schema_parts.specs.TreeViews.{numbered_of}
+use Rattle.tree_schema.specs.declared.tree.Placed.{Placed}
+use Rattle.tree_schema.specs.Numbers.{Numbered, order, put, sorted}
+use Rattle.tree_schema.specs.TreeViews.{numbered_of}
 
 few_declared : (entries : List Entry) → passed entries ≡ None → length entries ≤ 16384
 few_declared entries e =

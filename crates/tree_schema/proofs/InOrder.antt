@@ -8,9 +8,9 @@ use Rattle.aidl_syntax.specs.Sources.{Source}
 use Rattle.declared_names.specs.declared.found.Found.{Found}
 use Rattle.declared_names.specs.Entries.{entry_of}
 use Rattle.aidl_schema.specs.declared.schema.Constant.{Constant}
-use Rattle.schema_parts.specs.Numbers.{Numbered, bytes_of, order, put}
-use Rattle.schema_parts.specs.Values.{Outcomes}
-use Rattle.schema_parts.specs.Parts as parts
+use Rattle.tree_schema.specs.Numbers.{Numbered, bytes_of, order, put}
+use Rattle.tree_schema.specs.Values.{Outcomes}
+use Rattle.tree_schema.specs.Parts as parts
 use Rattle.tree_schema.proofs.lemmas.walked.Placed.{placed}
 
 abbrev pub key : Numbered → List ℕ

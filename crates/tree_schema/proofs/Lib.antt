@@ -1,3 +1,4 @@
+mod Within
 mod Few
 mod InOrder
 mod Keyed

@@ -7,7 +7,7 @@ use Rattle.const_items.specs.Items.{items}
 use Rattle.const_eval.specs.Outcomes.{HasOutcome}
 use Rattle.type_rules.specs.Unbroken.{AreUnbroken}
 use Rattle.tree_schema.specs.SchemaOf.{schema_of}
-use Rattle.schema_parts.specs.Values.{Outcomes}
+use Rattle.tree_schema.specs.Values.{Outcomes}
 
 -- these are the outcomes of the items
 abbrev pub AreOutcomes : List Source → Outcomes → Type 0

@@ -1,3 +1,8 @@
+pub mod Numbers
+pub mod Parts
+pub mod TreeViews
+pub mod Types
+pub mod Values
 pub mod Named
 pub mod SchemaOf
 pub mod Keyed

@@ -13,9 +13,9 @@ use Rattle.aidl_schema.specs.declared.schema.Backing.TheVariants as backing
 use Rattle.aidl_schema.specs.declared.schema.Decl as schema
 use Rattle.aidl_schema.specs.declared.schema.Kind.{Kind}
 use Rattle.aidl_schema.specs.declared.schema.Kind.TheVariants.{Interface, Parcelable, Union, Enum}
-use Rattle.schema_parts.specs.Numbers.{Numbered, sorted, number_of}
-use Rattle.schema_parts.specs.Parts.{fields_in, methods_in, enumerator_in, constants_in}
-use Rattle.schema_parts.specs.Values.{Outcomes}
+use Rattle.tree_schema.specs.Numbers.{Numbered, sorted, number_of}
+use Rattle.tree_schema.specs.Parts.{fields_in, methods_in, enumerator_in, constants_in}
+use Rattle.tree_schema.specs.Values.{Outcomes}
 use Rattle.type_uses.specs.Kept.{is_fixed, is_vintf}
 
 abbrev pub backing_in : Wanted → Backing

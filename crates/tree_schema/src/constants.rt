@@ -4,13 +4,16 @@ ghost use Rattle.std.specs.List.{fold};
 ghost use Rattle.aidl_syntax.specs.Members.{listed};
 ghost use Rattle.aidl_syntax.specs.Trees.{Members, constant_of, member_of, members_of};
 ghost use Rattle.tree_schema.specs.Keyed.{IsKeyed, values_at};
-ghost use Rattle.schema_parts.specs.Parts as meant;
-ghost use Rattle.schema_parts.specs.TreeViews.{HasItems, HasNumbers, HasScope, files_of, outcomes_of};
+ghost use Rattle.tree_schema.specs.Parts as meant;
+ghost use Rattle.tree_schema.specs.TreeViews.{HasItems, HasNumbers, HasScope, files_of, outcomes_of};
 
+use crate::copied::copied_ident;
+use crate::tree::Tree;
+use crate::types::type_of;
+use crate::values::constant_value;
 use aidl_base::{OutOfMemory, Row};
 use aidl_schema::Constant;
 use aidl_syntax::{ConstantTree, MemberTree};
-use schema_parts::{Tree, constant_value, copied_ident, type_of};
 use std::alloc::Global;
 use std::collections::BTreeMap;
 

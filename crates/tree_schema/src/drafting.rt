@@ -5,18 +5,20 @@ ghost use Rattle.aidl_syntax.specs.Sources.{source_of};
 ghost use Rattle.const_items.specs.Items.{items};
 ghost use Rattle.const_items.specs.ItemViews.{item_of};
 ghost use Rattle.const_eval.specs.Outcomes.{outcome_at};
-ghost use Rattle.schema_parts.specs.Numbers as numbers;
+ghost use Rattle.tree_schema.specs.Numbers as numbers;
 ghost use Rattle.tree_schema.specs.SchemaOf as meant;
-ghost use Rattle.schema_parts.specs.TreeViews.{HasItems, HasNumbers, HasScope, files_of, numbered_of, outcomes_of};
+ghost use Rattle.tree_schema.specs.TreeViews.{HasItems, HasNumbers, HasScope, files_of, numbered_of, outcomes_of};
 
+use crate::bases::number_of;
+use crate::copied::copied_parts;
 use crate::kinds::{constants_of, kind_of};
 use crate::numbers::numbers_of;
 use crate::order::sorted;
+use crate::tree::{Placed, Tree};
 use aidl_base::{DottedName, OutOfMemory, Row};
 use aidl_names::Names;
 use aidl_schema::Decl;
 use const_eval::Settled;
-use schema_parts::{Placed, Tree, copied_parts, number_of};
 use std::alloc::Global;
 use type_uses::kept_of;
 

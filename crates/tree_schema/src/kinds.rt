@@ -3,16 +3,20 @@ ghost use Rattle.std.specs.Prelude.{◌≡◌, map, IfOk};
 ghost use Rattle.aidl_syntax.specs.Members.{body as inner, members};
 ghost use Rattle.aidl_syntax.specs.Trees.{body_of, decl_of, enumerator_of};
 ghost use Rattle.type_shapes.specs.Backing.{backing_of as wanted_of};
-ghost use Rattle.schema_parts.specs.Parts as parts;
+ghost use Rattle.tree_schema.specs.Parts as parts;
 ghost use Rattle.tree_schema.specs.SchemaOf as meant;
-ghost use Rattle.schema_parts.specs.TreeViews.{HasItems, HasNumbers, HasScope, files_of, outcomes_of};
+ghost use Rattle.tree_schema.specs.TreeViews.{HasItems, HasNumbers, HasScope, files_of, outcomes_of};
 
 use crate::backing::backing_of;
 use crate::constants::constants_in;
+use crate::copied::copied_ident;
+use crate::fields::fields_in;
+use crate::methods::methods_in;
+use crate::tree::Tree;
+use crate::values::enumerator_value;
 use aidl_base::{OutOfMemory, Row};
 use aidl_schema::{Backing, Constant, Enumerator, Kind};
 use aidl_syntax::{BodyTree, DeclTree, EnumeratorTree};
-use schema_parts::{Tree, copied_ident, enumerator_value, fields_in, methods_in};
 use std::alloc::Global;
 
 /// What the declaration with the number `scope` declares.

@@ -10,7 +10,7 @@ ghost use Rattle.aidl_syntax.specs.Walks.{literals_of, places_of};
 ghost use Rattle.tree_schema.specs.Checked.{IsChecked};
 ghost use Rattle.tree_schema.specs.Named.{HasIdentifiers};
 ghost use Rattle.tree_schema.specs.SchemaOf.{schema_of};
-ghost use Rattle.schema_parts.specs.Values.{Outcomes};
+ghost use Rattle.tree_schema.specs.Values.{Outcomes};
 
 use aidl_names::Names;
 use aidl_syntax::{ParsedFile, law_tree};

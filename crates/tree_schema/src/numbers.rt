@@ -2,12 +2,12 @@
 ghost use Rattle.std.specs.Prelude.{◌≡◌, ◌≤◌, ℕ, nat_eq, length, map, IfOk};
 ghost use Rattle.std.specs.List.{position_from};
 ghost use Rattle.indexmap.specs.IndexMap.{get};
-ghost use Rattle.schema_parts.specs.Numbers.{has_number};
-ghost use Rattle.schema_parts.specs.TreeViews.{numbered_of};
+ghost use Rattle.tree_schema.specs.Numbers.{has_number};
+ghost use Rattle.tree_schema.specs.TreeViews.{numbered_of};
 
+use crate::tree::Placed;
 use aidl_base::OutOfMemory;
 use indexmap::IndexMap;
-use schema_parts::Placed;
 use std::alloc::Global;
 
 /// The place in a list of each declaration that stands there, by its number in the trees.

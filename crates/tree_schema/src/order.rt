@@ -1,17 +1,17 @@
 //! The order of the declarations in the schema.
 ghost use Rattle.std.specs.Prelude.{◌≡◌, ◌≤◌, ◌++◌, length, map, IfOk};
 ghost use Rattle.declared_names.specs.Entries.{entry_of};
-ghost use Rattle.schema_parts.specs.Numbers as meant;
-ghost use Rattle.schema_parts.specs.TreeViews.{numbered_of};
+ghost use Rattle.tree_schema.specs.Numbers as meant;
+ghost use Rattle.tree_schema.specs.TreeViews.{numbered_of};
 
+use crate::tree::Placed;
 use aidl_base::{OutOfMemory, joined_by_dots};
 use declared_names::Found;
-use schema_parts::Placed;
 use std::alloc::Global;
 use std::collections::BTreeMap;
 
 /// The declarations of a tree in the order of a schema: by the bytes of their canonical names.
-#[tactic(auto, unfolding(schema_parts::specs::Numbers::sorted))]
+#[tactic(auto, unfolding(crate::specs::Numbers::sorted))]
 pub fn sorted<'a, 'b>(
     alloc: Global,
     found: &'a [Found<'b>],

@@ -16,9 +16,9 @@ use Rattle.aidl_schema.specs.declared.schema.Decl.{Decl}
 use Rattle.aidl_schema.specs.Valid.{is_within_limits}
 use Rattle.schema_bounds.specs.declared.bound.Bound.{Bound}
 use Rattle.schema_bounds.specs.Bounds.{bound}
-use Rattle.schema_parts.specs.declared.tree.Placed.{Placed}
-use Rattle.schema_parts.specs.Numbers.{sorted}
-use Rattle.schema_parts.specs.TreeViews.{numbered_of}
+use Rattle.tree_schema.specs.declared.tree.Placed.{Placed}
+use Rattle.tree_schema.specs.Numbers.{sorted}
+use Rattle.tree_schema.specs.TreeViews.{numbered_of}
 use Rattle.type_rules.specs.Breaches.{unsorted}
 use Rattle.type_check.specs.Bounds.{bound_at, broken_at, broken}
 use Rattle.type_check.specs.Stages.{types_broken}

@@ -12,9 +12,9 @@ use Rattle.const_eval.specs.Outcomes.{AreOutcomes, outcome_at}
 use Rattle.schema_bounds.specs.declared.bound.Bound.TheVariants.{Within}
 use Rattle.schema_bounds.specs.Bounds.{bound}
 use Rattle.tree_schema.specs.Checked.{IsChecked}
-use Rattle.schema_parts.specs.Numbers.{sorted}
+use Rattle.tree_schema.specs.Numbers.{sorted}
 use Rattle.tree_schema.specs.SchemaOf.{declared, schema_of}
-use Rattle.schema_parts.specs.Values.{Outcomes}
+use Rattle.tree_schema.specs.Values.{Outcomes}
 use Rattle.type_rules.specs.Breaches.{unsorted}
 use Rattle.type_rules.specs.Unbroken.{AreUnbroken}
 use Rattle.type_check.specs.Bounds.{HoldsItself, DefaultTooLarge}

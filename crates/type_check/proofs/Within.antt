@@ -5,14 +5,14 @@ use Rattle.std.proofs.lemmas.List.FromFn.{get_or-map-range_with_len}
 use Rattle.aidl_base.specs.declared.breach.Breach.{Breach}
 use Rattle.aidl_syntax.specs.Members.{declared_name}
 use Rattle.declared_names.specs.Declarations.{declarations}
-use Rattle.name_rules.specs.Rules.{breach}
+use Rattle.aidl_names.specs.Rules.{breach}
 use Rattle.declared_names.specs.Numbered.{in_each}
 use Rattle.aidl_syntax.specs.Sources.{Source}
 use Rattle.aidl_schema.specs.declared.schema.Decl.{Decl}
 use Rattle.schema_bounds.specs.declared.bound.Bound.{Bound}
 use Rattle.schema_bounds.specs.declared.bound.Bound.TheVariants.{Within, HoldsItself as Holding, TooLarge}
 use Rattle.schema_bounds.specs.Bounds.{bound}
-use Rattle.schema_parts.specs.Numbers.{Numbered, sorted}
+use Rattle.tree_schema.specs.Numbers.{Numbered, sorted}
 use Rattle.type_check.specs.Bounds.{rule_of, bound_at, broken_at, broken, HoldsItself, DefaultTooLarge}
 
 pub both-empty : {A : Type 0} (xs ys : List A) → xs ++ ys ≡ [] → (xs ≡ []) × (ys ≡ [])

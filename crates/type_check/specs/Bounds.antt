@@ -4,14 +4,14 @@ use Rattle.std.specs.List.{slice_index_or}
 use Rattle.aidl_base.specs.declared.breach.Breach.{Breach}
 use Rattle.aidl_syntax.specs.Members.{declared_name}
 use Rattle.declared_names.specs.Declarations.{declarations}
-use Rattle.name_rules.specs.Rules.{breach}
+use Rattle.aidl_names.specs.Rules.{breach}
 use Rattle.declared_names.specs.Numbered.{in_each}
 use Rattle.aidl_syntax.specs.Sources.{Source}
 use Rattle.aidl_schema.specs.declared.schema.Decl.{Decl}
 use Rattle.schema_bounds.specs.declared.bound.Bound.{Bound}
 use Rattle.schema_bounds.specs.declared.bound.Bound.TheVariants.{Within, HoldsItself as Holding, TooLarge}
 use Rattle.schema_bounds.specs.Bounds.{bound}
-use Rattle.schema_parts.specs.Numbers.{Numbered, sorted}
+use Rattle.tree_schema.specs.Numbers.{Numbered, sorted}
 
 -- the number of the rule that a declaration with a bound breaks, and 0 where it breaks none
 abbrev pub rule_of : Bound → ℕ

@@ -2,7 +2,7 @@
 use Rattle.std.specs.Prelude.{◌≡◌, List, map, ◌⊎◌, Some, None}
 use Rattle.aidl_base.specs.declared.source_file.SourceFile.{SourceFile}
 use Rattle.declared_names.specs.Declarations.{declarations}
-use Rattle.name_rules.specs.Limits.{passed}
+use Rattle.aidl_names.specs.Limits.{passed}
 use Rattle.aidl_syntax.specs.Sources.{Source, source_of}
 use Rattle.aidl_syntax.specs.declared.tree.ParsedFile.{ParsedFile}
 use Rattle.tree_files.specs.declared.fault.FilesFault.TheVariants as files

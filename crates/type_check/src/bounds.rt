@@ -1,14 +1,14 @@
 //! The breaches of E22 and E23, made of the bounds of the declarations in the schema.
 ghost use Rattle.std.specs.Prelude.{◌≡◌, ◌≤◌, ◌++◌, map, length, OnOk};
 ghost use Rattle.declared_names.specs.Numbered.{in_each};
-ghost use Rattle.schema_parts.specs.TreeViews.{numbered_of};
+ghost use Rattle.tree_schema.specs.TreeViews.{numbered_of};
 ghost use Rattle.type_check.specs.Bounds as meant;
 ghost use Rattle.type_check.specs.Bounds.{bound_at};
 
 use aidl_base::{Breach, OutOfMemory};
-use name_rules::add_if;
+use aidl_names::add_if;
 use schema_bounds::Bound;
-use schema_parts::Placed;
+use tree_schema::Placed;
 
 /// Adds the breaches of E22 or E23 in declarations, by the bounds of the schema that has them in the same order.
 pub fn add_broken(

@@ -1,7 +1,7 @@
 //! The third stage of the check: the rules on types, E13 to E24.
 ghost use Rattle.std.specs.Prelude.{◌≡◌, ◌≤◌, length, map, IfOk};
 ghost use Rattle.aidl_syntax.specs.Sources.{source_of};
-ghost use Rattle.schema_parts.specs.Numbers.{sorted};
+ghost use Rattle.tree_schema.specs.Numbers.{sorted};
 ghost use Rattle.declared_names.specs.Declarations.{declarations};
 ghost use Rattle.type_check.specs.Stages as meant;
 

@@ -13,8 +13,8 @@ use Rattle.aidl_syntax.specs.Trees.Decl.{decl}
 use Rattle.aidl_syntax.specs.Trees.Body.{parcelable, union, enum, interface}
 use Rattle.aidl_syntax.specs.Trees.Members.{none, field, method}
 use Rattle.aidl_syntax.specs.Sources.{Source}
-use Rattle.name_meanings.specs.Resolution.{meaning_of_word}
-use Rattle.name_rules.specs.Rules.{breach}
+use Rattle.name_resolution.specs.Resolution.{meaning_of_word}
+use Rattle.aidl_names.specs.Rules.{breach}
 use Rattle.type_uses.specs.Annotations.{row_of_name}
 use Rattle.type_rules.specs.Breaches.{breaches, broken_by, broken_in, unsorted}
 

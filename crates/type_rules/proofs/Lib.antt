@@ -1,3 +1,4 @@
+mod MemberLoops
 mod Examples
 mod Loops
 pub mod lemmas

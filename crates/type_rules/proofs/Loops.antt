@@ -10,7 +10,7 @@ use Rattle.declared_names.proofs.lemmas.Earlier.{take-next}
 use Rattle.declared_names.specs.Declarations.{Entry}
 use Rattle.type_uses.specs.Bases.{is_fixed_entry, is_fixed_number}
 use Rattle.type_uses.specs.Ids.{is_id, number_of}
-use Rattle.member_rules.specs.IdRules.{has_value, is_bad_token, is_taken}
+use Rattle.type_rules.specs.IdRules.{has_value, is_bad_token, is_taken}
 
 -- what f makes of one more of the first
 pub mapped-next : {A B : Type 0} (f : A → B) (xs : List A) (i : ℕ) (x : A) → i < length xs → x ≡ get_or xs i x → map f (take (i + 1) xs) ≡ map f (take i xs) ++ f x ∷ []

@@ -5,7 +5,7 @@ use Rattle.aidl_base.specs.declared.breach.Breach.{Breach}
 use Rattle.aidl_syntax.specs.Trees.{Param, Annot}
 use Rattle.aidl_syntax.specs.Members.{body}
 use Rattle.declared_names.specs.Declarations.{Entry}
-use Rattle.name_rules.specs.Rules.{breach, is_named_again}
+use Rattle.aidl_names.specs.Rules.{breach, is_named_again}
 use Rattle.declared_names.specs.Numbered.{after_earlier}
 use Rattle.type_shapes.specs.Backing.{annots_of, is_backing, is_type}
 use Rattle.type_shapes.specs.Types.{is_enum_body}

@@ -8,9 +8,9 @@ use Rattle.aidl_names.specs.Breaches.{in_order}
 use Rattle.type_uses.specs.TypeUses.{TypeUse, type_uses}
 use Rattle.type_rules.specs.AnnotationRules.{BadAnnotation, BadBacking}
 use Rattle.type_rules.specs.TypeRules.{BadNullable, BadShape, BadDirection}
-use Rattle.member_rules.specs.IdRules.{BadId}
+use Rattle.type_rules.specs.IdRules.{BadId}
 use Rattle.type_rules.specs.MethodRules.{BadOneway}
-use Rattle.member_rules.specs.FieldRules.{BadField, NotFixed}
+use Rattle.type_rules.specs.FieldRules.{BadField, NotFixed}
 use Rattle.type_rules.specs.TypeRules.{BadConstant}
 
 -- those of a declaration, by the types that it uses

@@ -1,3 +1,6 @@
+pub mod IdRules
+pub mod FieldRules
+pub mod Filters
 pub mod AnnotationRules
 pub mod TypeRules
 pub mod MethodRules

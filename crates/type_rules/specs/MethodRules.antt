@@ -7,7 +7,7 @@ use Rattle.aidl_syntax.specs.Trees.Body.{interface}
 use Rattle.aidl_syntax.specs.Members.{body}
 use Rattle.declared_names.specs.Declarations.{Entry}
 use Rattle.type_uses.specs.TypeUses.{TypeUse, of_method, name_place}
-use Rattle.member_rules.specs.Filters.{broken_where}
+use Rattle.type_rules.specs.Filters.{broken_where}
 use Rattle.type_rules.specs.TypeRules.{is_outward}
 
 -- E18 BadOneway: a method that is oneway, by itself or by its interface, returns a value or has an `out` or `inout` argument.

@@ -5,16 +5,16 @@ use Rattle.aidl_base.specs.declared.breach.Breach.{Breach}
 use Rattle.aidl_syntax.specs.declared.tree.WayTree.{WayTree}
 use Rattle.aidl_syntax.specs.declared.tree.WayTree.TheVariants as way
 use Rattle.aidl_syntax.specs.Trees.{Annot}
-use Rattle.name_meanings.specs.declared.meaning.Resolved.TheVariants.{Builtin}
+use Rattle.name_resolution.specs.declared.meaning.Resolved.TheVariants.{Builtin}
 use Rattle.declared_names.specs.Declarations.{Entry}
-use Rattle.name_rules.specs.Rules.{breach}
+use Rattle.aidl_names.specs.Rules.{breach}
 use Rattle.type_shapes.specs.declared.shape.Shape.{Shape}
 use Rattle.type_shapes.specs.declared.shape.Shape.TheVariants as shape
 use Rattle.type_shapes.specs.Types.{is_composite}
 use Rattle.type_uses.specs.Kept.{is_nullable_annot, is_heap_annot}
 use Rattle.type_uses.specs.TypeUses.{TypeUse, of_field, of_constant, of_method, of_argument, annotations_of, name_place, type_place}
 use Rattle.type_uses.specs.Bases.{is_one_composite, is_one_scalar, is_refused, is_refused_result}
-use Rattle.member_rules.specs.Filters.{broken_where}
+use Rattle.type_rules.specs.Filters.{broken_where}
 
 -- E14 BadNullable: `@nullable` on a type of shape one whose base is a primitive or an enum, or on void; `heap=true` elsewhere than
 -- on a field of shape one whose base is a parcelable or union. A type that E16 refuses has no breach.

@@ -6,9 +6,9 @@ use Rattle.declared_names.specs.Declarations.{Entry, declarations}
 use Rattle.type_uses.specs.TypeUses.{TypeUse, type_uses}
 use Rattle.type_rules.specs.AnnotationRules.{BadAnnotation, BadBacking}
 use Rattle.type_rules.specs.TypeRules.{BadNullable, BadShape, BadDirection}
-use Rattle.member_rules.specs.IdRules.{BadId}
+use Rattle.type_rules.specs.IdRules.{BadId}
 use Rattle.type_rules.specs.MethodRules.{BadOneway}
-use Rattle.member_rules.specs.FieldRules.{BadField, NotFixed}
+use Rattle.type_rules.specs.FieldRules.{BadField, NotFixed}
 use Rattle.type_rules.specs.TypeRules.{BadConstant}
 
 -- no rule has a breach in the declaration, which uses these types

@@ -11,10 +11,10 @@ ghost use Rattle.type_uses.specs.TypeUses.{annotations_of, stand_of};
 ghost use Rattle.type_uses.specs.TypeUseViews.{seen_use};
 
 use aidl_base::{Breach, OutOfMemory};
+use aidl_names::add_if;
 use aidl_syntax::{AnnotTree, DeclTree};
 use declared_names::Found;
 use indexmap::IndexSet;
-use name_rules::add_if;
 use std::alloc::Global;
 use type_uses::{Stand, TypeUseRef, annotations_of, row_of, stand_of, stand_of_tree};
 

@@ -7,9 +7,9 @@ ghost use Rattle.type_shapes.specs.Backing.{is_backing};
 ghost use Rattle.type_rules.specs.AnnotationRules as meant;
 
 use aidl_base::{Breach, OutOfMemory};
+use aidl_names::add_if;
 use aidl_syntax::AnnotTree;
 use declared_names::Found;
-use name_rules::add_if;
 use type_shapes::{backing_annot, is_enum_tree, type_param};
 use type_uses::is_backing_word;
 

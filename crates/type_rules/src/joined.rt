@@ -13,13 +13,15 @@ ghost use Rattle.type_uses.specs.TypeUseViews.{seen_use};
 
 use crate::annotation_rules::add_bad_annotations;
 use crate::backing_rule::add_bad_backing;
+use crate::fields::add_bad_fields;
+use crate::fixed::{add_not_fixed, fixed_ones};
+use crate::ids::add_bad_ids;
 use crate::nullable::add_bad_nullables;
 use crate::use_rules::{UseRule, add_where};
 use aidl_base::{Breach, OutOfMemory, Row};
 use aidl_names::{Names, in_order};
 use aidl_syntax::{BodyTree, DeclTree};
 use declared_names::Found;
-use member_rules::{add_bad_fields, add_bad_ids, add_not_fixed, fixed_ones};
 use std::alloc::Global;
 use type_uses::{TypeUseRef, listed_uses};
 

@@ -1,9 +1,12 @@
-//! The breaches of the check rules E13 to E21 and E24: those on annotations, types and methods that are oneway, judged here, and
-//! those of `member_rules`, joined.
+//! The breaches of the check rules E13 to E21 and E24, in order: on annotations, types, oneway methods, ids of methods,
+//! initializers and fields of fixed size.
 #![tactic(auto)]
 
 mod annotation_rules;
 mod backing_rule;
+mod fields;
+mod fixed;
+mod ids;
 mod joined;
 mod laws;
 mod nullable;

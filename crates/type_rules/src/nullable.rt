@@ -8,9 +8,9 @@ ghost use Rattle.type_uses.specs.TypeUses.{annotations_of};
 ghost use Rattle.type_uses.specs.TypeUseViews.{seen_use};
 
 use aidl_base::{Breach, OutOfMemory};
+use aidl_names::add_if;
 use aidl_syntax::AnnotTree;
 use declared_names::Found;
-use name_rules::add_if;
 use type_shapes::Shape;
 use type_uses::{
     TypeUseRef, annotations_of, is_heap_annot, is_nullable_annot, is_one_composite, is_one_scalar,

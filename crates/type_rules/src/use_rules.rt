@@ -3,17 +3,17 @@ ghost use Rattle.std.specs.Prelude.{◌≡◌, ◌++◌, map, OnOk};
 ghost use Rattle.std.specs.List.{list_any};
 ghost use Rattle.aidl_syntax.specs.Trees.{arg_of, method_of};
 ghost use Rattle.declared_names.specs.Entries.{entry_of};
-ghost use Rattle.member_rules.specs.Filters.{broken_where};
+ghost use Rattle.type_rules.specs.Filters.{broken_where};
 ghost use Rattle.type_rules.specs.UseRules as meant;
 ghost use Rattle.type_rules.specs.TypeRules as types;
 ghost use Rattle.type_rules.specs.MethodRules as methods;
 ghost use Rattle.type_uses.specs.TypeUseViews.{seen_use};
 
 use aidl_base::{Breach, OutOfMemory};
+use aidl_names::add_if;
 use aidl_syntax::{ArgTree, MethodTree, WayTree};
 use declared_names::Found;
-use name_meanings::Resolved;
-use name_rules::add_if;
+use name_resolution::Resolved;
 use type_shapes::{Shape, is_composite};
 use type_uses::{TypeUseRef, is_refused, is_refused_result, name_place, type_place};
 

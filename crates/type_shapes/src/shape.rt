@@ -12,7 +12,7 @@ ghost use Rattle.type_shapes.specs.Types.{meaning_in};
 use aidl_names::Names;
 use aidl_syntax::{BodyTree, DeclTree, DottedTree, TypeTree};
 use declared_names::Found;
-use name_meanings::{BuiltinName, Resolved};
+use name_resolution::{BuiltinName, Resolved};
 
 /// What a type is, by its base: a single value, an array or a list; or refused, as E16 has it.
 #[derive(Clone, Copy)]

@@ -9,7 +9,7 @@ use crate::shape::Shape;
 use aidl_syntax::{BodyTree, DeclTree};
 use const_values::Wanted;
 use declared_names::Found;
-use name_meanings::{BuiltinName, Resolved};
+use name_resolution::{BuiltinName, Resolved};
 
 /// The value that is wanted of one expression for a type; `found` are the declarations of the tree. It takes no memory.
 pub fn wanted_one(found: &[Found<'_>], shape: Shape) -> Wanted

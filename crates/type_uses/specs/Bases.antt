@@ -1,8 +1,8 @@
 -- Kinds of bases of types (AOSP, "AIDL language", "Types"; `@FixedSize`: AOSP, "Annotations in AIDL").
 use Rattle.std.specs.Prelude.{ℕ, Bool, true, false, not, ◌&&◌, ◌||◌, List, Option, Some, None}
 use Rattle.std.specs.List.{slice_get}
-use Rattle.name_meanings.specs.declared.meaning.Resolved.{Resolved}
-use Rattle.name_meanings.specs.declared.meaning.Resolved.TheVariants.{Builtin, Declared}
+use Rattle.name_resolution.specs.declared.meaning.Resolved.{Resolved}
+use Rattle.name_resolution.specs.declared.meaning.Resolved.TheVariants.{Builtin, Declared}
 use Rattle.declared_names.specs.Declarations.{Entry}
 use Rattle.type_shapes.specs.declared.shape.Shape.{Shape}
 use Rattle.type_shapes.specs.declared.shape.Shape.TheVariants as shape

@@ -5,7 +5,7 @@ ghost use Rattle.type_uses.specs.Bases as meant;
 
 use crate::stand::is_text;
 use declared_names::Found;
-use name_meanings::Resolved;
+use name_resolution::Resolved;
 use type_shapes::{Shape, is_composite, is_enum};
 
 // Each takes no memory; `found` are the declarations of the tree.

@@ -5,7 +5,7 @@ ghost use Rattle.aidl_syntax.specs.Members.{body};
 ghost use Rattle.type_uses.specs.Annotations as meant;
 
 use aidl_syntax::{BodyTree, DeclTree};
-use name_meanings::{BuiltinName, Resolved};
+use name_resolution::{BuiltinName, Resolved};
 use type_shapes::Shape;
 
 /// Where annotations stand.

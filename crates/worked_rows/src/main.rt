@@ -3,8 +3,7 @@
 #![tactic(auto)]
 
 use aidl_base::OutOfMemory;
-use row_texts::{Tried, word_of};
-use row_trials::{Asked, Cases, Kind, try_run, try_runs, try_sources, try_trees};
+use case_runs::{Asked, Cases, Kind, Tried, try_run, try_runs, try_sources, try_trees, word_of};
 use std::alloc::Global;
 use std::io::ErrorKind;
 use std::{fs, io};

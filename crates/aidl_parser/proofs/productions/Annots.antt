@@ -16,9 +16,9 @@ use Rattle.aidl_syntax.specs.Trees.Init.{single, braces}
 use Rattle.aidl_syntax.specs.Productions as form
 use Rattle.aidl_syntax.specs.Productions.{IsIdent, AreNames, IsDotted, IsOf, IsExpr, IsInit, IsParam, AreParams, IsAnnot, AreAnnots, is_literal, is_sign, level}
 use Rattle.expr_parser.specs.steps.Reading.{mark_of, name_of, ◌>>=◌}
-use Rattle.part_parser.specs.steps.Parts.{same_symbol, is_symbol, begins, both, altered, alter, behind, upto, placed, maybe}
-use Rattle.part_parser.specs.steps.Types.{ident}
-use Rattle.part_parser.specs.steps.Inits.{expr_at, maybe_trailing, maybe_listed, braces_at, init_at, begins_named, param_made, param_at, params_at, annot_made, annot_at, annots_at}
+use Rattle.aidl_parser.specs.steps.Parts.{same_symbol, is_symbol, begins, both, altered, alter, behind, upto, placed, maybe}
+use Rattle.aidl_parser.specs.steps.Types.{ident}
+use Rattle.aidl_parser.specs.steps.Inits.{expr_at, maybe_trailing, maybe_listed, braces_at, init_at, begins_named, param_made, param_at, params_at, annot_made, annot_at, annots_at}
 use Rattle.expr_parser.proofs.lemmas.Told.{bind_some, pair_some, chosen}
 use Rattle.aidl_parser.proofs.productions.Laws.{IsTold, IsFound, Law, MayFollow, Begins, Starts, any, both_law, weaken, placed_law, behind_law, behind_begins, behind_starts, upto_law, unless, unless_parts, maybe_law, many_law, same_self, symbol_is}
 use Rattle.aidl_parser.proofs.productions.Types.{ident_law, expr_law, ends_expr}

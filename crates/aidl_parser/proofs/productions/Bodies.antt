@@ -12,11 +12,11 @@ use Rattle.aidl_syntax.specs.Trees.Body.{parcelable, union, enum, interface}
 use Rattle.aidl_syntax.specs.Trees.Members.{none, field, constant, method, nested}
 use Rattle.aidl_syntax.specs.Productions.{IsIdent, IsEnumerator, IsOneway, IsBody}
 use Rattle.expr_parser.specs.steps.Reading.{Read, mark_of, names, dotted, ◌>>=◌}
-use Rattle.part_parser.specs.steps.Parts.{same_symbol, same_word, begins, begins_word, quoted, worded, before, then_at, both, altered, alter, second, fore, upto}
-use Rattle.part_parser.specs.steps.Types.{ident, type_at}
-use Rattle.part_parser.specs.steps.Inits.{annots_at, trailing}
+use Rattle.aidl_parser.specs.steps.Parts.{same_symbol, same_word, begins, begins_word, quoted, worded, before, then_at, both, altered, alter, second, fore, upto}
+use Rattle.aidl_parser.specs.steps.Types.{ident, type_at}
+use Rattle.aidl_parser.specs.steps.Inits.{annots_at, trailing}
 use Rattle.aidl_parser.specs.steps.Members.{field_at, method_at, oneway_at, returned_at}
-use Rattle.part_parser.specs.steps.Items.{enumerator_at}
+use Rattle.aidl_parser.specs.steps.Items.{enumerator_at}
 use Rattle.aidl_parser.specs.steps.Decls.{head_at, member_by, member_with, joined, members_behind, members_by, braced_at, as_parcelable, as_union, as_enum, as_interface, enum_at, body_by, declared, decl_at}
 use Rattle.expr_parser.proofs.lemmas.Told.{bind_some, pair_some, chosen, is_mark}
 use Rattle.aidl_parser.proofs.productions.Laws.{IsTold, IsFound, Law, MayFollow, any, both_law, alter_law, quoted_law, worded_law, upto_law, unless, same_self, word_self, symbol_is}

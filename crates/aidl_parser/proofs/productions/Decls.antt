@@ -11,8 +11,8 @@ use Rattle.aidl_syntax.specs.Trees.Body.{parcelable, union, enum, interface}
 use Rattle.aidl_syntax.specs.Trees.Members.{field, constant, method, nested}
 use Rattle.aidl_syntax.specs.Productions.{AreAnnots, IsField, IsConstant, IsReturned, IsMethod, IsDecl, IsBody, AreMembers, AreInterfaceMembers}
 use Rattle.expr_parser.specs.steps.Reading.{Read, ◌>>=◌}
-use Rattle.part_parser.specs.steps.Parts.{same_word, begins_word, altered, alter}
-use Rattle.part_parser.specs.steps.Inits.{annots_at}
+use Rattle.aidl_parser.specs.steps.Parts.{same_word, begins_word, altered, alter}
+use Rattle.aidl_parser.specs.steps.Inits.{annots_at}
 use Rattle.aidl_parser.specs.steps.Members.{field_at, constant_at, method_at}
 use Rattle.aidl_parser.specs.steps.Decls.{begins_decl, field_made, constant_made, method_made, nested_made, member_by, member_behind, member_with}
 use Rattle.expr_parser.proofs.lemmas.Told.{bind_some, pair_some}

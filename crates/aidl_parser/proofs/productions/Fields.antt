@@ -14,11 +14,11 @@ use Rattle.aidl_syntax.specs.Parts.{Form, Then, Maybe, Many, Worded, Behind, Bef
 use Rattle.aidl_syntax.specs.Trees.{Expr, Init, Annot, Arg}
 use Rattle.aidl_syntax.specs.Productions.{IsIdent, IsExpr, IsType, IsInit, IsAnnot, AreAnnots, IsEnumerator, IsWay, IsArg, IsReturned, IsOneway, IsNumberToken}
 use Rattle.expr_parser.specs.steps.Reading.{Read, ◌>>=◌}
-use Rattle.part_parser.specs.steps.Parts.{same_symbol, same_word, begins, begins_word, worded, both, altered, alter, second, upto, as_some, maybe, with_items}
-use Rattle.part_parser.specs.steps.Types.{ident, as_true, type_at}
-use Rattle.part_parser.specs.steps.Inits.{expr_at, init_at, annots_at, maybe_listed, trailing}
+use Rattle.aidl_parser.specs.steps.Parts.{same_symbol, same_word, begins, begins_word, worded, both, altered, alter, second, upto, as_some, maybe, with_items}
+use Rattle.aidl_parser.specs.steps.Types.{ident, as_true, type_at}
+use Rattle.aidl_parser.specs.steps.Inits.{expr_at, init_at, annots_at, maybe_listed, trailing}
 use Rattle.aidl_parser.specs.steps.Members.{initial_at, field_at, value_at, constant_at, args_at, oneway_at, as_none, returned_at, id_at, method_at}
-use Rattle.part_parser.specs.steps.Items.{given_at, enumerator_made, enumerator_at, way_of, way_by, way_at, arg_made, arg_ends, arg_goes_on, arg_begins, arg_at, is_number, number_at}
+use Rattle.aidl_parser.specs.steps.Items.{given_at, enumerator_made, enumerator_at, way_of, way_by, way_at, arg_made, arg_ends, arg_goes_on, arg_begins, arg_at, is_number, number_at}
 use Rattle.expr_parser.proofs.lemmas.Told.{bind_some, pair_some, chosen}
 use Rattle.expr_parser.proofs.lemmas.Found.{starts_name}
 use Rattle.aidl_parser.proofs.productions.Laws.{IsTold, IsFound, Law, MayFollow, any, both_law, placed_law, alter_law, worded_law, worded_begins, behind_law, behind_begins, upto_law, then_starts, unless, unless_parts, maybe_law, same_self}

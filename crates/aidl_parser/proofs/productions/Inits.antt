@@ -11,8 +11,8 @@ use Rattle.aidl_syntax.specs.Trees.{Expr}
 use Rattle.aidl_syntax.specs.Trees.Expr.{literal, name, group, unary, binary}
 use Rattle.aidl_syntax.specs.Productions.{IsOf, IsExpr, is_literal, is_sign, level}
 use Rattle.expr_parser.specs.steps.Reading.{Read, mark_of, ◌>>=◌}
-use Rattle.part_parser.specs.steps.Parts.{same_symbol, is_symbol, begins, quoted, both, altered, alter, fore, maybe, listed}
-use Rattle.part_parser.specs.steps.Inits.{goes_inside, trailing, maybe_trailing, maybe_listed}
+use Rattle.aidl_parser.specs.steps.Parts.{same_symbol, is_symbol, begins, quoted, both, altered, alter, fore, maybe, listed}
+use Rattle.aidl_parser.specs.steps.Inits.{goes_inside, trailing, maybe_trailing, maybe_listed}
 use Rattle.expr_parser.proofs.lemmas.Told.{bind_some, pair_some, chosen}
 use Rattle.expr_parser.proofs.lemmas.Found.{starts_name}
 use Rattle.aidl_parser.proofs.productions.Laws.{IsTold, IsFound, Law, MayFollow, Begins, Starts, any, both_law, weaken, quoted_law, quoted_begins, behind_begins, unless, unless_from, maybe_law, listed_law, same_self, symbol_is}

@@ -11,9 +11,9 @@ use Rattle.aidl_syntax.specs.declared.tree.DottedTree.{DottedTree}
 use Rattle.aidl_syntax.specs.Parts.{Form, Then, Maybe, Quoted, Behind, Before, first}
 use Rattle.aidl_syntax.specs.Productions.{IsIdent, IsDotted, IsExpr, IsArray, IsType}
 use Rattle.expr_parser.specs.steps.Reading.{Read, name_of, names, dotted, ◌>>=◌}
-use Rattle.part_parser.specs.steps.Parts.{same_symbol, begins, quoted, both, altered, alter, upto, maybe}
-use Rattle.part_parser.specs.steps.Types.{ident_by, ident, element, as_true, array, typed, type_at}
-use Rattle.part_parser.specs.steps.Inits.{expr_at}
+use Rattle.aidl_parser.specs.steps.Parts.{same_symbol, begins, quoted, both, altered, alter, upto, maybe}
+use Rattle.aidl_parser.specs.steps.Types.{ident_by, ident, element, as_true, array, typed, type_at}
+use Rattle.aidl_parser.specs.steps.Inits.{expr_at}
 use Rattle.expr_parser.proofs.lemmas.Told.{bind_some, pair_some, chosen, is_name, names_told, expr_told}
 use Rattle.expr_parser.proofs.lemmas.Found.{no_dot, next_level, names_found, starts_name, first_kept, expr_found}
 use Rattle.aidl_parser.proofs.productions.Laws.{IsTold, IsFound, Law, MayFollow, Starts, any, both_law, weaken, placed_law, quoted_law, behind_law, behind_begins, upto_law, then_starts, unless, unless_parts, maybe_law}

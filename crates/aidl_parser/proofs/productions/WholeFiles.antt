@@ -12,8 +12,8 @@ use Rattle.aidl_syntax.specs.Trees.Decl.{decl}
 use Rattle.aidl_syntax.specs.Trees.Body.{parcelable, union, enum, interface}
 use Rattle.aidl_syntax.specs.Productions.{IsDotted, IsDecl, IsBody, IsFile, Named}
 use Rattle.expr_parser.specs.steps.Reading.{dotted, ◌>>=◌}
-use Rattle.part_parser.specs.steps.Parts.{same_word, begins_word, worded, both, second, upto, maybe}
-use Rattle.part_parser.specs.steps.Inits.{annots_at}
+use Rattle.aidl_parser.specs.steps.Parts.{same_word, begins_word, worded, both, second, upto, maybe}
+use Rattle.aidl_parser.specs.steps.Inits.{annots_at}
 use Rattle.aidl_parser.specs.steps.Decls.{decl_at, named_at, top_behind, top_at, file_made, imports_at, file_at, ended_by, ended, whole_of}
 use Rattle.expr_parser.proofs.lemmas.Told.{bind_some}
 use Rattle.aidl_parser.proofs.productions.Laws.{IsTold, IsFound, Law, MayFollow, Begins, Starts, any, both_law, alter_law, placed_law, worded_law, upto_law, maybe_law, many_law, unless, word_self}

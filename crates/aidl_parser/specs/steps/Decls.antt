@@ -13,11 +13,11 @@ use Rattle.aidl_syntax.specs.Trees.Decl.{decl}
 use Rattle.aidl_syntax.specs.Trees.Body.{parcelable, union, enum, interface}
 use Rattle.aidl_syntax.specs.Trees.Members.{none, field, constant, method, nested}
 use Rattle.expr_parser.specs.steps.Reading.{Read, dotted, ◌>>=◌}
-use Rattle.part_parser.specs.steps.Parts.{word_of, begins, begins_word, worded, both, alter, second, upto, placed, maybe, many}
-use Rattle.part_parser.specs.steps.Types.{ident}
-use Rattle.part_parser.specs.steps.Inits.{annots_at, trailing}
+use Rattle.aidl_parser.specs.steps.Parts.{word_of, begins, begins_word, worded, both, alter, second, upto, placed, maybe, many}
+use Rattle.aidl_parser.specs.steps.Types.{ident}
+use Rattle.aidl_parser.specs.steps.Inits.{annots_at, trailing}
 use Rattle.aidl_parser.specs.steps.Members.{field_at, constant_at, method_at, oneway_at}
-use Rattle.part_parser.specs.steps.Items.{enumerator_at}
+use Rattle.aidl_parser.specs.steps.Items.{enumerator_at}
 
 -- a reserved word, an identifier and "{"
 unfoldable pub head_at : Reserved → List Token → Read NameTree

@@ -9,8 +9,8 @@ use Rattle.tool_frame.specs.declared.printed.Early.TheVariants.{Answered, OutOfM
 use Rattle.tool_frame.specs.declared.printed.Printed.{Printed}
 use Rattle.tool_frame.specs.Answer.{Answer}
 use Rattle.tool_frame.specs.steps.Results.{Gives, GivesOne}
-use Rattle.tree_answers.specs.Faults.{IsFaultAnswer}
-use Rattle.tree_answers.specs.steps.Results.{EndsBy}
+use Rattle.tree_output.specs.Faults.{IsFaultAnswer}
+use Rattle.tree_output.specs.steps.Results.{EndsBy}
 use Rattle.type_check.specs.Checked.{IsSchemaOf}
 
 module _ (root : List ℕ) (files : List SourceFile) where

@@ -22,9 +22,9 @@ use Rattle.tool_frame.specs.Trees.{TreeFile, file_seen, tree_at}
 use Rattle.tool_frame.specs.Verdict.{IsVerdict, exit_of}
 use Rattle.tool_frame.specs.steps.Results.{Finds, GivesOne, printed}
 use Rattle.aidl_outside.proofs.lemmas.Telling.{tells, tells_both}
-use Rattle.tree_answers.specs.Faults.{IsFaultAnswer}
+use Rattle.tree_output.specs.Faults.{IsFaultAnswer}
 use Rattle.tool_words.specs.Command.{judge}
-use Rattle.tree_answers.specs.Judged.{IsJudgeAnswer, IsSecondAnswer, judged}
+use Rattle.tree_output.specs.Judged.{IsJudgeAnswer, IsSecondAnswer, judged}
 use Rattle.type_check.specs.Checked.{IsSchemaOf}
 
 -- what is given is more than that

@@ -8,7 +8,7 @@ use Rattle.aidl_schema.specs.declared.schema.Decl.{Decl}
 use Rattle.aidl_tool.specs.Acting.{HasSchema}
 use Rattle.tool_frame.specs.Answer.{Answer, Found}
 use Rattle.tool_frame.specs.Trees.{TreeFile, file_seen}
-use Rattle.tree_answers.specs.Faults.{IsAnswerOf, IsFaultAnswer}
+use Rattle.tree_output.specs.Faults.{IsAnswerOf, IsFaultAnswer}
 use Rattle.type_check.specs.Checked.{IsSchemaOf}
 use Rattle.type_check.specs.Refusals.{IsRefusal}
 use Rattle.type_check.specs.declared.fault.CheckFault.{CheckFault}

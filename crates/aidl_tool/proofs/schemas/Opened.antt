@@ -10,8 +10,8 @@ use Rattle.tool_frame.specs.declared.printed.Early.TheVariants.{Answered, OutOfM
 use Rattle.tool_frame.specs.Answer.{Found}
 use Rattle.tool_frame.specs.steps.Results.{Finds, printed}
 use Rattle.tool_frame.specs.Trees.{OverTree, TreeFile, file_seen}
-use Rattle.tree_answers.specs.Faults.{IsFaultAnswer}
-use Rattle.tree_answers.specs.steps.Results.{EndsBy}
+use Rattle.tree_output.specs.Faults.{IsFaultAnswer}
+use Rattle.tree_output.specs.steps.Results.{EndsBy}
 use Rattle.type_check.specs.Checked.{IsSchemaOf}
 
 module _ (root : List ℕ) where

@@ -18,8 +18,8 @@ use Rattle.aidl_tool.specs.steps.Loading.{HeldFiles, RanSome, RunsAs, RunsGivenA
 use Rattle.aidl_tool.proofs.CourseEnds.{alone}
 use Rattle.aidl_tool.proofs.Kept.{RunKeeps}
 use Rattle.aidl_tool.proofs.schemas.OneTree.{one_tree}
-use Rattle.run_answers.specs.CallLines.{lines_of, within_lines}
-use Rattle.run_answers.specs.Running.{judged_course, lines_course, neither, run_course}
+use Rattle.run_output.specs.CallLines.{lines_of, within_lines}
+use Rattle.run_output.specs.Running.{judged_course, lines_course, neither, run_course}
 use Rattle.tool_frame.specs.declared.printed.Early.{Early}
 use Rattle.tool_frame.specs.declared.printed.Early.TheVariants.{Answered, OutOfMemory}
 use Rattle.tool_frame.specs.Answer.{Answer, Found}
@@ -31,8 +31,8 @@ use Rattle.tool_frame.specs.Verdict.{IsVerdict}
 use Rattle.tool_frame.specs.steps.Courses.{EndsCourse}
 use Rattle.tool_frame.specs.steps.Results.{Finds, printed}
 use Rattle.tool_frame.proofs.lemmas.Endings.{not_verdict}
-use Rattle.tree_answers.specs.Faults.{IsFaultAnswer}
-use Rattle.tree_answers.specs.steps.Results.{EndsBy}
+use Rattle.tree_output.specs.Faults.{IsFaultAnswer}
+use Rattle.tree_output.specs.steps.Results.{EndsBy}
 
 module _ (p : Profile) (trace : Bool) (A B : List Decl) (text : List ℕ) (before now : Seen) (exit : ℕ) where
   -- memory was wanted before any course

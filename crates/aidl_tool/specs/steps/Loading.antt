@@ -7,9 +7,9 @@ use Rattle.aidl_outside.specs.Files.{Files}
 use Rattle.aidl_schema.specs.declared.schema.Decl.{Decl}
 use Rattle.aidl_tool.specs.declared.running.Loaded.{Loaded}
 use Rattle.aidl_tool.specs.Running.{Takes, RunsLoaded, calls_within}
-use Rattle.run_answers.specs.CallLines.{lines_of}
-use Rattle.run_answers.specs.Projected.{Projects, projected_text}
-use Rattle.run_answers.specs.Running.{run_course}
+use Rattle.run_output.specs.CallLines.{lines_of}
+use Rattle.run_output.specs.Projected.{Projects, projected_text}
+use Rattle.run_output.specs.Running.{run_course}
 use Rattle.tool_frame.specs.Answer.{Found}
 use Rattle.tool_frame.specs.Refusals.{file_at, there}
 use Rattle.tool_frame.specs.Trees.{TreeFile, file_seen, tree_at}

@@ -7,13 +7,13 @@ use Rattle.aidl_syntax.specs.declared.tree.DottedTree.{DottedTree}
 use Rattle.aidl_syntax.specs.Trees.{Expr}
 use Rattle.aidl_syntax.specs.Trees.Expr.{literal, name, group, unary, binary}
 use Rattle.aidl_syntax.specs.Sources.{Source}
-use Rattle.const_operands.specs.declared.fault.ConstFault.{ConstFault}
-use Rattle.const_operands.specs.Operands.{Operand}
-use Rattle.const_operands.specs.Symbols.{unary_operator, binary_operator}
+use Rattle.const_values.specs.declared.fault.ConstFault.{ConstFault}
+use Rattle.const_values.specs.Operands.{Operand}
+use Rattle.const_values.specs.Symbols.{unary_operator, binary_operator}
 use Rattle.const_values.specs.Evaluation.{evaluated, before, then_right}
 use Rattle.const_values.specs.Wanted.{fitted}
 use Rattle.const_items.specs.Items.{Item, Written, written, first, after, items, number_at}
-use Rattle.const_dependence.specs.Dependence.{target, number_of, names_of, names_in, number_before, depends_on}
+use Rattle.const_items.specs.Dependence.{target, number_of, names_of, names_in, number_before, depends_on}
 use Rattle.std.specs.List.{slice_get}
 use Rattle.const_eval.specs.Outcomes.{Values, operand_at, operand_of, wanted_of, meaning, judgement_of, above, one_more, named_enum}
 

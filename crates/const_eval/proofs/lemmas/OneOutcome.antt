@@ -6,7 +6,7 @@ use Rattle.aidl_syntax.specs.Sources.{Source}
 use Rattle.const_eval.specs.declared.outcome.Outcome.{Outcome}
 use Rattle.const_eval.specs.declared.outcome.Outcome.TheVariants.{Given}
 use Rattle.const_items.specs.Items.{Item, items}
-use Rattle.const_dependence.specs.Dependence.{depends_on, next, next_of}
+use Rattle.const_items.specs.Dependence.{depends_on, next, next_of}
 use Rattle.const_eval.specs.Outcomes.{Values, HasOutcome, is_given, judgement_of, outcome_of}
 use Rattle.const_eval.specs.Outcomes.HasOutcome.{unformed, unknown, cyclic, behind, judged}
 use Rattle.const_eval.proofs.lemmas.Agree.{judged_alike}

@@ -10,9 +10,9 @@ use Rattle.aidl_syntax.specs.Members.Member.{field, constant, method, enumerator
 use Rattle.aidl_syntax.specs.Sources.{Source}
 use Rattle.const_values.specs.declared.wanted.Wanted.{Wanted}
 use Rattle.const_items.specs.Items.{Item, of_body}
-use Rattle.schema_parts.specs.Parts.{listed_constants}
+use Rattle.tree_schema.specs.Parts.{listed_constants}
 use Rattle.tree_schema.specs.SchemaOf.{kind_of}
-use Rattle.schema_parts.specs.Values.{Outcomes}
+use Rattle.tree_schema.specs.Values.{Outcomes}
 use Rattle.tree_schema.proofs.lemmas.walked.Placed.{Each}
 use Rattle.aidl_schema.specs.declared.schema.Decl.{Decl}
 use Rattle.aidl_schema.specs.declared.schema.Field.{Field}

@@ -9,8 +9,8 @@ use Rattle.std.proofs.lemmas.Cmp.{nat_list_cmp_total}
 use Rattle.aidl_base.specs.Names.{dotted}
 use Rattle.aidl_syntax.specs.Sources.{Source}
 use Rattle.declared_names.specs.Declarations.{Entry, declarations}
-use Rattle.schema_parts.specs.Numbers.{Numbered, bytes_of, number_of}
-use Rattle.schema_parts.specs.Numbers as numbers
+use Rattle.tree_schema.specs.Numbers.{Numbered, bytes_of, number_of}
+use Rattle.tree_schema.specs.Numbers as numbers
 use Rattle.tree_schema.proofs.lemmas.named.Numbers.{key, sorted-is, sorted-ascending, sorted-there, number-of_place}
 use Rattle.tree_schema.proofs.lemmas.walked.Ascii.{plain-dotted}
 use Rattle.tree_schema.proofs.lemmas.walked.Placed.{placed}

@@ -15,12 +15,12 @@ use Rattle.declared_names.specs.Declarations.{Entry, declarations}
 use Rattle.type_shapes.specs.Backing.{annots_of, backing_of}
 use Rattle.type_uses.specs.Kept.{is_fixed, is_vintf}
 use Rattle.tree_schema.specs.Checked.{AreOutcomes}
-use Rattle.schema_parts.specs.Numbers.{Numbered, bytes_of, number_of}
-use Rattle.schema_parts.specs.Numbers as numbers
-use Rattle.schema_parts.specs.Parts.{constants_in, enumerator_in}
+use Rattle.tree_schema.specs.Numbers.{Numbered, bytes_of, number_of}
+use Rattle.tree_schema.specs.Numbers as numbers
+use Rattle.tree_schema.specs.Parts.{constants_in, enumerator_in}
 use Rattle.tree_schema.specs.SchemaOf.{schema_of, declared, backing_in, kind_of, outer_of}
-use Rattle.schema_parts.specs.Types.{type_of}
-use Rattle.schema_parts.specs.Values.{Outcomes, constant_value, enumerator_value, initial_of}
+use Rattle.tree_schema.specs.Types.{type_of}
+use Rattle.tree_schema.specs.Values.{Outcomes, constant_value, enumerator_value, initial_of}
 use Rattle.tree_schema.proofs.lemmas.named.Numbers.{key}
 use Rattle.tree_schema.proofs.lemmas.walked.Placed.{Each}
 use Rattle.tree_schema.proofs.lemmas.settled.Places.{HasPlacesOnce}

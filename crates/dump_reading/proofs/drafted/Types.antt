@@ -11,13 +11,13 @@ use Rattle.aidl_syntax.specs.Trees as tree
 use Rattle.aidl_syntax.specs.Trees.{Annot, map_option}
 use Rattle.aidl_syntax.specs.Members.{Member}
 use Rattle.aidl_syntax.specs.Members.Member.{field, constant, method, enumerator, nested}
-use Rattle.name_meanings.specs.declared.meaning.Resolved.{Resolved}
+use Rattle.name_resolution.specs.declared.meaning.Resolved.{Resolved}
 use Rattle.aidl_syntax.specs.Sources.{Source}
 use Rattle.declared_names.specs.Declarations.{declarations}
 use Rattle.type_uses.specs.Ids.{id_of, id_by, number_of_kind}
 use Rattle.type_uses.specs.Kept.{is_nullable, is_heap, is_utf8}
-use Rattle.schema_parts.specs.Parts.{way_of, arg_in, kept_id, method_in, method_with, methods_in}
-use Rattle.schema_parts.specs.Types.{base_of, base_of_number, typed, type_of}
+use Rattle.tree_schema.specs.Parts.{way_of, arg_in, kept_id, method_in, method_with, methods_in}
+use Rattle.tree_schema.specs.Types.{base_of, base_of_number, typed, type_of}
 use Rattle.aidl_schema.specs.declared.schema.Decl.{Decl}
 use Rattle.aidl_schema.specs.declared.schema.Arg.{Arg}
 use Rattle.aidl_schema.specs.declared.schema.Method.{Method}
@@ -33,7 +33,7 @@ use Rattle.aidl_schema.specs.Holds.{AllHold, AreApart}
 use Rattle.aidl_schema.specs.Methods.{is_whole_type, is_passed_type, is_result_type, has_method_types, last_id}
 use Rattle.aidl_schema.specs.Names.{name_of, has_names}
 use Rattle.aidl_schema.specs.Types.{is_type}
-use Rattle.dump_values.specs.Types.{base_name}
+use Rattle.api_dump.specs.Types.{base_name}
 use Rattle.dump_reading.specs.Bare.{bare_annot, bare_type, bare_arg, bare_method}
 use Rattle.dump_reading.specs.DumpTrees.{type_tree, arg_tree, method_tree, returned_tree, returned_annots, way_tree}
 use Rattle.dump_reading.proofs.filed.Numbers.{walks}

@@ -26,9 +26,9 @@ use Rattle.aidl_schema.specs.Methods.{is_field_type, has_method_types}
 use Rattle.aidl_schema.specs.Valid.{has_initializer_of, has_value, is_enum_whole, is_enum}
 use Rattle.aidl_schema.specs.Names.{last_part, without_last, methods_of, is_inside, is_outer, encloses, may_enclose}
 use Rattle.aidl_schema.specs.Same.{same_idents}
-use Rattle.dump_values.specs.Pieces.{Piece, sign, name, ident, reserved}
-use Rattle.dump_values.specs.Pieces.Piece.{space, newline}
-use Rattle.dump_values.specs.Types.{flag}
+use Rattle.api_dump.specs.Pieces.{Piece, sign, name, ident, reserved}
+use Rattle.api_dump.specs.Pieces.Piece.{space, newline}
+use Rattle.api_dump.specs.Types.{flag}
 use Rattle.api_dump.specs.Lines.{field, constant, method, enumerator}
 use Rattle.api_dump.specs.Declarations.{indent, backing_mark, annotations, kind_word, heading, closing, member_lines, own_lines, wrapped, wrapped_at, inside, nested_lines}
 use Rattle.api_dump.specs.Dump.{package_line, file_pieces}

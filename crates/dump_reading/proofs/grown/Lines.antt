@@ -33,10 +33,10 @@ use Rattle.aidl_schema.specs.Methods.{is_field_type, is_whole_type, is_passed_ty
 use Rattle.aidl_schema.specs.Types.{is_type}
 use Rattle.aidl_schema.specs.Constants.{is_string, is_constant_of}
 use Rattle.aidl_schema.specs.Valid.{has_initializer_of, has_value}
-use Rattle.dump_values.specs.Pieces.{Piece, sign, reserved, name, dotted, joined}
-use Rattle.dump_values.specs.Pieces.Piece.{space, newline, token}
-use Rattle.dump_values.specs.Types.{base_name, shaped, marks, plain_type}
-use Rattle.dump_values.specs.Values.{of_backing}
+use Rattle.api_dump.specs.Pieces.{Piece, sign, reserved, name, dotted, joined}
+use Rattle.api_dump.specs.Pieces.Piece.{space, newline, token}
+use Rattle.api_dump.specs.Types.{base_name, shaped, marks, plain_type}
+use Rattle.api_dump.specs.Values.{of_backing}
 use Rattle.api_dump.specs.Lines.{field, constant, way, argument, oneway, returned, arguments, identity, method}
 use Rattle.dump_reading.specs.Bare.{bare_name, bare_type, bare_expr, bare_init, bare_annots, bare_token, bare_field, bare_constant, bare_enumerator, bare_arg, bare_method}
 use Rattle.dump_reading.specs.DumpTrees.{name_tree, type_tree, value_tree, backing_tree, field_tree, constant_tree, enumerator_tree, way_tree, arg_tree, returned_annots, returned_tree, method_tree}

@@ -8,11 +8,11 @@ use Rattle.aidl_syntax.specs.declared.token.TokenKind.TheVariants as kind
 use Rattle.aidl_syntax.specs.declared.token.Token.{Token}
 use Rattle.aidl_syntax.specs.Parts.{Form, Then, Maybe, Many, Single, Behind, Before, Listed, Trailing}
 use Rattle.aidl_syntax.specs.Trees.{map_option}
-use Rattle.dump_values.specs.Pieces.{Piece}
+use Rattle.api_dump.specs.Pieces.{Piece}
 use Rattle.dump_reading.proofs.spelled.Plain.{kinds_of, tokens_at, plain}
 use Rattle.std.proofs.Common.{◌+◌, length}
-use Rattle.dump_values.specs.Pieces.Piece.{space, newline, token}
-use Rattle.dump_values.specs.Pieces.{sign, joined}
+use Rattle.api_dump.specs.Pieces.Piece.{space, newline, token}
+use Rattle.api_dump.specs.Pieces.{sign, joined}
 use Rattle.dump_reading.proofs.spelled.Fits.{Each}
 
 abbrev pub kinds : List Token → List TokenKind

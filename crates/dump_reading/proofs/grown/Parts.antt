@@ -13,10 +13,10 @@ use Rattle.aidl_syntax.specs.Trees.{map_option}
 use Rattle.aidl_syntax.specs.Productions.{IsIdent, AreNames, IsDotted, IsArray, IsType}
 use Rattle.aidl_schema.specs.declared.schema.Shape.{Shape}
 use Rattle.aidl_schema.specs.declared.schema.Shape.TheVariants as shape
-use Rattle.dump_values.specs.Pieces.{Piece}
+use Rattle.api_dump.specs.Pieces.{Piece}
 use Rattle.dump_reading.proofs.spelled.Plain.{kinds_of}
-use Rattle.dump_values.specs.Pieces.{sign, name, ident, dotted}
-use Rattle.dump_values.specs.Types.{shaped}
+use Rattle.api_dump.specs.Pieces.{sign, name, ident, dotted}
+use Rattle.api_dump.specs.Types.{shaped}
 use Rattle.dump_reading.specs.Bare.{bare_name, bare_dotted, bare_type}
 use Rattle.dump_reading.specs.DumpTrees.{name_tree, dotted_tree, type_tree}
 use Rattle.dump_reading.proofs.grown.Made.{Made, kinds, both, same, one_token, no_token, then_made, single_made, made_same, none_made, some_made, behind_made, before_made}

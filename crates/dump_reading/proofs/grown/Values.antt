@@ -28,10 +28,10 @@ use Rattle.aidl_schema.specs.Holds.{AllHold}
 use Rattle.aidl_schema.specs.Names.{enumerators_of}
 use Rattle.aidl_schema.specs.Constants.{is_number_of, is_single, is_constant_of, are_members, is_initializer_of, is_enumerator_of}
 use Rattle.aidl_schema.specs.Valid.{has_initializer_of}
-use Rattle.dump_values.specs.Pieces.{Piece, sign, name, ident, dotted, joined}
-use Rattle.dump_values.specs.Pieces.Piece.{space, token}
-use Rattle.dump_values.specs.Types.{nullable, flag, marks}
-use Rattle.dump_values.specs.Values.{decimal_of, long_of, of_backing, after_dot, named_value, number, single_value, value, braced, initial_value, initial}
+use Rattle.api_dump.specs.Pieces.{Piece, sign, name, ident, dotted, joined}
+use Rattle.api_dump.specs.Pieces.Piece.{space, token}
+use Rattle.api_dump.specs.Types.{nullable, flag, marks}
+use Rattle.api_dump.specs.Values.{decimal_of, long_of, of_backing, after_dot, named_value, number, single_value, value, braced, initial_value, initial}
 use Rattle.api_dump.specs.Declarations.{backed, backing_text}
 use Rattle.dump_reading.specs.Bare.{bare_name, bare_expr, bare_init, bare_param, bare_annot, bare_annots}
 use Rattle.dump_reading.specs.DumpTrees.{name_tree, dotted_tree, token_tree, decimal_tree, long_tree, backing_tree, name_where, named_parts, number_tree, single_tree, value_tree, brace_trees, initial_tree, plain_tree, flag_trees, nullable_trees, mark_trees, backed_tree}

@@ -19,7 +19,7 @@ use Rattle.aidl_schema.specs.declared.schema.Kind.{Kind}
 use Rattle.aidl_schema.specs.declared.schema.Kind.TheVariants.{Interface, Parcelable, Union, Enum}
 use Rattle.aidl_schema.specs.Holds.{AllHold, AreApart}
 use Rattle.aidl_schema.specs.Names.{name_of, last_part, without_last, may_enclose}
-use Rattle.dump_values.specs.Pieces.{ident}
+use Rattle.api_dump.specs.Pieces.{ident}
 use Rattle.api_dump.specs.Declarations.{inside}
 use Rattle.api_dump.specs.Dump.{File, file_of, top_level, dump_text}
 use Rattle.dump_reading.specs.Bare.{bare_decl, bare_body, bare_members, bare_file}

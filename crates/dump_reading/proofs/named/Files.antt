@@ -13,16 +13,16 @@ use Rattle.aidl_syntax.specs.Trees.Decl.{decl}
 use Rattle.aidl_syntax.specs.Members.{declared_name}
 use Rattle.declared_names.specs.Names.{text, parts_of}
 use Rattle.std.proofs.Common.{is_none}
-use Rattle.name_meanings.specs.Resolution.{number_of}
+use Rattle.name_resolution.specs.Resolution.{number_of}
 use Rattle.aidl_syntax.specs.Sources.{Source}
 use Rattle.declared_names.specs.Declarations.{declarations}
-use Rattle.name_rules.specs.Rules as rules
-use Rattle.name_rules.specs.Rules.{wrong_file, is_wrong_file, WrongFile, unknown_imports, UnknownImport, other_imports}
+use Rattle.aidl_names.specs.Rules as rules
+use Rattle.aidl_names.specs.Rules.{wrong_file, is_wrong_file, WrongFile, unknown_imports, UnknownImport, other_imports}
 use Rattle.declared_names.specs.Numbered.{after_earlier, in_each}
 use Rattle.aidl_schema.specs.declared.schema.Decl.{Decl}
 use Rattle.aidl_schema.specs.Holds.{AllHold}
 use Rattle.aidl_schema.specs.Names.{last_part, without_last}
-use Rattle.dump_values.specs.Pieces.{ident}
+use Rattle.api_dump.specs.Pieces.{ident}
 use Rattle.api_dump.specs.Dump.{File, path_of, slashed, dump_text}
 use Rattle.dump_reading.specs.Bare.{bare_dotted, bare_decl, bare_file}
 use Rattle.dump_reading.specs.DumpTrees.{file_tree, package_tree}

@@ -11,14 +11,14 @@ use Rattle.aidl_syntax.specs.Trees as tree
 use Rattle.aidl_syntax.specs.Trees.Decl.{decl}
 use Rattle.aidl_syntax.specs.Trees.Body.{enum, parcelable, union, interface}
 use Rattle.aidl_syntax.specs.Members.{body}
-use Rattle.name_meanings.specs.declared.meaning.BuiltinName.TheVariants as built_in
-use Rattle.name_meanings.specs.declared.meaning.Resolved.{Resolved}
-use Rattle.name_meanings.specs.declared.meaning.Resolved.TheVariants.{Builtin, Declared}
+use Rattle.name_resolution.specs.declared.meaning.BuiltinName.TheVariants as built_in
+use Rattle.name_resolution.specs.declared.meaning.Resolved.{Resolved}
+use Rattle.name_resolution.specs.declared.meaning.Resolved.TheVariants.{Builtin, Declared}
 use Rattle.declared_names.specs.Names.{text, same}
 use Rattle.aidl_syntax.specs.Sources.{Source}
 use Rattle.declared_names.specs.Declarations.{Entry, declarations}
-use Rattle.name_meanings.specs.Resolution.{meaning_words, meaning_in, meaning_of_word, own_meaning, number_of, first_declared, candidates, or_else, meaning_in_file, resolved}
-use Rattle.name_rules.specs.Rules.{is_interface_body, is_interface, is_unknown, is_left_out}
+use Rattle.name_resolution.specs.Resolution.{meaning_words, meaning_in, meaning_of_word, own_meaning, number_of, first_declared, candidates, or_else, meaning_in_file, resolved}
+use Rattle.aidl_names.specs.Rules.{is_interface_body, is_interface, is_unknown, is_left_out}
 use Rattle.aidl_schema.specs.declared.schema.Decl.{Decl}
 use Rattle.aidl_schema.specs.declared.schema.Kind.{Kind}
 use Rattle.aidl_schema.specs.declared.schema.Kind.TheVariants.{Interface, Parcelable, Union, Enum}
@@ -30,8 +30,8 @@ use Rattle.aidl_schema.specs.Names.{name_of, is_name, is_type_word, type_words, 
 use Rattle.aidl_schema.specs.Same.{same_text}
 use Rattle.aidl_schema.specs.Types.{form_of, form_of_decl, form_of_kind, is_meant}
 use Rattle.aidl_schema.proofs.lemmas.Sames.{same_text_is, same_text_refl}
-use Rattle.dump_values.specs.Pieces.{ident}
-use Rattle.dump_values.specs.Types.{base_name, declared_name}
+use Rattle.api_dump.specs.Pieces.{ident}
+use Rattle.api_dump.specs.Types.{base_name, declared_name}
 use Rattle.dump_reading.specs.Bare.{bare_body, bare_decl}
 use Rattle.dump_reading.specs.DumpTrees.{body_tree, nested_trees, constants_before}
 use Rattle.tree_schema.proofs.lemmas.walked.Lists.{first-passes}

@@ -23,13 +23,13 @@ use Rattle.aidl_syntax.specs.Members.Member.{field, constant, method, enumerator
 use Rattle.declared_names.specs.Names.{text, same}
 use Rattle.aidl_syntax.specs.Sources.{Source}
 use Rattle.declared_names.specs.Declarations.{Entry, declarations}
-use Rattle.name_meanings.specs.Resolution.{meaning_of_word}
+use Rattle.name_resolution.specs.Resolution.{meaning_of_word}
 use Rattle.aidl_base.specs.declared.limit.LimitName.TheVariants as limit
-use Rattle.name_rules.specs.Limits.{has_many_members, has_long_method, is_long_method, passed}
-use Rattle.name_rules.specs.Rules.{breach, is_named_again, repeated, argument_names, repeated_inside, is_taken, taken, types_in, is_unknown, is_left_out, UnknownType, LeftOutType}
+use Rattle.aidl_names.specs.Limits.{has_many_members, has_long_method, is_long_method, passed}
+use Rattle.aidl_names.specs.Rules.{breach, is_named_again, repeated, argument_names, repeated_inside, is_taken, taken, types_in, is_unknown, is_left_out, UnknownType, LeftOutType}
 use Rattle.declared_names.specs.TypeNames.{names_of_type, names_of_returned, type_names}
 use Rattle.declared_names.specs.Numbered.{in_each, after_earlier}
-use Rattle.name_meanings.specs.Resolution.{resolved}
+use Rattle.name_resolution.specs.Resolution.{resolved}
 use Rattle.aidl_schema.specs.declared.schema.Decl.{Decl}
 use Rattle.aidl_schema.specs.declared.schema.Arg.{Arg}
 use Rattle.aidl_schema.specs.declared.schema.AidlType.{AidlType}
@@ -52,8 +52,8 @@ use Rattle.aidl_schema.specs.Constants.{is_string, is_constant_of}
 use Rattle.aidl_schema.specs.Valid.{has_value, has_few, is_within_limits, is_enum}
 use Rattle.aidl_schema.proofs.lemmas.Apart.{apart}
 use Rattle.aidl_schema.proofs.lemmas.Sames.{same_text_is, same_text_refl}
-use Rattle.dump_values.specs.Pieces.{ident}
-use Rattle.dump_values.specs.Types.{base_name}
+use Rattle.api_dump.specs.Pieces.{ident}
+use Rattle.api_dump.specs.Types.{base_name}
 use Rattle.dump_reading.specs.Bare.{bare_decl, bare_body, bare_type, bare_dotted, bare_arg}
 use Rattle.dump_reading.specs.DumpTrees.{constants_before, body_tree, nested_trees, field_tree, constant_tree, method_tree, arg_tree, returned_tree, type_tree, enumerator_tree}
 use Rattle.dump_reading.proofs.spelled.Fits.{each_passes}

@@ -7,12 +7,12 @@ use Rattle.std.specs.Ordering.{nat_cmp}
 use Rattle.std.proofs.lemmas.Bool.{and_parts}
 use Rattle.aidl_base.specs.declared.name.Ident.{Ident}
 use Rattle.aidl_syntax.specs.declared.tree.TypeTree.{TypeTree}
-use Rattle.name_meanings.specs.declared.meaning.BuiltinName.TheVariants as built_in
-use Rattle.name_meanings.specs.declared.meaning.Resolved.{Resolved}
-use Rattle.name_meanings.specs.declared.meaning.Resolved.TheVariants.{Builtin, Declared}
+use Rattle.name_resolution.specs.declared.meaning.BuiltinName.TheVariants as built_in
+use Rattle.name_resolution.specs.declared.meaning.Resolved.{Resolved}
+use Rattle.name_resolution.specs.declared.meaning.Resolved.TheVariants.{Builtin, Declared}
 use Rattle.aidl_syntax.specs.Sources.{Source}
 use Rattle.declared_names.specs.Declarations.{Entry, declarations}
-use Rattle.name_meanings.specs.Resolution.{meaning_of_word, own_meaning, first_declared, candidates, or_else, meaning_in_file, resolved}
+use Rattle.name_resolution.specs.Resolution.{meaning_of_word, own_meaning, first_declared, candidates, or_else, meaning_in_file, resolved}
 use Rattle.type_shapes.specs.declared.shape.Shape.TheVariants as typed
 use Rattle.type_shapes.specs.Backing.{annots_of}
 use Rattle.const_items.specs.Items.{shape_in}
@@ -37,8 +37,8 @@ use Rattle.aidl_schema.specs.Types as schema
 use Rattle.aidl_schema.specs.Types.{form_of, form_of_decl, form_of_kind, is_meant, is_well_shaped, is_type, is_nullable_form}
 use Rattle.aidl_schema.specs.Valid as valid
 use Rattle.aidl_schema.specs.Valid.{is_parcelable_or_union, may_be_fixed, has_fixed_size}
-use Rattle.dump_values.specs.Pieces.{ident}
-use Rattle.dump_values.specs.Types.{base_name, declared_name}
+use Rattle.api_dump.specs.Pieces.{ident}
+use Rattle.api_dump.specs.Types.{base_name, declared_name}
 use Rattle.dump_reading.specs.Bare.{bare_type}
 use Rattle.dump_reading.specs.DumpTrees.{type_tree}
 use Rattle.dump_reading.proofs.filed.Numbers.{walks}

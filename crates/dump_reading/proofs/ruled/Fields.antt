@@ -13,17 +13,17 @@ use Rattle.aidl_syntax.specs.Trees.{Expr, Init, map_option}
 use Rattle.aidl_syntax.specs.Trees.Init.{single, braces}
 use Rattle.aidl_syntax.specs.Members.{Member}
 use Rattle.aidl_syntax.specs.Members.Member.{field, constant, method, enumerator, nested}
-use Rattle.name_meanings.specs.declared.meaning.Resolved.{Resolved}
+use Rattle.name_resolution.specs.declared.meaning.Resolved.{Resolved}
 use Rattle.aidl_syntax.specs.Sources.{Source}
 use Rattle.declared_names.specs.Declarations.{Entry, declarations}
-use Rattle.name_rules.specs.Rules.{breach}
+use Rattle.aidl_names.specs.Rules.{breach}
 use Rattle.type_shapes.specs.declared.shape.Shape as types
 use Rattle.type_shapes.specs.Initializers.{is_unjudged, is_some_list}
 use Rattle.const_items.specs.Items.{shape_in}
 use Rattle.type_shapes.specs.Types.{is_composite}
 use Rattle.type_uses.specs.Bases.{is_refused}
 use Rattle.type_uses.specs.TypeUses.{TypeUse, of_field, of_constant, of_method, of_argument, of_arg, of_members, is_field, name_place}
-use Rattle.member_rules.specs.FieldRules.{is_bad_initial, is_bad_field, bad_fields}
+use Rattle.type_rules.specs.FieldRules.{is_bad_initial, is_bad_field, bad_fields}
 use Rattle.aidl_schema.specs.declared.schema.Decl.{Decl}
 use Rattle.aidl_schema.specs.declared.schema.Field.{Field}
 use Rattle.aidl_schema.specs.declared.schema.AidlType.{AidlType}

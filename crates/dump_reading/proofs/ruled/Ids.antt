@@ -10,11 +10,11 @@ use Rattle.aidl_syntax.specs.Trees.{map_option}
 use Rattle.aidl_syntax.specs.Trees.Members.{none}
 use Rattle.aidl_syntax.specs.Members.{Member, listed, members}
 use Rattle.aidl_syntax.specs.Members.Member.{field, constant, method, enumerator, nested}
-use Rattle.name_rules.specs.Rules.{breach}
+use Rattle.aidl_names.specs.Rules.{breach}
 use Rattle.type_shapes.specs.declared.shape.Shape.{Shape}
 use Rattle.type_uses.specs.Ids.{number_of, is_id, is_id_kind, number_of_kind, has_id}
 use Rattle.type_uses.specs.TypeUses.{TypeUse, of_arg, of_members, methods_at, methods_in}
-use Rattle.member_rules.specs.IdRules.{is_bad_id, is_bad_token, is_taken, has_value, bad_ids}
+use Rattle.type_rules.specs.IdRules.{is_bad_id, is_bad_token, is_taken, has_value, bad_ids}
 use Rattle.aidl_schema.specs.declared.schema.Decl.{Decl}
 use Rattle.aidl_schema.specs.declared.schema.Method.{Method}
 use Rattle.aidl_schema.specs.declared.schema.Kind.{Kind}

@@ -17,7 +17,7 @@ use Rattle.aidl_syntax.specs.Members.Member.{field, constant, method, enumerator
 use Rattle.aidl_syntax.specs.Sources.{Source}
 use Rattle.declared_names.specs.Declarations.{Entry, declarations}
 use Rattle.aidl_names.specs.Breaches.{in_order}
-use Rattle.name_rules.specs.Rules.{breach}
+use Rattle.aidl_names.specs.Rules.{breach}
 use Rattle.type_shapes.specs.Backing.{annots_of, is_backing, is_type}
 use Rattle.type_shapes.specs.declared.shape.Shape as types
 use Rattle.const_items.specs.Items.{shape_in}
@@ -27,10 +27,10 @@ use Rattle.type_uses.specs.Bases.{is_fixed_entry}
 use Rattle.type_uses.specs.Parameters.{literal_of, is_backing_word}
 use Rattle.type_uses.specs.TypeUses.{TypeUse, of_members, type_uses, is_field, annotations_of, stand_of, name_place, type_place}
 use Rattle.type_rules.specs.AnnotationRules.{bad_annotations, BadBacking, bad_backing, names_backing}
-use Rattle.member_rules.specs.FieldRules.{BadField, bad_fields, is_union_body, NotFixed, is_unfixed}
+use Rattle.type_rules.specs.FieldRules.{BadField, bad_fields, is_union_body, NotFixed, is_unfixed}
 use Rattle.type_rules.specs.TypeRules.{BadConstant, is_bad_constant}
-use Rattle.member_rules.specs.Filters.{broken_where}
-use Rattle.member_rules.specs.IdRules.{BadId, bad_ids}
+use Rattle.type_rules.specs.Filters.{broken_where}
+use Rattle.type_rules.specs.IdRules.{BadId, bad_ids}
 use Rattle.type_rules.specs.MethodRules.{BadOneway, is_oneway_body, is_bad_oneway}
 use Rattle.type_rules.specs.TypeRules.{BadNullable, BadShape, BadDirection, bad_nullables_of, is_bad_shape, is_bad_direction}
 use Rattle.type_rules.specs.Breaches.{broken_by, broken_in, unsorted, breaches}
@@ -47,7 +47,7 @@ use Rattle.aidl_schema.specs.Holds.{AllHold, AreApart}
 use Rattle.aidl_schema.specs.Methods.{is_field_type}
 use Rattle.aidl_schema.specs.Names.{name_of, may_enclose, methods_of}
 use Rattle.aidl_schema.specs.Valid.{is_enum, is_union_whole, are_union_fields, has_initializer_of, has_fixed_size}
-use Rattle.dump_values.specs.Pieces.{ident}
+use Rattle.api_dump.specs.Pieces.{ident}
 use Rattle.api_dump.specs.Declarations.{backing_text}
 use Rattle.dump_reading.specs.Bare.{bare_body, bare_param, bare_annot}
 use Rattle.dump_reading.specs.DumpTrees.{body_tree, constants_before, nested_trees, backed_tree, token_tree, field_tree, constant_tree, method_tree}

@@ -8,10 +8,10 @@ use Rattle.std.proofs.lemmas.Bool.{and_parts}
 use Rattle.aidl_syntax.specs.declared.tree.TypeTree.{TypeTree}
 use Rattle.aidl_syntax.specs.Trees as tree
 use Rattle.aidl_syntax.specs.Trees.{Annot, map_option}
-use Rattle.name_meanings.specs.declared.meaning.Resolved.{Resolved}
+use Rattle.name_resolution.specs.declared.meaning.Resolved.{Resolved}
 use Rattle.aidl_syntax.specs.Sources.{Source}
 use Rattle.declared_names.specs.Declarations.{Entry, declarations}
-use Rattle.name_rules.specs.Rules.{breach}
+use Rattle.aidl_names.specs.Rules.{breach}
 use Rattle.const_items.specs.Items.{shape_in}
 use Rattle.type_uses.specs.declared.stand.Stand.TheVariants as stand
 use Rattle.type_uses.specs.Annotations.{is_text_based}
@@ -21,7 +21,7 @@ use Rattle.type_uses.specs.TypeUses.{TypeUse, of_field, of_constant, of_method, 
 use Rattle.type_rules.specs.AnnotationRules.{bad_annotations}
 use Rattle.type_rules.specs.TypeRules.{bad_nullables, bad_nullables_of, is_bad_shape, is_bad_direction, is_misdirected, is_outward}
 use Rattle.type_rules.specs.MethodRules.{is_bad_oneway, gives_back}
-use Rattle.member_rules.specs.FieldRules.{is_unfixed}
+use Rattle.type_rules.specs.FieldRules.{is_unfixed}
 use Rattle.type_rules.specs.TypeRules.{is_bad_constant}
 use Rattle.aidl_schema.specs.declared.schema.Decl.{Decl}
 use Rattle.aidl_schema.specs.declared.schema.Field.{Field}
@@ -45,7 +45,7 @@ use Rattle.aidl_schema.specs.Types as schema
 use Rattle.aidl_schema.specs.Types.{Form, form_of, is_meant, is_well_shaped, is_type, is_nullable_form, is_one}
 use Rattle.aidl_schema.specs.Valid as valid
 use Rattle.aidl_schema.specs.Valid.{has_value}
-use Rattle.dump_values.specs.Types.{base_name}
+use Rattle.api_dump.specs.Types.{base_name}
 use Rattle.dump_reading.specs.Bare.{bare_annot, bare_type, bare_field, bare_constant, bare_arg, bare_method}
 use Rattle.dump_reading.specs.DumpTrees.{type_tree, field_tree, constant_tree, arg_tree, method_tree, returned_tree, returned_annots, way_tree}
 use Rattle.dump_reading.proofs.filed.Numbers.{walks}

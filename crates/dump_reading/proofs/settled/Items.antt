@@ -24,15 +24,15 @@ use Rattle.aidl_syntax.specs.Members.{Member, members, body}
 use Rattle.aidl_syntax.specs.Members.Member.{enumerator}
 use Rattle.declared_names.specs.Names.{text}
 use Rattle.declared_names.specs.Called.{is_called, called}
-use Rattle.name_meanings.specs.declared.meaning.Resolved.{Resolved}
-use Rattle.name_meanings.specs.declared.meaning.Resolved.TheVariants.{Declared}
+use Rattle.name_resolution.specs.declared.meaning.Resolved.{Resolved}
+use Rattle.name_resolution.specs.declared.meaning.Resolved.TheVariants.{Declared}
 use Rattle.aidl_syntax.specs.Sources.{Source}
 use Rattle.declared_names.specs.Declarations.{Entry, declarations}
-use Rattle.name_meanings.specs.Resolution.{resolved}
+use Rattle.name_resolution.specs.Resolution.{resolved}
 use Rattle.const_values.specs.declared.wanted.Wanted.{Wanted}
 use Rattle.const_values.specs.declared.wanted.Wanted.TheVariants as wanted
 use Rattle.type_shapes.specs.Backing.{backing_of, backing_by, backing_of_param, backing_of_init, backing_of_expr, backing_of_token, is_backing, is_type, is_type_name, annots_of}
-use Rattle.const_dependence.specs.Dependence.{Target, of_enumerator, target, target_by, target_if, member_of}
+use Rattle.const_items.specs.Dependence.{Target, of_enumerator, target, target_by, target_if, member_of}
 use Rattle.const_items.specs.Items as items
 use Rattle.const_items.specs.Items.{Item, written, of_expression, of_init, of_typed, of_initial, of_field, of_constant, of_enumerator as item_of, of_enumerators, of_members, of_body, of_entry, place_of, written_as, shape_in}
 use Rattle.type_shapes.specs.Types.{wanted_of}
@@ -49,8 +49,8 @@ use Rattle.aidl_schema.specs.Names.{name_of, enumerators_of, enumerator_names}
 use Rattle.aidl_schema.specs.Valid.{is_enum_whole}
 use Rattle.aidl_schema.specs.Types.{form_of_kind}
 use Rattle.aidl_schema.proofs.lemmas.Sames.{same_text_refl, same_text_is}
-use Rattle.dump_values.specs.Pieces.{ident}
-use Rattle.dump_values.specs.Types.{base_name, declared_name}
+use Rattle.api_dump.specs.Pieces.{ident}
+use Rattle.api_dump.specs.Types.{base_name, declared_name}
 use Rattle.api_dump.specs.Declarations.{backing_text}
 use Rattle.tree_schema.proofs.lemmas.walked.Placed.{Each, each-at}
 use Rattle.tree_schema.proofs.lemmas.settled.Places.{HasPlacesOnce, items-stand}

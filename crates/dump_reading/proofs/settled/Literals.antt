@@ -18,21 +18,21 @@ use Rattle.aidl_syntax.specs.declared.token.TokenKind.TheVariants as kind
 use Rattle.aidl_syntax.specs.declared.tree.DottedTree.{DottedTree}
 use Rattle.aidl_syntax.specs.Trees.{Expr}
 use Rattle.aidl_syntax.specs.Trees.Expr.{literal, group, unary, binary, name}
-use Rattle.const_operands.specs.declared.fault.ConstFault.{ConstFault}
-use Rattle.const_operands.specs.declared.fault.ConstFault.TheVariants as fault
-use Rattle.const_operands.specs.declared.operator.UnaryOperator.TheVariants.{Minus}
-use Rattle.const_operands.specs.declared.width.Width.{Width}
-use Rattle.const_operands.specs.declared.width.Width.TheVariants.{Narrow, Wide}
+use Rattle.const_values.specs.declared.fault.ConstFault.{ConstFault}
+use Rattle.const_values.specs.declared.fault.ConstFault.TheVariants as fault
+use Rattle.const_values.specs.declared.operator.UnaryOperator.TheVariants.{Minus}
+use Rattle.const_values.specs.declared.width.Width.{Width}
+use Rattle.const_values.specs.declared.width.Width.TheVariants.{Narrow, Wide}
 use Rattle.const_values.specs.declared.wanted.Wanted.{Wanted}
 use Rattle.const_values.specs.declared.wanted.Wanted.TheVariants as wanted
 use Rattle.const_values.specs.Evaluation.{evaluated, or_mismatch, before}
 use Rattle.const_values.specs.Literals.{literal_of, number_of, of_bits}
-use Rattle.const_operands.specs.Operands as operand
-use Rattle.const_operands.specs.Operands.{Operand}
+use Rattle.const_values.specs.Operands as operand
+use Rattle.const_values.specs.Operands.{Operand}
 use Rattle.const_values.specs.Unary.{of_number}
 use Rattle.const_values.specs.Wanted.{fitted, in_range}
-use Rattle.const_operands.specs.Widths.{is_within}
-use Rattle.const_dependence.specs.Dependence.{names_of}
+use Rattle.const_values.specs.Widths.{is_within}
+use Rattle.const_items.specs.Dependence.{names_of}
 use Rattle.aidl_schema.specs.declared.schema.Decl.{Decl}
 use Rattle.aidl_schema.specs.declared.schema.Base.{Base}
 use Rattle.aidl_schema.specs.declared.schema.Base.TheVariants as base
@@ -40,7 +40,7 @@ use Rattle.aidl_schema.specs.declared.schema.Backing.{Backing}
 use Rattle.aidl_schema.specs.declared.schema.Backing.TheVariants as backing
 use Rattle.aidl_schema.specs.Constants.{is_single, is_constant_of, is_number_of, is_char_literal}
 use Rattle.aidl_schema.specs.Same.{is_named}
-use Rattle.dump_values.specs.Values.{character_of}
+use Rattle.api_dump.specs.Values.{character_of}
 use Rattle.dump_reading.specs.Bare.{bare_expr}
 use Rattle.dump_reading.specs.DumpTrees.{token_tree, decimal_tree, long_tree, backing_tree, single_tree, value_tree}
 use Rattle.dump_reading.proofs.spelled.Values.{Small, byte_small, int_small, long_small, at_most}

@@ -15,10 +15,10 @@ use Rattle.aidl_syntax.specs.Trees.Members.{none}
 use Rattle.aidl_syntax.specs.Trees.Body.{enum, parcelable, union, interface}
 use Rattle.aidl_syntax.specs.Members.{Member, listed, members, body}
 use Rattle.aidl_syntax.specs.Members.Member.{field, constant, method, enumerator, nested}
-use Rattle.name_meanings.specs.declared.meaning.Resolved.{Resolved}
+use Rattle.name_resolution.specs.declared.meaning.Resolved.{Resolved}
 use Rattle.aidl_syntax.specs.Sources.{Source}
 use Rattle.declared_names.specs.Declarations.{Entry, declarations}
-use Rattle.name_meanings.specs.Resolution.{resolved}
+use Rattle.name_resolution.specs.Resolution.{resolved}
 use Rattle.const_values.specs.declared.wanted.Wanted.{Wanted}
 use Rattle.type_shapes.specs.declared.shape.Shape as types
 use Rattle.type_shapes.specs.declared.shape.Shape.TheVariants as typed
@@ -48,7 +48,7 @@ use Rattle.aidl_schema.specs.Names.{name_of, may_enclose}
 use Rattle.aidl_schema.specs.Same.{is_named}
 use Rattle.aidl_schema.specs.Types.{form_of, form_of_decl, form_of_kind, is_meant, is_nullable_form, is_type, is_well_shaped, is_one}
 use Rattle.aidl_schema.specs.Valid.{has_value, has_initializer_of, is_enum, is_union_whole, are_union_fields}
-use Rattle.dump_values.specs.Types.{base_name}
+use Rattle.api_dump.specs.Types.{base_name}
 use Rattle.tree_schema.proofs.lemmas.walked.Placed.{Each}
 use Rattle.tree_schema.proofs.lemmas.settled.Places.{HasPlacesOnce}
 use Rattle.dump_reading.specs.Bare.{bare_expr, bare_init, bare_field, bare_constant, bare_type, bare_body}

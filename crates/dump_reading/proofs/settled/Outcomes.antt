@@ -13,20 +13,20 @@ use Rattle.aidl_syntax.specs.Trees.{Expr}
 use Rattle.aidl_syntax.specs.Trees as tree
 use Rattle.aidl_syntax.specs.Trees.Expr.{name}
 use Rattle.graph_cycles.specs.Paths.{IsPath}
-use Rattle.const_operands.specs.declared.fault.ConstFault.TheVariants as fault
+use Rattle.const_values.specs.declared.fault.ConstFault.TheVariants as fault
 use Rattle.aidl_syntax.specs.Sources.{Source}
 use Rattle.declared_names.specs.Declarations.{declarations}
-use Rattle.name_meanings.specs.Resolution.{resolved}
+use Rattle.name_resolution.specs.Resolution.{resolved}
 use Rattle.const_values.specs.declared.wanted.Wanted.TheVariants as wanted
-use Rattle.const_operands.specs.declared.width.Width.{Width}
-use Rattle.const_operands.specs.declared.width.Width.TheVariants.{Narrow, Wide}
-use Rattle.const_operands.specs.Operands.{Operand}
-use Rattle.const_operands.specs.Operands as operand
+use Rattle.const_values.specs.declared.width.Width.{Width}
+use Rattle.const_values.specs.declared.width.Width.TheVariants.{Narrow, Wide}
+use Rattle.const_values.specs.Operands.{Operand}
+use Rattle.const_values.specs.Operands as operand
 use Rattle.const_values.specs.Wanted.{fitted}
 use Rattle.const_eval.specs.declared.outcome.Outcome.{Outcome}
 use Rattle.const_eval.specs.declared.outcome.Outcome.TheVariants.{Given}
 use Rattle.const_items.specs.Items.{Item, written, items, number_at, place_of}
-use Rattle.const_dependence.specs.Dependence.{of_enumerator, target, target_by, target_behind, member_of, number_of, names_in, has_unknown_name, depends_on, number_before, next, next_of}
+use Rattle.const_items.specs.Dependence.{of_enumerator, target, target_by, target_behind, member_of, number_of, names_in, has_unknown_name, depends_on, number_before, next, next_of}
 use Rattle.const_eval.specs.Outcomes as outcomes
 use Rattle.const_eval.specs.Outcomes.{HasOutcome, IsCyclic, Values, judged, judgement_of, expression_of, outcome_of, meaning, operand_at, operand_of, of_level, wanted_of, named_enum, is_given}
 use Rattle.const_eval.proofs.lemmas.OneOutcome.{one_outcome}

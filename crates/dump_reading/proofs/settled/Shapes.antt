@@ -12,13 +12,13 @@ use Rattle.aidl_syntax.specs.Trees.{map_option}
 use Rattle.aidl_syntax.specs.Trees.Decl.{decl}
 use Rattle.aidl_syntax.specs.Trees.Body.{enum, parcelable, union, interface}
 use Rattle.aidl_syntax.specs.Members.{body}
-use Rattle.name_meanings.specs.declared.meaning.BuiltinName.{BuiltinName}
-use Rattle.name_meanings.specs.declared.meaning.BuiltinName.TheVariants as built_in
-use Rattle.name_meanings.specs.declared.meaning.Resolved.{Resolved}
-use Rattle.name_meanings.specs.declared.meaning.Resolved.TheVariants.{Builtin, ListWord, Declared}
+use Rattle.name_resolution.specs.declared.meaning.BuiltinName.{BuiltinName}
+use Rattle.name_resolution.specs.declared.meaning.BuiltinName.TheVariants as built_in
+use Rattle.name_resolution.specs.declared.meaning.Resolved.{Resolved}
+use Rattle.name_resolution.specs.declared.meaning.Resolved.TheVariants.{Builtin, ListWord, Declared}
 use Rattle.aidl_syntax.specs.Sources.{Source}
 use Rattle.declared_names.specs.Declarations.{Entry, declarations}
-use Rattle.name_meanings.specs.Resolution.{meaning_of_word, own_meaning, first_declared, candidates, or_else, meaning_in_file, resolved}
+use Rattle.name_resolution.specs.Resolution.{meaning_of_word, own_meaning, first_declared, candidates, or_else, meaning_in_file, resolved}
 use Rattle.type_shapes.specs.declared.shape.Shape as types
 use Rattle.type_shapes.specs.declared.shape.Shape.TheVariants as typed
 use Rattle.const_items.specs.Items.{shape_in}
@@ -36,8 +36,8 @@ use Rattle.aidl_schema.specs.Holds.{AllHold, AreApart}
 use Rattle.aidl_schema.specs.Names.{name_of}
 use Rattle.aidl_schema.specs.Same.{is_named}
 use Rattle.aidl_schema.specs.Types.{form_of, form_of_decl, form_of_kind, is_meant, is_nullable_form}
-use Rattle.dump_values.specs.Pieces.{ident}
-use Rattle.dump_values.specs.Types.{base_name, declared_name}
+use Rattle.api_dump.specs.Pieces.{ident}
+use Rattle.api_dump.specs.Types.{base_name, declared_name}
 use Rattle.dump_reading.specs.Bare.{bare_body, bare_decl, bare_type, bare_dotted}
 use Rattle.dump_reading.specs.DumpTrees.{body_tree, nested_trees, constants_before, type_tree}
 use Rattle.dump_reading.proofs.filed.Numbers.{walks}

@@ -22,8 +22,8 @@ use Rattle.aidl_schema.specs.Methods.{is_field_type, has_method_types, last_id}
 use Rattle.aidl_schema.specs.Constants.{in_range}
 use Rattle.aidl_schema.specs.Valid.{has_initializer_of, has_value, is_enum_whole}
 use Rattle.aidl_schema.specs.Names.{last_part, without_last, methods_of, field_names, method_names, enumerator_names, argument_names}
-use Rattle.dump_values.specs.Pieces.{Piece, ident, reserved}
-use Rattle.dump_values.specs.Pieces.Piece.{space}
+use Rattle.api_dump.specs.Pieces.{Piece, ident, reserved}
+use Rattle.api_dump.specs.Pieces.Piece.{space}
 use Rattle.api_dump.specs.Lines.{field, constant, method, enumerator}
 use Rattle.api_dump.specs.Declarations.{indent, backed, backing_mark, annotations, kind_word, heading, closing, member_lines, own_lines, wrapped_at, inside, nested_lines}
 use Rattle.api_dump.specs.Dump.{package_line, file_pieces}

@@ -6,8 +6,8 @@ use Rattle.aidl_syntax.specs.declared.token.Symbol.{Symbol}
 use Rattle.aidl_syntax.specs.declared.token.Symbol.TheVariants as mark
 use Rattle.aidl_syntax.specs.declared.token.TokenKind.{TokenKind}
 use Rattle.aidl_syntax.specs.declared.token.TokenKind.TheVariants.{Mark}
-use Rattle.dump_values.specs.Pieces.{Piece, joined, sign}
-use Rattle.dump_values.specs.Pieces.Piece.{space, newline, token}
+use Rattle.api_dump.specs.Pieces.{Piece, joined, sign}
+use Rattle.api_dump.specs.Pieces.Piece.{space, newline, token}
 use Rattle.dump_reading.proofs.spelled.Plain.{is_spelled, is_wordy, is_mark, is_tail, joins, can_stand, laid}
 
 abbrev pub Test : Type 0

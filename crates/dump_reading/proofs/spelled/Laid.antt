@@ -14,9 +14,9 @@ use Rattle.aidl_syntax.specs.Tokens.{Cut}
 use Rattle.aidl_syntax.specs.Tokens.Cut.{here, gap, token as cut_token}
 use Rattle.std.specs.Char.{is_ascii_digit}
 use Rattle.std.specs.Fmt.{decimal}
-use Rattle.dump_values.specs.Pieces.{Piece, number_text, suffix_text, mark_text}
+use Rattle.api_dump.specs.Pieces.{Piece, number_text, suffix_text, mark_text}
 use Rattle.dump_reading.proofs.spelled.Plain.{plain, spell, plain_text, tokens_at, is_second, begins_second, is_spelled, is_wordy, is_tail, joins, can_stand, laid}
-use Rattle.dump_values.specs.Pieces.Piece.{space, newline, token}
+use Rattle.api_dump.specs.Pieces.Piece.{space, newline, token}
 use Rattle.dump_reading.proofs.spelled.Spelled.{Stops, is_token, decimal_digits, is_at_most, name_spelled, word_spelled}
 
 letter_second : (b : ℕ) → is_letter b ≡ true → is_second b ≡ false

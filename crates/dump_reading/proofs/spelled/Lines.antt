@@ -25,10 +25,10 @@ use Rattle.aidl_schema.specs.Methods.{is_field_type, is_whole_type, is_passed_ty
 use Rattle.aidl_schema.specs.Constants.{is_string, in_range, is_constant_of}
 use Rattle.aidl_schema.specs.Valid.{has_initializer_of, has_value}
 use Rattle.aidl_schema.specs.Names.{argument_names}
-use Rattle.dump_values.specs.Pieces.{Piece, sign, name, reserved, joined}
-use Rattle.dump_values.specs.Pieces.Piece.{space, newline}
-use Rattle.dump_values.specs.Types.{base_name}
-use Rattle.dump_values.specs.Values.{initial}
+use Rattle.api_dump.specs.Pieces.{Piece, sign, name, reserved, joined}
+use Rattle.api_dump.specs.Pieces.Piece.{space, newline}
+use Rattle.api_dump.specs.Types.{base_name}
+use Rattle.api_dump.specs.Values.{initial}
 use Rattle.api_dump.specs.Lines.{field, constant, way, argument, oneway, returned, arguments, identity, method, enumerator}
 use Rattle.dump_reading.proofs.spelled.Fits.{Fits, any, no_tail, loose, none, and_then, free_then, words_loose, one, blank, mark_blank, mark_end, mark_fits, joined_fit, each_passes}
 use Rattle.dump_reading.proofs.spelled.Values.{name_fits, dotted_fits, marks_fit, backing_fits, named_each, base_named, type_fits, value_fits, initial_fits, small_decimal}

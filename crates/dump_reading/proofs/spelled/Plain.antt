@@ -7,8 +7,8 @@ use Rattle.aidl_syntax.specs.declared.token.TokenKind.{TokenKind}
 use Rattle.aidl_syntax.specs.declared.token.TokenKind.TheVariants as kind
 use Rattle.aidl_syntax.specs.declared.token.Token.{Token}
 use Rattle.aidl_syntax.specs.Bytes.{is_inside}
-use Rattle.dump_values.specs.Pieces.{Piece, number_text, suffix_text, mark_text}
-use Rattle.dump_values.specs.Pieces.Piece.{space, newline, token}
+use Rattle.api_dump.specs.Pieces.{Piece, number_text, suffix_text, mark_text}
+use Rattle.api_dump.specs.Pieces.Piece.{space, newline, token}
 
 unfoldable pub plain : TokenKind → List ℕ
 plain (kind.Name text) = text

@@ -20,7 +20,7 @@ use Rattle.aidl_syntax.specs.Numbers.{digit_value, value_from, is_suffix}
 use Rattle.aidl_base.specs.Identifiers.{is_identifier}
 use Rattle.aidl_syntax.specs.Forms.{IsToken, IsSymbol, IsNumber}
 use Rattle.aidl_syntax.specs.Forms.IsSymbol.{of_one, of_two}
-use Rattle.dump_values.specs.Pieces.{mark_text, number_text, suffix_text}
+use Rattle.api_dump.specs.Pieces.{mark_text, number_text, suffix_text}
 use Rattle.dump_reading.proofs.spelled.Plain.{plain, is_spelled, is_second, begins_second}
 
 -- what follows runs into no token of the kind

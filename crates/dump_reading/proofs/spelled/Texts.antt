@@ -9,8 +9,8 @@ use Rattle.aidl_base.specs.Identifiers.{is_word_byte}
 use Rattle.aidl_syntax.specs.declared.token.TokenKind.{TokenKind}
 use Rattle.aidl_syntax.specs.declared.token.TokenKind.TheVariants as kind
 use Rattle.aidl_syntax.specs.Bytes.{is_inside}
-use Rattle.dump_values.specs.Pieces.{Piece, spelling, text_of}
-use Rattle.dump_values.specs.Pieces.Piece.{space, newline, token}
+use Rattle.api_dump.specs.Pieces.{Piece, spelling, text_of}
+use Rattle.api_dump.specs.Pieces.Piece.{space, newline, token}
 use Rattle.dump_reading.proofs.spelled.Plain.{plain, plain_text, is_spelled, laid}
 use Rattle.dump_reading.proofs.spelled.Spelled.{name_spelled}
 use Rattle.dump_reading.proofs.spelled.Laid.{laid_rest, first_stands}

@@ -38,10 +38,10 @@ use Rattle.aidl_schema.specs.Valid.{has_initializer_of}
 use Rattle.std.proofs.Common.{append_assoc}
 use Rattle.aidl_schema.specs.Constants.{is_string, in_range, is_char_literal, is_string_character, is_number_of, is_single, is_constant_of, are_members, is_initializer_of, is_enumerator_of}
 use Rattle.aidl_schema.specs.Names.{enumerators_of}
-use Rattle.dump_values.specs.Pieces.{Piece, sign, name, dotted, joined}
-use Rattle.dump_values.specs.Pieces.Piece.{space, token}
-use Rattle.dump_values.specs.Types.{base_name, declared_name, shaped, nullable, flag, marks, plain_type}
-use Rattle.dump_values.specs.Values.{decimal_of, long_of, of_backing, after_dot, named_value, character_of, number, single_value, value, braced, initial_value, initial}
+use Rattle.api_dump.specs.Pieces.{Piece, sign, name, dotted, joined}
+use Rattle.api_dump.specs.Pieces.Piece.{space, token}
+use Rattle.api_dump.specs.Types.{base_name, declared_name, shaped, nullable, flag, marks, plain_type}
+use Rattle.api_dump.specs.Values.{decimal_of, long_of, of_backing, after_dot, named_value, character_of, number, single_value, value, braced, initial_value, initial}
 use Rattle.dump_reading.proofs.spelled.Spelled.{is_equal}
 use Rattle.dump_reading.proofs.spelled.Fits.{Fits, any, no_word, loose, none, and_then, free_then, words_loose, Each, all_fit, no_tail, mark_fits, one, one_word, blank, mark_blank, joined_fit, each_passes}
 

@@ -16,9 +16,9 @@ use Rattle.const_values.specs.declared.wanted.Wanted.{Wanted}
 use Rattle.type_shapes.specs.Backing.{backing_of}
 use Rattle.const_items.specs.Items.{of_entry, of_body}
 use Rattle.tree_schema.specs.Checked.{AreOutcomes}
-use Rattle.schema_parts.specs.Parts.{listed_constants, constants_in, enumerator_in, bytes_of, put}
+use Rattle.tree_schema.specs.Parts.{listed_constants, constants_in, enumerator_in, bytes_of, put}
 use Rattle.tree_schema.specs.SchemaOf.{kind_of}
-use Rattle.schema_parts.specs.Values.{Outcomes, enumerator_value}
+use Rattle.tree_schema.specs.Values.{Outcomes, enumerator_value}
 use Rattle.tree_schema.proofs.lemmas.walked.Placed.{Each, placed-by}
 use Rattle.tree_schema.proofs.lemmas.settled.Places.{HasPlacesOnce, items-stand}
 use Rattle.tree_schema.proofs.lemmas.settled.Settled.{Stands}

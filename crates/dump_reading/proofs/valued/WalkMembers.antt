@@ -7,8 +7,8 @@ use Rattle.aidl_syntax.specs.Members.{Member}
 use Rattle.aidl_syntax.specs.Members.Member.{field, constant, method, enumerator, nested}
 use Rattle.aidl_syntax.specs.Sources.{Source}
 use Rattle.const_items.specs.Items.{Item, of_field, of_constant, of_members}
-use Rattle.schema_parts.specs.Parts.{field_in, fields_in, constant_in, listed_constants}
-use Rattle.schema_parts.specs.Values.{Outcomes}
+use Rattle.tree_schema.specs.Parts.{field_in, fields_in, constant_in, listed_constants}
+use Rattle.tree_schema.specs.Values.{Outcomes}
 use Rattle.tree_schema.proofs.lemmas.walked.Placed.{Each}
 use Rattle.aidl_schema.specs.declared.schema.Decl.{Decl}
 use Rattle.aidl_schema.specs.declared.schema.Field.{Field}

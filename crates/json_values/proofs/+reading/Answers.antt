@@ -16,14 +16,14 @@ use Rattle.json_values.proofs.Plain.{plain_part}
 use Rattle.json_values.proofs.Names.{name_of_field, fields_apart, alternative_at}
 use Rattle.aidl_schema.specs.declared.schema.AidlType.{AidlType}
 use Rattle.aidl_values.specs.Data.{Data, number}
-use Rattle.json_faults.specs.Refusal.{Answer}
+use Rattle.json_values.specs.Refusal.{Answer}
 use Rattle.json_writing.specs.Named.{fields_in}
 use Rattle.aidl_schema.specs.Holds.{AreApart}
 use Rattle.json_values.proofs.+reading.Goals as goal
 use Rattle.json_values.specs.steps.Levels.{part_from, default_of, chosen_from}
 use Rattle.json_values.specs.steps.Plain.{IsPlain}
 use Rattle.aidl_values.specs.steps.Levels.{is_level_left}
-use Rattle.json_faults.specs.steps.Gives.{Gives}
+use Rattle.json_values.specs.steps.Gives.{Gives}
 
 pub reading::read_within-returns-in-Some : goal.reading::read_within-returns-in-Some
 reading::read_within-returns-in-Some t c =

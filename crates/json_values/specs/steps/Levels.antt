@@ -6,7 +6,7 @@ use Rattle.aidl_schema.specs.declared.schema.Field.{Field}
 use Rattle.aidl_schema.specs.declared.schema.AidlType.{AidlType}
 use Rattle.aidl_values.specs.Data as value
 use Rattle.json_values.specs.FromJson.{default_from, from_json_of}
-use Rattle.json_faults.specs.Refusal.{Answer, ◌>>=◌, refuse, too_deep, escaped, within}
+use Rattle.json_values.specs.Refusal.{Answer, ◌>>=◌, refuse, too_deep, escaped, within}
 
 -- a part of what has d levels
 abbrev pub part_from : List Decl → ℕ → AidlType → json.Data → Answer value.Data

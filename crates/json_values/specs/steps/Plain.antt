@@ -9,7 +9,7 @@ use Rattle.aidl_schema.specs.declared.schema.Field.{Field}
 use Rattle.aidl_schema.specs.Constants.{in_range}
 use Rattle.aidl_schema.specs.Types as form
 use Rattle.aidl_values.specs.Data as value
-use Rattle.json_faults.specs.Refusal.{Answer}
+use Rattle.json_values.specs.Refusal.{Answer}
 use Rattle.json_values.specs.FromJson.{from_by}
 
 -- in the range of a byte, char, int or long

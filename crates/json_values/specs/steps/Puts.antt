@@ -3,9 +3,9 @@ use Rattle.std.specs.Prelude.{◌≡◌, List, [], ◌∷◌, ◌++◌, Result, 
 use Rattle.aidl_values.specs.declared.value.Value.{Value}
 use Rattle.aidl_values.specs.Data.{Data}
 use Rattle.aidl_values.specs.View.{view}
-use Rattle.json_faults.specs.Refusal.{Answer}
-use Rattle.json_faults.specs.declared.fault.Fault.{Fault}
-use Rattle.json_faults.specs.steps.Gives.{Fails}
+use Rattle.json_values.specs.Refusal.{Answer}
+use Rattle.json_values.specs.declared.fault.Fault.{Fault}
+use Rattle.json_values.specs.steps.Gives.{Fails}
 
 -- the value that is read was put behind the others, or there is none
 abbrev pub Puts : {X : Type 0} → List Value → List Value → Result X Fault → Answer Data → Type 0

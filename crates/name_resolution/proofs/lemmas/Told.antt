@@ -11,16 +11,16 @@ use Rattle.aidl_syntax.specs.declared.tree.DottedTree.{DottedTree}
 use Rattle.name_resolution.specs.declared.asked.Answer.{Answer}
 use Rattle.name_resolution.specs.declared.asked.Known.{Known}
 use Rattle.name_resolution.specs.declared.asked.Known.TheVariants.{Unasked, Means}
-use Rattle.name_meanings.specs.declared.meaning.Resolved.{Resolved}
-use Rattle.name_meanings.specs.declared.meaning.Resolved.TheVariants.{Declared}
+use Rattle.name_resolution.specs.declared.meaning.Resolved.{Resolved}
+use Rattle.name_resolution.specs.declared.meaning.Resolved.TheVariants.{Declared}
 use Rattle.declared_names.specs.Names.{text, same, last}
 use Rattle.declared_names.specs.Declarations.{Entry}
-use Rattle.name_meanings.specs.Imports.{meant_through}
-use Rattle.name_meanings.specs.Resolution.{number_of, first_declared, or_else}
+use Rattle.name_resolution.specs.Imports.{meant_through}
+use Rattle.name_resolution.specs.Resolution.{number_of, first_declared, or_else}
 use Rattle.name_resolution.specs.steps.Asked.{means, AreRight, Knows, said, said_at, said_at_number, IsSaid}
-use Rattle.name_marks.proofs.lemmas.SameNames.{same-self, same-right}
-use Rattle.name_marks.proofs.lemmas.Firsts.{position-same}
-use Rattle.name_meanings.proofs.lemmas.Through.{searched, through, through_all}
+use Rattle.declared_names.proofs.lemmas.SameNames.{same-self, same-right}
+use Rattle.declared_names.proofs.lemmas.Firsts.{position-same}
+use Rattle.name_resolution.proofs.lemmas.Through.{searched, through, through_all}
 
 -- Names that are the same mean the same through imports.
 

@@ -6,10 +6,10 @@ use Rattle.aidl_syntax.specs.declared.tree.DottedTree.{DottedTree}
 use Rattle.name_resolution.specs.declared.asked.Answer.{Answer}
 use Rattle.name_resolution.specs.declared.asked.Known.{Known}
 use Rattle.name_resolution.specs.declared.asked.Known.TheVariants.{Unasked, Means}
-use Rattle.name_meanings.specs.declared.meaning.Resolved.{Resolved}
+use Rattle.name_resolution.specs.declared.meaning.Resolved.{Resolved}
 use Rattle.declared_names.specs.Names.{same}
 use Rattle.declared_names.specs.Declarations.{Entry}
-use Rattle.name_meanings.specs.Imports.{meant_through}
+use Rattle.name_resolution.specs.Imports.{meant_through}
 
 -- what a name means through the imports of the file with a number
 abbrev pub means : List (List DottedTree) → List Entry → ℕ → List Ident → Option Resolved

@@ -12,10 +12,10 @@ use Rattle.declared_names.specs.Declarations.{Entry, declarations}
 use Rattle.aidl_syntax.specs.Sources.{Source}
 use Rattle.const_values.specs.declared.wanted.Wanted.{Wanted}
 use Rattle.type_shapes.specs.Backing.{backing_of}
-use Rattle.schema_parts.specs.Numbers.{Numbered, sorted, number_of}
-use Rattle.schema_parts.specs.Parts.{fields_in, methods_in, enumerator_in, listed_constants, constants_in, bytes_of, put}
+use Rattle.tree_schema.specs.Numbers.{Numbered, sorted, number_of}
+use Rattle.tree_schema.specs.Parts.{fields_in, methods_in, enumerator_in, listed_constants, constants_in, bytes_of, put}
 use Rattle.tree_schema.specs.SchemaOf.{schema_of, declared, outer_of, kind_of}
-use Rattle.schema_parts.specs.Values.{Outcomes}
+use Rattle.tree_schema.specs.Values.{Outcomes}
 use Rattle.tree_schema.proofs.lemmas.walked.Totals.{total, total-append, total-map, total-filter, total-enumerate, total-le_at}
 use Rattle.tree_schema.proofs.lemmas.walked.Placed.{placed, all-total, placed-by}
 use Rattle.tree_schema.proofs.walked.Outers.{are_named, walked, IsWalked}

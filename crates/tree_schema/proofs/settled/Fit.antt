@@ -5,14 +5,14 @@ use Rattle.aidl_base.specs.Results.{◌>>=◌}
 use Rattle.aidl_base.specs.declared.constant.Const.{Const, out-Const}
 use Rattle.aidl_syntax.specs.declared.tree.DottedTree.{DottedTree}
 use Rattle.aidl_syntax.specs.Sources.{Source}
-use Rattle.const_operands.specs.declared.fault.ConstFault.{ConstFault}
-use Rattle.const_operands.specs.declared.width.Width.TheVariants.{Narrow, Wide}
+use Rattle.const_values.specs.declared.fault.ConstFault.{ConstFault}
+use Rattle.const_values.specs.declared.width.Width.TheVariants.{Narrow, Wide}
 use Rattle.const_values.specs.Evaluation.{evaluated}
-use Rattle.const_operands.specs.Operands.{Operand, number}
+use Rattle.const_values.specs.Operands.{Operand, number}
 use Rattle.const_values.specs.Wanted.{fitted}
 use Rattle.const_eval.specs.declared.outcome.Outcome.{Outcome}
 use Rattle.const_eval.specs.declared.outcome.Outcome.TheVariants.{Given}
-use Rattle.const_dependence.specs.Dependence.{target, number_of, names_in, number_before, depends_on, next, next_of}
+use Rattle.const_items.specs.Dependence.{target, number_of, names_in, number_before, depends_on, next, next_of}
 use Rattle.const_items.specs.Items.{Item, Written, written, first, after, items, number_at}
 use Rattle.const_eval.specs.Outcomes.{HasOutcome, Values, operand_at, operand_of, wanted_of, meaning, judgement_of, outcome_of, named_enum, one_more, number_in}
 use Rattle.const_eval.specs.Outcomes.HasOutcome.{unformed, unknown, cyclic, behind, judged}

@@ -15,29 +15,29 @@ use Rattle.aidl_schema.specs.Constants.{is_char_literal, is_string_character}
 use Rattle.aidl_syntax.specs.declared.tree.DottedTree.{DottedTree}
 use Rattle.aidl_syntax.specs.Trees.{Expr}
 use Rattle.aidl_syntax.specs.Trees.Expr.{literal, name, group, unary, binary}
-use Rattle.const_operands.specs.declared.fault.ConstFault.{ConstFault}
-use Rattle.const_operands.specs.declared.fault.ConstFault.TheVariants as fault
-use Rattle.const_operands.specs.declared.operator.Arithmetic.{Arithmetic}
-use Rattle.const_operands.specs.declared.operator.Arithmetic.TheVariants.{Add, Subtract, Multiply, Divide, Remainder}
-use Rattle.const_operands.specs.declared.operator.BinaryOperator.{BinaryOperator}
-use Rattle.const_operands.specs.declared.operator.BinaryOperator.TheVariants as operator
-use Rattle.const_operands.specs.declared.operator.Shift.{Shift}
-use Rattle.const_operands.specs.declared.operator.Shift.TheVariants as shift
-use Rattle.const_operands.specs.declared.operator.UnaryOperator.{UnaryOperator}
-use Rattle.const_operands.specs.declared.operator.UnaryOperator.TheVariants.{Plus, Minus, Complement, Not}
-use Rattle.const_operands.specs.declared.width.Width.{Width}
+use Rattle.const_values.specs.declared.fault.ConstFault.{ConstFault}
+use Rattle.const_values.specs.declared.fault.ConstFault.TheVariants as fault
+use Rattle.const_values.specs.declared.operator.Arithmetic.{Arithmetic}
+use Rattle.const_values.specs.declared.operator.Arithmetic.TheVariants.{Add, Subtract, Multiply, Divide, Remainder}
+use Rattle.const_values.specs.declared.operator.BinaryOperator.{BinaryOperator}
+use Rattle.const_values.specs.declared.operator.BinaryOperator.TheVariants as operator
+use Rattle.const_values.specs.declared.operator.Shift.{Shift}
+use Rattle.const_values.specs.declared.operator.Shift.TheVariants as shift
+use Rattle.const_values.specs.declared.operator.UnaryOperator.{UnaryOperator}
+use Rattle.const_values.specs.declared.operator.UnaryOperator.TheVariants.{Plus, Minus, Complement, Not}
+use Rattle.const_values.specs.declared.width.Width.{Width}
 use Rattle.const_values.specs.declared.wanted.Wanted.{Wanted}
 use Rattle.const_values.specs.declared.wanted.Wanted.TheVariants as wanted
 use Rattle.const_values.specs.Arithmetic.{arithmetic_of}
 use Rattle.const_values.specs.Binary as two
 use Rattle.const_values.specs.Evaluation.{evaluated, or_mismatch, before, between, then_right}
 use Rattle.const_values.specs.Literals.{literal_of}
-use Rattle.const_operands.specs.Operands.{Operand, truth, number, character, text}
+use Rattle.const_values.specs.Operands.{Operand, truth, number, character, text}
 use Rattle.const_values.specs.Shifts.{shifted}
-use Rattle.const_operands.specs.Symbols.{unary_operator, binary_operator}
+use Rattle.const_values.specs.Symbols.{unary_operator, binary_operator}
 use Rattle.const_values.specs.Unary as one
 use Rattle.const_values.specs.Wanted.{fitted, in_range, is_of_enum}
-use Rattle.const_dependence.specs.Dependence.{names_of}
+use Rattle.const_items.specs.Dependence.{names_of}
 use Rattle.const_eval.specs.Outcomes.{of_level, of_number, of_code}
 
 -- a character of a literal, or a text of such as a string may hold

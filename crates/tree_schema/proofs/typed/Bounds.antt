@@ -14,8 +14,8 @@ use Rattle.aidl_syntax.specs.Trees as tree
 use Rattle.aidl_syntax.specs.Trees.{Body}
 use Rattle.aidl_syntax.specs.Trees.Body.{parcelable, union, enum, interface}
 use Rattle.aidl_syntax.specs.Members.{Member, members, body}
-use Rattle.name_meanings.specs.declared.meaning.Resolved.{Resolved}
-use Rattle.name_meanings.specs.declared.meaning.Resolved.TheVariants.{Builtin, ListWord, LeftOut, Declared}
+use Rattle.name_resolution.specs.declared.meaning.Resolved.{Resolved}
+use Rattle.name_resolution.specs.declared.meaning.Resolved.TheVariants.{Builtin, ListWord, LeftOut, Declared}
 use Rattle.aidl_names.specs.Breaches.{breaches}
 use Rattle.declared_names.specs.Declarations.{Entry, declarations}
 use Rattle.aidl_syntax.specs.Sources.{Source}
@@ -32,15 +32,15 @@ use Rattle.type_uses.specs.Bases.{is_fixed_base, is_fixed_entry, is_fixed_number
 use Rattle.type_uses.specs.Kept.{is_nullable}
 use Rattle.type_uses.specs.TypeUses.{of_member, type_uses, annotations_of, stand_of, name_place}
 use Rattle.type_rules.specs.AnnotationRules.{bad_annotations}
-use Rattle.member_rules.specs.FieldRules.{is_unfixed}
-use Rattle.member_rules.specs.FieldRules as rules
-use Rattle.member_rules.specs.Filters.{broken_where}
+use Rattle.type_rules.specs.FieldRules.{is_unfixed}
+use Rattle.type_rules.specs.FieldRules as rules
+use Rattle.type_rules.specs.Filters.{broken_where}
 use Rattle.type_rules.specs.MethodRules.{is_oneway_body}
 use Rattle.type_rules.specs.Unbroken.{AreUnbroken}
-use Rattle.schema_parts.specs.Numbers.{Numbered}
+use Rattle.tree_schema.specs.Numbers.{Numbered}
 use Rattle.tree_schema.specs.SchemaOf.{schema_of, declared, kind_of}
-use Rattle.schema_parts.specs.Types.{base_of, typed}
-use Rattle.schema_parts.specs.Values.{Outcomes}
+use Rattle.tree_schema.specs.Types.{base_of, typed}
+use Rattle.tree_schema.specs.Values.{Outcomes}
 use Rattle.tree_schema.proofs.walked.Outers.{are_named}
 use Rattle.tree_schema.proofs.lemmas.walked.Placed.{Each}
 use Rattle.tree_schema.proofs.lemmas.named.Numbers.{sorted-there}

@@ -4,12 +4,12 @@ use Rattle.aidl_base.proofs.lemmas.Tests.{flipped}
 use Rattle.aidl_syntax.specs.Trees.{Body}
 use Rattle.aidl_syntax.specs.Trees.Body.{parcelable, union, enum, interface}
 use Rattle.aidl_syntax.specs.Members.{body}
-use Rattle.name_meanings.specs.declared.meaning.BuiltinName.TheVariants as built_in
-use Rattle.name_meanings.specs.declared.meaning.Resolved.{Resolved}
-use Rattle.name_meanings.specs.declared.meaning.Resolved.TheVariants.{Builtin, ListWord, LeftOut, Declared}
+use Rattle.name_resolution.specs.declared.meaning.BuiltinName.TheVariants as built_in
+use Rattle.name_resolution.specs.declared.meaning.Resolved.{Resolved}
+use Rattle.name_resolution.specs.declared.meaning.Resolved.TheVariants.{Builtin, ListWord, LeftOut, Declared}
 use Rattle.aidl_names.specs.Breaches.{breaches}
 use Rattle.declared_names.specs.Declarations.{Entry, declarations}
-use Rattle.name_rules.specs.Rules.{is_interface_body}
+use Rattle.aidl_names.specs.Rules.{is_interface_body}
 use Rattle.aidl_syntax.specs.Sources.{Source}
 use Rattle.const_values.specs.declared.wanted.Wanted.{Wanted}
 use Rattle.const_values.specs.declared.wanted.Wanted.TheVariants as wanted
@@ -20,10 +20,10 @@ use Rattle.aidl_schema.specs.Containment.{is_composite}
 use Rattle.aidl_schema.specs.Types.{Form, form_of, form_of_kind, is_meant, is_nullable_form, is_scalar}
 use Rattle.aidl_schema.specs.Types as form
 use Rattle.aidl_schema.specs.Same.{decl_of}
-use Rattle.schema_parts.specs.Numbers.{number_of}
+use Rattle.tree_schema.specs.Numbers.{number_of}
 use Rattle.tree_schema.specs.SchemaOf.{schema_of, declared, kind_of}
-use Rattle.schema_parts.specs.Types.{base_of, base_of_number}
-use Rattle.schema_parts.specs.Values.{Outcomes}
+use Rattle.tree_schema.specs.Types.{base_of, base_of_number}
+use Rattle.tree_schema.specs.Values.{Outcomes}
 use Rattle.tree_schema.proofs.walked.Outers.{are_named}
 use Rattle.tree_schema.proofs.lemmas.named.Numbers.{number-there}
 use Rattle.tree_schema.proofs.lemmas.named.Schema.{number-stands}

@@ -14,9 +14,9 @@ use Rattle.aidl_syntax.specs.Sources.{Source}
 use Rattle.const_values.specs.declared.wanted.Wanted.{Wanted}
 use Rattle.type_uses.specs.Ids.{id_of}
 use Rattle.type_rules.specs.MethodRules.{is_oneway_body}
-use Rattle.schema_parts.specs.Parts.{field_in, fields_in, method_in, methods_in}
+use Rattle.tree_schema.specs.Parts.{field_in, fields_in, method_in, methods_in}
 use Rattle.tree_schema.specs.SchemaOf.{kind_of}
-use Rattle.schema_parts.specs.Values.{Outcomes}
+use Rattle.tree_schema.specs.Values.{Outcomes}
 use Rattle.tree_schema.proofs.lemmas.walked.Placed.{Each}
 
 module _ (files : List Source) (outcomes : Outcomes) (file scope : ℕ) (P : Member → Type 0) where

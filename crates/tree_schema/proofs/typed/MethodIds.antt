@@ -18,8 +18,8 @@ use Rattle.type_shapes.specs.declared.shape.Shape.{Shape}
 use Rattle.type_uses.specs.Ids.{number_of_kind, number_of, is_id_kind, is_id, has_id, id_by, id_of, ids_from, ids}
 use Rattle.type_uses.specs.TypeUses as uses
 use Rattle.type_uses.specs.TypeUses.{TypeUse, of_arg, of_members}
-use Rattle.member_rules.specs.IdRules.{has_value, is_taken, is_bad_token, is_bad_id}
-use Rattle.schema_parts.specs.Parts.{kept_id, methods_in}
+use Rattle.type_rules.specs.IdRules.{has_value, is_taken, is_bad_token, is_bad_id}
+use Rattle.tree_schema.specs.Parts.{kept_id, methods_in}
 use Rattle.tree_schema.proofs.walked.Breaches.{none-earlier}
 use Rattle.tree_schema.proofs.lemmas.walked.Lists.{there-kept, there-last}
 use Rattle.tree_schema.proofs.typed.Uses.{any-at}

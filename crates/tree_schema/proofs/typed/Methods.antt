@@ -18,8 +18,8 @@ use Rattle.aidl_syntax.specs.Trees.Body.{parcelable, union, enum, interface}
 use Rattle.aidl_syntax.specs.Members.{members, listed, body}
 use Rattle.aidl_names.specs.Breaches.{breaches}
 use Rattle.declared_names.specs.Declarations.{Entry, declarations}
-use Rattle.name_rules.specs.Limits.{passed, has_many_members, has_long_method}
-use Rattle.name_rules.specs.Rules.{breach}
+use Rattle.aidl_names.specs.Limits.{passed, has_many_members, has_long_method}
+use Rattle.aidl_names.specs.Rules.{breach}
 use Rattle.declared_names.specs.Numbered.{after_earlier}
 use Rattle.aidl_syntax.specs.Sources.{Source}
 use Rattle.const_values.specs.declared.wanted.Wanted.{Wanted}
@@ -32,15 +32,15 @@ use Rattle.type_uses.specs.Bases.{is_refused}
 use Rattle.type_uses.specs.Ids.{has_id, id_of}
 use Rattle.type_uses.specs.TypeUses as uses
 use Rattle.type_uses.specs.TypeUses.{of_arg, of_members, type_uses}
-use Rattle.member_rules.specs.IdRules.{is_bad_id}
+use Rattle.type_rules.specs.IdRules.{is_bad_id}
 use Rattle.type_rules.specs.MethodRules.{is_oneway_body, gives_back}
 use Rattle.type_rules.specs.TypeRules.{is_outward, is_misdirected}
 use Rattle.type_rules.specs.Unbroken.{AreUnbroken}
-use Rattle.schema_parts.specs.Numbers.{Numbered}
-use Rattle.schema_parts.specs.Parts.{way_of, arg_in, method_in, methods_in}
+use Rattle.tree_schema.specs.Numbers.{Numbered}
+use Rattle.tree_schema.specs.Parts.{way_of, arg_in, method_in, methods_in}
 use Rattle.tree_schema.specs.SchemaOf.{schema_of, declared, kind_of}
-use Rattle.schema_parts.specs.Types.{base_of, typed}
-use Rattle.schema_parts.specs.Values.{Outcomes}
+use Rattle.tree_schema.specs.Types.{base_of, typed}
+use Rattle.tree_schema.specs.Values.{Outcomes}
 use Rattle.tree_schema.proofs.lemmas.walked.Lists.{all-from_at, none-at}
 use Rattle.tree_schema.proofs.walked.Outers.{are_named}
 use Rattle.tree_schema.proofs.lemmas.walked.Placed.{Each}

@@ -11,9 +11,9 @@ use Rattle.aidl_syntax.specs.Trees as tree
 use Rattle.aidl_syntax.specs.Trees.{Annot, Arg, map_option}
 use Rattle.aidl_syntax.specs.Members.{members, body}
 use Rattle.aidl_syntax.specs.Members.Member.{field, method}
-use Rattle.name_meanings.specs.declared.meaning.BuiltinName.TheVariants as built_in
-use Rattle.name_meanings.specs.declared.meaning.Resolved.{Resolved}
-use Rattle.name_meanings.specs.declared.meaning.Resolved.TheVariants.{Builtin, ListWord, LeftOut, Declared}
+use Rattle.name_resolution.specs.declared.meaning.BuiltinName.TheVariants as built_in
+use Rattle.name_resolution.specs.declared.meaning.Resolved.{Resolved}
+use Rattle.name_resolution.specs.declared.meaning.Resolved.TheVariants.{Builtin, ListWord, LeftOut, Declared}
 use Rattle.aidl_names.specs.Breaches.{breaches}
 use Rattle.declared_names.specs.Declarations.{Entry, declarations}
 use Rattle.declared_names.specs.TypeNames.{names_of_type, names_of_returned}
@@ -35,11 +35,11 @@ use Rattle.type_rules.specs.AnnotationRules.{bad_annotations}
 use Rattle.type_rules.specs.MethodRules.{is_oneway_body}
 use Rattle.type_rules.specs.TypeRules.{bad_nullables}
 use Rattle.type_rules.specs.Unbroken.{AreUnbroken}
-use Rattle.schema_parts.specs.Numbers.{Numbered}
-use Rattle.schema_parts.specs.Parts.{field_in, arg_in, method_in}
+use Rattle.tree_schema.specs.Numbers.{Numbered}
+use Rattle.tree_schema.specs.Parts.{field_in, arg_in, method_in}
 use Rattle.tree_schema.specs.SchemaOf.{schema_of, declared}
-use Rattle.schema_parts.specs.Types.{base_of, typed}
-use Rattle.schema_parts.specs.Values.{Outcomes}
+use Rattle.tree_schema.specs.Types.{base_of, typed}
+use Rattle.tree_schema.specs.Values.{Outcomes}
 use Rattle.tree_schema.proofs.lemmas.walked.Lists.{all-from_at}
 use Rattle.tree_schema.proofs.walked.Outers.{are_named}
 use Rattle.tree_schema.proofs.lemmas.walked.Placed.{Each}

@@ -6,12 +6,12 @@ use Rattle.aidl_base.proofs.lemmas.Tests.{both, neither}
 use Rattle.aidl_syntax.specs.declared.tree.DottedTree.{DottedTree}
 use Rattle.aidl_syntax.specs.declared.tree.TypeTree.{TypeTree}
 use Rattle.aidl_syntax.specs.Members.{body}
-use Rattle.name_meanings.specs.declared.meaning.Resolved.{Resolved}
-use Rattle.name_meanings.specs.declared.meaning.Resolved.TheVariants.{Builtin, ListWord, LeftOut, Declared}
+use Rattle.name_resolution.specs.declared.meaning.Resolved.{Resolved}
+use Rattle.name_resolution.specs.declared.meaning.Resolved.TheVariants.{Builtin, ListWord, LeftOut, Declared}
 use Rattle.declared_names.specs.Declarations.{Entry, declarations}
 use Rattle.declared_names.specs.Names.{text, same}
-use Rattle.name_meanings.specs.Resolution.{meaning_in, meaning_words, meaning_of_word, own_meaning, number_of, candidates, first_declared, or_else, meaning_in_file, resolved}
-use Rattle.name_rules.specs.Rules.{is_left_out, is_interface, is_interface_body}
+use Rattle.name_resolution.specs.Resolution.{meaning_in, meaning_words, meaning_of_word, own_meaning, number_of, candidates, first_declared, or_else, meaning_in_file, resolved}
+use Rattle.aidl_names.specs.Rules.{is_left_out, is_interface, is_interface_body}
 use Rattle.declared_names.specs.TypeNames.{names_of_type}
 use Rattle.aidl_syntax.specs.Sources.{Source}
 use Rattle.type_shapes.specs.declared.shape.Shape.{Shape}

@@ -10,8 +10,8 @@ use Rattle.aidl_syntax.specs.Members.{Member, members, body}
 use Rattle.aidl_names.specs.Breaches.{breaches}
 use Rattle.declared_names.specs.Declarations.{Entry, declarations}
 use Rattle.declared_names.specs.Names.{text}
-use Rattle.name_meanings.specs.Resolution.{resolved}
-use Rattle.name_rules.specs.Rules.{breach, is_left_out, types_in}
+use Rattle.name_resolution.specs.Resolution.{resolved}
+use Rattle.aidl_names.specs.Rules.{breach, is_left_out, types_in}
 use Rattle.declared_names.specs.TypeNames.{type_names}
 use Rattle.declared_names.specs.Numbered.{in_each, after_earlier}
 use Rattle.aidl_syntax.specs.Sources.{Source}
@@ -24,7 +24,7 @@ use Rattle.type_uses.specs.Parameters.{is_heap_true}
 use Rattle.type_uses.specs.TypeUses.{TypeUse, of_member, type_uses, annotations_of, stand_of}
 use Rattle.type_rules.specs.AnnotationRules.{bad_annotations, is_bad_annotation, breaks_row, is_again}
 use Rattle.type_rules.specs.TypeRules.{is_bad_constant}
-use Rattle.member_rules.specs.Filters.{broken_where}
+use Rattle.type_rules.specs.Filters.{broken_where}
 use Rattle.type_rules.specs.MethodRules.{is_bad_oneway, is_oneway_body}
 use Rattle.type_rules.specs.TypeRules.{is_bad_shape, is_bad_direction, bad_nullables, bad_nullables_of, is_bad_nullable}
 use Rattle.type_rules.specs.Unbroken.{AreUnbroken}

@@ -12,9 +12,9 @@ use Rattle.aidl_syntax.specs.Trees.{Annot, offset_of, Body, Enumerator}
 use Rattle.aidl_syntax.specs.Trees.Body.{parcelable, union, enum, interface}
 use Rattle.aidl_syntax.specs.Members.{Member, members, listed, body}
 use Rattle.aidl_syntax.specs.Members.Member.{field, constant, method, enumerator, nested}
-use Rattle.name_meanings.specs.declared.meaning.BuiltinName.{BuiltinName}
-use Rattle.name_meanings.specs.declared.meaning.BuiltinName.TheVariants as built_in
-use Rattle.name_meanings.specs.declared.meaning.Resolved.TheVariants.{Builtin, ListWord, LeftOut, Declared}
+use Rattle.name_resolution.specs.declared.meaning.BuiltinName.{BuiltinName}
+use Rattle.name_resolution.specs.declared.meaning.BuiltinName.TheVariants as built_in
+use Rattle.name_resolution.specs.declared.meaning.Resolved.TheVariants.{Builtin, ListWord, LeftOut, Declared}
 use Rattle.aidl_names.specs.Breaches.{breaches}
 use Rattle.declared_names.specs.Declarations.{Entry, declarations}
 use Rattle.aidl_syntax.specs.Sources.{Source}
@@ -27,11 +27,11 @@ use Rattle.type_shapes.specs.Types.{wanted_of_builtin, wanted_one}
 use Rattle.type_rules.specs.TypeRules.{is_constant_type}
 use Rattle.type_rules.specs.MethodRules.{is_oneway_body}
 use Rattle.type_rules.specs.Unbroken.{AreUnbroken}
-use Rattle.schema_parts.specs.Numbers.{Numbered}
-use Rattle.schema_parts.specs.Parts.{listed_constants, bytes_of}
+use Rattle.tree_schema.specs.Numbers.{Numbered}
+use Rattle.tree_schema.specs.Parts.{listed_constants, bytes_of}
 use Rattle.tree_schema.specs.SchemaOf.{schema_of, declared}
-use Rattle.schema_parts.specs.Types.{base_of_builtin, typed}
-use Rattle.schema_parts.specs.Values.{Outcomes, or_zero, value_at}
+use Rattle.tree_schema.specs.Types.{base_of_builtin, typed}
+use Rattle.tree_schema.specs.Values.{Outcomes, or_zero, value_at}
 use Rattle.tree_schema.proofs.lemmas.walked.Lists.{all-from_at}
 use Rattle.tree_schema.proofs.lemmas.walked.Placed.{Each, all-all}
 use Rattle.tree_schema.proofs.named.MemberWeights.{constants-are}

@@ -23,9 +23,9 @@ use Rattle.const_values.specs.declared.wanted.Wanted.{Wanted}
 use Rattle.const_values.specs.declared.wanted.Wanted.TheVariants as wanted
 use Rattle.type_shapes.specs.Backing.{annots_of, backing_of, backing_by, backing_of_param, backing_of_init, backing_of_expr, backing_of_token, is_type, is_backing}
 use Rattle.const_items.specs.Items.{of_entry, of_body, of_enumerator, of_enumerators, place_of}
-use Rattle.schema_parts.specs.Parts.{enumerator_in, listed_constants, constants_in, put}
+use Rattle.tree_schema.specs.Parts.{enumerator_in, listed_constants, constants_in, put}
 use Rattle.tree_schema.specs.SchemaOf.{schema_of, kind_of, backing_in}
-use Rattle.schema_parts.specs.Values.{Outcomes, whole, or_zero, value_at}
+use Rattle.tree_schema.specs.Values.{Outcomes, whole, or_zero, value_at}
 use Rattle.tree_schema.proofs.lemmas.walked.Lists.{all-from_at}
 use Rattle.tree_schema.proofs.lemmas.walked.Placed.{Each}
 use Rattle.tree_schema.proofs.lemmas.named.Numbers.{sorted-there}

@@ -16,31 +16,31 @@ use Rattle.aidl_syntax.specs.Trees.Expr.{literal, name, group, unary, binary}
 use Rattle.aidl_syntax.specs.Trees.Members.{none, field as with_field, constant as with_constant, method as with_method, nested as with_nested}
 use Rattle.aidl_syntax.specs.Members.{Member, members, listed, body}
 use Rattle.aidl_syntax.specs.Members.Member.{field, constant, method, enumerator, nested}
-use Rattle.name_meanings.specs.declared.meaning.Resolved.{Resolved}
-use Rattle.name_meanings.specs.declared.meaning.Resolved.TheVariants.{Builtin, ListWord, LeftOut, Declared}
+use Rattle.name_resolution.specs.declared.meaning.Resolved.{Resolved}
+use Rattle.name_resolution.specs.declared.meaning.Resolved.TheVariants.{Builtin, ListWord, LeftOut, Declared}
 use Rattle.declared_names.specs.Called.{called, is_called}
 use Rattle.declared_names.specs.Declarations.{Entry, declarations}
-use Rattle.name_meanings.specs.Resolution.{resolved, or_else}
+use Rattle.name_resolution.specs.Resolution.{resolved, or_else}
 use Rattle.declared_names.specs.Names.{text as bytes_of}
 use Rattle.aidl_syntax.specs.Sources.{Source}
-use Rattle.const_operands.specs.declared.fault.ConstFault.{ConstFault}
-use Rattle.const_operands.specs.declared.fault.ConstFault.TheVariants as fault
+use Rattle.const_values.specs.declared.fault.ConstFault.{ConstFault}
+use Rattle.const_values.specs.declared.fault.ConstFault.TheVariants as fault
 use Rattle.const_values.specs.declared.wanted.Wanted.{Wanted}
 use Rattle.const_values.specs.declared.wanted.Wanted.TheVariants as wanted
-use Rattle.const_operands.specs.declared.width.Width.{Width}
-use Rattle.const_operands.specs.declared.width.Width.TheVariants.{Narrow, Wide}
+use Rattle.const_values.specs.declared.width.Width.{Width}
+use Rattle.const_values.specs.declared.width.Width.TheVariants.{Narrow, Wide}
 use Rattle.const_values.specs.Evaluation.{evaluated}
-use Rattle.const_operands.specs.Operands.{Operand, truth, number, character, text}
+use Rattle.const_values.specs.Operands.{Operand, truth, number, character, text}
 use Rattle.const_values.specs.Wanted.{fitted}
 use Rattle.const_eval.specs.declared.outcome.Outcome.{Outcome}
 use Rattle.const_eval.specs.declared.outcome.Outcome.TheVariants.{Given}
-use Rattle.const_dependence.specs.Dependence.{Target, of_constant, of_enumerator, target, target_by, target_behind, target_of_part, target_if, member_at, member_of, is_enumerator, only_enumerators, only_constants, constant_around, enumerator_beside, number_of, names_in, number_before, depends_on, next, next_of}
+use Rattle.const_items.specs.Dependence.{Target, of_constant, of_enumerator, target, target_by, target_behind, target_of_part, target_if, member_at, member_of, is_enumerator, only_enumerators, only_constants, constant_around, enumerator_beside, number_of, names_in, number_before, depends_on, next, next_of}
 use Rattle.const_items.specs.Items.{Item, Written, written, first, after, items, number_at, place_of}
 use Rattle.const_eval.specs.Outcomes.{HasOutcome, Values, operand_at, of_level, of_number, wanted_of, meaning, judgement_of, outcome_of, named_enum, enum_of, one_more, number_in}
 use Rattle.const_eval.specs.Outcomes.HasOutcome.{unformed, unknown, cyclic, behind, judged}
 use Rattle.const_eval.proofs.lemmas.Agree.{kept}
 use Rattle.const_eval.proofs.lemmas.OneOutcome.{one_outcome}
-use Rattle.schema_parts.specs.Values.{Outcomes, enumerator_value, whole, or_zero, value_of, value_of_item}
+use Rattle.tree_schema.specs.Values.{Outcomes, enumerator_value, whole, or_zero, value_of, value_of_item}
 use Rattle.tree_schema.proofs.lemmas.walked.Lists.{there-mapped}
 use Rattle.tree_schema.proofs.lemmas.settled.Settled.{AreOutcomes}
 

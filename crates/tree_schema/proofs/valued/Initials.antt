@@ -21,11 +21,11 @@ use Rattle.aidl_syntax.specs.Trees.Body.{parcelable, union, enum, interface}
 use Rattle.aidl_syntax.specs.Trees.Init.{single, braces}
 use Rattle.aidl_syntax.specs.Members.{Member, members, listed, body, declared_name}
 use Rattle.aidl_syntax.specs.Members.Member.{field, constant, method, enumerator, nested}
-use Rattle.name_meanings.specs.declared.meaning.Resolved.{Resolved}
-use Rattle.name_meanings.specs.declared.meaning.Resolved.TheVariants.{Builtin, ListWord, LeftOut, Declared}
+use Rattle.name_resolution.specs.declared.meaning.Resolved.{Resolved}
+use Rattle.name_resolution.specs.declared.meaning.Resolved.TheVariants.{Builtin, ListWord, LeftOut, Declared}
 use Rattle.aidl_names.specs.Breaches.{breaches}
 use Rattle.declared_names.specs.Declarations.{Entry, declarations}
-use Rattle.name_rules.specs.Rules.{breach}
+use Rattle.aidl_names.specs.Rules.{breach}
 use Rattle.aidl_syntax.specs.Sources.{Source}
 use Rattle.const_values.specs.declared.wanted.Wanted.{Wanted}
 use Rattle.const_values.specs.declared.wanted.Wanted.TheVariants as wanted
@@ -38,13 +38,13 @@ use Rattle.const_items.specs.Items.{Item, items, shape_in, of_entry, of_body, of
 use Rattle.type_shapes.specs.Types.{wanted_of, is_enum}
 use Rattle.type_uses.specs.TypeUses as uses
 use Rattle.type_uses.specs.TypeUses.{TypeUse, of_arg, is_field, type_uses}
-use Rattle.member_rules.specs.FieldRules.{empty_union, bad_fields, is_union_body}
+use Rattle.type_rules.specs.FieldRules.{empty_union, bad_fields, is_union_body}
 use Rattle.type_rules.specs.Unbroken.{AreUnbroken}
-use Rattle.schema_parts.specs.Numbers.{Numbered}
-use Rattle.schema_parts.specs.Parts.{fields_in, enumerator_in}
+use Rattle.tree_schema.specs.Numbers.{Numbered}
+use Rattle.tree_schema.specs.Parts.{fields_in, enumerator_in}
 use Rattle.tree_schema.specs.SchemaOf.{schema_of, declared, kind_of}
-use Rattle.schema_parts.specs.Types.{base_of, base_of_number, typed}
-use Rattle.schema_parts.specs.Values.{Outcomes, or_zero, value_at, value_of, value_of_item, constant_value, initial_of, initial_value, enumerator_value}
+use Rattle.tree_schema.specs.Types.{base_of, base_of_number, typed}
+use Rattle.tree_schema.specs.Values.{Outcomes, or_zero, value_at, value_of, value_of_item, constant_value, initial_of, initial_value, enumerator_value}
 use Rattle.tree_schema.proofs.lemmas.walked.Lists.{all-from_at}
 use Rattle.tree_schema.proofs.walked.Outers.{are_named}
 use Rattle.tree_schema.proofs.lemmas.walked.Placed.{Each}

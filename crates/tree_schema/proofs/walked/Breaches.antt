@@ -13,8 +13,8 @@ use Rattle.aidl_syntax.specs.Members.{Member, members, body, member_name, declar
 use Rattle.aidl_names.specs.Breaches.{breaches, in_order, put, order}
 use Rattle.declared_names.specs.Declarations.{Entry, declarations}
 use Rattle.declared_names.specs.Names.{text, same}
-use Rattle.name_meanings.specs.Resolution.{meaning_of_word}
-use Rattle.name_rules.specs.Rules.{WrongFile, Duplicate, UnknownImport, UnknownType, LeftOutType, repeated, repeated_inside, argument_names, taken, is_named_again, is_taken, other_imports, breach}
+use Rattle.name_resolution.specs.Resolution.{meaning_of_word}
+use Rattle.aidl_names.specs.Rules.{WrongFile, Duplicate, UnknownImport, UnknownType, LeftOutType, repeated, repeated_inside, argument_names, taken, is_named_again, is_taken, other_imports, breach}
 use Rattle.declared_names.specs.Numbered.{after_earlier, in_each}
 use Rattle.aidl_syntax.specs.Sources.{Source}
 use Rattle.tree_schema.proofs.lemmas.walked.Totals.{total, total-append, is_that}

@@ -7,7 +7,7 @@ use Rattle.aidl_base.specs.declared.limit.LimitName.{LimitName}
 use Rattle.aidl_base.specs.declared.source_file.SourceFile.{SourceFile}
 use Rattle.aidl_syntax.specs.declared.tree.ParsedFile.{ParsedFile}
 use Rattle.declared_names.specs.Declarations.{declarations}
-use Rattle.name_rules.specs.Limits.{passed}
+use Rattle.aidl_names.specs.Limits.{passed}
 use Rattle.aidl_syntax.specs.Sources.{Source, source_of}
 use Rattle.aidl_schema.specs.declared.schema.Decl.{Decl}
 use Rattle.const_eval.specs.declared.outcome.Outcome.{Outcome}

@@ -16,7 +16,7 @@ use Rattle.tree_files.proofs.lemmas.OfBytes.{of-bytes}
 use Rattle.tree_schema.specs.Checked.{IsChecked}
 use Rattle.tree_schema.specs.Named.{HasIdentifiers}
 use Rattle.tree_schema.specs.SchemaOf.{schema_of}
-use Rattle.schema_parts.specs.Values.{Outcomes}
+use Rattle.tree_schema.specs.Values.{Outcomes}
 use Rattle.tree_schema.proofs.lemmas.valued.EnumsFilled.{files-filled}
 use Rattle.tree_schema.proofs.lemmas.settled.Faultless.{faultless, filled-files}
 use Rattle.tree_schema.proofs.lemmas.named.Limits.{limits-hold}

@@ -12,9 +12,9 @@ use Rattle.aidl_names.specs.Breaches.{in_order, order, put}
 use Rattle.type_uses.specs.TypeUses.{TypeUse, type_uses}
 use Rattle.type_rules.specs.AnnotationRules.{BadAnnotation, BadBacking}
 use Rattle.type_rules.specs.TypeRules.{BadNullable, BadShape, BadDirection}
-use Rattle.member_rules.specs.IdRules.{BadId}
+use Rattle.type_rules.specs.IdRules.{BadId}
 use Rattle.type_rules.specs.MethodRules.{BadOneway}
-use Rattle.member_rules.specs.FieldRules.{BadField, NotFixed}
+use Rattle.type_rules.specs.FieldRules.{BadField, NotFixed}
 use Rattle.type_rules.specs.TypeRules.{BadConstant}
 use Rattle.type_rules.specs.Breaches.{broken_by, broken_in, unsorted}
 use Rattle.type_rules.specs.Unbroken.{AreUnbroken, IsUnbroken}

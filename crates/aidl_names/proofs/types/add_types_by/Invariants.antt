@@ -1,6 +1,6 @@
 use Rattle.std.proofs.Common.{◌≡◌, ◌++◌, map, drop}
 use Rattle.aidl_syntax.specs.Sources.{source_of}
-use Rattle.name_rules.specs.Rules.{types_in, types_where}
+use Rattle.aidl_names.specs.Rules.{types_in, types_where}
 use Rattle.declared_names.specs.Numbered.{in_each}
 use Rattle.aidl_names.specs.TypeRules.{breaks_of, rule_of}
 use Rattle.declared_names.specs.Entries.{entry_of}

@@ -1,7 +1,7 @@
 use Rattle.std.proofs.Common.{ℕ, Bor, map, ◌++◌, ◌∙◌, ap, arith}
 use Rattle.aidl_syntax.specs.declared.tree.DottedTree.{DottedTree}
 use Rattle.aidl_syntax.specs.Sources.{source_of}
-use Rattle.name_rules.specs.Rules.{breach}
+use Rattle.aidl_names.specs.Rules.{breach}
 use Rattle.aidl_names.specs.TypeRules.{breaks_of, rule_of}
 use Rattle.declared_names.proofs.lemmas.Earlier.{goes_on, filter-next, read-map, one_if}
 use Rattle.aidl_names.proofs.types.add_types_in.Goals as goal

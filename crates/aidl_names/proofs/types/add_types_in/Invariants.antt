@@ -1,7 +1,7 @@
 use Rattle.std.proofs.Common.{◌≡◌, ◌++◌, map, drop}
 use Rattle.std.specs.List.{filter}
 use Rattle.aidl_syntax.specs.Sources.{source_of}
-use Rattle.name_rules.specs.Rules.{breach, types_in}
+use Rattle.aidl_names.specs.Rules.{breach, types_in}
 use Rattle.aidl_names.specs.TypeRules.{breaks_of, rule_of}
 use Rattle.declared_names.specs.Entries.{entry_of}
 use Rattle.aidl_names.proofs.types.add_types_in.Given as goal

@@ -2,7 +2,7 @@ use Rattle.std.proofs.Common.{◌≡◌, ◌-◌, ◌<◌, ◌≤◌, length, ma
 use Rattle.std.proofs.lemmas.Result.{err_from_is_err_and}
 use Rattle.aidl_syntax.specs.declared.token.Symbol.TheVariants as mark
 use Rattle.aidl_syntax.specs.Trees.{ahead_of, member_of}
-use Rattle.part_parser.specs.steps.Parts.{begins}
+use Rattle.aidl_parser.specs.steps.Parts.{begins}
 use Rattle.aidl_parser.specs.steps.Decls.{members_at, member_at}
 use Rattle.expr_parser.proofs.lemmas.Looping.{fails_over}
 use Rattle.aidl_parser.proofs.MemberRounds.{stops, fails, goes_on}

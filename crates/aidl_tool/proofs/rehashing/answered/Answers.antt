@@ -1,6 +1,6 @@
 use Rattle.std.proofs.Common.{Err, subst}
 use Rattle.tool_frame.specs.steps.Results.{Gives}
-use Rattle.version_answers.specs.Rehashed.{rehashed}
+use Rattle.version_output.specs.Rehashed.{rehashed}
 use Rattle.aidl_tool.proofs.Acting.{rehash_done, rehash_refused}
 use Rattle.aidl_tool.proofs.rehashing.answered.Goals as goal
 

@@ -1,5 +1,5 @@
 use Rattle.std.proofs.Common.{refl, inl}
-use Rattle.run_answers.specs.Running.{run_course}
+use Rattle.run_output.specs.Running.{run_course}
 use Rattle.aidl_tool.proofs.running.run_both.Goals as goal
 
 pub returns : goal.returns

@@ -1,6 +1,6 @@
 use Rattle.std.proofs.Common.{◌≡◌, ℕ, List, subst}
 use Rattle.aidl_schema.specs.declared.schema.Decl.{Decl}
-use Rattle.run_answers.specs.Running.{run_course}
+use Rattle.run_output.specs.Running.{run_course}
 use Rattle.tool_frame.specs.Seen.{Seen}
 use Rattle.tool_frame.specs.steps.Courses.{seen_alone}
 use Rattle.aidl_tool.specs.steps.Loading.{RanSome, RunsAs}

@@ -1,7 +1,7 @@
 use Rattle.std.proofs.Common.{codes}
-use Rattle.dump_values.proofs.lemmas.Texts.{added3}
+use Rattle.api_dump.proofs.lemmas.Texts.{added3}
 use Rattle.api_dump.specs.Declarations.{backing_mark}
-use Rattle.dump_values.specs.Types.{flag}
+use Rattle.api_dump.specs.Types.{flag}
 use Rattle.api_dump.proofs.declarations.push_annotations.Goals as goal
 
 pub returns : goal.returns

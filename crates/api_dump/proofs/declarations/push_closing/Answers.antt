@@ -1,8 +1,8 @@
 use Rattle.std.proofs.Common.{[], ◌∷◌}
 use Rattle.aidl_syntax.specs.declared.token.Symbol.TheVariants as mark
-use Rattle.dump_values.specs.Pieces.{sign, spelling}
-use Rattle.dump_values.specs.Pieces.Piece.{newline}
-use Rattle.dump_values.proofs.lemmas.Texts.{added}
+use Rattle.api_dump.specs.Pieces.{sign, spelling}
+use Rattle.api_dump.specs.Pieces.Piece.{newline}
+use Rattle.api_dump.proofs.lemmas.Texts.{added}
 use Rattle.api_dump.specs.Declarations.{indent}
 use Rattle.api_dump.proofs.declarations.push_closing.Goals as goal
 

@@ -1,6 +1,6 @@
 use Rattle.std.proofs.Common.{◌≡◌, ◌++◌, drop, string_bytes}
 use Rattle.std.specs.List.{flat_map}
-use Rattle.dump_values.specs.Pieces.{text_of}
+use Rattle.api_dump.specs.Pieces.{text_of}
 use Rattle.api_dump.specs.Declarations.{indent}
 use Rattle.api_dump.specs.Lines.{constant}
 use Rattle.api_dump.proofs.declarations.push_constants.Given as goal

@@ -1,5 +1,5 @@
 use Rattle.std.proofs.Common.{arith, ◌++◌}
-use Rattle.dump_values.proofs.lemmas.Texts.{added, next_line}
+use Rattle.api_dump.proofs.lemmas.Texts.{added, next_line}
 use Rattle.api_dump.specs.Declarations.{indent}
 use Rattle.api_dump.specs.Lines.{field}
 use Rattle.api_dump.proofs.declarations.push_fields.Goals as goal

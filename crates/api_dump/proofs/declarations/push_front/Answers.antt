@@ -1,6 +1,6 @@
 use Rattle.std.proofs.Common.{◌++◌, string_bytes, ◌∙◌, ap, ℕ}
-use Rattle.dump_values.specs.Pieces.{text_of}
-use Rattle.dump_values.proofs.lemmas.Texts.{added4}
+use Rattle.api_dump.specs.Pieces.{text_of}
+use Rattle.api_dump.proofs.lemmas.Texts.{added4}
 use Rattle.api_dump.specs.Declarations.{indent, annotations, heading, own_lines}
 use Rattle.std.proofs.Common.{suc, add-one}
 use Rattle.api_dump.proofs.declarations.push_front.Goals as goal

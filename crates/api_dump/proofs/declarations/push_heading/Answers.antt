@@ -1,8 +1,8 @@
 use Rattle.std.proofs.Common.{[], ◌∷◌, ◌++◌, string_bytes, ◌∙◌, ap}
 use Rattle.aidl_syntax.specs.declared.token.Symbol.TheVariants as mark
-use Rattle.dump_values.specs.Pieces.{sign, name, reserved, ident, spelling, text_of}
-use Rattle.dump_values.specs.Pieces.Piece.{space, newline}
-use Rattle.dump_values.proofs.lemmas.Texts.{added3}
+use Rattle.api_dump.specs.Pieces.{sign, name, reserved, ident, spelling, text_of}
+use Rattle.api_dump.specs.Pieces.Piece.{space, newline}
+use Rattle.api_dump.proofs.lemmas.Texts.{added3}
 use Rattle.api_dump.specs.Declarations.{kind_word}
 use Rattle.aidl_schema.specs.Names.{last_part}
 use Rattle.api_dump.proofs.declarations.push_heading.Goals as goal

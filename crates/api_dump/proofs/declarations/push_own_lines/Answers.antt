@@ -1,7 +1,7 @@
 use Rattle.std.proofs.Common.{◌++◌, string_bytes, ◌∙◌, ap}
 use Rattle.std.specs.List.{flat_map}
-use Rattle.dump_values.specs.Pieces.{text_of}
-use Rattle.dump_values.proofs.lemmas.Texts.{added}
+use Rattle.api_dump.specs.Pieces.{text_of}
+use Rattle.api_dump.proofs.lemmas.Texts.{added}
 use Rattle.api_dump.specs.Declarations.{indent, member_lines}
 use Rattle.api_dump.specs.Lines.{constant}
 use Rattle.api_dump.proofs.declarations.push_own_lines.Goals as goal

@@ -1,7 +1,7 @@
 use Rattle.std.proofs.Common.{arith, ◌++◌, refl, string_bytes, length, ◌-◌, sym, subst, ◌≡◌, OnOk}
-use Rattle.dump_values.specs.Pieces.{text_of}
+use Rattle.api_dump.specs.Pieces.{text_of}
 use Rattle.api_dump.specs.Dump.{package_line}
-use Rattle.dump_values.proofs.lemmas.Texts.{before_last}
+use Rattle.api_dump.proofs.lemmas.Texts.{before_last}
 use Rattle.api_dump.proofs.dumping.push_package.Goals as goal
 
 pub returns-in-len1-up : goal.returns-in-len1-up

@@ -1,9 +1,9 @@
 use Rattle.std.proofs.Common.{arith, [], ◌∷◌, ◌++◌, string_bytes, ◌∙◌, ap, sym}
 use Rattle.aidl_base.specs.declared.reserved.Reserved.TheVariants as word
 use Rattle.aidl_syntax.specs.declared.token.Symbol.TheVariants as mark
-use Rattle.dump_values.specs.Pieces.{sign, reserved, dotted, spelling, text_of}
-use Rattle.dump_values.specs.Pieces.Piece.{space, newline}
-use Rattle.dump_values.proofs.lemmas.Texts.{added3}
+use Rattle.api_dump.specs.Pieces.{sign, reserved, dotted, spelling, text_of}
+use Rattle.api_dump.specs.Pieces.Piece.{space, newline}
+use Rattle.api_dump.proofs.lemmas.Texts.{added3}
 use Rattle.api_dump.proofs.Packages.{package_some}
 use Rattle.api_dump.proofs.dumping.push_package_line.Goals as goal
 

@@ -1,9 +1,9 @@
 use Rattle.std.proofs.Common.{[], ◌++◌, length, ◌∙◌, ap}
 use Rattle.aidl_schema.specs.Names.{without_last}
-use Rattle.dump_values.specs.Pieces.{text_of}
+use Rattle.api_dump.specs.Pieces.{text_of}
 use Rattle.api_dump.specs.Declarations.{declaration}
 use Rattle.api_dump.specs.Dump.{package_line}
-use Rattle.dump_values.proofs.lemmas.Texts.{added}
+use Rattle.api_dump.proofs.lemmas.Texts.{added}
 use Rattle.api_dump.proofs.dumping.text_of.Goals as goal
 
 pub returns : goal.returns

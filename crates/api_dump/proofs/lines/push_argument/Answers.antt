@@ -1,8 +1,8 @@
 use Rattle.std.proofs.Common.{[], ◌∷◌}
-use Rattle.dump_values.specs.Pieces.{name, reserved}
-use Rattle.dump_values.specs.Pieces.Piece.{space}
-use Rattle.dump_values.proofs.lemmas.Texts.{added4}
-use Rattle.dump_values.specs.Types.{marks, plain_type}
+use Rattle.api_dump.specs.Pieces.{name, reserved}
+use Rattle.api_dump.specs.Pieces.Piece.{space}
+use Rattle.api_dump.proofs.lemmas.Texts.{added4}
+use Rattle.api_dump.specs.Types.{marks, plain_type}
 use Rattle.api_dump.specs.Lines.{way}
 use Rattle.api_dump.proofs.lines.push_argument.Goals as goal
 

@@ -1,7 +1,7 @@
 use Rattle.std.proofs.Common.{[], ◌∷◌}
 use Rattle.aidl_syntax.specs.declared.token.Symbol.TheVariants as mark
-use Rattle.dump_values.specs.Pieces.{sign, joined, spelling}
-use Rattle.dump_values.proofs.lemmas.Texts.{added3}
+use Rattle.api_dump.specs.Pieces.{sign, joined, spelling}
+use Rattle.api_dump.proofs.lemmas.Texts.{added3}
 use Rattle.api_dump.specs.Lines.{argument}
 use Rattle.api_dump.proofs.lines.push_arguments.Goals as goal
 

@@ -1,11 +1,11 @@
 use Rattle.std.proofs.Common.{[], ◌∷◌, ◌++◌}
 use Rattle.aidl_base.specs.declared.reserved.Reserved.TheVariants as word
 use Rattle.aidl_syntax.specs.declared.token.Symbol.TheVariants as mark
-use Rattle.dump_values.specs.Pieces.{sign, name, reserved, dotted, spelling}
-use Rattle.dump_values.specs.Pieces.Piece.{space, newline}
-use Rattle.dump_values.proofs.lemmas.Texts.{added, added5}
-use Rattle.dump_values.specs.Types.{base_name}
-use Rattle.dump_values.specs.Values.{value}
+use Rattle.api_dump.specs.Pieces.{sign, name, reserved, dotted, spelling}
+use Rattle.api_dump.specs.Pieces.Piece.{space, newline}
+use Rattle.api_dump.proofs.lemmas.Texts.{added, added5}
+use Rattle.api_dump.specs.Types.{base_name}
+use Rattle.api_dump.specs.Values.{value}
 use Rattle.api_dump.proofs.lines.push_constant.Goals as goal
 
 pub returns : goal.returns

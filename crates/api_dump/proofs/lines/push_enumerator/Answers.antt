@@ -1,9 +1,9 @@
 use Rattle.std.proofs.Common.{[], ◌∷◌, ◌++◌, string_bytes, ◌∙◌, ap, sym, append-nil}
 use Rattle.aidl_syntax.specs.declared.token.Symbol.TheVariants as mark
-use Rattle.dump_values.specs.Pieces.{sign, name, spelling}
-use Rattle.dump_values.specs.Pieces.Piece.{space, newline}
-use Rattle.dump_values.proofs.lemmas.Texts.{added4}
-use Rattle.dump_values.specs.Values.{of_backing}
+use Rattle.api_dump.specs.Pieces.{sign, name, spelling}
+use Rattle.api_dump.specs.Pieces.Piece.{space, newline}
+use Rattle.api_dump.proofs.lemmas.Texts.{added4}
+use Rattle.api_dump.specs.Values.{of_backing}
 use Rattle.api_dump.proofs.lines.push_enumerator.Goals as goal
 
 pub returns : goal.returns

@@ -1,10 +1,10 @@
 use Rattle.std.proofs.Common.{[], ◌∷◌}
 use Rattle.aidl_syntax.specs.declared.token.Symbol.TheVariants as mark
-use Rattle.dump_values.specs.Pieces.{sign, name, spelling}
-use Rattle.dump_values.specs.Pieces.Piece.{space, newline}
-use Rattle.dump_values.proofs.lemmas.Texts.{added5}
-use Rattle.dump_values.specs.Types.{marks, plain_type}
-use Rattle.dump_values.specs.Values.{initial}
+use Rattle.api_dump.specs.Pieces.{sign, name, spelling}
+use Rattle.api_dump.specs.Pieces.Piece.{space, newline}
+use Rattle.api_dump.proofs.lemmas.Texts.{added5}
+use Rattle.api_dump.specs.Types.{marks, plain_type}
+use Rattle.api_dump.specs.Values.{initial}
 use Rattle.api_dump.proofs.lines.push_field.Goals as goal
 
 pub returns : goal.returns

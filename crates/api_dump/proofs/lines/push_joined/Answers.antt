@@ -1,9 +1,9 @@
 use Rattle.std.proofs.Common.{arith, ◌∷◌, ◌++◌, string_bytes, length, take, drop, ◌-◌, ◌∙◌, ap, sym}
 use Rattle.std.specs.List.{flat_map}
 use Rattle.aidl_syntax.specs.declared.token.Symbol.TheVariants as mark
-use Rattle.dump_values.specs.Pieces.{sign, text_of}
-use Rattle.dump_values.specs.Pieces.Piece.{space}
-use Rattle.dump_values.proofs.lemmas.Texts.{added, joined_head}
+use Rattle.api_dump.specs.Pieces.{sign, text_of}
+use Rattle.api_dump.specs.Pieces.Piece.{space}
+use Rattle.api_dump.proofs.lemmas.Texts.{added, joined_head}
 use Rattle.api_dump.specs.Lines.{argument}
 use Rattle.aidl_schema.specs.declared.schema.Arg.{Arg}
 use Rattle.api_dump.proofs.lines.push_joined.Goals as goal

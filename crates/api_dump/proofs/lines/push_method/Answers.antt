@@ -1,7 +1,7 @@
 use Rattle.std.proofs.Common.{[], ◌∷◌, ◌++◌, string_bytes, ◌∙◌, ap}
-use Rattle.dump_values.specs.Pieces.{name, text_of}
-use Rattle.dump_values.specs.Pieces.Piece.{space}
-use Rattle.dump_values.proofs.lemmas.Texts.{added5}
+use Rattle.api_dump.specs.Pieces.{name, text_of}
+use Rattle.api_dump.specs.Pieces.Piece.{space}
+use Rattle.api_dump.proofs.lemmas.Texts.{added5}
 use Rattle.api_dump.specs.Lines.{oneway, returned, arguments, identity}
 use Rattle.api_dump.proofs.lines.push_method.Goals as goal
 

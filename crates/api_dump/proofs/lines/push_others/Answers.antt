@@ -1,8 +1,8 @@
 use Rattle.std.proofs.Common.{arith, [], ◌∷◌}
 use Rattle.aidl_syntax.specs.declared.token.Symbol.TheVariants as mark
-use Rattle.dump_values.specs.Pieces.{sign, spelling}
-use Rattle.dump_values.specs.Pieces.Piece.{space}
-use Rattle.dump_values.proofs.lemmas.Texts.{added, next_line}
+use Rattle.api_dump.specs.Pieces.{sign, spelling}
+use Rattle.api_dump.specs.Pieces.Piece.{space}
+use Rattle.api_dump.proofs.lemmas.Texts.{added, next_line}
 use Rattle.api_dump.specs.Lines.{argument}
 use Rattle.api_dump.proofs.lines.push_others.Goals as goal
 

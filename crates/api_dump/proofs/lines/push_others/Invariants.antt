@@ -1,8 +1,8 @@
 use Rattle.std.proofs.Common.{◌≡◌, ◌++◌, ◌∷◌, drop, string_bytes}
 use Rattle.std.specs.List.{flat_map}
 use Rattle.aidl_syntax.specs.declared.token.Symbol.TheVariants as mark
-use Rattle.dump_values.specs.Pieces.{sign, text_of}
-use Rattle.dump_values.specs.Pieces.Piece.{space}
+use Rattle.api_dump.specs.Pieces.{sign, text_of}
+use Rattle.api_dump.specs.Pieces.Piece.{space}
 use Rattle.api_dump.specs.Lines.{argument}
 use Rattle.api_dump.proofs.lines.push_others.Given as goal
 

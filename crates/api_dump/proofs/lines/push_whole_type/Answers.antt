@@ -1,5 +1,5 @@
-use Rattle.dump_values.proofs.lemmas.Texts.{added}
-use Rattle.dump_values.specs.Types.{marks, plain_type}
+use Rattle.api_dump.proofs.lemmas.Texts.{added}
+use Rattle.api_dump.specs.Types.{marks, plain_type}
 use Rattle.api_dump.proofs.lines.push_whole_type.Goals as goal
 
 pub returns : goal.returns

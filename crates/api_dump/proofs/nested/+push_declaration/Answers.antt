@@ -1,8 +1,8 @@
 use Rattle.std.proofs.Common.{arith, ◌++◌, refl, slice_get, string_bytes, length, get_or, ◌-◌, suc, ◌∙◌, ap, sym, subst, ◌≡◌, ℕ, add-one}
 use Rattle.std.specs.List.{flat_map}
-use Rattle.dump_values.specs.Pieces.{text_of}
+use Rattle.api_dump.specs.Pieces.{text_of}
 use Rattle.api_dump.specs.Declarations.{front, closing, wrapped_at, nested_lines, declaration}
-use Rattle.dump_values.proofs.lemmas.Texts.{added3, next_number, all_lines}
+use Rattle.api_dump.proofs.lemmas.Texts.{added3, next_number, all_lines}
 use Rattle.std.proofs.Common.{Some}
 use Rattle.std.proofs.lemmas.Option.{slice_get_read}
 use Rattle.api_dump.proofs.nested.+push_declaration.Goals as goal

@@ -3,12 +3,12 @@ use Rattle.std.specs.Prelude.{OnOk}
 use Rattle.std.specs.List.{flat_map}
 use Rattle.aidl_schema.specs.declared.schema.Method.{Method}
 use Rattle.aidl_schema.specs.Broken.{Break, Place, at_arguments_of, member, of_rule, places}
-use Rattle.schema_compare.specs.declared.tests.MethodTest.{MethodTest}
-use Rattle.schema_compare.specs.declared.tests.MethodTest.TheVariants as method
-use Rattle.schema_compare.specs.declared.tests.ArgumentTest.{ArgumentTest}
-use Rattle.schema_compare.specs.declared.tests.ArgumentTest.TheVariants as argument
+use Rattle.compat_judge.specs.declared.tests.MethodTest.{MethodTest}
+use Rattle.compat_judge.specs.declared.tests.MethodTest.TheVariants as method
+use Rattle.compat_judge.specs.declared.tests.ArgumentTest.{ArgumentTest}
+use Rattle.compat_judge.specs.declared.tests.ArgumentTest.TheVariants as argument
 use Rattle.compat_judge.specs.steps.Steps.{both_of}
-use Rattle.schema_compare.specs.steps.Tests.{argument_breaks, method_breaks}
+use Rattle.compat_judge.specs.steps.Tests.{argument_breaks, method_breaks}
 use Rattle.compat_judge.proofs.Chains.{six_steps}
 use Rattle.compat_judge.proofs.Listing.{of_rule-append}
 use Rattle.compat_judge.proofs.rules.interface_rules.Goals as goal

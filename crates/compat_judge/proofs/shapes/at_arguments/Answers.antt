@@ -2,7 +2,7 @@ use Rattle.std.proofs.Common.{◌≡◌, ◌<◌, ◌++◌, length, map, sym, ap
 use Rattle.std.proofs.lemmas.List.{length-map}
 use Rattle.aidl_schema.specs.Broken.{at_arguments_of, of_rule}
 use Rattle.compat_judge.specs.steps.Steps.{both_of}
-use Rattle.schema_compare.specs.steps.Tests.{argument_breaks}
+use Rattle.compat_judge.specs.steps.Tests.{argument_breaks}
 use Rattle.compat_judge.proofs.Listing.{added_all, added_more, of_rule-flat}
 use Rattle.compat_judge.proofs.Walk.{get_mapped}
 use Rattle.compat_judge.proofs.shapes.at_arguments.Goals as goal

@@ -2,7 +2,7 @@ use Rattle.std.proofs.Common.{◌≡◌, ◌++◌, map, take}
 use Rattle.std.specs.List.{flat_map}
 use Rattle.aidl_schema.specs.Broken.{at_arguments_of, of_rule}
 use Rattle.compat_judge.specs.steps.Steps.{both_of}
-use Rattle.schema_compare.specs.steps.Tests.{argument_breaks}
+use Rattle.compat_judge.specs.steps.Tests.{argument_breaks}
 use Rattle.compat_judge.proofs.shapes.at_arguments.Given as goal
 
 abbrev pub invariant-loop-both : goal.invariant-loop-both

@@ -2,7 +2,7 @@ use Rattle.std.proofs.Common.{◌≡◌, ℕ, ◌+◌, ◌<◌, Bool, ◌++◌, 
 use Rattle.std.specs.List.{enumerate_from, zip}
 use Rattle.aidl_schema.specs.declared.schema.Arg.{Arg}
 use Rattle.aidl_schema.specs.Broken.{Place, argument, of_rule, places}
-use Rattle.schema_compare.specs.steps.Tests.{argument_breaks}
+use Rattle.compat_judge.specs.steps.Tests.{argument_breaks}
 use Rattle.compat_judge.proofs.Listing.{places_all}
 use Rattle.compat_judge.proofs.Walk.{at_argument, numbered_at, numbered_length, zip_at, zip_length}
 use Rattle.compat_judge.proofs.shapes.at_arguments_of.Goals as goal

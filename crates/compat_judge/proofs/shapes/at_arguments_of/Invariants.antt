@@ -2,7 +2,7 @@ use Rattle.std.proofs.Common.{◌≡◌, ◌++◌, take}
 use Rattle.std.specs.List.{enumerate_from, flat_map, zip}
 use Rattle.aidl_schema.specs.Broken.{argument}
 use Rattle.compat_judge.specs.steps.Steps.{break_if}
-use Rattle.schema_compare.specs.steps.Tests.{argument_breaks}
+use Rattle.compat_judge.specs.steps.Tests.{argument_breaks}
 use Rattle.compat_judge.proofs.shapes.at_arguments_of.Given as goal
 
 abbrev pub invariant-loop-k : goal.invariant-loop-k

@@ -1,7 +1,7 @@
 use Rattle.std.proofs.Common.{◌≡◌, ◌<◌, length, arith}
 use Rattle.std.specs.List.{zip}
 use Rattle.aidl_schema.specs.Broken.{member}
-use Rattle.schema_compare.specs.steps.Tests.{field_breaks}
+use Rattle.compat_judge.specs.steps.Tests.{field_breaks}
 use Rattle.compat_judge.proofs.Listing.{places_all}
 use Rattle.compat_judge.proofs.Walk.{at_member, zip_at, zip_length}
 use Rattle.compat_judge.proofs.shapes.at_fields.Goals as goal

@@ -2,7 +2,7 @@ use Rattle.std.proofs.Common.{◌≡◌, ◌++◌, take}
 use Rattle.std.specs.List.{flat_map, zip}
 use Rattle.aidl_schema.specs.Broken.{member}
 use Rattle.compat_judge.specs.steps.Steps.{break_if}
-use Rattle.schema_compare.specs.steps.Tests.{field_breaks}
+use Rattle.compat_judge.specs.steps.Tests.{field_breaks}
 use Rattle.compat_judge.proofs.shapes.at_fields.Given as goal
 
 abbrev pub invariant-loop-k : goal.invariant-loop-k

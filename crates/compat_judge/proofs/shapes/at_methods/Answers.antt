@@ -2,7 +2,7 @@ use Rattle.std.proofs.Common.{◌≡◌, ◌<◌, length, map, arith}
 use Rattle.std.proofs.lemmas.List.{length-map}
 use Rattle.aidl_schema.specs.Broken.{member}
 use Rattle.compat_judge.specs.steps.Steps.{both_of}
-use Rattle.schema_compare.specs.steps.Tests.{method_breaks}
+use Rattle.compat_judge.specs.steps.Tests.{method_breaks}
 use Rattle.compat_judge.proofs.Listing.{places_all}
 use Rattle.compat_judge.proofs.Walk.{at_member, get_mapped}
 use Rattle.compat_judge.proofs.shapes.at_methods.Goals as goal

@@ -2,7 +2,7 @@ use Rattle.std.proofs.Common.{◌≡◌, ◌++◌, map, take}
 use Rattle.std.specs.List.{flat_map}
 use Rattle.aidl_schema.specs.Broken.{member}
 use Rattle.compat_judge.specs.steps.Steps.{both_of, break_if}
-use Rattle.schema_compare.specs.steps.Tests.{method_breaks}
+use Rattle.compat_judge.specs.steps.Tests.{method_breaks}
 use Rattle.compat_judge.proofs.shapes.at_methods.Given as goal
 
 abbrev pub invariant-loop-both : goal.invariant-loop-both

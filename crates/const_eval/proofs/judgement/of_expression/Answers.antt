@@ -2,7 +2,7 @@ use Rattle.std.proofs.Common.{Err, map, subst}
 use Rattle.aidl_syntax.specs.Trees.{expr_of}
 use Rattle.aidl_syntax.specs.Sources.{source_of}
 use Rattle.const_values.specs.Evaluation.{evaluated}
-use Rattle.const_operands.specs.Seen.{Answers, seen}
+use Rattle.const_values.specs.Seen.{Answers, seen}
 use Rattle.const_eval.specs.Known.{known_meaning}
 use Rattle.const_eval.proofs.Meant.{expression_fails}
 use Rattle.const_items.proofs.lemmas.Scopes.{scoped}

@@ -1,5 +1,5 @@
 use Rattle.declared_names.specs.Declarations.{declarations}
-use Rattle.name_rules.specs.Rules.{WrongFile, UnknownImport, UnknownType, LeftOutType, repeated_inside, taken, other_imports}
+use Rattle.aidl_names.specs.Rules.{WrongFile, UnknownImport, UnknownType, LeftOutType, repeated_inside, taken, other_imports}
 use Rattle.declared_names.specs.Numbered.{in_each}
 use Rattle.std.specs.List.{flat_map}
 use Rattle.dump_reading.proofs.named.Declared.{are_declared}

@@ -1,10 +1,10 @@
 use Rattle.std.proofs.Common.{◌++◌, ◌∷◌, [], ℕ, Option, map, length, refl, sym, ◌∙◌, ap, arith}
 use Rattle.std.proofs.lemmas.Option.{slice_get_read}
 use Rattle.declared_names.specs.Entries.{entry_of}
-use Rattle.name_meanings.specs.Resolution.{first_declared, enclosing}
-use Rattle.name_meanings.proofs.lemmas.Candidates.{outward, inward}
-use Rattle.name_marks.specs.Marks.{mark_of}
-use Rattle.name_meanings.proofs.lemmas.Tables.{mark_at}
+use Rattle.name_resolution.specs.Resolution.{first_declared, enclosing}
+use Rattle.name_resolution.proofs.lemmas.Candidates.{outward, inward}
+use Rattle.declared_names.specs.Marks.{mark_of}
+use Rattle.name_resolution.proofs.lemmas.Tables.{mark_at}
 use Rattle.name_resolution.proofs.resolution.+in_enclosing.Goals as goal
 
 -- it has none of the names of this declaration, so those that enclose it are asked

@@ -2,11 +2,11 @@ use Rattle.std.proofs.Common.{List, ◌++◌, ◌∷◌, [], Option, Some, None,
 use Rattle.std.proofs.lemmas.List.{length-map}
 use Rattle.aidl_base.specs.declared.name.Ident.{Ident}
 use Rattle.declared_names.specs.Declarations.{Entry}
-use Rattle.name_meanings.specs.declared.meaning.Resolved.{Resolved}
+use Rattle.name_resolution.specs.declared.meaning.Resolved.{Resolved}
 use Rattle.aidl_syntax.specs.Sources.{source_of}
-use Rattle.name_meanings.specs.Resolution.{first_declared}
+use Rattle.name_resolution.specs.Resolution.{first_declared}
 use Rattle.declared_names.specs.Entries.{entry_of}
-use Rattle.name_meanings.proofs.lemmas.Candidates.{tried}
+use Rattle.name_resolution.proofs.lemmas.Candidates.{tried}
 use Rattle.name_resolution.proofs.resolution.first_declared.Goals as goal
 
 pub returns-in-Some-in_enclosing : goal.returns-in-Some-in_enclosing

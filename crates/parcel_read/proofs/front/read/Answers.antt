@@ -2,7 +2,7 @@ use Rattle.std.proofs.Common.{false, subst, arith, length-drop, ◌∙◌, sym}
 use Rattle.std.proofs.lemmas.Result.{err_from_is_err_and}
 use Rattle.aidl_base.proofs.lemmas.Lists.{AreBytes}
 use Rattle.aidl_values.specs.View.{view}
-use Rattle.parcel_cursors.specs.Taken.{RefusesIfMemory}
+use Rattle.parcel_words.specs.Taken.{RefusesIfMemory}
 use Rattle.wire_model.specs.ReadOf.{read_of}
 use Rattle.wire_model.specs.Reads.{Reads}
 use Rattle.wire_model.specs.Stop.{Stop}

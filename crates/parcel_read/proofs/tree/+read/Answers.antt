@@ -4,11 +4,11 @@ use Rattle.std.proofs.lemmas.List.{map_push}
 use Rattle.aidl_values.specs.Data.{Data, rec}
 use Rattle.aidl_values.specs.View.{view, views}
 use Rattle.aidl_values.specs.declared.value.Value.{Rec, the_lemmas}
-use Rattle.parcel_cursors.specs.Place.{Place, left, is_inside, closed, MovesOn}
-use Rattle.parcel_cursors.specs.Taken.{TakesIfMemory, RefusesIfMemory}
-use Rattle.parcel_cursors.proofs.lemmas.Moves.{on_and_on}
-use Rattle.parcel_cursors.proofs.lemmas.Faults.{refused_if_memory}
-use Rattle.parcel_cursors.proofs.lemmas.Records.{stays, leaves}
+use Rattle.parcel_words.specs.Place.{Place, left, is_inside, closed, MovesOn}
+use Rattle.parcel_words.specs.Taken.{TakesIfMemory, RefusesIfMemory}
+use Rattle.parcel_words.proofs.lemmas.Moves.{on_and_on}
+use Rattle.parcel_words.proofs.lemmas.Faults.{refused_if_memory}
+use Rattle.parcel_words.proofs.lemmas.Records.{stays, leaves}
 use Rattle.parcel_read.proofs.Loop.{goes_on, ends, is_done, field_on, fields_done}
 use Rattle.parcel_read.proofs.Records.{body_is, record_is, record_fails, no_record}
 use Rattle.parcel_read.proofs.tree.+read.Goals as goal

@@ -1,6 +1,6 @@
 use Rattle.std.proofs.Common.{◌≡◌, ◌+◌, ◌-◌, ◌*◌, true, map, drop}
 use Rattle.aidl_values.specs.View.{view}
-use Rattle.parcel_cursors.specs.Place.{left, is_inside, MovesOn}
+use Rattle.parcel_words.specs.Place.{left, is_inside, MovesOn}
 use Rattle.wire_model.specs.ReadOf.{each_at}
 use Rattle.aidl_values.proofs.lemmas.Fronts.{with_front}
 use Rattle.parcel_read.proofs.Loop.{with_items}

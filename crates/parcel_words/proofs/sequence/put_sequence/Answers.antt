@@ -2,8 +2,8 @@ use Rattle.std.proofs.Common.{length, pos, sym, ap, ◌∙◌, arith}
 use Rattle.std.specs.List.{flat_map}
 use Rattle.std.proofs.lemmas.List.{at_drop_all}
 use Rattle.aidl_base.specs.Words.{word}
-use Rattle.parcel_cursors.specs.Written.{with_bytes}
-use Rattle.parcel_cursors.proofs.lemmas.Appends.{with_more, with_none}
+use Rattle.parcel_words.specs.Written.{with_bytes}
+use Rattle.parcel_words.proofs.lemmas.Appends.{with_more, with_none}
 use Rattle.parcel_words.proofs.sequence.put_sequence.Goals as goal
 
 pub returns : goal.returns

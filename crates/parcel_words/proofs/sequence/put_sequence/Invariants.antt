@@ -1,6 +1,6 @@
 use Rattle.std.proofs.Common.{◌≡◌, ◌≤◌, length, drop}
 use Rattle.std.specs.List.{flat_map}
-use Rattle.parcel_cursors.specs.Written.{with_bytes}
+use Rattle.parcel_words.specs.Written.{with_bytes}
 use Rattle.parcel_words.proofs.sequence.put_sequence.Given as goal
 
 -- after the count, with the items that are left, all is written, and there is room for them

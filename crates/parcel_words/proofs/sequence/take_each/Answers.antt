@@ -1,9 +1,9 @@
 use Rattle.std.proofs.Common.{◌≡◌, Ok, ap, subst}
 use Rattle.std.proofs.lemmas.Result.{err_from_is_err_and}
 use Rattle.aidl_base.specs.Readings.{items_at}
-use Rattle.parcel_cursors.specs.Place.{Place, left, is_inside}
-use Rattle.parcel_cursors.specs.Taken.{RefusesIfMemory}
-use Rattle.parcel_cursors.proofs.lemmas.Moves.{on_and_on}
+use Rattle.parcel_words.specs.Place.{Place, left, is_inside}
+use Rattle.parcel_words.specs.Taken.{RefusesIfMemory}
+use Rattle.parcel_words.proofs.lemmas.Moves.{on_and_on}
 use Rattle.parcel_words.proofs.Items.{goes_on, ends, is_done}
 use Rattle.parcel_words.proofs.sequence.take_each.Goals as goal
 

@@ -1,6 +1,6 @@
 use Rattle.std.proofs.Common.{◌≡◌, ◌-◌}
 use Rattle.aidl_base.specs.Readings.{items_at}
-use Rattle.parcel_cursors.specs.Place.{left, is_inside, MovesOn}
+use Rattle.parcel_words.specs.Place.{left, is_inside, MovesOn}
 use Rattle.parcel_words.proofs.Items.{after_front}
 use Rattle.parcel_words.proofs.sequence.take_each.Given as goal
 

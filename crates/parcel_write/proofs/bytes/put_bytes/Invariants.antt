@@ -1,6 +1,6 @@
 use Rattle.std.proofs.Common.{◌≡◌, ◌≤◌, length, drop}
 use Rattle.aidl_values.specs.View.{views}
-use Rattle.parcel_cursors.specs.Written.{with_bytes}
+use Rattle.parcel_words.specs.Written.{with_bytes}
 use Rattle.parcel_write.specs.steps.Bytes.{AreByteValues}
 use Rattle.wire_model.specs.Spell.{raw_bytes}
 use Rattle.parcel_write.proofs.bytes.put_bytes.Given as goal

@@ -2,8 +2,8 @@ use Rattle.std.proofs.Common.{◌≡◌, ◌^◌, ◌<◌, true, false, pos, ◌
 use Rattle.aidl_base.specs.Words.{word, pad}
 use Rattle.aidl_base.proofs.lemmas.Spelled.{length-spell_text}
 use Rattle.aidl_values.specs.View.{view, views}
-use Rattle.parcel_cursors.specs.Written.{with_bytes, with_size}
-use Rattle.parcel_cursors.proofs.lemmas.Appends.{with_more}
+use Rattle.parcel_words.specs.Written.{with_bytes, with_size}
+use Rattle.parcel_words.proofs.lemmas.Appends.{with_more}
 use Rattle.wire_model.specs.Spell.{raw_bytes, body}
 use Rattle.parcel_write.specs.steps.PlanSpell.{is_raw_item, element_of, record_entries, union_entries, id_of_entry, item_of, plan_spell, plan_spell_items, plan_spell_entries}
 use Rattle.parcel_write.proofs.Records.{record_written}

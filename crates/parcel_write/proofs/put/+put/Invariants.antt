@@ -1,6 +1,6 @@
 use Rattle.std.proofs.Common.{◌≡◌, ◌^◌, ◌<◌, ◌≤◌, length, drop}
 use Rattle.aidl_values.specs.View.{views}
-use Rattle.parcel_cursors.specs.Written.{with_bytes}
+use Rattle.parcel_words.specs.Written.{with_bytes}
 use Rattle.parcel_write.specs.steps.PlanSpell.{EachSuits, EntriesSuit, plan_spell_entries, plan_spell_items}
 use Rattle.parcel_write.proofs.put.+put.Given as goal
 

@@ -1,6 +1,6 @@
 use Rattle.std.proofs.Common.{◌<◌, ◌≤◌, ◌^◌, length, sym, ap, ◌∙◌, subst}
 use Rattle.aidl_values.specs.View.{view}
-use Rattle.parcel_cursors.specs.Written.{with_bytes}
+use Rattle.parcel_words.specs.Written.{with_bytes}
 use Rattle.parcel_write.proofs.Suited.{suited, spelled_as}
 use Rattle.parcel_write.proofs.put.put_value.Goals as goal
 

@@ -1,7 +1,7 @@
 use Rattle.std.proofs.Common.{refl, ◌∙◌}
 use Rattle.std.specs.Prelude.{string_bytes}
 use Rattle.tree_schema.specs.Keyed.{values_at}
-use Rattle.schema_parts.specs.Parts.{bytes_of}
+use Rattle.tree_schema.specs.Parts.{bytes_of}
 use Rattle.tree_schema.proofs.InOrder.{constant_is}
 use Rattle.tree_schema.proofs.Keyed.{went}
 use Rattle.tree_schema.proofs.constants.add_constant.Goals as goal

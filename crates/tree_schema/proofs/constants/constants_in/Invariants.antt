@@ -4,8 +4,8 @@ use Rattle.std.specs.List.{fold}
 use Rattle.aidl_syntax.specs.Trees.{members_of}
 use Rattle.aidl_syntax.specs.Members.{listed}
 use Rattle.tree_schema.specs.Keyed.{IsKeyed, values_at}
-use Rattle.schema_parts.specs.Parts.{bytes_of, put, listed_constants}
-use Rattle.schema_parts.specs.TreeViews.{files_of, outcomes_of}
+use Rattle.tree_schema.specs.Parts.{bytes_of, put, listed_constants}
+use Rattle.tree_schema.specs.TreeViews.{files_of, outcomes_of}
 use Rattle.tree_schema.proofs.constants.constants_in.Given as goal
 
 -- each constant so far stands at its name, and these are in order

@@ -3,7 +3,7 @@ use Rattle.std.specs.List.{slice_get}
 use Rattle.std.proofs.lemmas.Option.{slice_get_read, slice_get-map}
 use Rattle.declared_names.specs.Declarations.{declarations}
 use Rattle.declared_names.specs.Entries.{entry_of}
-use Rattle.schema_parts.specs.TreeViews.{files_of, numbered_of}
+use Rattle.tree_schema.specs.TreeViews.{files_of, numbered_of}
 use Rattle.tree_schema.proofs.lemmas.named.Numbers.{sorted-there}
 use Rattle.tree_schema.proofs.drafting.declared_in.Goals as goal
 

@@ -4,8 +4,8 @@ use Rattle.aidl_syntax.specs.declared.tree.BodyTree.{BodyTree, fold-roll-BodyTre
 use Rattle.aidl_syntax.specs.declared.tree.BodyTree as body_tree
 use Rattle.aidl_syntax.specs.Trees.{Body, Decl, Members, body_of, enumerator_of, body_step, member_step, decl_step}
 use Rattle.aidl_syntax.specs.Members.{members}
-use Rattle.schema_parts.specs.Parts.{constants_in, put}
-use Rattle.schema_parts.specs.TreeViews.{files_of, outcomes_of}
+use Rattle.tree_schema.specs.Parts.{constants_in, put}
+use Rattle.tree_schema.specs.TreeViews.{files_of, outcomes_of}
 use Rattle.tree_schema.proofs.InOrder.{no_constants}
 use Rattle.tree_schema.proofs.kinds.constants_of.Goals as goal
 

@@ -1,7 +1,7 @@
 use Rattle.std.proofs.Common.{◌≡◌, ◌++◌, map, drop}
 use Rattle.aidl_syntax.specs.Trees.{enumerator_of}
-use Rattle.schema_parts.specs.Parts.{enumerator_in}
-use Rattle.schema_parts.specs.TreeViews.{files_of, outcomes_of}
+use Rattle.tree_schema.specs.Parts.{enumerator_in}
+use Rattle.tree_schema.specs.TreeViews.{files_of, outcomes_of}
 use Rattle.tree_schema.proofs.kinds.enumerators_in.Given as goal
 
 -- the enumerators so far and those that are left are all

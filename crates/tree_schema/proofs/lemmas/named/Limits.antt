@@ -13,14 +13,14 @@ use Rattle.aidl_syntax.specs.Trees.Body.{parcelable, union, enum, interface}
 use Rattle.aidl_syntax.specs.Members.{Member, members, listed, body}
 use Rattle.aidl_syntax.specs.Members.Member.{field, constant, method, enumerator, nested}
 use Rattle.declared_names.specs.Declarations.{Entry, declarations}
-use Rattle.name_rules.specs.Limits.{passed, has_many_members, has_long_method, is_long_method}
+use Rattle.aidl_names.specs.Limits.{passed, has_many_members, has_long_method, is_long_method}
 use Rattle.aidl_syntax.specs.Sources.{Source}
 use Rattle.const_values.specs.declared.wanted.Wanted.{Wanted}
 use Rattle.type_shapes.specs.Backing.{backing_of}
-use Rattle.schema_parts.specs.Numbers.{Numbered, sorted}
-use Rattle.schema_parts.specs.Parts.{methods_in, arg_in}
+use Rattle.tree_schema.specs.Numbers.{Numbered, sorted}
+use Rattle.tree_schema.specs.Parts.{methods_in, arg_in}
 use Rattle.tree_schema.specs.SchemaOf.{schema_of, declared, kind_of}
-use Rattle.schema_parts.specs.Values.{Outcomes}
+use Rattle.tree_schema.specs.Values.{Outcomes}
 use Rattle.tree_schema.proofs.lemmas.walked.Totals.{total-length, total-enumerate}
 use Rattle.tree_schema.proofs.walked.Outers.{are_named}
 use Rattle.tree_schema.proofs.lemmas.named.Numbers.{sorted-total, sorted-there}

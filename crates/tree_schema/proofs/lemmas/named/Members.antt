@@ -14,14 +14,14 @@ use Rattle.aidl_syntax.specs.Members.{Member, members, listed, body, member_name
 use Rattle.aidl_syntax.specs.Members.Member.{field, constant, method, enumerator, nested}
 use Rattle.aidl_names.specs.Breaches.{breaches}
 use Rattle.declared_names.specs.Declarations.{declarations}
-use Rattle.name_rules.specs.Rules as rules
+use Rattle.aidl_names.specs.Rules as rules
 use Rattle.aidl_syntax.specs.Sources.{Source}
 use Rattle.const_values.specs.declared.wanted.Wanted.{Wanted}
 use Rattle.type_shapes.specs.Backing.{backing_of}
-use Rattle.schema_parts.specs.Numbers.{Numbered, sorted}
-use Rattle.schema_parts.specs.Parts.{methods_in, arg_in, listed_constants, constants_in, bytes_of}
+use Rattle.tree_schema.specs.Numbers.{Numbered, sorted}
+use Rattle.tree_schema.specs.Parts.{methods_in, arg_in, listed_constants, constants_in, bytes_of}
 use Rattle.tree_schema.specs.SchemaOf.{schema_of, declared, kind_of}
-use Rattle.schema_parts.specs.Values.{Outcomes}
+use Rattle.tree_schema.specs.Values.{Outcomes}
 use Rattle.tree_schema.proofs.lemmas.walked.Totals.{total, total-map, misses, misses-none, all-by_misses, is_that, distinct-by_counts}
 use Rattle.tree_schema.proofs.lemmas.walked.Placed.{placed, all-all, all-ascending}
 use Rattle.tree_schema.proofs.lemmas.walked.Ascii.{is_identifier_part, plain-identifier}

@@ -12,10 +12,10 @@ use Rattle.aidl_syntax.specs.Members.{declared_name}
 use Rattle.aidl_names.specs.Breaches.{breaches}
 use Rattle.declared_names.specs.Declarations.{Entry, declarations}
 use Rattle.declared_names.specs.Names.{text, same}
-use Rattle.name_meanings.specs.Resolution.{meaning_of_word}
-use Rattle.name_rules.specs.Rules.{is_taken}
+use Rattle.name_resolution.specs.Resolution.{meaning_of_word}
+use Rattle.aidl_names.specs.Rules.{is_taken}
 use Rattle.aidl_syntax.specs.Sources.{Source}
-use Rattle.schema_parts.specs.Numbers.{Numbered, bytes_of, put, sorted, has_number, number_of}
+use Rattle.tree_schema.specs.Numbers.{Numbered, bytes_of, put, sorted, has_number, number_of}
 use Rattle.tree_schema.proofs.lemmas.walked.Totals.{total, total-enumerate, total-length, is_that}
 use Rattle.tree_schema.proofs.lemmas.walked.Placed.{placed, all-total, all-ascending, all-exact, Each, each-at, all-each, placed-by}
 use Rattle.tree_schema.proofs.lemmas.walked.Ascii.{is_identifier_part, plain-dotted, dotted-injective}

@@ -15,14 +15,14 @@ use Rattle.aidl_syntax.specs.Members.{body, declared_name}
 use Rattle.aidl_names.specs.Breaches.{breaches}
 use Rattle.declared_names.specs.Declarations.{Entry, declarations}
 use Rattle.declared_names.specs.Names.{text}
-use Rattle.name_meanings.specs.Resolution.{meaning_in, meaning_words, meaning_of_word}
+use Rattle.name_resolution.specs.Resolution.{meaning_in, meaning_words, meaning_of_word}
 use Rattle.aidl_syntax.specs.Sources.{Source}
-use Rattle.name_meanings.specs.declared.meaning.Resolved.{Resolved}
+use Rattle.name_resolution.specs.declared.meaning.Resolved.{Resolved}
 use Rattle.const_values.specs.declared.wanted.Wanted.{Wanted}
 use Rattle.type_shapes.specs.Backing.{backing_of}
-use Rattle.schema_parts.specs.Numbers.{Numbered, sorted, number_of}
+use Rattle.tree_schema.specs.Numbers.{Numbered, sorted, number_of}
 use Rattle.tree_schema.specs.SchemaOf.{schema_of, declared, outer_of, kind_of}
-use Rattle.schema_parts.specs.Values.{Outcomes}
+use Rattle.tree_schema.specs.Values.{Outcomes}
 use Rattle.tree_schema.proofs.lemmas.walked.Ascii.{plain-dotted, plain-identifier}
 use Rattle.tree_schema.proofs.walked.Outers.{IsAround, are_named, walked, named-itself, may_hold}
 use Rattle.tree_schema.proofs.walked.Breaches.{no-type_word}

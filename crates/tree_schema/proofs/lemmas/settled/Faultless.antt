@@ -8,12 +8,12 @@ use Rattle.aidl_syntax.specs.declared.token.Token.{Token}
 use Rattle.aidl_syntax.specs.declared.tree.ParsedFile.{ParsedFile}
 use Rattle.aidl_syntax.specs.Productions.{IsFile}
 use Rattle.aidl_syntax.specs.Sources.{Source, AreOfBytes, IsOfBytes, source_of}
-use Rattle.const_operands.specs.declared.fault.ConstFault.{ConstFault}
+use Rattle.const_values.specs.declared.fault.ConstFault.{ConstFault}
 use Rattle.const_eval.specs.declared.outcome.Outcome.{Outcome}
 use Rattle.const_eval.specs.declared.outcome.Outcome.TheVariants.{Given, Fault, Unjudged}
 use Rattle.const_eval.specs.Breaches.{breach_by, breaches, breaches_from}
 use Rattle.const_items.specs.Items.{Item, items}
-use Rattle.schema_parts.specs.Values.{Outcomes}
+use Rattle.tree_schema.specs.Values.{Outcomes}
 use Rattle.tree_schema.proofs.lemmas.valued.EnumsFilled.{is_filled, file-filled}
 use Rattle.tree_schema.proofs.lemmas.settled.Settled.{AreFaultless}
 use Rattle.tree_schema.proofs.lemmas.walked.Lists.{all-from_at}

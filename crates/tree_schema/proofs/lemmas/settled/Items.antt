@@ -11,7 +11,7 @@ use Rattle.aidl_syntax.specs.Members.{Member, members, listed, body}
 use Rattle.aidl_syntax.specs.Members.Member.{field, constant, method, enumerator, nested}
 use Rattle.aidl_names.specs.Breaches.{breaches}
 use Rattle.declared_names.specs.Declarations.{Entry, declarations}
-use Rattle.name_rules.specs.Rules.{breach}
+use Rattle.aidl_names.specs.Rules.{breach}
 use Rattle.declared_names.specs.Numbered.{in_each}
 use Rattle.aidl_syntax.specs.Sources.{Source}
 use Rattle.const_values.specs.declared.wanted.Wanted.{Wanted}
@@ -22,7 +22,7 @@ use Rattle.const_items.specs.Items.{Item, items, declared, order, put, shape_in,
 use Rattle.type_uses.specs.Bases.{is_refused}
 use Rattle.type_uses.specs.TypeUses as uses
 use Rattle.type_uses.specs.TypeUses.{TypeUse, of_arg, of_member, is_field, name_place}
-use Rattle.member_rules.specs.FieldRules.{bad_fields, is_bad_field, is_bad_initial, is_union_body, empty_union}
+use Rattle.type_rules.specs.FieldRules.{bad_fields, is_bad_field, is_bad_initial, is_union_body, empty_union}
 use Rattle.type_rules.specs.MethodRules.{is_oneway_body}
 use Rattle.type_rules.specs.Unbroken.{AreUnbroken}
 use Rattle.tree_schema.proofs.lemmas.walked.Placed.{placed, placed-by, Each, each-at, all-each}

@@ -3,12 +3,12 @@ use Rattle.std.proofs.Common.{◌≡◌, ◌<◌, ℕ, true, false, List, Some, 
 use Rattle.std.proofs.lemmas.Option.{slice_get_within}
 use Rattle.aidl_base.specs.declared.constant.Const.{Const, out-Const}
 use Rattle.aidl_syntax.specs.Sources.{Source}
-use Rattle.const_operands.specs.declared.fault.ConstFault.{ConstFault}
+use Rattle.const_values.specs.declared.fault.ConstFault.{ConstFault}
 use Rattle.const_eval.specs.declared.outcome.Outcome.TheVariants.{Given, Fault}
 use Rattle.const_items.specs.Items.{Item, items, number_at}
 use Rattle.const_eval.specs.Outcomes.{HasOutcome}
 use Rattle.const_eval.proofs.lemmas.OneOutcome.{one_outcome}
-use Rattle.schema_parts.specs.Values.{Outcomes, value_at, value_of, value_of_item}
+use Rattle.tree_schema.specs.Values.{Outcomes, value_at, value_of, value_of_item}
 use Rattle.tree_schema.proofs.settled.Fit.{is_plain_written, all-fit, has-item}
 use Rattle.tree_schema.proofs.settled.Given.{all-given}
 use Rattle.tree_schema.proofs.settled.Plain.{fits}

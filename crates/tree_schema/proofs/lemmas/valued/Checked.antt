@@ -9,7 +9,7 @@ use Rattle.aidl_syntax.specs.Sources.{Source}
 use Rattle.const_items.specs.Items.{of_entry}
 use Rattle.type_rules.specs.Unbroken.{AreUnbroken}
 use Rattle.tree_schema.specs.SchemaOf.{schema_of}
-use Rattle.schema_parts.specs.Values.{Outcomes}
+use Rattle.tree_schema.specs.Values.{Outcomes}
 use Rattle.tree_schema.proofs.walked.Outers.{are_named}
 use Rattle.tree_schema.proofs.lemmas.walked.Placed.{Each}
 use Rattle.tree_schema.proofs.typed.Schema.{types-hold}

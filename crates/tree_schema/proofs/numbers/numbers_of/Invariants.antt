@@ -1,8 +1,8 @@
 use Rattle.std.proofs.Common.{◌≡◌, ℕ, nat_eq, map, drop}
 use Rattle.std.specs.List.{position_from}
 use Rattle.indexmap.specs.IndexMap.{get}
-use Rattle.schema_parts.specs.Numbers.{has_number}
-use Rattle.schema_parts.specs.TreeViews.{numbered_of}
+use Rattle.tree_schema.specs.Numbers.{has_number}
+use Rattle.tree_schema.specs.TreeViews.{numbered_of}
 use Rattle.tree_schema.proofs.numbers.numbers_of.Given as goal
 
 -- the places of the declarations from i on

@@ -1,5 +1,5 @@
 use Rattle.std.proofs.Common.{◌≡◌, ◌++◌, map, length}
-use Rattle.schema_parts.specs.TreeViews.{numbered_of}
+use Rattle.tree_schema.specs.TreeViews.{numbered_of}
 use Rattle.tree_schema.proofs.order.listed.Given as goal
 
 -- those that are listed and those that are left are all

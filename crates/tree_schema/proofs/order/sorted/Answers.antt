@@ -2,7 +2,7 @@ use Rattle.std.proofs.Common.{refl, arith, map, ap, ◌∙◌}
 use Rattle.std.specs.Prelude.{string_bytes}
 use Rattle.std.specs.Str.{encode_utf8_all}
 use Rattle.aidl_base.specs.Names.{dotted}
-use Rattle.schema_parts.specs.TreeViews.{numbered_of}
+use Rattle.tree_schema.specs.TreeViews.{numbered_of}
 use Rattle.tree_schema.proofs.InOrder.{key, next_in}
 use Rattle.tree_schema.proofs.Keyed.{went}
 use Rattle.tree_schema.proofs.order.sorted.Goals as goal

@@ -3,8 +3,8 @@ use Rattle.std.specs.Prelude.{string_bytes}
 use Rattle.std.specs.List.{fold, enumerate_from}
 use Rattle.declared_names.specs.Entries.{entry_of}
 use Rattle.tree_schema.specs.Keyed.{IsKeyed}
-use Rattle.schema_parts.specs.Numbers.{bytes_of, put}
-use Rattle.schema_parts.specs.TreeViews.{numbered_of}
+use Rattle.tree_schema.specs.Numbers.{bytes_of, put}
+use Rattle.tree_schema.specs.TreeViews.{numbered_of}
 use Rattle.tree_schema.proofs.order.sorted.Given as goal
 
 -- each declaration so far stands at its name, and these are in order

@@ -1,6 +1,6 @@
 use Rattle.std.proofs.Common.{◌≡◌, ◌++◌, map, drop}
 use Rattle.declared_names.specs.Numbered.{in_each}
-use Rattle.schema_parts.specs.TreeViews.{numbered_of}
+use Rattle.tree_schema.specs.TreeViews.{numbered_of}
 use Rattle.type_check.specs.Bounds.{bound_at, broken_at}
 use Rattle.type_check.proofs.bounds.add_broken.Given as goal
 

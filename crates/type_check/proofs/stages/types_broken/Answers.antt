@@ -2,7 +2,7 @@ use Rattle.std.proofs.Common.{◌≡◌, List, map, ap, ◌∙◌}
 use Rattle.aidl_base.specs.declared.breach.Breach.{Breach}
 use Rattle.aidl_names.specs.Breaches.{in_order}
 use Rattle.aidl_syntax.specs.Sources.{source_of}
-use Rattle.schema_parts.specs.TreeViews.{numbered_of}
+use Rattle.tree_schema.specs.TreeViews.{numbered_of}
 use Rattle.type_check.specs.Stages.{types_broken}
 use Rattle.type_check.proofs.Joined.{same-count, types-joined}
 use Rattle.type_check.proofs.Results.{ok-more}

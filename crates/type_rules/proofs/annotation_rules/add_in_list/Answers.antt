@@ -1,8 +1,8 @@
 use Rattle.std.proofs.Common.{◌++◌, map, take, refl, sym, ◌∙◌, ap, subst, arith}
 use Rattle.aidl_syntax.specs.Trees.{Annot, annot_of}
-use Rattle.name_rules.specs.Rules.{breach}
+use Rattle.aidl_names.specs.Rules.{breach}
 use Rattle.declared_names.proofs.lemmas.Earlier.{goes_on, earlier-next, read-map, one_if}
-use Rattle.name_rules.proofs.lemmas.Taken.{AreSeen, again-is, seen-next}
+use Rattle.aidl_names.proofs.lemmas.Taken.{AreSeen, again-is, seen-next}
 use Rattle.type_uses.specs.Annotations.{row_of}
 use Rattle.type_rules.specs.AnnotationRules.{is_bad_annotation, breaks_row}
 use Rattle.type_rules.proofs.Loops.{mapped-next}

@@ -1,8 +1,8 @@
 use Rattle.std.proofs.Common.{◌≡◌, ◌++◌, map, take, drop}
 use Rattle.aidl_syntax.specs.Trees.{annot_of}
-use Rattle.name_rules.specs.Rules.{breach}
+use Rattle.aidl_names.specs.Rules.{breach}
 use Rattle.declared_names.specs.Numbered.{after_earlier}
-use Rattle.name_rules.proofs.lemmas.Taken.{AreSeen}
+use Rattle.aidl_names.proofs.lemmas.Taken.{AreSeen}
 use Rattle.type_rules.specs.AnnotationRules.{bad_annotations, is_bad_annotation}
 use Rattle.type_rules.proofs.annotation_rules.add_in_list.Given as goal
 

@@ -2,12 +2,12 @@ use Rattle.std.proofs.Common.{◌++◌, map, ◌∙◌, ap}
 use Rattle.declared_names.specs.Entries.{entry_of}
 use Rattle.type_uses.specs.TypeUses.{name_place}
 use Rattle.type_uses.specs.TypeUseViews.{seen_use}
-use Rattle.member_rules.specs.Filters.{broken_where}
+use Rattle.type_rules.specs.Filters.{broken_where}
 use Rattle.type_rules.specs.AnnotationRules.{BadAnnotation, BadBacking}
 use Rattle.type_rules.specs.TypeRules.{BadNullable, BadShape, BadDirection}
-use Rattle.member_rules.specs.IdRules.{BadId}
+use Rattle.type_rules.specs.IdRules.{BadId}
 use Rattle.type_rules.specs.MethodRules.{BadOneway, is_bad_oneway}
-use Rattle.member_rules.specs.FieldRules.{BadField, NotFixed}
+use Rattle.type_rules.specs.FieldRules.{BadField, NotFixed}
 use Rattle.type_rules.specs.TypeRules.{BadConstant}
 use Rattle.type_rules.specs.Breaches.{broken_by}
 use Rattle.type_rules.proofs.Loops.{joined}

@@ -1,6 +1,6 @@
 use Rattle.std.proofs.Common.{◌≡◌, ◌++◌, map, drop}
 use Rattle.declared_names.specs.Entries.{entry_of}
-use Rattle.member_rules.specs.Filters.{broken_where}
+use Rattle.type_rules.specs.Filters.{broken_where}
 use Rattle.type_rules.specs.UseRules.{breaks_of, rule_of, place_of}
 use Rattle.type_uses.specs.TypeUseViews.{seen_use}
 use Rattle.type_rules.proofs.use_rules.add_where.Given as goal

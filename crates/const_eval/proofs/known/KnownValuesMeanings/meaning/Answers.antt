@@ -1,8 +1,8 @@
 use Rattle.std.proofs.Common.{map, get_or, ap, ◌∙◌}
 use Rattle.aidl_syntax.specs.Sources.{source_of}
-use Rattle.const_operands.specs.Seen.{answer}
+use Rattle.const_values.specs.Seen.{answer}
 use Rattle.const_eval.specs.Known.{known_meaning}
-use Rattle.const_dependence.specs.TargetViews.{seen_targets}
+use Rattle.const_items.specs.TargetViews.{seen_targets}
 use Rattle.const_eval.proofs.Meant.{name_means}
 use Rattle.const_items.proofs.lemmas.Scopes.{scoped}
 use Rattle.const_eval.proofs.known.KnownValuesMeanings.meaning.Goals as goal

@@ -1,5 +1,5 @@
 use Rattle.aidl_base.proofs.lemmas.Spelled.{never_null}
-use Rattle.parcel_cursors.specs.Place.{left, is_inside}
+use Rattle.parcel_words.specs.Place.{left, is_inside}
 use Rattle.parcel_words.proofs.wire.TextWire.take.Goals as goal
 
 pub unreachable-requires : goal.unreachable-requires

@@ -1,5 +1,0 @@
-mod Examples
-mod Members
-mod Outs
-mod Passed
-mod ThrownFits

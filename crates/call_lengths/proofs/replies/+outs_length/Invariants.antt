@@ -1,5 +1,0 @@
-use Rattle.std.proofs.Common.{length}
-use Rattle.call_lengths.proofs.replies.+outs_length.Given as goal
-
-abbrev pub decreases-outs_length : goal.decreases-outs_length
-decreases-outs_length l = length l.args.now

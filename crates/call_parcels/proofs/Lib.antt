@@ -1,8 +1,0 @@
-mod Reading
-mod Counts
-mod Outs
-mod Repeats
-mod Sums
-mod Openeds
-mod Places
-mod Unread

@@ -1,5 +1,0 @@
-use Rattle.std.proofs.Common.{length}
-use Rattle.call_parcels.proofs.sending.+put_outs.Given as goal
-
-abbrev pub decreases-put_outs : goal.decreases-put_outs
-decreases-put_outs l = length l.args.now

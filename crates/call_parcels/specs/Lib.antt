@@ -1,4 +1,0 @@
-pub mod Got
-pub mod Receipts
-pub mod Sent
-pub mod steps

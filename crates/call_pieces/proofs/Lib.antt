@@ -1,3 +1,0 @@
-mod Names
-mod Planned
-pub mod lemmas

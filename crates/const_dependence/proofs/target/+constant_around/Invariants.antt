@@ -1,4 +1,0 @@
-use Rattle.const_dependence.proofs.target.+constant_around.Given as goal
-
-abbrev pub decreases-constant_around : goal.decreases-constant_around
-decreases-constant_around l = l.levels

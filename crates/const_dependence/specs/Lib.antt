@@ -1,2 +1,0 @@
-pub mod Dependence
-pub mod TargetViews

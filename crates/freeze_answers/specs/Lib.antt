@@ -1,3 +1,0 @@
-pub mod Dumped
-pub mod Frozen
-pub mod steps

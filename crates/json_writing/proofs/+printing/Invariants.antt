@@ -1,0 +1,31 @@
+use Rattle.std.proofs.Common.{◌≡◌, ◌++◌, false, drop, string_bytes}
+use Rattle.serde_json.specs.Written.{compact_text, items_text}
+use Rattle.aidl_values.specs.View.{views}
+use Rattle.json_writing.specs.Json.{json_items}
+use Rattle.json_writing.specs.steps.Members.{row_text}
+use Rattle.json_writing.specs.steps.Parts.{part_at}
+use Rattle.json_writing.proofs.+printing.Given as goal
+
+-- what is left completes the text
+abbrev pub invariant-sequence_text::push_elements-loop-value : goal.invariant-sequence_text::push_elements-loop-value
+invariant-sequence_text::push_elements-loop-value l = record {
+  same : l.printer ≡ l.fn.printer;
+  text : string_bytes l.text ++ items_text l.later (json_items l.fn.printer l.ty (views (drop l.value-index l.values)))
+      ≡ string_bytes l.fn.text ++ items_text false (json_items l.fn.printer l.ty (views l.values));
+}
+
+-- what is left completes the text
+abbrev pub invariant-sequence_text::push_numbers-loop-value : goal.invariant-sequence_text::push_numbers-loop-value
+invariant-sequence_text::push_numbers-loop-value l = record {
+  same : l.printer ≡ l.fn.printer;
+  text : string_bytes l.text ++ items_text l.later (json_items l.fn.printer l.ty (views (drop l.value-index l.values)))
+      ≡ string_bytes l.fn.text ++ items_text false (json_items l.fn.printer l.ty (views l.values));
+}
+
+-- what is left completes the text
+abbrev pub invariant-object_text::push_members-loop-member : goal.invariant-object_text::push_members-loop-member
+invariant-object_text::push_members-loop-member l = record {
+  same : l.printer ≡ l.fn.printer;
+  text : string_bytes l.text ++ row_text (λ i. compact_text (part_at l.fn.printer l.fields l.values i)) (drop l.member-index l.row)
+      ≡ string_bytes l.fn.text ++ row_text (λ i. compact_text (part_at l.fn.printer l.fields l.values i)) l.row;
+}

@@ -1,0 +1,122 @@
+//! The JSON objects of parcelables and unions.
+ghost use Rattle.std.specs.Prelude.{◌≡◌, ◌<◌, ◌++◌, ◌∷◌, [], OnOk, length, slice_get, string_bytes};
+ghost use Rattle.serde_json.specs.Data.{object, member, no_members};
+ghost use Rattle.serde_json.specs.Written.{compact_text};
+ghost use Rattle.aidl_values.specs.Data.{alt, rec};
+ghost use Rattle.aidl_values.specs.HasType.{HasType, FieldsHaveType};
+ghost use Rattle.aidl_values.specs.View.{view, views};
+ghost use Rattle.json_writing.specs.Json.{json_of};
+ghost use Rattle.json_writing.specs.Named.{bytes_of};
+ghost use Rattle.json_writing.specs.ValueText.{value_text};
+ghost use Rattle.json_writing.specs.steps.Members.{AreWithin, row_text};
+ghost use Rattle.json_writing.specs.steps.Parts.{part_at};
+
+use crate::members::Member;
+use crate::printer::Printer;
+use crate::quoted::push_quoted;
+use crate::value_text::{push_null, push_value};
+use aidl_base::OutOfMemory;
+use aidl_schema::{AidlType, Field};
+use aidl_values::Value;
+use std::alloc::Global;
+
+// Adds a parcelable: its fields in the order of their names.
+#[cycle(printing)]
+pub fn push_record(
+    alloc: Global,
+    printer: &mut Printer<'_>,
+    ty: AidlType,
+    values: &[Value],
+    text: &mut String,
+) -> Result<(), OutOfMemory>
+    requires { HasType printer.old ty (rec (views values.now)) }
+    ensures same { printer.new ≡ printer.old }
+    ensures text { OnOk result (string_bytes text.new ≡ string_bytes text.old ++ value_text printer.old ty (rec (views values.now))) }
+{
+    let fields = printer.fields(ty.base);
+    let row = printer.row(alloc, ty.base)?;
+    text.push_str("{")?;
+    push_members(alloc, printer, fields, row.as_slice(), values, text)?;
+    text.push_str("}")?;
+    Ok(())
+}
+
+#[cycle(printing)]
+fn push_members(
+    alloc: Global,
+    printer: &mut Printer<'_>,
+    fields: &[Field],
+    row: &[Member],
+    values: &[Value],
+    text: &mut String,
+) -> Result<(), OutOfMemory>
+    requires typed { FieldsHaveType printer.old fields.now (views values.now) }
+    requires within { AreWithin (length fields.now) row.now }
+    ensures same { printer.new ≡ printer.old }
+    ensures text { OnOk result (string_bytes text.new ≡ string_bytes text.old ++ row_text (λ i. compact_text (part_at printer.old fields.now values.now i)) row.now) }
+{
+    for member in row {
+        push_member(alloc, printer, fields, member, values, text)?;
+    }
+    Ok(())
+}
+
+#[cycle(printing)]
+fn push_member(
+    alloc: Global,
+    printer: &mut Printer<'_>,
+    fields: &[Field],
+    member: &Member,
+    values: &[Value],
+    text: &mut String,
+) -> Result<(), OutOfMemory>
+    requires typed { FieldsHaveType printer.old fields.now (views values.now) }
+    requires within { member.now.place < length fields.now }
+    ensures same { printer.new ≡ printer.old }
+    ensures text { OnOk result (string_bytes text.new ≡ string_bytes text.old ++ (string_bytes member.now.key ++ compact_text (part_at printer.old fields.now values.now member.now.place))) }
+{
+    text.push_str(member.key.as_str())?;
+    let field = &fields[member.place];
+    push_value(alloc, printer, field.ty, &values[member.place], text)
+}
+
+// Adds a union: the one field that a tag names.
+#[cycle(printing)]
+pub fn push_alternative(
+    alloc: Global,
+    printer: &mut Printer<'_>,
+    ty: AidlType,
+    tag: u32,
+    value: &Value,
+    text: &mut String,
+) -> Result<(), OutOfMemory>
+    requires { HasType printer.old ty (alt tag (view value.now)) }
+    ensures same { printer.new ≡ printer.old }
+    ensures text { OnOk result (string_bytes text.new ≡ string_bytes text.old ++ value_text printer.old ty (alt tag (view value.now))) }
+{
+    match printer.fields(ty.base).get(tag as usize) {
+        Some(field) => push_only(alloc, printer, field, value, text),
+        None => push_null(text),
+    }
+}
+
+// Adds an object with one member.
+#[cycle(printing)]
+fn push_only(
+    alloc: Global,
+    printer: &mut Printer<'_>,
+    field: &Field,
+    value: &Value,
+    text: &mut String,
+) -> Result<(), OutOfMemory>
+    requires { HasType printer.old field.now.ty (view value.now) }
+    ensures same { printer.new ≡ printer.old }
+    ensures text { OnOk result (string_bytes text.new ≡ string_bytes text.old ++ compact_text (object (member (bytes_of field.now.name) (json_of printer.old field.now.ty (view value.now)) no_members))) }
+{
+    text.push_str("{")?;
+    push_quoted(alloc, field.name.0.as_str(), text)?;
+    text.push_str(":")?;
+    push_value(alloc, printer, field.ty, value, text)?;
+    text.push_str("}")?;
+    Ok(())
+}

@@ -1,0 +1,109 @@
+//! The state of printing one value, and the JSON of its numbers.
+ghost use Rattle.std.specs.Prelude.{◌≡◌, ◌++◌, IfOk, OnOk, string_bytes};
+ghost use Rattle.std.specs.Fmt.{signed_decimal};
+ghost use Rattle.serde_json.specs.Written.{compact_text};
+ghost use Rattle.aidl_schema.specs.Types.{elem, form_of};
+ghost use Rattle.json_writing.specs.Json.{json_number};
+ghost use Rattle.json_writing.specs.Named.{enumerators_of, fields_in};
+ghost use Rattle.json_writing.specs.steps.Members.{IsRow};
+
+use crate::member_rows::MemberRows;
+use crate::members::Member;
+use crate::named::fields_of;
+use crate::quoted::push_quoted;
+use crate::value_names::ValueNames;
+use aidl_base::OutOfMemory;
+use aidl_schema::{AidlType, Base, Field, Schema, element};
+use itoa::Buffer;
+use std::alloc::Global;
+use std::marker::Model;
+use std::rc::Rc;
+
+// What is kept while one value is printed. Contracts see it as the declarations.
+#[derive(Drop)]
+pub struct Printer<'a> {
+    schema: &'a Schema,
+    names: ValueNames<'a>,
+    rows: MemberRows<'a>,
+    digits: Buffer,
+}
+
+impl<'a> Model for Printer<'a> {
+    ghost use Rattle.std.specs.Prelude.{List, ◌≡◌};
+    ghost use Rattle.std.specs.Coded.{codes};
+    ghost use Rattle.aidl_base.specs.contracts.constant.Const as constant;
+    ghost use Rattle.aidl_schema.specs.declared.schema.Decl.{Decl};
+
+    ghost Value = { List Decl };
+
+    ghost coded = { Prim.hlevel (codes, constant.the_row.coded) };
+
+    ghost view = { λ printer. printer.schema.now.decls };
+
+    ghost invariant = { λ printer. record {
+      names : printer.names ≡ printer.schema.now.decls;
+      rows : printer.rows ≡ printer.schema.now.decls;
+    } };
+}
+
+impl<'a> Printer<'a> {
+    // It takes no memory.
+    pub fn new(alloc: Global, schema: &'a Schema) -> Printer<'a>
+        ensures { result ≡ schema.now.decls }
+    {
+        Printer {
+            schema,
+            names: ValueNames::new(alloc, schema),
+            rows: MemberRows::new(alloc, schema),
+            digits: Buffer::new(),
+        }
+    }
+
+    // The fields of the parcelable or union that a base is.
+    pub fn fields(&self, base: Base) -> &'a [Field]
+        ensures { result.now ≡ fields_in (form_of self.now base) }
+    {
+        fields_of(self.schema, base)
+    }
+
+    // The type of an element.
+    pub fn element(&self, ty: AidlType) -> AidlType
+        ensures { result ≡ elem self.now ty }
+    {
+        element(self.schema, ty)
+    }
+
+    // The row of members of the parcelable that a base is.
+    pub fn row(&mut self, alloc: Global, base: Base) -> Result<Rc<Vec<Member>>, OutOfMemory>
+        ensures same { self.new ≡ self.old }
+        ensures row { IfOk result (λ row. IsRow (fields_in (form_of self.old base)) row.value.items) }
+    {
+        self.rows.row(alloc, base)
+    }
+
+    // Adds a number, by the name of the first enumerator of the base that has it.
+    pub fn push_number(
+        &mut self,
+        alloc: Global,
+        base: Base,
+        n: i64,
+        text: &mut String,
+    ) -> Result<(), OutOfMemory>
+        ensures same { self.new ≡ self.old }
+        ensures text { OnOk result (string_bytes text.new ≡ string_bytes text.old ++ compact_text (json_number (enumerators_of self.old base) n)) }
+    {
+        match self.names.name(alloc, base, n)? {
+            Some(name) => push_quoted(alloc, name.0.as_str(), text),
+            None => push_digits(n, &mut self.digits, text),
+        }
+    }
+}
+
+// Adds a number in decimal digits.
+#[inline(always)]
+pub fn push_digits(n: i64, digits: &mut Buffer, text: &mut String) -> Result<(), OutOfMemory>
+    ensures { OnOk result (string_bytes text.new ≡ string_bytes text.old ++ signed_decimal n) }
+{
+    text.push_str(digits.format(n))?;
+    Ok(())
+}

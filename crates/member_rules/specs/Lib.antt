@@ -1,3 +1,0 @@
-pub mod IdRules
-pub mod FieldRules
-pub mod Filters

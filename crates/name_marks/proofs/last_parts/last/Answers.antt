@@ -1,6 +1,0 @@
-use Rattle.std.proofs.Common.{◌∙◌, arith}
-use Rattle.name_marks.proofs.lemmas.Compared.{last-drop}
-use Rattle.name_marks.proofs.last_parts.last.Goals as goal
-
-pub returns : goal.returns
-returns c = c.split_at.ensures.back ∙ last-drop c.args.name.now (grind arith)

@@ -1,6 +1,0 @@
--- Laws of this crate's definitions that crates above cite.
-pub mod Chains
-pub mod Compared
-pub mod Firsts
-pub mod SameNames
-pub mod Times

@@ -1,6 +1,0 @@
-use Rattle.std.proofs.Common.{sym}
-use Rattle.name_marks.proofs.lemmas.Compared.{same-lengths}
-use Rattle.name_marks.proofs.sameness.same.Goals as goal
-
-pub returns-then-a-b : goal.returns-then-a-b
-returns-then-a-b c = sym (same-lengths c.args.a.now c.args.b.now c.if-a-b.true)

@@ -1,3 +1,0 @@
-pub mod Marks
-pub mod Tables
-pub mod steps

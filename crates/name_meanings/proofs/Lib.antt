@@ -1,4 +1,0 @@
-mod Ahead
-mod Copies
-mod Leads
-pub mod lemmas

@@ -1,4 +1,0 @@
--- Laws of this crate's definitions that crates above cite.
-pub mod Candidates
-pub mod Tables
-pub mod Through

@@ -1,3 +1,0 @@
-pub mod Resolution
-pub mod Imports
-pub mod steps

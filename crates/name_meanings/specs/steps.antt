@@ -1,3 +1,0 @@
--- What the code looks up by, for inner contracts: no public contract above cites it.
-pub mod Copies
-pub mod Behind

@@ -1,5 +1,0 @@
-pub mod Parts
-pub mod Types
-pub mod Inits
-pub mod Repeats
-pub mod Items

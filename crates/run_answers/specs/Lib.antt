@@ -1,5 +1,0 @@
-pub mod CallLines
-pub mod Projected
-pub mod Running
-pub mod steps
-pub mod Trace

@@ -1,0 +1,17 @@
+//! What `run` prints: the judge on both orders of two trees, or a line for each line of a calls file.
+#![tactic(auto)]
+
+mod clients;
+mod cutting;
+mod judging;
+mod methods;
+mod objects;
+mod pieces;
+mod putting;
+mod running;
+mod values;
+
+pub use clients::push_saw;
+pub use cutting::lines_within;
+pub use objects::push_object;
+pub use running::run_trees;

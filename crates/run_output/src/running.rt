@@ -1,0 +1,202 @@
+//! The lines of a calls file, run one after the other.
+ghost use Rattle.std.specs.Prelude.{◌≡◌, true, IfErr, IfOk};
+ghost use Rattle.aidl_outside.specs.Told.{Adds};
+ghost use Rattle.call_runner.specs.Runs.{IsTyped, line_data};
+ghost use Rattle.stub_dispatch.specs.Planned.{ArePlansOf};
+ghost use Rattle.call_scripts.specs.Script.{script};
+ghost use Rattle.run_output.specs.CallLines.{lines_of};
+ghost use Rattle.run_output.specs.Projected.{Projects, projected_piece, projected_text};
+ghost use Rattle.run_output.specs.Running.{line_course, lines_course, piece, puts, run_course};
+ghost use Rattle.run_output.specs.steps.Steps.{PutsText, Steps};
+ghost use Rattle.tool_frame.specs.Course.{Course};
+ghost use Rattle.tool_frame.specs.Verdict.{IsVerdict};
+ghost use Rattle.tool_frame.specs.steps.Courses.{RanCourse, seen_alone};
+ghost use Rattle.wire_model.specs.Outcome.{OneFollows, SameWays};
+
+use crate::cutting::cut;
+use crate::judging::judge_both;
+use crate::pieces::line_piece;
+use crate::putting::put;
+use aidl_base::{OutOfMemory, Profile};
+use aidl_outside::{Link, Sink};
+use aidl_schema::Schema;
+use call_runner::{LineRun, RunFault, Side, run_line};
+use marshal_plans::{Plans, compile};
+use std::alloc::Global;
+use tool_frame::print;
+use wire_model::law_ways;
+
+/// Runs a calls file between two schemas, both of which read by the profile: where neither may follow the other, that is printed, and
+/// else the lines are run. The answer is the exit status.
+pub fn run_trees<K: Sink, L: Link>(
+    alloc: Global,
+    profile: Profile,
+    client: &Schema,
+    server: &Schema,
+    trace: bool,
+    calls: &[u8],
+    sink: &mut K,
+    link: &mut L,
+) -> u8
+    ensures ran { let seen = seen_alone K.told K.count L.log L.is_faithful L.count in
+        RanCourse (run_course profile client.now.decls server.now.decls trace calls.now) (seen sink.old link.old) (seen sink.new link.new) result }
+    // Over a faithful link, between two schemas of which one may follow the other, a run that nothing stops ends with 0, and has put exactly
+    // what its lines are projected to.
+    ensures projected { let seen = seen_alone K.told K.count L.log L.is_faithful L.count in let A = client.now.decls in let B = server.now.decls in
+        Projects A B (projected_text profile A B trace 1 (lines_of calls.now)) (seen sink.old link.old) (seen sink.new link.new) result }
+{
+    match judge_both(alloc, client, server) {
+        Ok(None) => run_judged(alloc, profile, client, server, trace, calls, sink, link),
+        Ok(Some(printed)) => print(alloc, Ok(printed), sink),
+        Err(_) => 5,
+    }
+}
+
+// Runs the lines of a calls file between two schemas of which one may follow the other.
+fn run_judged<K: Sink, L: Link>(
+    alloc: Global,
+    profile: Profile,
+    client: &Schema,
+    server: &Schema,
+    trace: bool,
+    calls: &[u8],
+    sink: &mut K,
+    link: &mut L,
+) -> u8
+    requires { OneFollows client.now.decls server.now.decls }
+    ensures ran { let seen = seen_alone K.told K.count L.log L.is_faithful L.count in
+        RanCourse (lines_course profile client.now.decls server.now.decls trace 1 (lines_of calls.now)) (seen sink.old link.old) (seen sink.new link.new) result }
+    ensures projected { let seen = seen_alone K.told K.count L.log L.is_faithful L.count in let A = client.now.decls in let B = server.now.decls in
+        Projects A B (projected_text profile A B trace 1 (lines_of calls.now)) (seen sink.old link.old) (seen sink.new link.new) result }
+{
+    match both_plans(alloc, client, server) {
+        Ok((client_plans, server_plans)) => {
+            let client_side = Side {
+                schema: client,
+                plans: &client_plans,
+            };
+            let server_side = Side {
+                schema: server,
+                plans: &server_plans,
+            };
+            law_ways(client, server);
+            run_lines(
+                alloc,
+                profile,
+                &client_side,
+                &server_side,
+                trace,
+                calls,
+                sink,
+                link,
+            )
+        }
+        Err(_) => 5,
+    }
+}
+
+// The plans of both schemas.
+fn both_plans(
+    alloc: Global,
+    client: &Schema,
+    server: &Schema,
+) -> Result<(Plans, Plans), OutOfMemory>
+    ensures { IfOk result (λ plans. ArePlansOf plans.0 client.now.decls × ArePlansOf plans.1 server.now.decls) }
+{
+    let client_plans = plans_of(alloc, client)?;
+    let server_plans = plans_of(alloc, server)?;
+    Ok((client_plans, server_plans))
+}
+
+fn plans_of(alloc: Global, schema: &Schema) -> Result<Plans, OutOfMemory>
+    ensures { IfOk result (λ plans. ArePlansOf plans schema.now.decls) }
+{
+    compile(alloc, schema, &[])
+}
+
+/// Runs the lines of a calls file between a client and a server in their order, and puts each in one piece, after its call has ended.
+/// No code of an interface that both have may be that of a oneway method in one schema and of a two-way method in the other. The
+/// answer is the exit status.
+pub fn run_lines<K: Sink, L: Link>(
+    alloc: Global,
+    profile: Profile,
+    client: &Side<'_>,
+    server: &Side<'_>,
+    trace: bool,
+    calls: &[u8],
+    sink: &mut K,
+    link: &mut L,
+) -> u8
+    requires client { ArePlansOf client.now.plans.now client.now.schema.now.decls }
+    requires server { ArePlansOf server.now.plans.now server.now.schema.now.decls }
+    requires ways { SameWays client.now.schema.now.decls server.now.schema.now.decls }
+    ensures ran { let seen = seen_alone K.told K.count L.log L.is_faithful L.count in
+        RanCourse (lines_course profile client.now.schema.now.decls server.now.schema.now.decls trace 1 (lines_of calls.now)) (seen sink.old link.old) (seen sink.new link.new) result }
+    ensures projected { let seen = seen_alone K.told K.count L.log L.is_faithful L.count in let A = client.now.schema.now.decls in let B = server.now.schema.now.decls in
+        Projects A B (projected_text profile A B trace 1 (lines_of calls.now)) (seen sink.old link.old) (seen sink.new link.new) result }
+{
+    let mut rest = calls;
+    let mut number = 1;
+    while !rest.is_empty() {
+        let (line, after) = cut(rest);
+        if let Err(exit) = run_next(
+            alloc, profile, client, server, trace, number, line, sink, link,
+        ) {
+            return exit;
+        }
+        if after.is_empty() {
+            return 0;
+        }
+        rest = after;
+        number += 1;
+    }
+    0
+}
+
+// Runs the line with a number. Where that fails, the answer is the exit with which the run ends.
+fn run_next<K: Sink, L: Link>(
+    alloc: Global,
+    profile: Profile,
+    client: &Side<'_>,
+    server: &Side<'_>,
+    trace: bool,
+    number: usize,
+    line: &[u8],
+    sink: &mut K,
+    link: &mut L,
+) -> Result<(), u8>
+    requires client { ArePlansOf client.now.plans.now client.now.schema.now.decls }
+    requires server { ArePlansOf server.now.plans.now server.now.schema.now.decls }
+    requires ways { SameWays client.now.schema.now.decls server.now.schema.now.decls }
+    ensures steps { let seen = seen_alone K.told K.count L.log L.is_faithful L.count in let A = client.now.schema.now.decls in let B = server.now.schema.now.decls in
+        (next : Course) → Steps (line_course profile A B (puts A B trace number next) (script A B line.now)) next (seen sink.old link.old) (seen sink.new link.new) result }
+    ensures exits { IfErr result (λ exit. IsVerdict exit → ⊥) }
+    ensures projected { let A = client.now.schema.now.decls in let B = server.now.schema.now.decls in OneFollows A B → L.is_faithful link.old ≡ true
+        → IfOk result (λ u. Adds (K.told sink.old) (K.told sink.new) (projected_piece profile A B trace number (script A B line.now))) }
+{
+    match run_line(alloc, profile, client, server, line, link) {
+        Ok(run) => put_line(alloc, client, server, trace, number, &run, sink),
+        Err(RunFault::LinkFault) => Err(6),
+        Err(RunFault::OutOfMemory) => Err(5),
+    }
+}
+
+// Puts what is put of a line.
+fn put_line<K: Sink>(
+    alloc: Global,
+    client: &Side<'_>,
+    server: &Side<'_>,
+    trace: bool,
+    number: usize,
+    run: &LineRun,
+    sink: &mut K,
+) -> Result<(), u8>
+    requires { IsTyped client.now.schema.now.decls server.now.schema.now.decls run.now.methods run.now.out }
+    ensures { PutsText (piece client.now.schema.now.decls server.now.schema.now.decls trace number run.now.carried run.now.methods (line_data run.now.out))
+        (K.told sink.old) (K.told sink.new) (K.count sink.old) (K.count sink.new) result }
+{
+    match line_piece(alloc, client.schema, server.schema, trace, number, run) {
+        Ok(text) => put(alloc, text.as_str(), sink),
+        Err(_) => Err(5),
+    }
+}

@@ -1,7 +1,0 @@
-use Rattle.std.proofs.Common.{◌≡◌, drop, map}
-use Rattle.aidl_schema.specs.Broken.{same_const, pass_each}
-use Rattle.schema_compare.proofs.consts.+constant.Given as goal
-
--- what is left of both decides
-abbrev pub invariant-same_consts-loop-i : goal.invariant-same_consts-loop-i
-invariant-same_consts-loop-i l = pass_each (map same_const (drop l.i l.a)) (drop l.i l.b) ≡ pass_each (map same_const l.a) l.b

@@ -1,0 +1,278 @@
+//! What a client makes of a reply.
+ghost use Rattle.std.specs.Prelude.{◌≡◌, ◌<◌, false, length, IfOk};
+ghost use Rattle.aidl_schema.specs.Find.{methods_at};
+ghost use Rattle.aidl_values.specs.View.{views};
+ghost use Rattle.stub_dispatch.specs.Got.{got_of};
+ghost use Rattle.stub_dispatch.specs.Planned.{ArePlansOf};
+ghost use Rattle.stub_dispatch.specs.steps.Arguments.{ArePlanned, IsResultOf, IsResultPlanned};
+ghost use Rattle.stub_dispatch.specs.steps.Fronts.{Continues, Fronts};
+ghost use Rattle.stub_dispatch.specs.steps.Replies.{IsAnswer};
+ghost use Rattle.wire_model.specs.Calls.{answer_of, arguments, is_oneway, optional_view, out_types, outs_of, result_type};
+ghost use Rattle.wire_model.specs.Receiver.{client, error_at, exception_at, is_refused_status, result_at, returned_at, status_at, values_at};
+
+use crate::call::{argument_id, law_planned, method_of, result_id};
+use crate::fronts::{text_front, value_front, word_front};
+use aidl_base::{OutOfMemory, Profile, Row, Text};
+use aidl_schema::{AidlType, Arg, Direction, Method, Schema};
+use aidl_values::{Answer, Value};
+use marshal_plans::{PlanId, Plans};
+use parcel_words::ReadFault;
+use std::alloc::Global;
+
+/// What a client makes of a reply. `code` is any exception word but those that are refused, `error` is 0 unless it is -8, and
+/// `status` is that of the first wrong item.
+#[derive(Debug, Drop)]
+pub enum Got {
+    Returned {
+        result: Option<Value>,
+        outs: Row<Value>,
+    },
+    Exception {
+        code: i32,
+        message: Text,
+        error: i32,
+    },
+    Failed {
+        status: i32,
+    },
+}
+
+/// What a client makes of the bytes of a reply, by a profile: the answer that they are exactly, or else the status of the first wrong
+/// item.
+pub fn reply(
+    alloc: Global,
+    profile: Profile,
+    schema: &Schema,
+    plans: &Plans,
+    interface: u32,
+    method: u32,
+    bytes: &[u8],
+) -> Result<Got, OutOfMemory>
+    requires plans { ArePlansOf plans.now schema.now.decls }
+    requires there { method < length (methods_at schema.now.decls interface) }
+    requires two_way { is_oneway schema.now.decls interface method ≡ false }
+    // An answer is what the client reads, and a failure has the status with which reading stops.
+    ensures { IfOk result (λ got. got_of got ≡ client profile schema.now.decls interface method bytes.now) }
+{
+    law_planned(schema, plans, interface, method);
+    match answer_in(alloc, profile, schema, plans, interface, method, bytes) {
+        Ok(Answer::Returned { result, outs }) => Ok(Got::Returned { result, outs }),
+        Ok(
+            Answer::Exception {
+                code,
+                message,
+                error,
+            },
+        ) => Ok(Got::Exception {
+            code,
+            message,
+            error,
+        }),
+        Err(fault) => match fault.status() {
+            Some(status) => Ok(Got::Failed { status }),
+            None => Err(OutOfMemory),
+        },
+    }
+}
+
+// The answer that the bytes are.
+#[tactic(auto, unfolding(wire_model::specs::Receiver::client))]
+fn answer_in(
+    alloc: Global,
+    profile: Profile,
+    schema: &Schema,
+    plans: &Plans,
+    interface: u32,
+    method: u32,
+    bytes: &[u8],
+) -> Result<Answer, ReadFault>
+    requires planned { ArePlanned plans.now schema.now.decls interface method 0 (arguments schema.now.decls interface method) }
+    requires result { IsResultPlanned plans.now schema.now.decls interface method (result_type schema.now.decls interface method) }
+    requires there { method < length (methods_at schema.now.decls interface) }
+    ensures { IsAnswer result (client profile schema.now.decls interface method bytes.now) }
+{
+    let (status, rest) = word_front(bytes)?;
+    let (answer, rest) = status_front(
+        alloc, profile, schema, plans, interface, method, status, rest,
+    )?;
+    if rest.is_empty() {
+        Ok(answer)
+    } else {
+        Err(ReadFault::BadValue)
+    }
+}
+
+// The answer after the status word.
+fn status_front<'a>(
+    alloc: Global,
+    profile: Profile,
+    schema: &Schema,
+    plans: &Plans,
+    interface: u32,
+    method: u32,
+    status: i32,
+    bytes: &'a [u8],
+) -> Result<(Answer, &'a [u8]), ReadFault>
+    requires planned { ArePlanned plans.now schema.now.decls interface method 0 (arguments schema.now.decls interface method) }
+    requires result { IsResultPlanned plans.now schema.now.decls interface method (result_type schema.now.decls interface method) }
+    requires there { method < length (methods_at schema.now.decls interface) }
+    ensures { Fronts answer_of result (status_at profile schema.now.decls (result_type schema.now.decls interface method)
+        (out_types schema.now.decls interface method) status bytes.now) }
+{
+    if status == 0 {
+        let declared = method_of(schema, interface, method);
+        return returned_front(
+            alloc, profile, schema, plans, interface, method, declared, bytes,
+        );
+    }
+    if is_refused(status) {
+        return Err(ReadFault::BadValue);
+    }
+    exception_front(alloc, profile, status, bytes)
+}
+
+// Whether a status word is that of a parcelable exception, of a header or of a failed transaction.
+fn is_refused(status: i32) -> bool
+    ensures { result ≡ is_refused_status status }
+{
+    status == -9 || status == -127 || status == -128 || status == -129
+}
+
+// The rest of an exception.
+#[tactic(auto, unfolding(wire_model::specs::Receiver::exception_at))]
+fn exception_front(
+    alloc: Global,
+    profile: Profile,
+    code: i32,
+    bytes: &[u8],
+) -> Result<(Answer, &[u8]), ReadFault>
+    ensures { Fronts answer_of result (exception_at profile code bytes.now) }
+{
+    let (message, rest) = text_front(alloc, profile, bytes)?;
+    let (size, rest) = word_front(rest)?;
+    if size != 0 {
+        return Err(ReadFault::BadValue);
+    }
+    let (error, rest) = error_front(code, rest)?;
+    let answer = Answer::Exception {
+        code,
+        message,
+        error,
+    };
+    Ok((answer, rest))
+}
+
+// The error word of a service's own exception, and 0 of any other.
+fn error_front(code: i32, bytes: &[u8]) -> Result<(i32, &[u8]), ReadFault>
+    ensures { Fronts (λ n. n) result (error_at code bytes.now) }
+{
+    if code == SERVICE_SPECIFIC {
+        word_front(bytes)
+    } else {
+        Ok((0, bytes))
+    }
+}
+
+// The result and the outs of a method.
+#[tactic(auto, unfolding(wire_model::specs::Receiver::returned_at))]
+fn returned_front<'a>(
+    alloc: Global,
+    profile: Profile,
+    schema: &Schema,
+    plans: &Plans,
+    interface: u32,
+    method: u32,
+    declared: &Method,
+    bytes: &'a [u8],
+) -> Result<(Answer, &'a [u8]), ReadFault>
+    requires planned { ArePlanned plans.now schema.now.decls interface method 0 declared.now.args }
+    requires result { IsResultPlanned plans.now schema.now.decls interface method declared.now.result }
+    ensures { Fronts answer_of result (returned_at profile schema.now.decls declared.now.result (outs_of declared.now.args) bytes.now) }
+{
+    let id = result_id(schema, plans, interface, method, declared.result);
+    let (result, rest) = result_front(alloc, profile, schema, declared.result, plans, id, bytes)?;
+    let mut outs = Vec::new(alloc);
+    let args = declared.args.as_slice();
+    let rest = outs_front(
+        alloc, profile, schema, plans, interface, method, 0, args, rest, &mut outs,
+    )?;
+    let outs = Row::from_vec(outs);
+    Ok((Answer::Returned { result, outs }, rest))
+}
+
+// A result, where the method has one.
+fn result_front<'a>(
+    alloc: Global,
+    profile: Profile,
+    schema: &Schema,
+    ty: Option<AidlType>,
+    plans: &Plans,
+    id: Option<PlanId>,
+    bytes: &'a [u8],
+) -> Result<(Option<Value>, &'a [u8]), ReadFault>
+    requires { IsResultOf plans.now schema.now.decls ty id }
+    ensures { Fronts optional_view result (result_at profile schema.now.decls ty bytes.now) }
+{
+    match (ty, id) {
+        (Some(ty), Some(id)) => {
+            let (value, rest) = value_front(alloc, profile, schema, ty, plans, id, bytes)?;
+            Ok((Some(value), rest))
+        }
+        _ => Ok((None, bytes)),
+    }
+}
+
+// The outs of the arguments from one on, behind those that were read.
+fn outs_front<'a>(
+    alloc: Global,
+    profile: Profile,
+    schema: &Schema,
+    plans: &Plans,
+    interface: u32,
+    method: u32,
+    k: u32,
+    args: &[Arg],
+    bytes: &'a [u8],
+    outs: &mut Vec<Value>,
+) -> Result<&'a [u8], ReadFault>
+    requires { ArePlanned plans.now schema.now.decls interface method k args.now }
+    ensures { Continues (views outs.old.items) (views outs.new.items) result (values_at profile schema.now.decls (outs_of args.now) bytes.now) }
+{
+    match args {
+        [] => Ok(bytes),
+        [arg, args @ ..] => match arg.way {
+            Direction::In => outs_front(
+                alloc,
+                profile,
+                schema,
+                plans,
+                interface,
+                method,
+                k + 1,
+                args,
+                bytes,
+                outs,
+            ),
+            Direction::Out | Direction::InOut => {
+                let id = argument_id(schema, plans, interface, method, k, arg);
+                let (value, rest) = value_front(alloc, profile, schema, arg.ty, plans, id, bytes)?;
+                outs.push(value)?;
+                outs_front(
+                    alloc,
+                    profile,
+                    schema,
+                    plans,
+                    interface,
+                    method,
+                    k + 1,
+                    args,
+                    rest,
+                    outs,
+                )
+            }
+        },
+    }
+}
+
+/// EX_SERVICE_SPECIFIC, a service's own exception, which alone has an error word.
+pub const SERVICE_SPECIFIC: i32 = -8;

@@ -1,0 +1,253 @@
+//! The bytes of a stub's reply.
+ghost use Rattle.std.specs.Prelude.{◌≡◌, ◌<◌, ◌≤◌, ◌^◌, codes, length, negsuc, pos, IfOk};
+ghost use Rattle.aidl_schema.specs.Find.{methods_at};
+ghost use Rattle.aidl_values.specs.View.{views};
+ghost use Rattle.parcel_words.specs.Written.{with_bytes};
+ghost use Rattle.stub_dispatch.specs.Planned.{ArePlansOf};
+ghost use Rattle.stub_dispatch.specs.Sent.{sent_reply, unread};
+ghost use Rattle.stub_dispatch.specs.steps.Arguments.{ArePlanned, IsResultOf};
+ghost use Rattle.stub_dispatch.specs.steps.Sent.{spell_exception};
+ghost use Rattle.wire_model.specs.Calls.{answer_of, is_oneway, optional_view, out_types, outs_of, result_type, returned};
+ghost use Rattle.wire_model.specs.Requests.{AnswerFits, EachFits, ResultFits, reply, spell_each, spell_error, spell_result};
+
+use crate::call::{argument_id, law_planned, method_of, methods_of, result_id};
+use crate::replies::SERVICE_SPECIFIC;
+use crate::reply_lengths::{comes_back, exception_length, outs_length, result_length};
+use crate::values::put_spelled;
+use aidl_base::{OutOfMemory, Row, Text};
+use aidl_schema::{AidlType, Arg, Schema};
+use aidl_values::{Answer, Value};
+use marshal_plans::{PlanId, Plans};
+use parcel_words::{Wire, WordWriter};
+use std::alloc::Global;
+
+/// The bytes of the reply of an answer that fits its method, None of a oneway method. The room for the bytes is taken once.
+pub fn answer_reply(
+    alloc: Global,
+    schema: &Schema,
+    plans: &Plans,
+    interface: u32,
+    method: u32,
+    answer: &Answer,
+) -> Result<Option<Row<u8>>, OutOfMemory>
+    requires plans { ArePlansOf plans.now schema.now.decls }
+    requires there { method < length (methods_at schema.now.decls interface) }
+    requires fits { AnswerFits schema.now.decls interface method (answer_of answer.now) }
+    ensures { IfOk result (λ reply. reply ≡ sent_reply schema.now.decls interface method (answer_of answer.now)) }
+{
+    if is_oneway(schema, interface, method) {
+        return Ok(None);
+    }
+    let bytes = answer_bytes(alloc, schema, plans, interface, method, answer)?;
+    Ok(Some(Row::from_vec(bytes)))
+}
+
+/// The bytes of the reply to a request with bytes left over, None of a oneway method.
+pub fn unread_reply(
+    alloc: Global,
+    schema: &Schema,
+    interface: u32,
+    method: u32,
+) -> Result<Option<Row<u8>>, OutOfMemory>
+    ensures { IfOk result (λ reply. reply ≡ sent_reply schema.now.decls interface method unread) }
+{
+    if is_oneway(schema, interface, method) {
+        return Ok(None);
+    }
+    let bytes = unread_bytes(alloc)?;
+    Ok(Some(Row::from_vec(bytes)))
+}
+
+/// The bytes of the reply to a request with bytes left over: an exception, the same of every method that isn't oneway.
+#[tactic(auto, using(crate::proofs::Unread::unread_small))]
+pub fn unread_bytes(alloc: Global) -> Result<Vec<u8>, OutOfMemory>
+    ensures { IfOk result (λ bytes. bytes.items ≡ spell_exception (negsuc 1) (codes "unread argument bytes") (pos 0)) }
+{
+    let message = unread_message(alloc)?;
+    exception_bytes(alloc, BAD_PARCELABLE, &message, 0)
+}
+
+// The message where bytes are left over.
+#[tactic(auto, using(crate::proofs::Unread::unread_chars))]
+fn unread_message(alloc: Global) -> Result<Text, OutOfMemory>
+    ensures { IfOk result (λ text. text ≡ codes "unread argument bytes") }
+{
+    Text::from_str(alloc, "unread argument bytes")
+}
+
+/// EX_BAD_PARCELABLE, the exception of a request with bytes left over.
+pub const BAD_PARCELABLE: i32 = -2;
+
+// Whether a method is oneway.
+fn is_oneway(schema: &Schema, interface: u32, method: u32) -> bool
+    ensures { result ≡ is_oneway schema.now.decls interface method }
+{
+    match methods_of(schema, interface).get(method as usize) {
+        Some(method) => method.oneway,
+        None => false,
+    }
+}
+
+// The bytes of the reply of an answer that fits its method. The room for the bytes is taken once.
+fn answer_bytes(
+    alloc: Global,
+    schema: &Schema,
+    plans: &Plans,
+    interface: u32,
+    method: u32,
+    answer: &Answer,
+) -> Result<Vec<u8>, OutOfMemory>
+    requires plans { ArePlansOf plans.now schema.now.decls }
+    requires there { method < length (methods_at schema.now.decls interface) }
+    requires fits { AnswerFits schema.now.decls interface method (answer_of answer.now) }
+    ensures { IfOk result (λ bytes. bytes.items ≡ reply schema.now.decls interface method (answer_of answer.now)) }
+{
+    match answer {
+        Answer::Returned { result, outs } => returned_bytes(
+            alloc,
+            schema,
+            plans,
+            interface,
+            method,
+            result,
+            outs.as_slice(),
+        ),
+        Answer::Exception {
+            code,
+            message,
+            error,
+        } => exception_bytes(alloc, *code, message, *error),
+    }
+}
+
+// The bytes of the reply of a result and outs.
+#[tactic(auto, using(crate::proofs::lemmas::Parts::returned_count, parcel_words::proofs::lemmas::Appends::with_more))]
+fn returned_bytes(
+    alloc: Global,
+    schema: &Schema,
+    plans: &Plans,
+    interface: u32,
+    method: u32,
+    value: &Option<Value>,
+    outs: &[Value],
+) -> Result<Vec<u8>, OutOfMemory>
+    requires plans { ArePlansOf plans.now schema.now.decls }
+    requires there { method < length (methods_at schema.now.decls interface) }
+    requires fits { ResultFits schema.now.decls (result_type schema.now.decls interface method) (optional_view value.now) }
+    requires each { EachFits schema.now.decls (out_types schema.now.decls interface method) (views outs.now) }
+    requires small { length (reply schema.now.decls interface method (returned (optional_view value.now) (views outs.now))) ≤ 1048576 }
+    ensures { IfOk result (λ bytes. bytes.items ≡ reply schema.now.decls interface method (returned (optional_view value.now) (views outs.now))) }
+{
+    law_planned(schema, plans, interface, method);
+    let declared = method_of(schema, interface, method);
+    let args = declared.args.as_slice();
+    let ty = declared.result;
+    let id = result_id(schema, plans, interface, method, ty);
+    let first = result_length(schema, ty, plans, id, value);
+    let others = outs_length(schema, plans, interface, method, 0, args, outs);
+    let length = first.saturating_add(others).saturating_add(4);
+    let mut to = WordWriter::with_room(alloc, length)?;
+    to.word(0);
+    put_result(schema, ty, plans, id, value, &mut to);
+    put_outs(schema, plans, interface, method, 0, args, outs, &mut to);
+    Ok(to.finish())
+}
+
+// Appends a result, where there is one.
+fn put_result(
+    schema: &Schema,
+    ty: Option<AidlType>,
+    plans: &Plans,
+    id: Option<PlanId>,
+    value: &Option<Value>,
+    to: &mut WordWriter,
+)
+    requires of { IsResultOf plans.now schema.now.decls ty id }
+    requires fits { ResultFits schema.now.decls ty (optional_view value.now) }
+    requires small { length (spell_result schema.now.decls ty (optional_view value.now)) < 2 ^ 31 }
+    requires room { length (spell_result schema.now.decls ty (optional_view value.now)) ≤ to.old.room }
+    ensures { to.new ≡ with_bytes to.old (spell_result schema.now.decls ty (optional_view value.now)) }
+{
+    match value {
+        Some(value) => match (ty, id) {
+            (Some(ty), Some(id)) => put_spelled(schema, ty, plans, id, value, to),
+            _ => {}
+        },
+        None => {}
+    }
+}
+
+// Appends the outs of the arguments from one on.
+#[tactic(auto, using(crate::proofs::lemmas::Parts::each_count, parcel_words::proofs::lemmas::Appends::with_more, parcel_words::proofs::lemmas::Appends::with_none))]
+fn put_outs(
+    schema: &Schema,
+    plans: &Plans,
+    interface: u32,
+    method: u32,
+    k: u32,
+    args: &[Arg],
+    values: &[Value],
+    to: &mut WordWriter,
+)
+    requires planned { ArePlanned plans.now schema.now.decls interface method k args.now }
+    requires fit { EachFits schema.now.decls (outs_of args.now) (views values.now) }
+    requires small { length (spell_each schema.now.decls (outs_of args.now) (views values.now)) < 2 ^ 31 }
+    requires room { length (spell_each schema.now.decls (outs_of args.now) (views values.now)) ≤ to.old.room }
+    ensures { to.new ≡ with_bytes to.old (spell_each schema.now.decls (outs_of args.now) (views values.now)) }
+{
+    match args {
+        [] => {}
+        [arg, args @ ..] => {
+            if !comes_back(arg) {
+                return put_outs(schema, plans, interface, method, k + 1, args, values, to);
+            }
+            match values {
+                [] => {}
+                [value, values @ ..] => {
+                    let id = argument_id(schema, plans, interface, method, k, arg);
+                    put_spelled(schema, arg.ty, plans, id, value, to);
+                    put_outs(schema, plans, interface, method, k + 1, args, values, to);
+                }
+            }
+        }
+    }
+}
+
+// The bytes of the reply of an exception. The room for the bytes is taken once.
+fn exception_bytes(
+    alloc: Global,
+    code: i32,
+    message: &Text,
+    error: i32,
+) -> Result<Vec<u8>, OutOfMemory>
+    requires { length (spell_exception code message.now error) ≤ 1048576 }
+    ensures { IfOk result (λ bytes. bytes.items ≡ spell_exception code message.now error) }
+{
+    let length = exception_length(code, message, error);
+    let mut to = WordWriter::with_room(alloc, length)?;
+    put_exception(code, message, error, &mut to);
+    Ok(to.finish())
+}
+
+// Appends an exception.
+fn put_exception(code: i32, message: &Text, error: i32, to: &mut WordWriter)
+    requires small { length (spell_exception code message.now error) ≤ 1048576 }
+    requires room { length (spell_exception code message.now error) ≤ to.old.room }
+    ensures { to.new ≡ with_bytes to.old (spell_exception code message.now error) }
+{
+    to.word(code);
+    message.put(to);
+    to.word(0);
+    put_error(code, error, to);
+}
+
+// Appends the error word, where there is one.
+#[tactic(auto, using(parcel_words::proofs::lemmas::Appends::with_none))]
+fn put_error(code: i32, error: i32, to: &mut WordWriter)
+    requires { length (spell_error code error) ≤ to.old.room }
+    ensures { to.new ≡ with_bytes to.old (spell_error code error) }
+{
+    if code == SERVICE_SPECIFIC {
+        to.word(error);
+    }
+}

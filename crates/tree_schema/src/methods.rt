@@ -1,0 +1,169 @@
+//! The methods of an interface in the schema, with their ids, arguments and results.
+ghost use Rattle.std.specs.Prelude.{◌≡◌, ◌<◌, ◌+◌, ◌++◌, map, IfOk};
+ghost use Rattle.aidl_syntax.specs.Members.{listed};
+ghost use Rattle.aidl_syntax.specs.Trees.{Members, annot_of, arg_of, map_option, member_of, members_of, method_of};
+ghost use Rattle.tree_schema.specs.Parts as meant;
+ghost use Rattle.tree_schema.specs.TreeViews.{HasNumbers, HasScope, files_of};
+ghost use Rattle.tree_schema.specs.Types as types;
+
+use crate::copied::copied_ident;
+use crate::tree::Tree;
+use crate::types::type_of;
+use aidl_base::{OutOfMemory, Row};
+use aidl_schema::{AidlType, Arg, Direction, Method};
+use aidl_syntax::{AnnotTree, ArgTree, MemberTree, MethodTree, TypeTree, WayTree};
+use std::alloc::Global;
+use type_uses::id_of;
+
+/// The methods among the members of an interface, each with its id: the number written, or else its position.
+pub fn methods_in(
+    alloc: Global,
+    tree: &Tree<'_, '_>,
+    file: u32,
+    scope: u32,
+    oneway: bool,
+    members: &[MemberTree],
+) -> Result<Row<Method>, OutOfMemory>
+    requires scope { HasScope tree.now file scope }
+    requires numbers { HasNumbers tree.now }
+    ensures { IfOk result (λ methods. methods ≡ meant.methods_in (files_of tree.now) file scope oneway 0 (listed (members_of members.now))) }
+{
+    let mut methods = Vec::new(alloc);
+    let mut before = 0;
+    for member in members {
+        before = add_member(
+            alloc,
+            tree,
+            file,
+            scope,
+            oneway,
+            before,
+            member,
+            &mut methods,
+        )?;
+    }
+    Ok(Row::from_vec(methods))
+}
+
+// The method that a member is, and how many methods stand before the next one.
+fn add_member(
+    alloc: Global,
+    tree: &Tree<'_, '_>,
+    file: u32,
+    scope: u32,
+    oneway: bool,
+    before: u64,
+    member: &MemberTree,
+    methods: &mut Vec<Method>,
+) -> Result<u64, OutOfMemory>
+    requires scope { HasScope tree.now file scope }
+    requires numbers { HasNumbers tree.now }
+    requires few { before < 9223372036854775808 }
+    ensures all { IfOk result (λ next. (ms : Members) → methods.old.items ++ meant.methods_in (files_of tree.now) file scope oneway before (listed (member_of member.now ms)) ≡ methods.new.items ++ meant.methods_in (files_of tree.now) file scope oneway next (listed ms)) }
+    ensures few { IfOk result (λ next. next < before + 2) }
+{
+    match member {
+        MemberTree::Method(method) => {
+            let id = kept_id(id_of(before, method));
+            methods.push(method_in(alloc, tree, file, scope, oneway, id, method)?)?;
+            Ok(before + 1)
+        }
+        MemberTree::Field(_) => Ok(before),
+        MemberTree::Constant(_) => Ok(before),
+        MemberTree::Nested(_) => Ok(before),
+    }
+}
+
+// An id as the schema has it.
+fn kept_id(id: u64) -> u32
+    ensures { result ≡ meant.kept_id id }
+{
+    if id <= 16_777_114 { id as u32 } else { 0 }
+}
+
+fn method_in(
+    alloc: Global,
+    tree: &Tree<'_, '_>,
+    file: u32,
+    scope: u32,
+    oneway: bool,
+    id: u32,
+    method: &MethodTree,
+) -> Result<Method, OutOfMemory>
+    requires scope { HasScope tree.now file scope }
+    requires numbers { HasNumbers tree.now }
+    ensures { IfOk result (λ m. m ≡ meant.method_with (files_of tree.now) file scope oneway id (method_of method.now)) }
+{
+    let annots = method.annots.as_slice();
+    Ok(Method {
+        name: copied_ident(alloc, &method.name.name)?,
+        id,
+        oneway: method.oneway || oneway,
+        result: result_in(tree, file, scope, annots, &method.result),
+        args: args_in(alloc, tree, file, scope, method.args.as_slice())?,
+    })
+}
+
+fn result_in(
+    tree: &Tree<'_, '_>,
+    file: u32,
+    scope: u32,
+    annots: &[AnnotTree],
+    returned: &Option<TypeTree>,
+) -> Option<AidlType>
+    requires scope { HasScope tree.now file scope }
+    requires numbers { HasNumbers tree.now }
+    ensures { result ≡ map_option (types.type_of (files_of tree.now) file scope (map annot_of annots.now)) returned.now }
+{
+    match returned {
+        None => None,
+        Some(ty) => Some(type_of(tree, file, scope, annots, ty)),
+    }
+}
+
+fn args_in(
+    alloc: Global,
+    tree: &Tree<'_, '_>,
+    file: u32,
+    scope: u32,
+    args: &[ArgTree],
+) -> Result<Row<Arg>, OutOfMemory>
+    requires scope { HasScope tree.now file scope }
+    requires numbers { HasNumbers tree.now }
+    ensures { IfOk result (λ row. row ≡ map (meant.arg_in (files_of tree.now) file scope) (map arg_of args.now)) }
+{
+    let mut row = Vec::with_capacity(alloc, args.len())?;
+    for arg in args {
+        row.push(arg_in(alloc, tree, file, scope, arg)?)?;
+    }
+    Ok(Row::from_vec(row))
+}
+
+fn arg_in(
+    alloc: Global,
+    tree: &Tree<'_, '_>,
+    file: u32,
+    scope: u32,
+    arg: &ArgTree,
+) -> Result<Arg, OutOfMemory>
+    requires scope { HasScope tree.now file scope }
+    requires numbers { HasNumbers tree.now }
+    ensures { IfOk result (λ a. a ≡ meant.arg_in (files_of tree.now) file scope (arg_of arg.now)) }
+{
+    Ok(Arg {
+        name: copied_ident(alloc, &arg.name.name)?,
+        way: way_of(arg.way),
+        ty: type_of(tree, file, scope, arg.annots.as_slice(), &arg.ty),
+    })
+}
+
+fn way_of(way: Option<WayTree>) -> Direction
+    ensures { result ≡ meant.way_of way }
+{
+    match way {
+        None => Direction::In,
+        Some(WayTree::In) => Direction::In,
+        Some(WayTree::Out) => Direction::Out,
+        Some(WayTree::InOut) => Direction::InOut,
+    }
+}

@@ -1,4 +1,0 @@
-mod Elements
-mod Parts
-mod Plain
-mod Rows

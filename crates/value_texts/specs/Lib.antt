@@ -1,2 +1,0 @@
-pub mod ValueText
-pub mod steps

@@ -1,4 +1,0 @@
-pub mod Ends
-pub mod Lines
-pub mod Rehashed
-pub mod Verified

@@ -1,0 +1,2 @@
+mod Forty
+mod Behind

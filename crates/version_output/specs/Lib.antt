@@ -1,0 +1,7 @@
+pub mod Ends
+pub mod Lines
+pub mod Rehashed
+pub mod Verified
+pub mod Dumped
+pub mod Frozen
+pub mod steps

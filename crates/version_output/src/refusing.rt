@@ -1,0 +1,141 @@
+//! The printed lines of a refused `freeze`.
+ghost use Rattle.std.specs.Prelude.{◌≡◌, ◌++◌, codes, decimal, map, IfOk, string_bytes};
+ghost use Rattle.std.specs.List.{flat_map};
+ghost use Rattle.api_freeze.specs.Freeze.{IsRead};
+ghost use Rattle.api_versions.specs.Versions as path;
+ghost use Rattle.compat_judge.specs.Seen.{seen};
+ghost use Rattle.version_output.specs.Frozen as meant;
+ghost use Rattle.version_output.specs.steps.Seen.{Follows};
+ghost use Rattle.tool_frame.specs.Answer.{after_text, line, negative};
+ghost use Rattle.tool_frame.specs.steps.Results.{EndsAs, printed};
+ghost use Rattle.tree_output.specs.Faults.{refused};
+ghost use Rattle.tree_output.specs.Judged.{break_line};
+ghost use Rattle.tree_output.specs.steps.Results as tree;
+ghost use Rattle.type_check.specs.Refusals.{IsRefusal};
+ghost use Rattle.version_output.specs.Ends.{EndsBy};
+
+use crate::torn_version::torn;
+use crate::unread::bad_versions;
+use aidl_base::{OutOfMemory, Row, SourceFile};
+use aidl_outside::StoreFault;
+use api_freeze::FreezeFault;
+use api_versions::version_folder;
+use compat_judge::Broken;
+use std::alloc::Global;
+use std::fmt::Write;
+use tool_frame::{Early, Printed, Verdict, limit_passed};
+use tree_output::{fault_answer, judge_lines};
+use type_check::CheckFault;
+
+/// What `freeze` prints where it refuses: `bad versions missing N`; `torn N missing HASH` or `torn N kept BYTES HASH`; `unreadable N`
+/// and the lines of the version's faults; `unchanged N`; the judge's lines; or a limit. Memory may be wanted.
+pub fn unfrozen(alloc: Global, api: &str, fault: FreezeFault) -> Result<Early, StoreFault>
+    requires { IsRead fault }
+    ensures { EndsBy (meant.IsUnfrozen api.now) fault result }
+{
+    match fault {
+        FreezeFault::BadVersions { missing } => Ok(bad_versions(alloc, missing)),
+        FreezeFault::Torn {
+            version,
+            kept,
+            defined,
+        } => Ok(torn(alloc, version, &kept, &defined)),
+        FreezeFault::Unreadable {
+            version,
+            files,
+            fault,
+        } => Ok(unreadable(alloc, api, version, files, fault)),
+        FreezeFault::Unchanged { version } => Ok(unchanged(alloc, version)),
+        FreezeFault::Incompatible(rows) => Ok(incompatible(alloc, rows)),
+        FreezeFault::Limit(limit) => Ok(limit_passed(alloc, limit)),
+        FreezeFault::ReadFault => Err(StoreFault::Failed),
+        FreezeFault::WriteFault => Err(StoreFault::Failed),
+        FreezeFault::OutOfMemory => Err(StoreFault::OutOfMemory),
+    }
+}
+
+// The line for a dump that is that of the latest version.
+fn unchanged(alloc: Global, version: u32) -> Early
+    ensures { EndsAs result (negative (codes "unchanged " ++ decimal version)) }
+{
+    negative_line(version_line(alloc, "unchanged", version))
+}
+
+fn negative_line(text: Result<String, OutOfMemory>) -> Early
+    ensures { tree.EndsWith text result }
+{
+    match text {
+        Ok(text) => Early::Answered(Printed {
+            text,
+            verdict: Verdict::Negative,
+        }),
+        Err(_) => Early::OutOfMemory,
+    }
+}
+
+// A word and the number of a version.
+fn version_line(alloc: Global, word: &str, version: u32) -> Result<String, OutOfMemory>
+    ensures { IfOk result (λ text. string_bytes text ≡ line (word.now ++ (codes " " ++ decimal version))) }
+{
+    let mut text = String::new(alloc);
+    writeln!(text, "{word} {version}")?;
+    Ok(text)
+}
+
+// The judge's lines.
+fn incompatible(alloc: Global, rows: Row<Broken>) -> Early
+    ensures { EndsAs result (refused (flat_map break_line (map seen rows))) }
+{
+    negative_line(judge_lines(alloc, rows.as_slice()))
+}
+
+// The lines for the latest version, whose files aren't a checked tree.
+#[tactic(auto, using(crate::proofs::Behind::unreadable_ends))]
+fn unreadable(
+    alloc: Global,
+    api: &str,
+    version: u32,
+    files: Row<SourceFile>,
+    fault: CheckFault,
+) -> Early
+    requires { IsRefusal files fault }
+    ensures { tree.EndsBy (meant.IsUnreadable api.now version files) result }
+{
+    match version_folder(alloc, api, version) {
+        Ok(root) => {
+            let faults = fault_answer(alloc, root.as_str(), files.as_slice(), fault);
+            behind(alloc, version, faults)
+        }
+        Err(_) => Early::OutOfMemory,
+    }
+}
+
+// An end with the line of a version in front.
+fn behind(alloc: Global, version: u32, faults: Early) -> Early
+    ensures { Follows (line (codes "unreadable " ++ decimal version)) faults result }
+{
+    match faults {
+        Early::Answered(printed) => behind_printed(alloc, version, printed),
+        Early::OutOfMemory => Early::OutOfMemory,
+    }
+}
+
+fn behind_printed(alloc: Global, version: u32, faults: Printed) -> Early
+    ensures { EndsAs result (after_text (line (codes "unreadable " ++ decimal version)) (printed faults)) }
+{
+    match text_behind(alloc, version, faults.text.as_str()) {
+        Ok(text) => Early::Answered(Printed {
+            text,
+            verdict: faults.verdict,
+        }),
+        Err(_) => Early::OutOfMemory,
+    }
+}
+
+fn text_behind(alloc: Global, version: u32, faults: &str) -> Result<String, OutOfMemory>
+    ensures { IfOk result (λ text. string_bytes text ≡ line (codes "unreadable " ++ decimal version) ++ faults.now) }
+{
+    let mut text = version_line(alloc, "unreadable", version)?;
+    text.push_str(faults)?;
+    Ok(text)
+}

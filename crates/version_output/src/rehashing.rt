@@ -1,0 +1,55 @@
+//! What `rehash` prints: how many hashes were written, or why none was.
+ghost use Rattle.std.specs.Prelude.{◌≡◌, ◌++◌, codes, decimal, IfOk, string_bytes};
+ghost use Rattle.tool_frame.specs.Answer.{line};
+ghost use Rattle.tool_frame.specs.steps.Results.{Gives};
+ghost use Rattle.version_output.specs.Ends.{EndsBy};
+ghost use Rattle.version_output.specs.Rehashed as meant;
+
+use crate::torn_version::torn;
+use crate::unread::bad_versions;
+use aidl_base::OutOfMemory;
+use aidl_outside::StoreFault;
+use api_versions::FreezeFault;
+use std::alloc::Global;
+use std::fmt::Write;
+use tool_frame::{Early, Printed, Verdict, limit_passed};
+
+/// What `rehash` prints of so many hashes that were written.
+pub fn rehashed(alloc: Global, count: usize) -> Result<Printed, Early>
+    ensures { Gives result (meant.rehashed count) }
+{
+    let text = count_line(alloc, count)?;
+    Ok(Printed {
+        text,
+        verdict: Verdict::Done,
+    })
+}
+
+fn count_line(alloc: Global, count: usize) -> Result<String, OutOfMemory>
+    ensures { IfOk result (λ text. string_bytes text ≡ line (codes "rehashed " ++ decimal count)) }
+{
+    let mut text = String::new(alloc);
+    writeln!(text, "rehashed {count}")?;
+    Ok(text)
+}
+
+/// What `rehash` prints where no hash is written again. Of refusals that it hasn't nothing is said.
+pub fn unhashed(alloc: Global, fault: FreezeFault) -> Result<Early, StoreFault>
+    ensures { EndsBy meant.IsUnhashed fault result }
+{
+    match fault {
+        FreezeFault::BadVersions { missing } => Ok(bad_versions(alloc, missing)),
+        FreezeFault::Torn {
+            version,
+            kept,
+            defined,
+        } => Ok(torn(alloc, version, &kept, &defined)),
+        FreezeFault::Limit(limit) => Ok(limit_passed(alloc, limit)),
+        FreezeFault::ReadFault => Err(StoreFault::Failed),
+        FreezeFault::WriteFault => Err(StoreFault::Failed),
+        FreezeFault::OutOfMemory => Err(StoreFault::OutOfMemory),
+        FreezeFault::Unreadable { .. } => Ok(Early::OutOfMemory),
+        FreezeFault::Unchanged { .. } => Ok(Early::OutOfMemory),
+        FreezeFault::Incompatible(_) => Ok(Early::OutOfMemory),
+    }
+}
