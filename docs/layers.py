@@ -3,7 +3,8 @@ on, the kit's in brackets. Then it says how many crates `aidl` stands on, and by
 
 python3 docs/layers.py
 
-Exit 1 with a line for each crate that names one of a later layer, or that docs/ARCHITECTURE.md doesn't mention.
+Exit 1 with a line for each crate that names one of a later layer, or that docs/ARCHITECTURE.md doesn't mention, and where that page has
+another picture.
 """
 
 import functools
@@ -49,25 +50,32 @@ def paths(crate):
     return 1 + sum(paths(it) for it in NAMED[crate] if it in NAMED)
 
 
+def picture():
+    """The layers as lines of text."""
+    width = max(map(len, NAMED))
+    for title, crates in LAYERS:
+        yield f"== {title}"
+        for crate, named in crates.items():
+            direct = [it for it in named if not any(it in below(other) for other in named)]
+            shown = [it if it in NAMED else f"({it})" for it in direct]
+            yield f"   {crate:{width}}  {' '.join(shown)}".rstrip()
+        yield ""
+    yield f"aidl stands on {len(below('aidl') & NAMED.keys())} of {len(NAMED)} crates, by {paths('aidl') - 1:,} paths."
+
+
 def refusals():
-    """A line for each crate that names one of a later layer, or that has no place on the map."""
+    """A line for each crate that names one of a later layer or has no place on the map, and one where the map has another picture."""
     place = {crate: number for number, (_, crates) in enumerate(LAYERS) for crate in crates}
     for crate, named in NAMED.items():
         yield from (f"{crate} names {it}, which is of a later layer" for it in named if place.get(it, 0) > place[crate])
     text = text_of("docs/ARCHITECTURE.md")
     yield from (f"docs/ARCHITECTURE.md doesn't mention {crate}" for crate in NAMED if not re.search(rf"\b{crate}\b", text))
+    if "\n".join(picture()) not in text:
+        yield "docs/ARCHITECTURE.md has another picture"
 
 
 def main():
-    width = max(map(len, NAMED))
-    for title, crates in LAYERS:
-        print(f"== {title}")
-        for crate, named in crates.items():
-            direct = [it for it in named if not any(it in below(other) for other in named)]
-            shown = [it if it in NAMED else f"({it})" for it in direct]
-            print(f"   {crate:{width}}  {' '.join(shown)}".rstrip())
-        print()
-    print(f"aidl stands on {len(below('aidl') & NAMED.keys())} of {len(NAMED)} crates, by {paths('aidl') - 1:,} paths.")
+    print(*picture(), sep="\n")
     refused = list(refusals())
     print(*refused, sep="\n", end="\n" * bool(refused), file=sys.stderr)
     sys.exit(1 if refused else 0)

@@ -6,12 +6,15 @@ use host_outside::{FolderStore, PassLink, StdoutSink};
 use std::io::ErrorKind;
 use std::process::ExitCode;
 use std::{env, io};
+use tool_frame::Exit;
 
 fn main(rt: HostRuntime) -> ExitCode {
     match words(&rt) {
         Ok(words) => ExitCode::from(run(&rt, words.as_slice())),
-        Err(fault) if fault.kind() == ErrorKind::OutOfMemory => ExitCode::from(5),
-        Err(_) => ExitCode::from(8),
+        Err(fault) if fault.kind() == ErrorKind::OutOfMemory => ExitCode::from(
+            Exit::OutOfMemory.status(),
+        ),
+        Err(_) => ExitCode::from(Exit::NoWords.status()),
     }
 }
 

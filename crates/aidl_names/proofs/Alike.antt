@@ -1,21 +1,18 @@
 -- Imports that have a last part in common.
-use Rattle.std.proofs.Common.{◌≡◌, ◌<◌, ◌≤◌, ◌+◌, ℕ, zero, suc, Bool, true, false, not, cond, ◌&&◌, ◌||◌, nat_eq, nat_lt, List, [], ◌∷◌, map, length, take, get_or, set, replicate, add-one, Some, refl, sym, ◌∙◌, ap, arith, eq-eqb}
+use Rattle.std.proofs.Common.{◌≡◌, ◌<◌, ◌≤◌, ◌+◌, ℕ, zero, suc, Bool, true, false, not, ◌&&◌, ◌||◌, nat_eq, nat_lt, List, [], ◌∷◌, length, take, get_or, set, replicate, add-one, Some, refl, sym, ◌∙◌, ap, arith, eq-eqb}
 use Rattle.std.specs.List.{list_any, position_from}
 use Rattle.std.proofs.lemmas.List.{length-set, length-replicate, get_or-set_same, get_or-set_other}
-use Rattle.std.specs.Str.{bytes_eq}
-use Rattle.std.proofs.lemmas.Bool.{and_parts}
 use Rattle.std.proofs.lemmas.Bool.Decides.{nat_tests}
 use Rattle.std.proofs.lemmas.List.Folds.{list_any-append}
-use Rattle.std.proofs.lemmas.Slice.Eq.{bytes_eq-Decides}
 use Rattle.aidl_base.specs.declared.name.Ident.{Ident}
 use Rattle.aidl_syntax.specs.declared.tree.DottedTree.{DottedTree}
-use Rattle.declared_names.specs.Names.{text, same, last}
+use Rattle.declared_names.specs.Names.{same, last}
 use Rattle.aidl_names.specs.Rules.{is_other_import}
 use Rattle.declared_names.specs.Marks.{mark_of, mark_of_last}
 use Rattle.aidl_names.specs.Alike.{is_alike}
 use Rattle.declared_names.proofs.lemmas.Earlier.{take-next}
-use Rattle.declared_names.proofs.lemmas.Firsts.{found_from, found-passes, found-first, any-at, position-same}
-use Rattle.declared_names.proofs.lemmas.SameNames.{same-self, same-right, same-turned, same-texts}
+use Rattle.declared_names.proofs.lemmas.Firsts.{found-passes, found-first, any-at, position-same}
+use Rattle.declared_names.proofs.lemmas.SameNames.{same-self, same-right, same-turned}
 use Rattle.name_resolution.proofs.lemmas.Tables.{same_marks}
 
 -- imports with the same last part have the same mark

@@ -1,12 +1,11 @@
 -- The check rules of the names stage, each as the list of its breaches (own in number and wording).
-use Rattle.std.specs.Prelude.{ℕ, ◌+◌, Bool, true, false, not, ◌&&◌, ◌||◌, List, [], ◌∷◌, ◌++◌, map, codes, Option, Some, None, is_some, is_none, if◌then◌else◌}
+use Rattle.std.specs.Prelude.{ℕ, Bool, true, false, not, ◌&&◌, ◌||◌, List, [], ◌∷◌, ◌++◌, map, codes, Option, Some, None, is_some, is_none, if◌then◌else◌}
 use Rattle.std.specs.List.{filter, flat_map, list_any, slice_get}
 use Rattle.std.specs.Str.{bytes_eq, encode_utf8_all}
 use Rattle.aidl_base.specs.declared.breach.Breach.{Breach}
 use Rattle.aidl_base.specs.declared.name.Ident.{Ident}
 use Rattle.aidl_syntax.specs.declared.tree.NameTree.{NameTree}
 use Rattle.aidl_syntax.specs.declared.tree.DottedTree.{DottedTree}
-use Rattle.aidl_syntax.specs.declared.tree.TypeTree.{TypeTree}
 use Rattle.aidl_syntax.specs.Trees.{Body}
 use Rattle.aidl_syntax.specs.Trees.Body.{parcelable, union, enum, interface}
 use Rattle.aidl_syntax.specs.Members.{Member, members, body, declared_name, member_name}

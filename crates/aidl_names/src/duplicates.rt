@@ -1,18 +1,17 @@
-//! Names of members, arguments and declarations that are declared twice: breaches of E2.
-ghost use Rattle.std.specs.Prelude.{◌≡◌, ◌≤◌, ◌++◌, map, take, length, OnOk, IfOk};
+//! The breaches of E2 by names that are declared twice.
+ghost use Rattle.std.specs.Prelude.{◌≡◌, ◌++◌, map, take, OnOk, IfOk};
 ghost use Rattle.std.specs.List.{flat_map, list_any};
 ghost use Rattle.aidl_syntax.specs.Trees.{arg_of};
 ghost use Rattle.aidl_syntax.specs.Members.{member_name};
 ghost use Rattle.declared_names.specs.Names.{same};
 ghost use Rattle.aidl_names.specs.Rules.{repeated, repeated_inside, argument_names, taken, is_taken};
 ghost use Rattle.declared_names.specs.MemberViews.{seen_member};
-ghost use Rattle.declared_names.specs.Marks.{mark_of_entry};
 ghost use Rattle.declared_names.specs.Entries.{entry_of};
 
 use crate::rows::add_if;
 use aidl_base::{Breach, Ident, OutOfMemory};
 use aidl_syntax::{ArgTree, NameTree};
-use declared_names::{Found, MemberRef, Table, members, name_of};
+use declared_names::{Declarations, Found, MemberRef, members, name_of};
 use indexmap::IndexSet;
 use name_resolution::{meaning_of_word, number_of};
 use std::alloc::Global;
@@ -113,18 +112,13 @@ fn add_repeated_names(
 }
 
 /// Adds the breaches of E2 by declarations.
-pub fn add_taken(
-    found: &[Found<'_>],
-    table: &Table,
-    rows: &mut Vec<Breach>,
-) -> Result<(), OutOfMemory>
-    requires count { length found.now ≤ 16384 }
-    requires table { table.now ≡ map mark_of_entry (map entry_of found.now) }
-    ensures { OnOk result (rows.new.items ≡ rows.old.items ++ taken (map entry_of found.now)) }
+pub fn add_taken(declarations: &Declarations<'_>, rows: &mut Vec<Breach>) -> Result<(), OutOfMemory>
+    ensures { OnOk result (rows.new.items ≡ rows.old.items ++ taken (map entry_of declarations.now)) }
 {
+    let found = declarations.as_slice();
     for (i, f) in found.iter().enumerate() {
         add_if(
-            is_taken(found, table, i, f),
+            is_taken(declarations, i, f),
             2,
             f.file,
             f.tree.name.offset,
@@ -135,24 +129,20 @@ pub fn add_taken(
 }
 
 // Whether a declaration, behind so many, has the name of one of them or a name with a meaning of its own.
-fn is_taken(found: &[Found<'_>], table: &Table, i: usize, inner: &Found<'_>) -> bool
-    requires count { length found.now ≤ 16384 }
-    requires table { table.now ≡ map mark_of_entry (map entry_of found.now) }
-    ensures { result ≡ is_taken (take i (map entry_of found.now)) (entry_of inner.now) }
+fn is_taken(declarations: &Declarations<'_>, i: usize, inner: &Found<'_>) -> bool
+    ensures { result ≡ is_taken (take i (map entry_of declarations.now)) (entry_of inner.now) }
 {
-    if is_again(found, table, i, inner.name.0.as_slice()) {
+    if is_again(declarations, i, inner.name.0.as_slice()) {
         return true;
     }
     meaning_of_word(inner.tree.name.name.0.as_str()).is_some()
 }
 
 // Whether one of the first declarations has this canonical name.
-fn is_again(found: &[Found<'_>], table: &Table, i: usize, name: &[Ident]) -> bool
-    requires count { length found.now ≤ 16384 }
-    requires table { table.now ≡ map mark_of_entry (map entry_of found.now) }
-    ensures { result ≡ list_any (λ d. same d.name name.now) (take i (map entry_of found.now)) }
+fn is_again(declarations: &Declarations<'_>, i: usize, name: &[Ident]) -> bool
+    ensures { result ≡ list_any (λ d. same d.name name.now) (take i (map entry_of declarations.now)) }
 {
-    match number_of(found, table, 0, &[], name) {
+    match number_of(declarations, 0, &[], name) {
         Some(first) => (first as usize) < i,
         None => false,
     }

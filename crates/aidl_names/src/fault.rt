@@ -1,5 +1,4 @@
-//! Faults of the names stage: a limit, breaches, or want of memory.
-
+//! Why the names of a tree are refused.
 use aidl_base::{Breach, Limit, OutOfMemory, Row};
 
 /// Why the names of a tree are refused.

@@ -1,4 +1,4 @@
-//! Files whose path isn't the name of their declaration: the breaches of E1.
+//! The breaches of E1 by the paths of files.
 ghost use Rattle.std.specs.Prelude.{◌≡◌, ◌≤◌, ◌++◌, [], ◌∷◌, map, length, IfOk, OnOk, if◌then◌else◌, string_bytes};
 ghost use Rattle.aidl_syntax.specs.Sources.{source_of};
 ghost use Rattle.aidl_names.specs.Rules.{WrongFile, is_wrong_file, path_of};

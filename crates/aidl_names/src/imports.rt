@@ -1,51 +1,45 @@
-//! Imports of what isn't declared, the breaches of E3, and different imports with one last part, which break E2.
+//! The breaches of E2 and E3 by imports.
 ghost use Rattle.std.specs.Prelude.{◌≡◌, ◌≤◌, ◌<◌, ◌++◌, ◌||◌, map, length, get_or, Some, IfOk, OnOk};
 ghost use Rattle.std.specs.List.{position_from};
 ghost use Rattle.aidl_syntax.specs.Sources.{source_of};
 ghost use Rattle.aidl_names.specs.Rules.{unknown_imports, other_imports};
 ghost use Rattle.declared_names.specs.Numbered.{in_each};
-ghost use Rattle.declared_names.specs.Marks.{mark_of_entry, mark_of_last};
+ghost use Rattle.declared_names.specs.Marks.{mark_of_last};
 ghost use Rattle.aidl_names.specs.Alike.{is_alike};
 ghost use Rattle.declared_names.specs.Entries.{entry_of};
 
 use crate::rows::add_if;
 use aidl_base::{Breach, Ident, OutOfMemory};
 use aidl_syntax::{DottedTree, ParsedFile};
-use declared_names::{Found, Table, last, last_mark, same, with_parts};
+use declared_names::{Declarations, Table, last, last_mark, same, with_parts};
 use name_resolution::number_of;
 use std::alloc::Global;
 
 /// Adds the breaches of E3.
 pub fn add_unknown_imports(
-    found: &[Found<'_>],
-    table: &Table,
+    declarations: &Declarations<'_>,
     files: &[ParsedFile],
     rows: &mut Vec<Breach>,
 ) -> Result<(), OutOfMemory>
-    requires count { length found.now ≤ 16384 }
-    requires table { table.now ≡ map mark_of_entry (map entry_of found.now) }
     requires files { length files.now ≤ 4096 }
-    ensures { OnOk result (rows.new.items ≡ rows.old.items ++ in_each (unknown_imports (map entry_of found.now)) 0 (map source_of files.now)) }
+    ensures { OnOk result (rows.new.items ≡ rows.old.items ++ in_each (unknown_imports (map entry_of declarations.now)) 0 (map source_of files.now)) }
 {
     for (i, file) in files.iter().enumerate() {
-        add_unknown(found, table, i as u32, file, rows)?;
+        add_unknown(declarations, i as u32, file, rows)?;
     }
     Ok(())
 }
 
 fn add_unknown(
-    found: &[Found<'_>],
-    table: &Table,
+    declarations: &Declarations<'_>,
     number: u32,
     file: &ParsedFile,
     rows: &mut Vec<Breach>,
 ) -> Result<(), OutOfMemory>
-    requires count { length found.now ≤ 16384 }
-    requires table { table.now ≡ map mark_of_entry (map entry_of found.now) }
-    ensures { OnOk result (rows.new.items ≡ rows.old.items ++ unknown_imports (map entry_of found.now) number (source_of file.now)) }
+    ensures { OnOk result (rows.new.items ≡ rows.old.items ++ unknown_imports (map entry_of declarations.now) number (source_of file.now)) }
 {
     for import in file.tree.imports.as_slice() {
-        let unknown = number_of(found, table, 0, &[], import.name.0.as_slice()).is_none();
+        let unknown = number_of(declarations, 0, &[], import.name.0.as_slice()).is_none();
         add_if(unknown, 3, number, import.offset, rows)?;
     }
     Ok(())

@@ -1,4 +1,4 @@
-//! The limits on the numbers of declarations, members and arguments.
+//! The limits on declarations, members and arguments.
 ghost use Rattle.std.specs.Prelude.{◌≡◌, ◌≤◌, map, length, IfOk, IfNone};
 ghost use Rattle.std.specs.List.{list_any};
 ghost use Rattle.aidl_syntax.specs.Members.{members};

@@ -1,4 +1,4 @@
-//! Breaches in the order in which they are reported, each once.
+//! Breaches in their order.
 ghost use Rattle.std.specs.Prelude.{◌≡◌, map, IfOk};
 ghost use Rattle.aidl_names.specs.Breaches.{in_order};
 ghost use Rattle.aidl_names.specs.Places.{breach_of};

@@ -1,4 +1,4 @@
-//! How a breach is added to the list of breaches, by the outcome of a test.
+//! A breach, added where there is one.
 ghost use Rattle.std.specs.Prelude.{◌≡◌, ◌++◌, [], ◌∷◌, OnOk, if◌then◌else◌};
 ghost use Rattle.aidl_names.specs.Rules.{breach};
 

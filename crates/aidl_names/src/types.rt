@@ -1,21 +1,17 @@
-//! The names of types in declarations: the breaches of E4 and E5.
-ghost use Rattle.std.specs.Prelude.{◌≡◌, ◌≤◌, ◌++◌, map, length, OnOk};
+//! The breaches of E4 and E5 by names of types.
+ghost use Rattle.std.specs.Prelude.{◌≡◌, ◌++◌, map, OnOk};
 ghost use Rattle.aidl_syntax.specs.Members.{body};
 ghost use Rattle.aidl_syntax.specs.Trees.{decl_of};
 ghost use Rattle.aidl_syntax.specs.Sources.{source_of};
-ghost use Rattle.declared_names.specs.Declarations.{declarations};
 ghost use Rattle.aidl_names.specs.Rules.{UnknownType, LeftOutType, types_in, types_where, is_left_out, is_interface, is_interface_body};
 ghost use Rattle.aidl_names.specs.TypeRules.{breaks_of, rule_of};
-ghost use Rattle.name_resolution.specs.Imports.{meant_through, meant_in};
-ghost use Rattle.declared_names.specs.Marks.{mark_of_entry};
 ghost use Rattle.declared_names.specs.Entries.{entry_of};
-ghost use Rattle.name_resolution.specs.steps.Asked.{AreRight};
 
 use crate::rows::add_if;
 use aidl_base::{Breach, Ident, OutOfMemory};
-use aidl_syntax::{BodyTree, DeclTree, ParsedFile};
-use declared_names::{Found, Table, names_of_types};
-use name_resolution::{Asked, Imports, Resolved, asked_where, resolved};
+use aidl_syntax::{BodyTree, DeclTree};
+use declared_names::{Found, names_of_types};
+use name_resolution::{Asking, Resolved, Resolver};
 use std::alloc::Global;
 
 /// A rule on the names of types.
@@ -42,63 +38,28 @@ impl TypeRule {
 /// imports that differ, so each name is tried behind one import at most.
 pub fn add_types(
     alloc: Global,
-    files: &[ParsedFile],
-    found: &[Found<'_>],
-    table: &Table,
-    imports: &[Imports<'_>],
+    resolver: &Resolver<'_>,
     rows: &mut Vec<Breach>,
 ) -> Result<(), OutOfMemory>
-    requires count { length found.now ≤ 16384 }
-    requires table { table.now ≡ map mark_of_entry (map entry_of found.now) }
-    requires imports { map meant_through imports.now ≡ map meant_in (map source_of files.now) }
-    requires all { map entry_of found.now ≡ declarations (map source_of files.now) }
-    ensures { OnOk result (rows.new.items ≡ rows.old.items ++ UnknownType (map source_of files.now) ++ LeftOutType (map source_of files.now)) }
+    ensures { OnOk result (rows.new.items ≡ rows.old.items ++ UnknownType (map source_of resolver.now.0) ++ LeftOutType (map source_of resolver.now.0)) }
 {
-    let asked = asked_where(alloc, !rows.is_empty(), found, table, imports)?;
-    add_types_by(
-        alloc,
-        files,
-        found,
-        table,
-        imports,
-        &asked,
-        TypeRule::Unknown,
-        rows,
-    )?;
-    add_types_by(
-        alloc,
-        files,
-        found,
-        table,
-        imports,
-        &asked,
-        TypeRule::LeftOut,
-        rows,
-    )
+    let asking = Asking::new(alloc, !rows.is_empty(), resolver)?;
+    add_types_by(alloc, &asking, TypeRule::Unknown, rows)?;
+    add_types_by(alloc, &asking, TypeRule::LeftOut, rows)
 }
 
 // Adds the breaches of a rule on the names of types.
 fn add_types_by(
     alloc: Global,
-    files: &[ParsedFile],
-    found: &[Found<'_>],
-    table: &Table,
-    imports: &[Imports<'_>],
-    asked: &Asked<'_>,
+    asking: &Asking<'_, '_>,
     rule: TypeRule,
     rows: &mut Vec<Breach>,
 ) -> Result<(), OutOfMemory>
-    requires count { length found.now ≤ 16384 }
-    requires table { table.now ≡ map mark_of_entry (map entry_of found.now) }
-    requires imports { map meant_through imports.now ≡ map meant_in (map source_of files.now) }
-    requires all { map entry_of found.now ≡ declarations (map source_of files.now) }
-    requires asked { AreRight imports.now (map entry_of found.now) asked.now }
-    ensures { OnOk result (rows.new.items ≡ rows.old.items ++ types_where (breaks_of rule (map source_of files.now)) (rule_of rule) (map source_of files.now)) }
+    ensures { OnOk result (rows.new.items ≡ rows.old.items ++ types_where (breaks_of rule (map source_of asking.now)) (rule_of rule) (map source_of asking.now)) }
 {
+    let found = asking.found();
     for (i, f) in found.iter().enumerate() {
-        add_types_in(
-            alloc, files, found, table, imports, asked, rule, i as u32, f, rows,
-        )?;
+        add_types_in(alloc, asking, rule, i as u32, f, rows)?;
     }
     Ok(())
 }
@@ -106,64 +67,29 @@ fn add_types_by(
 // Those in one declaration, which has this number.
 fn add_types_in(
     alloc: Global,
-    files: &[ParsedFile],
-    found: &[Found<'_>],
-    table: &Table,
-    imports: &[Imports<'_>],
-    asked: &Asked<'_>,
+    asking: &Asking<'_, '_>,
     rule: TypeRule,
     number: u32,
     inside: &Found<'_>,
     rows: &mut Vec<Breach>,
 ) -> Result<(), OutOfMemory>
-    requires count { length found.now ≤ 16384 }
-    requires table { table.now ≡ map mark_of_entry (map entry_of found.now) }
-    requires imports { map meant_through imports.now ≡ map meant_in (map source_of files.now) }
-    requires all { map entry_of found.now ≡ declarations (map source_of files.now) }
-    requires asked { AreRight imports.now (map entry_of found.now) asked.now }
-    ensures { OnOk result (rows.new.items ≡ rows.old.items ++ types_in (breaks_of rule (map source_of files.now)) (rule_of rule) number (entry_of inside.now)) }
+    ensures { OnOk result (rows.new.items ≡ rows.old.items ++ types_in (breaks_of rule (map source_of asking.now)) (rule_of rule) number (entry_of inside.now)) }
 {
     let names = names_of_types(alloc, inside.tree)?;
     for name in names.as_slice() {
-        let broken = breaks(
-            files,
-            found,
-            table,
-            imports,
-            asked,
-            rule,
-            inside.file,
-            number,
-            name.name.0.as_slice(),
-        );
+        let broken = breaks(asking, rule, inside.file, number, name.name.0.as_slice());
         add_if(broken, rule.number(), inside.file, name.offset, rows)?;
     }
     Ok(())
 }
 
-fn breaks(
-    files: &[ParsedFile],
-    found: &[Found<'_>],
-    table: &Table,
-    imports: &[Imports<'_>],
-    asked: &Asked<'_>,
-    rule: TypeRule,
-    file: u32,
-    scope: u32,
-    name: &[Ident],
-) -> bool
-    requires count { length found.now ≤ 16384 }
-    requires table { table.now ≡ map mark_of_entry (map entry_of found.now) }
-    requires imports { map meant_through imports.now ≡ map meant_in (map source_of files.now) }
-    requires all { map entry_of found.now ≡ declarations (map source_of files.now) }
-    requires asked { AreRight imports.now (map entry_of found.now) asked.now }
-    ensures { result ≡ breaks_of rule (map source_of files.now) file scope name.now }
+fn breaks(asking: &Asking<'_, '_>, rule: TypeRule, file: u32, scope: u32, name: &[Ident]) -> bool
+    ensures { result ≡ breaks_of rule (map source_of asking.now) file scope name.now }
 {
-    let known = asked.known(file, name);
-    let meaning = resolved(files, found, table, imports, known, file, scope, name);
+    let meaning = asking.resolve(file, scope, name);
     match rule {
         TypeRule::Unknown => meaning.is_none(),
-        TypeRule::LeftOut => is_left_out(found, meaning),
+        TypeRule::LeftOut => is_left_out(asking.found(), meaning),
     }
 }
 

@@ -1,5 +1,5 @@
 -- What a store tells: the bytes at each path; what is read of them, and what is listed below a root.
-use Rattle.std.specs.Prelude.{◌≡◌, ℕ, ◌+◌, ◌≤◌, ◌==◌, ◌&&◌, Bool, true, if◌then◌else◌, List, [], ◌∷◌, length, take, Option, Some, None, Vec}
+use Rattle.std.specs.Prelude.{◌≡◌, ℕ, ◌+◌, ◌≤◌, ◌==◌, ◌&&◌, Bool, true, if◌then◌else◌, List, [], ◌∷◌, ◌++◌, length, take, Option, Some, None, Vec}
 use Rattle.std.specs.List.{filter_map, list_all}
 use Rattle.std.specs.Ordering.{nat_cmp, is_lt}
 use Rattle.std.specs.Cmp.Lexicographic.{slice_cmp}
@@ -25,6 +25,10 @@ IsRead most (Some file) (Some bytes) = bytes.items ≡ front_of most file
 abbrev pub IsWithin : ℕ → Option (Vec ℕ Global) → Type 0
 IsWithin most None = Unit {0}
 IsWithin most (Some bytes) = length bytes.items ≤ most + 1
+
+-- a path below a folder is the folder, `/` and the relative path
+abbrev pub path_below : List ℕ → List ℕ → List ℕ
+path_below folder path = folder ++ 47 ∷ path
 
 -- a path relative to a root: what follows the root and a `/`
 abbrev pub below : List ℕ → List ℕ → Option (List ℕ)

@@ -2,9 +2,11 @@
 #![tactic(auto)]
 
 mod link;
+mod paths;
 mod sink;
 mod store;
 
 pub use link::{Carried, CarryFault, Link, Way};
+pub use paths::path_below;
 pub use sink::{Sink, SinkFault};
 pub use store::{Store, StoreFault};

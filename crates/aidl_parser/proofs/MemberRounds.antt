@@ -6,7 +6,7 @@ use Rattle.aidl_syntax.specs.declared.token.Symbol.TheVariants as mark
 use Rattle.aidl_syntax.specs.declared.tree.MemberTree.{MemberTree}
 use Rattle.aidl_syntax.specs.Trees.{Annot, Members, ahead_of, member_of}
 use Rattle.aidl_syntax.specs.Trees.Members.{none}
-use Rattle.expr_parser.specs.steps.Reading.{Read, ◌>>=◌}
+use Rattle.expr_parser.specs.Reading.{Read, ◌>>=◌}
 use Rattle.aidl_parser.specs.steps.Parts.{begins, alter}
 use Rattle.aidl_parser.specs.steps.Decls.{decl_at, declared, body_by, members_at, members_by, members_behind, joined, member_at, member_with, with_members}
 

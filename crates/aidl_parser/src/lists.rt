@@ -3,7 +3,7 @@ ghost use Rattle.std.specs.Prelude.{◌≡◌, ℕ, List, Option, map, length, I
 ghost use Rattle.aidl_syntax.specs.declared.token.Token.{Token};
 ghost use Rattle.aidl_syntax.specs.declared.token.Symbol.TheVariants as mark;
 ghost use Rattle.aidl_syntax.specs.Trees.{map_option};
-ghost use Rattle.expr_parser.specs.steps.Reading.{Read};
+ghost use Rattle.expr_parser.specs.Reading.{Read};
 ghost use Rattle.aidl_parser.specs.steps.Parts as part;
 ghost use Rattle.aidl_parser.specs.steps.Inits as inits;
 ghost use Rattle.aidl_parser.specs.steps.Repeats as repeats;

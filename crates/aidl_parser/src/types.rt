@@ -4,7 +4,7 @@ ghost use Rattle.aidl_syntax.specs.declared.token.Symbol.TheVariants as mark;
 ghost use Rattle.aidl_parser.specs.steps.Parts as part;
 ghost use Rattle.aidl_parser.specs.steps.Types as read;
 ghost use Rattle.expr_parser.specs.Gives.{Gives};
-ghost use Rattle.expr_parser.specs.steps.Reading as names;
+ghost use Rattle.expr_parser.specs.Reading as names;
 ghost use Rattle.aidl_syntax.specs.declared.tree.DottedTree.{DottedTree};
 
 use crate::lists::Part;

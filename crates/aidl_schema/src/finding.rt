@@ -8,7 +8,8 @@ ghost use Rattle.aidl_schema.specs.steps.Dots.{with_dots};
 ghost use Rattle.aidl_schema.specs.Find as find;
 
 use crate::laws::law_valid;
-use crate::schema::{Kind, Method, Schema};
+use crate::members::methods_at;
+use crate::schema::{Method, Schema};
 use aidl_base::Ident;
 use std::cmp::Ordering;
 
@@ -90,19 +91,6 @@ pub fn method_of_code(schema: &Schema, interface: u32, code: u32) -> Option<u32>
     match position_of_code(methods_at(schema, interface), code) {
         Some(i) => Some(i as u32),
         None => None,
-    }
-}
-
-// The methods of an interface; none of what is no interface.
-fn methods_at(schema: &Schema, interface: u32) -> &[Method]
-    ensures { result.now ≡ find.methods_at schema.now.decls interface }
-{
-    match schema.decls.as_slice().get(interface as usize) {
-        Some(decl) => match &decl.kind {
-            Kind::Interface(methods) => methods.as_slice(),
-            _ => &[],
-        },
-        None => &[],
     }
 }
 

@@ -4,6 +4,7 @@
 mod finding;
 mod laws;
 mod meaning;
+mod members;
 mod schema;
 
 pub use finding::{find, method_of_code};
@@ -12,6 +13,7 @@ pub use laws::{
     law_valid,
 };
 pub use meaning::{Form, element, form_in, is_array, is_in_range, is_raw, is_type};
+pub use members::{fields_of, methods_at, methods_of};
 pub use schema::{
     AidlType, Arg, Backing, Base, Constant, Decl, Direction, Enumerator, Field, Kind, Method,
     Schema, Shape,

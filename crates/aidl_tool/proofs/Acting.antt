@@ -11,9 +11,9 @@ use Rattle.aidl_outside.specs.Told.{Tells}
 use Rattle.aidl_outside.specs.Writes.{ChangesOnly, Write}
 use Rattle.aidl_schema.specs.declared.schema.Decl.{Decl}
 use Rattle.aidl_schema.specs.declared.schema.Schema.{Schema}
-use Rattle.aidl_tool.specs.Acting.{BySchema, RehashActs}
+use Rattle.aidl_tool.specs.Acting.{BySchema, HasSchema, RehashActs}
 use Rattle.aidl_tool.specs.steps.Left.{LeftBy}
-use Rattle.aidl_tool.specs.steps.Opens.{Opens}
+use Rattle.aidl_tool.specs.steps.Opens.{Opens, Unchecked}
 use Rattle.api_freeze.specs.declared.freezing.Frozen.{Frozen}
 use Rattle.api_freeze.specs.Freeze as freeze
 use Rattle.api_freeze.specs.Rehash.{hash_writes, rehash_at, rehash_of, rehash_writes, stale_numbers, whole_writes}
@@ -33,11 +33,11 @@ use Rattle.tool_frame.specs.declared.printed.Early.{Early}
 use Rattle.tool_frame.specs.declared.printed.Early.TheVariants.{Answered, OutOfMemory}
 use Rattle.tool_frame.specs.declared.printed.Printed.{Printed}
 use Rattle.tool_frame.specs.Acts.{Acts, writes_of}
-use Rattle.tool_frame.specs.Answer.{Answer}
+use Rattle.tool_frame.specs.Answer.{Answer, Found}
 use Rattle.tool_frame.specs.Ended.{FailedAt, WroteSome}
 use Rattle.tool_frame.specs.steps.Acts.{Acted, ActsAs}
-use Rattle.tool_frame.specs.steps.Results.{Gives, printed}
-use Rattle.tool_frame.specs.Trees.{tree_at}
+use Rattle.tool_frame.specs.Results.{Gives, printed}
+use Rattle.tool_frame.specs.Trees.{TreeFile, tree_at}
 use Rattle.aidl_outside.proofs.lemmas.Telling.{tells}
 use Rattle.tool_frame.proofs.lemmas.Writings.{acts_more, ends_unwritten}
 use Rattle.version_output.specs.Ends.{EndsBy, EndsIn}
@@ -67,6 +67,15 @@ pub acts_left : (acts : Acts) (ws : List Write) (a : Answer) (e : StoreFault) (b
 acts_left acts ws a Failed before now is failed = failed_next acts ws a is before now failed
 acts_left acts ws a StoreMemory before now is some = wrote_first acts ws a is before now some
 
+-- what comes of a tree that isn't checked, and of one that is
+refused_by : (root : List ℕ) (tree : Found (List TreeFile)) (next : List Decl → Acts) (a : Answer) → Unchecked root tree a → BySchema root tree next [] a
+refused_by root (Ok found) next a (sources, are, is) = (sources, are, inl (a, is, (refl, refl)))
+refused_by root (Err passed) next a e = (refl, e)
+
+done_by : (root : List ℕ) (tree : Found (List TreeFile)) (next : List Decl → Acts) (S : List Decl) (made : List Write) (a : Answer) → HasSchema tree S → next S made a → BySchema root tree next made a
+done_by root (Ok found) next S made a (sources, are, is) h = (sources, are, inr (S, is, h))
+done_by root (Err passed) next S made a never h = absurd never
+
 -- By the schema of a tree.
 module _ (root : List ℕ) (next : Files → List Decl → Acts) where
   abbrev Whole : Files → Acts
@@ -74,14 +83,14 @@ module _ (root : List ℕ) (next : Files → List Decl → Acts) where
 
   -- a tree that isn't checked
   pub opened_ends : (before now : Option Files) (early : Early) → now ≡ before → Tells before (λ files. Opens root (tree_at files root) (Err early)) → ActsAs Whole before now (Ok (Err early))
-  opened_ends before now (Answered p) same told = ends_unwritten Whole before now (Answered p) same (tells before _ _ (λ files h. inl (refl, h)) told)
+  opened_ends before now (Answered p) same told = ends_unwritten Whole before now (Answered p) same (tells before _ _ (λ files h. refused_by root (tree_at files root) (next files) (printed p) h) told)
   opened_ends before now OutOfMemory same told = ends_unwritten Whole before now OutOfMemory same tt
 
   -- one that is
   pub opened_goes : (before middle now : Option Files) (schema : Schema) (r : Result (Result Printed Early) StoreFault) → middle ≡ before
       → Tells before (λ files. Opens root (tree_at files root) (Ok schema)) → ActsAs (λ files. next files schema.decls) middle now r → ActsAs Whole before now r
   opened_goes before middle now schema r same told acted =
-      acts_more (λ files. next files schema.decls) Whole before now r (tells before _ _ (λ files has made a h. inr (schema.decls, has, h)) told)
+      acts_more (λ files. next files schema.decls) Whole before now r (tells before _ _ (λ files has made a h. done_by root (tree_at files root) (next files) schema.decls made a has h) told)
       (subst (λ m. ActsAs (λ files. next files schema.decls) m now r) same acted)
 
 -- A store that tells nothing.

@@ -10,7 +10,7 @@ use Rattle.aidl_tool.specs.steps.Loading.{HeldFiles, loaded_seen}
 use Rattle.tool_frame.specs.declared.printed.Early.{Early}
 use Rattle.tool_frame.specs.declared.printed.Early.TheVariants.{Answered, OutOfMemory}
 use Rattle.tool_frame.specs.Answer.{Found}
-use Rattle.tool_frame.specs.steps.Results.{Finds}
+use Rattle.tool_frame.specs.Results.{Finds}
 use Rattle.aidl_outside.proofs.lemmas.Telling.{tells, tells_both}
 
 -- A step that ended early is the refusal of all.

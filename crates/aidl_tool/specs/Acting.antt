@@ -1,5 +1,5 @@
 -- What the commands that write do over the files of a store.
-use Rattle.std.specs.Prelude.{◌⊎◌, ℕ, List, Ok, Err}
+use Rattle.std.specs.Prelude.{ℕ, List, Ok, Err}
 use Rattle.aidl_base.specs.declared.source_file.SourceFile.{SourceFile}
 use Rattle.aidl_outside.specs.Files.{Files}
 use Rattle.aidl_schema.specs.declared.schema.Decl.{Decl}
@@ -7,25 +7,21 @@ use Rattle.api_freeze.specs.Rehash.{rehash_at, rehash_writes}
 use Rattle.api_versions.specs.Versions.{versions_at}
 use Rattle.version_output.specs.Dumped.{Dumps}
 use Rattle.version_output.specs.Frozen.{Freezes}
-use Rattle.tool_frame.specs.Acts.{Acts, Only}
-use Rattle.tool_frame.specs.Answer.{Answer, Found}
-use Rattle.tool_frame.specs.Trees.{AreFiles, OverTree, TreeFile, tree_at}
-use Rattle.tree_output.specs.Faults.{IsFaultAnswer}
+use Rattle.tool_frame.specs.Acts.{Acts, Unwritten}
+use Rattle.tool_frame.specs.Answer.{Found}
+use Rattle.tool_frame.specs.Trees.{AreFiles, TreeFile, tree_at}
+use Rattle.tree_output.specs.ByTree.{ByTree}
 use Rattle.type_check.specs.Checked.{IsSchemaOf}
 use Rattle.version_output.specs.Rehashed.{Rehashes}
-
--- why a tree with a root isn't checked: the limit that its files pass, or its faults
-abbrev pub Unchecked : List ℕ → Found (List TreeFile) → Answer → Type 0
-Unchecked root tree = OverTree tree (IsFaultAnswer root)
 
 -- the schema of the files of a tree
 abbrev pub HasSchema : Found (List TreeFile) → List Decl → Type 0
 HasSchema (Ok tree) S = (sources : List SourceFile) × AreFiles sources tree × IsSchemaOf sources S
 HasSchema (Err passed) S = ⊥
 
--- the tree isn't checked, and nothing is written; or what is done by its schema
+-- what is done by the schema of a tree; where it has none, nothing is written
 abbrev pub BySchema : List ℕ → Found (List TreeFile) → (List Decl → Acts) → Acts
-BySchema root tree next made answer = Only (Unchecked root tree) made answer ⊎ ((S : List Decl) × HasSchema tree S × next S made answer)
+BySchema root tree next made answer = ByTree (Unwritten made) root tree (λ S. next S made) answer
 
 -- `dump TREE OUT`
 abbrev pub DumpActs : List ℕ → List ℕ → Files → Acts

@@ -18,6 +18,8 @@ use Rattle.parcel_output.specs.Decode.{profile_of}
 use Rattle.run_output.specs.CallLines.{lines_of, within_lines}
 use Rattle.run_output.specs.Projected.{projected_text}
 use Rattle.run_output.specs.Running.{neither}
+use Rattle.tool_frame.specs.declared.exit.Exit.TheVariants.{Done, Negative}
+use Rattle.tool_frame.specs.Exit.{number_of}
 use Rattle.tool_frame.specs.Refusals.{file_at}
 use Rattle.tool_frame.specs.Seen.{Seen}
 use Rattle.tool_frame.specs.Trees.{tree_at}
@@ -59,11 +61,11 @@ IsUnknownAnswered A B c j n result outs =
 pub record Headline (words : Option Command) (before now : Seen) (exit : ℕ) (files : Files) : Type 0 where
   -- the judge accepts two checked trees
   pub accepts : (old new : List ℕ) (A B : List Decl) → words ≡ Some (judge old new) → IsChecked files old A → IsChecked files new B → broken A B ≡ [] → IsVerdict exit
-      → (exit ≡ 0) × Adds before.told now.told (judged []).text
+      → (exit ≡ number_of Done) × Adds before.told now.told (judged []).text
   -- every well-typed call (each other line is its refusal), carried unaltered between them, either way, prints the written projection
   pub prints : (trace lenient : Bool) (client server calls text : List ℕ) (A B : List Decl) → words ≡ Some (run trace lenient client server calls)
       → IsChecked files client A → IsChecked files server B → IsCallsText files calls text → before.is_faithful ≡ true → OneFollows A B → IsVerdict exit
-      → (exit ≡ 0) × Adds before.told now.told (projected_text (profile_of lenient) A B trace 1 (lines_of text))
+      → (exit ≡ number_of Done) × Adds before.told now.told (projected_text (profile_of lenient) A B trace 1 (lines_of text))
   -- UNKNOWN_TRANSACTION for a method that the receiver lacks
   pub unknown_transaction : (A B : List Decl) (c : CallData) → LacksMethod A B c → projected A B (Ok c) ≡ transport unknown_transaction
   -- BAD_VALUE for a union tag unknown there: the transport's status, or the client's
@@ -73,8 +75,8 @@ pub record Headline (words : Option Command) (before now : Seen) (exit : ℕ) (f
       → IsUnknownAnswered A B c j n result outs → projected A B (Ok c) ≡ done (Some saw) (Err bad_value)
   -- the judge refuses exactly where a rule is broken, listing every broken rule
   pub refuses : (old new : List ℕ) (A B : List Decl) → words ≡ Some (judge old new) → IsChecked files old A → IsChecked files new B → broken A B ≢ [] → IsVerdict exit
-      → (exit ≡ 1) × Adds before.told now.told (judged (broken A B)).text
+      → (exit ≡ number_of Negative) × Adds before.told now.told (judged (broken A B)).text
   -- before a run, where neither may follow the other: every rule that is broken in each order
   pub refuses_both : (trace lenient : Bool) (client server calls text : List ℕ) (A B : List Decl) → words ≡ Some (run trace lenient client server calls)
       → IsChecked files client A → IsChecked files server B → IsCallsText files calls text → broken A B ≢ [] → broken B A ≢ [] → IsVerdict exit
-      → (exit ≡ 1) × Adds before.told now.told (neither (broken A B) (broken B A)).text
+      → (exit ≡ number_of Negative) × Adds before.told now.told (neither (broken A B) (broken B A)).text

@@ -1,20 +1,19 @@
 -- What is answered by the schema of the tree that the words name.
-use Rattle.std.specs.Prelude.{◌⊎◌, ℕ, List, [], Option, Some, None}
+use Rattle.std.specs.Prelude.{ℕ, List, [], Option, Some, None}
 use Rattle.aidl_base.specs.declared.source_file.SourceFile.{SourceFile}
 use Rattle.aidl_outside.specs.Files.{Files}
 use Rattle.aidl_schema.specs.declared.schema.Decl.{Decl}
-use Rattle.tool_frame.specs.Answer.{Answer}
+use Rattle.tool_frame.specs.Answer.{Answer, AsAnswer}
 use Rattle.tool_frame.specs.Trees.{OverTree, tree_at}
-use Rattle.tree_output.specs.Faults.{IsFaultAnswer}
-use Rattle.type_check.specs.Checked.{IsSchemaOf}
+use Rattle.tree_output.specs.ByTree.{ByFiles}
 
 -- what is answered by the declarations of a schema
 abbrev pub BySchema : Type 1
 BySchema = List Decl → Answer → Type 0
 
--- the files have a schema, and this is answered by it; or else their faults
+-- by the schema of files
 abbrev pub Checked : List ℕ → List SourceFile → BySchema → Answer → Type 0
-Checked root files next answer = IsFaultAnswer root files answer ⊎ ((S : List Decl) × IsSchemaOf files S × next S answer)
+Checked root files next answer = ByFiles AsAnswer root files next answer
 
 -- With a tree: the limits of its files, and what is answered where its schema is taken; without one it's the empty schema.
 abbrev pub InTree : Option (List ℕ) → Files → ((BySchema → Answer → Type 0) → Answer → Type 0) → Answer → Type 0

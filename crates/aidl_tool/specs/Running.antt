@@ -1,5 +1,5 @@
 -- What `run` does over the files of a store, in the order of its refusals (own).
-use Rattle.std.specs.Prelude.{◌≡◌, ◌⊎◌, ℕ, Bool, List, Ok, Err}
+use Rattle.std.specs.Prelude.{◌≡◌, ℕ, Bool, List}
 use Rattle.aidl_base.specs.declared.limit.LimitName.TheVariants.{TextBytes}
 use Rattle.aidl_base.specs.declared.profile.Profile.{Profile}
 use Rattle.aidl_base.specs.declared.source_file.SourceFile.{SourceFile}
@@ -8,12 +8,11 @@ use Rattle.aidl_outside.specs.Files.{Files}
 use Rattle.aidl_schema.specs.declared.schema.Decl.{Decl}
 use Rattle.run_output.specs.CallLines.{within_lines}
 use Rattle.run_output.specs.Running.{run_course}
-use Rattle.tool_frame.specs.Answer.{Answer, Found}
-use Rattle.tool_frame.specs.Course.{Course, at_once}
+use Rattle.tool_frame.specs.Answer.{Found, FoundThen}
+use Rattle.tool_frame.specs.Course.{AtOnce, Course}
 use Rattle.tool_frame.specs.Refusals.{file_at, there}
-use Rattle.tool_frame.specs.Trees.{TreeFile, AreFiles, tree_at}
-use Rattle.tree_output.specs.Faults.{IsFaultAnswer}
-use Rattle.type_check.specs.Checked.{IsSchemaOf}
+use Rattle.tool_frame.specs.Trees.{Over, TreeFile, tree_at}
+use Rattle.tree_output.specs.ByTree.{ByFiles}
 
 -- what a command does that carries
 abbrev pub Takes : Type 1
@@ -21,18 +20,15 @@ Takes = Course → Type 0
 
 -- what a step finds, or the refusal, which is printed at once
 abbrev pub TakesThen : {A : Type 0} → Found A → (A → Takes) → Takes
-TakesThen (Ok x) next course = next x course
-TakesThen (Err refusal) next course = course ≡ at_once refusal
+TakesThen found next course = FoundThen AtOnce found next course
 
 -- over the files of a tree, or the limit that they pass
 abbrev pub TakesOver : Found (List TreeFile) → (List SourceFile → Takes) → Takes
-TakesOver (Ok tree) next course = (sources : List SourceFile) × AreFiles sources tree × next sources course
-TakesOver (Err passed) next course = course ≡ at_once passed
+TakesOver tree next course = Over AtOnce tree next course
 
--- by the schema of files, or their faults
+-- by the schema of files
 abbrev pub TakesChecked : List ℕ → List SourceFile → (List Decl → Takes) → Takes
-TakesChecked root files next course =
-    ((answer : Answer) × IsFaultAnswer root files answer × (course ≡ at_once answer)) ⊎ ((S : List Decl) × IsSchemaOf files S × next S course)
+TakesChecked root files next course = ByFiles AtOnce root files next course
 
 -- the text of a calls file, or the limit that it passes
 abbrev pub calls_within : Found (List ℕ) → Found (List ℕ)

@@ -1,3 +1,5 @@
+-- What the code's steps do, for inner contracts: no contract of a function that the crate exports cites it.
 pub mod Left
 pub mod Loading
 pub mod Opens
+pub mod Preparing

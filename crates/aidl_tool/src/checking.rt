@@ -4,28 +4,29 @@ ghost use Rattle.aidl_outside.specs.Causes.{StoreCause};
 ghost use Rattle.aidl_outside.specs.Told.{Tells};
 ghost use Rattle.aidl_tool.specs.Meant.{CheckAnswers};
 ghost use Rattle.tool_frame.specs.Ended.{Ended};
+ghost use Rattle.tool_frame.specs.Exit.{number_of};
 ghost use Rattle.tool_frame.specs.Meaning.{reads_by};
 ghost use Rattle.tool_frame.specs.Seen.{seen_by};
 ghost use Rattle.tool_frame.specs.Trees.{OverTree, tree_seen};
-ghost use Rattle.tool_frame.specs.steps.Results.{GivesOne};
+ghost use Rattle.tool_frame.specs.Results.{GivesOne};
 ghost use Rattle.tree_output.specs.Checked.{IsCheckAnswer};
 
 use aidl_base::{Limit, Row, SourceFile};
 use aidl_outside::{Link, Sink, Store, StoreFault};
 use std::alloc::Global;
-use tool_frame::{Early, Printed, end, files_of, load_tree};
+use tool_frame::{Early, Exit, Printed, end, files_of, load_tree};
 use tree_output::check_answer;
 
-/// Runs `check TREE`. The answer is the exit status.
+/// Runs `check TREE`. The answer is the exit.
 pub fn check<S: Store, K: Sink, L: Link>(
     alloc: Global,
     root: &str,
     store: &mut S,
     sink: &mut K,
     link: &L,
-) -> u8
+) -> Exit
     ensures { let seen = seen_by S.kept S.count K.told K.count L.log L.is_faithful L.count in
-        Ended (reads_by (CheckAnswers root.now)) (seen store.old sink.old link.now) (seen store.new sink.new link.now) result }
+        Ended (reads_by (CheckAnswers root.now)) (seen store.old sink.old link.now) (seen store.new sink.new link.now) (number_of result) }
 {
     let answered = answered(alloc, root, store);
     end(alloc, answered, sink)

@@ -9,20 +9,21 @@ ghost use Rattle.parcel_output.specs.Decode.{decode_answer};
 ghost use Rattle.parcel_output.specs.Refusals.{parcel_of};
 ghost use Rattle.tool_frame.specs.Answer.{Then};
 ghost use Rattle.tool_frame.specs.Ended.{Ended};
+ghost use Rattle.tool_frame.specs.Exit.{number_of};
 ghost use Rattle.tool_frame.specs.Meaning.{reads_by};
 ghost use Rattle.tool_frame.specs.Seen.{seen_by};
 ghost use Rattle.tool_frame.specs.Trees as frame;
-ghost use Rattle.tool_frame.specs.steps.Results.{GivesOne, held};
+ghost use Rattle.tool_frame.specs.Results.{GivesOne, held};
 
 use aidl_base::{Limit, LimitName, Profile, Row, SourceFile};
 use aidl_outside::{Link, Sink, Store, StoreFault};
 use aidl_schema::Schema;
 use parcel_output::parcel_of;
 use std::alloc::Global;
-use tool_frame::{Early, Printed, end, files_of, load, load_tree, there};
-use tree_output::checked;
+use tool_frame::{Early, Exit, Printed, end, existing_file, files_of, load, load_tree};
+use tree_output::check_tree;
 
-/// Runs `decode [--lenient] [--tree TREE] TYPES FILE`, and reads by the profile. The answer is the exit status.
+/// Runs `decode [--lenient] [--tree TREE] TYPES FILE`, and reads by the profile. The answer is the exit.
 pub fn decode<S: Store, K: Sink, L: Link>(
     alloc: Global,
     profile: Profile,
@@ -32,9 +33,9 @@ pub fn decode<S: Store, K: Sink, L: Link>(
     store: &mut S,
     sink: &mut K,
     link: &L,
-) -> u8
+) -> Exit
     ensures { let seen = seen_by S.kept S.count K.told K.count L.log L.is_faithful L.count in
-        Ended (reads_by (DecodeAnswers profile (tree_seen tree.entry) types.now path.now)) (seen store.old sink.old link.now) (seen store.new sink.new link.now) result }
+        Ended (reads_by (DecodeAnswers profile (tree_seen tree.entry) types.now path.now)) (seen store.old sink.old link.now) (seen store.new sink.new link.now) (number_of result) }
 {
     let answered = answered(alloc, profile, tree, types, path, store);
     end(alloc, answered, sink)
@@ -54,7 +55,7 @@ fn answered<S: Store>(
     ensures cause { StoreCause (S.count store.old) (S.count store.new) result }
 {
     let file = load(alloc, LimitName::TextBytes, path, store)?;
-    match there(alloc, path, file) {
+    match existing_file(alloc, path, file) {
         Ok(file) => answered_of(alloc, profile, tree, types, file, store),
         Err(early) => Ok(Err(early)),
     }
@@ -126,6 +127,6 @@ fn answer_of_files(
     ensures { GivesOne result (Then (parcel_of (held file)) (λ parcel. Checked root.now files (λ S answer. answer ≡ decode_answer profile S types.now parcel))) }
 {
     let parcel = parcel_of(alloc, file)?;
-    let schema = checked(alloc, root, files)?;
+    let schema = check_tree(alloc, root, files)?;
     parcel_output::decode(alloc, profile, &schema, types, parcel.as_slice())
 }

@@ -7,11 +7,12 @@ ghost use Rattle.aidl_tool.specs.Acting.{DumpActs};
 ghost use Rattle.aidl_tool.specs.steps.Left.{LeftBy};
 ghost use Rattle.api_versions.specs.Causes.{FaultCause};
 ghost use Rattle.api_versions.specs.Writes.{Left};
-ghost use Rattle.api_versions.specs.steps.Early.{IsLate};
-ghost use Rattle.api_versions.specs.steps.Seen.{write_seen};
+ghost use Rattle.api_versions.specs.Early.{IsLate};
+ghost use Rattle.api_versions.specs.Seen.{write_seen};
 ghost use Rattle.version_output.specs.Dumped.{Dumps};
 ghost use Rattle.tool_frame.specs.Acts.{acts_by};
 ghost use Rattle.tool_frame.specs.Ended.{Ended};
+ghost use Rattle.tool_frame.specs.Exit.{number_of};
 ghost use Rattle.tool_frame.specs.Seen.{seen_by};
 ghost use Rattle.tool_frame.specs.steps.Acts.{ActsAs};
 
@@ -20,10 +21,10 @@ use aidl_outside::{Link, Sink, Store, StoreFault};
 use aidl_schema::Schema;
 use api_versions::{FreezeFault, Write, write_all};
 use std::alloc::Global;
-use tool_frame::{Early, Printed, end};
-use version_output::dumped;
+use tool_frame::{Early, Exit, Printed, end};
+use version_output::dump_answer;
 
-/// Runs `dump TREE OUT`. The answer is the exit status.
+/// Runs `dump TREE OUT`. The answer is the exit.
 pub fn dump<S: Store, K: Sink, L: Link>(
     alloc: Global,
     tree: &str,
@@ -31,9 +32,9 @@ pub fn dump<S: Store, K: Sink, L: Link>(
     store: &mut S,
     sink: &mut K,
     link: &L,
-) -> u8
+) -> Exit
     ensures { let seen = seen_by S.kept S.count K.told K.count L.log L.is_faithful L.count in
-        Ended (acts_by (DumpActs tree.now out.now)) (seen store.old sink.old link.now) (seen store.new sink.new link.now) result }
+        Ended (acts_by (DumpActs tree.now out.now)) (seen store.old sink.old link.now) (seen store.new sink.new link.now) (number_of result) }
 {
     let answered = answered(alloc, tree, out, store);
     end(alloc, answered, sink)
@@ -66,7 +67,7 @@ fn write_dump<S: Store>(
     ensures acts { ActsAs (λ files. Dumps out.now schema.now.decls) (S.kept store.old) (S.kept store.new) result }
     ensures cause { StoreCause (S.count store.old) (S.count store.new) result }
 {
-    let Ok(due) = dumped(alloc, out, schema) else {
+    let Ok(due) = dump_answer(alloc, out, schema) else {
         return Ok(Err(Early::OutOfMemory));
     };
     match write_due(alloc, due.writes.as_slice(), store) {

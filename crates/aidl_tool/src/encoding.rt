@@ -8,19 +8,20 @@ ghost use Rattle.aidl_tool.specs.Meant.{EncodeAnswers, EncodesFile};
 ghost use Rattle.parcel_output.specs.Encode.{encode_answer};
 ghost use Rattle.tool_frame.specs.Answer.{Then};
 ghost use Rattle.tool_frame.specs.Ended.{Ended};
+ghost use Rattle.tool_frame.specs.Exit.{number_of};
 ghost use Rattle.tool_frame.specs.Meaning.{reads_by};
 ghost use Rattle.tool_frame.specs.Seen.{seen_by};
 ghost use Rattle.tool_frame.specs.Trees as frame;
-ghost use Rattle.tool_frame.specs.steps.Results.{GivesOne, held};
+ghost use Rattle.tool_frame.specs.Results.{GivesOne, held};
 
 use aidl_base::{Limit, LimitName, Row, SourceFile};
 use aidl_outside::{Link, Sink, Store, StoreFault};
 use aidl_schema::Schema;
 use std::alloc::Global;
-use tool_frame::{Early, Printed, end, files_of, load, load_tree, text_of, there};
-use tree_output::checked;
+use tool_frame::{Early, Exit, Printed, end, existing_file, files_of, load, load_tree, text_of};
+use tree_output::check_tree;
 
-/// Runs `encode [--tree TREE] TYPES FILE`. The answer is the exit status.
+/// Runs `encode [--tree TREE] TYPES FILE`. The answer is the exit.
 pub fn encode<S: Store, K: Sink, L: Link>(
     alloc: Global,
     tree: Option<&str>,
@@ -29,9 +30,9 @@ pub fn encode<S: Store, K: Sink, L: Link>(
     store: &mut S,
     sink: &mut K,
     link: &L,
-) -> u8
+) -> Exit
     ensures { let seen = seen_by S.kept S.count K.told K.count L.log L.is_faithful L.count in
-        Ended (reads_by (EncodeAnswers (tree_seen tree.entry) types.now path.now)) (seen store.old sink.old link.now) (seen store.new sink.new link.now) result }
+        Ended (reads_by (EncodeAnswers (tree_seen tree.entry) types.now path.now)) (seen store.old sink.old link.now) (seen store.new sink.new link.now) (number_of result) }
 {
     let answered = answered(alloc, tree, types, path, store);
     end(alloc, answered, sink)
@@ -50,7 +51,7 @@ fn answered<S: Store>(
     ensures cause { StoreCause (S.count store.old) (S.count store.new) result }
 {
     let file = load(alloc, LimitName::TextBytes, path, store)?;
-    match there(alloc, path, file) {
+    match existing_file(alloc, path, file) {
         Ok(file) => answered_of(alloc, tree, types, file, store),
         Err(early) => Ok(Err(early)),
     }
@@ -114,6 +115,6 @@ fn answer_of_files(
     ensures { GivesOne result (Then (held file) (λ text. Checked root.now files (λ S answer. answer ≡ encode_answer S types.now text))) }
 {
     let text = text_of(alloc, file)?;
-    let schema = checked(alloc, root, files)?;
+    let schema = check_tree(alloc, root, files)?;
     parcel_output::encode(alloc, &schema, types, text.as_slice())
 }

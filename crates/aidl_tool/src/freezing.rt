@@ -5,6 +5,7 @@ ghost use Rattle.api_versions.specs.Versions.{versions_at};
 ghost use Rattle.version_output.specs.Frozen.{Freezes};
 ghost use Rattle.tool_frame.specs.Acts.{acts_by};
 ghost use Rattle.tool_frame.specs.Ended.{Ended};
+ghost use Rattle.tool_frame.specs.Exit.{number_of};
 ghost use Rattle.tool_frame.specs.Seen.{seen_by};
 ghost use Rattle.tool_frame.specs.steps.Acts.{ActsAs};
 
@@ -12,10 +13,10 @@ use crate::opening::open;
 use aidl_outside::{Link, Sink, Store, StoreFault};
 use aidl_schema::Schema;
 use std::alloc::Global;
-use tool_frame::{Early, Printed, end};
-use version_output::{frozen, unfrozen};
+use tool_frame::{Early, Exit, Printed, end};
+use version_output::{freeze_answer, freeze_refusal};
 
-/// Runs `freeze TREE API`. The answer is the exit status.
+/// Runs `freeze TREE API`. The answer is the exit.
 pub fn freeze<S: Store, K: Sink, L: Link>(
     alloc: Global,
     tree: &str,
@@ -23,9 +24,9 @@ pub fn freeze<S: Store, K: Sink, L: Link>(
     store: &mut S,
     sink: &mut K,
     link: &L,
-) -> u8
+) -> Exit
     ensures { let seen = seen_by S.kept S.count K.told K.count L.log L.is_faithful L.count in
-        Ended (acts_by (FreezeActs tree.now api.now)) (seen store.old sink.old link.now) (seen store.new sink.new link.now) result }
+        Ended (acts_by (FreezeActs tree.now api.now)) (seen store.old sink.old link.now) (seen store.new sink.new link.now) (number_of result) }
 {
     let answered = answered(alloc, tree, api, store);
     end(alloc, answered, sink)
@@ -59,8 +60,8 @@ fn freeze_schema<S: Store>(
     ensures cause { StoreCause (S.count store.old) (S.count store.new) result }
 {
     match api_freeze::freeze(alloc, schema, store, api) {
-        Ok(version) => Ok(frozen(alloc, &version)),
-        Err(fault) => match unfrozen(alloc, api, fault) {
+        Ok(version) => Ok(freeze_answer(alloc, &version)),
+        Err(fault) => match freeze_refusal(alloc, api, fault) {
             Ok(early) => Ok(Err(early)),
             Err(fault) => Err(fault),
         },

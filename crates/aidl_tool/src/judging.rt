@@ -8,10 +8,11 @@ ghost use Rattle.aidl_tool.specs.Acting.{HasSchema};
 ghost use Rattle.aidl_tool.specs.Headline.{Headline, IsChecked};
 ghost use Rattle.aidl_tool.specs.Meant.{JudgeAnswers, JudgesSecond};
 ghost use Rattle.tool_frame.specs.Ended.{Ended};
+ghost use Rattle.tool_frame.specs.Exit.{number_of};
 ghost use Rattle.tool_frame.specs.Meaning.{reads_by};
 ghost use Rattle.tool_frame.specs.Seen.{seen_by};
 ghost use Rattle.tool_frame.specs.Trees.{OverTree, tree_seen};
-ghost use Rattle.tool_frame.specs.steps.Results.{GivesOne};
+ghost use Rattle.tool_frame.specs.Results.{GivesOne};
 ghost use Rattle.tool_words.specs.Command as words;
 ghost use Rattle.tree_output.specs.Judged.{IsJudgeAnswer, judged};
 ghost use Rattle.type_check.specs.Checked.{IsSchemaOf};
@@ -19,11 +20,11 @@ ghost use Rattle.type_check.specs.Checked.{IsSchemaOf};
 use aidl_base::{Limit, Row, SourceFile};
 use aidl_outside::{Link, Sink, Store, StoreFault};
 use std::alloc::Global;
-use tool_frame::{Early, Printed, end, files_of, load_tree};
+use tool_frame::{Early, Exit, Printed, end, files_of, load_tree};
 use tree_output::judge_answer;
 use type_check::{law_never_both, law_one_schema};
 
-/// Runs `judge OLD NEW`. The answer is the exit status.
+/// Runs `judge OLD NEW`. The answer is the exit.
 pub fn judge<S: Store, K: Sink, L: Link>(
     alloc: Global,
     old: &str,
@@ -31,11 +32,11 @@ pub fn judge<S: Store, K: Sink, L: Link>(
     store: &mut S,
     sink: &mut K,
     link: &L,
-) -> u8
+) -> Exit
     ensures ends { let seen = seen_by S.kept S.count K.told K.count L.log L.is_faithful L.count in
-        Ended (reads_by (JudgeAnswers old.now new.now)) (seen store.old sink.old link.now) (seen store.new sink.new link.now) result }
+        Ended (reads_by (JudgeAnswers old.now new.now)) (seen store.old sink.old link.now) (seen store.new sink.new link.now) (number_of result) }
     ensures headline { let seen = seen_by S.kept S.count K.told K.count L.log L.is_faithful L.count in
-        Tells (S.kept store.old) (Headline (Some (words.judge old.now new.now)) (seen store.old sink.old link.now) (seen store.new sink.new link.now) result) }
+        Tells (S.kept store.old) (Headline (Some (words.judge old.now new.now)) (seen store.old sink.old link.now) (seen store.new sink.new link.now) (number_of result)) }
 {
     let answered = answered(alloc, old, new, store);
     end(alloc, answered, sink)

@@ -10,7 +10,7 @@ use aidl_outside::{Store, StoreFault};
 use aidl_schema::Schema;
 use std::alloc::Global;
 use tool_frame::{Early, files_of, load_tree};
-use tree_output::checked;
+use tree_output::check_tree;
 
 /// The schema of the tree below a root, or what is printed where it isn't checked.
 pub fn open<S: Store>(
@@ -36,5 +36,5 @@ fn open_loaded(
     ensures { Opens root.now (tree_seen tree) result }
 {
     let files = files_of(alloc, tree)?;
-    checked(alloc, root, files)
+    check_tree(alloc, root, files)
 }

@@ -3,24 +3,25 @@ ghost use Rattle.aidl_outside.specs.Causes.{StoreCause};
 ghost use Rattle.aidl_tool.specs.Acting.{RehashActs};
 ghost use Rattle.tool_frame.specs.Acts.{acts_by};
 ghost use Rattle.tool_frame.specs.Ended.{Ended};
+ghost use Rattle.tool_frame.specs.Exit.{number_of};
 ghost use Rattle.tool_frame.specs.Seen.{seen_by};
 ghost use Rattle.tool_frame.specs.steps.Acts.{ActsAs};
 
 use aidl_outside::{Link, Sink, Store, StoreFault};
 use std::alloc::Global;
-use tool_frame::{Early, Printed, end};
-use version_output::{rehashed, unhashed};
+use tool_frame::{Early, Exit, Printed, end};
+use version_output::{rehash_answer, rehash_refusal};
 
-/// Runs `rehash API`. The answer is the exit status.
+/// Runs `rehash API`. The answer is the exit.
 pub fn rehash<S: Store, K: Sink, L: Link>(
     alloc: Global,
     api: &str,
     store: &mut S,
     sink: &mut K,
     link: &L,
-) -> u8
+) -> Exit
     ensures { let seen = seen_by S.kept S.count K.told K.count L.log L.is_faithful L.count in
-        Ended (acts_by (RehashActs api.now)) (seen store.old sink.old link.now) (seen store.new sink.new link.now) result }
+        Ended (acts_by (RehashActs api.now)) (seen store.old sink.old link.now) (seen store.new sink.new link.now) (number_of result) }
 {
     let answered = answered(alloc, api, store);
     end(alloc, answered, sink)
@@ -36,8 +37,8 @@ fn answered<S: Store>(
     ensures cause { StoreCause (S.count store.old) (S.count store.new) result }
 {
     match api_freeze::rehash(alloc, store, api) {
-        Ok(numbers) => Ok(rehashed(alloc, numbers.len())),
-        Err(fault) => match unhashed(alloc, fault) {
+        Ok(numbers) => Ok(rehash_answer(alloc, numbers.len())),
+        Err(fault) => match rehash_refusal(alloc, fault) {
             Ok(early) => Ok(Err(early)),
             Err(fault) => Err(fault),
         },

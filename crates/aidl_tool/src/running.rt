@@ -1,21 +1,27 @@
 //! The command `run`: the calls of a file between a client's tree and a server's.
-ghost use Rattle.std.specs.Prelude.{◌≡◌, Bool, Some, List, map, IfOk};
+ghost use Rattle.std.specs.Prelude.{◌≡◌, Bool, Some, List, map, IfErr, IfOk};
 ghost use Rattle.aidl_outside.specs.Causes.{StoreCause};
 ghost use Rattle.aidl_outside.specs.Told.{Tells};
 ghost use Rattle.aidl_schema.specs.declared.schema.Decl.{Decl};
 ghost use Rattle.aidl_tool.specs.Headline.{Headline};
-ghost use Rattle.aidl_tool.specs.Running.{RunTakes, TakesChecked, TakesOver, calls_within};
-ghost use Rattle.aidl_tool.specs.steps.Loading.{LoadsFor, RanSome, RunsAs, RunsGivenAs, RunsLoadedAs, TakesEarly, TakesLoaded, all_held, loaded_seen, server_held, trees_held};
+ghost use Rattle.aidl_tool.specs.Running.{RunTakes, TakesOver, calls_within};
+ghost use Rattle.aidl_tool.specs.steps.Loading.{LoadsFor, RanSome, TakesAll, TakesEarly, TakesLoaded, all_held, loaded_seen, server_held, trees_held};
+ghost use Rattle.aidl_tool.specs.steps.Preparing.{IsSchemaAs, PreparesFor, PreparesGiven, PreparesLoaded, ProjectsPrepared, TakesPrepared};
 ghost use Rattle.aidl_tool.specs.Running as meant;
 ghost use Rattle.parcel_output.specs.Decode.{profile_of};
+ghost use Rattle.run_output.specs.CallLines.{lines_of};
+ghost use Rattle.run_output.specs.Projected.{Projects, projected_text};
 ghost use Rattle.run_output.specs.Running.{run_course};
 ghost use Rattle.tool_frame.specs.Ended.{Ended};
+ghost use Rattle.tool_frame.specs.Exit.{number_of};
 ghost use Rattle.tool_frame.specs.Meaning.{carries_by};
 ghost use Rattle.tool_frame.specs.Seen.{seen_by};
 ghost use Rattle.tool_frame.specs.Trees.{file_seen, tree_at};
-ghost use Rattle.tool_frame.specs.steps.Courses.{seen_alone};
-ghost use Rattle.tool_frame.specs.steps.Results.{Finds, held};
+ghost use Rattle.tool_frame.specs.Courses.{seen_alone};
+ghost use Rattle.tool_frame.specs.Results.{Finds, held};
 ghost use Rattle.tool_words.specs.Command as words;
+ghost use Rattle.tree_output.specs.Faults.{IsFaultAnswer};
+ghost use Rattle.tree_output.specs.Results.{EndsBy};
 ghost use Rattle.type_check.specs.Checked.{IsSchemaOf};
 
 use aidl_base::{Limit, LimitName, Profile, Row, SourceFile};
@@ -23,32 +29,48 @@ use aidl_outside::{Link, Sink, Store, StoreFault};
 use aidl_schema::Schema;
 use run_output::{lines_within, run_trees};
 use std::alloc::Global;
-use tool_frame::{Early, files_of, load, load_tree, print, text_of, there};
-use tree_output::checked;
+use tool_frame::{Early, Exit, existing_file, files_of, load, load_tree, print, text_of};
+use tree_output::check_tree;
 use type_check::{law_never_both, law_one_schema};
 
-/// Runs `run [--trace] [--lenient] CLIENT SERVER CALLS`; both sides read by the profile. The answer is the exit status.
+/// What `run` is asked: the profile by which both sides read, whether what is carried is traced, and the paths of both trees and of
+/// the calls file.
+#[derive(Clone, Copy)]
+pub struct Asked<'a> {
+    pub profile: Profile,
+    pub trace: bool,
+    pub client: &'a str,
+    pub server: &'a str,
+    pub calls: &'a str,
+}
+
+/// Runs `run [--trace] [--lenient] CLIENT SERVER CALLS`. The answer is the exit.
 pub fn run<S: Store, K: Sink, L: Link>(
     alloc: Global,
-    profile: Profile,
-    trace: bool,
-    client: &str,
-    server: &str,
-    calls: &str,
+    asked: Asked<'_>,
     store: &mut S,
     sink: &mut K,
     link: &mut L,
-) -> u8
-    ensures ends { let seen = seen_by S.kept S.count K.told K.count L.log L.is_faithful L.count in
-        Ended (carries_by (RunTakes profile trace client.now server.now calls.now)) (seen store.old sink.old link.old) (seen store.new sink.new link.new) result }
-    ensures headline { let seen = seen_by S.kept S.count K.told K.count L.log L.is_faithful L.count in
-        (lenient : Bool) → profile ≡ profile_of lenient → Tells (S.kept store.old)
-        (Headline (Some (words.run trace lenient client.now server.now calls.now)) (seen store.old sink.old link.old) (seen store.new sink.new link.new) result) }
+) -> Exit
+    ensures ends { let seen = seen_by S.kept S.count K.told K.count L.log L.is_faithful L.count in let asked = asked.entry in
+        Ended (carries_by (RunTakes asked.profile asked.trace asked.client.now asked.server.now asked.calls.now))
+        (seen store.old sink.old link.old) (seen store.new sink.new link.new) (number_of result) }
+    ensures headline { let seen = seen_by S.kept S.count K.told K.count L.log L.is_faithful L.count in let asked = asked.entry in
+        (lenient : Bool) → asked.profile ≡ profile_of lenient → Tells (S.kept store.old)
+        (Headline (Some (words.run asked.trace lenient asked.client.now asked.server.now asked.calls.now))
+        (seen store.old sink.old link.old) (seen store.new sink.new link.new) (number_of result)) }
 {
-    match load_calls(alloc, client, server, calls, store) {
-        Ok(given) => run_given(alloc, profile, trace, given, sink, link),
-        Err(StoreFault::Failed) => 3,
-        Err(StoreFault::OutOfMemory) => 5,
+    match load_calls(alloc, asked.client, asked.server, asked.calls, store) {
+        Ok(given) => run_prepared(
+            alloc,
+            asked.profile,
+            asked.trace,
+            prepare(alloc, given),
+            sink,
+            link,
+        ),
+        Err(StoreFault::Failed) => Exit::StoreFailed,
+        Err(StoreFault::OutOfMemory) => Exit::OutOfMemory,
     }
 }
 
@@ -81,7 +103,7 @@ fn load_calls<'a, S: Store>(
     ensures cause { StoreCause (S.count store.old) (S.count store.new) result }
 {
     let file = load(alloc, LimitName::TextBytes, calls, store)?;
-    match there(alloc, calls, file) {
+    match existing_file(alloc, calls, file) {
         Ok(text) => load_trees(alloc, client, server, text, store),
         Err(early) => Ok(Err(early)),
     }
@@ -148,64 +170,39 @@ fn load_server<'a, S: Store>(
     }
 }
 
-// Runs what was loaded, or prints how the run ended before that.
-fn run_given<K: Sink, L: Link>(
-    alloc: Global,
-    profile: Profile,
-    trace: bool,
-    given: Result<Loaded<'_>, Early>,
-    sink: &mut K,
-    link: &mut L,
-) -> u8
-    ensures ran { let seen = seen_alone K.told K.count L.log L.is_faithful L.count in
-        RanSome (TakesLoaded profile trace given.entry) (seen sink.old link.old) (seen sink.new link.new) result }
-    ensures exact { let seen = seen_alone K.told K.count L.log L.is_faithful L.count in
-        RunsGivenAs profile trace given.entry (seen sink.old link.old) (seen sink.new link.new) result }
+/// What is run: the text of the calls file, and the schemas of both trees.
+#[derive(Drop)]
+pub struct Prepared {
+    pub text: Vec<u8>,
+    pub client: Schema,
+    pub server: Schema,
+}
+
+// What is run of what was loaded, or how the run ends before that.
+fn prepare(alloc: Global, given: Result<Loaded<'_>, Early>) -> Result<Prepared, Early>
+    ensures prepares { PreparesFor result (λ p trace. TakesLoaded p trace given.entry) }
+    ensures exact { PreparesGiven given.entry result }
 {
     match given {
-        Ok(loaded) => run_loaded(alloc, profile, trace, loaded, sink, link),
-        Err(early) => print_early(alloc, early, sink, link),
+        Ok(loaded) => prepare_loaded(alloc, loaded),
+        Err(early) => Err(early),
     }
 }
 
-// Prints how the run ends early.
-#[tactic(auto, using(crate::proofs::Takes::printed_early))]
-fn print_early<K: Sink, L: Link>(alloc: Global, early: Early, sink: &mut K, link: &L) -> u8
-    ensures { let seen = seen_alone K.told K.count L.log L.is_faithful L.count in
-        RanSome (TakesEarly early) (seen sink.old link.now) (seen sink.new link.now) result }
+// The same once all is loaded: the limits of the calls file, and then all else of the client's tree, and of the server's.
+#[tactic(auto, using(crate::proofs::Takes::text_ends, crate::proofs::Takes::client_ends, crate::proofs::Takes::server_ends, crate::proofs::Takes::text_exact))]
+fn prepare_loaded(alloc: Global, loaded: Loaded<'_>) -> Result<Prepared, Early>
+    ensures prepares { PreparesFor result (TakesAll loaded.entry) }
+    ensures exact { PreparesLoaded loaded.entry result }
 {
-    print(alloc, Err(early), sink)
-}
-
-// Runs what was loaded: the limits of the calls file, and then all else.
-#[tactic(auto, using(crate::proofs::Takes::then_takes, crate::proofs::Takes::then_early))]
-fn run_loaded<K: Sink, L: Link>(
-    alloc: Global,
-    profile: Profile,
-    trace: bool,
-    loaded: Loaded<'_>,
-    sink: &mut K,
-    link: &mut L,
-) -> u8
-    ensures ran { let seen = seen_alone K.told K.count L.log L.is_faithful L.count in
-        RanSome (meant.RunsLoaded profile trace loaded.entry.client.root.now loaded.entry.client.files loaded.entry.server.root.now loaded.entry.server.files (held loaded.entry.text))
-        (seen sink.old link.old) (seen sink.new link.new) result }
-    ensures exact { let seen = seen_alone K.told K.count L.log L.is_faithful L.count in
-        RunsLoadedAs profile trace loaded.entry (seen sink.old link.old) (seen sink.new link.new) result }
-{
-    match calls_in(alloc, loaded.text) {
-        Ok(text) => run_client(
-            alloc,
-            profile,
-            trace,
-            loaded.client,
-            loaded.server,
-            text,
-            sink,
-            link,
-        ),
-        Err(early) => print_early(alloc, early, sink, link),
-    }
+    let text = calls_in(alloc, loaded.text)?;
+    let client = schema_of(alloc, loaded.client)?;
+    let server = schema_of(alloc, loaded.server)?;
+    Ok(Prepared {
+        text,
+        client,
+        server,
+    })
 }
 
 // The text of a calls file that passes no limit.
@@ -216,65 +213,34 @@ fn calls_in(alloc: Global, text: Result<Vec<u8>, Limit>) -> Result<Vec<u8>, Earl
     lines_within(alloc, text)
 }
 
-// Runs the calls by the client's tree, where it is checked, and the server's.
-#[tactic(auto, using(crate::proofs::Takes::checked_takes, crate::proofs::Takes::checked_early))]
-fn run_client<K: Sink, L: Link>(
-    alloc: Global,
-    profile: Profile,
-    trace: bool,
-    client: Tree<'_>,
-    server: Tree<'_>,
-    text: Vec<u8>,
-    sink: &mut K,
-    link: &mut L,
-) -> u8
-    ensures ran { let seen = seen_alone K.told K.count L.log L.is_faithful L.count in
-        RanSome (TakesChecked client.entry.root.now client.entry.files (λ A. TakesChecked server.entry.root.now server.entry.files (λ B course. course ≡ run_course profile A B trace text.items)))
-        (seen sink.old link.old) (seen sink.new link.new) result }
-    ensures exact { let seen = seen_alone K.told K.count L.log L.is_faithful L.count in
-        (A B : List Decl) → IsSchemaOf client.entry.files A → IsSchemaOf server.entry.files B → RunsAs profile trace A B text.items (seen sink.old link.old) (seen sink.new link.new) result }
+// The schema of a tree, which has no other, or what is printed of it where it isn't checked.
+fn schema_of(alloc: Global, tree: Tree<'_>) -> Result<Schema, Early>
+    ensures ok { IfOk result (λ schema. IsSchemaOf tree.entry.files schema.decls) }
+    ensures err { IfErr result (EndsBy (IsFaultAnswer tree.entry.root.now tree.entry.files)) }
+    ensures one { (S : List Decl) → IsSchemaOf tree.entry.files S → IsSchemaAs S result }
 {
-    let files = client.files.as_slice();
+    let files = tree.files.as_slice();
     law_one_schema(files);
     law_never_both(files);
-    match checked(alloc, client.root, client.files) {
-        Ok(schema) => run_server(alloc, profile, trace, &schema, server, text, sink, link),
-        Err(early) => print_early(alloc, early, sink, link),
-    }
+    check_tree(alloc, tree.root, tree.files)
 }
 
-// Runs the calls by the client's schema and the server's tree, where it is checked.
-#[tactic(auto, using(crate::proofs::Takes::checked_takes, crate::proofs::Takes::checked_early))]
-fn run_server<K: Sink, L: Link>(
+// Runs the calls between the schemas of both trees, or prints how the run ended before that.
+fn run_prepared<K: Sink, L: Link>(
     alloc: Global,
     profile: Profile,
     trace: bool,
-    client: &Schema,
-    server: Tree<'_>,
-    text: Vec<u8>,
+    given: Result<Prepared, Early>,
     sink: &mut K,
     link: &mut L,
-) -> u8
+) -> Exit
     ensures ran { let seen = seen_alone K.told K.count L.log L.is_faithful L.count in
-        RanSome (TakesChecked server.entry.root.now server.entry.files (λ B course. course ≡ run_course profile client.now.decls B trace text.items))
-        (seen sink.old link.old) (seen sink.new link.new) result }
-    ensures exact { let seen = seen_alone K.told K.count L.log L.is_faithful L.count in
-        (B : List Decl) → IsSchemaOf server.entry.files B → RunsAs profile trace client.now.decls B text.items (seen sink.old link.old) (seen sink.new link.new) result }
+        RanSome (TakesPrepared profile trace given) (seen sink.old link.old) (seen sink.new link.new) (number_of result) }
+    ensures projected { let seen = seen_alone K.told K.count L.log L.is_faithful L.count in
+        ProjectsPrepared profile trace given (seen sink.old link.old) (seen sink.new link.new) (number_of result) }
 {
-    let files = server.files.as_slice();
-    law_one_schema(files);
-    law_never_both(files);
-    match checked(alloc, server.root, server.files) {
-        Ok(schema) => run_both(
-            alloc,
-            profile,
-            trace,
-            client,
-            &schema,
-            text.as_slice(),
-            sink,
-            link,
-        ),
+    match given {
+        Ok(run) => run_both(alloc, profile, trace, &run, sink, link),
         Err(early) => print_early(alloc, early, sink, link),
     }
 }
@@ -284,14 +250,33 @@ fn run_both<K: Sink, L: Link>(
     alloc: Global,
     profile: Profile,
     trace: bool,
-    client: &Schema,
-    server: &Schema,
-    calls: &[u8],
+    run: &Prepared,
     sink: &mut K,
     link: &mut L,
-) -> u8
-    ensures { let seen = seen_alone K.told K.count L.log L.is_faithful L.count in
-        RunsAs profile trace client.now.decls server.now.decls calls.now (seen sink.old link.old) (seen sink.new link.new) result }
+) -> Exit
+    ensures ran { let seen = seen_alone K.told K.count L.log L.is_faithful L.count in let A = run.now.client.decls in let B = run.now.server.decls in
+        RanSome (λ course. course ≡ run_course profile A B trace run.now.text.items) (seen sink.old link.old) (seen sink.new link.new) (number_of result) }
+    ensures projected { let seen = seen_alone K.told K.count L.log L.is_faithful L.count in let A = run.now.client.decls in let B = run.now.server.decls in
+        Projects A B (projected_text profile A B trace 1 (lines_of run.now.text.items)) (seen sink.old link.old) (seen sink.new link.new) (number_of result) }
 {
-    run_trees(alloc, profile, client, server, trace, calls, sink, link)
+    let calls = run.text.as_slice();
+    run_trees(
+        alloc,
+        profile,
+        &run.client,
+        &run.server,
+        trace,
+        calls,
+        sink,
+        link,
+    )
+}
+
+// Prints how the run ends early.
+#[tactic(auto, using(crate::proofs::Takes::printed_early))]
+fn print_early<K: Sink, L: Link>(alloc: Global, early: Early, sink: &mut K, link: &L) -> Exit
+    ensures { let seen = seen_alone K.told K.count L.log L.is_faithful L.count in
+        RanSome (TakesEarly early) (seen sink.old link.now) (seen sink.new link.now) (number_of result) }
+{
+    print(alloc, Err(early), sink)
 }

@@ -7,6 +7,7 @@ ghost use Rattle.aidl_tool.specs.Headline.{Headline};
 ghost use Rattle.aidl_tool.specs.Meant.{meaning, meant};
 ghost use Rattle.parcel_output.specs.Decode.{profile_of};
 ghost use Rattle.tool_frame.specs.Ended.{Ran};
+ghost use Rattle.tool_frame.specs.Exit.{number_of};
 ghost use Rattle.tool_frame.specs.Seen.{seen_by};
 
 use crate::checking::check;
@@ -16,17 +17,15 @@ use crate::encoding::encode;
 use crate::freezing::freeze;
 use crate::judging::judge;
 use crate::rehashing::rehash;
-use crate::running::run;
+use crate::running::{Asked, run};
 use crate::verifying::verify;
 use aidl_base::Profile;
 use aidl_outside::{Link, Sink, Store};
 use std::alloc::Global;
-use tool_frame::refuse;
+use tool_frame::{Exit, refuse};
 use tool_words::{Command, command_of};
 
-/// Runs the program on its words, those after the program's own name. The answer is the exit status: 0 done, 1 a
-/// negative verdict, 2 the words are in no row of the table of commands, 3 a store call failed, 4 a sink call failed,
-/// 5 want of memory, 6 a link call failed, 7 a limit was passed.
+/// Runs the program on its words, those after the program's own name. The answer is the exit status, `Exit` lists them all.
 pub fn aidl<S: Store, K: Sink, L: Link>(
     alloc: Global,
     words: &[String],
@@ -40,6 +39,22 @@ pub fn aidl<S: Store, K: Sink, L: Link>(
     // What the judge accepts, every call keeps.
     ensures headline { let seen = seen_by S.kept S.count K.told K.count L.log L.is_faithful L.count in
         Tells (S.kept store.old) (Headline (table.command_of (map string_bytes words.now)) (seen store.old sink.old link.old) (seen store.new sink.new link.new) result) }
+{
+    run_words(alloc, words, store, sink, link).status()
+}
+
+// Runs the command that the words are, or refuses them.
+fn run_words<S: Store, K: Sink, L: Link>(
+    alloc: Global,
+    words: &[String],
+    store: &mut S,
+    sink: &mut K,
+    link: &mut L,
+) -> Exit
+    ensures ran { let seen = seen_by S.kept S.count K.told K.count L.log L.is_faithful L.count in
+        Ran (meant (map string_bytes words.now)) (seen store.old sink.old link.old) (seen store.new sink.new link.new) (number_of result) }
+    ensures headline { let seen = seen_by S.kept S.count K.told K.count L.log L.is_faithful L.count in
+        Tells (S.kept store.old) (Headline (table.command_of (map string_bytes words.now)) (seen store.old sink.old link.old) (seen store.new sink.new link.new) (number_of result)) }
 {
     match command_of(words) {
         None => refuse(alloc, store, sink, link),
@@ -55,11 +70,11 @@ fn carry_out<S: Store, K: Sink, L: Link>(
     store: &mut S,
     sink: &mut K,
     link: &mut L,
-) -> u8
+) -> Exit
     ensures ran { let seen = seen_by S.kept S.count K.told K.count L.log L.is_faithful L.count in
-        Ran (meaning (command_seen command.entry)) (seen store.old sink.old link.old) (seen store.new sink.new link.new) result }
+        Ran (meaning (command_seen command.entry)) (seen store.old sink.old link.old) (seen store.new sink.new link.new) (number_of result) }
     ensures headline { let seen = seen_by S.kept S.count K.told K.count L.log L.is_faithful L.count in
-        Tells (S.kept store.old) (Headline (Some (command_seen command.entry)) (seen store.old sink.old link.old) (seen store.new sink.new link.new) result) }
+        Tells (S.kept store.old) (Headline (Some (command_seen command.entry)) (seen store.old sink.old link.old) (seen store.new sink.new link.new) (number_of result)) }
 {
     match command {
         Command::Decode {
@@ -90,17 +105,16 @@ fn carry_out<S: Store, K: Sink, L: Link>(
             client,
             server,
             calls,
-        } => run(
-            alloc,
-            profile_of(lenient),
-            trace,
-            client,
-            server,
-            calls,
-            store,
-            sink,
-            link,
-        ),
+        } => {
+            let asked = Asked {
+                profile: profile_of(lenient),
+                trace,
+                client,
+                server,
+                calls,
+            };
+            run(alloc, asked, store, sink, link)
+        }
         Command::Verify { api } => verify(alloc, api, store, sink, link),
         Command::Rehash { api } => rehash(alloc, api, store, sink, link),
         _ => refuse(alloc, store, sink, link),

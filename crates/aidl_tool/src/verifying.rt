@@ -5,27 +5,28 @@ ghost use Rattle.aidl_outside.specs.Told.{Tells};
 ghost use Rattle.aidl_tool.specs.Meant.{VerifyAnswers};
 ghost use Rattle.api_versions.specs.Answers.{ReadFaultCause};
 ghost use Rattle.tool_frame.specs.Ended.{Ended};
+ghost use Rattle.tool_frame.specs.Exit.{number_of};
 ghost use Rattle.tool_frame.specs.Meaning.{reads_by};
 ghost use Rattle.tool_frame.specs.Seen.{seen_by};
-ghost use Rattle.tool_frame.specs.steps.Results.{GivesOne};
+ghost use Rattle.tool_frame.specs.Results.{GivesOne};
 ghost use Rattle.version_output.specs.Verified.{IsUnread};
 
 use aidl_outside::{Link, Sink, Store, StoreFault};
 use api_versions::{FreezeFault, versions};
 use std::alloc::Global;
-use tool_frame::{Early, Printed, end, limit_passed};
-use version_output::{bad_versions, verified};
+use tool_frame::{Early, Exit, Printed, end, limit_passed};
+use version_output::{bad_versions, verify_answer};
 
-/// Runs `verify API`. The answer is the exit status.
+/// Runs `verify API`. The answer is the exit.
 pub fn verify<S: Store, K: Sink, L: Link>(
     alloc: Global,
     api: &str,
     store: &mut S,
     sink: &mut K,
     link: &L,
-) -> u8
+) -> Exit
     ensures { let seen = seen_by S.kept S.count K.told K.count L.log L.is_faithful L.count in
-        Ended (reads_by (VerifyAnswers api.now)) (seen store.old sink.old link.now) (seen store.new sink.new link.now) result }
+        Ended (reads_by (VerifyAnswers api.now)) (seen store.old sink.old link.now) (seen store.new sink.new link.now) (number_of result) }
 {
     let answered = answered(alloc, api, store);
     end(alloc, answered, sink)
@@ -42,7 +43,7 @@ fn answered<S: Store>(
     ensures cause { StoreCause (S.count store.old) (S.count store.new) result }
 {
     match versions(alloc, store, api) {
-        Ok(versions) => Ok(verified(alloc, versions.as_slice())),
+        Ok(versions) => Ok(verify_answer(alloc, versions.as_slice())),
         Err(fault) => unread(alloc, fault),
     }
 }

@@ -13,7 +13,7 @@ use Rattle.api_dump.specs.Dump.{File, dump_text, seen}
 use Rattle.api_versions.specs.declared.fault.FreezeFault.{FreezeFault}
 use Rattle.api_versions.specs.declared.fault.FreezeFault.TheVariants as fault
 use Rattle.api_versions.specs.declared.version.Version.{Version}
-use Rattle.api_versions.specs.steps.Early.{IsEarly, IsLate}
+use Rattle.api_versions.specs.Early.{IsEarly, IsLate}
 use Rattle.api_versions.specs.Answers.{ReadFaultCause, Refuses}
 use Rattle.api_versions.specs.Whole.{all_whole, is_whole, torn}
 use Rattle.api_versions.specs.Writes.{Left}

@@ -1,4 +1,5 @@
 mod Chains
 mod Files
 mod Numbered
+mod RehashFaults
 mod Untold

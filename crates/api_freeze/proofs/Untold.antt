@@ -2,13 +2,15 @@
 use Rattle.std.proofs.Common.{◌≡◌, ℕ, List, Option, Some, None, Ok, Err, sym, subst, inl, inr}
 use Rattle.std.specs.Prelude.{Result}
 use Rattle.aidl_outside.specs.Files.{Files}
+use Rattle.aidl_outside.specs.Told.{Tells}
 use Rattle.aidl_schema.specs.declared.schema.Decl.{Decl}
 use Rattle.api_freeze.specs.declared.freezing.Frozen.{Frozen}
 use Rattle.api_freeze.specs.Freeze.{Freezes}
-use Rattle.api_freeze.specs.Rehash.{hash_writes, whole_writes, writes_of}
+use Rattle.api_freeze.specs.Rehash.{hash_writes, rehash_writes, whole_writes, writes_of}
 use Rattle.api_versions.specs.declared.fault.FreezeFault.{FreezeFault}
 use Rattle.api_versions.specs.declared.fault.FreezeFault.TheVariants as fault
 use Rattle.api_versions.specs.declared.version.Version.{Version}
+use Rattle.api_versions.specs.Versions.{versions_at}
 use Rattle.api_versions.specs.Whole.{all_whole}
 use Rattle.api_versions.specs.Writes.{FailedAt, Left, Write, WroteSome}
 
@@ -54,3 +56,11 @@ untold_left ws before now r none h = left_none ws now r (subst (λ b. Left ws b 
 pub left_whole : {A : Type 0} (api : List ℕ) (vs : List Version) (before now : Option Files) (r : Result A FreezeFault)
     → all_whole vs ≡ Ok tt → Left (hash_writes api vs) before now r → Left (whole_writes api vs) before now r
 left_whole api vs before now r whole h = subst (λ w. Left (writes_of (λ x. hash_writes api vs) w) before now r) (sym whole) h
+
+-- the writes for versions that were read are those of what the store told
+pub written_told : {A : Type 0} (api : List ℕ) (slice vs : List Version) (before middle now : Option Files) (r : Result A FreezeFault) → slice ≡ vs → middle ≡ before
+    → Tells before (λ files. versions_at files api ≡ Ok vs) → Left (whole_writes api slice) middle now r → Tells before (λ files. Left (rehash_writes files api) (Some files) now r)
+written_told api slice vs None middle now r e same told left = tt
+written_told api slice vs (Some files) middle now r e same told left =
+    subst (λ found. Left (writes_of (whole_writes api) found) (Some files) now r) (sym told)
+    (subst (λ m. Left (whole_writes api vs) m now r) same (subst (λ xs. Left (whole_writes api xs) middle now r) e left))

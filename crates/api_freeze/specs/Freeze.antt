@@ -3,7 +3,7 @@ use Rattle.std.specs.Prelude.{◌≡◌, ◌≢◌, ℕ, ◌+◌, ◌≤◌, ◌
 use Rattle.aidl_base.specs.declared.limit.Limit.{Limit}
 use Rattle.aidl_base.specs.declared.limit.LimitName.TheVariants as limit
 use Rattle.aidl_base.specs.declared.source_file.SourceFile.{SourceFile}
-use Rattle.aidl_outside.specs.Files.{Files}
+use Rattle.aidl_outside.specs.Files.{Files, path_below}
 use Rattle.aidl_schema.specs.declared.schema.Decl.{Decl}
 use Rattle.aidl_schema.specs.Broken.{broken}
 use Rattle.api_dump.specs.Dump.{dump_text, seen}
@@ -21,7 +21,7 @@ use Rattle.api_versions.specs.declared.fault.FreezeFault.{FreezeFault}
 use Rattle.api_versions.specs.declared.fault.FreezeFault.TheVariants as fault
 use Rattle.api_versions.specs.declared.version.Version.{Version}
 use Rattle.api_versions.specs.Answers.{Refuses}
-use Rattle.api_versions.specs.Versions.{hash_path, path_below, version_folder}
+use Rattle.api_versions.specs.Versions.{hash_path, version_folder}
 use Rattle.api_versions.specs.Whole.{all_whole}
 use Rattle.api_versions.specs.Writes.{FailedAt, Write, Wrote, WroteSome}
 

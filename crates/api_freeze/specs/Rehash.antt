@@ -4,6 +4,7 @@ use Rattle.std.specs.List.{filter}
 use Rattle.aidl_base.specs.Results.{◌>>=◌}
 use Rattle.aidl_outside.specs.Files.{Files}
 use Rattle.api_versions.specs.declared.fault.FreezeFault.{FreezeFault}
+use Rattle.api_versions.specs.declared.fault.FreezeFault.TheVariants as fault
 use Rattle.api_versions.specs.declared.version.Version.{Version}
 use Rattle.api_versions.specs.Versions.{hash_path, versions_at}
 use Rattle.api_versions.specs.Whole.{all_whole, defined, is_current}
@@ -49,3 +50,16 @@ whole_writes api vs = writes_of (λ whole. hash_writes api vs) (all_whole vs)
 -- of what a store tells
 abbrev pub rehash_writes : Files → List ℕ → List Write
 rehash_writes files api = writes_of (whole_writes api) (versions_at files api)
+
+-- The refusals that there are: the versions aren't read, one isn't whole, a write failed, or memory was wanted. The latest version isn't
+-- compared with anything, so none speaks of that.
+abbrev pub IsRehashFault : FreezeFault → Type 0
+IsRehashFault (fault.BadVersions missing) = Unit {0}
+IsRehashFault (fault.Torn version kept text) = Unit {0}
+IsRehashFault (fault.Unreadable version files cause) = ⊥
+IsRehashFault (fault.Unchanged version) = ⊥
+IsRehashFault (fault.Incompatible rows) = ⊥
+IsRehashFault (fault.Limit limit) = Unit {0}
+IsRehashFault fault.ReadFault = Unit {0}
+IsRehashFault fault.WriteFault = Unit {0}
+IsRehashFault fault.OutOfMemory = Unit {0}

@@ -7,7 +7,7 @@ ghost use Rattle.api_freeze.specs.steps.Following.{Compares, Fits, Follows, Foll
 ghost use Rattle.api_freeze.specs.steps.Following as step;
 ghost use Rattle.api_versions.specs.Whole as whole;
 ghost use Rattle.type_check.specs.Refusals.{IsRefusal};
-ghost use Rattle.api_versions.specs.steps.Early.{IsEarly};
+ghost use Rattle.api_versions.specs.Early.{IsEarly};
 
 use aidl_base::{LimitName, OutOfMemory, Row, SourceFile};
 use aidl_schema::Schema;

@@ -7,17 +7,16 @@ ghost use Rattle.api_freeze.specs.Freeze as meant;
 ghost use Rattle.api_versions.specs.Causes.{Cause};
 ghost use Rattle.api_versions.specs.Versions.{versions_at};
 ghost use Rattle.api_versions.specs.Writes.{Left};
-ghost use Rattle.api_versions.specs.steps.Early.{IsLate};
-ghost use Rattle.api_versions.specs.steps.Seen.{write_seen};
+ghost use Rattle.api_versions.specs.Early.{IsLate};
+ghost use Rattle.api_versions.specs.Seen.{write_seen};
 
 use crate::following::{Next, prepare};
 use aidl_base::{OutOfMemory, Row, SourceFile, Text};
-use aidl_outside::Store;
+use aidl_outside::{Store, path_below};
 use aidl_schema::Schema;
 use api_hash::{Recipe, hash_text};
 use api_versions::{
-    FreezeFault, Version, Write, hash_path, path_below, text_of, version_folder, versions,
-    write_all,
+    FreezeFault, Version, Write, hash_path, text_of, version_folder, versions, write_all,
 };
 use std::alloc::Global;
 

@@ -5,8 +5,8 @@ ghost use Rattle.api_versions.specs.Answers.{Gives};
 ghost use Rattle.api_versions.specs.Causes.{Cause};
 ghost use Rattle.api_freeze.specs.Rehash as meant;
 ghost use Rattle.api_versions.specs.Writes.{Left};
-ghost use Rattle.api_versions.specs.steps.Early.{IsLate};
-ghost use Rattle.api_versions.specs.steps.Seen.{write_seen};
+ghost use Rattle.api_versions.specs.Early.{IsLate};
+ghost use Rattle.api_versions.specs.Seen.{write_seen};
 
 use aidl_base::{OutOfMemory, Row};
 use aidl_outside::Store;
@@ -24,6 +24,7 @@ pub fn rehash<S: Store>(alloc: Global, store: &mut S, api: &str) -> Result<Row<u
     ensures told { Tells (S.kept store.old) (λ files. Gives (meant.rehash_at files api.now) result) }
     ensures wrote { Tells (S.kept store.old) (λ files. Left (meant.rehash_writes files api.now) (Some files) (S.kept store.new) result) }
     ensures untold { S.kept store.old ≡ None → S.kept store.new ≡ None }
+    ensures refusal { IfErr result meant.IsRehashFault }
     ensures cause { Cause (S.count store.old) (S.count store.new) result }
 {
     match versions(alloc, store, api) {
@@ -33,7 +34,7 @@ pub fn rehash<S: Store>(alloc: Global, store: &mut S, api: &str) -> Result<Row<u
 }
 
 // The same for versions that are read.
-#[tactic(auto, using(crate::proofs::Untold::left_whole))]
+#[tactic(auto, using(crate::proofs::Untold::left_whole, crate::proofs::RehashFaults::of_torn, crate::proofs::RehashFaults::of_late))]
 fn rehash_all<S: Store>(
     alloc: Global,
     api: &str,
@@ -41,6 +42,7 @@ fn rehash_all<S: Store>(
     store: &mut S,
 ) -> Result<Row<u32>, FreezeFault>
     ensures defined { Gives (meant.rehash_of versions.now) result }
+    ensures refusal { IfErr result meant.IsRehashFault }
     ensures wrote { Left (meant.whole_writes api.now versions.now) (S.kept store.old) (S.kept store.new) result }
     ensures cause { Cause (S.count store.old) (S.count store.new) result }
 {

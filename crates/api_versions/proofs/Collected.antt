@@ -9,10 +9,10 @@ use Rattle.std.proofs.lemmas.List.{append-nil, map-append}
 use Rattle.aidl_base.specs.declared.source_file.SourceFile.{SourceFile}
 use Rattle.aidl_base.specs.Results.{◌>>=◌}
 use Rattle.aidl_outside.specs.Entries.{path_of}
-use Rattle.aidl_outside.specs.Files.{Files, is_ascending}
+use Rattle.aidl_outside.specs.Files.{Files, is_ascending, path_below}
 use Rattle.aidl_outside.specs.Told.{Tells}
 use Rattle.api_versions.specs.declared.fault.FreezeFault.{FreezeFault}
-use Rattle.api_versions.specs.Versions.{file_at, path_below, source, sources_at}
+use Rattle.api_versions.specs.Versions.{file_at, source, sources_at}
 use Rattle.api_versions.specs.steps.Onto.{onto}
 use Rattle.aidl_outside.proofs.lemmas.Telling.{tells, tells_both}
 

@@ -17,7 +17,7 @@ use Rattle.aidl_base.specs.declared.limit.LimitName.TheVariants as limit
 use Rattle.api_versions.specs.Places.{Place, places}
 use Rattle.api_versions.specs.Versions.{AreNumbered, are_ascending, complete, passed, folders_in, is_large, missing, present, version_at, versions_in}
 use Rattle.api_versions.specs.steps.Onto.{onto}
-use Rattle.api_versions.specs.steps.Seen.{folder_seen}
+use Rattle.api_versions.specs.Seen.{folder_seen}
 use Rattle.api_versions.proofs.Collected.{onto_first, onto_none}
 use Rattle.aidl_outside.proofs.lemmas.Telling.{tells, tells_both}
 

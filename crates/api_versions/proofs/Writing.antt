@@ -9,7 +9,7 @@ use Rattle.aidl_outside.specs.Files.{Files}
 use Rattle.aidl_outside.specs.Writes.{Sets}
 use Rattle.api_versions.specs.declared.writes.Write.{Write as HeldWrite}
 use Rattle.api_versions.specs.Writes.{Write, Wrote, WroteSome, written}
-use Rattle.api_versions.specs.steps.Seen.{write_seen}
+use Rattle.api_versions.specs.Seen.{write_seen}
 
 written_more : (ws : List Write) (w : Write) (files : Files) → written (ws ++ w ∷ []) files ≡ insert (written ws files) w.path w.bytes
 written_more [] w files = refl

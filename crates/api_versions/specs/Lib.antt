@@ -6,3 +6,5 @@ pub mod Versions
 pub mod Whole
 pub mod Writes
 pub mod steps
+pub mod Seen
+pub mod Early

@@ -10,7 +10,7 @@ use Rattle.aidl_base.specs.declared.source_file.SourceFile.{SourceFile}
 use Rattle.aidl_base.specs.Limits.{limit_number}
 use Rattle.aidl_base.specs.Results.{◌>>=◌}
 use Rattle.aidl_outside.specs.Entries.{path_of}
-use Rattle.aidl_outside.specs.Files.{Files, is_ascending, listing}
+use Rattle.aidl_outside.specs.Files.{Files, is_ascending, listing, path_below}
 use Rattle.api_versions.specs.declared.fault.FreezeFault.{FreezeFault}
 use Rattle.api_versions.specs.declared.fault.FreezeFault.TheVariants as fault
 use Rattle.api_versions.specs.declared.version.Version.{Version}
@@ -19,10 +19,6 @@ use Rattle.api_versions.specs.Places.{Place, places}
 
 abbrev pub passed : LimitName → FreezeFault
 passed which = fault.Limit (record { which = which })
-
--- a path below a folder is the folder, `/` and the relative path
-abbrev pub path_below : List ℕ → List ℕ → List ℕ
-path_below folder path = folder ++ 47 ∷ path
 
 -- the folder of a version has its number in decimal as its name
 abbrev pub version_folder : List ℕ → ℕ → List ℕ

@@ -1,4 +1,3 @@
+-- What the code's steps do, for inner contracts: no contract of a function that the crate exports cites it.
 pub mod Adding
-pub mod Early
 pub mod Onto
-pub mod Seen

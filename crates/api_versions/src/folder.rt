@@ -1,7 +1,7 @@
 //! The folder of one version, as a listing shows it.
 ghost use Rattle.std.specs.Prelude.{◌≡◌, false, [], OnOk};
 ghost use Rattle.api_versions.specs.Folders as meant;
-ghost use Rattle.api_versions.specs.steps.Seen.{folder_seen};
+ghost use Rattle.api_versions.specs.Seen.{folder_seen};
 ghost use Rattle.api_versions.specs.steps.Adding.{with_path};
 
 use aidl_base::OutOfMemory;

@@ -3,7 +3,7 @@ ghost use Rattle.std.specs.Prelude.{◌≡◌, ◌≤◌, ◌<◌, length, map, 
 ghost use Rattle.std.specs.List.{range_with_len};
 ghost use Rattle.api_versions.specs.Folders as meant;
 ghost use Rattle.api_versions.specs.Places.{place_of, places};
-ghost use Rattle.api_versions.specs.steps.Seen.{folder_seen};
+ghost use Rattle.api_versions.specs.Seen.{folder_seen};
 ghost use Rattle.api_versions.specs.steps.Adding.{AreNumbered, no_folder, number_or_zero, with_place};
 
 use crate::folder::Folder;

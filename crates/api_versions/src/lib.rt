@@ -16,7 +16,7 @@ mod whole_folders;
 mod writes;
 
 pub use fault::{FreezeFault, limit_passed};
-pub use paths::{hash_path, path_below, version_folder};
+pub use paths::{hash_path, version_folder};
 pub use reading::versions;
 pub use text::text_of;
 pub use version::Version;

@@ -1,14 +1,14 @@
 //! One file of a store, up to the limit on its bytes.
 ghost use Rattle.std.specs.Prelude.{◌≡◌, List, ℕ, Option};
 ghost use Rattle.std.specs.Option.{option_map};
+ghost use Rattle.aidl_outside.specs.Files.{path_below};
 ghost use Rattle.aidl_outside.specs.Told.{Tells};
 ghost use Rattle.api_versions.specs.Answers.{Gives, ReadCause};
-ghost use Rattle.api_versions.specs.Versions.{file_at, path_below, within};
+ghost use Rattle.api_versions.specs.Versions.{file_at, within};
 
 use crate::fault::{FreezeFault, limit_passed, read_fault};
-use crate::paths::path_below;
 use aidl_base::{LimitName, Row};
-use aidl_outside::Store;
+use aidl_outside::{Store, path_below};
 use std::alloc::Global;
 
 /// The file at a path below a folder, where one stands there. A file of more than 262,144 bytes is refused.

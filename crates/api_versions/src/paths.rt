@@ -3,6 +3,7 @@ ghost use Rattle.std.specs.Prelude.{◌≡◌, IfOk, string_bytes};
 ghost use Rattle.api_versions.specs.Versions as meant;
 
 use aidl_base::OutOfMemory;
+use aidl_outside::path_below;
 use std::alloc::Global;
 use std::fmt::Write;
 
@@ -13,16 +14,6 @@ pub fn version_folder(alloc: Global, api: &str, number: u32) -> Result<String, O
     let mut path = String::new(alloc);
     write!(path, "{api}/{number}")?;
     Ok(path)
-}
-
-/// The path of a file below a folder.
-pub fn path_below(alloc: Global, folder: &str, path: &str) -> Result<String, OutOfMemory>
-    ensures { IfOk result (λ whole. string_bytes whole ≡ meant.path_below folder.now path.now) }
-{
-    let mut whole = String::from_str(alloc, folder)?;
-    whole.push_str("/")?;
-    whole.push_str(path)?;
-    Ok(whole)
 }
 
 /// The path of a version's `.hash`.

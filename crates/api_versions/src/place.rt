@@ -5,7 +5,7 @@ ghost use Rattle.std.specs.List.{list_all};
 ghost use Rattle.std.specs.Option.{option_map};
 ghost use Rattle.std.specs.Str.Parse.{digits_value};
 ghost use Rattle.api_versions.specs.Places as meant;
-ghost use Rattle.api_versions.specs.steps.Seen.{place_seen};
+ghost use Rattle.api_versions.specs.Seen.{place_seen};
 
 /// Where a file below an API stands: the number of its version, and its path relative to that version's folder. Numbers
 /// above 9,999 are 10,000 here.

@@ -7,7 +7,7 @@ ghost use Rattle.aidl_outside.specs.Told.{Tells};
 ghost use Rattle.api_versions.specs.Answers.{Gives, GivesAs, ReadCause};
 ghost use Rattle.api_versions.specs.Versions as meant;
 ghost use Rattle.api_versions.specs.Versions.{AreNumbered, are_ascending};
-ghost use Rattle.api_versions.specs.steps.Seen.{folder_seen};
+ghost use Rattle.api_versions.specs.Seen.{folder_seen};
 
 use crate::fault::{FreezeFault, read_fault};
 use crate::folder::Folder;

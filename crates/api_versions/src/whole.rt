@@ -2,7 +2,7 @@
 ghost use Rattle.std.specs.Prelude.{◌≡◌, IfErr, IfOk};
 ghost use Rattle.api_versions.specs.Answers.{Gives};
 ghost use Rattle.api_versions.specs.Whole as meant;
-ghost use Rattle.api_versions.specs.steps.Early.{IsEarly};
+ghost use Rattle.api_versions.specs.Early.{IsEarly, IsTorn};
 
 use crate::fault::FreezeFault;
 use crate::text::text_of;
@@ -50,6 +50,7 @@ fn is_kept(kept: &Option<Row<u8>>, text: &[u8]) -> bool
 pub fn all_whole(alloc: Global, versions: &[Version]) -> Result<(), FreezeFault>
     ensures defined { Gives (meant.all_whole versions.now) result }
     ensures early { IfErr result IsEarly }
+    ensures torn { IfErr result IsTorn }
 {
     for version in versions {
         if !is_whole(alloc, version)? {

@@ -3,7 +3,7 @@ ghost use Rattle.std.specs.Prelude.{◌≡◌, ℕ, map, string_bytes};
 ghost use Rattle.std.specs.List.{filter, list_any};
 ghost use Rattle.api_versions.specs.Answers.{GivesAs, ReadCause};
 ghost use Rattle.api_versions.specs.Versions as meant;
-ghost use Rattle.api_versions.specs.steps.Seen.{folder_seen};
+ghost use Rattle.api_versions.specs.Seen.{folder_seen};
 
 use crate::fault::{FreezeFault, limit_passed};
 use crate::folder::Folder;

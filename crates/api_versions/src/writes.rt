@@ -2,8 +2,8 @@
 ghost use Rattle.std.specs.Prelude.{map, IfErr};
 ghost use Rattle.api_versions.specs.Causes.{Cause};
 ghost use Rattle.api_versions.specs.Writes.{Left};
-ghost use Rattle.api_versions.specs.steps.Early.{IsLate};
-ghost use Rattle.api_versions.specs.steps.Seen.{write_seen};
+ghost use Rattle.api_versions.specs.Early.{IsLate};
+ghost use Rattle.api_versions.specs.Seen.{write_seen};
 
 use crate::fault::FreezeFault;
 use aidl_base::Row;

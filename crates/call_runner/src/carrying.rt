@@ -1,8 +1,6 @@
 //! Parcels of a call on their way over a link.
 ghost use Rattle.std.specs.Prelude.{◌≡◌, ◌≢◌, true, option_map, IfOk, None, OnErr};
 ghost use Rattle.aidl_outside.specs.Carries.{entry};
-ghost use Rattle.aidl_schema.specs.Find.{methods_at};
-ghost use Rattle.stub_dispatch.specs.Planned.{ArePlansOf};
 ghost use Rattle.call_runner.specs.Lines.{reply_entries, request_entry};
 ghost use Rattle.call_runner.specs.Runs.{AreFaithful, RunCause};
 ghost use Rattle.call_runner.specs.steps.Exchanges.{AddsListed, AddsOne, CanBeSent, delivered_of, listed};
@@ -10,13 +8,13 @@ ghost use Rattle.call_scripts.specs.Calls.{call_of};
 ghost use Rattle.wire_model.specs.Calls.{code_at, method_at};
 ghost use Rattle.wire_model.specs.Requests.{request};
 
-use crate::line::{RunFault, Side};
+use crate::line::RunFault;
 use aidl_base::{OutOfMemory, Row};
 use aidl_outside::{Carried, CarryFault, Link, Way};
-use aidl_schema::{Kind, Method, Schema, law_valid};
+use aidl_schema::{Schema, law_valid, methods_at};
 use call_scripts::Call;
 use std::alloc::Global;
-use stub_dispatch::request;
+use stub_dispatch::{Callee, Side, request};
 
 // Carries the request of a call, with the code of the client's method.
 pub fn send_request<L: Link>(
@@ -25,34 +23,26 @@ pub fn send_request<L: Link>(
     call: &Call,
     link: &mut L,
 ) -> Result<Carried, RunFault>
-    requires plans { ArePlansOf client.now.plans.now client.now.schema.now.decls }
-    requires sendable { CanBeSent client.now.schema.now.decls (call_of call.now) }
-    ensures entry { IfOk result (λ e. e ≡ request_entry client.now.schema.now.decls (call_of call.now) e.delivered) }
+    requires sendable { CanBeSent client.now (call_of call.now) }
+    ensures entry { IfOk result (λ e. e ≡ request_entry client.now (call_of call.now) e.delivered) }
     ensures log { AddsOne (L.log link.old) (L.log link.new) result }
     ensures faithful { L.is_faithful link.old ≡ true → IfOk result (λ e. e.delivered ≡ e.sent) }
     ensures nature { L.is_faithful link.new ≡ L.is_faithful link.old }
     ensures cause { RunCause (L.count link.old) (L.count link.new) result }
 {
     let bytes = request_bytes(alloc, client, call)?;
-    let code = code_of(client.schema, call.interface, call.method);
+    let code = code_of(client.schema(), call.interface, call.method);
     carry(alloc, Way::Request, code, bytes, link)
 }
 
 // The bytes of the request of a call. They are few enough, so nothing but memory may lack.
 fn request_bytes(alloc: Global, client: &Side<'_>, call: &Call) -> Result<Vec<u8>, OutOfMemory>
-    requires plans { ArePlansOf client.now.plans.now client.now.schema.now.decls }
-    requires sendable { CanBeSent client.now.schema.now.decls (call_of call.now) }
-    ensures { IfOk result (λ bytes. bytes.items ≡ request client.now.schema.now.decls (call_of call.now).interface (call_of call.now).method (call_of call.now).args) }
+    requires sendable { CanBeSent client.now (call_of call.now) }
+    ensures { IfOk result (λ bytes. bytes.items ≡ request client.now (call_of call.now).interface (call_of call.now).method (call_of call.now).args) }
 {
     let args = call.args.as_slice();
-    match request(
-        alloc,
-        client.schema,
-        client.plans,
-        call.interface,
-        call.method,
-        args,
-    ) {
+    let callee = Callee::new(client, call.interface, call.method);
+    match request(alloc, &callee, args) {
         Ok(bytes) => Ok(bytes),
         Err(_) => Err(OutOfMemory),
     }
@@ -76,19 +66,6 @@ fn id_of(schema: &Schema, interface: u32, method: u32) -> Option<u32>
     match methods_at(schema, interface).get(method as usize) {
         Some(method) => Some(method.id),
         None => None,
-    }
-}
-
-// The methods of an interface; none of what is no interface.
-fn methods_at(schema: &Schema, interface: u32) -> &[Method]
-    ensures { result.now ≡ methods_at schema.now.decls interface }
-{
-    match schema.decls.as_slice().get(interface as usize) {
-        Some(decl) => match &decl.kind {
-            Kind::Interface(methods) => methods.as_slice(),
-            _ => &[],
-        },
-        None => &[],
     }
 }
 

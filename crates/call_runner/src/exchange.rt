@@ -1,20 +1,19 @@
 //! The carries of a call: its request, and the reply where the server sends one.
 ghost use Rattle.std.specs.Prelude.{◌≡◌, true, Ok, IfErr, IfOk};
 ghost use Rattle.aidl_outside.specs.Told.{Adds};
-ghost use Rattle.stub_dispatch.specs.Planned.{ArePlansOf};
 ghost use Rattle.call_runner.specs.Runs.{AreFaithful, RunCause, Stops};
 ghost use Rattle.call_runner.specs.steps.Exchanges.{IsExchange, carried_of};
 ghost use Rattle.call_scripts.specs.Calls.{CallFits, call_of};
 
 use crate::carrying::{send_reply, send_request};
-use crate::line::{RunFault, Side};
+use crate::line::RunFault;
 use crate::serving::serve;
 use aidl_base::{Profile, Row};
 use aidl_outside::{Carried, Link};
 use aidl_values::Value;
 use call_scripts::Call;
 use std::alloc::Global;
-use stub_dispatch::Answered;
+use stub_dispatch::{Answered, Side};
 
 /// What was carried of a call, and what the server made of it: the transport status, and what the handler saw, where it was called.
 #[derive(Drop)]
@@ -34,13 +33,11 @@ pub fn carry_call<L: Link>(
     call: &Call,
     link: &mut L,
 ) -> Result<Exchange, RunFault>
-    requires client { ArePlansOf client.now.plans.now client.now.schema.now.decls }
-    requires server { ArePlansOf server.now.plans.now server.now.schema.now.decls }
-    requires fits { CallFits client.now.schema.now.decls server.now.schema.now.decls (call_of call.now) }
-    ensures exchange { IfOk result (λ x. IsExchange profile client.now.schema.now.decls server.now.schema.now.decls (call_of call.now) x) }
+    requires fits { CallFits client.now server.now (call_of call.now) }
+    ensures exchange { IfOk result (λ x. IsExchange profile client.now server.now (call_of call.now) x) }
     ensures log { IfOk result (λ x. Adds (L.log link.old) (L.log link.new) (carried_of x)) }
     ensures faithful { L.is_faithful link.old ≡ true → IfOk result (λ x. AreFaithful (carried_of x)) }
-    ensures stops { IfErr result (λ fault. Stops profile client.now.schema.now.decls server.now.schema.now.decls (Ok (call_of call.now))
+    ensures stops { IfErr result (λ fault. Stops profile client.now server.now (Ok (call_of call.now))
         (L.is_faithful link.old) (L.log link.old) (L.log link.new) fault) }
     ensures nature { L.is_faithful link.new ≡ L.is_faithful link.old }
     ensures cause { RunCause (L.count link.old) (L.count link.new) result }

@@ -10,6 +10,6 @@ mod running;
 mod serving;
 
 pub use call_scripts::{Refused, RefusedName};
-pub use line::{LineOut, LineRun, Methods, RunFault, Side};
+pub use line::{LineOut, LineRun, Methods, RunFault};
 pub use running::run_line;
-pub use stub_dispatch::Got;
+pub use stub_dispatch::{Got, Side};

@@ -3,18 +3,9 @@ ghost use Rattle.std.specs.Prelude.{◌≡◌};
 
 use aidl_base::{OutOfMemory, Row};
 use aidl_outside::Carried;
-use aidl_schema::Schema;
 use aidl_values::Value;
 use call_scripts::Refused;
-use marshal_plans::Plans;
 use stub_dispatch::Got;
-
-/// A side of a call: a schema, with plans that stand for it.
-#[derive(Clone, Copy)]
-pub struct Side<'a> {
-    pub schema: &'a Schema,
-    pub plans: &'a Plans,
-}
 
 /// What a line comes to.
 #[derive(Drop)]

@@ -3,7 +3,6 @@ ghost use Rattle.std.specs.Prelude.{◌≡◌, ◌≢◌, ◌<◌, ◌∷◌, []
 ghost use Rattle.aidl_schema.specs.Find as find;
 ghost use Rattle.aidl_values.specs.View.{views};
 ghost use Rattle.stub_dispatch.specs.Got.{got_of};
-ghost use Rattle.stub_dispatch.specs.Planned.{ArePlansOf};
 ghost use Rattle.call_runner.specs.Lines.{line_of, received, received_at};
 ghost use Rattle.call_runner.specs.Runs.{line_data, methods_by};
 ghost use Rattle.call_runner.specs.steps.Exchanges.{IsExchange, carried_of, delivered_of};
@@ -14,14 +13,14 @@ ghost use Rattle.wire_model.specs.Receiver as receiver;
 ghost use Rattle.wire_model.specs.Receiver.{stub};
 
 use crate::exchange::Exchange;
-use crate::line::{LineOut, LineRun, Methods, Side};
+use crate::line::{LineOut, LineRun, Methods};
 use aidl_base::{OutOfMemory, Profile, Row};
 use aidl_outside::Carried;
 use aidl_schema::method_of_code;
 use aidl_values::Value;
 use call_scripts::Call;
 use std::alloc::Global;
-use stub_dispatch::{Got, reply};
+use stub_dispatch::{Callee, Got, Side, reply};
 
 // What a call comes to. Where a reply was carried, its method isn't oneway to the client.
 pub fn report(
@@ -32,16 +31,15 @@ pub fn report(
     call: &Call,
     exchange: Exchange,
 ) -> Result<LineRun, OutOfMemory>
-    requires plans { ArePlansOf client.now.plans.now client.now.schema.now.decls }
-    requires there { call.now.method < length (find.methods_at client.now.schema.now.decls call.now.interface) }
-    requires exchange { IsExchange profile client.now.schema.now.decls server.now.schema.now.decls (call_of call.now) exchange }
-    requires two_way { exchange.reply ≢ None → is_oneway client.now.schema.now.decls call.now.interface call.now.method ≡ false }
-    requires refused { (s : ℤ) → received profile client.now.schema.now.decls server.now.schema.now.decls (call_of call.now) exchange.request.delivered ≡ Err s → s ≢ pos 0 }
+    requires there { call.now.method < length (find.methods_at client.now call.now.interface) }
+    requires exchange { IsExchange profile client.now server.now (call_of call.now) exchange }
+    requires two_way { exchange.reply ≢ None → is_oneway client.now call.now.interface call.now.method ≡ false }
+    requires refused { (s : ℤ) → received profile client.now server.now (call_of call.now) exchange.request.delivered ≡ Err s → s ≢ pos 0 }
     ensures carried { IfOk result (λ run. run.carried ≡ carried_of exchange) }
-    ensures line { IfOk result (λ run. line_data run.out ≡ line_of profile client.now.schema.now.decls server.now.schema.now.decls (call_of call.now)
+    ensures line { IfOk result (λ run. line_data run.out ≡ line_of profile client.now server.now (call_of call.now)
         exchange.request.delivered (delivered_of exchange.reply)) }
     ensures methods { IfOk result (λ run. run.methods ≡ methods_by (call_of call.now) call.now.server
-        (received profile client.now.schema.now.decls server.now.schema.now.decls (call_of call.now) exchange.request.delivered)) }
+        (received profile client.now server.now (call_of call.now) exchange.request.delivered)) }
 {
     let Exchange {
         request,
@@ -83,20 +81,12 @@ fn got_by(
     call: &Call,
     bytes: &[u8],
 ) -> Result<Got, OutOfMemory>
-    requires plans { ArePlansOf client.now.plans.now client.now.schema.now.decls }
-    requires there { call.now.method < length (find.methods_at client.now.schema.now.decls call.now.interface) }
-    requires two_way { is_oneway client.now.schema.now.decls call.now.interface call.now.method ≡ false }
-    ensures { IfOk result (λ got. got_of got ≡ receiver.client profile client.now.schema.now.decls call.now.interface call.now.method bytes.now) }
+    requires there { call.now.method < length (find.methods_at client.now call.now.interface) }
+    requires two_way { is_oneway client.now call.now.interface call.now.method ≡ false }
+    ensures { IfOk result (λ got. got_of got ≡ receiver.client profile client.now call.now.interface call.now.method bytes.now) }
 {
-    reply(
-        alloc,
-        profile,
-        client.schema,
-        client.plans,
-        call.interface,
-        call.method,
-        bytes,
-    )
+    let callee = Callee::new(client, call.interface, call.method);
+    reply(alloc, profile, &callee, bytes)
 }
 
 // What a call comes to where no reply was sent.
@@ -119,9 +109,9 @@ fn methods_of(
     bytes: &[u8],
     transport: i32,
 ) -> Option<Methods>
-    requires transport { transport ≡ transport_of (received_at profile server.now.schema.now.decls call.now.server code bytes.now) }
-    requires refused { (s : ℤ) → received_at profile server.now.schema.now.decls call.now.server code bytes.now ≡ Err s → s ≢ pos 0 }
-    ensures { result ≡ methods_by (call_of call.now) call.now.server (received_at profile server.now.schema.now.decls call.now.server code bytes.now) }
+    requires transport { transport ≡ transport_of (received_at profile server.now call.now.server code bytes.now) }
+    requires refused { (s : ℤ) → received_at profile server.now call.now.server code bytes.now ≡ Err s → s ≢ pos 0 }
+    ensures { result ≡ methods_by (call_of call.now) call.now.server (received_at profile server.now call.now.server code bytes.now) }
 {
     if transport != 0 {
         return None;
@@ -141,11 +131,11 @@ fn methods_at(
     code: u32,
     bytes: &[u8],
 ) -> Option<Methods>
-    requires accepted { transport_of (stub profile server.now.schema.now.decls other code bytes.now) ≡ pos 0 }
-    requires refused { (s : ℤ) → stub profile server.now.schema.now.decls other code bytes.now ≡ Err s → s ≢ pos 0 }
-    ensures { result ≡ methods_by (call_of call.now) (Some other) (stub profile server.now.schema.now.decls other code bytes.now) }
+    requires accepted { transport_of (stub profile server.now other code bytes.now) ≡ pos 0 }
+    requires refused { (s : ℤ) → stub profile server.now other code bytes.now ≡ Err s → s ≢ pos 0 }
+    ensures { result ≡ methods_by (call_of call.now) (Some other) (stub profile server.now other code bytes.now) }
 {
-    match method_of_code(server.schema, other, code) {
+    match method_of_code(server.schema(), other, code) {
         Some(called) => Some(Methods {
             interface: call.interface,
             method: call.method,

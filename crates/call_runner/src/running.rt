@@ -1,7 +1,6 @@
 //! A line of a calls file run between a client and a server over a link.
 ghost use Rattle.std.specs.Prelude.{◌≡◌, true, Ok, IfErr, IfOk};
 ghost use Rattle.aidl_outside.specs.Told.{Adds};
-ghost use Rattle.stub_dispatch.specs.Planned.{ArePlansOf};
 ghost use Rattle.call_runner.specs.Runs.{AreFaithful, AreNamed, IsTyped, LineRuns, RunCause, Stops, line_data, projected, within_one};
 ghost use Rattle.call_runner.specs.steps.Exchanges.{IsExchange, carried_of, delivered_of};
 ghost use Rattle.call_scripts.specs.Calls.{CallFits, call_of};
@@ -9,13 +8,14 @@ ghost use Rattle.call_scripts.specs.Script.{script};
 ghost use Rattle.wire_model.specs.Outcome.{OneFollows, SameWays};
 
 use crate::exchange::{Exchange, carry_call};
-use crate::line::{LineOut, LineRun, RunFault, Side};
+use crate::line::{LineOut, LineRun, RunFault};
 use crate::meaning::{law_projected, law_received, law_typed, law_within};
 use crate::reporting::report;
 use aidl_base::{OutOfMemory, Profile, Row};
 use aidl_outside::{Carried, Link};
 use call_scripts::{Call, Script, script_of};
 use std::alloc::Global;
+use stub_dispatch::Side;
 
 /// Runs a line of a calls file between a client and a server, both of which read by the profile: what the line means is carried over
 /// the link as a request, the server's service transacts what is delivered, its reply is carried, and the client reads what is
@@ -31,43 +31,34 @@ pub fn run_line<L: Link>(
     line: &[u8],
     link: &mut L,
 ) -> Result<LineRun, RunFault>
-    requires client { ArePlansOf client.now.plans.now client.now.schema.now.decls }
-    requires server { ArePlansOf server.now.plans.now server.now.schema.now.decls }
-    requires ways { SameWays client.now.schema.now.decls server.now.schema.now.decls }
+    requires ways { SameWays client.now server.now }
     // What is carried, what is replied and what is reported.
-    ensures line { IfOk result (λ run. LineRuns profile client.now.schema.now.decls server.now.schema.now.decls
-        (script client.now.schema.now.decls server.now.schema.now.decls line.now) run) }
+    ensures line { IfOk result (λ run. LineRuns profile client.now server.now
+        (script client.now server.now line.now) run) }
     // The link's log gains exactly what is carried.
     ensures log { IfOk result (λ run. Adds (L.log link.old) (L.log link.new) run.carried) }
     ensures faithful { L.is_faithful link.old ≡ true → IfOk result (λ run. AreFaithful run.carried) }
     // After a fault it has gained the carries that succeeded.
-    ensures stops { IfErr result (λ fault. Stops profile client.now.schema.now.decls server.now.schema.now.decls
-        (script client.now.schema.now.decls server.now.schema.now.decls line.now) (L.is_faithful link.old) (L.log link.old) (L.log link.new) fault) }
+    ensures stops { IfErr result (λ fault. Stops profile client.now server.now
+        (script client.now server.now line.now) (L.is_faithful link.old) (L.log link.old) (L.log link.new) fault) }
     ensures nature { L.is_faithful link.new ≡ L.is_faithful link.old }
     // A fault of the link comes only where its count rose.
     ensures cause { RunCause (L.count link.old) (L.count link.new) result }
     // The values have the types of the methods.
-    ensures typed { IfOk result (λ run. IsTyped client.now.schema.now.decls server.now.schema.now.decls run.methods run.out) }
+    ensures typed { IfOk result (λ run. IsTyped client.now server.now run.methods run.out) }
     // Between two schemas of which one follows the other, over a faithful link, the line comes to its outcome, and its values are those of
     // the methods of the call's names.
-    ensures outcome { OneFollows client.now.schema.now.decls server.now.schema.now.decls → L.is_faithful link.old ≡ true
-        → IfOk result (λ run. line_data run.out ≡ projected client.now.schema.now.decls server.now.schema.now.decls
-        (script client.now.schema.now.decls server.now.schema.now.decls line.now)) }
-    ensures named { OneFollows client.now.schema.now.decls server.now.schema.now.decls → L.is_faithful link.old ≡ true
-        → IfOk result (λ run. AreNamed (script client.now.schema.now.decls server.now.schema.now.decls line.now) run.methods) }
+    ensures outcome { OneFollows client.now server.now → L.is_faithful link.old ≡ true
+        → IfOk result (λ run. line_data run.out ≡ projected client.now server.now
+        (script client.now server.now line.now)) }
+    ensures named { OneFollows client.now server.now → L.is_faithful link.old ≡ true
+        → IfOk result (λ run. AreNamed (script client.now server.now line.now) run.methods) }
     // Over one tree and a faithful link the handler sees what was sent, and the client has what was answered.
-    ensures within { server.now.schema.now.decls ≡ client.now.schema.now.decls → L.is_faithful link.old ≡ true
-        → IfOk result (λ run. line_data run.out ≡ within_one client.now.schema.now.decls
-        (script client.now.schema.now.decls server.now.schema.now.decls line.now)) }
+    ensures within { server.now ≡ client.now → L.is_faithful link.old ≡ true
+        → IfOk result (λ run. line_data run.out ≡ within_one client.now
+        (script client.now server.now line.now)) }
 {
-    match script_of(
-        alloc,
-        client.schema,
-        client.plans,
-        server.schema,
-        server.plans,
-        line,
-    )? {
+    match script_of(alloc, client, server, line)? {
         Script::Refused(why) => Ok(LineRun {
             out: LineOut::Refused(why),
             carried: Row::new(alloc),
@@ -86,24 +77,22 @@ fn run_call<L: Link>(
     call: &Call,
     link: &mut L,
 ) -> Result<LineRun, RunFault>
-    requires client { ArePlansOf client.now.plans.now client.now.schema.now.decls }
-    requires server { ArePlansOf server.now.plans.now server.now.schema.now.decls }
-    requires ways { SameWays client.now.schema.now.decls server.now.schema.now.decls }
-    requires fits { CallFits client.now.schema.now.decls server.now.schema.now.decls (call_of call.now) }
-    ensures line { IfOk result (λ run. LineRuns profile client.now.schema.now.decls server.now.schema.now.decls (Ok (call_of call.now)) run) }
+    requires ways { SameWays client.now server.now }
+    requires fits { CallFits client.now server.now (call_of call.now) }
+    ensures line { IfOk result (λ run. LineRuns profile client.now server.now (Ok (call_of call.now)) run) }
     ensures log { IfOk result (λ run. Adds (L.log link.old) (L.log link.new) run.carried) }
     ensures faithful { L.is_faithful link.old ≡ true → IfOk result (λ run. AreFaithful run.carried) }
-    ensures stops { IfErr result (λ fault. Stops profile client.now.schema.now.decls server.now.schema.now.decls (Ok (call_of call.now))
+    ensures stops { IfErr result (λ fault. Stops profile client.now server.now (Ok (call_of call.now))
         (L.is_faithful link.old) (L.log link.old) (L.log link.new) fault) }
     ensures nature { L.is_faithful link.new ≡ L.is_faithful link.old }
     ensures cause { RunCause (L.count link.old) (L.count link.new) result }
-    ensures typed { IfOk result (λ run. IsTyped client.now.schema.now.decls server.now.schema.now.decls run.methods run.out) }
-    ensures outcome { OneFollows client.now.schema.now.decls server.now.schema.now.decls → L.is_faithful link.old ≡ true
-        → IfOk result (λ run. line_data run.out ≡ projected client.now.schema.now.decls server.now.schema.now.decls (Ok (call_of call.now))) }
-    ensures named { OneFollows client.now.schema.now.decls server.now.schema.now.decls → L.is_faithful link.old ≡ true
+    ensures typed { IfOk result (λ run. IsTyped client.now server.now run.methods run.out) }
+    ensures outcome { OneFollows client.now server.now → L.is_faithful link.old ≡ true
+        → IfOk result (λ run. line_data run.out ≡ projected client.now server.now (Ok (call_of call.now))) }
+    ensures named { OneFollows client.now server.now → L.is_faithful link.old ≡ true
         → IfOk result (λ run. AreNamed (Ok (call_of call.now)) run.methods) }
-    ensures within { server.now.schema.now.decls ≡ client.now.schema.now.decls → L.is_faithful link.old ≡ true
-        → IfOk result (λ run. line_data run.out ≡ within_one client.now.schema.now.decls (Ok (call_of call.now))) }
+    ensures within { server.now ≡ client.now → L.is_faithful link.old ≡ true
+        → IfOk result (λ run. line_data run.out ≡ within_one client.now (Ok (call_of call.now))) }
 {
     let exchange = carry_call(alloc, profile, client, server, call, link)?;
     let run = report_call(alloc, profile, client, server, call, exchange)?;
@@ -119,28 +108,29 @@ fn report_call(
     call: &Call,
     exchange: Exchange,
 ) -> Result<LineRun, OutOfMemory>
-    requires client { ArePlansOf client.now.plans.now client.now.schema.now.decls }
-    requires ways { SameWays client.now.schema.now.decls server.now.schema.now.decls }
-    requires fits { CallFits client.now.schema.now.decls server.now.schema.now.decls (call_of call.now) }
-    requires exchange { IsExchange profile client.now.schema.now.decls server.now.schema.now.decls (call_of call.now) exchange }
-    ensures line { IfOk result (λ run. LineRuns profile client.now.schema.now.decls server.now.schema.now.decls (Ok (call_of call.now)) run) }
+    requires ways { SameWays client.now server.now }
+    requires fits { CallFits client.now server.now (call_of call.now) }
+    requires exchange { IsExchange profile client.now server.now (call_of call.now) exchange }
+    ensures line { IfOk result (λ run. LineRuns profile client.now server.now (Ok (call_of call.now)) run) }
     ensures carried { IfOk result (λ run. run.carried ≡ carried_of exchange) }
-    ensures typed { IfOk result (λ run. IsTyped client.now.schema.now.decls server.now.schema.now.decls run.methods run.out) }
-    ensures outcome { OneFollows client.now.schema.now.decls server.now.schema.now.decls → AreFaithful (carried_of exchange)
-        → IfOk result (λ run. line_data run.out ≡ projected client.now.schema.now.decls server.now.schema.now.decls (Ok (call_of call.now))) }
-    ensures named { OneFollows client.now.schema.now.decls server.now.schema.now.decls → AreFaithful (carried_of exchange)
+    ensures typed { IfOk result (λ run. IsTyped client.now server.now run.methods run.out) }
+    ensures outcome { OneFollows client.now server.now → AreFaithful (carried_of exchange)
+        → IfOk result (λ run. line_data run.out ≡ projected client.now server.now (Ok (call_of call.now))) }
+    ensures named { OneFollows client.now server.now → AreFaithful (carried_of exchange)
         → IfOk result (λ run. AreNamed (Ok (call_of call.now)) run.methods) }
-    ensures within { server.now.schema.now.decls ≡ client.now.schema.now.decls → AreFaithful (carried_of exchange)
-        → IfOk result (λ run. line_data run.out ≡ within_one client.now.schema.now.decls (Ok (call_of call.now))) }
+    ensures within { server.now ≡ client.now → AreFaithful (carried_of exchange)
+        → IfOk result (λ run. line_data run.out ≡ within_one client.now (Ok (call_of call.now))) }
 {
     let bytes = exchange.request.delivered.as_slice();
     let sent = exchange.request.sent.as_slice();
     let code = exchange.request.code;
     let reply = delivered(&exchange.reply);
+    let client_schema = client.schema();
+    let server_schema = server.schema();
     law_typed(
         profile,
-        client.schema,
-        server.schema,
+        client_schema,
+        server_schema,
         call,
         code,
         bytes,
@@ -149,14 +139,14 @@ fn report_call(
     law_projected(
         alloc,
         profile,
-        client.schema,
-        server.schema,
+        client_schema,
+        server_schema,
         call,
         sent,
         reply,
     );
-    law_within(alloc, client.schema, server.schema, call);
-    law_received(profile, server.schema, call, code, bytes);
+    law_within(alloc, client_schema, server_schema, call);
+    law_received(profile, server_schema, call, code, bytes);
     report(alloc, profile, client, server, call, exchange)
 }
 

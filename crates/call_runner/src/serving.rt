@@ -1,24 +1,22 @@
 //! What the server answers the request of a call.
-ghost use Rattle.std.specs.Prelude.{◌≡◌, Some, option_map, IfOk};
+ghost use Rattle.std.specs.Prelude.{◌≡◌, option_map, IfOk};
 ghost use Rattle.aidl_values.specs.View.{views};
-ghost use Rattle.stub_dispatch.specs.Planned.{ArePlansOf};
 ghost use Rattle.call_runner.specs.Lines as meant;
 ghost use Rattle.call_runner.specs.steps.Served.{IsServed};
 ghost use Rattle.call_scripts.specs.Calls.{TargetFits, target_of};
 ghost use Rattle.wire_model.specs.Calls.{answer_of, optional_view};
-ghost use Rattle.wire_model.specs.Receiver.{stub};
 
-use crate::line::Side;
 use aidl_base::{OutOfMemory, Profile, Row};
 use aidl_values::{Answer, Value};
 use call_scripts::{Call, Target};
 use std::alloc::Global;
-use stub_dispatch::{Answered, Service, not_scripted};
+use stub_dispatch::{Answered, Service, Side, not_scripted};
 
 /// UNKNOWN_TRANSACTION: the server lacks the interface.
 pub const UNKNOWN_TRANSACTION: i32 = -74;
 
-// What the server answers a request with a code.
+// What the server answers a request with a code: its interface's service, whose handler answers by the line.
+#[tactic(auto, using(crate::proofs::Unscripted::scripted_fits, crate::proofs::Served::serves))]
 pub fn serve(
     alloc: Global,
     profile: Profile,
@@ -27,48 +25,23 @@ pub fn serve(
     code: u32,
     bytes: &[u8],
 ) -> Result<Answered, OutOfMemory>
-    requires plans { ArePlansOf server.now.plans.now server.now.schema.now.decls }
-    requires fits { TargetFits server.now.schema.now.decls call.now.server (option_map target_of call.now.target) }
-    ensures { IfOk result (λ a. IsServed server.now.schema.now.decls call.now.server (option_map target_of call.now.target)
-        (meant.received_at profile server.now.schema.now.decls call.now.server code bytes.now) a) }
+    requires { TargetFits server.now call.now.server (option_map target_of call.now.target) }
+    ensures { IfOk result (λ a. IsServed server.now call.now.server (option_map target_of call.now.target)
+        (meant.received_at profile server.now call.now.server code bytes.now) a) }
 {
     match call.server {
-        Some(interface) => serve_interface(
-            alloc,
-            profile,
-            server,
-            interface,
-            &call.target,
-            code,
-            bytes,
-        ),
+        Some(interface) => {
+            let target = &call.target;
+            let handler = |method: u32, _args: &[Value]| scripted(alloc, target, method);
+            let service = Service::new(server, profile, interface, handler);
+            service.transact(alloc, code, bytes)
+        }
         None => Ok(Answered {
             transport: UNKNOWN_TRANSACTION,
             saw: None,
             reply: None,
         }),
     }
-}
-
-// What the service of an interface answers, whose handler answers by the line.
-#[tactic(auto, using(crate::proofs::Unscripted::scripted_fits, crate::proofs::Served::serves))]
-fn serve_interface(
-    alloc: Global,
-    profile: Profile,
-    server: &Side<'_>,
-    interface: u32,
-    target: &Option<Target>,
-    code: u32,
-    bytes: &[u8],
-) -> Result<Answered, OutOfMemory>
-    requires plans { ArePlansOf server.now.plans.now server.now.schema.now.decls }
-    requires fits { TargetFits server.now.schema.now.decls (Some interface) (option_map target_of target.now) }
-    ensures { IfOk result (λ a. IsServed server.now.schema.now.decls (Some interface) (option_map target_of target.now)
-        (stub profile server.now.schema.now.decls interface code bytes.now) a) }
-{
-    let handler = |method: u32, _args: &[Value]| scripted(alloc, target, method);
-    let service = Service::new(server.schema, server.plans, profile, interface, handler);
-    service.transact(alloc, code, bytes)
 }
 
 // What the handler answers for a method: the scripted answer for the line's, and an exception for any other.

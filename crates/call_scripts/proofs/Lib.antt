@@ -11,3 +11,4 @@ mod JsonTexts
 mod SameNames
 mod Types
 pub mod lemmas
+mod Entered

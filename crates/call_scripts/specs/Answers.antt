@@ -43,41 +43,12 @@ abbrev pub whole : json.Data → Option ℤ
 whole (json.number n) = as_integer n
 whole _ = None
 
--- with two entries the code isn't -8
-abbrev pub thrown_by_two : ℤ → List ℕ → Option Thrown
-thrown_by_two code message = if int_eq code service_specific then None else Some (record { code = code; message = chars message; error = pos 0 })
-
--- with three it is
-abbrev pub thrown_by_three : ℤ → List ℕ → ℤ → Option Thrown
-thrown_by_three code message error = if int_eq code service_specific then Some (record { code = code; message = chars message; error = error }) else None
-
--- a third entry, and no more
-abbrev pub thrown_by_error : Option ℤ → List ℕ → Option ℤ → json.Items → Option Thrown
-thrown_by_error code message error json.no_items = option_and_then (λ c. option_and_then (λ e. thrown_by_three c message e) error) code
-thrown_by_error code message error (json.item other rest) = None
-
--- what follows the code and the message
-abbrev pub thrown_by : Option ℤ → List ℕ → json.Items → Option Thrown
-thrown_by code message json.no_items = option_and_then (λ c. thrown_by_two c message) code
-thrown_by code message (json.item error rest) = thrown_by_error code message (whole error) rest
-
--- the message is a string
-abbrev pub thrown_with : Option ℤ → json.Data → json.Items → Option Thrown
-thrown_with code (json.string message) rest = thrown_by code message rest
-thrown_with code _ rest = None
-
--- what follows the code
-abbrev pub thrown_after : Option ℤ → json.Items → Option Thrown
-thrown_after code json.no_items = None
-thrown_after code (json.item message rest) = thrown_with code message rest
-
-abbrev pub thrown_in : json.Items → Option Thrown
-thrown_in json.no_items = None
-thrown_in (json.item code rest) = thrown_after (whole code) rest
-
 -- an array of a whole number and a string, followed by a second whole number exactly where the first is -8
 abbrev pub thrown_of : json.Data → Option Thrown
-thrown_of (json.array js) = thrown_in js
+thrown_of (json.array (json.item code (json.item (json.string message) json.no_items))) =
+    option_and_then (λ c. if int_eq c service_specific then None else Some (record { code = c; message = chars message; error = pos 0 })) (whole code)
+thrown_of (json.array (json.item code (json.item (json.string message) (json.item error json.no_items)))) =
+    option_and_then (λ c. option_and_then (λ e. if int_eq c service_specific then Some (record { code = c; message = chars message; error = e }) else None) (whole error)) (whole code)
 thrown_of _ = None
 
 -- a code from -8 to -1, and an error number in the range of int

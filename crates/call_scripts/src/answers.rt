@@ -3,7 +3,7 @@ ghost use Rattle.std.specs.Prelude.{◌≡◌, ◌==◌, true, length, option_ma
 ghost use Rattle.std.specs.List.{list_all};
 ghost use Rattle.serde_json.specs.Events.{members_len};
 ghost use Rattle.serde_json.specs.View.{view as json_view, items_view, members_view};
-ghost use Rattle.aidl_schema.specs.Methods.{is_in_way, is_passed_type, is_result_type};
+ghost use Rattle.aidl_schema.specs.Methods.{is_passed_type, is_result_type};
 ghost use Rattle.aidl_schema.specs.Types.{is_type};
 ghost use Rattle.aidl_values.specs.Default.{zero_within};
 ghost use Rattle.aidl_values.specs.Fits.{Fits};
@@ -18,10 +18,11 @@ use crate::line::{check_keys, is_count, member_of, value_from};
 use crate::refused::{Fault, Place, RefusedName, refusal};
 use crate::thrown::exception_from;
 use aidl_base::{OutOfMemory, Row};
-use aidl_schema::{AidlType, Arg, Direction, Schema};
+use aidl_schema::{AidlType, Arg, Schema};
 use aidl_values::{Answer, Value, default_of, law_default_fits};
 use serde_json::{Map, Value as Json};
 use std::alloc::Global;
+use stub_dispatch::comes_back;
 
 /// The answer of a method that isn't oneway, and returns `ty` and has these arguments. `json` is what stands at `answer`, None where
 /// nothing does. It refuses exactly by the rules of *Script* (own).
@@ -158,17 +159,11 @@ fn out_types(alloc: Global, args: &[Arg]) -> Result<Vec<AidlType>, OutOfMemory>
 {
     let mut types = Vec::with_capacity(alloc, args.len())?;
     for arg in args {
-        if !is_in_way(arg.way) {
+        if comes_back(arg.way) {
             types.push(arg.ty)?;
         }
     }
     Ok(types)
-}
-
-fn is_in_way(way: Direction) -> bool
-    ensures { result ≡ is_in_way way }
-{
-    matches!(way, Direction::In)
 }
 
 fn outs_of_types(

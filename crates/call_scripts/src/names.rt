@@ -5,8 +5,7 @@ ghost use Rattle.call_scripts.specs.Names as meant;
 ghost use Rattle.call_scripts.specs.steps.Named.{IsNamed};
 ghost use Rattle.call_scripts.specs.steps.Seen.{named_data};
 
-use aidl_schema::{Kind, Method, Schema, find, law_valid};
-use stub_dispatch::methods_of;
+use aidl_schema::{Kind, Method, Schema, find, law_valid, methods_at};
 
 // The numbers of a call's interface and method, of the server's interface of that name and of its method of that name.
 #[derive(Clone, Copy)]
@@ -82,7 +81,7 @@ fn method_named(schema: &Schema, interface: u32, name: &str) -> Option<u32>
     ensures { result ≡ meant.method_named schema.now.decls interface name.now }
 {
     law_valid(schema);
-    match position_named(methods_of(schema, interface), name) {
+    match position_named(methods_at(schema, interface), name) {
         Some(position) => Some(position as u32),
         None => None,
     }

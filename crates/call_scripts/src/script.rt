@@ -8,7 +8,6 @@ ghost use Rattle.wire_model.specs.Calls.{answer_of, returned};
 ghost use Rattle.wire_model.specs.Requests.{IsAnswer};
 ghost use Rattle.call_scripts.specs.Answers as answers;
 ghost use Rattle.call_scripts.specs.Calls.{CallFits, ScriptFits, call_of, script_data, target_of};
-ghost use Rattle.stub_dispatch.specs.Planned.{ArePlansOf};
 ghost use Rattle.call_scripts.specs.Script as meant;
 ghost use Rattle.call_scripts.specs.steps.Calls.{IsAnswered, IsSent, IsTarget};
 ghost use Rattle.call_scripts.specs.Gives.{Gives};
@@ -25,10 +24,9 @@ use crate::refused::{Fault, Place, Refused, RefusedName, refusal};
 use aidl_base::{OutOfMemory, Row, Text};
 use aidl_schema::Schema;
 use aidl_values::{Answer, Value};
-use marshal_plans::Plans;
 use serde_json::{Map, Value as Json};
 use std::alloc::Global;
-use stub_dispatch::{method_of, reply_length, request_length};
+use stub_dispatch::{Callee, Side, reply_length, request_length};
 
 /// A method of the server, by its position in the interface, and what its handler answers.
 #[derive(Debug, Drop)]
@@ -56,26 +54,21 @@ pub enum Script {
     Call(Call),
 }
 
-/// What a line of a calls file means between a client's schema and a server's, each with plans that stand for it. `line` is without
-/// its newline. A refusal is the first one in the order of *Script* (own), with its place; a request or a reply is refused above
+/// What a line of a calls file means between a client and a server. `line` is without its newline. A refusal is the first one in the order of *Script* (own), with its place; a request or a reply is refused above
 /// 1,048,576 bytes, and its bytes aren't made.
 pub fn script_of(
     alloc: Global,
-    client: &Schema,
-    client_plans: &Plans,
-    server: &Schema,
-    server_plans: &Plans,
+    client: &Side<'_>,
+    server: &Side<'_>,
     line: &[u8],
 ) -> Result<Script, OutOfMemory>
-    requires client { ArePlansOf client_plans.now client.now.decls }
-    requires server { ArePlansOf server_plans.now server.now.decls }
     // It is the script of the line: the call that it means, or its first refusal.
-    ensures script { IfOk result (λ s. script_data s ≡ meant.script client.now.decls server.now.decls line.now) }
+    ensures script { IfOk result (λ s. script_data s ≡ meant.script client.now server.now line.now) }
     // Of a call the arguments and the answer fit, the request and the reply are small enough, and the server's numbers are those of the
     // same names.
-    ensures fits { IfOk result (λ s. ScriptFits client.now.decls server.now.decls s) }
+    ensures fits { IfOk result (λ s. ScriptFits client.now server.now s) }
 {
-    match call_in(alloc, client, client_plans, server, server_plans, line) {
+    match call_in(alloc, client, server, line) {
         Ok(call) => Ok(Script::Call(call)),
         Err(Fault::Refused(name, at)) => Ok(Script::Refused(Refused {
             name,
@@ -86,24 +79,13 @@ pub fn script_of(
 }
 
 #[tactic(auto, unfolding(crate::specs::Script::script))]
-fn call_in(
-    alloc: Global,
-    client: &Schema,
-    client_plans: &Plans,
-    server: &Schema,
-    server_plans: &Plans,
-    line: &[u8],
-) -> Result<Call, Fault>
-    requires client { ArePlansOf client_plans.now client.now.decls }
-    requires server { ArePlansOf server_plans.now server.now.decls }
-    ensures gives { Gives call_of result (meant.script client.now.decls server.now.decls line.now) }
-    ensures fits { IfOk result (λ c. CallFits client.now.decls server.now.decls (call_of c)) }
+fn call_in(alloc: Global, client: &Side<'_>, server: &Side<'_>, line: &[u8]) -> Result<Call, Fault>
+    ensures gives { Gives call_of result (meant.script client.now server.now line.now) }
+    ensures fits { IfOk result (λ c. CallFits client.now server.now (call_of c)) }
 {
     let json = json_in(alloc, line)?;
     match &json {
-        Json::Object(members) => {
-            call_from(alloc, client, client_plans, server, server_plans, members)
-        }
+        Json::Object(members) => { call_from(alloc, client, server, members) }
         _ => Err(refusal(alloc, RefusedName::WrongShape, Place::Line)),
     }
 }
@@ -111,36 +93,25 @@ fn call_in(
 #[tactic(auto, unfolding(crate::specs::Script::call_from))]
 fn call_from(
     alloc: Global,
-    client: &Schema,
-    client_plans: &Plans,
-    server: &Schema,
-    server_plans: &Plans,
+    client: &Side<'_>,
+    server: &Side<'_>,
     members: &Map<String, Json>,
 ) -> Result<Call, Fault>
-    requires client { ArePlansOf client_plans.now client.now.decls }
-    requires server { ArePlansOf server_plans.now server.now.decls }
-    ensures gives { Gives call_of result (meant.call_from client.now.decls server.now.decls (members_view members.now.entries)) }
-    ensures fits { IfOk result (λ c. CallFits client.now.decls server.now.decls (call_of c)) }
+    ensures gives { Gives call_of result (meant.call_from client.now server.now (members_view members.now.entries)) }
+    ensures fits { IfOk result (λ c. CallFits client.now server.now (call_of c)) }
 {
     let known = ["call", "args", "answer"];
     if let Err(fault) = check_keys(alloc, &known, members, Place::Line) {
         return Err(fault);
     }
-    let named = named_from(alloc, client, server, member_of(members, "call"))?;
-    let args = sent_from(
+    let named = named_from(
         alloc,
-        client,
-        client_plans,
-        &named,
-        member_of(members, "args"),
+        client.schema(),
+        server.schema(),
+        member_of(members, "call"),
     )?;
-    let target = target_from(
-        alloc,
-        server,
-        server_plans,
-        &named,
-        member_of(members, "answer"),
-    )?;
+    let args = sent_from(alloc, client, &named, member_of(members, "args"))?;
+    let target = target_from(alloc, server, &named, member_of(members, "answer"))?;
     Ok(Call {
         interface: named.interface,
         method: named.method,
@@ -173,25 +144,18 @@ fn named_from(
 #[tactic(auto, unfolding(crate::specs::Script::sent_from))]
 fn sent_from(
     alloc: Global,
-    schema: &Schema,
-    plans: &Plans,
+    side: &Side<'_>,
     named: &Named,
     json: Option<&Json>,
 ) -> Result<Row<Value>, Fault>
-    requires plans { ArePlansOf plans.now schema.now.decls }
-    requires there { named.now.method < length (methods_at schema.now.decls named.now.interface) }
-    ensures gives { Gives views result (meant.sent_from schema.now.decls named.now.interface named.now.method (option_map (λ j. json_view j.now) json.entry)) }
-    ensures sent { IfOk result (λ vs. IsSent schema.now.decls named.now.interface named.now.method (views vs)) }
+    requires there { named.now.method < length (methods_at side.now named.now.interface) }
+    ensures gives { Gives views result (meant.sent_from side.now named.now.interface named.now.method (option_map (λ j. json_view j.now) json.entry)) }
+    ensures sent { IfOk result (λ vs. IsSent side.now named.now.interface named.now.method (views vs)) }
 {
-    let method = method_of(schema, named.interface, named.method);
-    let args = args_from(alloc, schema, method.args.as_slice(), json)?;
-    let length = request_length(
-        schema,
-        plans,
-        named.interface,
-        named.method,
-        args.as_slice(),
-    );
+    let callee = Callee::new(side, named.interface, named.method);
+    let declared = callee.declared();
+    let args = args_from(alloc, callee.schema(), declared.args.as_slice(), json)?;
+    let length = request_length(&callee, args.as_slice());
     if is_small(length) {
         Ok(args)
     } else {
@@ -209,19 +173,18 @@ fn is_small(length: usize) -> bool
 // The server's method and its answer. Where it lacks the method `json` isn't looked at.
 fn target_from(
     alloc: Global,
-    schema: &Schema,
-    plans: &Plans,
+    side: &Side<'_>,
     named: &Named,
     json: Option<&Json>,
 ) -> Result<Option<Target>, Fault>
-    requires plans { ArePlansOf plans.now schema.now.decls }
-    requires within { IsWithin schema.now.decls named.now.server named.now.target }
-    ensures gives { Gives (option_map target_of) result (meant.target_from schema.now.decls named.now.server named.now.target (option_map (λ j. json_view j.now) json.entry)) }
-    ensures target { IfOk result (λ t. IsTarget schema.now.decls named.now.server named.now.target t) }
+    requires within { IsWithin side.now named.now.server named.now.target }
+    ensures gives { Gives (option_map target_of) result (meant.target_from side.now named.now.server named.now.target (option_map (λ j. json_view j.now) json.entry)) }
+    ensures target { IfOk result (λ t. IsTarget side.now named.now.server named.now.target t) }
 {
     match (named.server, named.target) {
         (Some(interface), Some(method)) => {
-            let target = answered(alloc, schema, plans, interface, method, json)?;
+            let callee = Callee::new(side, interface, method);
+            let target = answered(alloc, &callee, json)?;
             Ok(Some(target))
         }
         _ => Ok(None),
@@ -230,21 +193,13 @@ fn target_from(
 
 // The server's method and its answer, whose reply is small enough.
 #[tactic(auto, unfolding(crate::specs::Script::answered))]
-fn answered(
-    alloc: Global,
-    schema: &Schema,
-    plans: &Plans,
-    interface: u32,
-    method: u32,
-    json: Option<&Json>,
-) -> Result<Target, Fault>
-    requires plans { ArePlansOf plans.now schema.now.decls }
-    requires there { method < length (methods_at schema.now.decls interface) }
-    ensures gives { Gives target_of result (meant.answered schema.now.decls interface method (option_map (λ j. json_view j.now) json.entry)) }
-    ensures fits { IfOk result (λ t. IsAnswered schema.now.decls interface method t) }
+fn answered(alloc: Global, callee: &Callee<'_>, json: Option<&Json>) -> Result<Target, Fault>
+    ensures gives { Gives target_of result (meant.answered callee.now.decls callee.now.interface callee.now.method (option_map (λ j. json_view j.now) json.entry)) }
+    ensures fits { IfOk result (λ t. IsAnswered callee.now.decls callee.now.interface callee.now.method t) }
 {
-    let answer = answer_from(alloc, schema, interface, method, json)?;
-    if is_small(reply_length(schema, plans, interface, method, &answer)) {
+    let answer = answer_from(alloc, callee, json)?;
+    if is_small(reply_length(callee, &answer)) {
+        let method = callee.method();
         Ok(Target { method, answer })
     } else {
         Err(refusal(alloc, RefusedName::TooLarge, Place::Answer))
@@ -252,19 +207,13 @@ fn answered(
 }
 
 // The answer of a method.
-fn answer_from(
-    alloc: Global,
-    schema: &Schema,
-    interface: u32,
-    method: u32,
-    json: Option<&Json>,
-) -> Result<Answer, Fault>
-    requires { method < length (methods_at schema.now.decls interface) }
-    ensures gives { Gives answer_of result (answers.answer_from schema.now.decls interface method (option_map (λ j. json_view j.now) json.entry)) }
-    ensures fits { IfOk result (λ a. IsAnswer schema.now.decls interface method (answer_of a)) }
+fn answer_from(alloc: Global, callee: &Callee<'_>, json: Option<&Json>) -> Result<Answer, Fault>
+    ensures gives { Gives answer_of result (answers.answer_from callee.now.decls callee.now.interface callee.now.method (option_map (λ j. json_view j.now) json.entry)) }
+    ensures fits { IfOk result (λ a. IsAnswer callee.now.decls callee.now.interface callee.now.method (answer_of a)) }
 {
-    law_types(schema, interface, method);
-    let declared = method_of(schema, interface, method);
+    let schema = callee.schema();
+    law_types(schema, callee.interface(), callee.method());
+    let declared = callee.declared();
     if declared.oneway {
         oneway_from(alloc, json)
     } else {

@@ -1,8 +1,11 @@
 //! Exceptions in an answer: the code, the message and the error number.
 ghost use Rattle.std.specs.Prelude.{◌≡◌, IfOk, IfSome, option_map};
 ghost use Rattle.serde_json.specs.View.{view as json_view, items_view};
+ghost use Rattle.std.specs.Ordering.{int_eq};
 ghost use Rattle.wire_model.specs.Calls.{answer_of};
+ghost use Rattle.wire_model.specs.Requests.{service_specific};
 ghost use Rattle.call_scripts.specs.Answers as meant;
+ghost use Rattle.call_scripts.specs.steps.Exceptions as steps;
 ghost use Rattle.call_scripts.specs.steps.Exceptions.{IsException, IsQuiet, thrown_data};
 ghost use Rattle.call_scripts.specs.Gives.{Gives};
 
@@ -11,9 +14,7 @@ use aidl_base::Text;
 use aidl_values::Answer;
 use serde_json::Value as Json;
 use std::alloc::Global;
-
-// The code of a service's own exception, which alone has an error number.
-const SERVICE_SPECIFIC: i128 = -8;
+use stub_dispatch::SERVICE_SPECIFIC;
 
 // An exception of the right shape, its numbers in any range.
 #[derive(Clone, Copy)]
@@ -57,6 +58,7 @@ fn is_thrown(code: i128, error: i128) -> bool
     -8 <= code && code <= -1 && -2_147_483_648 <= error && error <= 2_147_483_647
 }
 
+#[tactic(auto, using(crate::proofs::Entered::same_thrown))]
 fn thrown_of(json: &Json) -> Option<Thrown<'_>>
     ensures thrown { option_map thrown_data result ≡ meant.thrown_of (json_view json.now) }
     ensures error { IfSome result (λ x. IsQuiet x.code x.error) }
@@ -68,7 +70,7 @@ fn thrown_of(json: &Json) -> Option<Thrown<'_>>
 }
 
 fn thrown_in(items: &[Json]) -> Option<Thrown<'_>>
-    ensures thrown { option_map thrown_data result ≡ meant.thrown_in (items_view items.now) }
+    ensures thrown { option_map thrown_data result ≡ steps.thrown_in (items_view items.now) }
     ensures error { IfSome result (λ x. IsQuiet x.code x.error) }
 {
     match items {
@@ -78,7 +80,7 @@ fn thrown_in(items: &[Json]) -> Option<Thrown<'_>>
 }
 
 fn thrown_after(code: Option<i128>, items: &[Json]) -> Option<Thrown<'_>>
-    ensures thrown { option_map thrown_data result ≡ meant.thrown_after code (items_view items.now) }
+    ensures thrown { option_map thrown_data result ≡ steps.thrown_after code (items_view items.now) }
     ensures error { IfSome result (λ x. IsQuiet x.code x.error) }
 {
     match items {
@@ -88,7 +90,7 @@ fn thrown_after(code: Option<i128>, items: &[Json]) -> Option<Thrown<'_>>
 }
 
 fn thrown_with<'a>(code: Option<i128>, message: &'a Json, rest: &[Json]) -> Option<Thrown<'a>>
-    ensures thrown { option_map thrown_data result ≡ meant.thrown_with code (json_view message.entry.now) (items_view rest.now) }
+    ensures thrown { option_map thrown_data result ≡ steps.thrown_with code (json_view message.entry.now) (items_view rest.now) }
     ensures error { IfSome result (λ x. IsQuiet x.code x.error) }
 {
     match message {
@@ -98,7 +100,7 @@ fn thrown_with<'a>(code: Option<i128>, message: &'a Json, rest: &[Json]) -> Opti
 }
 
 fn thrown_by<'a>(code: Option<i128>, message: &'a str, rest: &[Json]) -> Option<Thrown<'a>>
-    ensures thrown { option_map thrown_data result ≡ meant.thrown_by code message.entry.now (items_view rest.now) }
+    ensures thrown { option_map thrown_data result ≡ steps.thrown_by code message.entry.now (items_view rest.now) }
     ensures error { IfSome result (λ x. IsQuiet x.code x.error) }
 {
     match rest {
@@ -113,7 +115,7 @@ fn thrown_by_error<'a>(
     error: Option<i128>,
     rest: &[Json],
 ) -> Option<Thrown<'a>>
-    ensures thrown { option_map thrown_data result ≡ meant.thrown_by_error code message.entry.now error (items_view rest.now) }
+    ensures thrown { option_map thrown_data result ≡ steps.thrown_by_error code message.entry.now error (items_view rest.now) }
     ensures error { IfSome result (λ x. IsQuiet x.code x.error) }
 {
     match rest {
@@ -123,10 +125,10 @@ fn thrown_by_error<'a>(
 }
 
 fn by_two(code: i128, message: &str) -> Option<Thrown<'_>>
-    ensures thrown { option_map thrown_data result ≡ meant.thrown_by_two code message.now }
+    ensures thrown { option_map thrown_data result ≡ steps.thrown_by_two code message.now }
     ensures error { IfSome result (λ x. IsQuiet x.code x.error) }
 {
-    if code == SERVICE_SPECIFIC {
+    if is_own(code) {
         return None;
     }
     Some(Thrown {
@@ -137,10 +139,10 @@ fn by_two(code: i128, message: &str) -> Option<Thrown<'_>>
 }
 
 fn by_three(code: i128, message: &str, error: i128) -> Option<Thrown<'_>>
-    ensures thrown { option_map thrown_data result ≡ meant.thrown_by_three code message.now error }
+    ensures thrown { option_map thrown_data result ≡ steps.thrown_by_three code message.now error }
     ensures error { IfSome result (λ x. IsQuiet x.code x.error) }
 {
-    if code == SERVICE_SPECIFIC {
+    if is_own(code) {
         return Some(Thrown {
             code,
             message,
@@ -148,6 +150,13 @@ fn by_three(code: i128, message: &str, error: i128) -> Option<Thrown<'_>>
         });
     }
     None
+}
+
+// Whether a code is that of a service's own exception.
+fn is_own(code: i128) -> bool
+    ensures { result ≡ int_eq code service_specific }
+{
+    code == SERVICE_SPECIFIC as i128
 }
 
 fn whole(json: &Json) -> Option<i128>

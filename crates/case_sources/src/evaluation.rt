@@ -2,7 +2,7 @@
 
 use aidl_base::{Const, OutOfMemory};
 use aidl_syntax::{BodyTree, ConstantTree, DottedTree, ExprTree, FileTree, MemberTree, TypeTree};
-use const_values::{ConstFault, EvalFault, Meanings, Operand, Wanted, evaluated, fitted};
+use const_values::{ConstFault, EvalFault, Meanings, Operand, Wanted, evaluate, fit};
 use std::alloc::Global;
 
 // No name has a meaning.
@@ -62,8 +62,8 @@ fn of_constant(alloc: Global, constant: &ConstantTree) -> Result<String, OutOfMe
 }
 
 fn value_for(alloc: Global, wanted: Wanted, value: &ExprTree) -> Result<Const, EvalFault> {
-    let operand = evaluated(alloc, &NoNames, value)?;
-    fitted(alloc, wanted, None, operand)
+    let operand = evaluate(alloc, &NoNames, value)?;
+    fit(alloc, wanted, None, operand)
 }
 
 fn wanted_by(ty: &TypeTree) -> Option<Wanted> {

@@ -25,17 +25,6 @@ pub fn union_fields(kind: &Kind) -> &[Field]
     }
 }
 
-/// The fields of a parcelable or union; none of what is neither.
-pub fn fields_of(kind: &Kind) -> &[Field]
-    ensures { result.now ≡ containment.fields_of kind.now }
-{
-    match kind {
-        Kind::Parcelable(fields) => fields.as_slice(),
-        Kind::Union(fields) => fields.as_slice(),
-        _ => &[],
-    }
-}
-
 /// The fields whose defaults are seen: all of a parcelable, the first of a union.
 pub fn fields_with_default(kind: &Kind) -> &[Field]
     ensures { result.now ≡ broken.fields_with_default kind.now }

@@ -14,18 +14,8 @@ use crate::findings::Findings;
 use crate::lookup::{at_place, places_of};
 use crate::sides::{Common, Pair};
 use aidl_base::{Ident, OutOfMemory};
-use aidl_schema::{Constant, Enumerator, Kind, Method};
+use aidl_schema::{Constant, Enumerator, Kind, Method, methods_of};
 use std::alloc::Global;
-
-/// The methods of an interface; none of what is no interface.
-pub fn methods_of(kind: &Kind) -> &[Method]
-    ensures { result.now ≡ methods_of kind.now }
-{
-    match kind {
-        Kind::Interface(methods) => methods.as_slice(),
-        _ => &[],
-    }
-}
 
 /// The enumerators of an enum; none of what is no enum.
 pub fn enumerators_of(kind: &Kind) -> &[Enumerator]

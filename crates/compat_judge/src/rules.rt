@@ -9,15 +9,15 @@ ghost use Rattle.compat_judge.specs.steps.Steps.{both_of, breaks_in, data_rules,
 
 use crate::alike::{same_flag, same_kind};
 use crate::fields::{
-    fields_of, fields_with_default, has_fields, parcelable_fields, same_backing, union_fields,
+    fields_with_default, has_fields, parcelable_fields, same_backing, union_fields,
 };
 use crate::findings::Findings;
-use crate::members::{c3, c17, c18, common_methods, method_places, methods_of};
+use crate::members::{c3, c17, c18, common_methods, method_places};
 use crate::shapes::{at_additions, at_arguments, at_fields, at_methods};
 use crate::sides::{Common, Pair};
 use crate::tests::{ArgumentTest, FieldTest, MethodTest};
 use aidl_base::OutOfMemory;
-use aidl_schema::{Decl, Field};
+use aidl_schema::{Decl, Field, fields_of, methods_of};
 use std::alloc::Global;
 
 /// C2 to C19: what a declaration of old and that of its name in new break.

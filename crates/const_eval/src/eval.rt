@@ -18,7 +18,7 @@ use crate::ranked::ranked;
 use crate::settled::Settled;
 use aidl_base::{OutOfMemory, Row};
 use aidl_names::Names;
-use const_items::{Dependence, ItemRef, Items, dependence_of, law_count, numbered};
+use const_items::{Dependence, ItemRef, Items, dependence_of, law_count, number_items};
 use const_values::{ConstFault, EvalFault};
 use graph_cycles::find_cycles;
 use std::alloc::Global;
@@ -30,7 +30,7 @@ pub fn eval_all<'a>(alloc: Global, names: &Names<'a>) -> Result<Settled<'a>, Out
     ensures outcomes { IfOk result (λ settled. AreOutcomes (map source_of names.now) settled.outcomes.items) }
 {
     law_count(names);
-    let items = numbered(alloc, names)?;
+    let items = number_items(alloc, names)?;
     let outcomes = outcomes(alloc, names, &items)?;
     Ok(Settled::new(items, outcomes))
 }

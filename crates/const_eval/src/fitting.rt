@@ -6,11 +6,11 @@ ghost use Rattle.const_values.specs.Operands as operand;
 ghost use Rattle.const_eval.specs.Held.{is_held};
 
 use aidl_base::Const;
-use const_values::{EvalFault, Operand, Wanted, fitted};
+use const_values::{EvalFault, Operand, Wanted, fit};
 use std::alloc::Global;
 
 /// The value of the wanted type that an operand is, which can stand in an expression again.
-pub fn held(
+pub fn fit_value(
     alloc: Global,
     wanted: Wanted,
     named: Option<u32>,
@@ -21,11 +21,11 @@ pub fn held(
 {
     match operand {
         Operand::Character(code) => held_code(alloc, wanted, named, code),
-        Operand::Truth(b) => fitted(alloc, wanted, named, Operand::Truth(b)),
+        Operand::Truth(b) => fit(alloc, wanted, named, Operand::Truth(b)),
         Operand::Number { width, value } => {
-            fitted(alloc, wanted, named, Operand::Number { width, value })
+            fit(alloc, wanted, named, Operand::Number { width, value })
         }
-        Operand::Text(words) => fitted(alloc, wanted, named, Operand::Text(words)),
+        Operand::Text(words) => fit(alloc, wanted, named, Operand::Text(words)),
     }
 }
 
@@ -38,5 +38,5 @@ fn held_code(
     ensures value { Answers (λ c. c) result (meant.fitted wanted named (operand.character code)) }
     ensures held { IfOk result (λ c. IsTrue (is_held wanted c)) }
 {
-    fitted(alloc, wanted, named, Operand::Character(code))
+    fit(alloc, wanted, named, Operand::Character(code))
 }

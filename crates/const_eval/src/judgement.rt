@@ -10,7 +10,7 @@ ghost use Rattle.const_eval.specs.Known.{AreHeld, AreItems, IsItemAt, values_in}
 ghost use Rattle.const_eval.specs.Outcomes as meant;
 ghost use Rattle.const_items.specs.TargetViews.{seen_targets};
 
-use crate::fitting::held;
+use crate::fitting::fit_value;
 use crate::known::KnownValues;
 use crate::outcome::Outcome;
 use crate::stepping::{first, one_more};
@@ -18,7 +18,7 @@ use aidl_base::Const;
 use aidl_names::Names;
 use aidl_syntax::{ExprKind, ExprTree};
 use const_items::{ItemRef, Items, Target, WrittenRef, target_of};
-use const_values::{EvalFault, evaluated};
+use const_values::{EvalFault, evaluate};
 use std::alloc::Global;
 
 /// The value of the item with a number, or its fault, by the values of what it depends on: the first fault in the order of
@@ -66,8 +66,8 @@ fn of_expression(
     ensures held { IfOk result (λ c. IsTrue (is_held item.now.wanted c)) }
 {
     let known = KnownValues::new(names, items, number, outcomes);
-    match evaluated(alloc, &known, tree) {
-        Ok(operand) => held(alloc, item.wanted, named_enum(names, item, tree), operand),
+    match evaluate(alloc, &known, tree) {
+        Ok(operand) => fit_value(alloc, item.wanted, named_enum(names, item, tree), operand),
         Err(fault) => Err(fault),
     }
 }

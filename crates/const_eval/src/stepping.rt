@@ -9,7 +9,7 @@ ghost use Rattle.const_eval.specs.Held.{is_held};
 ghost use Rattle.const_eval.specs.Outcomes as meant;
 ghost use Rattle.const_eval.specs.Known.{value_of, values_in};
 
-use crate::fitting::held;
+use crate::fitting::fit_value;
 use crate::outcome::Outcome;
 use aidl_base::Const;
 use const_values::{ConstFault, EvalFault, Operand, Wanted, Width};
@@ -20,7 +20,7 @@ pub fn first(alloc: Global, wanted: Wanted) -> Result<Const, EvalFault>
     ensures value { Answers (λ c. c) result (fitted wanted None (operand.number Narrow (pos 0))) }
     ensures held { IfOk result (λ c. IsTrue (is_held wanted c)) }
 {
-    held(alloc, wanted, None, number(Width::Narrow, 0))
+    fit_value(alloc, wanted, None, number(Width::Narrow, 0))
 }
 
 /// The value of an enumerator without an expression, by the number of the one before it.
@@ -45,7 +45,7 @@ fn above(alloc: Global, wanted: Wanted, value: i64) -> Result<Const, EvalFault>
     ensures held { IfOk result (λ c. IsTrue (is_held wanted c)) }
 {
     match value.checked_add(1) {
-        Some(next) => held(alloc, wanted, None, number(Width::Wide, next)),
+        Some(next) => fit_value(alloc, wanted, None, number(Width::Wide, next)),
         None => Err(EvalFault::Fault(beyond(wanted))),
     }
 }

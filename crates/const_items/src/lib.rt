@@ -15,5 +15,5 @@ pub use counted::{law_count, law_places};
 pub use dependence::{Dependence, dependence_of};
 pub use item::{ItemRef, WrittenRef};
 pub use listing::place_by;
-pub use numbering::{Items, numbered};
+pub use numbering::{Items, number_items};
 pub use target::{Target, number_of, target_of};

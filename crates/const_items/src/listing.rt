@@ -18,7 +18,7 @@ use aidl_syntax::{
 use const_values::Wanted;
 use declared_names::Found;
 use std::alloc::Global;
-use type_shapes::{Shape, backing_of, is_unjudged, shaped, wanted_element, wanted_one};
+use type_shapes::{Shape, backing_of, is_unjudged, shape_of, wanted_element, wanted_one};
 
 /// The items of a tree, in the order of the declarations.
 pub fn declared<'a>(alloc: Global, names: &Names<'a>) -> Result<Vec<ItemRef<'a>>, OutOfMemory>
@@ -145,7 +145,7 @@ fn add_field<'a>(
     match &field.initial {
         None => Ok(()),
         Some(init) => {
-            let shape = shaped(names, file, scope, &field.ty);
+            let shape = shape_of(names, file, scope, &field.ty);
             add_typed(names.decls(), file, scope, later, shape, init, all)
         }
     }
@@ -223,7 +223,7 @@ fn add_constant<'a>(
     requires { IsScope (map source_of names.now) file scope }
     ensures { OnOk result (map item_of all.new.items ≡ map item_of all.old.items ++ meant.of_constant (map source_of names.now) file scope (constant_of constant.now) ∷ []) }
 {
-    let shape = shaped(names, file, scope, &constant.ty);
+    let shape = shape_of(names, file, scope, &constant.ty);
     let wanted = wanted_one(names.decls(), shape);
     add_expression(file, scope, wanted, false, &constant.value, all)
 }

@@ -31,8 +31,8 @@ pub trait Meanings {
 
 /// What an expression is, by what names mean: the left operand before the right one, the operands before the operator, both
 /// sides of `&&` and `||` (own). Memory is taken for texts that are joined alone.
-#[cycle(evaluated)]
-pub fn evaluated<'a, M: Meanings>(
+#[cycle(evaluate)]
+pub fn evaluate<'a, M: Meanings>(
     alloc: Global,
     meanings: &'a M,
     tree: &'a ExprTree,
@@ -43,14 +43,14 @@ pub fn evaluated<'a, M: Meanings>(
     match &tree.kind {
         ExprKind::Literal(token) => of_token(token),
         ExprKind::Name(name) => without_memory(meanings.meaning(name)),
-        ExprKind::Group(inner) => evaluated(alloc, meanings, inner),
+        ExprKind::Group(inner) => evaluate(alloc, meanings, inner),
         ExprKind::Unary(symbol, inner) => {
-            let a = evaluated(alloc, meanings, inner)?;
+            let a = evaluate(alloc, meanings, inner)?;
             before(unary_operator(*symbol), &a)
         }
         ExprKind::Binary(symbol, left, right) => {
-            let a = evaluated(alloc, meanings, left)?;
-            let b = evaluated(alloc, meanings, right)?;
+            let a = evaluate(alloc, meanings, left)?;
+            let b = evaluate(alloc, meanings, right)?;
             between(alloc, binary_operator(*symbol), &a, &b)
         }
     }

@@ -19,7 +19,7 @@ mod wanted;
 mod width;
 
 pub use binary_values::binary;
-pub use evaluation::{Meanings, evaluated};
+pub use evaluation::{Meanings, evaluate};
 pub use fault::{ConstFault, EvalFault};
 pub use laws::{
     law_complement, law_decimal_is_its_number, law_left_shift_multiplies, law_remainder,
@@ -31,5 +31,5 @@ pub use operator::{
     Arithmetic, BinaryOperator, Bitwise, Connective, Equality, Order, Shift, UnaryOperator,
 };
 pub use unary_values::unary;
-pub use wanted::{Wanted, fitted};
+pub use wanted::{Wanted, fit};
 pub use width::Width;

@@ -24,7 +24,7 @@ pub enum Wanted {
 
 /// The value of a wanted type that an operand is (own). `named` is the number of the enum of whose enumerator the
 /// expression is the name, without parentheses, where it is one. It takes memory for a text alone.
-pub fn fitted(
+pub fn fit(
     alloc: Global,
     wanted: Wanted,
     named: Option<u32>,

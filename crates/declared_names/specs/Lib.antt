@@ -8,4 +8,5 @@ pub mod TypeNames
 pub mod Numbered
 pub mod Marks
 pub mod Tables
-pub mod steps
+pub mod Times
+pub mod Ends

@@ -1,4 +1,4 @@
-//! The parts of canonical names, copied and extended.
+//! Canonical names made part by part.
 ghost use Rattle.std.specs.Prelude.{◌≡◌, ◌++◌, [], ◌∷◌, IfOk};
 
 use aidl_base::{Ident, OutOfMemory};

@@ -1,6 +1,6 @@
-//! The ends of the names of all declarations, each found by its mark, which is counted from the back of the name.
+//! The ends of declared names, with a table of their marks.
 ghost use Rattle.std.specs.Prelude.{◌≡◌, ◌++◌, map, IfOk, OnOk};
-ghost use Rattle.declared_names.specs.steps.Ends.{mark_back, ends_in, ends_of};
+ghost use Rattle.declared_names.specs.Ends.{mark_back, ends_in, ends_of};
 ghost use Rattle.declared_names.specs.Entries.{entry_of};
 
 use crate::found::Found;

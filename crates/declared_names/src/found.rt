@@ -1,5 +1,4 @@
-//! A declaration as the walk over a tree finds it.
-
+//! A declaration as it is found in a tree.
 use aidl_base::DottedName;
 use aidl_syntax::DeclTree;
 

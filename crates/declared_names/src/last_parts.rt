@@ -1,4 +1,4 @@
-//! The last part of a name, and the mark of an import's last part.
+//! The last part of a name.
 ghost use Rattle.std.specs.Prelude.{◌≡◌, ◌∷◌, []};
 ghost use Rattle.declared_names.specs.Marks.{mark_of_last};
 ghost use Rattle.declared_names.specs.Names.{last, same};

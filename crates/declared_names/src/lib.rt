@@ -2,6 +2,7 @@
 #![tactic(auto)]
 
 mod canonical;
+mod declarations;
 mod ends;
 mod found;
 mod last_parts;
@@ -15,10 +16,11 @@ mod type_names;
 mod walk_fault;
 mod walking;
 
+pub use declarations::Declarations;
 pub use ends::{End, Ends, ends_of, mark_back};
 pub use found::Found;
 pub use last_parts::{ends_in, last, last_mark};
-pub use marking::{marks, with_part, with_parts};
+pub use marking::{with_part, with_parts};
 pub use member_refs::{MemberRef, members, name_of};
 pub use members_named::{called, members_by_name};
 pub use rarer::is_rarer;

@@ -1,4 +1,4 @@
-//! How the mark of a name is counted, part by part from the front, and the marks of all declarations.
+//! The marks of names, by which they are looked up.
 ghost use Rattle.std.specs.Prelude.{◌≡◌, ◌<◌, map, IfOk};
 ghost use Rattle.std.specs.List.{fold};
 ghost use Rattle.declared_names.specs.Marks.{with_byte, with_part, mark_of_entry};

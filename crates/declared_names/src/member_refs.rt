@@ -1,4 +1,4 @@
-//! The members of a declaration, by reference, and their names.
+//! The members of a declaration.
 ghost use Rattle.std.specs.Prelude.{◌≡◌, ◌++◌, [], ◌∷◌, map, IfOk};
 ghost use Rattle.aidl_syntax.specs.Trees.{Members, decl_of, body_of, enumerator_of, members_of, member_of};
 ghost use Rattle.aidl_syntax.specs.Members.Member.{enumerator};

@@ -1,4 +1,4 @@
-//! Tables of members by name, one for each declaration.
+//! The members of declarations by their names.
 ghost use Rattle.std.specs.Prelude.{◌≡◌, ℕ, List, map, IfOk};
 ghost use Rattle.std.specs.List.{find};
 ghost use Rattle.std.specs.Str.{bytes_eq};

@@ -1,6 +1,6 @@
-//! Which of two marks stands at fewer places, each of them in a table of its own.
+//! Which of two marks stands at fewer places.
 ghost use Rattle.std.specs.Prelude.{◌≡◌};
-ghost use Rattle.declared_names.specs.steps.Times.{is_rarer};
+ghost use Rattle.declared_names.specs.Times.{is_rarer};
 
 use crate::table::Table;
 

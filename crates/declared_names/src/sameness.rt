@@ -1,4 +1,4 @@
-//! Whether names are the same, compared part by part.
+//! Whether two names are the same.
 ghost use Rattle.std.specs.Prelude.{◌≡◌, ◌++◌, length};
 ghost use Rattle.std.specs.Str.{bytes_eq};
 ghost use Rattle.declared_names.specs.Names.{text, same};

@@ -1,4 +1,4 @@
-//! A table of the places of marks in a list.
+//! Where marks stand in a list.
 ghost use Rattle.std.specs.Prelude.{◌≡◌, ◌<◌, ◌+◌, nat_eq, get_or, drop, length, IfOk};
 ghost use Rattle.std.specs.List.{position_from};
 

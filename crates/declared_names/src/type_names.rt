@@ -1,4 +1,4 @@
-//! The names of types that stand in a declaration.
+//! The names of types in a declaration.
 ghost use Rattle.std.specs.Prelude.{◌≡◌, ◌++◌, map, OnOk, IfOk};
 ghost use Rattle.std.specs.List.{flat_map};
 ghost use Rattle.aidl_syntax.specs.Members.{members, body};

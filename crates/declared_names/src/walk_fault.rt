@@ -1,5 +1,4 @@
-//! The faults of a walk over declarations.
-
+//! Why a walk over files ends without their declarations.
 use aidl_base::OutOfMemory;
 use std::alloc::AllocFailed;
 

@@ -1,4 +1,4 @@
-//! The walk over the declarations of all files, nested ones included.
+//! The walk over files that finds their declarations.
 ghost use Rattle.std.specs.Prelude.{◌≡◌, ◌<◌, ◌≤◌, length, map, Some, None, OnOk, IfOk, IfErr};
 ghost use Rattle.aidl_syntax.specs.Trees.{Members, decl_of, body_of, members_of, member_of};
 ghost use Rattle.declared_names.specs.Names.{parts_of};

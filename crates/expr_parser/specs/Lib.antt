@@ -1,2 +1,3 @@
 pub mod Gives
-pub mod steps
+pub mod Reading
+pub mod Levels

@@ -4,8 +4,8 @@ ghost use Rattle.aidl_syntax.specs.Trees.{expr_of};
 ghost use Rattle.aidl_syntax.specs.Trees.Expr.{unary as unary_tree, binary as binary_tree};
 ghost use Rattle.aidl_syntax.specs.Trees as shown;
 ghost use Rattle.aidl_syntax.specs.Productions as form;
-ghost use Rattle.expr_parser.specs.steps.Reading as read;
-ghost use Rattle.expr_parser.specs.steps.Levels.{rank};
+ghost use Rattle.expr_parser.specs.Reading as read;
+ghost use Rattle.expr_parser.specs.Levels.{rank};
 ghost use Rattle.expr_parser.specs.Gives.{Gives};
 ghost use Rattle.expr_parser.specs.declared.fault.ParseFault.TheVariants as fault;
 
@@ -35,7 +35,7 @@ pub fn expr<'a>(
 }
 
 #[cycle(expr)]
-#[tactic(auto, unfolding(crate::specs::steps::Reading::operand))]
+#[tactic(auto, unfolding(crate::specs::Reading::operand))]
 fn operand<'a>(
     alloc: Global,
     fuel: usize,

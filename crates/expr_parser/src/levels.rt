@@ -1,8 +1,8 @@
 //! The levels of binary operators: which one binds more than which.
 ghost use Rattle.std.specs.Prelude.{◌≡◌, ◌+◌, ◌<◌, ◌≤◌, MatchOption, false};
 ghost use Rattle.aidl_syntax.specs.Productions as form;
-ghost use Rattle.expr_parser.specs.steps.Levels.{rank as rank_of, level_rank, IsOperator};
-ghost use Rattle.expr_parser.specs.steps.Reading as read;
+ghost use Rattle.expr_parser.specs.Levels.{rank as rank_of, level_rank, IsOperator};
+ghost use Rattle.expr_parser.specs.Reading as read;
 
 use crate::tokens::mark_of;
 use aidl_syntax::{Symbol, TokenKind};

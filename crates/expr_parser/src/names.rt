@@ -1,6 +1,6 @@
 //! Dotted names at the front of tokens.
 ghost use Rattle.std.specs.Prelude.{◌≡◌, [], ◌∷◌, true, length, IfOk, ◌<◌, IfSome};
-ghost use Rattle.expr_parser.specs.steps.Reading as read;
+ghost use Rattle.expr_parser.specs.Reading as read;
 ghost use Rattle.expr_parser.specs.Gives.{Gives};
 
 use crate::fault::ParseFault;
@@ -10,7 +10,7 @@ use aidl_syntax::{DottedTree, Symbol, Token};
 use std::alloc::Global;
 
 /// Identifiers joined by dots, and what follows them; `Syntax` where no identifier stands first, or none behind a dot.
-#[tactic(auto, unfolding(crate::specs::steps::Reading::dotted))]
+#[tactic(auto, unfolding(crate::specs::Reading::dotted))]
 pub fn dotted<'a>(
     alloc: Global,
     tokens: &'a [Token],

@@ -1,7 +1,7 @@
 //! Single tokens: symbols, identifiers and the first token of a list.
 ghost use Rattle.std.specs.Prelude.{◌≡◌, ◌∷◌, [], MatchOption, is_some};
 ghost use Rattle.aidl_syntax.specs.Parts as part;
-ghost use Rattle.expr_parser.specs.steps.Reading as read;
+ghost use Rattle.expr_parser.specs.Reading as read;
 ghost use Rattle.expr_parser.specs.Gives.{Gives};
 
 use crate::fault::ParseFault;

@@ -1,4 +1,4 @@
--- How records are printed, for inner contracts: no public contract cites it.
+-- What the code's steps do, for inner contracts: no contract of a function that the crate exports cites it.
 pub mod Members
 pub mod Parts
 pub mod Places

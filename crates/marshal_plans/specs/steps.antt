@@ -1,3 +1,3 @@
--- What the code's steps do, for its inner contracts: no public contract or law cites it.
+-- What the code's steps do, for inner contracts: no contract of a function that the crate exports cites it.
 pub mod Compiled
 pub mod Rising

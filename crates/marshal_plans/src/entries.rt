@@ -7,7 +7,7 @@ ghost use Rattle.marshal_plans.specs.steps.Compiled.{firsts_from, with_decls, wi
 use crate::items::add_item;
 use crate::plans::{PlanField, Plans};
 use aidl_base::{Const, OutOfMemory};
-use aidl_schema::{Decl, Field, Kind, Schema, law_valid};
+use aidl_schema::{Decl, Field, Schema, fields_of, law_valid};
 use std::alloc::Global;
 
 /// Where the entries of each declaration begin.
@@ -70,14 +70,5 @@ fn copy_of(alloc: Global, initial: &Option<Const>) -> Result<Option<Const>, OutO
     match initial {
         None => Ok(None),
         Some(constant) => Ok(Some(constant.try_clone(alloc)?)),
-    }
-}
-
-fn fields_of(kind: &Kind) -> &[Field]
-    ensures { result.now ≡ fields_of kind.now }
-{
-    match kind {
-        Kind::Parcelable(fields) | Kind::Union(fields) => fields.as_slice(),
-        _ => &[],
     }
 }

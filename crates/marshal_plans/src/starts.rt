@@ -7,7 +7,7 @@ ghost use Rattle.marshal_plans.specs.steps.Compiled.{added, started, with_argume
 use crate::items::add_item;
 use crate::plans::{PlanStart, Plans};
 use aidl_base::OutOfMemory;
-use aidl_schema::{AidlType, Arg, Kind, Method, Schema, law_valid};
+use aidl_schema::{AidlType, Arg, Method, Schema, law_valid, methods_of};
 
 /// Adds a start for each argument and each result of each method.
 pub fn add_starts(schema: &Schema, firsts: &[usize], plans: &mut Plans) -> Result<(), OutOfMemory>
@@ -92,13 +92,4 @@ fn add_start(
         item,
     })?;
     Ok(())
-}
-
-fn methods_of(kind: &Kind) -> &[Method]
-    ensures { result.now ≡ methods_of kind.now }
-{
-    match kind {
-        Kind::Interface(methods) => methods.as_slice(),
-        _ => &[],
-    }
 }

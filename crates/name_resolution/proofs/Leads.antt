@@ -15,7 +15,7 @@ use Rattle.declared_names.specs.Marks.{with_byte, mark_of}
 use Rattle.declared_names.specs.Declarations.{Entry}
 use Rattle.name_resolution.specs.Resolution.{number_of, first_declared, imported, or_else}
 use Rattle.declared_names.specs.Numbered.{in_each}
-use Rattle.declared_names.specs.steps.Ends.{mark_back, ends_in, ends_of, mark_of_import}
+use Rattle.declared_names.specs.Ends.{mark_back, ends_in, ends_of, mark_of_import}
 use Rattle.name_resolution.specs.steps.Behind.{through, through_at, place_of, without, if_through, led, led_by, first_through}
 use Rattle.declared_names.proofs.lemmas.SameNames.{same-right, same-turned}
 use Rattle.declared_names.proofs.lemmas.Firsts.{found-first}

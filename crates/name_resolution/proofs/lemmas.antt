@@ -3,3 +3,4 @@ pub mod Candidates
 pub mod Tables
 pub mod Through
 pub mod Told
+pub mod Places

@@ -1,5 +1,3 @@
--- What the code looks up by, for inner contracts: no public contract above cites it.
--- What was asked of imports, for inner contracts: no public contract above cites it.
+-- What the code's steps do, for inner contracts: no contract of a function that the crate exports cites it.
 pub mod Copies
 pub mod Behind
-pub mod Asked

@@ -1,6 +1,6 @@
-//! The answers that are known of what names mean through the imports of files, found by their marks.
+//! Names that were asked for, with their meanings.
 ghost use Rattle.std.specs.Prelude.{◌≡◌, ◌++◌, ◌∷◌, [], OnOk};
-ghost use Rattle.name_resolution.specs.steps.Asked.{IsSaid, is_told, said, said_at, said_at_number};
+ghost use Rattle.name_resolution.specs.Asked.{IsSaid, is_told, said, said_at, said_at_number};
 
 use crate::meaning::Resolved;
 use aidl_base::{Ident, OutOfMemory};

@@ -1,25 +1,24 @@
-//! The imports of a file found by their whole names, and what a name means through them by the shorter of two ways.
-ghost use Rattle.std.specs.Prelude.{◌≡◌, ◌≤◌, map, length, IfOk};
+//! The imports of a file, by their last parts and by their whole names.
+ghost use Rattle.std.specs.Prelude.{◌≡◌, map, IfOk};
 ghost use Rattle.name_resolution.specs.Imports.{meant_through};
-ghost use Rattle.declared_names.specs.Marks.{mark_of_entry};
 ghost use Rattle.declared_names.specs.Entries.{entry_of};
-ghost use Rattle.declared_names.specs.steps.Ends.{ends_of, mark_of_import};
-ghost use Rattle.declared_names.specs.steps.Times.{is_shared};
+ghost use Rattle.declared_names.specs.Times.{is_shared};
 
 use crate::behind::behind;
+use crate::by_end::ByEnd;
 use crate::imported::{Imports, in_imports};
 use crate::meaning::Resolved;
+use crate::whole_names::WholeNames;
 use aidl_base::{Ident, OutOfMemory};
-use aidl_syntax::DottedTree;
-use declared_names::{Ends, Found, Table, mark_back, with_part, with_parts};
+use declared_names::{mark_back, with_part};
 use std::alloc::Global;
 use std::marker::Model;
 
-/// Imports, and a table of the marks of their whole names. Contracts see it as these imports.
+/// Imports, and the same by their whole names. Contracts see it as these imports.
 #[derive(Drop)]
 pub struct ByName<'a, 'b> {
     imports: &'a Imports<'b>,
-    table: Table,
+    whole: WholeNames<'a, 'b>,
 }
 
 impl<'a, 'b> Model for ByName<'a, 'b> {
@@ -27,7 +26,6 @@ impl<'a, 'b> Model for ByName<'a, 'b> {
     ghost use Rattle.std.specs.Coded.{codes};
     ghost use Rattle.aidl_syntax.specs.declared.tree.DottedTree.{DottedTree};
     ghost use Rattle.aidl_syntax.specs.contracts.tree.DottedTree as dotted_tree;
-    ghost use Rattle.declared_names.specs.steps.Ends.{mark_of_import};
 
     ghost Value = { List DottedTree };
 
@@ -35,34 +33,22 @@ impl<'a, 'b> Model for ByName<'a, 'b> {
 
     ghost view = { λ names. names.imports.now };
 
-    ghost invariant = { λ names. names.table ≡ map mark_of_import names.imports.now };
+    ghost invariant = { λ names. map (λ d. d.now) names.whole ≡ names.imports.now };
 }
 
 impl<'a, 'b> ByName<'a, 'b> {
     /// What a name means through the imports. Asked are those with its first part, or the declarations whose names end in
     /// it, whichever are fewer. It takes no memory.
-    pub fn means(
-        &self,
-        found: &[Found<'_>],
-        table: &Table,
-        ends: &Ends,
-        name: &[Ident],
-    ) -> Option<Resolved>
-        requires count { length found.now ≤ 16384 }
-        requires table { table.now ≡ map mark_of_entry (map entry_of found.now) }
-        requires ends { ends.now ≡ ends_of (map entry_of found.now) }
-        ensures { result ≡ meant_through self.now (map entry_of found.now) name.now }
+    pub fn means(&self, declared: &ByEnd<'_, '_>, name: &[Ident]) -> Option<Resolved>
+        ensures { result ≡ meant_through self.now (map entry_of declared.now) name.now }
     {
         match name {
             [first, rest @ ..] => {
-                if self
-                    .imports
-                    .are_fewer(first, ends, with_part(mark_back(rest), first))
-                {
-                    in_imports(found, table, self.imports, name)
+                let mark = with_part(mark_back(rest), first);
+                if self.imports.are_fewer(first, declared.ends(), mark) {
+                    in_imports(declared.declarations(), self.imports, name)
                 } else {
-                    let kept = self.imports.kept();
-                    behind(found, table, ends, kept, &self.table, first, rest)
+                    behind(declared, &self.whole, first, rest)
                 }
             }
             [] => None,
@@ -97,17 +83,6 @@ pub fn by_names<'a, 'b>(
 fn by_name<'a, 'b>(alloc: Global, imports: &'a Imports<'b>) -> Result<ByName<'a, 'b>, OutOfMemory>
     ensures { IfOk result (λ names. names ≡ imports.now) }
 {
-    let table = Table::new(alloc, marks_of(alloc, imports.kept())?)?;
-    Ok(ByName { imports, table })
-}
-
-// The marks of the whole names of imports.
-fn marks_of(alloc: Global, imports: &[&DottedTree]) -> Result<Vec<u64>, OutOfMemory>
-    ensures { IfOk result (λ marks. marks.items ≡ map mark_of_import (map (λ d. d.now) imports.now)) }
-{
-    let mut marks = Vec::with_capacity(alloc, imports.len())?;
-    for import in imports {
-        marks.push(with_parts(0, import.name.0.as_slice()))?;
-    }
-    Ok(marks)
+    let whole = WholeNames::new(alloc, imports.kept())?;
+    Ok(ByName { imports, whole })
 }

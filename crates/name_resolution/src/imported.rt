@@ -1,10 +1,11 @@
-//! The imports of a file without repeated ones, found by their last parts, and what a name means through them.
-ghost use Rattle.std.specs.Prelude.{◌≡◌, ◌≤◌, ◌∷◌, [], ◌++◌, map, length, IfOk, OnOk};
+//! The imports of a file, and what a name means through them.
+ghost use Rattle.std.specs.Prelude.{◌≡◌, ◌<◌, ◌+◌, ◌∷◌, [], ◌++◌, nat_eq, get_or, drop, map, length, IfOk, OnOk};
+ghost use Rattle.std.specs.List.{position_from};
 ghost use Rattle.name_resolution.specs.Imports.{meant_through, meant_in};
 ghost use Rattle.aidl_syntax.specs.Sources.{source_of};
 ghost use Rattle.name_resolution.specs.steps.Copies.{is_at, is_at_number};
-ghost use Rattle.declared_names.specs.Marks.{mark_of, mark_of_entry, mark_of_last};
-ghost use Rattle.declared_names.specs.steps.Times.{is_rarer, is_twice};
+ghost use Rattle.declared_names.specs.Marks.{mark_of, mark_of_last};
+ghost use Rattle.declared_names.specs.Times.{is_rarer, is_twice};
 ghost use Rattle.declared_names.specs.Entries.{entry_of};
 ghost use Rattle.name_resolution.specs.Resolution.{first_declared, imported};
 
@@ -13,7 +14,7 @@ use crate::numbers::declared;
 use aidl_base::{Ident, OutOfMemory};
 use aidl_syntax::{DottedTree, ParsedFile};
 use declared_names::{
-    Ends, Found, Table, ends_in, is_rarer, last_mark, same, with_part, with_parts,
+    Declarations, Ends, Table, ends_in, is_rarer, last_mark, same, with_part, with_parts,
 };
 use indexmap::IndexMap;
 use std::alloc::Global;
@@ -49,6 +50,21 @@ impl<'a> Imports<'a> {
         ensures { map (λ d. d.now) result.now ≡ self.now }
     {
         self.kept.as_slice()
+    }
+
+    // The place of the first of them whose last part has a mark.
+    fn first(&self, mark: u64) -> Option<usize>
+        ensures { result ≡ position_from (nat_eq mark) 0 (map mark_of_last self.now) }
+    {
+        self.table.first(mark)
+    }
+
+    // The place of the next one whose last part has the mark that the one at a place has.
+    fn next(&self, place: usize) -> Option<usize>
+        requires { place < length self.now }
+        ensures { result ≡ position_from (nat_eq (get_or (map mark_of_last self.now) place 0)) (place + 1) (drop (place + 1) (map mark_of_last self.now)) }
+    {
+        self.table.next(place)
     }
 
     /// Whether fewer of them have a part as their last one than ends have a mark, as far as marks tell. It takes no memory.
@@ -155,63 +171,50 @@ fn is_at_number(imports: &[&DottedTree], number: usize, name: &[Ident]) -> bool
 /// What a name means through imports: by the first with which it is declared, of those that end in its first part. It takes
 /// no memory.
 pub fn in_imports(
-    found: &[Found<'_>],
-    table: &Table,
+    declarations: &Declarations<'_>,
     imports: &Imports<'_>,
     name: &[Ident],
 ) -> Option<Resolved>
-    requires count { length found.now ≤ 16384 }
-    requires table { table.now ≡ map mark_of_entry (map entry_of found.now) }
-    ensures { result ≡ meant_through imports.now (map entry_of found.now) name.now }
+    ensures { result ≡ meant_through imports.now (map entry_of declarations.now) name.now }
 {
     match name {
-        [first, rest @ ..] => {
-            let kept = imports.kept.as_slice();
-            in_imports_of(found, table, &imports.table, kept, first, rest)
-        }
+        [first, rest @ ..] => in_imports_of(declarations, imports, first, rest),
         [] => None,
     }
 }
 
 fn in_imports_of(
-    found: &[Found<'_>],
-    table: &Table,
-    marks: &Table,
-    imports: &[&DottedTree],
+    declarations: &Declarations<'_>,
+    imports: &Imports<'_>,
     first: &Ident,
     rest: &[Ident],
 ) -> Option<Resolved>
-    requires count { length found.now ≤ 16384 }
-    requires table { table.now ≡ map mark_of_entry (map entry_of found.now) }
-    requires marks { marks.now ≡ map mark_of_last (map (λ d. d.now) imports.now) }
-    ensures { result ≡ first_declared (map entry_of found.now) (imported (map (λ d. d.now) imports.now) (first.now ∷ rest.now)) }
+    ensures { result ≡ first_declared (map entry_of declarations.now) (imported imports.now (first.now ∷ rest.now)) }
 {
-    let mut at = marks.first(with_part(0, first));
+    let kept = imports.kept();
+    let mut at = imports.first(with_part(0, first));
     'places: while let Some(place) = at {
-        match through(found, table, imports[place], first, rest) {
+        match through(declarations, kept[place], first, rest) {
             Some(meaning) => return Some(meaning),
             None => {}
         }
-        at = marks.next(place);
+        at = imports.next(place);
     }
     None
 }
 
 /// Through one import, where it ends in the name's first part. It takes no memory.
 pub fn through(
-    found: &[Found<'_>],
-    table: &Table,
+    declarations: &Declarations<'_>,
     import: &DottedTree,
     first: &Ident,
     rest: &[Ident],
 ) -> Option<Resolved>
-    requires count { length found.now ≤ 16384 }
-    requires table { table.now ≡ map mark_of_entry (map entry_of found.now) }
-    ensures { result ≡ first_declared (map entry_of found.now) (imported (import.now ∷ []) (first.now ∷ rest.now)) }
+    ensures { result ≡ first_declared (map entry_of declarations.now) (imported (import.now ∷ []) (first.now ∷ rest.now)) }
 {
     let parts = import.name.0.as_slice();
     if ends_in(parts, first) {
-        declared(found, table, with_parts(0, parts), parts, rest)
+        declared(declarations, with_parts(0, parts), parts, rest)
     } else {
         None
     }

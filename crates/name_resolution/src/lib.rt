@@ -5,16 +5,15 @@
 mod asked;
 mod asking;
 mod behind;
+mod by_end;
 mod by_name;
 mod imported;
 mod meaning;
 mod numbers;
 mod resolution;
+mod whole_names;
 
-pub use asked::{Asked, Known};
-pub use asking::asked_where;
-pub use by_name::ByName;
-pub use imported::{Imports, imports_of_files};
+pub use asking::Asking;
 pub use meaning::{BuiltinName, Resolved};
 pub use numbers::number_of;
-pub use resolution::{meaning_of_word, resolved};
+pub use resolution::{Resolver, meaning_of_word};

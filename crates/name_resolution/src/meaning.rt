@@ -1,5 +1,4 @@
-//! The meanings that a name can have: a built-in type, the word `List`, a left-out name or a declaration.
-
+//! What a name may mean.
 /// A built-in type (AOSP, "AIDL language", as far as the profile goes). `Text` is `String`.
 #[derive(Clone, Copy, Debug, PartialEq, Eq)]
 pub enum BuiltinName {

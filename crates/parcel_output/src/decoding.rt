@@ -10,7 +10,7 @@ ghost use Rattle.wire_model.specs.ReadOf.{read_of};
 ghost use Rattle.parcel_output.specs.Decode.{decode_answer, items_answer, rest_answer, value_line};
 ghost use Rattle.parcel_output.specs.steps.Items.{PrintsItem};
 ghost use Rattle.parcel_output.specs.steps.Planned.{ArePlanned};
-ghost use Rattle.tool_frame.specs.steps.Results.{Gives, printed};
+ghost use Rattle.tool_frame.specs.Results.{Gives, printed};
 
 use crate::lines::{push_left, push_status};
 use crate::steps::known_types;

@@ -13,7 +13,7 @@ ghost use Rattle.parcel_output.specs.Encode.{encode_answer, json_found, reason_n
 ghost use Rattle.parcel_output.specs.JsonFile.{AreTyped, json_of, unread_refusal, values_of};
 ghost use Rattle.tool_frame.specs.Refusals.{within};
 ghost use Rattle.parcel_output.specs.steps.Planned.{ArePlanned};
-ghost use Rattle.tool_frame.specs.steps.Results.{EndsAs, Finds, Gives, printed};
+ghost use Rattle.tool_frame.specs.Results.{EndsAs, Finds, Gives, printed};
 
 use crate::json_file::{Unread, json_of, values_of};
 use crate::lines::refused_value;

@@ -2,7 +2,7 @@
 ghost use Rattle.std.specs.Prelude.{◌≡◌, ◌++◌, codes, OnOk, IfOk, string_bytes};
 ghost use Rattle.std.specs.Fmt.{decimal, signed_decimal};
 ghost use Rattle.tool_frame.specs.Answer.{line, negative};
-ghost use Rattle.tool_frame.specs.steps.Results.{EndsAs};
+ghost use Rattle.tool_frame.specs.Results.{EndsAs};
 
 use aidl_base::OutOfMemory;
 use std::alloc::Global;

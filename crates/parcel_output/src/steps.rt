@@ -3,14 +3,14 @@ ghost use Rattle.std.specs.Prelude.{◌≡◌, true, IfOk};
 ghost use Rattle.std.specs.List.{list_all};
 ghost use Rattle.aidl_schema.specs.Types.{is_type};
 ghost use Rattle.parcel_output.specs.Refusals as step;
-ghost use Rattle.tool_frame.specs.steps.Results.{Finds, held};
+ghost use Rattle.tool_frame.specs.Results.{Finds, held};
 
 use crate::hexadecimal_file::hexadecimal;
 use crate::types::{Types, types_of};
 use aidl_base::{Limit, LimitName};
 use aidl_schema::{AidlType, Schema};
 use std::alloc::Global;
-use tool_frame::{Early, refusal, text_of, within};
+use tool_frame::{Early, bytes_within, refusal, text_of};
 
 /// The bytes that the text of a file stands for.
 pub fn parcel_of(alloc: Global, file: Result<Vec<u8>, Limit>) -> Result<Vec<u8>, Early>
@@ -18,7 +18,7 @@ pub fn parcel_of(alloc: Global, file: Result<Vec<u8>, Limit>) -> Result<Vec<u8>,
 {
     let text = text_of(alloc, file)?;
     let bytes = bytes_of(alloc, text)?;
-    within(alloc, LimitName::ParcelBytes, bytes)
+    bytes_within(alloc, LimitName::ParcelBytes, bytes)
 }
 
 // The bytes of a hexadecimal text.

@@ -23,25 +23,28 @@ use Rattle.run_output.specs.LineText.{line_text}
 use Rattle.run_output.specs.Projected.{call_carried, line_carried, methods_of, named_methods, projected_line, projected_piece, projected_text, reply_bytes}
 use Rattle.run_output.specs.Running.{judged_course, piece}
 use Rattle.run_output.specs.Trace.{trace_text}
-use Rattle.run_output.specs.steps.Steps.{PutsText, course_by}
+use Rattle.run_output.specs.steps.Steps.{course_by}
 use Rattle.tool_frame.specs.Course.{Course, ends, at_once}
 use Rattle.tool_frame.specs.declared.printed.Printed.{Printed}
 use Rattle.tool_frame.specs.declared.verdict.Verdict.TheVariants.{Done}
+use Rattle.tool_frame.specs.declared.exit.Exit.{Exit}
+use Rattle.tool_frame.specs.Exit.{number_of}
 use Rattle.tool_frame.specs.Verdict.{IsVerdict}
-use Rattle.tool_frame.specs.steps.Results.{printed}
+use Rattle.tool_frame.specs.Prints.{PutsText}
+use Rattle.tool_frame.specs.Results.{printed}
 use Rattle.tool_frame.proofs.lemmas.Courses.{adds_both, nothing_told}
 use Rattle.tool_frame.proofs.lemmas.Endings.{not_verdict}
 use Rattle.wire_model.specs.Requests.{request}
 
 -- a put that fails has no exit of an answer
-pub put_stops : (text : List ℕ) (before now : Option (List ℕ)) (faults_before faults_now : ℕ) (given : Result ⊤ ℕ) → PutsText text before now faults_before faults_now given
-    → IfErr given (λ exit. IsVerdict exit → ⊥)
+pub put_stops : (text : List ℕ) (before now : Option (List ℕ)) (faults_before faults_now : ℕ) (given : Result ⊤ Exit) → PutsText text before now faults_before faults_now given
+    → IfErr given (λ exit. IsVerdict (number_of exit) → ⊥)
 put_stops text before now faults_before faults_now (Ok u) put = tt
 put_stops text before now faults_before faults_now (Err exit) put = either put.exits
   where
-    either : (exit ≡ 4) ⊎ (exit ≡ 5) → IsVerdict exit → ⊥
-    either (inl four) verdict = not_verdict exit (omega arith) (omega arith) verdict
-    either (inr five) verdict = not_verdict exit (omega arith) (omega arith) verdict
+    either : (number_of exit ≡ 4) ⊎ (number_of exit ≡ 5) → IsVerdict (number_of exit) → ⊥
+    either (inl four) verdict = not_verdict (number_of exit) (omega arith) (omega arith) verdict
+    either (inr five) verdict = not_verdict (number_of exit) (omega arith) (omega arith) verdict
 
 -- Over a link that delivers what was sent, what is carried is known.
 module _ (p : Profile) (A B : List Decl) where
@@ -93,7 +96,7 @@ module _ (A B : List Decl) (k : ℕ) where
   same_line (Ok c) ms out typed e named = same_call c ms out typed e named
 
   pub put_projected : (p : Profile) (trace : Bool) (meant : Judged CallData) (carried : List Carried) (ms : Option Methods) (out : LineOut) (before now : Option (List ℕ))
-      (faults_before faults_now : ℕ) (given : Result ⊤ ℕ) → PutsText (piece A B trace k carried ms (line_data out)) before now faults_before faults_now given
+      (faults_before faults_now : ℕ) (given : Result ⊤ Exit) → PutsText (piece A B trace k carried ms (line_data out)) before now faults_before faults_now given
       → carried ≡ line_carried p A B meant → IsTyped A B ms out → line_data out ≡ projected A B meant → AreNamed meant ms
       → IfOk given (λ u. Adds before now (projected_piece p A B trace k meant))
   put_projected p trace meant carried ms out before now faults_before faults_now (Ok u) put same typed e named =

@@ -14,6 +14,8 @@ use Rattle.call_scripts.specs.Script.{script}
 use Rattle.run_output.specs.LineText.{line_text}
 use Rattle.run_output.specs.Trace.{trace_text}
 use Rattle.tool_frame.specs.Seen.{Seen}
+use Rattle.tool_frame.specs.declared.exit.Exit.TheVariants.{Done}
+use Rattle.tool_frame.specs.Exit.{number_of}
 use Rattle.tool_frame.specs.Verdict.{IsVerdict}
 use Rattle.wire_model.specs.Outcome.{OneFollows}
 use Rattle.wire_model.specs.Requests.{request}
@@ -55,6 +57,6 @@ abbrev pub projected_text : Profile → List Decl → List Decl → Bool → ℕ
 projected_text p A B trace k [] = []
 projected_text p A B trace k (line ∷ lines) = projected_piece p A B trace k (script A B line) ++ projected_text p A B trace (k + 1) lines
 
--- Where one of two trees may follow the other, and the link delivers what was sent, a run that ends with a verdict ends with 0 and has put this text.
+-- Where one of two trees may follow the other, and the link delivers what was sent, a run that ends with a verdict is done and has put this text.
 abbrev pub Projects : List Decl → List Decl → List ℕ → Seen → Seen → ℕ → Type 0
-Projects A B text before now exit = OneFollows A B → before.is_faithful ≡ true → IsVerdict exit → (exit ≡ 0) × Adds before.told now.told text
+Projects A B text before now exit = OneFollows A B → before.is_faithful ≡ true → IsVerdict exit → (exit ≡ number_of Done) × Adds before.told now.told text

@@ -9,7 +9,7 @@ ghost use Rattle.call_runner.specs.Runs.{AreSeen, IsGotBy};
 ghost use Rattle.run_output.specs.LineText.{client_text, code_text, error_text, opening_text, quoted, saw_text};
 ghost use Rattle.wire_model.specs.Calls.{optional_view, returned};
 
-use crate::methods::{method_of, outs_of, types_of};
+use crate::methods::{outs_of, types_of};
 use crate::values::{push_null, push_quoted, push_result, push_values};
 use aidl_base::{OutOfMemory, Row, Text};
 use aidl_schema::Schema;
@@ -17,6 +17,7 @@ use aidl_values::Value;
 use call_runner::{Got, Methods};
 use std::alloc::Global;
 use std::fmt::Write;
+use stub_dispatch::{SERVICE_SPECIFIC, method_of};
 
 /// Adds SAW: the array of what the handler of the server's method saw, or null where it wasn't called.
 pub fn push_saw(
@@ -139,7 +140,7 @@ fn push_message(alloc: Global, message: &Text, out: &mut String) -> Result<(), O
 fn push_error(code: i32, error: i32, out: &mut String) -> Result<(), OutOfMemory>
     ensures { OnOk result (string_bytes out.new ≡ string_bytes out.old ++ error_text code error) }
 {
-    if code == -8 {
+    if code == SERVICE_SPECIFIC {
         write!(out, ",{error}")?;
     }
     Ok(())

@@ -2,7 +2,7 @@
 ghost use Rattle.std.specs.Prelude.{◌≡◌, ◌≢◌, ◌<◌, ◌==◌, ◌∷◌, [], ◌≤◌, length, IfOk, IfSome};
 ghost use Rattle.std.specs.List.{position};
 ghost use Rattle.run_output.specs.CallLines as lines;
-ghost use Rattle.tool_frame.specs.steps.Results.{Finds};
+ghost use Rattle.tool_frame.specs.Results.{Finds};
 
 use aidl_base::{Limit, LimitName};
 use std::alloc::Global;

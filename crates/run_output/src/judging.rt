@@ -6,7 +6,7 @@ ghost use Rattle.compat_judge.specs.Seen.{seen};
 ghost use Rattle.run_output.specs.Running.{judged_course, marked, neither};
 ghost use Rattle.run_output.specs.steps.Steps.{course_by};
 ghost use Rattle.tool_frame.specs.Course.{Course};
-ghost use Rattle.tool_frame.specs.steps.Results.{printed};
+ghost use Rattle.tool_frame.specs.Results.{printed};
 ghost use Rattle.tree_output.specs.Judged.{break_line};
 ghost use Rattle.wire_model.specs.Outcome.{OneFollows};
 
@@ -14,8 +14,8 @@ use aidl_base::OutOfMemory;
 use aidl_schema::Schema;
 use compat_judge::{Broken, judge};
 use std::alloc::Global;
-use std::fmt::Write;
 use tool_frame::{Printed, Verdict};
+use tree_output::push_break;
 
 /// What is printed where neither of two schemas may follow the other: the lines of what is broken from the client's to the server's,
 /// each after `> `, and then the other way round, each after `< `, with a negative verdict. None where one may follow the other.
@@ -59,17 +59,15 @@ fn marked(alloc: Global, mark: &str, rows: &[Broken]) -> Result<String, OutOfMem
 {
     let mut text = String::new(alloc);
     for row in rows {
-        push_break(mark, row, &mut text)?;
+        push_marked(mark, row, &mut text)?;
     }
     Ok(text)
 }
 
-// Adds the line of a broken rule.
-fn push_break(mark: &str, row: &Broken, text: &mut String) -> Result<(), OutOfMemory>
+// Adds the line of a broken rule, behind a mark.
+fn push_marked(mark: &str, row: &Broken, text: &mut String) -> Result<(), OutOfMemory>
     ensures { OnOk result (string_bytes text.new ≡ string_bytes text.old ++ (mark.now ++ break_line (seen row.now))) }
 {
-    let rule = row.rule;
-    let place = row.place.as_str();
-    writeln!(text, "{mark}C{rule} {place}")?;
-    Ok(())
+    text.push_str(mark)?;
+    push_break(row, text)
 }

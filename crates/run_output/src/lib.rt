@@ -7,7 +7,6 @@ mod judging;
 mod methods;
 mod objects;
 mod pieces;
-mod putting;
 mod running;
 mod values;
 

@@ -7,27 +7,28 @@ ghost use Rattle.call_scripts.specs.Script.{script};
 ghost use Rattle.run_output.specs.CallLines.{lines_of};
 ghost use Rattle.run_output.specs.Projected.{Projects, projected_piece, projected_text};
 ghost use Rattle.run_output.specs.Running.{line_course, lines_course, piece, puts, run_course};
-ghost use Rattle.run_output.specs.steps.Steps.{PutsText, Steps};
+ghost use Rattle.run_output.specs.steps.Steps.{Steps};
 ghost use Rattle.tool_frame.specs.Course.{Course};
+ghost use Rattle.tool_frame.specs.Exit.{number_of};
 ghost use Rattle.tool_frame.specs.Verdict.{IsVerdict};
-ghost use Rattle.tool_frame.specs.steps.Courses.{RanCourse, seen_alone};
+ghost use Rattle.tool_frame.specs.Courses.{RanCourse, seen_alone};
+ghost use Rattle.tool_frame.specs.Prints.{PutsText};
 ghost use Rattle.wire_model.specs.Outcome.{OneFollows, SameWays};
 
 use crate::cutting::cut;
 use crate::judging::judge_both;
 use crate::pieces::line_piece;
-use crate::putting::put;
 use aidl_base::{OutOfMemory, Profile};
 use aidl_outside::{Link, Sink};
 use aidl_schema::Schema;
 use call_runner::{LineRun, RunFault, Side, run_line};
 use marshal_plans::{Plans, compile};
 use std::alloc::Global;
-use tool_frame::print;
+use tool_frame::{Exit, print, put};
 use wire_model::law_ways;
 
 /// Runs a calls file between two schemas, both of which read by the profile: where neither may follow the other, that is printed, and
-/// else the lines are run. The answer is the exit status.
+/// else the lines are run. The answer is the exit.
 pub fn run_trees<K: Sink, L: Link>(
     alloc: Global,
     profile: Profile,
@@ -37,18 +38,18 @@ pub fn run_trees<K: Sink, L: Link>(
     calls: &[u8],
     sink: &mut K,
     link: &mut L,
-) -> u8
+) -> Exit
     ensures ran { let seen = seen_alone K.told K.count L.log L.is_faithful L.count in
-        RanCourse (run_course profile client.now.decls server.now.decls trace calls.now) (seen sink.old link.old) (seen sink.new link.new) result }
+        RanCourse (run_course profile client.now.decls server.now.decls trace calls.now) (seen sink.old link.old) (seen sink.new link.new) (number_of result) }
     // Over a faithful link, between two schemas of which one may follow the other, a run that nothing stops ends with 0, and has put exactly
     // what its lines are projected to.
     ensures projected { let seen = seen_alone K.told K.count L.log L.is_faithful L.count in let A = client.now.decls in let B = server.now.decls in
-        Projects A B (projected_text profile A B trace 1 (lines_of calls.now)) (seen sink.old link.old) (seen sink.new link.new) result }
+        Projects A B (projected_text profile A B trace 1 (lines_of calls.now)) (seen sink.old link.old) (seen sink.new link.new) (number_of result) }
 {
     match judge_both(alloc, client, server) {
         Ok(None) => run_judged(alloc, profile, client, server, trace, calls, sink, link),
         Ok(Some(printed)) => print(alloc, Ok(printed), sink),
-        Err(_) => 5,
+        Err(_) => Exit::OutOfMemory,
     }
 }
 
@@ -62,23 +63,17 @@ fn run_judged<K: Sink, L: Link>(
     calls: &[u8],
     sink: &mut K,
     link: &mut L,
-) -> u8
+) -> Exit
     requires { OneFollows client.now.decls server.now.decls }
     ensures ran { let seen = seen_alone K.told K.count L.log L.is_faithful L.count in
-        RanCourse (lines_course profile client.now.decls server.now.decls trace 1 (lines_of calls.now)) (seen sink.old link.old) (seen sink.new link.new) result }
+        RanCourse (lines_course profile client.now.decls server.now.decls trace 1 (lines_of calls.now)) (seen sink.old link.old) (seen sink.new link.new) (number_of result) }
     ensures projected { let seen = seen_alone K.told K.count L.log L.is_faithful L.count in let A = client.now.decls in let B = server.now.decls in
-        Projects A B (projected_text profile A B trace 1 (lines_of calls.now)) (seen sink.old link.old) (seen sink.new link.new) result }
+        Projects A B (projected_text profile A B trace 1 (lines_of calls.now)) (seen sink.old link.old) (seen sink.new link.new) (number_of result) }
 {
     match both_plans(alloc, client, server) {
         Ok((client_plans, server_plans)) => {
-            let client_side = Side {
-                schema: client,
-                plans: &client_plans,
-            };
-            let server_side = Side {
-                schema: server,
-                plans: &server_plans,
-            };
+            let client_side = Side::new(client, &client_plans);
+            let server_side = Side::new(server, &server_plans);
             law_ways(client, server);
             run_lines(
                 alloc,
@@ -91,7 +86,7 @@ fn run_judged<K: Sink, L: Link>(
                 link,
             )
         }
-        Err(_) => 5,
+        Err(_) => Exit::OutOfMemory,
     }
 }
 
@@ -116,7 +111,7 @@ fn plans_of(alloc: Global, schema: &Schema) -> Result<Plans, OutOfMemory>
 
 /// Runs the lines of a calls file between a client and a server in their order, and puts each in one piece, after its call has ended.
 /// No code of an interface that both have may be that of a oneway method in one schema and of a two-way method in the other. The
-/// answer is the exit status.
+/// answer is the exit.
 pub fn run_lines<K: Sink, L: Link>(
     alloc: Global,
     profile: Profile,
@@ -126,14 +121,12 @@ pub fn run_lines<K: Sink, L: Link>(
     calls: &[u8],
     sink: &mut K,
     link: &mut L,
-) -> u8
-    requires client { ArePlansOf client.now.plans.now client.now.schema.now.decls }
-    requires server { ArePlansOf server.now.plans.now server.now.schema.now.decls }
-    requires ways { SameWays client.now.schema.now.decls server.now.schema.now.decls }
+) -> Exit
+    requires { SameWays client.now server.now }
     ensures ran { let seen = seen_alone K.told K.count L.log L.is_faithful L.count in
-        RanCourse (lines_course profile client.now.schema.now.decls server.now.schema.now.decls trace 1 (lines_of calls.now)) (seen sink.old link.old) (seen sink.new link.new) result }
-    ensures projected { let seen = seen_alone K.told K.count L.log L.is_faithful L.count in let A = client.now.schema.now.decls in let B = server.now.schema.now.decls in
-        Projects A B (projected_text profile A B trace 1 (lines_of calls.now)) (seen sink.old link.old) (seen sink.new link.new) result }
+        RanCourse (lines_course profile client.now server.now trace 1 (lines_of calls.now)) (seen sink.old link.old) (seen sink.new link.new) (number_of result) }
+    ensures projected { let seen = seen_alone K.told K.count L.log L.is_faithful L.count in let A = client.now in let B = server.now in
+        Projects A B (projected_text profile A B trace 1 (lines_of calls.now)) (seen sink.old link.old) (seen sink.new link.new) (number_of result) }
 {
     let mut rest = calls;
     let mut number = 1;
@@ -145,12 +138,12 @@ pub fn run_lines<K: Sink, L: Link>(
             return exit;
         }
         if after.is_empty() {
-            return 0;
+            return Exit::Done;
         }
         rest = after;
         number += 1;
     }
-    0
+    Exit::Done
 }
 
 // Runs the line with a number. Where that fails, the answer is the exit with which the run ends.
@@ -164,20 +157,18 @@ fn run_next<K: Sink, L: Link>(
     line: &[u8],
     sink: &mut K,
     link: &mut L,
-) -> Result<(), u8>
-    requires client { ArePlansOf client.now.plans.now client.now.schema.now.decls }
-    requires server { ArePlansOf server.now.plans.now server.now.schema.now.decls }
-    requires ways { SameWays client.now.schema.now.decls server.now.schema.now.decls }
-    ensures steps { let seen = seen_alone K.told K.count L.log L.is_faithful L.count in let A = client.now.schema.now.decls in let B = server.now.schema.now.decls in
+) -> Result<(), Exit>
+    requires { SameWays client.now server.now }
+    ensures steps { let seen = seen_alone K.told K.count L.log L.is_faithful L.count in let A = client.now in let B = server.now in
         (next : Course) → Steps (line_course profile A B (puts A B trace number next) (script A B line.now)) next (seen sink.old link.old) (seen sink.new link.new) result }
-    ensures exits { IfErr result (λ exit. IsVerdict exit → ⊥) }
-    ensures projected { let A = client.now.schema.now.decls in let B = server.now.schema.now.decls in OneFollows A B → L.is_faithful link.old ≡ true
+    ensures exits { IfErr result (λ exit. IsVerdict (number_of exit) → ⊥) }
+    ensures projected { let A = client.now in let B = server.now in OneFollows A B → L.is_faithful link.old ≡ true
         → IfOk result (λ u. Adds (K.told sink.old) (K.told sink.new) (projected_piece profile A B trace number (script A B line.now))) }
 {
     match run_line(alloc, profile, client, server, line, link) {
         Ok(run) => put_line(alloc, client, server, trace, number, &run, sink),
-        Err(RunFault::LinkFault) => Err(6),
-        Err(RunFault::OutOfMemory) => Err(5),
+        Err(RunFault::LinkFault) => Err(Exit::LinkFailed),
+        Err(RunFault::OutOfMemory) => Err(Exit::OutOfMemory),
     }
 }
 
@@ -190,13 +181,13 @@ fn put_line<K: Sink>(
     number: usize,
     run: &LineRun,
     sink: &mut K,
-) -> Result<(), u8>
-    requires { IsTyped client.now.schema.now.decls server.now.schema.now.decls run.now.methods run.now.out }
-    ensures { PutsText (piece client.now.schema.now.decls server.now.schema.now.decls trace number run.now.carried run.now.methods (line_data run.now.out))
+) -> Result<(), Exit>
+    requires { IsTyped client.now server.now run.now.methods run.now.out }
+    ensures { PutsText (piece client.now server.now trace number run.now.carried run.now.methods (line_data run.now.out))
         (K.told sink.old) (K.told sink.new) (K.count sink.old) (K.count sink.new) result }
 {
-    match line_piece(alloc, client.schema, server.schema, trace, number, run) {
+    match line_piece(alloc, client.schema(), server.schema(), trace, number, run) {
         Ok(text) => put(alloc, text.as_str(), sink),
-        Err(_) => Err(5),
+        Err(_) => Err(Exit::OutOfMemory),
     }
 }

@@ -6,7 +6,7 @@ ghost use Rattle.aidl_schema.specs.Types as types;
 ghost use Rattle.schema_bounds.specs.steps.Hubs.{listed};
 
 use aidl_base::{OutOfMemory, Row};
-use aidl_schema::{Base, Decl, Field, Kind, Shape};
+use aidl_schema::{Base, Decl, Field, Kind, Shape, fields_of};
 use std::alloc::Global;
 
 /// What each declaration contains, by their numbers.
@@ -30,18 +30,6 @@ fn contained_by_decl(alloc: Global, decls: &[Decl], decl: &Decl) -> Result<Row<u
         }
     }
     Ok(row)
-}
-
-/// The fields of a parcelable or union; none of another kind.
-pub fn fields_of(kind: &Kind) -> &[Field]
-    ensures { result.now ≡ containment.fields_of kind.now }
-{
-    match kind {
-        Kind::Parcelable(fields) => fields.as_slice(),
-        Kind::Union(fields) => fields.as_slice(),
-        Kind::Interface(_) => &[],
-        Kind::Enum(_, _) => &[],
-    }
 }
 
 // What a field contains.

@@ -1,6 +1,5 @@
 -- The outs of a method, one after the other.
-use Rattle.std.proofs.Common.{◌≡◌, ℕ, ◌-◌, ◌<◌, ◌≤◌, ◌++◌, List, [], ◌∷◌, length, take, drop, get_or, false, Ok, refl, sym, subst, arith}
-use Rattle.std.proofs.lemmas.List.{take_all}
+use Rattle.std.proofs.Common.{◌≡◌, ℕ, ◌++◌, Bool, true, false, not, List, [], ◌∷◌, Some, Ok, refl, sym, subst}
 use Rattle.std.specs.Borrow.{Bor}
 use Rattle.std.specs.Prelude.{Result}
 use Rattle.aidl_base.specs.declared.profile.Profile.{Profile}
@@ -14,23 +13,30 @@ use Rattle.parcel_words.specs.declared.fault.ReadFault.{ReadFault}
 use Rattle.wire_model.specs.Calls.{outs_of}
 use Rattle.wire_model.specs.ReadOf.{read_of}
 use Rattle.wire_model.specs.Receiver.{values_at}
+use Rattle.stub_dispatch.specs.steps.Planned.{ArgumentOf, ArgumentsOf, BeginsWith, TypeOf}
 use Rattle.stub_dispatch.specs.steps.Fronts.{Continues, after}
 use Rattle.stub_dispatch.proofs.Reading.{after_none, continues}
 
 -- no argument is left
-pub outs_end : (p : Profile) (S : List Decl) (args : List Arg) (b : List ℕ) (front : Items) → length args < 1 → after front (values_at p S (outs_of args) b) ≡ Ok (front, b)
-outs_end p S [] b front lt = after_none front b
-outs_end p S (a ∷ args) b front lt = absurd (omega arith)
+pub outs_end : (p : Profile) (S : List Decl) (args : List Arg) (b : List ℕ) (front : Items) → args ≡ [] → after front (values_at p S (outs_of args) b) ≡ Ok (front, b)
+outs_end p S args b front e = subst (λ xs. after front (values_at p S (outs_of xs) b) ≡ Ok (front, b)) (sym e) (after_none front b)
+
+back : (b : Bool) → not b ≡ true → b ≡ false
+back true e = cc
+back false e = refl
 
 -- an out was read, and those behind it
-pub outs_go : (p : Profile) (S : List Decl) (args : List Arg) (arg : Arg) (b : List ℕ) (vs us ws : List Value) (v : Value) (result : Result (Bor (List ℕ)) ReadFault) (rest : List ℕ)
-    → 1 ≤ length args → arg ≡ get_or args 0 arg → is_in_way arg.way ≡ false → read_of p S 64 arg.ty false b ≡ Ok (view v, rest) → us ≡ vs ++ v ∷ []
-    → Continues (views us) (views ws) result (values_at p S (outs_of (take (length args - 1) (drop 1 args))) rest) → Continues (views vs) (views ws) result (values_at p S (outs_of args) b)
-outs_go p S [] arg b vs us ws v result rest le is way reads f h = absurd (omega arith)
-outs_go p S (a ∷ args) arg b vs us ws v result rest le is way reads f h =
-    let e : is_in_way a.way ≡ false = subst (λ (x : Arg). is_in_way x.way ≡ false) is way in
-    let all : take (length (a ∷ args) - 1) args ≡ args = take_all (length (a ∷ args) - 1) args (omega arith) in
-    let o : outs_of (a ∷ args) ≡ a.ty ∷ outs_of args = rw e refl in
-    subst (λ ts. Continues (views vs) (views ws) result (values_at p S ts b)) (sym o)
-    (continues vs us ws v result rest (read_of p S 64 a.ty false b) (λ c. values_at p S (outs_of args) c) (subst (λ (x : Arg). read_of p S 64 x.ty false b ≡ Ok (view v, rest)) is reads) f
-    (subst (λ xs. Continues (views us) (views ws) result (values_at p S (outs_of xs) rest)) all h))
+pub outs_go : (p : Profile) (xs : ArgumentsOf) (first : ArgumentOf) (others : ArgumentsOf) (of : TypeOf) (arg : Arg) (b : List ℕ) (vs us ws : List Value) (v : Value)
+    (result : Result (Bor (List ℕ)) ReadFault) (rest : List ℕ) → BeginsWith xs (Some (first, others)) → of ≡ record { decls = first.decls; ty = first.arg.ty } → arg ≡ first.arg
+    → not (is_in_way arg.way) ≡ true → read_of p of.decls 64 of.ty false b ≡ Ok (view v, rest) → us ≡ vs ++ v ∷ []
+    → Continues (views us) (views ws) result (values_at p others.decls (outs_of others.args) rest) → Continues (views vs) (views ws) result (values_at p xs.decls (outs_of xs.args) b)
+outs_go p xs first others of arg b vs us ws v result rest begins typed declared comes reads f h =
+    let S : List Decl = xs.decls in
+    let way : is_in_way first.arg.way ≡ false = back (is_in_way first.arg.way) (subst (λ (x : Arg). not (is_in_way x.way) ≡ true) declared comes) in
+    let o : outs_of (first.arg ∷ others.args) ≡ first.arg.ty ∷ outs_of others.args = rw way refl in
+    let same : read_of p first.decls 64 first.arg.ty false b ≡ Ok (view v, rest) = subst (λ (t : TypeOf). read_of p t.decls 64 t.ty false b ≡ Ok (view v, rest)) typed reads in
+    subst (λ ys. Continues (views vs) (views ws) result (values_at p S (outs_of ys) b)) (sym begins.0)
+    (subst (λ ts. Continues (views vs) (views ws) result (values_at p S ts b)) (sym o)
+    (continues vs us ws v result rest (read_of p S 64 first.arg.ty false b) (λ c. values_at p S (outs_of others.args) c)
+    (subst (λ D. read_of p D 64 first.arg.ty false b ≡ Ok (view v, rest)) begins.1 same) f
+    (subst (λ D. Continues (views us) (views ws) result (values_at p D (outs_of others.args) rest)) begins.2 h)))

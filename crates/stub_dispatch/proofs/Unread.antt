@@ -4,7 +4,7 @@ use Rattle.std.specs.Prelude.{codes}
 use Rattle.std.specs.Str.{chars}
 use Rattle.aidl_base.proofs.lemmas.Spelled.{length-spell_text}
 use Rattle.aidl_base.specs.Words.{units}
-use Rattle.stub_dispatch.specs.steps.Sent.{spell_exception}
+use Rattle.stub_dispatch.specs.Exceptions.{spell_exception}
 use Rattle.stub_dispatch.proofs.lemmas.Parts.{exception_count}
 
 pub unread_chars : (b : List ℕ) → b ≡ codes "unread argument bytes" → chars b ≡ codes "unread argument bytes"

@@ -1,4 +1,5 @@
 pub mod Planned
+pub mod Callees
 pub mod steps
 pub mod Got
 pub mod Receipts
@@ -7,3 +8,4 @@ pub mod Answers
 pub mod Handlers
 pub mod Services
 pub mod Unscripted
+pub mod Exceptions

@@ -1,8 +1,7 @@
--- What the code's steps need, for contracts between the crates that make requests and replies: no contract of the runner or of a command cites it.
--- What the code's steps need, for its inner contracts: no public contract cites it.
+-- What the code's steps do, for inner contracts: no contract of a function that the crate exports cites it.
 pub mod Arguments
+pub mod Planned
 pub mod Fronts
 pub mod Names
-pub mod Sent
 pub mod Calls
 pub mod Replies

@@ -1,18 +1,13 @@
 //! What a stub reads of the arguments of a request.
 ghost use Rattle.std.specs.Prelude.{◌≡◌, ◌+◌, ◌≤◌};
 ghost use Rattle.aidl_values.specs.View.{view, views};
-ghost use Rattle.marshal_plans.specs.Standing.{IsOf};
-ghost use Rattle.stub_dispatch.specs.steps.Arguments.{ArePlanned};
 ghost use Rattle.stub_dispatch.specs.steps.Fronts.{Continues, Fronts};
 ghost use Rattle.wire_model.specs.Receiver.{argument_at, arguments_at, items_in, opened_length};
 
-use crate::call::argument_id;
-use crate::fronts::value_front;
-use crate::openings::opening_front;
+use crate::planned_arguments::{PlannedArgument, PlannedArguments};
 use aidl_base::Profile;
-use aidl_schema::{Arg, Direction, Schema};
+use aidl_schema::{Arg, Direction};
 use aidl_values::Value;
-use marshal_plans::{PlanId, Plans};
 use parcel_words::ReadFault;
 use std::alloc::Global;
 
@@ -21,40 +16,21 @@ use std::alloc::Global;
 pub fn arguments_front<'a>(
     alloc: Global,
     profile: Profile,
-    schema: &Schema,
-    plans: &Plans,
-    interface: u32,
-    method: u32,
-    k: u32,
-    args: &[Arg],
+    args: &PlannedArguments<'_>,
     sum: usize,
     bytes: &'a [u8],
     saw: &mut Vec<Value>,
 ) -> Result<&'a [u8], ReadFault>
-    requires planned { ArePlanned plans.now schema.now.decls interface method k args.now }
-    requires few { sum ≤ 65536 }
-    ensures { Continues (views saw.old.items) (views saw.new.items) result (arguments_at profile schema.now.decls sum args.now bytes.now) }
+    requires { sum ≤ 65536 }
+    ensures { Continues (views saw.old.items) (views saw.new.items) result (arguments_at profile args.now.decls sum args.now.args bytes.now) }
 {
-    match args {
-        [] => Ok(bytes),
-        [arg, args @ ..] => {
-            let id = argument_id(schema, plans, interface, method, k, arg);
-            let (value, rest) = argument_front(alloc, profile, schema, plans, arg, id, sum, bytes)?;
-            let sum = sum_with(sum, arg, &value);
+    match args.first() {
+        None => Ok(bytes),
+        Some((arg, others)) => {
+            let (value, rest) = argument_front(alloc, profile, &arg, sum, bytes)?;
+            let sum = sum_with(sum, arg.declared(), &value);
             saw.push(value)?;
-            arguments_front(
-                alloc,
-                profile,
-                schema,
-                plans,
-                interface,
-                method,
-                k + 1,
-                args,
-                sum,
-                rest,
-                saw,
-            )
+            arguments_front(alloc, profile, &others, sum, rest, saw)
         }
     }
 }
@@ -63,22 +39,16 @@ pub fn arguments_front<'a>(
 fn argument_front<'a>(
     alloc: Global,
     profile: Profile,
-    schema: &Schema,
-    plans: &Plans,
-    arg: &Arg,
-    id: PlanId,
+    arg: &PlannedArgument<'_>,
     sum: usize,
     bytes: &'a [u8],
 ) -> Result<(Value, &'a [u8]), ReadFault>
-    requires of { IsOf plans.now id schema.now.decls arg.now.ty }
-    requires few { sum ≤ 65536 }
-    ensures { Fronts view result (argument_at profile schema.now.decls sum arg.now bytes.now) }
+    requires { sum ≤ 65536 }
+    ensures { Fronts view result (argument_at profile arg.now.decls sum arg.now.arg bytes.now) }
 {
-    match arg.way {
-        Direction::In | Direction::InOut => {
-            value_front(alloc, profile, schema, arg.ty, plans, id, bytes)
-        }
-        Direction::Out => opening_front(alloc, schema, arg.ty, sum, bytes),
+    match arg.declared().way {
+        Direction::In | Direction::InOut => arg.ty().front(alloc, profile, bytes),
+        Direction::Out => arg.ty().opening(alloc, sum, bytes),
     }
 }
 

@@ -1,12 +1,13 @@
 //! A method of a schema, and the ids of its arguments and its result.
-ghost use Rattle.std.specs.Prelude.{◌≡◌, ◌<◌, length, Some};
+ghost use Rattle.std.specs.Prelude.{◌≡◌, ◌<◌, length, not, Some};
 ghost use Rattle.aidl_schema.specs.Find.{methods_at};
+ghost use Rattle.aidl_schema.specs.Methods.{is_in_way};
 ghost use Rattle.marshal_plans.specs.Standing.{IsOf};
 ghost use Rattle.stub_dispatch.specs.Planned.{ArePlansOf};
 ghost use Rattle.stub_dispatch.specs.steps.Arguments.{ArePlanned, IsPlanned, IsResultOf, IsResultPlanned};
 ghost use Rattle.wire_model.specs.Calls.{arguments, method_at, result_type};
 
-use aidl_schema::{AidlType, Arg, Kind, Method, Schema, law_valid};
+use aidl_schema::{AidlType, Arg, Direction, Method, Schema, law_valid, methods_at};
 use marshal_plans::{PlanId, Plans};
 
 /// The method with a number of an interface. It takes no memory.
@@ -14,20 +15,7 @@ pub fn method_of(schema: &Schema, interface: u32, method: u32) -> &Method
     requires { method < length (methods_at schema.now.decls interface) }
     ensures { method_at schema.now.decls interface method ≡ Some result.now }
 {
-    &methods_of(schema, interface)[method as usize]
-}
-
-/// The methods of an interface, and none of what is no interface. It takes no memory.
-pub fn methods_of(schema: &Schema, interface: u32) -> &[Method]
-    ensures { result.now ≡ methods_at schema.now.decls interface }
-{
-    match schema.decls.as_slice().get(interface as usize) {
-        Some(decl) => match &decl.kind {
-            Kind::Interface(methods) => methods.as_slice(),
-            _ => &[],
-        },
-        None => &[],
-    }
+    &methods_at(schema, interface)[method as usize]
 }
 
 /// What the plans have for the arguments and the result of a method of their schema.
@@ -67,4 +55,11 @@ pub fn result_id(
     ensures { IsResultOf plans.now _schema.now.decls _result result }
 {
     plans.result(interface, method)
+}
+
+/// Whether an argument of a way comes back with the reply. It takes no memory.
+pub fn comes_back(way: Direction) -> bool
+    ensures { result ≡ not (is_in_way way) }
+{
+    !matches!(way, Direction::In)
 }

@@ -1,16 +1,10 @@
 //! What stands at the front of bytes, and the bytes after it.
 ghost use Rattle.std.specs.Prelude.{false};
 ghost use Rattle.aidl_base.specs.Readings.{present_text_at, word_at};
-ghost use Rattle.aidl_values.specs.View.{view};
-ghost use Rattle.marshal_plans.specs.Standing.{IsOf};
 ghost use Rattle.stub_dispatch.specs.steps.Fronts.{Fronts};
-ghost use Rattle.wire_model.specs.ReadOf.{count_at, read_of};
+ghost use Rattle.wire_model.specs.ReadOf.{count_at};
 
 use aidl_base::{Profile, Text};
-use aidl_schema::{AidlType, Schema};
-use aidl_values::Value;
-use marshal_plans::{PlanId, Plans};
-use parcel_read::read;
 use parcel_words::{ReadFault, Wire, WordReader};
 use std::alloc::Global;
 
@@ -52,21 +46,4 @@ pub fn text_front(alloc: Global, profile: Profile, bytes: &[u8]) -> Result<(Text
     let mut from = WordReader::new(profile, bytes);
     let text = Text::take(alloc, &mut from)?;
     Ok((text, &bytes[from.position()..]))
-}
-
-/// A value of the type that the id stands for.
-pub fn value_front<'a>(
-    alloc: Global,
-    profile: Profile,
-    _schema: &Schema,
-    _ty: AidlType,
-    plans: &Plans,
-    id: PlanId,
-    bytes: &'a [u8],
-) -> Result<(Value, &'a [u8]), ReadFault>
-    requires { IsOf plans.now id _schema.now.decls _ty }
-    ensures { Fronts view result (read_of profile _schema.now.decls 64 _ty false bytes.now) }
-{
-    let (value, used) = read(alloc, profile, plans, id, bytes)?;
-    Ok((value, &bytes[used..]))
 }

@@ -1,20 +1,16 @@
 //! What a stub makes of a request.
-ghost use Rattle.std.specs.Prelude.{◌≡◌, ◌<◌, length, IfOk};
-ghost use Rattle.aidl_schema.specs.Find.{methods_at};
-ghost use Rattle.stub_dispatch.specs.Planned.{ArePlansOf};
+ghost use Rattle.std.specs.Prelude.{◌≡◌, IfOk};
 ghost use Rattle.stub_dispatch.specs.Receipts.{receipt_of};
-ghost use Rattle.stub_dispatch.specs.steps.Arguments.{ArePlanned};
 ghost use Rattle.stub_dispatch.specs.steps.Calls.{arguments_received, call_received};
-ghost use Rattle.wire_model.specs.Calls.{arguments};
 ghost use Rattle.wire_model.specs.Receiver.{stub};
 
 use crate::arguments::arguments_front;
-use crate::call::{law_planned, method_of};
+use crate::callee::Callee;
+use crate::side::Side;
 use crate::token::{after_token, descriptor_of};
 use aidl_base::{OutOfMemory, Profile, Row};
-use aidl_schema::{Schema, method_of_code};
+use aidl_schema::method_of_code;
 use aidl_values::Value;
-use marshal_plans::Plans;
 use std::alloc::Global;
 
 /// What a stub makes of a request: a status with which it is refused, a method with bytes left over, or a method and what its
@@ -38,17 +34,18 @@ pub const BAD_TYPE: i32 = -2_147_483_647;
 pub fn receive(
     alloc: Global,
     profile: Profile,
-    schema: &Schema,
-    plans: &Plans,
+    side: &Side<'_>,
     interface: u32,
     code: u32,
     bytes: &[u8],
 ) -> Result<Receipt, OutOfMemory>
-    requires { ArePlansOf plans.now schema.now.decls }
-    ensures { IfOk result (λ receipt. receipt_of receipt ≡ stub profile schema.now.decls interface code bytes.now) }
+    ensures { IfOk result (λ receipt. receipt_of receipt ≡ stub profile side.now interface code bytes.now) }
 {
-    match method_of_code(schema, interface, code) {
-        Some(method) => receive_call(alloc, profile, schema, plans, interface, method, bytes),
+    match method_of_code(side.schema(), interface, code) {
+        Some(method) => {
+            let callee = Callee::new(side, interface, method);
+            receive_call(alloc, profile, &callee, bytes)
+        }
         None => Ok(Receipt::Refused {
             status: UNKNOWN_TRANSACTION,
         }),
@@ -59,22 +56,14 @@ pub fn receive(
 fn receive_call(
     alloc: Global,
     profile: Profile,
-    schema: &Schema,
-    plans: &Plans,
-    interface: u32,
-    method: u32,
+    callee: &Callee<'_>,
     bytes: &[u8],
 ) -> Result<Receipt, OutOfMemory>
-    requires plans { ArePlansOf plans.now schema.now.decls }
-    requires there { method < length (methods_at schema.now.decls interface) }
-    ensures { IfOk result (λ receipt. receipt_of receipt ≡ call_received profile schema.now.decls interface method bytes.now) }
+    ensures { IfOk result (λ receipt. receipt_of receipt ≡ call_received profile callee.now.decls callee.now.interface callee.now.method bytes.now) }
 {
-    let name = descriptor_of(alloc, schema, interface)?;
+    let name = descriptor_of(alloc, callee.schema(), callee.interface())?;
     match after_token(alloc, profile, &name, bytes)? {
-        Some(rest) => {
-            law_planned(schema, plans, interface, method);
-            receive_arguments(alloc, profile, schema, plans, interface, method, rest)
-        }
+        Some(rest) => receive_arguments(alloc, profile, callee, rest),
         None => Ok(Receipt::Refused { status: BAD_TYPE }),
     }
 }
@@ -83,21 +72,15 @@ fn receive_call(
 fn receive_arguments(
     alloc: Global,
     profile: Profile,
-    schema: &Schema,
-    plans: &Plans,
-    interface: u32,
-    method: u32,
+    callee: &Callee<'_>,
     bytes: &[u8],
 ) -> Result<Receipt, OutOfMemory>
-    requires planned { ArePlanned plans.now schema.now.decls interface method 0 (arguments schema.now.decls interface method) }
-    requires there { method < length (methods_at schema.now.decls interface) }
-    ensures { IfOk result (λ receipt. receipt_of receipt ≡ arguments_received profile schema.now.decls interface method bytes.now) }
+    ensures { IfOk result (λ receipt. receipt_of receipt ≡ arguments_received profile callee.now.decls callee.now.interface callee.now.method bytes.now) }
 {
-    let args = method_of(schema, interface, method).args.as_slice();
+    let method = callee.method();
+    let args = callee.arguments();
     let mut saw = Vec::new(alloc);
-    match arguments_front(
-        alloc, profile, schema, plans, interface, method, 0, args, 0, bytes, &mut saw,
-    ) {
+    match arguments_front(alloc, profile, &args, 0, bytes, &mut saw) {
         Ok(rest) => {
             if rest.is_empty() {
                 let saw = Row::from_vec(saw);

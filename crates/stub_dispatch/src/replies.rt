@@ -1,21 +1,18 @@
 //! What a client makes of a reply.
-ghost use Rattle.std.specs.Prelude.{◌≡◌, ◌<◌, false, length, IfOk};
-ghost use Rattle.aidl_schema.specs.Find.{methods_at};
+ghost use Rattle.std.specs.Prelude.{◌≡◌, false, IfOk};
 ghost use Rattle.aidl_values.specs.View.{views};
 ghost use Rattle.stub_dispatch.specs.Got.{got_of};
-ghost use Rattle.stub_dispatch.specs.Planned.{ArePlansOf};
-ghost use Rattle.stub_dispatch.specs.steps.Arguments.{ArePlanned, IsResultOf, IsResultPlanned};
 ghost use Rattle.stub_dispatch.specs.steps.Fronts.{Continues, Fronts};
 ghost use Rattle.stub_dispatch.specs.steps.Replies.{IsAnswer};
-ghost use Rattle.wire_model.specs.Calls.{answer_of, arguments, is_oneway, optional_view, out_types, outs_of, result_type};
+ghost use Rattle.wire_model.specs.Calls.{answer_of, is_oneway, optional_view, out_types, outs_of, result_type};
 ghost use Rattle.wire_model.specs.Receiver.{client, error_at, exception_at, is_refused_status, result_at, returned_at, status_at, values_at};
 
-use crate::call::{argument_id, law_planned, method_of, result_id};
-use crate::fronts::{text_front, value_front, word_front};
+use crate::call::comes_back;
+use crate::callee::Callee;
+use crate::fronts::{text_front, word_front};
+use crate::planned_arguments::PlannedArguments;
 use aidl_base::{OutOfMemory, Profile, Row, Text};
-use aidl_schema::{AidlType, Arg, Direction, Method, Schema};
 use aidl_values::{Answer, Value};
-use marshal_plans::{PlanId, Plans};
 use parcel_words::ReadFault;
 use std::alloc::Global;
 
@@ -42,20 +39,14 @@ pub enum Got {
 pub fn reply(
     alloc: Global,
     profile: Profile,
-    schema: &Schema,
-    plans: &Plans,
-    interface: u32,
-    method: u32,
+    callee: &Callee<'_>,
     bytes: &[u8],
 ) -> Result<Got, OutOfMemory>
-    requires plans { ArePlansOf plans.now schema.now.decls }
-    requires there { method < length (methods_at schema.now.decls interface) }
-    requires two_way { is_oneway schema.now.decls interface method ≡ false }
+    requires two_way { is_oneway callee.now.decls callee.now.interface callee.now.method ≡ false }
     // An answer is what the client reads, and a failure has the status with which reading stops.
-    ensures { IfOk result (λ got. got_of got ≡ client profile schema.now.decls interface method bytes.now) }
+    ensures { IfOk result (λ got. got_of got ≡ client profile callee.now.decls callee.now.interface callee.now.method bytes.now) }
 {
-    law_planned(schema, plans, interface, method);
-    match answer_in(alloc, profile, schema, plans, interface, method, bytes) {
+    match answer_in(alloc, profile, callee, bytes) {
         Ok(Answer::Returned { result, outs }) => Ok(Got::Returned { result, outs }),
         Ok(
             Answer::Exception {
@@ -80,21 +71,13 @@ pub fn reply(
 fn answer_in(
     alloc: Global,
     profile: Profile,
-    schema: &Schema,
-    plans: &Plans,
-    interface: u32,
-    method: u32,
+    callee: &Callee<'_>,
     bytes: &[u8],
 ) -> Result<Answer, ReadFault>
-    requires planned { ArePlanned plans.now schema.now.decls interface method 0 (arguments schema.now.decls interface method) }
-    requires result { IsResultPlanned plans.now schema.now.decls interface method (result_type schema.now.decls interface method) }
-    requires there { method < length (methods_at schema.now.decls interface) }
-    ensures { IsAnswer result (client profile schema.now.decls interface method bytes.now) }
+    ensures { IsAnswer result (client profile callee.now.decls callee.now.interface callee.now.method bytes.now) }
 {
     let (status, rest) = word_front(bytes)?;
-    let (answer, rest) = status_front(
-        alloc, profile, schema, plans, interface, method, status, rest,
-    )?;
+    let (answer, rest) = status_front(alloc, profile, callee, status, rest)?;
     if rest.is_empty() {
         Ok(answer)
     } else {
@@ -106,24 +89,15 @@ fn answer_in(
 fn status_front<'a>(
     alloc: Global,
     profile: Profile,
-    schema: &Schema,
-    plans: &Plans,
-    interface: u32,
-    method: u32,
+    callee: &Callee<'_>,
     status: i32,
     bytes: &'a [u8],
 ) -> Result<(Answer, &'a [u8]), ReadFault>
-    requires planned { ArePlanned plans.now schema.now.decls interface method 0 (arguments schema.now.decls interface method) }
-    requires result { IsResultPlanned plans.now schema.now.decls interface method (result_type schema.now.decls interface method) }
-    requires there { method < length (methods_at schema.now.decls interface) }
-    ensures { Fronts answer_of result (status_at profile schema.now.decls (result_type schema.now.decls interface method)
-        (out_types schema.now.decls interface method) status bytes.now) }
+    ensures { Fronts answer_of result (status_at profile callee.now.decls (result_type callee.now.decls callee.now.interface callee.now.method)
+        (out_types callee.now.decls callee.now.interface callee.now.method) status bytes.now) }
 {
     if status == 0 {
-        let declared = method_of(schema, interface, method);
-        return returned_front(
-            alloc, profile, schema, plans, interface, method, declared, bytes,
-        );
+        return returned_front(alloc, profile, callee, bytes);
     }
     if is_refused(status) {
         return Err(ReadFault::BadValue);
@@ -178,24 +152,15 @@ fn error_front(code: i32, bytes: &[u8]) -> Result<(i32, &[u8]), ReadFault>
 fn returned_front<'a>(
     alloc: Global,
     profile: Profile,
-    schema: &Schema,
-    plans: &Plans,
-    interface: u32,
-    method: u32,
-    declared: &Method,
+    callee: &Callee<'_>,
     bytes: &'a [u8],
 ) -> Result<(Answer, &'a [u8]), ReadFault>
-    requires planned { ArePlanned plans.now schema.now.decls interface method 0 declared.now.args }
-    requires result { IsResultPlanned plans.now schema.now.decls interface method declared.now.result }
-    ensures { Fronts answer_of result (returned_at profile schema.now.decls declared.now.result (outs_of declared.now.args) bytes.now) }
+    ensures { Fronts answer_of result (returned_at profile callee.now.decls (result_type callee.now.decls callee.now.interface callee.now.method)
+        (out_types callee.now.decls callee.now.interface callee.now.method) bytes.now) }
 {
-    let id = result_id(schema, plans, interface, method, declared.result);
-    let (result, rest) = result_front(alloc, profile, schema, declared.result, plans, id, bytes)?;
+    let (result, rest) = result_front(alloc, profile, callee, bytes)?;
     let mut outs = Vec::new(alloc);
-    let args = declared.args.as_slice();
-    let rest = outs_front(
-        alloc, profile, schema, plans, interface, method, 0, args, rest, &mut outs,
-    )?;
+    let rest = outs_front(alloc, profile, &callee.arguments(), rest, &mut outs)?;
     let outs = Row::from_vec(outs);
     Ok((Answer::Returned { result, outs }, rest))
 }
@@ -204,21 +169,17 @@ fn returned_front<'a>(
 fn result_front<'a>(
     alloc: Global,
     profile: Profile,
-    schema: &Schema,
-    ty: Option<AidlType>,
-    plans: &Plans,
-    id: Option<PlanId>,
+    callee: &Callee<'_>,
     bytes: &'a [u8],
 ) -> Result<(Option<Value>, &'a [u8]), ReadFault>
-    requires { IsResultOf plans.now schema.now.decls ty id }
-    ensures { Fronts optional_view result (result_at profile schema.now.decls ty bytes.now) }
+    ensures { Fronts optional_view result (result_at profile callee.now.decls (result_type callee.now.decls callee.now.interface callee.now.method) bytes.now) }
 {
-    match (ty, id) {
-        (Some(ty), Some(id)) => {
-            let (value, rest) = value_front(alloc, profile, schema, ty, plans, id, bytes)?;
+    match callee.result() {
+        Some(ty) => {
+            let (value, rest) = ty.front(alloc, profile, bytes)?;
             Ok((Some(value), rest))
         }
-        _ => Ok((None, bytes)),
+        None => Ok((None, bytes)),
     }
 }
 
@@ -226,51 +187,22 @@ fn result_front<'a>(
 fn outs_front<'a>(
     alloc: Global,
     profile: Profile,
-    schema: &Schema,
-    plans: &Plans,
-    interface: u32,
-    method: u32,
-    k: u32,
-    args: &[Arg],
+    args: &PlannedArguments<'_>,
     bytes: &'a [u8],
     outs: &mut Vec<Value>,
 ) -> Result<&'a [u8], ReadFault>
-    requires { ArePlanned plans.now schema.now.decls interface method k args.now }
-    ensures { Continues (views outs.old.items) (views outs.new.items) result (values_at profile schema.now.decls (outs_of args.now) bytes.now) }
+    ensures { Continues (views outs.old.items) (views outs.new.items) result (values_at profile args.now.decls (outs_of args.now.args) bytes.now) }
 {
-    match args {
-        [] => Ok(bytes),
-        [arg, args @ ..] => match arg.way {
-            Direction::In => outs_front(
-                alloc,
-                profile,
-                schema,
-                plans,
-                interface,
-                method,
-                k + 1,
-                args,
-                bytes,
-                outs,
-            ),
-            Direction::Out | Direction::InOut => {
-                let id = argument_id(schema, plans, interface, method, k, arg);
-                let (value, rest) = value_front(alloc, profile, schema, arg.ty, plans, id, bytes)?;
-                outs.push(value)?;
-                outs_front(
-                    alloc,
-                    profile,
-                    schema,
-                    plans,
-                    interface,
-                    method,
-                    k + 1,
-                    args,
-                    rest,
-                    outs,
-                )
+    match args.first() {
+        None => Ok(bytes),
+        Some((arg, others)) => {
+            if !comes_back(arg.declared().way) {
+                return outs_front(alloc, profile, &others, bytes, outs);
             }
-        },
+            let (value, rest) = arg.ty().front(alloc, profile, bytes)?;
+            outs.push(value)?;
+            outs_front(alloc, profile, &others, rest, outs)
+        }
     }
 }
 

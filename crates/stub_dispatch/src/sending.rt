@@ -3,42 +3,35 @@ ghost use Rattle.std.specs.Prelude.{◌≡◌, ◌<◌, ◌≤◌, ◌^◌, code
 ghost use Rattle.aidl_schema.specs.Find.{methods_at};
 ghost use Rattle.aidl_values.specs.View.{views};
 ghost use Rattle.parcel_words.specs.Written.{with_bytes};
-ghost use Rattle.stub_dispatch.specs.Planned.{ArePlansOf};
 ghost use Rattle.stub_dispatch.specs.Sent.{sent_reply, unread};
-ghost use Rattle.stub_dispatch.specs.steps.Arguments.{ArePlanned, IsResultOf};
-ghost use Rattle.stub_dispatch.specs.steps.Sent.{spell_exception};
+ghost use Rattle.stub_dispatch.specs.Exceptions.{spell_exception};
 ghost use Rattle.wire_model.specs.Calls.{answer_of, is_oneway, optional_view, out_types, outs_of, result_type, returned};
 ghost use Rattle.wire_model.specs.Requests.{AnswerFits, EachFits, ResultFits, reply, spell_each, spell_error, spell_result};
 
-use crate::call::{argument_id, law_planned, method_of, methods_of, result_id};
+use crate::call::comes_back;
+use crate::callee::Callee;
+use crate::planned_arguments::PlannedArguments;
 use crate::replies::SERVICE_SPECIFIC;
-use crate::reply_lengths::{comes_back, exception_length, outs_length, result_length};
-use crate::values::put_spelled;
+use crate::reply_lengths::{exception_length, returned_length};
 use aidl_base::{OutOfMemory, Row, Text};
-use aidl_schema::{AidlType, Arg, Schema};
+use aidl_schema::{Schema, methods_at};
 use aidl_values::{Answer, Value};
-use marshal_plans::{PlanId, Plans};
 use parcel_words::{Wire, WordWriter};
 use std::alloc::Global;
 
 /// The bytes of the reply of an answer that fits its method, None of a oneway method. The room for the bytes is taken once.
 pub fn answer_reply(
     alloc: Global,
-    schema: &Schema,
-    plans: &Plans,
-    interface: u32,
-    method: u32,
+    callee: &Callee<'_>,
     answer: &Answer,
 ) -> Result<Option<Row<u8>>, OutOfMemory>
-    requires plans { ArePlansOf plans.now schema.now.decls }
-    requires there { method < length (methods_at schema.now.decls interface) }
-    requires fits { AnswerFits schema.now.decls interface method (answer_of answer.now) }
-    ensures { IfOk result (λ reply. reply ≡ sent_reply schema.now.decls interface method (answer_of answer.now)) }
+    requires fits { AnswerFits callee.now.decls callee.now.interface callee.now.method (answer_of answer.now) }
+    ensures { IfOk result (λ reply. reply ≡ sent_reply callee.now.decls callee.now.interface callee.now.method (answer_of answer.now)) }
 {
-    if is_oneway(schema, interface, method) {
+    if is_oneway(callee.schema(), callee.interface(), callee.method()) {
         return Ok(None);
     }
-    let bytes = answer_bytes(alloc, schema, plans, interface, method, answer)?;
+    let bytes = answer_bytes(alloc, callee, answer)?;
     Ok(Some(Row::from_vec(bytes)))
 }
 
@@ -82,36 +75,19 @@ pub const BAD_PARCELABLE: i32 = -2;
 fn is_oneway(schema: &Schema, interface: u32, method: u32) -> bool
     ensures { result ≡ is_oneway schema.now.decls interface method }
 {
-    match methods_of(schema, interface).get(method as usize) {
+    match methods_at(schema, interface).get(method as usize) {
         Some(method) => method.oneway,
         None => false,
     }
 }
 
 // The bytes of the reply of an answer that fits its method. The room for the bytes is taken once.
-fn answer_bytes(
-    alloc: Global,
-    schema: &Schema,
-    plans: &Plans,
-    interface: u32,
-    method: u32,
-    answer: &Answer,
-) -> Result<Vec<u8>, OutOfMemory>
-    requires plans { ArePlansOf plans.now schema.now.decls }
-    requires there { method < length (methods_at schema.now.decls interface) }
-    requires fits { AnswerFits schema.now.decls interface method (answer_of answer.now) }
-    ensures { IfOk result (λ bytes. bytes.items ≡ reply schema.now.decls interface method (answer_of answer.now)) }
+fn answer_bytes(alloc: Global, callee: &Callee<'_>, answer: &Answer) -> Result<Vec<u8>, OutOfMemory>
+    requires fits { AnswerFits callee.now.decls callee.now.interface callee.now.method (answer_of answer.now) }
+    ensures { IfOk result (λ bytes. bytes.items ≡ reply callee.now.decls callee.now.interface callee.now.method (answer_of answer.now)) }
 {
     match answer {
-        Answer::Returned { result, outs } => returned_bytes(
-            alloc,
-            schema,
-            plans,
-            interface,
-            method,
-            result,
-            outs.as_slice(),
-        ),
+        Answer::Returned { result, outs } => returned_bytes(alloc, callee, result, outs.as_slice()),
         Answer::Exception {
             code,
             message,
@@ -124,54 +100,34 @@ fn answer_bytes(
 #[tactic(auto, using(crate::proofs::lemmas::Parts::returned_count, parcel_words::proofs::lemmas::Appends::with_more))]
 fn returned_bytes(
     alloc: Global,
-    schema: &Schema,
-    plans: &Plans,
-    interface: u32,
-    method: u32,
+    callee: &Callee<'_>,
     value: &Option<Value>,
     outs: &[Value],
 ) -> Result<Vec<u8>, OutOfMemory>
-    requires plans { ArePlansOf plans.now schema.now.decls }
-    requires there { method < length (methods_at schema.now.decls interface) }
-    requires fits { ResultFits schema.now.decls (result_type schema.now.decls interface method) (optional_view value.now) }
-    requires each { EachFits schema.now.decls (out_types schema.now.decls interface method) (views outs.now) }
-    requires small { length (reply schema.now.decls interface method (returned (optional_view value.now) (views outs.now))) ≤ 1048576 }
-    ensures { IfOk result (λ bytes. bytes.items ≡ reply schema.now.decls interface method (returned (optional_view value.now) (views outs.now))) }
+    requires fits { ResultFits callee.now.decls (result_type callee.now.decls callee.now.interface callee.now.method) (optional_view value.now) }
+    requires each { EachFits callee.now.decls (out_types callee.now.decls callee.now.interface callee.now.method) (views outs.now) }
+    requires small { length (reply callee.now.decls callee.now.interface callee.now.method (returned (optional_view value.now) (views outs.now))) ≤ 1048576 }
+    ensures { IfOk result (λ bytes. bytes.items ≡ reply callee.now.decls callee.now.interface callee.now.method (returned (optional_view value.now) (views outs.now))) }
 {
-    law_planned(schema, plans, interface, method);
-    let declared = method_of(schema, interface, method);
-    let args = declared.args.as_slice();
-    let ty = declared.result;
-    let id = result_id(schema, plans, interface, method, ty);
-    let first = result_length(schema, ty, plans, id, value);
-    let others = outs_length(schema, plans, interface, method, 0, args, outs);
-    let length = first.saturating_add(others).saturating_add(4);
+    let length = returned_length(callee, value, outs);
     let mut to = WordWriter::with_room(alloc, length)?;
     to.word(0);
-    put_result(schema, ty, plans, id, value, &mut to);
-    put_outs(schema, plans, interface, method, 0, args, outs, &mut to);
+    put_result(callee, value, &mut to);
+    put_outs(&callee.arguments(), outs, &mut to);
     Ok(to.finish())
 }
 
 // Appends a result, where there is one.
-fn put_result(
-    schema: &Schema,
-    ty: Option<AidlType>,
-    plans: &Plans,
-    id: Option<PlanId>,
-    value: &Option<Value>,
-    to: &mut WordWriter,
-)
-    requires of { IsResultOf plans.now schema.now.decls ty id }
-    requires fits { ResultFits schema.now.decls ty (optional_view value.now) }
-    requires small { length (spell_result schema.now.decls ty (optional_view value.now)) < 2 ^ 31 }
-    requires room { length (spell_result schema.now.decls ty (optional_view value.now)) ≤ to.old.room }
-    ensures { to.new ≡ with_bytes to.old (spell_result schema.now.decls ty (optional_view value.now)) }
+fn put_result(callee: &Callee<'_>, value: &Option<Value>, to: &mut WordWriter)
+    requires fits { ResultFits callee.now.decls (result_type callee.now.decls callee.now.interface callee.now.method) (optional_view value.now) }
+    requires small { length (spell_result callee.now.decls (result_type callee.now.decls callee.now.interface callee.now.method) (optional_view value.now)) < 2 ^ 31 }
+    requires room { length (spell_result callee.now.decls (result_type callee.now.decls callee.now.interface callee.now.method) (optional_view value.now)) ≤ to.old.room }
+    ensures { to.new ≡ with_bytes to.old (spell_result callee.now.decls (result_type callee.now.decls callee.now.interface callee.now.method) (optional_view value.now)) }
 {
     match value {
-        Some(value) => match (ty, id) {
-            (Some(ty), Some(id)) => put_spelled(schema, ty, plans, id, value, to),
-            _ => {}
+        Some(value) => match callee.result() {
+            Some(ty) => ty.put(value, to),
+            None => {}
         },
         None => {}
     }
@@ -179,34 +135,23 @@ fn put_result(
 
 // Appends the outs of the arguments from one on.
 #[tactic(auto, using(crate::proofs::lemmas::Parts::each_count, parcel_words::proofs::lemmas::Appends::with_more, parcel_words::proofs::lemmas::Appends::with_none))]
-fn put_outs(
-    schema: &Schema,
-    plans: &Plans,
-    interface: u32,
-    method: u32,
-    k: u32,
-    args: &[Arg],
-    values: &[Value],
-    to: &mut WordWriter,
-)
-    requires planned { ArePlanned plans.now schema.now.decls interface method k args.now }
-    requires fit { EachFits schema.now.decls (outs_of args.now) (views values.now) }
-    requires small { length (spell_each schema.now.decls (outs_of args.now) (views values.now)) < 2 ^ 31 }
-    requires room { length (spell_each schema.now.decls (outs_of args.now) (views values.now)) ≤ to.old.room }
-    ensures { to.new ≡ with_bytes to.old (spell_each schema.now.decls (outs_of args.now) (views values.now)) }
+fn put_outs(args: &PlannedArguments<'_>, values: &[Value], to: &mut WordWriter)
+    requires fit { EachFits args.now.decls (outs_of args.now.args) (views values.now) }
+    requires small { length (spell_each args.now.decls (outs_of args.now.args) (views values.now)) < 2 ^ 31 }
+    requires room { length (spell_each args.now.decls (outs_of args.now.args) (views values.now)) ≤ to.old.room }
+    ensures { to.new ≡ with_bytes to.old (spell_each args.now.decls (outs_of args.now.args) (views values.now)) }
 {
-    match args {
-        [] => {}
-        [arg, args @ ..] => {
-            if !comes_back(arg) {
-                return put_outs(schema, plans, interface, method, k + 1, args, values, to);
+    match args.first() {
+        None => {}
+        Some((arg, others)) => {
+            if !comes_back(arg.declared().way) {
+                return put_outs(&others, values, to);
             }
             match values {
                 [] => {}
                 [value, values @ ..] => {
-                    let id = argument_id(schema, plans, interface, method, k, arg);
-                    put_spelled(schema, arg.ty, plans, id, value, to);
-                    put_outs(schema, plans, interface, method, k + 1, args, values, to);
+                    arg.ty().put(value, to);
+                    put_outs(&others, values, to);
                 }
             }
         }

@@ -1,3 +1,4 @@
 mod Loaded
+pub mod Puts
 mod TreeFiles
 pub mod lemmas

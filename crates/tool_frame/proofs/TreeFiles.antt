@@ -7,11 +7,11 @@ use Rattle.aidl_base.specs.declared.limit.LimitName.TheVariants.{FileBytes}
 use Rattle.aidl_base.specs.declared.source_file.SourceFile.{SourceFile}
 use Rattle.aidl_base.specs.Results.{◌>>=◌}
 use Rattle.aidl_outside.specs.Entries.{path_of}
-use Rattle.aidl_outside.specs.Files.{Files}
+use Rattle.aidl_outside.specs.Files.{Files, path_below}
 use Rattle.aidl_outside.specs.Told.{Tells}
 use Rattle.tool_frame.specs.Answer.{Found}
 use Rattle.tool_frame.specs.Refusals.{file_at}
-use Rattle.tool_frame.specs.Trees.{TreeFile, file_seen, files_at, file_found, path_below}
+use Rattle.tool_frame.specs.Trees.{TreeFile, file_seen, files_at, file_found}
 use Rattle.tool_frame.specs.steps.Trees.{onto, so_far}
 use Rattle.aidl_outside.proofs.lemmas.Telling.{tells, tells_both}
 

@@ -2,7 +2,7 @@
 use Rattle.std.specs.Prelude.{◌≡◌, List, []}
 use Rattle.aidl_outside.specs.Files.{Files}
 use Rattle.aidl_outside.specs.Writes.{Write}
-use Rattle.tool_frame.specs.Answer.{Answer}
+use Rattle.tool_frame.specs.Answer.{Answer, Refusing}
 use Rattle.tool_frame.specs.Meaning.{Meaning, writes_by}
 
 -- the files that are written, in order, and the answer that goes with them
@@ -12,6 +12,10 @@ Acts = List Write → Answer → Type 0
 -- nothing is written, and this is answered
 abbrev pub Only : (Answer → Type 0) → Acts
 Only IsAnswer made answer = (made ≡ []) × IsAnswer answer
+
+-- a refusal is answered, and these writes are none
+abbrev pub Unwritten : List Write → Refusing Answer
+Unwritten made refusal answer = Only (λ a. a ≡ refusal) made answer
 
 abbrev pub writes_of : (Files → Acts) → Files → List Write → Type 0
 writes_of acts files made = (answer : Answer) × acts files made answer

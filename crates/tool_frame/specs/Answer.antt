@@ -39,7 +39,19 @@ abbrev pub ◌>>=◌ : {A : Type 0} → Found A → (A → Answer) → Answer
 (Ok x) >>= next = next x
 (Err answer) >>= next = answer
 
--- the same where what follows is one of several answers
+-- what comes of a refusal in a command: of what it answers, carries or writes
+abbrev pub Refusing : Type 0 → Type 1
+Refusing A = Answer → A → Type 0
+
+-- what comes of a step: of what it finds, or of its refusal
+abbrev pub FoundThen : {X A : Type 0} → Refusing A → Found X → (X → A → Type 0) → A → Type 0
+FoundThen Refuses (Ok x) next y = next x y
+FoundThen Refuses (Err refusal) next y = Refuses refusal y
+
+-- a refusal is the answer
+abbrev pub AsAnswer : Refusing Answer
+AsAnswer refusal answer = answer ≡ refusal
+
+-- one step after another, where what follows is one of several answers
 abbrev pub Then : {A : Type 0} → Found A → (A → Answer → Type 0) → Answer → Type 0
-Then (Ok x) next answer = next x answer
-Then (Err refusal) next answer = answer ≡ refusal
+Then found next answer = FoundThen AsAnswer found next answer

@@ -1,9 +1,9 @@
 -- What a command does that carries parcels: it prints, sends, and goes on by what was delivered, until it ends (own).
-use Rattle.std.specs.Prelude.{ℕ, List, [], ◌∷◌, Option, Some, None}
+use Rattle.std.specs.Prelude.{◌≡◌, ℕ, List, [], ◌∷◌, Option, Some, None}
 use Rattle.aidl_outside.specs.declared.link.Carried.{Carried}
 use Rattle.tool_frame.specs.declared.verdict.Verdict.{Verdict}
 use Rattle.tool_frame.specs.declared.verdict.Verdict.TheVariants.{Done}
-use Rattle.tool_frame.specs.Answer.{Answer, after_text}
+use Rattle.tool_frame.specs.Answer.{Answer, Refusing, after_text}
 use Rattle.tool_frame.specs.Parcel.{Parcel}
 
 pub data Course : Type 0 where
@@ -14,6 +14,10 @@ pub data Course : Type 0 where
 -- an answer that is printed with nothing sent
 abbrev pub at_once : Answer → Course
 at_once a = prints a.text (ends a.verdict)
+
+-- a refusal is printed at once
+abbrev pub AtOnce : Refusing Course
+AtOnce refusal course = course ≡ at_once refusal
 
 -- the parcel that is due after those that were carried; None where no more is
 abbrev pub due_after : Course → List Carried → Option Parcel

@@ -5,7 +5,9 @@ use Rattle.aidl_outside.specs.Causes.{Rose}
 use Rattle.aidl_outside.specs.Files.{Files}
 use Rattle.aidl_outside.specs.Told.{Tells, Adds, AddsFront}
 use Rattle.aidl_outside.specs.Writes.{ChangesOnly, Write, written}
+use Rattle.tool_frame.specs.declared.exit.Exit.TheVariants.{RefusedWords, StoreFailed, SinkFailed, OutOfMemory, LinkFailed}
 use Rattle.tool_frame.specs.Answer.{Answer, line}
+use Rattle.tool_frame.specs.Exit.{number_of}
 use Rattle.tool_frame.specs.Meaning.{Meaning, AreDue, CarriesNothing, Meant}
 use Rattle.tool_frame.specs.Meaning.Meant.{unknown, means}
 use Rattle.tool_frame.specs.Parcel.{Parcel}
@@ -61,40 +63,40 @@ StopsAtCarry m before now files = (entries : List Carried) × CarriedThese m fil
     × Adds before.told now.told answer.text
 
 pub record Ended (m : Meaning) (before now : Seen) (exit : ℕ) : Type 0 where
-  -- the exits, and that 3, 4 and 6 come only where the count of the store, the sink and the link rose
-  pub exits : IsVerdict exit ⊎ ((exit ≡ 3) ⊎ ((exit ≡ 4) ⊎ ((exit ≡ 5) ⊎ (exit ≡ 6))))
-  pub store_fault : exit ≡ 3 → Rose before.store_faults now.store_faults
-  pub store_good : exit ≢ 3 → now.store_faults ≡ before.store_faults
-  pub sink_fault : exit ≡ 4 → Rose before.sink_faults now.sink_faults
-  pub sink_good : exit ≢ 4 → now.sink_faults ≡ before.sink_faults
-  pub link_fault : exit ≡ 6 → Rose before.link_faults now.link_faults
-  pub link_good : exit ≢ 6 → now.link_faults ≡ before.link_faults
+  -- the exits, and that those of the store, the sink and the link come only where the count of the store, the sink and the link rose
+  pub exits : IsVerdict exit ⊎ ((exit ≡ number_of StoreFailed) ⊎ ((exit ≡ number_of SinkFailed) ⊎ ((exit ≡ number_of OutOfMemory) ⊎ (exit ≡ number_of LinkFailed))))
+  pub store_fault : exit ≡ number_of StoreFailed → Rose before.store_faults now.store_faults
+  pub store_good : exit ≢ number_of StoreFailed → now.store_faults ≡ before.store_faults
+  pub sink_fault : exit ≡ number_of SinkFailed → Rose before.sink_faults now.sink_faults
+  pub sink_good : exit ≢ number_of SinkFailed → now.sink_faults ≡ before.sink_faults
+  pub link_fault : exit ≡ number_of LinkFailed → Rose before.link_faults now.link_faults
+  pub link_good : exit ≢ number_of LinkFailed → now.link_faults ≡ before.link_faults
   pub link_nature : now.is_faithful ≡ before.is_faithful
   -- what was written: all; after a want of memory some; after a fault of the store some, and one failed
-  pub wrote : IsVerdict exit ⊎ ((exit ≡ 4) ⊎ (exit ≡ 6)) → WroteAll m.writes before.kept now.kept
-  pub wrote_some : exit ≡ 5 → WroteSome m.writes before.kept now.kept
-  pub write_failed : exit ≡ 3 → FailedAt m.writes before.kept now.kept
+  pub wrote : IsVerdict exit ⊎ ((exit ≡ number_of SinkFailed) ⊎ (exit ≡ number_of LinkFailed)) → WroteAll m.writes before.kept now.kept
+  pub wrote_some : exit ≡ number_of OutOfMemory → WroteSome m.writes before.kept now.kept
+  pub write_failed : exit ≡ number_of StoreFailed → FailedAt m.writes before.kept now.kept
   -- what was carried, where nothing ever is, and after a fault of the store
-  pub carries_nothing : CarriesNothing m ⊎ (exit ≡ 3) → now.log ≡ before.log
+  pub carries_nothing : CarriesNothing m ⊎ (exit ≡ number_of StoreFailed) → now.log ≡ before.log
   -- what was printed: nothing after a fault of the store, and a front after one of the sink or a want of memory
   pub answer : IsVerdict exit → Tells before.kept (EndsAsMeant m before now exit)
-  pub silent : exit ≡ 3 → now.told ≡ before.told
-  pub front : (exit ≡ 4) ⊎ (exit ≡ 5) → Tells before.kept (PutsFront m before now)
-  pub stopped : exit ≡ 6 → Tells before.kept (StopsAtCarry m before now)
+  pub silent : exit ≡ number_of StoreFailed → now.told ≡ before.told
+  pub front : (exit ≡ number_of SinkFailed) ⊎ (exit ≡ number_of OutOfMemory) → Tells before.kept (PutsFront m before now)
+  pub stopped : exit ≡ number_of LinkFailed → Tells before.kept (StopsAtCarry m before now)
   -- where no count rose, it ends as is meant, or memory was wanted
   pub complete : (Rose before.store_faults now.store_faults → ⊥) → (Rose before.sink_faults now.sink_faults → ⊥) → (Rose before.link_faults now.link_faults → ⊥)
-      → (exit ≡ 5) ⊎ (IsVerdict exit × Tells before.kept (EndsAsMeant m before now exit))
+      → (exit ≡ number_of OutOfMemory) ⊎ (IsVerdict exit × Tells before.kept (EndsAsMeant m before now exit))
 
 abbrev pub refused_words : List ℕ
 refused_words = line (codes "refused words")
 
--- words that are refused: exit 2, unless the sink or memory failed
+-- words that are refused, with the exit that says so unless the sink or memory failed
 pub record Refused (before now : Seen) (exit : ℕ) : Type 0 where
-  pub exits : (exit ≡ 2) ⊎ ((exit ≡ 4) ⊎ (exit ≡ 5))
+  pub exits : (exit ≡ number_of RefusedWords) ⊎ ((exit ≡ number_of SinkFailed) ⊎ (exit ≡ number_of OutOfMemory))
   pub untouched : now ≡ record before { told = now.told; sink_faults = now.sink_faults }
-  pub sink_fault : exit ≡ 4 → Rose before.sink_faults now.sink_faults
-  pub sink_good : exit ≢ 4 → now.sink_faults ≡ before.sink_faults
-  pub whole : exit ≡ 2 → Adds before.told now.told refused_words
+  pub sink_fault : exit ≡ number_of SinkFailed → Rose before.sink_faults now.sink_faults
+  pub sink_good : exit ≢ number_of SinkFailed → now.sink_faults ≡ before.sink_faults
+  pub whole : exit ≡ number_of RefusedWords → Adds before.told now.told refused_words
   pub front : AddsFront before.told now.told refused_words
 
 -- of words without a meaning, and of words with one

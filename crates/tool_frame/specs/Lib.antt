@@ -2,6 +2,7 @@ pub mod Acts
 pub mod Answer
 pub mod Course
 pub mod Ended
+pub mod Exit
 pub mod Meaning
 pub mod Parcel
 pub mod Refusals
@@ -10,3 +11,7 @@ pub mod Shown
 pub mod Trees
 pub mod Verdict
 pub mod steps
+pub mod Results
+pub mod Ends
+pub mod Prints
+pub mod Courses

@@ -7,19 +7,15 @@ use Rattle.aidl_base.specs.declared.source_file.SourceFile.{SourceFile}
 use Rattle.aidl_base.specs.Limits.{limit_number}
 use Rattle.aidl_base.specs.Results.{◌>>=◌}
 use Rattle.aidl_outside.specs.Entries.{path_of}
-use Rattle.aidl_outside.specs.Files.{Files, listing}
+use Rattle.aidl_outside.specs.Files.{Files, listing, path_below}
 use Rattle.tool_words.specs.Entries.{ends_with}
-use Rattle.tool_frame.specs.Answer.{Answer, Found, limit_passed}
+use Rattle.tool_frame.specs.Answer.{Answer, AsAnswer, Found, FoundThen, Refusing, limit_passed}
 use Rattle.tool_frame.specs.Refusals.{file_at}
 
 -- a file with its path relative to the root
 pub record TreeFile : Type 0 where
   pub path : List ℕ
   pub bytes : List ℕ
-
--- a path below a folder is the folder, `/` and the relative path
-abbrev pub path_below : List ℕ → List ℕ → List ℕ
-path_below folder path = folder ++ 47 ∷ path
 
 -- the path is that of a file of AIDL
 abbrev pub is_source : List ℕ → Bool
@@ -71,7 +67,10 @@ AreShort files = All (λ (file : SourceFile). length file.bytes ≤ limit_number
 abbrev pub AreFiles : List SourceFile → List TreeFile → Type 0
 AreFiles sources tree = map file_seen sources ≡ tree
 
--- what is answered over the tree below a root: the limit that its files pass, or what is answered over these
+-- what comes of the tree below a root: of the limit that its files pass, or of these
+abbrev pub Over : {A : Type 0} → Refusing A → Found (List TreeFile) → (List SourceFile → A → Type 0) → A → Type 0
+Over Refuses tree next x = FoundThen Refuses tree (λ found y. (sources : List SourceFile) × AreFiles sources found × next sources y) x
+
+-- what is answered over it
 abbrev pub OverTree : Found (List TreeFile) → (List SourceFile → Answer → Type 0) → Answer → Type 0
-OverTree (Ok tree) next answer = (sources : List SourceFile) × AreFiles sources tree × next sources answer
-OverTree (Err passed) next answer = answer ≡ passed
+OverTree tree next answer = Over AsAnswer tree next answer

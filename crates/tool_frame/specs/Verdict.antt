@@ -1,13 +1,20 @@
--- The exits of the verdicts: 0 done, 1 a negative verdict, 7 a limit was passed.
-use Rattle.std.specs.Prelude.{◌≡◌, ℕ, ◌<◌, ◌⊎◌}
+-- The exits of the verdicts.
+use Rattle.std.specs.Prelude.{◌≡◌, ℕ}
+use Rattle.tool_frame.specs.declared.exit.Exit.{Exit}
+use Rattle.tool_frame.specs.declared.exit.Exit.TheVariants as exit
 use Rattle.tool_frame.specs.declared.verdict.Verdict.{Verdict}
 use Rattle.tool_frame.specs.declared.verdict.Verdict.TheVariants.{Done, Negative, LimitPassed}
+use Rattle.tool_frame.specs.Exit.{number_of}
 
+abbrev pub as_exit : Verdict → Exit
+as_exit Done = exit.Done
+as_exit Negative = exit.Negative
+as_exit LimitPassed = exit.LimitPassed
+
+-- its number
 abbrev pub exit_of : Verdict → ℕ
-exit_of Done = 0
-exit_of Negative = 1
-exit_of LimitPassed = 7
+exit_of verdict = number_of (as_exit verdict)
 
--- one of these exits: nothing failed, and memory was there
+-- the exit of a verdict: nothing failed, and memory was there
 abbrev pub IsVerdict : ℕ → Type 0
-IsVerdict exit = (exit < 2) ⊎ (exit ≡ 7)
+IsVerdict exit = (verdict : Verdict) × (exit ≡ exit_of verdict)

@@ -1,6 +1,3 @@
+-- What the code's steps do, for inner contracts: no contract of a function that the crate exports cites it.
 pub mod Acts
-pub mod Courses
-pub mod Ends
-pub mod Prints
-pub mod Results
 pub mod Trees

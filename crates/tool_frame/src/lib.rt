@@ -2,9 +2,10 @@
 #![tactic(auto)]
 
 mod ending;
+mod exit;
 mod loading;
 mod printed;
-mod put;
+mod putting;
 mod refusing;
 mod shown;
 mod steps;
@@ -12,11 +13,12 @@ mod tree;
 mod verdict;
 
 pub use ending::end;
-pub use loading::{held, load};
+pub use exit::Exit;
+pub use loading::{load, within_limit};
 pub use printed::{Early, Printed, limit_passed, refusal};
-pub use put::print;
+pub use putting::{print, put};
 pub use refusing::refuse;
 pub use shown::push_shown;
-pub use steps::{files_of, text_of, there, within};
+pub use steps::{bytes_within, existing_file, files_of, text_of};
 pub use tree::load_tree;
 pub use verdict::Verdict;

@@ -5,7 +5,7 @@ ghost use Rattle.aidl_base.specs.Limits.{limit_number};
 ghost use Rattle.aidl_outside.specs.Causes.{StoreCause};
 ghost use Rattle.aidl_outside.specs.Told.{Tells};
 ghost use Rattle.tool_frame.specs.Refusals.{file_at, within};
-ghost use Rattle.tool_frame.specs.steps.Results.{IsShort, held, loaded};
+ghost use Rattle.tool_frame.specs.Results.{IsShort, held, loaded};
 
 use aidl_base::{Limit, LimitName};
 use aidl_outside::{Store, StoreFault};
@@ -34,13 +34,13 @@ fn file_held(which: LimitName, file: Option<Vec<u8>>) -> Option<Result<Vec<u8>, 
     ensures short { IsShort which result }
 {
     match file {
-        Some(bytes) => Some(held(which, bytes)),
+        Some(bytes) => Some(within_limit(which, bytes)),
         None => None,
     }
 }
 
 /// Bytes, where they don't pass a limit.
-pub fn held(which: LimitName, bytes: Vec<u8>) -> Result<Vec<u8>, Limit>
+pub fn within_limit(which: LimitName, bytes: Vec<u8>) -> Result<Vec<u8>, Limit>
     ensures bytes { held result ≡ within which bytes.items }
     ensures short { IfOk result (λ held. length held.items ≤ limit_number which) }
 {

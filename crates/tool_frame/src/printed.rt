@@ -2,7 +2,7 @@
 ghost use Rattle.std.specs.Prelude.{◌≡◌, ◌++◌, ℕ, codes, IfOk, string_bytes};
 ghost use Rattle.std.specs.Fmt.{decimal};
 ghost use Rattle.tool_frame.specs.Answer.{line, negative, limit_passed};
-ghost use Rattle.tool_frame.specs.steps.Results.{EndsAs};
+ghost use Rattle.tool_frame.specs.Results.{EndsAs};
 
 use crate::verdict::Verdict;
 use aidl_base::{Limit, OutOfMemory};

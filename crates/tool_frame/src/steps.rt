@@ -2,15 +2,15 @@
 ghost use Rattle.std.specs.Prelude.{◌≡◌, map};
 ghost use Rattle.tool_frame.specs.Refusals as step;
 ghost use Rattle.tool_frame.specs.Trees.{file_seen, tree_seen};
-ghost use Rattle.tool_frame.specs.steps.Results.{Finds, held, loaded};
+ghost use Rattle.tool_frame.specs.Results.{Finds, held, loaded};
 
-use crate::loading::held;
+use crate::loading::within_limit;
 use crate::printed::{Early, limit_passed, refusal};
 use aidl_base::{Limit, LimitName, Row, SourceFile};
 use std::alloc::Global;
 
 /// A file that is there.
-pub fn there(
+pub fn existing_file(
     alloc: Global,
     path: &str,
     file: Option<Result<Vec<u8>, Limit>>,
@@ -34,10 +34,10 @@ pub fn text_of(alloc: Global, found: Result<Vec<u8>, Limit>) -> Result<Vec<u8>, 
 }
 
 /// Bytes that don't pass a limit.
-pub fn within(alloc: Global, which: LimitName, bytes: Vec<u8>) -> Result<Vec<u8>, Early>
+pub fn bytes_within(alloc: Global, which: LimitName, bytes: Vec<u8>) -> Result<Vec<u8>, Early>
     ensures { Finds (λ v. v.items) result (step.within which bytes.items) }
 {
-    text_of(alloc, held(which, bytes))
+    text_of(alloc, within_limit(which, bytes))
 }
 
 /// The files of a tree that was loaded.

@@ -3,15 +3,16 @@ ghost use Rattle.std.specs.Prelude.{◌≡◌, ◌++◌, ◌∷◌, [], IfOk, On
 ghost use Rattle.std.specs.List.{filter};
 ghost use Rattle.aidl_base.specs.declared.limit.LimitName.TheVariants.{FileBytes};
 ghost use Rattle.aidl_outside.specs.Causes.{StoreCause};
+ghost use Rattle.aidl_outside.specs.Files.{path_below};
 ghost use Rattle.aidl_outside.specs.Told.{Tells};
 ghost use Rattle.tool_frame.specs.Refusals.{file_at};
-ghost use Rattle.tool_frame.specs.Trees.{AreShort, file_found, file_seen, files_at, is_source, path_below, sources_below, tree_at, tree_seen};
-ghost use Rattle.tool_frame.specs.steps.Results.{IsShort, loaded};
+ghost use Rattle.tool_frame.specs.Trees.{AreShort, file_found, file_seen, files_at, is_source, sources_below, tree_at, tree_seen};
+ghost use Rattle.tool_frame.specs.Results.{IsShort, loaded};
 ghost use Rattle.tool_frame.specs.steps.Trees.{onto, so_far};
 
 use crate::loading::load;
 use aidl_base::{Limit, LimitName, OutOfMemory, Row, SourceFile, Text};
-use aidl_outside::{Store, StoreFault};
+use aidl_outside::{Store, StoreFault, path_below};
 use std::alloc::Global;
 
 /// The files below a root that end in `.aidl`, sorted by the bytes of their paths, which are relative to the root.
@@ -121,15 +122,6 @@ fn load_below<S: Store>(
         Ok(whole) => load(alloc, LimitName::FileBytes, whole.as_str(), store),
         Err(_) => Err(StoreFault::OutOfMemory),
     }
-}
-
-fn path_below(alloc: Global, folder: &str, path: &str) -> Result<String, OutOfMemory>
-    ensures { IfOk result (λ whole. string_bytes whole ≡ path_below folder.now path.now) }
-{
-    let mut whole = String::from_str(alloc, folder)?;
-    whole.push_str("/")?;
-    whole.push_str(path)?;
-    Ok(whole)
 }
 
 // Adds a file that was loaded, where one stood at its path, and it wasn't too long.

@@ -1,23 +1,29 @@
-//! The verdicts of commands that met no fault, with their exit statuses.
+//! The verdicts of commands that met no fault, with their exits.
 ghost use Rattle.std.specs.Prelude.{◌≡◌};
-ghost use Rattle.tool_frame.specs.Verdict.{exit_of};
+ghost use Rattle.tool_frame.specs.Verdict.{as_exit};
+
+use crate::exit::Exit;
 
 /// How a command ends that met no fault.
 #[derive(Clone, Copy, Debug)]
 pub enum Verdict {
-    /// exit 0
-    Done = 0,
-    /// exit 1, a negative verdict
-    Negative = 1,
-    /// exit 7, a limit was passed
-    LimitPassed = 7,
+    /// done
+    Done,
+    /// a negative verdict
+    Negative,
+    /// a limit was passed
+    LimitPassed,
 }
 
 impl Verdict {
-    /// The exit status.
-    pub fn status(self) -> u8
-        ensures { result ≡ exit_of self }
+    /// The exit that goes with it.
+    pub fn exit(self) -> Exit
+        ensures { result ≡ as_exit self }
     {
-        self as u8
+        match self {
+            Verdict::Done => Exit::Done,
+            Verdict::Negative => Exit::Negative,
+            Verdict::LimitPassed => Exit::LimitPassed,
+        }
     }
 }

@@ -9,4 +9,4 @@ mod sizes;
 
 pub use fault::{FilesFault, LexBreach};
 pub use laws::{law_of_bytes, law_one_answer};
-pub use parsing::parsed;
+pub use parsing::parse_files;

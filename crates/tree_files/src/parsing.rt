@@ -17,7 +17,7 @@ use std::alloc::Global;
 /// order: the limits `files` and `file-bytes`; every file without tokens; the limit on tokens that the first file
 /// passes, `nesting` before `run-length`; every file for which no tree stands. It may also answer that memory was
 /// wanted.
-pub fn parsed(alloc: Global, files: &[SourceFile]) -> Result<Row<ParsedFile>, FilesFault>
+pub fn parse_files(alloc: Global, files: &[SourceFile]) -> Result<Row<ParsedFile>, FilesFault>
     ensures ok { IfOk result (AreParsed files.now) }
     ensures of_bytes { IfOk result AreOfBytes }
     ensures err { IfErr result (IsRefusal files.now) }

@@ -84,7 +84,7 @@ module _ (root : List ℕ) (files : List SourceFile) where
     never_faulty schema a h k = never_both schema k.0 (not_memory root files k.0 a k.2) h k.1
 
     pub one_check_answer : (a b : Answer) → IsCheckAnswer root files a → IsCheckAnswer root files b → a ≡ b
-    one_check_answer a b (inl h) (inl k) = h.2 ∙ ap accepted (one_schema h.0 k.0 h.1 k.1) ∙ sym k.2
-    one_check_answer a b (inl h) (inr k) = absurd (never_faulty h.0 b h.1 k)
-    one_check_answer a b (inr h) (inl k) = absurd (never_faulty k.0 a k.1 h)
-    one_check_answer a b (inr h) (inr k) = one_fault_answer a b h k
+    one_check_answer a b (inl h) (inl k) = h.2 ∙ one_fault_answer h.0 k.0 h.1 k.1 ∙ sym k.2
+    one_check_answer a b (inl h) (inr k) = absurd (never_faulty k.0 h.0 k.1 h.1)
+    one_check_answer a b (inr h) (inl k) = absurd (never_faulty h.0 k.0 h.1 k.1)
+    one_check_answer a b (inr h) (inr k) = h.2 ∙ ap accepted (one_schema h.0 k.0 h.1 k.1) ∙ sym k.2

@@ -5,9 +5,9 @@ use Rattle.tool_frame.specs.declared.printed.Early.{Early}
 use Rattle.tool_frame.specs.declared.printed.Early.TheVariants.{Answered, OutOfMemory}
 use Rattle.tool_frame.specs.declared.printed.Printed.{Printed}
 use Rattle.tool_frame.specs.Answer.{Answer}
-use Rattle.tool_frame.specs.steps.Results.{EndsAs, Gives, GivesOne}
+use Rattle.tool_frame.specs.Results.{EndsAs, Gives, GivesOne}
 use Rattle.tree_output.specs.Faults.{refused}
-use Rattle.tree_output.specs.steps.Results.{EndsBy, EndsWith}
+use Rattle.tree_output.specs.Results.{EndsBy, EndsWith}
 
 -- by an answer of which this holds
 pub ends_as : (Is : Answer → Type 0) (early : Early) (answer : Answer) → EndsAs early answer → Is answer → EndsBy Is early

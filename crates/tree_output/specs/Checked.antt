@@ -1,16 +1,15 @@
 -- What `check` prints of the files of a tree with its root (own).
-use Rattle.std.specs.Prelude.{◌≡◌, ◌⊎◌, ℕ, ◌++◌, List, length, codes}
+use Rattle.std.specs.Prelude.{◌≡◌, ℕ, ◌++◌, List, length, codes}
 use Rattle.std.specs.Fmt.{decimal}
 use Rattle.aidl_base.specs.declared.source_file.SourceFile.{SourceFile}
 use Rattle.aidl_schema.specs.declared.schema.Decl.{Decl}
-use Rattle.tool_frame.specs.Answer.{Answer, done}
-use Rattle.type_check.specs.Checked.{IsSchemaOf}
-use Rattle.tree_output.specs.Faults.{IsFaultAnswer}
+use Rattle.tool_frame.specs.Answer.{Answer, AsAnswer, done}
+use Rattle.tree_output.specs.ByTree.{ByFiles}
 
 -- `ok N types`, N the number of declarations
 abbrev pub accepted : List Decl → Answer
 accepted schema = done (codes "ok " ++ decimal (length schema) ++ codes " types")
 
--- the files have this schema; or else their faults are printed
+-- by the schema of the files
 abbrev pub IsCheckAnswer : List ℕ → List SourceFile → Answer → Type 0
-IsCheckAnswer root files answer = ((schema : List Decl) × IsSchemaOf files schema × (answer ≡ accepted schema)) ⊎ IsFaultAnswer root files answer
+IsCheckAnswer root files answer = ByFiles AsAnswer root files (λ schema a. a ≡ accepted schema) answer

@@ -1,14 +1,14 @@
 -- What `judge` prints of the files of two trees with their roots (own).
-use Rattle.std.specs.Prelude.{◌≡◌, ◌⊎◌, ℕ, ◌++◌, List, [], ◌∷◌, codes}
+use Rattle.std.specs.Prelude.{◌≡◌, ℕ, ◌++◌, List, [], ◌∷◌, codes}
 use Rattle.std.specs.List.{flat_map}
 use Rattle.std.specs.Fmt.{decimal}
 use Rattle.std.specs.Str.{encode_utf8_all}
 use Rattle.aidl_base.specs.declared.source_file.SourceFile.{SourceFile}
 use Rattle.aidl_schema.specs.Broken.{Break, broken}
 use Rattle.aidl_schema.specs.declared.schema.Decl.{Decl}
-use Rattle.tool_frame.specs.Answer.{Answer, done, line}
-use Rattle.type_check.specs.Checked.{IsSchemaOf}
-use Rattle.tree_output.specs.Faults.{IsFaultAnswer, refused}
+use Rattle.tool_frame.specs.Answer.{Answer, AsAnswer, done, line}
+use Rattle.tree_output.specs.ByTree.{ByFiles}
+use Rattle.tree_output.specs.Faults.{refused}
 
 -- `C10 PLACE`
 abbrev pub break_line : Break → List ℕ
@@ -19,12 +19,10 @@ abbrev pub judged : List Break → Answer
 judged [] = done (codes "yes")
 judged (b ∷ bs) = refused (flat_map break_line (b ∷ bs))
 
--- once the first tree has this schema: the faults of the second tree; else the judge's answer
+-- once the first tree has this schema, the judge's answer by that of the second
 abbrev pub IsSecondAnswer : List Decl → List ℕ → List SourceFile → Answer → Type 0
-IsSecondAnswer old new_root new_files answer =
-    IsFaultAnswer new_root new_files answer ⊎ ((new : List Decl) × IsSchemaOf new_files new × (answer ≡ judged (broken old new)))
+IsSecondAnswer old new_root new_files answer = ByFiles AsAnswer new_root new_files (λ new a. a ≡ judged (broken old new)) answer
 
--- The first tree is judged whole before the second: its faults; else what is printed of the second.
+-- The first tree is judged whole before the second.
 abbrev pub IsJudgeAnswer : List ℕ → List SourceFile → List ℕ → List SourceFile → Answer → Type 0
-IsJudgeAnswer old_root old_files new_root new_files answer =
-    IsFaultAnswer old_root old_files answer ⊎ ((old : List Decl) × IsSchemaOf old_files old × IsSecondAnswer old new_root new_files answer)
+IsJudgeAnswer old_root old_files new_root new_files answer = ByFiles AsAnswer old_root old_files (λ old. IsSecondAnswer old new_root new_files) answer

@@ -4,8 +4,8 @@ ghost use Rattle.std.specs.Fmt.{decimal};
 ghost use Rattle.tool_frame.specs.Answer.{line};
 ghost use Rattle.tree_output.specs.Checked.{IsCheckAnswer, accepted};
 ghost use Rattle.tree_output.specs.Faults.{IsFaultAnswer};
-ghost use Rattle.tool_frame.specs.steps.Results.{Gives, GivesOne};
-ghost use Rattle.tree_output.specs.steps.Results.{EndsBy};
+ghost use Rattle.tool_frame.specs.Results.{Gives, GivesOne};
+ghost use Rattle.tree_output.specs.Results.{EndsBy};
 ghost use Rattle.type_check.specs.Checked.{IsSchemaOf};
 
 use crate::faults::fault_answer;
@@ -19,7 +19,7 @@ use type_check::check;
 /// The schema of the files of a tree with a root. Where the tree isn't checked it answers what is printed of it: with exit 1 one
 /// line per fault, `PATH:OFFSET: ` and `lex NUMBER NAME`, `syntax` or a rule with its name, PATH being the root, `/` and the
 /// file's path, OFFSET bytes from the file's start; or with exit 7 the limit that is passed. Memory may be wanted.
-pub fn checked(alloc: Global, root: &str, files: Row<SourceFile>) -> Result<Schema, Early>
+pub fn check_tree(alloc: Global, root: &str, files: Row<SourceFile>) -> Result<Schema, Early>
     ensures ok { IfOk result (λ schema. IsSchemaOf files schema.decls) }
     ensures err { IfErr result (EndsBy (IsFaultAnswer root.now files)) }
 {
@@ -35,7 +35,7 @@ pub fn checked(alloc: Global, root: &str, files: Row<SourceFile>) -> Result<Sche
 pub fn check_answer(alloc: Global, root: &str, files: Row<SourceFile>) -> Result<Printed, Early>
     ensures { GivesOne result (IsCheckAnswer root.now files) }
 {
-    match checked(alloc, root, files) {
+    match check_tree(alloc, root, files) {
         Ok(schema) => accepted(alloc, &schema),
         Err(early) => Err(early),
     }

@@ -1,6 +1,6 @@
 //! What is printed of a tree that is refused, for each sort of refusal.
 ghost use Rattle.tree_output.specs.Faults.{IsAnswerOf, IsFaultAnswer};
-ghost use Rattle.tree_output.specs.steps.Results.{EndsBy, EndsWith};
+ghost use Rattle.tree_output.specs.Results.{EndsBy, EndsWith};
 ghost use Rattle.type_check.specs.Refusals.{IsRefusal};
 
 use crate::lines::{breach_lines, lex_lines};

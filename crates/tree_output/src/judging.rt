@@ -4,10 +4,10 @@ ghost use Rattle.std.specs.List.{flat_map};
 ghost use Rattle.aidl_schema.specs.Broken.{broken};
 ghost use Rattle.compat_judge.specs.Seen.{seen};
 ghost use Rattle.tool_frame.specs.Answer.{line};
-ghost use Rattle.tool_frame.specs.steps.Results.{Gives, GivesOne};
+ghost use Rattle.tool_frame.specs.Results.{Gives, GivesOne};
 ghost use Rattle.tree_output.specs.Judged.{IsJudgeAnswer, IsSecondAnswer, break_line, judged};
 
-use crate::checking::checked;
+use crate::checking::check_tree;
 use aidl_base::{OutOfMemory, Row, SourceFile};
 use aidl_schema::Schema;
 use compat_judge::{Broken, judge};
@@ -26,7 +26,7 @@ pub fn judge_answer(
 ) -> Result<Printed, Early>
     ensures { GivesOne result (IsJudgeAnswer old_root.now old_files new_root.now new_files) }
 {
-    match checked(alloc, old_root, old_files) {
+    match check_tree(alloc, old_root, old_files) {
         Ok(old) => judge_second(alloc, &old, new_root, new_files),
         Err(early) => Err(early),
     }
@@ -41,7 +41,7 @@ fn judge_second(
 ) -> Result<Printed, Early>
     ensures { GivesOne result (IsSecondAnswer old.now.decls new_root.now new_files) }
 {
-    match checked(alloc, new_root, new_files) {
+    match check_tree(alloc, new_root, new_files) {
         Ok(new) => judge_schemas(alloc, old, &new),
         Err(early) => Err(early),
     }
@@ -84,8 +84,8 @@ pub fn judge_lines(alloc: Global, rows: &[Broken]) -> Result<String, OutOfMemory
     Ok(text)
 }
 
-// Adds the line of a broken rule.
-fn push_break(row: &Broken, text: &mut String) -> Result<(), OutOfMemory>
+/// Adds the line of a broken evolution rule, `C10 PLACE`.
+pub fn push_break(row: &Broken, text: &mut String) -> Result<(), OutOfMemory>
     ensures { OnOk result (string_bytes text.new ≡ string_bytes text.old ++ break_line (seen row.now)) }
 {
     let rule = row.rule;

@@ -9,7 +9,7 @@ mod lines;
 mod places;
 mod rule_names;
 
-pub use checking::{check_answer, checked};
+pub use checking::{check_answer, check_tree};
 pub use faults::fault_answer;
-pub use judging::{judge_answer, judge_lines};
+pub use judging::{judge_answer, judge_lines, push_break};
 pub use laws::law_one_check_answer;

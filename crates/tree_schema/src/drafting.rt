@@ -13,7 +13,7 @@ use crate::bases::number_of;
 use crate::copied::copied_parts;
 use crate::kinds::{constants_of, kind_of};
 use crate::numbers::numbers_of;
-use crate::order::sorted;
+use crate::order::in_schema_order;
 use crate::tree::{Placed, Tree};
 use aidl_base::{DottedName, OutOfMemory, Row};
 use aidl_names::Names;
@@ -33,7 +33,7 @@ pub fn draft(
     ensures { IfOk result (λ decls. decls ≡ meant.schema_of (map source_of names.now) (outcome_at settled.now.outcomes.items)) }
 {
     let _files = names.files();
-    let order = sorted(alloc, names.decls())?;
+    let order = in_schema_order(alloc, names.decls())?;
     let numbers = numbers_of(alloc, order.as_slice())?;
     let tree = Tree {
         names,

@@ -18,5 +18,5 @@ mod values;
 
 pub use drafting::draft;
 pub use laws::{law_named, law_valid};
-pub use order::sorted;
+pub use order::in_schema_order;
 pub use tree::{Placed, Tree};

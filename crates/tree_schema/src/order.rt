@@ -12,7 +12,7 @@ use std::collections::BTreeMap;
 
 /// The declarations of a tree in the order of a schema: by the bytes of their canonical names.
 #[tactic(auto, unfolding(crate::specs::Numbers::sorted))]
-pub fn sorted<'a, 'b>(
+pub fn in_schema_order<'a, 'b>(
     alloc: Global,
     found: &'a [Found<'b>],
 ) -> Result<Vec<Placed<'a, 'b>>, OutOfMemory>

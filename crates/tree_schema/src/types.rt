@@ -9,7 +9,7 @@ use crate::bases::base_of;
 use crate::tree::Tree;
 use aidl_schema::{AidlType, Base, Shape};
 use aidl_syntax::{AnnotTree, TypeTree};
-use type_shapes::{Shape as TreeShape, shaped};
+use type_shapes::{Shape as TreeShape, shape_of};
 use type_uses::kept_of;
 
 /// The type in the schema that a type of a file is, below the declaration with the number `scope` and behind annotations (AOSP, "AIDL
@@ -25,7 +25,7 @@ pub fn type_of(
     requires numbers { HasNumbers tree.now }
     ensures { result ≡ meant.type_of (files_of tree.now) file scope (map annot_of annots.now) ty.now }
 {
-    typed(tree, annots, shaped(tree.names, file, scope, ty))
+    typed(tree, annots, shape_of(tree.names, file, scope, ty))
 }
 
 fn typed(tree: &Tree<'_, '_>, annots: &[AnnotTree], shape: TreeShape) -> AidlType

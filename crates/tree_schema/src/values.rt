@@ -11,7 +11,7 @@ use aidl_syntax::{EnumeratorTree, ExprTree, InitTree, TypeTree};
 use const_eval::Outcome;
 use const_items::place_by;
 use std::alloc::Global;
-use type_shapes::{is_unjudged, shaped};
+use type_shapes::{is_unjudged, shape_of};
 
 /// The initializer of a field, which may be one after the first of a union. One that E21 refuses, or whose field's type E16 refuses, isn't
 /// there.
@@ -31,7 +31,7 @@ pub fn initial_of(
     match initial {
         None => Ok(None),
         Some(init) => {
-            let shape = shaped(tree.names, file, scope, ty);
+            let shape = shape_of(tree.names, file, scope, ty);
             if is_unjudged(tree.names.decls(), later, shape, init) {
                 Ok(None)
             } else {

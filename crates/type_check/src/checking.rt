@@ -18,7 +18,7 @@ use aidl_syntax::ParsedFile;
 use const_eval::{Settled, breaches, eval_all};
 use schema_bounds::law_within;
 use std::alloc::Global;
-use tree_files::parsed;
+use tree_files::parse_files;
 use tree_schema::{draft, law_named, law_valid};
 use type_rules::law_unbroken;
 
@@ -30,7 +30,7 @@ pub fn check(alloc: Global, files: &[SourceFile]) -> Result<Schema, CheckFault>
     ensures ok { IfOk result (λ schema. IsSchemaOf files.now schema.decls) }
     ensures err { IfErr result (IsRefusal files.now) }
 {
-    match parsed(alloc, files) {
+    match parse_files(alloc, files) {
         Ok(trees) => of_trees(alloc, trees.as_slice()),
         Err(fault) => Err(of_files(fault)),
     }

@@ -11,8 +11,8 @@ use aidl_names::{Names, in_order};
 use aidl_schema::Decl;
 use schema_bounds::bounds;
 use std::alloc::Global;
-use tree_schema::sorted;
-use type_rules::unsorted;
+use tree_schema::in_schema_order;
+use type_rules::breaches_unsorted;
 
 /// The breaches of E13 to E24 in a tree, by the declarations of its schema, sorted by file, offset and rule, each once.
 pub fn types_broken(
@@ -26,8 +26,8 @@ pub fn types_broken(
 {
     let _files = names.files();
     let bounds = bounds(alloc, decls)?;
-    let order = sorted(alloc, names.decls())?;
-    let mut rows = unsorted(alloc, names)?;
+    let order = in_schema_order(alloc, names.decls())?;
+    let mut rows = breaches_unsorted(alloc, names)?;
     add_broken(22, bounds.as_slice(), order.as_slice(), &mut rows)?;
     add_broken(23, bounds.as_slice(), order.as_slice(), &mut rows)?;
     in_order(alloc, rows.as_slice())

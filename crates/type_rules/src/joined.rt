@@ -29,12 +29,12 @@ use type_uses::{TypeUseRef, listed_uses};
 pub fn breaches(alloc: Global, names: &Names<'_>) -> Result<Row<Breach>, OutOfMemory>
     ensures { IfOk result (λ rows. rows ≡ meant.breaches (map source_of names.now)) }
 {
-    let rows = unsorted(alloc, names)?;
+    let rows = breaches_unsorted(alloc, names)?;
     in_order(alloc, rows.as_slice())
 }
 
 /// The breaches of E13 to E21 and E24, in the order of the declarations, for a caller that joins further ones to them.
-pub fn unsorted(alloc: Global, names: &Names<'_>) -> Result<Vec<Breach>, OutOfMemory>
+pub fn breaches_unsorted(alloc: Global, names: &Names<'_>) -> Result<Vec<Breach>, OutOfMemory>
     ensures { IfOk result (λ rows. rows.items ≡ meant.unsorted (map source_of names.now)) }
 {
     let _files = names.files();

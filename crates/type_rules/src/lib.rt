@@ -12,5 +12,5 @@ mod laws;
 mod nullable;
 mod use_rules;
 
-pub use joined::{breaches, unsorted};
+pub use joined::{breaches, breaches_unsorted};
 pub use laws::law_unbroken;

@@ -30,7 +30,7 @@ pub enum Shape {
 
 /// What a type is in a file, below the declaration with the number `scope` (AOSP, "AIDL language", "Types"; E16: own). It takes
 /// no memory.
-pub fn shaped(names: &Names<'_>, file: u32, scope: u32, ty: &TypeTree) -> Shape
+pub fn shape_of(names: &Names<'_>, file: u32, scope: u32, ty: &TypeTree) -> Shape
     requires { IsScope (map source_of names.now) file scope }
     ensures { result ≡ meant.shaped (declarations (map source_of names.now)) (meaning_in (map source_of names.now) file scope) ty.now }
 {

@@ -13,7 +13,7 @@ use aidl_base::OutOfMemory;
 use aidl_names::Names;
 use aidl_syntax::{ArgTree, BodyTree, MemberTree, MethodTree, TypeTree};
 use std::alloc::Global;
-use type_shapes::{Shape, shaped};
+use type_shapes::{Shape, shape_of};
 
 /// The types that a declaration uses, by its file, its number and its body, in the order of the file.
 pub fn listed_uses<'a>(
@@ -65,12 +65,12 @@ fn add_member<'a>(
 {
     match member {
         MemberTree::Field(field) => {
-            let shape = shaped(names, file, number, &field.ty);
+            let shape = shape_of(names, file, number, &field.ty);
             uses.push(TypeUseRef::Field(field, shape))?;
             Ok(())
         }
         MemberTree::Constant(constant) => {
-            let shape = shaped(names, file, number, &constant.ty);
+            let shape = shape_of(names, file, number, &constant.ty);
             uses.push(TypeUseRef::Constant(constant, shape))?;
             Ok(())
         }
@@ -100,7 +100,7 @@ fn returned(names: &Names<'_>, file: u32, number: u32, ty: &Option<TypeTree>) ->
 {
     match ty {
         None => None,
-        Some(ty) => Some(shaped(names, file, number, ty)),
+        Some(ty) => Some(shape_of(names, file, number, ty)),
     }
 }
 
@@ -115,7 +115,7 @@ fn add_arguments<'a>(
     ensures { OnOk result (map seen_use uses.new.items ≡ map seen_use uses.old.items ++ map (meant.of_arg (shape_in (map source_of names.now) file number)) (map arg_of args.now)) }
 {
     for arg in args {
-        let shape = shaped(names, file, number, &arg.ty);
+        let shape = shape_of(names, file, number, &arg.ty);
         uses.push(TypeUseRef::Argument(arg, shape))?;
     }
     Ok(())

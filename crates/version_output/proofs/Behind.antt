@@ -4,13 +4,13 @@ use Rattle.std.specs.Fmt.{decimal}
 use Rattle.aidl_base.specs.declared.source_file.SourceFile.{SourceFile}
 use Rattle.api_versions.specs.Versions.{version_folder}
 use Rattle.version_output.specs.Frozen.{IsUnreadable}
-use Rattle.version_output.specs.steps.Seen.{Follows}
+use Rattle.version_output.specs.Seen.{Follows}
 use Rattle.tool_frame.specs.Answer.{line}
 use Rattle.tool_frame.specs.declared.printed.Early.{Early}
 use Rattle.tool_frame.specs.declared.printed.Early.TheVariants.{Answered, OutOfMemory}
-use Rattle.tool_frame.specs.steps.Results.{printed}
+use Rattle.tool_frame.specs.Results.{printed}
 use Rattle.tree_output.specs.Faults.{IsFaultAnswer}
-use Rattle.tree_output.specs.steps.Results.{EndsBy}
+use Rattle.tree_output.specs.Results.{EndsBy}
 
 module _ (api : List ℕ) (version : ℕ) (files : List SourceFile) where
   pub unreadable_ends : (faults result : Early) → EndsBy (IsFaultAnswer (version_folder api version) files) faults

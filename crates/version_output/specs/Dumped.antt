@@ -1,9 +1,9 @@
 -- What `dump` writes and prints of the schema of a tree (own).
 use Rattle.std.specs.Prelude.{◌≡◌, ℕ, ◌++◌, List, length, map, codes}
 use Rattle.std.specs.Fmt.{decimal}
+use Rattle.aidl_outside.specs.Files.{path_below}
 use Rattle.aidl_schema.specs.declared.schema.Decl.{Decl}
 use Rattle.api_dump.specs.Dump.{File, dump_text}
-use Rattle.api_versions.specs.Versions.{path_below}
 use Rattle.api_versions.specs.Writes.{Write}
 use Rattle.tool_frame.specs.Acts.{Acts}
 use Rattle.tool_frame.specs.Answer.{Answer, done}

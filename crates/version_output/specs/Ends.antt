@@ -7,7 +7,7 @@ use Rattle.api_versions.specs.declared.fault.FreezeFault.TheVariants as fault
 use Rattle.tool_frame.specs.declared.printed.Early.{Early}
 use Rattle.tool_frame.specs.declared.printed.Early.TheVariants.{Answered, OutOfMemory}
 use Rattle.tool_frame.specs.Answer.{Answer}
-use Rattle.tool_frame.specs.steps.Results.{printed}
+use Rattle.tool_frame.specs.Results.{printed}
 
 -- such an answer, or memory was wanted
 abbrev pub EndsIn : (Answer → Type 0) → Result Early StoreFault → Type 0

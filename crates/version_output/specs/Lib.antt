@@ -4,4 +4,4 @@ pub mod Rehashed
 pub mod Verified
 pub mod Dumped
 pub mod Frozen
-pub mod steps
+pub mod Seen

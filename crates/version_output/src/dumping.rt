@@ -1,16 +1,17 @@
 //! The writes and the printed line of `dump`.
 ghost use Rattle.std.specs.Prelude.{◌≡◌, ◌++◌, codes, decimal, length, map, IfOk, string_bytes};
 ghost use Rattle.api_dump.specs.Dump.{dump_text, seen};
-ghost use Rattle.api_versions.specs.steps.Seen.{write_seen};
+ghost use Rattle.api_versions.specs.Seen.{write_seen};
 ghost use Rattle.version_output.specs.Dumped as meant;
-ghost use Rattle.version_output.specs.steps.Seen.{IsDue};
+ghost use Rattle.version_output.specs.Seen.{IsDue};
 ghost use Rattle.tool_frame.specs.Answer.{line};
-ghost use Rattle.tool_frame.specs.steps.Results.{printed};
+ghost use Rattle.tool_frame.specs.Results.{printed};
 
 use aidl_base::{OutOfMemory, Row, SourceFile};
+use aidl_outside::path_below;
 use aidl_schema::Schema;
 use api_dump::dump;
-use api_versions::{Write, path_below};
+use api_versions::Write;
 use std::alloc::Global;
 use std::fmt::Write as _;
 use tool_frame::{Printed, Verdict};
@@ -24,7 +25,7 @@ pub struct Due {
 
 /// What `dump` writes below a folder and prints of a schema: the files of the canonical dump in path order, and
 /// `wrote N files`.
-pub fn dumped(alloc: Global, out: &str, schema: &Schema) -> Result<Due, OutOfMemory>
+pub fn dump_answer(alloc: Global, out: &str, schema: &Schema) -> Result<Due, OutOfMemory>
     ensures { IfOk result (IsDue (meant.Dumps out.now schema.now.decls)) }
 {
     let files = dump(alloc, schema)?;

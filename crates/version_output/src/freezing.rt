@@ -2,7 +2,7 @@
 ghost use Rattle.std.specs.Prelude.{◌≡◌, ◌++◌, codes, decimal, IfOk, string_bytes};
 ghost use Rattle.version_output.specs.Frozen as meant;
 ghost use Rattle.tool_frame.specs.Answer.{line};
-ghost use Rattle.tool_frame.specs.steps.Results.{Gives};
+ghost use Rattle.tool_frame.specs.Results.{Gives};
 
 use aidl_base::OutOfMemory;
 use api_freeze::Frozen;
@@ -11,7 +11,7 @@ use std::fmt::Write;
 use tool_frame::{Early, Printed, Verdict};
 
 /// What `freeze` prints of a version that was frozen: `frozen N HASH`.
-pub fn frozen(alloc: Global, frozen: &Frozen) -> Result<Printed, Early>
+pub fn freeze_answer(alloc: Global, frozen: &Frozen) -> Result<Printed, Early>
     ensures { Gives result (meant.frozen frozen.now.version frozen.now.hash) }
 {
     let text = frozen_line(alloc, frozen.version, frozen.hash.as_str())?;

@@ -10,9 +10,9 @@ mod torn_version;
 mod unread;
 mod verifying;
 
-pub use dumping::{Due, dumped};
-pub use freezing::frozen;
-pub use refusing::unfrozen;
-pub use rehashing::{rehashed, unhashed};
+pub use dumping::{Due, dump_answer};
+pub use freezing::freeze_answer;
+pub use refusing::freeze_refusal;
+pub use rehashing::{rehash_answer, rehash_refusal};
 pub use unread::bad_versions;
-pub use verifying::verified;
+pub use verifying::verify_answer;

@@ -5,16 +5,16 @@ ghost use Rattle.api_freeze.specs.Freeze.{IsRead};
 ghost use Rattle.api_versions.specs.Versions as path;
 ghost use Rattle.compat_judge.specs.Seen.{seen};
 ghost use Rattle.version_output.specs.Frozen as meant;
-ghost use Rattle.version_output.specs.steps.Seen.{Follows};
+ghost use Rattle.version_output.specs.Seen.{Follows};
 ghost use Rattle.tool_frame.specs.Answer.{after_text, line, negative};
-ghost use Rattle.tool_frame.specs.steps.Results.{EndsAs, printed};
+ghost use Rattle.tool_frame.specs.Results.{EndsAs, printed};
 ghost use Rattle.tree_output.specs.Faults.{refused};
 ghost use Rattle.tree_output.specs.Judged.{break_line};
-ghost use Rattle.tree_output.specs.steps.Results as tree;
+ghost use Rattle.tree_output.specs.Results as tree;
 ghost use Rattle.type_check.specs.Refusals.{IsRefusal};
 ghost use Rattle.version_output.specs.Ends.{EndsBy};
 
-use crate::torn_version::torn;
+use crate::torn_version::torn_answer;
 use crate::unread::bad_versions;
 use aidl_base::{OutOfMemory, Row, SourceFile};
 use aidl_outside::StoreFault;
@@ -29,7 +29,7 @@ use type_check::CheckFault;
 
 /// What `freeze` prints where it refuses: `bad versions missing N`; `torn N missing HASH` or `torn N kept BYTES HASH`; `unreadable N`
 /// and the lines of the version's faults; `unchanged N`; the judge's lines; or a limit. Memory may be wanted.
-pub fn unfrozen(alloc: Global, api: &str, fault: FreezeFault) -> Result<Early, StoreFault>
+pub fn freeze_refusal(alloc: Global, api: &str, fault: FreezeFault) -> Result<Early, StoreFault>
     requires { IsRead fault }
     ensures { EndsBy (meant.IsUnfrozen api.now) fault result }
 {
@@ -39,7 +39,7 @@ pub fn unfrozen(alloc: Global, api: &str, fault: FreezeFault) -> Result<Early, S
             version,
             kept,
             defined,
-        } => Ok(torn(alloc, version, &kept, &defined)),
+        } => Ok(torn_answer(alloc, version, &kept, &defined)),
         FreezeFault::Unreadable {
             version,
             files,

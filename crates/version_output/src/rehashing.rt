@@ -1,11 +1,12 @@
 //! What `rehash` prints: how many hashes were written, or why none was.
 ghost use Rattle.std.specs.Prelude.{◌≡◌, ◌++◌, codes, decimal, IfOk, string_bytes};
+ghost use Rattle.api_freeze.specs.Rehash.{IsRehashFault};
 ghost use Rattle.tool_frame.specs.Answer.{line};
-ghost use Rattle.tool_frame.specs.steps.Results.{Gives};
+ghost use Rattle.tool_frame.specs.Results.{Gives};
 ghost use Rattle.version_output.specs.Ends.{EndsBy};
 ghost use Rattle.version_output.specs.Rehashed as meant;
 
-use crate::torn_version::torn;
+use crate::torn_version::torn_answer;
 use crate::unread::bad_versions;
 use aidl_base::OutOfMemory;
 use aidl_outside::StoreFault;
@@ -15,7 +16,7 @@ use std::fmt::Write;
 use tool_frame::{Early, Printed, Verdict, limit_passed};
 
 /// What `rehash` prints of so many hashes that were written.
-pub fn rehashed(alloc: Global, count: usize) -> Result<Printed, Early>
+pub fn rehash_answer(alloc: Global, count: usize) -> Result<Printed, Early>
     ensures { Gives result (meant.rehashed count) }
 {
     let text = count_line(alloc, count)?;
@@ -33,8 +34,9 @@ fn count_line(alloc: Global, count: usize) -> Result<String, OutOfMemory>
     Ok(text)
 }
 
-/// What `rehash` prints where no hash is written again. Of refusals that it hasn't nothing is said.
-pub fn unhashed(alloc: Global, fault: FreezeFault) -> Result<Early, StoreFault>
+/// What `rehash` prints where no hash is written again.
+pub fn rehash_refusal(alloc: Global, fault: FreezeFault) -> Result<Early, StoreFault>
+    requires { IsRehashFault fault }
     ensures { EndsBy meant.IsUnhashed fault result }
 {
     match fault {
@@ -43,13 +45,13 @@ pub fn unhashed(alloc: Global, fault: FreezeFault) -> Result<Early, StoreFault>
             version,
             kept,
             defined,
-        } => Ok(torn(alloc, version, &kept, &defined)),
+        } => Ok(torn_answer(alloc, version, &kept, &defined)),
         FreezeFault::Limit(limit) => Ok(limit_passed(alloc, limit)),
         FreezeFault::ReadFault => Err(StoreFault::Failed),
         FreezeFault::WriteFault => Err(StoreFault::Failed),
         FreezeFault::OutOfMemory => Err(StoreFault::OutOfMemory),
-        FreezeFault::Unreadable { .. } => Ok(Early::OutOfMemory),
-        FreezeFault::Unchanged { .. } => Ok(Early::OutOfMemory),
-        FreezeFault::Incompatible(_) => Ok(Early::OutOfMemory),
+        FreezeFault::Unreadable { .. } => unreachable!(),
+        FreezeFault::Unchanged { .. } => unreachable!(),
+        FreezeFault::Incompatible(_) => unreachable!(),
     }
 }

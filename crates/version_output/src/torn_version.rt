@@ -1,7 +1,7 @@
 //! How a command is refused where a frozen version isn't whole.
 ghost use Rattle.std.specs.Prelude.{◌≡◌, ◌++◌, codes, decimal, IfOk, string_bytes};
 ghost use Rattle.tool_frame.specs.Answer.{line};
-ghost use Rattle.tool_frame.specs.steps.Results.{EndsAs};
+ghost use Rattle.tool_frame.specs.Results.{EndsAs};
 ghost use Rattle.version_output.specs.Lines as meant;
 
 use crate::lines::push_torn;
@@ -11,7 +11,7 @@ use std::fmt::Write;
 use tool_frame::{Early, Printed, Verdict};
 
 /// The line for a version that isn't whole, by what its `.hash` keeps and the text that it is to have.
-pub fn torn(alloc: Global, version: u32, kept: &Option<Row<u8>>, defined: &Text) -> Early
+pub fn torn_answer(alloc: Global, version: u32, kept: &Option<Row<u8>>, defined: &Text) -> Early
     ensures { EndsAs result (meant.torn version kept.now defined.now) }
 {
     match torn_line(alloc, version, kept, defined.as_str()) {

@@ -1,7 +1,7 @@
 //! How a command is refused where the number of a version is missing.
 ghost use Rattle.std.specs.Prelude.{◌≡◌, ◌++◌, codes, decimal, IfOk, string_bytes};
 ghost use Rattle.tool_frame.specs.Answer.{line};
-ghost use Rattle.tool_frame.specs.steps.Results.{EndsAs};
+ghost use Rattle.tool_frame.specs.Results.{EndsAs};
 ghost use Rattle.version_output.specs.Lines as meant;
 
 use aidl_base::OutOfMemory;

@@ -2,7 +2,7 @@
 ghost use Rattle.std.specs.Prelude.{◌≡◌, ◌++◌, true, IfOk, OnOk, string_bytes};
 ghost use Rattle.std.specs.List.{flat_map, list_all};
 ghost use Rattle.api_versions.specs.Whole as whole;
-ghost use Rattle.tool_frame.specs.steps.Results.{Gives};
+ghost use Rattle.tool_frame.specs.Results.{Gives};
 ghost use Rattle.version_output.specs.Lines.{version_line};
 ghost use Rattle.version_output.specs.Verified as meant;
 
@@ -13,7 +13,7 @@ use std::alloc::Global;
 use tool_frame::{Early, Printed, Verdict};
 
 /// What `verify` prints of the versions of an API: a line for each, and exit 1 if any isn't whole.
-pub fn verified(alloc: Global, versions: &[Version]) -> Result<Printed, Early>
+pub fn verify_answer(alloc: Global, versions: &[Version]) -> Result<Printed, Early>
     ensures { Gives result (meant.verified versions.now) }
 {
     let mut text = String::new(alloc);

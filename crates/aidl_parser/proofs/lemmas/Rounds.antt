@@ -2,7 +2,7 @@
 use Rattle.std.proofs.Common.{◌≡◌, ℕ, zero, suc, ◌-◌, ◌<◌, Bool, true, false, List, [], ◌∷◌, ◌++◌, map, Some, None, refl, sym, ap, ◌∙◌, arith, append_assoc, append-nil}
 use Rattle.std.proofs.lemmas.List.{map-append}
 use Rattle.aidl_syntax.specs.declared.token.Token.{Token}
-use Rattle.expr_parser.specs.steps.Reading.{Read, ◌>>=◌}
+use Rattle.expr_parser.specs.Reading.{Read, ◌>>=◌}
 use Rattle.aidl_parser.specs.steps.Parts.{many, more_at, ahead, with_items}
 
 pub stops : {A : Type 0} (goes : List Token → Bool) (r : List Token → Read A) (n : ℕ) (items : List A) (ts : List Token) → goes ts ≡ false → with_items items (many n goes r ts) ≡ Some (items, ts)

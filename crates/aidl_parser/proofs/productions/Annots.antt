@@ -15,7 +15,7 @@ use Rattle.aidl_syntax.specs.Trees.Expr.{literal, name, group, unary, binary}
 use Rattle.aidl_syntax.specs.Trees.Init.{single, braces}
 use Rattle.aidl_syntax.specs.Productions as form
 use Rattle.aidl_syntax.specs.Productions.{IsIdent, AreNames, IsDotted, IsOf, IsExpr, IsInit, IsParam, AreParams, IsAnnot, AreAnnots, is_literal, is_sign, level}
-use Rattle.expr_parser.specs.steps.Reading.{mark_of, name_of, ◌>>=◌}
+use Rattle.expr_parser.specs.Reading.{mark_of, name_of, ◌>>=◌}
 use Rattle.aidl_parser.specs.steps.Parts.{same_symbol, is_symbol, begins, both, altered, alter, behind, upto, placed, maybe}
 use Rattle.aidl_parser.specs.steps.Types.{ident}
 use Rattle.aidl_parser.specs.steps.Inits.{expr_at, maybe_trailing, maybe_listed, braces_at, init_at, begins_named, param_made, param_at, params_at, annot_made, annot_at, annots_at}

@@ -11,7 +11,7 @@ use Rattle.aidl_syntax.specs.Trees.{Annot, Enumerator, Decl, Body, Members}
 use Rattle.aidl_syntax.specs.Trees.Body.{parcelable, union, enum, interface}
 use Rattle.aidl_syntax.specs.Trees.Members.{none, field, constant, method, nested}
 use Rattle.aidl_syntax.specs.Productions.{IsIdent, IsEnumerator, IsOneway, IsBody}
-use Rattle.expr_parser.specs.steps.Reading.{Read, mark_of, names, dotted, ◌>>=◌}
+use Rattle.expr_parser.specs.Reading.{Read, mark_of, names, dotted, ◌>>=◌}
 use Rattle.aidl_parser.specs.steps.Parts.{same_symbol, same_word, begins, begins_word, quoted, worded, before, then_at, both, altered, alter, second, fore, upto}
 use Rattle.aidl_parser.specs.steps.Types.{ident, type_at}
 use Rattle.aidl_parser.specs.steps.Inits.{annots_at, trailing}

@@ -10,7 +10,7 @@ use Rattle.aidl_syntax.specs.Trees.Decl.{decl}
 use Rattle.aidl_syntax.specs.Trees.Body.{parcelable, union, enum, interface}
 use Rattle.aidl_syntax.specs.Trees.Members.{field, constant, method, nested}
 use Rattle.aidl_syntax.specs.Productions.{AreAnnots, IsField, IsConstant, IsReturned, IsMethod, IsDecl, IsBody, AreMembers, AreInterfaceMembers}
-use Rattle.expr_parser.specs.steps.Reading.{Read, ◌>>=◌}
+use Rattle.expr_parser.specs.Reading.{Read, ◌>>=◌}
 use Rattle.aidl_parser.specs.steps.Parts.{same_word, begins_word, altered, alter}
 use Rattle.aidl_parser.specs.steps.Inits.{annots_at}
 use Rattle.aidl_parser.specs.steps.Members.{field_at, constant_at, method_at}

@@ -13,7 +13,7 @@ use Rattle.aidl_syntax.specs.declared.tree.WayTree.TheVariants as way
 use Rattle.aidl_syntax.specs.Parts.{Form, Then, Maybe, Many, Worded, Behind, Before, MaybeListed, Trailing, first}
 use Rattle.aidl_syntax.specs.Trees.{Expr, Init, Annot, Arg}
 use Rattle.aidl_syntax.specs.Productions.{IsIdent, IsExpr, IsType, IsInit, IsAnnot, AreAnnots, IsEnumerator, IsWay, IsArg, IsReturned, IsOneway, IsNumberToken}
-use Rattle.expr_parser.specs.steps.Reading.{Read, ◌>>=◌}
+use Rattle.expr_parser.specs.Reading.{Read, ◌>>=◌}
 use Rattle.aidl_parser.specs.steps.Parts.{same_symbol, same_word, begins, begins_word, worded, both, altered, alter, second, upto, as_some, maybe, with_items}
 use Rattle.aidl_parser.specs.steps.Types.{ident, as_true, type_at}
 use Rattle.aidl_parser.specs.steps.Inits.{expr_at, init_at, annots_at, maybe_listed, trailing}

@@ -10,7 +10,7 @@ use Rattle.aidl_syntax.specs.Parts.{Form, Then, Maybe, Quoted, Behind, Listed, M
 use Rattle.aidl_syntax.specs.Trees.{Expr}
 use Rattle.aidl_syntax.specs.Trees.Expr.{literal, name, group, unary, binary}
 use Rattle.aidl_syntax.specs.Productions.{IsOf, IsExpr, is_literal, is_sign, level}
-use Rattle.expr_parser.specs.steps.Reading.{Read, mark_of, ◌>>=◌}
+use Rattle.expr_parser.specs.Reading.{Read, mark_of, ◌>>=◌}
 use Rattle.aidl_parser.specs.steps.Parts.{same_symbol, is_symbol, begins, quoted, both, altered, alter, fore, maybe, listed}
 use Rattle.aidl_parser.specs.steps.Inits.{goes_inside, trailing, maybe_trailing, maybe_listed}
 use Rattle.expr_parser.proofs.lemmas.Told.{bind_some, pair_some, chosen}

@@ -12,7 +12,7 @@ use Rattle.aidl_syntax.specs.declared.token.TokenKind.{TokenKind}
 use Rattle.aidl_syntax.specs.declared.token.TokenKind.TheVariants as kind
 use Rattle.aidl_syntax.specs.declared.token.Token.{Token}
 use Rattle.aidl_syntax.specs.Parts.{Form, Then, Maybe, Many, Quoted, Worded, Behind, Before, Listed, first}
-use Rattle.expr_parser.specs.steps.Reading.{Read, mark_of, ◌>>=◌}
+use Rattle.expr_parser.specs.Reading.{Read, mark_of, ◌>>=◌}
 use Rattle.aidl_parser.specs.steps.Parts.{same_symbol, same_word, is_symbol, is_reserved, word_of, begins, begins_word, quoted, worded, before, then_at, both, altered, alter, second, behind, fore, upto, placed, as_some, maybe, more_at, ahead, many, listed}
 use Rattle.expr_parser.proofs.lemmas.Told.{bind_some, pair_some, chosen, is_mark}
 

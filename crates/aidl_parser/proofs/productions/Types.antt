@@ -10,7 +10,7 @@ use Rattle.aidl_syntax.specs.declared.tree.NameTree.{NameTree}
 use Rattle.aidl_syntax.specs.declared.tree.DottedTree.{DottedTree}
 use Rattle.aidl_syntax.specs.Parts.{Form, Then, Maybe, Quoted, Behind, Before, first}
 use Rattle.aidl_syntax.specs.Productions.{IsIdent, IsDotted, IsExpr, IsArray, IsType}
-use Rattle.expr_parser.specs.steps.Reading.{Read, name_of, names, dotted, ◌>>=◌}
+use Rattle.expr_parser.specs.Reading.{Read, name_of, names, dotted, ◌>>=◌}
 use Rattle.aidl_parser.specs.steps.Parts.{same_symbol, begins, quoted, both, altered, alter, upto, maybe}
 use Rattle.aidl_parser.specs.steps.Types.{ident_by, ident, element, as_true, array, typed, type_at}
 use Rattle.aidl_parser.specs.steps.Inits.{expr_at}

@@ -11,7 +11,7 @@ use Rattle.aidl_syntax.specs.Trees.{Decl, Body, File}
 use Rattle.aidl_syntax.specs.Trees.Decl.{decl}
 use Rattle.aidl_syntax.specs.Trees.Body.{parcelable, union, enum, interface}
 use Rattle.aidl_syntax.specs.Productions.{IsDotted, IsDecl, IsBody, IsFile, Named}
-use Rattle.expr_parser.specs.steps.Reading.{dotted, ◌>>=◌}
+use Rattle.expr_parser.specs.Reading.{dotted, ◌>>=◌}
 use Rattle.aidl_parser.specs.steps.Parts.{same_word, begins_word, worded, both, second, upto, maybe}
 use Rattle.aidl_parser.specs.steps.Inits.{annots_at}
 use Rattle.aidl_parser.specs.steps.Decls.{decl_at, named_at, top_behind, top_at, file_made, imports_at, file_at, ended_by, ended, whole_of}

@@ -12,7 +12,7 @@ use Rattle.aidl_syntax.specs.Trees.{Expr, Init, Annot, Enumerator, Arg, Decl, Bo
 use Rattle.aidl_syntax.specs.Trees.Decl.{decl}
 use Rattle.aidl_syntax.specs.Trees.Body.{parcelable, union, enum, interface}
 use Rattle.aidl_syntax.specs.Trees.Members.{none, field, constant, method, nested}
-use Rattle.expr_parser.specs.steps.Reading.{Read, dotted, ◌>>=◌}
+use Rattle.expr_parser.specs.Reading.{Read, dotted, ◌>>=◌}
 use Rattle.aidl_parser.specs.steps.Parts.{word_of, begins, begins_word, worded, both, alter, second, upto, placed, maybe, many}
 use Rattle.aidl_parser.specs.steps.Types.{ident}
 use Rattle.aidl_parser.specs.steps.Inits.{annots_at, trailing}

@@ -6,7 +6,7 @@ use Rattle.aidl_syntax.specs.declared.tree.NameTree.{NameTree}
 use Rattle.aidl_syntax.specs.Trees.{Expr, Init, Param, Annot}
 use Rattle.aidl_syntax.specs.Trees.Init.{single, braces}
 use Rattle.aidl_syntax.specs.Productions as form
-use Rattle.expr_parser.specs.steps.Reading.{Read, mark_of, name_of, expr}
+use Rattle.expr_parser.specs.Reading.{Read, mark_of, name_of, expr}
 use Rattle.aidl_parser.specs.steps.Parts.{is_symbol, begins, quoted, both, alter, fore, behind, upto, placed, maybe, many, listed}
 use Rattle.aidl_parser.specs.steps.Types.{ident}
 

@@ -11,7 +11,7 @@ use Rattle.aidl_syntax.specs.declared.tree.WayTree.{WayTree}
 use Rattle.aidl_syntax.specs.declared.tree.WayTree.TheVariants as way
 use Rattle.aidl_syntax.specs.Parts.{first}
 use Rattle.aidl_syntax.specs.Trees.{Expr, Annot, Enumerator, Arg}
-use Rattle.expr_parser.specs.steps.Reading.{Read, ◌>>=◌}
+use Rattle.expr_parser.specs.Reading.{Read, ◌>>=◌}
 use Rattle.aidl_parser.specs.steps.Parts.{begins, both, alter, behind, placed, maybe, with_items}
 use Rattle.aidl_parser.specs.steps.Types.{ident, type_at}
 use Rattle.aidl_parser.specs.steps.Inits.{expr_at, annots_at}

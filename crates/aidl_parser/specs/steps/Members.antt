@@ -6,7 +6,7 @@ use Rattle.aidl_syntax.specs.declared.token.Token.{Token}
 use Rattle.aidl_syntax.specs.declared.tree.NameTree.{NameTree}
 use Rattle.aidl_syntax.specs.declared.tree.TypeTree.{TypeTree}
 use Rattle.aidl_syntax.specs.Trees.{Expr, Init, Arg}
-use Rattle.expr_parser.specs.steps.Reading.{Read}
+use Rattle.expr_parser.specs.Reading.{Read}
 use Rattle.aidl_parser.specs.steps.Parts.{begins, begins_word, worded, both, alter, second, behind, upto, maybe, as_some}
 use Rattle.aidl_parser.specs.steps.Types.{ident, as_true, type_at}
 use Rattle.aidl_parser.specs.steps.Inits.{expr_at, init_at, maybe_listed}

@@ -10,7 +10,7 @@ use Rattle.aidl_syntax.specs.declared.token.TokenKind.{TokenKind}
 use Rattle.aidl_syntax.specs.declared.token.TokenKind.TheVariants as kind
 use Rattle.aidl_syntax.specs.declared.token.Token.{Token}
 use Rattle.aidl_syntax.specs.Parts.{first}
-use Rattle.expr_parser.specs.steps.Reading.{Read, mark_of, ◌>>=◌}
+use Rattle.expr_parser.specs.Reading.{Read, mark_of, ◌>>=◌}
 
 unfoldable pub same_symbol : Symbol → Symbol → Bool
 same_symbol = sameb symbols.the_type

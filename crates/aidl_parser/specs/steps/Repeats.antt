@@ -5,7 +5,7 @@ use Rattle.aidl_syntax.specs.declared.token.Symbol.TheVariants as mark
 use Rattle.aidl_syntax.specs.declared.token.Token.{Token}
 use Rattle.aidl_parser.specs.declared.lists.Repeat.{Repeat}
 use Rattle.aidl_parser.specs.declared.lists.Repeat.TheVariants.{Commas, CommasInBraces, Annotations, Imports}
-use Rattle.expr_parser.specs.steps.Reading.{Read, ◌>>=◌}
+use Rattle.expr_parser.specs.Reading.{Read, ◌>>=◌}
 use Rattle.aidl_parser.specs.steps.Parts.{begins, begins_word, worded, both, alter, second, behind, upto, many, more_at}
 use Rattle.aidl_parser.specs.steps.Inits.{goes_inside}
 

@@ -6,7 +6,7 @@ use Rattle.aidl_syntax.specs.declared.token.Token.{Token}
 use Rattle.aidl_syntax.specs.declared.tree.NameTree.{NameTree}
 use Rattle.aidl_syntax.specs.declared.tree.DottedTree.{DottedTree}
 use Rattle.aidl_syntax.specs.declared.tree.TypeTree.{TypeTree}
-use Rattle.expr_parser.specs.steps.Reading.{Read, name_of, dotted}
+use Rattle.expr_parser.specs.Reading.{Read, name_of, dotted}
 use Rattle.aidl_parser.specs.steps.Parts.{begins, quoted, both, alter, behind, upto, placed, maybe}
 
 abbrev pub ident_by : Option Ident → Token → List Token → Read NameTree

@@ -20,7 +20,7 @@ use Rattle.tool_frame.specs.Meaning.{reads_by}
 use Rattle.tool_frame.specs.Seen.{Seen}
 use Rattle.tool_frame.specs.Trees.{TreeFile, file_seen, tree_at}
 use Rattle.tool_frame.specs.Verdict.{IsVerdict, exit_of}
-use Rattle.tool_frame.specs.steps.Results.{Finds, GivesOne, printed}
+use Rattle.tool_frame.specs.Results.{Finds, GivesOne, printed}
 use Rattle.aidl_outside.proofs.lemmas.Telling.{tells, tells_both}
 use Rattle.tree_output.specs.Faults.{IsFaultAnswer}
 use Rattle.tool_words.specs.Command.{judge}
@@ -42,11 +42,11 @@ module _ (A B : List Decl) where
       (one_old : (S T : List Decl) → IsSchemaOf olds S → IsSchemaOf olds T → S ≡ T) (never_old : (S : List Decl) (answer : Answer) → IsSchemaOf olds S → IsFaultAnswer old olds answer → ⊥)
       (one_new : (S T : List Decl) → IsSchemaOf news S → IsSchemaOf news T → S ≡ T) (never_new : (S : List Decl) (answer : Answer) → IsSchemaOf news S → IsFaultAnswer new news answer → ⊥) where
     second_judged : (S : List Decl) (answer : Answer) → S ≡ A → IsSecondAnswer S new news answer → IsSchemaOf news B → IsJudged answer
-    second_judged S answer e (inl refused) b = absurd (never_new B answer b refused)
+    second_judged S answer e (inl refused) b = absurd (never_new B refused.0 b refused.1)
     second_judged S answer e (inr h) b = h.2 ∙ ap (λ T. judged (broken S T)) (one_new h.0 B h.1 b) ∙ ap (λ T. judged (broken T B)) e
 
     both_judged : (answer : Answer) → IsJudgeAnswer old olds new news answer → IsSchemaOf olds A → IsSchemaOf news B → IsJudged answer
-    both_judged answer (inl refused) a b = absurd (never_old A answer a refused)
+    both_judged answer (inl refused) a b = absurd (never_old A refused.0 a refused.1)
     both_judged answer (inr h) a b = second_judged h.0 answer (one_old h.0 A h.1 a) h.2 b
 
     pub gives_judged : (given : Result Printed Early) → GivesOne given (IsJudgeAnswer old olds new news) → GivesOne given (λ answer. IsSchemaOf olds A → IsSchemaOf news B → IsJudged answer)

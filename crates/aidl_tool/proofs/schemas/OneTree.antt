@@ -1,14 +1,20 @@
 -- The files of a tree are known by their paths and bytes, so a tree has one schema at the most, and never a schema and a refusal.
-use Rattle.std.proofs.Common.{◌≡◌, ℕ, List, [], ◌∷◌, map, Ok, Err, refl, sym, ap, ◌∙◌, subst}
-use Rattle.std.specs.Prelude.{◌≢◌}
+use Rattle.std.proofs.Common.{◌≡◌, ℕ, List, [], ◌∷◌, map, Ok, Err, IfOk, refl, sym, ap, ◌∙◌, subst}
+use Rattle.std.specs.Prelude.{◌≢◌, IfErr, Result}
 use Rattle.std.specs.Str.{encode_utf8_all}
 use Rattle.std.proofs.lemmas.Str.{cons_from_encodes}
 use Rattle.aidl_base.specs.declared.source_file.SourceFile.{SourceFile}
 use Rattle.aidl_schema.specs.declared.schema.Decl.{Decl}
+use Rattle.aidl_schema.specs.declared.schema.Schema.{Schema}
 use Rattle.aidl_tool.specs.Acting.{HasSchema}
+use Rattle.aidl_tool.specs.steps.Preparing.{IsSchemaAs}
+use Rattle.tool_frame.specs.declared.printed.Early.{Early}
+use Rattle.tool_frame.specs.declared.printed.Early.TheVariants.{Answered, OutOfMemory}
 use Rattle.tool_frame.specs.Answer.{Answer, Found}
 use Rattle.tool_frame.specs.Trees.{TreeFile, file_seen}
+use Rattle.tool_frame.specs.Results.{printed}
 use Rattle.tree_output.specs.Faults.{IsAnswerOf, IsFaultAnswer}
+use Rattle.tree_output.specs.Results.{EndsBy}
 use Rattle.type_check.specs.Checked.{IsSchemaOf}
 use Rattle.type_check.specs.Refusals.{IsRefusal}
 use Rattle.type_check.specs.declared.fault.CheckFault.{CheckFault}
@@ -57,3 +63,12 @@ module _ (slice files : List SourceFile) (e : slice ≡ files) where
       → (root : List ℕ) (S : List Decl) (answer : Answer) → IsSchemaOf files S → IsFaultAnswer root files answer → ⊥
   never_refused law root S answer is h =
       law S h.0 (no_memory root h.0 answer h.2) (subst (λ fs. IsSchemaOf fs S) (sym e) is) (subst (λ fs. IsRefusal fs h.0) (sym e) h.1)
+
+  -- the schema that was given is the only one, or memory was wanted
+  pub schema_as : ((first second : List Decl) → IsSchemaOf slice first → IsSchemaOf slice second → first ≡ second)
+      → ((schema : List Decl) (refusal : CheckFault) → refusal ≢ fault.OutOfMemory → IsSchemaOf slice schema → IsRefusal slice refusal → ⊥)
+      → (root : List ℕ) (given : Result Schema Early) → IfOk given (λ schema. IsSchemaOf files schema.decls) → IfErr given (EndsBy (IsFaultAnswer root files))
+      → (S : List Decl) → IsSchemaOf files S → IsSchemaAs S given
+  schema_as one never root (Ok schema) ok err S is = one_schema one schema.decls S ok is
+  schema_as one never root (Err (Answered p)) ok err S is = never_refused never root S (printed p) is err
+  schema_as one never root (Err OutOfMemory) ok err S is = tt

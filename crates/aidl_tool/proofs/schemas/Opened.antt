@@ -8,10 +8,10 @@ use Rattle.aidl_tool.specs.steps.Opens.{Opens}
 use Rattle.tool_frame.specs.declared.printed.Early.{Early}
 use Rattle.tool_frame.specs.declared.printed.Early.TheVariants.{Answered, OutOfMemory}
 use Rattle.tool_frame.specs.Answer.{Found}
-use Rattle.tool_frame.specs.steps.Results.{Finds, printed}
+use Rattle.tool_frame.specs.Results.{Finds, printed}
 use Rattle.tool_frame.specs.Trees.{OverTree, TreeFile, file_seen}
 use Rattle.tree_output.specs.Faults.{IsFaultAnswer}
-use Rattle.tree_output.specs.steps.Results.{EndsBy}
+use Rattle.tree_output.specs.Results.{EndsBy}
 use Rattle.type_check.specs.Checked.{IsSchemaOf}
 
 module _ (root : List ℕ) where

@@ -14,7 +14,9 @@ use Rattle.aidl_tool.specs.Acting.{HasSchema}
 use Rattle.aidl_tool.specs.Headline.{IsCallsText, IsChecked}
 use Rattle.aidl_tool.specs.Running.{calls_within}
 use Rattle.aidl_tool.specs.declared.running.Loaded.{Loaded}
+use Rattle.aidl_tool.specs.declared.running.Prepared.{Prepared}
 use Rattle.aidl_tool.specs.steps.Loading.{HeldFiles, RanSome, RunsAs, RunsGivenAs, TakesEarly, TakesLoaded, all_held, loaded_seen}
+use Rattle.aidl_tool.specs.steps.Preparing.{IsPreparedAs, PreparesGiven, ProjectsPrepared, TakesPrepared}
 use Rattle.aidl_tool.proofs.CourseEnds.{alone}
 use Rattle.aidl_tool.proofs.Kept.{RunKeeps}
 use Rattle.aidl_tool.proofs.schemas.OneTree.{one_tree}
@@ -28,11 +30,9 @@ use Rattle.tool_frame.specs.Refusals.{file_at, there}
 use Rattle.tool_frame.specs.Seen.{Seen}
 use Rattle.tool_frame.specs.Trees.{TreeFile, tree_at}
 use Rattle.tool_frame.specs.Verdict.{IsVerdict}
-use Rattle.tool_frame.specs.steps.Courses.{EndsCourse}
-use Rattle.tool_frame.specs.steps.Results.{Finds, printed}
+use Rattle.tool_frame.specs.Courses.{EndsCourse}
+use Rattle.tool_frame.specs.Results.{Finds, printed}
 use Rattle.tool_frame.proofs.lemmas.Endings.{not_verdict}
-use Rattle.tree_output.specs.Faults.{IsFaultAnswer}
-use Rattle.tree_output.specs.steps.Results.{EndsBy}
 
 module _ (p : Profile) (trace : Bool) (A B : List Decl) (text : List ℕ) (before now : Seen) (exit : ℕ) where
   -- memory was wanted before any course
@@ -40,17 +40,15 @@ module _ (p : Profile) (trace : Bool) (A B : List Decl) (text : List ℕ) (befor
   wanted_as (inl ran) = absurd ran.1
   wanted_as (inr wanted) = (inr wanted, λ one faithful verdict. absurd (not_verdict exit (let five : exit ≡ 5 = wanted.0 in omega arith) (let five : exit ≡ 5 = wanted.0 in omega arith) verdict))
 
-  -- a step that found something didn't end early but for want of memory
-  pub early_as : {T R : Type 0} (view : T → R) (early : Early) (found : Found R) (x : R) → Finds view (Err early) found → found ≡ Ok x
-      → RanSome (TakesEarly early) before now exit → RunsAs p trace A B text before now exit
-  early_as view (Answered a) found x h e ran = let never : ◌≡◌ {A = Found _} (Err (printed a)) (Ok x) = sym h ∙ e in cc
-  early_as view OutOfMemory found x h e ran = wanted_as ran
-
-  -- a tree with a schema isn't refused
-  pub refused_as : (root : List ℕ) (files : List SourceFile) (early : Early) → ((answer : Answer) → IsFaultAnswer root files answer → ⊥) → EndsBy (IsFaultAnswer root files) early
-      → RanSome (TakesEarly early) before now exit → RunsAs p trace A B text before now exit
-  refused_as root files (Answered a) never is ran = absurd (never (printed a) is)
-  refused_as root files OutOfMemory never is ran = wanted_as ran
+  -- what was prepared are these schemas and this text
+  prepared_as : (given : Result Prepared Early) → IsPreparedAs A B text given → RanSome (TakesPrepared p trace given) before now exit → ProjectsPrepared p trace given before now exit
+      → RunsAs p trace A B text before now exit
+  prepared_as (Ok r) (client, server, calls) ran projects =
+      subst (λ (S : List Decl). RunsAs p trace S B text before now exit) client
+      (subst (λ (S : List Decl). RunsAs p trace r.client.decls S text before now exit) server
+      (subst (λ (t : List ℕ). RunsAs p trace r.client.decls r.server.decls t before now exit) calls (ran, projects)))
+  prepared_as (Err (Answered a)) never ran projects = absurd never
+  prepared_as (Err OutOfMemory) wanting ran projects = wanted_as ran
 
   -- by what was loaded of a store's files
   as_loaded : (calls : List ℕ) (file : Option (Found (List ℕ))) (olds news : Found (List TreeFile)) (given : Result Loaded Early)
@@ -69,6 +67,13 @@ module _ (p : Profile) (trace : Bool) (A B : List Decl) (text : List ℕ) (befor
       (one_tree (Ok os) l.client.files A (ap (λ (h : HeldFiles). let f : Found (List TreeFile) = Ok h.client in f) same) a)
       (one_tree (Ok ns) l.server.files B (ap (λ (h : HeldFiles). let f : Found (List TreeFile) = Ok h.server in f) same) b)
       (ap calls_within (sym (ap (λ (h : HeldFiles). h.text) same) ∙ here) ∙ within)
+
+-- what was prepared is run as what was loaded is to be
+pub given_as : (p : Profile) (trace : Bool) (before now : Seen) (exit : ℕ) (given : Result Loaded Early) (prepared : Result Prepared Early) → PreparesGiven given prepared
+    → RanSome (TakesPrepared p trace prepared) before now exit → ProjectsPrepared p trace prepared before now exit → RunsGivenAs p trace given before now exit
+given_as p trace before now exit (Ok l) prepared prepares ran projects =
+    λ A B text client server within. prepared_as p trace A B text before now exit prepared (prepares A B text client server within) ran projects
+given_as p trace before now exit (Err early) prepared prepares ran projects = tt
 
 -- neither tree may follow the other
 refused_both : (there back : List Break) (lines course : Course) (before now : Seen) (exit : ℕ) → course ≡ judged_course there back lines → there ≢ [] → back ≢ []

@@ -14,21 +14,27 @@ use Rattle.tool_frame.specs.Answer.{Found}
 use Rattle.tool_frame.specs.Refusals.{file_at, there}
 use Rattle.tool_frame.specs.Trees.{TreeFile, file_seen, tree_at}
 use Rattle.type_check.specs.Checked.{IsSchemaOf}
+use Rattle.tool_frame.specs.declared.exit.Exit.TheVariants.{OutOfMemory as NoMemory}
 use Rattle.tool_frame.specs.declared.printed.Early.{Early}
 use Rattle.tool_frame.specs.declared.printed.Early.TheVariants.{Answered, OutOfMemory}
 use Rattle.tool_frame.specs.Course.{Course, at_once}
+use Rattle.tool_frame.specs.Exit.{number_of}
 use Rattle.tool_frame.specs.Seen.{Seen}
-use Rattle.tool_frame.specs.steps.Courses.{RanCourse}
-use Rattle.tool_frame.specs.steps.Results.{held, printed}
+use Rattle.tool_frame.specs.Courses.{RanCourse}
+use Rattle.tool_frame.specs.Results.{held, printed}
 
 -- an early end is printed at once
 abbrev pub TakesEarly : Early → Takes
 TakesEarly (Answered p) course = course ≡ at_once (printed p)
 TakesEarly OutOfMemory course = ⊥
 
+-- by all that was loaded
+abbrev pub TakesAll : Loaded → Profile → Bool → Takes
+TakesAll l p trace = RunsLoaded p trace l.client.root.now l.client.files l.server.root.now l.server.files (held l.text)
+
 -- by what was loaded
 abbrev pub TakesLoaded : Profile → Bool → Result Loaded Early → Takes
-TakesLoaded p trace (Ok l) = RunsLoaded p trace l.client.root.now l.client.files l.server.root.now l.server.files (held l.text)
+TakesLoaded p trace (Ok l) = TakesAll l p trace
 TakesLoaded p trace (Err early) = TakesEarly early
 
 -- what is done by what was loaded is what is meant
@@ -37,7 +43,7 @@ LoadsFor given takes = (p : Profile) (trace : Bool) (course : Course) → TakesL
 
 -- one of these courses was run; or memory was wanted before any
 abbrev pub RanSome : Takes → Seen → Seen → ℕ → Type 0
-RanSome takes before now exit = ((course : Course) × takes course × RanCourse course before now exit) ⊎ ((exit ≡ 5) × (now ≡ before))
+RanSome takes before now exit = ((course : Course) × takes course × RanCourse course before now exit) ⊎ ((exit ≡ number_of NoMemory) × (now ≡ before))
 
 -- what a store's files hold for it: the text of CALLS as far as it may be long, the files of CLIENT, and those of SERVER
 pub record HeldFiles : Type 0 where

@@ -2,7 +2,7 @@
 use Rattle.std.proofs.Common.{◌≡◌, ◌<◌, ◌+◌, ℕ, zero, suc, Bool, true, false, cond, nat_eq, nat_lt, is_some, List, [], ◌∷◌, length, drop, get_or, add-one, Option, Some, None, refl, sym, ◌∙◌, ap, subst, arith}
 use Rattle.std.specs.List.{filter, position_from}
 use Rattle.std.proofs.lemmas.Bool.Decides.{nat_tests}
-use Rattle.declared_names.specs.steps.Times.{times}
+use Rattle.declared_names.specs.Times.{times}
 use Rattle.declared_names.proofs.lemmas.Chains.{HasMark, drop-more, goes_on_marked}
 
 -- at how many places from one on

@@ -13,9 +13,9 @@ use Rattle.aidl_syntax.specs.declared.tree.DottedTree.{DottedTree}
 use Rattle.aidl_syntax.specs.Trees.{Expr, offset_of}
 use Rattle.aidl_syntax.specs.Trees.Expr.{literal, name, group, unary, binary}
 use Rattle.aidl_syntax.specs.Parts.{first}
-use Rattle.expr_parser.specs.steps.Reading.{IsMark}
+use Rattle.expr_parser.specs.Reading.{IsMark}
 use Rattle.aidl_syntax.specs.Productions.{AreNames, IsDotted, is_literal, is_sign, level, IsOf, IsExpr}
-use Rattle.expr_parser.specs.steps.Reading.{Read, mark_of, is_dot, is_open, names, dotted, by_name, operand, climb, expr, goes_on, level_by}
+use Rattle.expr_parser.specs.Reading.{Read, mark_of, is_dot, is_open, names, dotted, by_name, operand, climb, expr, goes_on, level_by}
 
 -- the first token isn't a dot
 abbrev pub no_dot : List Token → Bool

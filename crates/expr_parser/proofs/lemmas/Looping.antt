@@ -8,7 +8,7 @@ use Rattle.aidl_syntax.specs.Trees.Expr.{binary}
 use Rattle.expr_parser.specs.declared.fault.ParseFault.{ParseFault}
 use Rattle.expr_parser.specs.declared.fault.ParseFault.TheVariants as fault
 use Rattle.expr_parser.specs.Gives.{Fails}
-use Rattle.expr_parser.specs.steps.Reading.{Read, mark_of, name_of, is_dot, after_dot, onto, names, with_names, operand, climb, expr, goes_on, level_by, with_sign, ◌>>=◌}
+use Rattle.expr_parser.specs.Reading.{Read, mark_of, name_of, is_dot, after_dot, onto, names, with_names, operand, climb, expr, goes_on, level_by, with_sign, ◌>>=◌}
 
 with_onto : (front : List Ident) (i : Ident) (r : Read (List Ident)) → with_names front (onto i r) ≡ with_names (front ++ i ∷ []) r
 with_onto front i None = refl

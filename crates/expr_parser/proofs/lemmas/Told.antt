@@ -11,9 +11,9 @@ use Rattle.aidl_syntax.specs.declared.tree.DottedTree.{DottedTree}
 use Rattle.aidl_syntax.specs.Trees.{Expr, offset_of}
 use Rattle.aidl_syntax.specs.Trees.Expr.{literal, name, group, unary, binary}
 use Rattle.aidl_syntax.specs.Parts.{first}
-use Rattle.expr_parser.specs.steps.Reading.{IsMark}
+use Rattle.expr_parser.specs.Reading.{IsMark}
 use Rattle.aidl_syntax.specs.Productions.{AreNames, IsDotted, is_literal, is_sign, level, IsOf}
-use Rattle.expr_parser.specs.steps.Reading.{Read, mark_of, name_of, is_dot, is_close, is_open, onto_name, names, dotted, by_name, closed, by_symbol, by_mark, operand, climb, expr, goes_on, level_by, with_sign, ◌>>=◌}
+use Rattle.expr_parser.specs.Reading.{Read, mark_of, name_of, is_dot, is_close, is_open, onto_name, names, dotted, by_name, closed, by_symbol, by_mark, operand, climb, expr, goes_on, level_by, with_sign, ◌>>=◌}
 use Rattle.expr_parser.proofs.lemmas.Found.{next_level, root, level_most, next_most, starts_name, first_kept}
 
 -- what a step gave came from what the step before gave

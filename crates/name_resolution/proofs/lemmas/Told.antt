@@ -17,7 +17,7 @@ use Rattle.declared_names.specs.Names.{text, same, last}
 use Rattle.declared_names.specs.Declarations.{Entry}
 use Rattle.name_resolution.specs.Imports.{meant_through}
 use Rattle.name_resolution.specs.Resolution.{number_of, first_declared, or_else}
-use Rattle.name_resolution.specs.steps.Asked.{means, AreRight, Knows, said, said_at, said_at_number, IsSaid}
+use Rattle.name_resolution.specs.Asked.{means, AreRight, Knows, said, said_at, said_at_number, IsSaid}
 use Rattle.declared_names.proofs.lemmas.SameNames.{same-self, same-right}
 use Rattle.declared_names.proofs.lemmas.Firsts.{position-same}
 use Rattle.name_resolution.proofs.lemmas.Through.{searched, through, through_all}

@@ -18,13 +18,16 @@ use Rattle.call_scripts.specs.Calls.{CallData}
 use Rattle.call_scripts.specs.Script.{script}
 use Rattle.run_output.specs.CallLines.{lines_of}
 use Rattle.run_output.specs.Running.{After, call_after, line_course, lines_course, piece, puts, reply_course, reply_parcel}
-use Rattle.run_output.specs.steps.Steps.{PutsText, Steps}
+use Rattle.run_output.specs.steps.Steps.{Steps}
 use Rattle.tool_frame.specs.Course.{Course, ends, prints, due_after, answer_after}
 use Rattle.tool_frame.specs.declared.verdict.Verdict.TheVariants.{Done}
+use Rattle.tool_frame.specs.declared.exit.Exit.{Exit}
+use Rattle.tool_frame.specs.Exit.{number_of}
 use Rattle.tool_frame.specs.Meaning.{AreDue}
 use Rattle.tool_frame.specs.Parcel.{Parcel, parcel_of}
 use Rattle.tool_frame.specs.Seen.{Seen}
-use Rattle.tool_frame.specs.steps.Courses.{due_in, AreFaithful, CarriedBy, ComesTo, RanCourse, Went}
+use Rattle.tool_frame.specs.Courses.{due_in, AreFaithful, CarriedBy, ComesTo, RanCourse, Went}
+use Rattle.tool_frame.specs.Prints.{PutsText}
 use Rattle.tool_frame.proofs.lemmas.Courses.{comes_on, due_front, nothing_told, put_cut, put_went, ran_end, went_ended, went_on}
 use Rattle.tool_frame.proofs.lemmas.Endings.{not_verdict}
 use Rattle.wire_model.specs.Calls.{AnswerData}
@@ -184,7 +187,7 @@ module _ (p : Profile) (A B : List Decl) (trace : Bool) (k : ℕ) (next : Course
   abbrev ran : Seen
   ran = record before { log = log; is_faithful = is_faithful; link_faults = faults }
 
-  pub line_steps : (run : LineRun) (told : Option (List ℕ)) (count : ℕ) (given : Result ⊤ ℕ) → LineRuns p A B meant run → Adds before.log log run.carried
+  pub line_steps : (run : LineRun) (told : Option (List ℕ)) (count : ℕ) (given : Result ⊤ Exit) → LineRuns p A B meant run → Adds before.log log run.carried
       → (before.is_faithful ≡ true → AreFaithful run.carried) → faults ≡ before.link_faults
       → PutsText (piece A B trace k run.carried run.methods (line_data run.out)) before.told told before.sink_faults count given
       → Steps whole next before (record ran { told = told; sink_faults = count }) given
@@ -194,8 +197,8 @@ module _ (p : Profile) (A B : List Decl) (trace : Bool) (k : ℕ) (next : Course
       (put_went ran told count text next put.0 put.1)
   line_steps run told count (Err exit) runs adds faithful good put =
       let text = piece A B trace k run.carried run.methods (line_data run.out) in
-      went_ended whole (prints text next) before ran (line_went p A B (puts A B trace k next) meant before log is_faithful faults nature run runs adds faithful good) (record ran { told = told; sink_faults = count }) exit
-      (put_cut ran told count text next exit put.exits put.fault put.good put.front)
+      went_ended whole (prints text next) before ran (line_went p A B (puts A B trace k next) meant before log is_faithful faults nature run runs adds faithful good) (record ran { told = told; sink_faults = count }) (number_of exit)
+      (put_cut ran told count text next (number_of exit) put.exits put.fault put.good put.front)
 
 -- A line of those that are left went well, or the run ended in it.
 module _ (p : Profile) (A B : List Decl) (trace : Bool) (k : ℕ) (whole : Course) (rest line after : List ℕ) (start now later : Seen)

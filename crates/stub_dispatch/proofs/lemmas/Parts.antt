@@ -9,7 +9,7 @@ use Rattle.parcel_words.specs.Written.{Written, with_bytes}
 use Rattle.parcel_words.proofs.lemmas.Appends.{with_more}
 use Rattle.wire_model.specs.Requests.{argument_part, argument_parts, spell_each, spell_error}
 use Rattle.wire_model.specs.Spell.{spell, spell_text}
-use Rattle.stub_dispatch.specs.steps.Sent.{spell_exception}
+use Rattle.stub_dispatch.specs.Exceptions.{spell_exception}
 
 pub parts_count : (S : List Decl) (a : Arg) (xs : List Arg) (v : Data) (vs : Items)
     → length (argument_part S a v ++ argument_parts S xs vs) ≡ length (argument_part S a v) + length (argument_parts S xs vs)

@@ -15,8 +15,8 @@ use Rattle.tool_frame.specs.Meaning.{AreDue, carries_by, CarriesNothing, does_by
 use Rattle.tool_frame.specs.Parcel.{Parcel}
 use Rattle.tool_frame.specs.Seen.{Seen}
 use Rattle.tool_frame.specs.Verdict.{exit_of, IsVerdict}
-use Rattle.tool_frame.specs.steps.Courses.{due_in, CarriedBy, EndsCourse, PutsCourseFront, StopsCourse, RanCourse, ComesTo, Went}
-use Rattle.tool_frame.specs.steps.Prints.{Prints}
+use Rattle.tool_frame.specs.Courses.{due_in, CarriedBy, EndsCourse, PutsCourseFront, StopsCourse, RanCourse, ComesTo, Went}
+use Rattle.tool_frame.specs.Prints.{Prints}
 use Rattle.tool_frame.proofs.lemmas.Endings.{Nothing, all_written, some_written, failed, not_verdict, nothing_carried, told_always, verdict_exit}
 use Rattle.aidl_outside.proofs.lemmas.Telling.{tells}
 
@@ -291,7 +291,7 @@ not_front exit zero (inr five) = omega arith
 -- A course that is at its end has run.
 pub ran_end : (now : Seen) → RanCourse (ends Done) now now 0
 ran_end now = record {
-  exits = inl (inl (omega arith));
+  exits = inl (verdict_exit Done);
   kept = refl;
   store_good = refl;
   sink_fault = λ four. absurd (omega arith);

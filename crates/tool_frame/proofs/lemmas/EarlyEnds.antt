@@ -7,7 +7,7 @@ use Rattle.tool_frame.specs.declared.printed.Early.TheVariants.{Answered, OutOfM
 use Rattle.tool_frame.specs.Answer.{Answer, Found, Then, ◌>>=◌}
 use Rattle.tool_frame.specs.declared.printed.Printed.{Printed}
 use Rattle.tool_frame.specs.Trees.{TreeFile, OverTree, file_seen}
-use Rattle.tool_frame.specs.steps.Results.{EndsAs, Finds, GivesOne, printed}
+use Rattle.tool_frame.specs.Results.{EndsAs, Finds, GivesOne, printed}
 
 pub ends_there : {T A : Type 0} (view : T → A) (early : Early) (found : Found A) (next : A → Answer) → Finds view (Err early) found → EndsAs early (found >>= next)
 ends_there view (Answered p) (Ok x) next h = absurd (cc)

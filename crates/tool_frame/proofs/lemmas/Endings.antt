@@ -18,15 +18,13 @@ use Rattle.tool_frame.specs.Verdict.{exit_of, IsVerdict}
 use Rattle.tool_frame.specs.declared.printed.Early.{Early}
 use Rattle.tool_frame.specs.declared.printed.Early.TheVariants.{Answered, OutOfMemory}
 use Rattle.tool_frame.specs.declared.printed.Printed.{Printed}
-use Rattle.tool_frame.specs.steps.Ends.{EndsRead}
-use Rattle.tool_frame.specs.steps.Prints.{Prints}
-use Rattle.tool_frame.specs.steps.Results.{Gives, GivesOne, printed}
+use Rattle.tool_frame.specs.Ends.{EndsRead}
+use Rattle.tool_frame.specs.Prints.{Prints}
+use Rattle.tool_frame.specs.Results.{Gives, GivesOne, printed}
 use Rattle.aidl_outside.proofs.lemmas.Telling.{tells}
 
 pub verdict_exit : (v : Verdict) → IsVerdict (exit_of v)
-verdict_exit Done = inl (omega arith)
-verdict_exit Negative = inl (omega arith)
-verdict_exit LimitPassed = inr refl
+verdict_exit verdict = (verdict, refl)
 
 pub nothing_carried : (log : Option (List Carried)) → Adds log log []
 nothing_carried None = refl
@@ -53,8 +51,9 @@ abbrev pub IsReadExit : ℕ → Type 0
 IsReadExit exit = IsVerdict exit ⊎ ((exit ≡ 3) ⊎ ((exit ≡ 4) ⊎ (exit ≡ 5)))
 
 pub not_verdict : (exit : ℕ) → 2 ≤ exit → exit ≤ 6 → IsVerdict exit → ⊥
-not_verdict exit low high (inl small) = omega arith
-not_verdict exit low high (inr seven) = omega arith
+not_verdict exit low high (Done, zero) = omega arith
+not_verdict exit low high (Negative, one) = omega arith
+not_verdict exit low high (LimitPassed, seven) = omega arith
 
 pub not_six : (exit : ℕ) → IsReadExit exit → exit ≡ 6 → ⊥
 not_six exit (inl verdict) six = not_verdict exit (omega arith) (omega arith) verdict

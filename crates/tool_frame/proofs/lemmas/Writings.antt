@@ -17,9 +17,9 @@ use Rattle.tool_frame.specs.declared.printed.Early.{Early}
 use Rattle.tool_frame.specs.declared.printed.Early.TheVariants.{Answered, OutOfMemory}
 use Rattle.tool_frame.specs.declared.printed.Printed.{Printed}
 use Rattle.tool_frame.specs.steps.Acts.{Acted, ActsAs}
-use Rattle.tool_frame.specs.steps.Ends.{EndsRead}
-use Rattle.tool_frame.specs.steps.Prints.{Prints}
-use Rattle.tool_frame.specs.steps.Results.{printed}
+use Rattle.tool_frame.specs.Ends.{EndsRead}
+use Rattle.tool_frame.specs.Prints.{Prints}
+use Rattle.tool_frame.specs.Results.{printed}
 use Rattle.tool_frame.proofs.lemmas.Endings.{IsReadExit, exits_of, nothing_carried, not_both, not_six, not_three, not_verdict, told_always, verdict_is, widened}
 use Rattle.aidl_outside.proofs.lemmas.Telling.{tells}
 

@@ -10,7 +10,7 @@ use Rattle.tool_frame.specs.declared.printed.Printed.{Printed}
 use Rattle.tool_frame.specs.Acts.{Acts, writes_of}
 use Rattle.tool_frame.specs.Answer.{Answer}
 use Rattle.tool_frame.specs.Ended.{WroteSome, FailedAt}
-use Rattle.tool_frame.specs.steps.Results.{printed}
+use Rattle.tool_frame.specs.Results.{printed}
 
 -- all was written that goes with an answer
 abbrev pub Acted : (Files → Acts) → Option Files → Option Files → Answer → Type 0

@@ -8,5 +8,5 @@ use Rattle.aidl_names.proofs.duplicates.add_taken.Given as goal
 -- the breaches so far and those that are left are all
 abbrev pub invariant-loop-i : goal.invariant-loop-i
 invariant-loop-i l =
-    l.rows.items ++ map (λ e. breach 2 e.file (declared_name e.tree).offset) (after_earlier is_taken (take l.i (map entry_of l.found)) (drop l.i (map entry_of l.found)))
-    ≡ l.fn.rows.items ++ taken (map entry_of l.found)
+    l.rows.items ++ map (λ e. breach 2 e.file (declared_name e.tree).offset) (after_earlier is_taken (take l.i (map entry_of l.declarations)) (drop l.i (map entry_of l.declarations)))
+    ≡ l.fn.rows.items ++ taken (map entry_of l.declarations)

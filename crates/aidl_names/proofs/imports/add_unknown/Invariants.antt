@@ -9,5 +9,5 @@ use Rattle.aidl_names.proofs.imports.add_unknown.Given as goal
 -- the breaches so far and those that are left are all
 abbrev pub invariant-loop-import : goal.invariant-loop-import
 invariant-loop-import l =
-    l.rows.items ++ map (λ i. breach 3 l.number i.offset) (filter (λ i. is_none (number_of (map entry_of l.found) i.name.0)) (drop l.import-index l.file.tree.imports))
-    ≡ l.fn.rows.items ++ unknown_imports (map entry_of l.found) l.number (source_of l.file)
+    l.rows.items ++ map (λ i. breach 3 l.number i.offset) (filter (λ i. is_none (number_of (map entry_of l.declarations) i.name.0)) (drop l.import-index l.file.tree.imports))
+    ≡ l.fn.rows.items ++ unknown_imports (map entry_of l.declarations) l.number (source_of l.file)

@@ -9,5 +9,5 @@ use Rattle.aidl_names.proofs.types.add_types_by.Given as goal
 -- the breaches so far and those that are left are all
 abbrev pub invariant-loop-i : goal.invariant-loop-i
 invariant-loop-i l =
-    l.rows.items ++ in_each (types_in (breaks_of l.rule (map source_of l.files)) (rule_of l.rule)) l.i (map entry_of (drop l.i l.found))
-    ≡ l.fn.rows.items ++ types_where (breaks_of l.rule (map source_of l.files)) (rule_of l.rule) (map source_of l.files)
+    l.rows.items ++ in_each (types_in (breaks_of l.rule (map source_of l.asking)) (rule_of l.rule)) l.i (map entry_of (drop l.i l.found))
+    ≡ l.fn.rows.items ++ types_where (breaks_of l.rule (map source_of l.asking)) (rule_of l.rule) (map source_of l.asking)

@@ -13,8 +13,8 @@ loop-name-preserved c =
     (c.in_ok-add_if.ensures
     ∙ ap (λ (r : ℕ). c.loop-name.rows.items ++ one_if c.breaks-broken.result (breach r c.args.inside.now.file c.name-item.result.now.offset)) c.number.ensures
     ∙ ap (λ b. c.loop-name.rows.items ++ one_if b (breach (rule_of c.args.rule) c.args.inside.now.file c.name-item.result.now.offset))
-    (c.breaks-broken.ensures ∙ ap (λ name. breaks_of c.args.rule (map source_of c.args.files.now) c.args.inside.now.file c.args.number name) c.as_slice.ensures))
+    (c.breaks-broken.ensures ∙ ap (λ name. breaks_of c.args.rule (map source_of c.args.asking.now) c.args.inside.now.file c.args.number name) c.as_slice.ensures))
     (filter-next (λ (d : DottedTree). breach (rule_of c.args.rule) c.args.inside.now.file d.offset)
-    (λ d. breaks_of c.args.rule (map source_of c.args.files.now) c.args.inside.now.file c.args.number d.name.0)
+    (λ d. breaks_of c.args.rule (map source_of c.args.asking.now) c.args.inside.now.file c.args.number d.name.0)
     (map (λ (d : Bor DottedTree). d.now) c.as_slice-name-items.result.now) c.loop-name.name-index c.name-item.result.now rd.0 rd.1)
     c.loop-name.invariant

@@ -9,5 +9,5 @@ use Rattle.aidl_names.proofs.types.add_types_in.Given as goal
 -- the breaches so far and those that are left are all
 abbrev pub invariant-loop-name : goal.invariant-loop-name
 invariant-loop-name l =
-    l.rows.items ++ map (λ d. breach (rule_of l.rule) l.inside.file d.offset) (filter (λ d. breaks_of l.rule (map source_of l.files) l.inside.file l.number d.name.0) (drop l.name-index (map (λ d. d.now) l.name-items)))
-    ≡ l.fn.rows.items ++ types_in (breaks_of l.rule (map source_of l.files)) (rule_of l.rule) l.number (entry_of l.inside)
+    l.rows.items ++ map (λ d. breach (rule_of l.rule) l.inside.file d.offset) (filter (λ d. breaks_of l.rule (map source_of l.asking) l.inside.file l.number d.name.0) (drop l.name-index (map (λ d. d.now) l.name-items)))
+    ≡ l.fn.rows.items ++ types_in (breaks_of l.rule (map source_of l.asking)) (rule_of l.rule) l.number (entry_of l.inside)

@@ -1,7 +1,7 @@
 use Rattle.std.proofs.Common.{Err, map, subst}
 use Rattle.aidl_tool.proofs.Acting.{acts_left}
 use Rattle.aidl_tool.specs.steps.Left.{LeftBy}
-use Rattle.api_versions.specs.steps.Seen.{write_seen}
+use Rattle.api_versions.specs.Seen.{write_seen}
 use Rattle.version_output.specs.Dumped.{Dumps}
 use Rattle.aidl_tool.proofs.dumping.write_dump.Goals as goal
 

@@ -1,9 +1,10 @@
 use Rattle.std.proofs.Common.{refl}
 use Rattle.aidl_tool.specs.Acting.{RehashActs}
 use Rattle.tool_frame.proofs.lemmas.Writings.{ended_wrote}
+use Rattle.tool_frame.specs.Exit.{number_of}
 use Rattle.aidl_tool.proofs.rehashing.rehash.Goals as goal
 
 pub returns : goal.returns
 returns g c =
     let answered = c.answered-answered.ensures in
-    ended_wrote (RehashActs c.args.api.now) _ _ refl refl refl c.end.result _ answered.cause answered.acts c.end.ensures
+    ended_wrote (RehashActs c.args.api.now) _ _ refl refl refl (number_of c.end.result) _ answered.cause answered.acts c.end.ensures

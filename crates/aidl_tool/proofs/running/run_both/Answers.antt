@@ -1,7 +1,28 @@
-use Rattle.std.proofs.Common.{refl, inl}
+use Rattle.std.proofs.Common.{◌≡◌, ℕ, List, subst, refl, inl}
+use Rattle.aidl_schema.specs.declared.schema.Decl.{Decl}
+use Rattle.run_output.specs.CallLines.{lines_of}
+use Rattle.run_output.specs.Projected.{Projects, projected_text}
 use Rattle.run_output.specs.Running.{run_course}
+use Rattle.tool_frame.specs.Exit.{number_of}
+use Rattle.tool_frame.specs.Seen.{Seen}
+use Rattle.tool_frame.specs.Courses.{seen_alone}
+use Rattle.aidl_tool.specs.steps.Loading.{RanSome}
 use Rattle.aidl_tool.proofs.running.run_both.Goals as goal
 
-pub returns : goal.returns
-returns g c =
-    (inl (run_course c.args.profile c.args.client.now.decls c.args.server.now.decls c.args.trace c.args.calls.now, refl, c.run_trees.ensures.ran), c.run_trees.ensures.projected)
+pub returns-clause-ran : goal.returns-clause-ran
+returns-clause-ran g c =
+    let before : Seen = seen_alone g.K.Sink.told g.K.Sink.count g.L.Link.log g.L.Link.is_faithful g.L.Link.count c.args.sink.now c.args.link.now in
+    let now : Seen = seen_alone g.K.Sink.told g.K.Sink.count g.L.Link.log g.L.Link.is_faithful g.L.Link.count c.run_trees.new.sink c.run_trees.new.link in
+    let A : List Decl = c.args.run.now.client.decls in
+    let B : List Decl = c.args.run.now.server.decls in
+    subst (λ (t : List ℕ). RanSome (λ course. course ≡ run_course c.args.profile A B c.args.trace t) before now (number_of c.run_trees.result)) c.as_slice-calls.ensures.value
+    (inl (run_course c.args.profile A B c.args.trace c.as_slice-calls.result.now, refl, c.run_trees.ensures.ran))
+
+pub returns-clause-projected : goal.returns-clause-projected
+returns-clause-projected g c =
+    let before : Seen = seen_alone g.K.Sink.told g.K.Sink.count g.L.Link.log g.L.Link.is_faithful g.L.Link.count c.args.sink.now c.args.link.now in
+    let now : Seen = seen_alone g.K.Sink.told g.K.Sink.count g.L.Link.log g.L.Link.is_faithful g.L.Link.count c.run_trees.new.sink c.run_trees.new.link in
+    let A : List Decl = c.args.run.now.client.decls in
+    let B : List Decl = c.args.run.now.server.decls in
+    subst (λ (t : List ℕ). Projects A B (projected_text c.args.profile A B c.args.trace 1 (lines_of t)) before now (number_of c.run_trees.result)) c.as_slice-calls.ensures.value
+    c.run_trees.ensures.projected

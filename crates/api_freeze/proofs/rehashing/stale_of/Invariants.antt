@@ -1,6 +1,6 @@
 use Rattle.std.proofs.Common.{◌≡◌, ◌++◌, map, drop}
 use Rattle.api_freeze.specs.Rehash.{hash_writes, stale_numbers}
-use Rattle.api_versions.specs.steps.Seen.{write_seen}
+use Rattle.api_versions.specs.Seen.{write_seen}
 use Rattle.api_freeze.proofs.rehashing.stale_of.Given as goal
 
 -- what is found, and then that of the versions that are left, is all

@@ -2,7 +2,7 @@ use Rattle.std.proofs.Common.{◌≡◌, ◌∙◌, ◌-◌, ap, sym, map, lengt
 use Rattle.std.proofs.lemmas.List.{map-set, length-map, get_or-map}
 use Rattle.api_versions.specs.steps.Adding.{with_path}
 use Rattle.api_versions.specs.Places.{place_of}
-use Rattle.api_versions.specs.steps.Seen.{folder_seen, place_seen}
+use Rattle.api_versions.specs.Seen.{folder_seen, place_seen}
 use Rattle.api_versions.proofs.Adding.{none_stays, adds_none, adds_one}
 use Rattle.api_versions.proofs.Steps.{on_ok}
 use Rattle.api_versions.proofs.folders.add_path.Goals as goal

@@ -1,7 +1,7 @@
 use Rattle.std.proofs.Common.{◌≡◌, map}
 use Rattle.std.specs.List.{range_with_len}
 use Rattle.api_versions.specs.steps.Adding.{no_folder}
-use Rattle.api_versions.specs.steps.Seen.{folder_seen}
+use Rattle.api_versions.specs.Seen.{folder_seen}
 use Rattle.api_versions.proofs.folders.empty_folders.Given as goal
 
 abbrev pub invariant-loop-before : goal.invariant-loop-before

@@ -5,7 +5,7 @@ use Rattle.std.proofs.lemmas.List.FromFn.{length-map-range_with_len}
 use Rattle.api_versions.specs.Folders.{folder}
 use Rattle.api_versions.specs.Places.{place_of, places}
 use Rattle.api_versions.specs.steps.Adding.{no_folder, with_places, with_place}
-use Rattle.api_versions.specs.steps.Seen.{folder_seen}
+use Rattle.api_versions.specs.Seen.{folder_seen}
 use Rattle.api_versions.proofs.Adding.{all_left, no_folders_numbered, places_left, no_places_left, none_left, added_all, added_numbers, added_count}
 use Rattle.api_versions.proofs.folders.folders.Goals as goal
 

@@ -3,7 +3,7 @@ use Rattle.std.specs.List.{range_with_len}
 use Rattle.api_versions.specs.Folders.{folder}
 use Rattle.api_versions.specs.Places.{places}
 use Rattle.api_versions.specs.steps.Adding.{with_places}
-use Rattle.api_versions.specs.steps.Seen.{folder_seen}
+use Rattle.api_versions.specs.Seen.{folder_seen}
 use Rattle.api_versions.proofs.folders.folders.Given as goal
 
 -- with the paths that are left, the folders are all

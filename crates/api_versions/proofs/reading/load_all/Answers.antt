@@ -3,7 +3,7 @@ use Rattle.std.specs.List.{list_all}
 use Rattle.aidl_outside.specs.Files.{is_ascending}
 use Rattle.api_versions.specs.Folders.{Folder}
 use Rattle.api_versions.specs.Versions.{are_ascending, complete, missing}
-use Rattle.api_versions.specs.steps.Seen.{folder_seen}
+use Rattle.api_versions.specs.Seen.{folder_seen}
 use Rattle.api_versions.proofs.Ascending.{complete_keeps, present_all}
 use Rattle.api_versions.proofs.Gathered.{numbered_versions}
 use Rattle.api_versions.proofs.reading.load_all.Goals as goal

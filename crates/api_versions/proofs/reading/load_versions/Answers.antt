@@ -1,6 +1,6 @@
 use Rattle.std.proofs.Common.{◌∙◌, ap, sym, map}
 use Rattle.api_versions.specs.Folders.{Folder}
-use Rattle.api_versions.specs.steps.Seen.{folder_seen}
+use Rattle.api_versions.specs.Seen.{folder_seen}
 use Rattle.api_versions.proofs.Gathered.{version_more, versions_done, number_more, paths_more}
 use Rattle.api_versions.proofs.reading.load_versions.Goals as goal
 

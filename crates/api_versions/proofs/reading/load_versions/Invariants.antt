@@ -6,7 +6,7 @@ use Rattle.api_versions.specs.declared.version.Version.{Version}
 use Rattle.api_versions.specs.Folders.{Folder}
 use Rattle.api_versions.specs.Versions.{are_ascending, versions_in}
 use Rattle.api_versions.specs.steps.Onto.{onto}
-use Rattle.api_versions.specs.steps.Seen.{folder_seen}
+use Rattle.api_versions.specs.Seen.{folder_seen}
 use Rattle.api_versions.proofs.reading.load_versions.Given as goal
 
 -- the versions so far, and then those in the folders that are left, are all; and no call of the store failed

@@ -1,7 +1,7 @@
 use Rattle.std.proofs.Common.{◌≡◌, true, map, sym, subst, string_bytes}
 use Rattle.api_versions.specs.Answers.{ReadFaultCause}
 use Rattle.aidl_outside.specs.Files.{is_ascending}
-use Rattle.api_versions.specs.steps.Seen.{folder_seen}
+use Rattle.api_versions.specs.Seen.{folder_seen}
 use Rattle.api_versions.proofs.Ascending.{folders_ascend}
 use Rattle.api_versions.proofs.Gathered.{folders_numbered}
 use Rattle.api_versions.proofs.reading.versions.Goals as goal

@@ -1,7 +1,8 @@
 use Rattle.std.proofs.Common.{◌≡◌, ◌∙◌, Ok, ap, sym, subst, map, string_bytes}
 use Rattle.std.proofs.lemmas.Str.{encodes-chars, IsUtf8-string_bytes}
+use Rattle.aidl_outside.specs.Files.{path_below}
 use Rattle.aidl_outside.specs.Told.{Tells}
-use Rattle.api_versions.specs.Versions.{file_at, path_below}
+use Rattle.api_versions.specs.Versions.{file_at}
 use Rattle.api_versions.proofs.Collected.{source_more, sources_done, ascending_more}
 use Rattle.api_versions.proofs.sources.load_sources.Goals as goal
 

@@ -1,7 +1,7 @@
 use Rattle.std.proofs.Common.{◌≡◌, map, drop}
 use Rattle.std.specs.List.{list_any}
 use Rattle.api_versions.specs.Versions.{is_large}
-use Rattle.api_versions.specs.steps.Seen.{folder_seen}
+use Rattle.api_versions.specs.Seen.{folder_seen}
 use Rattle.api_versions.proofs.whole_folders.is_any_large.Given as goal
 
 abbrev pub invariant-loop-folder : goal.invariant-loop-folder

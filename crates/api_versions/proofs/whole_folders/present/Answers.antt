@@ -1,6 +1,6 @@
 use Rattle.std.proofs.Common.{◌∙◌, ap, map, rules}
 use Rattle.std.proofs.lemmas.Fn.{filter_same}
-use Rattle.api_versions.specs.steps.Seen.{folder_seen}
+use Rattle.api_versions.specs.Seen.{folder_seen}
 use Rattle.api_versions.proofs.Kept.{kept_seen}
 use Rattle.api_versions.proofs.whole_folders.present.Goals as goal
 

@@ -1,7 +1,7 @@
 use Rattle.std.proofs.Common.{◌∙◌, ◌+◌, ◌++◌, ◌∷◌, [], ap, sym, subst, map, take, drop, string_bytes}
 use Rattle.aidl_outside.specs.Writes.{ChangesOnly, Sets}
 use Rattle.api_versions.specs.Writes.{Wrote}
-use Rattle.api_versions.specs.steps.Seen.{write_seen}
+use Rattle.api_versions.specs.Seen.{write_seen}
 use Rattle.api_versions.proofs.Writing.{wrote_more, wrote_some, writes_more, writes_split}
 use Rattle.api_versions.proofs.writes.write_all.Goals as goal
 

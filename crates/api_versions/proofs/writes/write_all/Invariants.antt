@@ -1,6 +1,6 @@
 use Rattle.std.proofs.Common.{◌≡◌, map, take}
 use Rattle.api_versions.specs.Writes.{Wrote}
-use Rattle.api_versions.specs.steps.Seen.{write_seen}
+use Rattle.api_versions.specs.Seen.{write_seen}
 use Rattle.api_versions.proofs.writes.write_all.Given as goal
 
 -- the writes so far were made, and no call of the store failed

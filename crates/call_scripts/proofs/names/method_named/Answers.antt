@@ -7,6 +7,6 @@ use Rattle.call_scripts.proofs.names.method_named.Goals as goal
 
 pub overflow_cast-result : goal.overflow_cast-result
 overflow_cast-result c =
-    let within = position_within (λ w. same_text (bytes_of w.name) c.args.name.now) c.methods_of.result.now c.in-Some.position (sym c.in-Some.ensures) in
-    let few : length c.methods_of.result.now ≤ 4096 = subst (λ ms. length ms ≤ 4096) (sym c.methods_of.ensures) (few_methods c.args.schema.now.decls c.law_valid.ensures.declarations c.args.interface) in
+    let within = position_within (λ w. same_text (bytes_of w.name) c.args.name.now) c.methods_at.result.now c.in-Some.position (sym c.in-Some.ensures) in
+    let few : length c.methods_at.result.now ≤ 4096 = subst (λ ms. length ms ≤ 4096) (sym c.methods_at.ensures) (few_methods c.args.schema.now.decls c.law_valid.ensures.declarations c.args.interface) in
     omega arith

@@ -9,6 +9,6 @@ use Rattle.call_scripts.proofs.script.script_of.Goals as goal
 pub returns-in-Err-Refused-clause-script : goal.returns-in-Err-Refused-clause-script
 returns-in-Err-Refused-clause-script c =
     let at = c.in-Err-Refused.at in
-    let answer = script c.args.client.now.decls c.args.server.now.decls c.args.line.now in
+    let answer = script c.args.client.now c.args.server.now c.args.line.now in
     let refused = fails_as c.in-Err-Refused.field-0 c.in-Err-Refused.name at answer c.in-Err-Refused.field-0-is c.in-Err-Refused.ensures.gives in
     same_refusal c.in-Err-Refused.name _ _ (ap encode_utf8_all c.from_string.ensures ∙ encodes-chars (string_bytes at) (IsUtf8-string_bytes at)) ∙ sym refused

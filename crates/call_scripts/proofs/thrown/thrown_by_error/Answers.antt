@@ -1,7 +1,7 @@
 use Rattle.std.proofs.Common.{◌≡◌, ℕ, ℤ, ◌<◌, List, [], ◌∷◌, length, Option, None, refl, arith}
 use Rattle.serde_json.specs.View.{items_view}
 use Rattle.serde_json.specs.declared.value.Value.{Value as Json}
-use Rattle.call_scripts.specs.Answers.{thrown_by_error}
+use Rattle.call_scripts.specs.steps.Exceptions.{thrown_by_error}
 use Rattle.call_scripts.proofs.thrown.thrown_by_error.Goals as goal
 
 -- a fourth entry

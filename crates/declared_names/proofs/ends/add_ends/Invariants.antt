@@ -1,5 +1,5 @@
 use Rattle.std.proofs.Common.{◌≡◌, ◌++◌, drop}
-use Rattle.declared_names.specs.steps.Ends.{mark_back, ends_in}
+use Rattle.declared_names.specs.Ends.{mark_back, ends_in}
 use Rattle.declared_names.proofs.ends.add_ends.Given as goal
 
 -- the ends from i on

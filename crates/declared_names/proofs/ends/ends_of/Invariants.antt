@@ -1,7 +1,7 @@
 use Rattle.std.proofs.Common.{◌≡◌, ◌++◌, map, drop}
 use Rattle.declared_names.specs.Entries.{entry_of}
 use Rattle.declared_names.specs.Numbered.{in_each}
-use Rattle.declared_names.specs.steps.Ends.{ends_in, ends_of}
+use Rattle.declared_names.specs.Ends.{ends_in, ends_of}
 use Rattle.declared_names.proofs.ends.ends_of.Given as goal
 
 -- the ends so far and those that are left are all

@@ -1,5 +1,5 @@
 use Rattle.std.proofs.Common.{◌≡◌, drop}
-use Rattle.declared_names.specs.steps.Ends.{mark_back}
+use Rattle.declared_names.specs.Ends.{mark_back}
 use Rattle.declared_names.proofs.ends.mark_back.Given as goal
 
 -- of the parts from i on

@@ -1,5 +1,5 @@
 use Rattle.std.proofs.Common.{◌≡◌, nat_lt, length}
-use Rattle.declared_names.specs.steps.Times.{is_rarer}
+use Rattle.declared_names.specs.Times.{is_rarer}
 use Rattle.declared_names.proofs.lemmas.Chains.{HasMark, left}
 use Rattle.declared_names.proofs.lemmas.Times.{times_at}
 use Rattle.declared_names.proofs.rarer.is_rarer.Given as goal

@@ -1,8 +1,8 @@
 use Rattle.std.proofs.Common.{◌≡◌, ◌+◌, ◌-◌, ◌<◌, ◌≤◌, suc, length, sym, ◌∙◌, ap, arith}
 use Rattle.std.proofs.lemmas.Result.{err_from_is_err_and}
 use Rattle.aidl_syntax.specs.Trees.{expr_of}
-use Rattle.expr_parser.specs.steps.Levels.{rank}
-use Rattle.expr_parser.specs.steps.Reading.{climb, expr}
+use Rattle.expr_parser.specs.Levels.{rank}
+use Rattle.expr_parser.specs.Reading.{climb, expr}
 use Rattle.expr_parser.proofs.lemmas.Looping.{climb_end, climb_stop, climb_none, climb_more, fails_over}
 use Rattle.expr_parser.proofs.expressions.+expr.Goals as goal
 

@@ -1,7 +1,7 @@
 use Rattle.std.proofs.Common.{◌≡◌, ◌+◌, ◌*◌, ◌<◌, ◌≤◌, length}
 use Rattle.aidl_syntax.specs.Trees.{expr_of}
-use Rattle.expr_parser.specs.steps.Levels.{rank}
-use Rattle.expr_parser.specs.steps.Reading.{climb, expr}
+use Rattle.expr_parser.specs.Levels.{rank}
+use Rattle.expr_parser.specs.Reading.{climb, expr}
 use Rattle.expr_parser.proofs.expressions.+expr.Given as goal
 
 abbrev pub decreases-expr : goal.decreases-expr

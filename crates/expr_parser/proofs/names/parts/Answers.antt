@@ -1,7 +1,7 @@
 use Rattle.std.proofs.Common.{◌≡◌, sym, refl, ◌∙◌, true, [], ◌∷◌, subst}
 use Rattle.std.proofs.lemmas.Result.{err_from_is_err_and}
 use Rattle.expr_parser.specs.Gives.{Gives}
-use Rattle.expr_parser.specs.steps.Reading.{names, name_of}
+use Rattle.expr_parser.specs.Reading.{names, name_of}
 use Rattle.expr_parser.proofs.lemmas.Looping.{name_dot, name_last, name_none, name_no_more, with_no_names, fails_over}
 use Rattle.expr_parser.proofs.names.parts.Goals as goal
 

@@ -1,6 +1,6 @@
 use Rattle.std.proofs.Common.{◌≡◌, ◌<◌, ◌≤◌, suc, sym, ap, ◌∙◌, true, [], ◌∷◌, length, arith}
 use Rattle.std.proofs.lemmas.Result.{err_from_is_err_and}
-use Rattle.expr_parser.specs.steps.Reading.{names, with_names, name_of}
+use Rattle.expr_parser.specs.Reading.{names, with_names, name_of}
 use Rattle.expr_parser.proofs.lemmas.Looping.{name_dot, name_last, name_none, name_no_more, fails_over}
 use Rattle.expr_parser.proofs.names.parts_behind.Goals as goal
 

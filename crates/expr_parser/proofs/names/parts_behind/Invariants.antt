@@ -1,5 +1,5 @@
 use Rattle.std.proofs.Common.{◌≡◌, ◌≤◌, [], ◌∷◌, length, true}
-use Rattle.expr_parser.specs.steps.Reading.{names, with_names}
+use Rattle.expr_parser.specs.Reading.{names, with_names}
 use Rattle.expr_parser.proofs.names.parts_behind.Given as goal
 
 -- what was read, and then what is still read, is all

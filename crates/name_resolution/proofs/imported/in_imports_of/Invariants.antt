@@ -1,5 +1,5 @@
 use Rattle.std.proofs.Common.{◌≡◌, ◌∷◌, [], map, length}
-use Rattle.declared_names.specs.Marks.{mark_of}
+use Rattle.declared_names.specs.Marks.{mark_of, mark_of_last}
 use Rattle.name_resolution.specs.Resolution.{first_declared, imported}
 use Rattle.declared_names.specs.Entries.{entry_of}
 use Rattle.declared_names.proofs.lemmas.Chains.{HasMark, left}
@@ -9,8 +9,8 @@ use Rattle.name_resolution.proofs.imported.in_imports_of.Given as goal
 -- through none of those so far
 abbrev pub invariant-places : goal.invariant-places
 invariant-places l = record {
-  rest : searched_at (through (map entry_of l.found) l.first l.rest) (map (λ d. d.now) l.imports) l.at ≡ first_declared (map entry_of l.found) (imported (map (λ d. d.now) l.imports) (l.first ∷ l.rest));
-  marked : HasMark l.marks (mark_of (l.first ∷ [])) l.at;
+  rest : searched_at (through (map entry_of l.declarations) l.first l.rest) l.imports l.at ≡ first_declared (map entry_of l.declarations) (imported l.imports (l.first ∷ l.rest));
+  marked : HasMark (map mark_of_last l.imports) (mark_of (l.first ∷ [])) l.at;
 }
 
 abbrev pub decreases-places : goal.decreases-places

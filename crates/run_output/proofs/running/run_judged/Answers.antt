@@ -1,25 +1,34 @@
-use Rattle.std.proofs.Common.{arith}
+use Rattle.std.proofs.Common.{List, sym, subst, arith}
+use Rattle.aidl_schema.specs.declared.schema.Decl.{Decl}
 use Rattle.run_output.specs.CallLines.{lines_of}
+use Rattle.run_output.specs.Projected.{Projects, projected_text}
 use Rattle.run_output.specs.Running.{lines_course}
-use Rattle.tool_frame.specs.steps.Courses.{seen_alone}
+use Rattle.tool_frame.specs.Exit.{number_of}
+use Rattle.tool_frame.specs.Seen.{Seen}
+use Rattle.tool_frame.specs.Courses.{RanCourse, seen_alone}
+use Rattle.wire_model.specs.Outcome.{SameWays}
 use Rattle.tool_frame.proofs.lemmas.Courses.{ran_none}
 use Rattle.tool_frame.proofs.lemmas.Endings.{not_verdict}
 use Rattle.run_output.proofs.running.run_judged.Goals as goal
 
-pub run_lines-requires-clause-client : goal.run_lines-requires-clause-client
-run_lines-requires-clause-client g c = c.in-Ok.ensures.0
-
-pub run_lines-requires-clause-server : goal.run_lines-requires-clause-server
-run_lines-requires-clause-server g c = c.in-Ok.ensures.1
-
-pub run_lines-requires-clause-ways : goal.run_lines-requires-clause-ways
-run_lines-requires-clause-ways g c = c.law_ways.ensures c.requires
+pub run_lines-requires : goal.run_lines-requires
+run_lines-requires g c =
+    subst (λ (A : List Decl). SameWays A c.new-server_side.result) (sym c.new-client_side.ensures)
+    (subst (λ (B : List Decl). SameWays c.args.client.now.decls B) (sym c.new-server_side.ensures) (c.law_ways.ensures c.requires))
 
 pub returns-in-Ok-clause-ran : goal.returns-in-Ok-clause-ran
-returns-in-Ok-clause-ran g c = c.run_lines.ensures.ran
+returns-in-Ok-clause-ran g c =
+    let before : Seen = seen_alone g.K.Sink.told g.K.Sink.count g.L.Link.log g.L.Link.is_faithful g.L.Link.count c.args.sink.now c.args.link.now in
+    let after : Seen = seen_alone g.K.Sink.told g.K.Sink.count g.L.Link.log g.L.Link.is_faithful g.L.Link.count c.run_lines.new.sink c.run_lines.new.link in
+    subst (λ (A : List Decl). RanCourse (lines_course c.args.profile A c.args.server.now.decls c.args.trace 1 (lines_of c.args.calls.now)) before after (number_of c.run_lines.result)) c.new-client_side.ensures
+    (subst (λ (B : List Decl). RanCourse (lines_course c.args.profile c.new-client_side.result B c.args.trace 1 (lines_of c.args.calls.now)) before after (number_of c.run_lines.result)) c.new-server_side.ensures c.run_lines.ensures.ran)
 
 pub returns-in-Ok-clause-projected : goal.returns-in-Ok-clause-projected
-returns-in-Ok-clause-projected g c = c.run_lines.ensures.projected
+returns-in-Ok-clause-projected g c =
+    let before : Seen = seen_alone g.K.Sink.told g.K.Sink.count g.L.Link.log g.L.Link.is_faithful g.L.Link.count c.args.sink.now c.args.link.now in
+    let after : Seen = seen_alone g.K.Sink.told g.K.Sink.count g.L.Link.log g.L.Link.is_faithful g.L.Link.count c.run_lines.new.sink c.run_lines.new.link in
+    subst (λ (A : List Decl). Projects A c.args.server.now.decls (projected_text c.args.profile A c.args.server.now.decls c.args.trace 1 (lines_of c.args.calls.now)) before after (number_of c.run_lines.result)) c.new-client_side.ensures
+    (subst (λ (B : List Decl). Projects c.new-client_side.result B (projected_text c.args.profile c.new-client_side.result B c.args.trace 1 (lines_of c.args.calls.now)) before after (number_of c.run_lines.result)) c.new-server_side.ensures c.run_lines.ensures.projected)
 
 pub returns-in-Err-clause-ran : goal.returns-in-Err-clause-ran
 returns-in-Err-clause-ran g c =

@@ -4,8 +4,9 @@ use Rattle.run_output.specs.CallLines.{lines_of}
 use Rattle.run_output.specs.Projected.{projected_text}
 use Rattle.run_output.specs.Running.{lines_course}
 use Rattle.tool_frame.specs.Course.{Course}
+use Rattle.tool_frame.specs.Exit.{number_of}
 use Rattle.tool_frame.specs.Seen.{Seen}
-use Rattle.tool_frame.specs.steps.Courses.{seen_alone}
+use Rattle.tool_frame.specs.Courses.{seen_alone}
 use Rattle.tool_frame.proofs.lemmas.Courses.{went_none}
 use Rattle.run_output.proofs.lemmas.Lines.{empty_list, lines_ended, next_ended, next_went, still_faithful}
 use Rattle.run_output.proofs.Projecting.{lines_added, next_added}
@@ -17,22 +18,16 @@ cut-requires g c = λ e.
     let never : false ≡ true = sym c.loop-rest-test.true ∙ c.is_empty.ensures ∙ none in
     cc
 
-pub run_next-requires-clause-client : goal.run_next-requires-clause-client
-run_next-requires-clause-client g c = c.requires.client
-
-pub run_next-requires-clause-server : goal.run_next-requires-clause-server
-run_next-requires-clause-server g c = c.requires.server
-
-pub run_next-requires-clause-ways : goal.run_next-requires-clause-ways
-run_next-requires-clause-ways g c = c.requires.ways
+pub run_next-requires : goal.run_next-requires
+run_next-requires g c = c.requires
 
 pub loop-rest-smaller : goal.loop-rest-smaller
 loop-rest-smaller g c = omega arith
 
 pub loop-rest-init : goal.loop-rest-init
 loop-rest-init g c =
-    let A : List Decl = c.args.client.now.schema.now.decls in
-    let B : List Decl = c.args.server.now.schema.now.decls in
+    let A : List Decl = c.args.client.now in
+    let B : List Decl = c.args.server.now in
     let whole : Course = lines_course c.args.profile A B c.args.trace 1 (lines_of c.args.calls.now) in
     let start : Seen = seen_alone g.K.Sink.told g.K.Sink.count g.L.Link.log g.L.Link.is_faithful g.L.Link.count c.args.sink.now c.args.link.now in
     record {
@@ -43,14 +38,14 @@ loop-rest-init g c =
 
 pub returns-in-Err-clause-ran : goal.returns-in-Err-clause-ran
 returns-in-Err-clause-ran g c =
-    let A : List Decl = c.args.client.now.schema.now.decls in
-    let B : List Decl = c.args.server.now.schema.now.decls in
+    let A : List Decl = c.args.client.now in
+    let B : List Decl = c.args.server.now in
     let whole : Course = lines_course c.args.profile A B c.args.trace 1 (lines_of c.args.calls.now) in
     let start : Seen = seen_alone g.K.Sink.told g.K.Sink.count g.L.Link.log g.L.Link.is_faithful g.L.Link.count c.args.sink.now c.args.link.now in
     let now : Seen = seen_alone g.K.Sink.told g.K.Sink.count g.L.Link.log g.L.Link.is_faithful g.L.Link.count c.loop-rest.sink c.loop-rest.link in
     let later : Seen = seen_alone g.K.Sink.told g.K.Sink.count g.L.Link.log g.L.Link.is_faithful g.L.Link.count c.run_next.new.sink c.run_next.new.link in
     let left : Course = lines_course c.args.profile A B c.args.trace (c.loop-rest.number + 1) (lines_of c.cut.result.1.now) in
-    next_ended c.args.profile A B c.args.trace c.loop-rest.number whole c.loop-rest.rest.now c.cut.result.0.now c.cut.result.1.now start now later c.cut.ensures.lines c.loop-rest.invariant.went c.in-Err.exit (c.in-Err.ensures.steps left)
+    next_ended c.args.profile A B c.args.trace c.loop-rest.number whole c.loop-rest.rest.now c.cut.result.0.now c.cut.result.1.now start now later c.cut.ensures.lines c.loop-rest.invariant.went (number_of c.in-Err.exit) (c.in-Err.ensures.steps left)
 
 pub returns-in-Err-clause-projected : goal.returns-in-Err-clause-projected
 returns-in-Err-clause-projected g c =
@@ -58,8 +53,8 @@ returns-in-Err-clause-projected g c =
 
 pub returns-then-is_empty-clause-ran : goal.returns-then-is_empty-clause-ran
 returns-then-is_empty-clause-ran g c =
-    let A : List Decl = c.args.client.now.schema.now.decls in
-    let B : List Decl = c.args.server.now.schema.now.decls in
+    let A : List Decl = c.args.client.now in
+    let B : List Decl = c.args.server.now in
     let whole : Course = lines_course c.args.profile A B c.args.trace 1 (lines_of c.args.calls.now) in
     let start : Seen = seen_alone g.K.Sink.told g.K.Sink.count g.L.Link.log g.L.Link.is_faithful g.L.Link.count c.args.sink.now c.args.link.now in
     let now : Seen = seen_alone g.K.Sink.told g.K.Sink.count g.L.Link.log g.L.Link.is_faithful g.L.Link.count c.loop-rest.sink c.loop-rest.link in
@@ -71,8 +66,8 @@ returns-then-is_empty-clause-ran g c =
 
 pub returns-then-is_empty-clause-projected : goal.returns-then-is_empty-clause-projected
 returns-then-is_empty-clause-projected g c =
-    let A : List Decl = c.args.client.now.schema.now.decls in
-    let B : List Decl = c.args.server.now.schema.now.decls in
+    let A : List Decl = c.args.client.now in
+    let B : List Decl = c.args.server.now in
     λ one faithful verdict. (
       refl,
       lines_added c.args.profile A B c.args.trace (c.loop-rest.number + 1) c.cut.result.1.now (projected_text c.args.profile A B c.args.trace 1 (lines_of c.args.calls.now)) (g.K.Sink.told c.args.sink.now)
@@ -84,8 +79,8 @@ returns-then-is_empty-clause-projected g c =
 
 pub loop-rest-preserved : goal.loop-rest-preserved
 loop-rest-preserved g c =
-    let A : List Decl = c.args.client.now.schema.now.decls in
-    let B : List Decl = c.args.server.now.schema.now.decls in
+    let A : List Decl = c.args.client.now in
+    let B : List Decl = c.args.server.now in
     let whole : Course = lines_course c.args.profile A B c.args.trace 1 (lines_of c.args.calls.now) in
     let start : Seen = seen_alone g.K.Sink.told g.K.Sink.count g.L.Link.log g.L.Link.is_faithful g.L.Link.count c.args.sink.now c.args.link.now in
     let now : Seen = seen_alone g.K.Sink.told g.K.Sink.count g.L.Link.log g.L.Link.is_faithful g.L.Link.count c.loop-rest.sink c.loop-rest.link in
@@ -102,8 +97,8 @@ loop-rest-preserved g c =
 
 pub returns-clause-ran : goal.returns-clause-ran
 returns-clause-ran g c =
-    let A : List Decl = c.args.client.now.schema.now.decls in
-    let B : List Decl = c.args.server.now.schema.now.decls in
+    let A : List Decl = c.args.client.now in
+    let B : List Decl = c.args.server.now in
     let whole : Course = lines_course c.args.profile A B c.args.trace 1 (lines_of c.args.calls.now) in
     let start : Seen = seen_alone g.K.Sink.told g.K.Sink.count g.L.Link.log g.L.Link.is_faithful g.L.Link.count c.args.sink.now c.args.link.now in
     let now : Seen = seen_alone g.K.Sink.told g.K.Sink.count g.L.Link.log g.L.Link.is_faithful g.L.Link.count c.loop-rest.sink c.loop-rest.link in
@@ -112,8 +107,8 @@ returns-clause-ran g c =
 
 pub returns-clause-projected : goal.returns-clause-projected
 returns-clause-projected g c =
-    let A : List Decl = c.args.client.now.schema.now.decls in
-    let B : List Decl = c.args.server.now.schema.now.decls in
+    let A : List Decl = c.args.client.now in
+    let B : List Decl = c.args.server.now in
     λ one faithful verdict. (
       refl,
       lines_added c.args.profile A B c.args.trace c.loop-rest.number c.loop-rest.rest.now (projected_text c.args.profile A B c.args.trace 1 (lines_of c.args.calls.now)) (g.K.Sink.told c.args.sink.now)

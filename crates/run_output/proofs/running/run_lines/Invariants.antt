@@ -3,20 +3,20 @@ use Rattle.aidl_outside.specs.Told.{Adds}
 use Rattle.run_output.specs.CallLines.{lines_of}
 use Rattle.run_output.specs.Projected.{projected_text}
 use Rattle.run_output.specs.Running.{lines_course}
-use Rattle.tool_frame.specs.steps.Courses.{Went, seen_alone}
+use Rattle.tool_frame.specs.Courses.{Went, seen_alone}
 use Rattle.wire_model.specs.Outcome.{OneFollows}
 use Rattle.run_output.proofs.running.run_lines.Given as goal
 
 -- so far the lines went well, up to those that are left; over a faithful link what is left to put completes what was put
 abbrev pub invariant-loop-rest : goal.invariant-loop-rest
 invariant-loop-rest g l = record {
-  went : Went (lines_course l.profile l.client.schema.now.decls l.server.schema.now.decls l.trace 1 (lines_of l.fn.calls))
-      (lines_course l.profile l.client.schema.now.decls l.server.schema.now.decls l.trace l.number (lines_of l.rest))
+  went : Went (lines_course l.profile l.client l.server l.trace 1 (lines_of l.fn.calls))
+      (lines_course l.profile l.client l.server l.trace l.number (lines_of l.rest))
       (seen_alone g.K.Sink.told g.K.Sink.count g.L.Link.log g.L.Link.is_faithful g.L.Link.count l.fn.sink l.fn.link)
       (seen_alone g.K.Sink.told g.K.Sink.count g.L.Link.log g.L.Link.is_faithful g.L.Link.count l.sink l.link);
-  completes : OneFollows l.client.schema.now.decls l.server.schema.now.decls → g.L.Link.is_faithful l.fn.link ≡ true
-      → (later : Option (List ℕ)) → Adds (g.K.Sink.told l.sink) later (projected_text l.profile l.client.schema.now.decls l.server.schema.now.decls l.trace l.number (lines_of l.rest))
-      → Adds (g.K.Sink.told l.fn.sink) later (projected_text l.profile l.client.schema.now.decls l.server.schema.now.decls l.trace 1 (lines_of l.fn.calls));
+  completes : OneFollows l.client l.server → g.L.Link.is_faithful l.fn.link ≡ true
+      → (later : Option (List ℕ)) → Adds (g.K.Sink.told l.sink) later (projected_text l.profile l.client l.server l.trace l.number (lines_of l.rest))
+      → Adds (g.K.Sink.told l.fn.sink) later (projected_text l.profile l.client l.server l.trace 1 (lines_of l.fn.calls));
   few : l.number + length l.rest ≤ length l.fn.calls + 1;
 }
 

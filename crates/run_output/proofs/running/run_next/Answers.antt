@@ -8,7 +8,7 @@ use Rattle.call_scripts.specs.Calls.{CallData}
 use Rattle.call_scripts.specs.Script.{script}
 use Rattle.run_output.specs.Running.{puts}
 use Rattle.tool_frame.specs.Seen.{Seen}
-use Rattle.tool_frame.specs.steps.Courses.{seen_alone}
+use Rattle.tool_frame.specs.Courses.{seen_alone}
 use Rattle.tool_frame.proofs.lemmas.Endings.{not_verdict}
 use Rattle.run_output.proofs.lemmas.Lines.{line_link, line_memory, line_steps}
 use Rattle.run_output.proofs.Projecting.{carried_is, put_projected, put_stops}
@@ -16,8 +16,8 @@ use Rattle.run_output.proofs.running.run_next.Goals as goal
 
 pub returns-in-Ok : goal.returns-in-Ok
 returns-in-Ok g c =
-    let A : List Decl = c.args.client.now.schema.now.decls in
-    let B : List Decl = c.args.server.now.schema.now.decls in
+    let A : List Decl = c.args.client.now in
+    let B : List Decl = c.args.server.now in
     let meant : Judged CallData = script A B c.args.line.now in
     let before : Seen = seen_alone g.K.Sink.told g.K.Sink.count g.L.Link.log g.L.Link.is_faithful g.L.Link.count c.args.sink.now c.args.link.now in
     let run : LineRun = c.in-Ok.run' in
@@ -32,8 +32,8 @@ returns-in-Ok g c =
 
 pub returns-in-Err-LinkFault : goal.returns-in-Err-LinkFault
 returns-in-Err-LinkFault g c =
-    let A : List Decl = c.args.client.now.schema.now.decls in
-    let B : List Decl = c.args.server.now.schema.now.decls in
+    let A : List Decl = c.args.client.now in
+    let B : List Decl = c.args.server.now in
     let meant : Judged CallData = script A B c.args.line.now in
     let before : Seen = seen_alone g.K.Sink.told g.K.Sink.count g.L.Link.log g.L.Link.is_faithful g.L.Link.count c.args.sink.now c.args.link.now in
     record {
@@ -47,8 +47,8 @@ returns-in-Err-LinkFault g c =
 
 pub returns-in-Err-OutOfMemory : goal.returns-in-Err-OutOfMemory
 returns-in-Err-OutOfMemory g c =
-    let A : List Decl = c.args.client.now.schema.now.decls in
-    let B : List Decl = c.args.server.now.schema.now.decls in
+    let A : List Decl = c.args.client.now in
+    let B : List Decl = c.args.server.now in
     let meant : Judged CallData = script A B c.args.line.now in
     let before : Seen = seen_alone g.K.Sink.told g.K.Sink.count g.L.Link.log g.L.Link.is_faithful g.L.Link.count c.args.sink.now c.args.link.now in
     record {

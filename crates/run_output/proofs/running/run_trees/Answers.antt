@@ -5,10 +5,11 @@ use Rattle.run_output.specs.CallLines.{lines_of}
 use Rattle.run_output.specs.Running.{judged_course, lines_course, run_course}
 use Rattle.run_output.specs.steps.Steps.{course_by}
 use Rattle.tool_frame.specs.Course.{Course}
+use Rattle.tool_frame.specs.Exit.{number_of}
 use Rattle.tool_frame.specs.Seen.{Seen}
 use Rattle.tool_frame.specs.declared.printed.Printed.{Printed}
-use Rattle.tool_frame.specs.steps.Courses.{RanCourse, seen_alone}
-use Rattle.tool_frame.specs.steps.Results.{printed}
+use Rattle.tool_frame.specs.Courses.{RanCourse, seen_alone}
+use Rattle.tool_frame.specs.Results.{printed}
 use Rattle.tool_frame.proofs.lemmas.Courses.{ran_none, ran_printed}
 use Rattle.tool_frame.proofs.lemmas.Endings.{not_verdict}
 use Rattle.run_output.proofs.Projecting.{never_printed}
@@ -26,7 +27,7 @@ returns-in-Ok-None-clause-ran g c =
     let lines : Course = lines_course c.args.profile A B c.args.trace 1 (lines_of c.args.calls.now) in
     let course : (rest : Course) → judged_course (broken A B) (broken B A) rest ≡ rest =
     subst (λ (p : Option Printed). (rest : Course) → judged_course (broken A B) (broken B A) rest ≡ course_by p rest) c.in-Ok-None.field-0-is c.in-Ok-None.ensures.course in
-    subst (λ (x : Course). RanCourse x start now c.run_judged.result) (sym (course lines)) c.run_judged.ensures.ran
+    subst (λ (x : Course). RanCourse x start now (number_of c.run_judged.result)) (sym (course lines)) c.run_judged.ensures.ran
 
 pub returns-in-Ok-None-clause-projected : goal.returns-in-Ok-None-clause-projected
 returns-in-Ok-None-clause-projected g c = c.run_judged.ensures.projected
@@ -40,8 +41,8 @@ returns-in-Ok-Some-clause-ran g c =
     let lines : Course = lines_course c.args.profile A B c.args.trace 1 (lines_of c.args.calls.now) in
     let course : (rest : Course) → judged_course (broken A B) (broken B A) rest ≡ course_by (Some c.in-Ok-Some.printed) rest =
     subst (λ (p : Option Printed). (rest : Course) → judged_course (broken A B) (broken B A) rest ≡ course_by p rest) c.in-Ok-Some.field-0-is c.in-Ok-Some.ensures.course in
-    subst (λ (x : Course). RanCourse x start now c.print.result) (sym (course lines))
-    (ran_printed start (g.K.Sink.told c.print.new.sink) (g.K.Sink.count c.print.new.sink) (printed c.in-Ok-Some.printed) c.print.result c.print.ensures)
+    subst (λ (x : Course). RanCourse x start now (number_of c.print.result)) (sym (course lines))
+    (ran_printed start (g.K.Sink.told c.print.new.sink) (g.K.Sink.count c.print.new.sink) (printed c.in-Ok-Some.printed) (number_of c.print.result) c.print.ensures)
 
 pub returns-in-Ok-Some-clause-projected : goal.returns-in-Ok-Some-clause-projected
 returns-in-Ok-Some-clause-projected g c = λ one faithful verdict.

@@ -1,15 +1,14 @@
-use Rattle.std.proofs.Common.{◌≡◌, false, refl, inl, inr}
-use Rattle.aidl_schema.specs.Methods.{is_in_way}
+use Rattle.std.proofs.Common.{sym, ◌∙◌}
 use Rattle.aidl_values.specs.View.{views}
 use Rattle.stub_dispatch.proofs.Outs.{outs_end, outs_go}
 use Rattle.stub_dispatch.proofs.replies.+outs_front.Goals as goal
 
-pub returns-in-empty : goal.returns-in-empty
-returns-in-empty t c = outs_end c.args.profile c.args.schema.now.decls c.args.args.now c.args.bytes.now (views c.args.outs.now.items) c.in-empty.len_below
+pub returns-in-None : goal.returns-in-None
+returns-in-None t c = outs_end c.args.profile c.args.args.now.decls c.args.args.now.args c.args.bytes.now (views c.args.outs.now.items) c.in-None.ensures
 
-pub returns-in_ok-push-in-Out : goal.returns-in_ok-push-in-Out
-returns-in_ok-push-in-Out t c =
-    outs_go c.args.profile c.args.schema.now.decls c.args.args.now c.arg-item.result c.args.bytes.now c.args.outs.now.items c.push.new.self.items c.outs_front-in-Out.new.outs.items
-    c.in_ok-value-in-Out.value c.outs_front-in-Out.result c.in_ok-value-in-Out.rest.now
-    c.in-len1-up.len_at_least c.arg-item.is (elim c.in-Out.is as (λ _. is_in_way c.arg-item.result.way ≡ false) [ inl e ↦ rw e refl | inr e ↦ rw e refl ])
-    c.in_ok-value-in-Out.ensures c.in_ok-push-in-Out.ensures.items c.outs_front-in-Out.ensures
+pub returns-in_ok-push-in-Some : goal.returns-in_ok-push-in-Some
+returns-in_ok-push-in-Some t c =
+    outs_go c.args.profile c.args.args.now c.in-Some.arg c.in-Some.others c.ty.result.now c.declared.result.now c.args.bytes.now c.args.outs.now.items c.push.new.self.items c.outs_front-in-Some.new.outs.items
+    c.in_ok-value-in-Some.value c.outs_front-in-Some.result c.in_ok-value-in-Some.rest.now
+    c.in-Some.ensures c.ty.ensures c.declared.ensures (sym c.comes_back.ensures ∙ c.if-not-comes_back.false)
+    c.in_ok-value-in-Some.ensures c.in_ok-push-in-Some.ensures.items c.outs_front-in-Some.ensures

@@ -2,4 +2,4 @@ use Rattle.std.proofs.Common.{length}
 use Rattle.stub_dispatch.proofs.requests.+put_parts.Given as goal
 
 abbrev pub decreases-put_parts : goal.decreases-put_parts
-decreases-put_parts l = length l.args.now
+decreases-put_parts l = length l.args.now.args

@@ -1,4 +1,4 @@
-use Rattle.std.proofs.Common.{inl, inr, Result, Ok, Err}
+use Rattle.std.proofs.Common.{inl, inr, refl, Result, Ok, Err}
 use Rattle.tool_frame.specs.declared.printed.Early.{Early}
 use Rattle.tool_frame.specs.declared.printed.Printed.{Printed}
 use Rattle.tree_output.specs.Faults.{IsFaultAnswer}
@@ -14,4 +14,4 @@ returns-in-Ok c =
 
 pub returns-in-Err : goal.returns-in-Err
 returns-in-Err c =
-    gives_more (IsFaultAnswer c.args.old_root.now c.args.old_files) (IsJudgeAnswer c.args.old_root.now c.args.old_files c.args.new_root.now c.args.new_files) c.in-Err.early (λ a h. inl h) c.in-Err.ensures.err
+    gives_more (IsFaultAnswer c.args.old_root.now c.args.old_files) (IsJudgeAnswer c.args.old_root.now c.args.old_files c.args.new_root.now c.args.new_files) c.in-Err.early (λ a h. inl (a, h, refl)) c.in-Err.ensures.err

@@ -13,4 +13,4 @@ returns-in-Ok c =
 
 pub returns-in-Err : goal.returns-in-Err
 returns-in-Err c =
-    gives_more (IsFaultAnswer c.args.new_root.now c.args.new_files) (IsSecondAnswer c.args.old.now.decls c.args.new_root.now c.args.new_files) c.in-Err.early (λ a h. inl h) c.in-Err.ensures.err
+    gives_more (IsFaultAnswer c.args.new_root.now c.args.new_files) (IsSecondAnswer c.args.old.now.decls c.args.new_root.now c.args.new_files) c.in-Err.early (λ a h. inl (a, h, refl)) c.in-Err.ensures.err

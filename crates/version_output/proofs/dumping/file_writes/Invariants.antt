@@ -1,6 +1,6 @@
 use Rattle.std.specs.Prelude.{◌≡◌, ◌++◌, map}
 use Rattle.api_dump.specs.Dump.{seen}
-use Rattle.api_versions.specs.steps.Seen.{write_seen}
+use Rattle.api_versions.specs.Seen.{write_seen}
 use Rattle.version_output.specs.Dumped.{file_write}
 use Rattle.version_output.proofs.dumping.file_writes.Given as goal
 

@@ -1,6 +1,6 @@
 use Rattle.std.proofs.Common.{ℕ, Some, map, ◌∙◌, ap}
 use Rattle.declared_names.specs.Marks.{with_part, mark_of_last}
-use Rattle.declared_names.specs.steps.Times.{is_twice}
+use Rattle.declared_names.specs.Times.{is_twice}
 use Rattle.declared_names.proofs.lemmas.Chains.{goes_on_marked}
 use Rattle.declared_names.proofs.lemmas.Times.{twice, not_twice}
 use Rattle.name_resolution.proofs.imported.Imports.is_shared.Goals as goal

@@ -1,7 +1,0 @@
-use Rattle.std.proofs.Common.{◌≡◌, map, take}
-use Rattle.declared_names.specs.steps.Ends.{mark_of_import}
-use Rattle.name_resolution.proofs.by_name.marks_of.Given as goal
-
--- the marks of the imports so far
-abbrev pub invariant-loop-import : goal.invariant-loop-import
-invariant-loop-import l = l.marks.items ≡ map mark_of_import (map (λ d. d.now) (take l.import-index l.imports))
