@@ -1,0 +1,95 @@
+-- Calls that may show a broken rule: their bytes, their two sides, and when they count (own). `old` and `new` are the declarations of the two
+-- schemas.
+use Rattle.std.specs.Prelude.{◌≡◌, ℕ, ◌≤◌, Bool, if◌then◌else◌, List, [], length, Option, Some, None, option_map, option_and_then}
+use Rattle.aidl_schema.specs.declared.schema.Decl.{Decl}
+use Rattle.aidl_schema.specs.Find.{methods_at}
+use Rattle.aidl_schema.specs.Unbroken.{Has}
+use Rattle.aidl_values.specs.Data.{Items}
+use Rattle.wire_model.specs.Calls.{AnswerData, descriptor, method_at}
+use Rattle.wire_model.specs.Outcome.{declared_as, method_like}
+use Rattle.wire_model.specs.Requests.{ArgsFit, IsAnswer}
+use Rattle.wire_model.specs.Requests as wire
+use Rattle.compat_witness.specs.Sides.{Side, no_reply, read_request, projected_request, read_reply, projected_reply}
+
+-- A request with its arguments, or a reply to a client with the answer, None of a oneway method. The client is old unless `back`; `interface` and
+-- `method` are numbers of the client's schema.
+pub data Candidate : Type 0 where
+  request : (back : Bool) → (interface method : ℕ) → (args : Items) → Candidate
+  reply : (back : Bool) → (interface method : ℕ) → (answer : Option AnswerData) → Candidate
+
+-- of two schemas the client's, and the server's
+abbrev pub client_of : Bool → List Decl → List Decl → List Decl
+client_of back old new = if back then new else old
+
+abbrev pub server_of : Bool → List Decl → List Decl → List Decl
+server_of back old new = if back then old else new
+
+-- the interface and the method of B that have the names of those of A
+abbrev pub counterpart : List Decl → ℕ → ℕ → List Decl → Option (ℕ × ℕ)
+counterpart A i m B =
+    option_and_then (λ j. option_map (λ n. (j, n)) (method_like (method_at A i m) (methods_at B j))) (declared_as B (descriptor A i))
+
+-- something of the server's method, where there is one
+abbrev pub at_method : {X : Type 0} → X → (ℕ → ℕ → X) → Option (ℕ × ℕ) → X
+at_method x F None = x
+at_method x F (Some q) = F q.0 q.1
+
+-- the bytes of an answer; none of a oneway method
+abbrev pub answer_bytes : List Decl → ℕ → ℕ → Option AnswerData → List ℕ
+answer_bytes B j n None = []
+answer_bytes B j n (Some a) = wire.reply B j n a
+
+-- the bytes of a candidate: the spelled request or reply; none of a reply whose method the server lacks
+abbrev pub bytes_of : List Decl → List Decl → Candidate → List ℕ
+bytes_of old new (request back i m args) = wire.request (client_of back old new) i m args
+bytes_of old new (reply back i m answer) = at_method []
+    (λ j n. answer_bytes (server_of back old new) j n answer)
+    (counterpart (client_of back old new) i m (server_of back old new))
+
+-- it is an answer of the server's method; no answer is one of any method
+abbrev pub IsAnswerOf : List Decl → ℕ → ℕ → Option AnswerData → Type 0
+IsAnswerOf B j n None = Unit {0}
+IsAnswerOf B j n (Some a) = IsAnswer B j n a
+
+-- the same, where the server has the method
+abbrev pub IsAnswerAt : List Decl → Option (ℕ × ℕ) → Option AnswerData → Type 0
+IsAnswerAt B None answer = ⊥
+IsAnswerAt B (Some q) answer = IsAnswerOf B q.0 q.1 answer
+
+-- the arguments fit the client's method, or the answer the server's
+abbrev pub ValuesFit : List Decl → List Decl → Candidate → Type 0
+ValuesFit old new (request back i m args) = ArgsFit (client_of back old new) i m args
+ValuesFit old new (reply back i m answer) =
+    IsAnswerAt (server_of back old new) (counterpart (client_of back old new) i m (server_of back old new)) answer
+
+-- what is read of its bytes
+abbrev pub read_side : List Decl → List Decl → Candidate → Side
+read_side old new (request back i m args) =
+    read_request (client_of back old new) i m (server_of back old new) (wire.request (client_of back old new) i m args)
+read_side old new (reply back i m answer) = at_method no_reply
+    (λ j n. read_reply (client_of back old new) i m (server_of back old new) j n (answer_bytes (server_of back old new) j n answer))
+    (counterpart (client_of back old new) i m (server_of back old new))
+
+-- what its values are to the other version
+abbrev pub projected_side : List Decl → List Decl → Candidate → Side
+projected_side old new (request back i m args) = projected_request (client_of back old new) i m (server_of back old new) args
+projected_side old new (reply back i m answer) = at_method no_reply
+    (λ j n. projected_reply (server_of back old new) j n (client_of back old new) i m answer)
+    (counterpart (client_of back old new) i m (server_of back old new))
+
+-- A candidate counts where its values fit and its bytes are at most 1,048,576.
+pub record Counts (old new : List Decl) (c : Candidate) : Type 0 where
+  pub fits : ValuesFit old new c
+  pub small : length (bytes_of old new c) ≤ 1048576
+
+-- its two sides differ
+abbrev pub Differs : List Decl → List Decl → Candidate → Type 0
+Differs old new c = read_side old new c ≡ projected_side old new c → ⊥
+
+-- no candidate whose values fit has more bytes
+abbrev pub AreSmall : List Decl → List Decl → List Candidate → Type 0
+AreSmall old new cs = (c : Candidate) → Has cs c → ValuesFit old new c → length (bytes_of old new c) ≤ 1048576
+
+-- one candidate that counts differs
+abbrev pub Shows : List Decl → List Decl → List Candidate → Type 0
+Shows old new cs = (c : Candidate) × Has cs c × Counts old new c × Differs old new c

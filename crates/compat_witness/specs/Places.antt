@@ -1,0 +1,50 @@
+-- Which methods and fields the places of broken rules name (own).
+use Rattle.std.specs.Prelude.{ℕ, ◌==◌, if◌then◌else◌, List, [], ◌∷◌, Option, Some, None, option_map, option_and_then}
+use Rattle.std.specs.List.{position}
+use Rattle.aidl_schema.specs.declared.schema.Decl.{Decl}
+use Rattle.aidl_schema.specs.declared.schema.Method.{Method}
+use Rattle.aidl_schema.specs.Broken.{Place}
+use Rattle.aidl_schema.specs.Find.{methods_at}
+use Rattle.aidl_schema.specs.Same.{same_text}
+use Rattle.wire_model.specs.Calls.{descriptor, method_at}
+use Rattle.wire_model.specs.Outcome.{declared_as, method_like}
+
+-- the same with a character before
+abbrev pub behind : ℕ → Option (List ℕ × List ℕ) → Option (List ℕ × List ℕ)
+behind c None = None
+behind c (Some q) = Some (c ∷ q.0, q.1)
+
+-- the first, or else the other one
+abbrev pub or_else : Option (List ℕ × List ℕ) → Option (List ℕ × List ℕ) → Option (List ℕ × List ℕ)
+or_else None other = other
+or_else (Some q) other = Some q
+
+-- what stands before the last dot of a place, and what stands behind it
+abbrev pub at_last_dot : Place → Option (List ℕ × List ℕ)
+at_last_dot [] = None
+at_last_dot (c ∷ rest) = or_else (behind c (at_last_dot rest)) (if c == 46 then Some ([], rest) else None)
+
+-- what stands before the first slash of a place, and what stands behind it
+abbrev pub at_slash : Place → Option (List ℕ × List ℕ)
+at_slash [] = None
+at_slash (c ∷ rest) = if c == 47 then Some ([], rest) else behind c (at_slash rest)
+
+-- a method, the number of its interface, and its position there
+pub record Spot : Type 0 where
+  pub interface : ℕ
+  pub position : ℕ
+  pub method : Method
+
+-- the method at a position of an interface, where one was found
+abbrev pub spot_at : List Decl → ℕ → Option ℕ → Option Spot
+spot_at S i found =
+    option_and_then (λ m. option_map (λ v. record { interface = i; position = m; method = v }) (method_at S i m)) found
+
+-- the method that a place `n.method` names
+abbrev pub spot_of : List Decl → Place → Option Spot
+spot_of S p = option_and_then (λ q. option_and_then (λ i.
+    spot_at S i (position (λ v. same_text v.name.0 q.1) (methods_at S i))) (declared_as S q.0)) (at_last_dot p)
+
+-- the method of B that has the names of a method v of the interface i of A
+abbrev pub spot_like : List Decl → ℕ → Method → List Decl → Option Spot
+spot_like A i v B = option_and_then (λ j. spot_at B j (method_like (Some v) (methods_at B j))) (declared_as B (descriptor A i))

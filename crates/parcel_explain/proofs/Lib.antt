@@ -1,0 +1,10 @@
+pub mod lemmas
+mod Examples
+mod Exact
+mod Slashes
+mod Lengths
+mod Levels
+mod Steps
+mod Bodies
+mod Records
+mod Explains

@@ -1,0 +1,78 @@
+//! Items that are noted one after the other, and why no further one is.
+ghost use Rattle.std.specs.Prelude.{◌≡◌, ◌∷◌, ◌++◌, ◌^◌, ◌<◌, [], OnOk};
+ghost use Rattle.parcel_explain.specs.steps.Notes.{IsWrong, unplaced, unplaced_some};
+
+use crate::item::{Item, ItemKind};
+use aidl_base::{OutOfMemory, Row, Text};
+use parcel_words::ReadFault;
+use std::alloc::Global;
+
+/// Why no further items are noted.
+#[derive(Debug, Drop)]
+pub enum Stopped {
+    /// An item is wrong: the path of the value that it is of, and the status that reading it answers.
+    Wrong { path: Text, status: i32 },
+    /// Memory was wanted for an item or a path.
+    OutOfMemory,
+}
+
+impl From<OutOfMemory> for Stopped {
+    ghost use Rattle.parcel_explain.specs.declared.noting.Stopped.TheVariants.{OutOfMemory as Lost};
+
+    ghost from_gives = { λ _ stopped. stopped ≡ Lost };
+
+    fn from(_fault: OutOfMemory) -> Stopped {
+        Stopped::OutOfMemory
+    }
+}
+
+/// Adds an item of so many bytes behind the others. Its offset is set once all items are known. It answers only want of memory.
+pub fn push(
+    alloc: Global,
+    path: &Text,
+    kind: ItemKind,
+    length: usize,
+    items: &mut Row<Item>,
+) -> Result<(), OutOfMemory>
+    requires { length < 2 ^ 32 }
+    ensures { OnOk result (items.new ≡ items.old ++ unplaced path.now kind length ∷ []) }
+{
+    let path = path.try_clone(alloc)?;
+    items.push(Item {
+        offset: 0,
+        length: length as u32,
+        path,
+        kind,
+    })?;
+    Ok(())
+}
+
+/// Why noting ends at a value whose item can't be read: the value's path, and the status of the fault. It takes memory for the path.
+pub fn stop_at(alloc: Global, path: &Text, fault: ReadFault) -> Stopped
+    ensures { IsWrong path.now fault result }
+{
+    let Some(status) = fault.status() else {
+        return Stopped::OutOfMemory;
+    };
+    match path.try_clone(alloc) {
+        Ok(path) => Stopped::Wrong { path, status },
+        Err(_) => Stopped::OutOfMemory,
+    }
+}
+
+/// Adds an item of so many bytes behind the others, and none of no bytes. It answers only want of memory.
+pub fn push_some(
+    alloc: Global,
+    path: &Text,
+    kind: ItemKind,
+    length: usize,
+    items: &mut Row<Item>,
+) -> Result<(), OutOfMemory>
+    requires { length < 2 ^ 32 }
+    ensures { OnOk result (items.new ≡ items.old ++ unplaced_some path.now kind length) }
+{
+    if length == 0 {
+        return Ok(());
+    }
+    push(alloc, path, kind, length, items)
+}

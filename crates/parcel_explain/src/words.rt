@@ -1,0 +1,117 @@
+//! Items of words and longs, of texts and of raw bytes. Each call ends where an item is wrong, or for want of memory.
+ghost use Rattle.std.specs.Prelude.{◌≡◌, ◌≤◌, ◌^◌, ◌<◌, length, Some, IfOk, IfSome, OnOk};
+ghost use Rattle.aidl_base.specs.declared.profile.Profile.TheVariants.{Strict};
+ghost use Rattle.aidl_base.specs.Readings.{block_at, count_at, raw_at};
+ghost use Rattle.parcel_words.specs.Place.{left, is_inside, MovesOn};
+ghost use Rattle.parcel_explain.specs.Items.{block_item, bytes_item, text_items, value_item};
+ghost use Rattle.parcel_explain.specs.Noted.{item};
+ghost use Rattle.parcel_explain.specs.declared.item.ItemKind.TheVariants as kind;
+ghost use Rattle.parcel_explain.specs.steps.Notes.{Tells, done};
+
+use crate::item::{Item, ItemKind};
+use crate::noting::{Stopped, push, push_some, stop_at};
+use aidl_base::{Row, Text};
+use parcel_words::{Wire, WordReader};
+use std::alloc::Global;
+
+/// Notes the item of a word or a long.
+pub fn word_item<W: Wire>(
+    alloc: Global,
+    path: &Text,
+    from: &mut WordReader,
+    items: &mut Row<Item>,
+) -> Result<(), Stopped>
+    requires small { length from.old.bytes ≤ 1048576 }
+    ensures told { Tells done result (value_item path.now (λ c. W.reading from.old.profile (is_inside from.old) c) (left from.old)) (left from.new) items.old items.new }
+    ensures on { OnOk result (MovesOn from.old from.new) }
+{
+    let start = from.position();
+    match W::take(alloc, from) {
+        Ok(_) => Ok(push(alloc, path, ItemKind::Value, from.position() - start, items)?),
+        Err(fault) => Err(stop_at(alloc, path, fault)),
+    }
+}
+
+/// Notes the items of a String: its count, and its block where it isn't null.
+#[tactic(auto, unfolding(crate::specs::Items::text_items))]
+pub fn text_items(
+    alloc: Global,
+    nullable: bool,
+    path: &Text,
+    from: &mut WordReader,
+    items: &mut Row<Item>,
+) -> Result<(), Stopped>
+    requires strict { from.old.profile ≡ Strict }
+    requires small { length from.old.bytes ≤ 1048576 }
+    ensures told { Tells done result (text_items nullable path.now (is_inside from.old) (left from.old)) (left from.new) items.old items.new }
+    ensures on { OnOk result (MovesOn from.old from.new) }
+{
+    match count_item(alloc, nullable, path, from, items)? {
+        Some(units) => block_item(alloc, units, path, from, items),
+        None => Ok(()),
+    }
+}
+
+// Notes the count of a String and answers its units, or None for null.
+fn count_item(
+    alloc: Global,
+    nullable: bool,
+    path: &Text,
+    from: &mut WordReader,
+    items: &mut Row<Item>,
+) -> Result<Option<usize>, Stopped>
+    requires small { length from.old.bytes ≤ 1048576 }
+    ensures told { Tells (λ n. n) result (item path.now kind.Count (λ c. count_at nullable (is_inside from.old) c) (left from.old)) (left from.new) items.old items.new }
+    ensures few { IfOk result (λ n. IfSome n (λ units. units < 2 ^ 31)) }
+    ensures on { OnOk result (MovesOn from.old from.new) }
+{
+    let start = from.position();
+    match from.count(nullable) {
+        Ok(count) => {
+            push(alloc, path, ItemKind::Count, from.position() - start, items)?;
+            Ok(count)
+        }
+        Err(fault) => Err(stop_at(alloc, path, fault)),
+    }
+}
+
+// Notes the block of a text of so many UTF-16 units.
+fn block_item(
+    alloc: Global,
+    units: usize,
+    path: &Text,
+    from: &mut WordReader,
+    items: &mut Row<Item>,
+) -> Result<(), Stopped>
+    requires strict { from.old.profile ≡ Strict }
+    requires small { length from.old.bytes ≤ 1048576 }
+    requires few { units < 2 ^ 31 }
+    ensures told { Tells done result (block_item path.now (is_inside from.old) (Some units) (left from.old)) (left from.new) items.old items.new }
+    ensures on { OnOk result (MovesOn from.old from.new) }
+{
+    let start = from.position();
+    match from.block(alloc, units) {
+        Ok(_) => Ok(push(alloc, path, ItemKind::Block, from.position() - start, items)?),
+        Err(fault) => Err(stop_at(alloc, path, fault)),
+    }
+}
+
+/// Notes so many raw bytes and their padding as one item; none is noted of no bytes.
+pub fn bytes_item(
+    alloc: Global,
+    count: usize,
+    path: &Text,
+    from: &mut WordReader,
+    items: &mut Row<Item>,
+) -> Result<(), Stopped>
+    requires strict { from.old.profile ≡ Strict }
+    requires small { length from.old.bytes ≤ 1048576 }
+    ensures told { Tells done result (bytes_item path.now (left from.old) (raw_at Strict count (is_inside from.old) (left from.old))) (left from.new) items.old items.new }
+    ensures on { OnOk result (MovesOn from.old from.new) }
+{
+    let start = from.position();
+    match from.raw(count) {
+        Ok(_) => Ok(push_some(alloc, path, ItemKind::Bytes, from.position() - start, items)?),
+        Err(fault) => Err(stop_at(alloc, path, fault)),
+    }
+}
