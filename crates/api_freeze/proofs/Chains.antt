@@ -1,5 +1,5 @@
 -- Why a schema that follows the last of a chain of versions follows each of them.
-use Rattle.std.proofs.Common.{◌≡◌, ℕ, List, [], ◌∷◌, Option, Some, None, Result, Ok, Err, refl, subst}
+use Rattle.std.proofs.Common.{◌≡◌, ℕ, List, [], ◌∷◌, ◌++◌, Option, Some, None, Result, Ok, Err, refl, subst, ◌∙◌}
 use Rattle.std.specs.List.{All, AllZip}
 use Rattle.std.specs.Result.{IfOk, OnOk}
 use Rattle.std.proofs.lemmas.List.Elements.{All-nil, All-cons, All-head}
@@ -34,7 +34,7 @@ module _ (new : List Decl) (valid : IsValid new) where
   along : (first next : List Decl) → IsValid next → broken first next ≡ [] → IsFollowed next → IsFollowed first
   along first next is step rest = chain first next new (all_hold next is) (distinct_names new (decls_apart new valid)) step rest
 
-  pub follows_each : (vs : List Version) → ((v : Version) → latest vs ≡ Some v → FollowsOne v new)
+  follows_each : (vs : List Version) → ((v : Version) → latest vs ≡ Some v → FollowsOne v new)
       → (schemas : List (List Decl)) → AllZip IsItsSchema vs schemas → IsChain schemas → All IsFollowed schemas
   follows_each [] last [] theirs links = All-nil IsFollowed
   follows_each [] last (S ∷ rest) theirs links = absurd theirs
@@ -47,10 +47,19 @@ module _ (new : List Decl) (valid : IsValid new) where
       All-cons IsFollowed S (T ∷ rest) (along S T (schema_valid w.files T theirs.1.0) links.0 (All-head IsFollowed T rest behind)) behind
 
   -- the latest of some versions is the only one of that place
+  latest_behind : (earlier : List Version) (v : Version) (run : List Version) → latest (earlier ++ v ∷ run) ≡ latest (v ∷ run)
+  latest_behind [] v run = refl
+  latest_behind (e ∷ []) v run = refl
+  latest_behind (e ∷ f ∷ earlier) v run = latest_behind (f ∷ earlier) v run
+
+  latest_of : (vs earlier run : List Version) → earlier ++ run ≡ vs → (w : Version) → latest run ≡ Some w → latest vs ≡ Some w
+  latest_of vs earlier [] split w at = absurd (cc)
+  latest_of vs earlier (v ∷ run) split w at = subst (λ us. latest us ≡ Some w) split (latest_behind earlier v run ∙ at)
+
   pub each_by_latest : (vs : List Version) (v : Version) (r : Result (Unit {0}) FreezeFault) → latest vs ≡ Some v → OnOk r (FollowsOne v new)
       → OnOk r (FollowsEach vs new)
-  each_by_latest vs v (Ok x) is one =
-      follows_each vs (λ w at. let same : v ≡ w = cc in subst (λ (u : Version). FollowsOne u new) same one)
+  each_by_latest vs v (Ok x) is one = λ earlier run split.
+      follows_each run (λ w on. let at : latest vs ≡ Some w = latest_of vs earlier run split w on in let same : v ≡ w = cc in subst (λ (u : Version). FollowsOne u new) same one)
   each_by_latest vs v (Err e) is one = tt
 
 -- what is frozen follows each of the versions that are told

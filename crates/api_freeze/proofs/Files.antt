@@ -51,9 +51,9 @@ refused_whole vs S fault.WriteFault whole early h = early
 refused_whole vs S fault.OutOfMemory whole early h = tt
 
 -- a limit on the number or the dump, or what is prepared
-pub prepared : (vs : List Version) (S : List Decl) (files : List SourceFile) (r : Result Next FreezeFault) → all_whole vs ≡ Ok tt → MayFollow (latest vs) S → FollowsEach vs S → IsDump S files → Numbers (length vs) files r → Prepares vs S r
-prepared vs S files (Ok n) whole follows each dump (few, number, same, fits) =
-    subst (λ fs. Ready vs S fs × (n.number ≡ next vs)) (sym same) (record { whole = whole; follows = follows; each = each; few = few; dump = dump; fits = fits }, number)
+pub prepared : (vs : List Version) (S : List Decl) (files : List SourceFile) (r : Result Next FreezeFault) → all_whole vs ≡ Ok tt → MayFollow (latest vs) S → FollowsEach vs S → IsDump S files → Numbers S (length vs) files r → Prepares vs S r
+prepared vs S files (Ok n) whole follows each dump (few, number, same, back) =
+    subst (λ fs. Ready vs S fs × (n.number ≡ next vs)) (sym same) (record { whole = whole; follows = follows; each = each; few = few; dump = dump; reads_back = back }, number)
 prepared vs S files (Err (fault.Limit l)) whole follows each dump (inl h) = (whole, inr (follows, inl h))
 prepared vs S files (Err (fault.Limit l)) whole follows each dump (inr h) = (whole, inr (follows, inr (h.0, (files, dump, h.1))))
 prepared vs S files (Err fault.OutOfMemory) whole follows each dump h = tt

@@ -11,7 +11,6 @@ use Rattle.api_hash.specs.declared.hashing.Recipe.TheVariants.{Two}
 use Rattle.api_hash.specs.HashText.{digits, ending, hash_text, in_order, line}
 use Rattle.compat_judge.specs.Seen.{seen as break_of}
 use Rattle.std.specs.List.{flat_map}
-use Rattle.type_check.specs.declared.fault.CheckFault.{CheckFault}
 use Rattle.type_check.specs.declared.fault.CheckFault.TheVariants as check
 use Rattle.type_check.specs.Checked.{IsSchemaOf}
 use Rattle.type_check.specs.Refusals.{IsRefusal}
@@ -68,23 +67,15 @@ Forbids (Some v) S (fault.Torn version kept text) = ⊥
 Forbids (Some v) S fault.ReadFault = ⊥
 Forbids (Some v) S fault.WriteFault = ⊥
 
--- what `check` says of files is no limit
-abbrev pub IsOther : List SourceFile → CheckFault → Type 0
-IsOther files (check.Limit l) = ⊥
-IsOther files check.OutOfMemory = ⊥
-IsOther files cause = IsRefusal files cause
-
-abbrev pub PassesNoLimit : List SourceFile → Type 0
-PassesNoLimit files = ((decls : List Decl) × IsSchemaOf files decls) ⊎ ((cause : CheckFault) × IsOther files cause)
-
--- what is asked before anything is written; and so, along a chain of versions, the schema follows each of them
+-- What is asked before anything is written: the files of the dump are a checked tree with this schema. So, along a chain of versions
+-- up to the latest, the schema follows each of them.
 pub record Ready (vs : List Version) (S : List Decl) (files : List SourceFile) : Type 0 where
   pub whole : all_whole vs ≡ Ok tt
   pub follows : MayFollow (latest vs) S
   pub each : FollowsEach vs S
   pub few : next vs ≤ 9999
   pub dump : IsDump S files
-  pub fits : PassesNoLimit files
+  pub reads_back : IsSchemaOf files S
 
 -- a new number above 9,999; or a limit that the dump passes
 abbrev pub PassesLimit : List Version → List Decl → Limit → Type 0

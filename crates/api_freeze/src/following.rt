@@ -14,7 +14,9 @@ use aidl_schema::Schema;
 use api_dump::dump;
 use api_versions::{FreezeFault, Version, all_whole, limit_passed};
 use compat_judge::judge;
+use dump_reading::{law_dump_back, law_dump_parses};
 use std::alloc::Global;
+use tree_files::{FilesFault, parse_files};
 use type_check::{CheckFault, check, law_one_schema};
 
 /// The next version: its number, and the files of the dump.
@@ -50,22 +52,27 @@ fn prepare_whole(
     let count = versions.len();
     let files = dump(alloc, schema)?;
     match follow(alloc, schema, files.as_slice(), versions) {
-        Ok(()) => numbered(alloc, count, files),
+        Ok(()) => numbered(alloc, schema, count, files),
         Err(fault) => Err(fault),
     }
 }
 
 // The next version after so many, where its number and its files pass no limit.
-#[tactic(auto, using(crate::proofs::Numbered::unfit_numbered))]
-fn numbered(alloc: Global, count: usize, files: Row<SourceFile>) -> Result<Next, FreezeFault>
-    ensures answer { Numbers count files result }
+fn numbered(
+    alloc: Global,
+    schema: &Schema,
+    count: usize,
+    files: Row<SourceFile>,
+) -> Result<Next, FreezeFault>
+    requires { IsDump schema.now.decls files }
+    ensures answer { Numbers schema.now.decls count files result }
     ensures early { IfErr result IsEarly }
     ensures read { IfErr result IsRead }
 {
     if count >= LimitName::Versions.number() as usize {
         return Err(limit_passed(LimitName::Versions));
     }
-    match fit(alloc, files.as_slice()) {
+    match fit(alloc, schema, files.as_slice()) {
         Ok(()) => Ok(Next {
             number: count as u32 + 1,
             files,
@@ -74,17 +81,26 @@ fn numbered(alloc: Global, count: usize, files: Row<SourceFile>) -> Result<Next,
     }
 }
 
-// Whether the files of a dump pass no limit of a check.
-fn fit(alloc: Global, files: &[SourceFile]) -> Result<(), FreezeFault>
-    ensures { Fits files.now result }
+// Whether the files of the dump of a schema pass no limit, so that they read back as this schema.
+fn fit(alloc: Global, schema: &Schema, files: &[SourceFile]) -> Result<(), FreezeFault>
+    requires { IsDump schema.now.decls files.now }
+    ensures { Fits schema.now.decls files.now result }
 {
-    match check(alloc, files) {
-        Ok(_) => Ok(()),
-        Err(CheckFault::Limit(limit)) => Err(FreezeFault::Limit(limit)),
-        Err(CheckFault::OutOfMemory) => Err(FreezeFault::OutOfMemory),
-        Err(CheckFault::Lex(_)) => Ok(()),
-        Err(CheckFault::Syntax(_)) => Ok(()),
-        Err(CheckFault::Breaches(_)) => Ok(()),
+    match parse_files(alloc, files) {
+        Ok(parsed) => {
+            law_dump_back(schema, parsed.as_slice());
+            Ok(())
+        }
+        Err(FilesFault::Limit(limit)) => Err(FreezeFault::Limit(limit)),
+        Err(FilesFault::OutOfMemory) => Err(FreezeFault::OutOfMemory),
+        Err(FilesFault::Lex(_)) => {
+            law_dump_parses(schema);
+            unreachable!()
+        }
+        Err(FilesFault::Syntax(_)) => {
+            law_dump_parses(schema);
+            unreachable!()
+        }
     }
 }
 

@@ -3,8 +3,10 @@
 
 mod following;
 mod freezing;
+mod laws;
 mod rehashing;
 
 pub use api_versions::{FreezeFault, Version, versions};
 pub use freezing::{Frozen, freeze};
+pub use laws::law_same_dump;
 pub use rehashing::rehash;

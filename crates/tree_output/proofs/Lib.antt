@@ -1,4 +1,4 @@
 mod Short
 mod Adding
 mod Results
-mod OneAnswer
+pub mod lemmas

@@ -1,5 +1,5 @@
 -- What ends early.
-use Rattle.std.proofs.Common.{◌≡◌, sym, subst, Result, Ok, Err, IfOk, String, Global, string_bytes}
+use Rattle.std.proofs.Common.{sym, subst, Result, Ok, Err, IfOk, String, Global, string_bytes}
 use Rattle.aidl_base.specs.declared.memory.OutOfMemory.{OutOfMemory as Fault}
 use Rattle.tool_frame.specs.declared.printed.Early.{Early}
 use Rattle.tool_frame.specs.declared.printed.Early.TheVariants.{Answered, OutOfMemory}

@@ -5,7 +5,6 @@ use Rattle.std.specs.Fmt.{decimal}
 use Rattle.std.specs.Str.{encode_utf8_all}
 use Rattle.aidl_base.specs.declared.breach.Breach.{Breach}
 use Rattle.aidl_base.specs.declared.source_file.SourceFile.{SourceFile}
-use Rattle.aidl_lexer.specs.declared.fault.LexFault.{LexFault}
 use Rattle.aidl_lexer.specs.Naming.{number_of, offset_of, name_of}
 use Rattle.aidl_syntax.specs.declared.token.Token.{Token}
 use Rattle.tree_files.specs.declared.fault.LexBreach.{LexBreach}

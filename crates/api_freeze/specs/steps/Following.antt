@@ -13,7 +13,7 @@ use Rattle.api_versions.specs.declared.fault.FreezeFault.{FreezeFault}
 use Rattle.api_versions.specs.declared.fault.FreezeFault.TheVariants as fault
 use Rattle.api_versions.specs.declared.version.Version.{Version}
 use Rattle.api_freeze.specs.declared.following.Next.{Next}
-use Rattle.api_freeze.specs.Freeze.{Forbids, MayFollow, PassesNoLimit, Ready, RefusedAs, latest, next}
+use Rattle.api_freeze.specs.Freeze.{Forbids, MayFollow, Ready, RefusedAs, latest, next}
 
 -- two schemas compared
 abbrev pub Compares : ℕ → List Decl → List Decl → Result (Unit {0}) FreezeFault → Type 0
@@ -37,12 +37,12 @@ abbrev pub FollowsAll : List Version → List Decl → Result (Unit {0}) FreezeF
 FollowsAll vs S (Ok x) = MayFollow (latest vs) S
 FollowsAll vs S (Err e) = Forbids (latest vs) S e
 
--- the limits of files
-abbrev pub Fits : List SourceFile → Result (Unit {0}) FreezeFault → Type 0
-Fits files (Ok x) = PassesNoLimit files
-Fits files (Err (fault.Limit l)) = IsRefusal files (check.Limit l)
-Fits files (Err fault.OutOfMemory) = Unit {0}
-Fits files (Err _) = ⊥
+-- files with a schema, or the limit that they pass
+abbrev pub Fits : List Decl → List SourceFile → Result (Unit {0}) FreezeFault → Type 0
+Fits S files (Ok x) = IsSchemaOf files S
+Fits S files (Err (fault.Limit l)) = IsRefusal files (check.Limit l)
+Fits S files (Err fault.OutOfMemory) = Unit {0}
+Fits S files (Err _) = ⊥
 
 -- what is to be written
 abbrev pub Prepares : List Version → List Decl → Result Next FreezeFault → Type 0
@@ -50,11 +50,11 @@ Prepares vs S (Ok n) = Ready vs S n.files × (n.number ≡ next vs)
 Prepares vs S (Err e) = RefusedAs vs S e
 
 -- the number and the limits of the next version after so many
-abbrev pub Numbers : ℕ → List SourceFile → Result Next FreezeFault → Type 0
-Numbers count files (Ok n) = (count + 1 ≤ 9999) × (n.number ≡ count + 1) × (n.files ≡ files) × PassesNoLimit files
-Numbers count files (Err (fault.Limit l)) = ((9999 < count + 1) × (l ≡ record { which = limit.Versions })) ⊎ ((count + 1 ≤ 9999) × IsRefusal files (check.Limit l))
-Numbers count files (Err fault.OutOfMemory) = Unit {0}
-Numbers count files (Err _) = ⊥
+abbrev pub Numbers : List Decl → ℕ → List SourceFile → Result Next FreezeFault → Type 0
+Numbers S count files (Ok n) = (count + 1 ≤ 9999) × (n.number ≡ count + 1) × (n.files ≡ files) × IsSchemaOf files S
+Numbers S count files (Err (fault.Limit l)) = ((9999 < count + 1) × (l ≡ record { which = limit.Versions })) ⊎ ((count + 1 ≤ 9999) × IsRefusal files (check.Limit l))
+Numbers S count files (Err fault.OutOfMemory) = Unit {0}
+Numbers S count files (Err _) = ⊥
 
 -- the same files
 abbrev pub is_same : SourceFile → SourceFile → Bool

@@ -9,4 +9,4 @@ returns-in-Err-clause-answer c = refused_whole c.args.versions c.args.schema.now
 pub returns-in-Ok-clause-answer : goal.returns-in-Ok-clause-answer
 returns-in-Ok-clause-answer c =
     prepared c.args.versions c.args.schema.now.decls c.in_ok-files.files c.numbered.result c.requires c.in-Ok.ensures.answer c.in-Ok.ensures.each c.in_ok-files.ensures
-    (subst (λ n. Numbers n c.in_ok-files.files c.numbered.result) c.len-count.ensures c.numbered.ensures.answer)
+    (subst (λ n. Numbers c.args.schema.now.decls n c.in_ok-files.files c.numbered.result) c.len-count.ensures c.numbered.ensures.answer)

@@ -1,6 +1,4 @@
-use Rattle.std.proofs.Common.{inl, inr, refl, Result, Ok, Err}
-use Rattle.tool_frame.specs.declared.printed.Early.{Early}
-use Rattle.tool_frame.specs.declared.printed.Printed.{Printed}
+use Rattle.std.proofs.Common.{inl, inr, refl}
 use Rattle.tree_output.specs.Faults.{IsFaultAnswer}
 use Rattle.tree_output.specs.Judged.{IsJudgeAnswer, IsSecondAnswer}
 use Rattle.tree_output.proofs.Results.{gives_also, gives_more}

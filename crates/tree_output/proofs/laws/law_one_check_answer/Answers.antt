@@ -1,5 +1,10 @@
-use Rattle.tree_output.proofs.OneAnswer.{one_check_answer}
+use Rattle.std.proofs.Common.{◌≡◌, sym, ◌∙◌}
+use Rattle.tool_frame.specs.Answer.{Answer, AsAnswer}
+use Rattle.tree_output.specs.Checked.{accepted}
+use Rattle.tree_output.proofs.lemmas.OneByTree.{by_files}
 use Rattle.tree_output.proofs.laws.law_one_check_answer.Goals as goal
 
 pub returns : goal.returns
-returns c = one_check_answer c.args.root.now c.args.files.now c.law_one_schema.ensures c.law_one_refusal.ensures c.law_never_both.ensures
+returns c =
+    by_files (λ (a b : Answer). a ≡ b) AsAnswer AsAnswer (λ r a b h k. h ∙ sym k) (λ S a. a ≡ accepted S) (λ S a. a ≡ accepted S) (λ S a b h k. h ∙ sym k)
+    c.args.root.now c.args.files.now

@@ -1,4 +1,4 @@
-use Rattle.std.proofs.Common.{◌≡◌, map, take, string_bytes}
+use Rattle.std.proofs.Common.{◌≡◌, take, string_bytes}
 use Rattle.std.specs.List.{flat_map}
 use Rattle.tree_output.specs.Lines.{lex_line}
 use Rattle.tree_output.proofs.lines.lex_lines.Given as goal

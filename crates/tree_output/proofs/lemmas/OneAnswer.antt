@@ -1,16 +1,17 @@
--- Files have one answer.
-use Rattle.std.proofs.Common.{◌≡◌, ◌≢◌, ◌⊎◌, ◌<◌, ◌≤◌, ◌+◌, ℕ, zero, suc, List, [], ◌∷◌, ◌++◌, take, length, Option, Some, None, slice_get, inl, inr, refl, sym, ◌∙◌, ap, subst, append_assoc, arith}
+-- Files have one answer at the most.
+use Rattle.std.proofs.Common.{◌≡◌, ◌≢◌, ◌<◌, ◌≤◌, ◌+◌, ℕ, zero, suc, List, [], ◌∷◌, ◌++◌, take, Option, Some, None, slice_get, inl, inr, refl, sym, ◌∙◌, ap, subst, append_assoc, arith}
 use Rattle.aidl_base.specs.declared.source_file.SourceFile.{SourceFile}
 use Rattle.aidl_schema.specs.declared.schema.Decl.{Decl}
 use Rattle.aidl_lexer.proofs.lemmas.meaning.OneLexing.{one_list}
 use Rattle.aidl_syntax.specs.declared.token.Token.{Token}
 use Rattle.parse_places.specs.Viable.{HasTree, Viable, IsFaultPlace}
 use Rattle.tool_frame.specs.Answer.{Answer}
+use Rattle.tree_files.proofs.lemmas.OneAnswer as parsing
+use Rattle.type_check.proofs.lemmas.OneAnswer as checking
 use Rattle.type_check.specs.declared.fault.CheckFault.{CheckFault}
 use Rattle.type_check.specs.declared.fault.CheckFault.TheVariants as fault
 use Rattle.type_check.specs.Checked.{IsSchemaOf}
 use Rattle.type_check.specs.Refusals.{IsRefusal}
-use Rattle.tree_output.specs.Checked.{IsCheckAnswer, accepted}
 use Rattle.tree_output.specs.Faults.{AreSyntaxLines, IsAnswerOf, IsFaultAnswer, IsLineOf, IsPlace, IsSyntaxLine, refused}
 use Rattle.tree_output.specs.Lines.{place_line}
 
@@ -48,6 +49,16 @@ not_memory root files (fault.Syntax rows) a h e = cc
 not_memory root files (fault.Breaches rows) a h e = cc
 not_memory root files fault.OutOfMemory a h e = h
 
+module _ (files : List SourceFile) where
+  pub one_schema : (S T : List Decl) → IsSchemaOf files S → IsSchemaOf files T → S ≡ T
+  one_schema = checking.one_schema files (λ ps qs h k. parsing.one-trees files ps qs h.trees k.trees) (parsing.one-refusal files) (parsing.never files)
+
+  pub one_refusal : (q r : CheckFault) → q ≢ fault.OutOfMemory → r ≢ fault.OutOfMemory → IsRefusal files q → IsRefusal files r → q ≡ r
+  one_refusal = checking.one_refusal files (λ ps qs h k. parsing.one-trees files ps qs h.trees k.trees) (parsing.one-refusal files) (parsing.never files)
+
+  pub never_both : (S : List Decl) (r : CheckFault) → r ≢ fault.OutOfMemory → IsSchemaOf files S → IsRefusal files r → ⊥
+  never_both = checking.never files (λ ps qs h k. parsing.one-trees files ps qs h.trees k.trees) (parsing.one-refusal files) (parsing.never files)
+
 module _ (root : List ℕ) (files : List SourceFile) where
   one_syntax_line : (f : SourceFile) (a b : List ℕ) → IsSyntaxLine root f a → IsSyntaxLine root f b → a ≡ b
   one_syntax_line f a b h k =
@@ -71,20 +82,10 @@ module _ (root : List ℕ) (files : List SourceFile) where
   one_answer_of (fault.Breaches rows) a b h k = h ∙ sym k
   one_answer_of fault.OutOfMemory a b h k = absurd h
 
-  -- by the laws of the check
-  module _ (one_schema : (first second : List Decl) → IsSchemaOf files first → IsSchemaOf files second → first ≡ second)
-      (one_refusal : (first second : CheckFault) → first ≢ fault.OutOfMemory → second ≢ fault.OutOfMemory → IsRefusal files first → IsRefusal files second → first ≡ second)
-      (never_both : (schema : List Decl) (refusal : CheckFault) → refusal ≢ fault.OutOfMemory → IsSchemaOf files schema → IsRefusal files refusal → ⊥) where
-    pub one_fault_answer : (a b : Answer) → IsFaultAnswer root files a → IsFaultAnswer root files b → a ≡ b
-    one_fault_answer a b h k =
-        let same : h.0 ≡ k.0 = one_refusal h.0 k.0 (not_memory root files h.0 a h.2) (not_memory root files k.0 b k.2) h.1 k.1 in
-        one_answer_of k.0 a b (subst (λ (r : CheckFault). IsAnswerOf root files r a) same h.2) k.2
+  pub one_fault_answer : (a b : Answer) → IsFaultAnswer root files a → IsFaultAnswer root files b → a ≡ b
+  one_fault_answer a b h k =
+      let same : h.0 ≡ k.0 = one_refusal files h.0 k.0 (not_memory root files h.0 a h.2) (not_memory root files k.0 b k.2) h.1 k.1 in
+      one_answer_of k.0 a b (subst (λ (r : CheckFault). IsAnswerOf root files r a) same h.2) k.2
 
-    never_faulty : (schema : List Decl) (a : Answer) → IsSchemaOf files schema → IsFaultAnswer root files a → ⊥
-    never_faulty schema a h k = never_both schema k.0 (not_memory root files k.0 a k.2) h k.1
-
-    pub one_check_answer : (a b : Answer) → IsCheckAnswer root files a → IsCheckAnswer root files b → a ≡ b
-    one_check_answer a b (inl h) (inl k) = h.2 ∙ one_fault_answer h.0 k.0 h.1 k.1 ∙ sym k.2
-    one_check_answer a b (inl h) (inr k) = absurd (never_faulty k.0 h.0 k.1 h.1)
-    one_check_answer a b (inr h) (inl k) = absurd (never_faulty h.0 k.0 h.1 k.1)
-    one_check_answer a b (inr h) (inr k) = h.2 ∙ ap accepted (one_schema h.0 k.0 h.1 k.1) ∙ sym k.2
+  pub never_faulty : (S : List Decl) (a : Answer) → IsSchemaOf files S → IsFaultAnswer root files a → ⊥
+  never_faulty S a h k = never_both files S k.0 (not_memory root files k.0 a k.2) h k.1

@@ -1,0 +1,24 @@
+//! A law of dumps: schemas with the same dump are the same.
+ghost use Rattle.std.specs.Prelude.{◌≡◌};
+ghost use Rattle.api_dump.specs.Dump.{dump_text};
+ghost use Rattle.api_freeze.specs.Freeze.{IsDump};
+ghost use Rattle.tree_files.specs.Parsed.{AreParsed};
+
+use aidl_base::SourceFile;
+use aidl_schema::Schema;
+use aidl_syntax::ParsedFile;
+use dump_reading::law_dump_back;
+use type_check::law_one_schema;
+
+/// A law of the definitions: two schemas with the same dump are the same, where the files of the dump are parsed, so that they pass no
+/// limit on files or tokens. So what is refused as `Unchanged` declares what the latest version does.
+pub fn law_same_dump(first: &Schema, second: &Schema, files: &[SourceFile], parsed: &[ParsedFile])
+    requires dumped { IsDump first.now.decls files.now }
+    requires parsed { AreParsed files.now parsed.now }
+    requires same { dump_text first.now.decls ≡ dump_text second.now.decls }
+    ensures { first.now.decls ≡ second.now.decls }
+{
+    law_dump_back(first, parsed);
+    law_dump_back(second, parsed);
+    law_one_schema(files);
+}
