@@ -1,5 +1,5 @@
 -- How the items of a parcel end, and how reading its values does (own).
-use Rattle.std.specs.Prelude.{◌≡◌, ℕ, ℤ, false, List, [], ◌∷◌, Option, Some, None, Result, Ok, Err}
+use Rattle.std.specs.Prelude.{◌≡◌, ℕ, ℤ, Bool, true, false, List, [], ◌∷◌, ◌++◌, Option, Some, None, Result, Ok, Err}
 use Rattle.aidl_base.specs.declared.profile.Profile.TheVariants.{Strict}
 use Rattle.aidl_base.specs.Readings.{◌>>=◌}
 use Rattle.aidl_schema.specs.declared.schema.AidlType.{AidlType}
@@ -7,7 +7,7 @@ use Rattle.aidl_schema.specs.declared.schema.Decl.{Decl}
 use Rattle.wire_model.specs.ReadOf.{read_of}
 use Rattle.parcel_explain.specs.declared.item.ItemKind.{ItemKind}
 use Rattle.parcel_explain.specs.declared.item.ItemKind.TheVariants as kind
-use Rattle.parcel_explain.specs.Noted.{Part}
+use Rattle.parcel_explain.specs.Noted.{Part, part, part_of_some}
 
 -- the status of a stop; a part of another kind has none
 abbrev pub status_in : ItemKind → Option ℤ
@@ -35,3 +35,19 @@ read_each S (t ∷ ts) b = read_of Strict S 64 t false b >>= λ x. read_each S t
 abbrev pub status_of_end : Result (List ℕ) ℤ → Option ℤ
 status_of_end (Ok rest) = None
 status_of_end (Err status) = Some status
+
+-- a kind of parts that values have: neither what is left nor a stop
+abbrev pub is_of_value : ItemKind → Bool
+is_of_value kind.Left = false
+is_of_value (kind.Stop status) = false
+is_of_value _ = true
+
+-- parts of values alone
+abbrev pub AreOfValues : List Part → Type 0
+AreOfValues [] = Unit {0}
+AreOfValues (p ∷ ps) = (is_of_value p.kind ≡ true) × AreOfValues ps
+
+-- parts of values, and behind them what is left, where anything is; or a stop with the status
+abbrev pub EndsBy : List Part → Result (List ℕ) ℤ → Type 0
+EndsBy parts (Ok rest) = (values : List Part) × AreOfValues values × (parts ≡ values ++ part_of_some [] kind.Left rest)
+EndsBy parts (Err status) = (values : List Part) × AreOfValues values × (path wrong : List ℕ) × (parts ≡ values ++ part path (kind.Stop status) wrong)

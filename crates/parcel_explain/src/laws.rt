@@ -3,7 +3,7 @@ ghost use Rattle.std.specs.Prelude.{◌≡◌, ◌↔◌, ◌++◌, true, List, 
 ghost use Rattle.aidl_base.specs.declared.profile.Profile.TheVariants.{Strict};
 ghost use Rattle.aidl_schema.specs.Types.{is_type};
 ghost use Rattle.aidl_values.specs.Data.{Data};
-ghost use Rattle.parcel_explain.specs.Ends.{NoneStopsBefore, last_status, read_each, status_of_end};
+ghost use Rattle.parcel_explain.specs.Ends.{EndsBy, NoneStopsBefore, last_status, read_each, status_of_end};
 ghost use Rattle.parcel_explain.specs.Items.{items_of, parts_of};
 ghost use Rattle.parcel_explain.specs.Noted.{joined};
 ghost use Rattle.wire_model.specs.Reads.{Reads};
@@ -28,9 +28,11 @@ pub fn law_items(schema: &Schema, ty: &AidlType, levels: usize, path: &Text, b: 
 }
 
 /// The parts of a parcel, joined, are its bytes. No part before the last is a stop, and the last is one exactly where reading the values
-/// strictly, one after the other, refuses one, with the status of that refusal.
+/// strictly, one after the other, refuses one, with the status of that refusal. Else the parts of values are all but one for the bytes that are
+/// left then, where any are.
 pub fn law_parts(schema: &Schema, types: &[AidlType], b: &[u8])
     ensures joined { joined (parts_of schema.now.decls types.now b.now) ≡ b.now }
     ensures last { NoneStopsBefore (parts_of schema.now.decls types.now b.now) }
     ensures stops { last_status (parts_of schema.now.decls types.now b.now) ≡ status_of_end (read_each schema.now.decls types.now b.now) }
+    ensures ends { EndsBy (parts_of schema.now.decls types.now b.now) (read_each schema.now.decls types.now b.now) }
 {}

@@ -1,10 +1,12 @@
 //! Paths of values, as JSON pointers, and what goes with a path on the way down.
-ghost use Rattle.std.specs.Prelude.{◌≡◌, IfOk, codes, decimal, string_bytes};
+ghost use Rattle.std.specs.Prelude.{◌≡◌, ◌++◌, IfOk, IfSome, codes, decimal};
 ghost use Rattle.std.specs.Str.{chars};
 ghost use Rattle.parcel_explain.specs.Items.{below};
 
 use aidl_base::{OutOfMemory, Text};
 use aidl_schema::Schema;
+use arrayvec::ArrayString;
+use itoa::Buffer;
 use std::alloc::Global;
 
 /// Where a value stands: the schema that its type is of, its path, and how many composite levels are left for it.
@@ -20,16 +22,50 @@ pub struct Spot<'a> {
 pub fn below_index(alloc: Global, path: &Text, index: usize) -> Result<Text, OutOfMemory>
     ensures { IfOk result (λ made. made ≡ below path.now (decimal index)) }
 {
-    let step = index.to_string(alloc)?;
-    let made = below_name(alloc, path, step.as_str())?;
-    Ok(made)
+    let mut digits = Buffer::new();
+    below_name(alloc, path, digits.format(index))
 }
 
-/// The path of the field of this name below a path. It answers only want of memory.
+/// The path of the field of this name below a path. It answers only want of memory, and takes none where the path made has at most 16 bytes.
 pub fn below_name(alloc: Global, path: &Text, name: &str) -> Result<Text, OutOfMemory>
     ensures { IfOk result (λ made. made ≡ below path.now (chars name.now)) }
 {
-    let mut text = String::from_str(alloc, path.as_str())?;
+    let path = path.as_str();
+    match short_below(path, name) {
+        Some(short) => Text::from_str(alloc, short.as_str()),
+        None => long_below(alloc, path, name),
+    }
+}
+
+// The same in place, where it has at most 16 bytes.
+fn short_below(path: &str, name: &str) -> Option<ArrayString<16>>
+    ensures { IfSome result (λ short. short.bytes ≡ path.now ++ codes "/" ++ name.now) }
+{
+    match ArrayString::from(path) {
+        Ok(short) => short_onto(short, name),
+        Err(_) => None,
+    }
+}
+
+// Adds a slash and a name behind a path.
+fn short_onto(path: ArrayString<16>, name: &str) -> Option<ArrayString<16>>
+    ensures { IfSome result (λ short. short.bytes ≡ path.bytes ++ codes "/" ++ name.now) }
+{
+    let mut short = path;
+    match short.try_push_str("/") {
+        Err(_) => None,
+        Ok(()) => match short.try_push_str(name) {
+            Err(_) => None,
+            Ok(()) => Some(short),
+        },
+    }
+}
+
+fn long_below(alloc: Global, path: &str, name: &str) -> Result<Text, OutOfMemory>
+    ensures { IfOk result (λ made. made ≡ chars (path.now ++ codes "/" ++ name.now)) }
+{
+    let mut text = String::with_capacity(alloc, path.len() + 1 + name.len())?;
+    text.push_str(path)?;
     text.push_str("/")?;
     text.push_str(name)?;
     Ok(Text::from_string(text))

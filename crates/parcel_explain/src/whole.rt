@@ -31,10 +31,8 @@ pub fn explain(
     let mut from = WordReader::new(Profile::Strict, bytes);
     let mut items = Row::new(alloc);
     match values_items(alloc, schema, types, &mut from, &mut items) {
-        Ok(()) => with_left(alloc, items, bytes.len()),
-        Err(Stopped::Wrong { path, status }) => {
-            with_stop(alloc, items, bytes.len(), path, status)
-        }
+        Ok(()) => with_left(items, bytes.len()),
+        Err(Stopped::Wrong { path, status }) => { with_stop(items, bytes.len(), path, status) }
         Err(Stopped::OutOfMemory) => Err(OutOfMemory),
     }
 }
@@ -67,23 +65,17 @@ fn values_items(
 }
 
 // The items with their offsets, and the offset of their end, in bytes.
-fn place(alloc: Global, items: Row<Item>) -> Result<(Row<Item>, usize), OutOfMemory>
+fn place(items: Row<Item>) -> (Row<Item>, usize)
     requires small { total items ≤ 1048576 }
-    ensures { IfOk result (λ x. (x.0 ≡ at_offsets 0 items) × (x.1 ≡ total items)) }
+    ensures { (result.0 ≡ at_offsets 0 items) × (result.1 ≡ total items) }
 {
+    let mut placed = items.into_vec();
     let mut at: usize = 0;
-    let mut placed = Vec::new(alloc);
-    for item in items.into_vec() {
-        let length = item.length as usize;
-        placed.push(Item {
-            offset: at as u32,
-            length: item.length,
-            path: item.path,
-            kind: item.kind,
-        })?;
-        at += length;
+    for item in placed.iter_mut() {
+        item.offset = at as u32;
+        at += item.length as usize;
     }
-    Ok((Row::from_vec(placed), at))
+    (Row::from_vec(placed), at)
 }
 
 // An item from an offset to the end of so many bytes.
@@ -101,12 +93,12 @@ fn item_to_end(offset: usize, count: usize, path: Text, kind: ItemKind) -> Item
 }
 
 // The items of so many bytes with their offsets, and what is left behind them, if anything is.
-fn with_left(alloc: Global, items: Row<Item>, count: usize) -> Result<Row<Item>, OutOfMemory>
+fn with_left(items: Row<Item>, count: usize) -> Result<Row<Item>, OutOfMemory>
     requires within { total items ≤ count }
     requires small { count ≤ 1048576 }
     ensures { IfOk result (λ all. all ≡ at_offsets 0 items ++ some_at (total items) [] kind.Left (count - total items)) }
 {
-    let (mut placed, end) = place(alloc, items)?;
+    let (mut placed, end) = place(items);
     if end < count {
         placed.push(item_to_end(end, count, Text::empty(), ItemKind::Left))?;
     }
@@ -115,7 +107,6 @@ fn with_left(alloc: Global, items: Row<Item>, count: usize) -> Result<Row<Item>,
 
 // The items of so many bytes with their offsets, and the stop behind them.
 fn with_stop(
-    alloc: Global,
     items: Row<Item>,
     count: usize,
     path: Text,
@@ -125,7 +116,7 @@ fn with_stop(
     requires small { count ≤ 1048576 }
     ensures { IfOk result (λ all. all ≡ at_offsets 0 items ++ record { offset = total items; length = count - total items; path = path; kind = kind.Stop status } ∷ []) }
 {
-    let (mut placed, end) = place(alloc, items)?;
+    let (mut placed, end) = place(items);
     placed.push(item_to_end(end, count, path, ItemKind::Stop(status)))?;
     Ok(placed)
 }

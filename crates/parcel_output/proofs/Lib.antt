@@ -1,4 +1,5 @@
 mod Digits
+mod Endings
 mod Entries
 mod JsonTexts
 mod NamedBases

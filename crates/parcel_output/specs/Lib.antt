@@ -1,5 +1,7 @@
 pub mod Decode
 pub mod Encode
+pub mod Endings
+pub mod Explain
 pub mod HexadecimalFile
 pub mod JsonFile
 pub mod Refusals

@@ -1,5 +1,5 @@
 //! Steps that may end a command early: the bytes of a file of hexadecimal, and the types that TYPES names.
-ghost use Rattle.std.specs.Prelude.{◌≡◌, true, IfOk};
+ghost use Rattle.std.specs.Prelude.{◌≡◌, ◌≤◌, true, length, IfOk};
 ghost use Rattle.std.specs.List.{list_all};
 ghost use Rattle.aidl_schema.specs.Types.{is_type};
 ghost use Rattle.parcel_output.specs.Refusals as step;
@@ -12,9 +12,10 @@ use aidl_schema::{AidlType, Schema};
 use std::alloc::Global;
 use tool_frame::{Early, bytes_within, refusal, text_of};
 
-/// The bytes that the text of a file stands for.
+/// The bytes that the text of a file stands for, at most 1,048,576.
 pub fn parcel_of(alloc: Global, file: Result<Vec<u8>, Limit>) -> Result<Vec<u8>, Early>
-    ensures { Finds (λ v. v.items) result (step.parcel_of (held file)) }
+    ensures bytes { Finds (λ v. v.items) result (step.parcel_of (held file)) }
+    ensures small { IfOk result (λ v. length v.items ≤ 1048576) }
 {
     let text = text_of(alloc, file)?;
     let bytes = bytes_of(alloc, text)?;
