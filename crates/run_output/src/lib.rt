@@ -11,6 +11,6 @@ mod running;
 mod values;
 
 pub use clients::push_saw;
-pub use cutting::lines_within;
+pub use cutting::{cut, lines_within};
 pub use objects::push_object;
-pub use running::run_trees;
+pub use running::{both_plans, run_trees};

@@ -90,8 +90,8 @@ fn run_judged<K: Sink, L: Link>(
     }
 }
 
-// The plans of both schemas.
-fn both_plans(
+/// The plans of both schemas. Memory may be wanted.
+pub fn both_plans(
     alloc: Global,
     client: &Schema,
     server: &Schema,

@@ -1,0 +1,3 @@
+mod Codes
+mod Decimals
+mod Digits

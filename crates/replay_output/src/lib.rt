@@ -1,0 +1,9 @@
+//! What `replay` prints: a line for each request of a trace, as another version answers it.
+#![tactic(auto)]
+
+mod answers;
+mod interfaces;
+mod lines;
+mod replaying;
+
+pub use replaying::replay;
