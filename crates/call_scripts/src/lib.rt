@@ -12,5 +12,6 @@ mod refused;
 mod script;
 mod thrown;
 
+pub use names::interface_named;
 pub use refused::{Fault, Place, Refused, RefusedName};
 pub use script::{Call, Script, Target, script_of};

@@ -57,8 +57,8 @@ fn target_named(server: &Schema, interface: Option<u32>, method: &str) -> Option
     }
 }
 
-// The number of the interface of a canonical name.
-fn interface_named(schema: &Schema, name: &str) -> Option<u32>
+/// The number of the interface of a canonical name, None where no declaration has it or it is none of an interface. It takes no memory.
+pub fn interface_named(schema: &Schema, name: &str) -> Option<u32>
     ensures { result ≡ meant.interface_named schema.now.decls name.now }
 {
     match find(schema, name) {

@@ -9,3 +9,4 @@ pub mod Handlers
 pub mod Services
 pub mod Unscripted
 pub mod Exceptions
+pub mod Tokens

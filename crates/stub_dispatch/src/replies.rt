@@ -46,6 +46,19 @@ pub fn reply(
     // An answer is what the client reads, and a failure has the status with which reading stops.
     ensures { IfOk result (λ got. got_of got ≡ client profile callee.now.decls callee.now.interface callee.now.method bytes.now) }
 {
+    read_answer(alloc, profile, callee, bytes)
+}
+
+/// What bytes are as a reply of a method, by a profile, whether or not the method is oneway: the answer that they are exactly, or else
+/// the status of the first wrong item.
+pub fn read_answer(
+    alloc: Global,
+    profile: Profile,
+    callee: &Callee<'_>,
+    bytes: &[u8],
+) -> Result<Got, OutOfMemory>
+    ensures { IfOk result (λ got. got_of got ≡ client profile callee.now.decls callee.now.interface callee.now.method bytes.now) }
+{
     match answer_in(alloc, profile, callee, bytes) {
         Ok(Answer::Returned { result, outs }) => Ok(Got::Returned { result, outs }),
         Ok(

@@ -81,8 +81,12 @@ fn is_oneway(schema: &Schema, interface: u32, method: u32) -> bool
     }
 }
 
-// The bytes of the reply of an answer that fits its method. The room for the bytes is taken once.
-fn answer_bytes(alloc: Global, callee: &Callee<'_>, answer: &Answer) -> Result<Vec<u8>, OutOfMemory>
+/// The bytes of the reply of an answer that fits its method, whether or not the method is oneway. The room for the bytes is taken once.
+pub fn answer_bytes(
+    alloc: Global,
+    callee: &Callee<'_>,
+    answer: &Answer,
+) -> Result<Vec<u8>, OutOfMemory>
     requires fits { AnswerFits callee.now.decls callee.now.interface callee.now.method (answer_of answer.now) }
     ensures { IfOk result (λ bytes. bytes.items ≡ reply callee.now.decls callee.now.interface callee.now.method (answer_of answer.now)) }
 {

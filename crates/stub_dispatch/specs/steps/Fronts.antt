@@ -1,12 +1,11 @@
 -- What is read at the front of bytes.
-use Rattle.std.specs.Prelude.{◌≡◌, ℕ, ℤ, List, Option, Some, None, Result, Ok, Err}
+use Rattle.std.specs.Prelude.{◌≡◌, ℕ, List, Result, Ok, Err}
 use Rattle.std.specs.Borrow.{Bor}
 use Rattle.aidl_base.specs.Results.{◌>>=◌}
 use Rattle.aidl_values.specs.Data.{Items, none, item}
 use Rattle.parcel_words.specs.Taken.{RefusesIfMemory}
 use Rattle.parcel_words.specs.declared.fault.ReadFault.{ReadFault}
 use Rattle.wire_model.specs.ReadOf.{Read}
-use Rattle.wire_model.specs.Status.{bad_type}
 
 -- A value, seen in a way, and the bytes after it are those that the reading gives, or the refusal is.
 abbrev pub Fronts : {A B : Type 0} → (A → B) → Result (A × Bor (List ℕ)) ReadFault → Read B → Type 0
@@ -26,8 +25,3 @@ after front reading = reading >>= λ x. Ok (joined front x.0, x.1)
 abbrev pub Continues : Items → Items → Result (Bor (List ℕ)) ReadFault → Read Items → Type 0
 Continues old new (Ok rest) reading = after old reading ≡ Ok (new, rest.now)
 Continues old new (Err fault) reading = RefusesIfMemory fault reading
-
--- the bytes after a token, or none where there is no token
-abbrev pub IsRest : Option (Bor (List ℕ)) → Result (List ℕ) ℤ → Type 0
-IsRest (Some rest) reading = reading ≡ Ok rest.now
-IsRest None reading = reading ≡ Err bad_type

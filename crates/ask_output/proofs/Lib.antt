@@ -1,0 +1,2 @@
+mod Hashes
+mod Unscripted

@@ -1,0 +1,4 @@
+pub mod Versions
+pub mod Interfaces
+pub mod Asked
+pub mod steps

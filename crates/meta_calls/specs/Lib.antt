@@ -1,0 +1,4 @@
+pub mod MetaStub
+pub mod Versions
+pub mod Reserved
+pub mod Seen
