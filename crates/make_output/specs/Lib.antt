@@ -1,0 +1,3 @@
+pub mod Making
+pub mod Tally
+pub mod steps

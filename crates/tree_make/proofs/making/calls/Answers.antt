@@ -1,0 +1,6 @@
+use Rattle.std.proofs.Common.{◌∙◌}
+use Rattle.tree_make.proofs.Ranges.{one_more}
+use Rattle.tree_make.proofs.making.calls.Goals as goal
+
+pub loop-k-preserved : goal.loop-k-preserved
+loop-k-preserved c = c.in_ok-push_calls.ensures ∙ one_more c.loop-k.k c.loop-k.invariant
