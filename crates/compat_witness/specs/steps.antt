@@ -1,2 +1,0 @@
--- What no contract of an exported function cites.
-pub mod Table

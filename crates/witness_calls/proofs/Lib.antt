@@ -1,0 +1,6 @@
+mod Collected
+mod Named
+mod Positions
+mod Shown
+mod Tests
+mod Types

@@ -1,0 +1,148 @@
+-- What a call shows, by its two sides.
+use Rattle.std.proofs.Common.{◌≡◌, ℕ, ◌<◌, zero, suc, Bool, true, false, List, [], ◌∷◌, length, Option, Some, None, slice_get, refl, sym, ap, ◌∙◌, subst, arith}
+use Rattle.std.specs.Prelude.{if◌then◌else◌, Err}
+use Rattle.aidl_base.specs.declared.profile.Profile.TheVariants.{Strict}
+use Rattle.aidl_schema.specs.declared.schema.Decl.{Decl}
+use Rattle.aidl_schema.specs.declared.schema.Method.{Method}
+use Rattle.aidl_schema.specs.Find.{methods_at}
+use Rattle.aidl_values.specs.Data.{Items}
+use Rattle.stub_dispatch.specs.Callees.{MethodOf}
+use Rattle.wire_model.specs.Calls.{AnswerData, code_of, descriptor, method_at}
+use Rattle.wire_model.specs.Outcome.{declared_as, method_like}
+unfoldable use Rattle.wire_model.specs.Receiver.{stub}
+use Rattle.wire_model.specs.Status.{unknown_transaction}
+use Rattle.compat_witness.specs.Candidates.{Candidate, request, reply, ValuesFit, IsAnswerAt, IsAnswerOf, answer_bytes, at_method, bytes_of, client_of, server_of, counterpart, read_side, projected_side}
+use Rattle.compat_witness.specs.Sides.{Side, transport, no_reply, read_request, read_reply, received_by, projected_request, projected_reply, side_of}
+unfoldable use Rattle.compat_witness.specs.Sides.{projected_call}
+use Rattle.witness_calls.specs.declared.sides.Compared.{Compared}
+use Rattle.witness_calls.specs.declared.showing.Showing.{Showing}
+use Rattle.witness_calls.specs.Comparing.{AreCompared, NamesMethod}
+use Rattle.witness_calls.specs.Showing.{Tries}
+use Rattle.witness_calls.specs.steps.Counted.{AreCounted, NoneCount, IsCounted, IsWeighed, IsWeighedBy}
+use Rattle.witness_calls.specs.steps.Projected.{callee_at}
+use Rattle.witness_calls.specs.steps.Shown.{shown_of}
+use Rattle.witness_calls.proofs.Named.{no_code}
+
+-- Bytes and sides
+
+pub weighed : (Fits : Type 0) (bytes : List ℕ) (o : Option (List ℕ)) (spelled sent : List ℕ) (R : List ℕ → Side) (p : Side) (c : Compared)
+    → IsCounted Fits bytes o → o ≡ Some spelled → sent ≡ spelled → AreCompared (R sent) p c → AreCounted Fits bytes spelled × AreCompared (R bytes) p c
+weighed Fits bytes o spelled sent R p c counted is same k =
+    let n : AreCounted Fits bytes spelled = subst (λ z. IsCounted Fits bytes z) is counted in
+    (n, subst (λ b. AreCompared (R b) p c) (same ∙ n.are) k)
+
+pub uncounted : (Fits : Type 0) (bytes : List ℕ) (o : Option (List ℕ)) → IsCounted Fits bytes o → o ≡ None → NoneCount Fits bytes
+uncounted Fits bytes o counted is = subst (λ z. IsCounted Fits bytes z) is counted
+
+found : (B : List Decl) (o : Option (ℕ × ℕ)) (s : MethodOf) → callee_at B o ≡ Some s → (o ≡ Some (s.interface, s.method)) × (s.decls ≡ B)
+found B None s e = cc
+found B (Some q) s e =
+    let same : (let of : MethodOf = record { decls = B; interface = q.0; method = q.1 } in of) ≡ s = cc in
+    (ap (λ z. let o : Option (ℕ × ℕ) = Some (z.interface, z.method) in o) same, sym (ap (λ z. z.decls) same))
+
+-- a reply by the server's method
+pub reply_weighed : (A : List Decl) (i m : ℕ) (B : List Decl) (answer : Option AnswerData) (to : Option MethodOf) (s : MethodOf) (o : Option (List ℕ × Compared))
+    → to ≡ callee_at B (counterpart A i m B) → to ≡ Some s
+    → IsWeighedBy (IsAnswerOf s.decls s.interface s.method answer) (answer_bytes s.decls s.interface s.method answer)
+    (read_reply A i m s.decls s.interface s.method (answer_bytes s.decls s.interface s.method answer)) (projected_reply s.decls s.interface s.method A i m answer) o
+    → IsWeighed A B (reply false i m answer) o
+reply_weighed A i m B answer to s o is at h =
+    let f = found B (counterpart A i m B) s (sym is ∙ at) in
+    let here = subst (λ D. IsWeighedBy (IsAnswerOf D s.interface s.method answer) (answer_bytes D s.interface s.method answer)
+    (read_reply A i m D s.interface s.method (answer_bytes D s.interface s.method answer)) (projected_reply D s.interface s.method A i m answer) o) f.1 h in
+    subst (λ q. IsWeighedBy (IsAnswerAt B q answer) (at_method [] (λ j n. answer_bytes B j n answer) q)
+    (at_method no_reply (λ j n. read_reply A i m B j n (answer_bytes B j n answer)) q) (at_method no_reply (λ j n. projected_reply B j n A i m answer) q) o) (sym f.0) here
+
+unnamed : (B : List Decl) (o : Option (ℕ × ℕ)) → callee_at B o ≡ None → o ≡ None
+unnamed B None e = refl
+unnamed B (Some q) e = cc
+
+-- a reply that the server lacks the method for
+pub reply_nowhere : (A : List Decl) (i m : ℕ) (B : List Decl) (answer : Option AnswerData) (to : Option MethodOf)
+    → to ≡ callee_at B (counterpart A i m B) → to ≡ None → IsWeighed A B (reply false i m answer) None
+reply_nowhere A i m B answer to is at =
+    let none = unnamed B (counterpart A i m B) (sym is ∙ at) in
+    record { nothing = λ fits small. subst (λ q. IsAnswerAt B q answer) none fits }
+
+-- what counts shows what its sides show
+pub tried : (old new : List Decl) (call : Candidate) (bytes : List ℕ) (c : Compared) → AreCounted (ValuesFit old new call) (bytes_of old new call) bytes
+    → AreCompared (read_side old new call) (projected_side old new call) c → Tries old new call (shown_of bytes c)
+tried old new call bytes c n k = by_test c.differ refl
+  where
+    by_test : (b : Bool) → c.differ ≡ b → Tries old new call (if b then Some (let s : Showing = record { bytes = bytes; read = c.read; projected = c.projected } in s) else None)
+    by_test true e = record {
+      is_shown = record { counts = record { fits = n.fits; small = n.small }; differs = k.differ.0 e };
+      bytes = n.are;
+      read = k.read;
+      projected = k.projected;
+    }
+    by_test false e = λ s. let both : false ≡ true = sym e ∙ k.differ.1 s.differs in cc
+
+-- the same of what is weighed
+pub weighed_tried : (old new : List Decl) (call : Candidate) (o : Option (List ℕ × Compared)) (bytes : List ℕ) (c : Compared) (t : Option Showing)
+    → IsWeighed old new call o → o ≡ Some (bytes, c) → t ≡ shown_of bytes c → Tries old new call t
+weighed_tried old new call o bytes c t w is shown =
+    let h : IsWeighed old new call (Some (bytes, c)) = subst (λ z. IsWeighed old new call z) is w in
+    subst (λ z. Tries old new call z) (sym shown) (tried old new call bytes c h.0 h.1)
+
+-- what doesn't count shows nothing
+pub none_tried : (old new : List Decl) (call : Candidate) (o : Option (List ℕ × Compared)) → IsWeighed old new call o → o ≡ None → Tries old new call None
+none_tried old new call o w is =
+    let n : IsWeighed old new call None = subst (λ z. IsWeighed old new call z) is w in
+    λ s. n.nothing s.counts.fits s.counts.small
+
+-- the sides alone
+pub weighed_compared : (old new : List Decl) (call : Candidate) (o : Option (List ℕ × Compared)) (bytes : List ℕ) (c : Compared)
+    → IsWeighed old new call o → o ≡ Some (bytes, c) → AreCompared (read_side old new call) (projected_side old new call) c
+weighed_compared old new call o bytes c w is = let h : IsWeighed old new call (Some (bytes, c)) = subst (λ z. IsWeighed old new call z) is w in h.1
+
+-- Without a method
+
+none_there : {X : Type 0} (xs : List X) (i : ℕ) → (i < length xs → ⊥) → slice_get xs i ≡ None
+none_there [] i h = refl
+none_there (x ∷ xs) zero h = absurd (h (omega arith))
+none_there (x ∷ xs) (suc i) h = none_there xs i (λ lt. h (omega (arith, lt)))
+
+no_like : (o : Option Method) (ws : List Method) → o ≡ None → method_like o ws ≡ None
+no_like None ws e = refl
+no_like (Some v) ws e = cc
+
+-- the code is nobody's
+refused : (B : List Decl) (j code : ℕ) (b : List ℕ) → code ≡ 0 → stub Strict B j code b ≡ Err unknown_transaction
+unfolding stub
+refused B j code b e = let none = no_code (methods_at B j) in rw (e, none) refl
+
+lacks : (A : List Decl) (i m : ℕ) (B : List Decl) (j : ℕ) (args : Items) → declared_as B (descriptor A i) ≡ Some j → method_like (method_at A i m) (methods_at B j) ≡ None
+    → projected_request A i m B args ≡ transport unknown_transaction
+unfolding projected_call
+lacks A i m B j args at e = rw (at, e) refl
+
+lacks_all : (A : List Decl) (i m : ℕ) (B : List Decl) (args : Items) → declared_as B (descriptor A i) ≡ None → projected_request A i m B args ≡ transport unknown_transaction
+unfolding projected_call
+lacks_all A i m B args at = rw at refl
+
+no_method : (A : List Decl) (i m : ℕ) (B : List Decl) (args : Items) (b : List ℕ) → (m < length (methods_at A i) → ⊥) → read_request A i m B b ≡ projected_request A i m B args
+no_method A i m B args b h = by_declared (declared_as B (descriptor A i)) refl
+  where
+    none : method_at A i m ≡ None
+    none = none_there (methods_at A i) m h
+
+    by_declared : (o : Option ℕ) → declared_as B (descriptor A i) ≡ o → read_request A i m B b ≡ projected_request A i m B args
+    by_declared None at = ap (λ o. side_of (received_by B o (code_of (method_at A i m)) b)) at ∙ sym (lacks_all A i m B args at)
+    by_declared (Some j) at =
+        ap (λ o. side_of (received_by B o (code_of (method_at A i m)) b)) at
+        ∙ ap side_of (refused B j (code_of (method_at A i m)) b (ap code_of none))
+        ∙ sym (lacks A i m B j args at (no_like (method_at A i m) (methods_at B j) none))
+
+no_counterpart : (A : List Decl) (i m : ℕ) (B : List Decl) → (m < length (methods_at A i) → ⊥) → counterpart A i m B ≡ None
+no_counterpart A i m B h = by_declared (declared_as B (descriptor A i)) refl
+  where
+    by_declared : (o : Option ℕ) → declared_as B (descriptor A i) ≡ o → counterpart A i m B ≡ None
+    by_declared None at = rw at refl
+    by_declared (Some j) at = let none = no_like (method_at A i m) (methods_at B j) (none_there (methods_at A i) m h) in rw (at, none) refl
+
+-- what names no method shows nothing
+pub nothing_named : (old new : List Decl) (call : Candidate) → (NamesMethod old new call → ⊥) → Tries old new call None
+nothing_named old new (request back i m args) h = λ s. s.differs (no_method (client_of back old new) i m (server_of back old new) args _ h)
+nothing_named old new (reply back i m answer) h = λ s.
+    subst (λ o. IsAnswerAt (server_of back old new) o answer) (no_counterpart (client_of back old new) i m (server_of back old new) h) s.counts.fits

@@ -1,0 +1,11 @@
+use Rattle.std.proofs.Common.{◌≡◌, drop}
+use Rattle.aidl_values.specs.View.{views}
+use Rattle.compat_witness.specs.Sides.{projected_outs}
+use Rattle.witness_calls.specs.steps.Collected.{with_seen}
+use Rattle.witness_calls.proofs.outs.project_outs.Given as goal
+
+-- what is seen so far, and what is seen of the outs that are left
+abbrev pub invariant-loop-k : goal.invariant-loop-k
+invariant-loop-k l =
+    with_seen l.seen.items (projected_outs l.ends.sender.now.decls (drop l.k l.sent) l.ends.receiver.now.decls (drop l.k l.wanted) (views l.left))
+    ≡ projected_outs l.ends.sender.now.decls l.sent l.ends.receiver.now.decls l.wanted (views l.values)

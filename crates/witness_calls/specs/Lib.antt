@@ -1,0 +1,4 @@
+pub mod Seen
+pub mod Showing
+pub mod Comparing
+pub mod steps

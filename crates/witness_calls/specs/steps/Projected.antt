@@ -1,0 +1,28 @@
+-- The steps of what a request and a reply are projected to.
+use Rattle.std.specs.Prelude.{ℕ, ℤ, List, Option, option_map, Result, Ok}
+use Rattle.aidl_schema.specs.declared.schema.Decl.{Decl}
+use Rattle.aidl_schema.specs.Find.{methods_at}
+use Rattle.aidl_values.specs.Data.{Data, Items}
+use Rattle.compat_witness.specs.Sides.{projected_arguments}
+use Rattle.stub_dispatch.specs.Callees.{MethodOf}
+use Rattle.wire_model.specs.Calls.{AnswerData, returned, arguments, method_at}
+use Rattle.wire_model.specs.Outcome.{method_like}
+use Rattle.wire_model.specs.ReadOf.{◌>>=◌}
+use Rattle.wire_model.specs.Receiver.{Received, called, or_status}
+use Rattle.wire_model.specs.Status.{bad_value, unknown_transaction}
+
+-- by the server's method
+abbrev pub called_at : List Decl → ℕ → ℕ → List Decl → ℕ → ℕ → Items → Result Received ℤ
+called_at A i m B j n args = or_status bad_value (projected_arguments A (arguments A i m) B (arguments B j n) args) >>= λ saw. Ok (called n saw)
+
+-- by the server's interface
+abbrev pub called_in : List Decl → ℕ → ℕ → List Decl → ℕ → Items → Result Received ℤ
+called_in A i m B j args = or_status unknown_transaction (method_like (method_at A i m) (methods_at B j)) >>= λ n. called_at A i m B j n args
+
+-- a method by its numbers
+abbrev pub callee_at : List Decl → Option (ℕ × ℕ) → Option MethodOf
+callee_at B o = option_map (λ q. let of : MethodOf = record { decls = B; interface = q.0; method = q.1 } in of) o
+
+-- a result with outs; BAD_VALUE without outs
+abbrev pub returned_with : Option Data → Option Items → Result AnswerData ℤ
+returned_with r outs = or_status bad_value outs >>= λ vs. Ok (returned r vs)

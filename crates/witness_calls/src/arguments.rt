@@ -1,0 +1,134 @@
+//! What the server's method sees of the arguments of a request, by the values alone.
+ghost use Rattle.std.specs.Prelude.{◌≡◌, true, option_map, slice_get, IfOk, Some};
+ghost use Rattle.std.specs.List.{list_all};
+ghost use Rattle.std.specs.Option.{option_copied};
+ghost use Rattle.aidl_schema.specs.Methods.{is_passed_type};
+ghost use Rattle.aidl_schema.specs.Types.{is_type};
+ghost use Rattle.aidl_values.specs.View.{view, views};
+ghost use Rattle.compat_witness.specs.Sides.{projected_argument, projected_arguments};
+ghost use Rattle.wire_model.specs.Calls as calls;
+ghost use Rattle.wire_model.specs.Receiver.{zero_in};
+ghost use Rattle.wire_model.specs.Requests.{sent_length};
+ghost use Rattle.witness_calls.specs.steps.Positions.{argument_seen};
+
+use crate::ends::Ends;
+use aidl_base::{OutOfMemory, Row};
+use aidl_schema::{AidlType, Arg, Direction, Schema};
+use aidl_values::{Value, default_of};
+use compat_judge::same_type;
+use std::alloc::Global;
+use stub_dispatch::opening;
+use value_views::view_value;
+
+/// What the server's method, whose arguments are `wanted`, sees of the arguments `sent`, by position; None where one has no view.
+#[tactic(auto, using(crate::proofs::Types::passed_at))]
+pub fn project_arguments(
+    alloc: Global,
+    ends: &Ends<'_>,
+    sent: &[Arg],
+    wanted: &[Arg],
+    values: &[Value],
+) -> Result<Option<Row<Value>>, OutOfMemory>
+    requires { list_all (λ a. is_passed_type ends.now.receiver.now.decls a.ty) wanted.now ≡ true }
+    ensures { IfOk result (λ o. option_map views o ≡ projected_arguments ends.now.sender.now.decls sent.now ends.now.receiver.now.decls wanted.now (views values.now)) }
+{
+    let mut seen = Vec::with_capacity(alloc, wanted.len())?;
+    for k in 0..wanted.len() {
+        let argument = argument_at(sent, k);
+        let value = value_at(values, k);
+        match project_argument(alloc, ends, argument, &wanted[k], value)? {
+            Some(view) => seen.push(view)?,
+            None => return Ok(None),
+        }
+    }
+    Ok(Some(Row::from_vec(seen)))
+}
+
+/// The argument at a position. It takes no memory.
+pub fn argument_at(args: &[Arg], k: usize) -> Option<&Arg>
+    ensures { option_copied result ≡ slice_get args.now k }
+{
+    args.get(k)
+}
+
+// The value at a position.
+fn value_at(values: &[Value], k: usize) -> Option<&Value>
+    ensures { option_copied result ≡ slice_get values.now k }
+{
+    values.get(k)
+}
+
+// What it sees of one, where the client may have no argument at its position.
+fn project_argument(
+    alloc: Global,
+    ends: &Ends<'_>,
+    sent: Option<&Arg>,
+    wanted: &Arg,
+    value: Option<&Value>,
+) -> Result<Option<Value>, OutOfMemory>
+    requires { is_type ends.now.receiver.now.decls wanted.now.ty ≡ true }
+    ensures { IfOk result (λ o. option_map view o ≡ argument_seen ends.now.sender.now.decls (option_copied sent.entry) ends.now.receiver.now.decls wanted.now
+        (option_map view (option_copied value.entry))) }
+{
+    let Some(sent) = sent else {
+        return some_default(alloc, ends.receiver, wanted.ty);
+    };
+    match value {
+        Some(value) => project_sent(alloc, ends, sent, wanted, value),
+        None => some_default(alloc, ends.receiver, wanted.ty),
+    }
+}
+
+// What it sees of an argument that both methods have.
+fn project_sent(
+    alloc: Global,
+    ends: &Ends<'_>,
+    sent: &Arg,
+    wanted: &Arg,
+    value: &Value,
+) -> Result<Option<Value>, OutOfMemory>
+    requires { is_type ends.now.receiver.now.decls wanted.now.ty ≡ true }
+    ensures { IfOk result (λ o. option_map view o ≡ projected_argument ends.now.sender.now.decls sent.now ends.now.receiver.now.decls wanted.now (view value.now)) }
+{
+    if is_out(wanted.way) {
+        if is_out(sent.way) && same_type(ends.sender, sent.ty, ends.receiver, wanted.ty) {
+            let opened = opening(alloc, ends.receiver, wanted.ty, sent_length(value))?;
+            return Ok(Some(opened));
+        }
+        return some_default(alloc, ends.receiver, wanted.ty);
+    }
+    if is_out(sent.way) {
+        return some_default(alloc, ends.receiver, wanted.ty);
+    }
+    view_value(alloc, ends.sender, sent.ty, ends.receiver, wanted.ty, value)
+}
+
+/// The default of a type.
+pub fn some_default(
+    alloc: Global,
+    schema: &Schema,
+    ty: AidlType,
+) -> Result<Option<Value>, OutOfMemory>
+    requires { is_type schema.now.decls ty ≡ true }
+    ensures { IfOk result (λ o. option_map view o ≡ Some (zero_in schema.now.decls ty)) }
+{
+    let value = default_of(alloc, schema, &ty)?;
+    Ok(Some(value))
+}
+
+/// Whether no value of an argument of a way is sent. It takes no memory.
+pub fn is_out(way: Direction) -> bool
+    ensures { result ≡ calls.is_out way }
+{
+    matches!(way, Direction::Out)
+}
+
+// The length that stands for an `out` array.
+fn sent_length(value: &Value) -> Option<usize>
+    ensures { result ≡ sent_length (view value.now) }
+{
+    match value {
+        Value::Number(n) if *n >= 0 => Some(*n as usize),
+        _ => None,
+    }
+}

@@ -1,0 +1,204 @@
+//! Whether arguments fit a method, and whether an answer is one of a method.
+ghost use Rattle.std.specs.Prelude.{◌≡◌, ◌↔◌, min, IsTrue};
+ghost use Rattle.aidl_values.specs.Data.{null};
+ghost use Rattle.aidl_values.specs.Fits.{Fits};
+ghost use Rattle.aidl_values.specs.View.{view, views};
+ghost use Rattle.wire_model.specs.Calls.{answer_of, optional_view, outs_of};
+ghost use Rattle.wire_model.specs.Requests.{ArgsFit, ArgumentFits, ArgumentsFit, EachFits, ExceptionFits, IsAnswer, IsLength, ResultFits, asked_length, sum_of_lengths};
+
+use crate::arguments::is_out;
+use aidl_base::Text;
+use aidl_schema::{AidlType, Arg, Schema, is_array};
+use aidl_values::{Answer, Value, depth, has_type};
+use stub_dispatch::{Callee, SERVICE_SPECIFIC, comes_back};
+
+// The most that the lengths of the `out` arrays of a request may add up to.
+const MOST_ITEMS: usize = 65_536;
+
+// The greatest depth of a value.
+const MOST_LEVELS: usize = 64;
+
+/// Whether arguments fit a method. It takes no memory.
+pub fn args_fit(client: &Callee<'_>, values: &[Value]) -> bool
+    ensures { IsTrue result ↔ ArgsFit client.now.decls client.now.interface client.now.method (views values.now) }
+{
+    let args = client.declared().args.as_slice();
+    if !arguments_fit(client.schema(), args, values) {
+        return false;
+    }
+    sum_of_lengths(args, values) <= MOST_ITEMS
+}
+
+// The same of arguments from one on, without the sum of the lengths.
+#[tactic(auto, using(crate::proofs::Tests::never, crate::proofs::Tests::always, crate::proofs::Tests::first_fails, crate::proofs::Tests::second))]
+fn arguments_fit(schema: &Schema, args: &[Arg], values: &[Value]) -> bool
+    ensures { IsTrue result ↔ ArgumentsFit schema.now.decls args.now (views values.now) }
+{
+    match args {
+        [] => match values {
+            [] => true,
+            [_value, _values @ ..] => false,
+        },
+        [arg, args @ ..] => match values {
+            [] => false,
+            [value, values @ ..] => {
+                if !argument_fits(schema, arg, value) {
+                    return false;
+                }
+                arguments_fit(schema, args, values)
+            }
+        },
+    }
+}
+
+// A value for an `in` or `inout` argument, a length for an `out` array, and null for any other `out` one.
+fn argument_fits(schema: &Schema, arg: &Arg, value: &Value) -> bool
+    ensures { IsTrue result ↔ ArgumentFits schema.now.decls arg.now (view value.now) }
+{
+    if !is_out(arg.way) {
+        return fits(schema, arg.ty, value);
+    }
+    if is_array(arg.ty.shape) {
+        is_length(arg.ty, value)
+    } else {
+        is_null(value)
+    }
+}
+
+// A length, or null where the array may be null.
+fn is_length(ty: AidlType, value: &Value) -> bool
+    ensures { IsTrue result ↔ IsLength ty (view value.now) }
+{
+    match value {
+        Value::Null => ty.nullable,
+        Value::Number(n) => *n >= 0,
+        Value::Truth(_) => false,
+        Value::Text(_) => false,
+        Value::Seq(_) => false,
+        Value::Rec(_) => false,
+        Value::Alt(_, _) => false,
+    }
+}
+
+fn is_null(value: &Value) -> bool
+    ensures { IsTrue result ↔ (view value.now ≡ null) }
+{
+    match value {
+        Value::Null => true,
+        Value::Number(_) => false,
+        Value::Truth(_) => false,
+        Value::Text(_) => false,
+        Value::Seq(_) => false,
+        Value::Rec(_) => false,
+        Value::Alt(_, _) => false,
+    }
+}
+
+// Whether a value has a type, and at most 64 levels.
+fn fits(schema: &Schema, ty: AidlType, value: &Value) -> bool
+    ensures { IsTrue result ↔ Fits schema.now.decls ty (view value.now) }
+{
+    if !has_type(schema, &ty, value) {
+        return false;
+    }
+    depth(value) <= MOST_LEVELS
+}
+
+// The sum of the lengths that arguments ask for, or `usize::MAX` where it is more.
+fn sum_of_lengths(args: &[Arg], values: &[Value]) -> usize
+    ensures { result ≡ min (sum_of_lengths args.now (views values.now)) usize.MAX }
+{
+    match args {
+        [] => 0,
+        [arg, args @ ..] => match values {
+            [] => 0,
+            [value, values @ ..] => {
+                let rest = sum_of_lengths(args, values);
+                asked_length(arg, value).saturating_add(rest)
+            }
+        },
+    }
+}
+
+// The length that an argument asks for.
+fn asked_length(arg: &Arg, value: &Value) -> usize
+    ensures { result ≡ asked_length arg.now (view value.now) }
+{
+    match value {
+        Value::Number(n) if is_out(arg.way) && *n >= 0 => *n as usize,
+        _ => 0,
+    }
+}
+
+/// Whether an answer is one of a method. It takes no memory.
+#[tactic(auto, using(crate::proofs::Tests::first_fails, crate::proofs::Tests::second))]
+pub fn is_answer(server: &Callee<'_>, answer: &Answer) -> bool
+    ensures { IsTrue result ↔ IsAnswer server.now.decls server.now.interface server.now.method (answer_of answer.now) }
+{
+    match answer {
+        Answer::Returned { result, outs } => {
+            let method = server.declared();
+            if !result_fits(server.schema(), method.result, result) {
+                return false;
+            }
+            outs_fit(server.schema(), method.args.as_slice(), outs.as_slice())
+        }
+        Answer::Exception {
+            code,
+            message,
+            error,
+        } => exception_fits(*code, message, *error),
+    }
+}
+
+// A value exactly where the method isn't void.
+#[tactic(auto, using(crate::proofs::Tests::never, crate::proofs::Tests::always))]
+fn result_fits(schema: &Schema, ty: Option<AidlType>, value: &Option<Value>) -> bool
+    ensures { IsTrue result ↔ ResultFits schema.now.decls ty (optional_view value.now) }
+{
+    match ty {
+        Some(ty) => match value {
+            Some(value) => fits(schema, ty, value),
+            None => false,
+        },
+        None => match value {
+            Some(_value) => false,
+            None => true,
+        },
+    }
+}
+
+// One value for each argument that comes back.
+#[tactic(auto, using(crate::proofs::Tests::never, crate::proofs::Tests::always, crate::proofs::Tests::first_fails, crate::proofs::Tests::second))]
+fn outs_fit(schema: &Schema, args: &[Arg], values: &[Value]) -> bool
+    ensures { IsTrue result ↔ EachFits schema.now.decls (outs_of args.now) (views values.now) }
+{
+    match args {
+        [] => match values {
+            [] => true,
+            [_value, _values @ ..] => false,
+        },
+        [arg, args @ ..] => {
+            if !comes_back(arg.way) {
+                return outs_fit(schema, args, values);
+            }
+            match values {
+                [] => false,
+                [value, values @ ..] => {
+                    if !fits(schema, arg.ty, value) {
+                        return false;
+                    }
+                    outs_fit(schema, args, values)
+                }
+            }
+        }
+    }
+}
+
+// A code from -8 to -1, and an error number that is 0 unless the code is -8.
+fn exception_fits(code: i32, message: &Text, error: i32) -> bool
+    ensures { IsTrue result ↔ ExceptionFits code message.now error }
+{
+    let _scalars = message.as_str();
+    -8 <= code && code <= -1 && (code == SERVICE_SPECIFIC || error == 0)
+}

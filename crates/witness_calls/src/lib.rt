@@ -1,0 +1,21 @@
+//! Calls between two versions that may show a broken rule: what is read of one, what its values are projected to, and what it shows.
+#![tactic(auto)]
+
+mod arguments;
+mod call;
+mod ends;
+mod fitting;
+mod names;
+mod outs;
+mod reading;
+mod replies;
+mod requests;
+mod same;
+mod showing;
+mod sides;
+mod weighing;
+
+pub use call::Call;
+pub use reading::Reading;
+pub use showing::{Showing, try_call};
+pub use sides::{Compared, compare};

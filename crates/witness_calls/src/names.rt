@@ -1,0 +1,87 @@
+//! What the names of a call mean to the server's schema.
+ghost use Rattle.std.specs.Prelude.{◌≡◌, ◌≤◌, ◌<◌, true, length, IfOk, IfSome, Some};
+ghost use Rattle.std.specs.List.{list_all, position};
+ghost use Rattle.aidl_schema.specs.Find.{methods_at};
+ghost use Rattle.aidl_schema.specs.Methods.{is_passed_type, is_result_type};
+ghost use Rattle.aidl_schema.specs.Same.{same_text};
+ghost use Rattle.compat_witness.specs.Candidates.{counterpart};
+ghost use Rattle.wire_model.specs.Calls.{code_at, descriptor, method_at};
+ghost use Rattle.wire_model.specs.Outcome as meant;
+ghost use Rattle.witness_calls.specs.steps.Projected.{callee_at};
+
+use aidl_base::{OutOfMemory, Text};
+use aidl_schema::{Method, Schema, find, law_valid, methods_at};
+use compat_judge::same_text;
+use std::alloc::Global;
+use stub_dispatch::{Callee, Side, descriptor_of};
+
+/// The number of the server's declaration that has the name of a client's interface.
+#[tactic(auto, using(crate::proofs::Named::number_declared))]
+pub fn declared_as(
+    alloc: Global,
+    client: &Callee<'_>,
+    server: &Schema,
+) -> Result<Option<u32>, OutOfMemory>
+    ensures { IfOk result (λ j. j ≡ meant.declared_as server.now.decls (descriptor client.now.decls client.now.interface)) }
+{
+    let name = descriptor_of(alloc, client.schema(), client.interface())?;
+    Ok(find(server, name.as_str()))
+}
+
+/// The position of the method of an interface of the server that has the name of a client's method. It takes no memory.
+pub fn method_like(client: &Callee<'_>, server: &Schema, interface: u32) -> Option<u32>
+    ensures like { result ≡ meant.method_like (method_at client.now.decls client.now.interface client.now.method) (methods_at server.now.decls interface) }
+    ensures within { IfSome result (λ n. n < length (methods_at server.now.decls interface)) }
+{
+    law_valid(server);
+    match position_named(methods_at(server, interface), &client.declared().name.0) {
+        Some(position) => Some(position as u32),
+        None => None,
+    }
+}
+
+// The position of the method of a name.
+fn position_named(methods: &[Method], name: &Text) -> Option<usize>
+    ensures { result ≡ position (λ w. same_text name.now w.name.0) methods.now }
+{
+    methods
+        .iter()
+        .position(|method| same_text(name, &method.name.0))
+}
+
+/// The server's method that has the names of a client's.
+pub fn counterpart<'a>(
+    alloc: Global,
+    client: &Callee<'_>,
+    server: &Side<'a>,
+) -> Result<Option<Callee<'a>>, OutOfMemory>
+    ensures { IfOk result (λ o. o ≡ callee_at server.now (counterpart client.now.decls client.now.interface client.now.method server.now)) }
+{
+    let schema = server.schema();
+    let Some(interface) = declared_as(alloc, client, schema)? else {
+        return Ok(None);
+    };
+    match method_like(client, schema, interface) {
+        Some(method) => Ok(Some(Callee::new(server, interface, method))),
+        None => Ok(None),
+    }
+}
+
+/// The transaction code of a method. It takes no memory.
+pub fn code_of(callee: &Callee<'_>) -> u32
+    ensures { result ≡ code_at callee.now.decls callee.now.interface callee.now.method }
+{
+    let method = callee.declared();
+    law_method(callee.schema(), callee.interface(), callee.method(), method);
+    method.id + 1
+}
+
+/// What a valid schema gives of a method: the types of its arguments and of its result, and how great its id is.
+pub fn law_method(schema: &Schema, interface: u32, number: u32, method: &Method)
+    requires { method_at schema.now.decls interface number ≡ Some method.now }
+    ensures passed { list_all (λ a. is_passed_type schema.now.decls a.ty) method.now.args ≡ true }
+    ensures returned { is_result_type schema.now.decls method.now.result ≡ true }
+    ensures small { method.now.id ≤ 16777114 }
+{
+    law_valid(schema);
+}

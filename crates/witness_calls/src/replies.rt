@@ -1,0 +1,212 @@
+//! A reply between two versions: its bytes where it counts, what is read of them, and what its values are projected to.
+ghost use Rattle.std.specs.Prelude.{◌≡◌, option_map, IfOk, None, Some};
+ghost use Rattle.aidl_values.specs.Data.{none};
+ghost use Rattle.aidl_values.specs.View.{views};
+ghost use Rattle.compat_witness.specs.Candidates.{IsAnswerOf, answer_bytes};
+ghost use Rattle.compat_witness.specs.Sides.{projected_answer, projected_reply, read_reply};
+ghost use Rattle.stub_dispatch.specs.Got.{got_of};
+ghost use Rattle.wire_model.specs.Calls.{answer_of, optional_view};
+ghost use Rattle.wire_model.specs.Calls as calls;
+ghost use Rattle.wire_model.specs.Requests.{IsAnswer, reply};
+ghost use Rattle.witness_calls.specs.Comparing.{AreCompared};
+ghost use Rattle.witness_calls.specs.Seen.{reading_seen};
+ghost use Rattle.witness_calls.specs.steps.Counted.{IsCounted};
+ghost use Rattle.witness_calls.specs.steps.Projected.{returned_with};
+
+use crate::ends::Ends;
+use crate::fitting::is_answer;
+use crate::names::law_method;
+use crate::outs::{project_outs, project_result};
+use crate::reading::Reading;
+use crate::requests::BAD_VALUE;
+use crate::sides::{Compared, beside};
+use aidl_base::{LimitName, OutOfMemory, Profile, Row};
+use aidl_values::{Answer, Value};
+use std::alloc::Global;
+use stub_dispatch::{Callee, Got, answer_bytes, read_answer, reply_length};
+
+/// The bytes of a reply that counts, None of any other. Without an answer there are none.
+pub fn counted_reply(
+    alloc: Global,
+    server: &Callee<'_>,
+    answer: &Option<Answer>,
+) -> Result<Option<Row<u8>>, OutOfMemory>
+    ensures { IfOk result (λ o. IsCounted (IsAnswerOf server.now.decls server.now.interface server.now.method (option_map answer_of answer.now))
+        (answer_bytes server.now.decls server.now.interface server.now.method (option_map answer_of answer.now)) o) }
+{
+    match answer {
+        Some(answer) => counted_answer(alloc, server, answer),
+        None => Ok(Some(Row::new(alloc))),
+    }
+}
+
+// The same of an answer.
+fn counted_answer(
+    alloc: Global,
+    server: &Callee<'_>,
+    answer: &Answer,
+) -> Result<Option<Row<u8>>, OutOfMemory>
+    ensures { IfOk result (λ o. IsCounted (IsAnswer server.now.decls server.now.interface server.now.method (answer_of answer.now))
+        (reply server.now.decls server.now.interface server.now.method (answer_of answer.now)) o) }
+{
+    if !is_answer(server, answer) {
+        return Ok(None);
+    }
+    if reply_length(server, answer) > LimitName::ParcelBytes.number() as usize {
+        return Ok(None);
+    }
+    let bytes = answer_bytes(alloc, server, answer)?;
+    Ok(Some(Row::from_vec(bytes)))
+}
+
+/// The two sides of a reply of these bytes, and whether they differ.
+pub fn compare_reply(
+    alloc: Global,
+    client: &Callee<'_>,
+    server: &Callee<'_>,
+    answer: &Option<Answer>,
+    bytes: &[u8],
+) -> Result<Compared, OutOfMemory>
+    ensures { IfOk result (λ c. AreCompared (read_reply client.now.decls client.now.interface client.now.method server.now.decls server.now.interface server.now.method bytes.now)
+        (projected_reply server.now.decls server.now.interface server.now.method client.now.decls client.now.interface client.now.method (option_map answer_of answer.now)) c) }
+{
+    let read = read_reply(alloc, client, server, bytes)?;
+    let got = project_answer(alloc, server, client, answer)?;
+    Ok(beside(read, Reading::Client(got)))
+}
+
+// What the client makes of the bytes; a oneway method of the server has no reply.
+fn read_reply(
+    alloc: Global,
+    client: &Callee<'_>,
+    server: &Callee<'_>,
+    bytes: &[u8],
+) -> Result<Reading, OutOfMemory>
+    ensures { IfOk result (λ r. reading_seen r ≡ read_reply client.now.decls client.now.interface client.now.method server.now.decls server.now.interface server.now.method bytes.now) }
+{
+    if server.declared().oneway {
+        return Ok(Reading::NoReply);
+    }
+    let got = read_answer(alloc, Profile::Strict, client, bytes)?;
+    Ok(Reading::Client(got))
+}
+
+// What an answer is to the client's method.
+fn project_answer(
+    alloc: Global,
+    server: &Callee<'_>,
+    client: &Callee<'_>,
+    answer: &Option<Answer>,
+) -> Result<Got, OutOfMemory>
+    ensures { IfOk result (λ got. got_of got
+        ≡ projected_answer server.now.decls server.now.interface server.now.method client.now.decls client.now.interface client.now.method (option_map answer_of answer.now)) }
+{
+    match answer {
+        Some(answer) => project_given(alloc, server, client, answer),
+        None => project_nothing(alloc, server, client),
+    }
+}
+
+// The same of an answer that is there. An exception is itself.
+#[tactic(auto, unfolding(compat_witness::specs::Sides::projected_answer))]
+fn project_given(
+    alloc: Global,
+    server: &Callee<'_>,
+    client: &Callee<'_>,
+    answer: &Answer,
+) -> Result<Got, OutOfMemory>
+    ensures { IfOk result (λ got. got_of got
+        ≡ projected_answer server.now.decls server.now.interface server.now.method client.now.decls client.now.interface client.now.method (Some (answer_of answer.now))) }
+{
+    match answer {
+        Answer::Returned { result, outs } => {
+            project_values(alloc, server, client, result, outs.as_slice())
+        }
+        Answer::Exception {
+            code,
+            message,
+            error,
+        } => {
+            let message = message.try_clone(alloc)?;
+            Ok(Got::Exception {
+                code: *code,
+                message,
+                error: *error,
+            })
+        }
+    }
+}
+
+// The same of a result and outs.
+#[tactic(auto, unfolding(compat_witness::specs::Sides::projected_answer))]
+fn project_values(
+    alloc: Global,
+    server: &Callee<'_>,
+    client: &Callee<'_>,
+    value: &Option<Value>,
+    outs: &[Value],
+) -> Result<Got, OutOfMemory>
+    ensures { IfOk result (λ got. got_of got
+        ≡ projected_answer server.now.decls server.now.interface server.now.method client.now.decls client.now.interface client.now.method
+        (Some (calls.returned (optional_view value.now) (views outs.now)))) }
+{
+    let ends = Ends {
+        sender: server.schema(),
+        receiver: client.schema(),
+    };
+    let (sent, wanted) = (server.declared(), client.declared());
+    law_method(client.schema(), client.interface(), client.method(), wanted);
+    let seen = project_result(alloc, &ends, sent.result, wanted.result, value)?;
+    match seen {
+        Some(seen) => {
+            let outs = project_outs(
+                alloc,
+                &ends,
+                sent.args.as_slice(),
+                wanted.args.as_slice(),
+                outs,
+            )?;
+            Ok(returned(seen, outs))
+        }
+        None => Ok(Got::Failed { status: BAD_VALUE }),
+    }
+}
+
+// What a client has without an answer.
+#[tactic(auto, unfolding(compat_witness::specs::Sides::projected_answer))]
+fn project_nothing(
+    alloc: Global,
+    server: &Callee<'_>,
+    client: &Callee<'_>,
+) -> Result<Got, OutOfMemory>
+    ensures { IfOk result (λ got. got_of got
+        ≡ projected_answer server.now.decls server.now.interface server.now.method client.now.decls client.now.interface client.now.method None) }
+{
+    let ends = Ends {
+        sender: server.schema(),
+        receiver: client.schema(),
+    };
+    let wanted = client.declared();
+    law_method(client.schema(), client.interface(), client.method(), wanted);
+    let seen = project_result(alloc, &ends, None, wanted.result, &None)?;
+    match seen {
+        Some(seen) => {
+            let outs = project_outs(alloc, &ends, &[], wanted.args.as_slice(), &[])?;
+            Ok(returned(seen, outs))
+        }
+        None => Ok(Got::Failed { status: BAD_VALUE }),
+    }
+}
+
+// A result with outs; BAD_VALUE where an out has no view.
+fn returned(value: Option<Value>, outs: Option<Row<Value>>) -> Got
+    ensures { got_of result ≡ returned_with (optional_view value) (option_map views outs) }
+{
+    match outs {
+        Some(outs) => Got::Returned {
+            result: value,
+            outs,
+        },
+        None => Got::Failed { status: BAD_VALUE },
+    }
+}

@@ -1,0 +1,147 @@
+//! A request between two versions: its bytes where it counts, what is read of them, and what its values are projected to.
+ghost use Rattle.std.specs.Prelude.{◌≡◌, length, IfOk};
+ghost use Rattle.aidl_values.specs.View.{views};
+ghost use Rattle.compat_witness.specs.Sides.{projected_request, read_request, side_of};
+ghost use Rattle.wire_model.specs.Requests.{ArgsFit, request};
+ghost use Rattle.witness_calls.specs.Comparing.{AreCompared};
+ghost use Rattle.witness_calls.specs.Seen.{reading_seen};
+ghost use Rattle.witness_calls.specs.steps.Counted.{IsCounted};
+ghost use Rattle.witness_calls.specs.steps.Projected.{called_at, called_in};
+
+use crate::arguments::project_arguments;
+use crate::ends::Ends;
+use crate::fitting::args_fit;
+use crate::names::{code_of, declared_as, law_method, method_like};
+use crate::reading::Reading;
+use crate::sides::{Compared, beside};
+use aidl_base::{OutOfMemory, Profile, Row};
+use aidl_values::Value;
+use std::alloc::Global;
+use stub_dispatch::{Callee, Receipt, Side, WriteFault, receive, request};
+
+/// UNKNOWN_TRANSACTION: the server lacks the interface or the method.
+const UNKNOWN_TRANSACTION: i32 = -74;
+
+/// BAD_VALUE: a value has no view.
+pub const BAD_VALUE: i32 = -22;
+
+/// The bytes of a request that counts, None of any other.
+pub fn counted_request(
+    alloc: Global,
+    client: &Callee<'_>,
+    args: &[Value],
+) -> Result<Option<Row<u8>>, OutOfMemory>
+    ensures { IfOk result (λ o. IsCounted (ArgsFit client.now.decls client.now.interface client.now.method (views args.now))
+        (request client.now.decls client.now.interface client.now.method (views args.now)) o) }
+{
+    if !args_fit(client, args) {
+        return Ok(None);
+    }
+    match request(alloc, client, args) {
+        Ok(bytes) => Ok(Some(Row::from_vec(bytes))),
+        Err(WriteFault::TooLarge) => Ok(None),
+        Err(WriteFault::OutOfMemory) => Err(OutOfMemory),
+    }
+}
+
+/// The two sides of a request of these bytes, and whether they differ.
+pub fn compare_request(
+    alloc: Global,
+    client: &Callee<'_>,
+    server: &Side<'_>,
+    args: &[Value],
+    bytes: &[u8],
+) -> Result<Compared, OutOfMemory>
+    ensures { IfOk result (λ c. AreCompared (read_request client.now.decls client.now.interface client.now.method server.now bytes.now)
+        (projected_request client.now.decls client.now.interface client.now.method server.now (views args.now)) c) }
+{
+    let read = read_request(alloc, client, server, bytes)?;
+    let projected = project_request(alloc, client, server, args)?;
+    Ok(beside(read, projected))
+}
+
+// What the server's interface of that name makes of the bytes.
+fn read_request(
+    alloc: Global,
+    client: &Callee<'_>,
+    server: &Side<'_>,
+    bytes: &[u8],
+) -> Result<Reading, OutOfMemory>
+    ensures { IfOk result (λ r. reading_seen r ≡ read_request client.now.decls client.now.interface client.now.method server.now bytes.now) }
+{
+    let Some(interface) = declared_as(alloc, client, server.schema())? else {
+        return Ok(Reading::Transport(UNKNOWN_TRANSACTION));
+    };
+    match receive(
+        alloc,
+        Profile::Strict,
+        server,
+        interface,
+        code_of(client),
+        bytes,
+    )? {
+        Receipt::Refused { status } => Ok(Reading::Transport(status)),
+        Receipt::Left { method } => Ok(Reading::Left(method)),
+        Receipt::Called { method, saw } => Ok(Reading::Called { method, saw }),
+    }
+}
+
+// What the arguments are to the server's method of the same names.
+#[tactic(auto, unfolding(compat_witness::specs::Sides::projected_call))]
+fn project_request(
+    alloc: Global,
+    client: &Callee<'_>,
+    server: &Side<'_>,
+    args: &[Value],
+) -> Result<Reading, OutOfMemory>
+    ensures { IfOk result (λ r. reading_seen r ≡ projected_request client.now.decls client.now.interface client.now.method server.now (views args.now)) }
+{
+    match declared_as(alloc, client, server.schema())? {
+        Some(interface) => project_in(alloc, client, server, interface, args),
+        None => Ok(Reading::Transport(UNKNOWN_TRANSACTION)),
+    }
+}
+
+// The same in the server's interface.
+fn project_in(
+    alloc: Global,
+    client: &Callee<'_>,
+    server: &Side<'_>,
+    interface: u32,
+    args: &[Value],
+) -> Result<Reading, OutOfMemory>
+    ensures { IfOk result (λ r. reading_seen r ≡ side_of (called_in client.now.decls client.now.interface client.now.method server.now interface (views args.now))) }
+{
+    match method_like(client, server.schema(), interface) {
+        Some(method) => {
+            let target = Callee::new(server, interface, method);
+            project_called(alloc, client, &target, args)
+        }
+        None => Ok(Reading::Transport(UNKNOWN_TRANSACTION)),
+    }
+}
+
+// The same of the server's method.
+fn project_called(
+    alloc: Global,
+    client: &Callee<'_>,
+    target: &Callee<'_>,
+    args: &[Value],
+) -> Result<Reading, OutOfMemory>
+    ensures { IfOk result (λ r. reading_seen r ≡ side_of (called_at client.now.decls client.now.interface client.now.method target.now.decls target.now.interface target.now.method (views args.now))) }
+{
+    let ends = Ends {
+        sender: client.schema(),
+        receiver: target.schema(),
+    };
+    let wanted = target.declared();
+    law_method(target.schema(), target.interface(), target.method(), wanted);
+    let sent = client.declared().args.as_slice();
+    match project_arguments(alloc, &ends, sent, wanted.args.as_slice(), args)? {
+        Some(saw) => Ok(Reading::Called {
+            method: target.method(),
+            saw,
+        }),
+        None => Ok(Reading::Transport(BAD_VALUE)),
+    }
+}

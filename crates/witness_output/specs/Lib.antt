@@ -1,0 +1,6 @@
+pub mod CallLines
+pub mod Entries
+pub mod SideText
+pub mod Texts
+pub mod Witnessed
+pub mod steps

@@ -1,0 +1,16 @@
+//! What is printed of broken evolution rules with the calls that show them.
+#![tactic(auto)]
+
+mod answering;
+mod call_lines;
+mod entries;
+mod heading;
+mod sides;
+mod values;
+
+pub use answering::witness_answer;
+pub use call_lines::push_call;
+pub use entries::entry_lines;
+pub use heading::Heading;
+pub use sides::push_side;
+pub use values::{push_value, push_values};

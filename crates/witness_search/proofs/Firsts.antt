@@ -1,0 +1,110 @@
+-- The first of two lists, one after the other; and what a loop leaves.
+use Rattle.std.proofs.Common.{◌≡◌, ℕ, zero, suc, ◌+◌, ◌<◌, ◌≤◌, List, [], ◌∷◌, ◌++◌, length, get_or, drop, map, Bool, Option, Some, None, inl, inr, refl, sym, ap, ◌∙◌, subst, arith}
+use Rattle.std.specs.List.{flat_map}
+use Rattle.aidl_schema.specs.declared.schema.Decl.{Decl}
+use Rattle.aidl_values.specs.Data.{none, item}
+use Rattle.aidl_values.specs.View.{view}
+use Rattle.aidl_values.specs.declared.value.Value.{Value}
+use Rattle.compat_witness.specs.Candidates.{Candidate, Shows, request}
+use Rattle.compat_witness.specs.Reaching.{asks}
+use Rattle.witness_calls.specs.Showing.{IsShown}
+use Rattle.witness_search.specs.First.{IsFirst}
+use Rattle.witness_search.specs.Asked.{group_seen, group_with, groups_seen, method_seen}
+use Rattle.witness_search.specs.declared.candidates.Group.{Group}
+use Rattle.witness_search.specs.declared.candidates.Groups.{Groups}
+use Rattle.witness_search.specs.declared.candidates.Reach.{Reach}
+use Rattle.witness_search.specs.declared.shown.Witness.{Witness}
+use Rattle.witness_search.specs.steps.Requests.{request_of, requests_of}
+
+dropped : {X : Type 0} (xs : List X) (j : ℕ) (x : X) → j < length xs → x ≡ get_or xs j x → drop j xs ≡ x ∷ drop (suc j) xs
+dropped [] j x lt e = absurd (omega arith)
+dropped (y ∷ xs) zero x lt e = ap (λ z. z ∷ xs) (sym e)
+dropped (y ∷ xs) (suc j) x lt e = dropped xs j x (omega arith) e
+
+pub drop_at : {X : Type 0} (xs : List X) (j : ℕ) (x : X) → j < length xs → x ≡ get_or xs j x → drop j xs ≡ x ∷ drop (j + 1) xs
+drop_at xs j x lt e = let one : suc j ≡ j + 1 = omega arith in dropped xs j x lt e ∙ ap (λ k. x ∷ drop k xs) one
+
+pub drop_all : {X : Type 0} (xs : List X) (j : ℕ) → length xs ≤ j → drop j xs ≡ []
+drop_all [] zero h = refl
+drop_all [] (suc j) h = refl
+drop_all (x ∷ xs) zero h = absurd (omega arith)
+drop_all (x ∷ xs) (suc j) h = drop_all xs j (omega arith)
+
+module _ (old new : List Decl) where
+  pub later : (cs ds : List Candidate) → IsFirst old new cs None → (r : Option Witness) → IsFirst old new ds r → IsFirst old new (cs ++ ds) r
+  later [] ds h r q = q
+  later (c ∷ cs) ds (inl h) r q = absurd h
+  later (c ∷ cs) ds (inr h) r q = inr (h.0, later cs ds h.1 r q)
+
+  pub sooner : (cs ds : List Candidate) (w : Witness) → IsFirst old new cs (Some w) → IsFirst old new (cs ++ ds) (Some w)
+  sooner [] ds w h = cc
+  sooner (c ∷ cs) ds w (inl h) = inl h
+  sooner (c ∷ cs) ds w (inr h) = inr (h.0, sooner cs ds w h.1)
+
+  -- Where the law of a row holds, one is found.
+  pub none_found : (cs : List Candidate) → IsFirst old new cs None → Shows old new cs → ⊥
+  none_found [] h x = cc
+  none_found (c ∷ cs) (inl h) x = h
+  none_found (c ∷ cs) (inr h) (x, (zero, e), counts, differs) =
+      let one : c ≡ x = cc in
+      h.0 (subst (IsShown old new) (sym one) (record { counts = counts; differs = differs }))
+  none_found (c ∷ cs) (inr h) (x, (suc k, e), counts, differs) = none_found cs h.1 (x, (k, e), counts, differs)
+
+  -- a list of lists, of which some are left
+  module _ {X : Type 0} (F : X → List Candidate) (xs : List X) (j : ℕ) (x : X) (lt : j < length xs) (is : x ≡ get_or xs j x) where
+    pub found_there : (w : Witness) → IsFirst old new (F x) (Some w) → IsFirst old new (flat_map F (drop j xs)) (Some w)
+    found_there w h = subst (λ ys. IsFirst old new (flat_map F ys) (Some w)) (sym (drop_at xs j x lt is)) (sooner (F x) (flat_map F (drop (j + 1) xs)) w h)
+
+    pub not_there : IsFirst old new (F x) None → (r : Option Witness) → IsFirst old new (flat_map F (drop (j + 1) xs)) r → IsFirst old new (flat_map F (drop j xs)) r
+    not_there h r q = subst (λ ys. IsFirst old new (flat_map F ys) r) (sym (drop_at xs j x lt is)) (later (F x) (flat_map F (drop (j + 1) xs)) h r q)
+
+  pub nothing_left : {X : Type 0} (F : X → List Candidate) (xs : List X) (j : ℕ) → length xs ≤ j → IsFirst old new (flat_map F (drop j xs)) None
+  nothing_left F xs j h = subst (λ ys. IsFirst old new (flat_map F ys) None) (sym (drop_all xs j h)) refl
+
+  -- the same of an item that is read by its index
+  got : {X : Type 0} (xs : List X) (j : ℕ) (d : X) → j < length xs → get_or xs j d ≡ get_or xs j (get_or xs j d)
+  got [] j d lt = absurd (omega arith)
+  got (x ∷ xs) zero d lt = refl
+  got (x ∷ xs) (suc j) d lt =
+      let one = got xs j d (omega arith) in
+      one ∙ again xs j (get_or xs j d) (get_or (x ∷ xs) (suc j) d) (omega arith)
+    where
+      again : {X : Type 0} (xs : List X) (j : ℕ) (a b : X) → j < length xs → get_or xs j a ≡ get_or xs j b
+      again [] j a b lt = absurd (omega arith)
+      again (x ∷ xs) zero a b lt = refl
+      again (x ∷ xs) (suc j) a b lt = again xs j a b (omega arith)
+
+  module _ {X : Type 0} (F : X → List Candidate) (xs : List X) (j : ℕ) (d : X) (lt : j < length xs) (o : Option Witness) (h : IsFirst old new (F (get_or xs j d)) o) where
+    pub found_here : (w : Witness) → o ≡ Some w → IsFirst old new (flat_map F (drop j xs)) (Some w)
+    found_here w is = found_there F xs j (get_or xs j d) lt (got xs j d lt) w (subst (λ o. IsFirst old new (F (get_or xs j d)) o) is h)
+
+    pub not_here : o ≡ None → (r : Option Witness) → IsFirst old new (flat_map F (drop (j + 1) xs)) r → IsFirst old new (flat_map F (drop j xs)) r
+    not_here is = not_there F xs j (get_or xs j d) lt (got xs j d lt) (subst (λ o. IsFirst old new (F (get_or xs j d)) o) is h)
+
+-- a group's requests, as the loops make them
+of_values : (back : Bool) (r : Reach) (vs : List Value) → requests_of back vs r ≡ map (λ d. request back r.interface r.method (item d none)) (map view vs)
+of_values back r [] = refl
+of_values back r (v ∷ vs) = ap (λ cs. request_of back r v ∷ cs) (of_values back r vs)
+
+of_methods : (back : Bool) (vs : List Value) (rs : List Reach) → flat_map (requests_of back vs) rs ≡ asks back (map method_seen rs) (map view vs)
+of_methods back vs [] = refl
+of_methods back vs (r ∷ rs) = ap (λ cs. cs ++ flat_map (requests_of back vs) rs) (of_values back r vs)
+    ∙ ap (λ cs. map (λ d. request back r.interface r.method (item d none)) (map view vs) ++ cs) (of_methods back vs rs)
+
+pub of_group : (g : Group) (rs : List Reach) (vs : List Value) → rs ≡ g.methods → vs ≡ g.values → flat_map (requests_of g.back vs) rs ≡ group_seen g
+of_group g rs vs e f = ap (λ xs. flat_map (requests_of g.back vs) xs) e ∙ ap (λ ws. flat_map (requests_of g.back ws) g.methods) f ∙ of_methods g.back g.values g.methods
+
+-- one or two groups
+module _ (old new : List Decl) where
+  pub groups_found : (g : Groups) (w : Witness) → IsFirst old new (group_seen g.first) (Some w) → IsFirst old new (groups_seen g) (Some w)
+  groups_found g w h = by g.second
+    where
+      by : (o : Option Group) → IsFirst old new (group_with g.first o) (Some w)
+      by None = h
+      by (Some k) = sooner old new (group_seen g.first) (group_seen k) w h
+
+  pub groups_later : (g : Groups) (k : Group) → g.second ≡ Some k → IsFirst old new (group_seen g.first) None → (r : Option Witness) → IsFirst old new (group_seen k) r → IsFirst old new (groups_seen g) r
+  groups_later g k is h r q = subst (λ o. IsFirst old new (group_with g.first o) r) (sym is) (later old new (group_seen g.first) (group_seen k) h r q)
+
+  pub groups_alone : (g : Groups) → g.second ≡ None → IsFirst old new (group_seen g.first) None → IsFirst old new (groups_seen g) None
+  groups_alone g is h = subst (λ o. IsFirst old new (group_with g.first o) None) (sym is) h

@@ -1,0 +1,11 @@
+mod Allowed
+mod Cuts
+mod Firsts
+mod Halves
+mod Letters
+mod NamedTexts
+mod PlaceBytes
+mod Reaches
+mod RecordParts
+mod SentBack
+mod Spots

@@ -1,0 +1,124 @@
+-- The values of a record as a list, field by field.
+use Rattle.std.proofs.Common.{◌≡◌, ℕ, zero, suc, ◌+◌, ◌<◌, ◌==◌, Bool, true, false, List, [], ◌∷◌, ◌++◌, length, get_or, take, drop, min, leb, map, slice_get, Option, Some, None, ◌&&◌, ◌≢◌, ◌≤◌, refl, sym, ap, ◌∙◌, arith}
+use Rattle.std.proofs.lemmas.Bool.Decides.{nat_tests}
+use Rattle.aidl_schema.specs.declared.schema.Decl.{Decl}
+use Rattle.aidl_schema.specs.declared.schema.Field.{Field}
+use Rattle.aidl_schema.specs.declared.schema.Arg.{Arg}
+use Rattle.aidl_schema.specs.declared.schema.Kind.{Kind}
+use Rattle.aidl_schema.specs.declared.schema.Kind.TheVariants.{Interface, Parcelable, Union, Enum}
+use Rattle.aidl_schema.specs.Broken.{union_fields}
+use Rattle.aidl_schema.specs.Containment.{fields_of}
+use Rattle.aidl_schema.specs.Holds.{AllHold}
+use Rattle.aidl_schema.specs.Same.{same_text}
+use Rattle.aidl_values.specs.Data.{item}
+use Rattle.aidl_values.specs.View.{items_of, view}
+use Rattle.aidl_values.specs.declared.value.Value.{Value}
+use Rattle.compat_witness.specs.Reaching.{initials, plain_value, with_value}
+use Rattle.compat_witness.specs.Rows.{alternatives_in, alternatives_of_decl, low_arguments, names_agree, types_agree}
+use Rattle.witness_search.specs.steps.Records.{part, parts}
+
+module _ (S : List Decl) (high : Bool) where
+  initials_are : (fs : List Field) → items_of (map (λ g. part S high false g) fs) ≡ initials S fs
+  initials_are [] = refl
+  initials_are (f ∷ fs) = ap (λ vs. item (part S high false f) vs) (initials_are fs)
+
+  pub parts_are : (k : ℕ) (fs : List Field) → items_of (parts S high k fs) ≡ with_value S high k fs
+  parts_are k [] = refl
+  parts_are zero (f ∷ fs) = ap (λ vs. item (part S high true f) vs) (initials_are fs)
+  parts_are (suc k) (f ∷ fs) = ap (λ vs. item (part S high false f) vs) (parts_are k fs)
+
+  take_others : (i : ℕ) (fs : List Field) (f : Field) → i < length fs → f ≡ get_or fs i f
+      → take (suc i) (map (λ g. part S high false g) fs) ≡ take i (map (λ g. part S high false g) fs) ++ part S high false f ∷ []
+  take_others i [] f lt e = absurd (omega arith)
+  take_others zero (g ∷ fs) f lt e = ap (λ h. part S high false h ∷ []) (sym e)
+  take_others (suc i) (g ∷ fs) f lt e = ap (λ ds. part S high false g ∷ ds) (take_others i fs f (omega arith) e)
+
+  take_next : (i k : ℕ) (fs : List Field) (f : Field) (here : Bool) → (i == k) ≡ here → i < length fs → f ≡ get_or fs i f
+      → take (suc i) (parts S high k fs) ≡ take i (parts S high k fs) ++ part S high here f ∷ []
+  take_next i k [] f here test lt e = absurd (omega arith)
+  take_next zero zero (g ∷ fs) f true test lt e = ap (λ h. part S high true h ∷ []) (sym e)
+  take_next zero zero (g ∷ fs) f false test lt e = absurd (grind (arith, nat_tests))
+  take_next zero (suc k) (g ∷ fs) f true test lt e = absurd (grind (arith, nat_tests))
+  take_next zero (suc k) (g ∷ fs) f false test lt e = ap (λ h. part S high false h ∷ []) (sym e)
+  take_next (suc i) zero (g ∷ fs) f true test lt e = absurd (grind (arith, nat_tests))
+  take_next (suc i) zero (g ∷ fs) f false test lt e = ap (λ ds. part S high true g ∷ ds) (take_others i fs f (omega arith) e)
+  take_next (suc i) (suc k) (g ∷ fs) f true test lt e = let same : (i == k) ≡ true = grind (arith, nat_tests) in ap (λ ds. part S high false g ∷ ds) (take_next i k fs f true same (omega arith) e)
+  take_next (suc i) (suc k) (g ∷ fs) f false test lt e = let same : (i == k) ≡ false = grind (arith, nat_tests) in ap (λ ds. part S high false g ∷ ds) (take_next i k fs f false same (omega arith) e)
+
+  pub take_further : (i k : ℕ) (fs : List Field) (f : Field) → i < length fs → f ≡ get_or fs i f
+      → take (i + 1) (parts S high k fs) ≡ take i (parts S high k fs) ++ part S high (i == k) f ∷ []
+  take_further i k fs f lt e = let one : i + 1 ≡ suc i = omega arith in ap (λ n. take n (parts S high k fs)) one ∙ take_next i k fs f (i == k) refl lt e
+
+  -- a value more
+  mapped : (vs : List Value) (v : Value) → map view (vs ++ v ∷ []) ≡ map view vs ++ view v ∷ []
+  mapped [] v = refl
+  mapped (w ∷ vs) v = ap (λ ds. view w ∷ ds) (mapped vs v)
+
+  pub one_more : (k i : ℕ) (fs : List Field) (f : Field) (vs ws : List Value) (v : Value) → i < length fs → f ≡ get_or fs i f → ws ≡ vs ++ v ∷ []
+      → map view vs ≡ take i (parts S high k fs) → view v ≡ part S high (i == k) f → map view ws ≡ take (i + 1) (parts S high k fs)
+  one_more k i fs f vs ws v lt is put before value =
+      ap (map view) put ∙ mapped vs v ∙ ap (λ ds. ds ++ view v ∷ []) before ∙ ap (λ d. take i (parts S high k fs) ++ d ∷ []) value ∙ sym (take_further i k fs f lt is)
+
+  pub length_parts : (k : ℕ) (fs : List Field) → length (parts S high k fs) ≡ length fs
+  length_parts k [] = refl
+  length_parts zero (f ∷ fs) = ap (λ n. suc n) (length_others fs)
+    where
+      length_others : (fs : List Field) → length (map (λ g. part S high false g) fs) ≡ length fs
+      length_others [] = refl
+      length_others (g ∷ fs) = ap (λ n. suc n) (length_others fs)
+  length_parts (suc k) (f ∷ fs) = ap (λ n. suc n) (length_parts k fs)
+
+-- fields that aren't as many differ somewhere in their names
+pub uneven : (fs gs : List Field) → length fs ≢ length gs → false ≡ names_agree fs gs
+uneven [] [] h = absurd (h refl)
+uneven [] (g ∷ gs) h = refl
+uneven (f ∷ fs) [] h = refl
+uneven (f ∷ fs) (g ∷ gs) h = by (same_text f.name.0 g.name.0) (uneven fs gs (λ e. h (ap (λ n. suc n) e)))
+  where
+    by : (b : Bool) → false ≡ names_agree fs gs → false ≡ (b && names_agree fs gs)
+    by true e = e
+    by false e = refl
+
+pub take_whole : {X : Type 0} (xs : List X) (j : ℕ) → length xs ≤ j → take j xs ≡ xs
+take_whole [] zero le = refl
+take_whole [] (suc j) le = refl
+take_whole (x ∷ xs) zero le = absurd (omega arith)
+take_whole (x ∷ xs) (suc j) le = ap (λ ys. x ∷ ys) (take_whole xs j (omega arith))
+
+-- z0 for each argument
+pub low_are : (xs : List Arg) → items_of (map (λ a. plain_value false a.ty.base) xs) ≡ low_arguments xs
+low_are [] = refl
+low_are (a ∷ xs) = ap (λ vs. item (plain_value false a.ty.base) vs) (low_are xs)
+
+-- a union has at most 4096 fields
+few_of_kind : (k : Kind) → length (fields_of k) ≤ 4096 → length (union_fields k) ≤ 4096
+few_of_kind (Interface ms) h = omega arith
+few_of_kind (Parcelable fs) h = omega arith
+few_of_kind (Union fs) h = h
+few_of_kind (Enum b es) h = omega arith
+
+pub few_alternatives : (S : List Decl) → AllHold S → (k : ℕ) → length (alternatives_in S k) ≤ 4096
+few_alternatives S hold k = by (slice_get S k) refl
+  where
+    by : (o : Option Decl) → slice_get S k ≡ o → length (alternatives_of_decl o) ≤ 4096
+    by None e = omega arith
+    by (Some d) e = few_of_kind d.kind (hold k d e).few_fields
+
+-- where nothing is left of one, all types agree
+no_left : {X : Type 0} (xs : List X) (j : ℕ) → length xs ≤ j → drop j xs ≡ []
+no_left [] zero h = refl
+no_left [] (suc j) h = refl
+no_left (x ∷ xs) zero h = absurd (omega arith)
+no_left (x ∷ xs) (suc j) h = no_left xs j (omega arith)
+
+pub agree_end : (old new : List Decl) (fs gs : List Field) (i : ℕ) → min (length fs) (length gs) ≤ i
+    → types_agree old (drop i fs) new (drop i gs) ≡ types_agree old fs new gs → true ≡ types_agree old fs new gs
+agree_end old new fs gs i le e = by (leb (length fs) i) refl
+  where
+    second : (xs : List Field) → types_agree old xs new [] ≡ true
+    second [] = refl
+    second (x ∷ xs) = refl
+
+    by : (b : Bool) → leb (length fs) i ≡ b → true ≡ types_agree old fs new gs
+    by true is = sym (ap (λ xs. types_agree old xs new (drop i gs)) (no_left fs i (grind (arith, nat_tests)))) ∙ e
+    by false is = sym (ap (λ ys. types_agree old (drop i fs) new ys) (no_left gs i (grind (arith, nat_tests))) ∙ second (drop i fs)) ∙ e

@@ -1,0 +1,11 @@
+use Rattle.std.proofs.Common.{drop, Option, [], ◌∷◌}
+use Rattle.std.specs.List.{flat_map}
+use Rattle.witness_search.specs.First.{IsFirst}
+use Rattle.witness_search.specs.declared.shown.Witness.{Witness}
+use Rattle.witness_search.specs.steps.Requests.{request_of}
+use Rattle.witness_search.proofs.first.first_of_method.Given as goal
+
+-- what is first of those that are left is first of all
+abbrev pub invariant-loop-value : goal.invariant-loop-value
+invariant-loop-value l = (r : Option Witness) → IsFirst l.old l.new (flat_map (λ v. request_of l.back l.reach v ∷ []) (drop l.value-index l.values)) r
+    → IsFirst l.old l.new (flat_map (λ v. request_of l.back l.reach v ∷ []) l.values) r

@@ -1,0 +1,12 @@
+use Rattle.std.proofs.Common.{◌≡◌, IfOk, option_map, subst}
+use Rattle.witness_search.specs.Asked.{calls_seen}
+use Rattle.witness_search.proofs.Halves.{C7_none, C7_part, with_slash, without_slash}
+use Rattle.witness_search.proofs.methods.c7_calls.Goals as goal
+
+pub returns-in-Some : goal.returns-in-Some
+returns-in-Some c = λ p is.
+    let h = with_slash p c.args.place.now _ _ is c.in-Some.ensures in
+    subst (λ o. IfOk c.method_calls.result (λ calls. option_map calls_seen calls ≡ o)) (C7_part c.args.old.now.decls c.args.new.now.decls p h.0 h.1) (c.method_calls.ensures h.0.0 h.2)
+
+pub returns-in-None : goal.returns-in-None
+returns-in-None c = λ p is. C7_none c.args.old.now.decls c.args.new.now.decls p (without_slash p c.args.place.now is c.in-None.ensures)

@@ -1,0 +1,5 @@
+pub mod Asked
+pub mod First
+pub mod IsWitness
+pub mod RowsByRule
+pub mod steps

@@ -1,0 +1,9 @@
+-- What no contract of an exported function cites.
+pub mod Asks
+pub mod Named
+pub mod Reached
+pub mod Records
+pub mod Requests
+pub mod Rows
+pub mod Seen
+pub mod Table

@@ -1,0 +1,248 @@
+//! The rows of a field: C10, one of a parcelable whose name differs, C11, one whose type differs, and C15, one of a union.
+ghost use Rattle.std.specs.Option.{option_copied};
+ghost use Rattle.std.specs.Prelude.{◌≡◌, ◌&&◌, ◌<◌, ◌∷◌, [], IfOk, false, length, map, option_map, slice_get, take};
+ghost use Rattle.aidl_values.specs.Data.{rec};
+ghost use Rattle.aidl_schema.specs.Types.{type_of_field};
+ghost use Rattle.aidl_values.specs.View.{view};
+ghost use Rattle.compat_witness.specs.Reaching.{are_plain, with_value};
+ghost use Rattle.compat_witness.specs.Rows as rows;
+ghost use Rattle.witness_search.specs.Asked.{groups_seen};
+ghost use Rattle.witness_search.specs.steps.Rows as steps;
+
+use crate::candidates::{Group, Groups};
+use crate::counts::one_value;
+use crate::declarations::{is_none_of, one_group, two_values};
+use crate::fields::{alternatives_in, fields_in, names_agree, types_agree, with_value};
+use crate::names::field_named;
+use crate::places::at_last_dot;
+use crate::plain::{are_plain, low_value};
+use crate::reaching::reaching;
+use aidl_base::{OutOfMemory, Row, Text};
+use aidl_schema::{Base, Field, Schema, find, law_valid};
+use aidl_values::Value;
+use compat_judge::{same_text, same_type};
+use std::alloc::Global;
+
+/// A row of a field.
+#[derive(Clone, Copy)]
+pub enum FieldRow {
+    C10,
+    C11,
+    C15,
+}
+
+/// A declaration of both versions, by its numbers.
+#[derive(Clone, Copy)]
+pub struct Both<'a> {
+    pub old: &'a Schema,
+    pub k: u32,
+    pub new: &'a Schema,
+    pub l: u32,
+}
+
+/// The requests of a row at a place that names a field; None where its condition isn't met.
+pub fn field_groups(
+    alloc: Global,
+    row: FieldRow,
+    old: &Schema,
+    new: &Schema,
+    place: &Text,
+) -> Result<Option<Groups>, OutOfMemory>
+    ensures { IfOk result (λ groups. option_map groups_seen groups ≡ steps.field_row row old.now.decls new.now.decls place.now) }
+{
+    groups_named(alloc, row, old, new, place.as_str())
+}
+
+// The same by the bytes of the place.
+fn groups_named(
+    alloc: Global,
+    row: FieldRow,
+    old: &Schema,
+    new: &Schema,
+    place: &str,
+) -> Result<Option<Groups>, OutOfMemory>
+    ensures { IfOk result (λ groups. option_map groups_seen groups ≡ steps.field_row_named row old.now.decls new.now.decls place.now) }
+{
+    let Some((name, field)) = at_last_dot(place) else {
+        return Ok(None);
+    };
+    let Some(k) = find(old, name) else {
+        return Ok(None);
+    };
+    let Some(l) = find(new, name) else {
+        return Ok(None);
+    };
+    let Some(position) = field_named(fields_at(row, old, k), field) else {
+        return Ok(None);
+    };
+    let both = Both { old, k, new, l };
+    match row {
+        FieldRow::C10 => asked_c10(alloc, &both, position),
+        FieldRow::C11 => asked_c11(alloc, &both, position),
+        FieldRow::C15 => asked_c15(alloc, &both, position),
+    }
+}
+
+// The fields among which a row looks.
+fn fields_at(row: FieldRow, schema: &Schema, number: u32) -> &[Field]
+    ensures { result.now ≡ steps.fields_at row schema.now.decls number }
+{
+    match row {
+        FieldRow::C10 | FieldRow::C11 => fields_in(schema, number),
+        FieldRow::C15 => alternatives_in(schema, number),
+    }
+}
+
+// C10: requests with z0, then z1, in that field and defaults elsewhere.
+fn asked_c10(alloc: Global, both: &Both<'_>, position: usize) -> Result<Option<Groups>, OutOfMemory>
+    ensures { IfOk result (λ groups. option_map groups_seen groups ≡ steps.asked_C10 both.now.old.now.decls both.now.k both.now.new.now.decls both.now.l position) }
+{
+    let olds = fields_in(both.old, both.k);
+    let news = fields_in(both.new, both.l);
+    let methods = reaching(alloc, both.old, both.k, both.new)?;
+    if is_none_of(methods.as_slice()) || !is_met_c10(both, olds, news) {
+        return Ok(None);
+    }
+    let low = with_value(alloc, both.old, false, position, olds)?;
+    let high = with_value(alloc, both.old, true, position, olds)?;
+    let first = Group {
+        back: false,
+        methods,
+        values: two_values(alloc, Value::Rec(low), Value::Rec(high))?,
+    };
+    Ok(Some(Groups {
+        first,
+        second: None,
+    }))
+}
+
+// All fields are plain in both, and types agree at each position below both counts.
+fn is_met_c10(both: &Both<'_>, olds: &[Field], news: &[Field]) -> bool
+    ensures { result ≡ ((are_plain olds.now && are_plain news.now) && rows.types_agree both.now.old.now.decls olds.now both.now.new.now.decls news.now) }
+{
+    (are_plain(olds) && are_plain(news)) && types_agree(both.old, olds, both.new, news)
+}
+
+// C11: requests with z0 in that field and defaults elsewhere, either way.
+fn asked_c11(alloc: Global, both: &Both<'_>, position: usize) -> Result<Option<Groups>, OutOfMemory>
+    requires { position < length (rows.fields_in both.now.old.now.decls both.now.k) }
+    ensures { IfOk result (λ groups. option_map groups_seen groups ≡ steps.asked_C11 both.now.old.now.decls both.now.k both.now.new.now.decls both.now.l position) }
+{
+    let olds = fields_in(both.old, both.k);
+    let news = fields_in(both.new, both.l);
+    let methods = reaching(alloc, both.old, both.k, both.new)?;
+    if is_none_of(methods.as_slice()) || !is_met_c11(both, position, olds, news) {
+        return Ok(None);
+    }
+    let first = Group {
+        back: false,
+        methods,
+        values: low_record(alloc, both.old, position, olds)?,
+    };
+    let second = Group {
+        back: true,
+        methods: reaching(alloc, both.new, both.l, both.old)?,
+        values: low_record(alloc, both.new, position, news)?,
+    };
+    Ok(Some(Groups {
+        first,
+        second: Some(second),
+    }))
+}
+
+// All fields are plain in both, have the same names, and but for the last the same types.
+fn is_met_c11(both: &Both<'_>, position: usize, olds: &[Field], news: &[Field]) -> bool
+    requires { position < length olds.now }
+    ensures { result ≡ ((are_plain olds.now && are_plain news.now) && (rows.names_agree olds.now news.now
+        && (rows.is_last position olds.now && rows.types_agree both.now.old.now.decls (take position olds.now) both.now.new.now.decls news.now))) }
+{
+    (are_plain(olds) && are_plain(news))
+        && (names_agree(olds, news)
+            && (position + 1 == olds.len()
+                && types_agree(both.old, &olds[..position], both.new, news)))
+}
+
+// The record with z0 in that field and defaults elsewhere.
+fn low_record(
+    alloc: Global,
+    schema: &Schema,
+    position: usize,
+    fields: &[Field],
+) -> Result<Row<Value>, OutOfMemory>
+    ensures { IfOk result (λ values. map view values ≡ rec (with_value schema.now.decls false position fields.now) ∷ []) }
+{
+    let record = with_value(alloc, schema, false, position, fields)?;
+    one_value(alloc, Value::Rec(record))
+}
+
+// C15: a request with that tag and z0.
+fn asked_c15(alloc: Global, both: &Both<'_>, position: usize) -> Result<Option<Groups>, OutOfMemory>
+    requires { position < length (rows.alternatives_in both.now.old.now.decls both.now.k) }
+    ensures { IfOk result (λ groups. option_map groups_seen groups ≡ steps.asked_C15 both.now.old.now.decls both.now.k both.now.new.now.decls both.now.l position) }
+{
+    let olds = alternatives_in(both.old, both.k);
+    let news = alternatives_in(both.new, both.l);
+    let methods = reaching(alloc, both.old, both.k, both.new)?;
+    if is_none_of(methods.as_slice()) || !is_met_c15(both, position, olds, news) {
+        return Ok(None);
+    }
+    let value = low_alternative(alloc, both.old, both.k, position)?;
+    one_group(alloc, false, methods, value)
+}
+
+// z0 in the alternative at a position.
+fn low_alternative(
+    alloc: Global,
+    schema: &Schema,
+    number: u32,
+    position: usize,
+) -> Result<Value, OutOfMemory>
+    requires { position < length (rows.alternatives_in schema.now.decls number) }
+    ensures { IfOk result (λ value. view value ≡ rows.low_alternative position (rows.alternatives_in schema.now.decls number)) }
+{
+    let tag = small_position(schema, number, position);
+    let base = base_at(alternatives_in(schema, number), position);
+    let inner = Box::new(alloc, low_value(base))?;
+    Ok(Value::Alt(tag, inner))
+}
+
+// The base of the field at a position.
+fn base_at(fields: &[Field], position: usize) -> Base
+    ensures { result ≡ (type_of_field (slice_get fields.now position)).base }
+{
+    match fields.get(position) {
+        Some(field) => field.ty.base,
+        None => Base::Boolean,
+    }
+}
+
+// All fields are plain in both, and names or types differ at the position, which both have.
+fn is_met_c15(both: &Both<'_>, position: usize, olds: &[Field], news: &[Field]) -> bool
+    ensures { result ≡ ((are_plain olds.now && are_plain news.now)
+        && rows.differ_at both.now.old.now.decls both.now.new.now.decls (slice_get olds.now position) (slice_get news.now position)) }
+{
+    (are_plain(olds) && are_plain(news)) && differ_at(both, olds.get(position), news.get(position))
+}
+
+fn differ_at(both: &Both<'_>, before: Option<&Field>, after: Option<&Field>) -> bool
+    ensures { result ≡ rows.differ_at both.now.old.now.decls both.now.new.now.decls (option_copied before.entry) (option_copied after.entry) }
+{
+    match before {
+        Some(f) => match after {
+            Some(g) => {
+                !(same_text(&f.name.0, &g.name.0) && same_type(both.old, f.ty, both.new, g.ty))
+            }
+            None => false,
+        },
+        None => false,
+    }
+}
+
+// A position of a field is small.
+fn small_position(schema: &Schema, number: u32, position: usize) -> u32
+    requires { position < length (rows.alternatives_in schema.now.decls number) }
+    ensures { result ≡ position }
+{
+    law_valid(schema);
+    position as u32
+}

@@ -1,0 +1,141 @@
+//! The rows of methods without arguments: C3, a method that new lacks, C4, one whose id differs, and C8, one that is oneway in one
+//! version alone.
+ghost use Rattle.std.specs.Prelude.{◌≡◌, ◌+◌, List, ℕ, IfOk, None, false, if◌then◌else◌, is_none, not, option_map, true};
+ghost use Rattle.std.specs.Str.{encode_utf8_all};
+ghost use Rattle.aidl_schema.specs.Find.{methods_at, position_of_code};
+ghost use Rattle.aidl_values.specs.Data.{none};
+ghost use Rattle.compat_witness.specs.Candidates.{reply, request};
+ghost use Rattle.compat_witness.specs.Rows.{is_empty, row_C3};
+ghost use Rattle.witness_calls.specs.Seen.{call_seen};
+ghost use Rattle.witness_search.specs.Asked.{calls_seen};
+ghost use Rattle.witness_search.specs.steps.Asks.{are_empty, asked_C3, asked_C4, asked_C8};
+ghost use Rattle.witness_search.specs.steps.Seen.{spot_seen};
+
+use crate::candidates::{Calls, one_call};
+use crate::names::declared_like;
+use crate::spot::{Spot, spot_of};
+use aidl_base::{OutOfMemory, Row};
+use aidl_schema::{Arg, Method, Schema, methods_at};
+use std::alloc::Global;
+use witness_calls::Call;
+
+/// C3: a request from the old version; None where the method has arguments or new has no method of its id.
+pub fn c3_calls(
+    alloc: Global,
+    old: &Schema,
+    new: &Schema,
+    place: &str,
+) -> Result<Option<Calls>, OutOfMemory>
+    ensures { (p : List ℕ) → place.now ≡ encode_utf8_all p
+        → IfOk result (λ calls. option_map calls_seen calls ≡ row_C3 old.now.decls new.now.decls p) }
+{
+    let Some(spot) = spot_of(old, place) else {
+        return Ok(None);
+    };
+    match declared_like(alloc, old, spot.interface, new)? {
+        Some(number) => Ok(asked_c3(alloc, &spot, methods_at(new, number))),
+        None => Ok(None),
+    }
+}
+
+fn asked_c3(alloc: Global, spot: &Spot<'_>, others: &[Method]) -> Option<Calls>
+    ensures { option_map calls_seen result ≡ asked_C3 (spot_seen spot.now) others.now }
+{
+    if is_empty(spot.method.args.as_slice()) && has_id(others, spot.method.id) {
+        Some(one_call(bare_request(alloc, spot)))
+    } else {
+        None
+    }
+}
+
+// Whether one of these methods has an id.
+fn has_id(methods: &[Method], id: u32) -> bool
+    ensures { result ≡ not (is_none (position_of_code methods.now (id + 1))) }
+{
+    match position_of_id(methods, id) {
+        Some(_) => true,
+        None => false,
+    }
+}
+
+fn position_of_id(methods: &[Method], id: u32) -> Option<usize>
+    ensures { result ≡ position_of_code methods.now (id + 1) }
+{
+    methods
+        .iter()
+        .position(|method| u64::from(method.id) + 1 == u64::from(id) + 1)
+}
+
+/// C4: a request from the old version. It takes no memory.
+pub fn asked_c4(alloc: Global, before: &Spot<'_>, after: &Spot<'_>) -> Option<Calls>
+    ensures { option_map calls_seen result ≡ asked_C4 (spot_seen before.now) (spot_seen after.now) }
+{
+    if are_empty(before, after) {
+        Some(one_call(bare_request(alloc, before)))
+    } else {
+        None
+    }
+}
+
+/// C8: a reply to the two-way client. It takes no memory.
+pub fn asked_c8(before: &Spot<'_>, after: &Spot<'_>) -> Option<Calls>
+    ensures { option_map calls_seen result ≡ asked_C8 (spot_seen before.now) (spot_seen after.now) }
+{
+    if are_empty(before, after) {
+        Some(one_call(two_way_reply(before, after)))
+    } else {
+        None
+    }
+}
+
+/// Whether the method has no arguments in both versions. It takes no memory.
+pub fn are_empty(before: &Spot<'_>, after: &Spot<'_>) -> bool
+    ensures { result ≡ are_empty (spot_seen before.now) (spot_seen after.now) }
+{
+    is_empty(before.method.args.as_slice()) && is_empty(after.method.args.as_slice())
+}
+
+/// Whether there are no arguments. It takes no memory.
+pub fn is_empty(args: &[Arg]) -> bool
+    ensures { result ≡ is_empty args.now }
+{
+    match args {
+        [] => true,
+        _ => false,
+    }
+}
+
+// A request without arguments from the old version.
+fn bare_request(alloc: Global, spot: &Spot<'_>) -> Call
+    ensures { call_seen result ≡ request false spot.now.interface spot.now.position none }
+{
+    Call::Request {
+        back: false,
+        interface: spot.interface,
+        method: spot.position,
+        args: Row::new(alloc),
+    }
+}
+
+// The reply to the two-way client.
+fn two_way_reply(before: &Spot<'_>, after: &Spot<'_>) -> Call
+    ensures { call_seen result ≡ (if before.now.method.now.oneway then reply true after.now.interface after.now.position None else reply false before.now.interface before.now.position None) }
+{
+    if before.method.oneway {
+        no_reply(true, after)
+    } else {
+        no_reply(false, before)
+    }
+}
+
+// A reply of a oneway method.
+fn no_reply(back: bool, client: &Spot<'_>) -> Call
+    ensures { call_seen result ≡ reply back client.now.interface client.now.position None }
+{
+    Call::Reply {
+        back,
+        interface: client.interface,
+        method: client.position,
+        answer: None,
+    }
+}

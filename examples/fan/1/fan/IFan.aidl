@@ -1,0 +1,5 @@
+package fan;
+import fan.Speed;
+interface IFan {
+    void turn(in Speed speed);
+}

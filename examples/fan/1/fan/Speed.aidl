@@ -1,0 +1,5 @@
+package fan;
+parcelable Speed {
+    int low;
+    int high;
+}

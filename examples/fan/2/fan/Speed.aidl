@@ -1,0 +1,5 @@
+package fan;
+parcelable Speed {
+    int high;
+    int low;
+}
