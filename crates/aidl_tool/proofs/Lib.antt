@@ -3,5 +3,8 @@ mod CourseEnds
 mod Held
 mod Kept
 mod Lacking
+mod Laying
 mod Takes
+mod Unread
+mod ones
 mod schemas

@@ -47,7 +47,7 @@ early_over view (Answered p) (Err answer) next h course e = cc
 early_over view OutOfMemory found next h course e = absurd e
 
 -- a tree that isn't checked is refused
-early_checked : (root : List ℕ) (files : List SourceFile) (next : List Decl → Takes) (early : Early) → EndsBy (IsFaultAnswer root files) early
+pub early_checked : (root : List ℕ) (files : List SourceFile) (next : List Decl → Takes) (early : Early) → EndsBy (IsFaultAnswer root files) early
     → (course : Course) → TakesEarly early course → TakesChecked root files next course
 early_checked root files next (Answered p) is course e = inl (printed p, is, e)
 early_checked root files next OutOfMemory is course e = absurd e

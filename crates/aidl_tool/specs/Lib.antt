@@ -1,6 +1,12 @@
 pub mod Acting
+pub mod Explaining
+pub mod Asking
 pub mod Headline
 pub mod InTree
+pub mod Making
 pub mod Meant
+pub mod OneMeaning
+pub mod Replaying
 pub mod Running
+pub mod Witnessing
 pub mod steps

@@ -4,7 +4,7 @@ use Rattle.aidl_base.specs.declared.limit.LimitName.TheVariants.{TextBytes}
 use Rattle.aidl_base.specs.declared.profile.Profile.{Profile}
 use Rattle.aidl_base.specs.declared.source_file.SourceFile.{SourceFile}
 use Rattle.aidl_outside.specs.Files.{Files}
-use Rattle.tool_words.specs.Command.{Command, decode, encode, check, dump, freeze, judge, rehash, run, verify}
+use Rattle.tool_words.specs.Command.{Command, decode, encode, check, dump, explain, freeze, judge, rehash, run, verify, replay, ask, make, witness}
 use Rattle.tool_words.specs.Rows.{command_of}
 use Rattle.parcel_output.specs.Decode.{profile_of, decode_answer}
 use Rattle.parcel_output.specs.Encode.{encode_answer}
@@ -19,9 +19,14 @@ use Rattle.tree_output.specs.Checked.{IsCheckAnswer}
 use Rattle.tree_output.specs.Judged.{IsJudgeAnswer}
 use Rattle.api_versions.specs.Versions.{versions_at}
 use Rattle.version_output.specs.Verified.{IsVerified}
+use Rattle.aidl_tool.specs.Asking.{AskAnswers}
 use Rattle.aidl_tool.specs.Acting.{DumpActs, FreezeActs, RehashActs}
+use Rattle.aidl_tool.specs.Explaining.{ExplainAnswers}
 use Rattle.aidl_tool.specs.InTree.{InTree}
+use Rattle.aidl_tool.specs.Replaying.{ReplayAnswers}
+use Rattle.aidl_tool.specs.Making.{makes}
 use Rattle.aidl_tool.specs.Running.{RunTakes}
+use Rattle.aidl_tool.specs.Witnessing.{WitnessAnswers}
 
 -- of a file that is there: the limits of the tree's files; what refuses the bytes; all else of the tree; and the values
 abbrev pub DecodesFile : Profile → Option (List ℕ) → List ℕ → Files → Found (List ℕ) → Answer → Type 0
@@ -54,18 +59,22 @@ JudgeAnswers old new files = OverTree (tree_at files old) (JudgesSecond old new 
 abbrev pub VerifyAnswers : List ℕ → Files → Answer → Type 0
 VerifyAnswers api files = IsVerified (versions_at files api)
 
--- the meaning of a command; those that aren't built yet have none
+-- the meaning of a command
 abbrev pub meaning : Command → Meant
 meaning (decode lenient tree types path) = means (reads_by (DecodeAnswers (profile_of lenient) tree types path))
 meaning (encode tree types path) = means (reads_by (EncodeAnswers tree types path))
 meaning (check tree) = means (reads_by (CheckAnswers tree))
 meaning (judge old new) = means (reads_by (JudgeAnswers old new))
+meaning (witness old new) = means (reads_by (WitnessAnswers old new))
 meaning (verify api) = means (reads_by (VerifyAnswers api))
 meaning (dump tree out) = means (acts_by (DumpActs tree out))
 meaning (freeze tree api) = means (acts_by (FreezeActs tree api))
 meaning (rehash api) = means (acts_by (RehashActs api))
 meaning (run trace lenient client server calls) = means (carries_by (RunTakes (profile_of lenient) trace client server calls))
-meaning _ = unknown
+meaning (explain tree types path) = means (reads_by (ExplainAnswers tree types path))
+meaning (replay server interface trace) = means (reads_by (ReplayAnswers server interface trace))
+meaning (ask api version interface code path) = means (reads_by (AskAnswers (record { api = api; version = version; interface = interface; code = code }) path))
+meaning (make count out) = means (makes count out)
 
 -- the meaning of the command that words are, if any
 abbrev pub meant_by : Option Command → Meant

@@ -1,4 +1,6 @@
 -- What the code's steps do, for inner contracts: no contract of a function that the crate exports cites it.
+pub mod Asking
+pub mod Laying
 pub mod Left
 pub mod Loading
 pub mod Opens

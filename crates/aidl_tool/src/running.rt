@@ -272,9 +272,9 @@ fn run_both<K: Sink, L: Link>(
     )
 }
 
-// Prints how the run ends early.
+/// Prints how a run ends early. The answer is the exit.
 #[tactic(auto, using(crate::proofs::Takes::printed_early))]
-fn print_early<K: Sink, L: Link>(alloc: Global, early: Early, sink: &mut K, link: &L) -> Exit
+pub fn print_early<K: Sink, L: Link>(alloc: Global, early: Early, sink: &mut K, link: &L) -> Exit
     ensures { let seen = seen_alone K.told K.count L.log L.is_faithful L.count in
         RanSome (TakesEarly early) (seen sink.old link.now) (seen sink.new link.now) (number_of result) }
 {

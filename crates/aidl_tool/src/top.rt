@@ -10,17 +10,23 @@ ghost use Rattle.tool_frame.specs.Ended.{Ran};
 ghost use Rattle.tool_frame.specs.Exit.{number_of};
 ghost use Rattle.tool_frame.specs.Seen.{seen_by};
 
+use crate::asking::ask;
 use crate::checking::check;
 use crate::decoding::decode;
 use crate::dumping::dump;
 use crate::encoding::encode;
+use crate::explaining::explain;
 use crate::freezing::freeze;
 use crate::judging::judge;
+use crate::making::make;
 use crate::rehashing::rehash;
-use crate::running::{Asked, run};
+use crate::replaying::replay;
+use crate::running::{Asked as AskedRun, run};
 use crate::verifying::verify;
+use crate::witnessing::witness;
 use aidl_base::Profile;
 use aidl_outside::{Link, Sink, Store};
+use ask_output::Asked;
 use std::alloc::Global;
 use tool_frame::{Exit, refuse};
 use tool_words::{Command, command_of};
@@ -62,7 +68,7 @@ fn run_words<S: Store, K: Sink, L: Link>(
     }
 }
 
-// Runs a command, where it is built.
+// Runs a command.
 #[tactic(auto, using(crate::proofs::Kept::told_anyway))]
 fn carry_out<S: Store, K: Sink, L: Link>(
     alloc: Global,
@@ -106,7 +112,7 @@ fn carry_out<S: Store, K: Sink, L: Link>(
             server,
             calls,
         } => {
-            let asked = Asked {
+            let asked = AskedRun {
                 profile: profile_of(lenient),
                 trace,
                 client,
@@ -115,9 +121,32 @@ fn carry_out<S: Store, K: Sink, L: Link>(
             };
             run(alloc, asked, store, sink, link)
         }
+        Command::Witness { old, new } => witness(alloc, old, new, store, sink, link),
         Command::Verify { api } => verify(alloc, api, store, sink, link),
+        Command::Ask {
+            api,
+            version,
+            interface,
+            code,
+            file,
+        } => {
+            let asked = Asked {
+                version,
+                interface,
+                code,
+            };
+            ask(alloc, api, asked, file, store, sink, link)
+        }
         Command::Rehash { api } => rehash(alloc, api, store, sink, link),
-        _ => refuse(alloc, store, sink, link),
+        Command::Explain { tree, types, file } => {
+            explain(alloc, tree, types, file, store, sink, link)
+        }
+        Command::Replay {
+            server,
+            interface,
+            trace,
+        } => replay(alloc, server, interface, trace, store, sink, link),
+        Command::Make { count, out } => make(alloc, count, out, store, sink, link),
     }
 }
 

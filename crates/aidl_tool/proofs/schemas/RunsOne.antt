@@ -4,7 +4,6 @@ use Rattle.std.specs.Prelude.{◌≢◌, ◌≤◌, Result}
 use Rattle.std.proofs.lemmas.List.{append-nil}
 use Rattle.aidl_base.specs.declared.limit.LimitName.TheVariants.{TextBytes}
 use Rattle.aidl_base.specs.declared.profile.Profile.{Profile}
-use Rattle.aidl_base.specs.declared.source_file.SourceFile.{SourceFile}
 use Rattle.aidl_base.specs.Results.{◌>>=◌}
 use Rattle.aidl_outside.specs.Files.{Files}
 use Rattle.aidl_outside.specs.Told.{Adds}
@@ -24,14 +23,14 @@ use Rattle.run_output.specs.CallLines.{lines_of, within_lines}
 use Rattle.run_output.specs.Running.{judged_course, lines_course, neither, run_course}
 use Rattle.tool_frame.specs.declared.printed.Early.{Early}
 use Rattle.tool_frame.specs.declared.printed.Early.TheVariants.{Answered, OutOfMemory}
-use Rattle.tool_frame.specs.Answer.{Answer, Found}
+use Rattle.tool_frame.specs.Answer.{Found}
 use Rattle.tool_frame.specs.Course.{Course}
 use Rattle.tool_frame.specs.Refusals.{file_at, there}
 use Rattle.tool_frame.specs.Seen.{Seen}
 use Rattle.tool_frame.specs.Trees.{TreeFile, tree_at}
 use Rattle.tool_frame.specs.Verdict.{IsVerdict}
 use Rattle.tool_frame.specs.Courses.{EndsCourse}
-use Rattle.tool_frame.specs.Results.{Finds, printed}
+use Rattle.tool_frame.specs.Results.{Finds}
 use Rattle.tool_frame.proofs.lemmas.Endings.{not_verdict}
 
 module _ (p : Profile) (trace : Bool) (A B : List Decl) (text : List ℕ) (before now : Seen) (exit : ℕ) where

@@ -1,0 +1,11 @@
+use Rattle.std.proofs.Common.{refl}
+use Rattle.aidl_tool.specs.Asking.{AskAnswers}
+use Rattle.aidl_tool.specs.steps.Asking.{words_seen}
+use Rattle.tool_frame.proofs.lemmas.Endings.{ended_read}
+use Rattle.tool_frame.specs.Exit.{number_of}
+use Rattle.aidl_tool.proofs.asking.ask.Goals as goal
+
+pub returns : goal.returns
+returns g c =
+    let answered = c.answered-answered.ensures in
+    ended_read (AskAnswers (words_seen c.args.api.now c.args.asked) c.args.path.now) _ _ answered.unchanged refl refl refl (number_of c.end.result) _ answered.cause answered.answer c.end.ensures

@@ -1,0 +1,11 @@
+use Rattle.std.proofs.Common.{refl}
+use Rattle.aidl_tool.specs.Explaining.{ExplainAnswers}
+use Rattle.tool_words.specs.Seen.{tree_seen}
+use Rattle.tool_frame.proofs.lemmas.Endings.{ended_read}
+use Rattle.tool_frame.specs.Exit.{number_of}
+use Rattle.aidl_tool.proofs.explaining.explain.Goals as goal
+
+pub returns : goal.returns
+returns g c =
+    let answered = c.answered-answered.ensures in
+    ended_read (ExplainAnswers (tree_seen c.args.tree) c.args.types.now c.args.path.now) _ _ answered.unchanged refl refl refl (number_of c.end.result) _ answered.cause answered.answer c.end.ensures

@@ -1,0 +1,164 @@
+-- What a command that reads answers is one thing at the most.
+use Rattle.std.proofs.Common.{◌≡◌, ℕ, List, [], Option, Some, None, Ok, Err, sym, ◌∙◌}
+use Rattle.std.specs.Prelude.{Result}
+use Rattle.aidl_base.specs.declared.limit.LimitName.TheVariants.{TextBytes}
+use Rattle.aidl_base.specs.declared.profile.Profile.{Profile}
+use Rattle.aidl_base.specs.declared.source_file.SourceFile.{SourceFile}
+use Rattle.aidl_outside.specs.Files.{Files}
+use Rattle.aidl_schema.specs.Broken.{broken}
+use Rattle.aidl_schema.specs.declared.schema.Decl.{Decl}
+use Rattle.aidl_tool.specs.Asking.{AskAnswers, AsksFile, AsksHash, AsksOver, AsksParcel, AsksVersion, Words}
+use Rattle.aidl_tool.specs.Explaining.{ExplainAnswers, ExplainsFile}
+use Rattle.aidl_tool.specs.InTree.{Checked, InTree}
+use Rattle.aidl_tool.specs.Meant.{CheckAnswers, DecodeAnswers, DecodesFile, EncodeAnswers, EncodesFile, JudgeAnswers, JudgesSecond, VerifyAnswers}
+use Rattle.aidl_tool.specs.Replaying.{ReplayAnswers, ReplaysFile, ReplaysLoaded, trace_within}
+use Rattle.api_versions.specs.Versions.{version_folder, versions_at}
+use Rattle.api_versions.specs.declared.fault.FreezeFault.{FreezeFault}
+use Rattle.api_versions.specs.declared.fault.FreezeFault.TheVariants as fault
+use Rattle.api_versions.specs.declared.version.Version.{Version}
+use Rattle.ask_output.specs.Asked.{ask_answer}
+use Rattle.ask_output.specs.Versions.{version_found, whole_found}
+use Rattle.parcel_output.specs.Decode.{decode_answer}
+use Rattle.parcel_output.specs.Encode.{encode_answer}
+use Rattle.parcel_output.specs.Explain.{explain_answer}
+use Rattle.parcel_output.specs.Refusals.{parcel_of}
+use Rattle.replay_output.specs.Replaying.{replay_answer}
+use Rattle.tool_frame.specs.Answer.{Answer, AsAnswer, Found, Then}
+use Rattle.tool_frame.specs.Refusals.{file_at, there}
+use Rattle.tool_frame.specs.Trees.{OverTree, TreeFile, tree_at}
+use Rattle.tree_output.specs.Checked.{IsCheckAnswer, accepted}
+use Rattle.tree_output.specs.Judged.{IsJudgeAnswer, IsSecondAnswer, judged}
+use Rattle.tree_output.proofs.lemmas.OneByTree.{by_files, by_found, by_over}
+use Rattle.version_output.specs.Lines.{bad_versions}
+use Rattle.version_output.specs.Verified.{IsUnread, IsVerified}
+
+abbrev Same : Answer → Answer → Type 0
+Same a b = a ≡ b
+
+one_refusal : (r a b : Answer) → a ≡ r → b ≡ r → a ≡ b
+one_refusal r a b h k = h ∙ sym k
+
+-- one step after another
+pub then_one : {X : Type 0} (next : X → Answer → Type 0) → ((x : X) (a b : Answer) → next x a → next x b → a ≡ b)
+    → (found : Found X) (a b : Answer) → Then found next a → Then found next b → a ≡ b
+then_one next one found = by_found Same AsAnswer AsAnswer one_refusal next next one found
+
+-- over the files of a tree
+pub over_one : (next : List SourceFile → Answer → Type 0) → ((files : List SourceFile) (a b : Answer) → next files a → next files b → a ≡ b)
+    → (tree : Found (List TreeFile)) (a b : Answer) → OverTree tree next a → OverTree tree next b → a ≡ b
+over_one next one tree = by_over Same AsAnswer AsAnswer one_refusal next next one tree
+
+-- by the schema of files
+pub checked_one : (next : List Decl → Answer → Type 0) → ((S : List Decl) (a b : Answer) → next S a → next S b → a ≡ b)
+    → (root : List ℕ) (files : List SourceFile) (a b : Answer) → Checked root files next a → Checked root files next b → a ≡ b
+checked_one next one root files = by_files Same AsAnswer AsAnswer one_refusal next next one root files
+
+-- by what is found and the schema of the tree that the words name
+pub in_tree_one : {X : Type 0} (found : Found X) (by : X → List Decl → Answer) (tree : Option (List ℕ)) (files : Files) (a b : Answer)
+    → InTree tree files (λ schema. Then found (λ x. schema (λ S answer. answer ≡ by x S))) a
+    → InTree tree files (λ schema. Then found (λ x. schema (λ S answer. answer ≡ by x S))) b → a ≡ b
+in_tree_one found by None files =
+    then_one (λ x answer. answer ≡ by x []) (λ x a b h k. h ∙ sym k) found
+in_tree_one found by (Some root) files =
+    over_one (λ sources. Then found (λ x. Checked root sources (λ S answer. answer ≡ by x S)))
+    (λ sources. then_one (λ x. Checked root sources (λ S answer. answer ≡ by x S))
+    (λ x. checked_one (λ S answer. answer ≡ by x S) (λ S a b h k. h ∙ sym k) root sources) found)
+    (tree_at files root)
+
+-- `decode [--lenient] [--tree TREE] TYPES FILE`
+pub one_decode : (p : Profile) (tree : Option (List ℕ)) (types path : List ℕ) (files : Files) (a b : Answer)
+    → DecodeAnswers p tree types path files a → DecodeAnswers p tree types path files b → a ≡ b
+one_decode p tree types path files =
+    then_one (DecodesFile p tree types files) (λ file. in_tree_one (parcel_of file) (λ parcel S. decode_answer p S types parcel) tree files)
+    (there path (file_at TextBytes files path))
+
+-- `encode [--tree TREE] TYPES FILE`
+pub one_encode : (tree : Option (List ℕ)) (types path : List ℕ) (files : Files) (a b : Answer)
+    → EncodeAnswers tree types path files a → EncodeAnswers tree types path files b → a ≡ b
+one_encode tree types path files =
+    then_one (EncodesFile tree types files) (λ file. in_tree_one file (λ text S. encode_answer S types text) tree files)
+    (there path (file_at TextBytes files path))
+
+-- `check TREE`
+pub one_check : (root : List ℕ) (files : Files) (a b : Answer) → CheckAnswers root files a → CheckAnswers root files b → a ≡ b
+one_check root files =
+    over_one (IsCheckAnswer root) (λ sources. checked_one (λ S a. a ≡ accepted S) (λ S a b h k. h ∙ sym k) root sources) (tree_at files root)
+
+-- `judge OLD NEW`
+pub one_judge : (old new : List ℕ) (files : Files) (a b : Answer) → JudgeAnswers old new files a → JudgeAnswers old new files b → a ≡ b
+one_judge old new files =
+    over_one (JudgesSecond old new files)
+    (λ olds. over_one (λ news. IsJudgeAnswer old olds new news)
+    (λ news. checked_one (λ A. IsSecondAnswer A new news) (λ A. checked_one (λ B a. a ≡ judged (broken A B)) (λ B a b h k. h ∙ sym k) new news) old olds)
+    (tree_at files new))
+    (tree_at files old)
+
+one_unread : (e : FreezeFault) (a b : Answer) → IsUnread e a → IsUnread e b → a ≡ b
+one_unread (fault.BadVersions missing) a b h k = h ∙ sym k
+one_unread (fault.Limit limit) a b h k = h ∙ sym k
+one_unread (fault.Torn version kept text) a b h k = absurd h
+one_unread (fault.Unreadable version files cause) a b h k = absurd h
+one_unread (fault.Unchanged version) a b h k = absurd h
+one_unread (fault.Incompatible rows) a b h k = absurd h
+one_unread fault.ReadFault a b h k = absurd h
+one_unread fault.WriteFault a b h k = absurd h
+one_unread fault.OutOfMemory a b h k = absurd h
+
+one_verified : (versions : Result (List Version) FreezeFault) (a b : Answer) → IsVerified versions a → IsVerified versions b → a ≡ b
+one_verified (Ok vs) a b h k = h ∙ sym k
+one_verified (Err e) a b h k = one_unread e a b h k
+
+-- `verify API`
+pub one_verify : (api : List ℕ) (files : Files) (a b : Answer) → VerifyAnswers api files a → VerifyAnswers api files b → a ≡ b
+one_verify api files = one_verified (versions_at files api)
+
+-- `explain [--tree TREE] TYPES FILE`
+pub one_explain : (tree : Option (List ℕ)) (types path : List ℕ) (files : Files) (a b : Answer)
+    → ExplainAnswers tree types path files a → ExplainAnswers tree types path files b → a ≡ b
+one_explain tree types path files =
+    then_one (ExplainsFile tree types files) (λ file. in_tree_one (parcel_of file) (λ parcel S. explain_answer S types parcel) tree files)
+    (there path (file_at TextBytes files path))
+
+-- `replay SERVER INTERFACE TRACE`
+pub one_replay : (server interface trace : List ℕ) (files : Files) (a b : Answer)
+    → ReplayAnswers server interface trace files a → ReplayAnswers server interface trace files b → a ≡ b
+one_replay server interface trace files =
+    then_one (ReplaysFile server interface files)
+    (λ held. over_one (ReplaysLoaded server interface held)
+    (λ sources. then_one (λ text. Checked server sources (λ S answer. answer ≡ replay_answer S interface text))
+    (λ text. checked_one (λ S answer. answer ≡ replay_answer S interface text) (λ S a b h k. h ∙ sym k) server sources)
+    (trace_within held))
+    (tree_at files server))
+    (there trace (file_at TextBytes files trace))
+
+module _ (w : Words) where
+  one_asked_hash : (parcel : List ℕ) (v : Version) (hash : List ℕ) (a b : Answer) → AsksHash w parcel v hash a → AsksHash w parcel v hash b → a ≡ b
+  one_asked_hash parcel v hash =
+      checked_one (λ S answer. answer ≡ ask_answer S w.version hash w.interface w.code parcel) (λ S a b h k. h ∙ sym k) (version_folder w.api w.version) v.files
+
+  one_asked_version : (parcel : List ℕ) (versions : List Version) (a b : Answer) → AsksVersion w parcel versions a → AsksVersion w parcel versions b → a ≡ b
+  one_asked_version parcel versions =
+      then_one (λ v. Then (whole_found v) (AsksHash w parcel v)) (λ v. then_one (AsksHash w parcel v) (one_asked_hash parcel v) (whole_found v))
+      (version_found w.version versions)
+
+  one_asked_file : (file : Found (List ℕ)) (versions : Found (List Version)) (a b : Answer) → AsksFile w file versions a → AsksFile w file versions b → a ≡ b
+  one_asked_file file versions =
+      then_one (AsksParcel w versions) (λ parcel. then_one (AsksVersion w parcel) (one_asked_version parcel) versions) (parcel_of file)
+
+  one_asked_over : (file : Found (List ℕ)) (versions : Result (List Version) FreezeFault) (a b : Answer)
+      → AsksOver w file versions a → AsksOver w file versions b → a ≡ b
+  one_asked_over file (Ok versions) a b h k = one_asked_file file (Ok versions) a b h k
+  one_asked_over file (Err (fault.BadVersions missing)) a b h k = one_asked_file file (Err (bad_versions missing)) a b h k
+  one_asked_over file (Err (fault.Limit limit)) a b h k = h ∙ sym k
+  one_asked_over file (Err (fault.Torn version kept text)) a b h k = absurd h
+  one_asked_over file (Err (fault.Unreadable version files cause)) a b h k = absurd h
+  one_asked_over file (Err (fault.Unchanged version)) a b h k = absurd h
+  one_asked_over file (Err (fault.Incompatible rows)) a b h k = absurd h
+  one_asked_over file (Err fault.ReadFault) a b h k = absurd h
+  one_asked_over file (Err fault.WriteFault) a b h k = absurd h
+  one_asked_over file (Err fault.OutOfMemory) a b h k = absurd h
+
+  -- `ask API N INTERFACE CODE FILE`
+  pub one_ask : (path : List ℕ) (files : Files) (a b : Answer) → AskAnswers w path files a → AskAnswers w path files b → a ≡ b
+  one_ask path files =
+      then_one (λ file. AsksOver w file (versions_at files w.api)) (λ file. one_asked_over file (versions_at files w.api)) (there path (file_at TextBytes files path))

@@ -1,0 +1,143 @@
+-- What the words mean is one thing at the most.
+use Rattle.std.proofs.Common.{◌≡◌, ℕ, Bool, List, [], ◌∷◌, map, Option, Some, None, refl, sym, ap, ◌∙◌, subst}
+use Rattle.aidl_base.specs.declared.source_file.SourceFile.{SourceFile}
+use Rattle.aidl_base.specs.declared.profile.Profile.{Profile}
+use Rattle.aidl_outside.specs.Files.{Files}
+use Rattle.aidl_outside.specs.Writes.{Write}
+use Rattle.aidl_schema.specs.declared.schema.Decl.{Decl}
+use Rattle.aidl_base.specs.declared.limit.LimitName.TheVariants.{TextBytes}
+use Rattle.aidl_tool.specs.Meant.{meaning, meant_by}
+use Rattle.aidl_tool.specs.Making.{AreMade, MakeTakes, new_root, old_root}
+use Rattle.aidl_tool.specs.OneMeaning.{IsOne, IsOneAct, MeansOne}
+use Rattle.aidl_tool.specs.Running.{RunTakes, RunsLoaded, TakesChecked, TakesOver, TakesThen, calls_within}
+use Rattle.aidl_tool.proofs.ones.Acting.{one_dump, one_freeze, one_rehash}
+use Rattle.aidl_tool.proofs.ones.Answers.{one_ask, one_check, one_decode, one_encode, one_explain, one_judge, one_replay, one_verify}
+use Rattle.aidl_tool.proofs.ones.Witnessing.{one_witness}
+use Rattle.make_output.specs.Making.{make_course}
+use Rattle.parcel_output.specs.Decode.{profile_of}
+use Rattle.run_output.specs.Running.{run_course}
+use Rattle.tool_frame.specs.Acts.{Acts, acts_by}
+use Rattle.tool_frame.specs.Answer.{Answer, Found}
+use Rattle.tool_frame.specs.Course.{AtOnce, Course, answer_after, due_after}
+use Rattle.tool_frame.specs.Meaning.{does_by, reads_by}
+use Rattle.tool_frame.specs.Refusals.{file_at, there}
+use Rattle.tool_frame.specs.Trees.{TreeFile, file_seen, tree_at}
+use Rattle.tool_words.specs.Command.{Command, decode, encode, check, dump, freeze, verify, rehash, judge, witness, run, make, ask, explain, replay}
+use Rattle.tree_make.specs.Made.{File, calls_text, file_seen as made_seen, new_files, old_files}
+use Rattle.tree_output.proofs.lemmas.OneByTree.{by_files, by_found, by_over, same_files}
+
+-- of a command that reads
+one_reading : (answers : Files → Answer → Type 0) → ((files : Files) (a b : Answer) → answers files a → answers files b → a ≡ b) → IsOne (reads_by answers)
+one_reading answers one = record {
+  writes = λ files v w h k. h ∙ sym k;
+  due = λ files entries p q h k. h ∙ sym k;
+  answers = λ files entries a b h k. one files a b h k;
+}
+
+-- of a command that writes
+one_acting : (acts : Files → Acts) → IsOneAct acts → IsOne (acts_by acts)
+one_acting acts one = record {
+  writes = λ files v w h k. (one files v w h.0 k.0 h.1 k.1).0;
+  due = λ files entries p q h k. h ∙ sym k;
+  answers = λ files entries a b h k. (one files h.0 k.0 a b h.1 k.1).1;
+}
+
+-- of a command that may write and carries
+one_doing : (writes : Files → List Write → Type 0) (takes : Files → Course → Type 0)
+    → ((files : Files) (v w : List Write) → writes files v → writes files w → v ≡ w)
+    → ((files : Files) (c d : Course) → takes files c → takes files d → c ≡ d) → IsOne (does_by writes takes)
+one_doing writes takes wrote one = record {
+  writes = wrote;
+  due = λ files entries p q h k. h.2 ∙ ap (λ c. due_after c entries) (one files h.0 k.0 h.1 k.1) ∙ sym k.2;
+  answers = λ files entries a b h k. h.2 ∙ ap (λ c. answer_after c entries) (one files h.0 k.0 h.1 k.1) ∙ sym k.2;
+}
+
+abbrev Same : Course → Course → Type 0
+Same c d = c ≡ d
+
+at_once_one : (r : Answer) (c d : Course) → AtOnce r c → AtOnce r d → c ≡ d
+at_once_one r c d h k = h ∙ sym k
+
+-- one step after another
+takes_then : {X : Type 0} (next : X → Course → Type 0) → ((x : X) (c d : Course) → next x c → next x d → c ≡ d)
+    → (found : Found X) (c d : Course) → TakesThen found next c → TakesThen found next d → c ≡ d
+takes_then next one found = by_found Same AtOnce AtOnce at_once_one next next one found
+
+-- over the files of a tree
+takes_over : (next : List SourceFile → Course → Type 0) → ((files : List SourceFile) (c d : Course) → next files c → next files d → c ≡ d)
+    → (tree : Found (List TreeFile)) (c d : Course) → TakesOver tree next c → TakesOver tree next d → c ≡ d
+takes_over next one tree = by_over Same AtOnce AtOnce at_once_one next next one tree
+
+-- by the schema of files
+takes_checked : (next : List Decl → Course → Type 0) → ((S : List Decl) (c d : Course) → next S c → next S d → c ≡ d)
+    → (root : List ℕ) (files : List SourceFile) (c d : Course) → TakesChecked root files next c → TakesChecked root files next d → c ≡ d
+takes_checked next one root files = by_files Same AtOnce AtOnce at_once_one next next one root files
+
+-- by the schemas of two trees, of which there is one course
+takes_both : (course : List Decl → List Decl → Course) (first second : List ℕ) (olds news : List SourceFile) (c d : Course)
+    → TakesChecked first olds (λ A. TakesChecked second news (λ B x. x ≡ course A B)) c
+    → TakesChecked first olds (λ A. TakesChecked second news (λ B x. x ≡ course A B)) d → c ≡ d
+takes_both course first second olds news =
+    takes_checked (λ A. TakesChecked second news (λ B x. x ≡ course A B))
+    (λ A. takes_checked (λ B x. x ≡ course A B) (λ B c d h k. h ∙ sym k) second news) first olds
+
+-- `run [--trace] [--lenient] CLIENT SERVER CALLS`
+one_run : (p : Profile) (trace : Bool) (client server calls : List ℕ) (files : Files) (c d : Course)
+    → RunTakes p trace client server calls files c → RunTakes p trace client server calls files d → c ≡ d
+one_run p trace client server calls files =
+    takes_then (λ held. TakesOver (tree_at files client) (λ olds. TakesOver (tree_at files server) (λ news. RunsLoaded p trace client olds server news held)))
+    (λ held. takes_over (λ olds. TakesOver (tree_at files server) (λ news. RunsLoaded p trace client olds server news held))
+    (λ olds. takes_over (λ news. RunsLoaded p trace client olds server news held)
+    (λ news. takes_then (λ text. TakesChecked client olds (λ A. TakesChecked server news (λ B c. c ≡ run_course p A B trace text)))
+    (λ text. takes_both (λ A B. run_course p A B trace text) client server olds news)
+    (calls_within held))
+    (tree_at files server))
+    (tree_at files client))
+    (there calls (file_at TextBytes files calls))
+
+-- files with the same paths and bytes
+as_tree : (f g : SourceFile) → made_seen f ≡ made_seen g → file_seen f ≡ file_seen g
+as_tree f g e = ap (λ (m : File). let t : TreeFile = record { path = m.path; bytes = m.bytes } in t) e
+
+as_trees : (fs gs : List SourceFile) → map made_seen fs ≡ map made_seen gs → map file_seen fs ≡ map file_seen gs
+as_trees [] [] e = refl
+as_trees (f ∷ fs) [] e = cc
+as_trees [] (g ∷ gs) e = cc
+as_trees (f ∷ fs) (g ∷ gs) e =
+    let first : made_seen f ≡ made_seen g = cc in
+    let others : map made_seen fs ≡ map made_seen gs = cc in
+    ap (λ t. t ∷ map file_seen fs) (as_tree f g first) ∙ ap (λ ts. file_seen g ∷ ts) (as_trees fs gs others)
+
+one_made : (made : List File) (fs gs : List SourceFile) → AreMade fs made → AreMade gs made → fs ≡ gs
+one_made made fs gs h k = same_files fs gs (as_trees fs gs (h ∙ sym k))
+
+-- `make N OUT`
+one_make : (n : ℕ) (out : List ℕ) (c d : Course) → MakeTakes n out c → MakeTakes n out d → c ≡ d
+one_make n out c d (news, olds, new, old, h) (others, older, newer, oldest, k) =
+    takes_both (λ B A. make_course A B (calls_text n)) (new_root out) (old_root out) others older c d
+    (subst (λ (fs : List SourceFile). TakesChecked (new_root out) fs (λ B. TakesChecked (old_root out) older (λ A c. c ≡ make_course A B (calls_text n))) c)
+    (one_made (new_files n) news others new newer)
+    (subst (λ (fs : List SourceFile). TakesChecked (new_root out) news (λ B. TakesChecked (old_root out) fs (λ A c. c ≡ make_course A B (calls_text n))) c)
+    (one_made (old_files n) olds older old oldest) h))
+    k
+
+one_meaning : (command : Command) → MeansOne (meaning command)
+one_meaning (decode lenient tree types path) = one_reading _ (one_decode (profile_of lenient) tree types path)
+one_meaning (encode tree types path) = one_reading _ (one_encode tree types path)
+one_meaning (check tree) = one_reading _ (one_check tree)
+one_meaning (judge old new) = one_reading _ (one_judge old new)
+one_meaning (verify api) = one_reading _ (one_verify api)
+one_meaning (dump tree out) = one_acting _ (one_dump tree out)
+one_meaning (freeze tree api) = one_acting _ (one_freeze tree api)
+one_meaning (rehash api) = one_acting _ (one_rehash api)
+one_meaning (run trace lenient client server calls) =
+    one_doing _ _ (λ files v w h k. h ∙ sym k) (one_run (profile_of lenient) trace client server calls)
+one_meaning (witness old new) = one_reading _ (one_witness old new)
+one_meaning (make count out) = one_doing _ _ (λ files v w h k. h ∙ sym k) (λ files. one_make count out)
+one_meaning (ask api version interface code file) = one_reading _ (one_ask (record { api = api; version = version; interface = interface; code = code }) file)
+one_meaning (explain tree types file) = one_reading _ (one_explain tree types file)
+one_meaning (replay server interface trace) = one_reading _ (one_replay server interface trace)
+
+pub means_one : (command : Option Command) → MeansOne (meant_by command)
+means_one None = tt
+means_one (Some command) = one_meaning command

@@ -1,0 +1,10 @@
+use Rattle.std.proofs.Common.{refl}
+use Rattle.aidl_tool.specs.Witnessing.{WitnessAnswers}
+use Rattle.tool_frame.proofs.lemmas.Endings.{ended_read}
+use Rattle.tool_frame.specs.Exit.{number_of}
+use Rattle.aidl_tool.proofs.witnessing.witness.Goals as goal
+
+pub returns : goal.returns
+returns g c =
+    let answered = c.answered-answered.ensures in
+    ended_read (WitnessAnswers c.args.old.now c.args.new.now) _ _ answered.unchanged refl refl refl (number_of c.end.result) _ answered.cause answered.answer c.end.ensures

@@ -1,0 +1,122 @@
+//! The command `explain`: the items of a parcel in a file, read by types.
+ghost use Rattle.std.specs.Prelude.{◌≡◌, [], IfOk};
+ghost use Rattle.aidl_outside.specs.Causes.{StoreCause};
+ghost use Rattle.aidl_outside.specs.Told.{Tells};
+ghost use Rattle.tool_words.specs.Seen.{tree_seen};
+ghost use Rattle.aidl_tool.specs.InTree.{Checked};
+ghost use Rattle.aidl_tool.specs.Explaining.{ExplainAnswers, ExplainsFile};
+ghost use Rattle.parcel_output.specs.Explain.{explain_answer};
+ghost use Rattle.parcel_output.specs.Refusals.{parcel_of};
+ghost use Rattle.tool_frame.specs.Answer.{Then};
+ghost use Rattle.tool_frame.specs.Ended.{Ended};
+ghost use Rattle.tool_frame.specs.Exit.{number_of};
+ghost use Rattle.tool_frame.specs.Meaning.{reads_by};
+ghost use Rattle.tool_frame.specs.Seen.{seen_by};
+ghost use Rattle.tool_frame.specs.Trees as frame;
+ghost use Rattle.tool_frame.specs.Results.{GivesOne, held};
+
+use aidl_base::{Limit, LimitName, Row, SourceFile};
+use aidl_outside::{Link, Sink, Store, StoreFault};
+use aidl_schema::Schema;
+use parcel_output::parcel_of;
+use std::alloc::Global;
+use tool_frame::{Early, Exit, Printed, end, existing_file, files_of, load, load_tree};
+use tree_output::check_tree;
+
+/// Runs `explain [--tree TREE] TYPES FILE`. The answer is the exit.
+pub fn explain<S: Store, K: Sink, L: Link>(
+    alloc: Global,
+    tree: Option<&str>,
+    types: &str,
+    path: &str,
+    store: &mut S,
+    sink: &mut K,
+    link: &L,
+) -> Exit
+    ensures { let seen = seen_by S.kept S.count K.told K.count L.log L.is_faithful L.count in
+        Ended (reads_by (ExplainAnswers (tree_seen tree.entry) types.now path.now)) (seen store.old sink.old link.now) (seen store.new sink.new link.now) (number_of result) }
+{
+    let answered = answered(alloc, tree, types, path, store);
+    end(alloc, answered, sink)
+}
+
+// What is answered of the store.
+fn answered<S: Store>(
+    alloc: Global,
+    tree: Option<&str>,
+    types: &str,
+    path: &str,
+    store: &mut S,
+) -> Result<Result<Printed, Early>, StoreFault>
+    ensures answer { IfOk result (λ given. Tells (S.kept store.old) (λ files. GivesOne given (ExplainAnswers (tree_seen tree.entry) types.now path.now files))) }
+    ensures unchanged { S.kept store.new ≡ S.kept store.old }
+    ensures cause { StoreCause (S.count store.old) (S.count store.new) result }
+{
+    let file = load(alloc, LimitName::TextBytes, path, store)?;
+    match existing_file(alloc, path, file) {
+        Ok(file) => answered_of(alloc, tree, types, file, store),
+        Err(early) => Ok(Err(early)),
+    }
+}
+
+// What is answered of a file that is there.
+fn answered_of<S: Store>(
+    alloc: Global,
+    tree: Option<&str>,
+    types: &str,
+    file: Result<Vec<u8>, Limit>,
+    store: &mut S,
+) -> Result<Result<Printed, Early>, StoreFault>
+    ensures answer { IfOk result (λ given. Tells (S.kept store.old) (λ files. GivesOne given (ExplainsFile (tree_seen tree.entry) types.now files (held file)))) }
+    ensures unchanged { S.kept store.new ≡ S.kept store.old }
+    ensures cause { StoreCause (S.count store.old) (S.count store.new) result }
+{
+    match tree {
+        None => Ok(answer_alone(alloc, types, file)),
+        Some(root) => {
+            let tree = load_tree(alloc, root, store)?;
+            Ok(answer_in(alloc, root, tree, types, file))
+        }
+    }
+}
+
+// What is answered of the file without a tree.
+#[tactic(auto, using(tool_frame::proofs::lemmas::EarlyEnds::then_ends, tool_frame::proofs::lemmas::EarlyEnds::then_goes, tool_frame::proofs::lemmas::Endings::gives_one))]
+fn answer_alone(alloc: Global, types: &str, file: Result<Vec<u8>, Limit>) -> Result<Printed, Early>
+    ensures { GivesOne result (Then (parcel_of (held file)) (λ parcel answer. answer ≡ explain_answer [] types.now parcel)) }
+{
+    let parcel = parcel_of(alloc, file)?;
+    let schema = Schema::empty(alloc);
+    parcel_output::explain(alloc, &schema, types, parcel.as_slice())
+}
+
+// What is answered of the file in a tree that was loaded.
+#[tactic(auto, using(tool_frame::proofs::lemmas::EarlyEnds::over_ends, tool_frame::proofs::lemmas::EarlyEnds::over_goes))]
+fn answer_in(
+    alloc: Global,
+    root: &str,
+    tree: Result<Row<SourceFile>, Limit>,
+    types: &str,
+    file: Result<Vec<u8>, Limit>,
+) -> Result<Printed, Early>
+    ensures { GivesOne result (frame.OverTree (frame.tree_seen tree) (λ sources. Then (parcel_of (held file)) (λ parcel. Checked root.now sources (λ S answer. answer ≡ explain_answer S types.now parcel)))) }
+{
+    let files = files_of(alloc, tree)?;
+    answer_of_files(alloc, root, files, types, file)
+}
+
+// What is answered of the file by the files of a tree.
+#[tactic(auto, using(tool_frame::proofs::lemmas::EarlyEnds::then_ends, tool_frame::proofs::lemmas::EarlyEnds::then_goes, crate::proofs::schemas::Checks::checked_ends, crate::proofs::schemas::Checks::checked_goes))]
+fn answer_of_files(
+    alloc: Global,
+    root: &str,
+    files: Row<SourceFile>,
+    types: &str,
+    file: Result<Vec<u8>, Limit>,
+) -> Result<Printed, Early>
+    ensures { GivesOne result (Then (parcel_of (held file)) (λ parcel. Checked root.now files (λ S answer. answer ≡ explain_answer S types.now parcel))) }
+{
+    let parcel = parcel_of(alloc, file)?;
+    let schema = check_tree(alloc, root, files)?;
+    parcel_output::explain(alloc, &schema, types, parcel.as_slice())
+}
