@@ -8,10 +8,11 @@ use std::alloc::Global;
 use std::io::ErrorKind;
 use std::{fs, io};
 
-const FILES: [&str; 18] = [
+const FILES: [&str; 25] = [
     "words.rows",
     "decode.rows",
     "encode.rows",
+    "explain.rows",
     "lexer.rows",
     "parser.rows",
     "constants.rows",
@@ -25,8 +26,14 @@ const FILES: [&str; 18] = [
     "versions.rows",
     "dumps.rows",
     "freezing.rows",
+    "ask.rows",
     "calls.rows",
+    "tampered.rows",
     "headline.rows",
+    "replay.rows",
+    "make.rows",
+    "witness.rows",
+    "failing.rows",
 ];
 
 fn main(rt: HostRuntime) -> io::Result<()> {
