@@ -1,7 +1,7 @@
 #!/bin/sh
-# Runs the program on the arguments, in the caller's folder and with the program's exit status. Where a source is newer than
-# the program it is built first, and standard error names each crate that is proved; a build that was cut off goes on where
-# it was. Exit 9 where the build fails, with its messages on standard error.
+# Runs the program on the arguments, in the caller's folder. What is printed and the exit are the program's own; standard error says what an
+# odd exit means, and which folder isn't there. Where a source is newer than the program it is built first, and standard error names each
+# crate that is proved; a build that was cut off goes on where it was. Exit 9 where the build fails, with its messages on standard error.
 top=$(CDPATH='' cd -- "$(dirname -- "$(readlink -f -- "$0")")" && pwd) || exit 9
 program=$top/crates/aidl/out/aidl
 
@@ -55,9 +55,69 @@ build() (
     touch -r crates.txt crates/aidl/out/aidl && mkdir -p "${program%/*}" && mv crates/aidl/out/aidl "$program"
 )
 
+# What the words may be.
+commands() {
+    cat <<'END'
+    check TREE                                        the faults of a tree
+    judge OLD NEW                                     which rules of evolution NEW breaks
+    witness OLD NEW                                   the same, each with a call that shows it
+    freeze TREE API                                   writes the next version
+    verify API                                        whether the versions are as they were frozen
+    rehash API                                        writes the hashes anew
+    dump TREE OUT                                     writes the canonical dump
+    run [--trace] [--lenient] CLIENT SERVER CALLS     calls between two versions
+    decode [--lenient] [--tree TREE] TYPES FILE       the values of a parcel
+    encode [--tree TREE] TYPES FILE                   the bytes of values
+    explain [--tree TREE] TYPES FILE                  the items of a parcel, each with its place
+    replay SERVER INTERFACE TRACE                     the requests of a trace, answered again
+    ask API N INTERFACE CODE FILE                     one request to a frozen version
+    make N OUT                                        two trees and calls to try all on
+END
+}
+
+# What an exit means, and its usual causes.
+explain_exit() {
+    case $1 in
+        2) say "these words are no command; docs/PROGRAM.md says more of these:" && commands >&2 ;;
+        3) say "a call to the file system failed: a folder where a file is wanted, no right to read or write, a file name that isn't UTF-8, a full disk" ;;
+        4) say "printing failed: a closed pipe or a full disk; what was printed is cut off" ;;
+        5) say "there was no memory left; what was printed may be cut off" ;;
+        6) say "a parcel couldn't be carried" ;;
+        7) say "a limit was passed, the one that is printed; docs/PROFILE.md has them all" ;;
+        8) say "the system didn't hand out the words: they have to be UTF-8" ;;
+    esac
+}
+
+# Says of a folder that is to be read that it isn't there.
+want_folder() {
+    [ -d "$1" ] || say "there is no folder $1; it is read as an empty one, and that is no fault"
+}
+
+# The same of each folder that the words of a command name.
+want_folders() {
+    case $1 in
+        check | dump | freeze | verify | rehash | replay | ask) want_folder "$2" ;;
+        judge | witness) want_folder "$2"; want_folder "$3" ;;
+        run)
+            shift
+            while [ "${1#--}" != "$1" ]; do shift; done
+            want_folder "$1"
+            want_folder "$2"
+            ;;
+        decode | encode | explain)
+            [ "$2" != --lenient ] || shift
+            [ "$2" != --tree ] || want_folder "$3"
+            ;;
+    esac
+}
+
 if ! is_current; then
-    command -v rt >/dev/null || { say "there is no rt: README.md says where it comes from"; exit 9; }
+    command -v rt >/dev/null || { say "there is no rt on the path: it is bin/rt of the Rattle kit (README.md, \"A look in two minutes\")"; exit 9; }
     say "building first, crate by crate; README.md says how long that takes"
     build || exit 9
 fi
-exec "$program" "$@"
+"$program" "$@"
+status=$?
+[ $status = 2 ] || want_folders "$@"
+explain_exit $status
+exit $status

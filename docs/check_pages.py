@@ -1,8 +1,14 @@
-"""Prints each file, crate or function that a page names in backticks and that isn't there, with page and line: files by name or path, a
-file of a crate (`Places.antt` of `parcel_words`), `crate::name`, and each word with an underscore, which has to stand somewhere in
-the code or in crates.txt. It says too where a page's count isn't what docs/definitions.py prints. Exit 1 if any.
+"""Prints, with page and line, what a page says and isn't so; exit 1 if anything.
 
-python3 docs/check_pages.py
+- A file, crate, function or clause that a page names in backticks and that isn't there: files by name or path, a file of a crate
+  (`Places.antt` of `parcel_words`), `crate::name`, a clause behind the word clause, each word with an underscore, which has to stand
+  somewhere in the code or in crates.txt, and the name of a page.
+- A piece of a block fenced as `antt`, between empty lines, that stands nowhere in the code, blanks and comments of the code's own aside.
+- A page's count that isn't what docs/definitions.py prints, and what that script and docs/layers.py refuse.
+- A command or a case that a page shows and of which the program prints something else (docs/page_commands.py). The pages of COMPARED have no
+  other commands.
+
+python3 docs/check_pages.py [PROGRAM]      PROGRAM is crates/aidl/out/aidl if none is named
 """
 
 import pathlib
@@ -10,10 +16,16 @@ import re
 import subprocess
 import sys
 
+import page_commands
+
 TOP = pathlib.Path(__file__).resolve().parent.parent
 PAGES = [TOP / "README.md", *sorted(TOP.glob("docs/*.md")), *sorted(TOP.glob("crates/*/data/README*"))]
+COMPARED = ["README.md", "CI.md", "CHECKS.md"]
 FILE = r"[\w./-]+\.(?:rt|antt|py|md|rows|edit|txt|calls|hex)|(?:crates|docs|examples|proofs|specs|src)/[\w./-]+"
-ELSEWHERE = {"state.hex", "decode_utf16", "json_lines", "aidl_interface", "versions_with_info"}  # named, and of no crate here
+# named, and neither a file that git keeps nor of a crate here
+ELSEWHERE = {"crates/aidl/out/aidl", "state.hex", "decode_utf16", "json_lines", "full"}
+ELSEWHERE |= {"aidl_interface", "aidl_api", "versions_with_info", "cpp_header", "structured_parcelable", "new_api"}
+CLAUSES = r"(?:ensures|requires|law) (\w+) \{"
 
 
 def named(line):
@@ -26,31 +38,91 @@ def named(line):
     return files, of_crates, pairs, words - ELSEWHERE
 
 
-def main():
-    inside = (path for path in TOP.rglob("*") if not {".git", "out", "__pycache__"} & set(path.parts))
-    paths = {f"/{path.relative_to(TOP)}" for path in inside}
-    sources = {path: (TOP / path[1:]).read_text() for path in paths if re.search(r"\.(rt|antt|py|txt|edit)$", path)}
-    known = set(re.findall(r"\w+", "\n".join(sources.values())))
-    crates = {name: "" for name in re.findall(r"^(\w+):", sources["/crates.txt"], re.M)}
-    for path in sources:
-        if path.endswith(".rt"):
-            crates[path.split("/")[2]] += sources[path]
-    wrong = []
+def clauses(line):
+    """The clauses that a line names, each with the crate of the function behind it, if one is named."""
+    for names, crate in re.findall(r"[Cc]lauses? ((?:`\w+`(?:, | and )?)+)(?: of (?:the public call )?`(\w+)::)?", line):
+        yield from ((name, crate) for name in re.findall(r"\w+", names.replace(" and ", " ")))
+
+
+def prose(page):
+    """The lines of a page with their numbers, those of fenced blocks empty."""
+    text = re.sub(r"^```.*?^```", lambda block: re.sub(r"[^\n]", "", block[0]), page.read_text(), flags=re.M | re.S)
+    return enumerate(text.splitlines(), 1)
+
+
+def squeezed(text):
+    return re.sub(r"\s+", "", text)
+
+
+class Names:
+    """What there is: the paths of files, the words of the code, and of each crate its code."""
+
+    def __init__(self):
+        inside = (path for path in TOP.rglob("*") if not {".git", "out", "__pycache__"} & set(path.parts))
+        self.paths = {f"/{path.relative_to(TOP)}" for path in inside}
+        sources = {path: (TOP / path[1:]).read_text() for path in self.paths if re.search(r"\.(rt|antt|py|txt|edit)$", path)}
+        self.code = "".join(squeezed(re.sub(r"^ *//.*\n", "", text, flags=re.M)) for text in sources.values())
+        self.known = set(re.findall(r"\w+", "\n".join(sources.values())))
+        self.crates = {name: "" for name in re.findall(r"^(\w+):", sources["/crates.txt"], re.M)}
+        for path in sources:
+            if path.endswith(".rt"):
+                self.crates[path.split("/")[2]] += sources[path]
+
+    def is_file(self, name, below="/"):
+        return any(path.startswith(below) and path.endswith(f"/{name}") for path in self.paths)
+
+    def is_clause(self, name, crate):
+        codes = [self.crates[crate]] if crate in self.crates else self.crates.values()
+        return any(name in re.findall(CLAUSES, code) for code in codes)
+
+    def lost(self, line):
+        """What a line names and isn't there."""
+        files, of_crates, pairs, words = named(line)
+        yield from (name for name in files - ELSEWHERE if not self.is_file(name))
+        yield from (f"{name} of {crate}" for name, crate in of_crates if not self.is_file(name, f"/crates/{crate}/"))
+        yield from (f"clause {name}" for name, crate in clauses(line) if name not in ELSEWHERE and not self.is_clause(name, crate))
+        yield from (f"{a}::{b}" for a, b in pairs if a in self.crates and not re.search(rf"\b(fn|mod) {b}\b", self.crates[a]))
+        yield from words - self.known
+
+
+def wrong_names():
+    names = Names()
     for page in PAGES:
-        prose = re.sub(r"^```.*?^```", lambda block: re.sub(r"[^\n]", "", block[0]), page.read_text(), flags=re.M | re.S)
-        for number, line in enumerate(prose.splitlines(), 1):
-            files, of_crates, pairs, words = named(line)
-            lost = {name for name in files - ELSEWHERE if not any(path.endswith(f"/{name}") for path in paths)}
-            for name, crate in of_crates:
-                if not any(path.startswith(f"/crates/{crate}/") and path.endswith(f"/{name}") for path in paths):
-                    lost.add(f"{name} of {crate}")
-            lost |= {f"{a}::{b}" for a, b in pairs if a in crates and not re.search(rf"\b(fn|mod) {b}\b", crates[a])}
-            wrong += [f"{page.relative_to(TOP)}:{number}: there is no {name}" for name in sorted(lost | (words - known))]
-    counted = subprocess.run([sys.executable, TOP / "docs/definitions.py"], capture_output=True, text=True, check=False)
+        for first, block in page_commands.blocks(page.read_text(), "antt"):
+            lost = [part for part in block.split("\n\n") if squeezed(part) not in names.code]
+            yield from (f"{page.relative_to(TOP)}:{first}: the code has no {part.strip()}" for part in lost)
+        for number, line in prose(page):
+            yield from (f"{page.relative_to(TOP)}:{number}: there is no {name}" for name in sorted(set(names.lost(line))))
+
+
+def run_script(name):
+    return subprocess.run([sys.executable, TOP / "docs" / name], capture_output=True, text=True, check=False)
+
+
+def wrong_counts():
+    counted = run_script("definitions.py")
+    yield from counted.stderr.splitlines()
+    yield from run_script("layers.py").stderr.splitlines()
     for page, part in (("PROVED", counted.stdout), ("ARCHITECTURE", counted.stdout.splitlines()[-1])):
         if part not in (TOP / f"docs/{page}.md").read_text():
-            wrong.append(f"docs/{page}.md: its count of lines isn't what docs/definitions.py prints")
-    print("\n".join(wrong) if wrong else f"{len(PAGES)} pages name nothing that isn't there")
+            yield f"docs/{page}.md: its count of lines isn't what docs/definitions.py prints"
+
+
+def wrong_commands(program):
+    for page in PAGES:
+        text = page.read_text()
+        yield from (f"{page.relative_to(TOP)}:{line}: {what}" for line, what in page_commands.wrong(text, program))
+        if page.name in COMPARED:
+            others = page_commands.blocks(text, "sh")
+            yield from (f"{page.relative_to(TOP)}:{line}: a block of commands that isn't compared" for line, _ in others)
+
+
+def main():
+    program = pathlib.Path(sys.argv[1] if sys.argv[1:] else TOP / "crates/aidl/out/aidl").resolve()
+    wrong = [*wrong_names(), *wrong_counts()]
+    wrong += wrong_commands(program) if program.is_file() else [f"{program} isn't built, so no command was tried"]
+    count = sum(page_commands.shown(page.read_text()) for page in PAGES)
+    print("\n".join(wrong) if wrong else f"{len(PAGES)} pages name nothing that isn't there, and {count} commands and cases print what is shown")
     sys.exit(bool(wrong))
 
 

@@ -1,0 +1,101 @@
+"""Runs what a page shows over a program, and compares what is printed.
+
+A block that is fenced as `console` has commands, each behind `$ `, and below each what it prints on standard output. The commands of a page
+run in one folder, with copies of the examples, of the script `aidl` with the program where it looks for it, and of the program in place
+of `try`. A block that is fenced as `trees` has cases as crates/worked_rows/data/README says, over which `check t` is run; one that is fenced
+as `rows` has cases that stand in crates/worked_rows/data/check.rows, with ` .. ` for what is left out of one.
+"""
+
+import pathlib
+import re
+import shutil
+import subprocess
+import tempfile
+
+TOP = pathlib.Path(__file__).resolve().parent.parent
+MARK = "\x01"
+WAITS = 60  # seconds for the commands of a page
+
+
+def blocks(text, kind):
+    """The blocks of this kind, each with the number of its first line."""
+    for block in re.finditer(rf"^```{kind}\n(.*?)^```", text, re.M | re.S):
+        yield text[: block.start(1)].count("\n") + 1, block[1]
+
+
+def commands(text):
+    """The commands of a page, each with its line and with what it is to print."""
+    for first, block in blocks(text, "console"):
+        for command in re.finditer(r"^\$ (.*)\n((?:(?!\$ ).*\n)*)", block, re.M):
+            yield first + block[: command.start()].count("\n"), command[1], command[2]
+
+
+def furnish(room, program):
+    """Makes the folder in which the commands of a page run."""
+    shutil.copytree(TOP / "examples", room / "examples")
+    shutil.copy(TOP / "aidl", room)
+    shutil.copy(TOP / "crates.txt", room)
+    built = room / "crates/aidl/out/aidl"
+    built.parent.mkdir(parents=True)
+    shutil.copy(program, built)
+    built.touch()
+    (room / "try").symlink_to(built)
+
+
+def printed(found, program):
+    """What these commands print, one after the other in one folder."""
+    with tempfile.TemporaryDirectory() as name:
+        furnish(pathlib.Path(name), program)
+        script = "\n".join(f"{{ {command}\n}}; printf '{MARK}'" for _, command, _ in found)
+        run = subprocess.run(["sh", "-c", script], cwd=name, stdout=-1, stderr=-3, timeout=WAITS, check=False)
+    return run.stdout.decode(errors="replace").split(MARK)[:-1]
+
+
+def wrong_commands(text, program):
+    """A line for each command that prints something else."""
+    found = list(commands(text))
+    texts = printed(found, program) if found else []
+    for (line, command, wanted), given in zip(found, texts + [""] * len(found)):
+        if wanted != given:
+            yield line, f"`{command}` prints {given!r}"
+
+
+def run_case(case, program):
+    """What `check t` prints over the files of a case, with its exit in front, as a row says it."""
+    with tempfile.TemporaryDirectory() as name:
+        for file in case.split(" || "):
+            path, source = file.split(": ", 1)
+            pathlib.Path(name, path).parent.mkdir(parents=True, exist_ok=True)
+            pathlib.Path(name, path).write_text(re.sub(r"\\x(..)", lambda byte: chr(int(byte[1], 16)), source))
+        run = subprocess.run([program, "check", "t"], cwd=name, capture_output=True, text=True, timeout=WAITS, check=False)
+    return " | ".join([str(run.returncode), *run.stdout.splitlines()])
+
+
+def row_of(case):
+    """The row of check.rows that a case is, with what is left out of it."""
+    rows = (TOP / "crates/worked_rows/data/check.rows").read_text().splitlines()
+    form = " .* ".join(map(re.escape, case.split(" .. ")))
+    return next((row for row in rows if re.fullmatch(form, row)), None)
+
+
+def wrong_cases(text, program):
+    """A line for each case that is no row where it has to be one, or of which something else is printed."""
+    for kind, whole in (("rows", row_of), ("trees", lambda case: case)):
+        for first, block in blocks(text, kind):
+            for number, case in enumerate(block.splitlines()):
+                files, _, wanted = (whole(case) or "").partition(" => ")
+                if not files:
+                    yield first + number, f"`{case}` is no row of check.rows"
+                elif run_case(files, program) != wanted:
+                    yield first + number, f"`{case}` isn't what the program prints"
+
+
+def wrong(text, program):
+    """What a page shows and the program doesn't print, each with its line."""
+    yield from wrong_commands(text, program)
+    yield from wrong_cases(text, program)
+
+
+def shown(text):
+    """How many commands and cases a page shows."""
+    return len(list(commands(text))) + sum(block.count("\n") for kind in ("rows", "trees") for _, block in blocks(text, kind))
