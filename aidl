@@ -79,7 +79,7 @@ END
 explain_exit() {
     case $1 in
         2) say "these words are no command; docs/PROGRAM.md says more of these:" && commands >&2 ;;
-        3) say "a call to the file system failed: a folder where a file is wanted, no right to read or write, a file name that isn't UTF-8, a full disk" ;;
+        3) say "a call to the file system failed: a folder where a file is wanted, no right to read or write, a link or a fifo below a folder, a file name that isn't UTF-8, a full disk" ;;
         4) say "printing failed: a closed pipe or a full disk; what was printed is cut off" ;;
         5) say "there was no memory left; what was printed may be cut off" ;;
         6) say "a parcel couldn't be carried" ;;

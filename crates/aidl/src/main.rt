@@ -31,7 +31,7 @@ fn words(rt: &HostRuntime) -> io::Result<Vec<String>> {
 
 // Runs the program over the host's folders and standard output.
 fn run(rt: &HostRuntime, words: &[String]) -> u8 {
-    let mut store = FolderStore::new(rt);
+    let mut store = FolderStore::new(rt, words);
     let mut sink = StdoutSink::new(rt);
     let mut link = PassLink::new();
     aidl(rt.alloc(), words, &mut store, &mut sink, &mut link)

@@ -5,7 +5,9 @@
 
 mod folder_store;
 mod host_fault;
+mod last_folder;
 mod list_folder;
+mod names;
 mod pass_link;
 mod read_file;
 mod stdout_sink;

@@ -10,7 +10,7 @@ use std::fs::{DirEntry, Files, ReadDir};
 use std::io::ErrorKind;
 
 // how many files and folders a listing has at most
-const MOST_ENTRIES: usize = 65_536;
+const MOST_ENTRIES: usize = 4_194_304;
 
 // What a walk through folders has met. The paths are relative to its root.
 #[derive(Drop)]
@@ -20,7 +20,7 @@ struct Walk {
     folders: Vec<String>,
     // how many files and folders there were so far
     entries: usize,
-    ghost few: { entries ≤ 65536 },
+    ghost few: { entries ≤ 4194304 },
 }
 
 /// The paths of all files below a folder, relative to it, sorted by bytes. A root that is missing or no folder has none; a

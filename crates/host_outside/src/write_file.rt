@@ -1,12 +1,12 @@
 //! Writing a file of the host.
 
 use crate::host_fault::HostFault;
-use std::fs::{File, Files};
+use std::fs;
+use std::fs::{File, Files, OpenOptions};
 use std::io::{ErrorKind, Write};
-use std::{fs, io};
 
-/// Sets the file at a path, and makes the folders that are missing on the way. Once the file is open, any fault is a
-/// failed call, since what stood there may be gone.
+/// Sets the file at a path whose folder is there. What stands there and isn't a file itself, as a link to one, is a failed
+/// call. Once the file is open, any fault is a failed call, since what stood there may be gone.
 pub fn write_file<R: Files>(runtime: &R, path: &str, bytes: &[u8]) -> Result<(), HostFault> {
     let mut file = create(runtime, path)?;
     match file.write_all(bytes) {
@@ -15,15 +15,22 @@ pub fn write_file<R: Files>(runtime: &R, path: &str, bytes: &[u8]) -> Result<(),
     }
 }
 
-// The file at the path, new or emptied.
-fn create<R: Files>(runtime: &R, path: &str) -> io::Result<R::File> {
-    match File::create(runtime, path) {
-        Err(fault) if fault.kind() == ErrorKind::NotFound => {
-            if let Some((folder, _)) = path.rsplit_once('/') {
-                fs::create_dir_all(runtime, folder)?;
-            }
-            File::create(runtime, path)
-        }
-        answer => answer,
+// The file at the path, new or emptied. A new one is made where nothing stands, not even a link.
+fn create<R: Files>(runtime: &R, path: &str) -> Result<R::File, HostFault> {
+    match OpenOptions::new()
+        .write(true)
+        .create_new(true)
+        .open(runtime, path)
+    {
+        Err(fault) if fault.kind() == ErrorKind::AlreadyExists => emptied(runtime, path),
+        answer => Ok(answer?),
+    }
+}
+
+fn emptied<R: Files>(runtime: &R, path: &str) -> Result<R::File, HostFault> {
+    if fs::symlink_metadata(runtime, path)?.is_file() {
+        Ok(File::create(runtime, path)?)
+    } else {
+        Err(HostFault::Failed)
     }
 }

@@ -26,6 +26,13 @@ fn below(alloc: Global, root: &str, path: &str) -> Result<String, Fail> {
     Ok(format!(in alloc; "{root}/{path}")?)
 }
 
+// A root as the one name that a store is given.
+fn named(alloc: Global, root: &str) -> Result<Vec<String>, Fail> {
+    let mut names = Vec::new(alloc);
+    names.push(String::from_str(alloc, root)?)?;
+    Ok(names)
+}
+
 fn listed<R: Files>(
     alloc: Global,
     store: &mut FolderStore<'_, R>,
@@ -39,7 +46,8 @@ fn listed<R: Files>(
 fn a_listing_is_sorted_by_whole_paths_and_leaves_links_out(rt: HostRuntime) -> Result<(), Fail> {
     let alloc = rt.alloc();
     let root = place(&rt, "listing")?;
-    let mut store = FolderStore::new(&rt);
+    let names = named(alloc, root.as_str())?;
+    let mut store = FolderStore::new(&rt, names.as_slice());
     assert_eq!(rt;
         listed(alloc, &mut store, root.as_str())?.as_str(),
         "[]",
@@ -76,7 +84,8 @@ fn a_listing_is_sorted_by_whole_paths_and_leaves_links_out(rt: HostRuntime) -> R
 fn a_write_replaces_what_stood_there(rt: HostRuntime) -> Result<(), Fail> {
     let alloc = rt.alloc();
     let root = place(&rt, "writing")?;
-    let mut store = FolderStore::new(&rt);
+    let names = named(alloc, root.as_str())?;
+    let mut store = FolderStore::new(&rt, names.as_slice());
     let path = below(alloc, root.as_str(), "x/y")?;
     assert_eq!(rt;
         store.read(alloc, path.as_str(), 9)?.is_none(),
@@ -105,7 +114,8 @@ fn a_write_replaces_what_stood_there(rt: HostRuntime) -> Result<(), Fail> {
 fn what_cannot_be_is_a_failed_call(rt: HostRuntime) -> Result<(), Fail> {
     let alloc = rt.alloc();
     let root = place(&rt, "failing")?;
-    let mut store = FolderStore::new(&rt);
+    let names = named(alloc, root.as_str())?;
+    let mut store = FolderStore::new(&rt, names.as_slice());
     let file = below(alloc, root.as_str(), "file")?;
     store.write(alloc, file.as_str(), b"1")?;
     let under = below(alloc, file.as_str(), "under")?;
@@ -141,7 +151,8 @@ fn what_cannot_be_is_a_failed_call(rt: HostRuntime) -> Result<(), Fail> {
 fn a_name_has_at_most_255_bytes(rt: HostRuntime) -> Result<(), Fail> {
     let alloc = rt.alloc();
     let root = place(&rt, "names")?;
-    let mut store = FolderStore::new(&rt);
+    let names = named(alloc, root.as_str())?;
+    let mut store = FolderStore::new(&rt, names.as_slice());
     let mut name = String::new(alloc);
     for _ in 0..255 {
         name.push('n')?;
@@ -168,7 +179,8 @@ fn a_name_has_at_most_255_bytes(rt: HostRuntime) -> Result<(), Fail> {
 fn a_folder_without_permission_is_a_failed_call(rt: HostRuntime) -> Result<(), Fail> {
     let alloc = rt.alloc();
     let root = place(&rt, "permission")?;
-    let mut store = FolderStore::new(&rt);
+    let names = named(alloc, root.as_str())?;
+    let mut store = FolderStore::new(&rt, names.as_slice());
     let shut = below(alloc, root.as_str(), "shut")?;
     fs::create_dir_all(&rt, shut.as_str())?;
     let mut permissions = fs::metadata(&rt, shut.as_str())?.permissions();
