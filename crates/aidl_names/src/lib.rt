@@ -6,6 +6,7 @@ mod duplicates;
 mod fault;
 mod files;
 mod imports;
+mod laws;
 mod limits;
 mod names;
 mod order;
@@ -13,6 +14,7 @@ mod rows;
 mod types;
 
 pub use fault::NameFault;
+pub use laws::law_in_order;
 pub use names::{Names, gather};
 pub use order::in_order;
 pub use rows::add_if;

@@ -1,18 +1,11 @@
 -- What a constant is as a value, one level at a time; and its size.
-use Rattle.std.proofs.Common.{◌≡◌, ℕ, suc, ◌+◌, max, Bool, true, false, List, [], ◌∷◌, map, refl, sym, ap, ◌∙◌}
+use Rattle.std.proofs.Common.{◌≡◌, ℕ, suc, ◌+◌, max, List, [], ◌∷◌, map, refl, sym, ap, ◌∙◌, subst}
 use Rattle.std.specs.Prelude.{sum}
-use Rattle.std.specs.List.{list_all}
 use Rattle.std.proofs.lemmas.List.Sums.{sum_by-cons}
-use Rattle.aidl_base.specs.declared.constant.Const.{Const, out-Const, map-Const}
+use Rattle.aidl_base.specs.declared.constant.Const.{Const, out-Const, roll-Const, map-Const, ind-Const, out-roll-Const}
 use Rattle.aidl_base.specs.declared.constant.Const.TheOpen.{Const-F}
 use Rattle.aidl_base.specs.declared.constant.Const.TheFolds.{fold_out-Const}
-use Rattle.aidl_schema.specs.declared.schema.Decl.{Decl}
-use Rattle.aidl_schema.specs.declared.schema.Base.{Base}
-use Rattle.aidl_schema.specs.declared.schema.AidlType.{AidlType}
-use Rattle.aidl_schema.specs.Constants.{is_single, is_constant_of, are_members, is_initializer_of}
 use Rattle.aidl_schema.specs.Sizes.{greatest_of, const_depth, const_depth_step, const_nodes, const_nodes_step}
-use Rattle.aidl_schema.specs.Types.{is_one}
-use Rattle.aidl_base.proofs.lemmas.Tests.{both}
 use Rattle.aidl_values.specs.Data.{Data, truth, number, text, seq, depth_of, greatest}
 use Rattle.aidl_values.specs.Default.{const_step, const_value}
 use Rattle.aidl_values.specs.Nodes.{nodes_of, nodes_in}
@@ -46,39 +39,25 @@ by_level c o e depth nodes = record {
   nodes = ap nodes_of (value_is c ∙ ap value_step e) ∙ nodes ∙ sym (fold_out-Const ℕ const_nodes_step c ∙ ap (λ p. const_nodes_step (map-Const Const ℕ const_nodes p)) e);
 }
 
-single_sized : (S : List Decl) (b : Base) (c : Const) (o : Const-F Const) → out-Const c ≡ o → is_single S b o ≡ true → IsSized c
-single_sized S b c (Const-F.Truth x) e h = by_level c (Const-F.Truth x) e refl refl
-single_sized S b c (Const-F.Number n) e h = by_level c (Const-F.Number n) e refl refl
-single_sized S b c (Const-F.Text x) e h = by_level c (Const-F.Text x) e refl refl
-single_sized S b c (Const-F.Members cs) e h = cc
+-- a level of constants that are sized
+module _ {X : Type 0} (pr : X → Const) (law : (x : X) → IsSized (pr x)) where
+  members_depth : (xs : List X) → greatest (items_of (map const_value (map pr xs))) ≡ greatest_of (map const_depth (map pr xs))
+  members_depth [] = refl
+  members_depth (x ∷ xs) =
+      ap (λ n. max n (greatest (items_of (map const_value (map pr xs))))) (law x).depth ∙ ap (λ n. max (const_depth (pr x)) n) (members_depth xs)
 
-members_depth : (S : List Decl) (b : Base) (cs : List Const) → list_all (λ m. is_constant_of S b m) cs ≡ true
-    → greatest (items_of (map const_value cs)) ≡ greatest_of (map const_depth cs)
-members_depth S b [] h = refl
-members_depth S b (c ∷ cs) h =
-    let two = both (is_constant_of S b c) (list_all (λ m. is_constant_of S b m) cs) h in
-    let first = (single_sized S b c (out-Const c) refl two.0).depth in
-    let others = members_depth S b cs two.1 in
-    ap (λ n. max n (greatest (items_of (map const_value cs)))) first ∙ ap (λ n. max (const_depth c) n) others
+  members_nodes : (xs : List X) → nodes_in (items_of (map const_value (map pr xs))) ≡ sum (map const_nodes (map pr xs))
+  members_nodes [] = refl
+  members_nodes (x ∷ xs) =
+      ap (λ n. n + nodes_in (items_of (map const_value (map pr xs)))) (law x).nodes ∙ ap (λ n. const_nodes (pr x) + n) (members_nodes xs)
+      ∙ sym (sum_by-cons (λ n. n) (const_nodes (pr x)) (map const_nodes (map pr xs)))
 
-members_nodes : (S : List Decl) (b : Base) (cs : List Const) → list_all (λ m. is_constant_of S b m) cs ≡ true
-    → nodes_in (items_of (map const_value cs)) ≡ sum (map const_nodes cs)
-members_nodes S b [] h = refl
-members_nodes S b (c ∷ cs) h =
-    let two = both (is_constant_of S b c) (list_all (λ m. is_constant_of S b m) cs) h in
-    let first = (single_sized S b c (out-Const c) refl two.0).nodes in
-    let others = members_nodes S b cs two.1 in
-    ap (λ n. n + nodes_in (items_of (map const_value cs))) first ∙ ap (λ n. const_nodes c + n) others ∙ sym (sum_by-cons (λ x. x) (const_nodes c) (map const_nodes cs))
+  at_level : (y : Const-F X) → IsSized (roll-Const (map-Const X Const pr y))
+  at_level (Const-F.Truth b) = by_level (roll-Const (Const-F.Truth b)) (Const-F.Truth b) (out-roll-Const (Const-F.Truth b)) refl refl
+  at_level (Const-F.Number n) = by_level (roll-Const (Const-F.Number n)) (Const-F.Number n) (out-roll-Const (Const-F.Number n)) refl refl
+  at_level (Const-F.Text x) = by_level (roll-Const (Const-F.Text x)) (Const-F.Text x) (out-roll-Const (Const-F.Text x)) refl refl
+  at_level (Const-F.Members xs) =
+      by_level (roll-Const (Const-F.Members (map pr xs))) (Const-F.Members (map pr xs)) (out-roll-Const (Const-F.Members (map pr xs))) (ap suc (members_depth xs)) (ap suc (members_nodes xs))
 
-list_sized : (S : List Decl) (b : Base) (c : Const) (o : Const-F Const) → out-Const c ≡ o → are_members (λ m. is_constant_of S b m) o ≡ true → IsSized c
-list_sized S b c (Const-F.Truth x) e h = cc
-list_sized S b c (Const-F.Number n) e h = cc
-list_sized S b c (Const-F.Text x) e h = cc
-list_sized S b c (Const-F.Members cs) e h = by_level c (Const-F.Members cs) e (ap suc (members_depth S b cs h)) (ap suc (members_nodes S b cs h))
-
-pub sized : (S : List Decl) (t : AidlType) (c : Const) → is_initializer_of S t c ≡ true → IsSized c
-sized S t c h = by (is_one t.shape) refl
-  where
-    by : (one : Bool) → is_one t.shape ≡ one → IsSized c
-    by true is = let k : is_constant_of S t.base c ≡ true = rw is at h in single_sized S t.base c (out-Const c) refl k
-    by false is = let k : are_members (λ m. is_constant_of S t.base m) (out-Const c) ≡ true = rw is at h in list_sized S t.base c (out-Const c) refl k
+pub sized : (c : Const) → IsSized c
+sized c = ind-Const (λ c. IsSized c) (λ x y e. subst (λ z. IsSized (roll-Const z)) e (at_level (λ s. s.0) (λ s. s.1) y)) c

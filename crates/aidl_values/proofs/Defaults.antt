@@ -52,7 +52,7 @@ record AreStarts (S : List Decl) (fs : List Field) (vs : Items) (depth nodes : �
 abbrev pub AreWhole : List Decl → List Field → Type 0
 AreWhole S fs = (list_all (λ f. is_field_type S f) fs ≡ true) × (list_all (λ f. has_initializer_of S f.ty f.initial) fs ≡ true)
 
-kind_parcelable : (k : Kind) (fs : List Field) → form_of_kind k ≡ form.parcelable fs → k ≡ Parcelable fs
+pub kind_parcelable : (k : Kind) (fs : List Field) → form_of_kind k ≡ form.parcelable fs → k ≡ Parcelable fs
 kind_parcelable (Parcelable gs) fs e = cc
 kind_parcelable (Union gs) fs e = cc
 kind_parcelable (Interface ms) fs e = cc
@@ -60,7 +60,7 @@ kind_parcelable (Enum backing.Byte es) fs e = cc
 kind_parcelable (Enum backing.Int es) fs e = cc
 kind_parcelable (Enum backing.Long es) fs e = cc
 
-kind_union : (k : Kind) (fs : List Field) → form_of_kind k ≡ form.union fs → k ≡ Union fs
+pub kind_union : (k : Kind) (fs : List Field) → form_of_kind k ≡ form.union fs → k ≡ Union fs
 kind_union (Union gs) fs e = cc
 kind_union (Parcelable gs) fs e = cc
 kind_union (Interface ms) fs e = cc
@@ -111,7 +111,7 @@ module _ (S : List Decl) (hold : AllHold S) where
         → suc (initial_size const_depth D o t) < k → suc (initial_size const_depth D o t) ≤ m
         → IsStart S t o (initial_or o (Z t)) (initial_size const_depth D o t) (initial_size const_nodes N o t)
     start t None is h lt le = let d = law t is lt le in record { initial_of = d.zero_of; typed_as = d.typed_as; depth_is = d.depth_is; nodes_are = d.nodes_are }
-    start t (Some c) is h lt le = let d = sized S t c h in record { initial_of = refl; typed_as = typed S hold t c h; depth_is = d.depth; nodes_are = d.nodes }
+    start t (Some c) is h lt le = let d = sized c in record { initial_of = refl; typed_as = typed S hold t c h; depth_is = d.depth; nodes_are = d.nodes }
 
     starts : (fs : List Field) → AreWhole S fs
         → suc (greatest_of (map (λ f. field_size const_depth D f) fs)) < k → suc (greatest_of (map (λ f. field_size const_depth D f) fs)) ≤ m

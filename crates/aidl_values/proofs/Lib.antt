@@ -1,5 +1,7 @@
 mod ConstValues
+mod Counted
 mod Defaults
+mod Ended
 mod Greatest
 mod Parts
 mod TypeTests

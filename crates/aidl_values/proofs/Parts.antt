@@ -49,7 +49,7 @@ module _ (S : List Decl) (hold : AllHold S) (steady : AreSteady S) where
       → initial_size const_depth (λ u. depth_within 32 S u) o t ≤ 31 → initial_size const_nodes (λ u. nodes_within 512 S u) o t ≤ 511
       → MatchOption o (IsZero S t v) (λ c. v ≡ const_value c) → IsSmall S t v
   of_type t (Some c) v is h shallow few same =
-      let size = sized S t c h in
+      let size = sized c in
       subst (λ x. IsSmall S t x) (sym same) (record { typed_as = typed S hold t c h; shallow = omega (arith, size.depth); few = omega (arith, size.nodes) })
   of_type t None v is h shallow few zero_of =
       let d = default_there S hold steady t is in

@@ -1,5 +1,6 @@
 pub mod Data
 pub mod Default
+pub mod Ends
 pub mod Fits
 pub mod HasType
 pub mod Nodes

@@ -8,8 +8,8 @@ mod value;
 
 pub use default::{default_of, initial_of, value_of};
 pub use laws::{
-    law_default_fits, law_initial_fits, law_one_default, law_small_defaults, law_sound,
-    law_typed_defaults,
+    law_counted_defaults, law_default_ends, law_default_fits, law_initial_fits, law_one_default,
+    law_shallow_defaults, law_small_defaults, law_sound, law_typed_defaults,
 };
 pub use typing::has_type;
 pub use value::{Answer, Value, depth};

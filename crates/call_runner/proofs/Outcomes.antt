@@ -1,23 +1,18 @@
 -- Over a link that delivers what was sent a call comes to its outcome.
-use Rattle.std.proofs.Common.{◌≡◌, ℕ, ◌+◌, ◌<◌, length, ◌==◌, Bool, true, false, cond, List, [], ◌∷◌, Option, Some, None, option_map, slice_get, Result, Ok, Err, ℤ, refl, sym, ap, ◌∙◌, subst, arith}
+use Rattle.std.proofs.Common.{◌≡◌, ℕ, ◌<◌, length, ◌==◌, Bool, true, false, cond, List, [], Option, Some, None, option_map, slice_get, Result, Ok, Err, ℤ, refl, sym, ap, ◌∙◌, subst, arith}
 use Rattle.std.specs.Prelude.{if◌then◌else◌}
-use Rattle.std.specs.List.{position, position_from}
 use Rattle.std.specs.Str.{encode_utf8_all}
 use Rattle.std.proofs.lemmas.Bool.Decides.{nat_tests}
-use Rattle.std.proofs.lemmas.Iterator.Adapters.{position_from-zero}
-use Rattle.std.proofs.lemmas.Slice.Eq.{bytes_eq-Decides}
-use Rattle.std.proofs.lemmas.Str.{encodes_same}
 use Rattle.aidl_base.specs.declared.profile.Profile.{Profile}
 use Rattle.aidl_schema.specs.declared.schema.Decl.{Decl}
 use Rattle.aidl_schema.specs.declared.schema.Kind.{Kind}
 use Rattle.aidl_schema.specs.declared.schema.Kind.TheVariants.{Interface, Parcelable, Union, Enum}
 use Rattle.aidl_schema.specs.declared.schema.Method.{Method}
 use Rattle.aidl_schema.specs.Find.{methods_at, methods_of_decl, number_of_name}
-use Rattle.aidl_schema.specs.Names.{name_of, methods_of}
-use Rattle.aidl_schema.specs.Same.{same_text}
+use Rattle.aidl_schema.specs.Names.{methods_of}
 use Rattle.aidl_values.specs.Data.{Items}
 use Rattle.stub_dispatch.specs.Sent.{sent_reply}
-use Rattle.call_runner.specs.Lines.{LineData, call_code, line_of, received_at, reply_at, reply_sent, reported, scripted}
+use Rattle.call_runner.specs.Lines.{call_code, line_of, received_at, reply_at, reply_sent, reported, scripted}
 use Rattle.call_runner.specs.Lines as lines
 use Rattle.call_runner.specs.Runs.{IsReplied, NamesOf, answer_by, methods_by, projected, seen_line, within_one}
 use Rattle.call_scripts.specs.Calls.{CallData, CallFits, TargetData, TargetFits, method_of_server}
@@ -28,31 +23,10 @@ use Rattle.wire_model.specs.Outcome as calls
 use Rattle.wire_model.specs.Receiver.{Received, left, called, stub, client}
 use Rattle.wire_model.specs.Requests.{AnswerFits, reply}
 use Rattle.wire_model.specs.Status.{unknown_transaction}
+use Rattle.wire_model.proofs.lemmas.NamedTexts.{number_declared}
 use Rattle.wire_model.proofs.lemmas.calls.Outcomes as found
 
 -- Without the server's interface
-
-same_from : {X : Type 0} (p q : X → Bool) → ((x : X) → p x ≡ q x) → (k : ℕ) (xs : List X) → position_from p k xs ≡ position_from q k xs
-same_from p q same k [] = refl
-same_from p q same k (x ∷ xs) = rw (same x, same_from p q same (k + 1) xs) refl
-
-same_position : {X : Type 0} (p q : X → Bool) → ((x : X) → p x ≡ q x) → (xs : List X) → position p xs ≡ position q xs
-same_position p q same xs = position_from-zero p xs ∙ same_from p q same 0 xs ∙ sym (position_from-zero q xs)
-
-same_test : (b c : Bool) → (b ≡ true → c ≡ true) → (c ≡ true → b ≡ true) → b ≡ c
-same_test true c f g = sym (f refl)
-same_test false true f g = g refl
-same_test false false f g = refl
-
--- texts are the same by their bytes
-by_bytes : (x y : List ℕ) → same_text (encode_utf8_all y) (encode_utf8_all x) ≡ same_text x y
-by_bytes x y = same_test (same_text (encode_utf8_all y) (encode_utf8_all x)) (same_text x y)
-    (λ e. (bytes_eq-Decides x y).1 (sym (encodes_same y x ((bytes_eq-Decides (encode_utf8_all y) (encode_utf8_all x)).0 e))))
-    (λ e. (bytes_eq-Decides (encode_utf8_all y) (encode_utf8_all x)).1 (ap encode_utf8_all (sym ((bytes_eq-Decides x y).0 e))))
-
--- the number of a name is that of the declaration of it
-pub number_declared : (S : List Decl) (x : List ℕ) → number_of_name S (encode_utf8_all x) ≡ declared_as S x
-number_declared S x = same_position (λ d. same_text (encode_utf8_all (name_of d)) (encode_utf8_all x)) (λ d. same_text x (name_of d)) (λ d. by_bytes x (name_of d)) S
 
 -- what is no interface has no methods
 no_methods : (S : List Decl) (k : ℕ) → is_interface S k ≡ false → methods_at S k ≡ []

@@ -1,10 +1,7 @@
 -- The numbers that the names of a call mean to the other side.
-use Rattle.std.proofs.Common.{◌≡◌, ℕ, ◌+◌, Bool, true, false, List, [], ◌∷◌, Option, Some, None, refl, sym, ap, ◌∙◌}
-use Rattle.std.specs.List.{position, position_from}
+use Rattle.std.proofs.Common.{◌≡◌, ℕ, List, Option, Some, None, refl, sym, ap, ◌∙◌}
 use Rattle.std.specs.Str.{encode_utf8_all}
-use Rattle.std.proofs.lemmas.Iterator.Adapters.{position_from-zero}
 use Rattle.std.proofs.lemmas.Slice.Eq.{bytes_eq-Decides}
-use Rattle.std.proofs.lemmas.Str.{encodes_same}
 use Rattle.aidl_schema.specs.declared.schema.Decl.{Decl}
 use Rattle.aidl_schema.specs.declared.schema.Method.{Method}
 use Rattle.aidl_schema.specs.Broken.{same_method}
@@ -14,30 +11,12 @@ use Rattle.aidl_schema.specs.Same.{same_text}
 use Rattle.json_writing.specs.Named.{bytes_of}
 use Rattle.wire_model.specs.Calls.{descriptor, name_of_decl}
 use Rattle.wire_model.specs.Outcome.{declared_as, method_like}
+use Rattle.wire_model.proofs.lemmas.NamedTexts.{by_bytes, number_declared, same_position}
 use Rattle.call_scripts.specs.Calls.{IsServer, method_of_server}
 use Rattle.call_scripts.specs.Names.{interface_named, method_named, position_named, target_named}
 use Rattle.call_scripts.specs.steps.Named.{IsWithin}
 use Rattle.aidl_base.proofs.lemmas.Lists.{position_within}
 use Rattle.call_scripts.proofs.lemmas.Methods.{found, number-named}
-
-same_from : {X : Type 0} (p q : X → Bool) → ((x : X) → p x ≡ q x) → (k : ℕ) (xs : List X) → position_from p k xs ≡ position_from q k xs
-same_from p q same k [] = refl
-same_from p q same k (x ∷ xs) = rw (same x, same_from p q same (k + 1) xs) refl
-
--- tests that agree find the same
-same_position : {X : Type 0} (p q : X → Bool) → ((x : X) → p x ≡ q x) → (xs : List X) → position p xs ≡ position q xs
-same_position p q same xs = position_from-zero p xs ∙ same_from p q same 0 xs ∙ sym (position_from-zero q xs)
-
-same_test : (b c : Bool) → (b ≡ true → c ≡ true) → (c ≡ true → b ≡ true) → b ≡ c
-same_test true c f g = sym (f refl)
-same_test false true f g = g refl
-same_test false false f g = refl
-
--- texts are the same by their bytes
-by_bytes : (x y : List ℕ) → same_text (encode_utf8_all y) (encode_utf8_all x) ≡ same_text x y
-by_bytes x y = same_test (same_text (encode_utf8_all y) (encode_utf8_all x)) (same_text x y)
-    (λ e. (bytes_eq-Decides x y).1 (sym (encodes_same y x ((bytes_eq-Decides (encode_utf8_all y) (encode_utf8_all x)).0 e))))
-    (λ e. (bytes_eq-Decides (encode_utf8_all y) (encode_utf8_all x)).1 (ap encode_utf8_all (sym ((bytes_eq-Decides x y).0 e))))
 
 -- the bytes of the descriptor are the name
 pub descriptor_bytes : (S : List Decl) (name : List ℕ) (i : ℕ) → interface_named S name ≡ Some i → encode_utf8_all (descriptor S i) ≡ name
@@ -47,8 +26,7 @@ descriptor_bytes S name i e =
 
 -- the interface of a name is the declaration of it
 declared : (B : List Decl) (x : List ℕ) (j : ℕ) → interface_named B (encode_utf8_all x) ≡ Some j → declared_as B x ≡ Some j
-declared B x j e =
-    sym (same_position (λ d. same_text (encode_utf8_all (name_of d)) (encode_utf8_all x)) (λ d. same_text x (name_of d)) (λ d. by_bytes x (name_of d)) B) ∙ number-named B (encode_utf8_all x) j e
+declared B x j e = sym (number_declared B x) ∙ number-named B (encode_utf8_all x) j e
 
 pub is_server : (A B : List Decl) (name : List ℕ) (i : ℕ) → interface_named A name ≡ Some i → IsServer A B i (interface_named B name)
 is_server A B name i e =

@@ -1,5 +1,5 @@
 -- Which method a text means, and which methods two schemas have under it (own). A text is in UTF-8.
-use Rattle.std.specs.Prelude.{ℕ, Bool, true, false, ◌==◌, if◌then◌else◌, List, [], ◌∷◌, Option, Some, None, option_map, option_and_then, slice_get}
+use Rattle.std.specs.Prelude.{ℕ, Bool, true, false, if◌then◌else◌, List, Option, Some, None, option_map, option_and_then, slice_get}
 use Rattle.std.specs.List.{position}
 use Rattle.aidl_schema.specs.declared.schema.Decl.{Decl}
 use Rattle.aidl_schema.specs.declared.schema.Kind.{Kind}
@@ -8,20 +8,7 @@ use Rattle.aidl_schema.specs.declared.schema.Method.{Method}
 use Rattle.aidl_schema.specs.Find.{methods_at, number_of_name}
 use Rattle.aidl_schema.specs.Same.{same_text}
 use Rattle.json_writing.specs.Named.{bytes_of}
-
--- the same with a byte before
-abbrev pub behind : ℕ → Option (List ℕ × List ℕ) → Option (List ℕ × List ℕ)
-behind c None = None
-behind c (Some p) = Some (c ∷ p.0, p.1)
-
-abbrev pub or_else : Option (List ℕ × List ℕ) → Option (List ℕ × List ℕ) → Option (List ℕ × List ℕ)
-or_else None later = later
-or_else (Some p) later = Some p
-
--- what stands before the last dot of a text, and what stands behind it
-abbrev pub at_last_dot : List ℕ → Option (List ℕ × List ℕ)
-at_last_dot [] = None
-at_last_dot (c ∷ rest) = or_else (behind c (at_last_dot rest)) (if c == 46 then Some ([], rest) else None)
+pub use Rattle.wire_model.specs.Dots.{at_last_dot}
 
 abbrev pub is_interface_kind : Kind → Bool
 is_interface_kind (Interface ms) = true

@@ -1,11 +1,10 @@
 -- *Script*: what a line of a calls file means between CLIENT's declarations A and SERVER's B, or its first refusal (own).
-use Rattle.std.specs.Prelude.{ℕ, nat_le, if◌then◌else◌, List, [], ◌∷◌, length, Option, Some, None, Ok, codes}
-use Rattle.std.specs.Str.{is_utf8}
+use Rattle.std.specs.Prelude.{ℕ, nat_le, List, [], ◌∷◌, length, Option, Some, None, Ok, codes}
 use Rattle.serde_json.specs.Data as json
 use Rattle.serde_json.specs.Find.{get_member}
-use Rattle.serde_json.specs.Read.{read as read_text}
 use Rattle.aidl_schema.specs.declared.schema.Decl.{Decl}
 use Rattle.aidl_values.specs.Data.{Items}
+use Rattle.json_values.specs.JsonText.{parsed_json}
 use Rattle.wire_model.specs.Calls.{arguments}
 use Rattle.wire_model.specs.Requests.{reply, request}
 use Rattle.call_scripts.specs.declared.refused.RefusedName.{RefusedName}
@@ -15,10 +14,6 @@ use Rattle.call_scripts.specs.Arguments.{args_from}
 use Rattle.call_scripts.specs.Calls.{CallData, TargetData}
 use Rattle.call_scripts.specs.Names.{Named, method_meant}
 use Rattle.call_scripts.specs.Refusal.{Judged, ◌>>=◌, refuse, unless, at_call, at_args, at_answer}
-
--- the value that `serde_json` reads; None where the line isn't UTF-8, or is no JSON text
-unfoldable pub json_of : List ℕ → Option json.Data
-json_of line = if is_utf8 line then read_text line else None
 
 -- what is there, or a refusal
 abbrev pub or_refuse : {A : Type 0} → RefusedName → List ℕ → Option A → Judged A
@@ -78,6 +73,6 @@ call_from A B ms = do
 -- *Script*: the refusals in their order
 unfoldable pub script : List Decl → List Decl → List ℕ → Judged CallData
 script A B line = do
-  j ← or_refuse NotJson [] (json_of line)  -- no JSON value
+  j ← or_refuse NotJson [] (parsed_json line)  -- no JSON value
   ms ← members_of j  -- no object
   call_from A B ms

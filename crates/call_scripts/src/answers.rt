@@ -15,11 +15,12 @@ ghost use Rattle.call_scripts.specs.Fits.{IsAnswerOf};
 ghost use Rattle.call_scripts.specs.Gives.{Gives};
 
 use crate::line::{check_keys, is_count, member_of, value_from};
-use crate::refused::{Fault, Place, RefusedName, refusal};
+use crate::refused::{Place, RefusedName, refusal};
 use crate::thrown::exception_from;
 use aidl_base::{OutOfMemory, Row};
 use aidl_schema::{AidlType, Arg, Schema};
 use aidl_values::{Answer, Value, default_of, law_default_fits};
+use json_values::Fault;
 use serde_json::{Map, Value as Json};
 use std::alloc::Global;
 use stub_dispatch::comes_back;
@@ -32,7 +33,7 @@ pub fn two_way_from(
     ty: Option<AidlType>,
     args: &[Arg],
     json: Option<&Json>,
-) -> Result<Answer, Fault>
+) -> Result<Answer, Fault<RefusedName>>
     requires returned { is_result_type schema.now.decls ty ≡ true }
     requires passed { list_all (λ a. is_passed_type schema.now.decls a.ty) args.now ≡ true }
     ensures gives { Gives answer_of result (meant.two_way_from schema.now.decls ty (outs_of args.now) (option_map (λ j. json_view j.now) json.entry)) }
@@ -51,7 +52,7 @@ fn object_from(
     ty: Option<AidlType>,
     args: &[Arg],
     members: &Map<String, Json>,
-) -> Result<Answer, Fault>
+) -> Result<Answer, Fault<RefusedName>>
     requires returned { is_result_type schema.now.decls ty ≡ true }
     requires passed { list_all (λ a. is_passed_type schema.now.decls a.ty) args.now ≡ true }
     ensures gives { Gives answer_of result (meant.object_from schema.now.decls ty (outs_of args.now) (members_view members.now.entries)) }
@@ -96,7 +97,7 @@ fn returned_from(
     args: &[Arg],
     returned: Option<&Json>,
     outs: Option<&Json>,
-) -> Result<Answer, Fault>
+) -> Result<Answer, Fault<RefusedName>>
     requires returned { is_result_type schema.now.decls ty ≡ true }
     requires passed { list_all (λ a. is_passed_type schema.now.decls a.ty) args.now ≡ true }
     ensures gives { Gives answer_of result (meant.returned_from schema.now.decls ty (outs_of args.now) (option_map (λ j. json_view j.now) returned.entry) (option_map (λ j. json_view j.now) outs.entry)) }
@@ -112,7 +113,7 @@ fn result_from(
     schema: &Schema,
     ty: Option<AidlType>,
     json: Option<&Json>,
-) -> Result<Option<Value>, Fault>
+) -> Result<Option<Value>, Fault<RefusedName>>
     requires { is_result_type schema.now.decls ty ≡ true }
     ensures gives { Gives optional_view result (meant.result_from schema.now.decls ty (option_map (λ j. json_view j.now) json.entry)) }
     ensures fits { IfOk result (λ v. ResultFits schema.now.decls ty (optional_view v)) }
@@ -145,7 +146,7 @@ fn outs_from(
     schema: &Schema,
     args: &[Arg],
     json: Option<&Json>,
-) -> Result<Row<Value>, Fault>
+) -> Result<Row<Value>, Fault<RefusedName>>
     requires { list_all (λ a. is_passed_type schema.now.decls a.ty) args.now ≡ true }
     ensures gives { Gives views result (meant.outs_from schema.now.decls (outs_of args.now) (option_map (λ j. json_view j.now) json.entry)) }
     ensures fits { IfOk result (λ vs. EachFits schema.now.decls (outs_of args.now) (views vs)) }
@@ -171,7 +172,7 @@ fn outs_of_types(
     schema: &Schema,
     types: &[AidlType],
     json: Option<&Json>,
-) -> Result<Row<Value>, Fault>
+) -> Result<Row<Value>, Fault<RefusedName>>
     requires { list_all (λ t. is_passed_type schema.now.decls t) types.now ≡ true }
     ensures gives { Gives views result (meant.outs_from schema.now.decls types.now (option_map (λ j. json_view j.now) json.entry)) }
     ensures fits { IfOk result (λ vs. EachFits schema.now.decls types.now (views vs)) }
@@ -210,7 +211,7 @@ fn values_from(
     schema: &Schema,
     types: &[AidlType],
     items: &[Json],
-) -> Result<Row<Value>, Fault>
+) -> Result<Row<Value>, Fault<RefusedName>>
     requires { length types.now ≡ length items.now }
     ensures gives { Gives views result (meant.values_from schema.now.decls 0 types.now (items_view items.now)) }
     ensures fits { IfOk result (λ vs. EachFits schema.now.decls types.now (views vs)) }

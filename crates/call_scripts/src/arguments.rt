@@ -13,10 +13,11 @@ ghost use Rattle.call_scripts.specs.steps.Lengths.{IsLengthWithin};
 ghost use Rattle.aidl_values.specs.Data.{null};
 
 use crate::line::{is_count, value_from};
-use crate::refused::{Fault, Place, RefusedName, refusal};
+use crate::refused::{Place, RefusedName, refusal};
 use aidl_base::Row;
 use aidl_schema::{Arg, Direction, Schema, is_array};
 use aidl_values::Value;
+use json_values::Fault;
 use serde_json::{Number, Value as Json};
 use std::alloc::Global;
 
@@ -30,7 +31,7 @@ pub fn args_from(
     schema: &Schema,
     args: &[Arg],
     json: Option<&Json>,
-) -> Result<Row<Value>, Fault>
+) -> Result<Row<Value>, Fault<RefusedName>>
     ensures gives { Gives views result (meant.args_from schema.now.decls args.now (option_map (λ j. json_view j.now) json.entry)) }
     ensures fit { IfOk result (λ vs. ArgumentsFit schema.now.decls args.now (views vs)) }
     ensures few { IfOk result (λ vs. sum_of_lengths args.now (views vs) ≤ 65536) }
@@ -47,7 +48,7 @@ fn counted_entries(
     schema: &Schema,
     args: &[Arg],
     items: &[Json],
-) -> Result<Row<Value>, Fault>
+) -> Result<Row<Value>, Fault<RefusedName>>
     ensures gives { Gives views result (meant.counted_entries schema.now.decls args.now (items_view items.now)) }
     ensures fit { IfOk result (λ vs. ArgumentsFit schema.now.decls args.now (views vs)) }
     ensures few { IfOk result (λ vs. sum_of_lengths args.now (views vs) ≤ 65536) }
@@ -64,7 +65,7 @@ fn entries_from(
     schema: &Schema,
     args: &[Arg],
     items: &[Json],
-) -> Result<Row<Value>, Fault>
+) -> Result<Row<Value>, Fault<RefusedName>>
     requires { length args.now ≡ length items.now }
     ensures gives { Gives views result (meant.entries_from schema.now.decls 0 0 args.now (items_view items.now)) }
     ensures fit { IfOk result (λ vs. ArgumentsFit schema.now.decls args.now (views vs)) }
@@ -98,7 +99,7 @@ fn entry_from(
     k: usize,
     arg: &Arg,
     json: &Json,
-) -> Result<Value, Fault>
+) -> Result<Value, Fault<RefusedName>>
     requires { sum ≤ 65536 }
     ensures gives { Gives view result (meant.entry_from schema.now.decls sum (at_entry k) arg.now (json_view json.now)) }
     ensures fits { IfOk result (λ v. ArgumentFits schema.now.decls arg.now (view v)) }
@@ -127,7 +128,7 @@ fn array_from(
     sum: u64,
     k: usize,
     json: &Json,
-) -> Result<Value, Fault>
+) -> Result<Value, Fault<RefusedName>>
     requires { sum ≤ 65536 }
     ensures gives { Gives view result (meant.array_from nullable sum (at_entry k) (json_view json.now)) }
     ensures length { IfOk result (λ v. IsLengthWithin nullable sum (view v)) }
@@ -139,7 +140,12 @@ fn array_from(
     }
 }
 
-fn length_from(alloc: Global, sum: u64, k: usize, number: &Number) -> Result<Value, Fault>
+fn length_from(
+    alloc: Global,
+    sum: u64,
+    k: usize,
+    number: &Number,
+) -> Result<Value, Fault<RefusedName>>
     requires { sum ≤ 65536 }
     ensures gives { Gives view result (meant.length_from sum (at_entry k) (as_integer (number_view number.now))) }
     ensures length { IfOk result (λ v. IsLengthWithin false sum (view v)) }
@@ -152,7 +158,7 @@ fn length_from(alloc: Global, sum: u64, k: usize, number: &Number) -> Result<Val
 }
 
 // Null, for an `out` argument of no array.
-fn null_from(alloc: Global, k: usize, json: &Json) -> Result<Value, Fault>
+fn null_from(alloc: Global, k: usize, json: &Json) -> Result<Value, Fault<RefusedName>>
     ensures gives { Gives view result (meant.null_from (at_entry k) (json_view json.now)) }
     ensures null { IfOk result (λ v. view v ≡ null) }
 {

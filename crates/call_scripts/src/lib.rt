@@ -13,5 +13,5 @@ mod script;
 mod thrown;
 
 pub use names::interface_named;
-pub use refused::{Fault, Place, Refused, RefusedName};
+pub use refused::{Place, Refused, RefusedName};
 pub use script::{Call, Script, Target, script_of};

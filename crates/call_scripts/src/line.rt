@@ -15,10 +15,10 @@ ghost use Rattle.call_scripts.specs.Refusal.{placed};
 ghost use Rattle.call_scripts.specs.Gives.{Gives, place_bytes};
 ghost use Rattle.call_scripts.specs.Keys.{seen_keys};
 
-use crate::refused::{Fault, Place, RefusedName, below, placed, refusal};
+use crate::refused::{Place, RefusedName, below, placed, refusal};
 use aidl_schema::{AidlType, Schema};
 use aidl_values::Value;
-use json_values::{from_json, key_step};
+use json_values::{Fault, from_json, key_step};
 use serde_json::{Map, Value as Json};
 use std::alloc::Global;
 
@@ -28,7 +28,7 @@ pub fn check_keys(
     known: &[&str],
     members: &Map<String, Json>,
     place: Place,
-) -> Result<(), Fault>
+) -> Result<(), Fault<RefusedName>>
     ensures { Gives (λ _. tt) result (all_known (place_bytes place) (unknown_in (seen_keys known.now) (members_view members.now.entries))) }
 {
     match unknown_key(known, members) {
@@ -86,7 +86,7 @@ pub fn value_from(
     ty: &AidlType,
     json: &Json,
     place: Place,
-) -> Result<Value, Fault>
+) -> Result<Value, Fault<RefusedName>>
     ensures gives { Gives view result (placed (place_bytes place) (from_json_of schema.now.decls 64 ty.now (json_view json.now))) }
     ensures fits { IfOk result (λ v. Fits schema.now.decls ty.now (view v)) }
 {

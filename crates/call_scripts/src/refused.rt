@@ -5,9 +5,9 @@ ghost use Rattle.json_values.specs.Gives as json;
 ghost use Rattle.call_scripts.specs.Refusal.{printed_name};
 ghost use Rattle.call_scripts.specs.Gives.{IsPlaced, IsRefusal, place_bytes};
 
-use aidl_base::{OutOfMemory, Text};
-use json_values::JsonFault;
-use std::alloc::{AllocError, AllocFailed, Global};
+use aidl_base::Text;
+use json_values::{Fault, JsonFault};
+use std::alloc::{AllocError, Global};
 
 /// Why a line of a calls file is refused.
 #[derive(Clone, Copy, Debug, PartialEq, Eq)]
@@ -55,43 +55,6 @@ pub struct Refused {
     pub at: Text,
 }
 
-/// Why no call is made of a line: its refusal, with the place, or want of memory.
-#[derive(Drop)]
-pub enum Fault {
-    Refused(RefusedName, String),
-    OutOfMemory,
-}
-
-impl From<OutOfMemory> for Fault {
-    ghost use Rattle.call_scripts.specs.declared.refused.Fault.TheVariants.{OutOfMemory as Lost};
-
-    ghost from_gives = { λ _ fault. fault ≡ Lost };
-
-    fn from(_fault: OutOfMemory) -> Fault {
-        Fault::OutOfMemory
-    }
-}
-
-impl From<AllocError> for Fault {
-    ghost use Rattle.call_scripts.specs.declared.refused.Fault.TheVariants.{OutOfMemory as Lost};
-
-    ghost from_gives = { λ _ fault. fault ≡ Lost };
-
-    fn from(_fault: AllocError) -> Fault {
-        Fault::OutOfMemory
-    }
-}
-
-impl<T: Drop> From<AllocFailed<T>> for Fault {
-    ghost use Rattle.call_scripts.specs.declared.refused.Fault.TheVariants.{OutOfMemory as Lost};
-
-    ghost from_gives = { λ _ fault. fault ≡ Lost };
-
-    fn from(_fault: AllocFailed<T>) -> Fault {
-        Fault::OutOfMemory
-    }
-}
-
 /// A place of a line. `Entry` and `Out` have a 0-based position.
 #[derive(Clone, Copy)]
 pub enum Place {
@@ -107,7 +70,7 @@ pub enum Place {
 }
 
 /// A refusal at a place.
-pub fn refusal(alloc: Global, name: RefusedName, place: Place) -> Fault
+pub fn refusal(alloc: Global, name: RefusedName, place: Place) -> Fault<RefusedName>
     ensures { IsRefusal name (place_bytes place) result }
 {
     match pointer(alloc, place) {
@@ -142,7 +105,7 @@ fn numbered(alloc: Global, front: &str, k: usize) -> Result<String, AllocError>
 }
 
 // The refusal of the JSON value at a place, as one of the line.
-pub fn placed(alloc: Global, place: Place, fault: JsonFault) -> Fault
+pub fn placed(alloc: Global, place: Place, fault: JsonFault) -> Fault<RefusedName>
     ensures { IsPlaced (place_bytes place) (json.refusal_of fault) result }
 {
     match fault {
@@ -158,7 +121,7 @@ pub fn placed(alloc: Global, place: Place, fault: JsonFault) -> Fault
 }
 
 // A refusal below a place.
-pub fn below(alloc: Global, name: RefusedName, place: Place, at: &str) -> Fault
+pub fn below(alloc: Global, name: RefusedName, place: Place, at: &str) -> Fault<RefusedName>
     ensures { IsRefusal name (place_bytes place ++ at.now) result }
 {
     match joined(alloc, place, at) {

@@ -20,10 +20,11 @@ use crate::json::json_in;
 use crate::laws::law_types;
 use crate::line::{check_keys, member_of};
 use crate::names::{Named, method_meant};
-use crate::refused::{Fault, Place, Refused, RefusedName, refusal};
+use crate::refused::{Place, Refused, RefusedName, refusal};
 use aidl_base::{OutOfMemory, Row, Text};
 use aidl_schema::Schema;
 use aidl_values::{Answer, Value};
+use json_values::Fault;
 use serde_json::{Map, Value as Json};
 use std::alloc::Global;
 use stub_dispatch::{Callee, Side, reply_length, request_length};
@@ -79,7 +80,12 @@ pub fn script_of(
 }
 
 #[tactic(auto, unfolding(crate::specs::Script::script))]
-fn call_in(alloc: Global, client: &Side<'_>, server: &Side<'_>, line: &[u8]) -> Result<Call, Fault>
+fn call_in(
+    alloc: Global,
+    client: &Side<'_>,
+    server: &Side<'_>,
+    line: &[u8],
+) -> Result<Call, Fault<RefusedName>>
     ensures gives { Gives call_of result (meant.script client.now server.now line.now) }
     ensures fits { IfOk result (λ c. CallFits client.now server.now (call_of c)) }
 {
@@ -96,7 +102,7 @@ fn call_from(
     client: &Side<'_>,
     server: &Side<'_>,
     members: &Map<String, Json>,
-) -> Result<Call, Fault>
+) -> Result<Call, Fault<RefusedName>>
     ensures gives { Gives call_of result (meant.call_from client.now server.now (members_view members.now.entries)) }
     ensures fits { IfOk result (λ c. CallFits client.now server.now (call_of c)) }
 {
@@ -127,7 +133,7 @@ fn named_from(
     client: &Schema,
     server: &Schema,
     json: Option<&Json>,
-) -> Result<Named, Fault>
+) -> Result<Named, Fault<RefusedName>>
     ensures gives { Gives named_data result (meant.named_from client.now.decls server.now.decls (option_map (λ j. json_view j.now) json.entry)) }
     ensures known { IfOk result (λ n. IsNamed client.now.decls server.now.decls n) }
 {
@@ -147,7 +153,7 @@ fn sent_from(
     side: &Side<'_>,
     named: &Named,
     json: Option<&Json>,
-) -> Result<Row<Value>, Fault>
+) -> Result<Row<Value>, Fault<RefusedName>>
     requires there { named.now.method < length (methods_at side.now named.now.interface) }
     ensures gives { Gives views result (meant.sent_from side.now named.now.interface named.now.method (option_map (λ j. json_view j.now) json.entry)) }
     ensures sent { IfOk result (λ vs. IsSent side.now named.now.interface named.now.method (views vs)) }
@@ -176,7 +182,7 @@ fn target_from(
     side: &Side<'_>,
     named: &Named,
     json: Option<&Json>,
-) -> Result<Option<Target>, Fault>
+) -> Result<Option<Target>, Fault<RefusedName>>
     requires within { IsWithin side.now named.now.server named.now.target }
     ensures gives { Gives (option_map target_of) result (meant.target_from side.now named.now.server named.now.target (option_map (λ j. json_view j.now) json.entry)) }
     ensures target { IfOk result (λ t. IsTarget side.now named.now.server named.now.target t) }
@@ -193,7 +199,11 @@ fn target_from(
 
 // The server's method and its answer, whose reply is small enough.
 #[tactic(auto, unfolding(crate::specs::Script::answered))]
-fn answered(alloc: Global, callee: &Callee<'_>, json: Option<&Json>) -> Result<Target, Fault>
+fn answered(
+    alloc: Global,
+    callee: &Callee<'_>,
+    json: Option<&Json>,
+) -> Result<Target, Fault<RefusedName>>
     ensures gives { Gives target_of result (meant.answered callee.now.decls callee.now.interface callee.now.method (option_map (λ j. json_view j.now) json.entry)) }
     ensures fits { IfOk result (λ t. IsAnswered callee.now.decls callee.now.interface callee.now.method t) }
 {
@@ -207,7 +217,11 @@ fn answered(alloc: Global, callee: &Callee<'_>, json: Option<&Json>) -> Result<T
 }
 
 // The answer of a method.
-fn answer_from(alloc: Global, callee: &Callee<'_>, json: Option<&Json>) -> Result<Answer, Fault>
+fn answer_from(
+    alloc: Global,
+    callee: &Callee<'_>,
+    json: Option<&Json>,
+) -> Result<Answer, Fault<RefusedName>>
     ensures gives { Gives answer_of result (answers.answer_from callee.now.decls callee.now.interface callee.now.method (option_map (λ j. json_view j.now) json.entry)) }
     ensures fits { IfOk result (λ a. IsAnswer callee.now.decls callee.now.interface callee.now.method (answer_of a)) }
 {
@@ -228,7 +242,7 @@ fn answer_from(alloc: Global, callee: &Callee<'_>, json: Option<&Json>) -> Resul
 }
 
 // Of a oneway method nothing may stand there.
-fn oneway_from(alloc: Global, json: Option<&Json>) -> Result<Answer, Fault>
+fn oneway_from(alloc: Global, json: Option<&Json>) -> Result<Answer, Fault<RefusedName>>
     ensures gives { Gives answer_of result (answers.oneway_from (option_map (λ j. json_view j.now) json.entry)) }
     ensures nothing { IfOk result (λ a. answer_of a ≡ returned None none) }
 {

@@ -9,9 +9,10 @@ ghost use Rattle.call_scripts.specs.steps.Exceptions as steps;
 ghost use Rattle.call_scripts.specs.steps.Exceptions.{IsException, IsQuiet, thrown_data};
 ghost use Rattle.call_scripts.specs.Gives.{Gives};
 
-use crate::refused::{Fault, Place, RefusedName, refusal};
+use crate::refused::{Place, RefusedName, refusal};
 use aidl_base::Text;
 use aidl_values::Answer;
+use json_values::Fault;
 use serde_json::Value as Json;
 use std::alloc::Global;
 use stub_dispatch::SERVICE_SPECIFIC;
@@ -25,7 +26,7 @@ pub struct Thrown<'a> {
 }
 
 // The exception that a handler answers.
-pub fn exception_from(alloc: Global, json: &Json) -> Result<Answer, Fault>
+pub fn exception_from(alloc: Global, json: &Json) -> Result<Answer, Fault<RefusedName>>
     ensures gives { Gives answer_of result (meant.exception_from (meant.thrown_of (json_view json.now))) }
     ensures fits { IfOk result IsException }
 {
@@ -35,7 +36,7 @@ pub fn exception_from(alloc: Global, json: &Json) -> Result<Answer, Fault>
     }
 }
 
-fn answer_of(alloc: Global, thrown: &Thrown<'_>) -> Result<Answer, Fault>
+fn answer_of(alloc: Global, thrown: &Thrown<'_>) -> Result<Answer, Fault<RefusedName>>
     requires { IsQuiet thrown.now.code thrown.now.error }
     ensures gives { Gives answer_of result (meant.in_ranges (thrown_data thrown.now)) }
     ensures fits { IfOk result IsException }

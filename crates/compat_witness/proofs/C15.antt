@@ -52,7 +52,7 @@ module _ (S : List Decl) (d : ℕ) (u : AidlType) (gs : List Field) (k : ℕ) (g
   then_there t = t >>= λ t. there_of u.nullable t.0 >>= λ m. Ok (m, t.1)
 
   abbrev then_marked : Read Bool → Read Data
-  then_marked x = x >>= λ m. marked_at true (λ c. tagged_at reading gs false c) m.0 m.1
+  then_marked x = x >>= λ m. marked_at true (λ c. tagged_at (λ f c. reading f.ty c) gs false c) m.0 m.1
 
   abbrev then_tag : Read ℤ → Read ℕ
   then_tag w = w >>= λ w. tag_of w.0 >>= λ k. Ok (k, w.1)
@@ -74,7 +74,7 @@ module _ (S : List Decl) (d : ℕ) (u : AidlType) (gs : List Field) (k : ℕ) (g
   abbrev pub as_alternative : Read Data → Read Data
   as_alternative x = x >>= λ v. Ok (alt k v.0, v.1)
 
-  pub alternative_read : union_at Strict true u.nullable reading gs false (word (pos 1) ++ (word (pos k) ++ bytes)) ≡ as_alternative (reading g.ty bytes)
+  pub alternative_read : union_at Strict true u.nullable (λ f c. reading f.ty c) gs false (word (pos 1) ++ (word (pos k) ++ bytes)) ≡ as_alternative (reading g.ty bytes)
   unfolding union_at tagged_at
   alternative_read = ap then_marked marked ∙ ap then_tagged tagged ∙ ap then_field at
 

@@ -7,22 +7,8 @@ use Rattle.aidl_schema.specs.Broken.{Place}
 use Rattle.aidl_schema.specs.Find.{methods_at}
 use Rattle.aidl_schema.specs.Same.{same_text}
 use Rattle.wire_model.specs.Calls.{descriptor, method_at}
+pub use Rattle.wire_model.specs.Dots.{at_last_dot, behind, or_else}
 use Rattle.wire_model.specs.Outcome.{declared_as, method_like}
-
--- the same with a character before
-abbrev pub behind : ℕ → Option (List ℕ × List ℕ) → Option (List ℕ × List ℕ)
-behind c None = None
-behind c (Some q) = Some (c ∷ q.0, q.1)
-
--- the first, or else the other one
-abbrev pub or_else : Option (List ℕ × List ℕ) → Option (List ℕ × List ℕ) → Option (List ℕ × List ℕ)
-or_else None other = other
-or_else (Some q) other = Some q
-
--- what stands before the last dot of a place, and what stands behind it
-abbrev pub at_last_dot : Place → Option (List ℕ × List ℕ)
-at_last_dot [] = None
-at_last_dot (c ∷ rest) = or_else (behind c (at_last_dot rest)) (if c == 46 then Some ([], rest) else None)
 
 -- what stands before the first slash of a place, and what stands behind it
 abbrev pub at_slash : Place → Option (List ℕ × List ℕ)

@@ -33,6 +33,7 @@ use Rattle.json_values.specs.FromJson as from
 use Rattle.json_values.specs.FromJson.{from_json_of}
 use Rattle.json_values.specs.Scalars as scalar
 use Rattle.json_values.specs.declared.fault.Fault.{Fault}
+use Rattle.json_values.specs.declared.fault.Reason.{Reason}
 use Rattle.json_writing.specs.Named.{bytes_of, enumerators_of, enumerators_of_decl, enumerators_of_kind, fields_in}
 use Rattle.json_values.specs.Refusal.{Answer, ◌>>=◌, refuse, too_deep, out_of_range, within, escaped}
 use Rattle.json_values.proofs.Texts.{HasTexts, HaveTexts, MembersHaveTexts}
@@ -288,7 +289,7 @@ module _ (S : List Decl) (hold : AllHold S) (sound : IsSound S) where
       (λ f x. default_case d f (nat_le (depth_of (initial_in S f)) d) refl x) j (within_base t.base) (have_base t.base) texts
 
 -- of what was given
-pub given_fits : (S : List Decl) → AllHold S → IsSound S → (t : AidlType) (j : json.Data) → HasTexts j → (result : Result Value Fault) → Gives view result (from_json_of S 64 t j)
+pub given_fits : (S : List Decl) → AllHold S → IsSound S → (t : AidlType) (j : json.Data) → HasTexts j → (result : Result Value (Fault Reason)) → Gives view result (from_json_of S 64 t j)
     → IfOk result (λ v. Fits S t (view v))
 given_fits S hold sound t j texts (Ok v) gives = let fits = subst (FitsAs S t 64) gives (from_json_fits S hold sound 64 t j texts) in record { typed = fits.0; deep = fits.1 }
 given_fits S hold sound t j texts (Err e) gives = tt

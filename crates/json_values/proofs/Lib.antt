@@ -2,6 +2,7 @@ pub mod lemmas
 mod Back
 mod Counted
 mod Fits
+mod JsonTexts
 mod Loops
 mod Members
 mod Names

@@ -1,4 +1,5 @@
 pub mod Gives
+pub mod JsonText
 pub mod Refusal
 pub mod steps
 pub mod Scalars

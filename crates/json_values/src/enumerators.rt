@@ -21,7 +21,7 @@ pub fn read_name<'a>(
     hints: &mut Hints<'a>,
     base: Base,
     name: &str,
-) -> Result<Value, Fault>
+) -> Result<Value, Fault<Reason>>
     ensures { Gives view result (answer.name_from (enumerators_of schema.now.decls base) name.now) }
 {
     law_valid(schema);
@@ -40,7 +40,7 @@ fn read_enumerator(
     enumerators: &[Enumerator],
     place: usize,
     name: &str,
-) -> Result<Value, Fault>
+) -> Result<Value, Fault<Reason>>
     requires { AreApart (λ e. e.name.0) enumerators.now }
     ensures { Gives view result (answer.enumerator_from enumerators.now name.now) }
 {
@@ -56,7 +56,11 @@ fn value_of(enumerator: &Enumerator) -> Value
     Value::Number(enumerator.value)
 }
 
-fn find_enumerator(alloc: Global, enumerators: &[Enumerator], name: &str) -> Result<Value, Fault>
+fn find_enumerator(
+    alloc: Global,
+    enumerators: &[Enumerator],
+    name: &str,
+) -> Result<Value, Fault<Reason>>
     ensures { Gives view result (answer.enumerator_from enumerators.now name.now) }
 {
     for enumerator in enumerators {

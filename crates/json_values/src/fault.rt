@@ -37,45 +37,45 @@ pub enum Reason {
     TooDeep,
 }
 
-/// A fault while reading, with the place in the part that was read.
+/// Why a part of a JSON value is refused, and the place in that part as a JSON pointer; or want of memory.
 #[derive(Drop)]
-pub enum Fault {
-    Refused(Reason, String),
+pub enum Fault<R> {
+    Refused(R, String),
     OutOfMemory,
 }
 
-impl From<OutOfMemory> for Fault {
+impl<R: Drop> From<OutOfMemory> for Fault<R> {
     ghost use Rattle.json_values.specs.declared.fault.Fault.TheVariants.{OutOfMemory as Lost};
 
     ghost from_gives = { λ _ fault. fault ≡ Lost };
 
-    fn from(_fault: OutOfMemory) -> Fault {
+    fn from(_fault: OutOfMemory) -> Fault<R> {
         Fault::OutOfMemory
     }
 }
 
-impl From<AllocError> for Fault {
+impl<R: Drop> From<AllocError> for Fault<R> {
     ghost use Rattle.json_values.specs.declared.fault.Fault.TheVariants.{OutOfMemory as Lost};
 
     ghost from_gives = { λ _ fault. fault ≡ Lost };
 
-    fn from(_fault: AllocError) -> Fault {
+    fn from(_fault: AllocError) -> Fault<R> {
         Fault::OutOfMemory
     }
 }
 
-impl<T: Drop> From<AllocFailed<T>> for Fault {
+impl<R: Drop, T: Drop> From<AllocFailed<T>> for Fault<R> {
     ghost use Rattle.json_values.specs.declared.fault.Fault.TheVariants.{OutOfMemory as Lost};
 
     ghost from_gives = { λ _ fault. fault ≡ Lost };
 
-    fn from(_fault: AllocFailed<T>) -> Fault {
+    fn from(_fault: AllocFailed<T>) -> Fault<R> {
         Fault::OutOfMemory
     }
 }
 
 /// A fault, as it is reported.
-pub fn reported(fault: Fault) -> JsonFault
+pub fn reported(fault: Fault<Reason>) -> JsonFault
     ensures { refusal_of result ≡ refusal_in fault }
 {
     match fault {
@@ -100,7 +100,7 @@ fn place(at: String) -> Text
 }
 
 /// A refusal of the value itself.
-pub fn refused(alloc: Global, reason: Reason) -> Fault
+pub fn refused(alloc: Global, reason: Reason) -> Fault<Reason>
     ensures { (at : String Global) × (string_bytes at ≡ []) × (result ≡ Refused reason at) }
 {
     Fault::Refused(reason, String::new(alloc))

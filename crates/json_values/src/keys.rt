@@ -26,7 +26,7 @@ pub fn check_keys<'a>(
     base: Base,
     fields: &'a [Field],
     members: &Map<String, Json>,
-) -> Result<(), Fault>
+) -> Result<(), Fault<Reason>>
     requires { AreApart (λ f. f.name.0) fields.now }
     ensures { Gives (λ _. tt) result (answer.known_from (answer.unknown_in fields.now (members_view members.now.entries))) }
 {

@@ -4,6 +4,7 @@
 mod enumerators;
 mod fault;
 mod hints;
+mod json_text;
 mod keys;
 mod laws;
 mod numbers;
@@ -16,6 +17,7 @@ mod unions;
 
 pub use fault::{Fault, JsonFault, Reason};
 pub use hints::Hints;
+pub use json_text::parse_json;
 pub use json_writing::to_json;
 pub use laws::law_json_reads_back;
 pub use pointer::key_step;

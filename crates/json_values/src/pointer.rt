@@ -4,11 +4,11 @@ ghost use Rattle.std.specs.Str.{encode_utf8_all};
 ghost use Rattle.json_values.specs.Refusal.{escaped, escaped_character};
 ghost use Rattle.json_values.specs.steps.Gives.{IsBehind, IsBelow};
 
-use crate::fault::Fault;
+use crate::fault::{Fault, Reason};
 use std::alloc::{AllocError, Global};
 
 /// The fault of the element at an index as one of the whole array.
-pub fn below_index(alloc: Global, index: usize, fault: Fault) -> Fault
+pub fn below_index(alloc: Global, index: usize, fault: Fault<Reason>) -> Fault<Reason>
     ensures { IsBelow (decimal index) fault result }
 {
     match index_step(alloc, index) {
@@ -18,7 +18,7 @@ pub fn below_index(alloc: Global, index: usize, fault: Fault) -> Fault
 }
 
 /// The fault of the value at a key as one of the whole object.
-pub fn below_key(alloc: Global, key: &str, fault: Fault) -> Fault
+pub fn below_key(alloc: Global, key: &str, fault: Fault<Reason>) -> Fault<Reason>
     ensures { IsBelow (escaped key.now) fault result }
 {
     match key_step(alloc, key) {
@@ -60,7 +60,7 @@ fn push_escaped(text: &mut String, c: char) -> Result<(), AllocError>
 }
 
 // The fault below a step.
-fn below(step: String, fault: Fault) -> Fault
+fn below(step: String, fault: Fault<Reason>) -> Fault<Reason>
     ensures { IsBehind (string_bytes step) fault result }
 {
     let Fault::Refused(reason, at) = fault else {

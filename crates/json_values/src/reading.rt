@@ -49,7 +49,12 @@ pub fn from_json(
 }
 
 // What a whole value is read as fits the type.
-fn read_fitting(alloc: Global, schema: &Schema, ty: AidlType, json: &Json) -> Result<Value, Fault>
+fn read_fitting(
+    alloc: Global,
+    schema: &Schema,
+    ty: AidlType,
+    json: &Json,
+) -> Result<Value, Fault<Reason>>
     ensures gives { Gives view result (from_json_of schema.now.decls 64 ty (json_view json.now)) }
     ensures fits { IfOk result (λ v. Fits schema.now.decls ty (view v)) }
 {
@@ -69,7 +74,7 @@ pub fn read_within<'a>(
     ty: AidlType,
     levels: usize,
     json: &Json,
-) -> Result<Value, Fault>
+) -> Result<Value, Fault<Reason>>
     requires { levels ≤ 64 }
     ensures { Gives view result (from_json_of schema.now.decls levels ty (json_view json.now)) }
 {
@@ -87,7 +92,7 @@ fn read<'a>(
     ty: AidlType,
     levels: usize,
     json: &Json,
-) -> Result<Value, Fault>
+) -> Result<Value, Fault<Reason>>
     requires { levels ≤ 64 }
     ensures { Gives view result (from_by schema.now.decls (is_level_left levels) (λ f. default_of schema.now.decls levels f) (λ u j. part_from schema.now.decls levels u j) ty (json_view json.now)) }
 {
@@ -118,7 +123,7 @@ fn read_one<'a>(
     base: Base,
     levels: usize,
     json: &Json,
-) -> Result<Value, Fault>
+) -> Result<Value, Fault<Reason>>
     requires { levels ≤ 64 }
     ensures { Gives view result (answer.one_from (is_level_left levels) (λ f. default_of schema.now.decls levels f) (λ u j. part_from schema.now.decls levels u j)
         (enumerators_of schema.now.decls base) (form_of schema.now.decls base) (json_view json.now)) }

@@ -32,7 +32,7 @@ pub fn read_record<'a>(
     fields: &'a [Field],
     levels: usize,
     json: &Json,
-) -> Result<Value, Fault>
+) -> Result<Value, Fault<Reason>>
     requires few { levels ≤ 64 }
     requires apart { AreApart (λ f. f.name.0) fields.now }
     ensures { Gives view result (answer.record_from (is_level_left levels) (λ f. default_of schema.now.decls levels f) (λ u j. part_from schema.now.decls levels u j) fields.now (json_view json.now)) }
@@ -55,7 +55,7 @@ fn read_object<'a>(
     fields: &'a [Field],
     levels: usize,
     members: &Map<String, Json>,
-) -> Result<Value, Fault>
+) -> Result<Value, Fault<Reason>>
     requires left { 0 < levels }
     requires few { levels ≤ 64 }
     requires apart { AreApart (λ f. f.name.0) fields.now }
@@ -78,7 +78,7 @@ fn read_fields<'a>(
     fields: &[Field],
     levels: usize,
     members: &Map<String, Json>,
-) -> Result<Row<Value>, Fault>
+) -> Result<Row<Value>, Fault<Reason>>
     requires left { 0 < levels }
     requires few { levels ≤ 64 }
     ensures { Gives views result (answer.fields_from (λ f. default_of schema.now.decls levels f) (λ u j. part_from schema.now.decls levels u j) fields.now (λ key. get_member key (members_view members.now.entries))) }
@@ -98,7 +98,7 @@ fn read_member<'a>(
     field: &Field,
     levels: usize,
     members: &Map<String, Json>,
-) -> Result<Value, Fault>
+) -> Result<Value, Fault<Reason>>
     requires left { 0 < levels }
     requires few { levels ≤ 64 }
     ensures { Gives view result (within (escaped (bytes_of field.now.name)) (answer.field_from (λ f. default_of schema.now.decls levels f) (λ u j. part_from schema.now.decls levels u j) field.now (get_member (bytes_of field.now.name) (members_view members.now.entries)))) }
@@ -131,7 +131,7 @@ fn read_field<'a>(
     field: &Field,
     levels: usize,
     json: Option<&Json>,
-) -> Result<Value, Fault>
+) -> Result<Value, Fault<Reason>>
     requires left { 0 < levels }
     requires few { levels ≤ 64 }
     ensures { Gives view result (answer.field_from (λ f. default_of schema.now.decls levels f) (λ u j. part_from schema.now.decls levels u j) field.now (option_map (λ j. json_view j.now) json.entry)) }
@@ -148,7 +148,7 @@ fn default_within(
     schema: &Schema,
     field: &Field,
     levels: usize,
-) -> Result<Value, Fault>
+) -> Result<Value, Fault<Reason>>
     requires { levels ≤ 64 }
     ensures { Gives view result (answer.default_from levels schema.now.decls field.now) }
 {

@@ -18,7 +18,7 @@ use serde_json::{Number, Value as Json};
 use std::alloc::Global;
 
 /// The value of a boolean: true or false. All else is refused as of a wrong shape.
-pub fn read_truth(alloc: Global, json: &Json) -> Result<Value, Fault>
+pub fn read_truth(alloc: Global, json: &Json) -> Result<Value, Fault<Reason>>
     ensures { Gives view result (answer.truth_from (json_view json.now)) }
 {
     match json {
@@ -28,7 +28,7 @@ pub fn read_truth(alloc: Global, json: &Json) -> Result<Value, Fault>
 }
 
 /// The value of a String: a string. All else is refused as of a wrong shape.
-pub fn read_text(alloc: Global, json: &Json) -> Result<Value, Fault>
+pub fn read_text(alloc: Global, json: &Json) -> Result<Value, Fault<Reason>>
     ensures { Gives view result (answer.text_from (json_view json.now)) }
 {
     match json {
@@ -47,7 +47,7 @@ pub fn read_number<'a>(
     base: Base,
     form: &Form<'_>,
     json: &Json,
-) -> Result<Value, Fault>
+) -> Result<Value, Fault<Reason>>
     ensures { Gives view result (answer.number_from (enumerators_of schema.now.decls base) (seen form.now) (json_view json.now)) }
 {
     match json {
@@ -58,7 +58,7 @@ pub fn read_number<'a>(
 }
 
 // A whole number in the range of a type or of a backing.
-fn read_whole(alloc: Global, form: &Form<'_>, number: &Number) -> Result<Value, Fault>
+fn read_whole(alloc: Global, form: &Form<'_>, number: &Number) -> Result<Value, Fault<Reason>>
     ensures { Gives view result (answer.whole_from (seen form.now) (as_integer (number_view number.now))) }
 {
     match number.as_i64() {

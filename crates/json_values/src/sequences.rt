@@ -29,7 +29,7 @@ pub fn read_sequence<'a>(
     ty: AidlType,
     levels: usize,
     json: &Json,
-) -> Result<Value, Fault>
+) -> Result<Value, Fault<Reason>>
     requires { levels ≤ 64 }
     ensures { Gives view result (answer.sequence_from (is_level_left levels) (λ j. part_from schema.now.decls levels ty j) (json_view json.now)) }
 {
@@ -50,7 +50,7 @@ fn read_elements<'a>(
     ty: AidlType,
     levels: usize,
     items: &[Json],
-) -> Result<Value, Fault>
+) -> Result<Value, Fault<Reason>>
     requires left { 0 < levels }
     requires few { levels ≤ 64 }
     ensures { Gives view result (answer.elements_from (λ j. part_from schema.now.decls levels ty j) (items_view items.now)) }
@@ -69,7 +69,7 @@ fn read_items<'a>(
     ty: AidlType,
     levels: usize,
     items: &[Json],
-) -> Result<Row<Value>, Fault>
+) -> Result<Row<Value>, Fault<Reason>>
     requires left { 0 < levels }
     requires few { levels ≤ 64 }
     ensures { Gives views result (answer.items_from (λ j. part_from schema.now.decls levels ty j) 0 (items_view items.now)) }
@@ -93,7 +93,7 @@ fn push_item<'a>(
     index: usize,
     json: &Json,
     values: &mut Vec<Value>,
-) -> Result<(), Fault>
+) -> Result<(), Fault<Reason>>
     requires left { 0 < levels }
     requires few { levels ≤ 64 }
     ensures { Puts values.old.items values.new.items result (within (decimal index) (part_from schema.now.decls levels ty (json_view json.now))) }
@@ -113,7 +113,7 @@ fn read_item<'a>(
     levels: usize,
     index: usize,
     json: &Json,
-) -> Result<Value, Fault>
+) -> Result<Value, Fault<Reason>>
     requires left { 0 < levels }
     requires few { levels ≤ 64 }
     ensures { Gives view result (within (decimal index) (part_from schema.now.decls levels ty (json_view json.now))) }

@@ -29,7 +29,7 @@ pub fn read_union<'a>(
     fields: &'a [Field],
     levels: usize,
     json: &Json,
-) -> Result<Value, Fault>
+) -> Result<Value, Fault<Reason>>
     requires few { levels ≤ 64 }
     requires apart { AreApart (λ f. f.name.0) fields.now }
     requires fields { length fields.now ≤ 4096 }
@@ -79,7 +79,7 @@ fn read_alternative<'a>(
     levels: usize,
     key: &str,
     json: &Json,
-) -> Result<Value, Fault>
+) -> Result<Value, Fault<Reason>>
     requires left { 0 < levels }
     requires few { levels ≤ 64 }
     requires apart { AreApart (λ f. f.name.0) fields.now }
@@ -103,7 +103,7 @@ fn find_alternative<'a>(
     levels: usize,
     key: &str,
     json: &Json,
-) -> Result<Value, Fault>
+) -> Result<Value, Fault<Reason>>
     requires left { 0 < levels }
     requires few { levels ≤ 64 }
     requires fields { length fields.now ≤ 4096 }
@@ -129,7 +129,7 @@ fn read_chosen<'a>(
     levels: usize,
     key: &str,
     json: &Json,
-) -> Result<Value, Fault>
+) -> Result<Value, Fault<Reason>>
     requires left { 0 < levels }
     requires few { levels ≤ 64 }
     requires place { place < 4096 }
@@ -141,7 +141,7 @@ fn read_chosen<'a>(
     }
 }
 
-fn alternative(alloc: Global, tag: u32, value: Value) -> Result<Value, Fault>
+fn alternative(alloc: Global, tag: u32, value: Value) -> Result<Value, Fault<Reason>>
     ensures { Gives view result (Ok (alt tag (view value))) }
 {
     Ok(Value::Alt(tag, Box::new(alloc, value)?))

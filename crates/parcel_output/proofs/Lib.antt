@@ -1,7 +1,6 @@
 mod Digits
 mod Endings
 mod Entries
-mod JsonTexts
 mod NamedBases
 mod Planned
 mod ReadValues

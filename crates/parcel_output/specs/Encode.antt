@@ -6,11 +6,12 @@ use Rattle.aidl_base.specs.declared.limit.LimitName.TheVariants.{ParcelBytes}
 use Rattle.aidl_schema.specs.declared.schema.Decl.{Decl}
 use Rattle.aidl_schema.specs.declared.schema.AidlType.{AidlType}
 use Rattle.aidl_values.specs.Data.{Data}
+use Rattle.json_values.specs.JsonText.{parsed_json}
 use Rattle.json_values.specs.Refusal as refusal
 use Rattle.json_values.specs.Refusal.{Reason, Refusal, wrong_shape, out_of_range, unknown_key, unknown_enumerator, too_deep}
 use Rattle.wire_model.specs.Spell.{spell}
 use Rattle.tool_frame.specs.Answer.{Answer, Found, ◌>>=◌, done, negative}
-use Rattle.parcel_output.specs.JsonFile.{json_of, values_of}
+use Rattle.parcel_output.specs.JsonFile.{values_of}
 use Rattle.tool_frame.specs.Refusals.{within}
 use Rattle.parcel_output.specs.Refusals.{known_types}
 
@@ -46,7 +47,7 @@ spell_values S (t ∷ ts) [] = []
 abbrev pub encode_answer : List Decl → List ℕ → List ℕ → Answer
 encode_answer S types text = do
   known ← known_types S types  -- `bad type`
-  j ← json_found (json_of text)  -- `refused NotJson`
+  j ← json_found (parsed_json text)  -- `refused NotJson`
   values ← values_found (values_of S known j)  -- the other refusals
   parcel ← within ParcelBytes (spell_values S known values)  -- `limit parcel-bytes`
   done (encode_lower parcel)

@@ -1,10 +1,8 @@
 -- What a file of JSON stands for: one value for each of some types (own).
 use Rattle.std.specs.Prelude.{ℕ, suc, ◌==◌, if◌then◌else◌, List, [], ◌∷◌, length, Option, Some, None, Ok, decimal}
 use Rattle.std.specs.Option.{option_map}
-use Rattle.std.specs.Str.{is_utf8}
 use Rattle.serde_json.specs.Data as json
 use Rattle.serde_json.specs.Data.{array, no_items, item}
-use Rattle.serde_json.specs.Read.{read as read_text}
 use Rattle.aidl_schema.specs.declared.schema.Decl.{Decl}
 use Rattle.aidl_schema.specs.declared.schema.AidlType.{AidlType}
 use Rattle.aidl_values.specs.Data.{Data}
@@ -14,10 +12,6 @@ use Rattle.json_values.specs.Gives.{refusal_of}
 use Rattle.json_values.specs.Refusal.{Answer, ◌>>=◌, Refusal, below, refuse, within, wrong_shape}
 use Rattle.parcel_output.specs.declared.json_file.Unread.{Unread}
 use Rattle.parcel_output.specs.declared.json_file.Unread.TheVariants as unread
-
--- the value that `serde_json` reads; None where the file isn't UTF-8, or is no JSON text
-unfoldable pub json_of : List ℕ → Option json.Data
-json_of file = if is_utf8 file then read_text file else None
 
 -- how many elements there are
 abbrev pub elements : json.Items → ℕ

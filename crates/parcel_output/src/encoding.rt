@@ -7,21 +7,22 @@ ghost use Rattle.serde_json.specs.View.{view as json_view};
 ghost use Rattle.aidl_schema.specs.Types.{is_type};
 ghost use Rattle.aidl_values.specs.View.{view};
 ghost use Rattle.json_values.specs.Gives.{refusal_of};
+ghost use Rattle.json_values.specs.JsonText.{parsed_json};
 ghost use Rattle.parcel_words.specs.Written.{with_bytes};
 ghost use Rattle.tool_frame.specs.Answer.{done};
 ghost use Rattle.parcel_output.specs.Encode.{encode_answer, json_found, reason_name, refused, spell_values, values_found};
-ghost use Rattle.parcel_output.specs.JsonFile.{AreTyped, json_of, unread_refusal, values_of};
+ghost use Rattle.parcel_output.specs.JsonFile.{AreTyped, unread_refusal, values_of};
 ghost use Rattle.tool_frame.specs.Refusals.{within};
 ghost use Rattle.parcel_output.specs.steps.Planned.{ArePlanned};
 ghost use Rattle.tool_frame.specs.Results.{EndsAs, Finds, Gives, printed};
 
-use crate::json_file::{Unread, json_of, values_of};
+use crate::json_file::{Unread, values_of};
 use crate::lines::refused_value;
 use crate::steps::known_types;
 use aidl_base::{Limit, LimitName, OutOfMemory};
 use aidl_schema::{AidlType, Schema};
 use aidl_values::Value;
-use json_values::JsonFault;
+use json_values::{JsonFault, parse_json};
 use marshal_plans::{Plans, compile};
 use parcel_words::WordWriter;
 use parcel_write::{put_value, spelled_length};
@@ -44,9 +45,9 @@ pub fn encode(alloc: Global, schema: &Schema, types: &str, text: &[u8]) -> Resul
 
 // The value of a JSON text.
 fn json_in(alloc: Global, text: &[u8]) -> Result<Json, Early>
-    ensures { Finds json_view result (json_found (json_of text.now)) }
+    ensures { Finds json_view result (json_found (parsed_json text.now)) }
 {
-    match json_of(alloc, text) {
+    match parse_json(alloc, text) {
         Ok(Some(json)) => Ok(json),
         Ok(None) => Err(refusal(alloc, "refused NotJson ", "")),
         Err(_) => Err(Early::OutOfMemory),

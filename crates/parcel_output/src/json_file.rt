@@ -1,14 +1,12 @@
 //! The values that a file of JSON stands for, one for each of some types.
 ghost use Rattle.std.specs.Prelude.{◌≡◌, ◌≤◌, Ok, Err, IfOk, IfErr, IfSome, decimal, length, map};
-ghost use Rattle.std.specs.Option.{option_map};
 ghost use Rattle.serde_json.specs.View.{view as json_view, items_view};
 ghost use Rattle.aidl_values.specs.Fits.{Fits};
 ghost use Rattle.aidl_values.specs.View.{view};
 ghost use Rattle.json_values.specs.FromJson.{from_json_of};
 ghost use Rattle.json_values.specs.Refusal.{within};
-ghost use Rattle.parcel_output.specs.JsonFile.{AreTyped, json_of, unread_refusal, values_from, values_of};
+ghost use Rattle.parcel_output.specs.JsonFile.{AreTyped, unread_refusal, values_from, values_of};
 
-use aidl_base::OutOfMemory;
 use aidl_schema::{AidlType, Schema};
 use aidl_values::Value;
 use json_values::{JsonFault, from_json};
@@ -42,20 +40,6 @@ impl<T: Drop> From<AllocFailed<T>> for Unread {
 
     fn from(_fault: AllocFailed<T>) -> Unread {
         Unread::OutOfMemory
-    }
-}
-
-/// The JSON value of a file. None where the file isn't UTF-8, or where `serde_json` reads no value of it.
-pub fn json_of(alloc: Global, file: &[u8]) -> Result<Option<Json>, OutOfMemory>
-    ensures { IfOk result (λ json. option_map json_view json ≡ json_of file.now) }
-{
-    let Ok(text) = str::from_utf8(file) else {
-        return Ok(None);
-    };
-    match Json::from_str(alloc, text) {
-        Ok(json) => Ok(Some(json)),
-        Err(error) if error.is_memory() => Err(OutOfMemory),
-        Err(_) => Ok(None),
     }
 }
 

@@ -8,10 +8,8 @@ use Rattle.aidl_values.proofs.lemmas.Fronts.{onto, onto-push, onto-none, with_fr
 use Rattle.parcel_words.specs.declared.fault.ReadFault.{ReadFault}
 use Rattle.parcel_words.specs.Taken.{RefusesIfMemory}
 use Rattle.parcel_words.proofs.lemmas.Faults.{fails_as}
-use Rattle.wire_model.specs.ReadOf.{each_at}
+use Rattle.wire_model.specs.ReadOf.{each_at, field_at, fields_at}
 use Rattle.marshal_plans.specs.declared.plans.PlanField.{PlanField}
-use Rattle.marshal_plans.specs.declared.plans.PlanId.{PlanId}
-use Rattle.parcel_read.specs.steps.PlanRead.{entry_at, entries_at}
 
 -- what was read before, and what is still read
 abbrev pub with_items : List Data → Read Items → Read Items
@@ -44,27 +42,27 @@ module _ (read : List ℕ → Read Data) (front : List Data) (count i : ℕ) (b 
       sym so_far ∙ one
 
 -- the same of a record's fields
-module _ (initial : PlanField → Data) (read : PlanId → List ℕ → Read Data) (front : List Data) (fs : List PlanField) (i : ℕ) (b : List ℕ) (total : Result Items ℤ) (so_far : with_front front (entries_at initial read (drop i fs) b) ≡ total) where
+module _ (initial : PlanField → Data) (read : PlanField → List ℕ → Read Data) (front : List Data) (fs : List PlanField) (i : ℕ) (b : List ℕ) (total : Result Items ℤ) (so_far : with_front front (fields_at initial read (drop i fs) b) ≡ total) where
   next_field : (f : PlanField) → i < length fs → f ≡ get_or fs i f → drop i fs ≡ f ∷ drop (i + 1) fs
   next_field f lt is = rw add-one (drop-cons fs i f lt ∙ ap (λ g. g ∷ drop (suc i) fs) (sym is))
 
   -- the first field, and then the others
   abbrev first_of : Read Data → Result Items ℤ
-  first_of x = with_front front (x >>= λ first. entries_at initial read (drop (i + 1) fs) first.1 >>= λ others. Ok (item first.0 others))
+  first_of x = with_front front (x >>= λ first. fields_at initial read (drop (i + 1) fs) first.1 >>= λ others. Ok (item first.0 others))
 
-  as_first : (f : PlanField) → i < length fs → f ≡ get_or fs i f → with_front front (entries_at initial read (drop i fs) b) ≡ first_of (entry_at initial read f b)
-  as_first f lt is = ap (λ gs. with_front front (entries_at initial read gs b)) (next_field f lt is)
+  as_first : (f : PlanField) → i < length fs → f ≡ get_or fs i f → with_front front (fields_at initial read (drop i fs) b) ≡ first_of (field_at initial read f b)
+  as_first f lt is = ap (λ gs. with_front front (fields_at initial read gs b)) (next_field f lt is)
 
-  pub field_on : (f : PlanField) (d : Data) (rest : List ℕ) → i < length fs → f ≡ get_or fs i f → entry_at initial read f b ≡ Ok (d, rest)
-      → with_front (front ++ d ∷ []) (entries_at initial read (drop (i + 1) fs) rest) ≡ total
+  pub field_on : (f : PlanField) (d : Data) (rest : List ℕ) → i < length fs → f ≡ get_or fs i f → field_at initial read f b ≡ Ok (d, rest)
+      → with_front (front ++ d ∷ []) (fields_at initial read (drop (i + 1) fs) rest) ≡ total
   field_on f d rest lt is h =
-      let one : with_front front (entries_at initial read (drop i fs) b) ≡ first_of (Ok (d, rest)) = as_first f lt is ∙ ap first_of h in
-      sym (one ∙ front_more front d (entries_at initial read (drop (i + 1) fs) rest)) ∙ so_far
+      let one : with_front front (fields_at initial read (drop i fs) b) ≡ first_of (Ok (d, rest)) = as_first f lt is ∙ ap first_of h in
+      sym (one ∙ front_more front d (fields_at initial read (drop (i + 1) fs) rest)) ∙ so_far
 
-  pub field_ends : (f : PlanField) (e : ReadFault) → i < length fs → f ≡ get_or fs i f → RefusesIfMemory e (entry_at initial read f b) → RefusesIfMemory e total
-  field_ends f e lt is h = fails_as e (entry_at initial read f b) total (λ s k. sym so_far ∙ as_first f lt is ∙ ap first_of k) h
+  pub field_ends : (f : PlanField) (e : ReadFault) → i < length fs → f ≡ get_or fs i f → RefusesIfMemory e (field_at initial read f b) → RefusesIfMemory e total
+  field_ends f e lt is h = fails_as e (field_at initial read f b) total (λ s k. sym so_far ∙ as_first f lt is ∙ ap first_of k) h
 
   pub fields_done : length fs ≤ i → total ≡ Ok (items_of front)
   fields_done le =
       let none_left : drop i fs ≡ [] = drop_all i fs le in
-      sym so_far ∙ ap (λ gs. with_front front (entries_at initial read gs b)) none_left ∙ ap (λ vs. Ok vs) (onto-none front)
+      sym so_far ∙ ap (λ gs. with_front front (fields_at initial read gs b)) none_left ∙ ap (λ vs. Ok vs) (onto-none front)

@@ -1,14 +1,12 @@
 -- A record's fields are read of the bytes of its body.
-use Rattle.std.proofs.Common.{◌≡◌, ℕ, ℤ, Bool, List, Result, Ok, Err, ap, ◌∙◌}
+use Rattle.std.proofs.Common.{◌≡◌, ℕ, ℤ, Bool, List, Result, Ok, ap, ◌∙◌}
 use Rattle.aidl_base.specs.Readings.{Read, ◌>>=◌}
 use Rattle.marshal_plans.specs.declared.plans.PlanField.{PlanField}
-use Rattle.marshal_plans.specs.declared.plans.PlanId.{PlanId}
 use Rattle.aidl_values.specs.Data.{Data, Items, rec}
 use Rattle.parcel_words.specs.Place.{Place, left, closed, size_at, MovesOn, Enters, is_inside}
 use Rattle.parcel_words.specs.Taken.{RefusesIfMemory}
 use Rattle.parcel_words.specs.declared.fault.ReadFault.{ReadFault}
-use Rattle.wire_model.specs.ReadOf.{body_at}
-use Rattle.parcel_read.specs.steps.PlanRead.{entries_body_at, entries_at}
+use Rattle.wire_model.specs.ReadOf.{body_at, body_value_at, fields_at}
 use Rattle.parcel_words.proofs.lemmas.Faults.{fails_as}
 use Rattle.parcel_words.proofs.lemmas.Records as cursor
 
@@ -21,26 +19,26 @@ body_steps : (inside : Bool) (b : List ℕ) → body_at inside b ≡ cursor.afte
 unfolding body_at
 body_steps inside b = cursor.body_steps inside b
 
-module _ (initial : PlanField → Data) (read : PlanId → List ℕ → Read Data) where
+module _ (initial : PlanField → Data) (read : PlanField → List ℕ → Read Data) where
   -- after a record's bytes
   abbrev with_fields_of : List PlanField → Read (List ℕ) → Read Data
-  with_fields_of fs body = body >>= λ x. entries_at initial read fs x.0 >>= λ vs. Ok (rec vs, x.1)
+  with_fields_of fs body = body >>= λ x. fields_at initial read fs x.0 >>= λ vs. Ok (rec vs, x.1)
 
   abbrev as_record : List ℕ → Result Items ℤ → Read Data
   as_record rest vs = vs >>= λ x. Ok (rec x, rest)
 
-  pub record_is : (fs : List PlanField) (inside : Bool) (b inner rest : List ℕ) (vs : Items) → body_at inside b ≡ Ok (inner, rest) → entries_at initial read fs inner ≡ Ok vs
-      → entries_body_at initial read fs inside b ≡ Ok (rec vs, rest)
-  unfolding entries_body_at
+  pub record_is : (fs : List PlanField) (inside : Bool) (b inner rest : List ℕ) (vs : Items) → body_at inside b ≡ Ok (inner, rest) → fields_at initial read fs inner ≡ Ok vs
+      → body_value_at initial read fs inside b ≡ Ok (rec vs, rest)
+  unfolding body_value_at
   record_is fs inside b inner rest vs body h = ap (with_fields_of fs) body ∙ ap (as_record rest) h
 
-  pub record_fails : (fs : List PlanField) (inside : Bool) (b inner rest : List ℕ) (e : ReadFault) → body_at inside b ≡ Ok (inner, rest) → RefusesIfMemory e (entries_at initial read fs inner)
-      → RefusesIfMemory e (entries_body_at initial read fs inside b)
-  unfolding entries_body_at
+  pub record_fails : (fs : List PlanField) (inside : Bool) (b inner rest : List ℕ) (e : ReadFault) → body_at inside b ≡ Ok (inner, rest) → RefusesIfMemory e (fields_at initial read fs inner)
+      → RefusesIfMemory e (body_value_at initial read fs inside b)
+  unfolding body_value_at
   record_fails fs inside b inner rest e body h =
-      fails_as e (entries_at initial read fs inner) (entries_body_at initial read fs inside b) (λ s k. ap (with_fields_of fs) body ∙ ap (as_record rest) k) h
+      fails_as e (fields_at initial read fs inner) (body_value_at initial read fs inside b) (λ s k. ap (with_fields_of fs) body ∙ ap (as_record rest) k) h
 
-  pub no_record : (fs : List PlanField) (inside : Bool) (b : List ℕ) (e : ReadFault) → RefusesIfMemory e (size_at inside b) → RefusesIfMemory e (entries_body_at initial read fs inside b)
-  unfolding entries_body_at
+  pub no_record : (fs : List PlanField) (inside : Bool) (b : List ℕ) (e : ReadFault) → RefusesIfMemory e (size_at inside b) → RefusesIfMemory e (body_value_at initial read fs inside b)
+  unfolding body_value_at
   no_record fs inside b e h =
-      fails_as e (size_at inside b) (entries_body_at initial read fs inside b) (λ s k. ap (with_fields_of fs) (body_steps inside b ∙ ap cursor.after_size k)) h
+      fails_as e (size_at inside b) (body_value_at initial read fs inside b) (λ s k. ap (with_fields_of fs) (body_steps inside b ∙ ap cursor.after_size k)) h

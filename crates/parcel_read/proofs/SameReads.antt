@@ -20,7 +20,7 @@ use Rattle.marshal_plans.specs.declared.plans.Plans.{Plans}
 use Rattle.marshal_plans.specs.Standing.{OneForOne, StandsFor, IsEntryOf, IsOneItem, IsManyItem, IsItemOf, StandFor}
 use Rattle.marshal_plans.proofs.lemmas.Matching.{matched}
 use Rattle.parcel_read.specs.steps.PlanDefault.{initial_by_plan}
-use Rattle.parcel_read.specs.steps.PlanRead.{entry_at, entries_at, entries_body_at, plan_record_at, ok_entry, plan_tagged_at, plan_union_at, item_at, item_or_none_at, plan_read}
+use Rattle.parcel_read.specs.steps.PlanRead.{item_at, item_or_none_at, plan_read}
 use Rattle.parcel_read.proofs.Defaults.{initial_is}
 
 -- steps that go on alike
@@ -62,34 +62,40 @@ module _ (p : Profile) (left nullable inside : Bool) (f g : List ℕ → Read Da
 -- fields and their entries
 module _ (types : List AidlType) (initial : PlanField → Data) (default : Field → Data) (defaults : (f : Field) (g : PlanField) → IsEntryOf types f g → initial g ≡ default f)
     (of_id : PlanId → List ℕ → Read Data) (of_type : AidlType → List ℕ → Read Data) (parts : (id : PlanId) (t : AidlType) → StandsFor types id t → (b : List ℕ) → of_id id b ≡ of_type t b) where
+  abbrev by_entry : PlanField → List ℕ → Read Data
+  by_entry g c = of_id g.item c
+
+  abbrev by_field : Field → List ℕ → Read Data
+  by_field f c = of_type f.ty c
+
   abbrev AreEntries : List Field → List PlanField → Type 0
   AreEntries fs gs = OneForOne (λ f g. IsEntryOf types f g) fs gs
 
-  entry_same : (f : Field) (g : PlanField) → IsEntryOf types f g → (b : List ℕ) → entry_at initial of_id g b ≡ field_at default of_type f b
+  entry_same : (f : Field) (g : PlanField) → IsEntryOf types f g → (b : List ℕ) → field_at initial by_entry g b ≡ field_at default by_field f b
   entry_same f g h [] = ap (λ (v : Data). Ok (v, [])) (defaults f g h)
   entry_same f g h (x ∷ b) = parts g.item f.ty h.0 (x ∷ b)
 
-  entries_same : (fs : List Field) (gs : List PlanField) → AreEntries fs gs → (b : List ℕ) → entries_at initial of_id gs b ≡ fields_at default of_type fs b
+  entries_same : (fs : List Field) (gs : List PlanField) → AreEntries fs gs → (b : List ℕ) → fields_at initial by_entry gs b ≡ fields_at default by_field fs b
   entries_same [] [] h b = refl
   entries_same [] (g ∷ gs) h b = elim h [ ]
   entries_same (f ∷ fs) [] h b = elim h [ ]
   entries_same (f ∷ fs) (g ∷ gs) h b =
-      ap (λ r. r >>= λ first. entries_at initial of_id gs first.1 >>= λ others. Ok (item first.0 others)) (entry_same f g h.0 b)
-      ∙ then_same (field_at default of_type f b) (λ first. entries_at initial of_id gs first.1 >>= λ others. Ok (item first.0 others)) (λ first. fields_at default of_type fs first.1 >>= λ others. Ok (item first.0 others))
+      ap (λ r. r >>= λ first. fields_at initial by_entry gs first.1 >>= λ others. Ok (item first.0 others)) (entry_same f g h.0 b)
+      ∙ then_same (field_at default by_field f b) (λ first. fields_at initial by_entry gs first.1 >>= λ others. Ok (item first.0 others)) (λ first. fields_at default by_field fs first.1 >>= λ others. Ok (item first.0 others))
       (λ first. ap (λ r. r >>= λ others. Ok (item first.0 others)) (entries_same fs gs h.1 first.1))
 
-  body_same : (fs : List Field) (gs : List PlanField) → AreEntries fs gs → (inside : Bool) (b : List ℕ) → entries_body_at initial of_id gs inside b ≡ body_value_at default of_type fs inside b
-  unfolding entries_body_at body_value_at
+  body_same : (fs : List Field) (gs : List PlanField) → AreEntries fs gs → (inside : Bool) (b : List ℕ) → body_value_at initial by_entry gs inside b ≡ body_value_at default by_field fs inside b
+  unfolding body_value_at
   body_same fs gs h inside b =
-      then_same (body_at inside b) (λ inner. entries_at initial of_id gs inner.0 >>= λ vs. Ok (rec vs, inner.1)) (λ inner. fields_at default of_type fs inner.0 >>= λ vs. Ok (rec vs, inner.1))
+      then_same (body_at inside b) (λ inner. fields_at initial by_entry gs inner.0 >>= λ vs. Ok (rec vs, inner.1)) (λ inner. fields_at default by_field fs inner.0 >>= λ vs. Ok (rec vs, inner.1))
       (λ inner. ap (λ r. r >>= λ vs. Ok (rec vs, inner.1)) (entries_same fs gs h inner.0))
 
   record_same : (p : Profile) (left nullable : Bool) (fs : List Field) (gs : List PlanField) → AreEntries fs gs → (inside : Bool) (b : List ℕ)
-      → plan_record_at p left nullable initial of_id gs inside b ≡ record_at p left nullable default of_type fs inside b
-  unfolding plan_record_at record_at
+      → record_at p left nullable initial by_entry gs inside b ≡ record_at p left nullable default by_field fs inside b
+  unfolding record_at
   record_same p left nullable fs gs h inside b =
-      then_same (marker_at p nullable inside b) (λ m. marked_at left (λ c. entries_body_at initial of_id gs inside c) m.0 m.1) (λ m. marked_at left (λ c. body_value_at default of_type fs inside c) m.0 m.1)
-      (λ m. marked_same left m.0 (λ c. entries_body_at initial of_id gs inside c) (λ c. body_value_at default of_type fs inside c) m.1 (body_same fs gs h inside m.1))
+      then_same (marker_at p nullable inside b) (λ m. marked_at left (λ c. body_value_at initial by_entry gs inside c) m.0 m.1) (λ m. marked_at left (λ c. body_value_at default by_field fs inside c) m.0 m.1)
+      (λ m. marked_same left m.0 (λ c. body_value_at initial by_entry gs inside c) (λ c. body_value_at default by_field fs inside c) m.1 (body_same fs gs h inside m.1))
 
   -- what a tag names
   abbrev then_entry : ℕ → List ℕ → Result PlanField ℤ → Read Data
@@ -98,24 +104,24 @@ module _ (types : List AidlType) (initial : PlanField → Data) (default : Field
   abbrev then_field : ℕ → List ℕ → Result Field ℤ → Read Data
   then_field k c o = o >>= λ f. of_type f.ty c >>= λ v. Ok (alt k v.0, v.1)
 
-  named_same : (fs : List Field) (gs : List PlanField) → AreEntries fs gs → (j k : ℕ) (c : List ℕ) → then_entry k c (ok_entry (slice_get gs j)) ≡ then_field k c (ok_field (slice_get fs j))
+  named_same : (fs : List Field) (gs : List PlanField) → AreEntries fs gs → (j k : ℕ) (c : List ℕ) → then_entry k c (ok_field (slice_get gs j)) ≡ then_field k c (ok_field (slice_get fs j))
   named_same [] [] h j k c = refl
   named_same [] (g ∷ gs) h j k c = elim h [ ]
   named_same (f ∷ fs) [] h j k c = elim h [ ]
   named_same (f ∷ fs) (g ∷ gs) h zero k c = ap (λ r. r >>= λ v. Ok (alt k v.0, v.1)) (parts g.item f.ty h.0.0 c)
   named_same (f ∷ fs) (g ∷ gs) h (suc j) k c = named_same fs gs h.1 j k c
 
-  tagged_same : (fs : List Field) (gs : List PlanField) → AreEntries fs gs → (inside : Bool) (b : List ℕ) → plan_tagged_at of_id gs inside b ≡ tagged_at of_type fs inside b
-  unfolding plan_tagged_at tagged_at
+  tagged_same : (fs : List Field) (gs : List PlanField) → AreEntries fs gs → (inside : Bool) (b : List ℕ) → tagged_at by_entry gs inside b ≡ tagged_at by_field fs inside b
+  unfolding tagged_at
   tagged_same fs gs h inside b =
-      then_same (tag_at inside b) (λ k. then_entry k.0 k.1 (ok_entry (slice_get gs k.0))) (λ k. then_field k.0 k.1 (ok_field (slice_get fs k.0))) (λ k. named_same fs gs h k.0 k.0 k.1)
+      then_same (tag_at inside b) (λ k. then_entry k.0 k.1 (ok_field (slice_get gs k.0))) (λ k. then_field k.0 k.1 (ok_field (slice_get fs k.0))) (λ k. named_same fs gs h k.0 k.0 k.1)
 
   union_same : (p : Profile) (left nullable : Bool) (fs : List Field) (gs : List PlanField) → AreEntries fs gs → (inside : Bool) (b : List ℕ)
-      → plan_union_at p left nullable of_id gs inside b ≡ union_at p left nullable of_type fs inside b
-  unfolding plan_union_at union_at
+      → union_at p left nullable by_entry gs inside b ≡ union_at p left nullable by_field fs inside b
+  unfolding union_at
   union_same p left nullable fs gs h inside b =
-      then_same (marker_at p nullable inside b) (λ m. marked_at left (λ c. plan_tagged_at of_id gs inside c) m.0 m.1) (λ m. marked_at left (λ c. tagged_at of_type fs inside c) m.0 m.1)
-      (λ m. marked_same left m.0 (λ c. plan_tagged_at of_id gs inside c) (λ c. tagged_at of_type fs inside c) m.1 (tagged_same fs gs h inside m.1))
+      then_same (marker_at p nullable inside b) (λ m. marked_at left (λ c. tagged_at by_entry gs inside c) m.0 m.1) (λ m. marked_at left (λ c. tagged_at by_field fs inside c) m.0 m.1)
+      (λ m. marked_same left m.0 (λ c. tagged_at by_entry gs inside c) (λ c. tagged_at by_field fs inside c) m.1 (tagged_same fs gs h inside m.1))
 
 -- one level
 module _ (p : Profile) (left : Bool) (types : List AidlType) (entries : List PlanField) (initial : PlanField → Data) (default : Field → Data)

@@ -6,8 +6,8 @@ ghost use Rattle.aidl_values.specs.steps.Levels.{is_level_left};
 ghost use Rattle.parcel_words.specs.Place.{left, is_inside, MovesOn};
 ghost use Rattle.parcel_words.specs.Taken.{TakesIfMemory, RefusesIfMemory};
 ghost use Rattle.parcel_read.specs.steps.PlanDefault.{initial_by_plan};
-ghost use Rattle.parcel_read.specs.steps.PlanRead.{entry_at, entries_at, entries_body_at, plan_record_at, plan_tagged_at, plan_union_at, item_at, plan_read, plan_parts};
-ghost use Rattle.wire_model.specs.ReadOf.{each_at, elements_at, array_at};
+ghost use Rattle.parcel_read.specs.steps.PlanRead.{item_at, plan_read, plan_parts};
+ghost use Rattle.wire_model.specs.ReadOf.{each_at, elements_at, array_at, field_at, fields_at, body_value_at, record_at, tagged_at, union_at};
 ghost use Rattle.wire_model.specs.Status.{bad_value};
 
 use crate::default::initial_of;
@@ -173,7 +173,7 @@ fn items_from(
 
 /// Reads a parcelable.
 #[cycle(read)]
-#[tactic(auto, unfolding(crate::specs::steps::PlanRead::plan_record_at))]
+#[tactic(auto, unfolding(wire_model::specs::ReadOf::record_at))]
 fn record_from(
     alloc: Global,
     plans: &Plans,
@@ -183,8 +183,8 @@ fn record_from(
     from: &mut WordReader,
 ) -> Result<Value, ReadFault>
     requires { length from.old.ends + levels ≤ 64 }
-    ensures taken { TakesIfMemory view result (plan_record_at from.old.profile (is_level_left levels) nullable (λ g. initial_by_plan plans.now g)
-        (λ u b. plan_parts from.old.profile plans.now levels u true b) fields.now (is_inside from.old) (left from.old)) (left from.new) }
+    ensures taken { TakesIfMemory view result (record_at from.old.profile (is_level_left levels) nullable (λ g. initial_by_plan plans.now g)
+        (λ g b. plan_parts from.old.profile plans.now levels g.item true b) fields.now (is_inside from.old) (left from.old)) (left from.new) }
     ensures on { OnOk result (MovesOn from.old from.new) }
 {
     if !marker_from(alloc, nullable, from)? {
@@ -207,8 +207,8 @@ fn body_from(
 ) -> Result<Value, ReadFault>
     requires some { 0 < levels }
     requires room { length from.old.ends + levels ≤ 64 }
-    ensures taken { TakesIfMemory view result (entries_body_at (λ g. initial_by_plan plans.now g)
-        (λ u b. plan_parts from.old.profile plans.now levels u true b) fields.now (is_inside from.old) (left from.old)) (left from.new) }
+    ensures taken { TakesIfMemory view result (body_value_at (λ g. initial_by_plan plans.now g)
+        (λ g b. plan_parts from.old.profile plans.now levels g.item true b) fields.now (is_inside from.old) (left from.old)) (left from.new) }
     ensures on { OnOk result (MovesOn from.old from.new) }
 {
     from.enter()?;
@@ -230,8 +230,8 @@ fn fields_from(
     requires inside { is_inside from.old ≡ true }
     requires room { length from.old.ends + levels ≤ 65 }
     ensures taken { MatchResult result
-        (λ values. entries_at (λ g. initial_by_plan plans.now g) (λ u b. plan_parts from.old.profile plans.now levels u true b) fields.now (left from.old) ≡ Ok (views values))
-        (λ fault. RefusesIfMemory fault (entries_at (λ g. initial_by_plan plans.now g) (λ u b. plan_parts from.old.profile plans.now levels u true b) fields.now (left from.old))) }
+        (λ values. fields_at (λ g. initial_by_plan plans.now g) (λ g b. plan_parts from.old.profile plans.now levels g.item true b) fields.now (left from.old) ≡ Ok (views values))
+        (λ fault. RefusesIfMemory fault (fields_at (λ g. initial_by_plan plans.now g) (λ g b. plan_parts from.old.profile plans.now levels g.item true b) fields.now (left from.old))) }
     ensures on { OnOk result (MovesOn from.old from.new) }
 {
     let mut values = Vec::with_capacity(alloc, fields.len())?;
@@ -254,8 +254,8 @@ fn field_from(
     requires some { 0 < levels }
     requires inside { is_inside from.old ≡ true }
     requires room { length from.old.ends + levels ≤ 65 }
-    ensures taken { TakesIfMemory view result (entry_at (λ g. initial_by_plan plans.now g)
-        (λ u b. plan_parts from.old.profile plans.now levels u true b) field.now (left from.old)) (left from.new) }
+    ensures taken { TakesIfMemory view result (field_at (λ g. initial_by_plan plans.now g)
+        (λ g b. plan_parts from.old.profile plans.now levels g.item true b) field.now (left from.old)) (left from.new) }
     ensures on { OnOk result (MovesOn from.old from.new) }
 {
     if from.at_end() {
@@ -267,7 +267,7 @@ fn field_from(
 
 /// Reads a union.
 #[cycle(read)]
-#[tactic(auto, unfolding(crate::specs::steps::PlanRead::plan_union_at))]
+#[tactic(auto, unfolding(wire_model::specs::ReadOf::union_at))]
 fn union_from(
     alloc: Global,
     plans: &Plans,
@@ -277,8 +277,8 @@ fn union_from(
     from: &mut WordReader,
 ) -> Result<Value, ReadFault>
     requires { length from.old.ends + levels ≤ 64 }
-    ensures taken { TakesIfMemory view result (plan_union_at from.old.profile (is_level_left levels) nullable
-        (λ u b. plan_parts from.old.profile plans.now levels u (is_inside from.old) b) fields.now (is_inside from.old) (left from.old)) (left from.new) }
+    ensures taken { TakesIfMemory view result (union_at from.old.profile (is_level_left levels) nullable
+        (λ g b. plan_parts from.old.profile plans.now levels g.item (is_inside from.old) b) fields.now (is_inside from.old) (left from.old)) (left from.new) }
     ensures on { OnOk result (MovesOn from.old from.new) }
 {
     if !marker_from(alloc, nullable, from)? {
@@ -292,7 +292,7 @@ fn union_from(
 
 /// Reads a union after its marker.
 #[cycle(read)]
-#[tactic(auto, unfolding(crate::specs::steps::PlanRead::plan_tagged_at))]
+#[tactic(auto, unfolding(wire_model::specs::ReadOf::tagged_at))]
 fn tagged_from(
     alloc: Global,
     plans: &Plans,
@@ -302,7 +302,7 @@ fn tagged_from(
 ) -> Result<Value, ReadFault>
     requires some { 0 < levels }
     requires room { length from.old.ends + levels ≤ 64 }
-    ensures taken { TakesIfMemory view result (plan_tagged_at (λ u b. plan_parts from.old.profile plans.now levels u (is_inside from.old) b)
+    ensures taken { TakesIfMemory view result (tagged_at (λ g b. plan_parts from.old.profile plans.now levels g.item (is_inside from.old) b)
         fields.now (is_inside from.old) (left from.old)) (left from.new) }
     ensures on { OnOk result (MovesOn from.old from.new) }
 {

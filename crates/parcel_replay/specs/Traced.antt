@@ -1,11 +1,10 @@
 -- What a line of a trace says (own): a request that was carried, as `run --trace` prints it. A line is bytes.
-use Rattle.std.specs.Prelude.{ℕ, ◌+◌, ◌==◌, nat_le, nat_lt, Bool, false, true, not, ◌&&◌, if◌then◌else◌, List, [], ◌∷◌, length, take, drop, Option, Some, None, option_map, codes, bytes_eq}
-use Rattle.std.specs.Char.{is_ascii_digit}
-use Rattle.std.specs.List.{list_all, position}
+use Rattle.std.specs.Prelude.{ℕ, ◌+◌, ◌==◌, nat_lt, Bool, if◌then◌else◌, List, [], length, take, drop, Option, Some, None, option_map, codes, bytes_eq}
+use Rattle.std.specs.List.{position}
 use Rattle.std.specs.Result.{result_ok}
-use Rattle.std.specs.Str.Parse.{digits_value}
 use Rattle.aidl_base.specs.declared.limit.LimitName.TheVariants.{ParcelBytes}
 use Rattle.aidl_base.specs.Limits.{limit_number}
+use Rattle.decimal_words.specs.Decimals.{number_within}
 use Rattle.hex.specs.Hex.{decode_of}
 
 -- one step after another
@@ -18,19 +17,9 @@ None >>= f = None
 unfoldable pub word_at : List ℕ → Option (List ℕ × List ℕ)
 word_at text = option_map (λ n. (take n text, drop (n + 1) text)) (position (λ b. b == 32) text)
 
--- a first byte is there, and it isn't `0` unless it is the only one
-abbrev pub begins_well : List ℕ → Bool
-begins_well [] = false
-begins_well (b ∷ []) = true
-begins_well (b ∷ c ∷ word) = not (b == 48)
-
--- decimal digits without a leading zero
-abbrev pub is_decimal : List ℕ → Bool
-is_decimal word = list_all is_ascii_digit word && begins_well word
-
 -- a transaction code: a decimal of 0 to 4294967295
-unfoldable pub code_of : List ℕ → Option ℕ
-code_of word = if is_decimal word && nat_le (digits_value 10 word) 4294967295 then Some (digits_value 10 word) else None
+abbrev pub code_of : List ℕ → Option ℕ
+code_of word = number_within 0 4294967295 word
 
 -- bytes: two hexadecimal digits each, in either case, or `-` for none
 unfoldable pub bytes_of : List ℕ → Option (List ℕ)

@@ -1,7 +1,6 @@
 //! The requests of a trace, answered again by a service of another version or of the same.
 #![tactic(auto)]
 
-mod numbers;
 mod parcels;
 mod replaying;
 mod words;

@@ -3,8 +3,8 @@ ghost use Rattle.std.specs.Prelude.{◌≡◌, ◌<◌, ◌==◌, List, ℕ, Opt
 ghost use Rattle.std.specs.List.{position};
 ghost use Rattle.parcel_replay.specs.Traced as traced;
 
-use crate::numbers::code_of;
 use crate::parcels::is_parcel;
+use decimal_words::number_within;
 
 /// The code, and the word of the bytes that were delivered, of `CODE SENT DELIVERED` with single blanks. It takes no memory.
 #[tactic(auto, unfolding(crate::specs::Traced::request_of))]
@@ -48,6 +48,13 @@ fn first_code(text: &[u8]) -> Option<u32>
         Some((word, _)) => code_of(word),
         None => None,
     }
+}
+
+// The code that a word spells.
+fn code_of(word: &[u8]) -> Option<u32>
+    ensures { result ≡ traced.code_of word.now }
+{
+    number_within(0, u32::MAX, word)
 }
 
 // The word up to the first blank, and what stands behind that blank.

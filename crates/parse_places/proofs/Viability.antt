@@ -1,5 +1,5 @@
 -- What the place says of trees.
-use Rattle.std.proofs.Common.{inl, inr, ◌≡◌, ℕ, zero, suc, ◌+◌, ◌<◌, ◌≤◌, true, List, [], ◌∷◌, ◌++◌, length, map, take, Option, Some, None, refl, sym, ap, subst, ◌∙◌, append_assoc, append-nil, length-append, arith}
+use Rattle.std.proofs.Common.{inl, inr, ◌⊎◌, ◌≡◌, ℕ, zero, suc, ◌+◌, ◌<◌, ◌≤◌, true, List, [], ◌∷◌, ◌++◌, length, map, take, Option, Some, None, refl, sym, ap, subst, ◌∙◌, append_assoc, append-nil, length-append, arith}
 use Rattle.std.specs.Prelude.{Result, Ok, Err, IfOk, MatchOption}
 use Rattle.std.proofs.Math.Seq.{take-append_seam}
 use Rattle.aidl_base.specs.declared.memory.OutOfMemory.{OutOfMemory}
@@ -81,10 +81,21 @@ not_before ts j k (v, inl e) (w, inl d) lt = omega arith
 not_before ts j k (v, inl e) (w, inr (l, d)) lt = omega arith
 not_before ts j k (v, inr (l, stop)) (w, q) lt = stop (viable_less (j + 1) k ts (omega arith) w)
 
-same_place : (ts : List Token) (j k : ℕ) → IsFaultPlace ts j → IsFaultPlace ts k → j ≡ k
+pub same_place : (ts : List Token) (j k : ℕ) → IsFaultPlace ts j → IsFaultPlace ts k → j ≡ k
 same_place ts j k p q = go (λ lt. not_before ts j k p q lt) (λ lt. not_before ts k j q p lt) where
   go : (j < k → ⊥) → (k < j → ⊥) → j ≡ k
   go f g = omega arith
+
+not_both : (k : ℕ) (o : Option ℕ) → o ≡ Some k → o ≡ None → ⊥
+not_both k o e f = cc
+
+-- Tokens have a tree, or they have none and a place.
+pub tree_or_place : (ts : List Token) → HasTree ts ⊎ ((HasTree ts → ⊥) × ((k : ℕ) × IsFaultPlace ts k))
+tree_or_place ts = by_place (place_from 0 ts whole) refl
+  where
+    by_place : (o : Option ℕ) → place_from 0 ts whole ≡ o → HasTree ts ⊎ ((HasTree ts → ⊥) × ((k : ℕ) × IsFaultPlace ts k))
+    by_place None e = inl (none_tree ts e)
+    by_place (Some k) e = inr (λ tree. not_both k (place_from 0 ts whole) e (tree_none ts tree), (k, some_place ts k e))
 
 -- The clauses of the public call.
 

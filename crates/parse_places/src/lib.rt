@@ -15,4 +15,4 @@ mod placing;
 mod rows;
 mod terminal;
 
-pub use placing::{fault_place, law_offsets};
+pub use placing::{fault_place, law_offsets, law_one_place};

@@ -1,5 +1,5 @@
 //! The place of the syntax fault of a list of tokens, found by running the automaton over them.
-ghost use Rattle.std.specs.Prelude.{◌≡◌, ℕ, map, reverse, Some, None, IfOk, MatchOption};
+ghost use Rattle.std.specs.Prelude.{◌≡◌, ◌⊎◌, ℕ, map, reverse, Some, None, IfOk, MatchOption};
 ghost use Rattle.parse_places.specs.Viable.{HasTree, Viable, IsFaultPlace};
 ghost use Rattle.parse_places.specs.steps.Places as places;
 
@@ -28,6 +28,13 @@ pub fn fault_place(alloc: Global, tokens: &[Token]) -> Result<Option<usize>, Out
 /// A law of the definitions: whether tokens are viable, no offset of theirs decides.
 pub fn law_offsets(first: &[Token], second: &[Token])
     ensures { map (λ t. t.kind) first.now ≡ map (λ t. t.kind) second.now → Viable first.now → Viable second.now }
+{}
+
+/// A law of the definitions: a tree stands for tokens, or none does and they have the place of a fault; and no tokens have two
+/// places.
+pub fn law_one_place(tokens: &[Token])
+    ensures one { HasTree tokens.now ⊎ ((HasTree tokens.now → ⊥) × ((k : ℕ) × IsFaultPlace tokens.now k)) }
+    ensures only { (j k : ℕ) → IsFaultPlace tokens.now j → IsFaultPlace tokens.now k → j ≡ k }
 {}
 
 // The place at which the tokens stop the stack of what is expected.

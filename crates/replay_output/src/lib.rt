@@ -2,7 +2,6 @@
 #![tactic(auto)]
 
 mod answers;
-mod interfaces;
 mod lines;
 mod replaying;
 

@@ -4,10 +4,10 @@ ghost use Rattle.replay_output.specs.Replaying.{replay_answer, replayed_text};
 ghost use Rattle.run_output.specs.CallLines.{lines_of};
 ghost use Rattle.tool_frame.specs.Results.{Gives};
 
-use crate::interfaces::interface_named;
 use crate::lines::push_line;
 use aidl_base::OutOfMemory;
 use aidl_schema::Schema;
+use call_scripts::interface_named;
 use marshal_plans::compile;
 use run_output::cut;
 use std::alloc::Global;

@@ -16,4 +16,4 @@ mod sizes;
 mod small;
 
 pub use bound::{Bound, bounds};
-pub use laws::{law_reaches_cycle, law_within};
+pub use laws::{law_reaches_cycle, law_too_large, law_within};

@@ -1,7 +1,6 @@
 pub mod Command
 pub mod Cut
 pub mod Entries
-pub mod Numbers
 pub mod Options
 pub mod Paths
 pub mod Rows

@@ -1,9 +1,9 @@
 -- The table of commands: which command the words are.
 use Rattle.std.specs.Prelude.{ℕ, Bool, ◌&&◌, option_and_then, if◌then◌else◌, List, [], ◌∷◌, Option, Some, None, codes, bytes_eq}
 use Rattle.std.specs.Option.{option_map}
+use Rattle.decimal_words.specs.Decimals.{number_within}
 use Rattle.tool_words.specs.Command.{Command, decode, encode, check, dump, freeze, verify, rehash, judge, witness, run, make, ask, explain, replay}
 use Rattle.tool_words.specs.Entries.{types_and_file}
-use Rattle.tool_words.specs.Numbers.{number_within}
 use Rattle.tool_words.specs.Options.{has_flag, after_flag, tree_of, after_tree}
 use Rattle.tool_words.specs.Paths.{is_path, one_path, two_paths, three_paths}
 

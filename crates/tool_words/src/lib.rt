@@ -4,7 +4,6 @@
 mod command;
 mod cut;
 mod entry;
-mod numbers;
 mod options;
 mod paths;
 mod rows;

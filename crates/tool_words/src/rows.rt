@@ -5,10 +5,10 @@ ghost use Rattle.tool_words.specs.Rows as table;
 ghost use Rattle.tool_words.specs.Seen.{command_seen};
 
 use crate::command::Command;
-use crate::numbers::number_within;
 use crate::options::{after_flag, after_tree, has_flag, tree_of};
 use crate::paths::{is_path, one_path, three_paths, two_paths};
 use crate::type_words::types_and_file;
+use decimal_words::number_within;
 
 /// The command that the words are, those after the program's own name. None where they are in no row of the table of
 /// commands. It takes no memory.
@@ -163,7 +163,7 @@ fn make(words: &[String]) -> Option<Command<'_>>
 fn make_of<'a>(count: &str, out: &'a str) -> Option<Command<'a>>
     ensures { option_map command_seen result ≡ table.make_of count.now out.now }
 {
-    let count = number_within(1, 1000, count)?;
+    let count = number_within(1, 1000, count.as_bytes())?;
     Some(Command::Make { count, out })
 }
 
@@ -193,8 +193,8 @@ fn ask_of<'a>(
 ) -> Option<Command<'a>>
     ensures { option_map command_seen result ≡ table.ask_of api.now version.now interface.now code.now file.now }
 {
-    let version = number_within(1, 9999, version)?;
-    let code = number_within(0, 4294967295, code)?;
+    let version = number_within(1, 9999, version.as_bytes())?;
+    let code = number_within(0, 4294967295, code.as_bytes())?;
     Some(Command::Ask {
         api,
         version,

@@ -9,7 +9,7 @@ ghost use Rattle.tree_files.specs.Refusals.{IsRefusal};
 
 use aidl_base::SourceFile;
 
-/// A law of the definitions: files have one list of trees, or one refusal, never both. Want of memory is no refusal here.
+/// A law of the definitions: files have at most one list of trees or one refusal, and never both. Want of memory is no refusal here.
 pub fn law_one_answer(files: &[SourceFile])
     ensures one_list { (first second : List ParsedFile) → AreParsed files.now first → AreParsed files.now second → map source_of first ≡ map source_of second }
     ensures one_refusal { (first second : FilesFault) → first ≢ fault.OutOfMemory → second ≢ fault.OutOfMemory → IsRefusal files.now first → IsRefusal files.now second → first ≡ second }

@@ -5,6 +5,7 @@ mod Lenient
 mod Parts
 mod RawForms
 mod Steps
+mod TermExamples
 mod TextForms
 mod ViewExamples
 mod again

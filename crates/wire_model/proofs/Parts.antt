@@ -39,7 +39,7 @@ module _ (p : Profile) (left raw : Bool) (read : List ℕ → Read Data) (inside
   elements_at-items = rw (has, apart)
 
 -- a record whose marker says that it is there
-pub record_at-there : (p : Profile) (left nullable : Bool) (initial : Field → Data) (read : AidlType → List ℕ → Read Data) (fs : List Field) (inside : Bool) (b c : List ℕ)
+pub record_at-there : (p : Profile) (left nullable : Bool) (initial : Field → Data) (read : Field → List ℕ → Read Data) (fs : List Field) (inside : Bool) (b c : List ℕ)
     → left ≡ true → marker_at p nullable inside b ≡ Ok (true, c)
     → record_at p left nullable initial read fs inside b ≡ body_value_at initial read fs inside c
 unfolding record_at
@@ -47,8 +47,8 @@ record_at-there p left nullable initial read fs inside b c has there =
     ap (then_there left (λ e. body_value_at initial read fs inside e)) there ∙ rw has refl
 
 -- a union whose tag names a field
-pub tagged_at-field : (read : AidlType → List ℕ → Read Data) (fs : List Field) (inside : Bool) (b c after : List ℕ) (k : ℕ) (f : Field) (v : Data)
-    → tag_at inside b ≡ Ok (k, c) → slice_get fs k ≡ Some f → read f.ty c ≡ Ok (v, after)
+pub tagged_at-field : (read : Field → List ℕ → Read Data) (fs : List Field) (inside : Bool) (b c after : List ℕ) (k : ℕ) (f : Field) (v : Data)
+    → tag_at inside b ≡ Ok (k, c) → slice_get fs k ≡ Some f → read f c ≡ Ok (v, after)
     → tagged_at read fs inside b ≡ Ok (alt k v, after)
 unfolding tagged_at
 tagged_at-field read fs inside b c after k f v tag at h =

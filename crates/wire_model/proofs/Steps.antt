@@ -5,7 +5,6 @@ use Rattle.aidl_base.specs.Profiles.{is_padding}
 use Rattle.aidl_base.specs.Words.{padding}
 use Rattle.aidl_base.specs.Readings.{Read, ◌>>=◌, bytes_at, count_of, count_at, counted_at, block_at, block_len, text_of, text_at, raw_at, ok_or_bad_value, size_of}
 use Rattle.aidl_schema.specs.declared.schema.Field.{Field}
-use Rattle.aidl_schema.specs.declared.schema.AidlType.{AidlType}
 use Rattle.aidl_values.specs.Data.{Data, null, text, seq, rec, alt, Items, item}
 use Rattle.wire_model.specs.Status.{bad_value}
 use Rattle.wire_model.specs.ReadOf.{read_as, text_data, each_at, raw_items, raw_items_at, elements_at, there_of, marked_at, fields_at, tag_of, ok_field}
@@ -65,11 +64,11 @@ abbrev pub then_inner : Bool → List ℕ → Result ℕ ℤ → Read (List ℕ)
 then_inner inside b z = z >>= λ x. bytes_at (x - 4) inside b
 
 -- after a record's bytes
-abbrev pub then_fields : (Field → Data) → (AidlType → List ℕ → Read Data) → List Field → Read (List ℕ) → Read Data
+abbrev pub then_fields : (Field → Data) → (Field → List ℕ → Read Data) → List Field → Read (List ℕ) → Read Data
 then_fields initial read fs inner = inner >>= λ x. fields_at initial read fs x.0 >>= λ vs. Ok (rec vs, x.1)
 
 -- after a field, and after those that follow it
-abbrev pub then_others : (Field → Data) → (AidlType → List ℕ → Read Data) → List Field → Read Data → Result Items ℤ
+abbrev pub then_others : (Field → Data) → (Field → List ℕ → Read Data) → List Field → Read Data → Result Items ℤ
 then_others initial read fs first = first >>= λ x. fields_at initial read fs x.1 >>= λ others. Ok (item x.0 others)
 
 abbrev pub with_field : Data → Result Items ℤ → Result Items ℤ
@@ -79,11 +78,11 @@ abbrev pub then_rec : List ℕ → Result Items ℤ → Read Data
 then_rec rest vs = vs >>= λ x. Ok (rec x, rest)
 
 -- after a tag, and after its field
-abbrev pub then_alternative : (AidlType → List ℕ → Read Data) → List Field → Read ℕ → Read Data
-then_alternative read fs k = k >>= λ x. ok_field (slice_get fs x.0) >>= λ f. read f.ty x.1 >>= λ v. Ok (alt x.0 v.0, v.1)
+abbrev pub then_alternative : (Field → List ℕ → Read Data) → List Field → Read ℕ → Read Data
+then_alternative read fs k = k >>= λ x. ok_field (slice_get fs x.0) >>= λ f. read f x.1 >>= λ v. Ok (alt x.0 v.0, v.1)
 
-abbrev pub then_field : (AidlType → List ℕ → Read Data) → ℕ → List ℕ → Option Field → Read Data
-then_field read k b f = ok_field f >>= λ g. read g.ty b >>= λ v. Ok (alt k v.0, v.1)
+abbrev pub then_field : (Field → List ℕ → Read Data) → ℕ → List ℕ → Option Field → Read Data
+then_field read k b f = ok_field f >>= λ g. read g b >>= λ v. Ok (alt k v.0, v.1)
 
 abbrev pub with_tag : ℕ → Read Data → Read Data
 with_tag k v = v >>= λ x. Ok (alt k x.0, x.1)

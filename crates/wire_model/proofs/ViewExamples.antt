@@ -1,5 +1,5 @@
 -- Worked views: what values are to another version of their types, computed.
-use Rattle.std.proofs.Common.{◌≡◌, pos, List, [], ◌∷◌, Option, Some, None, refl}
+use Rattle.std.proofs.Common.{◌≡◌, pos, Bool, true, false, List, [], ◌∷◌, Option, Some, None, refl}
 use Rattle.std.specs.Prelude.{codes}
 use Rattle.aidl_base.specs.declared.constant.Const.{Const}
 use Rattle.aidl_schema.specs.declared.schema.AidlType.{AidlType}
@@ -8,6 +8,7 @@ use Rattle.aidl_schema.specs.declared.schema.Decl.{Decl}
 use Rattle.aidl_schema.specs.declared.schema.Kind.TheVariants.{Parcelable, Union}
 use Rattle.aidl_values.specs.Data.{Data, null, number, text, seq, rec, alt, none, item}
 use Rattle.aidl_values.specs.Default.{const_value, zero_within}
+use Rattle.wire_model.specs.Unknown.{has_unknown_tag}
 use Rattle.wire_model.specs.View.{view_of}
 use Rattle.wire_model.proofs.Examples.{one, array, or_null, declared, field, newer, older, tagged, small, large, it, record_of}
 
@@ -34,6 +35,18 @@ unknown_tag : (views second_version it first_version it (rec (item (number (pos 
     × (views first_version it second_version (one base.Int) (rec (item (number (pos 7)) none)) ≡ None)
 unfolding views first_version second_version it one array
 unknown_tag = (refl, refl, refl, refl, refl, refl)
+
+-- These are the values with an unknown tag: nothing that is dropped counts.
+hindered : List Decl → AidlType → List Decl → AidlType → Data → Bool
+unfolding zero_within
+hindered A t B u v = has_unknown_tag A t B u v
+
+unknown_where_no_view : (hindered second_version it first_version it (rec (item (number (pos 7)) (item (alt 2 (number (pos 5))) none))) ≡ false)
+    × (hindered second_version (one (base.Named 1)) first_version (one (base.Named 1)) (alt 2 (number (pos 5))) ≡ true)
+    × (hindered second_version (one (base.Named 1)) first_version (one (base.Named 1)) (alt 1 (text (codes "a"))) ≡ false)
+    × (hindered second_version (array (base.Named 1)) first_version (array (base.Named 1)) (seq (item (alt 0 (number (pos 1))) (item (alt 2 (number (pos 5))) none))) ≡ true)
+unfolding hindered first_version second_version it one array
+unknown_where_no_view = (refl, refl, refl, refl)
 
 -- a parcelable of the name of the enums of Examples.antt
 kind_changed : List Decl

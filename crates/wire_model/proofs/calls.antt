@@ -5,4 +5,5 @@ pub mod Methods
 pub mod Replies
 pub mod Requests
 pub mod Types
+pub mod Unknown
 pub mod Values

@@ -1,12 +1,17 @@
 pub mod Calls
+pub mod Dots
+pub mod MetaStub
 pub mod Outcome
 pub mod ReadOf
 pub mod Reads
 pub mod Receiver
 pub mod Requests
+pub mod SeenAs
 pub mod Spell
 pub mod Status
 pub mod Stop
+pub mod Terms
 pub mod Typed
+pub mod Unknown
 pub mod View
 pub mod steps

@@ -36,6 +36,10 @@ abbrev pub method_like : Option Method → List Method → Option ℕ
 method_like None ws = None
 method_like (Some v) ws = position (λ w. same_method v w) ws
 
+-- the call is one of method n of the server's interface j: these have the names of the client's
+abbrev pub Reaches : List Decl → ℕ → ℕ → List Decl → ℕ → ℕ → Type 0
+Reaches A i m B j n = (declared_as B (descriptor A i) ≡ Some j) × (method_like (method_at A i m) (methods_at B j) ≡ Some n)
+
 -- what the handler sees of an argument: the view of an `in` or `inout` one, the opening of an `out` one
 abbrev pub view_argument : List Decl → Arg → List Decl → Arg → Data → Option Data
 view_argument A a B b v = if is_out a.way then Some (opening B b.ty (sent_length v)) else view_of A a.ty B b.ty v

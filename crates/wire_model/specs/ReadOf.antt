@@ -83,13 +83,13 @@ body_at inside b = do
   z ← size_of w.0
   bytes_at (z - 4) inside w.1
 
--- a field of a record of which the bytes b are left: its default where none are; `initial` gives a field's default
-abbrev pub field_at : (Field → Data) → (AidlType → List ℕ → Read Data) → Field → List ℕ → Read Data
+-- a field of a record of which the bytes b are left: its default where none are; `initial` gives a field's default, `read` reads a field
+abbrev pub field_at : {F : Type 0} → (F → Data) → (F → List ℕ → Read Data) → F → List ℕ → Read Data
 field_at initial read f [] = Ok (initial f, [])
-field_at initial read f (x ∷ b) = read f.ty (x ∷ b)
+field_at initial read f (x ∷ b) = read f (x ∷ b)
 
 -- the fields of a record whose bytes are b; bytes after the last are passed over
-abbrev pub fields_at : (Field → Data) → (AidlType → List ℕ → Read Data) → List Field → List ℕ → Result Items ℤ
+abbrev pub fields_at : {F : Type 0} → (F → Data) → (F → List ℕ → Read Data) → List F → List ℕ → Result Items ℤ
 fields_at initial read [] b = Ok none
 fields_at initial read (f ∷ fs) b = do
   first ← field_at initial read f b
@@ -97,14 +97,14 @@ fields_at initial read (f ∷ fs) b = do
   Ok (item first.0 others)
 
 -- a parcelable that is there
-unfoldable pub body_value_at : (Field → Data) → (AidlType → List ℕ → Read Data) → List Field → Bool → List ℕ → Read Data
+unfoldable pub body_value_at : {F : Type 0} → (F → Data) → (F → List ℕ → Read Data) → List F → Bool → List ℕ → Read Data
 body_value_at initial read fs inside b = do
   inner ← body_at inside b
   vs ← fields_at initial read fs inner.0
   Ok (rec vs, inner.1)
 
 -- a parcelable
-unfoldable pub record_at : Profile → Bool → Bool → (Field → Data) → (AidlType → List ℕ → Read Data) → List Field → Bool → List ℕ → Read Data
+unfoldable pub record_at : {F : Type 0} → Profile → Bool → Bool → (F → Data) → (F → List ℕ → Read Data) → List F → Bool → List ℕ → Read Data
 record_at p left nullable initial read fs inside b = do
   m ← marker_at p nullable inside b
   marked_at left (λ c. body_value_at initial read fs inside c) m.0 m.1
@@ -120,20 +120,20 @@ tag_at inside b = do
   k ← tag_of w.0
   Ok (k, w.1)
 
-abbrev pub ok_field : Option Field → Result Field ℤ
+abbrev pub ok_field : {F : Type 0} → Option F → Result F ℤ
 ok_field None = Err bad_value
 ok_field (Some f) = Ok f
 
 -- a union that is there
-unfoldable pub tagged_at : (AidlType → List ℕ → Read Data) → List Field → Bool → List ℕ → Read Data
+unfoldable pub tagged_at : {F : Type 0} → (F → List ℕ → Read Data) → List F → Bool → List ℕ → Read Data
 tagged_at read fs inside b = do
   k ← tag_at inside b
   f ← ok_field (slice_get fs k.0)
-  v ← read f.ty k.1
+  v ← read f k.1
   Ok (alt k.0 v.0, v.1)
 
 -- a union
-unfoldable pub union_at : Profile → Bool → Bool → (AidlType → List ℕ → Read Data) → List Field → Bool → List ℕ → Read Data
+unfoldable pub union_at : {F : Type 0} → Profile → Bool → Bool → (F → List ℕ → Read Data) → List F → Bool → List ℕ → Read Data
 union_at p left nullable read fs inside b = do
   m ← marker_at p nullable inside b
   marked_at left (λ c. tagged_at read fs inside c) m.0 m.1
@@ -147,8 +147,8 @@ one_at p left initial read nullable form.char inside b = read_as char_data (char
 one_at p left initial read nullable form.int inside b = read_as number (word_at inside b)
 one_at p left initial read nullable form.long inside b = read_as number (long_at inside b)
 one_at p left initial read nullable form.text inside b = read_as text_data (text_at p nullable inside b)
-one_at p left initial read nullable (form.parcelable fs) inside b = record_at p left nullable initial (λ u b. read u true b) fs inside b
-one_at p left initial read nullable (form.union fs) inside b = union_at p left nullable (λ u b. read u inside b) fs inside b
+one_at p left initial read nullable (form.parcelable fs) inside b = record_at p left nullable initial (λ f b. read f.ty true b) fs inside b
+one_at p left initial read nullable (form.union fs) inside b = union_at p left nullable (λ f b. read f.ty inside b) fs inside b
 one_at p left initial read nullable form.nothing inside b = Err bad_value
 
 -- one level; `read` reads its parts

@@ -1,7 +1,7 @@
 -- *Requests and replies*: the bytes of a call's request and of its reply (the compiler's generated proxy and stub; libbinder,
 -- Parcel.cpp: `writeInterfaceToken`, Status.cpp: `writeToParcel`; a token's first two words and the bound on lengths are own).
 -- S is a schema's declarations, i the number of an interface, m the position of its method.
-use Rattle.std.specs.Prelude.{◌≡◌, ℕ, ◌+◌, ◌≤◌, ℤ, pos, negsuc, false, if◌then◌else◌, List, [], ◌∷◌, ◌++◌, length, Option, Some, None, IsTrue, MatchBool, FitsSigned}
+use Rattle.std.specs.Prelude.{◌≡◌, ℕ, ◌+◌, ◌≤◌, ℤ, pos, negsuc, false, if◌then◌else◌, List, [], ◌∷◌, ◌++◌, length, Option, Some, None, IsTrue, MatchBool, FitsSigned, codes}
 use Rattle.std.specs.Int.{w32}
 use Rattle.std.specs.Ordering.{int_eq}
 use Rattle.std.specs.Str.{all_scalars}
@@ -99,6 +99,10 @@ spell_error code error = if int_eq code service_specific then word error else []
 abbrev pub reply : List Decl → ℕ → ℕ → AnswerData → List ℕ
 reply S i m (returned result outs) = word (pos 0) ++ (spell_result S (result_type S i m) result ++ spell_each S (out_types S i m) outs)
 reply S i m (exception code message error) = word code ++ (spell_text message ++ (word (pos 0) ++ spell_error code error))
+
+-- what is answered where bytes of a request are left over: EX_BAD_PARCELABLE with this message (own)
+abbrev pub unread : AnswerData
+unread = exception (negsuc 1) (codes "unread argument bytes") (pos 0)
 
 -- a value exactly where the method isn't void
 abbrev pub ResultFits : List Decl → Option AidlType → Option Data → Type 0

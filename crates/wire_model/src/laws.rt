@@ -1,5 +1,5 @@
 //! Laws of the bytes of values and of calls, within one schema and between two versions of it.
-ghost use Rattle.std.specs.Prelude.{◌≡◌, ◌-◌, ◌*◌, ◌≤◌, ◌<◌, ◌↔◌, ◌++◌, ◌⊎◌, true, false, List, [], ℕ, ℤ, Some, None, Ok, Err, length};
+ghost use Rattle.std.specs.Prelude.{◌≡◌, ◌-◌, ◌*◌, ◌≤◌, ◌<◌, ◌↔◌, ◌++◌, ◌⊎◌, ◌||◌, true, false, List, [], ℕ, ℤ, Option, Some, None, Ok, Err, is_none, length};
 ghost use Rattle.aidl_base.specs.declared.profile.Profile.TheVariants.{Strict, Lenient};
 ghost use Rattle.aidl_schema.specs.Broken.{broken};
 ghost use Rattle.aidl_schema.specs.Find.{methods_at, position_of_code};
@@ -10,16 +10,18 @@ ghost use Rattle.aidl_values.specs.Fits.{Fits};
 ghost use Rattle.aidl_values.specs.HasType.{HasType};
 ghost use Rattle.aidl_values.specs.Nodes.{nodes_of};
 ghost use Rattle.aidl_values.specs.View.{view, views};
-ghost use Rattle.wire_model.specs.Calls.{AnswerData, answer_of, arguments, code_at, descriptor, is_oneway, method_at};
-ghost use Rattle.wire_model.specs.Outcome.{OneFollows, SameWays, declared_as, done, method_like, oneway, outcome, outcome_within, received_call, seen_answer};
+ghost use Rattle.wire_model.specs.Calls.{AnswerData, answer_of, returned, arguments, code_at, descriptor, is_oneway, method_at, out_types, result_type};
+ghost use Rattle.wire_model.specs.Outcome.{OneFollows, Reaches, SameWays, declared_as, done, method_like, oneway, outcome, outcome_within, received_call, seen_answer, view_arguments, view_result, view_values};
 ghost use Rattle.wire_model.specs.ReadOf.{read_of};
 ghost use Rattle.wire_model.specs.Reads.{FrontReads, Reads};
 ghost use Rattle.wire_model.specs.Receiver.{called, client, left, opened_arguments, stub};
-ghost use Rattle.wire_model.specs.Requests.{AnswerFits, ArgsFit, reply, request};
+ghost use Rattle.wire_model.specs.Requests.{AnswerFits, ArgsFit, ArgumentsFit, IsAnswer, reply, request};
+ghost use Rattle.wire_model.specs.SeenAs.{SeenAs};
 ghost use Rattle.wire_model.specs.Spell.{spell};
 ghost use Rattle.wire_model.specs.Status.{IsStatus, IsTransport, bad_value, unknown_transaction};
 ghost use Rattle.wire_model.specs.Stop.{Stop, Stops};
 ghost use Rattle.wire_model.specs.Typed.{AreArguments, IsGot};
+ghost use Rattle.wire_model.specs.Unknown.{has_unknown_tag, is_unknown_answered, is_unknown_sent};
 ghost use Rattle.wire_model.specs.View.{view_of};
 ghost use Rattle.wire_model.specs.steps.CallsMeet.{CallsMeet};
 ghost use Rattle.wire_model.specs.steps.Meets.{Meets};
@@ -170,6 +172,40 @@ pub fn law_view_same(schema: &Schema, ty: &AidlType, value: &Value)
     law_chain(schema, schema, schema);
     law_meets(schema, schema);
     law_same_types(schema, schema);
+}
+
+/// Of any two schemas: where a value has a view, this is what it is seen as: common fields are what they were, what the sender lacks is
+/// the default, and what the receiver lacks is dropped.
+pub fn law_seen_as(a: &Schema, b: &Schema)
+    ensures { (t u : AidlType) (v w : Data) → view_of a.now.decls t b.now.decls u v ≡ Some w → SeenAs a.now.decls t b.now.decls u v w }
+{}
+
+/// Between two schemas of which one is a legal evolution of the other, a value of the sender's type has no view exactly where a tag in
+/// it, not below a field that is dropped, has no alternative of its name in the receiver's schema.
+pub fn law_view_none(a: &Schema, b: &Schema)
+    ensures { OneFollows a.now.decls b.now.decls → (t u : AidlType) (v : Data) → same a.now.decls t b.now.decls u ≡ true → HasType a.now.decls t v
+        → is_none (view_of a.now.decls t b.now.decls u v) ≡ has_unknown_tag a.now.decls t b.now.decls u v }
+{
+    law_meets(a, b);
+}
+
+/// The same of a call from a client `a` to a method of the server `b` that has its name: of the arguments, where what is sent of an `out` one
+/// isn't looked at, and of the result and the outs.
+pub fn law_call_none(a: &Schema, b: &Schema)
+    ensures sent { OneFollows a.now.decls b.now.decls → (i m j n : ℕ) (args : Items) → Reaches a.now.decls i m b.now.decls j n
+        → ArgumentsFit a.now.decls (arguments a.now.decls i m) args
+        → is_none (view_arguments a.now.decls (arguments a.now.decls i m) b.now.decls (arguments b.now.decls j n) args) ≡ is_unknown_sent a.now.decls i m b.now.decls j n args }
+    ensures answered { OneFollows a.now.decls b.now.decls → (i m j n : ℕ) (result : Option Data) (outs : Items) → Reaches a.now.decls i m b.now.decls j n
+        → IsAnswer b.now.decls j n (returned result outs)
+        → (is_none (view_result b.now.decls (result_type b.now.decls j n) a.now.decls (result_type a.now.decls i m) result)
+        || is_none (view_values b.now.decls (out_types b.now.decls j n) a.now.decls (out_types a.now.decls i m) outs))
+        ≡ is_unknown_answered a.now.decls i m b.now.decls j n result outs }
+{
+    law_meets(a, b);
+    law_meets(b, a);
+    law_calls_meet(a, b);
+    law_calls_meet(b, a);
+    law_valid(a);
 }
 
 /// Where a stub calls a method, the code is the method's, and the values have the types of its arguments. A request is refused

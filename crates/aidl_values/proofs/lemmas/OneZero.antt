@@ -1,5 +1,5 @@
 -- A type has one default.
-use Rattle.std.proofs.Common.{◌≡◌, ℕ, zero, suc, ◌≤◌, true, false, List, [], ◌∷◌, Option, Some, None, refl, sym, ap, ◌∙◌, arith}
+use Rattle.std.proofs.Common.{◌≡◌, ℕ, zero, suc, ◌+◌, ◌≤◌, true, false, List, [], ◌∷◌, Option, Some, None, refl, sym, ap, ◌∙◌, arith}
 use Rattle.std.specs.Prelude.{MatchOption}
 use Rattle.aidl_base.specs.declared.constant.Const.{Const}
 use Rattle.aidl_schema.specs.declared.schema.Decl.{Decl}
@@ -62,3 +62,7 @@ module _ (S : List Decl) where
     same_initials n (f ∷ fs) (item v vs) h le =
         ap (λ w. item w vs) (by_initial f.initial v (zero_within n S f.ty) (IsZero S f.ty v) (λ z. one_zero n f.ty v z (omega arith)) h.0)
         ∙ ap (item (initial_by (λ u. zero_within n S u) f)) (same_initials n fs vs h.1 (omega arith))
+
+  -- whatever their depth
+  pub same_zero : (t : AidlType) (v w : Data) → IsZero S t v → IsZero S t w → v ≡ w
+  same_zero t v w h k = one_zero (depth_of v + depth_of w) t v h (omega arith) ∙ sym (one_zero (depth_of v + depth_of w) t w k (omega arith))

@@ -15,26 +15,26 @@ seen_reason code_reason.UnknownEnumerator = unknown_enumerator
 seen_reason code_reason.TooDeep = too_deep
 
 -- unless memory ran out, this is the refusal
-abbrev pub Fails : {Y : Type 0} → Fault → Answer Y → Type 0
+abbrev pub Fails : {Y : Type 0} → Fault code.Reason → Answer Y → Type 0
 Fails (Refused reason at) answer = answer ≡ Err (record { reason = seen_reason reason; at = string_bytes at })
 Fails OutOfMemory answer = Unit {0}
 
 -- What a function returned, seen by view, is the answer, unless memory ran out.
-abbrev pub Gives : {X Y : Type 0} → (X → Y) → Result X Fault → Answer Y → Type 0
+abbrev pub Gives : {X Y : Type 0} → (X → Y) → Result X (Fault code.Reason) → Answer Y → Type 0
 Gives view (Ok x) answer = answer ≡ Ok (view x)
 Gives view (Err e) answer = Fails e answer
 
 -- the fault behind a step of a pointer, unless memory ran out
-abbrev pub IsBehind : List ℕ → Fault → Fault → Type 0
+abbrev pub IsBehind : List ℕ → Fault code.Reason → Fault code.Reason → Type 0
 IsBehind step old OutOfMemory = Unit {0}
 IsBehind step OutOfMemory (Refused q b) = ⊥
 IsBehind step (Refused r a) (Refused q b) = (q ≡ r) × (string_bytes b ≡ step ++ string_bytes a)
 
 -- the fault of a part as one of the whole, unless memory ran out
-abbrev pub IsBelow : List ℕ → Fault → Fault → Type 0
+abbrev pub IsBelow : List ℕ → Fault code.Reason → Fault code.Reason → Type 0
 IsBelow part old new = IsBehind (47 ∷ part) old new
 
 -- the refusal of a fault inside a reading
-abbrev pub refusal_in : Fault → Option Refusal
+abbrev pub refusal_in : Fault code.Reason → Option Refusal
 refusal_in (Refused reason at) = Some (record { reason = seen_reason reason; at = string_bytes at })
 refusal_in OutOfMemory = None

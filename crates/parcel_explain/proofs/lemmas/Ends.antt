@@ -142,9 +142,9 @@ module _ (left inside : Bool) (path : List ℕ) (initial : Field → Data) (note
   read_good (Err s) = Err s
 
   -- fields of which no bytes are left
-  all_default : (fs : List Field) → read_good (fields_at initial read fs []) ≡ Ok tt
+  all_default : (fs : List Field) → read_good (fields_at initial (λ f c. read f.ty c) fs []) ≡ Ok tt
   all_default [] = refl
-  all_default (f ∷ fs) = others (fields_at initial read fs []) (all_default fs)
+  all_default (f ∷ fs) = others (fields_at initial (λ f c. read f.ty c) fs []) (all_default fs)
     where
       others : (r : Result Items ℤ) → read_good r ≡ Ok tt → read_good (r >>= λ vs. Ok (item (initial f) vs)) ≡ Ok tt
       others (Ok vs) e = refl
@@ -164,12 +164,12 @@ module _ (left inside : Bool) (path : List ℕ) (initial : Field → Data) (note
   field_then p (Err w) (Ok y) next more e h = absurd cc
   field_then p (Err w) (Err s) next more e h = ap (λ (r : Result (List ℕ) ℤ). read_good r) e
 
-  fields_good : (fs : List Field) (b : List ℕ) → good (fields_items note path fs b).found ≡ read_good (fields_at initial read fs b)
+  fields_good : (fs : List Field) (b : List ℕ) → good (fields_items note path fs b).found ≡ read_good (fields_at initial (λ f c. read f.ty c) fs b)
   fields_good [] b = refl
   fields_good (f ∷ fs) [] = sym (all_default (f ∷ fs))
   fields_good (f ∷ fs) (y ∷ b) =
       let one = note f.ty (below path f.name.0) (y ∷ b) in
-      field_then one.parts one.found (read f.ty (y ∷ b)) (λ c. fields_items note path fs c) (λ c. fields_at initial read fs c) (parts f.ty (below path f.name.0) (y ∷ b)) (λ c. fields_good fs c)
+      field_then one.parts one.found (read f.ty (y ∷ b)) (λ c. fields_items note path fs c) (λ c. fields_at initial (λ f c. read f.ty c) fs c) (parts f.ty (below path f.name.0) (y ∷ b)) (λ c. fields_good fs c)
 
   tail_ends : (p : List Part) (f : Result (Unit {0} × List ℕ) Wrong) (r : Result Items ℤ) (after : List ℕ) → good f ≡ read_good r
       → end_of (then_noted p f (λ rest. tail_item path rest.1 after)).found ≡ read_end (r >>= λ vs. Ok (rec vs, after))
@@ -184,17 +184,17 @@ module _ (left inside : Bool) (path : List ℕ) (initial : Field → Data) (note
 
   size_ends : (fs : List Field) (b : List ℕ) (r : Read (List ℕ))
       → EndsAs (step (noted_as path kind.Size b (r >>= λ inner. Ok (inner, drop 4 b))) (λ z. step (fields_items note path fs z.0.0) (λ rest. tail_item path rest.1 z.0.1)))
-      (r >>= λ inner. fields_at initial read fs inner.0 >>= λ vs. Ok (rec vs, inner.1))
-  size_ends fs b (Ok x) = let inner = fields_items note path fs x.0 in tail_ends inner.parts inner.found (fields_at initial read fs x.0) x.1 (fields_good fs x.0)
+      (r >>= λ inner. fields_at initial (λ f c. read f.ty c) fs inner.0 >>= λ vs. Ok (rec vs, inner.1))
+  size_ends fs b (Ok x) = let inner = fields_items note path fs x.0 in tail_ends inner.parts inner.found (fields_at initial (λ f c. read f.ty c) fs x.0) x.1 (fields_good fs x.0)
   size_ends fs b (Err s) = refl
 
-  body_ends : (fs : List Field) (b : List ℕ) → EndsAs (body_items note path fs inside b) (body_value_at initial read fs inside b)
+  body_ends : (fs : List Field) (b : List ℕ) → EndsAs (body_items note path fs inside b) (body_value_at initial (λ f c. read f.ty c) fs inside b)
   unfolding body_items size_at body_value_at
   body_ends fs b = size_ends fs b (body_at inside b)
 
-  pub record_ends : (nullable : Bool) (fs : List Field) (b : List ℕ) → EndsAs (record_items left nullable note path fs inside b) (record_at Strict left nullable initial read fs inside b)
+  pub record_ends : (nullable : Bool) (fs : List Field) (b : List ℕ) → EndsAs (record_items left nullable note path fs inside b) (record_at Strict left nullable initial (λ f c. read f.ty c) fs inside b)
   unfolding record_items value_marker_at record_at
-  record_ends nullable fs b = marked_ends left inside path (λ c. body_items note path fs inside c) (λ c. body_value_at initial read fs inside c) (λ c. body_ends fs c) b (marker_at Strict nullable inside b)
+  record_ends nullable fs b = marked_ends left inside path (λ c. body_items note path fs inside c) (λ c. body_value_at initial (λ f c. read f.ty c) fs inside c) (λ c. body_ends fs c) b (marker_at Strict nullable inside b)
 
   -- a union
   chosen_then : (k : ℕ) (at c : List ℕ) (r : Result Field ℤ)
@@ -208,13 +208,13 @@ module _ (left inside : Bool) (path : List ℕ) (initial : Field → Data) (note
   tag_ends fs b (Ok x) = chosen_then x.0 b x.1 (ok_field (slice_get fs x.0))
   tag_ends fs b (Err s) = refl
 
-  chosen_ends : (fs : List Field) (b : List ℕ) → EndsAs (chosen_items note path fs inside b) (tagged_at read fs inside b)
+  chosen_ends : (fs : List Field) (b : List ℕ) → EndsAs (chosen_items note path fs inside b) (tagged_at (λ f c. read f.ty c) fs inside b)
   unfolding chosen_items field_tag_at tagged_at
   chosen_ends fs b = tag_ends fs b (tag_at inside b)
 
-  pub union_ends : (nullable : Bool) (fs : List Field) (b : List ℕ) → EndsAs (union_items left nullable note path fs inside b) (union_at Strict left nullable read fs inside b)
+  pub union_ends : (nullable : Bool) (fs : List Field) (b : List ℕ) → EndsAs (union_items left nullable note path fs inside b) (union_at Strict left nullable (λ f c. read f.ty c) fs inside b)
   unfolding union_items value_marker_at union_at
-  union_ends nullable fs b = marked_ends left inside path (λ c. chosen_items note path fs inside c) (λ c. tagged_at read fs inside c) (λ c. chosen_ends fs c) b (marker_at Strict nullable inside b)
+  union_ends nullable fs b = marked_ends left inside path (λ c. chosen_items note path fs inside c) (λ c. tagged_at (λ f c. read f.ty c) fs inside c) (λ c. chosen_ends fs c) b (marker_at Strict nullable inside b)
 
 -- one level
 module _ (left : Bool) (initial : Field → Data) (note : Noting) (read : AidlType → Bool → List ℕ → Read Data)

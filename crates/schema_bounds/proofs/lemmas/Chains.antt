@@ -16,7 +16,7 @@ use Rattle.aidl_schema.specs.Sizes.{has_small_default}
 use Rattle.aidl_schema.specs.Valid.{one_of, is_bounded}
 use Rattle.aidl_schema.proofs.lemmas.Chains.{reaches}
 use Rattle.graph_cycles.specs.Paths.{or_empty, IsPath, Leads, TellsCycles, flag, targets}
-use Rattle.schema_bounds.specs.declared.bound.Bound.TheVariants.{Within}
+use Rattle.schema_bounds.specs.declared.bound.Bound.TheVariants.{Within, TooLarge}
 use Rattle.schema_bounds.specs.Bounds.{ReachesCycle, reaches_cycle, bound_by, bound}
 use Rattle.schema_bounds.specs.steps.Hubs.{LeadsToCycle, LeadInside}
 use Rattle.schema_bounds.proofs.Lists.{of_either, all_below, same_test}
@@ -106,6 +106,33 @@ module _ (S : List Decl) where
   told n = (
     λ h. elim (either (holds_itself S n) (list_any (λ k. reaches_within (length S) S n k && holds_itself S k) (range_with_len 0 (length S))) h) [ inl here ↦ (n, inl refl, here) | inr there ↦ reached n there ],
     found n,
+  )
+
+  -- what is too large reaches no cycle and has no small default
+  too_large_by : (holds reach small : Bool) → (holds ≡ true → reach ≡ true) → bound_by holds reach small ≡ TooLarge → (reach ≡ false) × (small ≡ false)
+  too_large_by true reach small so e = cc
+  too_large_by false true small so e = cc
+  too_large_by false false true so e = cc
+  too_large_by false false false so e = (refl, refl)
+
+  by_too_large : (holds reach small : Bool) → (holds ≡ true → reach ≡ true) → reach ≡ false → small ≡ false → bound_by holds reach small ≡ TooLarge
+  by_too_large true reach small so none large = absurd (true≢false (sym (so refl) ∙ none))
+  by_too_large false reach small so none large = rw (none, large) refl
+
+  holds_reaches : (n : ℕ) → holds_itself S n ≡ true → reaches_cycle S n ≡ true
+  holds_reaches n h = or_left (holds_itself S n) (list_any (λ m. reaches_within (length S) S n m && holds_itself S m) (range_with_len 0 (length S))) h
+
+  not_reached : (n : ℕ) (b : Bool) → reaches_cycle S n ≡ b → (ReachesCycle S n → ⊥) → b ≡ false
+  not_reached n true e none = absurd (none ((told n).0 e))
+  not_reached n false e none = refl
+
+  pub too_large : (n : ℕ) → (bound S n ≡ TooLarge) ↔ ((ReachesCycle S n → ⊥) × (has_small_default S (one_of n) ≡ false))
+  too_large n = (
+    λ e.
+        let two = too_large_by (holds_itself S n) (reaches_cycle S n) (has_small_default S (one_of n)) (holds_reaches n) e in
+        (λ there. true≢false (sym ((told n).1 there) ∙ two.0), two.1),
+    λ two.
+        by_too_large (holds_itself S n) (reaches_cycle S n) (has_small_default S (one_of n)) (holds_reaches n) (not_reached n (reaches_cycle S n) refl two.0) two.1,
   )
 
   -- where each is within bounds, none reaches a cycle

@@ -103,7 +103,7 @@ reads_some p S (suc d) t b (alt k v) h e = marker_starts h.5 (word (pos k) ++ h.
 
 module _ (S : List Decl) (PartReads : Readings) (read : AidlType → List ℕ → Read Data)
     (law : (t : AidlType) (b r : List ℕ) (v : Data) → is_type S t ≡ true → PartReads t b v → read t (b ++ r) ≡ Ok (v, r)) (some : (t : AidlType) (b : List ℕ) (v : Data) → PartReads t b v → b ≢ []) where
-  defaults_again : (fs : List Field) (vs : Items) → AreInitial S fs vs → HaveDefaults S fs → fields_at (λ f. initial_in S f) read fs [] ≡ Ok vs
+  defaults_again : (fs : List Field) (vs : Items) → AreInitial S fs vs → HaveDefaults S fs → fields_at (λ f. initial_in S f) (λ f c. read f.ty c) fs [] ≡ Ok vs
   defaults_again [] none h all = refl
   defaults_again [] (item v vs) h all = elim h [ ]
   defaults_again (f ∷ fs) none h all = elim h [ ]
@@ -111,22 +111,22 @@ module _ (S : List Decl) (PartReads : Readings) (read : AidlType → List ℕ �
       let head : v ≡ initial_in S f = unique_initial S f.ty f.initial v (initial_in S f) h.0 all.0.0 in
       ap (with_field (initial_in S f)) (defaults_again fs vs h.1 all.1) ∙ ap (λ d. Ok (item d vs)) (sym head)
 
-  field_there : (f : Field) (b : List ℕ) → b ≢ [] → field_at (λ f. initial_in S f) read f b ≡ read f.ty b
+  field_there : (f : Field) (b : List ℕ) → b ≢ [] → field_at (λ f. initial_in S f) (λ f c. read f.ty c) f b ≡ read f.ty b
   field_there f [] some = absurd (some refl)
   field_there f (x ∷ b) some = refl
 
   fields_again : (fs : List Field) (vs : Items) (b : List ℕ) → FieldsRead S PartReads fs b vs → AreTypes S fs → HaveDefaults S fs
-      → fields_at (λ f. initial_in S f) read fs b ≡ Ok vs
+      → fields_at (λ f. initial_in S f) (λ f c. read f.ty c) fs b ≡ Ok vs
   fields_again [] none b h types all = refl
   fields_again [] (item v vs) b h types all = elim h [ ]
   fields_again (f ∷ fs) none b h types all = elim h [ ]
-  fields_again (f ∷ fs) (item v vs) b (inl h) types all = ap (λ c. fields_at (λ f. initial_in S f) read (f ∷ fs) c) h.0 ∙ defaults_again (f ∷ fs) (item v vs) h.1 all
+  fields_again (f ∷ fs) (item v vs) b (inl h) types all = ap (λ c. fields_at (λ f. initial_in S f) (λ f c. read f.ty c) (f ∷ fs) c) h.0 ∙ defaults_again (f ∷ fs) (item v vs) h.1 all
   fields_again (f ∷ fs) (item v vs) b (inr h) types all =
       let front = h.0 in
       let rest = h.1 in
       let present : b ≢ [] = λ k. some f.ty front v h.3 (no_front front rest (sym h.2 ∙ k)) in
-      let first : field_at (λ f. initial_in S f) read f b ≡ Ok (v, rest) = field_there f b present ∙ ap (read f.ty) h.2 ∙ law f.ty front rest v types.0 h.3 in
-      ap (then_others (λ f. initial_in S f) read fs) first
+      let first : field_at (λ f. initial_in S f) (λ f c. read f.ty c) f b ≡ Ok (v, rest) = field_there f b present ∙ ap (read f.ty) h.2 ∙ law f.ty front rest v types.0 h.3 in
+      ap (then_others (λ f. initial_in S f) (λ f c. read f.ty c) fs) first
       ∙ ap (with_field v) (fields_again fs vs rest h.4 types.1 all.1)
 
 module _ (p : Profile) (S : List Decl) (sound : IsWhole S) where
@@ -144,8 +144,8 @@ module _ (p : Profile) (S : List Decl) (sound : IsWhole S) where
       → one_at p left initial read nullable f inside (word (null_word f) ++ r) ≡ Ok (null, r)
   unfolding text_block_at record_at union_at
   null_one left initial read nullable inside form.text r may is = text_value_steps p nullable inside (word (null_word form.text) ++ r) ∙ rw is (ap (then_text p inside) (null_again inside r))
-  null_one left initial read nullable inside (form.parcelable fs) r may is = rw is (ap (then_there left (λ c. body_value_at initial (λ u b. read u true b) fs inside c)) (marker_null p inside r))
-  null_one left initial read nullable inside (form.union fs) r may is = rw is (ap (then_there left (λ c. tagged_at (λ u b. read u inside b) fs inside c)) (marker_null p inside r))
+  null_one left initial read nullable inside (form.parcelable fs) r may is = rw is (ap (then_there left (λ c. body_value_at initial (λ f b. read f.ty true b) fs inside c)) (marker_null p inside r))
+  null_one left initial read nullable inside (form.union fs) r may is = rw is (ap (then_there left (λ c. tagged_at (λ f b. read f.ty inside b) fs inside c)) (marker_null p inside r))
   null_one left initial read nullable inside form.truth r may is = absurd (true≢false (sym may))
   null_one left initial read nullable inside form.byte r may is = absurd (true≢false (sym may))
   null_one left initial read nullable inside form.char r may is = absurd (true≢false (sym may))
@@ -213,12 +213,12 @@ module _ (p : Profile) (S : List Decl) (sound : IsWhole S) where
       let whole = sound.fields t.base fs h.2 in
       let marked : marker_at p t.nullable inside (b ++ r) ≡ Ok (true, rest ++ r) = rw (h.5, append_assoc marker rest r) (marker_again p t.nullable inside marker (rest ++ r) h.6) in
       let bodied : body_at inside (rest ++ r) ≡ Ok (inner, r) = rw h.7.1 (body_again inside inner r h.7.2 h.7.3) in
-      let read : fields_at (λ f. initial_in S f) (λ u e. read_of p S d u true e) fs inner ≡ Ok vs =
+      let read : fields_at (λ f. initial_in S f) (λ f e. read_of p S d f.ty true e) fs inner ≡ Ok vs =
       fields_again S (λ u front v. Reads p S d u front v) (λ u e. read_of p S d u true e) (λ u c q v type f. again d u true v c q type f) (λ u c v f. reads_some p S d u c v f) fs vs inner h.7.4 whole.0 whole.1 in
       one (suc d) t inside (b ++ r) _ h.0.0
       (rw h.2
-      (ap (then_there true (λ c. body_value_at (λ f. initial_in S f) (λ u e. read_of p S d u true e) fs inside c)) marked
-      ∙ ap (then_fields (λ f. initial_in S f) (λ u e. read_of p S d u true e) fs) bodied
+      (ap (then_there true (λ c. body_value_at (λ f. initial_in S f) (λ f e. read_of p S d f.ty true e) fs inside c)) marked
+      ∙ ap (then_fields (λ f. initial_in S f) (λ f e. read_of p S d f.ty true e) fs) bodied
       ∙ ap (then_rec r) read))
   again (suc d) t inside (alt k v) b r type h =
       let fs = h.1 in
@@ -233,9 +233,9 @@ module _ (p : Profile) (S : List Decl) (sound : IsWhole S) where
       let read = again d f.ty inside v rest r (field_type S fs k f whole.0 h.4) h.9 in
       one (suc d) t inside (b ++ r) _ h.0.0
       (rw h.2
-      (ap (then_there true (λ c. tagged_at (λ u e. read_of p S d u inside e) fs inside c)) marked
-      ∙ ap (then_alternative (λ u e. read_of p S d u inside e) fs) tagged
-      ∙ ap (then_field (λ u e. read_of p S d u inside e) k (rest ++ r)) h.4
+      (ap (then_there true (λ c. tagged_at (λ f e. read_of p S d f.ty inside e) fs inside c)) marked
+      ∙ ap (then_alternative (λ f e. read_of p S d f.ty inside e) fs) tagged
+      ∙ ap (then_field (λ f e. read_of p S d f.ty inside e) k (rest ++ r)) h.4
       ∙ ap (with_tag k) read))
 
   -- a reading and a longer one of the same type are one

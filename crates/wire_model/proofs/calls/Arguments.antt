@@ -1,6 +1,6 @@
 -- What a stub reads of the arguments of a request that another schema spelled: their views and openings, or BAD_VALUE at the
 -- first that has no view.
-use Rattle.std.proofs.Common.{◌≡◌, ℕ, zero, suc, ◌+◌, ◌≤◌, pos, negsuc, Bool, true, false, nat_le, List, [], ◌∷◌, ◌++◌, length, Option, Some, None, Ok, refl, sym, ap, ◌∙◌, subst, arith, length-append}
+use Rattle.std.proofs.Common.{◌≡◌, ℕ, ◌+◌, ◌≤◌, pos, negsuc, Bool, true, false, nat_le, List, [], ◌∷◌, ◌++◌, length, Option, Some, None, Ok, refl, sym, ap, ◌∙◌, subst, arith, length-append}
 use Rattle.std.proofs.lemmas.Bool.Decides.{nat_tests}
 use Rattle.aidl_base.proofs.lemmas.Lists.{AreBytes, AreBytes-rest}
 use Rattle.aidl_base.proofs.lemmas.Words.{count_again, null_again}
@@ -10,21 +10,20 @@ use Rattle.aidl_schema.specs.declared.schema.AidlType.{AidlType}
 use Rattle.aidl_schema.specs.declared.schema.Arg.{Arg}
 use Rattle.aidl_schema.specs.declared.schema.Decl.{Decl}
 use Rattle.aidl_schema.specs.Same.{same}
-use Rattle.aidl_schema.specs.Types.{Form, form_of, is_array, is_one, is_type, elem}
-use Rattle.aidl_schema.specs.Types as form
-use Rattle.aidl_values.specs.Data.{Data, null, truth, number, text, seq, rec, alt, Items, none, item, count}
-use Rattle.aidl_values.specs.Default.{zero_of_form, zero_by, zero_within}
+use Rattle.aidl_schema.specs.Types.{is_array, is_type}
+use Rattle.aidl_values.specs.Data.{Data, null, truth, number, text, seq, rec, alt, Items, none, item}
 use Rattle.aidl_values.specs.Fits.{Fits}
 use Rattle.aidl_values.specs.Sound.{IsSound}
 use Rattle.wire_model.specs.Calls.{is_out}
 use Rattle.wire_model.specs.Outcome.{view_argument, view_arguments}
 use Rattle.wire_model.specs.ReadOf.{Read}
-use Rattle.wire_model.specs.Receiver.{zero_in, repeated, array_opening, within_sum, length_at, array_opening_at, argument_at, items_in, opened_length, arguments_at}
+use Rattle.wire_model.specs.Receiver.{zero_in, array_opening, within_sum, length_at, array_opening_at, argument_at, items_in, opened_length, arguments_at}
 use Rattle.wire_model.specs.Requests.{sent_length, spell_length, argument_part, argument_parts, IsLength, ArgumentFits, ArgumentsFit, number_or_0, asked_length, sum_of_lengths}
 use Rattle.wire_model.specs.Spell.{spell}
 use Rattle.wire_model.specs.View.{item_first}
 use Rattle.wire_model.specs.steps.CallsMeet.{ArgumentsAgree}
 use Rattle.wire_model.specs.steps.Meets.{Meets}
+use Rattle.wire_model.proofs.lemmas.Opened.{default_items, items_opened}
 use Rattle.wire_model.proofs.viewed.Alike.{shape_is, nullable_is}
 use Rattle.wire_model.proofs.calls.Values.{seen_at, with_first, first_seen, value_seen}
 
@@ -62,36 +61,6 @@ array_again : (S : List Decl) (t : AidlType) (sum : ℕ) (n : Option ℕ) (rest 
     → array_opening_at S sum t (spell_length n ++ rest) ≡ Ok (array_opening S t n, rest)
 unfolding array_opening_at
 array_again S t sum n rest fits few = ap (then_opening S t) (length_again t.nullable sum n rest fits few)
-
--- how many items openings have
-count_repeated : (n : ℕ) (v : Data) → count (repeated n v) ≡ n
-count_repeated zero v = refl
-count_repeated (suc n) v = ap suc (count_repeated n v)
-
-items_opened : (S : List Decl) (t : AidlType) (n : Option ℕ) → items_in (array_opening S t n) ≡ number_or_0 n
-items_opened S t None = refl
-items_opened S t (Some n) = count_repeated n (zero_in S (elem S t))
-
-form_items : (zero_value : AidlType → Data) (f : Form) → items_in (zero_of_form zero_value f) ≡ 0
-form_items zero_value form.truth = refl
-form_items zero_value form.byte = refl
-form_items zero_value form.char = refl
-form_items zero_value form.int = refl
-form_items zero_value form.long = refl
-form_items zero_value form.text = refl
-form_items zero_value (form.parcelable fs) = refl
-form_items zero_value (form.union []) = refl
-form_items zero_value (form.union (f ∷ fs)) = refl
-form_items zero_value form.nothing = refl
-
-zero_items : (S : List Decl) (zero_value : AidlType → Data) (t : AidlType) (null_able one : Bool) → t.nullable ≡ null_able → is_one t.shape ≡ one → items_in (zero_by S zero_value t) ≡ 0
-zero_items S zero_value t true one e is = rw e refl
-zero_items S zero_value t false false e is = rw (e, is) refl
-zero_items S zero_value t false true e is = rw (e, is) (form_items zero_value (form_of S t.base))
-
-default_items : (S : List Decl) (t : AidlType) → items_in (zero_in S t) ≡ 0
-unfolding zero_within
-default_items S t = zero_items S (λ u. zero_within 32 S u) t t.nullable (is_one t.shape) refl refl
 
 -- each argument's type is one of the schema
 abbrev pub HaveTypes : List Decl → List Arg → Type 0

@@ -48,7 +48,7 @@ each_nodes PartReads law (item v vs) b h =
 
 module _ (S : List Decl) where
   -- the fields that are not there have their defaults
-  defaults_are : (fs : List Field) (vs : Items) → AreInitial S fs vs → HaveDefaults S fs → vs ≡ initials_in S fs
+  pub defaults_are : (fs : List Field) (vs : Items) → AreInitial S fs vs → HaveDefaults S fs → vs ≡ initials_in S fs
   defaults_are [] none h all = refl
   defaults_are [] (item v vs) h all = elim h [ ]
   defaults_are (f ∷ fs) none h all = elim h [ ]

@@ -86,7 +86,7 @@ items_stop PartReads PartStops read law stop (item v vs) (suc n) b front rest s 
     ap (then_items read n) (ap read at ∙ law one (more ++ rest) v each.3)
     ∙ ap (with_item v) (items_stop PartReads PartStops read law stop vs n (more ++ rest) more rest s (omega arith) refl each.4 h)
 
-field_is : (initial : Field → Data) (read : AidlType → List ℕ → Read Data) (g : Field) (c : List ℕ) → c ≢ [] → field_at initial read g c ≡ read g.ty c
+field_is : (initial : Field → Data) (read : AidlType → List ℕ → Read Data) (g : Field) (c : List ℕ) → c ≢ [] → field_at initial (λ f c. read f.ty c) g c ≡ read g.ty c
 field_is initial read g [] some = absurd (some refl)
 field_is initial read g (x ∷ c) some = refl
 
@@ -94,13 +94,13 @@ field_is initial read g (x ∷ c) some = refl
 fields_stop : (S : List Decl) (initial : Field → Data) (PartReads : Readings) (read : AidlType → List ℕ → Read Data) (law : (t : AidlType) (c q : List ℕ) (v : Data) → is_type S t ≡ true → PartReads t c v → read t (c ++ q) ≡ Ok (v, q))
     → (fs : List Field) (i : ℕ) (f : Field) (vs : Items) (b front rest : List ℕ) (s : ℤ) → AreTypes S fs → slice_get fs i ≡ Some f → b ≡ front ++ rest
     → FieldsThere PartReads (take i fs) front vs → rest ≢ [] → read f.ty rest ≡ Err s
-    → fields_at initial read fs b ≡ Err s
+    → fields_at initial (λ f c. read f.ty c) fs b ≡ Err s
 fields_stop S initial PartReads read law [] i f vs b front rest s types at e there some h = absurd cc
 fields_stop S initial PartReads read law (g ∷ fs) zero f none b front rest s types at e there some h =
     let is : g ≡ f = cc in
     let left : b ≡ rest = e ∙ ap (λ x. x ++ rest) there in
-    let stops : field_at initial read g b ≡ Err s = ap (field_at initial read g) left ∙ field_is initial read g rest some ∙ ap (λ x. read x.ty rest) is ∙ h in
-    ap (then_others initial read fs) stops
+    let stops : field_at initial (λ f c. read f.ty c) g b ≡ Err s = ap (field_at initial (λ f c. read f.ty c) g) left ∙ field_is initial read g rest some ∙ ap (λ x. read x.ty rest) is ∙ h in
+    ap (then_others initial (λ f c. read f.ty c) fs) stops
 fields_stop S initial PartReads read law (g ∷ fs) zero f (item v vs) b front rest s types at e there some h = elim there [ ]
 fields_stop S initial PartReads read law (g ∷ fs) (suc i) f none b front rest s types at e there some h = elim there [ ]
 fields_stop S initial PartReads read law (g ∷ fs) (suc i) f (item v vs) b front rest s types at e there some h =
@@ -108,8 +108,8 @@ fields_stop S initial PartReads read law (g ∷ fs) (suc i) f (item v vs) b fron
     let more = there.1 in
     let left : b ≡ one ++ (more ++ rest) = e ∙ ap (λ x. x ++ rest) there.2 ∙ append_assoc one more rest in
     let present : one ++ (more ++ rest) ≢ [] = λ k. some (no_rest more rest (no_rest one (more ++ rest) k)) in
-    let first : field_at initial read g b ≡ Ok (v, more ++ rest) = ap (field_at initial read g) left ∙ field_is initial read g (one ++ (more ++ rest)) present ∙ law g.ty one (more ++ rest) v types.0 there.3 in
-    ap (then_others initial read fs) first
+    let first : field_at initial (λ f c. read f.ty c) g b ≡ Ok (v, more ++ rest) = ap (field_at initial (λ f c. read f.ty c) g) left ∙ field_is initial read g (one ++ (more ++ rest)) present ∙ law g.ty one (more ++ rest) v types.0 there.3 in
+    ap (then_others initial (λ f c. read f.ty c) fs) first
     ∙ ap (with_field v) (fields_stop S initial PartReads read law fs i f vs (more ++ rest) more rest s types.1 at refl there.4 some h)
 
 -- a size word
@@ -173,15 +173,15 @@ module _ (p : Profile) (S : List Decl) (sound : IsWhole S) (left : Bool) (PartRe
 
   record_stops : (nullable inside : Bool) (fs : List Field) (base : Base) (b : List ℕ) (s : ℤ) → form_of S base ≡ form.parcelable fs → AreBytes b
       → RecordStop p left nullable fs PartReads PartStops b inside s
-      → record_at p left nullable (λ f. initial_in S f) (λ u c. read u true c) fs inside b ≡ Err s
+      → record_at p left nullable (λ f. initial_in S f) (λ f c. read f.ty true c) fs inside b ≡ Err s
   unfolding record_at body_value_at body_at
   record_stops nullable inside fs base b s is bytes (RecordStop.at_marker h) =
-      ap (then_there left (λ c. body_value_at (λ f. initial_in S f) (λ u c. read u true c) fs inside c)) (marker_stops p nullable inside b s h)
+      ap (then_there left (λ c. body_value_at (λ f. initial_in S f) (λ f c. read f.ty true c) fs inside c)) (marker_stops p nullable inside b s h)
   record_stops nullable inside fs base b s is bytes (RecordStop.too_deep begins no_left st) =
-      ap (then_there left (λ c. body_value_at (λ f. initial_in S f) (λ u c. read u true c) fs inside c)) (marked p nullable inside b begins) ∙ rw (no_left, st) refl
+      ap (then_there left (λ c. body_value_at (λ f. initial_in S f) (λ f c. read f.ty true c) fs inside c)) (marked p nullable inside b begins) ∙ rw (no_left, st) refl
   record_stops nullable inside fs base b s is bytes (RecordStop.at_size begins has h) =
-      ap (then_there left (λ c. body_value_at (λ f. initial_in S f) (λ u c. read u true c) fs inside c)) (marked p nullable inside b begins)
-      ∙ rw has (ap (then_fields (λ f. initial_in S f) (λ u c. read u true c) fs) (size_stops inside (after_word b) s h))
+      ap (then_there left (λ c. body_value_at (λ f. initial_in S f) (λ f c. read f.ty true c) fs inside c)) (marked p nullable inside b begins)
+      ∙ rw has (ap (then_fields (λ f. initial_in S f) (λ f c. read f.ty true c) fs) (size_stops inside (after_word b) s h))
   record_stops nullable inside fs base b s is bytes (RecordStop.at_fields begins has z size within (FieldsStop.at_field i f at vs front rest split there some st)) =
       let aw = after_word b in
       let body : body_at inside aw ≡ Ok (fields_bytes z aw, drop (z - 4) (after_word aw)) =
@@ -191,37 +191,37 @@ module _ (p : Profile) (S : List Decl) (sound : IsWhole S) (left : Bool) (PartRe
       let inner_bytes : AreBytes (fields_bytes z aw) = AreBytes-take (z - 4) (after_word aw) (AreBytes-drop 4 aw (AreBytes-drop 4 b bytes)) in
       let types = (sound.fields base fs is).0 in
       let stopped : read f.ty true rest ≡ Err s = stop f.ty true rest s (field_type S fs i f types at) (bytes_after front rest (fields_bytes z aw) split inner_bytes) st in
-      let all : fields_at (λ f. initial_in S f) (λ u c. read u true c) fs (fields_bytes z aw) ≡ Err s =
+      let all : fields_at (λ f. initial_in S f) (λ f c. read f.ty true c) fs (fields_bytes z aw) ≡ Err s =
       fields_stop S (λ f. initial_in S f) PartReads (λ u c. read u true c) (λ t c q v type h. law t true c q v type h) fs i f vs (fields_bytes z aw) front rest s types at split there some stopped in
-      ap (then_there left (λ c. body_value_at (λ f. initial_in S f) (λ u c. read u true c) fs inside c)) (marked p nullable inside b begins)
-      ∙ rw has (ap (then_fields (λ f. initial_in S f) (λ u c. read u true c) fs) body
+      ap (then_there left (λ c. body_value_at (λ f. initial_in S f) (λ f c. read f.ty true c) fs inside c)) (marked p nullable inside b begins)
+      ∙ rw has (ap (then_fields (λ f. initial_in S f) (λ f c. read f.ty true c) fs) body
       ∙ ap (then_rec (drop (z - 4) (after_word aw))) all)
 
   union_stops : (nullable inside : Bool) (fs : List Field) (base : Base) (b : List ℕ) (s : ℤ) → form_of S base ≡ form.union fs → AreBytes b
       → UnionStop p left nullable fs PartStops b inside s
-      → union_at p left nullable (λ u c. read u inside c) fs inside b ≡ Err s
+      → union_at p left nullable (λ f c. read f.ty inside c) fs inside b ≡ Err s
   unfolding union_at tagged_at tag_at
   union_stops nullable inside fs base b s is bytes (UnionStop.at_marker h) =
-      ap (then_there left (λ c. tagged_at (λ u c. read u inside c) fs inside c)) (marker_stops p nullable inside b s h)
+      ap (then_there left (λ c. tagged_at (λ f c. read f.ty inside c) fs inside c)) (marker_stops p nullable inside b s h)
   union_stops nullable inside fs base b s is bytes (UnionStop.too_deep begins no_left st) =
-      ap (then_there left (λ c. tagged_at (λ u c. read u inside c) fs inside c)) (marked p nullable inside b begins) ∙ rw (no_left, st) refl
+      ap (then_there left (λ c. tagged_at (λ f c. read f.ty inside c) fs inside c)) (marked p nullable inside b begins) ∙ rw (no_left, st) refl
   union_stops nullable inside fs base b s is bytes (UnionStop.at_tag begins has (TagStop.short lt)) =
-      ap (then_there left (λ c. tagged_at (λ u c. read u inside c) fs inside c)) (marked p nullable inside b begins)
-      ∙ rw has (ap (λ (w : Read ℤ). then_alternative (λ u c. read u inside c) fs (then_tag w)) (short_word inside (after_word b) lt))
+      ap (then_there left (λ c. tagged_at (λ f c. read f.ty inside c) fs inside c)) (marked p nullable inside b begins)
+      ∙ rw has (ap (λ (w : Read ℤ). then_alternative (λ f c. read f.ty inside c) fs (then_tag w)) (short_word inside (after_word b) lt))
   union_stops nullable inside fs base b s is bytes (UnionStop.at_tag begins has (TagStop.no_tag le h)) =
-      ap (then_there left (λ c. tagged_at (λ u c. read u inside c) fs inside c)) (marked p nullable inside b begins)
-      ∙ rw has (ap (λ (w : Read ℤ). then_alternative (λ u c. read u inside c) fs (then_tag w)) (whole_word inside (after_word b) le)
+      ap (then_there left (λ c. tagged_at (λ f c. read f.ty inside c) fs inside c)) (marked p nullable inside b begins)
+      ∙ rw has (ap (λ (w : Read ℤ). then_alternative (λ f c. read f.ty inside c) fs (then_tag w)) (whole_word inside (after_word b) le)
       ∙ no_field (first_word (after_word b)) h)
     where
       no_field : (w : ℤ) → ((k : ℕ) → w ≡ pos k → length fs ≤ k)
-          → then_alternative (λ u c. read u inside c) fs (then_tag (Ok (w, after_word (after_word b)))) ≡ Err bad_value
+          → then_alternative (λ f c. read f.ty inside c) fs (then_tag (Ok (w, after_word (after_word b)))) ≡ Err bad_value
       no_field (negsuc k) h = refl
-      no_field (pos k) h = ap (then_field (λ u c. read u inside c) k (after_word (after_word b))) (slice_get_past fs k (h k refl))
+      no_field (pos k) h = ap (then_field (λ f c. read f.ty inside c) k (after_word (after_word b))) (slice_get_past fs k (h k refl))
   union_stops nullable inside fs base b s is bytes (UnionStop.at_field begins has k tag f at st) =
       let tail = after_word (after_word b) in
       let stopped : read f.ty inside tail ≡ Err s = stop f.ty inside tail s (field_type S fs k f (sound.tags base fs is).0 at) (AreBytes-drop 4 (after_word b) (AreBytes-drop 4 b bytes)) st in
-      ap (then_there left (λ c. tagged_at (λ u c. read u inside c) fs inside c)) (marked p nullable inside b begins)
-      ∙ rw has (ap (λ (w : Read ℤ). then_alternative (λ u c. read u inside c) fs (then_tag w)) (whole_word inside (after_word b) tag.0)
+      ap (then_there left (λ c. tagged_at (λ f c. read f.ty inside c) fs inside c)) (marked p nullable inside b begins)
+      ∙ rw has (ap (λ (w : Read ℤ). then_alternative (λ f c. read f.ty inside c) fs (then_tag w)) (whole_word inside (after_word b) tag.0)
       ∙ rw (tag.1, at, stopped) refl)
 
   sequence_stops : (t : AidlType) (inside : Bool) (b : List ℕ) (s : ℤ) → is_type S (elem S t) ≡ true → AreBytes b

@@ -147,10 +147,10 @@ module _ (p : Profile) (S : List Decl) (sound : IsWhole S) (left : Bool) (PartRe
       told_as (λ c v. TextReads p t.nullable c v) (λ c v. LevelReads p S left PartReads t c v) (λ s. TextStop p t.nullable b inside s) b (read_as text_data (text_at p t.nullable inside b)) (λ c v h. of_text p S left PartReads t one is c v h) (text_told p t.nullable inside b bytes)
   one_told (form.parcelable fs) one is =
       let fields = sound.fields t.base fs is in
-      told_as (λ c v. RecordReads p left S PartReads t.nullable fs c v) (λ c v. LevelReads p S left PartReads t c v) (λ s. RecordStop p left t.nullable fs PartReads PartStops b inside s) b (record_at p left t.nullable (λ f. initial_in S f) (λ u c. read u true c) fs inside b)
+      told_as (λ c v. RecordReads p left S PartReads t.nullable fs c v) (λ c v. LevelReads p S left PartReads t c v) (λ s. RecordStop p left t.nullable fs PartReads PartStops b inside s) b (record_at p left t.nullable (λ f. initial_in S f) (λ f c. read f.ty true c) fs inside b)
       (λ c v h. of_record p S left PartReads t fs one is c v h) (record_told p left S PartReads PartStops read typed law t.nullable inside fs fields.0 b bytes fields.1)
   one_told (form.union fs) one is =
-      told_as (λ c v. UnionReads p left PartReads t.nullable fs c v) (λ c v. LevelReads p S left PartReads t c v) (λ s. UnionStop p left t.nullable fs PartStops b inside s) b (union_at p left t.nullable (λ u c. read u inside c) fs inside b)
+      told_as (λ c v. UnionReads p left PartReads t.nullable fs c v) (λ c v. LevelReads p S left PartReads t c v) (λ s. UnionStop p left t.nullable fs PartStops b inside s) b (union_at p left t.nullable (λ f c. read f.ty inside c) fs inside b)
       (λ c v h. of_union p S left PartReads t fs typed one is c v h) (union_told p left S PartReads PartStops read law t.nullable inside fs (sound.tags t.base fs is).0 b bytes)
   one_told form.nothing one is =
       let meant : is_meant (form_of S t.base) ≡ true = (both (is_meant (form_of S t.base)) (is_well_shaped t.shape t.nullable (form_of S t.base)) type).0 in

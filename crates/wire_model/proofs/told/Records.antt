@@ -93,7 +93,7 @@ FieldsTold S PartReads PartStops fs b (Err s) = FieldsStop fs PartReads PartStop
 module _ (S : List Decl) (PartReads : Readings) (PartStops : Stoppings) (read : AidlType → List ℕ → Read Data)
     (typed : (t : AidlType) (c : List ℕ) (v : Data) → PartReads t c v → HasType S t v)
     (law : (t : AidlType) (c : List ℕ) → is_type S t ≡ true → AreBytes c → Told (PartReads t) (λ s. PartStops t c true s) c (read t c)) where
-  at_end : (fs : List Field) → fields_at (λ f. initial_in S f) read fs [] ≡ Ok (initials_in S fs)
+  at_end : (fs : List Field) → fields_at (λ f. initial_in S f) (λ f c. read f.ty c) fs [] ≡ Ok (initials_in S fs)
   at_end [] = refl
   at_end (f ∷ fs) = ap (with_field (initial_in S f)) (at_end fs)
 
@@ -104,7 +104,7 @@ module _ (S : List Decl) (PartReads : Readings) (PartStops : Stoppings) (read : 
       FieldsStop.at_field (suc i) g at (item v vs) (front ++ front') rest' (e ∙ ap (λ c. front ++ c) e' ∙ sym (append_assoc front front' rest')) (front, front', refl, h, there) left stop
 
   pub fields_told : (fs : List Field) (b : List ℕ) → AreBytes b → AreTypes S fs → HaveDefaults S fs
-      → FieldsTold S PartReads PartStops fs b (fields_at (λ f. initial_in S f) read fs b)
+      → FieldsTold S PartReads PartStops fs b (fields_at (λ f. initial_in S f) (λ f c. read f.ty c) fs b)
   fields_told [] b bytes types all = (tt, tt)
   fields_told (f ∷ fs) [] bytes types all =
       subst (λ y. FieldsTold S PartReads PartStops (f ∷ fs) [] y) (sym (at_end (f ∷ fs))) (inl (refl, are_initial S (f ∷ fs) all), initials_typed S (f ∷ fs) all)
@@ -112,9 +112,9 @@ module _ (S : List Decl) (PartReads : Readings) (PartStops : Stoppings) (read : 
       one_told (read f.ty (x ∷ b)) (law f.ty (x ∷ b) types.0 bytes) (λ c h. fields_told fs c h types.1 all.1)
     where
       one_told : (y : Read Data) → Told (PartReads f.ty) (λ s. PartStops f.ty (x ∷ b) true s) (x ∷ b) y
-          → ((c : List ℕ) → AreBytes c → FieldsTold S PartReads PartStops fs c (fields_at (λ f. initial_in S f) read fs c))
-          → FieldsTold S PartReads PartStops (f ∷ fs) (x ∷ b) (then_others (λ f. initial_in S f) read fs y)
-      one_told (Ok y) h ih = later f fs (x ∷ b) h.0 y.1 y.0 h.1 h.2 (fields_at (λ f. initial_in S f) read fs y.1) (ih y.1 (AreBytes-rest h.0 y.1 (subst AreBytes h.1 bytes)))
+          → ((c : List ℕ) → AreBytes c → FieldsTold S PartReads PartStops fs c (fields_at (λ f. initial_in S f) (λ f c. read f.ty c) fs c))
+          → FieldsTold S PartReads PartStops (f ∷ fs) (x ∷ b) (then_others (λ f. initial_in S f) (λ f c. read f.ty c) fs y)
+      one_told (Ok y) h ih = later f fs (x ∷ b) h.0 y.1 y.0 h.1 h.2 (fields_at (λ f. initial_in S f) (λ f c. read f.ty c) fs y.1) (ih y.1 (AreBytes-rest h.0 y.1 (subst AreBytes h.1 bytes)))
       one_told (Err s) h ih = FieldsStop.at_field 0 f refl none [] (x ∷ b) refl refl (λ k. absurd cc) h
 
 -- what is read at a record's place; `left` says that a level is left
@@ -135,10 +135,10 @@ module _ (p : Profile) (left : Bool) (S : List Decl) (PartReads : Readings) (Par
     tail : rest ≡ after_word b
     tail = sym (after_is b marker rest e m.0)
 
-    there_told : (y : Read (List ℕ)) → BodyTold rest inside y → Outcome (then_fields (λ f. initial_in S f) (λ u c. read u true c) fs y)
+    there_told : (y : Read (List ℕ)) → BodyTold rest inside y → Outcome (then_fields (λ f. initial_in S f) (λ f c. read f.ty true c) fs y)
     there_told (Err s) h = RecordStop.at_size (marks b marker rest e m.0 p m) has (subst (λ c. SizeStop c inside s) tail h)
     there_told (Ok y) h =
-        by_fields (fields_at (λ f. initial_in S f) (λ u c. read u true c) fs y.0) (fields_told S PartReads PartStops (λ u c. read u true c) typed (λ t c type k. law has t true c type k) fs y.0 inner_bytes types all)
+        by_fields (fields_at (λ f. initial_in S f) (λ f c. read f.ty true c) fs y.0) (fields_told S PartReads PartStops (λ u c. read u true c) typed (λ t c type k. law has t true c type k) fs y.0 inner_bytes types all)
       where
         rest_bytes : AreBytes rest
         rest_bytes = AreBytes-rest marker rest (subst AreBytes e bytes)
@@ -155,17 +155,17 @@ module _ (p : Profile) (left : Bool) (S : List Decl) (PartReads : Readings) (Par
             RecordStop.at_fields (marks b marker rest e m.0 p m) has h.0 (subst (λ c. HasSize h.0 c) tail h.1) (subst (λ c. h.0 ≤ length c) tail h.2)
             (subst (λ c. FieldsStop fs PartReads PartStops c s) (h.3 ∙ ap (fields_bytes h.0) tail) k)
 
-  pub record_told : HaveDefaults S fs → Outcome (record_at p left nullable (λ f. initial_in S f) (λ u c. read u true c) fs inside b)
+  pub record_told : HaveDefaults S fs → Outcome (record_at p left nullable (λ f. initial_in S f) (λ f c. read f.ty true c) fs inside b)
   unfolding record_at body_value_at
   record_told all = told_then (λ c m. MarkerReads p nullable c m) (λ c v. RecordReads p left S PartReads nullable fs c v) (λ s. MarkerStop p nullable b inside s) (λ s. RecordStop p left nullable fs PartReads PartStops b inside s) b
-      (λ m. marked_at left (λ c. body_value_at (λ f. initial_in S f) (λ u c. read u true c) fs inside c) m.0 m.1) (marker_at p nullable inside b)
+      (λ m. marked_at left (λ c. body_value_at (λ f. initial_in S f) (λ f c. read f.ty true c) fs inside c) m.0 m.1) (marker_at p nullable inside b)
       (marker_told p nullable inside b bytes) (λ s h. RecordStop.at_marker h) (λ m front rest e h. by_marker m front rest e h)
     where
       by_marker : (m : Bool) (front rest : List ℕ) → b ≡ front ++ rest → MarkerReads p nullable front m
-          → Outcome (marked_at left (λ c. body_value_at (λ f. initial_in S f) (λ u c. read u true c) fs inside c) m rest)
+          → Outcome (marked_at left (λ c. body_value_at (λ f. initial_in S f) (λ f c. read f.ty true c) fs inside c) m rest)
       by_marker false front rest e h = (front, e, h)
       by_marker true front rest e h = by_level left refl
         where
-          by_level : (l : Bool) → left ≡ l → Outcome (marked_at l (λ c. body_value_at (λ f. initial_in S f) (λ u c. read u true c) fs inside c) true rest)
+          by_level : (l : Bool) → left ≡ l → Outcome (marked_at l (λ c. body_value_at (λ f. initial_in S f) (λ f c. read f.ty true c) fs inside c) true rest)
           by_level false has = RecordStop.too_deep (marks b front rest e h.0 p h) has refl
           by_level true has = there_told front rest has all e h (body_at inside rest) (body_told inside rest (AreBytes-rest front rest (subst AreBytes e bytes)) (nat_lt (length rest) 4) refl)

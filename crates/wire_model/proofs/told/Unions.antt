@@ -58,31 +58,31 @@ module _ (p : Profile) (left : Bool) (S : List Decl) (PartReads : Readings) (Par
         UnionStop.at_tag (marks b marker rest e m.0 p m) has (subst (λ c. TagStop fs c inside bad_value) tail (TagStop.no_tag le none))
 
     field_told : (k : ℕ) → 4 ≤ length rest → first_word rest ≡ pos k → (o : Option Field) → slice_get fs k ≡ o
-        → Outcome (then_field (λ u c. read u inside c) k (after_word rest) o)
+        → Outcome (then_field (λ f c. read f.ty inside c) k (after_word rest) o)
     field_told k le is None at = no_tag le (λ j j_is. let same : ◌≡◌ {A = ℤ} (pos k) (pos j) = sym is ∙ j_is in let k_is : k ≡ j = cc in subst (λ i. length fs ≤ i) k_is (past_end fs k at))
     field_told k le is (Some f) at = value_told k f le is at (read f.ty inside (after_word rest)) (law has f.ty inside (after_word rest) (field_type S fs k f types at) (AreBytes-drop 4 rest rest_bytes))
 
     word_told : (w : ℤ) → 4 ≤ length rest → first_word rest ≡ w
-        → Outcome (then_alternative (λ u c. read u inside c) fs (tag_of w >>= λ k. Ok (k, after_word rest)))
+        → Outcome (then_alternative (λ f c. read f.ty inside c) fs (tag_of w >>= λ k. Ok (k, after_word rest)))
     word_told (negsuc k) le is = no_tag le (λ j j_is. let same : ◌≡◌ {A = ℤ} (negsuc k) (pos j) = sym is ∙ j_is in absurd cc)
     word_told (pos k) le is = field_told k le is (slice_get fs k) refl
 
-    there_told : (short : Bool) → nat_lt (length rest) 4 ≡ short → Outcome (tagged_at (λ u c. read u inside c) fs inside rest)
+    there_told : (short : Bool) → nat_lt (length rest) 4 ≡ short → Outcome (tagged_at (λ f c. read f.ty inside c) fs inside rest)
     unfolding tagged_at tag_at
     there_told true is = rw is (UnionStop.at_tag (marks b marker rest e m.0 p m) has (subst (λ c. TagStop fs c inside (past inside)) tail (TagStop.short (ltb-true _ _ is))))
     there_told false is = rw is (word_told (first_word rest) (ltb-false _ _ is) refl)
 
-  pub union_told : Outcome (union_at p left nullable (λ u c. read u inside c) fs inside b)
+  pub union_told : Outcome (union_at p left nullable (λ f c. read f.ty inside c) fs inside b)
   unfolding union_at
   union_told = told_then (λ c m. MarkerReads p nullable c m) (λ c v. UnionReads p left PartReads nullable fs c v) (λ s. MarkerStop p nullable b inside s) (λ s. UnionStop p left nullable fs PartStops b inside s) b
-      (λ m. marked_at left (λ c. tagged_at (λ u c. read u inside c) fs inside c) m.0 m.1) (marker_at p nullable inside b)
+      (λ m. marked_at left (λ c. tagged_at (λ f c. read f.ty inside c) fs inside c) m.0 m.1) (marker_at p nullable inside b)
       (marker_told p nullable inside b bytes) (λ s h. UnionStop.at_marker h) (λ m front rest e h. by_marker m front rest e h)
     where
       by_marker : (m : Bool) (front rest : List ℕ) → b ≡ front ++ rest → MarkerReads p nullable front m
-          → Outcome (marked_at left (λ c. tagged_at (λ u c. read u inside c) fs inside c) m rest)
+          → Outcome (marked_at left (λ c. tagged_at (λ f c. read f.ty inside c) fs inside c) m rest)
       by_marker false front rest e h = (front, e, h)
       by_marker true front rest e h = by_level left refl
         where
-          by_level : (l : Bool) → left ≡ l → Outcome (marked_at l (λ c. tagged_at (λ u c. read u inside c) fs inside c) true rest)
+          by_level : (l : Bool) → left ≡ l → Outcome (marked_at l (λ c. tagged_at (λ f c. read f.ty inside c) fs inside c) true rest)
           by_level false has = UnionStop.too_deep (marks b front rest e h.0 p h) has refl
           by_level true has = there_told front rest has e h (AreBytes-rest front rest (subst AreBytes e bytes)) (nat_lt (length rest) 4) refl

@@ -66,7 +66,7 @@ module _ (p : Profile) (B : List Decl) (d : ℕ) (g : Field) (gs : List Field) (
   field (Some w) (Some ws) some h hs = (inr (front, rest, refl, h, hs.0), (reads_type p B d g.ty front w h, hs.1))
   field (Some w) None some h hs = later_field w h hs
 
-each_initial : (S : List Decl) (gs : List Field) → each_field (λ g. Some (initial_in S g)) gs ≡ Some (initials_in S gs)
+pub each_initial : (S : List Decl) (gs : List Field) → each_field (λ g. Some (initial_in S g)) gs ≡ Some (initials_in S gs)
 each_initial S [] = refl
 each_initial S (g ∷ gs) = ap (λ vs. item_first (Some (initial_in S g)) vs) (each_initial S gs)
 

@@ -1,4 +1,4 @@
-use Rattle.call_scripts.proofs.Dots.{cut}
+use Rattle.wire_model.proofs.lemmas.Dots.{cut}
 use Rattle.call_scripts.proofs.names.at_last_dot.Goals as goal
 
 pub returns : goal.returns

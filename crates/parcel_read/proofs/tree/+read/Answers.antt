@@ -13,7 +13,8 @@ use Rattle.parcel_read.proofs.Loop.{goes_on, ends, is_done, field_on, fields_don
 use Rattle.parcel_read.proofs.Records.{body_is, record_is, record_fails, no_record}
 use Rattle.parcel_read.proofs.tree.+read.Goals as goal
 use Rattle.parcel_read.specs.steps.PlanDefault.{initial_by_plan}
-use Rattle.parcel_read.specs.steps.PlanRead.{entry_at, entries_at, plan_read, plan_parts}
+use Rattle.wire_model.specs.ReadOf.{field_at, fields_at}
+use Rattle.parcel_read.specs.steps.PlanRead.{plan_read, plan_parts}
 use Rattle.parcel_read.proofs.Levels.{plan_read-item, plan_read-none, plan_parts-below}
 
 pub value_from-returns-in-Some-clause-taken : goal.value_from-returns-in-Some-clause-taken
@@ -66,10 +67,10 @@ fields_from-loop-field-preserved t c =
     let p = c.args.from.now in
     let v = c.in_ok-value.value in
     let profile : c.loop-field.from.profile ≡ p.profile = ap (λ (r : Place). r.profile) c.loop-field.invariant.on in
-    let as_read = subst (λ q. entry_at (λ g. initial_by_plan P g) (λ u b. plan_parts q P c.args.levels u true b) c.field-item.result (left c.loop-field.from) ≡ Ok (view v, left c.field_from.new.from)) profile c.in_ok-value.ensures.taken in
+    let as_read = subst (λ q. field_at (λ g. initial_by_plan P g) (λ g b. plan_parts q P c.args.levels g.item true b) c.field-item.result (left c.loop-field.from) ≡ Ok (view v, left c.field_from.new.from)) profile c.in_ok-value.ensures.taken in
     let more : map view c.push.new.self.items ≡ map view c.loop-field.values.items ++ view v ∷ [] = rw c.in_ok-push.ensures.items (map_push _ c.loop-field.values.items v) in
     rw more (record {
-      read = field_on (λ g. initial_by_plan P g) (λ u b. plan_parts p.profile P c.args.levels u true b) (map view c.loop-field.values.items) c.args.fields.now c.loop-field.field-index (left c.loop-field.from) _ c.loop-field.invariant.read
+      read = field_on (λ g. initial_by_plan P g) (λ g b. plan_parts p.profile P c.args.levels g.item true b) (map view c.loop-field.values.items) c.args.fields.now c.loop-field.field-index (left c.loop-field.from) _ c.loop-field.invariant.read
           c.field-item.result (view v) (left c.field_from.new.from) c.loop-field-test.true c.field-item.is as_read;
       on = on_and_on p c.loop-field.from c.field_from.new.from c.loop-field.invariant.on c.in_ok-value.ensures.on;
     })
@@ -78,7 +79,7 @@ pub fields_from-returns-clause-taken : goal.fields_from-returns-clause-taken
 fields_from-returns-clause-taken t c =
     let P = c.args.plans.now in
     let p = c.args.from.now in
-    fields_done (λ g. initial_by_plan P g) (λ u b. plan_parts p.profile P c.args.levels u true b) (map view c.loop-field.values.items) c.args.fields.now c.loop-field.field-index (left c.loop-field.from) _ c.loop-field.invariant.read c.loop-field-test.false
+    fields_done (λ g. initial_by_plan P g) (λ g b. plan_parts p.profile P c.args.levels g.item true b) (map view c.loop-field.values.items) c.args.fields.now c.loop-field.field-index (left c.loop-field.from) _ c.loop-field.invariant.read c.loop-field-test.false
     ∙ ap (λ vs. Ok (views vs)) (sym c.from_vec.ensures)
 
 pub body_from-returns-in_err-enter-clause-taken : goal.body_from-returns-in_err-enter-clause-taken
@@ -86,7 +87,7 @@ body_from-returns-in_err-enter-clause-taken t c =
     let P = c.args.plans.now in
     let p = c.args.from.now in
     let q = err_from_is_err_and c.from_residual.result c.from_residual.ensures.1 in
-    rw (q.1, q.2) (no_record (λ g. initial_by_plan P g) (λ u b. plan_parts p.profile P c.args.levels u true b) c.args.fields.now (is_inside p) (left p) c.in_err-enter.field-0.0 (refused_if_memory c.in_err-enter.field-0.0 _ c.in_err-enter.ensures.refused))
+    rw (q.1, q.2) (no_record (λ g. initial_by_plan P g) (λ g b. plan_parts p.profile P c.args.levels g.item true b) c.args.fields.now (is_inside p) (left p) c.in_err-enter.field-0.0 (refused_if_memory c.in_err-enter.field-0.0 _ c.in_err-enter.ensures.refused))
 
 pub body_from-returns-in_err-values-clause-taken : goal.body_from-returns-in_err-values-clause-taken
 body_from-returns-in_err-values-clause-taken t c =
@@ -97,8 +98,8 @@ body_from-returns-in_err-values-clause-taken t c =
     let on : MovesOn inner inner = stays inner in
     let profile : inner.profile ≡ p.profile = ap (λ (r : Place). r.profile) c.in_ok-enter.ensures.entered.2 in
     let e = c.in_err-values.field-0.0 in
-    let failed = subst (λ q. RefusesIfMemory e (entries_at (λ g. initial_by_plan P g) (λ u b. plan_parts q P c.args.levels u true b) c.args.fields.now (left inner))) profile c.in_err-values.ensures.taken in
-    rw (q.1, q.2) (record_fails (λ g. initial_by_plan P g) (λ u b. plan_parts p.profile P c.args.levels u true b) c.args.fields.now (is_inside p) (left p) (left inner) _ e (body_is p inner inner c.in_ok-enter.ensures.entered on) failed)
+    let failed = subst (λ q. RefusesIfMemory e (fields_at (λ g. initial_by_plan P g) (λ g b. plan_parts q P c.args.levels g.item true b) c.args.fields.now (left inner))) profile c.in_err-values.ensures.taken in
+    rw (q.1, q.2) (record_fails (λ g. initial_by_plan P g) (λ g b. plan_parts p.profile P c.args.levels g.item true b) c.args.fields.now (is_inside p) (left p) (left inner) _ e (body_is p inner inner c.in_ok-enter.ensures.entered on) failed)
 
 pub body_from-returns-clause-taken : goal.body_from-returns-clause-taken
 body_from-returns-clause-taken t c =
@@ -108,9 +109,9 @@ body_from-returns-clause-taken t c =
     let last = c.fields_from.new.from in
     let after : left c.leave.new.self ≡ left (closed last) = ap left c.leave.ensures in
     let profile : inner.profile ≡ p.profile = ap (λ (r : Place). r.profile) c.in_ok-enter.ensures.entered.2 in
-    let read = subst (λ q. entries_at (λ g. initial_by_plan P g) (λ u b. plan_parts q P c.args.levels u true b) c.args.fields.now (left inner) ≡ Ok (views c.in_ok-values.values)) profile c.in_ok-values.ensures.taken in
+    let read = subst (λ q. fields_at (λ g. initial_by_plan P g) (λ g b. plan_parts q P c.args.levels g.item true b) c.args.fields.now (left inner) ≡ Ok (views c.in_ok-values.values)) profile c.in_ok-values.ensures.taken in
     let whole : view (Rec c.in_ok-values.values) ≡ rec (views c.in_ok-values.values) = search (rules, the_lemmas) in
-    record_is (λ g. initial_by_plan P g) (λ u b. plan_parts p.profile P c.args.levels u true b) c.args.fields.now (is_inside p) (left p) (left inner) _ (views c.in_ok-values.values) (body_is p inner last c.in_ok-enter.ensures.entered c.in_ok-values.ensures.on) read
+    record_is (λ g. initial_by_plan P g) (λ g b. plan_parts p.profile P c.args.levels g.item true b) c.args.fields.now (is_inside p) (left p) (left inner) _ (views c.in_ok-values.values) (body_is p inner last c.in_ok-enter.ensures.entered c.in_ok-values.ensures.on) read
     ∙ ap (λ (v : Data). Ok (v, left (closed last))) (sym whole) ∙ ap (λ (b : List ℕ). Ok (view (Rec c.in_ok-values.values), b)) (sym after)
 
 pub body_from-returns-clause-on : goal.body_from-returns-clause-on

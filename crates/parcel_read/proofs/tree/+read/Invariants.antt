@@ -1,12 +1,12 @@
 use Rattle.std.proofs.Common.{◌≡◌, ◌+◌, ◌-◌, ◌*◌, true, map, drop}
 use Rattle.aidl_values.specs.View.{view}
 use Rattle.parcel_words.specs.Place.{left, is_inside, MovesOn}
-use Rattle.wire_model.specs.ReadOf.{each_at}
+use Rattle.wire_model.specs.ReadOf.{each_at, fields_at}
 use Rattle.aidl_values.proofs.lemmas.Fronts.{with_front}
 use Rattle.parcel_read.proofs.Loop.{with_items}
 use Rattle.parcel_read.proofs.tree.+read.Given as goal
 use Rattle.parcel_read.specs.steps.PlanDefault.{initial_by_plan}
-use Rattle.parcel_read.specs.steps.PlanRead.{entries_at, plan_parts}
+use Rattle.parcel_read.specs.steps.PlanRead.{plan_parts}
 
 abbrev pub decreases-value_from : goal.decreases-value_from
 decreases-value_from l = 8 * l.levels + 7
@@ -51,7 +51,7 @@ invariant-items_from-loop l = record {
 
 abbrev pub invariant-fields_from-loop-field : goal.invariant-fields_from-loop-field
 invariant-fields_from-loop-field l = record {
-  read : with_front (map view l.values.items) (entries_at (λ g. initial_by_plan l.plans g) (λ u b. plan_parts l.initial.from.profile l.plans l.levels u true b) (drop l.field-index l.fields) (left l.from))
-      ≡ entries_at (λ g. initial_by_plan l.plans g) (λ u b. plan_parts l.initial.from.profile l.plans l.levels u true b) l.fields (left l.initial.from);
+  read : with_front (map view l.values.items) (fields_at (λ g. initial_by_plan l.plans g) (λ g b. plan_parts l.initial.from.profile l.plans l.levels g.item true b) (drop l.field-index l.fields) (left l.from))
+      ≡ fields_at (λ g. initial_by_plan l.plans g) (λ g b. plan_parts l.initial.from.profile l.plans l.levels g.item true b) l.fields (left l.initial.from);
   on : MovesOn l.initial.from l.from;
 }

@@ -1,4 +1,4 @@
-use Rattle.std.proofs.Common.{◌≡◌, ℤ, cond, inl, Result, Ok, ap, ◌∙◌}
+use Rattle.std.proofs.Common.{ℤ, cond, inl, Result, Ok, ap, ◌∙◌}
 use Rattle.aidl_values.specs.View.{views}
 use Rattle.wire_model.specs.Calls.{AnswerData, answer_of, arguments, is_oneway}
 use Rattle.wire_model.specs.Outcome.{Done, oneway, done}
