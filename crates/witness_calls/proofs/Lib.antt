@@ -1,5 +1,5 @@
 mod Collected
-mod Named
+mod NoCode
 mod Positions
 mod Shown
 mod Tests

@@ -18,10 +18,10 @@ use Rattle.witness_calls.specs.declared.sides.Compared.{Compared}
 use Rattle.witness_calls.specs.declared.showing.Showing.{Showing}
 use Rattle.witness_calls.specs.Comparing.{AreCompared, NamesMethod}
 use Rattle.witness_calls.specs.Showing.{Tries}
-use Rattle.witness_calls.specs.steps.Counted.{AreCounted, NoneCount, IsCounted, IsWeighed, IsWeighedBy}
+use Rattle.witness_calls.specs.Counted.{AreCounted, NoneCount, IsCounted, IsWeighed, IsWeighedBy}
 use Rattle.witness_calls.specs.steps.Projected.{callee_at}
 use Rattle.witness_calls.specs.steps.Shown.{shown_of}
-use Rattle.witness_calls.proofs.Named.{no_code}
+use Rattle.witness_calls.proofs.NoCode.{no_code}
 
 -- Bytes and sides
 
@@ -90,11 +90,6 @@ pub none_tried : (old new : List Decl) (call : Candidate) (o : Option (List ℕ 
 none_tried old new call o w is =
     let n : IsWeighed old new call None = subst (λ z. IsWeighed old new call z) is w in
     λ s. n.nothing s.counts.fits s.counts.small
-
--- the sides alone
-pub weighed_compared : (old new : List Decl) (call : Candidate) (o : Option (List ℕ × Compared)) (bytes : List ℕ) (c : Compared)
-    → IsWeighed old new call o → o ≡ Some (bytes, c) → AreCompared (read_side old new call) (projected_side old new call) c
-weighed_compared old new call o bytes c w is = let h : IsWeighed old new call (Some (bytes, c)) = subst (λ z. IsWeighed old new call z) is w in h.1
 
 -- Without a method
 

@@ -2,7 +2,7 @@
 use Rattle.std.specs.Prelude.{◌≡◌, ◌<◌, ◌↔◌, List, length, IsTrue}
 use Rattle.aidl_schema.specs.declared.schema.Decl.{Decl}
 use Rattle.aidl_schema.specs.Find.{methods_at}
-use Rattle.compat_witness.specs.Candidates.{Candidate, request, reply, client_of, read_side, projected_side}
+use Rattle.compat_witness.specs.Candidates.{Candidate, request, reply, client_of}
 use Rattle.compat_witness.specs.Sides.{Side}
 use Rattle.witness_calls.specs.declared.sides.Compared.{Compared}
 use Rattle.witness_calls.specs.Seen.{reading_seen}
@@ -17,7 +17,3 @@ pub record AreCompared (of_bytes of_values : Side) (c : Compared) : Type 0 where
   pub read : reading_seen c.read ≡ of_bytes
   pub projected : reading_seen c.projected ≡ of_values
   pub differ : IsTrue c.differ ↔ (of_bytes ≡ of_values → ⊥)
-
--- the two sides of a call
-abbrev pub Compares : List Decl → List Decl → Candidate → Compared → Type 0
-Compares old new call c = AreCompared (read_side old new call) (projected_side old new call) c

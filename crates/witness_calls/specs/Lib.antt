@@ -1,4 +1,5 @@
 pub mod Seen
 pub mod Showing
 pub mod Comparing
+pub mod Counted
 pub mod steps

@@ -2,5 +2,4 @@
 pub mod Collected
 pub mod Positions
 pub mod Projected
-pub mod Counted
 pub mod Shown

@@ -18,4 +18,5 @@ mod weighing;
 pub use call::Call;
 pub use reading::Reading;
 pub use showing::{Showing, try_call};
-pub use sides::{Compared, compare};
+pub use sides::Compared;
+pub use weighing::weigh as compare;

@@ -16,7 +16,7 @@ use std::alloc::Global;
 use stub_dispatch::{Callee, Side, descriptor_of};
 
 /// The number of the server's declaration that has the name of a client's interface.
-#[tactic(auto, using(crate::proofs::Named::number_declared))]
+#[tactic(auto, using(wire_model::proofs::lemmas::NamedTexts::number_declared))]
 pub fn declared_as(
     alloc: Global,
     client: &Callee<'_>,

@@ -10,7 +10,7 @@ ghost use Rattle.wire_model.specs.Calls as calls;
 ghost use Rattle.wire_model.specs.Requests.{IsAnswer, reply};
 ghost use Rattle.witness_calls.specs.Comparing.{AreCompared};
 ghost use Rattle.witness_calls.specs.Seen.{reading_seen};
-ghost use Rattle.witness_calls.specs.steps.Counted.{IsCounted};
+ghost use Rattle.witness_calls.specs.Counted.{IsCounted};
 ghost use Rattle.witness_calls.specs.steps.Projected.{returned_with};
 
 use crate::ends::Ends;

@@ -5,7 +5,7 @@ ghost use Rattle.compat_witness.specs.Sides.{projected_request, read_request, si
 ghost use Rattle.wire_model.specs.Requests.{ArgsFit, request};
 ghost use Rattle.witness_calls.specs.Comparing.{AreCompared};
 ghost use Rattle.witness_calls.specs.Seen.{reading_seen};
-ghost use Rattle.witness_calls.specs.steps.Counted.{IsCounted};
+ghost use Rattle.witness_calls.specs.Counted.{IsCounted};
 ghost use Rattle.witness_calls.specs.steps.Projected.{called_at, called_in};
 
 use crate::arguments::project_arguments;

@@ -9,7 +9,7 @@ ghost use Rattle.wire_model.specs.Calls.{answer_of};
 ghost use Rattle.wire_model.specs.Requests.{ArgsFit, request};
 ghost use Rattle.witness_calls.specs.Comparing.{NamesMethod};
 ghost use Rattle.witness_calls.specs.Seen.{call_seen};
-ghost use Rattle.witness_calls.specs.steps.Counted.{IsWeighed, IsWeighedBy};
+ghost use Rattle.witness_calls.specs.Counted.{IsWeighed, IsWeighedBy};
 
 use crate::call::Call;
 use crate::names::counterpart;
@@ -22,7 +22,8 @@ use aidl_values::{Answer, Value};
 use std::alloc::Global;
 use stub_dispatch::{Callee, Side};
 
-/// The bytes of a call that counts, with its two sides; None of any other.
+/// The bytes of a call that counts, with its two sides and whether they differ; None of any other. It counts where its values fit and its
+/// bytes are at most 1,048,576. All reading is strict. `OutOfMemory` is the one refusal (own).
 pub fn weigh(
     alloc: Global,
     old: &Side<'_>,

@@ -1,3 +1,2 @@
 mod Added
 mod Lines
-mod Names

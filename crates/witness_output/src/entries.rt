@@ -5,6 +5,7 @@ ghost use Rattle.aidl_schema.specs.Unbroken.{Has};
 ghost use Rattle.compat_judge.specs.Seen.{seen};
 ghost use Rattle.witness_calls.specs.Seen.{call_seen};
 ghost use Rattle.witness_calls.specs.Showing.{ShowsIt};
+ghost use Rattle.witness_search.specs.ReachTables.{AreReachTables};
 ghost use Rattle.witness_output.specs.CallLines.{call_lines};
 ghost use Rattle.witness_output.specs.Entries.{AreEntries, reason_text, shown_lines};
 ghost use Rattle.witness_output.specs.steps.Adding.{AddsEntry};
@@ -17,7 +18,7 @@ use compat_judge::Broken;
 use std::alloc::Global;
 use stub_dispatch::Side;
 use tree_output::push_break;
-use witness_search::{NoCall, Shown, Witness, witness};
+use witness_search::{NoCall, ReachTables, Shown, Witness, witness};
 
 /// The lines of the broken evolution rules between two versions, in their order: each the judge's line, and then either
 /// `none outside the wire` or `none no candidate`, or the three lines of a call that shows it (own). Memory may be wanted.
@@ -31,9 +32,10 @@ pub fn entry_lines(
     requires { map seen rows.now ≡ broken old.now new.now }
     ensures { IfOk result (λ text. AreEntries old.now new.now (map seen rows.now) (string_bytes text)) }
 {
+    let tables = ReachTables::new(alloc, old, new)?;
     let mut text = String::new(alloc);
     for row in rows {
-        push_entry(alloc, old, new, row, &mut text)?;
+        push_entry(alloc, old, new, &tables, row, &mut text)?;
     }
     Ok(text)
 }
@@ -43,13 +45,15 @@ fn push_entry(
     alloc: Global,
     old: &Side<'_>,
     new: &Side<'_>,
+    tables: &ReachTables,
     row: &Broken,
     text: &mut String,
 ) -> Result<(), OutOfMemory>
-    requires { Has (broken old.now new.now) (seen row.now) }
+    requires tables { AreReachTables old.now new.now tables.now }
+    requires among { Has (broken old.now new.now) (seen row.now) }
     ensures { OnOk result (AddsEntry old.now new.now (seen row.now) (string_bytes text.old) (string_bytes text.new)) }
 {
-    let shown = witness(alloc, old, new, row)?;
+    let shown = witness(alloc, old, new, tables, row)?;
     push_break(row, text)?;
     push_shown_lines(alloc, old, new, &shown, text)
 }

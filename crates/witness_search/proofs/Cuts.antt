@@ -21,7 +21,8 @@ use Rattle.witness_search.specs.steps.Asks as calls
 use Rattle.witness_search.specs.steps.Asks.{ArgumentAsk, MethodAsk, asked_C6_at, asked_C7, method_row, of_only}
 use Rattle.witness_search.specs.steps.Named.{field_named}
 use Rattle.witness_search.specs.steps.Rows.{FieldAsk, asked, field_row, field_row_named, fields_at}
-use Rattle.witness_search.proofs.NamedTexts.{declared_by_bytes, field_by_bytes}
+use Rattle.witness_search.proofs.NamedTexts.{field_by_bytes}
+use Rattle.wire_model.proofs.lemmas.NamedTexts.{number_declared}
 use Rattle.witness_search.proofs.PlaceBytes.{halves, dots_by_bytes}
 
 -- methods
@@ -95,8 +96,8 @@ module _ (A : FieldAsk) (G : List Decl → ℕ → List Field) (old new : List D
       ≡ option_and_then (λ q. option_and_then (λ k. option_and_then (λ l. option_and_then (λ x. A old k new l x) (position (λ f. same_text f.name.0 q.1) (G old k))) (declared_as new q.0)) (declared_as old q.0)) o
   in_halves None = refl
   in_halves (Some q) =
-      ap (λ ok. option_and_then (λ k. option_and_then (λ l. option_and_then (λ x. A old k new l x) (field_named (G old k) (encode_utf8_all q.1))) (number_of_name new (encode_utf8_all q.0))) ok) (declared_by_bytes old q.0)
-      ∙ ap (λ ol. option_and_then (λ k. option_and_then (λ l. option_and_then (λ x. A old k new l x) (field_named (G old k) (encode_utf8_all q.1))) ol) (declared_as old q.0)) (declared_by_bytes new q.0)
+      ap (λ ok. option_and_then (λ k. option_and_then (λ l. option_and_then (λ x. A old k new l x) (field_named (G old k) (encode_utf8_all q.1))) (number_of_name new (encode_utf8_all q.0))) ok) (number_declared old q.0)
+      ∙ ap (λ ol. option_and_then (λ k. option_and_then (λ l. option_and_then (λ x. A old k new l x) (field_named (G old k) (encode_utf8_all q.1))) ol) (declared_as old q.0)) (number_declared new q.0)
       ∙ by_names q.1 (declared_as old q.0) (declared_as new q.0)
 
   by_bytes : (p : List ℕ)

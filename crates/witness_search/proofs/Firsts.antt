@@ -91,8 +91,8 @@ of_methods back vs [] = refl
 of_methods back vs (r ∷ rs) = ap (λ cs. cs ++ flat_map (requests_of back vs) rs) (of_values back r vs)
     ∙ ap (λ cs. map (λ d. request back r.interface r.method (item d none)) (map view vs) ++ cs) (of_methods back vs rs)
 
-pub of_group : (g : Group) (rs : List Reach) (vs : List Value) → rs ≡ g.methods → vs ≡ g.values → flat_map (requests_of g.back vs) rs ≡ group_seen g
-of_group g rs vs e f = ap (λ xs. flat_map (requests_of g.back vs) xs) e ∙ ap (λ ws. flat_map (requests_of g.back ws) g.methods) f ∙ of_methods g.back g.values g.methods
+pub of_group : (g : Group) (vs : List Value) → vs ≡ g.values → flat_map (requests_of g.back vs) g.methods.now ≡ group_seen g
+of_group g vs e = ap (λ ws. flat_map (requests_of g.back ws) g.methods.now) e ∙ of_methods g.back g.values g.methods.now
 
 -- one or two groups
 module _ (old new : List Decl) where

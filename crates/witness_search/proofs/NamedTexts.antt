@@ -1,49 +1,24 @@
--- Texts are the same by their bytes; what a name in UTF-8 finds is what the name finds.
-use Rattle.std.proofs.Common.{◌≡◌, ℕ, ◌+◌, Bool, true, false, List, [], ◌∷◌, refl, sym, ap, ◌∙◌}
-use Rattle.std.specs.List.{position, position_from}
+-- What a name in UTF-8 finds is what the name finds.
+use Rattle.std.proofs.Common.{◌≡◌, ℕ, ◌<◌, List, length, Option, Some, None, IfSome, sym, ◌∙◌}
+use Rattle.std.specs.List.{position}
 use Rattle.std.specs.Str.{encode_utf8_all}
-use Rattle.std.proofs.lemmas.Iterator.Adapters.{position_from-zero}
-use Rattle.std.proofs.lemmas.Slice.Eq.{bytes_eq-Decides}
-use Rattle.std.proofs.lemmas.Str.{encodes_same}
+use Rattle.aidl_base.proofs.lemmas.Lists.{position_within}
 use Rattle.aidl_schema.specs.declared.schema.Decl.{Decl}
 use Rattle.aidl_schema.specs.declared.schema.Field.{Field}
 use Rattle.aidl_schema.specs.declared.schema.Method.{Method}
 use Rattle.aidl_schema.specs.Find.{number_of_name}
 use Rattle.aidl_schema.specs.Names.{name_of}
 use Rattle.aidl_schema.specs.Same.{same_text}
-use Rattle.wire_model.specs.Outcome.{declared_as}
+use Rattle.wire_model.proofs.lemmas.NamedTexts.{by_bytes, same_position, turned}
 use Rattle.witness_search.specs.steps.Named.{field_named, method_named}
 
-same_from : {X : Type 0} (p q : X → Bool) → ((x : X) → p x ≡ q x) → (k : ℕ) (xs : List X) → position_from p k xs ≡ position_from q k xs
-same_from p q same k [] = refl
-same_from p q same k (x ∷ xs) = rw (same x, same_from p q same (k + 1) xs) refl
-
--- tests that agree find the same
-same_position : {X : Type 0} (p q : X → Bool) → ((x : X) → p x ≡ q x) → (xs : List X) → position p xs ≡ position q xs
-same_position p q same xs = position_from-zero p xs ∙ same_from p q same 0 xs ∙ sym (position_from-zero q xs)
-
-same_test : (b c : Bool) → (b ≡ true → c ≡ true) → (c ≡ true → b ≡ true) → b ≡ c
-same_test true c f g = sym (f refl)
-same_test false true f g = g refl
-same_test false false f g = refl
-
--- texts are the same by their bytes
-by_bytes : (x y : List ℕ) → same_text (encode_utf8_all y) (encode_utf8_all x) ≡ same_text y x
-by_bytes x y = same_test (same_text (encode_utf8_all y) (encode_utf8_all x)) (same_text y x)
-    (λ e. (bytes_eq-Decides y x).1 (encodes_same y x ((bytes_eq-Decides (encode_utf8_all y) (encode_utf8_all x)).0 e)))
-    (λ e. (bytes_eq-Decides (encode_utf8_all y) (encode_utf8_all x)).1 (ap encode_utf8_all ((bytes_eq-Decides y x).0 e)))
-
-turned : (x y : List ℕ) → same_text y x ≡ same_text x y
-turned x y = same_test (same_text y x) (same_text x y)
-    (λ e. (bytes_eq-Decides x y).1 (sym ((bytes_eq-Decides y x).0 e)))
-    (λ e. (bytes_eq-Decides y x).1 (sym ((bytes_eq-Decides x y).0 e)))
-
-pub declared_by_bytes : (S : List Decl) (x : List ℕ) → number_of_name S (encode_utf8_all x) ≡ declared_as S x
-declared_by_bytes S x = same_position (λ d. same_text (encode_utf8_all (name_of d)) (encode_utf8_all x)) (λ d. same_text x (name_of d))
-    (λ d. by_bytes x (name_of d) ∙ turned x (name_of d)) S
-
 pub method_by_bytes : (ms : List Method) (x : List ℕ) → method_named ms (encode_utf8_all x) ≡ position (λ m. same_text m.name.0 x) ms
-method_by_bytes ms x = same_position (λ m. same_text (encode_utf8_all m.name.0) (encode_utf8_all x)) (λ m. same_text m.name.0 x) (λ m. by_bytes x m.name.0) ms
+method_by_bytes ms x = same_position (λ m. same_text (encode_utf8_all m.name.0) (encode_utf8_all x)) (λ m. same_text m.name.0 x) (λ m. by_bytes x m.name.0 ∙ turned m.name.0 x) ms
 
 pub field_by_bytes : (fs : List Field) (x : List ℕ) → field_named fs (encode_utf8_all x) ≡ position (λ f. same_text f.name.0 x) fs
-field_by_bytes fs x = same_position (λ f. same_text (encode_utf8_all f.name.0) (encode_utf8_all x)) (λ f. same_text f.name.0 x) (λ f. by_bytes x f.name.0) fs
+field_by_bytes fs x = same_position (λ f. same_text (encode_utf8_all f.name.0) (encode_utf8_all x)) (λ f. same_text f.name.0 x) (λ f. by_bytes x f.name.0 ∙ turned f.name.0 x) fs
+
+-- the number of a name is one of a declaration
+pub number_within : (S : List Decl) (x : List ℕ) (o : Option ℕ) → o ≡ number_of_name S x → IfSome o (λ k. k < length S)
+number_within S x None e = tt
+number_within S x (Some k) e = position_within (λ d. same_text (encode_utf8_all (name_of d)) x) S k (sym e)

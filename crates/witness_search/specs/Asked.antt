@@ -24,7 +24,7 @@ method_seen r = (r.interface, r.method)
 
 -- requests of each method with each value
 abbrev pub group_seen : Group → List Candidate
-group_seen g = asks g.back (map method_seen g.methods) (map view g.values)
+group_seen g = asks g.back (map method_seen g.methods.now) (map view g.values)
 
 -- a group, and the other one where there is one
 abbrev pub group_with : Group → Option Group → List Candidate

@@ -24,17 +24,17 @@ pub struct Reach {
 /// Requests of methods of one argument with each of some values, method by method. The client is the old version, or the new one
 /// where `back` (own).
 #[derive(Debug, Drop)]
-pub struct Group {
+pub struct Group<'a> {
     pub back: bool,
-    pub methods: Row<Reach>,
+    pub methods: &'a [Reach],
     pub values: Row<Value>,
 }
 
 /// One group of requests, or two in their order (own).
 #[derive(Debug, Drop)]
-pub struct Groups {
-    pub first: Group,
-    pub second: Option<Group>,
+pub struct Groups<'a> {
+    pub first: Group<'a>,
+    pub second: Option<Group<'a>>,
 }
 
 /// The one call. It takes no memory.

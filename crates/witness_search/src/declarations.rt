@@ -4,12 +4,15 @@ ghost use Rattle.aidl_values.specs.View.{view};
 ghost use Rattle.compat_witness.specs.Reaching.{asks};
 ghost use Rattle.compat_witness.specs.Rows as rows;
 ghost use Rattle.witness_search.specs.Asked.{groups_seen, method_seen};
+ghost use Rattle.witness_search.specs.ReachTables.{AreReachTables};
+ghost use Rattle.witness_search.specs.steps.Reached.{AreReached};
 ghost use Rattle.witness_search.specs.steps.Rows.{declaration_row};
 
+use crate::both::Both;
 use crate::candidates::{Group, Groups, Reach};
 use crate::counts::one_value;
 use crate::names::declared;
-use crate::reaching::reaching;
+use crate::reach_tables::ReachTables;
 use aidl_base::{OutOfMemory, Row, Text};
 use aidl_schema::{Kind, Schema};
 use aidl_values::Value;
@@ -23,13 +26,16 @@ pub enum DeclarationRow {
 }
 
 /// The requests of a row at a place that names a declaration; None where its condition isn't met.
-pub fn declaration_groups(
+#[tactic(auto, using(crate::proofs::Reaches::both_reached))]
+pub fn declaration_groups<'a>(
     alloc: Global,
     row: DeclarationRow,
-    old: &Schema,
-    new: &Schema,
+    old: &'a Schema,
+    new: &'a Schema,
+    tables: &'a ReachTables,
     place: &Text,
-) -> Result<Option<Groups>, OutOfMemory>
+) -> Result<Option<Groups<'a>>, OutOfMemory>
+    requires { AreReachTables old.now.decls new.now.decls tables.now }
     ensures { IfOk result (λ groups. option_map groups_seen groups ≡ declaration_row row old.now.decls new.now.decls place.now) }
 {
     let Some(k) = declared(old, place) else {
@@ -38,32 +44,33 @@ pub fn declaration_groups(
     let Some(l) = declared(new, place) else {
         return Ok(None);
     };
+    let both = Both {
+        old,
+        k,
+        new,
+        l,
+        forth: tables.forth_of(k),
+        back: tables.back_of(l),
+    };
     match row {
-        DeclarationRow::C2 => asked_c2(alloc, old, k, new, l),
-        DeclarationRow::C16 => asked_c16(alloc, old, k, new, l),
+        DeclarationRow::C2 => asked_c2(alloc, &both),
+        DeclarationRow::C16 => asked_c16(alloc, &both),
     }
 }
 
 // C2: a request with 0 from the version that has the enum.
-fn asked_c2(
-    alloc: Global,
-    old: &Schema,
-    k: u32,
-    new: &Schema,
-    l: u32,
-) -> Result<Option<Groups>, OutOfMemory>
-    ensures { IfOk result (λ groups. option_map groups_seen groups ≡ rows.ask_C2 old.now.decls k new.now.decls l) }
+fn asked_c2<'a>(alloc: Global, both: &Both<'a>) -> Result<Option<Groups<'a>>, OutOfMemory>
+    requires { AreReached both.now }
+    ensures { IfOk result (λ groups. option_map groups_seen groups ≡ rows.ask_C2 both.now.old.now.decls both.now.k both.now.new.now.decls both.now.l) }
 {
-    let methods = reaching(alloc, old, k, new)?;
-    if is_none_of(methods.as_slice()) {
+    if is_none_of(both.forth) {
         return Ok(None);
     }
-    if is_enum(old, k) && is_record(new, l) {
-        return one_group(alloc, false, methods, Value::Number(0));
+    if is_enum(both.old, both.k) && is_record(both.new, both.l) {
+        return one_group(alloc, false, both.forth, Value::Number(0));
     }
-    if is_enum(new, l) && is_record(old, k) {
-        let methods = reaching(alloc, new, l, old)?;
-        return one_group(alloc, true, methods, Value::Number(0));
+    if is_enum(both.new, both.l) && is_record(both.old, both.k) {
+        return one_group(alloc, true, both.back, Value::Number(0));
     }
     Ok(None)
 }
@@ -99,13 +106,13 @@ fn is_record(schema: &Schema, number: u32) -> bool
 }
 
 /// The requests of these methods with one value.
-pub fn one_group(
+pub fn one_group<'a>(
     alloc: Global,
     back: bool,
-    methods: Row<Reach>,
+    methods: &'a [Reach],
     value: Value,
-) -> Result<Option<Groups>, OutOfMemory>
-    ensures { IfOk result (λ groups. option_map groups_seen groups ≡ Some (asks back (map method_seen methods) (view value ∷ []))) }
+) -> Result<Option<Groups<'a>>, OutOfMemory>
+    ensures { IfOk result (λ groups. option_map groups_seen groups ≡ Some (asks back (map method_seen methods.now) (view value ∷ []))) }
 {
     let first = Group {
         back,
@@ -119,27 +126,21 @@ pub fn one_group(
 }
 
 // C16: requests with 0, then 200, either way.
-fn asked_c16(
-    alloc: Global,
-    old: &Schema,
-    k: u32,
-    new: &Schema,
-    l: u32,
-) -> Result<Option<Groups>, OutOfMemory>
-    ensures { IfOk result (λ groups. option_map groups_seen groups ≡ rows.ask_C16 old.now.decls k new.now.decls l) }
+fn asked_c16<'a>(alloc: Global, both: &Both<'a>) -> Result<Option<Groups<'a>>, OutOfMemory>
+    requires { AreReached both.now }
+    ensures { IfOk result (λ groups. option_map groups_seen groups ≡ rows.ask_C16 both.now.old.now.decls both.now.k both.now.new.now.decls both.now.l) }
 {
-    let methods = reaching(alloc, old, k, new)?;
-    if is_none_of(methods.as_slice()) {
+    if is_none_of(both.forth) {
         return Ok(None);
     }
     let first = Group {
         back: false,
-        methods,
+        methods: both.forth,
         values: zero_and_200(alloc)?,
     };
     let second = Group {
         back: true,
-        methods: reaching(alloc, new, l, old)?,
+        methods: both.back,
         values: zero_and_200(alloc)?,
     };
     Ok(Some(Groups {

@@ -55,7 +55,7 @@ pub fn first_request(
     alloc: Global,
     old: &Side<'_>,
     new: &Side<'_>,
-    groups: &Groups,
+    groups: &Groups<'_>,
 ) -> Result<Option<Witness>, OutOfMemory>
     ensures { IfOk result (λ found. IsFirst old.now new.now (groups_seen groups.now) found) }
 {
@@ -76,17 +76,16 @@ fn first_of_group(
     alloc: Global,
     old: &Side<'_>,
     new: &Side<'_>,
-    group: &Group,
+    group: &Group<'_>,
 ) -> Result<Option<Witness>, OutOfMemory>
     ensures { IfOk result (λ found. IsFirst old.now new.now (group_seen group.now) found) }
 {
-    let methods = group.methods.as_slice();
     first_of_methods(
         alloc,
         old,
         new,
         group.back,
-        methods,
+        group.methods,
         group.values.as_slice(),
     )
 }

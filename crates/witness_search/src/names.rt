@@ -1,7 +1,8 @@
 //! Look-ups of methods and fields by their names.
-ghost use Rattle.std.specs.Prelude.{◌≡◌, IfOk};
+ghost use Rattle.std.specs.Prelude.{◌≡◌, ◌<◌, IfOk, IfSome, length};
 ghost use Rattle.std.specs.List.{position};
 ghost use Rattle.aidl_schema.specs.Broken.{same_method};
+ghost use Rattle.aidl_schema.specs.Find.{number_of_name};
 ghost use Rattle.wire_model.specs.Calls.{descriptor};
 ghost use Rattle.wire_model.specs.Outcome.{declared_as};
 ghost use Rattle.witness_search.specs.steps.Named.{field_named, method_named};
@@ -62,7 +63,16 @@ fn descriptor_of(alloc: Global, schema: &Schema, number: u32) -> Result<Text, Ou
 
 /// The number of the declaration of a name. It takes no memory.
 pub fn declared(schema: &Schema, name: &Text) -> Option<u32>
-    ensures { result ≡ declared_as schema.now.decls name.now }
+    ensures is { result ≡ declared_as schema.now.decls name.now }
+    ensures within { IfSome result (λ k. k < length schema.now.decls) }
 {
-    find(schema, name.as_str())
+    named(schema, name.as_str())
+}
+
+/// The number of the declaration of a name, which is in UTF-8. It takes no memory.
+pub fn named(schema: &Schema, name: &str) -> Option<u32>
+    ensures is { result ≡ number_of_name schema.now.decls name.now }
+    ensures within { IfSome result (λ k. k < length schema.now.decls) }
+{
+    find(schema, name)
 }

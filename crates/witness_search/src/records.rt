@@ -7,18 +7,21 @@ ghost use Rattle.aidl_values.specs.View.{view};
 ghost use Rattle.compat_witness.specs.Reaching.{are_plain, with_value};
 ghost use Rattle.compat_witness.specs.Rows as rows;
 ghost use Rattle.witness_search.specs.Asked.{groups_seen};
+ghost use Rattle.witness_search.specs.ReachTables.{AreReachTables};
+ghost use Rattle.witness_search.specs.steps.Reached.{AreReached};
 ghost use Rattle.witness_search.specs.steps.Rows as steps;
 
+use crate::both::Both;
 use crate::candidates::{Group, Groups};
 use crate::counts::one_value;
 use crate::declarations::{is_none_of, one_group, two_values};
 use crate::fields::{alternatives_in, fields_in, names_agree, types_agree, with_value};
-use crate::names::field_named;
+use crate::names::{field_named, named};
 use crate::places::at_last_dot;
 use crate::plain::{are_plain, low_value};
-use crate::reaching::reaching;
+use crate::reach_tables::ReachTables;
 use aidl_base::{OutOfMemory, Row, Text};
-use aidl_schema::{Base, Field, Schema, find, law_valid};
+use aidl_schema::{Base, Field, Schema, law_valid};
 use aidl_values::Value;
 use compat_judge::{same_text, same_type};
 use std::alloc::Global;
@@ -31,51 +34,54 @@ pub enum FieldRow {
     C15,
 }
 
-/// A declaration of both versions, by its numbers.
-#[derive(Clone, Copy)]
-pub struct Both<'a> {
-    pub old: &'a Schema,
-    pub k: u32,
-    pub new: &'a Schema,
-    pub l: u32,
-}
-
 /// The requests of a row at a place that names a field; None where its condition isn't met.
-pub fn field_groups(
+pub fn field_groups<'a>(
     alloc: Global,
     row: FieldRow,
-    old: &Schema,
-    new: &Schema,
+    old: &'a Schema,
+    new: &'a Schema,
+    tables: &'a ReachTables,
     place: &Text,
-) -> Result<Option<Groups>, OutOfMemory>
+) -> Result<Option<Groups<'a>>, OutOfMemory>
+    requires { AreReachTables old.now.decls new.now.decls tables.now }
     ensures { IfOk result (λ groups. option_map groups_seen groups ≡ steps.field_row row old.now.decls new.now.decls place.now) }
 {
-    groups_named(alloc, row, old, new, place.as_str())
+    groups_named(alloc, row, old, new, tables, place.as_str())
 }
 
 // The same by the bytes of the place.
-fn groups_named(
+#[tactic(auto, using(crate::proofs::Reaches::both_reached))]
+fn groups_named<'a>(
     alloc: Global,
     row: FieldRow,
-    old: &Schema,
-    new: &Schema,
+    old: &'a Schema,
+    new: &'a Schema,
+    tables: &'a ReachTables,
     place: &str,
-) -> Result<Option<Groups>, OutOfMemory>
+) -> Result<Option<Groups<'a>>, OutOfMemory>
+    requires { AreReachTables old.now.decls new.now.decls tables.now }
     ensures { IfOk result (λ groups. option_map groups_seen groups ≡ steps.field_row_named row old.now.decls new.now.decls place.now) }
 {
     let Some((name, field)) = at_last_dot(place) else {
         return Ok(None);
     };
-    let Some(k) = find(old, name) else {
+    let Some(k) = named(old, name) else {
         return Ok(None);
     };
-    let Some(l) = find(new, name) else {
+    let Some(l) = named(new, name) else {
         return Ok(None);
     };
     let Some(position) = field_named(fields_at(row, old, k), field) else {
         return Ok(None);
     };
-    let both = Both { old, k, new, l };
+    let both = Both {
+        old,
+        k,
+        new,
+        l,
+        forth: tables.forth_of(k),
+        back: tables.back_of(l),
+    };
     match row {
         FieldRow::C10 => asked_c10(alloc, &both, position),
         FieldRow::C11 => asked_c11(alloc, &both, position),
@@ -94,20 +100,24 @@ fn fields_at(row: FieldRow, schema: &Schema, number: u32) -> &[Field]
 }
 
 // C10: requests with z0, then z1, in that field and defaults elsewhere.
-fn asked_c10(alloc: Global, both: &Both<'_>, position: usize) -> Result<Option<Groups>, OutOfMemory>
+fn asked_c10<'a>(
+    alloc: Global,
+    both: &Both<'a>,
+    position: usize,
+) -> Result<Option<Groups<'a>>, OutOfMemory>
+    requires { AreReached both.now }
     ensures { IfOk result (λ groups. option_map groups_seen groups ≡ steps.asked_C10 both.now.old.now.decls both.now.k both.now.new.now.decls both.now.l position) }
 {
     let olds = fields_in(both.old, both.k);
     let news = fields_in(both.new, both.l);
-    let methods = reaching(alloc, both.old, both.k, both.new)?;
-    if is_none_of(methods.as_slice()) || !is_met_c10(both, olds, news) {
+    if is_none_of(both.forth) || !is_met_c10(both, olds, news) {
         return Ok(None);
     }
     let low = with_value(alloc, both.old, false, position, olds)?;
     let high = with_value(alloc, both.old, true, position, olds)?;
     let first = Group {
         back: false,
-        methods,
+        methods: both.forth,
         values: two_values(alloc, Value::Rec(low), Value::Rec(high))?,
     };
     Ok(Some(Groups {
@@ -124,24 +134,28 @@ fn is_met_c10(both: &Both<'_>, olds: &[Field], news: &[Field]) -> bool
 }
 
 // C11: requests with z0 in that field and defaults elsewhere, either way.
-fn asked_c11(alloc: Global, both: &Both<'_>, position: usize) -> Result<Option<Groups>, OutOfMemory>
-    requires { position < length (rows.fields_in both.now.old.now.decls both.now.k) }
+fn asked_c11<'a>(
+    alloc: Global,
+    both: &Both<'a>,
+    position: usize,
+) -> Result<Option<Groups<'a>>, OutOfMemory>
+    requires reached { AreReached both.now }
+    requires there { position < length (rows.fields_in both.now.old.now.decls both.now.k) }
     ensures { IfOk result (λ groups. option_map groups_seen groups ≡ steps.asked_C11 both.now.old.now.decls both.now.k both.now.new.now.decls both.now.l position) }
 {
     let olds = fields_in(both.old, both.k);
     let news = fields_in(both.new, both.l);
-    let methods = reaching(alloc, both.old, both.k, both.new)?;
-    if is_none_of(methods.as_slice()) || !is_met_c11(both, position, olds, news) {
+    if is_none_of(both.forth) || !is_met_c11(both, position, olds, news) {
         return Ok(None);
     }
     let first = Group {
         back: false,
-        methods,
+        methods: both.forth,
         values: low_record(alloc, both.old, position, olds)?,
     };
     let second = Group {
         back: true,
-        methods: reaching(alloc, both.new, both.l, both.old)?,
+        methods: both.back,
         values: low_record(alloc, both.new, position, news)?,
     };
     Ok(Some(Groups {
@@ -176,18 +190,22 @@ fn low_record(
 }
 
 // C15: a request with that tag and z0.
-fn asked_c15(alloc: Global, both: &Both<'_>, position: usize) -> Result<Option<Groups>, OutOfMemory>
-    requires { position < length (rows.alternatives_in both.now.old.now.decls both.now.k) }
+fn asked_c15<'a>(
+    alloc: Global,
+    both: &Both<'a>,
+    position: usize,
+) -> Result<Option<Groups<'a>>, OutOfMemory>
+    requires reached { AreReached both.now }
+    requires there { position < length (rows.alternatives_in both.now.old.now.decls both.now.k) }
     ensures { IfOk result (λ groups. option_map groups_seen groups ≡ steps.asked_C15 both.now.old.now.decls both.now.k both.now.new.now.decls both.now.l position) }
 {
     let olds = alternatives_in(both.old, both.k);
     let news = alternatives_in(both.new, both.l);
-    let methods = reaching(alloc, both.old, both.k, both.new)?;
-    if is_none_of(methods.as_slice()) || !is_met_c15(both, position, olds, news) {
+    if is_none_of(both.forth) || !is_met_c15(both, position, olds, news) {
         return Ok(None);
     }
     let value = low_alternative(alloc, both.old, both.k, position)?;
-    one_group(alloc, false, methods, value)
+    one_group(alloc, false, both.forth, value)
 }
 
 // z0 in the alternative at a position.

@@ -6,6 +6,7 @@ ghost use Rattle.compat_judge.specs.Seen.{seen};
 ghost use Rattle.compat_witness.specs.Candidates.{AreSmall, Candidate, Shows};
 ghost use Rattle.compat_witness.specs.Rows.{Row};
 ghost use Rattle.witness_search.specs.Asked.{calls_seen, groups_seen};
+ghost use Rattle.witness_search.specs.ReachTables.{AreReachTables};
 ghost use Rattle.witness_search.specs.IsWitness.{IsAllowed, IsOfRow, IsWitness, those_of};
 ghost use Rattle.witness_search.specs.RowsByRule.{row_of};
 ghost use Rattle.witness_search.specs.steps.Table.{shown_or_none, table_row};
@@ -15,6 +16,7 @@ use crate::declarations::declaration_groups;
 use crate::first::{first_call, first_request};
 use crate::laws::law_shown;
 use crate::methods::calls_at;
+use crate::reach_tables::ReachTables;
 use crate::records::field_groups;
 use crate::shown::{NoCall, Shown, Witness};
 use crate::table::{TableRow, row_of};
@@ -25,20 +27,23 @@ use stub_dispatch::Side;
 
 /// The witness of an entry of the judge's list: of the calls that the row of its rule gives at its place, the first that counts and whose
 /// two sides differ. Where there is none it is the reason: `OutsideWire` of a rule without a row, and `NoCandidate` of the others (own).
-/// `OutOfMemory` is the one refusal.
+/// The tables are made once for all entries. `OutOfMemory` is the one refusal.
 pub fn witness_of(
     alloc: Global,
     old: &Side<'_>,
     new: &Side<'_>,
+    tables: &ReachTables,
     entry: &Broken,
 ) -> Result<Shown, OutOfMemory>
+    // They are those of the two versions.
+    requires tables { AreReachTables old.now new.now tables.now }
     requires among { Has (broken old.now new.now) (seen entry.now) }
     ensures exact { IfOk result (λ shown. IsWitness old.now new.now (seen entry.now) shown) }
     // A reason comes only where the row's condition isn't met, or where a call whose values fit is too long.
     ensures allowed { IfOk result (λ shown. IsAllowed old.now new.now (seen entry.now) shown) }
 {
     law_of_sides(old, new, entry);
-    search(alloc, old, new, entry)
+    search(alloc, old, new, tables, entry)
 }
 
 // The law of witnesses for the schemas of two sides.
@@ -57,12 +62,14 @@ fn search(
     alloc: Global,
     old: &Side<'_>,
     new: &Side<'_>,
+    tables: &ReachTables,
     entry: &Broken,
 ) -> Result<Shown, OutOfMemory>
+    requires { AreReachTables old.now new.now tables.now }
     ensures { IfOk result (λ shown. IsWitness old.now new.now (seen entry.now) shown) }
 {
     match row_of(entry.rule) {
-        Some(row) => of_row(alloc, old, new, row, &entry.place),
+        Some(row) => of_row(alloc, old, new, tables, row, &entry.place),
         None => Ok(Shown::Reason(NoCall::OutsideWire)),
     }
 }
@@ -72,20 +79,22 @@ fn of_row(
     alloc: Global,
     old: &Side<'_>,
     new: &Side<'_>,
+    tables: &ReachTables,
     row: TableRow,
     place: &Text,
 ) -> Result<Shown, OutOfMemory>
+    requires { AreReachTables old.now new.now tables.now }
     ensures { IfOk result (λ shown. IsOfRow old.now new.now (those_of (table_row row old.now new.now place.now)) shown) }
 {
     let before = old.schema();
     let after = new.schema();
     match row {
         TableRow::Declaration(row) => {
-            let groups = declaration_groups(alloc, row, before, after, place)?;
+            let groups = declaration_groups(alloc, row, before, after, tables, place)?;
             among_requests(alloc, old, new, groups)
         }
         TableRow::Field(row) => {
-            let groups = field_groups(alloc, row, before, after, place)?;
+            let groups = field_groups(alloc, row, before, after, tables, place)?;
             among_requests(alloc, old, new, groups)
         }
         TableRow::Method(row) => {
@@ -99,9 +108,9 @@ fn among_requests(
     alloc: Global,
     old: &Side<'_>,
     new: &Side<'_>,
-    groups: Option<Groups>,
+    groups: Option<Groups<'_>>,
 ) -> Result<Shown, OutOfMemory>
-    ensures { IfOk result (λ shown. IsOfRow old.now new.now (those_of (option_map groups_seen groups)) shown) }
+    ensures { IfOk result (λ shown. IsOfRow old.now new.now (those_of (option_map groups_seen groups.entry)) shown) }
 {
     match groups {
         Some(groups) => Ok(or_reason(first_request(alloc, old, new, &groups)?)),

@@ -1,9 +1,17 @@
--- Which methods reach a declaration, interface by interface. A is the client's declarations, B the server's, k the number of the declaration in A.
-use Rattle.std.specs.Prelude.{ℕ, ◌+◌, Bool, if◌then◌else◌, List, [], ◌∷◌, ◌++◌}
+-- Which methods reach a declaration, interface by interface, and the table of them. A is the client's declarations, B the server's, k the number of
+-- the declaration in A.
+use Rattle.std.specs.Prelude.{◌≡◌, ℕ, ◌+◌, ◌<◌, ◌==◌, Bool, false, if◌then◌else◌, List, [], ◌∷◌, ◌++◌, length, map, Option, Some, None}
+use Rattle.aidl_schema.specs.declared.schema.Arg.{Arg}
+use Rattle.aidl_schema.specs.declared.schema.Base.{Base}
+use Rattle.aidl_schema.specs.declared.schema.Base.TheVariants as base
 use Rattle.aidl_schema.specs.declared.schema.Decl.{Decl}
 use Rattle.aidl_schema.specs.declared.schema.Method.{Method}
 use Rattle.aidl_schema.specs.Find.{methods_at}
-use Rattle.compat_witness.specs.Reaching.{reaches}
+use Rattle.compat_witness.specs.Reaching.{methods_reaching, reaches}
+use Rattle.witness_search.specs.Asked.{method_seen}
+use Rattle.witness_search.specs.ReachTables.{row_at}
+use Rattle.witness_search.specs.declared.both.Both.{Both}
+use Rattle.witness_search.specs.declared.candidates.Reach.{Reach}
 
 -- of the methods from the position m on, those that pass a test
 abbrev pub reached_from : ℕ → (Method → Bool) → ℕ → List Method → List (ℕ × ℕ)
@@ -13,3 +21,35 @@ reached_from m test i (v ∷ vs) = (if test v then (i, m) ∷ [] else []) ++ rea
 -- the methods of the interface of the number i that reach it
 abbrev pub reached_in : List Decl → ℕ → List Decl → ℕ → List (ℕ × ℕ)
 reached_in A k B i = reached_from 0 (λ v. reaches A k B i v) i (methods_at A i)
+
+-- the number of a declared base
+abbrev pub number_of : Base → Option ℕ
+number_of (base.Named n) = Some n
+number_of _ = None
+
+-- the declaration that a method's one argument is of
+abbrev pub number_taken : Option Arg → Option ℕ
+number_taken None = None
+number_taken (Some a) = number_of a.ty.base
+
+-- the number is this one
+abbrev pub is_at : ℕ → Option ℕ → Bool
+is_at k None = false
+is_at k (Some n) = n == k
+
+-- one method, where it is of this number
+abbrev pub one_at : Reach → Option ℕ → ℕ → List Reach
+one_at r number k = if is_at k number then r ∷ [] else []
+
+-- A method is added to the row of one number, where there is one, and other rows stay.
+abbrev pub IsAdded : Reach → Option ℕ → List (List Reach) → List (List Reach) → Type 0
+IsAdded r number old new = (k : ℕ) → k < length old → row_at new k ≡ row_at old k ++ one_at r number k
+
+-- Methods are added to each row.
+abbrev pub AreAdded : (ℕ → List (ℕ × ℕ)) → List (List Reach) → List (List Reach) → Type 0
+AreAdded more old new = (k : ℕ) → k < length old → map method_seen (row_at new k) ≡ map method_seen (row_at old k) ++ more k
+
+-- of a declaration of both schemas the methods that reach it, in old and in new
+pub record AreReached (b : Both) : Type 0 where
+  pub forth : map method_seen b.forth.now ≡ methods_reaching b.old.now.decls b.k b.new.now.decls
+  pub back : map method_seen b.back.now ≡ methods_reaching b.new.now.decls b.l b.old.now.decls

@@ -3,7 +3,7 @@ use Rattle.std.specs.Prelude.{option_map}
 use Rattle.compat_witness.specs.Candidates.{reply}
 use Rattle.wire_model.specs.Calls.{answer_of}
 use Rattle.witness_calls.specs.Seen.{call_seen}
-use Rattle.witness_calls.specs.steps.Counted.{IsWeighed}
+use Rattle.witness_calls.specs.Counted.{IsWeighed}
 use Rattle.witness_calls.proofs.weighing.weigh.Goals as goal
 
 pub returns-then-back-2 : goal.returns-then-back-2

@@ -1,7 +1,7 @@
 use Rattle.std.proofs.Common.{ap, ◌∙◌}
 use Rattle.aidl_schema.specs.Find.{number_of_name}
-use Rattle.witness_search.proofs.NamedTexts.{declared_by_bytes}
+use Rattle.wire_model.proofs.lemmas.NamedTexts.{number_declared}
 use Rattle.witness_search.proofs.names.declared.Goals as goal
 
-pub returns : goal.returns
-returns c = c.find.ensures ∙ ap (number_of_name c.args.schema.now.decls) c.as_str.ensures.bytes ∙ declared_by_bytes c.args.schema.now.decls c.args.name.now
+pub returns-clause-is : goal.returns-clause-is
+returns-clause-is c = c.named.ensures.is ∙ ap (number_of_name c.args.schema.now.decls) c.as_str.ensures.bytes ∙ number_declared c.args.schema.now.decls c.args.name.now

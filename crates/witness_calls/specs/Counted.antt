@@ -1,4 +1,4 @@
--- Bytes that count.
+-- What counts of a call between two versions: its bytes, with its two sides (own).
 use Rattle.std.specs.Prelude.{◌≡◌, ℕ, ◌≤◌, List, length, Option, Some, None}
 use Rattle.aidl_schema.specs.declared.schema.Decl.{Decl}
 use Rattle.compat_witness.specs.Candidates.{Candidate, ValuesFit, bytes_of, read_side, projected_side}

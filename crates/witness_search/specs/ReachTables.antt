@@ -1,0 +1,24 @@
+-- A table of the methods that reach each declaration (own). A is the client's declarations, B the server's.
+use Rattle.std.specs.Prelude.{◌≡◌, ℕ, ◌<◌, List, [], length, map, Option, Some, None, slice_get}
+use Rattle.aidl_schema.specs.declared.schema.Decl.{Decl}
+use Rattle.compat_witness.specs.Reaching.{methods_reaching}
+use Rattle.witness_search.specs.Asked.{method_seen}
+use Rattle.witness_search.specs.declared.candidates.Reach.{Reach}
+use Rattle.witness_search.specs.declared.reach_tables.ReachTables.{ReachTables}
+
+abbrev pub row_of : Option (List Reach) → List Reach
+row_of None = []
+row_of (Some row) = row
+
+-- the row of a number
+abbrev pub row_at : List (List Reach) → ℕ → List Reach
+row_at rows k = row_of (slice_get rows k)
+
+-- A table has for each declaration the methods that reach it.
+abbrev pub IsReachTable : List Decl → List Decl → List (List Reach) → Type 0
+IsReachTable A B rows = (k : ℕ) → k < length A → map method_seen (row_at rows k) ≡ methods_reaching A k B
+
+-- Of two versions: the methods of old, and those of new.
+pub record AreReachTables (old new : List Decl) (t : ReachTables) : Type 0 where
+  pub forth : IsReachTable old new t.forth.items
+  pub back : IsReachTable new old t.back.items
