@@ -1,6 +1,9 @@
+pub mod Asks
 pub mod Carries
 pub mod Causes
 pub mod Entries
+pub mod Faults
 pub mod Files
+pub mod Parcel
 pub mod Told
 pub mod Writes

@@ -2,6 +2,8 @@
 ghost use Rattle.std.specs.Prelude.{◌≡◌, ◌≤◌, ℕ, List, Option, Bool, true, IfOk};
 ghost use Rattle.aidl_outside.specs.Causes.{CarryCause};
 ghost use Rattle.aidl_outside.specs.Carries.{Carries};
+ghost use Rattle.aidl_outside.specs.Faults.{FailedIn, IfCarryFailed, LinkFaults};
+ghost use Rattle.aidl_outside.specs.Parcel.{parcel};
 ghost use Rattle.aidl_outside.specs.declared.link.Carried.{Carried};
 
 use aidl_base::Row;
@@ -32,14 +34,14 @@ pub enum CarryFault {
 }
 
 /// What carries parcels between a client and a server. A link may tell the parcels that it carried. A faithful one
-/// delivers what was sent. It counts its faults as a store does.
+/// delivers what was sent. It counts its faults as a store does, and may tell the parcel that failed last.
 pub trait Link {
     /// the parcels so far, in order, where it tells
     ghost log: { Self → Option (List Carried) };
     /// whether it delivers what was sent
     ghost is_faithful: { Self → Bool };
-    /// how often it has failed
-    ghost count: { Self → ℕ };
+    /// how often it has failed, and the parcel that failed last, where it tells it
+    ghost fault_record: { Self → LinkFaults };
 
     /// Carries one parcel, and answers the delivered bytes. On a fault nothing was carried.
     fn carry(
@@ -52,10 +54,11 @@ pub trait Link {
         ensures carried { Carries (log self.old) (log self.new) way code bytes.now result }
         ensures faithful { is_faithful self.old ≡ true → IfOk result (λ delivered. delivered.items ≡ bytes.now) }
         ensures nature { is_faithful self.new ≡ is_faithful self.old }
-        ensures cause { CarryCause (count self.old) (count self.new) result }
-        ensures never_falls { count self.old ≤ count self.new };
+        ensures cause { CarryCause (fault_record self.old) (fault_record self.new) result }
+        ensures failed_call { IfCarryFailed result (FailedIn (fault_record self.new) (λ sent. sent ≡ parcel way code bytes.now)) }
+        ensures never_falls { (fault_record self.old).count ≤ (fault_record self.new).count };
 
     /// The number of faults so far.
     fn faults(&self) -> u64
-        ensures { result ≡ count self.now };
+        ensures { result ≡ (fault_record self.now).count };
 }

@@ -1,6 +1,7 @@
 //! The trait of sinks, which take printed bytes.
 ghost use Rattle.std.specs.Prelude.{◌≡◌, ◌≤◌, ℕ, List, Option};
 ghost use Rattle.aidl_outside.specs.Causes.{SinkCause};
+ghost use Rattle.aidl_outside.specs.Faults.{FailedIn, IfSinkFailed, SinkFaults};
 ghost use Rattle.aidl_outside.specs.Told.{Puts};
 
 use std::alloc::Global;
@@ -12,20 +13,22 @@ pub enum SinkFault {
     OutOfMemory,
 }
 
-/// Where printed bytes go. A sink may tell the bytes so far. It counts its faults as a store does.
+/// Where printed bytes go. A sink may tell the bytes so far. It counts its faults as a store does, and may tell the
+/// bytes of the put that failed last.
 pub trait Sink {
     /// the bytes so far, where it tells
     ghost told: { Self → Option (List ℕ) };
-    /// how often it has failed
-    ghost count: { Self → ℕ };
+    /// how often it has failed, and the bytes of the put that failed last, where it tells them
+    ghost fault_record: { Self → SinkFaults };
 
     /// Adds all the bytes. `Failed` adds a front of them, `OutOfMemory` none.
     fn put(&mut self, alloc: Global, bytes: &[u8]) -> Result<(), SinkFault>
         ensures bytes { Puts (told self.old) (told self.new) bytes.now result }
-        ensures cause { SinkCause (count self.old) (count self.new) result }
-        ensures never_falls { count self.old ≤ count self.new };
+        ensures cause { SinkCause (fault_record self.old) (fault_record self.new) result }
+        ensures failed_call { IfSinkFailed result (FailedIn (fault_record self.new) (λ piece. piece ≡ bytes.now)) }
+        ensures never_falls { (fault_record self.old).count ≤ (fault_record self.new).count };
 
     /// The number of faults so far.
     fn faults(&self) -> u64
-        ensures { result ≡ count self.now };
+        ensures { result ≡ (fault_record self.now).count };
 }

@@ -1,11 +1,13 @@
 -- What the commands that write leave of a store, by what their steps did.
 use Rattle.std.proofs.Common.{◌≡◌, ℕ, List, [], ◌∷◌, ◌++◌, length, Option, Some, None, Ok, Err, refl, sym, ap, subst, ◌∙◌, inl, inr}
-use Rattle.std.specs.Prelude.{Result}
+use Rattle.std.specs.Prelude.{◌≢◌, ◌⊎◌, Result}
 use Rattle.std.proofs.lemmas.List.{append-nil}
 use Rattle.aidl_base.specs.Results.{◌>>=◌}
 use Rattle.aidl_outside.specs.declared.store.StoreFault.{StoreFault}
 use Rattle.aidl_outside.specs.declared.store.StoreFault.TheVariants.{Failed, OutOfMemory as StoreMemory}
+use Rattle.aidl_outside.specs.Asks.{Asks, IsWrite}
 use Rattle.aidl_outside.specs.Causes.{StoreCause}
+use Rattle.aidl_outside.specs.Faults.{FailedIn, IfStoreFailed, StoreCall, StoreFaults, WhereStoreFailed}
 use Rattle.aidl_outside.specs.Files.{Files}
 use Rattle.aidl_outside.specs.Told.{Tells}
 use Rattle.aidl_outside.specs.Writes.{ChangesOnly, Write}
@@ -22,6 +24,7 @@ use Rattle.api_versions.specs.declared.fault.FreezeFault.{FreezeFault}
 use Rattle.api_versions.specs.declared.fault.FreezeFault.TheVariants as fault
 use Rattle.api_versions.specs.declared.version.Version.{Version}
 use Rattle.api_versions.specs.Answers.{Refuses}
+use Rattle.api_versions.specs.Asks.{FaultCall}
 use Rattle.api_versions.specs.Answers as answers
 use Rattle.api_versions.specs.Causes.{FaultCause}
 use Rattle.api_versions.specs.Versions.{versions_at}
@@ -32,87 +35,24 @@ use Rattle.version_output.specs.Frozen.{Freezes, IsUnfrozen, frozen}
 use Rattle.tool_frame.specs.declared.printed.Early.{Early}
 use Rattle.tool_frame.specs.declared.printed.Early.TheVariants.{Answered, OutOfMemory}
 use Rattle.tool_frame.specs.declared.printed.Printed.{Printed}
-use Rattle.tool_frame.specs.Acts.{Acts, writes_of}
+use Rattle.tool_frame.specs.Acts.{Acts, acts_by, writes_of}
 use Rattle.tool_frame.specs.Answer.{Answer, Found}
-use Rattle.tool_frame.specs.Ended.{FailedAt, WroteSome}
+use Rattle.tool_frame.specs.Ended.{FailedAt, StopsAtStore, WroteSome}
 use Rattle.tool_frame.specs.steps.Acts.{Acted, ActsAs}
 use Rattle.tool_frame.specs.Results.{Gives, printed}
 use Rattle.tool_frame.specs.Trees.{TreeFile, tree_at}
+use Rattle.aidl_outside.proofs.lemmas.Failing.{failed_as}
 use Rattle.aidl_outside.proofs.lemmas.Telling.{tells}
 use Rattle.tool_frame.proofs.lemmas.Writings.{acts_more, ends_unwritten}
 use Rattle.version_output.specs.Ends.{EndsBy, EndsIn}
 use Rattle.version_output.specs.Rehashed.{IsUnhashed, Rehashes, rehashed}
-
--- Writes that were made, of a list that goes with an answer.
-module _ (acts : Acts) (ws : List Write) (a : Answer) (is : acts ws a) where
-  abbrev Same : Files → Acts
-  Same files = acts
-
-  wrote_all : (before now : Option Files) → Wrote ws before now → Acted Same before now a
-  wrote_all None now e = e
-  wrote_all (Some files) now e = (ws, is, e)
-
-  wrote_first : (before now : Option Files) → versions.WroteSome ws before now → WroteSome (writes_of Same) before now
-  wrote_first None now (made, rest, e, wrote) = wrote
-  wrote_first (Some files) now (made, rest, e, wrote) = inr (made, rest, (a, subst (λ l. acts l a) e is), wrote)
-
-  failed_next : (before now : Option Files) → versions.FailedAt ws before now → FailedAt (writes_of Same) before now
-  failed_next None now (made, rest, w, middle, e, wrote, only) = subst (λ m. ChangesOnly m now w.path) wrote only
-  failed_next (Some files) now (made, rest, w, middle, e, wrote, only) = inr (made, rest, w, (a, subst (λ l. acts l a) e is), subst (λ m. ChangesOnly m now w.path) wrote only)
-
-pub acts_wrote : (acts : Acts) (ws : List Write) (p : Printed) (before now : Option Files) → acts ws (printed p) → Wrote ws before now → ActsAs (λ files. acts) before now (Ok (Ok p))
-acts_wrote acts ws p before now is wrote = wrote_all acts ws (printed p) is before now wrote
-
-pub acts_left : (acts : Acts) (ws : List Write) (a : Answer) (e : StoreFault) (before now : Option Files) → acts ws a → LeftBy {A = Unit {0}} ws before now (Err e) → ActsAs (λ files. acts) before now (Err e)
-acts_left acts ws a Failed before now is failed = failed_next acts ws a is before now failed
-acts_left acts ws a StoreMemory before now is some = wrote_first acts ws a is before now some
-
--- what comes of a tree that isn't checked, and of one that is
-refused_by : (root : List ℕ) (tree : Found (List TreeFile)) (next : List Decl → Acts) (a : Answer) → Unchecked root tree a → BySchema root tree next [] a
-refused_by root (Ok found) next a (sources, are, is) = (sources, are, inl (a, is, (refl, refl)))
-refused_by root (Err passed) next a e = (refl, e)
-
-done_by : (root : List ℕ) (tree : Found (List TreeFile)) (next : List Decl → Acts) (S : List Decl) (made : List Write) (a : Answer) → HasSchema tree S → next S made a → BySchema root tree next made a
-done_by root (Ok found) next S made a (sources, are, is) h = (sources, are, inr (S, is, h))
-done_by root (Err passed) next S made a never h = absurd never
-
--- By the schema of a tree.
-module _ (root : List ℕ) (next : Files → List Decl → Acts) where
-  abbrev Whole : Files → Acts
-  Whole files = BySchema root (tree_at files root) (next files)
-
-  -- a tree that isn't checked
-  pub opened_ends : (before now : Option Files) (early : Early) → now ≡ before → Tells before (λ files. Opens root (tree_at files root) (Err early)) → ActsAs Whole before now (Ok (Err early))
-  opened_ends before now (Answered p) same told = ends_unwritten Whole before now (Answered p) same (tells before _ _ (λ files h. refused_by root (tree_at files root) (next files) (printed p) h) told)
-  opened_ends before now OutOfMemory same told = ends_unwritten Whole before now OutOfMemory same tt
-
-  -- one that is
-  pub opened_goes : (before middle now : Option Files) (schema : Schema) (r : Result (Result Printed Early) StoreFault) → middle ≡ before
-      → Tells before (λ files. Opens root (tree_at files root) (Ok schema)) → ActsAs (λ files. next files schema.decls) middle now r → ActsAs Whole before now r
-  opened_goes before middle now schema r same told acted =
-      acts_more (λ files. next files schema.decls) Whole before now r (tells before _ _ (λ files has made a h. done_by root (tree_at files root) (next files) schema.decls made a has h) told)
-      (subst (λ m. ActsAs (λ files. next files schema.decls) m now r) same acted)
-
--- A store that tells nothing.
-untold_acts : (acts : Files → Acts) (now : Option Files) (r : Result (Result Printed Early) StoreFault) → now ≡ None → ActsAs acts None now r
-untold_acts acts now (Ok (Ok p)) none = none
-untold_acts acts now (Ok (Err (Answered p))) none = none
-untold_acts acts now (Ok (Err OutOfMemory)) none = none
-untold_acts acts now (Err Failed) none = none
-untold_acts acts now (Err StoreMemory) none = none
-
--- an answer with all that goes with it, or a want of memory after the writes
-gives_told : (acts : Files → Acts) (files : Files) (now : Option Files) (given : Result Printed Early) (a : Answer) → Gives given a → Acted acts (Some files) now a → ActsAs acts (Some files) now (Ok given)
-gives_told acts files now (Ok p) a h acted = subst (Acted acts (Some files) now) (sym h) acted
-gives_told acts files now (Err (Answered p)) a h acted = subst (Acted acts (Some files) now) (sym h) acted
-gives_told acts files now (Err OutOfMemory) a h (made, is, e) = inr (made, [], (a, subst (λ l. acts files l a) (sym (append-nil made)) is), e)
 
 -- What is answered by a refusal.
 abbrev pub ended : Result Early StoreFault → Result (Result Printed Early) StoreFault
 ended (Ok early) = Ok (Err early)
 ended (Err e) = Err e
 
-pub ended_cause : (Is : FreezeFault → Answer → Type 0) (e : FreezeFault) (end : Result Early StoreFault) (before now : ℕ) → EndsBy Is e end → FaultCause before now e → StoreCause before now (ended end)
+pub ended_cause : (Is : FreezeFault → Answer → Type 0) (e : FreezeFault) (end : Result Early StoreFault) (before now : StoreFaults) → EndsBy Is e end → FaultCause before now e → StoreCause before now (ended end)
 ended_cause Is (fault.BadVersions missing) (Ok early) before now ends cause = cause
 ended_cause Is (fault.Torn version kept text) (Ok early) before now ends cause = cause
 ended_cause Is (fault.Unreadable version files why) (Ok early) before now ends cause = cause
@@ -129,168 +69,275 @@ ended_cause Is fault.ReadFault end before now ends cause = subst (λ r. StoreCau
 ended_cause Is fault.WriteFault end before now ends cause = subst (λ r. StoreCause before now (ended r)) (sym ends) cause
 ended_cause Is fault.OutOfMemory end before now ends cause = subst (λ r. StoreCause before now (ended r)) (sym ends) cause
 
--- a refusal with nothing written
-module _ (acts : Files → Acts) (files : Files) (now : Option Files) (same : now ≡ Some files) where
-  refused_unwritten : (Is : Answer → Type 0) (end : Result Early StoreFault) → ((a : Answer) → Is a → acts files [] a) → EndsIn Is end → ActsAs acts (Some files) now (ended end)
-  refused_unwritten Is (Ok (Answered p)) more is = ([], more (printed p) is, same)
-  refused_unwritten Is (Ok OutOfMemory) more is = inl same
-  refused_unwritten Is (Err e) more is = absurd is
+-- one of these calls, or a write
+abbrev AskedOr : (StoreCall → Type 0) → StoreCall → Type 0
+AskedOr Asked call = Asked call ⊎ IsWrite call
 
-  failed_unwritten : (end : Result Early StoreFault) → end ≡ Err Failed → ActsAs acts (Some files) now (ended end)
-  failed_unwritten end e = subst (λ r. ActsAs acts (Some files) now (ended r)) (sym e) (inl (inl same))
+pub ended_call : (Is : FreezeFault → Answer → Type 0) (e : FreezeFault) (end : Result Early StoreFault) (faults : StoreFaults) (Asked : StoreCall → Type 0) → EndsBy Is e end
+    → FaultCall Asked faults e → IfStoreFailed (ended end) (FailedIn faults (AskedOr Asked))
+ended_call Is (fault.BadVersions missing) (Ok early) faults Asked ends call = tt
+ended_call Is (fault.Torn version kept text) (Ok early) faults Asked ends call = tt
+ended_call Is (fault.Unreadable version files why) (Ok early) faults Asked ends call = tt
+ended_call Is (fault.Unchanged version) (Ok early) faults Asked ends call = tt
+ended_call Is (fault.Incompatible rows) (Ok early) faults Asked ends call = tt
+ended_call Is (fault.Limit limit) (Ok early) faults Asked ends call = tt
+ended_call Is (fault.BadVersions missing) (Err s) faults Asked ends call = absurd ends
+ended_call Is (fault.Torn version kept text) (Err s) faults Asked ends call = absurd ends
+ended_call Is (fault.Unreadable version files why) (Err s) faults Asked ends call = absurd ends
+ended_call Is (fault.Unchanged version) (Err s) faults Asked ends call = absurd ends
+ended_call Is (fault.Incompatible rows) (Err s) faults Asked ends call = absurd ends
+ended_call Is (fault.Limit limit) (Err s) faults Asked ends call = absurd ends
+ended_call Is fault.ReadFault end faults Asked ends call =
+    subst (λ r. IfStoreFailed (ended r) (FailedIn faults (AskedOr Asked))) (sym ends) (failed_as faults _ _ (λ c is. inl is) call)
+ended_call Is fault.WriteFault end faults Asked ends call =
+    subst (λ r. IfStoreFailed (ended r) (FailedIn faults (AskedOr Asked))) (sym ends) (failed_as faults _ _ (λ c is. inr is) call)
+ended_call Is fault.OutOfMemory end faults Asked ends call = subst (λ r. IfStoreFailed (ended r) (FailedIn faults (AskedOr Asked))) (sym ends) tt
 
-  lost_unwritten : (end : Result Early StoreFault) → end ≡ Err StoreMemory → ActsAs acts (Some files) now (ended end)
-  lost_unwritten end e = subst (λ r. ActsAs acts (Some files) now (ended r)) (sym e) (inl same)
+-- By what is asked of the store, and its faults at the end.
+module _ (asks : Asks) (faults : StoreFaults) where
+  -- Writes that were made, of a list that goes with an answer.
+  module _ (acts : Acts) (ws : List Write) (a : Answer) (is : acts ws a) where
+    abbrev Same : Files → Acts
+    Same files = acts
 
--- The writes of a list that goes with an answer, of a store that tells its files.
-module _ (acts : Files → Acts) (files : Files) (ws : List Write) (a : Answer) (is : acts files ws a) (now : Option Files) where
-  failed_late : (end : Result Early StoreFault) → end ≡ Err Failed → versions.FailedAt ws (Some files) now → ActsAs acts (Some files) now (ended end)
-  failed_late end e (made, rest, w, middle, split, wrote, only) =
-      subst (λ r. ActsAs acts (Some files) now (ended r)) (sym e) (inr (made, rest, w, (a, subst (λ l. acts files l a) split is), subst (λ m. ChangesOnly m now w.path) wrote only))
+    wrote_all : (before now : Option Files) → Wrote ws before now → Acted Same before now a
+    wrote_all None now e = e
+    wrote_all (Some files) now e = (ws, is, e)
 
-  lost_late : (end : Result Early StoreFault) → end ≡ Err StoreMemory → versions.WroteSome ws (Some files) now → ActsAs acts (Some files) now (ended end)
-  lost_late end e (made, rest, split, wrote) =
-      subst (λ r. ActsAs acts (Some files) now (ended r)) (sym e) (inr (made, rest, (a, subst (λ l. acts files l a) split is), wrote))
+    wrote_first : (before now : Option Files) → versions.WroteSome ws before now → WroteSome (writes_of Same) before now
+    wrote_first None now (made, rest, e, wrote) = wrote
+    wrote_first (Some files) now (made, rest, e, wrote) = inr (made, rest, (a, subst (λ l. acts l a) e is), wrote)
 
--- the refusal, where it is one
-abbrev refusal_or : FreezeFault → Result Frozen FreezeFault → FreezeFault
-refusal_or other (Ok f) = other
-refusal_or other (Err e) = e
+    failed_next : (before now : Option Files) → versions.FailedAt ws before now → FailedAt (writes_of Same) before now
+    failed_next None now (made, rest, w, middle, e, wrote, only) = subst (λ m. ChangesOnly m now w.path) wrote only
+    failed_next (Some files) now (made, rest, w, middle, e, wrote, only) = (made, rest, w, (a, subst (λ l. acts l a) e is), subst (λ m. ChangesOnly m now w.path) wrote only)
 
--- Freezing.
-module _ (api : List ℕ) (S : List Decl) where
-  abbrev FreezesOf : Files → Acts
-  FreezesOf files = Freezes api (versions_at files api) S
+  pub acts_wrote : (acts : Acts) (ws : List Write) (p : Printed) (before now : Option Files) → acts ws (printed p) → Wrote ws before now → ActsAs asks (λ files. acts) before now faults (Ok (Ok p))
+  acts_wrote acts ws p before now is wrote = wrote_all acts ws (printed p) is before now wrote
 
-  module _ (files : Files) (now : Option Files) where
-    -- what is found at the API
-    abbrev IsFound : Result (List Version) FreezeFault → Type 0
-    IsFound given = versions_at files api ≡ given
+  pub acts_left : (acts : Acts) (ws : List Write) (a : Answer) (e : StoreFault) (before now : Option Files) → acts ws a → LeftBy {A = Unit {0}} ws before now (Err e)
+      → WhereStoreFailed e (FailedIn faults IsWrite) → ActsAs asks (λ files. acts) before now faults (Err e)
+  acts_left acts ws a Failed before now is left failed = failed_as faults _ _ (λ call write. inr (write, failed_next acts ws a is before now left)) failed
+  acts_left acts ws a StoreMemory before now is some failed = wrote_first acts ws a is before now some
 
-    carried : (given : Result (List Version) FreezeFault) (made : List Write) (a : Answer) → IsFound given → Freezes api given S made a → FreezesOf files made a
-    carried given made a e h = subst (λ g. Freezes api g S made a) (sym e) h
+  -- what comes of a tree that isn't checked, and of one that is
+  refused_by : (root : List ℕ) (tree : Found (List TreeFile)) (next : List Decl → Acts) (a : Answer) → Unchecked root tree a → BySchema root tree next [] a
+  refused_by root (Ok found) next a (sources, are, is) = (sources, are, inl (a, is, (refl, refl)))
+  refused_by root (Err passed) next a e = (refl, e)
 
-    frozen_told : (given : Result (List Version) FreezeFault) (f : Frozen) → IsFound given → freeze.FreezesAt api given S (Some files) now (Ok f) → Acted FreezesOf (Some files) now (frozen f.version f.hash)
-    frozen_told (Ok vs) f e (sources, ready, version, hash, wrote) =
-        let same : frozen f.version f.hash ≡ frozen (freeze.next vs) (freeze.hash_digits sources (freeze.next vs)) = rw (version, hash) refl in
-        (freeze.version_writes api (freeze.next vs) sources, carried (Ok vs) _ _ e (inl (sources, ready, refl, same)), wrote)
-    frozen_told (Err r) f e h = absurd h
+  done_by : (root : List ℕ) (tree : Found (List TreeFile)) (next : List Decl → Acts) (S : List Decl) (made : List Write) (a : Answer) → HasSchema tree S → next S made a → BySchema root tree next made a
+  done_by root (Ok found) next S made a (sources, are, is) h = (sources, are, inr (S, is, h))
+  done_by root (Err passed) next S made a never h = absurd never
 
-    -- a refusal of the versions that were read, or of what refuses these
-    plain_read : (vs : List Version) (e : FreezeFault) (end : Result Early StoreFault) → IsFound (Ok vs) → now ≡ Some files → freeze.RefusedAs vs S e → EndsIn (IsUnfrozen api e) end → ActsAs FreezesOf (Some files) now (ended end)
-    plain_read vs e end is same refused ends = refused_unwritten FreezesOf files now same (IsUnfrozen api e) end (λ a h. carried (Ok vs) [] a is (inr (refl, (e, refused, h)))) ends
+  -- By the schema of a tree.
+  module _ (root : List ℕ) (next : Files → List Decl → Acts) where
+    abbrev Whole : Files → Acts
+    Whole files = BySchema root (tree_at files root) (next files)
 
-    plain_unread : (r e : FreezeFault) (end : Result Early StoreFault) → IsFound (Err r) → now ≡ Some files → ◌≡◌ {A = Result Frozen FreezeFault} (Err r) (Err e) → EndsIn (IsUnfrozen api e) end → ActsAs FreezesOf (Some files) now (ended end)
-    plain_unread r e end is same one ends =
-        let which : r ≡ e = ap (refusal_or r) one in
-        refused_unwritten FreezesOf files now same (IsUnfrozen api e) end (λ a h. carried (Err r) [] a is (refl, subst (λ x. IsUnfrozen api x a) (sym which) h)) ends
+    -- a tree that isn't checked
+    pub opened_ends : (before now : Option Files) (early : Early) → now ≡ before → Tells before (λ files. Opens root (tree_at files root) (Err early)) → ActsAs asks Whole before now faults (Ok (Err early))
+    opened_ends before now (Answered p) same told = ends_unwritten asks Whole before now faults (Answered p) same (tells before _ _ (λ files h. refused_by root (tree_at files root) (next files) (printed p) h) told)
+    opened_ends before now OutOfMemory same told = ends_unwritten asks Whole before now faults OutOfMemory same tt
 
-    refused_read : (vs : List Version) (e : FreezeFault) (end : Result Early StoreFault) → IsFound (Ok vs) → freeze.Freezes api vs S (Some files) now (Err e) → EndsBy (IsUnfrozen api) e end → ActsAs FreezesOf (Some files) now (ended end)
-    refused_read vs (fault.BadVersions missing) end is told ends = absurd told
-    refused_read vs (fault.Torn version kept text) end is told ends = plain_read vs (fault.Torn version kept text) end is told.0 told.1 ends
-    refused_read vs (fault.Unreadable version sources why) end is told ends = plain_read vs (fault.Unreadable version sources why) end is told.0 told.1 ends
-    refused_read vs (fault.Unchanged version) end is told ends = plain_read vs (fault.Unchanged version) end is told.0 told.1 ends
-    refused_read vs (fault.Incompatible rows) end is told ends = plain_read vs (fault.Incompatible rows) end is told.0 told.1 ends
-    refused_read vs (fault.Limit limit) end is told ends = plain_read vs (fault.Limit limit) end is told.0 told.1 ends
-    refused_read vs fault.ReadFault end is told ends = failed_unwritten FreezesOf files now told end ends
-    refused_read vs fault.WriteFault end is (sources, ready, failed) ends =
-        failed_late FreezesOf files (freeze.version_writes api (freeze.next vs) sources) (frozen (freeze.next vs) (freeze.hash_digits sources (freeze.next vs)))
-        (carried (Ok vs) _ _ is (inl (sources, ready, refl, refl))) now end ends failed
-    refused_read vs fault.OutOfMemory end is (inl same) ends = lost_unwritten FreezesOf files now same end ends
-    refused_read vs fault.OutOfMemory end is (inr (sources, ready, some)) ends =
-        lost_late FreezesOf files (freeze.version_writes api (freeze.next vs) sources) (frozen (freeze.next vs) (freeze.hash_digits sources (freeze.next vs)))
-        (carried (Ok vs) _ _ is (inl (sources, ready, refl, refl))) now end ends some
+    -- one that is
+    pub opened_goes : (some : Asks) (before middle now : Option Files) (schema : Schema) (r : Result (Result Printed Early) StoreFault) → ((call : StoreCall) → some before call → asks before call)
+        → middle ≡ before → Tells before (λ files. Opens root (tree_at files root) (Ok schema)) → ActsAs some (λ files. next files schema.decls) middle now faults r → ActsAs asks Whole before now faults r
+    opened_goes some before middle now schema r also same told acted =
+        acts_more some asks (λ files. next files schema.decls) Whole before now faults r also
+        (tells before _ _ (λ files has made a h. done_by root (tree_at files root) (next files) schema.decls made a has h) told)
+        (subst (λ m. ActsAs some (λ files. next files schema.decls) m now faults r) same acted)
 
-    refused_unread : (r e : FreezeFault) (end : Result Early StoreFault) → IsFound (Err r) → now ≡ Some files → Refuses {A = Frozen} (Err r) e → EndsBy (IsUnfrozen api) e end → ActsAs FreezesOf (Some files) now (ended end)
-    refused_unread r (fault.BadVersions missing) end is same one ends = plain_unread r (fault.BadVersions missing) end is same one ends
-    refused_unread r (fault.Torn version kept text) end is same one ends = plain_unread r (fault.Torn version kept text) end is same one ends
-    refused_unread r (fault.Unreadable version sources why) end is same one ends = plain_unread r (fault.Unreadable version sources why) end is same one ends
-    refused_unread r (fault.Unchanged version) end is same one ends = plain_unread r (fault.Unchanged version) end is same one ends
-    refused_unread r (fault.Incompatible rows) end is same one ends = plain_unread r (fault.Incompatible rows) end is same one ends
-    refused_unread r (fault.Limit limit) end is same one ends = plain_unread r (fault.Limit limit) end is same one ends
-    refused_unread r fault.ReadFault end is same one ends = failed_unwritten FreezesOf files now same end ends
-    refused_unread r fault.WriteFault end is same one ends = failed_unwritten FreezesOf files now same end ends
-    refused_unread r fault.OutOfMemory end is same one ends = lost_unwritten FreezesOf files now same end ends
+  -- A store that tells nothing.
+  untold_acts : (acts : Files → Acts) (now : Option Files) (r : Result (Result Printed Early) StoreFault) → now ≡ None
+      → IfStoreFailed r (FailedIn faults (AskedOr (asks None))) → ActsAs asks acts None now faults r
+  untold_acts acts now (Ok (Ok p)) none failed = none
+  untold_acts acts now (Ok (Err (Answered p))) none failed = none
+  untold_acts acts now (Ok (Err OutOfMemory)) none failed = none
+  untold_acts acts now (Err Failed) none failed = failed_as faults _ _ (λ call is. untold_stop acts now call none is) failed
+    where
+      untold_stop : (acts : Files → Acts) (now : Option Files) (call : StoreCall) → now ≡ None → AskedOr (asks None) call → StopsAtStore (acts_by asks acts) None now call
+      untold_stop acts now call none (inl is) = inl (is, none)
+      untold_stop acts now call none (inr is) = inr (is, none)
+  untold_acts acts now (Err StoreMemory) none failed = none
 
-    refused_told : (given : Result (List Version) FreezeFault) (e : FreezeFault) (end : Result Early StoreFault) → IsFound given → freeze.FreezesAt api given S (Some files) now (Err e) → EndsBy (IsUnfrozen api) e end → ActsAs FreezesOf (Some files) now (ended end)
-    refused_told (Ok vs) e end is told ends = refused_read vs e end is told ends
-    refused_told (Err r) e end is told ends = refused_unread r e end is told.0 told.1 ends
+  -- no call of the store failed where an answer was found
+  given_call : (given : Result Printed Early) → IfStoreFailed {T = Result Printed Early} (Ok given) (FailedIn faults (AskedOr (asks None)))
+  given_call given = tt
 
-  pub freeze_done : (before now : Option Files) (f : Frozen) (given : Result Printed Early) → (before ≡ None → now ≡ None)
-      → Tells before (λ files. freeze.FreezesAt api (versions_at files api) S (Some files) now (Ok f)) → Gives given (frozen f.version f.hash) → ActsAs FreezesOf before now (Ok given)
-  freeze_done None now f given untold told gives = untold_acts FreezesOf now (Ok given) (untold refl)
-  freeze_done (Some files) now f given untold told gives = gives_told FreezesOf files now given (frozen f.version f.hash) gives (frozen_told files now (versions_at files api) f refl told)
+  -- an answer with all that goes with it, or a want of memory after the writes
+  gives_told : (acts : Files → Acts) (files : Files) (now : Option Files) (given : Result Printed Early) (a : Answer) → Gives given a → Acted acts (Some files) now a → ActsAs asks acts (Some files) now faults (Ok given)
+  gives_told acts files now (Ok p) a h acted = subst (Acted acts (Some files) now) (sym h) acted
+  gives_told acts files now (Err (Answered p)) a h acted = subst (Acted acts (Some files) now) (sym h) acted
+  gives_told acts files now (Err OutOfMemory) a h (made, is, e) = inr (made, [], (a, subst (λ l. acts files l a) (sym (append-nil made)) is), e)
 
-  pub freeze_refused : (before now : Option Files) (e : FreezeFault) (end : Result Early StoreFault) → (before ≡ None → now ≡ None)
-      → Tells before (λ files. freeze.FreezesAt api (versions_at files api) S (Some files) now (Err e)) → EndsBy (IsUnfrozen api) e end → ActsAs FreezesOf before now (ended end)
-  freeze_refused None now e end untold told ends = untold_acts FreezesOf now (ended end) (untold refl)
-  freeze_refused (Some files) now e end untold told ends = refused_told files now (versions_at files api) e end refl told ends
+  -- a refusal with nothing written
+  module _ (acts : Files → Acts) (files : Files) (now : Option Files) (same : now ≡ Some files) where
+    refused_unwritten : (Is : Answer → Type 0) (end : Result Early StoreFault) → ((a : Answer) → Is a → acts files [] a) → EndsIn Is end → ActsAs asks acts (Some files) now faults (ended end)
+    refused_unwritten Is (Ok (Answered p)) more is = ([], more (printed p) is, same)
+    refused_unwritten Is (Ok OutOfMemory) more is = inl same
+    refused_unwritten Is (Err e) more is = absurd is
 
--- Hashing again.
-no_next : (made rest : List Write) (w : Write) → [] ≡ made ++ w ∷ rest → ⊥
-no_next [] rest w e = absurd cc
-no_next (m ∷ made) rest w e = absurd cc
+    failed_unwritten : (end : Result Early StoreFault) → end ≡ Err Failed → FailedIn faults (asks (Some files)) → ActsAs asks acts (Some files) now faults (ended end)
+    failed_unwritten end e failed = subst (λ r. ActsAs asks acts (Some files) now faults (ended r)) (sym e) (failed_as faults _ _ (λ call is. inl (is, same)) failed)
 
-no_first : (made rest : List Write) → [] ≡ made ++ rest → made ≡ []
-no_first [] rest e = refl
-no_first (m ∷ made) rest e = absurd cc
+    lost_unwritten : (end : Result Early StoreFault) → end ≡ Err StoreMemory → ActsAs asks acts (Some files) now faults (ended end)
+    lost_unwritten end e = subst (λ r. ActsAs asks acts (Some files) now faults (ended r)) (sym e) (inl same)
 
--- where hashing is refused, no write is due
-by_whole : (api : List ℕ) (vs : List Version) (e : FreezeFault) (whole : Result (Unit {0}) FreezeFault) → (whole >>= λ x. Ok (stale_numbers vs)) ≡ Err e → writes_for (λ x. hash_writes api vs) whole ≡ []
-by_whole api vs e (Ok x) h = absurd cc
-by_whole api vs e (Err r) h = refl
+  -- The writes of a list that goes with an answer, of a store that tells its files.
+  module _ (acts : Files → Acts) (files : Files) (ws : List Write) (a : Answer) (is : acts files ws a) (now : Option Files) where
+    failed_late : (end : Result Early StoreFault) → end ≡ Err Failed → FailedIn faults IsWrite → versions.FailedAt ws (Some files) now → ActsAs asks acts (Some files) now faults (ended end)
+    failed_late end e failed (made, rest, w, middle, split, wrote, only) =
+        subst (λ r. ActsAs asks acts (Some files) now faults (ended r)) (sym e)
+        (failed_as faults _ _ (λ call write. inr (write, (made, rest, w, (a, subst (λ l. acts files l a) split is), subst (λ m. ChangesOnly m now w.path) wrote only))) failed)
 
-none_due : (api : List ℕ) (given : Result (List Version) FreezeFault) (e : FreezeFault) → (given >>= rehash_of) ≡ Err e → writes_for (whole_writes api) given ≡ []
-none_due api (Ok vs) e h = by_whole api vs e (all_whole vs) h
-none_due api (Err r) e h = refl
+    lost_late : (end : Result Early StoreFault) → end ≡ Err StoreMemory → versions.WroteSome ws (Some files) now → ActsAs asks acts (Some files) now faults (ended end)
+    lost_late end e (made, rest, split, wrote) =
+        subst (λ r. ActsAs asks acts (Some files) now faults (ended r)) (sym e) (inr (made, rest, (a, subst (λ l. acts files l a) split is), wrote))
 
-module _ (api : List ℕ) (files : Files) (now : Option Files) where
-  abbrev Hashes : Files → Acts
-  Hashes = RehashActs api
+  -- the refusal, where it is one
+  abbrev refusal_or : FreezeFault → Result Frozen FreezeFault → FreezeFault
+  refusal_or other (Ok f) = other
+  refusal_or other (Err e) = e
 
-  abbrev Numbers : Type 0
-  Numbers = Result (List ℕ) FreezeFault
+  -- Freezing.
+  module _ (api : List ℕ) (S : List Decl) where
+    abbrev FreezesOf : Files → Acts
+    FreezesOf files = Freezes api (versions_at files api) S
 
-  carried_hashes : (given : Numbers) (made : List Write) (a : Answer) → rehash_at files api ≡ given → Rehashes (rehash_writes files api) given made a → Hashes files made a
-  carried_hashes given made a e h = subst (λ g. Rehashes (rehash_writes files api) g made a) (sym e) h
+    module _ (files : Files) (now : Option Files) where
+      -- what is found at the API
+      abbrev IsFound : Result (List Version) FreezeFault → Type 0
+      IsFound given = versions_at files api ≡ given
 
-  unhashed_plain : (e : FreezeFault) (end : Result Early StoreFault) → rehash_at files api ≡ Err e → now ≡ Some files → EndsIn (IsUnhashed e) end → ActsAs Hashes (Some files) now (ended end)
-  unhashed_plain e end is same ends = refused_unwritten Hashes files now same (IsUnhashed e) end (λ a h. carried_hashes (Err e) [] a is (refl, h)) ends
+      carried : (given : Result (List Version) FreezeFault) (made : List Write) (a : Answer) → IsFound given → Freezes api given S made a → FreezesOf files made a
+      carried given made a e h = subst (λ g. Freezes api g S made a) (sym e) h
 
-  failed_by : (given : Numbers) (end : Result Early StoreFault) → rehash_at files api ≡ given → end ≡ Err Failed → versions.FailedAt (rehash_writes files api) (Some files) now → ActsAs Hashes (Some files) now (ended end)
-  failed_by (Ok numbers) end is ends failed =
-      failed_late Hashes files (rehash_writes files api) (rehashed (length numbers)) (carried_hashes (Ok numbers) _ _ is (refl, refl)) now end ends failed
-  failed_by (Err e) end is ends (made, rest, w, middle, split, wrote, only) =
-      absurd (no_next made rest w (sym (none_due api (versions_at files api) e is) ∙ split))
+      frozen_told : (given : Result (List Version) FreezeFault) (f : Frozen) → IsFound given → freeze.FreezesAt api given S (Some files) now (Ok f) → Acted FreezesOf (Some files) now (frozen f.version f.hash)
+      frozen_told (Ok vs) f e (sources, ready, version, hash, wrote) =
+          let same : frozen f.version f.hash ≡ frozen (freeze.next vs) (freeze.hash_digits sources (freeze.next vs)) = rw (version, hash) refl in
+          (freeze.version_writes api (freeze.next vs) sources, carried (Ok vs) _ _ e (inl (sources, ready, refl, same)), wrote)
+      frozen_told (Err r) f e h = absurd h
 
-  lost_by : (given : Numbers) (end : Result Early StoreFault) → rehash_at files api ≡ given → end ≡ Err StoreMemory → versions.WroteSome (rehash_writes files api) (Some files) now → ActsAs Hashes (Some files) now (ended end)
-  lost_by (Ok numbers) end is ends some =
-      lost_late Hashes files (rehash_writes files api) (rehashed (length numbers)) (carried_hashes (Ok numbers) _ _ is (refl, refl)) now end ends some
-  lost_by (Err e) end is ends (made, rest, split, wrote) =
-      let none : made ≡ [] = no_first made rest (sym (none_due api (versions_at files api) e is) ∙ split) in
-      lost_unwritten Hashes files now (subst (λ ws. Wrote ws (Some files) now) none wrote) end ends
+      -- a refusal of the versions that were read, or of what refuses these
+      plain_read : (vs : List Version) (e : FreezeFault) (end : Result Early StoreFault) → IsFound (Ok vs) → now ≡ Some files → freeze.RefusedAs vs S e → EndsIn (IsUnfrozen api e) end → ActsAs asks FreezesOf (Some files) now faults (ended end)
+      plain_read vs e end is same refused ends = refused_unwritten FreezesOf files now same (IsUnfrozen api e) end (λ a h. carried (Ok vs) [] a is (inr (refl, (e, refused, h)))) ends
 
-  unhashed_told : (e : FreezeFault) (end : Result Early StoreFault) → Refuses (rehash_at files api) e → Left {A = List ℕ} (rehash_writes files api) (Some files) now (Err e) → EndsBy IsUnhashed e end → ActsAs Hashes (Some files) now (ended end)
-  unhashed_told (fault.BadVersions missing) end is left ends = unhashed_plain (fault.BadVersions missing) end is left ends
-  unhashed_told (fault.Torn version kept text) end is left ends = unhashed_plain (fault.Torn version kept text) end is left ends
-  unhashed_told (fault.Unreadable version sources why) end is left ends = unhashed_plain (fault.Unreadable version sources why) end is left ends
-  unhashed_told (fault.Unchanged version) end is left ends = unhashed_plain (fault.Unchanged version) end is left ends
-  unhashed_told (fault.Incompatible rows) end is left ends = unhashed_plain (fault.Incompatible rows) end is left ends
-  unhashed_told (fault.Limit limit) end is left ends = unhashed_plain (fault.Limit limit) end is left ends
-  unhashed_told fault.ReadFault end is left ends = failed_unwritten Hashes files now left end ends
-  unhashed_told fault.WriteFault end is left ends = failed_by (rehash_at files api) end refl ends left
-  unhashed_told fault.OutOfMemory end is left ends = lost_by (rehash_at files api) end refl ends left
+      plain_unread : (r e : FreezeFault) (end : Result Early StoreFault) → IsFound (Err r) → now ≡ Some files → ◌≡◌ {A = Result Frozen FreezeFault} (Err r) (Err e) → EndsIn (IsUnfrozen api e) end → ActsAs asks FreezesOf (Some files) now faults (ended end)
+      plain_unread r e end is same one ends =
+          let which : r ≡ e = ap (refusal_or r) one in
+          refused_unwritten FreezesOf files now same (IsUnfrozen api e) end (λ a h. carried (Err r) [] a is (refl, subst (λ x. IsUnfrozen api x a) (sym which) h)) ends
 
-module _ (api : List ℕ) where
-  pub rehash_done : (before now : Option Files) (numbers : List ℕ) (given : Result Printed Early) → (before ≡ None → now ≡ None)
-      → Tells before (λ files. answers.Gives (rehash_at files api) (Ok numbers)) → Tells before (λ files. Left (rehash_writes files api) (Some files) now (Ok numbers))
-      → Gives given (rehashed (length numbers)) → ActsAs (RehashActs api) before now (Ok given)
-  rehash_done None now numbers given untold told wrote gives = untold_acts (RehashActs api) now (Ok given) (untold refl)
-  rehash_done (Some files) now numbers given untold told wrote gives =
-      gives_told (RehashActs api) files now given (rehashed (length numbers)) gives (rehash_writes files api, carried_hashes api files now (Ok numbers) _ _ told (refl, refl), wrote)
+      refused_read : (vs : List Version) (e : FreezeFault) (end : Result Early StoreFault) → IsFound (Ok vs) → freeze.Freezes api vs S (Some files) now (Err e) → EndsBy (IsUnfrozen api) e end
+          → FaultCall (asks (Some files)) faults e → ActsAs asks FreezesOf (Some files) now faults (ended end)
+      refused_read vs (fault.BadVersions missing) end is told ends call = absurd told
+      refused_read vs (fault.Torn version kept text) end is told ends call = plain_read vs (fault.Torn version kept text) end is told.0 told.1 ends
+      refused_read vs (fault.Unreadable version sources why) end is told ends call = plain_read vs (fault.Unreadable version sources why) end is told.0 told.1 ends
+      refused_read vs (fault.Unchanged version) end is told ends call = plain_read vs (fault.Unchanged version) end is told.0 told.1 ends
+      refused_read vs (fault.Incompatible rows) end is told ends call = plain_read vs (fault.Incompatible rows) end is told.0 told.1 ends
+      refused_read vs (fault.Limit limit) end is told ends call = plain_read vs (fault.Limit limit) end is told.0 told.1 ends
+      refused_read vs fault.ReadFault end is told ends call = failed_unwritten FreezesOf files now told end ends call
+      refused_read vs fault.WriteFault end is (sources, ready, failed) ends call =
+          failed_late FreezesOf files (freeze.version_writes api (freeze.next vs) sources) (frozen (freeze.next vs) (freeze.hash_digits sources (freeze.next vs)))
+          (carried (Ok vs) _ _ is (inl (sources, ready, refl, refl))) now end ends call failed
+      refused_read vs fault.OutOfMemory end is (inl same) ends call = lost_unwritten FreezesOf files now same end ends
+      refused_read vs fault.OutOfMemory end is (inr (sources, ready, some)) ends call =
+          lost_late FreezesOf files (freeze.version_writes api (freeze.next vs) sources) (frozen (freeze.next vs) (freeze.hash_digits sources (freeze.next vs)))
+          (carried (Ok vs) _ _ is (inl (sources, ready, refl, refl))) now end ends some
 
-  pub rehash_refused : (before now : Option Files) (e : FreezeFault) (end : Result Early StoreFault) → (before ≡ None → now ≡ None)
-      → Tells before (λ files. answers.Gives {A = List ℕ} (rehash_at files api) (Err e)) → Tells before (λ files. Left {A = List ℕ} (rehash_writes files api) (Some files) now (Err e))
-      → EndsBy IsUnhashed e end → ActsAs (RehashActs api) before now (ended end)
-  rehash_refused None now e end untold told wrote ends = untold_acts (RehashActs api) now (ended end) (untold refl)
-  rehash_refused (Some files) now e end untold told wrote ends = unhashed_told api files now e end told wrote ends
+      refused_unread : (r e : FreezeFault) (end : Result Early StoreFault) → IsFound (Err r) → now ≡ Some files → Refuses {A = Frozen} (Err r) e → e ≢ fault.WriteFault → EndsBy (IsUnfrozen api) e end
+          → FaultCall (asks (Some files)) faults e → ActsAs asks FreezesOf (Some files) now faults (ended end)
+      refused_unread r (fault.BadVersions missing) end is same one unwritten ends call = plain_unread r (fault.BadVersions missing) end is same one ends
+      refused_unread r (fault.Torn version kept text) end is same one unwritten ends call = plain_unread r (fault.Torn version kept text) end is same one ends
+      refused_unread r (fault.Unreadable version sources why) end is same one unwritten ends call = plain_unread r (fault.Unreadable version sources why) end is same one ends
+      refused_unread r (fault.Unchanged version) end is same one unwritten ends call = plain_unread r (fault.Unchanged version) end is same one ends
+      refused_unread r (fault.Incompatible rows) end is same one unwritten ends call = plain_unread r (fault.Incompatible rows) end is same one ends
+      refused_unread r (fault.Limit limit) end is same one unwritten ends call = plain_unread r (fault.Limit limit) end is same one ends
+      refused_unread r fault.ReadFault end is same one unwritten ends call = failed_unwritten FreezesOf files now same end ends call
+      refused_unread r fault.WriteFault end is same one unwritten ends call = absurd (unwritten refl)
+      refused_unread r fault.OutOfMemory end is same one unwritten ends call = lost_unwritten FreezesOf files now same end ends
+
+      refused_told : (given : Result (List Version) FreezeFault) (e : FreezeFault) (end : Result Early StoreFault) → IsFound given → freeze.FreezesAt api given S (Some files) now (Err e) → EndsBy (IsUnfrozen api) e end
+          → FaultCall (asks (Some files)) faults e → ActsAs asks FreezesOf (Some files) now faults (ended end)
+      refused_told (Ok vs) e end is told ends call = refused_read vs e end is told ends call
+      refused_told (Err r) e end is told ends call = refused_unread r e end is told.0 told.1 told.2 ends call
+
+    pub freeze_done : (before now : Option Files) (f : Frozen) (given : Result Printed Early) → (before ≡ None → now ≡ None)
+        → Tells before (λ files. freeze.FreezesAt api (versions_at files api) S (Some files) now (Ok f)) → Gives given (frozen f.version f.hash) → ActsAs asks FreezesOf before now faults (Ok given)
+    freeze_done None now f given untold told gives = untold_acts FreezesOf now (Ok given) (untold refl) (given_call given)
+    freeze_done (Some files) now f given untold told gives = gives_told FreezesOf files now given (frozen f.version f.hash) gives (frozen_told files now (versions_at files api) f refl told)
+
+    pub freeze_refused : (before now : Option Files) (e : FreezeFault) (end : Result Early StoreFault) → (before ≡ None → now ≡ None)
+        → Tells before (λ files. freeze.FreezesAt api (versions_at files api) S (Some files) now (Err e)) → EndsBy (IsUnfrozen api) e end → FaultCall (asks before) faults e
+        → ActsAs asks FreezesOf before now faults (ended end)
+    freeze_refused None now e end untold told ends call = untold_acts FreezesOf now (ended end) (untold refl) (ended_call (IsUnfrozen api) e end faults (asks None) ends call)
+    freeze_refused (Some files) now e end untold told ends call = refused_told files now (versions_at files api) e end refl told ends call
+
+  -- Hashing again.
+  no_next : (made rest : List Write) (w : Write) → [] ≡ made ++ w ∷ rest → ⊥
+  no_next [] rest w e = absurd cc
+  no_next (m ∷ made) rest w e = absurd cc
+
+  no_first : (made rest : List Write) → [] ≡ made ++ rest → made ≡ []
+  no_first [] rest e = refl
+  no_first (m ∷ made) rest e = absurd cc
+
+  -- where hashing is refused, no write is due
+  by_whole : (api : List ℕ) (vs : List Version) (e : FreezeFault) (whole : Result (Unit {0}) FreezeFault) → (whole >>= λ x. Ok (stale_numbers vs)) ≡ Err e → writes_for (λ x. hash_writes api vs) whole ≡ []
+  by_whole api vs e (Ok x) h = absurd cc
+  by_whole api vs e (Err r) h = refl
+
+  none_due : (api : List ℕ) (given : Result (List Version) FreezeFault) (e : FreezeFault) → (given >>= rehash_of) ≡ Err e → writes_for (whole_writes api) given ≡ []
+  none_due api (Ok vs) e h = by_whole api vs e (all_whole vs) h
+  none_due api (Err r) e h = refl
+
+  module _ (api : List ℕ) (files : Files) (now : Option Files) where
+    abbrev Hashes : Files → Acts
+    Hashes = RehashActs api
+
+    abbrev Numbers : Type 0
+    Numbers = Result (List ℕ) FreezeFault
+
+    carried_hashes : (given : Numbers) (made : List Write) (a : Answer) → rehash_at files api ≡ given → Rehashes (rehash_writes files api) given made a → Hashes files made a
+    carried_hashes given made a e h = subst (λ g. Rehashes (rehash_writes files api) g made a) (sym e) h
+
+    unhashed_plain : (e : FreezeFault) (end : Result Early StoreFault) → rehash_at files api ≡ Err e → now ≡ Some files → EndsIn (IsUnhashed e) end → ActsAs asks Hashes (Some files) now faults (ended end)
+    unhashed_plain e end is same ends = refused_unwritten Hashes files now same (IsUnhashed e) end (λ a h. carried_hashes (Err e) [] a is (refl, h)) ends
+
+    failed_by : (given : Numbers) (end : Result Early StoreFault) → rehash_at files api ≡ given → end ≡ Err Failed → FailedIn faults IsWrite → versions.FailedAt (rehash_writes files api) (Some files) now → ActsAs asks Hashes (Some files) now faults (ended end)
+    failed_by (Ok numbers) end is ends call failed =
+        failed_late Hashes files (rehash_writes files api) (rehashed (length numbers)) (carried_hashes (Ok numbers) _ _ is (refl, refl)) now end ends call failed
+    failed_by (Err e) end is ends call (made, rest, w, middle, split, wrote, only) =
+        absurd (no_next made rest w (sym (none_due api (versions_at files api) e is) ∙ split))
+
+    lost_by : (given : Numbers) (end : Result Early StoreFault) → rehash_at files api ≡ given → end ≡ Err StoreMemory → versions.WroteSome (rehash_writes files api) (Some files) now → ActsAs asks Hashes (Some files) now faults (ended end)
+    lost_by (Ok numbers) end is ends some =
+        lost_late Hashes files (rehash_writes files api) (rehashed (length numbers)) (carried_hashes (Ok numbers) _ _ is (refl, refl)) now end ends some
+    lost_by (Err e) end is ends (made, rest, split, wrote) =
+        let none : made ≡ [] = no_first made rest (sym (none_due api (versions_at files api) e is) ∙ split) in
+        lost_unwritten Hashes files now (subst (λ ws. Wrote ws (Some files) now) none wrote) end ends
+
+    unhashed_told : (e : FreezeFault) (end : Result Early StoreFault) → Refuses (rehash_at files api) e → Left {A = List ℕ} (rehash_writes files api) (Some files) now (Err e) → EndsBy IsUnhashed e end
+        → FaultCall (asks (Some files)) faults e → ActsAs asks Hashes (Some files) now faults (ended end)
+    unhashed_told (fault.BadVersions missing) end is left ends call = unhashed_plain (fault.BadVersions missing) end is left ends
+    unhashed_told (fault.Torn version kept text) end is left ends call = unhashed_plain (fault.Torn version kept text) end is left ends
+    unhashed_told (fault.Unreadable version sources why) end is left ends call = unhashed_plain (fault.Unreadable version sources why) end is left ends
+    unhashed_told (fault.Unchanged version) end is left ends call = unhashed_plain (fault.Unchanged version) end is left ends
+    unhashed_told (fault.Incompatible rows) end is left ends call = unhashed_plain (fault.Incompatible rows) end is left ends
+    unhashed_told (fault.Limit limit) end is left ends call = unhashed_plain (fault.Limit limit) end is left ends
+    unhashed_told fault.ReadFault end is left ends call = failed_unwritten Hashes files now left end ends call
+    unhashed_told fault.WriteFault end is left ends call = failed_by (rehash_at files api) end refl ends call left
+    unhashed_told fault.OutOfMemory end is left ends call = lost_by (rehash_at files api) end refl ends left
+
+  module _ (api : List ℕ) where
+    pub rehash_done : (before now : Option Files) (numbers : List ℕ) (given : Result Printed Early) → (before ≡ None → now ≡ None)
+        → Tells before (λ files. answers.Gives (rehash_at files api) (Ok numbers)) → Tells before (λ files. Left (rehash_writes files api) (Some files) now (Ok numbers))
+        → Gives given (rehashed (length numbers)) → ActsAs asks (RehashActs api) before now faults (Ok given)
+    rehash_done None now numbers given untold told wrote gives = untold_acts (RehashActs api) now (Ok given) (untold refl) (given_call given)
+    rehash_done (Some files) now numbers given untold told wrote gives =
+        gives_told (RehashActs api) files now given (rehashed (length numbers)) gives (rehash_writes files api, carried_hashes api files now (Ok numbers) _ _ told (refl, refl), wrote)
+
+    pub rehash_refused : (before now : Option Files) (e : FreezeFault) (end : Result Early StoreFault) → (before ≡ None → now ≡ None)
+        → Tells before (λ files. answers.Gives {A = List ℕ} (rehash_at files api) (Err e)) → Tells before (λ files. Left {A = List ℕ} (rehash_writes files api) (Some files) now (Err e))
+        → EndsBy IsUnhashed e end → FaultCall (asks before) faults e → ActsAs asks (RehashActs api) before now faults (ended end)
+    rehash_refused None now e end untold told wrote ends call = untold_acts (RehashActs api) now (ended end) (untold refl) (ended_call IsUnhashed e end faults (asks None) ends call)
+    rehash_refused (Some files) now e end untold told wrote ends call = unhashed_told api files now e end told wrote ends call

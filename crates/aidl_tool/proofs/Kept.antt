@@ -6,8 +6,10 @@ use Rattle.aidl_outside.specs.Files.{Files}
 use Rattle.aidl_outside.specs.Told.{Adds, Tells}
 use Rattle.aidl_schema.specs.Broken.{broken}
 use Rattle.aidl_schema.specs.declared.schema.Decl.{Decl}
+use Rattle.aidl_tool.specs.Between.{CallRun}
 use Rattle.aidl_tool.specs.Headline.{Headline, IsCallsText, IsChecked}
-use Rattle.aidl_tool.proofs.Lacking.{unknown_answered, unknown_method, unknown_sent}
+use Rattle.aidl_tool.specs.steps.Tags.{TagsHinder}
+use Rattle.aidl_tool.proofs.Phrases.{answered_known, answered_unknown, each, lacking, sent_known, sent_unknown}
 use Rattle.parcel_output.specs.Decode.{profile_of}
 use Rattle.run_output.specs.CallLines.{lines_of}
 use Rattle.run_output.specs.Projected.{projected_text}
@@ -21,7 +23,7 @@ use Rattle.wire_model.specs.Outcome.{OneFollows}
 module _ (before now : Seen) (exit : ℕ) (files : Files) where
   pub record RunKeeps (p : Profile) (trace : Bool) (client server calls : List ℕ) : Type 0 where
     pub prints : (text : List ℕ) (A B : List Decl) → IsChecked files client A → IsChecked files server B → IsCallsText files calls text → before.is_faithful ≡ true
-        → OneFollows A B → IsVerdict exit → (exit ≡ 0) × Adds before.told now.told (projected_text p A B trace 1 (lines_of text))
+        → OneFollows A B → IsVerdict exit → (exit ≡ 0) × Adds before.told now.told (projected_text p A B trace 1 (lines_of text)) × TagsHinder A B
     pub refuses_both : (text : List ℕ) (A B : List Decl) → IsChecked files client A → IsChecked files server B → IsCallsText files calls text → broken A B ≢ [] → broken B A ≢ []
         → IsVerdict exit → (exit ≡ 1) × Adds before.told now.told (neither (broken A B) (broken B A)).text
 
@@ -39,10 +41,14 @@ module _ (before now : Seen) (exit : ℕ) (files : Files) where
   pub headline : (words : Option Command) → Keeps words → Headline words before now exit files
   headline words keeps = record {
     accepts = λ old new A B is. (judges old new is).accepts A B;
-    prints = λ trace lenient client server calls text A B is. (runs trace lenient client server calls is).prints text A B;
-    unknown_transaction = unknown_method;
-    bad_value_sent = unknown_sent;
-    bad_value_answered = λ A B c j n saw result outs. unknown_answered A B c j n result outs saw;
+    prints = λ trace lenient client server calls text A B is a b t faithful one verdict.
+        let h = (runs trace lenient client server calls is).prints text A B a b t faithful one verdict in (h.0, h.1);
+    prints_each = λ x. each (profile_of x.lenient) x.trace x.client x.server x.text x.k x.call x.at before now (kept x).1 (kept x).2;
+    seen_sent = λ x. sent_known (profile_of x.lenient) x.trace x.client x.server x.text x.k x.call x.at before now (kept x).1 (kept x).2;
+    seen_answered = λ x. answered_known (profile_of x.lenient) x.trace x.client x.server x.text x.k x.call x.at before now (kept x).1 (kept x).2;
+    unknown_transaction = λ x. lacking (profile_of x.lenient) x.trace x.client x.server x.text x.k x.call x.at before now (kept x).1 (kept x).2;
+    bad_value_sent = λ x. sent_unknown (profile_of x.lenient) x.trace x.client x.server x.text x.k x.call x.at before now (kept x).1 (kept x).2;
+    bad_value_answered = λ x. answered_unknown (profile_of x.lenient) x.trace x.client x.server x.text x.k x.call x.at before now (kept x).1 (kept x).2;
     refuses = λ old new A B is. (judges old new is).refuses A B;
     refuses_both = λ trace lenient client server calls text A B is. (runs trace lenient client server calls is).refuses_both text A B;
   }
@@ -52,6 +58,12 @@ module _ (before now : Seen) (exit : ℕ) (files : Files) where
 
       runs : (trace lenient : Bool) (client server calls : List ℕ) → words ≡ Some (run trace lenient client server calls) → RunKeeps (profile_of lenient) trace client server calls
       runs trace lenient client server calls is = subst Keeps is keeps
+
+      -- what is known of the run of a call
+      kept : (x : CallRun words before exit files) → (exit ≡ 0) × Adds before.told now.told (projected_text (profile_of x.lenient) x.client x.server x.trace 1 (lines_of x.text)) × TagsHinder x.client x.server
+      kept x =
+          let r = x.between in
+          (runs x.trace x.lenient r.client r.server r.calls r.words_are).prints x.text x.client x.server r.client_checked r.server_checked r.calls_are r.unaltered r.one_follows r.verdict
 
   -- of a run by a profile
   pub run_headline : (p : Profile) (trace : Bool) (client server calls : List ℕ) → RunKeeps p trace client server calls → (lenient : Bool) → p ≡ profile_of lenient

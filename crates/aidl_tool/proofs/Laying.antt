@@ -4,7 +4,9 @@ use Rattle.std.specs.FinMap.{insert}
 use Rattle.aidl_base.specs.declared.source_file.SourceFile.{SourceFile}
 use Rattle.aidl_outside.specs.declared.store.StoreFault.{StoreFault}
 use Rattle.aidl_outside.specs.declared.store.StoreFault.TheVariants.{Failed, OutOfMemory}
+use Rattle.aidl_outside.specs.Asks.{AsksNothing, IsWrite}
 use Rattle.aidl_outside.specs.Causes.{Rose}
+use Rattle.aidl_outside.specs.Faults.{FailedIn}
 use Rattle.aidl_outside.specs.Files.{Files}
 use Rattle.aidl_outside.specs.Writes.{ChangesOnly, Sets, Write, Writes, written}
 use Rattle.aidl_schema.specs.declared.schema.Decl.{Decl}
@@ -27,6 +29,7 @@ use Rattle.tool_frame.specs.Course.{Course}
 use Rattle.tool_frame.specs.Ended.{Ended, FailedAt, WroteAll, WroteSome}
 use Rattle.tool_frame.specs.Meaning.{does_by}
 use Rattle.tool_frame.specs.Seen.{Seen}
+use Rattle.aidl_outside.proofs.lemmas.Failing.{failed_as}
 use Rattle.tool_frame.proofs.lemmas.Courses.{ended_before, ended_done, with_store}
 use Rattle.tool_frame.proofs.lemmas.Endings.{told_always}
 use Rattle.tree_make.specs.Made.{file_seen}
@@ -162,26 +165,26 @@ module _ (ws : List Write) (takes : Takes) (before now : Seen) where
 
   failed_next : (kept after : Option Files) → versions.FailedAt ws kept after → FailedAt are_these kept after
   failed_next None after (made, rest, w, between, split, wrote, only) = subst (λ m. ChangesOnly m after w.path) wrote only
-  failed_next (Some files) after (made, rest, w, between, split, wrote, only) = inr (made, rest, w, sym split, subst (λ m. ChangesOnly m after w.path) wrote only)
+  failed_next (Some files) after (made, rest, w, between, split, wrote, only) = (made, rest, w, sym split, subst (λ m. ChangesOnly m after w.path) wrote only)
 
   -- All was written, and then a course ran, or memory was wanted before any.
   pub ended_made : (some : Takes) (exit : ℕ) → Wrote ws before.kept now.kept → now.store_faults ≡ before.store_faults → ((course : Course) → some course → takes course)
-      → RanSome some (alone before) (alone now) exit → Ended (does_by are_these may_take) before now exit
+      → RanSome some (alone before) (alone now) exit → Ended (does_by AsksNothing are_these may_take) before now exit
   ended_made some exit wrote good also (inl (course, is, ran)) =
-      ended_done are_these may_take course now.kept before now exit (wrote_all before.kept now.kept wrote) (told_always before.kept (λ files. also course is))
+      ended_done AsksNothing are_these may_take course now.kept before now exit (wrote_all before.kept now.kept wrote) (told_always before.kept (λ files. also course is))
       (with_store course (record before { kept = now.kept }) now exit refl good ran)
   ended_made some exit wrote good also (inr (five, same)) =
-      ended_before are_these may_take before now exit (inr five) (λ three. absurd (omega arith)) (λ other. good) (λ three. absurd (omega arith)) (λ e. all_some before.kept now.kept wrote)
+      ended_before AsksNothing are_these may_take before now exit (inr five) (λ three. absurd (omega arith)) (λ other. good) (λ three. absurd (omega arith)) (λ e. all_some before.kept now.kept wrote)
       (ap (λ s. s.told) same) (ap (λ s. s.sink_faults) same) (ap (λ s. s.log) same) (ap (λ s. s.link_faults) same) (ap (λ s. s.is_faithful) same)
 
   -- A write failed.
-  pub ended_failed : LeftBy {A = Unit {0}} ws before.kept now.kept (Err Failed) → Rose before.store_faults now.store_faults → alone now ≡ alone before → Ended (does_by are_these may_take) before now 3
-  ended_failed left rose same =
-      ended_before are_these may_take before now 3 (inl refl) (λ three. rose) (λ other. absurd (other refl)) (λ three. failed_next before.kept now.kept left) (λ five. absurd (omega arith))
+  pub ended_failed : LeftBy {A = Unit {0}} ws before.kept now.kept (Err Failed) → FailedIn now.store_faults IsWrite → Rose before.store_faults now.store_faults → alone now ≡ alone before → Ended (does_by AsksNothing are_these may_take) before now 3
+  ended_failed left failed rose same =
+      ended_before AsksNothing are_these may_take before now 3 (inl refl) (λ three. rose) (λ other. absurd (other refl)) (λ three. failed_as now.store_faults _ _ (λ call write. inr (write, failed_next before.kept now.kept left)) failed) (λ five. absurd (omega arith))
       (ap (λ s. s.told) same) (ap (λ s. s.sink_faults) same) (ap (λ s. s.log) same) (ap (λ s. s.link_faults) same) (ap (λ s. s.is_faithful) same)
 
   -- Memory was wanted before the last write.
-  pub ended_lost : LeftBy {A = Unit {0}} ws before.kept now.kept (Err OutOfMemory) → now.store_faults ≡ before.store_faults → alone now ≡ alone before → Ended (does_by are_these may_take) before now 5
+  pub ended_lost : LeftBy {A = Unit {0}} ws before.kept now.kept (Err OutOfMemory) → now.store_faults ≡ before.store_faults → alone now ≡ alone before → Ended (does_by AsksNothing are_these may_take) before now 5
   ended_lost left good same =
-      ended_before are_these may_take before now 5 (inr refl) (λ three. absurd (omega arith)) (λ other. good) (λ three. absurd (omega arith)) (λ five. wrote_first before.kept now.kept left)
+      ended_before AsksNothing are_these may_take before now 5 (inr refl) (λ three. absurd (omega arith)) (λ other. good) (λ three. absurd (omega arith)) (λ five. wrote_first before.kept now.kept left)
       (ap (λ s. s.told) same) (ap (λ s. s.sink_faults) same) (ap (λ s. s.log) same) (ap (λ s. s.link_faults) same) (ap (λ s. s.is_faithful) same)

@@ -1,9 +1,12 @@
 mod Acting
+mod Asked
 mod CourseEnds
 mod Held
 mod Kept
 mod Lacking
 mod Laying
+mod LineAt
+mod Phrases
 mod Takes
 mod Unread
 mod ones

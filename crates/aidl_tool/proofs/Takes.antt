@@ -2,6 +2,7 @@
 use Rattle.std.proofs.Common.{◌≡◌, ℕ, Bool, List, Option, Ok, Err, inl, inr, refl, sym, subst, ap, ◌∙◌}
 use Rattle.aidl_base.specs.declared.profile.Profile.{Profile}
 use Rattle.aidl_base.specs.declared.source_file.SourceFile.{SourceFile}
+use Rattle.aidl_outside.specs.Faults.{SinkFaults}
 use Rattle.aidl_schema.specs.declared.schema.Decl.{Decl}
 use Rattle.aidl_tool.specs.declared.running.Loaded.{Loaded}
 use Rattle.aidl_tool.specs.Running.{Takes, TakesChecked, TakesOver, TakesThen, calls_within}
@@ -27,7 +28,7 @@ ran_also takes more before now exit also (inl ran) = inl (ran.0, also ran.0 ran.
 ran_also takes more before now exit also (inr wanted) = inr wanted
 
 -- an early end that was printed
-pub printed_early : (early : Early) (before : Seen) (told : Option (List ℕ)) (faults exit : ℕ) → PrintsGiven (Err early) before.told told before.sink_faults faults exit
+pub printed_early : (early : Early) (before : Seen) (told : Option (List ℕ)) (faults : SinkFaults) (exit : ℕ) → PrintsGiven (Err early) before.told told before.sink_faults faults exit
     → RanSome (TakesEarly early) before (record before { told = told; sink_faults = faults }) exit
 printed_early (Answered p) before told faults exit prints = inl (at_once (printed p), refl, ran_printed before told faults (printed p) exit prints)
 printed_early OutOfMemory before told faults exit silent =

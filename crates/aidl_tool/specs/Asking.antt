@@ -12,7 +12,7 @@ use Rattle.ask_output.specs.Versions.{version_found, whole_found}
 use Rattle.parcel_output.specs.Refusals.{parcel_of}
 use Rattle.tool_frame.specs.Answer.{Answer, Found, Then, limit_passed}
 use Rattle.tool_frame.specs.Refusals.{file_at, there}
-use Rattle.version_output.specs.Lines.{bad_versions}
+use Rattle.version_lines.specs.Lines.{bad_versions}
 
 -- the words of `ask API N INTERFACE CODE FILE` but for FILE
 pub record Words : Type 0 where

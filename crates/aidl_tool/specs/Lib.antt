@@ -1,4 +1,5 @@
 pub mod Acting
+pub mod Between
 pub mod Explaining
 pub mod Asking
 pub mod Headline

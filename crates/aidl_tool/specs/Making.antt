@@ -2,6 +2,7 @@
 -- judges them, and runs the calls (own).
 use Rattle.std.specs.Prelude.{◌≡◌, ℕ, List, ◌∷◌, ◌++◌, map, codes}
 use Rattle.aidl_base.specs.declared.source_file.SourceFile.{SourceFile}
+use Rattle.aidl_outside.specs.Asks.{AsksNothing}
 use Rattle.aidl_outside.specs.Files.{path_below}
 use Rattle.aidl_outside.specs.Writes.{Write}
 use Rattle.aidl_tool.specs.Running.{Takes, TakesChecked}
@@ -36,4 +37,4 @@ MakeTakes n out course = (news olds : List SourceFile) × AreMade news (new_file
 
 -- `make N OUT`
 abbrev pub makes : ℕ → List ℕ → Meaning
-makes n out = does_by (λ files made. made ≡ make_writes n out) (λ files. MakeTakes n out)
+makes n out = does_by AsksNothing (λ files made. made ≡ make_writes n out) (λ files. MakeTakes n out)

@@ -3,9 +3,11 @@ use Rattle.std.specs.Prelude.{◌≡◌, ℕ, List, Option, Some, None}
 use Rattle.aidl_base.specs.declared.limit.LimitName.TheVariants.{TextBytes}
 use Rattle.aidl_base.specs.declared.profile.Profile.{Profile}
 use Rattle.aidl_base.specs.declared.source_file.SourceFile.{SourceFile}
+use Rattle.aidl_outside.specs.Asks.{AsksBelow, AsksFile, AsksOptional, ◌also◌}
 use Rattle.aidl_outside.specs.Files.{Files}
 use Rattle.tool_words.specs.Command.{Command, decode, encode, check, dump, explain, freeze, judge, rehash, run, verify, replay, ask, make, witness}
 use Rattle.tool_words.specs.Rows.{command_of}
+use Rattle.api_versions.specs.Asks.{AsksVersions}
 use Rattle.parcel_output.specs.Decode.{profile_of, decode_answer}
 use Rattle.parcel_output.specs.Encode.{encode_answer}
 use Rattle.parcel_output.specs.Refusals.{parcel_of}
@@ -61,19 +63,19 @@ VerifyAnswers api files = IsVerified (versions_at files api)
 
 -- the meaning of a command
 abbrev pub meaning : Command → Meant
-meaning (decode lenient tree types path) = means (reads_by (DecodeAnswers (profile_of lenient) tree types path))
-meaning (encode tree types path) = means (reads_by (EncodeAnswers tree types path))
-meaning (check tree) = means (reads_by (CheckAnswers tree))
-meaning (judge old new) = means (reads_by (JudgeAnswers old new))
-meaning (witness old new) = means (reads_by (WitnessAnswers old new))
-meaning (verify api) = means (reads_by (VerifyAnswers api))
-meaning (dump tree out) = means (acts_by (DumpActs tree out))
-meaning (freeze tree api) = means (acts_by (FreezeActs tree api))
-meaning (rehash api) = means (acts_by (RehashActs api))
-meaning (run trace lenient client server calls) = means (carries_by (RunTakes (profile_of lenient) trace client server calls))
-meaning (explain tree types path) = means (reads_by (ExplainAnswers tree types path))
-meaning (replay server interface trace) = means (reads_by (ReplayAnswers server interface trace))
-meaning (ask api version interface code path) = means (reads_by (AskAnswers (record { api = api; version = version; interface = interface; code = code }) path))
+meaning (decode lenient tree types path) = means (reads_by (AsksFile path also AsksOptional tree) (DecodeAnswers (profile_of lenient) tree types path))
+meaning (encode tree types path) = means (reads_by (AsksFile path also AsksOptional tree) (EncodeAnswers tree types path))
+meaning (check tree) = means (reads_by (AsksBelow tree) (CheckAnswers tree))
+meaning (judge old new) = means (reads_by (AsksBelow old also AsksBelow new) (JudgeAnswers old new))
+meaning (witness old new) = means (reads_by (AsksBelow old also AsksBelow new) (WitnessAnswers old new))
+meaning (verify api) = means (reads_by (AsksVersions api) (VerifyAnswers api))
+meaning (dump tree out) = means (acts_by (AsksBelow tree) (DumpActs tree out))
+meaning (freeze tree api) = means (acts_by (AsksBelow tree also AsksVersions api) (FreezeActs tree api))
+meaning (rehash api) = means (acts_by (AsksVersions api) (RehashActs api))
+meaning (run trace lenient client server calls) = means (carries_by (AsksFile calls also AsksBelow client also AsksBelow server) (RunTakes (profile_of lenient) trace client server calls))
+meaning (explain tree types path) = means (reads_by (AsksFile path also AsksOptional tree) (ExplainAnswers tree types path))
+meaning (replay server interface trace) = means (reads_by (AsksFile trace also AsksBelow server) (ReplayAnswers server interface trace))
+meaning (ask api version interface code path) = means (reads_by (AsksFile path also AsksVersions api) (AskAnswers (record { api = api; version = version; interface = interface; code = code }) path))
 meaning (make count out) = means (makes count out)
 
 -- the meaning of the command that words are, if any

@@ -7,7 +7,7 @@ use Rattle.tool_frame.specs.Acts.{Acts}
 use Rattle.tool_frame.specs.Answer.{Answer}
 use Rattle.tool_frame.specs.Meaning.{Meaning, Meant}
 use Rattle.tool_frame.specs.Meaning.Meant.{unknown, means}
-use Rattle.tool_frame.specs.Parcel.{Parcel}
+use Rattle.aidl_outside.specs.Parcel.{Parcel}
 
 -- One list of writes; and after the same parcels one that is due next, or none, and one answer.
 pub record IsOne (m : Meaning) : Type 0 where

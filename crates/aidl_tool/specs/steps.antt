@@ -5,3 +5,4 @@ pub mod Left
 pub mod Loading
 pub mod Opens
 pub mod Preparing
+pub mod Tags

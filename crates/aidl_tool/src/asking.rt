@@ -1,11 +1,15 @@
 //! The command `ask`: one request to a version of an API.
-ghost use Rattle.std.specs.Prelude.{◌≡◌, ℕ, List, Ok, Err, IfOk};
+ghost use Rattle.std.specs.Prelude.{◌≡◌, ℕ, List, Option, Ok, Err, IfOk};
+ghost use Rattle.aidl_outside.specs.Asks.{AsksFile, ◌also◌};
 ghost use Rattle.aidl_outside.specs.Causes.{StoreCause};
+ghost use Rattle.aidl_outside.specs.Faults.{FailedIn, IfStoreFailed, StoreFaults};
+ghost use Rattle.aidl_outside.specs.Files.{Files};
 ghost use Rattle.aidl_outside.specs.Told.{Tells};
 ghost use Rattle.aidl_tool.specs.Asking as meant;
 ghost use Rattle.aidl_tool.specs.Asking.{Words};
 ghost use Rattle.aidl_tool.specs.InTree.{Checked};
 ghost use Rattle.aidl_tool.specs.steps.Asking.{words_seen};
+ghost use Rattle.api_versions.specs.Asks.{AsksVersions, FaultCall};
 ghost use Rattle.api_versions.specs.Answers.{ReadFaultCause};
 ghost use Rattle.api_versions.specs.Versions as path;
 ghost use Rattle.ask_output.specs.Asked as output;
@@ -18,7 +22,7 @@ ghost use Rattle.tool_frame.specs.Exit.{number_of};
 ghost use Rattle.tool_frame.specs.Meaning.{reads_by};
 ghost use Rattle.tool_frame.specs.Seen.{seen_by};
 ghost use Rattle.tool_frame.specs.Results.{GivesOne, held};
-ghost use Rattle.version_output.specs.Lines as lines;
+ghost use Rattle.version_lines.specs.Lines as lines;
 
 use aidl_base::{Limit, LimitName, Row, SourceFile, Text};
 use aidl_outside::{Link, Sink, Store, StoreFault};
@@ -28,7 +32,7 @@ use parcel_output::parcel_of;
 use std::alloc::Global;
 use tool_frame::{Early, Exit, Printed, end, existing_file, limit_passed, load};
 use tree_output::check_tree;
-use version_output::bad_versions;
+use version_lines::bad_versions;
 
 /// Runs `ask API N INTERFACE CODE FILE`, by API and what is asked of version N. The answer is the exit.
 pub fn ask<S: Store, K: Sink, L: Link>(
@@ -40,8 +44,8 @@ pub fn ask<S: Store, K: Sink, L: Link>(
     sink: &mut K,
     link: &L,
 ) -> Exit
-    ensures { let seen = seen_by S.kept S.count K.told K.count L.log L.is_faithful L.count in
-        Ended (reads_by (meant.AskAnswers (words_seen api.now asked.entry) path.now)) (seen store.old sink.old link.now) (seen store.new sink.new link.now) (number_of result) }
+    ensures { let seen = seen_by S.kept S.fault_record K.told K.fault_record L.log L.is_faithful L.fault_record in
+        Ended (reads_by (AsksFile path.now also AsksVersions api.now) (meant.AskAnswers (words_seen api.now asked.entry) path.now)) (seen store.old sink.old link.now) (seen store.new sink.new link.now) (number_of result) }
 {
     let answered = answered(alloc, api, asked, path, store);
     end(alloc, answered, sink)
@@ -57,7 +61,8 @@ fn answered<S: Store>(
 ) -> Result<Result<Printed, Early>, StoreFault>
     ensures answer { IfOk result (λ given. Tells (S.kept store.old) (λ files. GivesOne given (meant.AskAnswers (words_seen api.now asked.entry) path.now files))) }
     ensures unchanged { S.kept store.new ≡ S.kept store.old }
-    ensures cause { StoreCause (S.count store.old) (S.count store.new) result }
+    ensures cause { StoreCause (S.fault_record store.old) (S.fault_record store.new) result }
+    ensures failed { IfStoreFailed result (FailedIn (S.fault_record store.new) ((AsksFile path.now also AsksVersions api.now) (S.kept store.old))) }
 {
     let file = load(alloc, LimitName::TextBytes, path, store)?;
     match existing_file(alloc, path, file) {
@@ -76,7 +81,8 @@ fn answered_of<S: Store>(
 ) -> Result<Result<Printed, Early>, StoreFault>
     ensures answer { IfOk result (λ given. Tells (S.kept store.old) (λ files. GivesOne given (meant.AsksOver (words_seen api.now asked.entry) (held file) (path.versions_at files api.now)))) }
     ensures unchanged { S.kept store.new ≡ S.kept store.old }
-    ensures cause { StoreCause (S.count store.old) (S.count store.new) result }
+    ensures cause { StoreCause (S.fault_record store.old) (S.fault_record store.new) result }
+    ensures failed { IfStoreFailed result (FailedIn (S.fault_record store.new) ((AsksVersions api.now) (S.kept store.old))) }
 {
     match versions(alloc, store, api) {
         Ok(versions) => Ok(answer_over(alloc, api, asked, file, versions)),
@@ -90,9 +96,11 @@ fn without_versions(
     file: Result<Vec<u8>, Limit>,
     fault: FreezeFault,
 ) -> Result<Result<Printed, Early>, StoreFault>
-    requires { (before : ℕ) × (now : ℕ) × ReadFaultCause before now fault }
+    requires { (before : StoreFaults) × (now : StoreFaults) × ReadFaultCause before now fault }
     ensures given { (w : Words) → IfOk result (λ given. GivesOne given (meant.AsksOver w (held file) (Err fault))) }
-    ensures cause { (before now : ℕ) → ReadFaultCause before now fault → StoreCause before now result }
+    ensures cause { (before now : StoreFaults) → ReadFaultCause before now fault → StoreCause before now result }
+    ensures failed { (api : List ℕ) (kept : Option Files) (faults : StoreFaults) → FaultCall (AsksVersions api kept) faults fault
+        → IfStoreFailed result (FailedIn faults (AsksVersions api kept)) }
 {
     match fault {
         FreezeFault::BadVersions { missing } => { Ok(answer_missing(alloc, file, missing)) }

@@ -1,6 +1,8 @@
 //! The command `check`: whether the tree of a folder breaks a rule.
 ghost use Rattle.std.specs.Prelude.{◌≡◌, IfOk};
+ghost use Rattle.aidl_outside.specs.Asks.{AsksBelow};
 ghost use Rattle.aidl_outside.specs.Causes.{StoreCause};
+ghost use Rattle.aidl_outside.specs.Faults.{FailedIn, IfStoreFailed};
 ghost use Rattle.aidl_outside.specs.Told.{Tells};
 ghost use Rattle.aidl_tool.specs.Meant.{CheckAnswers};
 ghost use Rattle.tool_frame.specs.Ended.{Ended};
@@ -25,8 +27,8 @@ pub fn check<S: Store, K: Sink, L: Link>(
     sink: &mut K,
     link: &L,
 ) -> Exit
-    ensures { let seen = seen_by S.kept S.count K.told K.count L.log L.is_faithful L.count in
-        Ended (reads_by (CheckAnswers root.now)) (seen store.old sink.old link.now) (seen store.new sink.new link.now) (number_of result) }
+    ensures { let seen = seen_by S.kept S.fault_record K.told K.fault_record L.log L.is_faithful L.fault_record in
+        Ended (reads_by (AsksBelow root.now) (CheckAnswers root.now)) (seen store.old sink.old link.now) (seen store.new sink.new link.now) (number_of result) }
 {
     let answered = answered(alloc, root, store);
     end(alloc, answered, sink)
@@ -40,7 +42,8 @@ fn answered<S: Store>(
 ) -> Result<Result<Printed, Early>, StoreFault>
     ensures answer { IfOk result (λ given. Tells (S.kept store.old) (λ files. GivesOne given (CheckAnswers root.now files))) }
     ensures unchanged { S.kept store.new ≡ S.kept store.old }
-    ensures cause { StoreCause (S.count store.old) (S.count store.new) result }
+    ensures cause { StoreCause (S.fault_record store.old) (S.fault_record store.new) result }
+    ensures failed { IfStoreFailed result (FailedIn (S.fault_record store.new) ((AsksBelow root.now) (S.kept store.old))) }
 {
     let tree = load_tree(alloc, root, store)?;
     Ok(answer_of(alloc, root, tree))

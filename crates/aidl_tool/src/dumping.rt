@@ -1,10 +1,13 @@
 //! The command `dump`: the canonical dump of a tree, written below a folder.
 ghost use Rattle.std.specs.Prelude.{ℕ, List, Option, Err, map};
+ghost use Rattle.aidl_outside.specs.Asks.{AsksBelow, AsksNothing, IsWrite};
+ghost use Rattle.aidl_outside.specs.Faults.{FailedIn, IfStoreFailed, StoreFaults, WhereStoreFailed};
 ghost use Rattle.aidl_outside.specs.Causes.{StoreCause};
 ghost use Rattle.aidl_outside.specs.Files.{Files};
 ghost use Rattle.aidl_outside.specs.Writes as outside;
 ghost use Rattle.aidl_tool.specs.Acting.{DumpActs};
 ghost use Rattle.aidl_tool.specs.steps.Left.{LeftBy};
+ghost use Rattle.api_versions.specs.Asks.{FaultCall};
 ghost use Rattle.api_versions.specs.Causes.{FaultCause};
 ghost use Rattle.api_versions.specs.Writes.{Left};
 ghost use Rattle.api_versions.specs.Early.{IsLate};
@@ -33,8 +36,8 @@ pub fn dump<S: Store, K: Sink, L: Link>(
     sink: &mut K,
     link: &L,
 ) -> Exit
-    ensures { let seen = seen_by S.kept S.count K.told K.count L.log L.is_faithful L.count in
-        Ended (acts_by (DumpActs tree.now out.now)) (seen store.old sink.old link.now) (seen store.new sink.new link.now) (number_of result) }
+    ensures { let seen = seen_by S.kept S.fault_record K.told K.fault_record L.log L.is_faithful L.fault_record in
+        Ended (acts_by (AsksBelow tree.now) (DumpActs tree.now out.now)) (seen store.old sink.old link.now) (seen store.new sink.new link.now) (number_of result) }
 {
     let answered = answered(alloc, tree, out, store);
     end(alloc, answered, sink)
@@ -47,8 +50,8 @@ fn answered<S: Store>(
     out: &str,
     store: &mut S,
 ) -> Result<Result<Printed, Early>, StoreFault>
-    ensures acts { ActsAs (DumpActs tree.now out.now) (S.kept store.old) (S.kept store.new) result }
-    ensures cause { StoreCause (S.count store.old) (S.count store.new) result }
+    ensures acts { ActsAs (AsksBelow tree.now) (DumpActs tree.now out.now) (S.kept store.old) (S.kept store.new) (S.fault_record store.new) result }
+    ensures cause { StoreCause (S.fault_record store.old) (S.fault_record store.new) result }
 {
     match open(alloc, tree, store) {
         Ok(Ok(schema)) => write_dump(alloc, out, &schema, store),
@@ -64,8 +67,8 @@ fn write_dump<S: Store>(
     schema: &Schema,
     store: &mut S,
 ) -> Result<Result<Printed, Early>, StoreFault>
-    ensures acts { ActsAs (λ files. Dumps out.now schema.now.decls) (S.kept store.old) (S.kept store.new) result }
-    ensures cause { StoreCause (S.count store.old) (S.count store.new) result }
+    ensures acts { ActsAs AsksNothing (λ files. Dumps out.now schema.now.decls) (S.kept store.old) (S.kept store.new) (S.fault_record store.new) result }
+    ensures cause { StoreCause (S.fault_record store.old) (S.fault_record store.new) result }
 {
     let Ok(due) = dump_answer(alloc, out, schema) else {
         return Ok(Err(Early::OutOfMemory));
@@ -79,7 +82,8 @@ fn write_dump<S: Store>(
 // Makes the writes that are due.
 fn write_due<S: Store>(alloc: Global, writes: &[Write], store: &mut S) -> Result<(), StoreFault>
     ensures wrote { LeftBy (map write_seen writes.now) (S.kept store.old) (S.kept store.new) result }
-    ensures cause { StoreCause (S.count store.old) (S.count store.new) result }
+    ensures cause { StoreCause (S.fault_record store.old) (S.fault_record store.new) result }
+    ensures failed { IfStoreFailed result (FailedIn (S.fault_record store.new) IsWrite) }
 {
     match write_all(alloc, writes, store) {
         Ok(()) => Ok(()),
@@ -91,7 +95,8 @@ fn write_due<S: Store>(alloc: Global, writes: &[Write], store: &mut S) -> Result
 fn store_fault(fault: FreezeFault) -> StoreFault
     requires { IsLate fault }
     ensures wrote { (writes : List outside.Write) (before now : Option Files) → Left {A = Unit {0}} writes before now (Err fault) → LeftBy {A = Unit {0}} writes before now (Err result) }
-    ensures cause { (before now : ℕ) → FaultCause before now fault → StoreCause {T = Unit {0}} before now (Err result) }
+    ensures cause { (before now : StoreFaults) → FaultCause before now fault → StoreCause {T = Unit {0}} before now (Err result) }
+    ensures failed { (faults : StoreFaults) → FaultCall IsWrite faults fault → WhereStoreFailed result (FailedIn faults IsWrite) }
 {
     match fault {
         FreezeFault::WriteFault => StoreFault::Failed,

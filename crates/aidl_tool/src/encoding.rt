@@ -1,6 +1,8 @@
 //! The command `encode`: the values in a file, written as a parcel by types.
 ghost use Rattle.std.specs.Prelude.{◌≡◌, [], IfOk};
+ghost use Rattle.aidl_outside.specs.Asks.{AsksFile, AsksOptional, ◌also◌};
 ghost use Rattle.aidl_outside.specs.Causes.{StoreCause};
+ghost use Rattle.aidl_outside.specs.Faults.{FailedIn, IfStoreFailed};
 ghost use Rattle.aidl_outside.specs.Told.{Tells};
 ghost use Rattle.tool_words.specs.Seen.{tree_seen};
 ghost use Rattle.aidl_tool.specs.InTree.{Checked};
@@ -31,8 +33,8 @@ pub fn encode<S: Store, K: Sink, L: Link>(
     sink: &mut K,
     link: &L,
 ) -> Exit
-    ensures { let seen = seen_by S.kept S.count K.told K.count L.log L.is_faithful L.count in
-        Ended (reads_by (EncodeAnswers (tree_seen tree.entry) types.now path.now)) (seen store.old sink.old link.now) (seen store.new sink.new link.now) (number_of result) }
+    ensures { let seen = seen_by S.kept S.fault_record K.told K.fault_record L.log L.is_faithful L.fault_record in
+        Ended (reads_by (AsksFile path.now also AsksOptional (tree_seen tree.entry)) (EncodeAnswers (tree_seen tree.entry) types.now path.now)) (seen store.old sink.old link.now) (seen store.new sink.new link.now) (number_of result) }
 {
     let answered = answered(alloc, tree, types, path, store);
     end(alloc, answered, sink)
@@ -48,7 +50,8 @@ fn answered<S: Store>(
 ) -> Result<Result<Printed, Early>, StoreFault>
     ensures answer { IfOk result (λ given. Tells (S.kept store.old) (λ files. GivesOne given (EncodeAnswers (tree_seen tree.entry) types.now path.now files))) }
     ensures unchanged { S.kept store.new ≡ S.kept store.old }
-    ensures cause { StoreCause (S.count store.old) (S.count store.new) result }
+    ensures cause { StoreCause (S.fault_record store.old) (S.fault_record store.new) result }
+    ensures failed { IfStoreFailed result (FailedIn (S.fault_record store.new) ((AsksFile path.now also AsksOptional (tree_seen tree.entry)) (S.kept store.old))) }
 {
     let file = load(alloc, LimitName::TextBytes, path, store)?;
     match existing_file(alloc, path, file) {
@@ -67,7 +70,8 @@ fn answered_of<S: Store>(
 ) -> Result<Result<Printed, Early>, StoreFault>
     ensures answer { IfOk result (λ given. Tells (S.kept store.old) (λ files. GivesOne given (EncodesFile (tree_seen tree.entry) types.now files (held file)))) }
     ensures unchanged { S.kept store.new ≡ S.kept store.old }
-    ensures cause { StoreCause (S.count store.old) (S.count store.new) result }
+    ensures cause { StoreCause (S.fault_record store.old) (S.fault_record store.new) result }
+    ensures failed { IfStoreFailed result (FailedIn (S.fault_record store.new) ((AsksOptional (tree_seen tree.entry)) (S.kept store.old))) }
 {
     match tree {
         None => Ok(answer_alone(alloc, types, file)),

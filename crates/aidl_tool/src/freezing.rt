@@ -1,6 +1,8 @@
 //! The command `freeze`: a tree as the next version of an API.
+ghost use Rattle.aidl_outside.specs.Asks.{AsksBelow, ◌also◌};
 ghost use Rattle.aidl_outside.specs.Causes.{StoreCause};
 ghost use Rattle.aidl_tool.specs.Acting.{FreezeActs};
+ghost use Rattle.api_versions.specs.Asks.{AsksVersions};
 ghost use Rattle.api_versions.specs.Versions.{versions_at};
 ghost use Rattle.version_output.specs.Frozen.{Freezes};
 ghost use Rattle.tool_frame.specs.Acts.{acts_by};
@@ -25,8 +27,8 @@ pub fn freeze<S: Store, K: Sink, L: Link>(
     sink: &mut K,
     link: &L,
 ) -> Exit
-    ensures { let seen = seen_by S.kept S.count K.told K.count L.log L.is_faithful L.count in
-        Ended (acts_by (FreezeActs tree.now api.now)) (seen store.old sink.old link.now) (seen store.new sink.new link.now) (number_of result) }
+    ensures { let seen = seen_by S.kept S.fault_record K.told K.fault_record L.log L.is_faithful L.fault_record in
+        Ended (acts_by (AsksBelow tree.now also AsksVersions api.now) (FreezeActs tree.now api.now)) (seen store.old sink.old link.now) (seen store.new sink.new link.now) (number_of result) }
 {
     let answered = answered(alloc, tree, api, store);
     end(alloc, answered, sink)
@@ -39,8 +41,8 @@ fn answered<S: Store>(
     api: &str,
     store: &mut S,
 ) -> Result<Result<Printed, Early>, StoreFault>
-    ensures acts { ActsAs (FreezeActs tree.now api.now) (S.kept store.old) (S.kept store.new) result }
-    ensures cause { StoreCause (S.count store.old) (S.count store.new) result }
+    ensures acts { ActsAs (AsksBelow tree.now also AsksVersions api.now) (FreezeActs tree.now api.now) (S.kept store.old) (S.kept store.new) (S.fault_record store.new) result }
+    ensures cause { StoreCause (S.fault_record store.old) (S.fault_record store.new) result }
 {
     match open(alloc, tree, store) {
         Ok(Ok(schema)) => freeze_schema(alloc, api, &schema, store),
@@ -56,8 +58,8 @@ fn freeze_schema<S: Store>(
     schema: &Schema,
     store: &mut S,
 ) -> Result<Result<Printed, Early>, StoreFault>
-    ensures acts { ActsAs (λ files. Freezes api.now (versions_at files api.now) schema.now.decls) (S.kept store.old) (S.kept store.new) result }
-    ensures cause { StoreCause (S.count store.old) (S.count store.new) result }
+    ensures acts { ActsAs (AsksVersions api.now) (λ files. Freezes api.now (versions_at files api.now) schema.now.decls) (S.kept store.old) (S.kept store.new) (S.fault_record store.new) result }
+    ensures cause { StoreCause (S.fault_record store.old) (S.fault_record store.new) result }
 {
     match api_freeze::freeze(alloc, schema, store, api) {
         Ok(version) => Ok(freeze_answer(alloc, &version)),

@@ -1,6 +1,8 @@
 //! The command `judge`: the evolution rules that a new tree breaks.
 ghost use Rattle.std.specs.Prelude.{◌≡◌, Some, List, IfOk};
+ghost use Rattle.aidl_outside.specs.Asks.{AsksBelow, ◌also◌};
 ghost use Rattle.aidl_outside.specs.Causes.{StoreCause};
+ghost use Rattle.aidl_outside.specs.Faults.{FailedIn, IfStoreFailed};
 ghost use Rattle.aidl_outside.specs.Told.{Tells};
 ghost use Rattle.aidl_schema.specs.Broken.{broken};
 ghost use Rattle.aidl_schema.specs.declared.schema.Decl.{Decl};
@@ -33,9 +35,9 @@ pub fn judge<S: Store, K: Sink, L: Link>(
     sink: &mut K,
     link: &L,
 ) -> Exit
-    ensures ends { let seen = seen_by S.kept S.count K.told K.count L.log L.is_faithful L.count in
-        Ended (reads_by (JudgeAnswers old.now new.now)) (seen store.old sink.old link.now) (seen store.new sink.new link.now) (number_of result) }
-    ensures headline { let seen = seen_by S.kept S.count K.told K.count L.log L.is_faithful L.count in
+    ensures ends { let seen = seen_by S.kept S.fault_record K.told K.fault_record L.log L.is_faithful L.fault_record in
+        Ended (reads_by (AsksBelow old.now also AsksBelow new.now) (JudgeAnswers old.now new.now)) (seen store.old sink.old link.now) (seen store.new sink.new link.now) (number_of result) }
+    ensures headline { let seen = seen_by S.kept S.fault_record K.told K.fault_record L.log L.is_faithful L.fault_record in
         Tells (S.kept store.old) (Headline (Some (words.judge old.now new.now)) (seen store.old sink.old link.now) (seen store.new sink.new link.now) (number_of result)) }
 {
     let answered = answered(alloc, old, new, store);
@@ -53,7 +55,8 @@ fn answered<S: Store>(
     ensures exact { (A B : List Decl) → IfOk result (λ given. Tells (S.kept store.old) (λ files. GivesOne given (λ answer.
         IsChecked files old.now A → IsChecked files new.now B → answer ≡ judged (broken A B)))) }
     ensures unchanged { S.kept store.new ≡ S.kept store.old }
-    ensures cause { StoreCause (S.count store.old) (S.count store.new) result }
+    ensures cause { StoreCause (S.fault_record store.old) (S.fault_record store.new) result }
+    ensures failed { IfStoreFailed result (FailedIn (S.fault_record store.new) ((AsksBelow old.now also AsksBelow new.now) (S.kept store.old))) }
 {
     let old_tree = load_tree(alloc, old, store)?;
     match files_of(alloc, old_tree) {
@@ -74,7 +77,8 @@ fn answered_of_second<S: Store>(
     ensures exact { (A B : List Decl) → IfOk result (λ given. Tells (S.kept store.old) (λ files. GivesOne given (λ answer.
         IsSchemaOf olds A → IsChecked files new.now B → answer ≡ judged (broken A B)))) }
     ensures unchanged { S.kept store.new ≡ S.kept store.old }
-    ensures cause { StoreCause (S.count store.old) (S.count store.new) result }
+    ensures cause { StoreCause (S.fault_record store.old) (S.fault_record store.new) result }
+    ensures failed { IfStoreFailed result (FailedIn (S.fault_record store.new) ((AsksBelow new.now) (S.kept store.old))) }
 {
     let tree = load_tree(alloc, new, store)?;
     Ok(answer_of(alloc, old, olds, new, tree))

@@ -1,6 +1,8 @@
 //! The command `make`: two trees and calls between them, which are written, checked, judged and run.
 ghost use Rattle.std.specs.Prelude.{ℕ, IfOk, List, map};
+ghost use Rattle.aidl_outside.specs.Asks.{IsWrite};
 ghost use Rattle.aidl_outside.specs.Causes.{StoreCause};
+ghost use Rattle.aidl_outside.specs.Faults.{FailedIn, IfStoreFailed};
 ghost use Rattle.aidl_outside.specs.Writes.{Writes};
 ghost use Rattle.aidl_tool.specs.Making.{file_write, makes};
 ghost use Rattle.aidl_tool.specs.steps.Laying.{IsLaid, TakesLaid, TakesMade, laid_writes, tree_writes};
@@ -31,7 +33,7 @@ pub fn make<S: Store, K: Sink, L: Link>(
     sink: &mut K,
     link: &mut L,
 ) -> Exit
-    ensures { let seen = seen_by S.kept S.count K.told K.count L.log L.is_faithful L.count in
+    ensures { let seen = seen_by S.kept S.fault_record K.told K.fault_record L.log L.is_faithful L.fault_record in
         Ended (makes count out.now) (seen store.old sink.old link.old) (seen store.new sink.new link.new) (number_of result) }
 {
     match lay(alloc, count, out) {
@@ -78,7 +80,7 @@ fn make_laid<S: Store, K: Sink, L: Link>(
     sink: &mut K,
     link: &mut L,
 ) -> Exit
-    ensures { let seen = seen_by S.kept S.count K.told K.count L.log L.is_faithful L.count in (n : ℕ) (out : List ℕ) → IsLaid n out laid
+    ensures { let seen = seen_by S.kept S.fault_record K.told K.fault_record L.log L.is_faithful L.fault_record in (n : ℕ) (out : List ℕ) → IsLaid n out laid
         → Ended (makes n out) (seen store.old sink.old link.old) (seen store.new sink.new link.new) (number_of result) }
 {
     match write_laid(alloc, &laid, store) {
@@ -91,7 +93,8 @@ fn make_laid<S: Store, K: Sink, L: Link>(
 // Writes the calls file, and then both trees.
 fn write_laid<S: Store>(alloc: Global, laid: &Laid, store: &mut S) -> Result<(), StoreFault>
     ensures wrote { LeftBy (laid_writes laid.now) (S.kept store.old) (S.kept store.new) result }
-    ensures cause { StoreCause (S.count store.old) (S.count store.new) result }
+    ensures cause { StoreCause (S.fault_record store.old) (S.fault_record store.new) result }
+    ensures failed { IfStoreFailed result (FailedIn (S.fault_record store.new) IsWrite) }
 {
     let path = laid.calls_path.as_str();
     let calls = laid.calls.as_slice();
@@ -104,7 +107,8 @@ fn write_laid<S: Store>(alloc: Global, laid: &Laid, store: &mut S) -> Result<(),
 // Writes the newer tree, and then the older one.
 fn write_trees<S: Store>(alloc: Global, laid: &Laid, store: &mut S) -> Result<(), StoreFault>
     ensures wrote { LeftBy (tree_writes laid.now) (S.kept store.old) (S.kept store.new) result }
-    ensures cause { StoreCause (S.count store.old) (S.count store.new) result }
+    ensures cause { StoreCause (S.fault_record store.old) (S.fault_record store.new) result }
+    ensures failed { IfStoreFailed result (FailedIn (S.fault_record store.new) IsWrite) }
 {
     let new_root = laid.new_root.as_str();
     let news = laid.news.as_slice();
@@ -124,7 +128,8 @@ fn write_tree<S: Store>(
     store: &mut S,
 ) -> Result<(), StoreFault>
     ensures wrote { LeftBy (map (file_write root.now) (map file_seen files.now)) (S.kept store.old) (S.kept store.new) result }
-    ensures cause { StoreCause (S.count store.old) (S.count store.new) result }
+    ensures cause { StoreCause (S.fault_record store.old) (S.fault_record store.new) result }
+    ensures failed { IfStoreFailed result (FailedIn (S.fault_record store.new) IsWrite) }
 {
     for file in files {
         match write_file(alloc, root, file, store) {
@@ -143,7 +148,8 @@ fn write_file<S: Store>(
     store: &mut S,
 ) -> Result<(), StoreFault>
     ensures written { let write = file_write root.now (file_seen file.now) in Writes (S.kept store.old) (S.kept store.new) write.path write.bytes result }
-    ensures cause { StoreCause (S.count store.old) (S.count store.new) result }
+    ensures cause { StoreCause (S.fault_record store.old) (S.fault_record store.new) result }
+    ensures failed { IfStoreFailed result (FailedIn (S.fault_record store.new) IsWrite) }
 {
     let relative = file.path.as_str();
     let bytes = file.bytes.as_slice();
@@ -155,7 +161,7 @@ fn write_file<S: Store>(
 
 // Checks what was laid out, and runs the calls, or prints how the run ends before that.
 fn run_laid<K: Sink, L: Link>(alloc: Global, laid: Laid, sink: &mut K, link: &mut L) -> Exit
-    ensures { let seen = seen_alone K.told K.count L.log L.is_faithful L.count in
+    ensures { let seen = seen_alone K.told K.fault_record L.log L.is_faithful L.fault_record in
         RanSome (TakesLaid laid) (seen sink.old link.old) (seen sink.new link.new) (number_of result) }
 {
     match check_laid(alloc, laid) {

@@ -1,6 +1,8 @@
 //! The command `replay`: the requests of a trace, answered again by the interface of another tree.
 ghost use Rattle.std.specs.Prelude.{◌≡◌, IfOk};
+ghost use Rattle.aidl_outside.specs.Asks.{AsksBelow, AsksFile, ◌also◌};
 ghost use Rattle.aidl_outside.specs.Causes.{StoreCause};
+ghost use Rattle.aidl_outside.specs.Faults.{FailedIn, IfStoreFailed};
 ghost use Rattle.aidl_outside.specs.Told.{Tells};
 ghost use Rattle.aidl_tool.specs.InTree.{Checked};
 ghost use Rattle.aidl_tool.specs.Replaying.{ReplayAnswers, ReplaysFile, ReplaysLoaded, trace_within};
@@ -30,8 +32,8 @@ pub fn replay<S: Store, K: Sink, L: Link>(
     sink: &mut K,
     link: &L,
 ) -> Exit
-    ensures { let seen = seen_by S.kept S.count K.told K.count L.log L.is_faithful L.count in
-        Ended (reads_by (ReplayAnswers server.now interface.now trace.now)) (seen store.old sink.old link.now) (seen store.new sink.new link.now) (number_of result) }
+    ensures { let seen = seen_by S.kept S.fault_record K.told K.fault_record L.log L.is_faithful L.fault_record in
+        Ended (reads_by (AsksFile trace.now also AsksBelow server.now) (ReplayAnswers server.now interface.now trace.now)) (seen store.old sink.old link.now) (seen store.new sink.new link.now) (number_of result) }
 {
     let answered = answered(alloc, server, interface, trace, store);
     end(alloc, answered, sink)
@@ -47,7 +49,8 @@ fn answered<S: Store>(
 ) -> Result<Result<Printed, Early>, StoreFault>
     ensures answer { IfOk result (λ given. Tells (S.kept store.old) (λ files. GivesOne given (ReplayAnswers server.now interface.now trace.now files))) }
     ensures unchanged { S.kept store.new ≡ S.kept store.old }
-    ensures cause { StoreCause (S.count store.old) (S.count store.new) result }
+    ensures cause { StoreCause (S.fault_record store.old) (S.fault_record store.new) result }
+    ensures failed { IfStoreFailed result (FailedIn (S.fault_record store.new) ((AsksFile trace.now also AsksBelow server.now) (S.kept store.old))) }
 {
     let file = load(alloc, LimitName::TextBytes, trace, store)?;
     match existing_file(alloc, trace, file) {
@@ -66,7 +69,8 @@ fn answered_of<S: Store>(
 ) -> Result<Result<Printed, Early>, StoreFault>
     ensures answer { IfOk result (λ given. Tells (S.kept store.old) (λ files. GivesOne given (ReplaysFile server.now interface.now files (held file)))) }
     ensures unchanged { S.kept store.new ≡ S.kept store.old }
-    ensures cause { StoreCause (S.count store.old) (S.count store.new) result }
+    ensures cause { StoreCause (S.fault_record store.old) (S.fault_record store.new) result }
+    ensures failed { IfStoreFailed result (FailedIn (S.fault_record store.new) ((AsksBelow server.now) (S.kept store.old))) }
 {
     let tree = load_tree(alloc, server, store)?;
     Ok(answer_in(alloc, server, interface, tree, file))

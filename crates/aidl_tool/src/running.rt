@@ -1,16 +1,19 @@
 //! The command `run`: the calls of a file between a client's tree and a server's.
 ghost use Rattle.std.specs.Prelude.{◌≡◌, Bool, Some, List, map, IfErr, IfOk};
+ghost use Rattle.aidl_outside.specs.Asks.{AsksBelow, AsksFile, ◌also◌};
 ghost use Rattle.aidl_outside.specs.Causes.{StoreCause};
+ghost use Rattle.aidl_outside.specs.Faults.{FailedIn, IfStoreFailed};
 ghost use Rattle.aidl_outside.specs.Told.{Tells};
 ghost use Rattle.aidl_schema.specs.declared.schema.Decl.{Decl};
 ghost use Rattle.aidl_tool.specs.Headline.{Headline};
 ghost use Rattle.aidl_tool.specs.Running.{RunTakes, TakesOver, calls_within};
 ghost use Rattle.aidl_tool.specs.steps.Loading.{LoadsFor, RanSome, TakesAll, TakesEarly, TakesLoaded, all_held, loaded_seen, server_held, trees_held};
 ghost use Rattle.aidl_tool.specs.steps.Preparing.{IsSchemaAs, PreparesFor, PreparesGiven, PreparesLoaded, ProjectsPrepared, TakesPrepared};
+ghost use Rattle.aidl_tool.specs.steps.Tags.{EndsProjected};
 ghost use Rattle.aidl_tool.specs.Running as meant;
 ghost use Rattle.parcel_output.specs.Decode.{profile_of};
 ghost use Rattle.run_output.specs.CallLines.{lines_of};
-ghost use Rattle.run_output.specs.Projected.{Projects, projected_text};
+ghost use Rattle.run_output.specs.Projected.{projected_text};
 ghost use Rattle.run_output.specs.Running.{run_course};
 ghost use Rattle.tool_frame.specs.Ended.{Ended};
 ghost use Rattle.tool_frame.specs.Exit.{number_of};
@@ -32,6 +35,7 @@ use std::alloc::Global;
 use tool_frame::{Early, Exit, existing_file, files_of, load, load_tree, print, text_of};
 use tree_output::check_tree;
 use type_check::{law_never_both, law_one_schema};
+use wire_model::law_call_none;
 
 /// What `run` is asked: the profile by which both sides read, whether what is carried is traced, and the paths of both trees and of
 /// the calls file.
@@ -52,10 +56,10 @@ pub fn run<S: Store, K: Sink, L: Link>(
     sink: &mut K,
     link: &mut L,
 ) -> Exit
-    ensures ends { let seen = seen_by S.kept S.count K.told K.count L.log L.is_faithful L.count in let asked = asked.entry in
-        Ended (carries_by (RunTakes asked.profile asked.trace asked.client.now asked.server.now asked.calls.now))
+    ensures ends { let seen = seen_by S.kept S.fault_record K.told K.fault_record L.log L.is_faithful L.fault_record in let asked = asked.entry in
+        Ended (carries_by (AsksFile asked.calls.now also AsksBelow asked.client.now also AsksBelow asked.server.now) (RunTakes asked.profile asked.trace asked.client.now asked.server.now asked.calls.now))
         (seen store.old sink.old link.old) (seen store.new sink.new link.new) (number_of result) }
-    ensures headline { let seen = seen_by S.kept S.count K.told K.count L.log L.is_faithful L.count in let asked = asked.entry in
+    ensures headline { let seen = seen_by S.kept S.fault_record K.told K.fault_record L.log L.is_faithful L.fault_record in let asked = asked.entry in
         (lenient : Bool) → asked.profile ≡ profile_of lenient → Tells (S.kept store.old)
         (Headline (Some (words.run asked.trace lenient asked.client.now asked.server.now asked.calls.now))
         (seen store.old sink.old link.old) (seen store.new sink.new link.new) (number_of result)) }
@@ -100,7 +104,8 @@ fn load_calls<'a, S: Store>(
     ensures loads { IfOk result (λ given. Tells (S.kept store.old) (λ files. LoadsFor given (λ p trace. RunTakes p trace client.entry.now server.entry.now calls.now files))) }
     ensures found { IfOk result (λ given. Tells (S.kept store.old) (λ files. Finds loaded_seen given (all_held files client.entry.now server.entry.now calls.now))) }
     ensures unchanged { S.kept store.new ≡ S.kept store.old }
-    ensures cause { StoreCause (S.count store.old) (S.count store.new) result }
+    ensures cause { StoreCause (S.fault_record store.old) (S.fault_record store.new) result }
+    ensures failed { IfStoreFailed result (FailedIn (S.fault_record store.new) ((AsksFile calls.now also AsksBelow client.entry.now also AsksBelow server.entry.now) (S.kept store.old))) }
 {
     let file = load(alloc, LimitName::TextBytes, calls, store)?;
     match existing_file(alloc, calls, file) {
@@ -122,7 +127,8 @@ fn load_trees<'a, S: Store>(
         meant.RunsLoaded p trace client.entry.now olds server.entry.now news (held text)))))) }
     ensures found { IfOk result (λ given. Tells (S.kept store.old) (λ files. Finds loaded_seen given (trees_held files (held text) client.entry.now server.entry.now))) }
     ensures unchanged { S.kept store.new ≡ S.kept store.old }
-    ensures cause { StoreCause (S.count store.old) (S.count store.new) result }
+    ensures cause { StoreCause (S.fault_record store.old) (S.fault_record store.new) result }
+    ensures failed { IfStoreFailed result (FailedIn (S.fault_record store.new) ((AsksBelow client.entry.now also AsksBelow server.entry.now) (S.kept store.old))) }
 {
     let tree = load_tree(alloc, client, store)?;
     match files_of(alloc, tree) {
@@ -151,7 +157,8 @@ fn load_server<'a, S: Store>(
     ensures found { IfOk result (λ given. Tells (S.kept store.old) (λ files. Finds loaded_seen given
         (server_held files (held text) (map file_seen client.entry.files) server.entry.now))) }
     ensures unchanged { S.kept store.new ≡ S.kept store.old }
-    ensures cause { StoreCause (S.count store.old) (S.count store.new) result }
+    ensures cause { StoreCause (S.fault_record store.old) (S.fault_record store.new) result }
+    ensures failed { IfStoreFailed result (FailedIn (S.fault_record store.new) ((AsksBelow server.entry.now) (S.kept store.old))) }
 {
     let tree = load_tree(alloc, server, store)?;
     match files_of(alloc, tree) {
@@ -234,9 +241,9 @@ fn run_prepared<K: Sink, L: Link>(
     sink: &mut K,
     link: &mut L,
 ) -> Exit
-    ensures ran { let seen = seen_alone K.told K.count L.log L.is_faithful L.count in
+    ensures ran { let seen = seen_alone K.told K.fault_record L.log L.is_faithful L.fault_record in
         RanSome (TakesPrepared profile trace given) (seen sink.old link.old) (seen sink.new link.new) (number_of result) }
-    ensures projected { let seen = seen_alone K.told K.count L.log L.is_faithful L.count in
+    ensures projected { let seen = seen_alone K.told K.fault_record L.log L.is_faithful L.fault_record in
         ProjectsPrepared profile trace given (seen sink.old link.old) (seen sink.new link.new) (number_of result) }
 {
     match given {
@@ -254,11 +261,12 @@ fn run_both<K: Sink, L: Link>(
     sink: &mut K,
     link: &mut L,
 ) -> Exit
-    ensures ran { let seen = seen_alone K.told K.count L.log L.is_faithful L.count in let A = run.now.client.decls in let B = run.now.server.decls in
+    ensures ran { let seen = seen_alone K.told K.fault_record L.log L.is_faithful L.fault_record in let A = run.now.client.decls in let B = run.now.server.decls in
         RanSome (λ course. course ≡ run_course profile A B trace run.now.text.items) (seen sink.old link.old) (seen sink.new link.new) (number_of result) }
-    ensures projected { let seen = seen_alone K.told K.count L.log L.is_faithful L.count in let A = run.now.client.decls in let B = run.now.server.decls in
-        Projects A B (projected_text profile A B trace 1 (lines_of run.now.text.items)) (seen sink.old link.old) (seen sink.new link.new) (number_of result) }
+    ensures projected { let seen = seen_alone K.told K.fault_record L.log L.is_faithful L.fault_record in let A = run.now.client.decls in let B = run.now.server.decls in
+        EndsProjected A B (projected_text profile A B trace 1 (lines_of run.now.text.items)) (seen sink.old link.old) (seen sink.new link.new) (number_of result) }
 {
+    law_call_none(&run.client, &run.server);
     let calls = run.text.as_slice();
     run_trees(
         alloc,
@@ -275,7 +283,7 @@ fn run_both<K: Sink, L: Link>(
 /// Prints how a run ends early. The answer is the exit.
 #[tactic(auto, using(crate::proofs::Takes::printed_early))]
 pub fn print_early<K: Sink, L: Link>(alloc: Global, early: Early, sink: &mut K, link: &L) -> Exit
-    ensures { let seen = seen_alone K.told K.count L.log L.is_faithful L.count in
+    ensures { let seen = seen_alone K.told K.fault_record L.log L.is_faithful L.fault_record in
         RanSome (TakesEarly early) (seen sink.old link.now) (seen sink.new link.now) (number_of result) }
 {
     print(alloc, Err(early), sink)

@@ -40,10 +40,10 @@ pub fn aidl<S: Store, K: Sink, L: Link>(
     link: &mut L,
 ) -> u8
     // Exits, counts, and what was printed, written and carried.
-    ensures ran { let seen = seen_by S.kept S.count K.told K.count L.log L.is_faithful L.count in
+    ensures ran { let seen = seen_by S.kept S.fault_record K.told K.fault_record L.log L.is_faithful L.fault_record in
         Ran (meant (map string_bytes words.now)) (seen store.old sink.old link.old) (seen store.new sink.new link.new) result }
     // What the judge accepts, every call keeps.
-    ensures headline { let seen = seen_by S.kept S.count K.told K.count L.log L.is_faithful L.count in
+    ensures headline { let seen = seen_by S.kept S.fault_record K.told K.fault_record L.log L.is_faithful L.fault_record in
         Tells (S.kept store.old) (Headline (table.command_of (map string_bytes words.now)) (seen store.old sink.old link.old) (seen store.new sink.new link.new) result) }
 {
     run_words(alloc, words, store, sink, link).status()
@@ -57,9 +57,9 @@ fn run_words<S: Store, K: Sink, L: Link>(
     sink: &mut K,
     link: &mut L,
 ) -> Exit
-    ensures ran { let seen = seen_by S.kept S.count K.told K.count L.log L.is_faithful L.count in
+    ensures ran { let seen = seen_by S.kept S.fault_record K.told K.fault_record L.log L.is_faithful L.fault_record in
         Ran (meant (map string_bytes words.now)) (seen store.old sink.old link.old) (seen store.new sink.new link.new) (number_of result) }
-    ensures headline { let seen = seen_by S.kept S.count K.told K.count L.log L.is_faithful L.count in
+    ensures headline { let seen = seen_by S.kept S.fault_record K.told K.fault_record L.log L.is_faithful L.fault_record in
         Tells (S.kept store.old) (Headline (table.command_of (map string_bytes words.now)) (seen store.old sink.old link.old) (seen store.new sink.new link.new) (number_of result)) }
 {
     match command_of(words) {
@@ -77,9 +77,9 @@ fn carry_out<S: Store, K: Sink, L: Link>(
     sink: &mut K,
     link: &mut L,
 ) -> Exit
-    ensures ran { let seen = seen_by S.kept S.count K.told K.count L.log L.is_faithful L.count in
+    ensures ran { let seen = seen_by S.kept S.fault_record K.told K.fault_record L.log L.is_faithful L.fault_record in
         Ran (meaning (command_seen command.entry)) (seen store.old sink.old link.old) (seen store.new sink.new link.new) (number_of result) }
-    ensures headline { let seen = seen_by S.kept S.count K.told K.count L.log L.is_faithful L.count in
+    ensures headline { let seen = seen_by S.kept S.fault_record K.told K.fault_record L.log L.is_faithful L.fault_record in
         Tells (S.kept store.old) (Headline (Some (command_seen command.entry)) (seen store.old sink.old link.old) (seen store.new sink.new link.new) (number_of result)) }
 {
     match command {

@@ -1,8 +1,11 @@
 //! The command `verify`: whether the versions of an API are whole.
-ghost use Rattle.std.specs.Prelude.{◌≡◌, ℕ, IfOk};
+ghost use Rattle.std.specs.Prelude.{◌≡◌, ℕ, List, Option, IfOk};
 ghost use Rattle.aidl_outside.specs.Causes.{StoreCause};
+ghost use Rattle.aidl_outside.specs.Faults.{FailedIn, IfStoreFailed, StoreFaults};
+ghost use Rattle.aidl_outside.specs.Files.{Files};
 ghost use Rattle.aidl_outside.specs.Told.{Tells};
 ghost use Rattle.aidl_tool.specs.Meant.{VerifyAnswers};
+ghost use Rattle.api_versions.specs.Asks.{AsksVersions, FaultCall};
 ghost use Rattle.api_versions.specs.Answers.{ReadFaultCause};
 ghost use Rattle.tool_frame.specs.Ended.{Ended};
 ghost use Rattle.tool_frame.specs.Exit.{number_of};
@@ -15,7 +18,8 @@ use aidl_outside::{Link, Sink, Store, StoreFault};
 use api_versions::{FreezeFault, versions};
 use std::alloc::Global;
 use tool_frame::{Early, Exit, Printed, end, limit_passed};
-use version_output::{bad_versions, verify_answer};
+use version_lines::bad_versions;
+use version_output::verify_answer;
 
 /// Runs `verify API`. The answer is the exit.
 pub fn verify<S: Store, K: Sink, L: Link>(
@@ -25,8 +29,8 @@ pub fn verify<S: Store, K: Sink, L: Link>(
     sink: &mut K,
     link: &L,
 ) -> Exit
-    ensures { let seen = seen_by S.kept S.count K.told K.count L.log L.is_faithful L.count in
-        Ended (reads_by (VerifyAnswers api.now)) (seen store.old sink.old link.now) (seen store.new sink.new link.now) (number_of result) }
+    ensures { let seen = seen_by S.kept S.fault_record K.told K.fault_record L.log L.is_faithful L.fault_record in
+        Ended (reads_by (AsksVersions api.now) (VerifyAnswers api.now)) (seen store.old sink.old link.now) (seen store.new sink.new link.now) (number_of result) }
 {
     let answered = answered(alloc, api, store);
     end(alloc, answered, sink)
@@ -40,7 +44,8 @@ fn answered<S: Store>(
 ) -> Result<Result<Printed, Early>, StoreFault>
     ensures answer { IfOk result (λ given. Tells (S.kept store.old) (λ files. GivesOne given (VerifyAnswers api.now files))) }
     ensures unchanged { S.kept store.new ≡ S.kept store.old }
-    ensures cause { StoreCause (S.count store.old) (S.count store.new) result }
+    ensures cause { StoreCause (S.fault_record store.old) (S.fault_record store.new) result }
+    ensures failed { IfStoreFailed result (FailedIn (S.fault_record store.new) ((AsksVersions api.now) (S.kept store.old))) }
 {
     match versions(alloc, store, api) {
         Ok(versions) => Ok(verify_answer(alloc, versions.as_slice())),
@@ -50,9 +55,11 @@ fn answered<S: Store>(
 
 // What is answered where the versions aren't read.
 fn unread(alloc: Global, fault: FreezeFault) -> Result<Result<Printed, Early>, StoreFault>
-    requires { (before : ℕ) × (now : ℕ) × ReadFaultCause before now fault }
+    requires { (before : StoreFaults) × (now : StoreFaults) × ReadFaultCause before now fault }
     ensures given { IfOk result (λ given. GivesOne given (IsUnread fault)) }
-    ensures cause { (before now : ℕ) → ReadFaultCause before now fault → StoreCause before now result }
+    ensures cause { (before now : StoreFaults) → ReadFaultCause before now fault → StoreCause before now result }
+    ensures failed { (api : List ℕ) (kept : Option Files) (faults : StoreFaults) → FaultCall (AsksVersions api kept) faults fault
+        → IfStoreFailed result (FailedIn faults (AsksVersions api kept)) }
 {
     match fault {
         FreezeFault::BadVersions { missing } => Ok(Err(bad_versions(alloc, missing))),

@@ -1,6 +1,8 @@
 //! The command `witness`: the evolution rules that a new tree breaks, each with a call that shows it or the reason why none is shown.
 ghost use Rattle.std.specs.Prelude.{◌≡◌, IfOk};
+ghost use Rattle.aidl_outside.specs.Asks.{AsksBelow, ◌also◌};
 ghost use Rattle.aidl_outside.specs.Causes.{StoreCause};
+ghost use Rattle.aidl_outside.specs.Faults.{FailedIn, IfStoreFailed};
 ghost use Rattle.aidl_outside.specs.Told.{Tells};
 ghost use Rattle.aidl_tool.specs.Witnessing.{WitnessAnswers, WitnessesSecond};
 ghost use Rattle.tool_frame.specs.Ended.{Ended};
@@ -26,8 +28,8 @@ pub fn witness<S: Store, K: Sink, L: Link>(
     sink: &mut K,
     link: &L,
 ) -> Exit
-    ensures { let seen = seen_by S.kept S.count K.told K.count L.log L.is_faithful L.count in
-        Ended (reads_by (WitnessAnswers old.now new.now)) (seen store.old sink.old link.now) (seen store.new sink.new link.now) (number_of result) }
+    ensures { let seen = seen_by S.kept S.fault_record K.told K.fault_record L.log L.is_faithful L.fault_record in
+        Ended (reads_by (AsksBelow old.now also AsksBelow new.now) (WitnessAnswers old.now new.now)) (seen store.old sink.old link.now) (seen store.new sink.new link.now) (number_of result) }
 {
     let answered = answered(alloc, old, new, store);
     end(alloc, answered, sink)
@@ -42,7 +44,8 @@ fn answered<S: Store>(
 ) -> Result<Result<Printed, Early>, StoreFault>
     ensures answer { IfOk result (λ given. Tells (S.kept store.old) (λ files. GivesOne given (WitnessAnswers old.now new.now files))) }
     ensures unchanged { S.kept store.new ≡ S.kept store.old }
-    ensures cause { StoreCause (S.count store.old) (S.count store.new) result }
+    ensures cause { StoreCause (S.fault_record store.old) (S.fault_record store.new) result }
+    ensures failed { IfStoreFailed result (FailedIn (S.fault_record store.new) ((AsksBelow old.now also AsksBelow new.now) (S.kept store.old))) }
 {
     let old_tree = load_tree(alloc, old, store)?;
     match files_of(alloc, old_tree) {
@@ -61,7 +64,8 @@ fn answered_of_second<S: Store>(
 ) -> Result<Result<Printed, Early>, StoreFault>
     ensures answer { IfOk result (λ given. Tells (S.kept store.old) (λ files. GivesOne given (WitnessesSecond old.now new.now files olds))) }
     ensures unchanged { S.kept store.new ≡ S.kept store.old }
-    ensures cause { StoreCause (S.count store.old) (S.count store.new) result }
+    ensures cause { StoreCause (S.fault_record store.old) (S.fault_record store.new) result }
+    ensures failed { IfStoreFailed result (FailedIn (S.fault_record store.new) ((AsksBelow new.now) (S.kept store.old))) }
 {
     let tree = load_tree(alloc, new, store)?;
     Ok(answer_of(alloc, old, olds, new, tree))

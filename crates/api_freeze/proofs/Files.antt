@@ -6,6 +6,7 @@ use Rattle.std.specs.Prelude.{option_to_list}
 use Rattle.std.proofs.lemmas.Bool.{and_parts, and_from, and_right}
 use Rattle.std.proofs.lemmas.Slice.Eq.{bytes_eq-Decides}
 use Rattle.aidl_base.specs.declared.source_file.SourceFile.{SourceFile}
+use Rattle.aidl_outside.specs.Faults.{StoreFaults}
 use Rattle.aidl_outside.specs.Files.{Files}
 use Rattle.aidl_outside.specs.Told.{Tells}
 use Rattle.aidl_schema.specs.declared.schema.Decl.{Decl}
@@ -208,7 +209,7 @@ freezes_at api None defined vs S before now r same told h = tt
 freezes_at api (Some files) defined vs S before now r same told h =
     subst (λ d. FreezesAt api d S (Some files) now r) (sym told) (subst (λ b. Freezes api vs S b now r) same h)
 
-unread_by : (api : List ℕ) (S : List Decl) (before now : Option Files) (old new : ℕ) (d : Result (List Version) FreezeFault) (e : FreezeFault) → now ≡ before → ReadFaultCause old new e → Refuses d e → FreezesAt api d S before now (Err e)
+unread_by : (api : List ℕ) (S : List Decl) (before now : Option Files) (old new : StoreFaults) (d : Result (List Version) FreezeFault) (e : FreezeFault) → now ≡ before → ReadFaultCause old new e → Refuses d e → FreezesAt api d S before now (Err e)
 unread_by api S before now old new (Ok vs) (fault.BadVersions missing) same cause h = absurd (cc)
 unread_by api S before now old new (Ok vs) (fault.Torn version kept text) same cause h = absurd cause
 unread_by api S before now old new (Ok vs) (fault.Unreadable version files x) same cause h = absurd cause
@@ -218,17 +219,17 @@ unread_by api S before now old new (Ok vs) (fault.Limit l) same cause h = absurd
 unread_by api S before now old new (Ok vs) fault.ReadFault same cause h = same
 unread_by api S before now old new (Ok vs) fault.WriteFault same cause h = absurd cause
 unread_by api S before now old new (Ok vs) fault.OutOfMemory same cause h = inl same
-unread_by api S before now old new (Err r) (fault.BadVersions missing) same cause h = (same, let is : r ≡ fault.BadVersions missing = cc in ap (λ x. Err x) is)
+unread_by api S before now old new (Err r) (fault.BadVersions missing) same cause h = (same, let is : r ≡ fault.BadVersions missing = cc in ap (λ x. Err x) is, λ wrote. cc)
 unread_by api S before now old new (Err r) (fault.Torn version kept text) same cause h = absurd cause
 unread_by api S before now old new (Err r) (fault.Unreadable version files x) same cause h = absurd cause
 unread_by api S before now old new (Err r) (fault.Unchanged version) same cause h = absurd cause
 unread_by api S before now old new (Err r) (fault.Incompatible rows) same cause h = absurd cause
-unread_by api S before now old new (Err r) (fault.Limit l) same cause h = (same, let is : r ≡ fault.Limit l = cc in ap (λ x. Err x) is)
-unread_by api S before now old new (Err r) fault.ReadFault same cause h = (same, tt)
+unread_by api S before now old new (Err r) (fault.Limit l) same cause h = (same, let is : r ≡ fault.Limit l = cc in ap (λ x. Err x) is, λ wrote. cc)
+unread_by api S before now old new (Err r) fault.ReadFault same cause h = (same, tt, λ wrote. cc)
 unread_by api S before now old new (Err r) fault.WriteFault same cause h = absurd cause
-unread_by api S before now old new (Err r) fault.OutOfMemory same cause h = (same, tt)
+unread_by api S before now old new (Err r) fault.OutOfMemory same cause h = (same, tt, λ wrote. cc)
 
-pub unread_at : (api : List ℕ) (kept : Option Files) (defined : Files → Result (List Version) FreezeFault) (S : List Decl) (now : Option Files) (old new : ℕ) (e : FreezeFault) → now ≡ kept → ReadFaultCause old new e
+pub unread_at : (api : List ℕ) (kept : Option Files) (defined : Files → Result (List Version) FreezeFault) (S : List Decl) (now : Option Files) (old new : StoreFaults) (e : FreezeFault) → now ≡ kept → ReadFaultCause old new e
     → Tells kept (λ files. Refuses (defined files) e) → Tells kept (λ files. FreezesAt api (defined files) S (Some files) now (Err e))
 unread_at api None defined S now old new e same cause told = tt
 unread_at api (Some files) defined S now old new e same cause told = unread_by api S (Some files) now old new (defined files) e same cause told

@@ -1,4 +1,5 @@
 mod Chains
+mod Failed
 mod Files
 mod Numbered
 mod RehashFaults

@@ -1,12 +1,13 @@
 -- The refusals of the steps of `rehash` are some that it has.
 use Rattle.std.proofs.Common.{ℕ}
 use Rattle.api_freeze.specs.Rehash.{IsRehashFault}
+use Rattle.aidl_outside.specs.Faults.{StoreFaults}
 use Rattle.api_versions.specs.declared.fault.FreezeFault.{FreezeFault}
 use Rattle.api_versions.specs.declared.fault.FreezeFault.TheVariants as fault
 use Rattle.api_versions.specs.Answers.{ReadFaultCause}
 use Rattle.api_versions.specs.Early.{IsLate, IsTorn}
 
-pub of_read : (before now : ℕ) (e : FreezeFault) → ReadFaultCause before now e → IsRehashFault e
+pub of_read : (before now : StoreFaults) (e : FreezeFault) → ReadFaultCause before now e → IsRehashFault e
 of_read before now (fault.BadVersions missing) h = tt
 of_read before now (fault.Torn version kept text) h = tt
 of_read before now (fault.Unreadable version files cause) h = h

@@ -115,10 +115,10 @@ Freezes api vs S before now (Err (fault.Limit l)) = (now ≡ before) × RefusedA
 Freezes api vs S before now (Err (fault.BadVersions missing)) = ⊥
 Freezes api vs S before now (Err fault.ReadFault) = now ≡ before
 
--- a refusal of versions that can't be read, which changes nothing
+-- a refusal of versions that can't be read, which changes nothing, and comes before any write
 abbrev pub Unread : FreezeFault → Option Files → Option Files → Result Frozen FreezeFault → Type 0
 Unread r before now (Ok frozen) = ⊥
-Unread r before now (Err e) = (now ≡ before) × Refuses {A = Frozen} (Err r) e
+Unread r before now (Err e) = (now ≡ before) × Refuses {A = Frozen} (Err r) e × (e ≢ fault.WriteFault)
 
 -- of what a store tells
 abbrev pub FreezesAt : List ℕ → Result (List Version) FreezeFault → List Decl → Option Files → Option Files → Result Frozen FreezeFault → Type 0

@@ -4,6 +4,8 @@ ghost use Rattle.aidl_outside.specs.Told.{Tells};
 ghost use Rattle.api_freeze.specs.Chains.{FollowsEachAt};
 ghost use Rattle.api_freeze.specs.Freeze.{Freezes, FreezesAt, IsRead, hash_digits, version_writes};
 ghost use Rattle.api_freeze.specs.Freeze as meant;
+ghost use Rattle.aidl_outside.specs.Asks.{AsksNothing};
+ghost use Rattle.api_versions.specs.Asks.{AsksVersions, FailedCall};
 ghost use Rattle.api_versions.specs.Causes.{Cause};
 ghost use Rattle.api_versions.specs.Versions.{versions_at};
 ghost use Rattle.api_versions.specs.Writes.{Left};
@@ -43,7 +45,8 @@ pub fn freeze<S: Store>(
     ensures chains { Tells (S.kept store.old) (λ files. IfOk result (λ frozen. FollowsEachAt (versions_at files api.now) schema.now.decls)) }
     ensures untold { S.kept store.old ≡ None → S.kept store.new ≡ None }
     ensures read { IfErr result IsRead }
-    ensures cause { Cause (S.count store.old) (S.count store.new) result }
+    ensures cause { Cause (S.fault_record store.old) (S.fault_record store.new) result }
+    ensures failed { FailedCall (AsksVersions api.now (S.kept store.old)) (S.fault_record store.new) result }
 {
     match versions(alloc, store, api) {
         Ok(versions) => freeze_next(alloc, schema, store, api, versions),
@@ -61,7 +64,8 @@ fn freeze_next<S: Store>(
 ) -> Result<Frozen, FreezeFault>
     ensures answer { Freezes api.now versions schema.now.decls (S.kept store.old) (S.kept store.new) result }
     ensures read { IfErr result IsRead }
-    ensures cause { Cause (S.count store.old) (S.count store.new) result }
+    ensures cause { Cause (S.fault_record store.old) (S.fault_record store.new) result }
+    ensures failed { FailedCall (AsksNothing None) (S.fault_record store.new) result }
 {
     match prepare(alloc, schema, versions) {
         Ok(next) => write_next(alloc, api, next, store),
@@ -80,7 +84,8 @@ fn write_next<S: Store>(
     ensures hash { IfOk result (λ frozen. frozen.hash ≡ hash_digits next.files next.number) }
     ensures late { IfErr result IsLate }
     ensures wrote { Left (version_writes api.now next.number next.files) (S.kept store.old) (S.kept store.new) result }
-    ensures cause { Cause (S.count store.old) (S.count store.new) result }
+    ensures cause { Cause (S.fault_record store.old) (S.fault_record store.new) result }
+    ensures failed { FailedCall (AsksNothing None) (S.fault_record store.new) result }
 {
     let Ok(due) = due_of(alloc, api, next) else {
         return Err(FreezeFault::OutOfMemory);

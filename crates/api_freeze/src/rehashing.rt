@@ -1,6 +1,8 @@
 //! Rehashing: the text of the second recipe for each version whose `.hash` has another.
 ghost use Rattle.std.specs.Prelude.{◌≡◌, ◌++◌, [], ◌∷◌, map, IfErr, IfOk, OnOk, Some, None, string_bytes};
 ghost use Rattle.aidl_outside.specs.Told.{Tells};
+ghost use Rattle.aidl_outside.specs.Asks.{AsksNothing};
+ghost use Rattle.api_versions.specs.Asks.{AsksVersions, FailedCall};
 ghost use Rattle.api_versions.specs.Answers.{Gives};
 ghost use Rattle.api_versions.specs.Causes.{Cause};
 ghost use Rattle.api_freeze.specs.Rehash as meant;
@@ -25,7 +27,8 @@ pub fn rehash<S: Store>(alloc: Global, store: &mut S, api: &str) -> Result<Row<u
     ensures wrote { Tells (S.kept store.old) (λ files. Left (meant.rehash_writes files api.now) (Some files) (S.kept store.new) result) }
     ensures untold { S.kept store.old ≡ None → S.kept store.new ≡ None }
     ensures refusal { IfErr result meant.IsRehashFault }
-    ensures cause { Cause (S.count store.old) (S.count store.new) result }
+    ensures cause { Cause (S.fault_record store.old) (S.fault_record store.new) result }
+    ensures failed { FailedCall (AsksVersions api.now (S.kept store.old)) (S.fault_record store.new) result }
 {
     match versions(alloc, store, api) {
         Ok(versions) => rehash_all(alloc, api, versions.as_slice(), store),
@@ -44,7 +47,8 @@ fn rehash_all<S: Store>(
     ensures defined { Gives (meant.rehash_of versions.now) result }
     ensures refusal { IfErr result meant.IsRehashFault }
     ensures wrote { Left (meant.whole_writes api.now versions.now) (S.kept store.old) (S.kept store.new) result }
-    ensures cause { Cause (S.count store.old) (S.count store.new) result }
+    ensures cause { Cause (S.fault_record store.old) (S.fault_record store.new) result }
+    ensures failed { FailedCall (AsksNothing None) (S.fault_record store.new) result }
 {
     match all_whole(alloc, versions) {
         Ok(()) => rehash_whole(alloc, api, versions, store),
@@ -62,7 +66,8 @@ fn rehash_whole<S: Store>(
     ensures numbers { IfOk result (λ numbers. numbers ≡ meant.stale_numbers versions.now) }
     ensures late { IfErr result IsLate }
     ensures wrote { Left (meant.hash_writes api.now versions.now) (S.kept store.old) (S.kept store.new) result }
-    ensures cause { Cause (S.count store.old) (S.count store.new) result }
+    ensures cause { Cause (S.fault_record store.old) (S.fault_record store.new) result }
+    ensures failed { FailedCall (AsksNothing None) (S.fault_record store.new) result }
 {
     let Ok(stale) = stale_of(alloc, api, versions) else {
         return Err(FreezeFault::OutOfMemory);

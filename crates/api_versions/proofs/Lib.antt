@@ -1,6 +1,7 @@
 mod Examples
 mod Adding
 mod Ascending
+mod Asked
 mod Collected
 mod Gathered
 mod Kept

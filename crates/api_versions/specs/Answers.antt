@@ -1,6 +1,7 @@
 -- What is answered where a step is defined, and when the store's count rises (own).
 use Rattle.std.specs.Prelude.{◌≡◌, ℕ, Result, Ok, Err}
 use Rattle.aidl_outside.specs.Causes.{Rose}
+use Rattle.aidl_outside.specs.Faults.{StoreFaults}
 use Rattle.aidl_outside.specs.declared.store.StoreFault.{StoreFault}
 use Rattle.aidl_outside.specs.declared.store.StoreFault.TheVariants as store
 use Rattle.api_versions.specs.declared.fault.FreezeFault.{FreezeFault}
@@ -29,7 +30,7 @@ GivesAs view defined (Ok x) = defined ≡ Ok (view x)
 GivesAs view defined (Err e) = Refuses defined e
 
 -- of a refusal to read versions, by the count of the store's faults: it rises with `ReadFault`, and with nothing else
-abbrev pub ReadFaultCause : ℕ → ℕ → FreezeFault → Type 0
+abbrev pub ReadFaultCause : StoreFaults → StoreFaults → FreezeFault → Type 0
 ReadFaultCause before now (fault.BadVersions missing) = now ≡ before
 ReadFaultCause before now (fault.Limit limit) = now ≡ before
 ReadFaultCause before now fault.ReadFault = Rose before now
@@ -40,7 +41,7 @@ ReadFaultCause before now (fault.Unreadable version files cause) = ⊥
 ReadFaultCause before now (fault.Incompatible rows) = ⊥
 ReadFaultCause before now fault.WriteFault = ⊥
 
-abbrev pub ReadCause : {A : Type 0} → ℕ → ℕ → Result A FreezeFault → Type 0
+abbrev pub ReadCause : {A : Type 0} → StoreFaults → StoreFaults → Result A FreezeFault → Type 0
 ReadCause before now (Ok x) = now ≡ before
 ReadCause before now (Err e) = ReadFaultCause before now e
 

@@ -1,4 +1,5 @@
 pub mod Answers
+pub mod Asks
 pub mod Causes
 pub mod Folders
 pub mod Places

@@ -1,8 +1,10 @@
 //! One file of a store, up to the limit on its bytes.
 ghost use Rattle.std.specs.Prelude.{◌≡◌, List, ℕ, Option};
 ghost use Rattle.std.specs.Option.{option_map};
+ghost use Rattle.aidl_outside.specs.Asks.{AsksFile};
 ghost use Rattle.aidl_outside.specs.Files.{path_below};
 ghost use Rattle.aidl_outside.specs.Told.{Tells};
+ghost use Rattle.api_versions.specs.Asks.{FailedCall};
 ghost use Rattle.api_versions.specs.Answers.{Gives, ReadCause};
 ghost use Rattle.api_versions.specs.Versions.{file_at, within};
 
@@ -20,7 +22,8 @@ pub fn load_below<S: Store>(
 ) -> Result<Option<Row<u8>>, FreezeFault>
     ensures told { Tells (S.kept store.old) (λ files. Gives (file_at files (path_below folder.now path.now)) result) }
     ensures unchanged { S.kept store.new ≡ S.kept store.old }
-    ensures cause { ReadCause (S.count store.old) (S.count store.new) result }
+    ensures cause { ReadCause (S.fault_record store.old) (S.fault_record store.new) result }
+    ensures failed { FailedCall (AsksFile (path_below folder.now path.now) (S.kept store.old)) (S.fault_record store.new) result }
 {
     match path_below(alloc, folder, path) {
         Ok(whole) => load(alloc, whole.as_str(), store),
@@ -32,7 +35,8 @@ pub fn load_below<S: Store>(
 fn load<S: Store>(alloc: Global, path: &str, store: &mut S) -> Result<Option<Row<u8>>, FreezeFault>
     ensures told { Tells (S.kept store.old) (λ files. Gives (file_at files path.now) result) }
     ensures unchanged { S.kept store.new ≡ S.kept store.old }
-    ensures cause { ReadCause (S.count store.old) (S.count store.new) result }
+    ensures cause { ReadCause (S.fault_record store.old) (S.fault_record store.new) result }
+    ensures failed { FailedCall (AsksFile path.now (S.kept store.old)) (S.fault_record store.new) result }
 {
     match store.read(alloc, path, LimitName::FileBytes.number() as usize) {
         Ok(file) => held(file),

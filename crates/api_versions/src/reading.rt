@@ -1,9 +1,11 @@
 //! All versions of an API, read from a store.
 ghost use Rattle.std.specs.Prelude.{◌≡◌, length, map, true, IfOk, Ok, string_bytes};
 ghost use Rattle.std.specs.List.{list_all, range_with_len};
+ghost use Rattle.aidl_outside.specs.Faults.{listing as lists};
 ghost use Rattle.aidl_outside.specs.Entries.{path_of};
 ghost use Rattle.aidl_outside.specs.Files.{is_ascending, listing};
 ghost use Rattle.aidl_outside.specs.Told.{Tells};
+ghost use Rattle.api_versions.specs.Asks.{AsksFolder, AsksFolders, AsksVersions, FailedCall};
 ghost use Rattle.api_versions.specs.Answers.{Gives, GivesAs, ReadCause};
 ghost use Rattle.api_versions.specs.Versions as meant;
 ghost use Rattle.api_versions.specs.Versions.{AreNumbered, are_ascending};
@@ -33,7 +35,8 @@ pub fn versions<S: Store>(
     ensures numbered { IfOk result AreNumbered }
     ensures ascending { IfOk result (λ versions. are_ascending versions ≡ true) }
     ensures unchanged { S.kept store.new ≡ S.kept store.old }
-    ensures cause { ReadCause (S.count store.old) (S.count store.new) result }
+    ensures cause { ReadCause (S.fault_record store.old) (S.fault_record store.new) result }
+    ensures failed { FailedCall (AsksVersions api.now (S.kept store.old)) (S.fault_record store.new) result }
 {
     let paths = listed(alloc, api, store)?;
     match folders_in(alloc, paths.as_slice()) {
@@ -47,7 +50,8 @@ fn listed<S: Store>(alloc: Global, api: &str, store: &mut S) -> Result<Vec<Strin
     ensures told { Tells (S.kept store.old) (λ files. GivesAs (λ paths. map string_bytes paths.items) (Ok (listing api.now files)) result) }
     ensures ascending { IfOk result (λ paths. is_ascending (map string_bytes paths.items) ≡ true) }
     ensures unchanged { S.kept store.new ≡ S.kept store.old }
-    ensures cause { ReadCause (S.count store.old) (S.count store.new) result }
+    ensures cause { ReadCause (S.fault_record store.old) (S.fault_record store.new) result }
+    ensures failed { FailedCall (λ call. call ≡ lists api.now) (S.fault_record store.new) result }
 {
     match store.list(alloc, api) {
         Ok(paths) => Ok(paths),
@@ -66,7 +70,8 @@ fn load_all<S: Store>(
     ensures numbered { map (λ f. f.number) (map folder_seen folders.items) ≡ range_with_len 1 (length folders.items) → IfOk result AreNumbered }
     ensures ascending { list_all (λ f. is_ascending f.sources) (map folder_seen folders.items) ≡ true → IfOk result (λ versions. are_ascending versions ≡ true) }
     ensures unchanged { S.kept store.new ≡ S.kept store.old }
-    ensures cause { ReadCause (S.count store.old) (S.count store.new) result }
+    ensures cause { ReadCause (S.fault_record store.old) (S.fault_record store.new) result }
+    ensures failed { FailedCall (AsksFolders api.now (meant.present (map folder_seen folders.items))) (S.fault_record store.new) result }
 {
     let missing = missing(folders.as_slice());
     let versions = load_versions(alloc, api, present(folders), store)?;
@@ -84,7 +89,8 @@ fn load_versions<S: Store>(
     ensures numbers { IfOk result (λ versions. map (λ v. v.number) versions ≡ map (λ f. f.number) (map folder_seen folders.items)) }
     ensures ascending { list_all (λ f. is_ascending f.sources) (map folder_seen folders.items) ≡ true → IfOk result (λ versions. are_ascending versions ≡ true) }
     ensures unchanged { S.kept store.new ≡ S.kept store.old }
-    ensures cause { ReadCause (S.count store.old) (S.count store.new) result }
+    ensures cause { ReadCause (S.fault_record store.old) (S.fault_record store.new) result }
+    ensures failed { FailedCall (AsksFolders api.now (map folder_seen folders.items)) (S.fault_record store.new) result }
 {
     let mut versions = Row::new(alloc);
     for folder in folders {
@@ -105,7 +111,8 @@ fn load_version<S: Store>(
     ensures number { IfOk result (λ version. version.number ≡ folder.number) }
     ensures ascending { is_ascending (map string_bytes folder.sources.items) ≡ true → IfOk result (λ version. is_ascending (map path_of version.files) ≡ true) }
     ensures unchanged { S.kept store.new ≡ S.kept store.old }
-    ensures cause { ReadCause (S.count store.old) (S.count store.new) result }
+    ensures cause { ReadCause (S.fault_record store.old) (S.fault_record store.new) result }
+    ensures failed { FailedCall (AsksFolder api.now (folder_seen folder)) (S.fault_record store.new) result }
 {
     let path = version_folder(alloc, api, folder.number)?;
     let files = load_sources(alloc, path.as_str(), folder.sources, store)?;

@@ -3,6 +3,8 @@ ghost use Rattle.std.specs.Prelude.{◌≡◌, ◌++◌, map, true, IfOk, OnOk, 
 ghost use Rattle.aidl_outside.specs.Entries.{path_of};
 ghost use Rattle.aidl_outside.specs.Files.{is_ascending};
 ghost use Rattle.aidl_outside.specs.Told.{Tells};
+ghost use Rattle.aidl_outside.specs.Asks.{AsksThese};
+ghost use Rattle.api_versions.specs.Asks.{FailedCall};
 ghost use Rattle.api_versions.specs.Answers.{Gives, ReadCause};
 ghost use Rattle.api_versions.specs.Versions as meant;
 
@@ -22,7 +24,8 @@ pub fn load_sources<S: Store>(
     ensures told { Tells (S.kept store.old) (λ files. Gives (meant.sources_at files folder.now (map string_bytes paths.items)) result) }
     ensures ascending { is_ascending (map string_bytes paths.items) ≡ true → IfOk result (λ files. is_ascending (map path_of files) ≡ true) }
     ensures unchanged { S.kept store.new ≡ S.kept store.old }
-    ensures cause { ReadCause (S.count store.old) (S.count store.new) result }
+    ensures cause { ReadCause (S.fault_record store.old) (S.fault_record store.new) result }
+    ensures failed { FailedCall (AsksThese folder.now (map string_bytes paths.items)) (S.fault_record store.new) result }
 {
     let mut files = Row::new(alloc);
     for path in paths {

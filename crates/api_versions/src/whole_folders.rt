@@ -1,6 +1,9 @@
 //! The limits on an API's folders, and which version numbers are missing.
-ghost use Rattle.std.specs.Prelude.{◌≡◌, ℕ, map, string_bytes};
+ghost use Rattle.std.specs.Prelude.{◌≡◌, None, map, string_bytes};
 ghost use Rattle.std.specs.List.{filter, list_any};
+ghost use Rattle.aidl_outside.specs.Asks.{AsksNothing};
+ghost use Rattle.aidl_outside.specs.Faults.{StoreFaults};
+ghost use Rattle.api_versions.specs.Asks.{FailedCall};
 ghost use Rattle.api_versions.specs.Answers.{GivesAs, ReadCause};
 ghost use Rattle.api_versions.specs.Versions as meant;
 ghost use Rattle.api_versions.specs.Seen.{folder_seen};
@@ -15,7 +18,8 @@ use std::alloc::Global;
 /// a version.
 pub fn folders_in(alloc: Global, paths: &[String]) -> Result<Vec<Folder>, FreezeFault>
     ensures defined { GivesAs (λ folders. map folder_seen folders.items) (meant.folders_in (map string_bytes paths.now)) result }
-    ensures cause { (count : ℕ) → ReadCause count count result }
+    ensures cause { (faults : StoreFaults) → ReadCause faults faults result }
+    ensures failed { (faults : StoreFaults) → FailedCall (AsksNothing None) faults result }
 {
     let highest = highest(paths);
     if highest > LimitName::Versions.number() {

@@ -1,5 +1,7 @@
 //! Writes that are due, and making them in order.
 ghost use Rattle.std.specs.Prelude.{map, IfErr};
+ghost use Rattle.aidl_outside.specs.Asks.{IsWrite};
+ghost use Rattle.api_versions.specs.Asks.{FailedCall};
 ghost use Rattle.api_versions.specs.Causes.{Cause};
 ghost use Rattle.api_versions.specs.Writes.{Left};
 ghost use Rattle.api_versions.specs.Early.{IsLate};
@@ -25,7 +27,8 @@ pub fn write_all<S: Store>(
 ) -> Result<(), FreezeFault>
     ensures late { IfErr result IsLate }
     ensures wrote { Left (map write_seen writes.now) (S.kept store.old) (S.kept store.new) result }
-    ensures cause { Cause (S.count store.old) (S.count store.new) result }
+    ensures cause { Cause (S.fault_record store.old) (S.fault_record store.new) result }
+    ensures failed { FailedCall IsWrite (S.fault_record store.new) result }
 {
     for write in writes {
         match store.write(alloc, write.path.as_str(), write.bytes.as_slice()) {

@@ -4,7 +4,7 @@ use Rattle.std.specs.Fmt.{decimal}
 use Rattle.api_versions.specs.declared.version.Version.{Version}
 use Rattle.api_versions.specs.Whole.{defined, is_whole}
 use Rattle.tool_frame.specs.Answer.{Answer, Found, negative}
-use Rattle.version_output.specs.Lines.{torn}
+use Rattle.version_lines.specs.Lines.{torn}
 
 -- the version of a number, which is from 1 to 9,999
 abbrev pub version_numbered : ℕ → List Version → Option Version

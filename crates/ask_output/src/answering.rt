@@ -2,8 +2,8 @@
 ghost use Rattle.std.specs.Prelude.{◌≡◌, IfOk};
 ghost use Rattle.ask_output.specs.Asked.{asked_text};
 ghost use Rattle.ask_output.specs.steps.Answered.{IsAnswered, IsSeenBy, answered_text};
-ghost use Rattle.meta_calls.specs.MetaStub.{told_of};
 ghost use Rattle.meta_calls.specs.Versions.{IsHash, IsVersion};
+ghost use Rattle.wire_model.specs.MetaStub.{meta_stub};
 
 use aidl_base::{OutOfMemory, Profile, Text};
 use aidl_schema::Schema;
@@ -47,7 +47,7 @@ pub fn answered(
     transacted(alloc, schema, request, hash, bytes)
 }
 
-// The same, as what a stub receives and a code tells.
+// The same, as what is received.
 #[tactic(auto, using(stub_dispatch::proofs::lemmas::Unscripted::unscripted_fits, crate::proofs::Unscripted::answers))]
 fn transacted(
     alloc: Global,
@@ -58,7 +58,7 @@ fn transacted(
 ) -> Result<Answered, OutOfMemory>
     requires version { IsVersion request.version }
     requires hash { IsHash hash }
-    ensures { IfOk result (IsAnswered schema.now.decls request.interface request.code bytes.now (told_of request.version hash request.code)) }
+    ensures { IfOk result (IsAnswered schema.now.decls request.interface (meta_stub schema.now.decls request.interface request.version hash request.code bytes.now)) }
 {
     let plans = compile(alloc, schema, &[])?;
     let side = Side::new(schema, &plans);

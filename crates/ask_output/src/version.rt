@@ -5,14 +5,14 @@ ghost use Rattle.ask_output.specs.Versions as step;
 ghost use Rattle.meta_calls.specs.Versions.{IsHash, IsVersion};
 ghost use Rattle.tool_frame.specs.Answer.{line};
 ghost use Rattle.tool_frame.specs.Results.{EndsAs, Finds};
-ghost use Rattle.version_output.specs.Lines as lines;
+ghost use Rattle.version_lines.specs.Lines as lines;
 
 use aidl_base::{OutOfMemory, Row, Text};
 use api_versions::{Version, defined_text, is_whole, text_of};
 use std::alloc::Global;
 use std::fmt::Write;
 use tool_frame::{Early, Printed, Verdict};
-use version_output::{first_forty, torn_answer};
+use version_lines::{first_forty, torn_answer};
 
 /// The version of a number; `no version N` where there is none.
 pub fn version_found(alloc: Global, number: u32, versions: Row<Version>) -> Result<Version, Early>

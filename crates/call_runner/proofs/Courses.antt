@@ -1,18 +1,20 @@
 -- What the log gains, step by step, and what was carried where a fault comes.
-use Rattle.std.proofs.Common.{◌≡◌, ◌≢◌, ℕ, Bool, true, List, [], ◌∷◌, ◌++◌, Option, Some, None, Ok, refl, sym, ap, ◌∙◌, subst, append_assoc, append-nil}
+use Rattle.std.proofs.Common.{◌≡◌, ℕ, Bool, true, List, [], ◌∷◌, ◌++◌, Option, Some, None, Ok, refl, sym, ap, ◌∙◌, subst, append_assoc, append-nil}
 use Rattle.std.proofs.lemmas.List.Elements.{All-nil, All-cons, All-head, All-tail}
 use Rattle.aidl_base.specs.declared.profile.Profile.{Profile}
 use Rattle.aidl_outside.specs.declared.link.Carried.{Carried}
 use Rattle.aidl_outside.specs.declared.link.Way.TheVariants.{Reply}
 use Rattle.aidl_outside.specs.Carries.{entry as carried_entry}
+use Rattle.aidl_outside.specs.Faults.{FailedIn, LinkFaults}
+use Rattle.aidl_outside.specs.Parcel.{parcel_of}
 use Rattle.aidl_outside.specs.Told.{Adds}
 use Rattle.aidl_schema.specs.declared.schema.Decl.{Decl}
 use Rattle.call_runner.specs.declared.exchange.Exchange.{Exchange}
 use Rattle.call_runner.specs.declared.line.RunFault.{RunFault}
 use Rattle.call_runner.specs.declared.line.RunFault.TheVariants.{LinkFault, OutOfMemory}
 use Rattle.call_runner.specs.Lines.{call_code, entries, received_at, reply_at, reply_entries, reply_sent, request_entry}
-use Rattle.call_runner.specs.Runs.{AreFaithful, IsReplied, Stops}
-use Rattle.call_runner.specs.steps.Exchanges.{IsExchange, carried_of, delivered_of, listed}
+use Rattle.call_runner.specs.Runs.{AreFaithful, IsFirst, IsReplied, Stops}
+use Rattle.call_runner.specs.steps.Exchanges.{IsExchange, WhereLinkFailed, carried_of, delivered_of, listed}
 use Rattle.call_runner.specs.steps.Served.{IsServed}
 use Rattle.call_scripts.specs.Calls.{CallData}
 use Rattle.stub_dispatch.specs.declared.answered.Answered.{Answered}
@@ -31,35 +33,38 @@ none_faithful = All-nil (λ (entry : Carried). entry.delivered ≡ entry.sent)
 pub one_faithful : (x : Carried) (xs : List Carried) → x.delivered ≡ x.sent → AreFaithful xs → AreFaithful (x ∷ xs)
 one_faithful x xs e rest = All-cons (λ (entry : Carried). entry.delivered ≡ entry.sent) x xs e rest
 
--- a reply is due where one is sent
-pub reply_due : (code : ℕ) (reply : Option (List ℕ)) → reply ≢ None → reply_entries code reply [] ≢ []
-reply_due code None ne e = ne refl
-reply_due code (Some sent) ne e = cc
+-- where it is said that a call of the link failed
+pub where_failed : (fault : RunFault) (Said : Type 0) → WhereLinkFailed fault Said → fault ≡ LinkFault → Said
+where_failed LinkFault Said h is = h
+where_failed OutOfMemory Said h is = absurd cc
 
 module _ (p : Profile) (A B : List Decl) (c : CallData) (faithful : Bool) (before : Option (List Carried)) where
   -- the request wasn't carried
-  pub stops_first : (now : Option (List Carried)) (fault : RunFault) → now ≡ before → Stops p A B (Ok c) faithful before now fault
-  stops_first now fault e = ([], [], [], entries p A B c [] [], refl, adds_none before now e, (λ _. none_faithful), (λ _ e. cc))
+  pub stops_first : (now : Option (List Carried)) (faults : LinkFaults) (fault : RunFault) → now ≡ before
+      → WhereLinkFailed fault (FailedIn faults (λ sent. sent ≡ parcel_of (request_entry A c []))) → Stops p A B (Ok c) faithful before now faults fault
+  stops_first now faults fault e due = ([], [], [], entries p A B c [] [], refl, adds_none before now e, (λ _. none_faithful), where_failed fault _ due)
 
   -- the request was carried, and what was due then wasn't
-  pub stops_then : (now : Option (List Carried)) (fault : RunFault) (request : Carried) → request ≡ request_entry A c request.delivered → Adds before now (request ∷ [])
-      → (faithful ≡ true → request.delivered ≡ request.sent)
-      → (fault ≡ LinkFault → reply_entries (call_code A c) (reply_sent p A B c request.delivered) [] ≢ []) → Stops p A B (Ok c) faithful before now fault
-  stops_then now fault request is adds same due =
+  pub stops_then : (now : Option (List Carried)) (faults : LinkFaults) (fault : RunFault) (request : Carried) → request ≡ request_entry A c request.delivered
+      → Adds before now (request ∷ []) → (faithful ≡ true → request.delivered ≡ request.sent)
+      → (fault ≡ LinkFault → FailedIn faults (IsFirst (reply_entries (call_code A c) (reply_sent p A B c request.delivered) []))) → Stops p A B (Ok c) faithful before now faults fault
+  stops_then now faults fault request is adds same due =
       let b = request.delivered in
       let rest = reply_entries (call_code A c) (reply_sent p A B c b) [] in
       (b, [], request ∷ [], rest, ap (λ (x : Carried). x ∷ rest) (sym is), adds, (λ e. one_faithful request [] (same e) none_faithful), due)
 
   -- the same of the reply
-  pub stops_reply : (mid now : Option (List Carried)) (fault : RunFault) (request : Carried) → request ≡ request_entry A c request.delivered → Adds before mid (request ∷ []) → now ≡ mid
-      → (faithful ≡ true → request.delivered ≡ request.sent) → (bytes : List ℕ) → bytes ≡ request.delivered
-      → (a : Answered) → IsServed B c.server c.target (received_at p B c.server request.code bytes) a → (a.reply ≡ None → ⊥) → Stops p A B (Ok c) faithful before now fault
-  stops_reply mid now fault request is adds still same bytes e a served ne =
+  pub stops_reply : (mid now : Option (List Carried)) (faults : LinkFaults) (fault : RunFault) (request : Carried) → request ≡ request_entry A c request.delivered
+      → Adds before mid (request ∷ []) → now ≡ mid → (faithful ≡ true → request.delivered ≡ request.sent) → (bytes : List ℕ) → bytes ≡ request.delivered
+      → (a : Answered) → IsServed B c.server c.target (received_at p B c.server request.code bytes) a
+      → WhereLinkFailed fault (FailedIn faults (IsFirst (reply_entries request.code a.reply []))) → Stops p A B (Ok c) faithful before now faults fault
+  stops_reply mid now faults fault request is adds still same bytes e a served due =
       let code : request.code ≡ call_code A c = ap (λ (x : Carried). x.code) is in
       let reply : a.reply ≡ reply_sent p A B c request.delivered = served.reply ∙ ap (λ k. reply_at B c.server c.target (received_at p B c.server k bytes)) code
       ∙ ap (λ b. reply_at B c.server c.target (received_at p B c.server (call_code A c) b)) e in
-      stops_then now fault request is (subst (λ (o : Option (List Carried)). Adds before o (request ∷ [])) (sym still) adds) same
-      (λ _. reply_due (call_code A c) (reply_sent p A B c request.delivered) (λ none. ne (reply ∙ none)))
+      stops_then now faults fault request is (subst (λ (o : Option (List Carried)). Adds before o (request ∷ [])) (sym still) adds) same
+      (λ lost. subst (λ r. FailedIn faults (IsFirst (reply_entries (call_code A c) r []))) reply
+      (subst (λ k. FailedIn faults (IsFirst (reply_entries k a.reply []))) code (where_failed fault _ due lost)))
 
   -- what is carried is the entries of the call
   pub carried_entries : (x : Exchange) → IsExchange p A B c x → carried_of x ≡ entries p A B c x.request.delivered (delivered_of x.reply)
@@ -67,9 +72,9 @@ module _ (p : Profile) (A B : List Decl) (c : CallData) (faithful : Bool) (befor
       ∙ ap (λ es. x.request ∷ es) (sym is.reply))
 
   -- all was carried
-  pub stops_last : (now : Option (List Carried)) (x : Exchange) → IsExchange p A B c x → Adds before now (carried_of x) → (faithful ≡ true → AreFaithful (carried_of x))
-      → Stops p A B (Ok c) faithful before now OutOfMemory
-  stops_last now x is adds same =
+  pub stops_last : (now : Option (List Carried)) (faults : LinkFaults) (x : Exchange) → IsExchange p A B c x → Adds before now (carried_of x) → (faithful ≡ true → AreFaithful (carried_of x))
+      → Stops p A B (Ok c) faithful before now faults OutOfMemory
+  stops_last now faults x is adds same =
       (x.request.delivered, delivered_of x.reply, carried_of x, [], sym (carried_entries x is) ∙ sym (append-nil (carried_of x)), adds, same, (λ e. cc))
 
 -- over a link that delivers what was sent

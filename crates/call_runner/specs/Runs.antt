@@ -1,9 +1,11 @@
 -- What `run_line` answers: by the script of its line and what the link delivered (own). p is the profile of reading, A is CLIENT's
 -- declarations and B SERVER's.
-use Rattle.std.specs.Prelude.{◌≡◌, ◌≢◌, ℕ, ◌<◌, ℤ, Bool, true, List, [], ◌++◌, length, All, Option, Some, None, option_map, Result, Ok, Err}
+use Rattle.std.specs.Prelude.{◌≡◌, ℕ, ◌<◌, ℤ, Bool, true, List, [], ◌∷◌, ◌++◌, length, All, Option, Some, None, option_map, Result, Ok, Err}
 use Rattle.aidl_base.specs.declared.profile.Profile.{Profile}
 use Rattle.aidl_outside.specs.declared.link.Carried.{Carried}
 use Rattle.aidl_outside.specs.Causes.{Rose}
+use Rattle.aidl_outside.specs.Faults.{FailedIn, LinkFaults}
+use Rattle.aidl_outside.specs.Parcel.{Parcel, parcel_of}
 use Rattle.aidl_outside.specs.Told.{Adds}
 use Rattle.aidl_schema.specs.declared.schema.Decl.{Decl}
 use Rattle.aidl_schema.specs.Find.{methods_at}
@@ -50,14 +52,19 @@ LineRuns p A B (Ok c) run = (b r : List ℕ) × (run.carried ≡ entries p A B c
 abbrev pub AreFaithful : List Carried → Type 0
 AreFaithful entries = All (λ (entry : Carried). entry.delivered ≡ entry.sent) entries
 
--- What the log gained where no answer came: the carries that succeeded. After a fault of the link one that was due failed.
-abbrev pub Stops : Profile → List Decl → List Decl → Judged CallData → Bool → Option (List Carried) → Option (List Carried) → RunFault → Type 0
-Stops p A B (Err why) faithful before now fault = Adds before now [] × (fault ≡ OutOfMemory)
-Stops p A B (Ok c) faithful before now fault = (b r : List ℕ) × (made rest : List Carried) × (entries p A B c b r ≡ made ++ rest)
-    × Adds before now made × (faithful ≡ true → AreFaithful made) × (fault ≡ LinkFault → rest ≢ [])
+-- it is the first of these that were to be carried
+abbrev pub IsFirst : List Carried → Parcel → Type 0
+IsFirst [] parcel = ⊥
+IsFirst (entry ∷ entries) parcel = parcel ≡ parcel_of entry
+
+-- What the log gained where no answer came: the carries that succeeded. After a fault of the link it is the next parcel that failed.
+abbrev pub Stops : Profile → List Decl → List Decl → Judged CallData → Bool → Option (List Carried) → Option (List Carried) → LinkFaults → RunFault → Type 0
+Stops p A B (Err why) faithful before now faults fault = Adds before now [] × (fault ≡ OutOfMemory)
+Stops p A B (Ok c) faithful before now faults fault = (b r : List ℕ) × (made rest : List Carried) × (entries p A B c b r ≡ made ++ rest)
+    × Adds before now made × (faithful ≡ true → AreFaithful made) × (fault ≡ LinkFault → FailedIn faults (IsFirst rest))
 
 -- the count of the link's faults rises with a fault of it, and with nothing else
-abbrev pub RunCause : {T : Type 0} → ℕ → ℕ → Result T RunFault → Type 0
+abbrev pub RunCause : {T : Type 0} → LinkFaults → LinkFaults → Result T RunFault → Type 0
 RunCause before now (Ok x) = now ≡ before
 RunCause before now (Err LinkFault) = Rose before now
 RunCause before now (Err OutOfMemory) = now ≡ before

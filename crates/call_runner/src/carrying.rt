@@ -1,9 +1,11 @@
 //! Parcels of a call on their way over a link.
-ghost use Rattle.std.specs.Prelude.{◌≡◌, ◌≢◌, true, option_map, IfOk, None, OnErr};
+ghost use Rattle.std.specs.Prelude.{◌≡◌, [], true, option_map, IfOk};
 ghost use Rattle.aidl_outside.specs.Carries.{entry};
+ghost use Rattle.aidl_outside.specs.Faults.{FailedIn};
+ghost use Rattle.aidl_outside.specs.Parcel.{parcel, parcel_of};
 ghost use Rattle.call_runner.specs.Lines.{reply_entries, request_entry};
-ghost use Rattle.call_runner.specs.Runs.{AreFaithful, RunCause};
-ghost use Rattle.call_runner.specs.steps.Exchanges.{AddsListed, AddsOne, CanBeSent, delivered_of, listed};
+ghost use Rattle.call_runner.specs.Runs.{AreFaithful, IsFirst, RunCause};
+ghost use Rattle.call_runner.specs.steps.Exchanges.{AddsListed, AddsOne, CanBeSent, IfLinkFailed, delivered_of, listed};
 ghost use Rattle.call_scripts.specs.Calls.{call_of};
 ghost use Rattle.wire_model.specs.Calls.{code_at, method_at};
 ghost use Rattle.wire_model.specs.Requests.{request};
@@ -28,7 +30,8 @@ pub fn send_request<L: Link>(
     ensures log { AddsOne (L.log link.old) (L.log link.new) result }
     ensures faithful { L.is_faithful link.old ≡ true → IfOk result (λ e. e.delivered ≡ e.sent) }
     ensures nature { L.is_faithful link.new ≡ L.is_faithful link.old }
-    ensures cause { RunCause (L.count link.old) (L.count link.new) result }
+    ensures cause { RunCause (L.fault_record link.old) (L.fault_record link.new) result }
+    ensures failed { IfLinkFailed result (FailedIn (L.fault_record link.new) (λ sent. sent ≡ parcel_of (request_entry client.now (call_of call.now) []))) }
 {
     let bytes = request_bytes(alloc, client, call)?;
     let code = code_of(client.schema(), call.interface, call.method);
@@ -79,9 +82,9 @@ pub fn send_reply<L: Link>(
     ensures entry { IfOk result (λ e. listed e ≡ reply_entries code reply (delivered_of e)) }
     ensures log { AddsListed (L.log link.old) (L.log link.new) result }
     ensures faithful { L.is_faithful link.old ≡ true → IfOk result (λ e. AreFaithful (listed e)) }
-    ensures due { OnErr result (reply ≢ None) }
     ensures nature { L.is_faithful link.new ≡ L.is_faithful link.old }
-    ensures cause { RunCause (L.count link.old) (L.count link.new) result }
+    ensures cause { RunCause (L.fault_record link.old) (L.fault_record link.new) result }
+    ensures failed { IfLinkFailed result (FailedIn (L.fault_record link.new) (IsFirst (reply_entries code reply []))) }
 {
     match reply {
         Some(bytes) => {
@@ -104,7 +107,8 @@ fn carry<L: Link>(
     ensures log { AddsOne (L.log link.old) (L.log link.new) result }
     ensures faithful { L.is_faithful link.old ≡ true → IfOk result (λ e. e.delivered ≡ e.sent) }
     ensures nature { L.is_faithful link.new ≡ L.is_faithful link.old }
-    ensures cause { RunCause (L.count link.old) (L.count link.new) result }
+    ensures cause { RunCause (L.fault_record link.old) (L.fault_record link.new) result }
+    ensures failed { IfLinkFailed result (FailedIn (L.fault_record link.new) (λ sent. sent ≡ parcel way code bytes.items)) }
 {
     match link.carry(alloc, way, code, bytes.as_slice()) {
         Ok(delivered) => Ok(Carried {

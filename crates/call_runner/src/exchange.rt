@@ -38,9 +38,9 @@ pub fn carry_call<L: Link>(
     ensures log { IfOk result (λ x. Adds (L.log link.old) (L.log link.new) (carried_of x)) }
     ensures faithful { L.is_faithful link.old ≡ true → IfOk result (λ x. AreFaithful (carried_of x)) }
     ensures stops { IfErr result (λ fault. Stops profile client.now server.now (Ok (call_of call.now))
-        (L.is_faithful link.old) (L.log link.old) (L.log link.new) fault) }
+        (L.is_faithful link.old) (L.log link.old) (L.log link.new) (L.fault_record link.new) fault) }
     ensures nature { L.is_faithful link.new ≡ L.is_faithful link.old }
-    ensures cause { RunCause (L.count link.old) (L.count link.new) result }
+    ensures cause { RunCause (L.fault_record link.old) (L.fault_record link.new) result }
 {
     let request = send_request(alloc, client, call, link)?;
     let code = request.code;

@@ -38,12 +38,12 @@ pub fn run_line<L: Link>(
     // The link's log gains exactly what is carried.
     ensures log { IfOk result (λ run. Adds (L.log link.old) (L.log link.new) run.carried) }
     ensures faithful { L.is_faithful link.old ≡ true → IfOk result (λ run. AreFaithful run.carried) }
-    // After a fault it has gained the carries that succeeded.
+    // After a fault it has gained the carries that succeeded; what failed is the parcel that was due then.
     ensures stops { IfErr result (λ fault. Stops profile client.now server.now
-        (script client.now server.now line.now) (L.is_faithful link.old) (L.log link.old) (L.log link.new) fault) }
+        (script client.now server.now line.now) (L.is_faithful link.old) (L.log link.old) (L.log link.new) (L.fault_record link.new) fault) }
     ensures nature { L.is_faithful link.new ≡ L.is_faithful link.old }
     // A fault of the link comes only where its count rose.
-    ensures cause { RunCause (L.count link.old) (L.count link.new) result }
+    ensures cause { RunCause (L.fault_record link.old) (L.fault_record link.new) result }
     // The values have the types of the methods.
     ensures typed { IfOk result (λ run. IsTyped client.now server.now run.methods run.out) }
     // Between two schemas of which one follows the other, over a faithful link, the line comes to its outcome, and its values are those of
@@ -83,9 +83,9 @@ fn run_call<L: Link>(
     ensures log { IfOk result (λ run. Adds (L.log link.old) (L.log link.new) run.carried) }
     ensures faithful { L.is_faithful link.old ≡ true → IfOk result (λ run. AreFaithful run.carried) }
     ensures stops { IfErr result (λ fault. Stops profile client.now server.now (Ok (call_of call.now))
-        (L.is_faithful link.old) (L.log link.old) (L.log link.new) fault) }
+        (L.is_faithful link.old) (L.log link.old) (L.log link.new) (L.fault_record link.new) fault) }
     ensures nature { L.is_faithful link.new ≡ L.is_faithful link.old }
-    ensures cause { RunCause (L.count link.old) (L.count link.new) result }
+    ensures cause { RunCause (L.fault_record link.old) (L.fault_record link.new) result }
     ensures typed { IfOk result (λ run. IsTyped client.now server.now run.methods run.out) }
     ensures outcome { OneFollows client.now server.now → L.is_faithful link.old ≡ true
         → IfOk result (λ run. line_data run.out ≡ projected client.now server.now (Ok (call_of call.now))) }

@@ -1,6 +1,7 @@
 //! The host's folders as a store.
 ghost use Rattle.std.specs.Prelude.{◌≡◌, ◌≤◌, None, Err};
 ghost use Rattle.aidl_outside.specs.Causes.{StoreCause};
+ghost use Rattle.aidl_outside.specs.Faults.{untold};
 ghost use Rattle.host_outside.specs.HostFaults.{store_fault};
 
 use crate::host_fault::HostFault;
@@ -47,7 +48,7 @@ impl<'a, R: Files> FolderStore<'a, R> {
 
     // Counts a failed call. Want of memory is none.
     fn counted(&mut self, fault: HostFault) -> StoreFault
-        ensures cause { StoreCause {T = Unit {0}} self.old.faults self.new.faults (Err result) }
+        ensures cause { StoreCause {T = Unit {0}} (untold self.old.faults) (untold self.new.faults) (Err result) }
         ensures never_falls { self.old.faults ≤ self.new.faults }
         ensures answer { result ≡ store_fault fault }
     {
@@ -64,7 +65,7 @@ impl<'a, R: Files> FolderStore<'a, R> {
 impl<'a, R: Files> Store for FolderStore<'a, R> {
     ghost kept = { λ _. None };
 
-    ghost count = { λ store. store.faults };
+    ghost fault_record = { λ store. untold store.faults };
 
     /// A symbolic link is followed as the root and left out below it. More than 4,194,304 files and folders, and a name that
     /// isn't UTF-8, are a failed call.

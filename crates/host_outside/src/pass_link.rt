@@ -2,6 +2,8 @@
 ghost use Rattle.std.specs.Prelude.{◌≡◌, ◌≤◌, None, true, IfErr, IfOk};
 ghost use Rattle.aidl_outside.specs.Carries.{Carries};
 ghost use Rattle.aidl_outside.specs.Causes.{CarryCause};
+ghost use Rattle.aidl_outside.specs.Faults.{FailedIn, IfCarryFailed, untold};
+ghost use Rattle.aidl_outside.specs.Parcel.{parcel};
 ghost use Rattle.aidl_outside.specs.declared.link.CarryFault.TheVariants.{OutOfMemory};
 
 use aidl_outside::{CarryFault, Link, Way};
@@ -28,7 +30,7 @@ impl Link for PassLink {
 
     ghost is_faithful = { λ _. true };
 
-    ghost count = { λ link. link.faults };
+    ghost fault_record = { λ link. untold link.faults };
 
     fn carry(
         &mut self,
@@ -40,7 +42,8 @@ impl Link for PassLink {
         ensures carried { Carries None None way code bytes.now result }
         ensures faithful { IfOk result (λ delivered. delivered.items ≡ bytes.now) }
         ensures never_failed { IfErr result (λ fault. fault ≡ OutOfMemory) }
-        ensures cause { CarryCause self.old.faults self.new.faults result }
+        ensures cause { CarryCause (untold self.old.faults) (untold self.new.faults) result }
+        ensures failed_call { IfCarryFailed result (FailedIn (untold self.new.faults) (λ sent. sent ≡ parcel way code bytes.now)) }
         ensures never_falls { self.old.faults ≤ self.new.faults }
         ensures unchanged { self.new ≡ self.old }
     {

@@ -1,5 +1,6 @@
 //! The host's standard output as a sink.
 ghost use Rattle.std.specs.Prelude.{◌≡◌, None};
+ghost use Rattle.aidl_outside.specs.Faults.{untold};
 
 use aidl_outside::{Sink, SinkFault};
 use std::alloc::Global;
@@ -23,7 +24,7 @@ impl<'a, R: Print> StdoutSink<'a, R> {
 impl<'a, R: Print> Sink for StdoutSink<'a, R> {
     ghost told = { λ _. None };
 
-    ghost count = { λ sink. sink.faults };
+    ghost fault_record = { λ sink. untold sink.faults };
 
     fn put(&mut self, _alloc: Global, bytes: &[u8]) -> Result<(), SinkFault> {
         match self.runtime.write_all(bytes) {

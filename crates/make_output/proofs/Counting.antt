@@ -2,6 +2,7 @@
 use Rattle.std.proofs.Common.{◌≡◌, ℕ, ◌≤◌, List, [], ◌∷◌, length, Option, Some, None, Result, Ok, Err, refl, sym, subst, arith, inl, inr}
 use Rattle.aidl_base.specs.declared.profile.Profile.{Profile}
 use Rattle.aidl_base.specs.declared.profile.Profile.TheVariants.{Strict}
+use Rattle.aidl_outside.specs.Faults.{SinkFaults}
 use Rattle.aidl_outside.specs.declared.link.Carried.{Carried}
 use Rattle.aidl_schema.specs.declared.schema.Decl.{Decl}
 use Rattle.call_runner.specs.declared.line.LineRun.{LineRun}
@@ -61,7 +62,7 @@ pub none_left : (A B : List Decl) (last : Counts → Course) (whole : Course) (c
 none_left A B last whole c rest start now none went = subst (λ xs. Went whole (counted_course A B last c (lines_of xs)) start now) none went
 
 -- an answer was printed, or memory was wanted before
-module _ (a : Answer) (before : Seen) (told : Option (List ℕ)) (faults exit : ℕ) where
+module _ (a : Answer) (before : Seen) (told : Option (List ℕ)) (faults : SinkFaults) (exit : ℕ) where
   abbrev after : Seen
   after = record before { told = told; sink_faults = faults }
 

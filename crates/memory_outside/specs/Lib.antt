@@ -1,3 +1,4 @@
 pub mod Edits
 pub mod Failing
+pub mod Last
 pub mod Mem

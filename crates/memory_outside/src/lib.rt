@@ -4,6 +4,7 @@
 mod carry_log;
 mod edits;
 mod failures;
+mod last_call;
 mod mem_sink;
 mod mem_store;
 mod record_link;

@@ -1,11 +1,13 @@
 //! The sink in memory: it keeps the bytes that are put, and fails at given calls.
 ghost use Rattle.std.specs.Prelude.{◌≡◌, ◌≤◌, Some, [], IfOk, IsOk, IsTrue, vec_capacity};
 ghost use Rattle.aidl_outside.specs.Causes.{SinkCause};
+ghost use Rattle.aidl_outside.specs.Faults.{FailedIn, IfSinkFailed};
 ghost use Rattle.memory_outside.specs.Failing.{AddsHalf, uncounted, counted, fails_next, sink_failed};
 ghost use Rattle.aidl_outside.specs.Told.{Puts};
 ghost use Rattle.memory_outside.specs.declared.failures.Failing.TheVariants.{Numbers};
 
 use crate::failures::{Failing, Failures};
+use crate::last_call::piece;
 use aidl_base::{OutOfMemory, Row};
 use aidl_outside::{Sink, SinkFault};
 use std::alloc::Global;
@@ -15,6 +17,7 @@ use std::alloc::Global;
 pub struct MemSink {
     bytes: Vec<u8>,
     failures: Failures,
+    last: Option<Row<u8>>,
 }
 
 impl MemSink {
@@ -30,6 +33,7 @@ impl MemSink {
         Ok(MemSink {
             bytes: Vec::new(alloc),
             failures: Failures::new(Failing::Numbers(failing)),
+            last: None,
         })
     }
 
@@ -42,21 +46,24 @@ impl MemSink {
 }
 
 impl Sink for MemSink {
+    ghost use Rattle.memory_outside.specs.Last.{sink_faults};
     ghost use Rattle.memory_outside.specs.Mem.{sink_bytes, sink_failures, sink_room};
 
     ghost told = { λ sink. Some (sink_bytes sink) };
 
-    ghost count = { λ sink. sink.failures.faults };
+    ghost fault_record = { λ sink. sink_faults sink };
 
-    fn put(&mut self, _alloc: Global, bytes: &[u8]) -> Result<(), SinkFault>
+    fn put(&mut self, alloc: Global, bytes: &[u8]) -> Result<(), SinkFault>
         ensures bytes { Puts (Some (sink_bytes self.old)) (Some (sink_bytes self.new)) bytes.now result }
-        ensures cause { SinkCause (sink_failures self.old).faults (sink_failures self.new).faults result }
+        ensures cause { SinkCause (sink_faults self.old) (sink_faults self.new) result }
+        ensures failed_call { IfSinkFailed result (FailedIn (sink_faults self.new) (λ piece. piece ≡ bytes.now)) }
         ensures never_falls { (sink_failures self.old).faults ≤ (sink_failures self.new).faults }
         ensures failed { sink_failed result ≡ fails_next (sink_failures self.old) }
         ensures counts { sink_failures self.new ≡ counted (sink_failures self.old) }
         ensures half { IsTrue (sink_failed result) → AddsHalf (sink_room self.old) (sink_bytes self.old) (sink_bytes self.new) bytes.now }
     {
         if self.failures.fails_now() {
+            self.last = piece(alloc, bytes);
             add_half(&mut self.bytes, bytes);
             return Err(SinkFault::Failed);
         }

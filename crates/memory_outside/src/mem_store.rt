@@ -6,6 +6,7 @@ ghost use Rattle.std.specs.Ordering.{nat_cmp};
 ghost use Rattle.std.specs.Cmp.Lexicographic.{slice_cmp};
 ghost use Rattle.std.specs.FinMap.Entries.{is_sorted, put};
 ghost use Rattle.aidl_outside.specs.Causes.{StoreCause};
+ghost use Rattle.aidl_outside.specs.Faults.{FailedIn, IfStoreFailed, listing as lists, reading, writing};
 ghost use Rattle.aidl_outside.specs.Entries.{entries, file_at, files_of, sorted_files, place_in, put_new, with_new, IsPlaceWithin, path_of};
 ghost use Rattle.memory_outside.specs.Failing.{SetsHalf, uncounted, counted, fails_next, store_failed};
 ghost use Rattle.aidl_outside.specs.Files.{IsRead, IsWithin, below, front_of, is_ascending, listing};
@@ -13,6 +14,7 @@ ghost use Rattle.aidl_outside.specs.Writes.{Writes};
 ghost use Rattle.memory_outside.specs.declared.failures.Failing.TheVariants.{Numbers, From};
 
 use crate::failures::{Failing, Failures};
+use crate::last_call::{FailedCall, listing, reading, writing};
 use aidl_base::{OutOfMemory, Row, SourceFile, Text};
 use aidl_outside::{Store, StoreFault};
 use std::alloc::{AllocError, Global};
@@ -26,6 +28,7 @@ use std::cmp::Ordering;
 pub struct MemStore {
     files: Vec<SourceFile>,
     failures: Failures,
+    last: Option<FailedCall>,
     ghost sorted: { IsTrue (is_sorted (slice_cmp nat_cmp) (entries files.items)) },
 }
 
@@ -66,6 +69,7 @@ impl MemStore {
         let mut store = MemStore {
             files: Vec::new(alloc),
             failures: Failures::new(failing),
+            last: None,
         };
         for file in files.into_vec() {
             store.add(file)?;
@@ -99,23 +103,26 @@ impl MemStore {
 }
 
 impl Store for MemStore {
+    ghost use Rattle.memory_outside.specs.Last.{store_faults};
     ghost use Rattle.memory_outside.specs.Mem.{store_files, store_failures, faults_of};
     ghost use Rattle.std.specs.FinMap as files_map;
 
     ghost kept = { λ store. Some (store_files store) };
 
-    ghost count = { λ store. faults_of store };
+    ghost fault_record = { λ store. store_faults store };
 
     fn list(&mut self, alloc: Global, root: &str) -> Result<Vec<String>, StoreFault>
         ensures listed { IfOk result (λ paths. map string_bytes paths.items ≡ listing root.now (store_files self.old)) }
         ensures ascending { IfOk result (λ paths. is_ascending (map string_bytes paths.items) ≡ true) }
         ensures unchanged { store_files self.new ≡ store_files self.old }
-        ensures cause { StoreCause (faults_of self.old) (faults_of self.new) result }
+        ensures cause { StoreCause (store_faults self.old) (store_faults self.new) result }
+        ensures failed_call { IfStoreFailed result (FailedIn (store_faults self.new) (λ call. call ≡ lists root.now)) }
         ensures never_falls { faults_of self.old ≤ faults_of self.new }
         ensures failed { store_failed result ≡ fails_next (store_failures self.old) }
         ensures counts { store_failures self.new ≡ counted (store_failures self.old) }
     {
         if self.failures.fails_now() {
+            self.last = listing(alloc, root);
             return Err(StoreFault::Failed);
         }
         match paths_below(alloc, self.files.as_slice(), root) {
@@ -134,12 +141,14 @@ impl Store for MemStore {
         ensures found { IfOk result (λ file. IsRead most (files_map.get (store_files self.old) path.now) file) }
         ensures within { IfOk result (IsWithin most) }
         ensures unchanged { store_files self.new ≡ store_files self.old }
-        ensures cause { StoreCause (faults_of self.old) (faults_of self.new) result }
+        ensures cause { StoreCause (store_faults self.old) (store_faults self.new) result }
+        ensures failed_call { IfStoreFailed result (FailedIn (store_faults self.new) (λ call. call ≡ reading path.now)) }
         ensures never_falls { faults_of self.old ≤ faults_of self.new }
         ensures failed { store_failed result ≡ fails_next (store_failures self.old) }
         ensures counts { store_failures self.new ≡ counted (store_failures self.old) }
     {
         if self.failures.fails_now() {
+            self.last = reading(alloc, path);
             return Err(StoreFault::Failed);
         }
         match front_at(alloc, self.files.as_slice(), path, most) {
@@ -150,13 +159,15 @@ impl Store for MemStore {
 
     fn write(&mut self, alloc: Global, path: &str, bytes: &[u8]) -> Result<(), StoreFault>
         ensures written { Writes (Some (store_files self.old)) (Some (store_files self.new)) path.now bytes.now result }
-        ensures cause { StoreCause (faults_of self.old) (faults_of self.new) result }
+        ensures cause { StoreCause (store_faults self.old) (store_faults self.new) result }
+        ensures failed_call { IfStoreFailed result (FailedIn (store_faults self.new) (λ call. call ≡ writing path.now)) }
         ensures never_falls { faults_of self.old ≤ faults_of self.new }
         ensures failed { store_failed result ≡ fails_next (store_failures self.old) }
         ensures counts { store_failures self.new ≡ counted (store_failures self.old) }
         ensures half { IsTrue (store_failed result) → SetsHalf (store_files self.old) (store_files self.new) path.now bytes.now }
     {
         if self.failures.fails_now() {
+            self.last = writing(alloc, path);
             let (half, _) = bytes.split_at(bytes.len() / 2);
             let _kept = self.set_bytes(alloc, path, half);
             return Err(StoreFault::Failed);
@@ -320,6 +331,7 @@ fn relative<'a>(root: &str, path: &'a str) -> Option<&'a str>
 }
 
 impl MemStore {
+    ghost use Rattle.memory_outside.specs.Last.{store_faults};
     ghost use Rattle.memory_outside.specs.Mem.{store_files, store_failures};
     ghost use Rattle.std.specs.FinMap as files_map;
 
@@ -328,6 +340,7 @@ impl MemStore {
         ensures ok { OnOk result (store_files self.new ≡ files_map.insert (store_files self.old) path.now bytes.now) }
         ensures err { OnErr result (store_files self.new ≡ store_files self.old) }
         ensures failures { store_failures self.new ≡ store_failures self.old }
+        ensures faults { store_faults self.new ≡ store_faults self.old }
     {
         let file = file_of(alloc, path, bytes)?;
         set_in(&mut self.files, file)

@@ -2,12 +2,16 @@
 ghost use Rattle.std.specs.Prelude.{◌≡◌, ◌≤◌, ◌++◌, ◌∷◌, [], Some, true, IfOk, IsOk, OnErr, OnOk};
 ghost use Rattle.aidl_outside.specs.Carries.{Carries, entry};
 ghost use Rattle.aidl_outside.specs.Causes.{CarryCause};
+ghost use Rattle.aidl_outside.specs.Faults.{FailedIn, IfCarryFailed};
+ghost use Rattle.aidl_outside.specs.Parcel.{parcel};
 ghost use Rattle.memory_outside.specs.Failing.{uncounted, counted, fails_next, carry_failed};
+ghost use Rattle.memory_outside.specs.Last.{record_faults};
 ghost use Rattle.memory_outside.specs.Mem.{recorded, record_failures};
 ghost use Rattle.memory_outside.specs.declared.failures.Failing.TheVariants.{Numbers};
 
 use crate::carry_log::record;
 use crate::failures::{Failing, Failures};
+use crate::last_call::{FailedParcel, sent};
 use aidl_base::{OutOfMemory, Row};
 use aidl_outside::{Carried, CarryFault, Link, Way};
 use std::alloc::Global;
@@ -17,6 +21,7 @@ use std::alloc::Global;
 pub struct RecordLink {
     log: Vec<Carried>,
     failures: Failures,
+    last: Option<FailedParcel>,
 }
 
 impl RecordLink {
@@ -30,6 +35,7 @@ impl RecordLink {
         Ok(RecordLink {
             log: Vec::new(alloc),
             failures: Failures::new(Failing::Numbers(failing)),
+            last: None,
         })
     }
 
@@ -46,7 +52,7 @@ impl Link for RecordLink {
 
     ghost is_faithful = { λ _. true };
 
-    ghost count = { λ link. (record_failures link).faults };
+    ghost fault_record = { λ link. record_faults link };
 
     fn carry(
         &mut self,
@@ -57,12 +63,14 @@ impl Link for RecordLink {
     ) -> Result<Vec<u8>, CarryFault>
         ensures carried { Carries (Some (recorded self.old)) (Some (recorded self.new)) way code bytes.now result }
         ensures faithful { IfOk result (λ delivered. delivered.items ≡ bytes.now) }
-        ensures cause { CarryCause (record_failures self.old).faults (record_failures self.new).faults result }
+        ensures cause { CarryCause (record_faults self.old) (record_faults self.new) result }
+        ensures failed_call { IfCarryFailed result (FailedIn (record_faults self.new) (λ sent. sent ≡ parcel way code bytes.now)) }
         ensures never_falls { (record_failures self.old).faults ≤ (record_failures self.new).faults }
         ensures failed { carry_failed result ≡ fails_next (record_failures self.old) }
         ensures counts { record_failures self.new ≡ counted (record_failures self.old) }
     {
         if self.failures.fails_now() {
+            self.last = sent(alloc, way, code, bytes);
             return Err(CarryFault::Failed);
         }
         match self.deliver(alloc, way, code, bytes) {
@@ -89,6 +97,7 @@ impl RecordLink {
         ensures err { OnErr result (recorded self.new ≡ recorded self.old) }
         ensures delivered { IfOk result (λ delivered. delivered.items ≡ bytes.now) }
         ensures failures { record_failures self.new ≡ record_failures self.old }
+        ensures faults { record_faults self.new ≡ record_faults self.old }
     {
         let delivered = Vec::from_slice(alloc, bytes)?;
         record(alloc, &mut self.log, way, code, bytes, delivered)

@@ -2,14 +2,18 @@
 ghost use Rattle.std.specs.Prelude.{◌≡◌, ◌≤◌, ◌++◌, ◌∷◌, [], Some, false, IfOk, IsOk, OnErr, OnOk};
 ghost use Rattle.aidl_outside.specs.Carries.{Carries, entry};
 ghost use Rattle.aidl_outside.specs.Causes.{CarryCause};
+ghost use Rattle.aidl_outside.specs.Faults.{FailedIn, IfCarryFailed};
+ghost use Rattle.aidl_outside.specs.Parcel.{parcel};
 ghost use Rattle.memory_outside.specs.Edits.{delivered};
 ghost use Rattle.memory_outside.specs.Failing.{uncounted, counted, fails_next, carry_failed};
+ghost use Rattle.memory_outside.specs.Last.{tamper_faults};
 ghost use Rattle.memory_outside.specs.Mem.{tampered, tamper_edits, tamper_failures};
 ghost use Rattle.memory_outside.specs.declared.failures.Failing.TheVariants.{Numbers};
 
 use crate::carry_log::record;
 use crate::edits::{Edit, edit_all};
 use crate::failures::{Failing, Failures};
+use crate::last_call::{FailedParcel, sent};
 use aidl_base::{OutOfMemory, Row};
 use aidl_outside::{Carried, CarryFault, Link, Way};
 use std::alloc::Global;
@@ -20,6 +24,7 @@ pub struct TamperLink {
     log: Vec<Carried>,
     edits: Row<Edit>,
     failures: Failures,
+    last: Option<FailedParcel>,
 }
 
 impl TamperLink {
@@ -39,6 +44,7 @@ impl TamperLink {
             log: Vec::new(alloc),
             edits,
             failures: Failures::new(Failing::Numbers(failing)),
+            last: None,
         })
     }
 
@@ -55,7 +61,7 @@ impl Link for TamperLink {
 
     ghost is_faithful = { λ _. false };
 
-    ghost count = { λ link. (tamper_failures link).faults };
+    ghost fault_record = { λ link. tamper_faults link };
 
     fn carry(
         &mut self,
@@ -67,13 +73,15 @@ impl Link for TamperLink {
         ensures carried { Carries (Some (tampered self.old)) (Some (tampered self.new)) way code bytes.now result }
         ensures edited { IfOk result (λ bytes'. bytes'.items ≡ delivered (tamper_edits self.old) (tamper_failures self.old).calls bytes.now) }
         ensures edits { tamper_edits self.new ≡ tamper_edits self.old }
-        ensures cause { CarryCause (tamper_failures self.old).faults (tamper_failures self.new).faults result }
+        ensures cause { CarryCause (tamper_faults self.old) (tamper_faults self.new) result }
+        ensures failed_call { IfCarryFailed result (FailedIn (tamper_faults self.new) (λ sent. sent ≡ parcel way code bytes.now)) }
         ensures never_falls { (tamper_failures self.old).faults ≤ (tamper_failures self.new).faults }
         ensures failed { carry_failed result ≡ fails_next (tamper_failures self.old) }
         ensures counts { tamper_failures self.new ≡ counted (tamper_failures self.old) }
     {
         let carry = self.failures.calls;
         if self.failures.fails_now() {
+            self.last = sent(alloc, way, code, bytes);
             return Err(CarryFault::Failed);
         }
         match self.deliver(alloc, carry, way, code, bytes) {
@@ -102,6 +110,7 @@ impl TamperLink {
         ensures delivered { IfOk result (λ edited. edited.items ≡ delivered (tamper_edits self.old) carry bytes.now) }
         ensures edits { tamper_edits self.new ≡ tamper_edits self.old }
         ensures failures { tamper_failures self.new ≡ tamper_failures self.old }
+        ensures faults { tamper_faults self.new ≡ tamper_faults self.old }
     {
         let mut delivered = Vec::from_slice(alloc, bytes)?;
         edit_all(self.edits.as_slice(), carry, &mut delivered)?;

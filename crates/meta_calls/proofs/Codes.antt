@@ -6,7 +6,7 @@ use Rattle.aidl_schema.specs.declared.schema.Decl.{Decl}
 use Rattle.aidl_schema.specs.declared.schema.Method.{Method}
 use Rattle.aidl_schema.specs.Find.{methods_at, methods_of_decl, position_of_code}
 use Rattle.aidl_schema.specs.Holds.{AllHold, OfEach}
-use Rattle.meta_calls.specs.MetaStub.{hash_code}
+use Rattle.wire_model.specs.MetaStub.{hash_code}
 use Rattle.wire_model.proofs.lemmas.Lookups.{position_none}
 
 below_of : (S : List Decl) → AllHold S → (n : ℕ) (o : Option Decl) → slice_get S n ≡ o → OfEach (methods_of_decl o) (λ m. m.id + 1 < hash_code)

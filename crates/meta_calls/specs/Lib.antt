@@ -1,4 +1,5 @@
-pub mod MetaStub
+pub mod MetaAnswers
 pub mod Versions
 pub mod Reserved
 pub mod Seen
+pub mod steps

@@ -2,7 +2,7 @@
 ghost use Rattle.std.specs.Prelude.{◌≡◌, ◌+◌, ◌<◌, None};
 ghost use Rattle.aidl_schema.specs.Find.{methods_at, position_of_code};
 ghost use Rattle.aidl_schema.specs.Holds.{OfEach};
-ghost use Rattle.meta_calls.specs.MetaStub.{hash_code, version_code};
+ghost use Rattle.wire_model.specs.MetaStub.{hash_code, version_code};
 
 use aidl_schema::{Schema, law_valid};
 

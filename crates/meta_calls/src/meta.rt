@@ -2,10 +2,12 @@
 ghost use Rattle.std.specs.Prelude.{◌≡◌, ◌≤◌, ◌++◌, ℕ, List, length, option_map, pos, IfOk, None, Some};
 ghost use Rattle.aidl_base.specs.Words.{units, word};
 ghost use Rattle.aidl_base.specs.declared.profile.Profile.TheVariants.{Strict};
-ghost use Rattle.meta_calls.specs.MetaStub.{MetaAnswers, told_answer, told_of};
+ghost use Rattle.meta_calls.specs.MetaAnswers.{MetaAnswers};
 ghost use Rattle.meta_calls.specs.Versions.{IsHash, IsVersion};
+ghost use Rattle.meta_calls.specs.steps.Told.{told_answer};
 ghost use Rattle.stub_dispatch.specs.Handlers.{AnswersFit, MayBeCalled};
 ghost use Rattle.wire_model.specs.Calls.{descriptor};
+ghost use Rattle.wire_model.specs.MetaStub.{meta_stub, told_of};
 ghost use Rattle.wire_model.specs.Receiver.{token_at};
 ghost use Rattle.wire_model.specs.Spell.{spell_text};
 
@@ -93,8 +95,8 @@ impl<'a, 'b, F: Fn(u32, &[Value]) -> Result<Answer, OutOfMemory>> MetaService<'a
     pub fn transact(&self, alloc: Global, code: u32, bytes: &[u8]) -> Result<Answered, OutOfMemory>
         requires callable { MayBeCalled self.now.service.decls self.now.service.interface (F.pre self.now.service.handler) }
         requires fits { AnswersFit self.now.service.decls self.now.service.interface (F.post self.now.service.handler) }
-        ensures { IfOk result (λ answered. MetaAnswers (F.post self.now.service.handler) self.now.service.decls self.now.service.interface
-            code bytes.now (told_of self.now.version self.now.hash code) answered) }
+        ensures { IfOk result (λ answered. MetaAnswers (F.post self.now.service.handler) self.now.service.decls self.now.service.interface answered
+            (meta_stub self.now.service.decls self.now.service.interface self.now.version self.now.hash code bytes.now)) }
     {
         match told_reply(alloc, self.version, &self.hash, code)? {
             Some(told) => answer_told(alloc, self.schema, self.interface, told, bytes),

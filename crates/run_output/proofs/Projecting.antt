@@ -3,6 +3,7 @@ use Rattle.std.proofs.Common.{◌≡◌, ℕ, ◌+◌, Bool, true, false, List, 
 use Rattle.std.specs.Prelude.{◌⊎◌, ⊤, IfErr}
 use Rattle.std.proofs.lemmas.List.Elements.{All-head, All-tail}
 use Rattle.aidl_base.specs.declared.profile.Profile.{Profile}
+use Rattle.aidl_outside.specs.Faults.{SinkFaults}
 use Rattle.aidl_outside.specs.declared.link.Carried.{Carried}
 use Rattle.aidl_outside.specs.declared.link.Way.TheVariants.{Reply}
 use Rattle.aidl_outside.specs.Carries.{entry}
@@ -37,7 +38,7 @@ use Rattle.tool_frame.proofs.lemmas.Endings.{not_verdict}
 use Rattle.wire_model.specs.Requests.{request}
 
 -- a put that fails has no exit of an answer
-pub put_stops : (text : List ℕ) (before now : Option (List ℕ)) (faults_before faults_now : ℕ) (given : Result ⊤ Exit) → PutsText text before now faults_before faults_now given
+pub put_stops : (text : List ℕ) (before now : Option (List ℕ)) (faults_before faults_now : SinkFaults) (given : Result ⊤ Exit) → PutsText text before now faults_before faults_now given
     → IfErr given (λ exit. IsVerdict (number_of exit) → ⊥)
 put_stops text before now faults_before faults_now (Ok u) put = tt
 put_stops text before now faults_before faults_now (Err exit) put = either put.exits
@@ -96,7 +97,7 @@ module _ (A B : List Decl) (k : ℕ) where
   same_line (Ok c) ms out typed e named = same_call c ms out typed e named
 
   pub put_projected : (p : Profile) (trace : Bool) (meant : Judged CallData) (carried : List Carried) (ms : Option Methods) (out : LineOut) (before now : Option (List ℕ))
-      (faults_before faults_now : ℕ) (given : Result ⊤ Exit) → PutsText (piece A B trace k carried ms (line_data out)) before now faults_before faults_now given
+      (faults_before faults_now : SinkFaults) (given : Result ⊤ Exit) → PutsText (piece A B trace k carried ms (line_data out)) before now faults_before faults_now given
       → carried ≡ line_carried p A B meant → IsTyped A B ms out → line_data out ≡ projected A B meant → AreNamed meant ms
       → IfOk given (λ u. Adds before now (projected_piece p A B trace k meant))
   put_projected p trace meant carried ms out before now faults_before faults_now (Ok u) put same typed e named =

@@ -18,7 +18,7 @@ use Rattle.run_output.specs.LineText.{line_text}
 use Rattle.run_output.specs.Trace.{trace_text}
 use Rattle.tool_frame.specs.Answer.{Answer}
 use Rattle.tool_frame.specs.Course.{Course, ends, prints, sends, at_once}
-use Rattle.tool_frame.specs.Parcel.{Parcel, parcel_of}
+use Rattle.aidl_outside.specs.Parcel.{Parcel, parcel_of}
 use Rattle.tool_frame.specs.declared.verdict.Verdict.TheVariants.{Done, Negative}
 use Rattle.tree_output.specs.Judged.{break_line}
 

@@ -39,11 +39,11 @@ pub fn run_trees<K: Sink, L: Link>(
     sink: &mut K,
     link: &mut L,
 ) -> Exit
-    ensures ran { let seen = seen_alone K.told K.count L.log L.is_faithful L.count in
+    ensures ran { let seen = seen_alone K.told K.fault_record L.log L.is_faithful L.fault_record in
         RanCourse (run_course profile client.now.decls server.now.decls trace calls.now) (seen sink.old link.old) (seen sink.new link.new) (number_of result) }
     // Over a faithful link, between two schemas of which one may follow the other, a run that nothing stops ends with 0, and has put exactly
     // what its lines are projected to.
-    ensures projected { let seen = seen_alone K.told K.count L.log L.is_faithful L.count in let A = client.now.decls in let B = server.now.decls in
+    ensures projected { let seen = seen_alone K.told K.fault_record L.log L.is_faithful L.fault_record in let A = client.now.decls in let B = server.now.decls in
         Projects A B (projected_text profile A B trace 1 (lines_of calls.now)) (seen sink.old link.old) (seen sink.new link.new) (number_of result) }
 {
     match judge_both(alloc, client, server) {
@@ -65,9 +65,9 @@ fn run_judged<K: Sink, L: Link>(
     link: &mut L,
 ) -> Exit
     requires { OneFollows client.now.decls server.now.decls }
-    ensures ran { let seen = seen_alone K.told K.count L.log L.is_faithful L.count in
+    ensures ran { let seen = seen_alone K.told K.fault_record L.log L.is_faithful L.fault_record in
         RanCourse (lines_course profile client.now.decls server.now.decls trace 1 (lines_of calls.now)) (seen sink.old link.old) (seen sink.new link.new) (number_of result) }
-    ensures projected { let seen = seen_alone K.told K.count L.log L.is_faithful L.count in let A = client.now.decls in let B = server.now.decls in
+    ensures projected { let seen = seen_alone K.told K.fault_record L.log L.is_faithful L.fault_record in let A = client.now.decls in let B = server.now.decls in
         Projects A B (projected_text profile A B trace 1 (lines_of calls.now)) (seen sink.old link.old) (seen sink.new link.new) (number_of result) }
 {
     match both_plans(alloc, client, server) {
@@ -123,9 +123,9 @@ pub fn run_lines<K: Sink, L: Link>(
     link: &mut L,
 ) -> Exit
     requires { SameWays client.now server.now }
-    ensures ran { let seen = seen_alone K.told K.count L.log L.is_faithful L.count in
+    ensures ran { let seen = seen_alone K.told K.fault_record L.log L.is_faithful L.fault_record in
         RanCourse (lines_course profile client.now server.now trace 1 (lines_of calls.now)) (seen sink.old link.old) (seen sink.new link.new) (number_of result) }
-    ensures projected { let seen = seen_alone K.told K.count L.log L.is_faithful L.count in let A = client.now in let B = server.now in
+    ensures projected { let seen = seen_alone K.told K.fault_record L.log L.is_faithful L.fault_record in let A = client.now in let B = server.now in
         Projects A B (projected_text profile A B trace 1 (lines_of calls.now)) (seen sink.old link.old) (seen sink.new link.new) (number_of result) }
 {
     let mut rest = calls;
@@ -159,7 +159,7 @@ fn run_next<K: Sink, L: Link>(
     link: &mut L,
 ) -> Result<(), Exit>
     requires { SameWays client.now server.now }
-    ensures steps { let seen = seen_alone K.told K.count L.log L.is_faithful L.count in let A = client.now in let B = server.now in
+    ensures steps { let seen = seen_alone K.told K.fault_record L.log L.is_faithful L.fault_record in let A = client.now in let B = server.now in
         (next : Course) → Steps (line_course profile A B (puts A B trace number next) (script A B line.now)) next (seen sink.old link.old) (seen sink.new link.new) result }
     ensures exits { IfErr result (λ exit. IsVerdict (number_of exit) → ⊥) }
     ensures projected { let A = client.now in let B = server.now in OneFollows A B → L.is_faithful link.old ≡ true
@@ -184,7 +184,7 @@ fn put_line<K: Sink>(
 ) -> Result<(), Exit>
     requires { IsTyped client.now server.now run.now.methods run.now.out }
     ensures { PutsText (piece client.now server.now trace number run.now.carried run.now.methods (line_data run.now.out))
-        (K.told sink.old) (K.told sink.new) (K.count sink.old) (K.count sink.new) result }
+        (K.told sink.old) (K.told sink.new) (K.fault_record sink.old) (K.fault_record sink.new) result }
 {
     match line_piece(alloc, client.schema(), server.schema(), trace, number, run) {
         Ok(text) => put(alloc, text.as_str(), sink),

@@ -1,18 +1,23 @@
 -- The files of a tree, one after another.
-use Rattle.std.proofs.Common.{◌≡◌, ℕ, Bool, true, false, cond, List, [], ◌∷◌, ◌++◌, append_assoc, length, map, Option, String, Global, string_bytes, Result, Ok, Err, refl, ap, sym, ◌∙◌, subst}
+use Rattle.std.proofs.Common.{◌≡◌, ℕ, Bool, true, false, cond, List, [], ◌∷◌, ◌++◌, append_assoc, length, map, Option, String, Global, string_bytes, Result, Ok, Err, refl, ap, sym, ◌∙◌, subst, arith, inl, inr}
+use Rattle.std.specs.Prelude.{Contains}
 use Rattle.std.specs.List.{filter}
 use Rattle.std.proofs.lemmas.List.{append-nil}
+use Rattle.std.proofs.lemmas.List.Elements.{All-contains, All-contains_itself, All-filter}
 use Rattle.aidl_base.specs.declared.limit.Limit.{Limit}
 use Rattle.aidl_base.specs.declared.limit.LimitName.TheVariants.{FileBytes}
 use Rattle.aidl_base.specs.declared.source_file.SourceFile.{SourceFile}
 use Rattle.aidl_base.specs.Results.{◌>>=◌}
+use Rattle.aidl_outside.specs.Asks.{AsksBelow, AsksThese}
 use Rattle.aidl_outside.specs.Entries.{path_of}
-use Rattle.aidl_outside.specs.Files.{Files, path_below}
+use Rattle.aidl_outside.specs.Faults.{FailedIn, StoreFaults, listing as lists}
+use Rattle.aidl_outside.specs.Files.{Files, listing, path_below}
 use Rattle.aidl_outside.specs.Told.{Tells}
 use Rattle.tool_frame.specs.Answer.{Found}
 use Rattle.tool_frame.specs.Refusals.{file_at}
-use Rattle.tool_frame.specs.Trees.{TreeFile, file_seen, files_at, file_found}
+use Rattle.tool_frame.specs.Trees.{TreeFile, file_seen, files_at, file_found, is_source, sources_below}
 use Rattle.tool_frame.specs.steps.Trees.{onto, so_far}
+use Rattle.aidl_outside.proofs.lemmas.Failing.{failed_as}
 use Rattle.aidl_outside.proofs.lemmas.Telling.{tells, tells_both}
 
 -- what is kept of a list, by what its items are seen as
@@ -64,3 +69,18 @@ module _ (root : List ℕ) where
   steps_done kept [] all now none so_all =
       tells kept (λ files. onto now (Ok []) ≡ files_at files root all) _ (λ files same. ap Ok (sym (append-nil (map file_seen now))) ∙ same) so_all
   steps_done kept (path ∷ left) all now none so_all = absurd (cc)
+
+-- the sources of a tree are among what is listed
+source_listed : (root path : List ℕ) (files : Files) → Contains (sources_below root files) path → Contains (listing root files) path
+source_listed root path files among =
+    All-contains (Contains (listing root files)) (sources_below root files) path (All-filter is_source (Contains (listing root files)) (listing root files) (All-contains_itself (listing root files))) among
+
+-- the calls for the sources of a tree are those for the tree
+pub asks_tree : (root : List ℕ) (paths : List (List ℕ)) (kept : Option Files) (faults : StoreFaults) → Tells kept (λ files. paths ≡ sources_below root files)
+    → FailedIn faults (AsksThese root paths) → FailedIn faults (AsksBelow root kept)
+asks_tree root paths kept faults told failed =
+    failed_as faults _ _ (λ call is. inr (is.0, is.1, tells kept _ _ (λ files same. source_listed root is.0 files (subst (λ ps. Contains ps is.0) same is.2)) told)) failed
+
+-- and so is its listing
+pub asks_listing : (root : List ℕ) (kept : Option Files) (faults : StoreFaults) → FailedIn faults (λ call. call ≡ lists root) → FailedIn faults (AsksBelow root kept)
+asks_listing root kept faults failed = failed_as faults _ _ (λ call is. inl is) failed

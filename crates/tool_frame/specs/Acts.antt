@@ -1,5 +1,6 @@
 -- What a command that writes does over the files that a store told before: which files it writes, and what it answers with them.
 use Rattle.std.specs.Prelude.{◌≡◌, List, []}
+use Rattle.aidl_outside.specs.Asks.{Asks}
 use Rattle.aidl_outside.specs.Files.{Files}
 use Rattle.aidl_outside.specs.Writes.{Write}
 use Rattle.tool_frame.specs.Answer.{Answer, Refusing}
@@ -23,6 +24,6 @@ writes_of acts files made = (answer : Answer) × acts files made answer
 abbrev pub answers_of : (Files → Acts) → Files → Answer → Type 0
 answers_of acts files answer = (made : List Write) × acts files made answer
 
--- a command that writes and doesn't carry, by what it does over the files
-abbrev pub acts_by : (Files → Acts) → Meaning
-acts_by acts = writes_by (writes_of acts) (answers_of acts)
+-- a command that writes and doesn't carry, by what it asks the store, and what it does over the files
+abbrev pub acts_by : Asks → (Files → Acts) → Meaning
+acts_by asks acts = writes_by asks (writes_of acts) (answers_of acts)

@@ -4,7 +4,7 @@ use Rattle.aidl_outside.specs.declared.link.Carried.{Carried}
 use Rattle.tool_frame.specs.declared.verdict.Verdict.{Verdict}
 use Rattle.tool_frame.specs.declared.verdict.Verdict.TheVariants.{Done}
 use Rattle.tool_frame.specs.Answer.{Answer, Refusing, after_text}
-use Rattle.tool_frame.specs.Parcel.{Parcel}
+use Rattle.aidl_outside.specs.Parcel.{Parcel}
 
 pub data Course : Type 0 where
   ends : (verdict : Verdict) → Course

@@ -1,7 +1,9 @@
 -- How a run of the program ends: its exit has its cause, and this is what it left of the outside.
 use Rattle.std.specs.Prelude.{◌≡◌, ◌≢◌, ℕ, ◌⊎◌, List, [], ◌∷◌, ◌++◌, Option, Some, None, true, All, codes}
 use Rattle.aidl_outside.specs.declared.link.Carried.{Carried}
+use Rattle.aidl_outside.specs.Asks.{IsWrite}
 use Rattle.aidl_outside.specs.Causes.{Rose}
+use Rattle.aidl_outside.specs.Faults.{FailedIn, StoreCall}
 use Rattle.aidl_outside.specs.Files.{Files}
 use Rattle.aidl_outside.specs.Told.{Tells, Adds, AddsFront}
 use Rattle.aidl_outside.specs.Writes.{ChangesOnly, Write, written}
@@ -10,7 +12,8 @@ use Rattle.tool_frame.specs.Answer.{Answer, line}
 use Rattle.tool_frame.specs.Exit.{number_of}
 use Rattle.tool_frame.specs.Meaning.{Meaning, AreDue, CarriesNothing, Meant}
 use Rattle.tool_frame.specs.Meaning.Meant.{unknown, means}
-use Rattle.tool_frame.specs.Parcel.{Parcel}
+use Rattle.aidl_outside.specs.Parcel.{Parcel}
+use Rattle.tool_frame.specs.Prints.{CutAt}
 use Rattle.tool_frame.specs.Seen.{Seen}
 use Rattle.tool_frame.specs.Verdict.{exit_of, IsVerdict}
 
@@ -29,11 +32,15 @@ WroteSome are_meant None now = now ≡ None
 WroteSome are_meant (Some files) now = (now ≡ Some files)
     ⊎ ((made rest : List Write) × are_meant files (made ++ rest) × (now ≡ Some (written made files)))
 
--- none or the first of them were made, and then at most the path of the next one was changed
+-- the first of them were made, maybe none, and then at most the path of the next one was changed
 abbrev pub FailedAt : Writes → Option Files → Option Files → Type 0
 FailedAt are_meant None now = now ≡ None
-FailedAt are_meant (Some files) now = WroteSome are_meant (Some files) now
-    ⊎ ((made rest : List Write) × (w : Write) × are_meant files (made ++ w ∷ rest) × ChangesOnly (Some (written made files)) now w.path)
+FailedAt are_meant (Some files) now =
+    (made rest : List Write) × (w : Write) × are_meant files (made ++ w ∷ rest) × ChangesOnly (Some (written made files)) now w.path
+
+-- The call of the store that failed is one that the command makes: one that it asks, before any write, or the next write.
+abbrev pub StopsAtStore : Meaning → Option Files → Option Files → StoreCall → Type 0
+StopsAtStore m before now call = (m.asks before call × (now ≡ before)) ⊎ (IsWrite call × FailedAt m.writes before now)
 
 -- The parcels that were carried: those that the log gained, each the one that was due, and delivered as it was sent by a
 -- faithful link.
@@ -55,15 +62,21 @@ abbrev pub PutsFront : Meaning → Seen → Seen → Files → Type 0
 PutsFront m before now files = (entries : List Carried) × CarriedThese m files before now entries
     × ((now.told ≡ before.told) ⊎ ((answer : Answer) × m.answers files entries answer × AddsFront before.told now.told answer.text))
 
--- a parcel is due, and all the text before it was put
-abbrev pub StopsAtCarry : Meaning → Seen → Seen → Files → Type 0
-StopsAtCarry m before now files = (entries : List Carried) × CarriedThese m files before now entries
-    × ((parcel : Parcel) × m.due files entries (Some parcel))
+-- a piece of the text of an answer that is meant was due
+abbrev pub CutsAnswer : Meaning → Seen → Seen → List ℕ → Files → Type 0
+CutsAnswer m before now piece files = (entries : List Carried) × CarriedThese m files before now entries
+    × (answer : Answer) × m.answers files entries answer × CutAt answer.text before.told now.told piece
+
+-- a parcel was due, and all the text before it was put
+abbrev pub StopsAtCarry : Meaning → Seen → Seen → Parcel → Files → Type 0
+StopsAtCarry m before now parcel files = (entries : List Carried) × CarriedThese m files before now entries
+    × m.due files entries (Some parcel)
     × (answer : Answer) × m.answers files entries answer
     × Adds before.told now.told answer.text
 
 pub record Ended (m : Meaning) (before now : Seen) (exit : ℕ) : Type 0 where
-  -- the exits, and that those of the store, the sink and the link come only where the count of the store, the sink and the link rose
+  -- the exits, and that those of the store, the sink and the link come only where the count of the store, the sink and the link rose, and never
+  -- that of the link where nothing is carried
   pub exits : IsVerdict exit ⊎ ((exit ≡ number_of StoreFailed) ⊎ ((exit ≡ number_of SinkFailed) ⊎ ((exit ≡ number_of OutOfMemory) ⊎ (exit ≡ number_of LinkFailed))))
   pub store_fault : exit ≡ number_of StoreFailed → Rose before.store_faults now.store_faults
   pub store_good : exit ≢ number_of StoreFailed → now.store_faults ≡ before.store_faults
@@ -72,17 +85,20 @@ pub record Ended (m : Meaning) (before now : Seen) (exit : ℕ) : Type 0 where
   pub link_fault : exit ≡ number_of LinkFailed → Rose before.link_faults now.link_faults
   pub link_good : exit ≢ number_of LinkFailed → now.link_faults ≡ before.link_faults
   pub link_nature : now.is_faithful ≡ before.is_faithful
-  -- what was written: all; after a want of memory some; after a fault of the store some, and one failed
+  pub no_link_fault : CarriesNothing m → exit ≢ number_of LinkFailed
+  -- what failed: a call of the store that the command makes, a piece of its text, which isn't empty, or the parcel that was due
+  pub store_due : exit ≡ number_of StoreFailed → FailedIn now.store_faults (StopsAtStore m before.kept now.kept)
+  pub sink_due : exit ≡ number_of SinkFailed → FailedIn now.sink_faults (λ piece. (piece ≢ []) × Tells before.kept (CutsAnswer m before now piece))
+  pub link_due : exit ≡ number_of LinkFailed → FailedIn now.link_faults (λ parcel. Tells before.kept (StopsAtCarry m before now parcel))
+  -- what was written: all; after a want of memory some; `store_due` says it after a fault of the store
   pub wrote : IsVerdict exit ⊎ ((exit ≡ number_of SinkFailed) ⊎ (exit ≡ number_of LinkFailed)) → WroteAll m.writes before.kept now.kept
   pub wrote_some : exit ≡ number_of OutOfMemory → WroteSome m.writes before.kept now.kept
-  pub write_failed : exit ≡ number_of StoreFailed → FailedAt m.writes before.kept now.kept
   -- what was carried, where nothing ever is, and after a fault of the store
   pub carries_nothing : CarriesNothing m ⊎ (exit ≡ number_of StoreFailed) → now.log ≡ before.log
   -- what was printed: nothing after a fault of the store, and a front after one of the sink or a want of memory
   pub answer : IsVerdict exit → Tells before.kept (EndsAsMeant m before now exit)
   pub silent : exit ≡ number_of StoreFailed → now.told ≡ before.told
   pub front : (exit ≡ number_of SinkFailed) ⊎ (exit ≡ number_of OutOfMemory) → Tells before.kept (PutsFront m before now)
-  pub stopped : exit ≡ number_of LinkFailed → Tells before.kept (StopsAtCarry m before now)
   -- where no count rose, it ends as is meant, or memory was wanted
   pub complete : (Rose before.store_faults now.store_faults → ⊥) → (Rose before.sink_faults now.sink_faults → ⊥) → (Rose before.link_faults now.link_faults → ⊥)
       → (exit ≡ number_of OutOfMemory) ⊎ (IsVerdict exit × Tells before.kept (EndsAsMeant m before now exit))
@@ -95,6 +111,7 @@ pub record Refused (before now : Seen) (exit : ℕ) : Type 0 where
   pub exits : (exit ≡ number_of RefusedWords) ⊎ ((exit ≡ number_of SinkFailed) ⊎ (exit ≡ number_of OutOfMemory))
   pub untouched : now ≡ record before { told = now.told; sink_faults = now.sink_faults }
   pub sink_fault : exit ≡ number_of SinkFailed → Rose before.sink_faults now.sink_faults
+  pub sink_due : exit ≡ number_of SinkFailed → FailedIn now.sink_faults (CutAt refused_words before.told now.told)
   pub sink_good : exit ≢ number_of SinkFailed → now.sink_faults ≡ before.sink_faults
   pub whole : exit ≡ number_of RefusedWords → Adds before.told now.told refused_words
   pub front : AddsFront before.told now.told refused_words

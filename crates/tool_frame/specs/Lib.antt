@@ -4,7 +4,6 @@ pub mod Course
 pub mod Ended
 pub mod Exit
 pub mod Meaning
-pub mod Parcel
 pub mod Refusals
 pub mod Seen
 pub mod Shown

@@ -2,7 +2,9 @@
 ghost use Rattle.std.specs.Prelude.{◌≡◌, ◌≤◌, length, Option, IfOk};
 ghost use Rattle.std.specs.Option.{option_map};
 ghost use Rattle.aidl_base.specs.Limits.{limit_number};
+ghost use Rattle.aidl_outside.specs.Asks.{AsksFile};
 ghost use Rattle.aidl_outside.specs.Causes.{StoreCause};
+ghost use Rattle.aidl_outside.specs.Faults.{FailedIn, IfStoreFailed};
 ghost use Rattle.aidl_outside.specs.Told.{Tells};
 ghost use Rattle.tool_frame.specs.Refusals.{file_at, within};
 ghost use Rattle.tool_frame.specs.Results.{IsShort, held, loaded};
@@ -21,7 +23,8 @@ pub fn load<S: Store>(
     ensures file { IfOk result (λ file. Tells (S.kept store.old) (λ files. loaded file ≡ file_at which files path.now)) }
     ensures short { IfOk result (IsShort which) }
     ensures unchanged { S.kept store.new ≡ S.kept store.old }
-    ensures cause { StoreCause (S.count store.old) (S.count store.new) result }
+    ensures cause { StoreCause (S.fault_record store.old) (S.fault_record store.new) result }
+    ensures failed { IfStoreFailed result (FailedIn (S.fault_record store.new) (AsksFile path.now (S.kept store.old))) }
 {
     match store.read(alloc, path, which.number() as usize) {
         Ok(file) => Ok(file_held(which, file)),

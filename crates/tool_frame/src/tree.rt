@@ -2,7 +2,9 @@
 ghost use Rattle.std.specs.Prelude.{◌≡◌, ◌++◌, ◌∷◌, [], IfOk, OnOk, map, string_bytes};
 ghost use Rattle.std.specs.List.{filter};
 ghost use Rattle.aidl_base.specs.declared.limit.LimitName.TheVariants.{FileBytes};
+ghost use Rattle.aidl_outside.specs.Asks.{AsksBelow, AsksFile, AsksThese};
 ghost use Rattle.aidl_outside.specs.Causes.{StoreCause};
+ghost use Rattle.aidl_outside.specs.Faults.{FailedIn, IfStoreFailed, listing as lists};
 ghost use Rattle.aidl_outside.specs.Files.{path_below};
 ghost use Rattle.aidl_outside.specs.Told.{Tells};
 ghost use Rattle.tool_frame.specs.Refusals.{file_at};
@@ -26,7 +28,8 @@ pub fn load_tree<S: Store>(
     ensures tree { IfOk result (λ tree. Tells (S.kept store.old) (λ files. tree_seen tree ≡ tree_at files root.now)) }
     ensures short { IfOk result (λ tree. IfOk tree AreShort) }
     ensures unchanged { S.kept store.new ≡ S.kept store.old }
-    ensures cause { StoreCause (S.count store.old) (S.count store.new) result }
+    ensures cause { StoreCause (S.fault_record store.old) (S.fault_record store.new) result }
+    ensures failed { IfStoreFailed result (FailedIn (S.fault_record store.new) (AsksBelow root.now (S.kept store.old))) }
 {
     let paths = source_paths(alloc, root, store)?;
     let which = LimitName::Files;
@@ -44,7 +47,8 @@ fn source_paths<S: Store>(
 ) -> Result<Vec<String>, StoreFault>
     ensures paths { IfOk result (λ paths. Tells (S.kept store.old) (λ files. map string_bytes paths.items ≡ sources_below root.now files)) }
     ensures unchanged { S.kept store.new ≡ S.kept store.old }
-    ensures cause { StoreCause (S.count store.old) (S.count store.new) result }
+    ensures cause { StoreCause (S.fault_record store.old) (S.fault_record store.new) result }
+    ensures failed { IfStoreFailed result (FailedIn (S.fault_record store.new) (λ call. call ≡ lists root.now)) }
 {
     let paths = store.list(alloc, root)?;
     Ok(sources(paths))
@@ -75,7 +79,8 @@ fn load_files<S: Store>(
     ensures tree { IfOk result (λ tree. Tells (S.kept store.old) (λ files. tree_seen tree ≡ files_at files root.now (map string_bytes paths.items))) }
     ensures short { IfOk result (λ tree. IfOk tree AreShort) }
     ensures unchanged { S.kept store.new ≡ S.kept store.old }
-    ensures cause { StoreCause (S.count store.old) (S.count store.new) result }
+    ensures cause { StoreCause (S.fault_record store.old) (S.fault_record store.new) result }
+    ensures failed { IfStoreFailed result (FailedIn (S.fault_record store.new) (AsksThese root.now (map string_bytes paths.items))) }
 {
     let mut files = Row::new(alloc);
     for path in paths {
@@ -97,7 +102,8 @@ fn load_next<S: Store>(
     ensures file { IfOk result (λ step. Tells (S.kept store.old) (λ kept. onto files.old (file_found (string_bytes path) (file_at FileBytes kept (path_below root.now (string_bytes path)))) ≡ so_far files.new step)) }
     ensures short { AreShort files.old → AreShort files.new }
     ensures unchanged { S.kept store.new ≡ S.kept store.old }
-    ensures cause { StoreCause (S.count store.old) (S.count store.new) result }
+    ensures cause { StoreCause (S.fault_record store.old) (S.fault_record store.new) result }
+    ensures failed { IfStoreFailed result (FailedIn (S.fault_record store.new) (AsksFile (path_below root.now (string_bytes path)) (S.kept store.old))) }
 {
     let file = load_below(alloc, root, path.as_str(), store)?;
     match push_loaded(files, path, file) {
@@ -116,7 +122,8 @@ fn load_below<S: Store>(
     ensures file { IfOk result (λ file. Tells (S.kept store.old) (λ files. loaded file ≡ file_at FileBytes files (path_below root.now path.now))) }
     ensures short { IfOk result (IsShort FileBytes) }
     ensures unchanged { S.kept store.new ≡ S.kept store.old }
-    ensures cause { StoreCause (S.count store.old) (S.count store.new) result }
+    ensures cause { StoreCause (S.fault_record store.old) (S.fault_record store.new) result }
+    ensures failed { IfStoreFailed result (FailedIn (S.fault_record store.new) (AsksFile (path_below root.now path.now) (S.kept store.old))) }
 {
     match path_below(alloc, root, path) {
         Ok(whole) => load(alloc, LimitName::FileBytes, whole.as_str(), store),

@@ -1,2 +1,1 @@
-mod Forty
 mod Behind

@@ -15,7 +15,7 @@ use Rattle.tool_frame.specs.Acts.{Acts, Only}
 use Rattle.tool_frame.specs.Answer.{Answer, after_text, done, limit_passed, line, negative}
 use Rattle.tree_output.specs.Faults.{IsFaultAnswer, refused}
 use Rattle.tree_output.specs.Judged.{break_line}
-use Rattle.version_output.specs.Lines.{bad_versions, torn}
+use Rattle.version_lines.specs.Lines.{bad_versions, torn}
 
 -- `frozen N HASH`
 abbrev pub frozen : ℕ → List ℕ → Answer

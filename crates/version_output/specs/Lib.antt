@@ -1,5 +1,4 @@
 pub mod Ends
-pub mod Lines
 pub mod Rehashed
 pub mod Verified
 pub mod Dumped

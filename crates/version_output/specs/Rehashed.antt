@@ -6,7 +6,7 @@ use Rattle.api_versions.specs.declared.fault.FreezeFault.TheVariants as fault
 use Rattle.api_versions.specs.Writes.{Write}
 use Rattle.tool_frame.specs.Acts.{Acts, Only}
 use Rattle.tool_frame.specs.Answer.{Answer, done, limit_passed}
-use Rattle.version_output.specs.Lines.{bad_versions, torn}
+use Rattle.version_lines.specs.Lines.{bad_versions, torn}
 
 -- `rehashed COUNT`
 abbrev pub rehashed : ℕ → Answer

@@ -8,7 +8,7 @@ use Rattle.api_versions.specs.Whole.{is_whole}
 use Rattle.tool_frame.specs.declared.verdict.Verdict.{Verdict}
 use Rattle.tool_frame.specs.declared.verdict.Verdict.TheVariants.{Done, Negative}
 use Rattle.tool_frame.specs.Answer.{Answer, limit_passed}
-use Rattle.version_output.specs.Lines.{version_line, bad_versions}
+use Rattle.version_lines.specs.Lines.{version_line, bad_versions}
 
 -- exit 1 if any isn't whole
 abbrev pub verdict_of : Bool → Verdict

@@ -3,18 +3,12 @@
 
 mod dumping;
 mod freezing;
-mod lines;
 mod refusing;
 mod rehashing;
-mod torn_version;
-mod unread;
 mod verifying;
 
 pub use dumping::{Due, dump_answer};
 pub use freezing::freeze_answer;
-pub use lines::first_forty;
 pub use refusing::freeze_refusal;
 pub use rehashing::{rehash_answer, rehash_refusal};
-pub use torn_version::torn_answer;
-pub use unread::bad_versions;
 pub use verifying::verify_answer;

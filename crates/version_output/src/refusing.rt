@@ -14,8 +14,6 @@ ghost use Rattle.tree_output.specs.Results as tree;
 ghost use Rattle.type_check.specs.Refusals.{IsRefusal};
 ghost use Rattle.version_output.specs.Ends.{EndsBy};
 
-use crate::torn_version::torn_answer;
-use crate::unread::bad_versions;
 use aidl_base::{OutOfMemory, Row, SourceFile};
 use aidl_outside::StoreFault;
 use api_freeze::FreezeFault;
@@ -26,6 +24,7 @@ use std::fmt::Write;
 use tool_frame::{Early, Printed, Verdict, limit_passed};
 use tree_output::{fault_answer, judge_lines};
 use type_check::CheckFault;
+use version_lines::{bad_versions, torn_answer};
 
 /// What `freeze` prints where it refuses: `bad versions missing N`; `torn N missing HASH` or `torn N kept BYTES HASH`; `unreadable N`
 /// and the lines of the version's faults; `unchanged N`; the judge's lines; or a limit. Memory may be wanted.

@@ -6,14 +6,13 @@ ghost use Rattle.tool_frame.specs.Results.{Gives};
 ghost use Rattle.version_output.specs.Ends.{EndsBy};
 ghost use Rattle.version_output.specs.Rehashed as meant;
 
-use crate::torn_version::torn_answer;
-use crate::unread::bad_versions;
 use aidl_base::OutOfMemory;
 use aidl_outside::StoreFault;
 use api_versions::FreezeFault;
 use std::alloc::Global;
 use std::fmt::Write;
 use tool_frame::{Early, Printed, Verdict, limit_passed};
+use version_lines::{bad_versions, torn_answer};
 
 /// What `rehash` prints of so many hashes that were written.
 pub fn rehash_answer(alloc: Global, count: usize) -> Result<Printed, Early>

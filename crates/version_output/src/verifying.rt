@@ -3,14 +3,14 @@ ghost use Rattle.std.specs.Prelude.{◌≡◌, ◌++◌, true, IfOk, OnOk, strin
 ghost use Rattle.std.specs.List.{flat_map, list_all};
 ghost use Rattle.api_versions.specs.Whole as whole;
 ghost use Rattle.tool_frame.specs.Results.{Gives};
-ghost use Rattle.version_output.specs.Lines.{version_line};
+ghost use Rattle.version_lines.specs.Lines.{version_line};
 ghost use Rattle.version_output.specs.Verified as meant;
 
-use crate::lines::push_version;
 use aidl_base::OutOfMemory;
 use api_versions::{Version, is_whole};
 use std::alloc::Global;
 use tool_frame::{Early, Printed, Verdict};
+use version_lines::push_version;
 
 /// What `verify` prints of the versions of an API: a line for each, and exit 1 if any isn't whole.
 pub fn verify_answer(alloc: Global, versions: &[Version]) -> Result<Printed, Early>

@@ -148,6 +148,51 @@ fn what_cannot_be_is_a_failed_call(rt: HostRuntime) -> Result<(), Fail> {
 }
 
 #[test]
+fn below_a_named_folder_nothing_is_reached_through_a_link(rt: HostRuntime) -> Result<(), Fail> {
+    let alloc = rt.alloc();
+    let root = place(&rt, "links")?;
+    let names = named(alloc, root.as_str())?;
+    let mut store = FolderStore::new(&rt, names.as_slice());
+    let file = below(alloc, root.as_str(), "real/file")?;
+    store.write(alloc, file.as_str(), b"1")?;
+    let link = below(alloc, root.as_str(), "link")?;
+    rt.symlink("real/file", link.as_str())?;
+    let folder = below(alloc, root.as_str(), "folder")?;
+    rt.symlink("real", folder.as_str())?;
+    let through = below(alloc, folder.as_str(), "file")?;
+    for path in [link.as_str(), through.as_str()] {
+        let written = store.write(alloc, path, b"2");
+        assert_eq!(rt; written.err(), Some(StoreFault::Failed), "{path}");
+    }
+    let read = store.read(alloc, link.as_str(), 9);
+    assert_eq!(rt; read.err(), Some(StoreFault::Failed), "a link is read");
+    let kept = format!(in alloc; "{:?}", store.read(alloc, file.as_str(), 9)?)?;
+    assert_eq!(rt; kept.as_str(), "Some([49])", "what the links lead to");
+    fs::remove_dir_all(&rt, root.as_str())?;
+    Ok(())
+}
+
+#[test]
+fn a_folder_that_is_named_may_be_a_link(rt: HostRuntime) -> Result<(), Fail> {
+    let alloc = rt.alloc();
+    let root = place(&rt, "twin")?;
+    let real = below(alloc, root.as_str(), "real")?;
+    fs::create_dir_all(&rt, real.as_str())?;
+    let twin = below(alloc, root.as_str(), "twin")?;
+    rt.symlink("real", twin.as_str())?;
+    let names = named(alloc, twin.as_str())?;
+    let mut store = FolderStore::new(&rt, names.as_slice());
+    let path = below(alloc, twin.as_str(), "a/file")?;
+    store.write(alloc, path.as_str(), b"1")?;
+    let file = below(alloc, real.as_str(), "a/file")?;
+    let kept = format!(in alloc; "{:?}", store.read(alloc, file.as_str(), 9)?)?;
+    assert_eq!(rt; kept.as_str(), "Some([49])");
+    assert_eq!(rt; store.faults(), 0);
+    fs::remove_dir_all(&rt, root.as_str())?;
+    Ok(())
+}
+
+#[test]
 fn a_name_has_at_most_255_bytes(rt: HostRuntime) -> Result<(), Fail> {
     let alloc = rt.alloc();
     let root = place(&rt, "names")?;

@@ -29,7 +29,7 @@ use Rattle.tool_frame.specs.Trees.{OverTree, TreeFile, tree_at}
 use Rattle.tree_output.specs.Checked.{IsCheckAnswer, accepted}
 use Rattle.tree_output.specs.Judged.{IsJudgeAnswer, IsSecondAnswer, judged}
 use Rattle.tree_output.proofs.lemmas.OneByTree.{by_files, by_found, by_over}
-use Rattle.version_output.specs.Lines.{bad_versions}
+use Rattle.version_lines.specs.Lines.{bad_versions}
 use Rattle.version_output.specs.Verified.{IsUnread, IsVerified}
 
 abbrev Same : Answer → Answer → Type 0

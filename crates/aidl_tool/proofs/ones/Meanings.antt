@@ -2,6 +2,7 @@
 use Rattle.std.proofs.Common.{◌≡◌, ℕ, Bool, List, [], ◌∷◌, map, Option, Some, None, refl, sym, ap, ◌∙◌, subst}
 use Rattle.aidl_base.specs.declared.source_file.SourceFile.{SourceFile}
 use Rattle.aidl_base.specs.declared.profile.Profile.{Profile}
+use Rattle.aidl_outside.specs.Asks.{Asks}
 use Rattle.aidl_outside.specs.Files.{Files}
 use Rattle.aidl_outside.specs.Writes.{Write}
 use Rattle.aidl_schema.specs.declared.schema.Decl.{Decl}
@@ -27,26 +28,26 @@ use Rattle.tree_make.specs.Made.{File, calls_text, file_seen as made_seen, new_f
 use Rattle.tree_output.proofs.lemmas.OneByTree.{by_files, by_found, by_over, same_files}
 
 -- of a command that reads
-one_reading : (answers : Files → Answer → Type 0) → ((files : Files) (a b : Answer) → answers files a → answers files b → a ≡ b) → IsOne (reads_by answers)
-one_reading answers one = record {
+one_reading : (asks : Asks) (answers : Files → Answer → Type 0) → ((files : Files) (a b : Answer) → answers files a → answers files b → a ≡ b) → IsOne (reads_by asks answers)
+one_reading asks answers one = record {
   writes = λ files v w h k. h ∙ sym k;
   due = λ files entries p q h k. h ∙ sym k;
   answers = λ files entries a b h k. one files a b h k;
 }
 
 -- of a command that writes
-one_acting : (acts : Files → Acts) → IsOneAct acts → IsOne (acts_by acts)
-one_acting acts one = record {
+one_acting : (asks : Asks) (acts : Files → Acts) → IsOneAct acts → IsOne (acts_by asks acts)
+one_acting asks acts one = record {
   writes = λ files v w h k. (one files v w h.0 k.0 h.1 k.1).0;
   due = λ files entries p q h k. h ∙ sym k;
   answers = λ files entries a b h k. (one files h.0 k.0 a b h.1 k.1).1;
 }
 
 -- of a command that may write and carries
-one_doing : (writes : Files → List Write → Type 0) (takes : Files → Course → Type 0)
+one_doing : (asks : Asks) (writes : Files → List Write → Type 0) (takes : Files → Course → Type 0)
     → ((files : Files) (v w : List Write) → writes files v → writes files w → v ≡ w)
-    → ((files : Files) (c d : Course) → takes files c → takes files d → c ≡ d) → IsOne (does_by writes takes)
-one_doing writes takes wrote one = record {
+    → ((files : Files) (c d : Course) → takes files c → takes files d → c ≡ d) → IsOne (does_by asks writes takes)
+one_doing asks writes takes wrote one = record {
   writes = wrote;
   due = λ files entries p q h k. h.2 ∙ ap (λ c. due_after c entries) (one files h.0 k.0 h.1 k.1) ∙ sym k.2;
   answers = λ files entries a b h k. h.2 ∙ ap (λ c. answer_after c entries) (one files h.0 k.0 h.1 k.1) ∙ sym k.2;
@@ -122,21 +123,21 @@ one_make n out c d (news, olds, new, old, h) (others, older, newer, oldest, k) =
     k
 
 one_meaning : (command : Command) → MeansOne (meaning command)
-one_meaning (decode lenient tree types path) = one_reading _ (one_decode (profile_of lenient) tree types path)
-one_meaning (encode tree types path) = one_reading _ (one_encode tree types path)
-one_meaning (check tree) = one_reading _ (one_check tree)
-one_meaning (judge old new) = one_reading _ (one_judge old new)
-one_meaning (verify api) = one_reading _ (one_verify api)
-one_meaning (dump tree out) = one_acting _ (one_dump tree out)
-one_meaning (freeze tree api) = one_acting _ (one_freeze tree api)
-one_meaning (rehash api) = one_acting _ (one_rehash api)
+one_meaning (decode lenient tree types path) = one_reading _ _ (one_decode (profile_of lenient) tree types path)
+one_meaning (encode tree types path) = one_reading _ _ (one_encode tree types path)
+one_meaning (check tree) = one_reading _ _ (one_check tree)
+one_meaning (judge old new) = one_reading _ _ (one_judge old new)
+one_meaning (verify api) = one_reading _ _ (one_verify api)
+one_meaning (dump tree out) = one_acting _ _ (one_dump tree out)
+one_meaning (freeze tree api) = one_acting _ _ (one_freeze tree api)
+one_meaning (rehash api) = one_acting _ _ (one_rehash api)
 one_meaning (run trace lenient client server calls) =
-    one_doing _ _ (λ files v w h k. h ∙ sym k) (one_run (profile_of lenient) trace client server calls)
-one_meaning (witness old new) = one_reading _ (one_witness old new)
-one_meaning (make count out) = one_doing _ _ (λ files v w h k. h ∙ sym k) (λ files. one_make count out)
-one_meaning (ask api version interface code file) = one_reading _ (one_ask (record { api = api; version = version; interface = interface; code = code }) file)
-one_meaning (explain tree types file) = one_reading _ (one_explain tree types file)
-one_meaning (replay server interface trace) = one_reading _ (one_replay server interface trace)
+    one_doing _ _ _ (λ files v w h k. h ∙ sym k) (one_run (profile_of lenient) trace client server calls)
+one_meaning (witness old new) = one_reading _ _ (one_witness old new)
+one_meaning (make count out) = one_doing _ _ _ (λ files v w h k. h ∙ sym k) (λ files. one_make count out)
+one_meaning (ask api version interface code file) = one_reading _ _ (one_ask (record { api = api; version = version; interface = interface; code = code }) file)
+one_meaning (explain tree types file) = one_reading _ _ (one_explain tree types file)
+one_meaning (replay server interface trace) = one_reading _ _ (one_replay server interface trace)
 
 pub means_one : (command : Option Command) → MeansOne (meant_by command)
 means_one None = tt

@@ -2,6 +2,7 @@
 use Rattle.std.proofs.Common.{◌≡◌, ℕ, List, [], ◌∷◌, map, Option, Some, None, Ok, Err, IfOk, refl, sym, ap, ◌∙◌, subst, inl, inr}
 use Rattle.std.specs.Prelude.{◌≢◌, Result}
 use Rattle.aidl_base.specs.declared.source_file.SourceFile.{SourceFile}
+use Rattle.aidl_outside.specs.Asks.{Asks}
 use Rattle.aidl_outside.specs.declared.store.StoreFault.{StoreFault}
 use Rattle.aidl_outside.specs.Files.{Files}
 use Rattle.aidl_outside.specs.Told.{Adds, Tells}
@@ -106,12 +107,12 @@ broken_exit [] some = absurd (some refl)
 broken_exit (b ∷ bs) some = refl
 
 -- how `judge` ends
-module _ (old new : List ℕ) (before now : Seen) (exit : ℕ) where
+module _ (asks : Asks) (old new : List ℕ) (before now : Seen) (exit : ℕ) where
   abbrev pub answers : List Decl → List Decl → Files → Answer → Type 0
   answers A B files answer = IsChecked files old A → IsChecked files new B → answer ≡ judged (broken A B)
 
   abbrev pub Ends : List Decl → List Decl → Files → Type 0
-  Ends A B files = IsVerdict exit → EndsAsMeant (reads_by (answers A B)) before now exit files
+  Ends A B files = IsVerdict exit → EndsAsMeant (reads_by asks (answers A B)) before now exit files
 
   judges : (files : Files) → ((A B : List Decl) → Ends A B files) → JudgeKeeps before now exit files old new
   judges files ends = record {
@@ -126,8 +127,8 @@ module _ (old new : List ℕ) (before now : Seen) (exit : ℕ) where
       lists : (A B : List Decl) → IsChecked files old A → IsChecked files new B → IsVerdict exit → Adds before.told now.told (judged (broken A B)).text
       lists A B a b verdict = let e = ends A B verdict in subst (λ (x : Answer). Adds before.told now.told x.text) (e.4 a b) e.6
 
-  pub judges_told : ((A B : List Decl) → Ended (reads_by (answers A B)) before now exit) → Tells before.kept (Headline (Some (judge old new)) before now exit)
+  pub judges_told : ((A B : List Decl) → Ended (reads_by asks (answers A B)) before now exit) → Tells before.kept (Headline (Some (judge old new)) before now exit)
   judges_told ended =
       tells before.kept (λ files. (A B : List Decl) → Ends A B files) (Headline (Some (judge old new)) before now exit)
       (λ files ends. headline before now exit files (Some (judge old new)) (judges files ends))
-      (tells_each before.kept Ends (λ A B. tells_if before.kept (IsVerdict exit) (EndsAsMeant (reads_by (answers A B)) before now exit) (ended A B).answer))
+      (tells_each before.kept Ends (λ A B. tells_if before.kept (IsVerdict exit) (EndsAsMeant (reads_by asks (answers A B)) before now exit) (ended A B).answer))

@@ -8,7 +8,8 @@ use Rattle.aidl_schema.specs.declared.schema.Decl.{Decl}
 use Rattle.aidl_tool.specs.declared.running.Loaded.{Loaded}
 use Rattle.aidl_tool.specs.Running.{Takes, RunsLoaded, calls_within}
 use Rattle.run_output.specs.CallLines.{lines_of}
-use Rattle.run_output.specs.Projected.{Projects, projected_text}
+use Rattle.aidl_tool.specs.steps.Tags.{EndsProjected}
+use Rattle.run_output.specs.Projected.{projected_text}
 use Rattle.run_output.specs.Running.{run_course}
 use Rattle.tool_frame.specs.Answer.{Found}
 use Rattle.tool_frame.specs.Refusals.{file_at, there}
@@ -66,10 +67,10 @@ trees_held files text client server = tree_at files client >>= λ olds. server_h
 abbrev pub all_held : Files → List ℕ → List ℕ → List ℕ → Found HeldFiles
 all_held files client server calls = there calls (file_at TextBytes files calls) >>= λ text. trees_held files text client server
 
--- the course of these two schemas was run, or memory was wanted before; and over a faithful link it is projected
+-- the course of these two schemas was run, or memory was wanted before; and over a faithful link it is projected, and tags alone hinder a view
 abbrev pub RunsAs : Profile → Bool → List Decl → List Decl → List ℕ → Seen → Seen → ℕ → Type 0
 RunsAs p trace A B text before now exit =
-    RanSome (λ course. course ≡ run_course p A B trace text) before now exit × Projects A B (projected_text p A B trace 1 (lines_of text)) before now exit
+    RanSome (λ course. course ≡ run_course p A B trace text) before now exit × EndsProjected A B (projected_text p A B trace 1 (lines_of text)) before now exit
 
 -- of what was loaded, by the schemas of both trees
 abbrev pub RunsLoadedAs : Profile → Bool → Loaded → Seen → Seen → ℕ → Type 0

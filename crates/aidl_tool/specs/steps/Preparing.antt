@@ -7,8 +7,9 @@ use Rattle.aidl_tool.specs.declared.running.Loaded.{Loaded}
 use Rattle.aidl_tool.specs.declared.running.Prepared.{Prepared}
 use Rattle.aidl_tool.specs.Running.{Takes, calls_within}
 use Rattle.aidl_tool.specs.steps.Loading.{TakesEarly}
+use Rattle.aidl_tool.specs.steps.Tags.{EndsProjected}
 use Rattle.run_output.specs.CallLines.{lines_of}
-use Rattle.run_output.specs.Projected.{Projects, projected_text}
+use Rattle.run_output.specs.Projected.{projected_text}
 use Rattle.run_output.specs.Running.{run_course}
 use Rattle.tool_frame.specs.declared.printed.Early.{Early}
 use Rattle.tool_frame.specs.declared.printed.Early.TheVariants.{Answered, OutOfMemory}
@@ -50,8 +51,8 @@ abbrev pub PreparesGiven : Result Loaded Early → Result Prepared Early → Typ
 PreparesGiven (Ok l) given = PreparesLoaded l given
 PreparesGiven (Err early) given = Unit {0}
 
--- over a faithful link what was prepared is projected
+-- over a faithful link what was prepared is projected, and tags alone hinder a view
 abbrev pub ProjectsPrepared : Profile → Bool → Result Prepared Early → Seen → Seen → ℕ → Type 0
 ProjectsPrepared p trace (Ok r) before now exit =
-    let A = r.client.decls in let B = r.server.decls in Projects A B (projected_text p A B trace 1 (lines_of r.text.items)) before now exit
+    let A = r.client.decls in let B = r.server.decls in EndsProjected A B (projected_text p A B trace 1 (lines_of r.text.items)) before now exit
 ProjectsPrepared p trace (Err early) before now exit = Unit {0}

@@ -8,6 +8,7 @@ use Rattle.aidl_schema.specs.Find.{methods_at}
 use Rattle.aidl_values.specs.View.{views}
 use Rattle.call_runner.specs.declared.exchange.Exchange.{Exchange}
 use Rattle.call_runner.specs.declared.line.RunFault.{RunFault}
+use Rattle.call_runner.specs.declared.line.RunFault.TheVariants.{LinkFault, OutOfMemory}
 use Rattle.call_runner.specs.Lines.{call_code, received, reply_entries, reply_sent, request_entry}
 use Rattle.call_runner.specs.steps.Served.{saw_at, transport_of}
 use Rattle.call_scripts.specs.Calls.{CallData}
@@ -46,3 +47,12 @@ pub record IsExchange (p : Profile) (A B : List Decl) (c : CallData) (x : Exchan
   pub transport : x.transport ≡ transport_of (received p A B c x.request.delivered)
   pub saw : option_map views x.saw ≡ saw_at (received p A B c x.request.delivered)
   pub reply : listed x.reply ≡ reply_entries (call_code A c) (reply_sent p A B c x.request.delivered) (delivered_of x.reply)
+
+-- what is said where a call of the link failed
+abbrev pub WhereLinkFailed : RunFault → Type 0 → Type 0
+WhereLinkFailed LinkFault Said = Said
+WhereLinkFailed OutOfMemory Said = Unit {0}
+
+abbrev pub IfLinkFailed : {T : Type 0} → Result T RunFault → Type 0 → Type 0
+IfLinkFailed (Ok x) Said = Unit {0}
+IfLinkFailed (Err fault) Said = WhereLinkFailed fault Said

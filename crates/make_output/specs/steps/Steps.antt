@@ -1,5 +1,6 @@
 -- What the steps of a run give.
 use Rattle.std.specs.Prelude.{ℕ, ◌≤◌, ◌*◌, ◌^◌, ◌-◌, Bool, List, Option, Some, None, Result, Ok, Err}
+use Rattle.aidl_outside.specs.Faults.{LinkFaults}
 use Rattle.aidl_outside.specs.declared.link.Carried.{Carried}
 use Rattle.make_output.specs.Tally.{Counts}
 use Rattle.tool_frame.specs.declared.exit.Exit.{Exit}
@@ -16,7 +17,7 @@ CountsTo course next before now (Ok counts) = Went course (next counts) before n
 CountsTo course next before now (Err exit) = RanCourse course before now (number_of exit)
 
 -- what is seen of a link, beside what is seen of all else
-abbrev pub with_link : {L : Type 0} → (L → Option (List Carried)) → (L → Bool) → (L → ℕ) → Seen → L → Seen
+abbrev pub with_link : {L : Type 0} → (L → Option (List Carried)) → (L → Bool) → (L → LinkFaults) → Seen → L → Seen
 with_link log is_faithful link_faults others link = record others { log = log link; is_faithful = is_faithful link; link_faults = link_faults link }
 
 -- what is printed at once, or else the calls

@@ -1,10 +1,11 @@
 -- What a line of a calls file adds to a run, whatever is done at its end; and the lines of a run, each of which is put.
 use Rattle.std.proofs.Common.{◌≡◌, ℕ, suc, ◌+◌, ◌==◌, ℤ, Bool, true, List, [], ◌∷◌, ◌++◌, length, Option, Some, None, Result, Ok, Err, refl, sym, ap, ◌∙◌, subst, arith, inl, inr}
-use Rattle.std.specs.Prelude.{◌≢◌, ◌⊎◌, ⊤}
+use Rattle.std.specs.Prelude.{◌⊎◌, ⊤}
 use Rattle.std.proofs.lemmas.Bool.{eqb-true}
 use Rattle.aidl_base.specs.declared.profile.Profile.{Profile}
 use Rattle.aidl_outside.specs.declared.link.Carried.{Carried}
 use Rattle.aidl_outside.specs.Causes.{Rose}
+use Rattle.aidl_outside.specs.Faults.{LinkFaults, SinkFaults}
 use Rattle.aidl_outside.specs.Told.{Adds}
 use Rattle.aidl_schema.specs.declared.schema.Decl.{Decl}
 use Rattle.call_scripts.specs.Refusal.{Judged}
@@ -13,7 +14,7 @@ use Rattle.call_runner.specs.declared.line.Methods.{Methods}
 use Rattle.call_runner.specs.declared.line.RunFault.{RunFault}
 use Rattle.call_runner.specs.declared.line.RunFault.TheVariants.{LinkFault, OutOfMemory}
 use Rattle.call_runner.specs.Lines.{LineData, refused, call_code, entries, line_of, received, reply_entries, reply_sent, reported, request_entry}
-use Rattle.call_runner.specs.Runs.{LineRuns, Stops, line_data, methods_by}
+use Rattle.call_runner.specs.Runs.{IsFirst, LineRuns, Stops, line_data, methods_by}
 use Rattle.call_scripts.specs.Calls.{CallData}
 use Rattle.call_scripts.specs.Script.{script}
 use Rattle.run_output.specs.CallLines.{lines_of}
@@ -24,10 +25,11 @@ use Rattle.tool_frame.specs.declared.verdict.Verdict.TheVariants.{Done}
 use Rattle.tool_frame.specs.declared.exit.Exit.{Exit}
 use Rattle.tool_frame.specs.Exit.{number_of}
 use Rattle.tool_frame.specs.Meaning.{AreDue}
-use Rattle.tool_frame.specs.Parcel.{Parcel, parcel_of}
+use Rattle.aidl_outside.specs.Parcel.{Parcel, parcel_of}
 use Rattle.tool_frame.specs.Seen.{Seen}
 use Rattle.tool_frame.specs.Courses.{due_in, AreFaithful, CarriedBy, ComesTo, RanCourse, Went}
 use Rattle.tool_frame.specs.Prints.{PutsText}
+use Rattle.aidl_outside.proofs.lemmas.Failing.{failed_as}
 use Rattle.tool_frame.proofs.lemmas.Courses.{comes_on, due_front, nothing_told, put_cut, put_went, ran_end, went_ended, went_on}
 use Rattle.tool_frame.proofs.lemmas.Endings.{not_verdict}
 use Rattle.wire_model.specs.Calls.{AnswerData}
@@ -73,21 +75,25 @@ module _ (p : Profile) (A B : List Decl) (after : After) where
     call_comes = comes_on (line_course p A B after (Ok c)) (reply_course p A B after c b (reply_sent p A B c b)) (call_after p A B after c b r)
         (request_entry A c b ∷ []) (reply_entries (call_code A c) (reply_sent p A B c b) r) [] [] request_comes (reply_comes (reply_sent p A B c b) (same_after (reply_sent p A B c b)))
 
-    -- A parcel is due after some of what is carried, and nothing was put yet.
-    abbrev StopsAt : Course → List Carried → Type 0
-    StopsAt course made = ((parcel : Parcel) × (due_after course made ≡ Some parcel)) × ((answer_after course made).text ≡ [])
+    -- This parcel is due after some of what is carried, and nothing was put yet.
+    abbrev StopsAt : Course → List Carried → Parcel → Type 0
+    StopsAt course made parcel = (due_after course made ≡ Some parcel) × ((answer_after course made).text ≡ [])
 
-    stop_reply : (sent : Option (List ℕ)) (ms rest : List Carried) → reply_entries (call_code A c) sent r ≡ ms ++ rest → rest ≢ [] → StopsAt (reply_course p A B after c b sent) ms
-    stop_reply None ms rest e ne = absurd (ne (none_left ms rest e))
-    stop_reply (Some sent) [] rest e ne = ((reply_parcel A c sent, refl), refl)
-    stop_reply (Some sent) (m ∷ ms) rest e ne = let more : ◌≡◌ {A = List Carried} [] (ms ++ rest) = cc in absurd (ne (none_left ms rest more))
+    no_first : (ms rest : List Carried) (parcel : Parcel) → ◌≡◌ {A = List Carried} [] (ms ++ rest) → IsFirst rest parcel → ⊥
+    no_first ms rest parcel e first = subst (λ es. IsFirst es parcel) (none_left ms rest e) first
 
-    stop_call : (made rest : List Carried) → entries p A B c b r ≡ made ++ rest → rest ≢ [] → StopsAt (line_course p A B after (Ok c)) made
-    stop_call [] rest e ne = ((parcel_of (request_entry A c []), refl), refl)
-    stop_call (m ∷ ms) rest e ne =
-        let first : m ≡ request_entry A c b = cc in
+    stop_reply : (sent : Option (List ℕ)) (ms rest : List Carried) (parcel : Parcel) → reply_entries (call_code A c) sent r ≡ ms ++ rest → IsFirst rest parcel
+        → StopsAt (reply_course p A B after c b sent) ms parcel
+    stop_reply None ms rest parcel e first = absurd (no_first ms rest parcel e first)
+    stop_reply (Some sent) [] rest parcel e first = let is : parcel ≡ reply_parcel A c sent = subst (λ es. IsFirst es parcel) (sym e) first in (ap Some (sym is), refl)
+    stop_reply (Some sent) (m ∷ ms) rest parcel e first = let more : ◌≡◌ {A = List Carried} [] (ms ++ rest) = cc in absurd (no_first ms rest parcel more first)
+
+    stop_call : (made rest : List Carried) (parcel : Parcel) → entries p A B c b r ≡ made ++ rest → IsFirst rest parcel → StopsAt (line_course p A B after (Ok c)) made parcel
+    stop_call [] rest parcel e first = let is : parcel ≡ parcel_of (request_entry A c []) = subst (λ es. IsFirst es parcel) (sym e) first in (ap Some (sym is), refl)
+    stop_call (m ∷ ms) rest parcel e first =
+        let same : m ≡ request_entry A c b = cc in
         let more : reply_entries (call_code A c) (reply_sent p A B c b) r ≡ ms ++ rest = cc in
-        subst (λ x. StopsAt (line_course p A B after (Ok c)) (x ∷ ms)) (sym first) (stop_reply (reply_sent p A B c b) ms rest more ne)
+        subst (λ x. StopsAt (line_course p A B after (Ok c)) (x ∷ ms) parcel) (sym same) (stop_reply (reply_sent p A B c b) ms rest parcel more first)
 
   along : (meant : Judged CallData) (run : LineRun) (es : List Carried) (ms : Option Methods) (out : LineData) → run.carried ≡ es → run.methods ≡ ms → line_data run.out ≡ out
       → LineComes meant es ms out → LineComes meant run.carried run.methods (line_data run.out)
@@ -99,7 +105,7 @@ module _ (p : Profile) (A B : List Decl) (after : After) where
   line_comes (Ok c) run h = along (Ok c) run (entries p A B c h.0 h.1) (methods_by c c.server (received p A B c h.0)) (line_of p A B c h.0 h.1) h.2 h.4 h.3 (call_comes c h.0 h.1)
 
   -- what a link tells after a line
-  module _ (meant : Judged CallData) (before : Seen) (log : Option (List Carried)) (is_faithful : Bool) (faults : ℕ) (nature : is_faithful ≡ before.is_faithful) where
+  module _ (meant : Judged CallData) (before : Seen) (log : Option (List Carried)) (is_faithful : Bool) (faults : LinkFaults) (nature : is_faithful ≡ before.is_faithful) where
     abbrev after_line : Seen
     after_line = record before { log = log; is_faithful = is_faithful; link_faults = faults }
 
@@ -120,7 +126,7 @@ module _ (p : Profile) (A B : List Decl) (after : After) where
       link_nature = nature;
     }
 
-    carried_some : (m : Judged CallData) (fault : RunFault) → m ≡ meant → Stops p A B m before.is_faithful before.log log fault
+    carried_some : (m : Judged CallData) (fault : RunFault) → m ≡ meant → Stops p A B m before.is_faithful before.log log faults fault
         → (made : List Carried) × CarriedBy (line_course p A B after m) before after_line made
     carried_some (Err why) fault same h = ([], record { log = h.0; are_due = tt; faithful = λ f i entry none. absurd (omega arith) })
     carried_some (Ok c) fault same h = (
@@ -133,12 +139,13 @@ module _ (p : Profile) (A B : List Decl) (after : After) where
     )
 
     -- Memory was wanted.
-    pub line_memory : Stops p A B meant before.is_faithful before.log log OutOfMemory → faults ≡ before.link_faults → RanCourse (line_course p A B after meant) before after_line 5
+    pub line_memory : Stops p A B meant before.is_faithful before.log log faults OutOfMemory → faults ≡ before.link_faults → RanCourse (line_course p A B after meant) before after_line 5
     line_memory stops good = record {
       exits = inr (inr (inl refl));
       kept = refl;
       store_good = refl;
       sink_fault = λ four. absurd (omega arith);
+      sink_due = λ four. absurd (omega arith);
       sink_good = λ other. refl;
       link_fault = λ six. absurd (omega arith);
       link_good = λ other. good;
@@ -153,8 +160,8 @@ module _ (p : Profile) (A B : List Decl) (after : After) where
   not_front exit six (inr five) = omega arith
 
   -- A call of the link failed.
-  pub line_link : (meant : Judged CallData) (before : Seen) (log : Option (List Carried)) (is_faithful : Bool) (faults : ℕ) → is_faithful ≡ before.is_faithful
-      → Stops p A B meant before.is_faithful before.log log LinkFault → Rose before.link_faults faults
+  pub line_link : (meant : Judged CallData) (before : Seen) (log : Option (List Carried)) (is_faithful : Bool) (faults : LinkFaults) → is_faithful ≡ before.is_faithful
+      → Stops p A B meant before.is_faithful before.log log faults LinkFault → Rose before.link_faults faults
       → RanCourse (line_course p A B after meant) before (record before { log = log; is_faithful = is_faithful; link_faults = faults }) 6
   unfolding carried_some
   line_link (Err why) before log is_faithful faults nature stops rose = let never : ⊥ = cc in absurd never
@@ -163,31 +170,30 @@ module _ (p : Profile) (A B : List Decl) (after : After) where
     kept = refl;
     store_good = refl;
     sink_fault = λ four. absurd (omega arith);
+    sink_due = λ four. absurd (omega arith);
     sink_good = λ other. refl;
     link_fault = λ six. rose;
     link_good = λ other. absurd (other refl);
     link_nature = nature;
     answer = λ verdict. absurd (not_verdict 6 (omega arith) (omega arith) verdict);
     front = λ either. absurd (not_front 6 refl either);
-    stopped = λ six. (some.0, some.1, stop.0, subst (Adds before.told before.told) (sym stop.1) (nothing_told before.told));
+    stopped = λ six. failed_as faults _ _ (λ parcel first. let stop = stop_call c stops.0 stops.1 stops.2 stops.3 parcel stops.4 first in
+        (some.0, some.1, stop.0, subst (Adds before.told before.told) (sym stop.1) (nothing_told before.told))) (stops.7 refl);
   }
     where
       some : (made : List Carried) × CarriedBy (line_course p A B after (Ok c)) before (record before { log = log; is_faithful = is_faithful; link_faults = faults }) made
       some = carried_some (Ok c) before log is_faithful faults nature (Ok c) LinkFault refl stops
 
-      stop : StopsAt c stops.0 stops.1 (line_course p A B after (Ok c)) stops.2
-      stop = stop_call c stops.0 stops.1 stops.2 stops.3 stops.4 (stops.7 refl)
-
 -- A line was run, and its text was put, or not all of it.
 module _ (p : Profile) (A B : List Decl) (trace : Bool) (k : ℕ) (next : Course) (meant : Judged CallData)
-    (before : Seen) (log : Option (List Carried)) (is_faithful : Bool) (faults : ℕ) (nature : is_faithful ≡ before.is_faithful) where
+    (before : Seen) (log : Option (List Carried)) (is_faithful : Bool) (faults : LinkFaults) (nature : is_faithful ≡ before.is_faithful) where
   abbrev whole : Course
   whole = line_course p A B (puts A B trace k next) meant
 
   abbrev ran : Seen
   ran = record before { log = log; is_faithful = is_faithful; link_faults = faults }
 
-  pub line_steps : (run : LineRun) (told : Option (List ℕ)) (count : ℕ) (given : Result ⊤ Exit) → LineRuns p A B meant run → Adds before.log log run.carried
+  pub line_steps : (run : LineRun) (told : Option (List ℕ)) (count : SinkFaults) (given : Result ⊤ Exit) → LineRuns p A B meant run → Adds before.log log run.carried
       → (before.is_faithful ≡ true → AreFaithful run.carried) → faults ≡ before.link_faults
       → PutsText (piece A B trace k run.carried run.methods (line_data run.out)) before.told told before.sink_faults count given
       → Steps whole next before (record ran { told = told; sink_faults = count }) given
@@ -198,7 +204,7 @@ module _ (p : Profile) (A B : List Decl) (trace : Bool) (k : ℕ) (next : Course
   line_steps run told count (Err exit) runs adds faithful good put =
       let text = piece A B trace k run.carried run.methods (line_data run.out) in
       went_ended whole (prints text next) before ran (line_went p A B (puts A B trace k next) meant before log is_faithful faults nature run runs adds faithful good) (record ran { told = told; sink_faults = count }) (number_of exit)
-      (put_cut ran told count text next (number_of exit) put.exits put.fault put.good put.front)
+      (put_cut ran told count text next (number_of exit) put.exits put.fault put.good put.due put.front)
 
 -- A line of those that are left went well, or the run ended in it.
 module _ (p : Profile) (A B : List Decl) (trace : Bool) (k : ℕ) (whole : Course) (rest line after : List ℕ) (start now later : Seen)

@@ -3,21 +3,24 @@ use Rattle.std.proofs.Common.{◌≡◌, ℕ, List, [], ◌∷◌, ◌++◌, Opt
 use Rattle.std.specs.Prelude.{◌≢◌, ◌⊎◌}
 use Rattle.std.proofs.lemmas.List.Elements.{All-append}
 use Rattle.aidl_outside.specs.declared.link.Carried.{Carried}
+use Rattle.aidl_outside.specs.Asks.{Asks}
 use Rattle.aidl_outside.specs.Causes.{Rose}
+use Rattle.aidl_outside.specs.Faults.{FailedIn, SinkFaults, untold}
 use Rattle.aidl_outside.specs.Files.{Files}
 use Rattle.aidl_outside.specs.Told.{Tells, Adds, AddsFront}
 use Rattle.aidl_outside.specs.Writes.{Write}
 use Rattle.tool_frame.specs.declared.verdict.Verdict.TheVariants.{Done}
 use Rattle.tool_frame.specs.Answer.{Answer, after_text}
 use Rattle.tool_frame.specs.Course.{Course, prints, ends, at_once, due_after, answer_after}
-use Rattle.tool_frame.specs.Ended.{Ended, WroteAll, WroteSome, FailedAt, CarriedThese, EndsAsMeant, PutsFront, StopsAtCarry}
+use Rattle.tool_frame.specs.Ended.{Ended, WroteAll, WroteSome, CarriedThese, CutsAnswer, EndsAsMeant, PutsFront, StopsAtCarry, StopsAtStore}
 use Rattle.tool_frame.specs.Meaning.{AreDue, carries_by, CarriesNothing, does_by}
-use Rattle.tool_frame.specs.Parcel.{Parcel}
+use Rattle.aidl_outside.specs.Parcel.{Parcel}
 use Rattle.tool_frame.specs.Seen.{Seen}
 use Rattle.tool_frame.specs.Verdict.{exit_of, IsVerdict}
-use Rattle.tool_frame.specs.Courses.{due_in, CarriedBy, EndsCourse, PutsCourseFront, StopsCourse, RanCourse, ComesTo, Went}
-use Rattle.tool_frame.specs.Prints.{Prints}
-use Rattle.tool_frame.proofs.lemmas.Endings.{Nothing, all_written, some_written, failed, not_verdict, nothing_carried, told_always, verdict_exit}
+use Rattle.tool_frame.specs.Courses.{due_in, CarriedBy, CutsCourse, EndsCourse, PutsCourseFront, StopsCourse, RanCourse, ComesTo, Went}
+use Rattle.tool_frame.specs.Prints.{CutAt, Prints}
+use Rattle.tool_frame.proofs.lemmas.Endings.{Nothing, all_written, some_written, not_verdict, nothing_carried, told_always, verdict_exit}
+use Rattle.aidl_outside.proofs.lemmas.Failing.{failed_as}
 use Rattle.aidl_outside.proofs.lemmas.Telling.{tells}
 
 -- the exits of a course
@@ -38,26 +41,29 @@ widened exit (inr (inr (inr six))) = inr (inr (inr (inr six)))
 
 -- Where the course is one that the command may take over the files, what it does is what is meant. It begins once the writes are made,
 -- which leave the files `kept`.
-module _ (writes : Files → List Write → Type 0) (takes : Files → Course → Type 0) (files : Files) (course : Course) (is : takes files course) (kept : Option Files) (before now : Seen) where
+module _ (asks : Asks) (writes : Files → List Write → Type 0) (takes : Files → Course → Type 0) (files : Files) (course : Course) (is : takes files course) (kept : Option Files) (before now : Seen) where
   -- what was seen once the writes were made
   abbrev written : Seen
   written = record before { kept = kept }
 
-  due_also : (front entries : List Carried) → AreDue (due_in course) front entries → AreDue ((does_by writes takes).due files) front entries
+  due_also : (front entries : List Carried) → AreDue (due_in course) front entries → AreDue ((does_by asks writes takes).due files) front entries
   due_also front [] h = tt
   due_also front (entry ∷ entries) h = ((course, is, h.0), due_also (front ++ entry ∷ []) entries h.1)
 
-  these : (entries : List Carried) → CarriedBy course written now entries → CarriedThese (does_by writes takes) files before now entries
+  these : (entries : List Carried) → CarriedBy course written now entries → CarriedThese (does_by asks writes takes) files before now entries
   these entries h = (h.log, due_also [] entries h.are_due, h.faithful)
 
-  as_meant : (exit : ℕ) → EndsCourse course written now exit → EndsAsMeant (does_by writes takes) before now exit files
+  as_meant : (exit : ℕ) → EndsCourse course written now exit → EndsAsMeant (does_by asks writes takes) before now exit files
   as_meant exit h = (h.0, these h.0 h.1, (course, is, sym h.2), answer_after course h.0, (course, is, refl), h.3, h.4)
 
-  puts_front : PutsCourseFront course written now → PutsFront (does_by writes takes) before now files
+  puts_front : PutsCourseFront course written now → PutsFront (does_by asks writes takes) before now files
   puts_front h = (h.0, these h.0 h.1, inr (answer_after course h.0, (course, is, refl), h.2))
 
-  stops : StopsCourse course written now → StopsAtCarry (does_by writes takes) before now files
-  stops h = (h.0, these h.0 h.1, (h.2.0, (course, is, sym h.2.1)), answer_after course h.0, (course, is, refl), h.3)
+  cuts : (piece : List ℕ) → CutsCourse course written now piece → CutsAnswer (does_by asks writes takes) before now piece files
+  cuts piece h = (h.0, these h.0 h.1, answer_after course h.0, (course, is, refl), h.2)
+
+  stops : (parcel : Parcel) → StopsCourse course written now parcel → StopsAtCarry (does_by asks writes takes) before now parcel files
+  stops parcel h = (h.0, these h.0 h.1, (course, is, sym h.2), answer_after course h.0, (course, is, refl), h.3)
 
 -- all writes are some of them
 some_of_all : (writes : Files → List Write → Type 0) (before now : Option Files) → WroteAll writes before now → WroteSome writes before now
@@ -65,26 +71,39 @@ some_of_all writes None now same = same
 some_of_all writes (Some files) now (made, meant, e) = inr (made, [], subst (λ ws. writes files ws) (sym (append-nil made)) meant, e)
 
 -- The writes were made, and the run ended as its course did.
-module _ (writes : Files → List Write → Type 0) (takes : Files → Course → Type 0) (course : Course) (kept : Option Files) (before now : Seen) (exit : ℕ)
+module _ (asks : Asks) (writes : Files → List Write → Type 0) (takes : Files → Course → Type 0) (course : Course) (kept : Option Files) (before now : Seen) (exit : ℕ)
     (wrote : WroteAll writes before.kept kept) (is : Tells before.kept (λ files. takes files course)) (ran : RanCourse course (record before { kept = kept }) now exit) where
-  told_ends : IsVerdict exit → Tells before.kept (EndsAsMeant (does_by writes takes) before now exit)
-  told_ends verdict = tells before.kept _ _ (λ files taken. as_meant writes takes files course taken kept before now exit (ran.answer verdict)) is
+  told_ends : IsVerdict exit → Tells before.kept (EndsAsMeant (does_by asks writes takes) before now exit)
+  told_ends verdict = tells before.kept _ _ (λ files taken. as_meant asks writes takes files course taken kept before now exit (ran.answer verdict)) is
 
   complete_by : IsCourseExit exit → (Rose before.sink_faults now.sink_faults → ⊥) → (Rose before.link_faults now.link_faults → ⊥)
-      → (exit ≡ 5) ⊎ (IsVerdict exit × Tells before.kept (EndsAsMeant (does_by writes takes) before now exit))
+      → (exit ≡ 5) ⊎ (IsVerdict exit × Tells before.kept (EndsAsMeant (does_by asks writes takes) before now exit))
   complete_by (inl verdict) no_sink no_link = inr (verdict, told_ends verdict)
   complete_by (inr (inl four)) no_sink no_link = absurd (no_sink (ran.sink_fault four))
   complete_by (inr (inr (inl five))) no_sink no_link = inl five
   complete_by (inr (inr (inr six))) no_sink no_link = absurd (no_link (ran.link_fault six))
 
-  never_quiet : CarriesNothing (does_by writes takes) ⊎ (exit ≡ 3) → now.log ≡ before.log
+  never_quiet : CarriesNothing (does_by asks writes takes) ⊎ (exit ≡ 3) → now.log ≡ before.log
   never_quiet (inl quiet) = cc
   never_quiet (inr three) = absurd (not_three exit ran.exits three)
+
+  never_carried : CarriesNothing (does_by asks writes takes) → exit ≢ 6
+  never_carried quiet = λ six. cc
+
+  -- a piece that was due of the course
+  cut : FailedIn now.sink_faults (CutsCourse course (record before { kept = kept }) now)
+      → FailedIn now.sink_faults (λ piece. (piece ≢ []) × Tells before.kept (CutsAnswer (does_by asks writes takes) before now piece))
+  cut failed = failed_as now.sink_faults _ _ (λ piece due. (due.2.6, tells before.kept _ _ (λ files taken. cuts asks writes takes files course taken kept before now piece due) is)) failed
+
+  -- the parcel that was due of the course
+  stopped : FailedIn now.link_faults (StopsCourse course (record before { kept = kept }) now)
+      → FailedIn now.link_faults (λ parcel. Tells before.kept (StopsAtCarry (does_by asks writes takes) before now parcel))
+  stopped failed = failed_as now.link_faults _ _ (λ parcel due. tells before.kept _ _ (λ files taken. stops asks writes takes files course taken kept before now parcel due) is) failed
 
   all : WroteAll writes before.kept now.kept
   all = subst (λ k. WroteAll writes before.kept k) (sym ran.kept) wrote
 
-  pub ended_done : Ended (does_by writes takes) before now exit
+  pub ended_done : Ended (does_by asks writes takes) before now exit
   ended_done = record {
     exits = widened exit ran.exits;
     store_fault = λ three. absurd (not_three exit ran.exits three);
@@ -94,26 +113,28 @@ module _ (writes : Files → List Write → Type 0) (takes : Files → Course �
     link_fault = ran.link_fault;
     link_good = ran.link_good;
     link_nature = ran.link_nature;
+    no_link_fault = never_carried;
+    store_due = λ three. absurd (not_three exit ran.exits three);
+    sink_due = λ four. cut (ran.sink_due four);
+    link_due = λ six. stopped (ran.stopped six);
     wrote = λ ends. all;
     wrote_some = λ five. some_of_all writes before.kept now.kept all;
-    write_failed = λ three. absurd (not_three exit ran.exits three);
     carries_nothing = never_quiet;
     answer = told_ends;
     silent = λ three. absurd (not_three exit ran.exits three);
-    front = λ ends. tells before.kept _ _ (λ files taken. puts_front writes takes files course taken kept before now (ran.front ends)) is;
-    stopped = λ six. tells before.kept _ _ (λ files taken. stops writes takes files course taken kept before now (ran.stopped six)) is;
+    front = λ ends. tells before.kept _ _ (λ files taken. puts_front asks writes takes files course taken kept before now (ran.front ends)) is;
     complete = λ no_store no_sink no_link. complete_by ran.exits no_sink no_link;
   }
 
 -- The same of a command that writes nothing.
-pub ended_carried : (takes : Files → Course → Type 0) (course : Course) (before now : Seen) (exit : ℕ) → Tells before.kept (λ files. takes files course) → RanCourse course before now exit
-    → Ended (carries_by takes) before now exit
-ended_carried takes course before now exit is ran = ended_done Nothing takes course before.kept before now exit (all_written before.kept) is ran
+pub ended_carried : (asks : Asks) (takes : Files → Course → Type 0) (course : Course) (before now : Seen) (exit : ℕ) → Tells before.kept (λ files. takes files course) → RanCourse course before now exit
+    → Ended (carries_by asks takes) before now exit
+ended_carried asks takes course before now exit is ran = ended_done asks Nothing takes course before.kept before now exit (all_written before.kept) is ran
 
 -- The run ended before its course began: a call of the store failed, or memory was wanted.
-module _ (writes : Files → List Write → Type 0) (takes : Files → Course → Type 0) (before now : Seen) (exit : ℕ)
+module _ (asks : Asks) (writes : Files → List Write → Type 0) (takes : Files → Course → Type 0) (before now : Seen) (exit : ℕ)
     (exits : (exit ≡ 3) ⊎ (exit ≡ 5)) (fault : exit ≡ 3 → Rose before.store_faults now.store_faults) (good : exit ≢ 3 → now.store_faults ≡ before.store_faults)
-    (failed_at : exit ≡ 3 → FailedAt writes before.kept now.kept) (some : exit ≡ 5 → WroteSome writes before.kept now.kept)
+    (due : exit ≡ 3 → FailedIn now.store_faults (StopsAtStore (does_by asks writes takes) before.kept now.kept)) (some : exit ≡ 5 → WroteSome writes before.kept now.kept)
     (told : now.told ≡ before.told) (sink : now.sink_faults ≡ before.sink_faults)
     (log : now.log ≡ before.log) (link : now.link_faults ≡ before.link_faults) (nature : now.is_faithful ≡ before.is_faithful) where
   no_end : (exit ≡ 3) ⊎ (exit ≡ 5) → IsVerdict exit ⊎ ((exit ≡ 4) ⊎ (exit ≡ 6)) → ⊥
@@ -128,14 +149,14 @@ module _ (writes : Files → List Write → Type 0) (takes : Files → Course �
   early_exits (inl three) = inr (inl three)
   early_exits (inr five) = inr (inr (inr (inl five)))
 
-  early_complete : (exit ≡ 3) ⊎ (exit ≡ 5) → (Rose before.store_faults now.store_faults → ⊥) → (exit ≡ 5) ⊎ (IsVerdict exit × Tells before.kept (EndsAsMeant (does_by writes takes) before now exit))
+  early_complete : (exit ≡ 3) ⊎ (exit ≡ 5) → (Rose before.store_faults now.store_faults → ⊥) → (exit ≡ 5) ⊎ (IsVerdict exit × Tells before.kept (EndsAsMeant (does_by asks writes takes) before now exit))
   early_complete (inl three) no_store = absurd (no_store (fault three))
   early_complete (inr five) no_store = inl five
 
-  nothing : (files : Files) → CarriedThese (does_by writes takes) files before now []
+  nothing : (files : Files) → CarriedThese (does_by asks writes takes) files before now []
   nothing files = (subst (λ l. Adds before.log l []) (sym log) (nothing_carried before.log), tt, λ faithful k entry none. absurd (omega arith))
 
-  pub ended_before : Ended (does_by writes takes) before now exit
+  pub ended_before : Ended (does_by asks writes takes) before now exit
   ended_before = record {
     exits = early_exits exits;
     store_fault = fault;
@@ -145,24 +166,28 @@ module _ (writes : Files → List Write → Type 0) (takes : Files → Course �
     link_fault = λ six. absurd (no_end exits (inr (inr six)));
     link_good = λ other. link;
     link_nature = nature;
+    no_link_fault = λ quiet six. absurd (no_end exits (inr (inr six)));
+    store_due = due;
+    sink_due = λ four. absurd (no_end exits (inr (inl four)));
+    link_due = λ six. absurd (no_end exits (inr (inr six)));
     wrote = λ ends. absurd (no_end exits ends);
     wrote_some = some;
-    write_failed = failed_at;
     carries_nothing = λ why. log;
     answer = λ verdict. absurd (no_end exits (inl verdict));
     silent = λ three. told;
     front = λ ends. told_always before.kept (λ files. ([], nothing files, inl told));
-    stopped = λ six. absurd (no_end exits (inr (inr six)));
     complete = λ no_store no_sink no_link. early_complete exits no_store;
   }
 
 -- The same of a command that writes nothing.
-pub ended_early : (takes : Files → Course → Type 0) (before now : Seen) (exit : ℕ)
+pub ended_early : (asks : Asks) (takes : Files → Course → Type 0) (before now : Seen) (exit : ℕ)
     → (exit ≡ 3) ⊎ (exit ≡ 5) → (exit ≡ 3 → Rose before.store_faults now.store_faults) → (exit ≢ 3 → now.store_faults ≡ before.store_faults)
+    → (exit ≡ 3 → FailedIn now.store_faults (asks before.kept))
     → now.kept ≡ before.kept → now.told ≡ before.told → now.sink_faults ≡ before.sink_faults
-    → now.log ≡ before.log → now.link_faults ≡ before.link_faults → now.is_faithful ≡ before.is_faithful → Ended (carries_by takes) before now exit
-ended_early takes before now exit exits fault good kept told sink log link nature =
-    ended_before Nothing takes before now exit exits fault good (λ three. failed before.kept now.kept kept) (λ five. subst (λ k. WroteSome Nothing before.kept k) (sym kept) (some_written before.kept)) told sink log link nature
+    → now.log ≡ before.log → now.link_faults ≡ before.link_faults → now.is_faithful ≡ before.is_faithful → Ended (carries_by asks takes) before now exit
+ended_early asks takes before now exit exits fault good due kept told sink log link nature =
+    ended_before asks Nothing takes before now exit exits fault good (λ three. failed_as now.store_faults _ _ (λ call is. inl (is, kept)) (due three))
+    (λ five. subst (λ k. WroteSome Nothing before.kept k) (sym kept) (some_written before.kept)) told sink log link nature
 
 -- it was delivered as it was sent
 abbrev delivered_so : Carried → Type 0
@@ -199,6 +224,32 @@ comes_on course mid rest xs ys t u h k = record {
   due = λ more. ap (due_after course) (append_assoc xs ys more) ∙ h.due (ys ++ more) ∙ k.due more;
   answer = λ more. ap (answer_after course) (append_assoc xs ys more) ∙ h.answer (ys ++ more) ∙ ap (after_text t) (k.answer more) ∙ texts t u (answer_after rest more);
 }
+
+-- a piece that is due after a text
+cut_later : (front text : List ℕ) (before mid now : Option (List ℕ)) (piece : List ℕ) → Adds before mid front → CutAt text mid now piece → CutAt (front ++ text) before now piece
+cut_later front text before mid now piece adds (done, rest, put, unput, e, f, some, more) = (
+  front ++ done,
+  rest,
+  put,
+  unput,
+  ap (λ x. front ++ x) e ∙ sym (append_assoc front (done ++ piece) rest) ∙ ap (λ x. x ++ rest) (sym (append_assoc front done piece)),
+  f,
+  some,
+  subst (Adds before now) (sym (append_assoc front done put)) (adds_both before mid now front (done ++ put) adds more),
+)
+
+-- a piece that is due is so with more text behind
+cut_longer : (text more : List ℕ) (before now : Option (List ℕ)) (piece : List ℕ) → CutAt text before now piece → CutAt (text ++ more) before now piece
+cut_longer text more before now piece (done, rest, put, unput, e, f, some, adds) = (
+  done,
+  rest ++ more,
+  put,
+  unput,
+  ap (λ x. x ++ more) e ∙ append_assoc (done ++ piece) rest more,
+  f,
+  some,
+  adds,
+)
 
 module _ (course mid : Course) (a b : Seen) (went : Went course mid a b) where
   -- one part of a course, and then another
@@ -241,8 +292,15 @@ module _ (course mid : Course) (a b : Seen) (went : Went course mid a b) where
     (went.text ++ h.2.0, h.2.1, sym (whole_text h.0) ∙ ap (λ x. went.text ++ x) h.2.2 ∙ sym (append_assoc went.text h.2.0 h.2.1), adds_both a.told b.told c.told went.text h.2.0 went.told h.2.3),
   )
 
-  stops_on : (c : Seen) → StopsCourse mid b c → StopsCourse course a c
-  stops_on c h = (went.entries ++ h.0, carried_on c h.0 h.1, (h.2.0, went.comes.due h.0 ∙ h.2.1), told_on c h.0 h.3)
+  stops_on : (c : Seen) (parcel : Parcel) → StopsCourse mid b c parcel → StopsCourse course a c parcel
+  stops_on c parcel h = (went.entries ++ h.0, carried_on c h.0 h.1, went.comes.due h.0 ∙ h.2, told_on c h.0 h.3)
+
+  cuts_on : (c : Seen) (piece : List ℕ) → CutsCourse mid b c piece → CutsCourse course a c piece
+  cuts_on c piece h = (
+    went.entries ++ h.0,
+    carried_on c h.0 h.1,
+    subst (λ text. CutAt text a.told c.told piece) (whole_text h.0) (cut_later went.text (answer_after mid h.0).text a.told b.told c.told piece went.told h.2),
+  )
 
   -- one part of a course, and then its end
   pub went_ended : (c : Seen) (exit : ℕ) → RanCourse mid b c exit → RanCourse course a c exit
@@ -251,13 +309,14 @@ module _ (course mid : Course) (a b : Seen) (went : Went course mid a b) where
     kept = ran.kept ∙ went.kept;
     store_good = ran.store_good ∙ went.store_good;
     sink_fault = λ four. subst (λ n. Rose n c.sink_faults) went.sink_good (ran.sink_fault four);
+    sink_due = λ four. failed_as c.sink_faults _ _ (cuts_on c) (ran.sink_due four);
     sink_good = λ other. ran.sink_good other ∙ went.sink_good;
     link_fault = λ six. subst (λ n. Rose n c.link_faults) went.link_good (ran.link_fault six);
     link_good = λ other. ran.link_good other ∙ went.link_good;
     link_nature = ran.link_nature ∙ went.link_nature;
     answer = λ verdict. ends_on c exit (ran.answer verdict);
     front = λ ends. front_on c (ran.front ends);
-    stopped = λ six. stops_on c (ran.stopped six);
+    stopped = λ six. failed_as c.link_faults _ _ (stops_on c) (ran.stopped six);
   }
 
 pub nothing_told : (told : Option (List ℕ)) → Adds told told []
@@ -295,6 +354,7 @@ ran_end now = record {
   kept = refl;
   store_good = refl;
   sink_fault = λ four. absurd (omega arith);
+  sink_due = λ four. absurd (omega arith);
   sink_good = λ other. refl;
   link_fault = λ six. absurd (omega arith);
   link_good = λ other. refl;
@@ -311,6 +371,7 @@ ran_none course now = record {
   kept = refl;
   store_good = refl;
   sink_fault = λ four. absurd (omega arith);
+  sink_due = λ four. absurd (omega arith);
   sink_good = λ other. refl;
   link_fault = λ six. absurd (omega arith);
   link_good = λ other. refl;
@@ -321,7 +382,7 @@ ran_none course now = record {
 }
 
 -- What a sink tells after a put, and its count.
-module _ (before : Seen) (told : Option (List ℕ)) (faults : ℕ) where
+module _ (before : Seen) (told : Option (List ℕ)) (faults : SinkFaults) where
   abbrev after_put : Seen
   after_put = record before { told = told; sink_faults = faults }
 
@@ -355,12 +416,13 @@ module _ (before : Seen) (told : Option (List ℕ)) (faults : ℕ) where
 
   -- a front of the text was put
   pub put_cut : (text : List ℕ) (next : Course) (exit : ℕ) → (exit ≡ 4) ⊎ (exit ≡ 5) → (exit ≡ 4 → Rose before.sink_faults faults) → (exit ≢ 4 → faults ≡ before.sink_faults)
-      → AddsFront before.told told text → RanCourse (prints text next) before after_put exit
-  put_cut text next exit exits fault good cut = record {
+      → (exit ≡ 4 → FailedIn faults (CutAt text before.told told)) → AddsFront before.told told text → RanCourse (prints text next) before after_put exit
+  put_cut text next exit exits fault good due cut = record {
     exits = cut_exits exit exits;
     kept = refl;
     store_good = refl;
     sink_fault = fault;
+    sink_due = λ four. failed_as faults _ _ (λ piece is. ([], carried_none (prints text next) before after_put refl, cut_longer text (answer_after next []).text before.told told piece is)) (due four);
     sink_good = good;
     link_fault = λ six. absurd (cut_not_six exit exits six);
     link_good = λ other. refl;
@@ -379,12 +441,13 @@ module _ (before : Seen) (told : Option (List ℕ)) (faults : ℕ) where
   ran_printed a exit printed = by_exits printed.exits
     where
       by_exits : (exit ≡ exit_of a.verdict) ⊎ ((exit ≡ 4) ⊎ (exit ≡ 5)) → RanCourse (at_once a) before after_put exit
-      by_exits (inr either) = put_cut a.text (ends a.verdict) exit either printed.fault printed.good printed.front
+      by_exits (inr either) = put_cut a.text (ends a.verdict) exit either printed.fault printed.good printed.due printed.front
       by_exits (inl e) = record {
         exits = inl verdict;
         kept = refl;
         store_good = refl;
         sink_fault = printed.fault;
+        sink_due = λ four. absurd (not_verdict exit (omega arith) (omega arith) verdict);
         sink_good = printed.good;
         link_fault = λ six. absurd (not_verdict exit (omega arith) (omega arith) verdict);
         link_good = λ other. refl;
@@ -400,7 +463,7 @@ module _ (before : Seen) (told : Option (List ℕ)) (faults : ℕ) where
 -- The store's part is added, which wasn't touched.
 module _ (course : Course) (before now : Seen) (exit : ℕ) (kept : now.kept ≡ before.kept) (store : now.store_faults ≡ before.store_faults) where
   abbrev alone : Seen → Seen
-  alone seen = record seen { kept = None; store_faults = 0 }
+  alone seen = record seen { kept = None; store_faults = untold 0 }
 
   again : (entries : List Carried) → CarriedBy course (alone before) (alone now) entries → CarriedBy course before now entries
   again entries h = record { log = h.log; are_due = h.are_due; faithful = h.faithful }
@@ -411,13 +474,14 @@ module _ (course : Course) (before now : Seen) (exit : ℕ) (kept : now.kept ≡
     kept = kept;
     store_good = store;
     sink_fault = ran.sink_fault;
+    sink_due = λ four. failed_as now.sink_faults _ _ (λ piece e. (e.0, again e.0 e.1, e.2)) (ran.sink_due four);
     sink_good = ran.sink_good;
     link_fault = ran.link_fault;
     link_good = ran.link_good;
     link_nature = ran.link_nature;
     answer = λ verdict. let e = ran.answer verdict in (e.0, again e.0 e.1, e.2, e.3, e.4);
     front = λ either. let e = ran.front either in (e.0, again e.0 e.1, e.2);
-    stopped = λ six. let e = ran.stopped six in (e.0, again e.0 e.1, e.2, e.3);
+    stopped = λ six. failed_as now.link_faults _ _ (λ parcel e. (e.0, again e.0 e.1, e.2, e.3)) (ran.stopped six);
   }
 
 -- what is due is so of each front

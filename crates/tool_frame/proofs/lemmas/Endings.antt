@@ -5,13 +5,15 @@ use Rattle.std.proofs.lemmas.List.{append-nil}
 use Rattle.aidl_outside.specs.declared.link.Carried.{Carried}
 use Rattle.aidl_outside.specs.declared.store.StoreFault.{StoreFault}
 use Rattle.aidl_outside.specs.declared.store.StoreFault.TheVariants.{Failed, OutOfMemory as StoreMemory}
+use Rattle.aidl_outside.specs.Asks.{Asks}
 use Rattle.aidl_outside.specs.Causes.{Rose, StoreCause}
+use Rattle.aidl_outside.specs.Faults.{FailedIn, IfStoreFailed}
 use Rattle.aidl_outside.specs.Files.{Files}
 use Rattle.aidl_outside.specs.Told.{Tells, Adds, AddsFront}
 use Rattle.tool_frame.specs.declared.verdict.Verdict.{Verdict}
 use Rattle.tool_frame.specs.declared.verdict.Verdict.TheVariants.{Done, Negative, LimitPassed}
 use Rattle.tool_frame.specs.Answer.{Answer}
-use Rattle.tool_frame.specs.Ended.{Ended, Writes, WroteAll, WroteSome, FailedAt, CarriedThese, EndsAsMeant, PutsFront}
+use Rattle.tool_frame.specs.Ended.{Ended, Writes, WroteAll, WroteSome, CarriedThese, CutsAnswer, EndsAsMeant, PutsFront, StopsAtStore}
 use Rattle.tool_frame.specs.Meaning.{reads_by}
 use Rattle.tool_frame.specs.Seen.{Seen}
 use Rattle.tool_frame.specs.Verdict.{exit_of, IsVerdict}
@@ -19,8 +21,9 @@ use Rattle.tool_frame.specs.declared.printed.Early.{Early}
 use Rattle.tool_frame.specs.declared.printed.Early.TheVariants.{Answered, OutOfMemory}
 use Rattle.tool_frame.specs.declared.printed.Printed.{Printed}
 use Rattle.tool_frame.specs.Ends.{EndsRead}
-use Rattle.tool_frame.specs.Prints.{Prints}
+use Rattle.tool_frame.specs.Prints.{CutAt, Prints}
 use Rattle.tool_frame.specs.Results.{Gives, GivesOne, printed}
+use Rattle.aidl_outside.proofs.lemmas.Failing.{failed_as}
 use Rattle.aidl_outside.proofs.lemmas.Telling.{tells}
 
 pub verdict_exit : (v : Verdict) → IsVerdict (exit_of v)
@@ -40,11 +43,6 @@ all_written (Some files) = ([], refl, refl)
 pub some_written : (kept : Option Files) → WroteSome Nothing kept kept
 some_written None = refl
 some_written (Some files) = inl refl
-
--- no write was due, and so none failed
-pub failed : (kept now : Option Files) → now ≡ kept → FailedAt Nothing kept now
-failed None now same = same
-failed (Some files) now same = inl (inl same)
 
 -- a verdict, a fault of the store or the sink, or want of memory
 abbrev pub IsReadExit : ℕ → Type 0
@@ -94,7 +92,7 @@ verdict_is a exit (inl e) verdict = e
 verdict_is a exit (inr (inl four)) verdict = absurd (not_verdict exit (omega arith) (omega arith) verdict)
 verdict_is a exit (inr (inr five)) verdict = absurd (not_verdict exit (omega arith) (omega arith) verdict)
 
-module _ (answers : Files → Answer → Type 0) (before now : Seen) (exit : ℕ)
+module _ (asks : Asks) (answers : Files → Answer → Type 0) (before now : Seen) (exit : ℕ)
     (kept : now.kept ≡ before.kept) (log : now.log ≡ before.log) (link : now.link_faults ≡ before.link_faults) (nature : now.is_faithful ≡ before.is_faithful) where
   -- the exit and the text are those of an answer
   abbrev IsMeant : Files → Type 0
@@ -104,19 +102,35 @@ module _ (answers : Files → Answer → Type 0) (before now : Seen) (exit : ℕ
   abbrev IsFront : Files → Type 0
   IsFront files = (now.told ≡ before.told) ⊎ ((answer : Answer) × answers files answer × AddsFront before.told now.told answer.text)
 
-  these : (files : Files) → CarriedThese (reads_by answers) files before now []
+  -- a piece of the text of an answer was due
+  abbrev IsCutAt : List ℕ → Files → Type 0
+  IsCutAt piece files = (answer : Answer) × answers files answer × CutAt answer.text before.told now.told piece
+
+  these : (files : Files) → CarriedThese (reads_by asks answers) files before now []
   these files = (subst (λ l. Adds before.log l []) (sym log) (nothing_carried before.log), tt, λ faithful k entry none. absurd (omega arith))
 
-  as_meant : Tells before.kept IsMeant → Tells before.kept (EndsAsMeant (reads_by answers) before now exit)
+  as_meant : Tells before.kept IsMeant → Tells before.kept (EndsAsMeant (reads_by asks answers) before now exit)
   as_meant told = tells before.kept _ _ (λ files meant. ([], these files, refl, meant.0, meant.1, meant.2, meant.3)) told
 
-  puts_front : Tells before.kept IsFront → Tells before.kept (PutsFront (reads_by answers) before now)
+  cuts_answer : (piece : List ℕ) → Tells before.kept (IsCutAt piece) → Tells before.kept (CutsAnswer (reads_by asks answers) before now piece)
+  cuts_answer piece told = tells before.kept _ _ (λ files cut. ([], these files, cut.0, cut.1, cut.2)) told
+
+  -- nothing was written before the call that failed
+  asked : FailedIn now.store_faults (asks before.kept) → FailedIn now.store_faults (StopsAtStore (reads_by asks answers) before.kept now.kept)
+  asked failed = failed_as now.store_faults _ _ (λ call is. inl (is, kept)) failed
+
+  -- a piece that was due of what is answered
+  cut : FailedIn now.sink_faults (λ piece. (piece ≢ []) × Tells before.kept (IsCutAt piece))
+      → FailedIn now.sink_faults (λ piece. (piece ≢ []) × Tells before.kept (CutsAnswer (reads_by asks answers) before now piece))
+  cut failed = failed_as now.sink_faults _ _ (λ piece is. (is.0, cuts_answer piece is.1)) failed
+
+  puts_front : Tells before.kept IsFront → Tells before.kept (PutsFront (reads_by asks answers) before now)
   puts_front told = tells before.kept _ _ (λ files front. ([], these files, front)) told
 
   complete_by : IsReadExit exit → (exit ≡ 3 → Rose before.store_faults now.store_faults) → (exit ≡ 4 → Rose before.sink_faults now.sink_faults)
-      → (IsVerdict exit → Tells before.kept (EndsAsMeant (reads_by answers) before now exit))
+      → (IsVerdict exit → Tells before.kept (EndsAsMeant (reads_by asks answers) before now exit))
       → (Rose before.store_faults now.store_faults → ⊥) → (Rose before.sink_faults now.sink_faults → ⊥)
-      → (exit ≡ 5) ⊎ (IsVerdict exit × Tells before.kept (EndsAsMeant (reads_by answers) before now exit))
+      → (exit ≡ 5) ⊎ (IsVerdict exit × Tells before.kept (EndsAsMeant (reads_by asks answers) before now exit))
   complete_by (inl verdict) store sink meant no_store no_sink = inr (verdict, meant verdict)
   complete_by (inr (inl three)) store sink meant no_store no_sink = absurd (no_store (store three))
   complete_by (inr (inr (inl four))) store sink meant no_store no_sink = absurd (no_sink (sink four))
@@ -128,11 +142,13 @@ module _ (answers : Files → Answer → Type 0) (before now : Seen) (exit : ℕ
       → (store_good : exit ≢ 3 → now.store_faults ≡ before.store_faults)
       → (sink_fault : exit ≡ 4 → Rose before.sink_faults now.sink_faults)
       → (sink_good : exit ≢ 4 → now.sink_faults ≡ before.sink_faults)
+      → (store_due : exit ≡ 3 → FailedIn now.store_faults (asks before.kept))
+      → (sink_due : exit ≡ 4 → FailedIn now.sink_faults (λ piece. (piece ≢ []) × Tells before.kept (IsCutAt piece)))
       → (answered : IsVerdict exit → Tells before.kept IsMeant)
       → (silent : exit ≡ 3 → now.told ≡ before.told)
       → (front : (exit ≡ 4) ⊎ (exit ≡ 5) → Tells before.kept IsFront)
-      → Ended (reads_by answers) before now exit
-  ended exits store_fault store_good sink_fault sink_good answered silent front = record {
+      → Ended (reads_by asks answers) before now exit
+  ended exits store_fault store_good sink_fault sink_good store_due sink_due answered silent front = record {
     exits = widened exit exits;
     store_fault = store_fault;
     store_good = store_good;
@@ -141,50 +157,56 @@ module _ (answers : Files → Answer → Type 0) (before now : Seen) (exit : ℕ
     link_fault = λ six. absurd (not_six exit exits six);
     link_good = λ other. link;
     link_nature = nature;
+    no_link_fault = λ quiet six. not_six exit exits six;
+    store_due = λ three. asked (store_due three);
+    sink_due = λ four. cut (sink_due four);
+    link_due = λ six. absurd (not_six exit exits six);
     wrote = λ ends. subst (λ k. WroteAll Nothing before.kept k) (sym kept) (all_written before.kept);
     wrote_some = λ five. subst (λ k. WroteSome Nothing before.kept k) (sym kept) (some_written before.kept);
-    write_failed = λ three. failed before.kept now.kept kept;
     carries_nothing = λ why. log;
     answer = λ verdict. as_meant (answered verdict);
     silent = silent;
     front = λ ends. puts_front (front ends);
-    stopped = λ six. absurd (not_six exit exits six);
     complete = λ no_store no_sink no_link. complete_by exits store_fault sink_fault (λ verdict. as_meant (answered verdict)) no_store no_sink;
   }
 
-module _ (answers : Files → Answer → Type 0) (before now : Seen)
+module _ (asks : Asks) (answers : Files → Answer → Type 0) (before now : Seen)
     (kept : now.kept ≡ before.kept) (log : now.log ≡ before.log) (link : now.link_faults ≡ before.link_faults) (nature : now.is_faithful ≡ before.is_faithful) where
   -- a read that failed
-  pub ended_by_store : Rose before.store_faults now.store_faults → now.told ≡ before.told → now.sink_faults ≡ before.sink_faults → Ended (reads_by answers) before now 3
-  ended_by_store rose told sink =
-      ended answers before now 3 kept log link nature (inr (inl refl)) (λ three. rose) (λ other. absurd (other refl)) (λ four. absurd (omega arith)) (λ other. sink)
+  pub ended_by_store : Rose before.store_faults now.store_faults → FailedIn now.store_faults (asks before.kept) → now.told ≡ before.told → now.sink_faults ≡ before.sink_faults → Ended (reads_by asks answers) before now 3
+  ended_by_store rose due told sink =
+      ended asks answers before now 3 kept log link nature (inr (inl refl)) (λ three. rose) (λ other. absurd (other refl)) (λ four. absurd (omega arith)) (λ other. sink)
+      (λ three. due) (λ four. absurd (omega arith))
       (λ verdict. absurd (not_verdict 3 (omega arith) (omega arith) verdict)) (λ three. told) (λ ends. absurd (not_both 3 refl ends))
 
   -- want of memory before anything was put
-  pub ended_by_memory : now.store_faults ≡ before.store_faults → now.told ≡ before.told → now.sink_faults ≡ before.sink_faults → Ended (reads_by answers) before now 5
+  pub ended_by_memory : now.store_faults ≡ before.store_faults → now.told ≡ before.told → now.sink_faults ≡ before.sink_faults → Ended (reads_by asks answers) before now 5
   ended_by_memory store told sink =
-      ended answers before now 5 kept log link nature (inr (inr (inr refl))) (λ three. absurd (omega arith)) (λ other. store) (λ four. absurd (omega arith)) (λ other. sink)
+      ended asks answers before now 5 kept log link nature (inr (inr (inr refl))) (λ three. absurd (omega arith)) (λ other. store) (λ four. absurd (omega arith)) (λ other. sink)
+      (λ three. absurd (omega arith)) (λ four. absurd (omega arith))
       (λ verdict. absurd (not_verdict 5 (omega arith) (omega arith) verdict)) (λ three. absurd (omega arith))
       (λ ends. told_always before.kept (λ files. inl told))
 
   -- an answer that was printed
   pub ended_by_print : (a : Answer) (exit : ℕ) → Tells before.kept (λ files. answers files a) → now.store_faults ≡ before.store_faults
-      → Prints a before.told now.told before.sink_faults now.sink_faults exit → Ended (reads_by answers) before now exit
+      → Prints a before.told now.told before.sink_faults now.sink_faults exit → Ended (reads_by asks answers) before now exit
   ended_by_print a exit is store prints =
-      ended answers before now exit kept log link nature (exits_of a exit prints.exits) (λ three. absurd (not_three a exit prints.exits three)) (λ other. store) prints.fault prints.good
+      ended asks answers before now exit kept log link nature (exits_of a exit prints.exits) (λ three. absurd (not_three a exit prints.exits three)) (λ other. store) prints.fault prints.good
+      (λ three. absurd (not_three a exit prints.exits three))
+      (λ four. failed_as now.sink_faults _ _ (λ piece due. (due.6, tells before.kept _ _ (λ files meant. (a, meant, due)) is)) (prints.due four))
       (λ verdict. let e = verdict_is a exit prints.exits verdict in tells before.kept _ _ (λ files meant. (a, meant, e, prints.whole e)) is)
       (λ three. absurd (not_three a exit prints.exits three))
       (λ ends. tells before.kept _ _ (λ files meant. inr (a, meant, prints.front)) is)
 
   -- what was answered of the files that were read
   pub ended_read : (exit : ℕ) (answered : Result (Result Printed Early) StoreFault) → StoreCause before.store_faults now.store_faults answered
-      → IfOk answered (λ given. Tells before.kept (λ files. GivesOne given (answers files)))
-      → EndsRead answered before.told now.told before.sink_faults now.sink_faults exit → Ended (reads_by answers) before now exit
-  ended_read exit (Ok (Ok p)) cause given ends = ended_by_print (printed p) exit given cause ends
-  ended_read exit (Ok (Err (Answered p))) cause given ends = ended_by_print (printed p) exit given cause ends
-  ended_read exit (Ok (Err OutOfMemory)) cause given ends = subst (Ended (reads_by answers) before now) (sym ends.exits) (ended_by_memory cause ends.silent ends.good)
-  ended_read exit (Err Failed) cause given ends = subst (Ended (reads_by answers) before now) (sym ends.exits) (ended_by_store cause ends.silent ends.good)
-  ended_read exit (Err StoreMemory) cause given ends = subst (Ended (reads_by answers) before now) (sym ends.exits) (ended_by_memory cause ends.silent ends.good)
+      → IfStoreFailed answered (FailedIn now.store_faults (asks before.kept)) → IfOk answered (λ given. Tells before.kept (λ files. GivesOne given (answers files)))
+      → EndsRead answered before.told now.told before.sink_faults now.sink_faults exit → Ended (reads_by asks answers) before now exit
+  ended_read exit (Ok (Ok p)) cause due given ends = ended_by_print (printed p) exit given cause ends
+  ended_read exit (Ok (Err (Answered p))) cause due given ends = ended_by_print (printed p) exit given cause ends
+  ended_read exit (Ok (Err OutOfMemory)) cause due given ends = subst (Ended (reads_by asks answers) before now) (sym ends.exits) (ended_by_memory cause ends.silent ends.good)
+  ended_read exit (Err Failed) cause due given ends = subst (Ended (reads_by asks answers) before now) (sym ends.exits) (ended_by_store cause due ends.silent ends.good)
+  ended_read exit (Err StoreMemory) cause due given ends = subst (Ended (reads_by asks answers) before now) (sym ends.exits) (ended_by_memory cause ends.silent ends.good)
 
 -- an answer that is the only one
 pub gives_one : (given : Result Printed Early) (answer : Answer) → Gives given answer → GivesOne given (λ a. a ≡ answer)

@@ -10,3 +10,6 @@ returns-in-Err-clause-answer g c =
 
 pub returns-in-Err-clause-cause : goal.returns-in-Err-clause-cause
 returns-in-Err-clause-cause g c = c.without_versions.ensures.cause _ _ c.in-Err.ensures.cause
+
+pub returns-in-Err-clause-failed : goal.returns-in-Err-clause-failed
+returns-in-Err-clause-failed g c = c.without_versions.ensures.failed c.args.api.now (g.S.Store.kept c.args.store.now) (g.S.Store.fault_record c.versions.new.store) c.in-Err.ensures.failed

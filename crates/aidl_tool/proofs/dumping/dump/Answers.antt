@@ -7,4 +7,4 @@ use Rattle.aidl_tool.proofs.dumping.dump.Goals as goal
 pub returns : goal.returns
 returns g c =
     let answered = c.answered-answered.ensures in
-    ended_wrote (DumpActs c.args.tree.now c.args.out.now) _ _ refl refl refl (number_of c.end.result) _ answered.cause answered.acts c.end.ensures
+    ended_wrote _ (DumpActs c.args.tree.now c.args.out.now) _ _ refl refl refl (number_of c.end.result) _ answered.cause answered.acts c.end.ensures

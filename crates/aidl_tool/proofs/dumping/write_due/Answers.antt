@@ -5,3 +5,6 @@ returns-in-Err-clause-wrote g c = c.store_fault.ensures.wrote _ _ _ c.in-Err.ens
 
 pub returns-in-Err-clause-cause : goal.returns-in-Err-clause-cause
 returns-in-Err-clause-cause g c = c.store_fault.ensures.cause _ _ c.in-Err.ensures.cause
+
+pub returns-in-Err-clause-failed : goal.returns-in-Err-clause-failed
+returns-in-Err-clause-failed g c = c.store_fault.ensures.failed (g.S.Store.fault_record c.write_all.new.store) c.in-Err.ensures.failed

@@ -10,5 +10,5 @@ returns-in-Ok g c = c.make_laid.ensures c.args.count c.args.out.now c.in-Ok.ensu
 pub returns-in-Err : goal.returns-in-Err
 returns-in-Err g c =
     let before : Seen =
-    seen_by g.S.Store.kept g.S.Store.count g.K.Sink.told g.K.Sink.count g.L.Link.log g.L.Link.is_faithful g.L.Link.count c.args.store.now c.args.sink.now c.args.link.now in
+    seen_by g.S.Store.kept g.S.Store.fault_record g.K.Sink.told g.K.Sink.fault_record g.L.Link.log g.L.Link.is_faithful g.L.Link.fault_record c.args.store.now c.args.sink.now c.args.link.now in
     ended_lost (make_writes c.args.count c.args.out.now) (MakeTakes c.args.count c.args.out.now) before before (left_none (make_writes c.args.count c.args.out.now) before.kept) refl refl

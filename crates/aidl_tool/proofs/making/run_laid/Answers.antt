@@ -10,8 +10,8 @@ use Rattle.aidl_tool.proofs.making.run_laid.Goals as goal
 
 pub returns-in-Ok : goal.returns-in-Ok
 returns-in-Ok g c =
-    let before : Seen = seen_alone g.K.Sink.told g.K.Sink.count g.L.Link.log g.L.Link.is_faithful g.L.Link.count c.args.sink.now c.args.link.now in
-    let now : Seen = seen_alone g.K.Sink.told g.K.Sink.count g.L.Link.log g.L.Link.is_faithful g.L.Link.count c.run_made.new.sink c.run_made.new.link in
+    let before : Seen = seen_alone g.K.Sink.told g.K.Sink.fault_record g.L.Link.log g.L.Link.is_faithful g.L.Link.fault_record c.args.sink.now c.args.link.now in
+    let now : Seen = seen_alone g.K.Sink.told g.K.Sink.fault_record g.L.Link.log g.L.Link.is_faithful g.L.Link.fault_record c.run_made.new.sink c.run_made.new.link in
     inl (
       make_course c.in-Ok.run'.server.decls c.in-Ok.run'.client.decls c.in-Ok.run'.text.items,
       c.in-Ok.ensures (make_course c.in-Ok.run'.server.decls c.in-Ok.run'.client.decls c.in-Ok.run'.text.items) refl,

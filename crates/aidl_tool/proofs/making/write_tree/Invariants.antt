@@ -12,5 +12,5 @@ abbrev pub invariant-loop-file : goal.invariant-loop-file
 invariant-loop-file g l = record {
   completes : (later : Option Files) (r : Result ⊤ StoreFault) → LeftBy (map (file_write l.root) (map file_seen (drop l.file-index l.files))) (g.S.Store.kept l.store) later r
       → LeftBy (map (file_write l.root) (map file_seen l.files)) (g.S.Store.kept l.fn.store) later r;
-  cause : g.S.Store.count l.store ≡ g.S.Store.count l.fn.store;
+  cause : g.S.Store.fault_record l.store ≡ g.S.Store.fault_record l.fn.store;
 }

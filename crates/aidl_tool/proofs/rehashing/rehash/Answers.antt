@@ -7,4 +7,4 @@ use Rattle.aidl_tool.proofs.rehashing.rehash.Goals as goal
 pub returns : goal.returns
 returns g c =
     let answered = c.answered-answered.ensures in
-    ended_wrote (RehashActs c.args.api.now) _ _ refl refl refl (number_of c.end.result) _ answered.cause answered.acts c.end.ensures
+    ended_wrote _ (RehashActs c.args.api.now) _ _ refl refl refl (number_of c.end.result) _ answered.cause answered.acts c.end.ensures

@@ -16,7 +16,7 @@ use Rattle.aidl_tool.proofs.running.run.Goals as goal
 
 pub returns-in-Ok-clause-ends : goal.returns-in-Ok-clause-ends
 returns-in-Ok-clause-ends g c =
-    ended_some (RunTakes c.args.asked.profile c.args.asked.trace c.args.asked.client.now c.args.asked.server.now c.args.asked.calls.now) _ _ c.in-Ok.ensures.unchanged
+    ended_some _ (RunTakes c.args.asked.profile c.args.asked.trace c.args.asked.client.now c.args.asked.server.now c.args.asked.calls.now) _ _ c.in-Ok.ensures.unchanged
     (TakesLoaded c.args.asked.profile c.args.asked.trace c.in-Ok.given) (number_of c.run_prepared.result) c.in-Ok.ensures.cause
     (tells _ (λ files. LoadsFor c.in-Ok.given (λ p trace. RunTakes p trace c.args.asked.client.now c.args.asked.server.now c.args.asked.calls.now files)) _
     (λ files loads. loads c.args.asked.profile c.args.asked.trace) c.in-Ok.ensures.loads)
@@ -26,9 +26,9 @@ returns-in-Ok-clause-ends g c =
 pub returns-in-Ok-clause-headline : goal.returns-in-Ok-clause-headline
 returns-in-Ok-clause-headline g c = λ lenient same.
     let before : Seen =
-    seen_by g.S.Store.kept g.S.Store.count g.K.Sink.told g.K.Sink.count g.L.Link.log g.L.Link.is_faithful g.L.Link.count c.args.store.now c.args.sink.now c.args.link.now in
+    seen_by g.S.Store.kept g.S.Store.fault_record g.K.Sink.told g.K.Sink.fault_record g.L.Link.log g.L.Link.is_faithful g.L.Link.fault_record c.args.store.now c.args.sink.now c.args.link.now in
     let now : Seen =
-    seen_by g.S.Store.kept g.S.Store.count g.K.Sink.told g.K.Sink.count g.L.Link.log g.L.Link.is_faithful g.L.Link.count c.load_calls.new.store c.run_prepared.new.sink c.run_prepared.new.link in
+    seen_by g.S.Store.kept g.S.Store.fault_record g.K.Sink.told g.K.Sink.fault_record g.L.Link.log g.L.Link.is_faithful g.L.Link.fault_record c.load_calls.new.store c.run_prepared.new.sink c.run_prepared.new.link in
     tells (g.S.Store.kept c.args.store.now) (λ files. Finds loaded_seen c.in-Ok.given (all_held files c.args.asked.client.now c.args.asked.server.now c.args.asked.calls.now))
     (Headline (Some (run c.args.asked.trace lenient c.args.asked.client.now c.args.asked.server.now c.args.asked.calls.now)) before now (number_of c.run_prepared.result))
     (λ files found. run_headline before now (number_of c.run_prepared.result) files c.args.asked.profile c.args.asked.trace c.args.asked.client.now c.args.asked.server.now c.args.asked.calls.now
@@ -46,7 +46,7 @@ returns-in-Err-Failed-clause-headline g c = λ lenient same.
 
 pub returns-in-Err-OutOfMemory-clause-ends : goal.returns-in-Err-OutOfMemory-clause-ends
 returns-in-Err-OutOfMemory-clause-ends g c =
-    ended_lost (RunTakes c.args.asked.profile c.args.asked.trace c.args.asked.client.now c.args.asked.server.now c.args.asked.calls.now) _ _ c.in-Err-OutOfMemory.ensures.unchanged
+    ended_lost _ (RunTakes c.args.asked.profile c.args.asked.trace c.args.asked.client.now c.args.asked.server.now c.args.asked.calls.now) _ _ c.in-Err-OutOfMemory.ensures.unchanged
     (lost_cause _ _ c.in-Err-OutOfMemory.field-0 c.in-Err-OutOfMemory.field-0-is c.in-Err-OutOfMemory.ensures.cause) refl
 
 pub returns-in-Err-OutOfMemory-clause-headline : goal.returns-in-Err-OutOfMemory-clause-headline

@@ -11,8 +11,8 @@ use Rattle.aidl_tool.proofs.running.run_both.Goals as goal
 
 pub returns-clause-ran : goal.returns-clause-ran
 returns-clause-ran g c =
-    let before : Seen = seen_alone g.K.Sink.told g.K.Sink.count g.L.Link.log g.L.Link.is_faithful g.L.Link.count c.args.sink.now c.args.link.now in
-    let now : Seen = seen_alone g.K.Sink.told g.K.Sink.count g.L.Link.log g.L.Link.is_faithful g.L.Link.count c.run_trees.new.sink c.run_trees.new.link in
+    let before : Seen = seen_alone g.K.Sink.told g.K.Sink.fault_record g.L.Link.log g.L.Link.is_faithful g.L.Link.fault_record c.args.sink.now c.args.link.now in
+    let now : Seen = seen_alone g.K.Sink.told g.K.Sink.fault_record g.L.Link.log g.L.Link.is_faithful g.L.Link.fault_record c.run_trees.new.sink c.run_trees.new.link in
     let A : List Decl = c.args.run.now.client.decls in
     let B : List Decl = c.args.run.now.server.decls in
     subst (λ (t : List ℕ). RanSome (λ course. course ≡ run_course c.args.profile A B c.args.trace t) before now (number_of c.run_trees.result)) c.as_slice-calls.ensures.value
@@ -20,9 +20,13 @@ returns-clause-ran g c =
 
 pub returns-clause-projected : goal.returns-clause-projected
 returns-clause-projected g c =
-    let before : Seen = seen_alone g.K.Sink.told g.K.Sink.count g.L.Link.log g.L.Link.is_faithful g.L.Link.count c.args.sink.now c.args.link.now in
-    let now : Seen = seen_alone g.K.Sink.told g.K.Sink.count g.L.Link.log g.L.Link.is_faithful g.L.Link.count c.run_trees.new.sink c.run_trees.new.link in
+    let before : Seen = seen_alone g.K.Sink.told g.K.Sink.fault_record g.L.Link.log g.L.Link.is_faithful g.L.Link.fault_record c.args.sink.now c.args.link.now in
+    let now : Seen = seen_alone g.K.Sink.told g.K.Sink.fault_record g.L.Link.log g.L.Link.is_faithful g.L.Link.fault_record c.run_trees.new.sink c.run_trees.new.link in
     let A : List Decl = c.args.run.now.client.decls in
     let B : List Decl = c.args.run.now.server.decls in
+    let projects : Projects A B (projected_text c.args.profile A B c.args.trace 1 (lines_of c.args.run.now.text.items)) before now (number_of c.run_trees.result) =
     subst (λ (t : List ℕ). Projects A B (projected_text c.args.profile A B c.args.trace 1 (lines_of t)) before now (number_of c.run_trees.result)) c.as_slice-calls.ensures.value
-    c.run_trees.ensures.projected
+    c.run_trees.ensures.projected in
+    λ one faithful verdict.
+    let put = projects one faithful verdict in
+    (put.0, put.1, record { sent = c.law_call_none.ensures.sent one; answered = c.law_call_none.ensures.answered one })

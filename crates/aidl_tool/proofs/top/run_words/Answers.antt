@@ -10,8 +10,8 @@ use Rattle.aidl_tool.proofs.top.run_words.Goals as goal
 pub returns-in-None-clause-headline : goal.returns-in-None-clause-headline
 returns-in-None-clause-headline g c =
     let before : Seen =
-    seen_by g.S.Store.kept g.S.Store.count g.K.Sink.told g.K.Sink.count g.L.Link.log g.L.Link.is_faithful g.L.Link.count c.args.store.now c.args.sink.now c.args.link.now in
+    seen_by g.S.Store.kept g.S.Store.fault_record g.K.Sink.told g.K.Sink.fault_record g.L.Link.log g.L.Link.is_faithful g.L.Link.fault_record c.args.store.now c.args.sink.now c.args.link.now in
     let now : Seen =
-    seen_by g.S.Store.kept g.S.Store.count g.K.Sink.told g.K.Sink.count g.L.Link.log g.L.Link.is_faithful g.L.Link.count c.args.store.now c.refuse.new.sink c.args.link.now in
+    seen_by g.S.Store.kept g.S.Store.fault_record g.K.Sink.told g.K.Sink.fault_record g.L.Link.log g.L.Link.is_faithful g.L.Link.fault_record c.args.store.now c.refuse.new.sink c.args.link.now in
     subst (λ (words : Option Command). Tells (g.S.Store.kept c.args.store.now) (Headline words before now (number_of c.refuse.result))) c.in-None.ensures
     (told_anyway (g.S.Store.kept c.args.store.now) None before now (number_of c.refuse.result) (λ files. tt))

@@ -7,4 +7,4 @@ use Rattle.aidl_tool.proofs.verifying.verify.Goals as goal
 pub returns : goal.returns
 returns g c =
     let answered = c.answered-answered.ensures in
-    ended_read (VerifyAnswers c.args.api.now) _ _ answered.unchanged refl refl refl (number_of c.end.result) _ answered.cause answered.answer c.end.ensures
+    ended_read _ (VerifyAnswers c.args.api.now) _ _ answered.unchanged refl refl refl (number_of c.end.result) _ answered.cause answered.failed answered.answer c.end.ensures

@@ -1,4 +1,4 @@
-use Rattle.std.proofs.Common.{◌≡◌, ◌++◌, true, map}
+use Rattle.std.proofs.Common.{◌≡◌, List, ◌++◌, true, map}
 use Rattle.std.specs.List.{list_all}
 use Rattle.aidl_outside.specs.Files.{is_ascending}
 use Rattle.aidl_outside.specs.Told.{Tells}
@@ -14,8 +14,9 @@ abbrev pub invariant-loop-folder : goal.invariant-loop-folder
 invariant-loop-folder g l = record {
   all : Tells (g.S.Store.kept l.fn.store) (λ files. onto l.versions (versions_in files l.api (map folder_seen l.folder-iterator.rest.items)) ≡ versions_in files l.api (map folder_seen l.fn.folders.items));
   numbers : map (λ (v : Version). v.number) l.versions ++ map (λ (f : Folder). f.number) (map folder_seen l.folder-iterator.rest.items) ≡ map (λ (f : Folder). f.number) (map folder_seen l.fn.folders.items);
+  left : (done : List Folder) × (map folder_seen l.fn.folders.items ≡ done ++ map folder_seen l.folder-iterator.rest.items);
   ascending : list_all (λ (f : Folder). is_ascending f.sources) (map folder_seen l.fn.folders.items) ≡ true
       → (are_ascending l.versions ≡ true) × (list_all (λ (f : Folder). is_ascending f.sources) (map folder_seen l.folder-iterator.rest.items) ≡ true);
   unchanged : g.S.Store.kept l.store ≡ g.S.Store.kept l.fn.store;
-  cause : g.S.Store.count l.store ≡ g.S.Store.count l.fn.store;
+  cause : g.S.Store.fault_record l.store ≡ g.S.Store.fault_record l.fn.store;
 }

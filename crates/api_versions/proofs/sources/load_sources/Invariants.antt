@@ -1,4 +1,4 @@
-use Rattle.std.proofs.Common.{◌≡◌, ◌++◌, true, map, string_bytes}
+use Rattle.std.proofs.Common.{◌≡◌, ℕ, List, ◌++◌, true, map, string_bytes}
 use Rattle.aidl_outside.specs.Entries.{path_of}
 use Rattle.aidl_outside.specs.Files.{is_ascending}
 use Rattle.aidl_outside.specs.Told.{Tells}
@@ -10,7 +10,8 @@ use Rattle.api_versions.proofs.sources.load_sources.Given as goal
 abbrev pub invariant-loop-path : goal.invariant-loop-path
 invariant-loop-path g l = record {
   all : Tells (g.S.Store.kept l.fn.store) (λ files. onto l.files (sources_at files l.folder (map string_bytes l.path-iterator.rest.items)) ≡ sources_at files l.folder (map string_bytes l.fn.paths.items));
+  left : (done : List (List ℕ)) × (map string_bytes l.fn.paths.items ≡ done ++ map string_bytes l.path-iterator.rest.items);
   ascending : is_ascending (map string_bytes l.fn.paths.items) ≡ true → is_ascending (map path_of l.files ++ map string_bytes l.path-iterator.rest.items) ≡ true;
   unchanged : g.S.Store.kept l.store ≡ g.S.Store.kept l.fn.store;
-  cause : g.S.Store.count l.store ≡ g.S.Store.count l.fn.store;
+  cause : g.S.Store.fault_record l.store ≡ g.S.Store.fault_record l.fn.store;
 }

@@ -7,5 +7,5 @@ use Rattle.api_versions.proofs.writes.write_all.Given as goal
 abbrev pub invariant-loop-write : goal.invariant-loop-write
 invariant-loop-write g l = record {
   made : Wrote (map write_seen (take l.write-index l.writes)) (g.S.Store.kept l.fn.store) (g.S.Store.kept l.store);
-  cause : g.S.Store.count l.store ≡ g.S.Store.count l.fn.store;
+  cause : g.S.Store.fault_record l.store ≡ g.S.Store.fault_record l.fn.store;
 }

@@ -1,5 +1,4 @@
-use Rattle.std.proofs.Common.{◌≡◌, List, Ok, ap, sym, subst}
-use Rattle.aidl_schema.specs.declared.schema.Decl.{Decl}
+use Rattle.std.proofs.Common.{◌≡◌, Ok, ap, sym, subst}
 use Rattle.aidl_values.specs.View.{views}
 use Rattle.wire_model.specs.Calls.{answer_of}
 use Rattle.call_runner.specs.Runs.{projected, within_one}

@@ -1,4 +1,4 @@
-use Rattle.std.proofs.Common.{◌≡◌, ℕ, Option, Some, None, sym, subst}
+use Rattle.std.proofs.Common.{◌≡◌, Some, None, sym, subst}
 use Rattle.aidl_schema.specs.Find.{methods_at, position_of_code}
 use Rattle.call_runner.proofs.Reported.{found_methods, unfound_methods}
 use Rattle.call_scripts.specs.Calls.{call_of}

@@ -16,12 +16,12 @@ count_lines-requires g c =
 
 pub returns-in-Ok : goal.returns-in-Ok
 returns-in-Ok g c = λ others last.
-    let before : Seen = with_link g.L.Link.log g.L.Link.is_faithful g.L.Link.count others c.args.link.now in
-    let now : Seen = with_link g.L.Link.log g.L.Link.is_faithful g.L.Link.count others c.count_lines.new.link in
+    let before : Seen = with_link g.L.Link.log g.L.Link.is_faithful g.L.Link.fault_record others c.args.link.now in
+    let now : Seen = with_link g.L.Link.log g.L.Link.is_faithful g.L.Link.fault_record others c.count_lines.new.link in
     subst (λ (B : List Decl). CountsTo (counted_course B c.args.old.now.decls last nothing (lines_of c.args.calls.now)) last before now c.count_lines.result) c.new-client.ensures
     (subst (λ (A : List Decl). CountsTo (counted_course c.new-client.result A last nothing (lines_of c.args.calls.now)) last before now c.count_lines.result) c.new-server.ensures
     (c.count_lines.ensures others last))
 
 pub returns-in-Err : goal.returns-in-Err
 returns-in-Err g c = λ others last.
-    ran_none (counted_course c.args.new.now.decls c.args.old.now.decls last nothing (lines_of c.args.calls.now)) (with_link g.L.Link.log g.L.Link.is_faithful g.L.Link.count others c.args.link.now)
+    ran_none (counted_course c.args.new.now.decls c.args.old.now.decls last nothing (lines_of c.args.calls.now)) (with_link g.L.Link.log g.L.Link.is_faithful g.L.Link.fault_record others c.args.link.now)

@@ -25,10 +25,10 @@ returns-in-Ok-clause-counts g c = λ others next.
     let B : List Decl = c.args.server.now in
     let meant : Judged CallData = script A B c.args.line.now in
     let after : After = λ carried methods out. next (counted c.args.tally carried out) in
-    let before : Seen = with_link g.L.Link.log g.L.Link.is_faithful g.L.Link.count others c.args.link.now in
-    let now : Seen = with_link g.L.Link.log g.L.Link.is_faithful g.L.Link.count others c.run_line.new.link in
+    let before : Seen = with_link g.L.Link.log g.L.Link.is_faithful g.L.Link.fault_record others c.args.link.now in
+    let now : Seen = with_link g.L.Link.log g.L.Link.is_faithful g.L.Link.fault_record others c.run_line.new.link in
     subst (λ (t : Counts). Went (line_course Strict A B after meant) (next t) before now) (sym c.with.ensures)
-    (line_went Strict A B after meant before (g.L.Link.log c.run_line.new.link) (g.L.Link.is_faithful c.run_line.new.link) (g.L.Link.count c.run_line.new.link) c.run_line.ensures.nature
+    (line_went Strict A B after meant before (g.L.Link.log c.run_line.new.link) (g.L.Link.is_faithful c.run_line.new.link) (g.L.Link.fault_record c.run_line.new.link) c.run_line.ensures.nature
     c.in-Ok.run' c.in-Ok.ensures.line c.in-Ok.ensures.log c.in-Ok.ensures.faithful c.in-Ok.ensures.cause)
 
 pub returns-in-Err-LinkFault-clause-counts : goal.returns-in-Err-LinkFault-clause-counts
@@ -37,10 +37,10 @@ returns-in-Err-LinkFault-clause-counts g c = λ others next.
     let B : List Decl = c.args.server.now in
     let meant : Judged CallData = script A B c.args.line.now in
     let after : After = λ carried methods out. next (counted c.args.tally carried out) in
-    let before : Seen = with_link g.L.Link.log g.L.Link.is_faithful g.L.Link.count others c.args.link.now in
-    line_link Strict A B after meant before (g.L.Link.log c.run_line.new.link) (g.L.Link.is_faithful c.run_line.new.link) (g.L.Link.count c.run_line.new.link) c.run_line.ensures.nature
-    (subst (λ (f : RunFault). Stops Strict A B meant before.is_faithful before.log (g.L.Link.log c.run_line.new.link) f) c.in-Err-LinkFault.field-0-is c.in-Err-LinkFault.ensures.stops)
-    (subst (λ (f : RunFault). RunCause {T = LineRun} before.link_faults (g.L.Link.count c.run_line.new.link) (Err f)) c.in-Err-LinkFault.field-0-is c.in-Err-LinkFault.ensures.cause)
+    let before : Seen = with_link g.L.Link.log g.L.Link.is_faithful g.L.Link.fault_record others c.args.link.now in
+    line_link Strict A B after meant before (g.L.Link.log c.run_line.new.link) (g.L.Link.is_faithful c.run_line.new.link) (g.L.Link.fault_record c.run_line.new.link) c.run_line.ensures.nature
+    (subst (λ (f : RunFault). Stops Strict A B meant before.is_faithful before.log (g.L.Link.log c.run_line.new.link) (g.L.Link.fault_record c.run_line.new.link) f) c.in-Err-LinkFault.field-0-is c.in-Err-LinkFault.ensures.stops)
+    (subst (λ (f : RunFault). RunCause {T = LineRun} before.link_faults (g.L.Link.fault_record c.run_line.new.link) (Err f)) c.in-Err-LinkFault.field-0-is c.in-Err-LinkFault.ensures.cause)
 
 pub returns-in-Err-OutOfMemory-clause-counts : goal.returns-in-Err-OutOfMemory-clause-counts
 returns-in-Err-OutOfMemory-clause-counts g c = λ others next.
@@ -48,7 +48,7 @@ returns-in-Err-OutOfMemory-clause-counts g c = λ others next.
     let B : List Decl = c.args.server.now in
     let meant : Judged CallData = script A B c.args.line.now in
     let after : After = λ carried methods out. next (counted c.args.tally carried out) in
-    let before : Seen = with_link g.L.Link.log g.L.Link.is_faithful g.L.Link.count others c.args.link.now in
-    line_memory Strict A B after meant before (g.L.Link.log c.run_line.new.link) (g.L.Link.is_faithful c.run_line.new.link) (g.L.Link.count c.run_line.new.link) c.run_line.ensures.nature
-    (subst (λ (f : RunFault). Stops Strict A B meant before.is_faithful before.log (g.L.Link.log c.run_line.new.link) f) c.in-Err-OutOfMemory.field-0-is c.in-Err-OutOfMemory.ensures.stops)
-    (subst (λ (f : RunFault). RunCause {T = LineRun} before.link_faults (g.L.Link.count c.run_line.new.link) (Err f)) c.in-Err-OutOfMemory.field-0-is c.in-Err-OutOfMemory.ensures.cause)
+    let before : Seen = with_link g.L.Link.log g.L.Link.is_faithful g.L.Link.fault_record others c.args.link.now in
+    line_memory Strict A B after meant before (g.L.Link.log c.run_line.new.link) (g.L.Link.is_faithful c.run_line.new.link) (g.L.Link.fault_record c.run_line.new.link) c.run_line.ensures.nature
+    (subst (λ (f : RunFault). Stops Strict A B meant before.is_faithful before.log (g.L.Link.log c.run_line.new.link) (g.L.Link.fault_record c.run_line.new.link) f) c.in-Err-OutOfMemory.field-0-is c.in-Err-OutOfMemory.ensures.stops)
+    (subst (λ (f : RunFault). RunCause {T = LineRun} before.link_faults (g.L.Link.fault_record c.run_line.new.link) (Err f)) c.in-Err-OutOfMemory.field-0-is c.in-Err-OutOfMemory.ensures.cause)

@@ -27,7 +27,7 @@ loop-rest-init g c =
     record {
       went = λ others last.
           let whole : Course = counted_course A B last nothing (lines_of c.args.calls.now) in
-          let start : Seen = with_link g.L.Link.log g.L.Link.is_faithful g.L.Link.count others c.args.link.now in
+          let start : Seen = with_link g.L.Link.log g.L.Link.is_faithful g.L.Link.fault_record others c.args.link.now in
           subst (λ (t : Counts). Went whole (counted_course A B last t (lines_of c.args.calls.now)) start start) (sym c.new-tally.ensures) (went_none whole start);
       few = omega (arith, ap (λ (t : Counts). t.lines) c.new-tally.ensures);
     }
@@ -38,9 +38,9 @@ loop-rest-preserved g c =
     let B : List Decl = c.args.server.now in
     record {
       went = λ others last.
-          let start : Seen = with_link g.L.Link.log g.L.Link.is_faithful g.L.Link.count others c.args.link.now in
-          let now : Seen = with_link g.L.Link.log g.L.Link.is_faithful g.L.Link.count others c.loop-rest.link in
-          let later : Seen = with_link g.L.Link.log g.L.Link.is_faithful g.L.Link.count others c.count_line.new.link in
+          let start : Seen = with_link g.L.Link.log g.L.Link.is_faithful g.L.Link.fault_record others c.args.link.now in
+          let now : Seen = with_link g.L.Link.log g.L.Link.is_faithful g.L.Link.fault_record others c.loop-rest.link in
+          let later : Seen = with_link g.L.Link.log g.L.Link.is_faithful g.L.Link.fault_record others c.count_line.new.link in
           next_went A B last (counted_course A B last nothing (lines_of c.args.calls.now)) c.loop-rest.tally c.loop-rest.rest.now c.cut.result.0.now c.cut.result.1.now start now later
           c.cut.ensures.lines (c.loop-rest.invariant.went others last) c.in_ok-next.next
           (c.in_ok-next.ensures.counts others (λ t. counted_course A B last t (lines_of c.cut.result.1.now)));
@@ -52,16 +52,16 @@ returns g c = λ others last.
     let A : List Decl = c.args.client.now in
     let B : List Decl = c.args.server.now in
     none_left A B last (counted_course A B last nothing (lines_of c.args.calls.now)) c.loop-rest.tally c.loop-rest.rest.now
-    (with_link g.L.Link.log g.L.Link.is_faithful g.L.Link.count others c.args.link.now) (with_link g.L.Link.log g.L.Link.is_faithful g.L.Link.count others c.loop-rest.link)
+    (with_link g.L.Link.log g.L.Link.is_faithful g.L.Link.fault_record others c.args.link.now) (with_link g.L.Link.log g.L.Link.is_faithful g.L.Link.fault_record others c.loop-rest.link)
     (empty_list c.loop-rest.rest.now c.is_empty.result c.is_empty.ensures c.loop-rest-test.false) (c.loop-rest.invariant.went others last)
 
 pub returns-in_err-next : goal.returns-in_err-next
 returns-in_err-next g c = λ others last.
     let A : List Decl = c.args.client.now in
     let B : List Decl = c.args.server.now in
-    let start : Seen = with_link g.L.Link.log g.L.Link.is_faithful g.L.Link.count others c.args.link.now in
-    let now : Seen = with_link g.L.Link.log g.L.Link.is_faithful g.L.Link.count others c.loop-rest.link in
-    let later : Seen = with_link g.L.Link.log g.L.Link.is_faithful g.L.Link.count others c.count_line.new.link in
+    let start : Seen = with_link g.L.Link.log g.L.Link.is_faithful g.L.Link.fault_record others c.args.link.now in
+    let now : Seen = with_link g.L.Link.log g.L.Link.is_faithful g.L.Link.fault_record others c.loop-rest.link in
+    let later : Seen = with_link g.L.Link.log g.L.Link.is_faithful g.L.Link.fault_record others c.count_line.new.link in
     let q = err_from_is_err_and c.from_residual.result c.from_residual.ensures.1 in
     rw (q.1, q.2)
     (next_ended A B last (counted_course A B last nothing (lines_of c.args.calls.now)) c.loop-rest.tally c.loop-rest.rest.now c.cut.result.0.now c.cut.result.1.now start now later

@@ -13,8 +13,8 @@ abbrev pub invariant-loop-rest : goal.invariant-loop-rest
 invariant-loop-rest g l = record {
   went : (others : Seen) (last : Counts → Course) → Went (counted_course l.client l.server last nothing (lines_of l.fn.calls))
       (counted_course l.client l.server last l.tally (lines_of l.rest))
-      (with_link g.L.Link.log g.L.Link.is_faithful g.L.Link.count others l.fn.link)
-      (with_link g.L.Link.log g.L.Link.is_faithful g.L.Link.count others l.link);
+      (with_link g.L.Link.log g.L.Link.is_faithful g.L.Link.fault_record others l.fn.link)
+      (with_link g.L.Link.log g.L.Link.is_faithful g.L.Link.fault_record others l.link);
   few : l.tally.lines + length l.rest ≤ length l.fn.calls;
 }
 

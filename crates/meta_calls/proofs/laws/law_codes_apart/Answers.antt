@@ -1,5 +1,5 @@
 use Rattle.std.proofs.Common.{arith}
-use Rattle.meta_calls.specs.MetaStub.{hash_code, version_code}
+use Rattle.wire_model.specs.MetaStub.{hash_code, version_code}
 use Rattle.meta_calls.proofs.Codes.{below, not_a_code}
 use Rattle.meta_calls.proofs.laws.law_codes_apart.Goals as goal
 

@@ -29,7 +29,7 @@ loop-rest-init g c =
     let A : List Decl = c.args.client.now in
     let B : List Decl = c.args.server.now in
     let whole : Course = lines_course c.args.profile A B c.args.trace 1 (lines_of c.args.calls.now) in
-    let start : Seen = seen_alone g.K.Sink.told g.K.Sink.count g.L.Link.log g.L.Link.is_faithful g.L.Link.count c.args.sink.now c.args.link.now in
+    let start : Seen = seen_alone g.K.Sink.told g.K.Sink.fault_record g.L.Link.log g.L.Link.is_faithful g.L.Link.fault_record c.args.sink.now c.args.link.now in
     record {
       went = went_none whole start;
       completes = λ one faithful later more. more;
@@ -41,9 +41,9 @@ returns-in-Err-clause-ran g c =
     let A : List Decl = c.args.client.now in
     let B : List Decl = c.args.server.now in
     let whole : Course = lines_course c.args.profile A B c.args.trace 1 (lines_of c.args.calls.now) in
-    let start : Seen = seen_alone g.K.Sink.told g.K.Sink.count g.L.Link.log g.L.Link.is_faithful g.L.Link.count c.args.sink.now c.args.link.now in
-    let now : Seen = seen_alone g.K.Sink.told g.K.Sink.count g.L.Link.log g.L.Link.is_faithful g.L.Link.count c.loop-rest.sink c.loop-rest.link in
-    let later : Seen = seen_alone g.K.Sink.told g.K.Sink.count g.L.Link.log g.L.Link.is_faithful g.L.Link.count c.run_next.new.sink c.run_next.new.link in
+    let start : Seen = seen_alone g.K.Sink.told g.K.Sink.fault_record g.L.Link.log g.L.Link.is_faithful g.L.Link.fault_record c.args.sink.now c.args.link.now in
+    let now : Seen = seen_alone g.K.Sink.told g.K.Sink.fault_record g.L.Link.log g.L.Link.is_faithful g.L.Link.fault_record c.loop-rest.sink c.loop-rest.link in
+    let later : Seen = seen_alone g.K.Sink.told g.K.Sink.fault_record g.L.Link.log g.L.Link.is_faithful g.L.Link.fault_record c.run_next.new.sink c.run_next.new.link in
     let left : Course = lines_course c.args.profile A B c.args.trace (c.loop-rest.number + 1) (lines_of c.cut.result.1.now) in
     next_ended c.args.profile A B c.args.trace c.loop-rest.number whole c.loop-rest.rest.now c.cut.result.0.now c.cut.result.1.now start now later c.cut.ensures.lines c.loop-rest.invariant.went (number_of c.in-Err.exit) (c.in-Err.ensures.steps left)
 
@@ -56,9 +56,9 @@ returns-then-is_empty-clause-ran g c =
     let A : List Decl = c.args.client.now in
     let B : List Decl = c.args.server.now in
     let whole : Course = lines_course c.args.profile A B c.args.trace 1 (lines_of c.args.calls.now) in
-    let start : Seen = seen_alone g.K.Sink.told g.K.Sink.count g.L.Link.log g.L.Link.is_faithful g.L.Link.count c.args.sink.now c.args.link.now in
-    let now : Seen = seen_alone g.K.Sink.told g.K.Sink.count g.L.Link.log g.L.Link.is_faithful g.L.Link.count c.loop-rest.sink c.loop-rest.link in
-    let later : Seen = seen_alone g.K.Sink.told g.K.Sink.count g.L.Link.log g.L.Link.is_faithful g.L.Link.count c.run_next.new.sink c.run_next.new.link in
+    let start : Seen = seen_alone g.K.Sink.told g.K.Sink.fault_record g.L.Link.log g.L.Link.is_faithful g.L.Link.fault_record c.args.sink.now c.args.link.now in
+    let now : Seen = seen_alone g.K.Sink.told g.K.Sink.fault_record g.L.Link.log g.L.Link.is_faithful g.L.Link.fault_record c.loop-rest.sink c.loop-rest.link in
+    let later : Seen = seen_alone g.K.Sink.told g.K.Sink.fault_record g.L.Link.log g.L.Link.is_faithful g.L.Link.fault_record c.run_next.new.sink c.run_next.new.link in
     let left : Course = lines_course c.args.profile A B c.args.trace (c.loop-rest.number + 1) (lines_of c.cut.result.1.now) in
     lines_ended c.args.profile A B c.args.trace (c.loop-rest.number + 1) whole c.cut.result.1.now start later
     (empty_list c.cut.result.1.now c.is_empty-in-loop-rest.result c.is_empty-in-loop-rest.ensures c.if-is_empty.true)
@@ -82,9 +82,9 @@ loop-rest-preserved g c =
     let A : List Decl = c.args.client.now in
     let B : List Decl = c.args.server.now in
     let whole : Course = lines_course c.args.profile A B c.args.trace 1 (lines_of c.args.calls.now) in
-    let start : Seen = seen_alone g.K.Sink.told g.K.Sink.count g.L.Link.log g.L.Link.is_faithful g.L.Link.count c.args.sink.now c.args.link.now in
-    let now : Seen = seen_alone g.K.Sink.told g.K.Sink.count g.L.Link.log g.L.Link.is_faithful g.L.Link.count c.loop-rest.sink c.loop-rest.link in
-    let later : Seen = seen_alone g.K.Sink.told g.K.Sink.count g.L.Link.log g.L.Link.is_faithful g.L.Link.count c.run_next.new.sink c.run_next.new.link in
+    let start : Seen = seen_alone g.K.Sink.told g.K.Sink.fault_record g.L.Link.log g.L.Link.is_faithful g.L.Link.fault_record c.args.sink.now c.args.link.now in
+    let now : Seen = seen_alone g.K.Sink.told g.K.Sink.fault_record g.L.Link.log g.L.Link.is_faithful g.L.Link.fault_record c.loop-rest.sink c.loop-rest.link in
+    let later : Seen = seen_alone g.K.Sink.told g.K.Sink.fault_record g.L.Link.log g.L.Link.is_faithful g.L.Link.fault_record c.run_next.new.sink c.run_next.new.link in
     let left : Course = lines_course c.args.profile A B c.args.trace (c.loop-rest.number + 1) (lines_of c.cut.result.1.now) in
     record {
       went = next_went c.args.profile A B c.args.trace c.loop-rest.number whole c.loop-rest.rest.now c.cut.result.0.now c.cut.result.1.now start now later c.cut.ensures.lines c.loop-rest.invariant.went (c.in_default.ensures.steps left);
@@ -100,8 +100,8 @@ returns-clause-ran g c =
     let A : List Decl = c.args.client.now in
     let B : List Decl = c.args.server.now in
     let whole : Course = lines_course c.args.profile A B c.args.trace 1 (lines_of c.args.calls.now) in
-    let start : Seen = seen_alone g.K.Sink.told g.K.Sink.count g.L.Link.log g.L.Link.is_faithful g.L.Link.count c.args.sink.now c.args.link.now in
-    let now : Seen = seen_alone g.K.Sink.told g.K.Sink.count g.L.Link.log g.L.Link.is_faithful g.L.Link.count c.loop-rest.sink c.loop-rest.link in
+    let start : Seen = seen_alone g.K.Sink.told g.K.Sink.fault_record g.L.Link.log g.L.Link.is_faithful g.L.Link.fault_record c.args.sink.now c.args.link.now in
+    let now : Seen = seen_alone g.K.Sink.told g.K.Sink.fault_record g.L.Link.log g.L.Link.is_faithful g.L.Link.fault_record c.loop-rest.sink c.loop-rest.link in
     lines_ended c.args.profile A B c.args.trace c.loop-rest.number whole c.loop-rest.rest.now start now
     (empty_list c.loop-rest.rest.now c.is_empty.result c.is_empty.ensures c.loop-rest-test.false) c.loop-rest.invariant.went
 

@@ -22,8 +22,8 @@ pub returns-in-Ok-None-clause-ran : goal.returns-in-Ok-None-clause-ran
 returns-in-Ok-None-clause-ran g c =
     let A : List Decl = c.args.client.now.decls in
     let B : List Decl = c.args.server.now.decls in
-    let start : Seen = seen_alone g.K.Sink.told g.K.Sink.count g.L.Link.log g.L.Link.is_faithful g.L.Link.count c.args.sink.now c.args.link.now in
-    let now : Seen = seen_alone g.K.Sink.told g.K.Sink.count g.L.Link.log g.L.Link.is_faithful g.L.Link.count c.run_judged.new.sink c.run_judged.new.link in
+    let start : Seen = seen_alone g.K.Sink.told g.K.Sink.fault_record g.L.Link.log g.L.Link.is_faithful g.L.Link.fault_record c.args.sink.now c.args.link.now in
+    let now : Seen = seen_alone g.K.Sink.told g.K.Sink.fault_record g.L.Link.log g.L.Link.is_faithful g.L.Link.fault_record c.run_judged.new.sink c.run_judged.new.link in
     let lines : Course = lines_course c.args.profile A B c.args.trace 1 (lines_of c.args.calls.now) in
     let course : (rest : Course) → judged_course (broken A B) (broken B A) rest ≡ rest =
     subst (λ (p : Option Printed). (rest : Course) → judged_course (broken A B) (broken B A) rest ≡ course_by p rest) c.in-Ok-None.field-0-is c.in-Ok-None.ensures.course in
@@ -36,13 +36,13 @@ pub returns-in-Ok-Some-clause-ran : goal.returns-in-Ok-Some-clause-ran
 returns-in-Ok-Some-clause-ran g c =
     let A : List Decl = c.args.client.now.decls in
     let B : List Decl = c.args.server.now.decls in
-    let start : Seen = seen_alone g.K.Sink.told g.K.Sink.count g.L.Link.log g.L.Link.is_faithful g.L.Link.count c.args.sink.now c.args.link.now in
-    let now : Seen = seen_alone g.K.Sink.told g.K.Sink.count g.L.Link.log g.L.Link.is_faithful g.L.Link.count c.print.new.sink c.args.link.now in
+    let start : Seen = seen_alone g.K.Sink.told g.K.Sink.fault_record g.L.Link.log g.L.Link.is_faithful g.L.Link.fault_record c.args.sink.now c.args.link.now in
+    let now : Seen = seen_alone g.K.Sink.told g.K.Sink.fault_record g.L.Link.log g.L.Link.is_faithful g.L.Link.fault_record c.print.new.sink c.args.link.now in
     let lines : Course = lines_course c.args.profile A B c.args.trace 1 (lines_of c.args.calls.now) in
     let course : (rest : Course) → judged_course (broken A B) (broken B A) rest ≡ course_by (Some c.in-Ok-Some.printed) rest =
     subst (λ (p : Option Printed). (rest : Course) → judged_course (broken A B) (broken B A) rest ≡ course_by p rest) c.in-Ok-Some.field-0-is c.in-Ok-Some.ensures.course in
     subst (λ (x : Course). RanCourse x start now (number_of c.print.result)) (sym (course lines))
-    (ran_printed start (g.K.Sink.told c.print.new.sink) (g.K.Sink.count c.print.new.sink) (printed c.in-Ok-Some.printed) (number_of c.print.result) c.print.ensures)
+    (ran_printed start (g.K.Sink.told c.print.new.sink) (g.K.Sink.fault_record c.print.new.sink) (printed c.in-Ok-Some.printed) (number_of c.print.result) c.print.ensures)
 
 pub returns-in-Ok-Some-clause-projected : goal.returns-in-Ok-Some-clause-projected
 returns-in-Ok-Some-clause-projected g c = λ one faithful verdict.
@@ -55,7 +55,7 @@ returns-in-Ok-Some-clause-projected g c = λ one faithful verdict.
 pub returns-in-Err-clause-ran : goal.returns-in-Err-clause-ran
 returns-in-Err-clause-ran g c =
     ran_none (run_course c.args.profile c.args.client.now.decls c.args.server.now.decls c.args.trace c.args.calls.now)
-    (seen_alone g.K.Sink.told g.K.Sink.count g.L.Link.log g.L.Link.is_faithful g.L.Link.count c.args.sink.now c.args.link.now)
+    (seen_alone g.K.Sink.told g.K.Sink.fault_record g.L.Link.log g.L.Link.is_faithful g.L.Link.fault_record c.args.sink.now c.args.link.now)
 
 pub returns-in-Err-clause-projected : goal.returns-in-Err-clause-projected
 returns-in-Err-clause-projected g c = λ one faithful verdict. absurd (not_verdict 5 (omega arith) (omega arith) verdict)

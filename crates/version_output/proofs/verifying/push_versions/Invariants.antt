@@ -1,7 +1,7 @@
 use Rattle.std.proofs.Common.{◌≡◌, ◌++◌, ◌&&◌, drop, string_bytes}
 use Rattle.std.specs.List.{flat_map, list_all}
 use Rattle.api_versions.specs.Whole.{is_whole}
-use Rattle.version_output.specs.Lines.{version_line}
+use Rattle.version_lines.specs.Lines.{version_line}
 use Rattle.version_output.proofs.verifying.push_versions.Given as goal
 
 -- the lines so far, and whether all so far are whole, with those of the versions that are left

@@ -1,7 +1,7 @@
 //! The line that `verify` prints of a version, and the words for a version that isn't whole.
 ghost use Rattle.std.specs.Prelude.{◌≡◌, ◌++◌, codes, decimal, take, OnOk, string_bytes};
 ghost use Rattle.api_versions.specs.Whole as whole;
-ghost use Rattle.version_output.specs.Lines as meant;
+ghost use Rattle.version_lines.specs.Lines as meant;
 
 use aidl_base::{OutOfMemory, Row};
 use api_versions::{Version, defined_text, text_of};

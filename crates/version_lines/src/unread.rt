@@ -2,7 +2,7 @@
 ghost use Rattle.std.specs.Prelude.{◌≡◌, ◌++◌, codes, decimal, IfOk, string_bytes};
 ghost use Rattle.tool_frame.specs.Answer.{line};
 ghost use Rattle.tool_frame.specs.Results.{EndsAs};
-ghost use Rattle.version_output.specs.Lines as meant;
+ghost use Rattle.version_lines.specs.Lines as meant;
 
 use aidl_base::OutOfMemory;
 use std::alloc::Global;
