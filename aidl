@@ -81,9 +81,9 @@ explain_exit() {
         2) say "these words are no command; docs/PROGRAM.md says more of these:" && commands >&2 ;;
         3) say "a call to the file system failed: a folder where a file is wanted, no right to read or write, a link or a fifo below a folder, a file name that isn't UTF-8, a full disk" ;;
         4) say "printing failed: a closed pipe or a full disk; what was printed is cut off" ;;
-        5) say "there was no memory left; what was printed may be cut off" ;;
-        6) say "a parcel couldn't be carried" ;;
-        7) say "a limit was passed, the one that is printed; docs/PROFILE.md has them all" ;;
+        5) say "there was no memory left: a large input, or a bound on memory (ulimit -v, that of a job); what was printed may be cut off" ;;
+        6) say "a parcel couldn't be carried: the program's own link passes every parcel on, so that isn't to be expected" ;;
+        7) say "a limit was passed, the one that is printed: split the tree or the file; docs/PROFILE.md has all limits" ;;
         8) say "the system didn't hand out the words: they have to be UTF-8" ;;
     esac
 }

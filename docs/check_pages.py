@@ -1,12 +1,12 @@
 """Prints, with page and line, what a page says and isn't so; exit 1 if anything.
 
 - A file, crate, function or clause that a page names in backticks and that isn't there: files by name or path, a file of a crate
-  (`Places.antt` of `parcel_words`), `crate::name`, a clause behind the word clause, each word with an underscore, which has to stand
-  somewhere in the code or in crates.txt, and the name of a page.
+  (`Places.antt` of `parcel_words`), `crate::name`, a clause behind the word clause, each word with an underscore and each type, which
+  have to stand somewhere in the code, in crates.txt or in an example, and the name of a page.
 - A piece of a block fenced as `antt`, between empty lines, that stands nowhere in the code, blanks and comments of the code's own aside.
 - A page's count that isn't what docs/definitions.py prints, and what that script and docs/layers.py refuse.
-- A command or a case that a page shows and of which the program prints something else (docs/page_commands.py). The pages of COMPARED have no
-  other commands.
+- A command or a case that a page shows and of which the program prints something else (docs/page_commands.py). But for the pages of OTHERS
+  they have no other commands.
 
 python3 docs/check_pages.py [PROGRAM]      PROGRAM is crates/aidl/out/aidl if none is named
 """
@@ -20,11 +20,12 @@ import page_commands
 
 TOP = pathlib.Path(__file__).resolve().parent.parent
 PAGES = [TOP / "README.md", *sorted(TOP.glob("docs/*.md")), *sorted(TOP.glob("crates/*/data/README*"))]
-COMPARED = ["README.md", "CI.md", "CHECKS.md"]
+OTHERS = ["PERFORMANCE.md", "PROVING.md"]
 FILE = r"[\w./-]+\.(?:rt|antt|py|md|rows|edit|txt|calls|hex)|(?:crates|docs|examples|proofs|specs|src)/[\w./-]+"
 # named, and neither a file that git keeps nor of a crate here
 ELSEWHERE = {"crates/aidl/out/aidl", "state.hex", "decode_utf16", "json_lines", "full"}
 ELSEWHERE |= {"aidl_interface", "aidl_api", "versions_with_info", "cpp_header", "structured_parcelable", "new_api"}
+ELSEWHERE |= {"IsAlwaysCallable", "SplitsAtFirstByte"}
 CLAUSES = r"(?:ensures|requires|law) (\w+) \{"
 
 
@@ -35,7 +36,8 @@ def named(line):
     of_crates = re.findall(rf"`({FILE})` of `([a-z]\w*)`", line)
     pairs = {pair for span in spans for pair in re.findall(r"\b([a-z]\w*)::([a-z]\w*)", span)}
     words = {word for span in spans for word in re.findall(r"(?<![\w./-])[a-z]\w*_\w+(?![\w./-])", span)}
-    return files, of_crates, pairs, words - ELSEWHERE
+    types = {word for span in spans for word in re.findall(r"^([A-Z]\w*[a-z]\w*)(?:::\w+)?$", span)}
+    return files, of_crates, pairs, (words | types) - ELSEWHERE
 
 
 def clauses(line):
@@ -45,9 +47,10 @@ def clauses(line):
 
 
 def prose(page):
-    """The lines of a page with their numbers, those of fenced blocks empty."""
+    """What a page says outside fenced blocks, each paragraph, item and row of a table in one line, with the number of its first."""
     text = re.sub(r"^```.*?^```", lambda block: re.sub(r"[^\n]", "", block[0]), page.read_text(), flags=re.M | re.S)
-    return enumerate(text.splitlines(), 1)
+    for part in re.finditer(r"^(?=[^\n]).*(?:\n(?! *(?:[-|#>]|\d+\.) | *$).+)*", text, re.M):
+        yield text[: part.start()].count("\n") + 1, re.sub(r"\s+", " ", part[0])
 
 
 def squeezed(text):
@@ -60,7 +63,7 @@ class Names:
     def __init__(self):
         inside = (path for path in TOP.rglob("*") if not {".git", "out", "__pycache__"} & set(path.parts))
         self.paths = {f"/{path.relative_to(TOP)}" for path in inside}
-        sources = {path: (TOP / path[1:]).read_text() for path in self.paths if re.search(r"\.(rt|antt|py|txt|edit)$", path)}
+        sources = {path: (TOP / path[1:]).read_text() for path in self.paths if re.search(r"\.(rt|antt|py|txt|edit|aidl)$", path)}
         self.code = "".join(squeezed(re.sub(r"^ *//.*\n", "", text, flags=re.M)) for text in sources.values())
         self.known = set(re.findall(r"\w+", "\n".join(sources.values())))
         self.crates = {name: "" for name in re.findall(r"^(\w+):", sources["/crates.txt"], re.M)}
@@ -112,7 +115,7 @@ def wrong_commands(program):
     for page in PAGES:
         text = page.read_text()
         yield from (f"{page.relative_to(TOP)}:{line}: {what}" for line, what in page_commands.wrong(text, program))
-        if page.name in COMPARED:
+        if page.name not in OTHERS:
             others = page_commands.blocks(text, "sh")
             yield from (f"{page.relative_to(TOP)}:{line}: a block of commands that isn't compared" for line, _ in others)
 

@@ -26,10 +26,16 @@ FOLDERS = [
     (["freeze", ".", "none"], 0),
     (["dump", "none", "out"], 1),
     (["verify", "none"], 1),
+    (["rehash", "none"], 1),
+    (["witness", ".", "none"], 1),
+    (["ask", "none", "1", "a.I", "1", "file"], 1),
+    (["replay", "none", "a.I", "trace"], 1),
+    (["make", "1", "none"], 0),
     (["run", "--trace", "--lenient", "none", ".", "calls"], 1),
     (["decode", "int", "file"], 0),
     (["decode", "--lenient", "--tree", "none", "a.R", "file"], 1),
     (["encode", "--tree", "none", "a.R", "file"], 1),
+    (["explain", "--tree", "none", "a.R", "file"], 1),
 ]
 
 

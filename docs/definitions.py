@@ -4,6 +4,7 @@ speak of. A file counts whole, comments and imports included. It fails where a f
 of a function that a crate exports cites one.
 
 python3 docs/definitions.py
+python3 docs/definitions.py --write      puts the table into docs/PROVED.md, and its last line into docs/ARCHITECTURE.md too
 """
 
 import pathlib
@@ -73,6 +74,13 @@ def lines(files):
     return sum(file.read_text().count("\n") for file in files)
 
 
+def put(page, text):
+    """Puts a text into a page, in place of what stands there from its first line to its last one, of which only the words before a number count."""
+    path, lines = CRATES.parent / "docs" / page, text.splitlines()
+    ends = dict.fromkeys(re.escape(re.match(r"\D*", line)[0]) for line in (lines[0], lines[-1]))
+    path.write_text(re.sub(f"(?ms)^{'.*?^'.join(ends)}[^\n]*", lambda _: text, path.read_text(), count=1))
+
+
 def main():
     top = (CRATES / "aidl_tool/src/top.rt").read_text()
     ours = needed(*cited(top, set(re.findall(r"\w+", CLAUSES.search(top)[0])), "aidl_tool"))
@@ -82,10 +90,13 @@ def main():
         specs = {file for file in crate.glob("specs/**/*.antt") if not file.with_suffix("").is_dir() and file.stem != "Lib"} - steps
         table.append((f"`{crate.name}`", lines(specs), lines(specs & ours), lines(steps)))
     table.append(("together", *(sum(row[k] for row in table) for k in (1, 2, 3))))
-    print("| Crate | Definitions, lines | Of these for `aidl` | Models of steps |\n|---|---|---|---|")
-    for row in filter(lambda row: any(row[1:]), table):
-        print(f"| {row[0]} | {' | '.join(str(n or '') for n in row[1:])} |")
-    print(f"\nThe clauses of `aidl` need {len(ours)} files in {sum(row[2] > 0 for row in table[:-1])} crates, {lines(ours):,} lines.")
+    text = ["| Crate | Definitions, lines | Of these for `aidl` | Models of steps |", "|---|---|---|---|"]
+    text += [f"| {row[0]} | {' | '.join(str(n or '') for n in row[1:])} |" for row in table if any(row[1:])]
+    text += ["", f"The clauses of `aidl` need {len(ours)} files in {sum(row[2] > 0 for row in table[:-1])} crates, {lines(ours):,} lines."]
+    print(*text, sep="\n")
+    if "--write" in sys.argv:
+        put("PROVED.md", "\n".join(text))
+        put("ARCHITECTURE.md", text[-1])
     cite = list(steps_cited())
     print(*(f"{name} is exported and cites a model of steps" for name in cite), sep="\n", end="\n" * bool(cite), file=sys.stderr)
     sys.exit(bool(cite) or any("steps" in file.parts for file in ours))
