@@ -1,5 +1,5 @@
 -- What reaches no cycle of containment has a default: no chain from it meets a declaration twice, so chains have an end.
-use Rattle.std.proofs.Common.{◌≡◌, ℕ, zero, suc, ◌<◌, ◌⊎◌, inl, inr, Bool, true, false, not, ◌&&◌, ◌||◌, if◌then◌else◌, eqb, List, [], ◌∷◌, length, Option, Some, None, slice_get, refl, sym, ap, ◌∙◌, subst, arith, true≢false}
+use Rattle.std.proofs.Common.{◌≡◌, ℕ, zero, suc, ◌<◌, ◌⊎◌, inl, inr, Bool, true, false, not, ◌&&◌, ◌||◌, eqb, List, [], ◌∷◌, length, Option, Some, None, slice_get, refl, sym, ◌∙◌, subst, arith, true≢false}
 use Rattle.std.specs.Prelude.{pos, Contains, MatchOption}
 use Rattle.std.specs.List.{list_all, list_any, flat_map, AllByRecursion, IsDistinct}
 use Rattle.std.proofs.lemmas.Bool.Decides.{nat_tests}
@@ -15,7 +15,7 @@ use Rattle.aidl_schema.specs.declared.schema.Kind.TheVariants.{Union}
 use Rattle.aidl_schema.specs.declared.schema.Base.{Base}
 use Rattle.aidl_schema.specs.declared.schema.Base.TheVariants as base
 use Rattle.aidl_schema.specs.declared.schema.AidlType.{AidlType}
-use Rattle.aidl_schema.specs.Containment.{fields_of, is_composite, number_of, contained_by, contained_by_decl, contained, IsChain, Reaches, holds_itself}
+use Rattle.aidl_schema.specs.Containment.{fields_of, is_composite, contained_by, contained_by_decl, contained, IsChain, Reaches, holds_itself}
 use Rattle.aidl_schema.specs.Methods.{is_field_type, is_whole_type, may_be_on_heap}
 use Rattle.aidl_schema.specs.Types.{Form, form_of, form_of_decl, is_one, is_type, is_meant}
 use Rattle.aidl_schema.specs.Types as form

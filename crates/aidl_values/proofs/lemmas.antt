@@ -1,5 +1,7 @@
 -- Laws of this crate's definitions that crates above cite.
 pub mod Fronts
 pub mod Levels
+pub mod Nexts
 pub mod OneZero
 pub mod Sounds
+pub mod Views

@@ -1,5 +1,5 @@
 -- Of which declarations every default has an end (own: E22 and E23). They needn't be a valid schema.
-use Rattle.std.specs.Prelude.{◌≡◌, ℕ, ◌≤◌, Bool, true, false, List, [], ◌∷◌, Some, slice_get, ◌⊎◌, IsTrue}
+use Rattle.std.specs.Prelude.{◌≡◌, ℕ, ◌≤◌, Bool, true, false, List, [], Some, slice_get, ◌⊎◌, IsTrue}
 use Rattle.std.specs.List.{list_all}
 use Rattle.aidl_schema.specs.declared.schema.Decl.{Decl}
 use Rattle.aidl_schema.specs.declared.schema.Kind.{Kind}

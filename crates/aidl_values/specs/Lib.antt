@@ -4,6 +4,7 @@ pub mod Ends
 pub mod Fits
 pub mod HasType
 pub mod Nodes
+pub mod Numbers
 pub mod Sound
 pub mod steps
 pub mod View

@@ -3,6 +3,7 @@
 
 mod default;
 mod laws;
+mod numbers;
 mod typing;
 mod value;
 
@@ -11,5 +12,6 @@ pub use laws::{
     law_counted_defaults, law_default_ends, law_default_fits, law_initial_fits, law_one_default,
     law_shallow_defaults, law_small_defaults, law_sound, law_typed_defaults,
 };
+pub use numbers::Numbers;
 pub use typing::has_type;
 pub use value::{Answer, Value, depth};

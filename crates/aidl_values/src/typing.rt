@@ -1,10 +1,12 @@
 //! Whether a value has a type of a schema.
-ghost use Rattle.std.specs.Prelude.{◌≡◌, ◌↔◌, IsTrue, slice_get};
+ghost use Rattle.std.specs.Prelude.{◌≡◌, ◌↔◌, IsTrue, map, slice_get};
 ghost use Rattle.aidl_schema.specs.Types as types;
+ghost use Rattle.aidl_values.specs.Data.{number, truth};
 ghost use Rattle.aidl_values.specs.HasType.{HasType};
 ghost use Rattle.aidl_values.specs.steps.TypeTest.{has_type_of, of_field, all_have_type, fields_have_type};
-ghost use Rattle.aidl_values.specs.View.{view, views};
+ghost use Rattle.aidl_values.specs.View.{items_of, view, views};
 
+use crate::numbers::Numbers;
 use crate::value::Value;
 use aidl_schema::{AidlType, Field, Form, Schema, Shape, element, form_in, is_in_range};
 
@@ -23,8 +25,8 @@ fn is_of(schema: &Schema, ty: AidlType, value: &Value) -> bool
 {
     match value {
         Value::Null => ty.nullable,
-        Value::Truth(_) => is_one(ty.shape) && matches!(form_in(schema, ty.base), Form::Truth),
-        Value::Number(n) => is_one(ty.shape) && is_in_range(&form_in(schema, ty.base), *n),
+        Value::Truth(b) => is_truth_of(schema, ty, *b),
+        Value::Number(n) => is_number_of(schema, ty, *n),
         Value::Text(text) => {
             // That it is a text says that its characters are Unicode scalars.
             let _text = text.as_str();
@@ -32,6 +34,12 @@ fn is_of(schema: &Schema, ty: AidlType, value: &Value) -> bool
         }
         Value::Seq(items) => {
             !is_one(ty.shape) && are_of(schema, element(schema, ty), items.as_slice())
+        }
+        Value::Truths(truths) => {
+            !is_one(ty.shape) && are_truths_of(schema, element(schema, ty), truths.as_slice())
+        }
+        Value::Numbers(numbers) => {
+            !is_one(ty.shape) && are_numbers_of(schema, element(schema, ty), numbers)
         }
         Value::Rec(items) => match form_in(schema, ty.base) {
             Form::Parcelable(fields) => {
@@ -50,6 +58,44 @@ fn is_one(shape: Shape) -> bool
     ensures { result ≡ types.is_one shape }
 {
     matches!(shape, Shape::One)
+}
+
+// Whether a truth value is of a type, which it is whatever it is.
+fn is_truth_of(schema: &Schema, ty: AidlType, _truth: bool) -> bool
+    ensures { result ≡ has_type_of schema.now.decls ty (truth _truth) }
+{
+    is_one(ty.shape) && matches!(form_in(schema, ty.base), Form::Truth)
+}
+
+fn are_truths_of(schema: &Schema, ty: AidlType, truths: &[bool]) -> bool
+    ensures { result ≡ all_have_type schema.now.decls ty (items_of (map truth truths.now)) }
+{
+    for truth in truths {
+        if !is_truth_of(schema, ty, *truth) {
+            return false;
+        }
+    }
+    true
+}
+
+// Whether a number is of a type.
+fn is_number_of(schema: &Schema, ty: AidlType, n: i64) -> bool
+    ensures { result ≡ has_type_of schema.now.decls ty (number n) }
+{
+    is_one(ty.shape) && is_in_range(&form_in(schema, ty.base), n)
+}
+
+#[tactic(auto, using(crate::proofs::lemmas::Nexts::next_of_rest))]
+fn are_numbers_of(schema: &Schema, ty: AidlType, numbers: &Numbers) -> bool
+    ensures { result ≡ all_have_type schema.now.decls ty (items_of (map number numbers.now)) }
+{
+    for i in 0..numbers.len() {
+        let n = numbers.get(i);
+        if !is_number_of(schema, ty, n) {
+            return false;
+        }
+    }
+    true
 }
 
 // Whether a union has a field at the position, and the value is of its type.

@@ -3,10 +3,12 @@ ghost use Rattle.std.specs.Prelude.{◌≡◌, min, map, IfOk};
 ghost use Rattle.aidl_values.specs.Data.{depth_of, greatest};
 ghost use Rattle.aidl_values.specs.View.{view, views};
 
+use crate::numbers::Numbers;
 use aidl_base::{OutOfMemory, Row, Text};
 use std::alloc::Global;
 
-/// A value of a type.
+/// A value of a type. A sequence whose elements are truth values or numbers may be kept in either of two forms, as values or side by side:
+/// they are the same data.
 #[derive(Debug, Drop)]
 pub enum Value {
     Null,
@@ -16,6 +18,10 @@ pub enum Value {
     Text(Text),
     /// of an array or a `List`
     Seq(Row<Value>),
+    /// the same of boolean, side by side
+    Truths(Row<bool>),
+    /// the same of byte, char, int, long or an enum, side by side
+    Numbers(Numbers),
     /// of a parcelable, one value per field in order
     Rec(Row<Value>),
     /// of a union: the 0-based position of the field, and its value
@@ -41,6 +47,11 @@ fn copy(alloc: Global, value: &Value) -> Result<Value, OutOfMemory>
         Value::Number(n) => Ok(Value::Number(*n)),
         Value::Text(text) => Ok(Value::Text(text.try_clone(alloc)?)),
         Value::Seq(items) => Ok(Value::Seq(copy_items(alloc, items.as_slice())?)),
+        Value::Truths(truths) => {
+            let copied = truths.as_slice().to_vec(alloc)?;
+            Ok(Value::Truths(Row::from_vec(copied)))
+        }
+        Value::Numbers(numbers) => Ok(Value::Numbers(numbers.try_clone(alloc)?)),
         Value::Rec(items) => Ok(Value::Rec(copy_items(alloc, items.as_slice())?)),
         Value::Alt(tag, inner) => {
             let copied = copy(alloc, inner)?;
@@ -82,6 +93,8 @@ pub fn depth(value: &Value) -> usize
 {
     match value {
         Value::Null | Value::Truth(_) | Value::Number(_) | Value::Text(_) => 0,
+        Value::Truths(_) => 1,
+        Value::Numbers(_) => 1,
         Value::Seq(items) => greatest_depth(items.as_slice()).saturating_add(1),
         Value::Rec(items) => greatest_depth(items.as_slice()).saturating_add(1),
         Value::Alt(_, inner) => depth(inner).saturating_add(1),

@@ -8,4 +8,5 @@ mod Members
 mod Names
 mod Parts
 mod Plain
+mod SideBySide
 mod Texts

@@ -2,4 +2,3 @@
 pub mod Gives
 pub mod Levels
 pub mod Plain
-pub mod Puts

@@ -9,10 +9,12 @@ mod keys;
 mod laws;
 mod numbers;
 mod pointer;
+mod reader;
 mod reading;
 mod records;
 mod scalars;
 mod sequences;
+mod side_by_side;
 mod unions;
 
 pub use fault::{Fault, JsonFault, Reason};

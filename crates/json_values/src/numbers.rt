@@ -20,7 +20,7 @@ pub fn number_value(n: i64) -> Value
 // The number that a JSON value is for a byte, char, int or long, whatever the schema. None says nothing.
 #[inline(always)]
 pub fn plain_number(ty: AidlType, json: &Json) -> Option<i64>
-    ensures { IfSome result (λ n. IsPlain ty (json_view json.now) n) }
+    ensures { IfSome result (λ n. IsPlain ty (json_view json.now) (number n)) }
 {
     match (ty.shape, json) {
         (Shape::One, Json::Number(number)) => match number.as_i64() {

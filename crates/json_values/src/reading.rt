@@ -8,13 +8,14 @@ ghost use Rattle.json_values.specs.FromJson as answer;
 ghost use Rattle.json_values.specs.FromJson.{from_json_of, from_by};
 ghost use Rattle.json_values.specs.Gives.{refusal_of};
 ghost use Rattle.json_writing.specs.Named.{enumerators_of};
-ghost use Rattle.json_values.specs.steps.Levels.{part_from, default_of};
+ghost use Rattle.json_values.specs.steps.Levels.{part_of, default_in};
 ghost use Rattle.aidl_values.specs.steps.Levels.{is_level_left};
 ghost use Rattle.json_values.specs.steps.Gives.{Gives};
 
 use crate::fault::{Fault, JsonFault, Reason, refused, reported};
 use crate::hints::Hints;
 use crate::numbers::{number_value, plain_number};
+use crate::reader::Reader;
 use crate::records::read_record;
 use crate::scalars::{read_number, read_text, read_truth};
 use crate::sequences::read_sequence;
@@ -40,7 +41,8 @@ pub fn from_json(
 ) -> Result<Value, JsonFault>
     ensures ok { IfOk result (λ v. from_json_of schema.now.decls 64 ty.now (json_view json.now) ≡ Ok (view v)) }
     ensures fits { IfOk result (λ v. Fits schema.now.decls ty.now (view v)) }
-    ensures refused { IfErr result (λ fault. IfSome (refusal_of fault) (λ r. from_json_of schema.now.decls 64 ty.now (json_view json.now) ≡ Err r)) }
+    ensures refused { IfErr result
+        (λ fault. IfSome (refusal_of fault) (λ r. from_json_of schema.now.decls 64 ty.now (json_view json.now) ≡ Err r)) }
 {
     match read_fitting(alloc, schema, *ty, json) {
         Ok(value) => Ok(value),
@@ -61,48 +63,70 @@ fn read_fitting(
     law_valid(schema);
     law_sound(schema);
     let mut hints = Hints::new(alloc);
-    read_within(alloc, schema, &mut hints, ty, LEVELS, json)
+    let reader = Reader {
+        alloc,
+        schema,
+        levels: LEVELS,
+    };
+    read_within(&reader, &mut hints, ty, json)
+}
+
+// A part, which has one level fewer.
+#[cycle(reading)]
+pub fn read_part<'a>(
+    reader: &Reader<'a>,
+    hints: &mut Hints<'a>,
+    ty: AidlType,
+    json: &Json,
+) -> Result<Value, Fault<Reason>>
+    requires left { 0 < reader.now.levels }
+    requires few { reader.now.levels ≤ 64 }
+    ensures { Gives view result (part_of reader.now ty (json_view json.now)) }
+{
+    let below = Reader {
+        alloc: reader.alloc,
+        schema: reader.schema,
+        levels: reader.levels - 1,
+    };
+    read_within(&below, hints, ty, json)
 }
 
 // Numbers, of which there may be many, are answered without a look at the schema.
 #[cycle(reading)]
 #[inline(always)]
-pub fn read_within<'a>(
-    alloc: Global,
-    schema: &'a Schema,
+fn read_within<'a>(
+    reader: &Reader<'a>,
     hints: &mut Hints<'a>,
     ty: AidlType,
-    levels: usize,
     json: &Json,
 ) -> Result<Value, Fault<Reason>>
-    requires { levels ≤ 64 }
-    ensures { Gives view result (from_json_of schema.now.decls levels ty (json_view json.now)) }
+    requires { reader.now.levels ≤ 64 }
+    ensures { Gives view result (from_json_of reader.now.schema.now.decls reader.now.levels ty (json_view json.now)) }
 {
     match plain_number(ty, json) {
         Some(n) => Ok(number_value(n)),
-        None => read(alloc, schema, hints, ty, levels, json),
+        None => read(reader, hints, ty, json),
     }
 }
 
 #[cycle(reading)]
 fn read<'a>(
-    alloc: Global,
-    schema: &'a Schema,
+    reader: &Reader<'a>,
     hints: &mut Hints<'a>,
     ty: AidlType,
-    levels: usize,
     json: &Json,
 ) -> Result<Value, Fault<Reason>>
-    requires { levels ≤ 64 }
-    ensures { Gives view result (from_by schema.now.decls (is_level_left levels) (λ f. default_of schema.now.decls levels f) (λ u j. part_from schema.now.decls levels u j) ty (json_view json.now)) }
+    requires { reader.now.levels ≤ 64 }
+    ensures { Gives view result (from_by reader.now.schema.now.decls (is_level_left reader.now.levels)
+        (default_in reader.now) (part_of reader.now) ty (json_view json.now)) }
 {
     if is_absent(ty.nullable, json) {
         return Ok(Value::Null);
     }
     match ty.shape {
-        Shape::One => read_one(alloc, schema, hints, ty.base, levels, json),
+        Shape::One => read_one(reader, hints, ty.base, json),
         Shape::Array | Shape::List => {
-            read_sequence(alloc, schema, hints, element(schema, ty), levels, json)
+            read_sequence(reader, hints, element(reader.schema, ty), json)
         }
     }
 }
@@ -117,28 +141,26 @@ fn is_absent(nullable: bool, json: &Json) -> bool
 // One value that is no sequence.
 #[cycle(reading)]
 fn read_one<'a>(
-    alloc: Global,
-    schema: &'a Schema,
+    reader: &Reader<'a>,
     hints: &mut Hints<'a>,
     base: Base,
-    levels: usize,
     json: &Json,
 ) -> Result<Value, Fault<Reason>>
-    requires { levels ≤ 64 }
-    ensures { Gives view result (answer.one_from (is_level_left levels) (λ f. default_of schema.now.decls levels f) (λ u j. part_from schema.now.decls levels u j)
-        (enumerators_of schema.now.decls base) (form_of schema.now.decls base) (json_view json.now)) }
+    requires { reader.now.levels ≤ 64 }
+    ensures { Gives view result (answer.one_from (is_level_left reader.now.levels) (default_in reader.now) (part_of reader.now)
+        (enumerators_of reader.now.schema.now.decls base) (form_of reader.now.schema.now.decls base) (json_view json.now)) }
 {
-    law_valid(schema);
-    law_sound(schema);
-    let form = form_in(schema, base);
+    law_valid(reader.schema);
+    law_sound(reader.schema);
+    let form = form_in(reader.schema, base);
     match form {
-        Form::Truth => read_truth(alloc, json),
-        Form::Text => read_text(alloc, json),
-        Form::Parcelable(fields) => read_record(alloc, schema, hints, base, fields, levels, json),
-        Form::Union(fields) => read_union(alloc, schema, hints, base, fields, levels, json),
-        Form::Nothing => Err(refused(alloc, Reason::WrongShape)),
+        Form::Truth => read_truth(reader.alloc, json),
+        Form::Text => read_text(reader.alloc, json),
+        Form::Parcelable(fields) => read_record(reader, hints, base, fields, json),
+        Form::Union(fields) => read_union(reader, hints, base, fields, json),
+        Form::Nothing => Err(refused(reader.alloc, Reason::WrongShape)),
         Form::Byte | Form::Char | Form::Int | Form::Long => {
-            read_number(alloc, schema, hints, base, &form, json)
+            read_number(reader.alloc, reader.schema, hints, base, &form, json)
         }
     }
 }

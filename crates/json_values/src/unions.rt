@@ -5,15 +5,16 @@ ghost use Rattle.aidl_schema.specs.Holds.{AreApart};
 ghost use Rattle.aidl_values.specs.Data.{alt};
 ghost use Rattle.aidl_values.specs.View.{view};
 ghost use Rattle.json_values.specs.FromJson as answer;
-ghost use Rattle.json_values.specs.steps.Levels.{part_from, chosen_from};
+ghost use Rattle.json_values.specs.steps.Levels.{part_of, chosen_from};
 ghost use Rattle.aidl_values.specs.steps.Levels.{is_level_left};
 ghost use Rattle.json_values.specs.steps.Gives.{Gives};
 
 use crate::fault::{Fault, Reason, refused};
 use crate::hints::Hints;
 use crate::pointer::below_key;
-use crate::reading::read_within;
-use aidl_schema::{Base, Field, Schema};
+use crate::reader::Reader;
+use crate::reading::read_part;
+use aidl_schema::{Base, Field};
 use aidl_values::Value;
 use json_writing::is_called;
 use serde_json::{Map, Value as Json};
@@ -22,39 +23,28 @@ use std::alloc::Global;
 // A union.
 #[cycle(reading)]
 pub fn read_union<'a>(
-    alloc: Global,
-    schema: &'a Schema,
+    reader: &Reader<'a>,
     hints: &mut Hints<'a>,
     base: Base,
     fields: &'a [Field],
-    levels: usize,
     json: &Json,
 ) -> Result<Value, Fault<Reason>>
-    requires few { levels ≤ 64 }
+    requires few { reader.now.levels ≤ 64 }
     requires apart { AreApart (λ f. f.name.0) fields.now }
     requires fields { length fields.now ≤ 4096 }
-    ensures { Gives view result (answer.union_from (is_level_left levels) (λ u j. part_from schema.now.decls levels u j) fields.now (json_view json.now)) }
+    ensures { Gives view result (answer.union_from (is_level_left reader.now.levels) (part_of reader.now) fields.now (json_view json.now)) }
 {
     let Json::Object(members) = json else {
-        return Err(refused(alloc, Reason::WrongShape));
+        return Err(refused(reader.alloc, Reason::WrongShape));
     };
     let Some((key, inner)) = only_member(members) else {
-        return Err(refused(alloc, Reason::WrongShape));
+        return Err(refused(reader.alloc, Reason::WrongShape));
     };
-    if levels == 0 {
-        return Err(refused(alloc, Reason::TooDeep));
+    if reader.levels == 0 {
+        return Err(refused(reader.alloc, Reason::TooDeep));
     }
-    let place = hints.place(alloc, base, fields, key.as_str())?;
-    read_alternative(
-        alloc,
-        schema,
-        hints,
-        fields,
-        place,
-        levels,
-        key.as_str(),
-        inner,
-    )
+    let place = hints.place(reader.alloc, base, fields, key.as_str())?;
+    read_alternative(reader, hints, fields, place, key.as_str(), inner)
 }
 
 fn only_member(members: &Map<String, Json>) -> Option<(&String, &Json)>
@@ -71,73 +61,67 @@ fn only_member(members: &Map<String, Json>) -> Option<(&String, &Json)>
 // are gone through.
 #[cycle(reading)]
 fn read_alternative<'a>(
-    alloc: Global,
-    schema: &'a Schema,
+    reader: &Reader<'a>,
     hints: &mut Hints<'a>,
     fields: &[Field],
     place: usize,
-    levels: usize,
     key: &str,
     json: &Json,
 ) -> Result<Value, Fault<Reason>>
-    requires left { 0 < levels }
-    requires few { levels ≤ 64 }
+    requires left { 0 < reader.now.levels }
+    requires few { reader.now.levels ≤ 64 }
     requires apart { AreApart (λ f. f.name.0) fields.now }
     requires fields { length fields.now ≤ 4096 }
-    ensures { Gives view result (answer.alternative_from (λ u j. part_from schema.now.decls levels u j) 0 fields.now key.now (json_view json.now)) }
+    ensures { Gives view result (answer.alternative_from (part_of reader.now) 0 fields.now key.now (json_view json.now)) }
 {
     match fields.get(place) {
         Some(field) if is_called(&field.name, key) => {
-            read_chosen(alloc, schema, hints, field, place, levels, key, json)
+            read_chosen(reader, hints, field, place, key, json)
         }
-        _ => find_alternative(alloc, schema, hints, fields, levels, key, json),
+        _ => find_alternative(reader, hints, fields, key, json),
     }
 }
 
 #[cycle(reading)]
 fn find_alternative<'a>(
-    alloc: Global,
-    schema: &'a Schema,
+    reader: &Reader<'a>,
     hints: &mut Hints<'a>,
     fields: &[Field],
-    levels: usize,
     key: &str,
     json: &Json,
 ) -> Result<Value, Fault<Reason>>
-    requires left { 0 < levels }
-    requires few { levels ≤ 64 }
+    requires left { 0 < reader.now.levels }
+    requires few { reader.now.levels ≤ 64 }
     requires fields { length fields.now ≤ 4096 }
-    ensures { Gives view result (answer.alternative_from (λ u j. part_from schema.now.decls levels u j) 0 fields.now key.now (json_view json.now)) }
+    ensures { Gives view result (answer.alternative_from (part_of reader.now) 0 fields.now key.now (json_view json.now)) }
 {
     for (i, field) in fields.iter().enumerate() {
         if is_called(&field.name, key) {
-            return read_chosen(alloc, schema, hints, field, i, levels, key, json);
+            return read_chosen(reader, hints, field, i, key, json);
         }
     }
-    let fault = refused(alloc, Reason::UnknownKey);
-    Err(below_key(alloc, key, fault))
+    let fault = refused(reader.alloc, Reason::UnknownKey);
+    Err(below_key(reader.alloc, key, fault))
 }
 
 // The value of a union's field, which is the one at a place.
 #[cycle(reading)]
 fn read_chosen<'a>(
-    alloc: Global,
-    schema: &'a Schema,
+    reader: &Reader<'a>,
     hints: &mut Hints<'a>,
     field: &Field,
     place: usize,
-    levels: usize,
     key: &str,
     json: &Json,
 ) -> Result<Value, Fault<Reason>>
-    requires left { 0 < levels }
-    requires few { levels ≤ 64 }
+    requires left { 0 < reader.now.levels }
+    requires few { reader.now.levels ≤ 64 }
     requires place { place < 4096 }
-    ensures { Gives view result (chosen_from (λ u j. part_from schema.now.decls levels u j) place field.now key.now (json_view json.now)) }
+    ensures { Gives view result (chosen_from (part_of reader.now) place field.now key.now (json_view json.now)) }
 {
-    match read_within(alloc, schema, hints, field.ty, levels - 1, json) {
-        Ok(value) => alternative(alloc, place as u32, value),
-        Err(fault) => Err(below_key(alloc, key, fault)),
+    match read_part(reader, hints, field.ty, json) {
+        Ok(value) => alternative(reader.alloc, place as u32, value),
+        Err(fault) => Err(below_key(reader.alloc, key, fault)),
     }
 }
 

@@ -38,7 +38,8 @@ impl<'a> Model for MemberRows<'a> {
 
     ghost view = { λ rows. rows.schema.now.decls };
 
-    ghost invariant = { λ rows. (decl : ℕ) → IfSome (get nat_eq rows.rows decl) (λ row. IsRow (fields_in (form_of rows.schema.now.decls (base.Named decl))) row.value.items) };
+    ghost invariant = { λ rows. (decl : ℕ) → IfSome (get nat_eq rows.rows decl)
+        (λ row. IsRow (fields_in (form_of rows.schema.now.decls (base.Named decl))) row.value.items) };
 }
 
 impl<'a> MemberRows<'a> {

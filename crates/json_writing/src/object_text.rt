@@ -53,7 +53,8 @@ fn push_members(
     requires typed { FieldsHaveType printer.old fields.now (views values.now) }
     requires within { AreWithin (length fields.now) row.now }
     ensures same { printer.new ≡ printer.old }
-    ensures text { OnOk result (string_bytes text.new ≡ string_bytes text.old ++ row_text (λ i. compact_text (part_at printer.old fields.now values.now i)) row.now) }
+    ensures text { OnOk result (string_bytes text.new ≡ string_bytes text.old
+        ++ row_text (λ i. compact_text (part_at printer.old fields.now values.now i)) row.now) }
 {
     for member in row {
         push_member(alloc, printer, fields, member, values, text)?;
@@ -73,7 +74,8 @@ fn push_member(
     requires typed { FieldsHaveType printer.old fields.now (views values.now) }
     requires within { member.now.place < length fields.now }
     ensures same { printer.new ≡ printer.old }
-    ensures text { OnOk result (string_bytes text.new ≡ string_bytes text.old ++ (string_bytes member.now.key ++ compact_text (part_at printer.old fields.now values.now member.now.place))) }
+    ensures text { OnOk result (string_bytes text.new ≡ string_bytes text.old
+        ++ (string_bytes member.now.key ++ compact_text (part_at printer.old fields.now values.now member.now.place))) }
 {
     text.push_str(member.key.as_str())?;
     let field = &fields[member.place];
@@ -111,7 +113,8 @@ fn push_only(
 ) -> Result<(), OutOfMemory>
     requires { HasType printer.old field.now.ty (view value.now) }
     ensures same { printer.new ≡ printer.old }
-    ensures text { OnOk result (string_bytes text.new ≡ string_bytes text.old ++ compact_text (object (member (bytes_of field.now.name) (json_of printer.old field.now.ty (view value.now)) no_members))) }
+    ensures text { OnOk result (string_bytes text.new ≡ string_bytes text.old
+        ++ compact_text (object (member (bytes_of field.now.name) (json_of printer.old field.now.ty (view value.now)) no_members))) }
 {
     text.push_str("{")?;
     push_quoted(alloc, field.name.0.as_str(), text)?;

@@ -1,5 +1,5 @@
 //! The state of printing one value, and the JSON of its numbers.
-ghost use Rattle.std.specs.Prelude.{◌≡◌, ◌++◌, IfOk, OnOk, string_bytes};
+ghost use Rattle.std.specs.Prelude.{◌≡◌, ◌++◌, IfOk, OnOk, option_map, string_bytes};
 ghost use Rattle.std.specs.Fmt.{signed_decimal};
 ghost use Rattle.serde_json.specs.Written.{compact_text};
 ghost use Rattle.aidl_schema.specs.Types.{elem, form_of};
@@ -9,11 +9,11 @@ ghost use Rattle.json_writing.specs.steps.Members.{IsRow};
 
 use crate::member_rows::MemberRows;
 use crate::members::Member;
-use crate::named::fields_of;
+use crate::named::{enumerators_in, fields_of};
 use crate::quoted::push_quoted;
 use crate::value_names::ValueNames;
 use aidl_base::OutOfMemory;
-use aidl_schema::{AidlType, Base, Field, Schema, element};
+use aidl_schema::{AidlType, Base, Enumerator, Field, Schema, element};
 use itoa::Buffer;
 use std::alloc::Global;
 use std::marker::Model;
@@ -66,6 +66,13 @@ impl<'a> Printer<'a> {
         fields_of(self.schema, base)
     }
 
+    // The enumerators of the enum that a base is.
+    pub fn enumerators(&self, base: Base) -> Option<&'a [Enumerator]>
+        ensures { option_map (λ es. es.now) result ≡ enumerators_of self.now base }
+    {
+        enumerators_in(self.schema, base)
+    }
+
     // The type of an element.
     pub fn element(&self, ty: AidlType) -> AidlType
         ensures { result ≡ elem self.now ty }
@@ -90,7 +97,8 @@ impl<'a> Printer<'a> {
         text: &mut String,
     ) -> Result<(), OutOfMemory>
         ensures same { self.new ≡ self.old }
-        ensures text { OnOk result (string_bytes text.new ≡ string_bytes text.old ++ compact_text (json_number (enumerators_of self.old base) n)) }
+        ensures text { OnOk result
+            (string_bytes text.new ≡ string_bytes text.old ++ compact_text (json_number (enumerators_of self.old base) n)) }
     {
         match self.names.name(alloc, base, n)? {
             Some(name) => push_quoted(alloc, name.0.as_str(), text),

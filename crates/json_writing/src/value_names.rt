@@ -37,7 +37,8 @@ impl<'a> Model for ValueNames<'a> {
 
     ghost view = { λ names. names.schema.now.decls };
 
-    ghost invariant = { λ names. (decl : ℕ) → IfSome (get nat_eq names.tables decl) (λ es. enumerators_of names.schema.now.decls (base.Named decl) ≡ Some es) };
+    ghost invariant = { λ names. (decl : ℕ) → IfSome (get nat_eq names.tables decl)
+        (λ es. enumerators_of names.schema.now.decls (base.Named decl) ≡ Some es) };
 }
 
 impl<'a> ValueNames<'a> {

@@ -9,7 +9,7 @@ ghost use Rattle.json_writing.specs.ValueText.{value_text};
 use crate::object_text::{push_alternative, push_record};
 use crate::printer::Printer;
 use crate::quoted::push_quoted;
-use crate::sequence_text::push_sequence;
+use crate::sequence_text::{push_numbers, push_sequence, push_truths};
 use aidl_base::OutOfMemory;
 use aidl_schema::{AidlType, Schema};
 use aidl_values::Value;
@@ -49,6 +49,8 @@ pub fn push_value(
         Value::Number(n) => printer.push_number(alloc, ty.base, *n, text),
         Value::Text(string) => push_quoted(alloc, string.as_str(), text),
         Value::Seq(items) => push_sequence(alloc, printer, ty, items.as_slice(), text),
+        Value::Truths(truths) => push_truths(truths.as_slice(), text),
+        Value::Numbers(numbers) => push_numbers(alloc, printer, ty.base, numbers, text),
         Value::Rec(items) => push_record(alloc, printer, ty, items.as_slice(), text),
         Value::Alt(tag, inner) => push_alternative(alloc, printer, ty, *tag, inner, text),
     }
@@ -61,7 +63,7 @@ pub fn push_null(text: &mut String) -> Result<(), OutOfMemory>
     Ok(())
 }
 
-fn push_truth(b: bool, text: &mut String) -> Result<(), OutOfMemory>
+pub fn push_truth(b: bool, text: &mut String) -> Result<(), OutOfMemory>
     ensures { OnOk result (string_bytes text.new ≡ string_bytes text.old ++ compact_text (boolean b)) }
 {
     text.push_str(if b { "true" } else { "false" })?;
@@ -69,11 +71,12 @@ fn push_truth(b: bool, text: &mut String) -> Result<(), OutOfMemory>
 }
 
 // Adds the comma between two elements or members, where one stands before.
+#[inline(always)]
 pub fn push_comma_if(later: bool, text: &mut String) -> Result<(), OutOfMemory>
     ensures { OnOk result (string_bytes text.new ≡ string_bytes text.old ++ comma_if later) }
 {
     if later {
-        text.push_str(",")?;
+        text.push(',')?;
     }
     Ok(())
 }

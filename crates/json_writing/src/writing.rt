@@ -6,12 +6,13 @@ ghost use Rattle.aidl_values.specs.HasType.{HasType};
 ghost use Rattle.aidl_values.specs.View.{view, views};
 ghost use Rattle.json_writing.specs.Json.{json_of, json_items, json_members, json_named, json_number, json_alternative};
 ghost use Rattle.json_writing.specs.Named.{bytes_of, enumerators_of};
+ghost use Rattle.json_writing.specs.steps.Rows.{json_numbers, json_truths};
 
 use crate::named::fields_of;
 use crate::value_names::ValueNames;
 use aidl_base::{Ident, OutOfMemory};
 use aidl_schema::{AidlType, Base, Field, Schema, element};
-use aidl_values::Value;
+use aidl_values::{Numbers, Value};
 use serde_json::{Map, Value as Json, put};
 use std::alloc::Global;
 
@@ -55,6 +56,8 @@ fn write(
             element(schema, ty),
             items.as_slice(),
         ),
+        Value::Truths(truths) => write_truths(alloc, truths.as_slice()),
+        Value::Numbers(numbers) => write_numbers(alloc, names, ty.base, numbers),
         Value::Rec(items) => {
             let fields = fields_of(schema, ty.base);
             write_fields(alloc, schema, names, fields, items.as_slice())
@@ -81,6 +84,34 @@ fn write_items(
     let mut items = Vec::with_capacity(alloc, values.len())?;
     for value in values {
         items.push(write(alloc, schema, names, ty, value)?)?;
+    }
+    Ok(Json::from(items))
+}
+
+// An array of booleans, side by side.
+fn write_truths(alloc: Global, truths: &[bool]) -> Result<Json, OutOfMemory>
+    ensures { IfOk result (λ j. json_view j ≡ array (json_truths truths.now)) }
+{
+    let mut items = Vec::with_capacity(alloc, truths.len())?;
+    for truth in truths {
+        items.push(Json::Bool(*truth))?;
+    }
+    Ok(Json::from(items))
+}
+
+// An array of numbers of a base, side by side.
+fn write_numbers(
+    alloc: Global,
+    names: &mut ValueNames<'_>,
+    base: Base,
+    numbers: &Numbers,
+) -> Result<Json, OutOfMemory>
+    ensures same { names.new ≡ names.old }
+    ensures json { IfOk result (λ j. json_view j ≡ array (json_numbers (enumerators_of names.old base) numbers.now)) }
+{
+    let mut items = Vec::with_capacity(alloc, numbers.len())?;
+    for i in 0..numbers.len() {
+        items.push(write_number(alloc, names, base, numbers.get(i))?)?;
     }
     Ok(Json::from(items))
 }
@@ -119,7 +150,8 @@ fn write_alternative(
 ) -> Result<Json, OutOfMemory>
     requires { names.old ≡ schema.now.decls }
     ensures same { names.new ≡ names.old }
-    ensures json { IfOk result (λ j. json_view j ≡ json_alternative (slice_get fields.now tag) (λ u. json_of schema.now.decls u (view value.now))) }
+    ensures json { IfOk result
+        (λ j. json_view j ≡ json_alternative (slice_get fields.now tag) (λ u. json_of schema.now.decls u (view value.now))) }
 {
     match fields.get(tag as usize) {
         Some(field) => {

@@ -4,4 +4,5 @@ mod Levels
 mod Loop
 mod SameReads
 mod Records
+mod SideBySide
 mod Whole

@@ -6,6 +6,7 @@ mod front;
 mod leaf;
 mod marks;
 mod raw;
+mod rows;
 mod tree;
 
 pub use front::read;

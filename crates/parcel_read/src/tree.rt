@@ -7,6 +7,7 @@ ghost use Rattle.parcel_words.specs.Place.{left, is_inside, MovesOn};
 ghost use Rattle.parcel_words.specs.Taken.{TakesIfMemory, RefusesIfMemory};
 ghost use Rattle.parcel_read.specs.steps.PlanDefault.{initial_by_plan};
 ghost use Rattle.parcel_read.specs.steps.PlanRead.{item_at, plan_read, plan_parts};
+ghost use Rattle.parcel_read.specs.steps.Rows.{row_at};
 ghost use Rattle.wire_model.specs.ReadOf.{each_at, elements_at, array_at, field_at, fields_at, body_value_at, record_at, tagged_at, union_at};
 ghost use Rattle.wire_model.specs.Status.{bad_value};
 
@@ -14,9 +15,10 @@ use crate::default::initial_of;
 use crate::leaf::{long_from, text_from, word_from};
 use crate::marks::{marker_from, tag_from};
 use crate::raw::raw_from;
+use crate::rows::{chars_from, ints_from, longs_from, truths_from};
 use aidl_base::{OutOfMemory, Row};
 use aidl_values::Value;
-use marshal_plans::{PlanField, PlanId, PlanItem, Plans};
+use marshal_plans::{PlanField, PlanId, PlanItem, Plans, WordKind};
 use parcel_words::{ReadFault, WordReader};
 use std::alloc::Global;
 
@@ -98,8 +100,8 @@ fn bytes_from(
     if levels == 0 {
         return Err(ReadFault::BadValue);
     }
-    let values = raw_from(alloc, count, from)?;
-    Ok(Value::Seq(values))
+    let numbers = raw_from(alloc, count, from)?;
+    Ok(Value::Numbers(numbers))
 }
 
 /// Reads any other array or `List`.
@@ -144,8 +146,47 @@ fn elements_from(
     if levels == 0 {
         return Err(ReadFault::BadValue);
     }
-    let values = items_from(alloc, plans, element, levels, count, from)?;
-    Ok(Value::Seq(values))
+    row_from(alloc, plans, element, levels, count, from)
+}
+
+/// Reads so many elements: numbers and truth values side by side, others as values.
+#[cycle(read)]
+fn row_from(
+    alloc: Global,
+    plans: &Plans,
+    element: PlanId,
+    levels: usize,
+    count: usize,
+    from: &mut WordReader,
+) -> Result<Value, ReadFault>
+    requires some { 0 < levels }
+    requires room { length from.old.ends + levels ≤ 64 }
+    ensures taken { TakesIfMemory view result
+        (row_at (λ b. plan_parts from.old.profile plans.now levels element (is_inside from.old) b) count (left from.old)) (left from.new) }
+    ensures on { OnOk result (MovesOn from.old from.new) }
+{
+    match plans.item(element) {
+        Some(
+            PlanItem::Word {
+                kind: WordKind::Truth,
+            },
+        ) => truths_from(alloc, count, from),
+        Some(
+            PlanItem::Word {
+                kind: WordKind::Char,
+            },
+        ) => chars_from(alloc, count, from),
+        Some(
+            PlanItem::Word {
+                kind: WordKind::Int,
+            },
+        ) => ints_from(alloc, count, from),
+        Some(PlanItem::Long) => longs_from(alloc, count, from),
+        _ => {
+            let values = items_from(alloc, plans, element, levels, count, from)?;
+            Ok(Value::Seq(values))
+        }
+    }
 }
 
 /// Reads so many values of an item. Room is taken as they are read.

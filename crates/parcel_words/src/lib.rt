@@ -13,6 +13,6 @@ mod writer;
 pub use fault::ReadFault;
 pub use laws::{law_no_prefix, law_sequence_no_prefix, law_sequence_taken_again, law_taken_again};
 pub use reader::WordReader;
-pub use sequence::{put_sequence, sequence_length, take_sequence};
+pub use sequence::{put_sequence, sequence_length, take_items, take_sequence};
 pub use wire::Wire;
 pub use writer::{WordWriter, unit_count};

@@ -63,8 +63,9 @@ pub fn take_sequence<W: Wire>(
     }
 }
 
-/// Takes so many items.
-fn take_items<W: Wire>(
+/// Takes so many items, without a count before them. It refuses as an item is refused, and takes room for an item only once the item was
+/// read.
+pub fn take_items<W: Wire>(
     alloc: Global,
     count: usize,
     from: &mut WordReader,

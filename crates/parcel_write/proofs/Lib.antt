@@ -1,3 +1,4 @@
+mod Packed
 mod Raw
 mod Records
 mod SameSpellings

@@ -1,5 +1,6 @@
 //! Arrays of bytes, which are written as they are, with their padding.
-ghost use Rattle.std.specs.Prelude.{◌≡◌, ◌≤◌, length};
+ghost use Rattle.std.specs.Prelude.{◌≡◌, ◌≤◌, length, FitsSigned};
+ghost use Rattle.std.specs.Int.{w8, cast_unsigned};
 ghost use Rattle.aidl_base.specs.Words.{pad};
 ghost use Rattle.aidl_values.specs.View.{view, views};
 ghost use Rattle.parcel_words.specs.Written.{with_bytes};
@@ -35,7 +36,15 @@ fn byte_of(value: &Value) -> u8
     ensures { result ≡ raw_byte (view value.now) }
 {
     match value {
-        Value::Number(n) => (*n as i8).cast_unsigned(),
+        Value::Number(n) => raw_byte(*n),
         _ => 0,
     }
+}
+
+/// The raw byte of a number.
+pub(crate) fn raw_byte(n: i64) -> u8
+    requires { FitsSigned w8 n }
+    ensures { result ≡ cast_unsigned w8 n }
+{
+    (n as i8).cast_unsigned()
 }

@@ -7,6 +7,7 @@ ghost use Rattle.parcel_write.specs.steps.PlanSpell.{EachSuits, EntriesSuit, Sui
 ghost use Rattle.wire_model.specs.Spell.{spell};
 
 use crate::items::{alternative_in, element_in, fields_in, is_raw};
+use crate::rows::{numbers_length, truths_length};
 use aidl_values::Value;
 use marshal_plans::{PlanField, PlanId, PlanItem, Plans};
 use parcel_words::Wire;
@@ -38,6 +39,8 @@ pub(crate) fn length_of(plans: &Plans, id: PlanId, value: &Value) -> usize
                 items_length(plans, element_in(item), items.as_slice()).saturating_add(4)
             }
         }
+        Value::Truths(truths) => truths_length(plans, id, truths.as_slice()),
+        Value::Numbers(numbers) => numbers_length(plans, id, numbers),
         Value::Rec(items) => {
             let fields = fields_in(plans, plans.item(id));
             fields_length(plans, fields, items.as_slice()).saturating_add(8)
@@ -50,7 +53,7 @@ pub(crate) fn length_of(plans: &Plans, id: PlanId, value: &Value) -> usize
 }
 
 /// The bytes of a number: a word, or two of a long.
-fn number_length(item: Option<PlanItem>) -> usize
+pub(crate) fn number_length(item: Option<PlanItem>) -> usize
     ensures { (n : ℤ) → result ≡ length (number_by item n) }
 {
     match item {
@@ -60,7 +63,7 @@ fn number_length(item: Option<PlanItem>) -> usize
 }
 
 /// So many bytes and their padding.
-fn padded(len: usize) -> usize
+pub(crate) fn padded(len: usize) -> usize
     ensures { result ≡ min (len + padding len) usize.MAX }
 {
     len.saturating_add((4 - len % 4) % 4)

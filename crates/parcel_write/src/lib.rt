@@ -11,6 +11,7 @@ mod length;
 mod number;
 mod parcel;
 mod put;
+mod rows;
 
 pub use length::spelled_length;
 pub use parcel::{WriteFault, write};

@@ -10,6 +10,7 @@ ghost use Rattle.wire_model.specs.Spell.{spell};
 use crate::bytes::put_raw;
 use crate::items::{alternative_in, element_in, fields_in, is_raw};
 use crate::number::put_number;
+use crate::rows::{put_numbers, put_truths};
 use aidl_values::Value;
 use marshal_plans::{PlanField, PlanId, PlanItem, Plans};
 use parcel_words::{Wire, WordWriter};
@@ -44,6 +45,8 @@ pub(crate) fn put(plans: &Plans, id: PlanId, value: &Value, to: &mut WordWriter)
                 put_items(plans, element_in(item), items.as_slice(), to);
             }
         }
+        Value::Truths(truths) => put_truths(plans, id, truths.as_slice(), to),
+        Value::Numbers(numbers) => put_numbers(plans, id, numbers, to),
         Value::Rec(items) => {
             to.word(PRESENT);
             let start = to.open_record();

@@ -77,6 +77,8 @@ fn items_in(value: &Value) -> usize
 {
     match value {
         Value::Seq(items) => items.len(),
+        Value::Truths(truths) => truths.len(),
+        Value::Numbers(numbers) => numbers.len(),
         Value::Null
         | Value::Truth(_)
         | Value::Number(_)

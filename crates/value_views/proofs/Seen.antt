@@ -7,9 +7,9 @@ use Rattle.aidl_schema.specs.declared.schema.Decl.{Decl}
 use Rattle.aidl_schema.specs.declared.schema.Field.{Field}
 use Rattle.aidl_schema.specs.Same.{same_text}
 use Rattle.aidl_schema.specs.Types.{form_of}
-use Rattle.aidl_values.specs.Data.{Data, Items, none, item, alt, rec}
+use Rattle.aidl_values.specs.Data.{Data, Items, none, item, alt, seq, rec}
 use Rattle.aidl_values.specs.View.{items_of, view, views}
-use Rattle.aidl_values.specs.declared.value.Value.{Value, Rec, Alt, the_lemmas}
+use Rattle.aidl_values.specs.declared.value.Value.{Value, Seq, Rec, Alt, the_lemmas}
 use Rattle.wire_model.specs.Spell.{parcelable_fields}
 use Rattle.wire_model.specs.View.{agree, item_first, each_field, view_of, view_items, view_named, field_named, in_field, in_place}
 use Rattle.value_views.specs.steps.Seen.{onto, with_seen, field_view, beside}
@@ -121,6 +121,9 @@ record_view A t B u sent fields vs ws seen same_kind is_sent is_fields is e =
     ∙ ap (λ zs. each_field (λ g. field_view A (parcelable_fields (form_of A t.base)) B (views zs) g) (parcelable_fields (form_of B u.base))) is) ∙ sym there
 
 -- the data of one level
+pub seen_seq : (v : Value) (vs : List Value) → v ≡ Seq vs → view v ≡ seq (views vs)
+seen_seq v vs is = let level : view (Seq vs) ≡ seq (views vs) = search (rules, the_lemmas) in ap view is ∙ level
+
 pub seen_rec : (v : Value) (vs : List Value) → v ≡ Rec vs → view v ≡ rec (views vs)
 seen_rec v vs is = let level : view (Rec vs) ≡ rec (views vs) = search (rules, the_lemmas) in ap view is ∙ level
 

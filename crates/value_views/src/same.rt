@@ -1,14 +1,16 @@
 //! Whether two values are the same data.
 ghost use Rattle.std.specs.Prelude.{◌≡◌, ◌↔◌, IsTrue};
-ghost use Rattle.aidl_schema.specs.Same as same;
 ghost use Rattle.aidl_values.specs.View.{view, views};
 ghost use Rattle.value_views.specs.steps.Same.{same_data, same_items};
 
+use crate::rows::{
+    are_numbers, are_truths, are_truths_numbers, same_numbers, same_truth, same_truths,
+};
 use aidl_values::Value;
 use compat_judge::same_text;
 
-/// Whether two values are the same data: equal truth values, numbers and texts, and parts that are the same one by one. It needs no type, takes no
-/// memory and stops at the first difference (own).
+/// Whether two values are the same data: equal truth values, numbers and texts, and parts that are the same one by one, in whichever form a sequence
+/// is kept. It needs no type, takes no memory and stops at the first difference (own).
 pub fn same_value(a: &Value, b: &Value) -> bool
     ensures { IsTrue result ↔ (view a.now ≡ view b.now) }
 {
@@ -25,6 +27,14 @@ fn compare(a: &Value, b: &Value) -> bool
         (Value::Number(m), Value::Number(n)) => *m == *n,
         (Value::Text(x), Value::Text(y)) => same_text(x, y),
         (Value::Seq(xs), Value::Seq(ys)) => compare_each(xs.as_slice(), ys.as_slice()),
+        (Value::Seq(xs), Value::Truths(ys)) => are_truths(xs.as_slice(), ys.as_slice()),
+        (Value::Seq(xs), Value::Numbers(ys)) => are_numbers(xs.as_slice(), ys),
+        (Value::Truths(xs), Value::Seq(ys)) => are_truths(ys.as_slice(), xs.as_slice()),
+        (Value::Truths(xs), Value::Truths(ys)) => same_truths(xs.as_slice(), ys.as_slice()),
+        (Value::Truths(xs), Value::Numbers(ys)) => are_truths_numbers(xs.as_slice(), ys),
+        (Value::Numbers(xs), Value::Seq(ys)) => are_numbers(ys.as_slice(), xs),
+        (Value::Numbers(xs), Value::Truths(ys)) => are_truths_numbers(ys.as_slice(), xs),
+        (Value::Numbers(xs), Value::Numbers(ys)) => same_numbers(xs, ys),
         (Value::Rec(xs), Value::Rec(ys)) => compare_each(xs.as_slice(), ys.as_slice()),
         (Value::Alt(j, v), Value::Alt(k, w)) => *j == *k && compare(v, w),
         _ => false,
@@ -44,10 +54,4 @@ fn compare_each(a: &[Value], b: &[Value]) -> bool
         }
     }
     true
-}
-
-fn same_truth(a: bool, b: bool) -> bool
-    ensures { result ≡ same.same_bool a b }
-{
-    a == b
 }

@@ -1,18 +1,18 @@
 //! What a value is to another version of its type.
-ghost use Rattle.std.specs.Prelude.{◌≡◌, ◌==◌, ◌<◌, ◌≤◌, true, if◌then◌else◌, length, option_map, slice_get, IfOk, IfSome};
+ghost use Rattle.std.specs.Prelude.{◌≡◌, ◌==◌, ◌<◌, ◌≤◌, ◌||◌, true, if◌then◌else◌, length, map, option_map, slice_get, IfOk, IfSome};
 ghost use Rattle.std.specs.Option.{option_copied};
-ghost use Rattle.aidl_values.specs.Data.{alt, rec, seq};
-ghost use Rattle.aidl_values.specs.View.{view, views};
+ghost use Rattle.aidl_values.specs.Data.{alt, number, rec, seq, truth};
+ghost use Rattle.aidl_values.specs.View.{items_of, view, views};
 ghost use Rattle.value_views.specs.steps.Seen.{field_view, placed};
 ghost use Rattle.wire_model.specs.Spell.{parcelable_fields, union_fields};
 ghost use Rattle.aidl_schema.specs.Broken.{kind_code};
-ghost use Rattle.aidl_schema.specs.Types.{form_of};
+ghost use Rattle.aidl_schema.specs.Types.{elem, form_of};
 ghost use Rattle.aidl_schema.specs.Same as same;
 ghost use Rattle.wire_model.specs.View as meant;
 
 use aidl_base::{OutOfMemory, Row, Text};
 use aidl_schema::{AidlType, Base, Decl, Field, Form, Kind, Schema, element, form_in};
-use aidl_values::{Value, initial_of, law_sound};
+use aidl_values::{Numbers, Value, initial_of, law_sound};
 use compat_judge::{same_text, same_type};
 use std::alloc::Global;
 
@@ -45,6 +45,8 @@ pub fn view_value(
             let seen = view_items(alloc, sender, sent, receiver, wanted, items.as_slice())?;
             Ok(as_sequence(seen))
         }
+        Value::Truths(truths) => view_truths(alloc, sender, t, receiver, u, truths.as_slice()),
+        Value::Numbers(numbers) => view_numbers(alloc, sender, t, receiver, u, numbers),
         Value::Rec(items) => {
             let sent = parcelable_fields(sender, t.base);
             let fields = parcelable_fields(receiver, u.base);
@@ -97,6 +99,52 @@ fn view_items(
         }
     }
     Ok(Some(Row::from_vec(seen)))
+}
+
+// The view of a sequence of truth values by its types.
+fn view_truths(
+    alloc: Global,
+    sender: &Schema,
+    t: AidlType,
+    receiver: &Schema,
+    u: AidlType,
+    truths: &[bool],
+) -> Result<Option<Value>, OutOfMemory>
+    ensures { IfOk result (λ o. option_map view o ≡ option_map seq (meant.view_items
+        sender.now.decls (elem sender.now.decls t) receiver.now.decls (elem receiver.now.decls u) (items_of (map truth truths.now)))) }
+{
+    if !stay(sender, t, receiver, u, truths.len()) {
+        return Ok(None);
+    }
+    let copied = truths.to_vec(alloc)?;
+    Ok(Some(Value::Truths(Row::from_vec(copied))))
+}
+
+// The view of a sequence of numbers by its types.
+fn view_numbers(
+    alloc: Global,
+    sender: &Schema,
+    t: AidlType,
+    receiver: &Schema,
+    u: AidlType,
+    numbers: &Numbers,
+) -> Result<Option<Value>, OutOfMemory>
+    ensures { IfOk result (λ o. option_map view o ≡ option_map seq (meant.view_items
+        sender.now.decls (elem sender.now.decls t) receiver.now.decls (elem receiver.now.decls u) (items_of (map number numbers.now)))) }
+{
+    if !stay(sender, t, receiver, u, numbers.len()) {
+        return Ok(None);
+    }
+    let copied = numbers.try_clone(alloc)?;
+    Ok(Some(Value::Numbers(copied)))
+}
+
+// Whether so many truth values or numbers are all themselves: there are none, or the types of the elements agree.
+fn stay(sender: &Schema, t: AidlType, receiver: &Schema, u: AidlType, count: usize) -> bool
+    ensures { result ≡ ((count == 0)
+        || meant.agree sender.now.decls (elem sender.now.decls t) receiver.now.decls (elem receiver.now.decls u)) }
+{
+    count == 0 || agree(sender, element(sender, t), receiver, element(receiver, u))
 }
 
 // The views of the receiver's fields.
@@ -155,7 +203,8 @@ fn view_alternative(
 ) -> Result<Option<Value>, OutOfMemory>
     requires { length fields.now ≤ 4096 }
     ensures { IfOk result (λ o. option_map view o ≡ meant.in_field (option_copied sent.entry) (λ f. meant.in_place
-        (meant.field_named 0 f.name.0 fields.now) (λ j g. option_map (alt j) (meant.view_of sender.now.decls f.ty receiver.now.decls g.ty (view value.now))))) }
+        (meant.field_named 0 f.name.0 fields.now)
+        (λ j g. option_map (alt j) (meant.view_of sender.now.decls f.ty receiver.now.decls g.ty (view value.now))))) }
 {
     let Some(field) = sent else {
         return Ok(None);

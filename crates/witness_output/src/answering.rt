@@ -14,9 +14,9 @@ use aidl_schema::Schema;
 use compat_judge::{Broken, judge};
 use marshal_plans::{Plans, compile};
 use std::alloc::Global;
-use stub_dispatch::Side;
 use tool_frame::{Early, Printed, Verdict};
 use tree_output::check_tree;
+use witness_calls::Version;
 
 /// What `witness` prints of the files of two trees with their roots: what is printed of the first where it isn't checked, and else
 /// of the second; `yes`; or with exit 1 the lines of each broken evolution rule, in the judge's order (own). Memory may be wanted.
@@ -90,7 +90,7 @@ fn answer_no(alloc: Global, old: &Schema, new: &Schema, rows: &[Broken]) -> Resu
     })
 }
 
-// The lines of what is broken, by plans that are made once.
+// The lines of what is broken, by plans and tables that are made once.
 fn lines_between(
     alloc: Global,
     old: &Schema,
@@ -102,9 +102,9 @@ fn lines_between(
 {
     let old_plans = plans_of(alloc, old)?;
     let new_plans = plans_of(alloc, new)?;
-    let old_side = Side::new(old, &old_plans);
-    let new_side = Side::new(new, &new_plans);
-    entry_lines(alloc, &old_side, &new_side, rows)
+    let before = Version::new(alloc, old, &old_plans)?;
+    let after = Version::new(alloc, new, &new_plans)?;
+    entry_lines(alloc, &before, &after, rows)
 }
 
 fn plans_of(alloc: Global, schema: &Schema) -> Result<Plans, OutOfMemory>

@@ -16,16 +16,16 @@ use crate::call_lines::push_call;
 use aidl_base::OutOfMemory;
 use compat_judge::Broken;
 use std::alloc::Global;
-use stub_dispatch::Side;
 use tree_output::push_break;
+use witness_calls::Version;
 use witness_search::{NoCall, ReachTables, Shown, Witness, witness};
 
 /// The lines of the broken evolution rules between two versions, in their order: each the judge's line, and then either
 /// `none outside the wire` or `none no candidate`, or the three lines of a call that shows it (own). Memory may be wanted.
 pub fn entry_lines(
     alloc: Global,
-    old: &Side<'_>,
-    new: &Side<'_>,
+    old: &Version<'_>,
+    new: &Version<'_>,
     rows: &[Broken],
 ) -> Result<String, OutOfMemory>
     // They are the judge's.
@@ -43,8 +43,8 @@ pub fn entry_lines(
 // Adds the lines of one.
 fn push_entry(
     alloc: Global,
-    old: &Side<'_>,
-    new: &Side<'_>,
+    old: &Version<'_>,
+    new: &Version<'_>,
     tables: &ReachTables,
     row: &Broken,
     text: &mut String,
@@ -61,8 +61,8 @@ fn push_entry(
 // Adds the lines of a call, or that of a reason.
 fn push_shown_lines(
     alloc: Global,
-    old: &Side<'_>,
-    new: &Side<'_>,
+    old: &Version<'_>,
+    new: &Version<'_>,
     shown: &Shown,
     text: &mut String,
 ) -> Result<(), OutOfMemory>
@@ -78,8 +78,8 @@ fn push_shown_lines(
 // Adds the lines of a call that is shown.
 fn push_found(
     alloc: Global,
-    old: &Side<'_>,
-    new: &Side<'_>,
+    old: &Version<'_>,
+    new: &Version<'_>,
     found: &Witness,
     text: &mut String,
 ) -> Result<(), OutOfMemory>

@@ -1,14 +1,14 @@
 //! Values as they stand in a side: by their parts, without their types.
-ghost use Rattle.std.specs.Prelude.{◌≡◌, ◌++◌, false, codes, OnOk, string_bytes};
+ghost use Rattle.std.specs.Prelude.{◌≡◌, ◌++◌, false, codes, map, OnOk, string_bytes};
 ghost use Rattle.std.specs.Fmt.{decimal, signed_decimal};
 ghost use Rattle.std.specs.Str.{encode_utf8_all};
 ghost use Rattle.serde_json.specs.Written.{comma_if};
-ghost use Rattle.aidl_values.specs.Data.{alt, seq, rec, truth};
-ghost use Rattle.aidl_values.specs.View.{view, views};
+ghost use Rattle.aidl_values.specs.Data.{alt, number, seq, rec, truth};
+ghost use Rattle.aidl_values.specs.View.{items_of, view, views};
 ghost use Rattle.witness_output.specs.Texts.{parts_text, quoted, value_text, values_text};
 
 use aidl_base::OutOfMemory;
-use aidl_values::Value;
+use aidl_values::{Numbers, Value};
 use serde_json::Value as Json;
 use std::alloc::Global;
 use std::fmt::Write;
@@ -32,6 +32,8 @@ pub fn push_value(alloc: Global, value: &Value, text: &mut String) -> Result<(),
         Value::Number(n) => push_number(n, text),
         Value::Text(string) => push_quoted(alloc, string.as_str(), text),
         Value::Seq(items) => push_sequence(alloc, items.as_slice(), text),
+        Value::Truths(truths) => push_truths(truths.as_slice(), text),
+        Value::Numbers(numbers) => push_numbers(numbers, text),
         Value::Rec(items) => push_record(alloc, items.as_slice(), text),
         Value::Alt(tag, inner) => push_alternative(alloc, *tag, inner, text),
     }
@@ -69,12 +71,33 @@ fn push_quoted(alloc: Global, string: &str, text: &mut String) -> Result<(), Out
     Ok(())
 }
 
+// Adds values as a sequence.
 #[cycle(showing)]
 fn push_sequence(alloc: Global, values: &[Value], text: &mut String) -> Result<(), OutOfMemory>
     ensures { OnOk result (string_bytes text.new ≡ string_bytes text.old ++ value_text (seq (views values.now))) }
 {
     text.push_str("[")?;
     push_parts(alloc, values, text)?;
+    text.push_str("]")?;
+    Ok(())
+}
+
+// The same of truth values.
+fn push_truths(truths: &[bool], text: &mut String) -> Result<(), OutOfMemory>
+    ensures { OnOk result (string_bytes text.new ≡ string_bytes text.old ++ value_text (seq (items_of (map truth truths.now)))) }
+{
+    text.push_str("[")?;
+    push_truth_parts(truths, text)?;
+    text.push_str("]")?;
+    Ok(())
+}
+
+// The same of numbers.
+fn push_numbers(numbers: &Numbers, text: &mut String) -> Result<(), OutOfMemory>
+    ensures { OnOk result (string_bytes text.new ≡ string_bytes text.old ++ value_text (seq (items_of (map number numbers.now)))) }
+{
+    text.push_str("[")?;
+    push_number_parts(numbers, text)?;
     text.push_str("]")?;
     Ok(())
 }
@@ -120,6 +143,33 @@ fn push_parts(alloc: Global, values: &[Value], text: &mut String) -> Result<(), 
     for value in values {
         push_comma_if(later, text)?;
         push_value(alloc, value, text)?;
+        later = true;
+    }
+    Ok(())
+}
+
+// The same of truth values.
+fn push_truth_parts(truths: &[bool], text: &mut String) -> Result<(), OutOfMemory>
+    ensures { OnOk result (string_bytes text.new ≡ string_bytes text.old ++ parts_text false (items_of (map truth truths.now))) }
+{
+    let mut later = false;
+    for b in truths {
+        push_comma_if(later, text)?;
+        push_truth(*b, text)?;
+        later = true;
+    }
+    Ok(())
+}
+
+// The same of numbers.
+fn push_number_parts(numbers: &Numbers, text: &mut String) -> Result<(), OutOfMemory>
+    ensures { OnOk result (string_bytes text.new ≡ string_bytes text.old ++ parts_text false (items_of (map number numbers.now))) }
+{
+    let mut later = false;
+    for i in 0..numbers.len() {
+        let n = numbers.get(i);
+        push_comma_if(later, text)?;
+        push_number(&n, text)?;
         later = true;
     }
     Ok(())

@@ -8,68 +8,68 @@ use Rattle.json_values.proofs.+reading.Given as goal
 use Rattle.json_values.specs.steps.Levels.{part_from, default_of}
 
 abbrev pub decreases-reading::read_within : goal.decreases-reading::read_within
-decreases-reading::read_within l = 8 * l.levels + 7
+decreases-reading::read_within l = 9 * l.reader.now.levels + 8
+
+abbrev pub decreases-reading::read_part : goal.decreases-reading::read_part
+decreases-reading::read_part l = 9 * l.reader.now.levels
 
 abbrev pub decreases-reading::read : goal.decreases-reading::read
-decreases-reading::read l = 8 * l.levels + 6
+decreases-reading::read l = 9 * l.reader.now.levels + 7
 
 abbrev pub decreases-reading::read_one : goal.decreases-reading::read_one
-decreases-reading::read_one l = 8 * l.levels + 5
+decreases-reading::read_one l = 9 * l.reader.now.levels + 6
 
 abbrev pub decreases-sequences::read_sequence : goal.decreases-sequences::read_sequence
-decreases-sequences::read_sequence l = 8 * l.levels + 4
+decreases-sequences::read_sequence l = 9 * l.reader.now.levels + 5
 
 abbrev pub decreases-records::read_record : goal.decreases-records::read_record
-decreases-records::read_record l = 8 * l.levels + 4
+decreases-records::read_record l = 9 * l.reader.now.levels + 5
 
 abbrev pub decreases-unions::read_union : goal.decreases-unions::read_union
-decreases-unions::read_union l = 8 * l.levels + 3
+decreases-unions::read_union l = 9 * l.reader.now.levels + 4
 
 abbrev pub decreases-sequences::read_items : goal.decreases-sequences::read_items
-decreases-sequences::read_items l = 8 * l.levels + 2
-
-abbrev pub decreases-sequences::push_item : goal.decreases-sequences::push_item
-decreases-sequences::push_item l = 8 * l.levels + 1
+decreases-sequences::read_items l = 9 * l.reader.now.levels + 3
 
 abbrev pub decreases-records::read_fields : goal.decreases-records::read_fields
-decreases-records::read_fields l = 8 * l.levels + 2
+decreases-records::read_fields l = 9 * l.reader.now.levels + 3
 
 abbrev pub decreases-records::read_member : goal.decreases-records::read_member
-decreases-records::read_member l = 8 * l.levels + 1
+decreases-records::read_member l = 9 * l.reader.now.levels + 2
 
 abbrev pub decreases-unions::read_alternative : goal.decreases-unions::read_alternative
-decreases-unions::read_alternative l = 8 * l.levels + 2
+decreases-unions::read_alternative l = 9 * l.reader.now.levels + 3
 
 abbrev pub decreases-unions::find_alternative : goal.decreases-unions::find_alternative
-decreases-unions::find_alternative l = 8 * l.levels + 1
+decreases-unions::find_alternative l = 9 * l.reader.now.levels + 2
 
 abbrev pub decreases-unions::read_chosen : goal.decreases-unions::read_chosen
-decreases-unions::read_chosen l = 8 * l.levels
+decreases-unions::read_chosen l = 9 * l.reader.now.levels + 1
 
 abbrev pub decreases-sequences::read_item : goal.decreases-sequences::read_item
-decreases-sequences::read_item l = 8 * l.levels
+decreases-sequences::read_item l = 9 * l.reader.now.levels + 1
 
 abbrev pub decreases-records::read_field : goal.decreases-records::read_field
-decreases-records::read_field l = 8 * l.levels
+decreases-records::read_field l = 9 * l.reader.now.levels + 1
 
 abbrev pub invariant-sequences::read_items-loop-i : goal.invariant-sequences::read_items-loop-i
 invariant-sequences::read_items-loop-i l =
-    with_front (map view l.values.items) (items_from (λ j. part_from l.schema.decls l.levels l.ty j) l.i (items_view (drop l.i l.items)))
-    ≡ items_from (λ j. part_from l.schema.decls l.levels l.ty j) 0 (items_view l.items)
+    with_front (map view l.values.items) (items_from (λ j. part_from l.reader.schema.now.decls l.reader.levels l.ty j) l.i (items_view (drop l.i l.items)))
+    ≡ items_from (λ j. part_from l.reader.schema.now.decls l.reader.levels l.ty j) 0 (items_view l.items)
 
 abbrev pub invariant-records::read_fields-loop-field : goal.invariant-records::read_fields-loop-field
 invariant-records::read_fields-loop-field l =
-    with_front (map view l.values.items) (fields_from (λ f. default_of l.schema.decls l.levels f) (λ u j. part_from l.schema.decls l.levels u j) (drop l.field-index l.fields) (λ key. get_member key (members_view l.members.entries)))
-    ≡ fields_from (λ f. default_of l.schema.decls l.levels f) (λ u j. part_from l.schema.decls l.levels u j) l.fields (λ key. get_member key (members_view l.members.entries))
+    with_front (map view l.values.items) (fields_from (λ f. default_of l.reader.schema.now.decls l.reader.levels f) (λ u j. part_from l.reader.schema.now.decls l.reader.levels u j) (drop l.field-index l.fields) (λ key. get_member key (members_view l.members.entries)))
+    ≡ fields_from (λ f. default_of l.reader.schema.now.decls l.reader.levels f) (λ u j. part_from l.reader.schema.now.decls l.reader.levels u j) l.fields (λ key. get_member key (members_view l.members.entries))
 
 -- what is left decides
 abbrev pub invariant-unions::find_alternative-loop-i : goal.invariant-unions::find_alternative-loop-i
 invariant-unions::find_alternative-loop-i l =
-    alternative_from (λ u j. part_from l.schema.decls l.levels u j) l.i (drop l.i l.fields) l.key (json_view l.json)
-    ≡ alternative_from (λ u j. part_from l.schema.decls l.levels u j) 0 l.fields l.key (json_view l.json)
+    alternative_from (λ u j. part_from l.reader.schema.now.decls l.reader.levels u j) l.i (drop l.i l.fields) l.key (json_view l.json)
+    ≡ alternative_from (λ u j. part_from l.reader.schema.now.decls l.reader.levels u j) 0 l.fields l.key (json_view l.json)
 
 abbrev pub decreases-sequences::read_elements : goal.decreases-sequences::read_elements
-decreases-sequences::read_elements l = 8 * l.levels + 3
+decreases-sequences::read_elements l = 9 * l.reader.now.levels + 4
 
 abbrev pub decreases-records::read_object : goal.decreases-records::read_object
-decreases-records::read_object l = 8 * l.levels + 3
+decreases-records::read_object l = 9 * l.reader.now.levels + 4

@@ -1,5 +1,5 @@
--- A number that is read without a look at the schema.
-use Rattle.std.specs.Prelude.{◌≡◌, ℤ, Bool, false, List, Ok}
+-- Numbers and truth values that are read without a look at the schema.
+use Rattle.std.specs.Prelude.{◌≡◌, ◌<◌, ℕ, ℤ, Bool, false, List, Ok}
 use Rattle.serde_json.specs.Data as json
 use Rattle.aidl_schema.specs.declared.schema.AidlType.{AidlType}
 use Rattle.aidl_schema.specs.declared.schema.Base.{Base}
@@ -10,7 +10,8 @@ use Rattle.aidl_schema.specs.Constants.{in_range}
 use Rattle.aidl_schema.specs.Types as form
 use Rattle.aidl_values.specs.Data as value
 use Rattle.json_values.specs.Refusal.{Answer}
-use Rattle.json_values.specs.FromJson.{from_by}
+use Rattle.json_values.specs.FromJson.{elements_from, from_by}
+use Rattle.json_values.specs.steps.Levels.{part_from}
 
 -- in the range of a byte, char, int or long
 abbrev pub is_in_base : Base → ℤ → Bool
@@ -22,6 +23,10 @@ is_in_base base.Boolean n = false
 is_in_base base.Text n = false
 is_in_base (base.Named d) n = false
 
--- whatever the declarations and the levels are, the JSON value is read as this number
-abbrev pub IsPlain : AidlType → json.Data → ℤ → Type 0
-IsPlain t j n = (S : List Decl) → (left : Bool) → (default : Field → Answer value.Data) → (read : AidlType → json.Data → Answer value.Data) → from_by S left default read t j ≡ Ok (value.number n)
+-- whatever the declarations and the levels are, the JSON value is read as this
+abbrev pub IsPlain : AidlType → json.Data → value.Data → Type 0
+IsPlain t j v = (S : List Decl) → (left : Bool) → (default : Field → Answer value.Data) → (read : AidlType → json.Data → Answer value.Data) → from_by S left default read t j ≡ Ok v
+
+-- whatever the declarations are, and however many levels are left, the elements are read as this
+abbrev pub ArePlain : AidlType → json.Items → value.Data → Type 0
+ArePlain t js v = (S : List Decl) → (d : ℕ) → 0 < d → elements_from (λ j. part_from S d t j) js ≡ Ok v

@@ -1,8 +1,7 @@
 use Rattle.std.proofs.Common.{◌≡◌, ◌<◌, ◌++◌, ℕ, List, length, string_bytes, sym, ap, subst, ◌∙◌, append_assoc, arith, rules}
-use Rattle.std.specs.Prelude.{OnOk, None}
-use Rattle.json_writing.specs.Named.{enumerators_of}
+use Rattle.std.specs.Prelude.{OnOk}
 use denote.Param.Weighed.{at_most}
-use Rattle.serde_json.specs.Data.{Data}
+use Rattle.serde_json.specs.Data.{Data, array}
 use Rattle.serde_json.specs.Written.{compact_text}
 use Rattle.aidl_schema.specs.declared.schema.Decl.{Decl}
 use Rattle.aidl_values.specs.HasType.{FieldsHaveType}
@@ -10,7 +9,9 @@ use Rattle.aidl_values.specs.View.{view, views}
 use Rattle.aidl_values.proofs.value.Value.TheLaws.{the_size}
 use Rattle.json_writing.specs.ValueText.{value_text}
 use Rattle.json_writing.specs.declared.members.Member.{Member}
+use Rattle.json_writing.specs.steps.Rows.{json_truths}
 use Rattle.json_writing.proofs.Elements.{element_here}
+use Rattle.json_writing.proofs.Numbers.{json_of_numbers, json_of_truths}
 use Rattle.json_writing.proofs.Parts.{as_many, part_here, record_text, typed_here}
 use Rattle.json_writing.proofs.Rows.{within_at}
 use Rattle.json_writing.proofs.+printing.Goals as goal
@@ -77,18 +78,15 @@ sequence_text::push_elements-push_value-requires t c =
     let same = ap the_size c.value-item.is in
     (omega (arith, below, same, c.decreases), element_here c.args.printer.now c.args.ty c.loop-value.printer vs i v c.loop-value.invariant.same c.value-item.is c.requires lies)
 
-pub sequence_text::push_numbers-push_unnamed-requires : goal.sequence_text::push_numbers-push_unnamed-requires
-sequence_text::push_numbers-push_unnamed-requires t c =
-    let ty = c.args.ty in
-    let vs = c.args.values.now in
-    let i = c.loop-value.value-index in
-    let v = c.value-item.result in
-    let lies : i < length vs = omega arith in
-    let below = at_most the_size vs i v lies in
-    let same = ap the_size c.value-item.is in (
-      omega (arith, below, same, c.decreases),
-      (
-        element_here c.args.printer.now ty c.loop-value.printer vs i v c.loop-value.invariant.same c.value-item.is c.requires.typed lies,
-        subst (λ (S : List Decl). enumerators_of S ty.base ≡ None) (sym c.loop-value.invariant.same) c.requires.unnamed,
-      ),
-    )
+pub value_text::push_value-returns-in-Truths-clause-text : goal.value_text::push_value-returns-in-Truths-clause-text
+value_text::push_value-returns-in-Truths-clause-text t c =
+    let truths = c.in-Truths.truths in
+    subst (λ (z : List ℕ). OnOk c.push_truths.result (string_bytes c.push_truths.new.text ≡ string_bytes c.args.text.now ++ z))
+    (ap (λ bs. compact_text (array (json_truths bs))) c.as_slice-in-Truths.ensures ∙ ap compact_text (json_of_truths c.args.printer.now c.args.ty c.args.value.now truths c.in-Truths.is))
+    c.push_truths.ensures
+
+pub value_text::push_value-returns-in-Numbers-clause-text : goal.value_text::push_value-returns-in-Numbers-clause-text
+value_text::push_value-returns-in-Numbers-clause-text t c =
+    subst (λ (z : List ℕ). OnOk c.push_numbers.result (string_bytes c.push_numbers.new.text ≡ string_bytes c.args.text.now ++ z))
+    (ap compact_text (json_of_numbers c.args.printer.now c.args.ty c.args.value.now c.in-Numbers.numbers c.in-Numbers.is))
+    c.push_numbers.ensures.text

@@ -15,14 +15,6 @@ invariant-sequence_text::push_elements-loop-value l = record {
 }
 
 -- what is left completes the text
-abbrev pub invariant-sequence_text::push_numbers-loop-value : goal.invariant-sequence_text::push_numbers-loop-value
-invariant-sequence_text::push_numbers-loop-value l = record {
-  same : l.printer ≡ l.fn.printer;
-  text : string_bytes l.text ++ items_text l.later (json_items l.fn.printer l.ty (views (drop l.value-index l.values)))
-      ≡ string_bytes l.fn.text ++ items_text false (json_items l.fn.printer l.ty (views l.values));
-}
-
--- what is left completes the text
 abbrev pub invariant-object_text::push_members-loop-member : goal.invariant-object_text::push_members-loop-member
 invariant-object_text::push_members-loop-member l = record {
   same : l.printer ≡ l.fn.printer;

@@ -1,7 +1,10 @@
 use Rattle.std.proofs.Common.{◌≡◌, ◌++◌, ◌∷◌, [], ◌-◌, ℕ, List, Ok, true, sym, ap, ◌∙◌, subst, rules, map}
 use Rattle.std.proofs.lemmas.Result.{err_from_is_err_and}
 use Rattle.std.proofs.lemmas.List.{map_push}
-use Rattle.aidl_values.specs.Data.{Data, rec}
+use Rattle.aidl_base.specs.Readings.{truth_at, char_at, word_at, long_at}
+use Rattle.marshal_plans.specs.declared.plans.PlanItem.TheVariants.{Word, Long}
+use Rattle.marshal_plans.specs.declared.plans.WordKind.TheVariants.{Truth, Char, Int}
+use Rattle.aidl_values.specs.Data.{Data, number, rec, truth}
 use Rattle.aidl_values.specs.View.{view, views}
 use Rattle.aidl_values.specs.declared.value.Value.{Rec, the_lemmas}
 use Rattle.parcel_words.specs.Place.{Place, left, is_inside, closed, MovesOn}
@@ -10,10 +13,11 @@ use Rattle.parcel_words.proofs.lemmas.Moves.{on_and_on}
 use Rattle.parcel_words.proofs.lemmas.Faults.{refused_if_memory}
 use Rattle.parcel_words.proofs.lemmas.Records.{stays, leaves}
 use Rattle.parcel_read.proofs.Loop.{goes_on, ends, is_done, field_on, fields_done}
+use Rattle.parcel_read.proofs.SideBySide.{element_is, row_alike}
 use Rattle.parcel_read.proofs.Records.{body_is, record_is, record_fails, no_record}
 use Rattle.parcel_read.proofs.tree.+read.Goals as goal
 use Rattle.parcel_read.specs.steps.PlanDefault.{initial_by_plan}
-use Rattle.wire_model.specs.ReadOf.{field_at, fields_at}
+use Rattle.wire_model.specs.ReadOf.{char_data, field_at, fields_at, read_as}
 use Rattle.parcel_read.specs.steps.PlanRead.{plan_read, plan_parts}
 use Rattle.parcel_read.proofs.Levels.{plan_read-item, plan_read-none, plan_parts-below}
 
@@ -27,6 +31,34 @@ pub value_from-returns-in-None-clause-taken : goal.value_from-returns-in-None-cl
 value_from-returns-in-None-clause-taken t c =
     let p = c.args.from.now in
     plan_read-none p.profile c.args.plans.now c.args.levels c.args.id (is_inside p) (left p) (sym c.item.ensures ∙ c.in-None.is)
+
+pub row_from-returns-in-Some-Word-Truth-clause-taken : goal.row_from-returns-in-Some-Word-Truth-clause-taken
+row_from-returns-in-Some-Word-Truth-clause-taken t c =
+    let p = c.args.from.now in
+    subst (λ r. TakesIfMemory view c.truths_from.result r (left c.truths_from.new.from))
+    (row_alike (λ b. read_as truth (truth_at p.profile (is_inside p) b)) (λ b. plan_parts p.profile c.args.plans.now c.args.levels c.args.element (is_inside p) b)
+    (element_is p.profile c.args.plans.now c.args.levels c.args.element (is_inside p) c.requires.some (Word Truth) (sym c.item.ensures ∙ search rules)) c.args.count (left p)) c.truths_from.ensures.taken
+
+pub row_from-returns-in-Some-Word-Char-clause-taken : goal.row_from-returns-in-Some-Word-Char-clause-taken
+row_from-returns-in-Some-Word-Char-clause-taken t c =
+    let p = c.args.from.now in
+    subst (λ r. TakesIfMemory view c.chars_from.result r (left c.chars_from.new.from))
+    (row_alike (λ b. read_as char_data (char_at p.profile (is_inside p) b)) (λ b. plan_parts p.profile c.args.plans.now c.args.levels c.args.element (is_inside p) b)
+    (element_is p.profile c.args.plans.now c.args.levels c.args.element (is_inside p) c.requires.some (Word Char) (sym c.item.ensures ∙ search rules)) c.args.count (left p)) c.chars_from.ensures.taken
+
+pub row_from-returns-in-Some-Word-Int-clause-taken : goal.row_from-returns-in-Some-Word-Int-clause-taken
+row_from-returns-in-Some-Word-Int-clause-taken t c =
+    let p = c.args.from.now in
+    subst (λ r. TakesIfMemory view c.ints_from.result r (left c.ints_from.new.from))
+    (row_alike (λ b. read_as number (word_at (is_inside p) b)) (λ b. plan_parts p.profile c.args.plans.now c.args.levels c.args.element (is_inside p) b)
+    (element_is p.profile c.args.plans.now c.args.levels c.args.element (is_inside p) c.requires.some (Word Int) (sym c.item.ensures ∙ search rules)) c.args.count (left p)) c.ints_from.ensures.taken
+
+pub row_from-returns-in-Some-Long-clause-taken : goal.row_from-returns-in-Some-Long-clause-taken
+row_from-returns-in-Some-Long-clause-taken t c =
+    let p = c.args.from.now in
+    subst (λ r. TakesIfMemory view c.longs_from.result r (left c.longs_from.new.from))
+    (row_alike (λ b. read_as number (long_at (is_inside p) b)) (λ b. plan_parts p.profile c.args.plans.now c.args.levels c.args.element (is_inside p) b)
+    (element_is p.profile c.args.plans.now c.args.levels c.args.element (is_inside p) c.requires.some Long (sym c.item.ensures ∙ search rules)) c.args.count (left p)) c.longs_from.ensures.taken
 
 pub items_from-returns-in_err-value-clause-taken : goal.items_from-returns-in_err-value-clause-taken
 items_from-returns-in_err-value-clause-taken t c =

@@ -20,6 +20,9 @@ decreases-sequence_from l = 8 * l.levels + 4
 abbrev pub decreases-elements_from : goal.decreases-elements_from
 decreases-elements_from l = 8 * l.levels + 3
 
+abbrev pub decreases-row_from : goal.decreases-row_from
+decreases-row_from l = 8 * l.levels + 2
+
 abbrev pub decreases-items_from : goal.decreases-items_from
 decreases-items_from l = 8 * l.levels
 

@@ -7,6 +7,7 @@ use Rattle.parcel_words.proofs.lemmas.Appends.{with_more}
 use Rattle.wire_model.specs.Spell.{raw_bytes, body}
 use Rattle.parcel_write.specs.steps.PlanSpell.{is_raw_item, element_of, record_entries, union_entries, id_of_entry, item_of, plan_spell, plan_spell_items, plan_spell_entries}
 use Rattle.parcel_write.proofs.Records.{record_written}
+use Rattle.parcel_write.proofs.Raw.{count_views}
 use Rattle.parcel_write.proofs.Seen.{seen_text, seen_seq, seen_rec, seen_alt}
 use Rattle.parcel_write.proofs.Sequences.{few_items, raw_written, items_written}
 use Rattle.parcel_write.proofs.put.+put.Goals as goal
@@ -20,7 +21,7 @@ pub put-count-requires-clause-few : goal.put-count-requires-clause-few
 put-count-requires-clause-few t c =
     let items = c.in-Seq.items in
     let small = subst (λ d. length (plan_spell c.args.plans.now c.args.id d) < 2 ^ 31) (seen_seq c.args.value.now items c.in-Seq.is) c.requires.small in
-    omega (arith, c.len.ensures, few_items c.args.plans.now c.args.id items small)
+    omega (arith, c.len.ensures, few_items c.args.plans.now c.args.id (views items) _ (count_views items) small)
 
 pub put-close_record-requires-clause-small : goal.put-close_record-requires-clause-small
 put-close_record-requires-clause-small t c =
@@ -44,7 +45,7 @@ put-returns-then-is_raw t c =
     let raw : is_raw_item (item_of P id) ≡ true = ap is_raw_item (sym c.item-item.ensures) ∙ sym c.is_raw.ensures ∙ c.if-is_raw.true in
     let counted : c.count.new.self ≡ with_bytes w (word (pos (length items))) = c.count.ensures ∙ ap (λ n. with_bytes w (word (pos n))) c.len.ensures in
     let added : c.put_raw.new.to ≡ with_bytes c.count.new.self (pad (raw_bytes (views items))) = rw (← c.as_slice.ensures) c.put_raw.ensures in
-    added ∙ ap (λ x. with_bytes x (pad (raw_bytes (views items)))) counted ∙ raw_written P id w items raw
+    added ∙ ap (λ x. with_bytes x (pad (raw_bytes (views items)))) counted ∙ raw_written P id w (views items) _ (count_views items) raw
     ∙ ap (λ d. with_bytes w (plan_spell P id d)) (sym (seen_seq c.args.value.now items c.in-Seq.is))
 
 pub put-returns-else-is_raw : goal.put-returns-else-is_raw
@@ -57,7 +58,7 @@ put-returns-else-is_raw t c =
     let part : c.element_in.result ≡ element_of (item_of P id) = c.element_in.ensures ∙ ap element_of c.item-item.ensures in
     let counted : c.count.new.self ≡ with_bytes w (word (pos (length items))) = c.count.ensures ∙ ap (λ n. with_bytes w (word (pos n))) c.len.ensures in
     let added : c.put_items.new.to ≡ with_bytes c.count.new.self (plan_spell_items P (element_of (item_of P id)) (views items)) = rw (← c.as_slice-else-is_raw.ensures, ← part) c.put_items.ensures in
-    added ∙ ap (λ x. with_bytes x (plan_spell_items P (element_of (item_of P id)) (views items))) counted ∙ items_written P id w items apart
+    added ∙ ap (λ x. with_bytes x (plan_spell_items P (element_of (item_of P id)) (views items))) counted ∙ items_written P id w (views items) _ (count_views items) apart
     ∙ ap (λ d. with_bytes w (plan_spell P id d)) (sym (seen_seq c.args.value.now items c.in-Seq.is))
 
 pub put-returns-in-Rec : goal.put-returns-in-Rec

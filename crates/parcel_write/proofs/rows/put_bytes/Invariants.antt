@@ -1,0 +1,15 @@
+use Rattle.std.proofs.Common.{◌≡◌, ◌≤◌, length, drop, map}
+use Rattle.aidl_values.specs.Data.{number}
+use Rattle.aidl_values.specs.View.{items_of}
+use Rattle.parcel_words.specs.Written.{with_bytes}
+use Rattle.parcel_write.specs.steps.Bytes.{AreByteValues}
+use Rattle.wire_model.specs.Spell.{raw_bytes}
+use Rattle.parcel_write.proofs.rows.put_bytes.Given as goal
+
+-- with the bytes that are left, all is written, and there is room for them
+abbrev pub invariant-loop-i : goal.invariant-loop-i
+invariant-loop-i l = record {
+  bytes : AreByteValues (items_of (map number (drop l.i l.numbers)));
+  all : with_bytes l.to (raw_bytes (items_of (map number (drop l.i l.numbers)))) ≡ with_bytes l.initial.to (raw_bytes (items_of (map number l.numbers)));
+  room : length (raw_bytes (items_of (map number (drop l.i l.numbers)))) ≤ l.to.room;
+}
