@@ -66,7 +66,8 @@ pub fn law_c6(old: &Schema, new: &Schema, place: &Text)
 /// `law_c2`.
 pub fn law_c6_at(old: &Schema, new: &Schema, place: &Text)
     requires entry { Has (broken old.now.decls new.now.decls) (6, place.now) }
-    ensures { (cs : List Candidate) → (q : List ℕ × List ℕ) → at_slash place.now ≡ Some q → row_C6_at old.now.decls new.now.decls q.0 ≡ Some cs
+    ensures { (cs : List Candidate) → (q : List ℕ × List ℕ) → at_slash place.now ≡ Some q
+        → row_C6_at old.now.decls new.now.decls q.0 ≡ Some cs
         → AreSmall old.now.decls new.now.decls cs → Shows old.now.decls new.now.decls cs }
 {
     law_valid(old);

@@ -2,5 +2,6 @@ mod Collected
 mod NoCode
 mod Positions
 mod Shown
+mod Tables
 mod Tests
 mod Types

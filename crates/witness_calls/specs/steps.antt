@@ -3,3 +3,4 @@ pub mod Collected
 pub mod Positions
 pub mod Projected
 pub mod Shown
+pub mod Tables

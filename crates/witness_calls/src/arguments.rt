@@ -30,7 +30,9 @@ pub fn project_arguments(
     values: &[Value],
 ) -> Result<Option<Row<Value>>, OutOfMemory>
     requires { list_all (λ a. is_passed_type ends.now.receiver.now.decls a.ty) wanted.now ≡ true }
-    ensures { IfOk result (λ o. option_map views o ≡ projected_arguments ends.now.sender.now.decls sent.now ends.now.receiver.now.decls wanted.now (views values.now)) }
+    ensures { IfOk result (λ o. option_map views o
+        ≡ projected_arguments ends.now.sender.now.decls sent.now ends.now.receiver.now.decls wanted.now
+        (views values.now)) }
 {
     let mut seen = Vec::with_capacity(alloc, wanted.len())?;
     for k in 0..wanted.len() {
@@ -67,7 +69,8 @@ fn project_argument(
     value: Option<&Value>,
 ) -> Result<Option<Value>, OutOfMemory>
     requires { is_type ends.now.receiver.now.decls wanted.now.ty ≡ true }
-    ensures { IfOk result (λ o. option_map view o ≡ argument_seen ends.now.sender.now.decls (option_copied sent.entry) ends.now.receiver.now.decls wanted.now
+    ensures { IfOk result (λ o. option_map view o
+        ≡ argument_seen ends.now.sender.now.decls (option_copied sent.entry) ends.now.receiver.now.decls wanted.now
         (option_map view (option_copied value.entry))) }
 {
     let Some(sent) = sent else {
@@ -88,7 +91,8 @@ fn project_sent(
     value: &Value,
 ) -> Result<Option<Value>, OutOfMemory>
     requires { is_type ends.now.receiver.now.decls wanted.now.ty ≡ true }
-    ensures { IfOk result (λ o. option_map view o ≡ projected_argument ends.now.sender.now.decls sent.now ends.now.receiver.now.decls wanted.now (view value.now)) }
+    ensures { IfOk result (λ o. option_map view o
+        ≡ projected_argument ends.now.sender.now.decls sent.now ends.now.receiver.now.decls wanted.now (view value.now)) }
 {
     if is_out(wanted.way) {
         if is_out(sent.way) && same_type(ends.sender, sent.ty, ends.receiver, wanted.ty) {

@@ -75,6 +75,8 @@ fn is_length(ty: AidlType, value: &Value) -> bool
         Value::Truth(_) => false,
         Value::Text(_) => false,
         Value::Seq(_) => false,
+        Value::Truths(_) => false,
+        Value::Numbers(_) => false,
         Value::Rec(_) => false,
         Value::Alt(_, _) => false,
     }
@@ -89,6 +91,8 @@ fn is_null(value: &Value) -> bool
         Value::Truth(_) => false,
         Value::Text(_) => false,
         Value::Seq(_) => false,
+        Value::Truths(_) => false,
+        Value::Numbers(_) => false,
         Value::Rec(_) => false,
         Value::Alt(_, _) => false,
     }

@@ -1,19 +1,18 @@
 //! What the names of a call mean to the server's schema.
 ghost use Rattle.std.specs.Prelude.{◌≡◌, ◌≤◌, ◌<◌, true, length, IfOk, IfSome, Some};
-ghost use Rattle.std.specs.List.{list_all, position};
+ghost use Rattle.std.specs.List.{list_all};
 ghost use Rattle.aidl_schema.specs.Find.{methods_at};
 ghost use Rattle.aidl_schema.specs.Methods.{is_passed_type, is_result_type};
-ghost use Rattle.aidl_schema.specs.Same.{same_text};
 ghost use Rattle.compat_witness.specs.Candidates.{counterpart};
 ghost use Rattle.wire_model.specs.Calls.{code_at, descriptor, method_at};
 ghost use Rattle.wire_model.specs.Outcome as meant;
 ghost use Rattle.witness_calls.specs.steps.Projected.{callee_at};
 
-use aidl_base::{OutOfMemory, Text};
-use aidl_schema::{Method, Schema, find, law_valid, methods_at};
-use compat_judge::same_text;
+use crate::version::Version;
+use aidl_base::OutOfMemory;
+use aidl_schema::{Method, Schema, find, law_valid};
 use std::alloc::Global;
-use stub_dispatch::{Callee, Side, descriptor_of};
+use stub_dispatch::{Callee, descriptor_of};
 
 /// The number of the server's declaration that has the name of a client's interface.
 #[tactic(auto, using(wire_model::proofs::lemmas::NamedTexts::number_declared))]
@@ -29,40 +28,31 @@ pub fn declared_as(
 }
 
 /// The position of the method of an interface of the server that has the name of a client's method. It takes no memory.
-pub fn method_like(client: &Callee<'_>, server: &Schema, interface: u32) -> Option<u32>
-    ensures like { result ≡ meant.method_like (method_at client.now.decls client.now.interface client.now.method) (methods_at server.now.decls interface) }
-    ensures within { IfSome result (λ n. n < length (methods_at server.now.decls interface)) }
+pub fn method_like(client: &Callee<'_>, server: &Version<'_>, interface: u32) -> Option<u32>
+    ensures like { result ≡ meant.method_like (method_at client.now.decls client.now.interface client.now.method)
+        (methods_at server.now interface) }
+    ensures within { IfSome result (λ n. n < length (methods_at server.now interface)) }
 {
-    law_valid(server);
-    match position_named(methods_at(server, interface), &client.declared().name.0) {
+    law_valid(server.schema());
+    match server.method_like(interface, client.declared()) {
         Some(position) => Some(position as u32),
         None => None,
     }
-}
-
-// The position of the method of a name.
-fn position_named(methods: &[Method], name: &Text) -> Option<usize>
-    ensures { result ≡ position (λ w. same_text name.now w.name.0) methods.now }
-{
-    methods
-        .iter()
-        .position(|method| same_text(name, &method.name.0))
 }
 
 /// The server's method that has the names of a client's.
 pub fn counterpart<'a>(
     alloc: Global,
     client: &Callee<'_>,
-    server: &Side<'a>,
+    server: &Version<'a>,
 ) -> Result<Option<Callee<'a>>, OutOfMemory>
     ensures { IfOk result (λ o. o ≡ callee_at server.now (counterpart client.now.decls client.now.interface client.now.method server.now)) }
 {
-    let schema = server.schema();
-    let Some(interface) = declared_as(alloc, client, schema)? else {
+    let Some(interface) = declared_as(alloc, client, server.schema())? else {
         return Ok(None);
     };
-    match method_like(client, schema, interface) {
-        Some(method) => Ok(Some(Callee::new(server, interface, method))),
+    match method_like(client, server, interface) {
+        Some(method) => Ok(Some(server.callee(interface, method))),
         None => Ok(None),
     }
 }

@@ -28,7 +28,8 @@ pub fn project_result(
     value: &Option<Value>,
 ) -> Result<Option<Option<Value>>, OutOfMemory>
     requires { is_result_type ends.now.receiver.now.decls wanted ≡ true }
-    ensures { IfOk result (λ o. option_map optional_view o ≡ projected_result ends.now.sender.now.decls sent ends.now.receiver.now.decls wanted (optional_view value.now)) }
+    ensures { IfOk result (λ o. option_map optional_view o
+        ≡ projected_result ends.now.sender.now.decls sent ends.now.receiver.now.decls wanted (optional_view value.now)) }
 {
     match wanted {
         Some(wanted) => {
@@ -48,7 +49,8 @@ fn project_returned(
     value: &Option<Value>,
 ) -> Result<Option<Value>, OutOfMemory>
     requires { is_passed_type ends.now.receiver.now.decls wanted ≡ true }
-    ensures { IfOk result (λ o. option_map Some (option_map view o) ≡ projected_result ends.now.sender.now.decls sent ends.now.receiver.now.decls (Some wanted) (optional_view value.now)) }
+    ensures { IfOk result (λ o. option_map Some (option_map view o)
+        ≡ projected_result ends.now.sender.now.decls sent ends.now.receiver.now.decls (Some wanted) (optional_view value.now)) }
 {
     let Some(sent) = sent else {
         return some_default(alloc, ends.receiver, wanted);
@@ -78,7 +80,8 @@ pub fn project_outs(
     values: &[Value],
 ) -> Result<Option<Row<Value>>, OutOfMemory>
     requires { list_all (λ a. is_passed_type ends.now.receiver.now.decls a.ty) wanted.now ≡ true }
-    ensures { IfOk result (λ o. option_map views o ≡ projected_outs ends.now.sender.now.decls sent.now ends.now.receiver.now.decls wanted.now (views values.now)) }
+    ensures { IfOk result (λ o. option_map views o
+        ≡ projected_outs ends.now.sender.now.decls sent.now ends.now.receiver.now.decls wanted.now (views values.now)) }
 {
     let mut seen = Vec::with_capacity(alloc, wanted.len())?;
     let mut left = values;
@@ -104,7 +107,8 @@ fn push_out(
 ) -> Result<bool, OutOfMemory>
     requires { is_type ends.now.receiver.now.decls wanted.now.ty ≡ true }
     ensures { IfOk result (λ going. Puts seen.old.items seen.new.items going (λ others. out_first wanted.now
-        (out_seen ends.now.sender.now.decls (option_copied sent.entry) ends.now.receiver.now.decls wanted.now (first_of (views values.now))) others)) }
+        (out_seen ends.now.sender.now.decls (option_copied sent.entry) ends.now.receiver.now.decls wanted.now
+        (first_of (views values.now))) others)) }
 {
     if !comes_back(wanted.way) {
         return Ok(true);
@@ -128,7 +132,8 @@ fn project_out(
 ) -> Result<Option<Value>, OutOfMemory>
     requires { is_type ends.now.receiver.now.decls wanted.now.ty ≡ true }
     ensures { IfOk result (λ o. option_map view o
-        ≡ out_seen ends.now.sender.now.decls (option_copied sent.entry) ends.now.receiver.now.decls wanted.now (first_of (views values.now))) }
+        ≡ out_seen ends.now.sender.now.decls (option_copied sent.entry) ends.now.receiver.now.decls wanted.now
+        (first_of (views values.now))) }
 {
     let Some(sent) = sent else {
         return some_default(alloc, ends.receiver, wanted.ty);

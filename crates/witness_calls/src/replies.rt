@@ -31,7 +31,8 @@ pub fn counted_reply(
     server: &Callee<'_>,
     answer: &Option<Answer>,
 ) -> Result<Option<Row<u8>>, OutOfMemory>
-    ensures { IfOk result (λ o. IsCounted (IsAnswerOf server.now.decls server.now.interface server.now.method (option_map answer_of answer.now))
+    ensures { IfOk result (λ o. IsCounted
+        (IsAnswerOf server.now.decls server.now.interface server.now.method (option_map answer_of answer.now))
         (answer_bytes server.now.decls server.now.interface server.now.method (option_map answer_of answer.now)) o) }
 {
     match answer {
@@ -67,8 +68,11 @@ pub fn compare_reply(
     answer: &Option<Answer>,
     bytes: &[u8],
 ) -> Result<Compared, OutOfMemory>
-    ensures { IfOk result (λ c. AreCompared (read_reply client.now.decls client.now.interface client.now.method server.now.decls server.now.interface server.now.method bytes.now)
-        (projected_reply server.now.decls server.now.interface server.now.method client.now.decls client.now.interface client.now.method (option_map answer_of answer.now)) c) }
+    ensures { IfOk result (λ c. AreCompared
+        (read_reply client.now.decls client.now.interface client.now.method
+        server.now.decls server.now.interface server.now.method bytes.now)
+        (projected_reply server.now.decls server.now.interface server.now.method
+        client.now.decls client.now.interface client.now.method (option_map answer_of answer.now)) c) }
 {
     let read = read_reply(alloc, client, server, bytes)?;
     let got = project_answer(alloc, server, client, answer)?;
@@ -82,7 +86,9 @@ fn read_reply(
     server: &Callee<'_>,
     bytes: &[u8],
 ) -> Result<Reading, OutOfMemory>
-    ensures { IfOk result (λ r. reading_seen r ≡ read_reply client.now.decls client.now.interface client.now.method server.now.decls server.now.interface server.now.method bytes.now) }
+    ensures { IfOk result (λ r. reading_seen r
+        ≡ read_reply client.now.decls client.now.interface client.now.method
+        server.now.decls server.now.interface server.now.method bytes.now) }
 {
     if server.declared().oneway {
         return Ok(Reading::NoReply);
@@ -99,7 +105,8 @@ fn project_answer(
     answer: &Option<Answer>,
 ) -> Result<Got, OutOfMemory>
     ensures { IfOk result (λ got. got_of got
-        ≡ projected_answer server.now.decls server.now.interface server.now.method client.now.decls client.now.interface client.now.method (option_map answer_of answer.now)) }
+        ≡ projected_answer server.now.decls server.now.interface server.now.method
+        client.now.decls client.now.interface client.now.method (option_map answer_of answer.now)) }
 {
     match answer {
         Some(answer) => project_given(alloc, server, client, answer),
@@ -116,7 +123,8 @@ fn project_given(
     answer: &Answer,
 ) -> Result<Got, OutOfMemory>
     ensures { IfOk result (λ got. got_of got
-        ≡ projected_answer server.now.decls server.now.interface server.now.method client.now.decls client.now.interface client.now.method (Some (answer_of answer.now))) }
+        ≡ projected_answer server.now.decls server.now.interface server.now.method
+        client.now.decls client.now.interface client.now.method (Some (answer_of answer.now))) }
 {
     match answer {
         Answer::Returned { result, outs } => {
@@ -180,7 +188,8 @@ fn project_nothing(
     client: &Callee<'_>,
 ) -> Result<Got, OutOfMemory>
     ensures { IfOk result (λ got. got_of got
-        ≡ projected_answer server.now.decls server.now.interface server.now.method client.now.decls client.now.interface client.now.method None) }
+        ≡ projected_answer server.now.decls server.now.interface server.now.method
+        client.now.decls client.now.interface client.now.method None) }
 {
     let ends = Ends {
         sender: server.schema(),

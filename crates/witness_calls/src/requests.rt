@@ -14,10 +14,11 @@ use crate::fitting::args_fit;
 use crate::names::{code_of, declared_as, law_method, method_like};
 use crate::reading::Reading;
 use crate::sides::{Compared, beside};
+use crate::version::Version;
 use aidl_base::{OutOfMemory, Profile, Row};
 use aidl_values::Value;
 use std::alloc::Global;
-use stub_dispatch::{Callee, Receipt, Side, WriteFault, receive, request};
+use stub_dispatch::{Callee, Receipt, WriteFault, receive, request};
 
 /// UNKNOWN_TRANSACTION: the server lacks the interface or the method.
 const UNKNOWN_TRANSACTION: i32 = -74;
@@ -48,7 +49,7 @@ pub fn counted_request(
 pub fn compare_request(
     alloc: Global,
     client: &Callee<'_>,
-    server: &Side<'_>,
+    server: &Version<'_>,
     args: &[Value],
     bytes: &[u8],
 ) -> Result<Compared, OutOfMemory>
@@ -64,10 +65,11 @@ pub fn compare_request(
 fn read_request(
     alloc: Global,
     client: &Callee<'_>,
-    server: &Side<'_>,
+    server: &Version<'_>,
     bytes: &[u8],
 ) -> Result<Reading, OutOfMemory>
-    ensures { IfOk result (λ r. reading_seen r ≡ read_request client.now.decls client.now.interface client.now.method server.now bytes.now) }
+    ensures { IfOk result (λ r. reading_seen r
+        ≡ read_request client.now.decls client.now.interface client.now.method server.now bytes.now) }
 {
     let Some(interface) = declared_as(alloc, client, server.schema())? else {
         return Ok(Reading::Transport(UNKNOWN_TRANSACTION));
@@ -75,7 +77,7 @@ fn read_request(
     match receive(
         alloc,
         Profile::Strict,
-        server,
+        server.side(),
         interface,
         code_of(client),
         bytes,
@@ -91,10 +93,11 @@ fn read_request(
 fn project_request(
     alloc: Global,
     client: &Callee<'_>,
-    server: &Side<'_>,
+    server: &Version<'_>,
     args: &[Value],
 ) -> Result<Reading, OutOfMemory>
-    ensures { IfOk result (λ r. reading_seen r ≡ projected_request client.now.decls client.now.interface client.now.method server.now (views args.now)) }
+    ensures { IfOk result (λ r. reading_seen r
+        ≡ projected_request client.now.decls client.now.interface client.now.method server.now (views args.now)) }
 {
     match declared_as(alloc, client, server.schema())? {
         Some(interface) => project_in(alloc, client, server, interface, args),
@@ -106,15 +109,16 @@ fn project_request(
 fn project_in(
     alloc: Global,
     client: &Callee<'_>,
-    server: &Side<'_>,
+    server: &Version<'_>,
     interface: u32,
     args: &[Value],
 ) -> Result<Reading, OutOfMemory>
-    ensures { IfOk result (λ r. reading_seen r ≡ side_of (called_in client.now.decls client.now.interface client.now.method server.now interface (views args.now))) }
+    ensures { IfOk result (λ r. reading_seen r
+        ≡ side_of (called_in client.now.decls client.now.interface client.now.method server.now interface (views args.now))) }
 {
-    match method_like(client, server.schema(), interface) {
+    match method_like(client, server, interface) {
         Some(method) => {
-            let target = Callee::new(server, interface, method);
+            let target = server.callee(interface, method);
             project_called(alloc, client, &target, args)
         }
         None => Ok(Reading::Transport(UNKNOWN_TRANSACTION)),
@@ -128,7 +132,9 @@ fn project_called(
     target: &Callee<'_>,
     args: &[Value],
 ) -> Result<Reading, OutOfMemory>
-    ensures { IfOk result (λ r. reading_seen r ≡ side_of (called_at client.now.decls client.now.interface client.now.method target.now.decls target.now.interface target.now.method (views args.now))) }
+    ensures { IfOk result (λ r. reading_seen r
+        ≡ side_of (called_at client.now.decls client.now.interface client.now.method
+        target.now.decls target.now.interface target.now.method (views args.now))) }
 {
     let ends = Ends {
         sender: client.schema(),

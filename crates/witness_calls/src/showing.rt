@@ -7,10 +7,10 @@ ghost use Rattle.witness_calls.specs.steps.Shown.{shown_of};
 use crate::call::Call;
 use crate::reading::Reading;
 use crate::sides::Compared;
+use crate::version::Version;
 use crate::weighing::{names_method, weigh};
 use aidl_base::{OutOfMemory, Row};
 use std::alloc::Global;
-use stub_dispatch::Side;
 
 /// What a call shows: its bytes, what is read of them, and what its values are projected to. The two differ.
 #[derive(Drop)]
@@ -25,8 +25,8 @@ pub struct Showing {
 #[tactic(auto, using(crate::proofs::Shown::weighed_tried, crate::proofs::Shown::none_tried))]
 pub fn try_call(
     alloc: Global,
-    old: &Side<'_>,
-    new: &Side<'_>,
+    old: &Version<'_>,
+    new: &Version<'_>,
     call: &Call,
 ) -> Result<Option<Showing>, OutOfMemory>
     ensures { IfOk result (λ tried. Tries old.now new.now (call_seen call.now) tried) }

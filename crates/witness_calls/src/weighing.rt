@@ -16,18 +16,18 @@ use crate::names::counterpart;
 use crate::replies::{compare_reply, counted_reply};
 use crate::requests::{compare_request, counted_request};
 use crate::sides::Compared;
+use crate::version::Version;
 use aidl_base::{OutOfMemory, Row};
-use aidl_schema::methods_at;
 use aidl_values::{Answer, Value};
 use std::alloc::Global;
-use stub_dispatch::{Callee, Side};
+use stub_dispatch::Callee;
 
 /// The bytes of a call that counts, with its two sides and whether they differ; None of any other. It counts where its values fit and its
 /// bytes are at most 1,048,576. All reading is strict. `OutOfMemory` is the one refusal (own).
 pub fn weigh(
     alloc: Global,
-    old: &Side<'_>,
-    new: &Side<'_>,
+    old: &Version<'_>,
+    new: &Version<'_>,
     call: &Call,
 ) -> Result<Option<(Row<u8>, Compared)>, OutOfMemory>
     requires { NamesMethod old.now new.now (call_seen call.now) }
@@ -62,7 +62,7 @@ pub fn weigh(
 }
 
 /// Whether a call names a method of the client's schema. It takes no memory.
-pub fn names_method(old: &Side<'_>, new: &Side<'_>, call: &Call) -> bool
+pub fn names_method(old: &Version<'_>, new: &Version<'_>, call: &Call) -> bool
     ensures { IsTrue result ↔ NamesMethod old.now new.now (call_seen call.now) }
 {
     match call {
@@ -93,17 +93,17 @@ pub fn names_method(old: &Side<'_>, new: &Side<'_>, call: &Call) -> bool
     }
 }
 
-fn has_method(side: &Side<'_>, interface: u32, method: u32) -> bool
-    ensures { IsTrue result ↔ (method < length (methods_at side.now interface)) }
+fn has_method(version: &Version<'_>, interface: u32, method: u32) -> bool
+    ensures { IsTrue result ↔ (method < length (methods_at version.now interface)) }
 {
-    (method as usize) < methods_at(side.schema(), interface).len()
+    (method as usize) < version.methods(interface).len()
 }
 
 // The same of a request.
 fn weigh_request(
     alloc: Global,
-    client: &Side<'_>,
-    server: &Side<'_>,
+    client: &Version<'_>,
+    server: &Version<'_>,
     interface: u32,
     method: u32,
     args: &[Value],
@@ -111,7 +111,7 @@ fn weigh_request(
     requires { method < length (methods_at client.now interface) }
     ensures { IfOk result (λ o. IsWeighed client.now server.now (candidate.request false interface method (views args.now)) o) }
 {
-    let callee = Callee::new(client, interface, method);
+    let callee = client.callee(interface, method);
     weigh_call(alloc, &callee, server, args)
 }
 
@@ -119,12 +119,13 @@ fn weigh_request(
 fn weigh_call(
     alloc: Global,
     client: &Callee<'_>,
-    server: &Side<'_>,
+    server: &Version<'_>,
     args: &[Value],
 ) -> Result<Option<(Row<u8>, Compared)>, OutOfMemory>
     ensures { IfOk result (λ o. IsWeighedBy (ArgsFit client.now.decls client.now.interface client.now.method (views args.now))
         (request client.now.decls client.now.interface client.now.method (views args.now))
-        (read_request client.now.decls client.now.interface client.now.method server.now (request client.now.decls client.now.interface client.now.method (views args.now)))
+        (read_request client.now.decls client.now.interface client.now.method server.now
+        (request client.now.decls client.now.interface client.now.method (views args.now)))
         (projected_request client.now.decls client.now.interface client.now.method server.now (views args.now)) o) }
 {
     match counted_request(alloc, client, args)? {
@@ -139,16 +140,17 @@ fn weigh_call(
 // The same of a reply.
 fn weigh_reply(
     alloc: Global,
-    client: &Side<'_>,
-    server: &Side<'_>,
+    client: &Version<'_>,
+    server: &Version<'_>,
     interface: u32,
     method: u32,
     answer: &Option<Answer>,
 ) -> Result<Option<(Row<u8>, Compared)>, OutOfMemory>
     requires { method < length (methods_at client.now interface) }
-    ensures { IfOk result (λ o. IsWeighed client.now server.now (candidate.reply false interface method (option_map answer_of answer.now)) o) }
+    ensures { IfOk result (λ o. IsWeighed client.now server.now
+        (candidate.reply false interface method (option_map answer_of answer.now)) o) }
 {
-    let callee = Callee::new(client, interface, method);
+    let callee = client.callee(interface, method);
     weigh_by_name(alloc, &callee, server, answer)
 }
 
@@ -156,10 +158,11 @@ fn weigh_reply(
 fn weigh_by_name(
     alloc: Global,
     client: &Callee<'_>,
-    server: &Side<'_>,
+    server: &Version<'_>,
     answer: &Option<Answer>,
 ) -> Result<Option<(Row<u8>, Compared)>, OutOfMemory>
-    ensures { IfOk result (λ o. IsWeighed client.now.decls server.now (candidate.reply false client.now.interface client.now.method (option_map answer_of answer.now)) o) }
+    ensures { IfOk result (λ o. IsWeighed client.now.decls server.now
+        (candidate.reply false client.now.interface client.now.method (option_map answer_of answer.now)) o) }
 {
     match counterpart(alloc, client, server)? {
         Some(target) => {
@@ -177,11 +180,13 @@ fn weigh_answer(
     server: &Callee<'_>,
     answer: &Option<Answer>,
 ) -> Result<Option<(Row<u8>, Compared)>, OutOfMemory>
-    ensures { IfOk result (λ o. IsWeighedBy (IsAnswerOf server.now.decls server.now.interface server.now.method (option_map answer_of answer.now))
+    ensures { IfOk result (λ o. IsWeighedBy
+        (IsAnswerOf server.now.decls server.now.interface server.now.method (option_map answer_of answer.now))
         (answer_bytes server.now.decls server.now.interface server.now.method (option_map answer_of answer.now))
         (read_reply client.now.decls client.now.interface client.now.method server.now.decls server.now.interface server.now.method
         (answer_bytes server.now.decls server.now.interface server.now.method (option_map answer_of answer.now)))
-        (projected_reply server.now.decls server.now.interface server.now.method client.now.decls client.now.interface client.now.method (option_map answer_of answer.now)) o) }
+        (projected_reply server.now.decls server.now.interface server.now.method
+        client.now.decls client.now.interface client.now.method (option_map answer_of answer.now)) o) }
 {
     match counted_reply(alloc, server, answer)? {
         Some(bytes) => {

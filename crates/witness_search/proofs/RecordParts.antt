@@ -1,12 +1,13 @@
 -- The values of a record as a list, field by field.
-use Rattle.std.proofs.Common.{◌≡◌, ℕ, zero, suc, ◌+◌, ◌<◌, ◌==◌, Bool, true, false, List, [], ◌∷◌, ◌++◌, length, get_or, take, drop, min, leb, map, slice_get, Option, Some, None, ◌&&◌, ◌≢◌, ◌≤◌, refl, sym, ap, ◌∙◌, arith}
+use Rattle.std.proofs.Common.{◌≡◌, ℕ, zero, suc, ◌+◌, ◌<◌, ◌==◌, Bool, true, false, List, [], ◌∷◌, ◌++◌, length, get_or, take, drop, min, leb, map, slice_get, Option, Some, None, ◌&&◌, ◌≢◌, ◌≤◌, ◌⊎◌, inl, inr, refl, sym, ap, ◌∙◌, arith}
+use Rattle.std.proofs.lemmas.Bool.{ne_eqb}
 use Rattle.std.proofs.lemmas.Bool.Decides.{nat_tests}
 use Rattle.aidl_schema.specs.declared.schema.Decl.{Decl}
 use Rattle.aidl_schema.specs.declared.schema.Field.{Field}
 use Rattle.aidl_schema.specs.declared.schema.Arg.{Arg}
 use Rattle.aidl_schema.specs.declared.schema.Kind.{Kind}
 use Rattle.aidl_schema.specs.declared.schema.Kind.TheVariants.{Interface, Parcelable, Union, Enum}
-use Rattle.aidl_schema.specs.Broken.{union_fields}
+use Rattle.aidl_schema.specs.Broken.{parcelable_fields, union_fields}
 use Rattle.aidl_schema.specs.Containment.{fields_of}
 use Rattle.aidl_schema.specs.Holds.{AllHold}
 use Rattle.aidl_schema.specs.Same.{same_text}
@@ -14,8 +15,12 @@ use Rattle.aidl_values.specs.Data.{item}
 use Rattle.aidl_values.specs.View.{items_of, view}
 use Rattle.aidl_values.specs.declared.value.Value.{Value}
 use Rattle.compat_witness.specs.Reaching.{initials, plain_value, with_value}
-use Rattle.compat_witness.specs.Rows.{alternatives_in, alternatives_of_decl, low_arguments, names_agree, types_agree}
+use Rattle.compat_witness.specs.Rows.{alternatives_in, alternatives_of_decl, fields_of_decl, is_last, low_arguments, names_agree, types_agree}
+use Rattle.witness_calls.specs.Named.{field_named, fields_at, fields_of_decl as all_fields}
+use Rattle.witness_search.specs.declared.records.FieldRow.{FieldRow}
+use Rattle.witness_search.specs.declared.records.FieldRow.TheVariants as field
 use Rattle.witness_search.specs.steps.Records.{part, parts}
+use Rattle.witness_search.specs.steps.Rows as steps
 
 module _ (S : List Decl) (high : Bool) where
   initials_are : (fs : List Field) → items_of (map (λ g. part S high false g) fs) ≡ initials S fs
@@ -122,3 +127,47 @@ agree_end old new fs gs i le e = by (leb (length fs) i) refl
     by : (b : Bool) → leb (length fs) i ≡ b → true ≡ types_agree old fs new gs
     by true is = sym (ap (λ xs. types_agree old xs new (drop i gs)) (no_left fs i (grind (arith, nat_tests)))) ∙ e
     by false is = sym (ap (λ ys. types_agree old (drop i fs) new ys) (no_left gs i (grind (arith, nat_tests))) ∙ second (drop i fs)) ∙ e
+
+-- the fields among which a row looks are all of the declaration's, or none
+
+of_parcelable : (k : Kind) → (parcelable_fields k ≡ []) ⊎ (parcelable_fields k ≡ fields_of k)
+of_parcelable (Interface ms) = inl refl
+of_parcelable (Parcelable fs) = inr refl
+of_parcelable (Union fs) = inl refl
+of_parcelable (Enum b es) = inl refl
+
+of_union : (k : Kind) → (union_fields k ≡ []) ⊎ (union_fields k ≡ fields_of k)
+of_union (Interface ms) = inl refl
+of_union (Parcelable fs) = inl refl
+of_union (Union fs) = inr refl
+of_union (Enum b es) = inl refl
+
+some_or_none : (row : FieldRow) (S : List Decl) (k : ℕ) → (steps.fields_at row S k ≡ []) ⊎ (steps.fields_at row S k ≡ fields_at S k)
+some_or_none field.C10 S k = elim (slice_get S k) as (λ o. (fields_of_decl o ≡ []) ⊎ (fields_of_decl o ≡ all_fields o)) [ None ↦ inl refl | Some d ↦ of_parcelable d.kind ]
+some_or_none field.C11 S k = elim (slice_get S k) as (λ o. (fields_of_decl o ≡ []) ⊎ (fields_of_decl o ≡ all_fields o)) [ None ↦ inl refl | Some d ↦ of_parcelable d.kind ]
+some_or_none field.C15 S k = elim (slice_get S k) as (λ o. (alternatives_of_decl o ≡ []) ⊎ (alternatives_of_decl o ≡ all_fields o)) [ None ↦ inl refl | Some d ↦ of_union d.kind ]
+
+pub no_field : (row : FieldRow) (S : List Decl) (k : ℕ) (q : List ℕ) (fs : List Field) → fs ≡ steps.fields_at row S k → length fs ≡ 0 → None ≡ field_named (steps.fields_at row S k) q
+no_field row S k q [] is none = ap (λ gs. field_named gs q) is
+no_field row S k q (f ∷ fs) is none = absurd (omega arith)
+
+pub some_field : (row : FieldRow) (S : List Decl) (k : ℕ) (q : List ℕ) (fs : List Field) (o : Option ℕ) → fs ≡ steps.fields_at row S k → length fs ≢ 0 → o ≡ field_named (fields_at S k) q
+    → o ≡ field_named (steps.fields_at row S k) q
+some_field row S k q fs o is some e = by (some_or_none row S k)
+  where
+    by : ((steps.fields_at row S k ≡ []) ⊎ (steps.fields_at row S k ≡ fields_at S k)) → o ≡ field_named (steps.fields_at row S k) q
+    by (inl none) = absurd (some (ap length (is ∙ none)))
+    by (inr all) = e ∙ ap (λ gs. field_named gs q) (sym all)
+
+-- C11 asks first whether the position is the last
+
+pub not_last : (x : ℕ) (fs : List Field) (p n t : Bool) → x + 1 ≢ length fs → false ≡ (p && (n && (is_last x fs && t)))
+not_last x fs p n t h = by p n
+  where
+    by : (p n : Bool) → false ≡ (p && (n && (is_last x fs && t)))
+    by false n = refl
+    by true false = refl
+    by true true = rw (ne_eqb (x + 1) (length fs) h) refl
+
+pub at_last : (x : ℕ) (fs : List Field) (p n t : Bool) → x + 1 ≡ length fs → (p && (n && t)) ≡ (p && (n && (is_last x fs && t)))
+at_last x fs p n t h = let test : is_last x fs ≡ true = grind (arith, nat_tests) in ap (λ l. p && (n && (l && t))) (sym test)

@@ -59,9 +59,10 @@ pub fn declaration_groups<'a>(
 }
 
 // C2: a request with 0 from the version that has the enum.
-fn asked_c2<'a>(alloc: Global, both: &Both<'a>) -> Result<Option<Groups<'a>>, OutOfMemory>
+fn asked_c2<'a>(alloc: Global, both: &Both<'_, '_, 'a>) -> Result<Option<Groups<'a>>, OutOfMemory>
     requires { AreReached both.now }
-    ensures { IfOk result (λ groups. option_map groups_seen groups ≡ rows.ask_C2 both.now.old.now.decls both.now.k both.now.new.now.decls both.now.l) }
+    ensures { IfOk result (λ groups. option_map groups_seen groups
+        ≡ rows.ask_C2 both.now.old.now.decls both.now.k both.now.new.now.decls both.now.l) }
 {
     if is_none_of(both.forth) {
         return Ok(None);
@@ -126,9 +127,10 @@ pub fn one_group<'a>(
 }
 
 // C16: requests with 0, then 200, either way.
-fn asked_c16<'a>(alloc: Global, both: &Both<'a>) -> Result<Option<Groups<'a>>, OutOfMemory>
+fn asked_c16<'a>(alloc: Global, both: &Both<'_, '_, 'a>) -> Result<Option<Groups<'a>>, OutOfMemory>
     requires { AreReached both.now }
-    ensures { IfOk result (λ groups. option_map groups_seen groups ≡ rows.ask_C16 both.now.old.now.decls both.now.k both.now.new.now.decls both.now.l) }
+    ensures { IfOk result (λ groups. option_map groups_seen groups
+        ≡ rows.ask_C16 both.now.old.now.decls both.now.k both.now.new.now.decls both.now.l) }
 {
     if is_none_of(both.forth) {
         return Ok(None);

@@ -12,14 +12,13 @@ use crate::shown::Witness;
 use aidl_base::OutOfMemory;
 use aidl_values::Value;
 use std::alloc::Global;
-use stub_dispatch::Side;
-use witness_calls::{Call, try_call};
+use witness_calls::{Call, Version, try_call};
 
 /// The first of these calls that is shown, None where none is.
 pub fn first_call(
     alloc: Global,
-    old: &Side<'_>,
-    new: &Side<'_>,
+    old: &Version<'_>,
+    new: &Version<'_>,
     calls: Calls,
 ) -> Result<Option<Witness>, OutOfMemory>
     ensures { IfOk result (λ found. IsFirst old.now new.now (calls_seen calls) found) }
@@ -37,8 +36,8 @@ pub fn first_call(
 // The call where it is shown.
 fn try_one(
     alloc: Global,
-    old: &Side<'_>,
-    new: &Side<'_>,
+    old: &Version<'_>,
+    new: &Version<'_>,
     call: Call,
 ) -> Result<Option<Witness>, OutOfMemory>
     ensures { IfOk result (λ found. IsFirst old.now new.now (call_seen call ∷ []) found) }
@@ -53,8 +52,8 @@ fn try_one(
 #[tactic(auto, using(crate::proofs::Firsts::groups_found, crate::proofs::Firsts::groups_later, crate::proofs::Firsts::groups_alone))]
 pub fn first_request(
     alloc: Global,
-    old: &Side<'_>,
-    new: &Side<'_>,
+    old: &Version<'_>,
+    new: &Version<'_>,
     groups: &Groups<'_>,
 ) -> Result<Option<Witness>, OutOfMemory>
     ensures { IfOk result (λ found. IsFirst old.now new.now (groups_seen groups.now) found) }
@@ -74,8 +73,8 @@ pub fn first_request(
 // The first request of a group that is shown.
 fn first_of_group(
     alloc: Global,
-    old: &Side<'_>,
-    new: &Side<'_>,
+    old: &Version<'_>,
+    new: &Version<'_>,
     group: &Group<'_>,
 ) -> Result<Option<Witness>, OutOfMemory>
     ensures { IfOk result (λ found. IsFirst old.now new.now (group_seen group.now) found) }
@@ -92,8 +91,8 @@ fn first_of_group(
 
 fn first_of_methods(
     alloc: Global,
-    old: &Side<'_>,
-    new: &Side<'_>,
+    old: &Version<'_>,
+    new: &Version<'_>,
     back: bool,
     methods: &[Reach],
     values: &[Value],
@@ -111,8 +110,8 @@ fn first_of_methods(
 // The first request of a method that is shown.
 fn first_of_method(
     alloc: Global,
-    old: &Side<'_>,
-    new: &Side<'_>,
+    old: &Version<'_>,
+    new: &Version<'_>,
     back: bool,
     reach: &Reach,
     values: &[Value],
@@ -130,8 +129,8 @@ fn first_of_method(
 // The request of a method with one value, where it is shown.
 fn try_request(
     alloc: Global,
-    old: &Side<'_>,
-    new: &Side<'_>,
+    old: &Version<'_>,
+    new: &Version<'_>,
     back: bool,
     reach: &Reach,
     value: &Value,

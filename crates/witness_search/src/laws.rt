@@ -20,7 +20,8 @@ use compat_witness::{
 /// more than 1,048,576 bytes, one that counts differs.
 pub fn law_shown(old: &Schema, new: &Schema, entry: &Broken)
     requires among { Has (broken old.now.decls new.now.decls) (seen entry.now) }
-    ensures { (row : Row) → row_of entry.now.rule ≡ Some row → (cs : List Candidate) → row old.now.decls new.now.decls entry.now.place ≡ Some cs
+    ensures { (row : Row) → row_of entry.now.rule ≡ Some row
+        → (cs : List Candidate) → row old.now.decls new.now.decls entry.now.place ≡ Some cs
         → AreSmall old.now.decls new.now.decls cs → Shows old.now.decls new.now.decls cs }
 {
     let place = &entry.place;

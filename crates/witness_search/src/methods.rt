@@ -15,8 +15,8 @@ use crate::spot::{Spot, spot_like, spot_of};
 use crate::unanswered::{asked_c4, asked_c8, c3_calls};
 use crate::ways::asked_c7;
 use aidl_base::{OutOfMemory, Text};
-use aidl_schema::Schema;
 use std::alloc::Global;
+use witness_calls::Version;
 
 /// A rule whose place names a method, or one of its arguments.
 #[derive(Clone, Copy)]
@@ -33,11 +33,11 @@ pub enum CallsRow {
 pub fn calls_at(
     alloc: Global,
     row: CallsRow,
-    old: &Schema,
-    new: &Schema,
+    old: &Version<'_>,
+    new: &Version<'_>,
     place: &Text,
 ) -> Result<Option<Calls>, OutOfMemory>
-    ensures { IfOk result (λ calls. option_map calls_seen calls ≡ calls_row row old.now.decls new.now.decls place.now) }
+    ensures { IfOk result (λ calls. option_map calls_seen calls ≡ calls_row row old.now new.now place.now) }
 {
     let text = place.as_str();
     match row {
@@ -53,12 +53,12 @@ pub fn calls_at(
 // C6, at a method or at an argument.
 fn c6_calls(
     alloc: Global,
-    old: &Schema,
-    new: &Schema,
+    old: &Version<'_>,
+    new: &Version<'_>,
     place: &str,
 ) -> Result<Option<Calls>, OutOfMemory>
     ensures { (p : List ℕ) → place.now ≡ encode_utf8_all p
-        → IfOk result (λ calls. option_map calls_seen calls ≡ row_C6_both old.now.decls new.now.decls p) }
+        → IfOk result (λ calls. option_map calls_seen calls ≡ row_C6_both old.now new.now p) }
 {
     match at_slash(place) {
         Some((method, _)) => method_calls(alloc, MethodRow::C6At, old, new, method),
@@ -69,12 +69,12 @@ fn c6_calls(
 // C7, at an argument.
 fn c7_calls(
     alloc: Global,
-    old: &Schema,
-    new: &Schema,
+    old: &Version<'_>,
+    new: &Version<'_>,
     place: &str,
 ) -> Result<Option<Calls>, OutOfMemory>
     ensures { (p : List ℕ) → place.now ≡ encode_utf8_all p
-        → IfOk result (λ calls. option_map calls_seen calls ≡ row_C7_at old.now.decls new.now.decls p) }
+        → IfOk result (λ calls. option_map calls_seen calls ≡ row_C7_at old.now new.now p) }
 {
     match at_slash(place) {
         Some((method, _)) => method_calls(alloc, MethodRow::C7, old, new, method),
@@ -97,12 +97,12 @@ pub enum MethodRow {
 fn method_calls(
     alloc: Global,
     row: MethodRow,
-    old: &Schema,
-    new: &Schema,
+    old: &Version<'_>,
+    new: &Version<'_>,
     place: &str,
 ) -> Result<Option<Calls>, OutOfMemory>
     ensures { (p : List ℕ) → place.now ≡ encode_utf8_all p
-        → IfOk result (λ calls. option_map calls_seen calls ≡ method_row row old.now.decls new.now.decls p) }
+        → IfOk result (λ calls. option_map calls_seen calls ≡ method_row row old.now new.now p) }
 {
     let Some(before) = spot_of(old, place) else {
         return Ok(None);
@@ -117,19 +117,19 @@ fn method_calls(
 fn asked(
     alloc: Global,
     row: MethodRow,
-    old: &Schema,
-    new: &Schema,
+    old: &Version<'_>,
+    new: &Version<'_>,
     before: &Spot<'_>,
     after: &Spot<'_>,
 ) -> Result<Option<Calls>, OutOfMemory>
-    ensures { IfOk result (λ calls. option_map calls_seen calls ≡ asked row old.now.decls new.now.decls (spot_seen before.now) (spot_seen after.now)) }
+    ensures { IfOk result (λ calls. option_map calls_seen calls ≡ asked row old.now new.now (spot_seen before.now) (spot_seen after.now)) }
 {
     match row {
         MethodRow::C4 => Ok(asked_c4(alloc, before, after)),
         MethodRow::C5 => Ok(asked_c5(alloc, before, after)),
         MethodRow::C6 => asked_c6(alloc, before, after),
         MethodRow::C6At => asked_c6_at(alloc, before, after),
-        MethodRow::C7 => asked_c7(alloc, old, new, before, after),
+        MethodRow::C7 => asked_c7(alloc, old.schema(), new.schema(), before, after),
         MethodRow::C8 => Ok(asked_c8(before, after)),
     }
 }

@@ -6,7 +6,7 @@ use crate::candidates::Reach;
 use crate::reaching::reach_table;
 use aidl_base::{OutOfMemory, Row};
 use std::alloc::Global;
-use stub_dispatch::Side;
+use witness_calls::Version;
 
 /// For each declaration of two versions the methods that reach it: of the old one those by which a client of old sends it, and of the new
 /// one those of a client of new. They are made once for all broken rules (own).
@@ -18,13 +18,15 @@ pub struct ReachTables {
 
 impl ReachTables {
     /// Those of two versions. `OutOfMemory` is the one refusal.
-    pub fn new(alloc: Global, old: &Side<'_>, new: &Side<'_>) -> Result<ReachTables, OutOfMemory>
+    pub fn new(
+        alloc: Global,
+        old: &Version<'_>,
+        new: &Version<'_>,
+    ) -> Result<ReachTables, OutOfMemory>
         ensures { IfOk result (λ tables. AreReachTables old.now new.now tables) }
     {
-        let before = old.schema();
-        let after = new.schema();
-        let forth = reach_table(alloc, before, after)?;
-        let back = reach_table(alloc, after, before)?;
+        let forth = reach_table(alloc, old, new)?;
+        let back = reach_table(alloc, new, old)?;
         Ok(ReachTables { forth, back })
     }
 

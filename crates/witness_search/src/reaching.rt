@@ -1,31 +1,36 @@
 //! The table of the methods that reach each declaration.
-ghost use Rattle.std.specs.Prelude.{◌≡◌, ◌==◌, ◌&&◌, ◌≤◌, ℕ, [], length, if◌then◌else◌, IfOk, None, OnOk, Some};
+ghost use Rattle.std.specs.Prelude.{◌≡◌, ◌==◌, ◌&&◌, ◌≤◌, ℕ, [], length, if◌then◌else◌, IfOk, None, OnOk, Some, option_map};
 ghost use Rattle.std.specs.Option.{option_copied};
 ghost use Rattle.aidl_schema.specs.Find.{methods_at};
+ghost use Rattle.aidl_schema.specs.Same.{same};
+ghost use Rattle.compat_witness.specs.Places.{spot_like};
 ghost use Rattle.compat_witness.specs.Reaching.{only};
 ghost use Rattle.compat_witness.specs.Reaching as meant;
 ghost use Rattle.witness_search.specs.ReachTables.{IsReachTable, row_at};
-ghost use Rattle.witness_search.specs.steps.Reached.{AreAdded, IsAdded, is_at, number_taken, reached_from, reached_in};
+ghost use Rattle.witness_search.specs.steps.Reached.{AreAdded, IsAdded, IsNamed, is_at, number_taken, reached_from, reached_in};
+ghost use Rattle.witness_search.specs.steps.Seen.{spot_seen};
 
 use crate::candidates::Reach;
 use crate::counts::only;
+use crate::names::declared_like;
 use crate::plain::{is_in_way, is_one_value};
-use crate::spot::spot_like;
+use crate::spot::{Spot, spot_in};
 use aidl_base::{OutOfMemory, Row};
-use aidl_schema::{Arg, Base, Method, Schema, law_valid, methods_at};
+use aidl_schema::{AidlType, Arg, Base, Method, law_valid};
 use compat_judge::same_type;
 use std::alloc::Global;
+use witness_calls::Version;
 
 /// For each declaration of the client its methods that reach it: each has the same id in both versions and this one argument, which is
 /// `in`, one value of the declaration and never null. They are in the order of interfaces and methods.
 pub fn reach_table(
     alloc: Global,
-    client: &Schema,
-    server: &Schema,
+    client: &Version<'_>,
+    server: &Version<'_>,
 ) -> Result<Vec<Row<Reach>>, OutOfMemory>
-    ensures { IfOk result (λ rows. IsReachTable client.now.decls server.now.decls rows.items) }
+    ensures { IfOk result (λ rows. IsReachTable client.now server.now rows.items) }
 {
-    let mut rows = empty_rows(alloc, client.decls.as_slice().len())?;
+    let mut rows = empty_rows(alloc, client.schema().decls.as_slice().len())?;
     add_all(alloc, client, server, rows.as_mut_slice())?;
     Ok(rows)
 }
@@ -45,14 +50,15 @@ fn empty_rows(alloc: Global, count: usize) -> Result<Vec<Row<Reach>>, OutOfMemor
 // Adds the methods of all interfaces to the rows of what they reach.
 fn add_all(
     alloc: Global,
-    client: &Schema,
-    server: &Schema,
+    client: &Version<'_>,
+    server: &Version<'_>,
     rows: &mut [Row<Reach>],
 ) -> Result<(), OutOfMemory>
-    ensures { OnOk result (AreAdded (λ k. meant.methods_reaching client.now.decls k server.now.decls) rows.old rows.new) }
+    ensures { OnOk result (AreAdded (λ k. meant.methods_reaching client.now k server.now) rows.old rows.new) }
 {
-    law_valid(client);
-    let decls = client.decls.as_slice();
+    let schema = client.schema();
+    law_valid(schema);
+    let decls = schema.decls.as_slice();
     for i in 0..decls.len() {
         add_reaching(alloc, client, server, i as u32, rows)?;
     }
@@ -62,35 +68,37 @@ fn add_all(
 // Adds the methods of one interface.
 fn add_reaching(
     alloc: Global,
-    client: &Schema,
-    server: &Schema,
+    client: &Version<'_>,
+    server: &Version<'_>,
     interface: u32,
     rows: &mut [Row<Reach>],
 ) -> Result<(), OutOfMemory>
-    ensures { OnOk result (AreAdded (λ k. reached_in client.now.decls k server.now.decls interface) rows.old rows.new) }
+    ensures { OnOk result (AreAdded (λ k. reached_in client.now k server.now interface) rows.old rows.new) }
 {
     let ends = Ends {
         client,
         server,
         interface,
+        named: declared_like(alloc, client, interface, server)?,
     };
-    add_methods(alloc, &ends, few_methods(client, interface), rows)
+    add_methods(&ends, few_methods(client, interface), rows)
 }
 
 // Adds these methods.
 fn add_methods(
-    alloc: Global,
     ends: &Ends<'_>,
     methods: &[Method],
     rows: &mut [Row<Reach>],
 ) -> Result<(), OutOfMemory>
-    requires { length methods.now ≤ 4096 }
+    requires named { IsNamed ends.now }
+    requires few { length methods.now ≤ 4096 }
     ensures { OnOk result (AreAdded
-        (λ k. reached_from 0 (λ v. meant.reaches ends.now.client.now.decls k ends.now.server.now.decls ends.now.interface v) ends.now.interface methods.now)
+        (λ k. reached_from 0 (λ v. meant.reaches ends.now.client.now k ends.now.server.now ends.now.interface v)
+        ends.now.interface methods.now)
         rows.old rows.new) }
 {
     for i in 0..methods.len() {
-        let number = number_reached(alloc, ends, &methods[i])?;
+        let number = number_reached(ends, &methods[i]);
         let reach = Reach {
             interface: ends.interface,
             method: i as u32,
@@ -101,20 +109,21 @@ fn add_methods(
 }
 
 // The methods of an interface, which are at most 4,096.
-fn few_methods(schema: &Schema, interface: u32) -> &[Method]
-    ensures is { result.now ≡ methods_at schema.now.decls interface }
+fn few_methods<'a>(version: &Version<'a>, interface: u32) -> &'a [Method]
+    ensures is { result.now ≡ methods_at version.now interface }
     ensures few { length result.now ≤ 4096 }
 {
-    law_valid(schema);
-    methods_at(schema, interface)
+    law_valid(version.schema());
+    version.methods(interface)
 }
 
-// An interface of the client, and the server.
+/// An interface of the client, the server, and the number of the server's declaration of that name.
 #[derive(Clone, Copy)]
-struct Ends<'a> {
-    client: &'a Schema,
-    server: &'a Schema,
-    interface: u32,
+pub struct Ends<'a> {
+    pub client: &'a Version<'a>,
+    pub server: &'a Version<'a>,
+    pub interface: u32,
+    pub named: Option<u32>,
 }
 
 // Adds a method to the row of a number.
@@ -132,19 +141,15 @@ fn add(rows: &mut [Row<Reach>], number: Option<u32>, reach: Reach) -> Result<(),
 
 // The declaration that a method reaches: the one that its only argument is of, or none.
 #[tactic(auto, using(crate::proofs::Reaches::reaches_none, crate::proofs::Reaches::reaches_one))]
-fn number_reached(
-    alloc: Global,
-    ends: &Ends<'_>,
-    method: &Method,
-) -> Result<Option<u32>, OutOfMemory>
-    ensures { IfOk result (λ number. (k : ℕ) → is_at k number
-        ≡ meant.reaches ends.now.client.now.decls k ends.now.server.now.decls ends.now.interface method.now) }
+fn number_reached(ends: &Ends<'_>, method: &Method) -> Option<u32>
+    requires { IsNamed ends.now }
+    ensures { (k : ℕ) → is_at k result
+        ≡ meant.reaches ends.now.client.now k ends.now.server.now ends.now.interface method.now }
 {
     let Some(number) = number_taken(only(method.args.as_slice())) else {
-        return Ok(None);
+        return None;
     };
-    let does_reach = reaches(alloc, ends, number, method)?;
-    Ok(number_if(does_reach, number))
+    number_if(reaches(ends, number, method), number)
 }
 
 // The declaration that an argument is of.
@@ -165,23 +170,32 @@ fn number_if(is_met: bool, number: u32) -> Option<u32>
 }
 
 // Whether a method reaches the declaration: the server has it by names with the same id, and it has this one argument in both.
-fn reaches(
-    alloc: Global,
-    ends: &Ends<'_>,
-    number: u32,
-    method: &Method,
-) -> Result<bool, OutOfMemory>
-    ensures { IfOk result (λ does. does ≡ meant.reaches ends.now.client.now.decls number ends.now.server.now.decls ends.now.interface method.now) }
+fn reaches(ends: &Ends<'_>, number: u32, method: &Method) -> bool
+    requires { IsNamed ends.now }
+    ensures { result ≡ meant.reaches ends.now.client.now number ends.now.server.now ends.now.interface method.now }
 {
-    match spot_like(alloc, ends.client, ends.interface, method, ends.server)? {
-        Some(spot) => Ok(is_same(ends, number, method, spot.method)),
-        None => Ok(false),
+    match spot_there(ends, method) {
+        Some(spot) => is_same(ends, number, method, spot.method),
+        None => false,
+    }
+}
+
+// The server's method of the same names.
+fn spot_there<'a>(ends: &Ends<'a>, method: &Method) -> Option<Spot<'a>>
+    requires { IsNamed ends.now }
+    ensures { option_map spot_seen result
+        ≡ spot_like ends.now.client.now ends.now.interface method.now ends.now.server.now }
+{
+    match ends.named {
+        Some(number) => spot_in(ends.server, number, method),
+        None => None,
     }
 }
 
 // The same id, and this one argument in both.
 fn is_same(ends: &Ends<'_>, number: u32, v: &Method, w: &Method) -> bool
-    ensures { result ≡ ((v.now.id == w.now.id) && meant.both_take ends.now.client.now.decls number ends.now.server.now.decls (only v.now.args) (only w.now.args)) }
+    ensures { result ≡ ((v.now.id == w.now.id)
+        && meant.both_take ends.now.client.now number ends.now.server.now (only v.now.args) (only w.now.args)) }
 {
     v.id == w.id
         && both_take(
@@ -193,7 +207,7 @@ fn is_same(ends: &Ends<'_>, number: u32, v: &Method, w: &Method) -> bool
 }
 
 fn both_take(ends: &Ends<'_>, number: u32, a: Option<&Arg>, b: Option<&Arg>) -> bool
-    ensures { result ≡ meant.both_take ends.now.client.now.decls number ends.now.server.now.decls (option_copied a.entry) (option_copied b.entry) }
+    ensures { result ≡ meant.both_take ends.now.client.now number ends.now.server.now (option_copied a.entry) (option_copied b.entry) }
 {
     match a {
         Some(a) => match b {
@@ -206,11 +220,17 @@ fn both_take(ends: &Ends<'_>, number: u32, a: Option<&Arg>, b: Option<&Arg>) -> 
 
 // Whether both arguments are `in` and one value of the declaration, never null.
 fn takes(ends: &Ends<'_>, number: u32, a: &Arg, b: &Arg) -> bool
-    ensures { result ≡ meant.takes ends.now.client.now.decls number ends.now.server.now.decls a.now b.now }
+    ensures { result ≡ meant.takes ends.now.client.now number ends.now.server.now a.now b.now }
 {
     (is_in_way(a.way) && is_in_way(b.way))
-        && (is_number(number, a.ty.base)
-            && (is_one_value(a.ty) && same_type(ends.client, a.ty, ends.server, b.ty)))
+        && (is_number(number, a.ty.base) && (is_one_value(a.ty) && is_same_type(ends, a.ty, b.ty)))
+}
+
+// Whether a type of the client and one of the server are the same.
+fn is_same_type(ends: &Ends<'_>, a: AidlType, b: AidlType) -> bool
+    ensures { result ≡ same ends.now.client.now a ends.now.server.now b }
+{
+    same_type(ends.client.schema(), a, ends.server.schema(), b)
 }
 
 fn is_number(number: u32, base: Base) -> bool

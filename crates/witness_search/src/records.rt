@@ -9,6 +9,7 @@ ghost use Rattle.compat_witness.specs.Rows as rows;
 ghost use Rattle.witness_search.specs.Asked.{groups_seen};
 ghost use Rattle.witness_search.specs.ReachTables.{AreReachTables};
 ghost use Rattle.witness_search.specs.steps.Reached.{AreReached};
+ghost use Rattle.witness_search.specs.steps.Named.{field_named};
 ghost use Rattle.witness_search.specs.steps.Rows as steps;
 
 use crate::both::Both;
@@ -16,7 +17,7 @@ use crate::candidates::{Group, Groups};
 use crate::counts::one_value;
 use crate::declarations::{is_none_of, one_group, two_values};
 use crate::fields::{alternatives_in, fields_in, names_agree, types_agree, with_value};
-use crate::names::{field_named, named};
+use crate::names::named;
 use crate::places::at_last_dot;
 use crate::plain::{are_plain, low_value};
 use crate::reach_tables::ReachTables;
@@ -25,6 +26,7 @@ use aidl_schema::{Base, Field, Schema, law_valid};
 use aidl_values::Value;
 use compat_judge::{same_text, same_type};
 use std::alloc::Global;
+use witness_calls::Version;
 
 /// A row of a field.
 #[derive(Clone, Copy)]
@@ -38,13 +40,13 @@ pub enum FieldRow {
 pub fn field_groups<'a>(
     alloc: Global,
     row: FieldRow,
-    old: &'a Schema,
-    new: &'a Schema,
+    old: &Version<'_>,
+    new: &Version<'_>,
     tables: &'a ReachTables,
     place: &Text,
 ) -> Result<Option<Groups<'a>>, OutOfMemory>
-    requires { AreReachTables old.now.decls new.now.decls tables.now }
-    ensures { IfOk result (λ groups. option_map groups_seen groups ≡ steps.field_row row old.now.decls new.now.decls place.now) }
+    requires { AreReachTables old.now new.now tables.now }
+    ensures { IfOk result (λ groups. option_map groups_seen groups ≡ steps.field_row row old.now new.now place.now) }
 {
     groups_named(alloc, row, old, new, tables, place.as_str())
 }
@@ -54,30 +56,32 @@ pub fn field_groups<'a>(
 fn groups_named<'a>(
     alloc: Global,
     row: FieldRow,
-    old: &'a Schema,
-    new: &'a Schema,
+    old: &Version<'_>,
+    new: &Version<'_>,
     tables: &'a ReachTables,
     place: &str,
 ) -> Result<Option<Groups<'a>>, OutOfMemory>
-    requires { AreReachTables old.now.decls new.now.decls tables.now }
-    ensures { IfOk result (λ groups. option_map groups_seen groups ≡ steps.field_row_named row old.now.decls new.now.decls place.now) }
+    requires { AreReachTables old.now new.now tables.now }
+    ensures { IfOk result (λ groups. option_map groups_seen groups ≡ steps.field_row_named row old.now new.now place.now) }
 {
     let Some((name, field)) = at_last_dot(place) else {
         return Ok(None);
     };
-    let Some(k) = named(old, name) else {
+    let before = old.schema();
+    let after = new.schema();
+    let Some(k) = named(before, name) else {
         return Ok(None);
     };
-    let Some(l) = named(new, name) else {
+    let Some(l) = named(after, name) else {
         return Ok(None);
     };
-    let Some(position) = field_named(fields_at(row, old, k), field) else {
+    let Some(position) = field_at(row, old, k, field) else {
         return Ok(None);
     };
     let both = Both {
-        old,
+        old: before,
         k,
-        new,
+        new: after,
         l,
         forth: tables.forth_of(k),
         back: tables.back_of(l),
@@ -87,6 +91,17 @@ fn groups_named<'a>(
         FieldRow::C11 => asked_c11(alloc, &both, position),
         FieldRow::C15 => asked_c15(alloc, &both, position),
     }
+}
+
+// The position of the field of a name among those.
+#[tactic(auto, using(crate::proofs::RecordParts::no_field, crate::proofs::RecordParts::some_field))]
+fn field_at(row: FieldRow, version: &Version<'_>, number: u32, name: &str) -> Option<usize>
+    ensures { result ≡ field_named (steps.fields_at row version.now number) name.now }
+{
+    if fields_at(row, version.schema(), number).len() == 0 {
+        return None;
+    }
+    version.field_named(number, name)
 }
 
 // The fields among which a row looks.
@@ -102,11 +117,12 @@ fn fields_at(row: FieldRow, schema: &Schema, number: u32) -> &[Field]
 // C10: requests with z0, then z1, in that field and defaults elsewhere.
 fn asked_c10<'a>(
     alloc: Global,
-    both: &Both<'a>,
+    both: &Both<'_, '_, 'a>,
     position: usize,
 ) -> Result<Option<Groups<'a>>, OutOfMemory>
     requires { AreReached both.now }
-    ensures { IfOk result (λ groups. option_map groups_seen groups ≡ steps.asked_C10 both.now.old.now.decls both.now.k both.now.new.now.decls both.now.l position) }
+    ensures { IfOk result (λ groups. option_map groups_seen groups
+        ≡ steps.asked_C10 both.now.old.now.decls both.now.k both.now.new.now.decls both.now.l position) }
 {
     let olds = fields_in(both.old, both.k);
     let news = fields_in(both.new, both.l);
@@ -127,8 +143,9 @@ fn asked_c10<'a>(
 }
 
 // All fields are plain in both, and types agree at each position below both counts.
-fn is_met_c10(both: &Both<'_>, olds: &[Field], news: &[Field]) -> bool
-    ensures { result ≡ ((are_plain olds.now && are_plain news.now) && rows.types_agree both.now.old.now.decls olds.now both.now.new.now.decls news.now) }
+fn is_met_c10(both: &Both<'_, '_, '_>, olds: &[Field], news: &[Field]) -> bool
+    ensures { result ≡ ((are_plain olds.now && are_plain news.now)
+        && rows.types_agree both.now.old.now.decls olds.now both.now.new.now.decls news.now) }
 {
     (are_plain(olds) && are_plain(news)) && types_agree(both.old, olds, both.new, news)
 }
@@ -136,12 +153,13 @@ fn is_met_c10(both: &Both<'_>, olds: &[Field], news: &[Field]) -> bool
 // C11: requests with z0 in that field and defaults elsewhere, either way.
 fn asked_c11<'a>(
     alloc: Global,
-    both: &Both<'a>,
+    both: &Both<'_, '_, 'a>,
     position: usize,
 ) -> Result<Option<Groups<'a>>, OutOfMemory>
     requires reached { AreReached both.now }
     requires there { position < length (rows.fields_in both.now.old.now.decls both.now.k) }
-    ensures { IfOk result (λ groups. option_map groups_seen groups ≡ steps.asked_C11 both.now.old.now.decls both.now.k both.now.new.now.decls both.now.l position) }
+    ensures { IfOk result (λ groups. option_map groups_seen groups
+        ≡ steps.asked_C11 both.now.old.now.decls both.now.k both.now.new.now.decls both.now.l position) }
 {
     let olds = fields_in(both.old, both.k);
     let news = fields_in(both.new, both.l);
@@ -165,15 +183,18 @@ fn asked_c11<'a>(
 }
 
 // All fields are plain in both, have the same names, and but for the last the same types.
-fn is_met_c11(both: &Both<'_>, position: usize, olds: &[Field], news: &[Field]) -> bool
+#[tactic(auto, using(crate::proofs::RecordParts::not_last, crate::proofs::RecordParts::at_last))]
+fn is_met_c11(both: &Both<'_, '_, '_>, position: usize, olds: &[Field], news: &[Field]) -> bool
     requires { position < length olds.now }
     ensures { result ≡ ((are_plain olds.now && are_plain news.now) && (rows.names_agree olds.now news.now
-        && (rows.is_last position olds.now && rows.types_agree both.now.old.now.decls (take position olds.now) both.now.new.now.decls news.now))) }
+        && (rows.is_last position olds.now
+        && rows.types_agree both.now.old.now.decls (take position olds.now) both.now.new.now.decls news.now))) }
 {
+    if position + 1 != olds.len() {
+        return false;
+    }
     (are_plain(olds) && are_plain(news))
-        && (names_agree(olds, news)
-            && (position + 1 == olds.len()
-                && types_agree(both.old, &olds[..position], both.new, news)))
+        && (names_agree(olds, news) && types_agree(both.old, &olds[..position], both.new, news))
 }
 
 // The record with z0 in that field and defaults elsewhere.
@@ -192,12 +213,13 @@ fn low_record(
 // C15: a request with that tag and z0.
 fn asked_c15<'a>(
     alloc: Global,
-    both: &Both<'a>,
+    both: &Both<'_, '_, 'a>,
     position: usize,
 ) -> Result<Option<Groups<'a>>, OutOfMemory>
     requires reached { AreReached both.now }
     requires there { position < length (rows.alternatives_in both.now.old.now.decls both.now.k) }
-    ensures { IfOk result (λ groups. option_map groups_seen groups ≡ steps.asked_C15 both.now.old.now.decls both.now.k both.now.new.now.decls both.now.l position) }
+    ensures { IfOk result (λ groups. option_map groups_seen groups
+        ≡ steps.asked_C15 both.now.old.now.decls both.now.k both.now.new.now.decls both.now.l position) }
 {
     let olds = alternatives_in(both.old, both.k);
     let news = alternatives_in(both.new, both.l);
@@ -235,15 +257,16 @@ fn base_at(fields: &[Field], position: usize) -> Base
 }
 
 // All fields are plain in both, and names or types differ at the position, which both have.
-fn is_met_c15(both: &Both<'_>, position: usize, olds: &[Field], news: &[Field]) -> bool
+fn is_met_c15(both: &Both<'_, '_, '_>, position: usize, olds: &[Field], news: &[Field]) -> bool
     ensures { result ≡ ((are_plain olds.now && are_plain news.now)
         && rows.differ_at both.now.old.now.decls both.now.new.now.decls (slice_get olds.now position) (slice_get news.now position)) }
 {
     (are_plain(olds) && are_plain(news)) && differ_at(both, olds.get(position), news.get(position))
 }
 
-fn differ_at(both: &Both<'_>, before: Option<&Field>, after: Option<&Field>) -> bool
-    ensures { result ≡ rows.differ_at both.now.old.now.decls both.now.new.now.decls (option_copied before.entry) (option_copied after.entry) }
+fn differ_at(both: &Both<'_, '_, '_>, before: Option<&Field>, after: Option<&Field>) -> bool
+    ensures { result
+        ≡ rows.differ_at both.now.old.now.decls both.now.new.now.decls (option_copied before.entry) (option_copied after.entry) }
 {
     match before {
         Some(f) => match after {

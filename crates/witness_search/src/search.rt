@@ -23,15 +23,15 @@ use crate::table::{TableRow, row_of};
 use aidl_base::{OutOfMemory, Text};
 use compat_judge::Broken;
 use std::alloc::Global;
-use stub_dispatch::Side;
+use witness_calls::Version;
 
 /// The witness of an entry of the judge's list: of the calls that the row of its rule gives at its place, the first that counts and whose
 /// two sides differ. Where there is none it is the reason: `OutsideWire` of a rule without a row, and `NoCandidate` of the others (own).
 /// The tables are made once for all entries. `OutOfMemory` is the one refusal.
 pub fn witness_of(
     alloc: Global,
-    old: &Side<'_>,
-    new: &Side<'_>,
+    old: &Version<'_>,
+    new: &Version<'_>,
     tables: &ReachTables,
     entry: &Broken,
 ) -> Result<Shown, OutOfMemory>
@@ -47,7 +47,7 @@ pub fn witness_of(
 }
 
 // The law of witnesses for the schemas of two sides.
-fn law_of_sides(old: &Side<'_>, new: &Side<'_>, entry: &Broken)
+fn law_of_sides(old: &Version<'_>, new: &Version<'_>, entry: &Broken)
     requires among { Has (broken old.now new.now) (seen entry.now) }
     ensures { (row : Row) → row_of entry.now.rule ≡ Some row → (cs : List Candidate) → row old.now new.now entry.now.place ≡ Some cs
         → AreSmall old.now new.now cs → Shows old.now new.now cs }
@@ -60,8 +60,8 @@ fn law_of_sides(old: &Side<'_>, new: &Side<'_>, entry: &Broken)
 // The same by the row of the entry's rule.
 fn search(
     alloc: Global,
-    old: &Side<'_>,
-    new: &Side<'_>,
+    old: &Version<'_>,
+    new: &Version<'_>,
     tables: &ReachTables,
     entry: &Broken,
 ) -> Result<Shown, OutOfMemory>
@@ -77,8 +77,8 @@ fn search(
 // The first call of a row that is shown.
 fn of_row(
     alloc: Global,
-    old: &Side<'_>,
-    new: &Side<'_>,
+    old: &Version<'_>,
+    new: &Version<'_>,
     tables: &ReachTables,
     row: TableRow,
     place: &Text,
@@ -86,19 +86,19 @@ fn of_row(
     requires { AreReachTables old.now new.now tables.now }
     ensures { IfOk result (λ shown. IsOfRow old.now new.now (those_of (table_row row old.now new.now place.now)) shown) }
 {
-    let before = old.schema();
-    let after = new.schema();
     match row {
         TableRow::Declaration(row) => {
+            let before = old.schema();
+            let after = new.schema();
             let groups = declaration_groups(alloc, row, before, after, tables, place)?;
             among_requests(alloc, old, new, groups)
         }
         TableRow::Field(row) => {
-            let groups = field_groups(alloc, row, before, after, tables, place)?;
+            let groups = field_groups(alloc, row, old, new, tables, place)?;
             among_requests(alloc, old, new, groups)
         }
         TableRow::Method(row) => {
-            let calls = calls_at(alloc, row, before, after, place)?;
+            let calls = calls_at(alloc, row, old, new, place)?;
             among_calls(alloc, old, new, calls)
         }
     }
@@ -106,8 +106,8 @@ fn of_row(
 
 fn among_requests(
     alloc: Global,
-    old: &Side<'_>,
-    new: &Side<'_>,
+    old: &Version<'_>,
+    new: &Version<'_>,
     groups: Option<Groups<'_>>,
 ) -> Result<Shown, OutOfMemory>
     ensures { IfOk result (λ shown. IsOfRow old.now new.now (those_of (option_map groups_seen groups.entry)) shown) }
@@ -120,8 +120,8 @@ fn among_requests(
 
 fn among_calls(
     alloc: Global,
-    old: &Side<'_>,
-    new: &Side<'_>,
+    old: &Version<'_>,
+    new: &Version<'_>,
     calls: Option<Calls>,
 ) -> Result<Shown, OutOfMemory>
     ensures { IfOk result (λ shown. IsOfRow old.now new.now (those_of (option_map calls_seen calls)) shown) }

@@ -15,55 +15,47 @@ use crate::candidates::{Calls, one_call};
 use crate::names::declared_like;
 use crate::spot::{Spot, spot_of};
 use aidl_base::{OutOfMemory, Row};
-use aidl_schema::{Arg, Method, Schema, methods_at};
+use aidl_schema::Arg;
 use std::alloc::Global;
-use witness_calls::Call;
+use witness_calls::{Call, Version};
 
 /// C3: a request from the old version; None where the method has arguments or new has no method of its id.
 pub fn c3_calls(
     alloc: Global,
-    old: &Schema,
-    new: &Schema,
+    old: &Version<'_>,
+    new: &Version<'_>,
     place: &str,
 ) -> Result<Option<Calls>, OutOfMemory>
     ensures { (p : List ℕ) → place.now ≡ encode_utf8_all p
-        → IfOk result (λ calls. option_map calls_seen calls ≡ row_C3 old.now.decls new.now.decls p) }
+        → IfOk result (λ calls. option_map calls_seen calls ≡ row_C3 old.now new.now p) }
 {
     let Some(spot) = spot_of(old, place) else {
         return Ok(None);
     };
     match declared_like(alloc, old, spot.interface, new)? {
-        Some(number) => Ok(asked_c3(alloc, &spot, methods_at(new, number))),
+        Some(number) => Ok(asked_c3(alloc, &spot, new, number)),
         None => Ok(None),
     }
 }
 
-fn asked_c3(alloc: Global, spot: &Spot<'_>, others: &[Method]) -> Option<Calls>
-    ensures { option_map calls_seen result ≡ asked_C3 (spot_seen spot.now) others.now }
+fn asked_c3(alloc: Global, spot: &Spot<'_>, new: &Version<'_>, interface: u32) -> Option<Calls>
+    ensures { option_map calls_seen result ≡ asked_C3 (spot_seen spot.now) (methods_at new.now interface) }
 {
-    if is_empty(spot.method.args.as_slice()) && has_id(others, spot.method.id) {
+    if is_empty(spot.method.args.as_slice()) && has_id(new, interface, spot.method.id) {
         Some(one_call(bare_request(alloc, spot)))
     } else {
         None
     }
 }
 
-// Whether one of these methods has an id.
-fn has_id(methods: &[Method], id: u32) -> bool
-    ensures { result ≡ not (is_none (position_of_code methods.now (id + 1))) }
+// Whether a method of an interface has an id.
+fn has_id(version: &Version<'_>, interface: u32, id: u32) -> bool
+    ensures { result ≡ not (is_none (position_of_code (methods_at version.now interface) (id + 1))) }
 {
-    match position_of_id(methods, id) {
+    match version.method_of_id(interface, id) {
         Some(_) => true,
         None => false,
     }
-}
-
-fn position_of_id(methods: &[Method], id: u32) -> Option<usize>
-    ensures { result ≡ position_of_code methods.now (id + 1) }
-{
-    methods
-        .iter()
-        .position(|method| u64::from(method.id) + 1 == u64::from(id) + 1)
 }
 
 /// C4: a request from the old version. It takes no memory.
@@ -119,7 +111,9 @@ fn bare_request(alloc: Global, spot: &Spot<'_>) -> Call
 
 // The reply to the two-way client.
 fn two_way_reply(before: &Spot<'_>, after: &Spot<'_>) -> Call
-    ensures { call_seen result ≡ (if before.now.method.now.oneway then reply true after.now.interface after.now.position None else reply false before.now.interface before.now.position None) }
+    ensures { call_seen result ≡ (if before.now.method.now.oneway
+        then reply true after.now.interface after.now.position None
+        else reply false before.now.interface before.now.position None) }
 {
     if before.method.oneway {
         no_reply(true, after)

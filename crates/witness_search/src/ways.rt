@@ -33,7 +33,8 @@ pub fn asked_c7(
     before: &Spot<'_>,
     after: &Spot<'_>,
 ) -> Result<Option<Calls>, OutOfMemory>
-    ensures { IfOk result (λ calls. option_map calls_seen calls ≡ of_only (asked_C7 old.now.decls new.now.decls) (spot_seen before.now) (spot_seen after.now)) }
+    ensures { IfOk result (λ calls. option_map calls_seen calls
+        ≡ of_only (asked_C7 old.now.decls new.now.decls) (spot_seen before.now) (spot_seen after.now)) }
 {
     match both_only(before, after) {
         Some(args) if is_met(old, new, before, after, args) => {
@@ -52,7 +53,8 @@ fn is_met(
     after: &Spot<'_>,
     args: (&Arg, &Arg),
 ) -> bool
-    ensures { result ≡ is_met_C7 old.now.decls new.now.decls (spot_seen before.now) (spot_seen after.now) args.entry.0.now args.entry.1.now }
+    ensures { result ≡ is_met_C7 old.now.decls new.now.decls (spot_seen before.now) (spot_seen after.now)
+        args.entry.0.now args.entry.1.now }
 {
     (same_type(old, args.0.ty, new, args.1.ty) && is_sent_back(old, args.0.ty, new, args.1.ty))
         && (!(before.method.oneway || after.method.oneway)
@@ -89,7 +91,9 @@ fn ask(
     args: (&Arg, &Arg),
 ) -> Result<Call, OutOfMemory>
     requires { is_met_C7 old.now.decls new.now.decls (spot_seen before.now) (spot_seen after.now) args.0.now args.1.now ≡ true }
-    ensures { IfOk result (λ call. call_seen call ∷ [] ≡ ask_C7 old.now.decls new.now.decls (spot_seen before.now) (spot_seen after.now) args.entry.0.now args.entry.1.now) }
+    ensures { IfOk result (λ call. call_seen call ∷ []
+        ≡ ask_C7 old.now.decls new.now.decls (spot_seen before.now) (spot_seen after.now)
+        args.entry.0.now args.entry.1.now) }
 {
     law_types(old, new, before, after, args);
     if is_in_way(args.0.way) {
@@ -126,7 +130,8 @@ fn default_reply(
     ty: AidlType,
 ) -> Result<Call, OutOfMemory>
     requires { is_type server.now.decls ty ≡ true }
-    ensures { IfOk result (λ call. call_seen call ≡ reply back client.now.interface client.now.position (Some (returned None (item (zero_in server.now.decls ty) none)))) }
+    ensures { IfOk result (λ call. call_seen call
+        ≡ reply back client.now.interface client.now.position (Some (returned None (item (zero_in server.now.decls ty) none)))) }
 {
     let value = default_of(alloc, server, &ty)?;
     let outs = one_value(alloc, value)?;
@@ -147,7 +152,8 @@ fn default_request(
     ty: AidlType,
 ) -> Result<Call, OutOfMemory>
     requires { is_type schema.now.decls ty ≡ true }
-    ensures { IfOk result (λ call. call_seen call ≡ request back client.now.interface client.now.position (item (sent_in_out schema.now.decls ty) none)) }
+    ensures { IfOk result (λ call. call_seen call
+        ≡ request back client.now.interface client.now.position (item (sent_in_out schema.now.decls ty) none)) }
 {
     let value = sent_in_out(alloc, schema, ty)?;
     Ok(Call::Request {

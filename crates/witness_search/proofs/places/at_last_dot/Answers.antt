@@ -1,5 +1,5 @@
-use Rattle.witness_search.proofs.PlaceBytes.{cut_at_dot}
+use Rattle.wire_model.proofs.lemmas.Dots.{cut}
 use Rattle.witness_search.proofs.places.at_last_dot.Goals as goal
 
 pub returns : goal.returns
-returns c = cut_at_dot c.args.place.now c.rsplit_once.result c.rsplit_once.ensures.cases
+returns c = cut c.args.place.now c.rsplit_once.result c.rsplit_once.ensures.cases

@@ -14,10 +14,10 @@ loop-i-preserved c = λ k lt.
     let methods = c.args.methods.now in
     let v = c.index-methods-i.result in
     let at = c.args.ends.now.interface in
-    let test = λ (w : Method). reaches c.args.ends.now.client.now.decls k c.args.ends.now.server.now.decls at w in
+    let test = λ (w : Method). reaches c.args.ends.now.client.now k c.args.ends.now.server.now at w in
     let row = row_at c.loop-i.rows k in
     let lies : i < length methods = omega arith in
     let within : k < length c.loop-i.rows = omega (arith, c.add.auto.rows, lt) in
     ap (λ xs. xs ++ reached_from (i + 1) test at (drop (i + 1) methods))
-    (put_one row (row_at c.add.new.rows k) _ c.in_ok-number.number k (test v) (c.in_ok-add.ensures k within) (c.in_ok-number.ensures k))
+    (put_one row (row_at c.add.new.rows k) _ c.number_reached-number.result k (test v) (c.in_ok-add.ensures k within) (c.number_reached-number.ensures k))
     ∙ next_method test at i methods v (map method_seen row) (drop_at methods i v lies c.index-methods-i.is) ∙ c.loop-i.invariant k within

@@ -8,5 +8,5 @@ use Rattle.witness_search.proofs.reaching.add_methods.Given as goal
 -- the methods in each row, and then those that are left, are all
 abbrev pub invariant-loop-i : goal.invariant-loop-i
 invariant-loop-i l = (k : ℕ) → k < length l.rows →
-    map method_seen (row_at l.rows k) ++ reached_from l.i (λ v. reaches l.ends.client.now.decls k l.ends.server.now.decls l.ends.interface v) l.ends.interface (drop l.i l.methods)
-    ≡ map method_seen (row_at l.initial.rows k) ++ reached_from 0 (λ v. reaches l.ends.client.now.decls k l.ends.server.now.decls l.ends.interface v) l.ends.interface l.methods
+    map method_seen (row_at l.rows k) ++ reached_from l.i (λ v. reaches l.ends.client.now k l.ends.server.now l.ends.interface v) l.ends.interface (drop l.i l.methods)
+    ≡ map method_seen (row_at l.initial.rows k) ++ reached_from 0 (λ v. reaches l.ends.client.now k l.ends.server.now l.ends.interface v) l.ends.interface l.methods

@@ -1,0 +1,139 @@
+//! A version of a tree: a side of calls, with tables that find methods and fields.
+ghost use Rattle.std.specs.Prelude.{◌≡◌, ◌+◌, ◌<◌, IfOk, length, slice_get};
+ghost use Rattle.std.specs.List.{position};
+ghost use Rattle.std.specs.Option.{option_copied};
+ghost use Rattle.aidl_schema.specs.Broken.{same_method};
+ghost use Rattle.aidl_schema.specs.Find.{methods_at, position_of_code};
+ghost use Rattle.stub_dispatch.specs.Planned.{ArePlansOf};
+ghost use Rattle.witness_calls.specs.Named.{field_named, fields_at, method_named};
+
+use crate::named_decl::NamedDecl;
+use aidl_base::OutOfMemory;
+use aidl_schema::{Decl, Method, Schema, methods_at};
+use marshal_plans::Plans;
+use std::alloc::Global;
+use std::marker::Model;
+use stub_dispatch::{Callee, Side};
+
+/// A version of a tree: a side of calls, with tables that find the methods and the fields of its declarations by their names, and
+/// methods by their ids. They are made once for all calls. Contracts see it as the schema's declarations.
+#[derive(Drop)]
+pub struct Version<'a> {
+    side: Side<'a>,
+    named: Vec<NamedDecl<'a>>,
+}
+
+impl<'a> Model for Version<'a> {
+    ghost use Rattle.std.specs.Prelude.{List, ◌≡◌};
+    ghost use Rattle.std.specs.Coded.{coded_list};
+    ghost use Rattle.aidl_schema.specs.contracts.schema.Decl as decl;
+    ghost use Rattle.aidl_schema.specs.declared.schema.Decl.{Decl};
+
+    ghost Value = { List Decl };
+
+    ghost coded = { coded_list decl.the_row.coded };
+
+    ghost view = { λ version. version.side };
+
+    ghost invariant = { λ version. version.named.items ≡ version.side };
+}
+
+impl<'a> Version<'a> {
+    /// A version of a schema, with plans that stand for it. `OutOfMemory` is the one refusal.
+    pub fn new(
+        alloc: Global,
+        schema: &'a Schema,
+        plans: &'a Plans,
+    ) -> Result<Version<'a>, OutOfMemory>
+        requires plans { ArePlansOf plans.now schema.now.decls }
+        ensures { IfOk result (λ version. version ≡ schema.now.decls) }
+    {
+        let named = named_decls(alloc, schema.decls.as_slice())?;
+        let side = Side::new(schema, plans);
+        Ok(Version { side, named })
+    }
+
+    /// Its side of calls. It takes no memory.
+    pub fn side(&self) -> &Side<'a>
+        ensures { result.now ≡ self.now }
+    {
+        &self.side
+    }
+
+    /// Its schema. It takes no memory.
+    pub fn schema(&self) -> &'a Schema
+        ensures { result.now.decls ≡ self.now }
+    {
+        self.side.schema()
+    }
+
+    /// The method at a position of an interface. It takes no memory.
+    pub fn callee(&self, interface: u32, method: u32) -> Callee<'a>
+        requires { method < length (methods_at self.now interface) }
+        ensures { result ≡ record { decls = self.now; interface = interface; method = method } }
+    {
+        Callee::new(&self.side, interface, method)
+    }
+
+    /// The methods of an interface; none where the number is of no interface. It takes no memory.
+    pub fn methods(&self, interface: u32) -> &'a [Method]
+        ensures { result.now ≡ methods_at self.now interface }
+    {
+        methods_at(self.schema(), interface)
+    }
+
+    // The declaration of a number, with its tables.
+    fn decl(&self, number: u32) -> Option<&NamedDecl<'a>>
+        ensures { option_copied result ≡ slice_get self.now number }
+    {
+        self.named.as_slice().get(number as usize)
+    }
+
+    /// The position of the method of a name, which is in UTF-8. It takes no memory.
+    pub fn method_named(&self, interface: u32, name: &str) -> Option<usize>
+        ensures { result ≡ method_named (methods_at self.now interface) name.now }
+    {
+        match self.decl(interface) {
+            Some(decl) => decl.method_named(name),
+            None => None,
+        }
+    }
+
+    /// The position of the method that has the name of another one. It takes no memory.
+    pub fn method_like(&self, interface: u32, method: &Method) -> Option<usize>
+        ensures { result ≡ position (λ w. same_method method.now w) (methods_at self.now interface) }
+    {
+        self.method_named(interface, method.name.0.as_str())
+    }
+
+    /// The position of the method of an id. It takes no memory.
+    pub fn method_of_id(&self, interface: u32, id: u32) -> Option<usize>
+        ensures { result ≡ position_of_code (methods_at self.now interface) (id + 1) }
+    {
+        match self.decl(interface) {
+            Some(decl) => decl.method_of_id(id),
+            None => None,
+        }
+    }
+
+    /// The position of the field of a name, which is in UTF-8, in a parcelable or union. It takes no memory.
+    pub fn field_named(&self, number: u32, name: &str) -> Option<usize>
+        ensures { result ≡ field_named (fields_at self.now number) name.now }
+    {
+        match self.decl(number) {
+            Some(decl) => decl.field_named(name),
+            None => None,
+        }
+    }
+}
+
+// Each declaration with its tables.
+fn named_decls<'a>(alloc: Global, decls: &'a [Decl]) -> Result<Vec<NamedDecl<'a>>, OutOfMemory>
+    ensures { IfOk result (λ named. named.items ≡ decls.now) }
+{
+    let mut named = Vec::with_capacity(alloc, decls.len())?;
+    for decl in decls {
+        named.push(NamedDecl::new(alloc, decl)?)?;
+    }
+    Ok(named)
+}
