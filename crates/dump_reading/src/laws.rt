@@ -3,8 +3,7 @@ ghost use Rattle.std.specs.Prelude.{◌≡◌, ◌≢◌, ◌<◌, ℕ, true, []
 ghost use Rattle.std.specs.List.{All};
 ghost use Rattle.std.specs.List.Sorted.{IsStrictlyIncreasing};
 ghost use Rattle.aidl_base.specs.declared.source_file.SourceFile.{SourceFile};
-ghost use Rattle.aidl_syntax.specs.Parses.{FileParse};
-ghost use Rattle.aidl_syntax.specs.Trees.{file_of};
+ghost use Rattle.aidl_syntax.specs.declared.tree.ParsedFile.{ParsedFile};
 ghost use Rattle.aidl_syntax.specs.Walks.{places_of};
 ghost use Rattle.tree_files.specs.declared.fault.LexBreach.{LexBreach};
 ghost use Rattle.tree_files.specs.Parsed.{AreParsed};
@@ -36,7 +35,6 @@ ghost use Rattle.api_dump.specs.Dump.{dump_text};
 ghost use Rattle.dump_reading.specs.Reading.{HasEachFile, HaveTokens, HaveTrees};
 
 use aidl_schema::{Schema, law_valid};
-use aidl_syntax::{ParsedFile, law_tree};
 
 /// The paths of a canonical dump ascend by their bytes, so no two files have one path, and each declaration of the schema that
 /// stands in no other has its file.
@@ -122,21 +120,13 @@ pub fn law_dump_parses(schema: &Schema)
 
 /// The canonical dump reads back: where files with its paths and bytes are parsed, so that no limit on files or tokens is passed, their
 /// schema is the one that was dumped, and they are refused for nothing: for no limit and no breach.
-pub fn law_dump_back(schema: &Schema, parsed: &[ParsedFile])
-    ensures schema { (files : List SourceFile) → AreDumped schema.now.decls files → AreParsed files parsed.now → IsSchemaOf files schema.now.decls }
-    ensures unrefused { (files : List SourceFile) → AreDumped schema.now.decls files → AreParsed files parsed.now → (refusal : CheckFault) → refusal ≢ fault.OutOfMemory → IsRefusal files refusal → ⊥ }
+pub fn law_dump_back(schema: &Schema)
+    ensures schema { (files : List SourceFile) (trees : List ParsedFile) → AreDumped schema.now.decls files → AreParsed files trees
+        → IsSchemaOf files schema.now.decls }
+    ensures unrefused { (files : List SourceFile) (trees : List ParsedFile) → AreDumped schema.now.decls files → AreParsed files trees
+        → (refusal : CheckFault) → refusal ≢ fault.OutOfMemory → IsRefusal files refusal → ⊥ }
 {
     law_valid(schema);
     law_dump_tree(schema);
     law_dump_names(schema);
-    law_rising(parsed);
-}
-
-/// Of the tree of any bytes the places ascend.
-fn law_rising(parsed: &[ParsedFile])
-    ensures { All (λ p. (bytes : List ℕ) → FileParse bytes p.tree → IsStrictlyIncreasing (places_of (file_of p.tree))) parsed.now }
-{
-    for file in parsed {
-        law_tree(&file.tree);
-    }
 }

@@ -12,6 +12,7 @@ use aidl_outside::path_below;
 use aidl_schema::Schema;
 use api_dump::dump;
 use api_versions::Write;
+use dump_reading::law_dump_back;
 use std::alloc::Global;
 use std::fmt::Write as _;
 use tool_frame::{Printed, Verdict};
@@ -24,10 +25,13 @@ pub struct Due {
 }
 
 /// What `dump` writes below a folder and prints of a schema: the files of the canonical dump in path order, and
-/// `wrote N files`.
+/// `wrote N files`. Where the files pass no limit on files or tokens, they read back as the schema.
 pub fn dump_answer(alloc: Global, out: &str, schema: &Schema) -> Result<Due, OutOfMemory>
-    ensures { IfOk result (IsDue (meant.Dumps out.now schema.now.decls)) }
+    ensures due { IfOk result (IsDue (meant.Dumps out.now schema.now.decls)) }
+    // What is written is a checked tree with that schema.
+    ensures reads_back { IfOk result (λ due. meant.ReadBack out.now schema.now.decls (map write_seen due.writes.items)) }
 {
+    law_dump_back(schema);
     let files = dump(alloc, schema)?;
     due_of(alloc, out, files)
 }

@@ -13,6 +13,7 @@ use Rattle.aidl_syntax.specs.Trees as syntax
 use Rattle.aidl_syntax.specs.Productions.{IsFile}
 use Rattle.aidl_syntax.specs.Walks.{places_of}
 use Rattle.aidl_syntax.specs.Parses.{FileParse}
+use Rattle.aidl_syntax.proofs.lemmas.Leaves.{ascend}
 use Rattle.aidl_lexer.proofs.lemmas.meaning.OneLexing.{one_list}
 use Rattle.aidl_parser.proofs.lemmas.productions.Parses.{one_tree}
 use Rattle.tree_files.specs.Files.{IsParsed, HasTokens, HasTree}
@@ -51,14 +52,14 @@ module _ (S : List Decl) where
   are_sources trees fs ps h e = sources fs ps (dump_text S) h e (λ i g at. let r = trees i g at in (r.0, r.1, r.2, r.3))
 
 -- of the tree of any bytes the places ascend
-abbrev pub IsRising : ParsedFile → Type 0
-IsRising p = (bytes : List ℕ) → FileParse bytes p.tree → IsStrictlyIncreasing (places_of (syntax.file_of p.tree))
+is_rising : (p : ParsedFile) (bytes : List ℕ) → FileParse bytes p.tree → IsStrictlyIncreasing (places_of (syntax.file_of p.tree))
+is_rising p bytes (tokens, cut, file) = ascend bytes tokens (syntax.file_of p.tree) cut file
 
-pub rising : (fs : List SourceFile) (ps : List ParsedFile) → AllZip IsParsed fs ps → All IsRising ps → All (λ s. IsStrictlyIncreasing (places_of s.tree)) (map source_of ps)
-rising [] [] h a = All-nil (λ s. IsStrictlyIncreasing (places_of s.tree))
-rising [] (p ∷ ps) h a = absurd h
-rising (f ∷ fs) [] h a = absurd h
-rising (f ∷ fs) (p ∷ ps) h a = All-cons (λ s. IsStrictlyIncreasing (places_of s.tree)) (source_of p) (map source_of ps) (All-head IsRising p ps a f.bytes h.0.1) (rising fs ps h.1 (All-tail IsRising p ps a))
+pub rising : (fs : List SourceFile) (ps : List ParsedFile) → AllZip IsParsed fs ps → All (λ s. IsStrictlyIncreasing (places_of s.tree)) (map source_of ps)
+rising [] [] h = All-nil (λ s. IsStrictlyIncreasing (places_of s.tree))
+rising [] (p ∷ ps) h = absurd h
+rising (f ∷ fs) [] h = absurd h
+rising (f ∷ fs) (p ∷ ps) h = All-cons (λ s. IsStrictlyIncreasing (places_of s.tree)) (source_of p) (map source_of ps) (is_rising p f.bytes h.0.1) (rising fs ps h.1)
 
 -- Each file has tokens, and a tree.
 module _ (S : List Decl) where

@@ -1,5 +1,6 @@
 use Rattle.std.proofs.Common.{List, map}
 use Rattle.aidl_base.specs.declared.source_file.SourceFile.{SourceFile}
+use Rattle.aidl_syntax.specs.declared.tree.ParsedFile.{ParsedFile}
 use Rattle.aidl_syntax.specs.Sources.{source_of}
 use Rattle.tree_files.proofs.lemmas.OneAnswer as files
 use Rattle.tree_files.specs.Parsed.{AreParsed}
@@ -15,15 +16,15 @@ use Rattle.dump_reading.proofs.laws.law_dump_back.Goals as goal
 pub returns : goal.returns
 returns c =
     let S = c.args.schema.now.decls in let l = c.law_valid.ensures in let v = c.args.schema.now.valid in
-    let enums = enums_bare S v.enums in let trees = c.args.parsed.now in
-    let back : (fs : List SourceFile) → AreDumped S fs → AreParsed fs trees → IsSchemaOf fs S = λ fs e p.
+    let enums = enums_bare S v.enums in
+    let back : (fs : List SourceFile) (trees : List ParsedFile) → AreDumped S fs → AreParsed fs trees → IsSchemaOf fs S = λ fs trees e p.
     let h = are_sources S c.law_dump_tree.ensures fs trees p.trees e in (
       trees,
       p,
-      trees_back S l.declarations l.sorted l.apart enums v.names v.bounds (map source_of trees) (are_entries S l.declarations l.sorted l.apart (map source_of trees) h) (rising fs trees p.trees c.law_rising.ensures)
+      trees_back S l.declarations l.sorted l.apart enums v.names v.bounds (map source_of trees) (are_entries S l.declarations l.sorted l.apart (map source_of trees) h) (rising fs trees p.trees)
           (c.law_dump_names.ensures.accepted (map source_of trees) h),
     ) in
     record {
       schema = back;
-      unrefused = λ fs e p refusal differs r. never fs (λ a b h k. files.one-trees fs a b h.trees k.trees) (files.one-refusal fs) (files.never fs) S refusal differs (back fs e p) r;
+      unrefused = λ fs trees e p refusal differs r. never fs (λ a b h k. files.one-trees fs a b h.trees k.trees) (files.one-refusal fs) (files.never fs) S refusal differs (back fs trees e p) r;
     }
