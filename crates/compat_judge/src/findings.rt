@@ -46,6 +46,11 @@ impl Findings {
         }
     }
 
+    /// The allocator of the findings.
+    pub fn alloc(&self) -> Global {
+        self.alloc
+    }
+
     fn add(&mut self, rule: u8, place: String) -> Result<(), OutOfMemory>
         ensures { OnOk result (self.new ≡ self.old ++ (rule, chars (string_bytes place)) ∷ []) }
     {
@@ -90,7 +95,8 @@ impl Findings {
         k: usize,
         broken: bool,
     ) -> Result<(), OutOfMemory>
-        ensures { OnOk result (self.new ≡ self.old ++ of_rule rule (place_if (name.now ++ (46 ∷ method.now.0) ++ (47 ∷ decimal k)) broken)) }
+        ensures { OnOk result (self.new ≡ self.old
+            ++ of_rule rule (place_if (name.now ++ (46 ∷ method.now.0) ++ (47 ∷ decimal k)) broken)) }
     {
         if broken {
             let place = argument_place(self.alloc, name, method, k)?;

@@ -28,14 +28,13 @@ pub fn judge(alloc: Global, old: &Schema, new: &Schema) -> Result<Row<Broken>, O
 {
     let mut found = Findings::new(alloc);
     for decl in old.decls.as_slice() {
-        judge_decl(alloc, old, decl, new, &mut found)?;
+        judge_decl(old, decl, new, &mut found)?;
     }
     found.sorted_once()
 }
 
 // What a declaration of old and that of its name in new break.
 fn judge_decl(
-    alloc: Global,
     old: &Schema,
     decl: &Decl,
     new: &Schema,
@@ -43,7 +42,7 @@ fn judge_decl(
 ) -> Result<(), OutOfMemory>
     ensures { OnOk result (found.new ≡ found.old ++ breaks_of old.now.decls new.now.decls decl.now) }
 {
-    let name = name_place(alloc, &decl.name)?;
+    let name = name_place(found.alloc(), &decl.name)?;
     match find_decl(new, decl, &name) {
         // C1: it is in old and not in new.
         None => found.name_if(1, &name, true),
@@ -55,7 +54,7 @@ fn judge_decl(
                 after,
                 name: &name,
             };
-            broken_by(alloc, &pair, found)
+            broken_by(&pair, found)
         }
     }
 }

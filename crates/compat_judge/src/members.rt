@@ -1,12 +1,12 @@
 //! Methods, enumerators and constants by their names: the breaches of C3, C17 and C18.
-ghost use Rattle.std.specs.Prelude.{◌≡◌, ◌++◌, ◌==◌, ◌&&◌, map, not, IfOk, OnOk};
+ghost use Rattle.std.specs.Prelude.{◌≡◌, ◌++◌, map, IfOk, OnOk};
 ghost use Rattle.std.specs.Option.{option_copied};
 ghost use Rattle.std.specs.Ordering.{int_eq};
-ghost use Rattle.aidl_schema.specs.Broken as broken;
-ghost use Rattle.aidl_schema.specs.Broken.{C3, C17, C18, in_both, same_method, is_there_and};
+ghost use Rattle.aidl_schema.specs.Broken.{C3, C17, C18, in_both, is_there_and, of_rule, same_method};
 ghost use Rattle.aidl_schema.specs.Names.{enumerators_of, methods_of};
-ghost use Rattle.aidl_schema.specs.Same.{base_code};
-ghost use Rattle.compat_judge.specs.steps.Steps.{both_of, names_of, places_among};
+ghost use Rattle.compat_judge.specs.steps.Shapes.{in_lost_constants, in_lost_enumerators};
+ghost use Rattle.compat_judge.specs.steps.Steps.{both_of, breaks_at, names_of, places_among};
+ghost use Rattle.compat_judge.specs.steps.Tests.{keeps_constant};
 
 use crate::alike::same_base_code;
 use crate::consts::same_const;
@@ -124,7 +124,7 @@ pub fn c3(
 ) -> Result<(), OutOfMemory>
     requires old { ms.now ≡ methods_of pair.now.before.now.kind }
     requires places { places.now ≡ places_among (λ m. m.name.0) ms.now (methods_of pair.now.after.now.kind) }
-    ensures { OnOk result (found.new ≡ found.old ++ broken.of_rule 3 (C3 pair.now.old.now.decls pair.now.before.now pair.now.new.now.decls pair.now.after.now)) }
+    ensures { OnOk result (found.new ≡ found.old ++ breaks_at 3 C3 pair.now) }
 {
     let ws = methods_of(&pair.after.kind);
     for (i, method) in ms.iter().enumerate() {
@@ -135,12 +135,12 @@ pub fn c3(
 }
 
 /// C17: an enumerator of old isn't in new, or its value differs.
-pub fn c17(alloc: Global, pair: &Pair<'_>, found: &mut Findings) -> Result<(), OutOfMemory>
-    ensures { OnOk result (found.new ≡ found.old ++ broken.of_rule 17 (C17 pair.now.old.now.decls pair.now.before.now pair.now.new.now.decls pair.now.after.now)) }
+pub fn c17(pair: &Pair<'_>, found: &mut Findings) -> Result<(), OutOfMemory>
+    ensures { OnOk result (found.new ≡ found.old ++ breaks_at 17 C17 pair.now) }
 {
     let xs = enumerators_of(&pair.before.kind);
     let ys = enumerators_of(&pair.after.kind);
-    let places = enumerator_places(alloc, xs, ys)?;
+    let places = enumerator_places(found.alloc(), xs, ys)?;
     lost_enumerators(pair, xs, ys, places.as_slice(), found)
 }
 
@@ -152,7 +152,7 @@ fn lost_enumerators(
     found: &mut Findings,
 ) -> Result<(), OutOfMemory>
     requires { places.now ≡ places_among (λ x. x.name.0) xs.now ys.now }
-    ensures { OnOk result (found.new ≡ found.old ++ broken.of_rule 17 (broken.places (λ x. broken.member pair.now.before.now x.name) (λ x. not (broken.is_kept broken.same_enumerator (λ x y. int_eq x.value y.value) ys.now x)) xs.now)) }
+    ensures { OnOk result (found.new ≡ found.old ++ of_rule 17 (in_lost_enumerators pair.now xs.now ys.now)) }
 {
     for (i, x) in xs.iter().enumerate() {
         let kept = is_enumerator_kept(x, at_place(ys, places[i]));
@@ -171,12 +171,12 @@ fn is_enumerator_kept(x: &Enumerator, y: Option<&Enumerator>) -> bool
 }
 
 /// C18: a constant of old isn't in new, or its type or value differs.
-pub fn c18(alloc: Global, pair: &Pair<'_>, found: &mut Findings) -> Result<(), OutOfMemory>
-    ensures { OnOk result (found.new ≡ found.old ++ broken.of_rule 18 (C18 pair.now.old.now.decls pair.now.before.now pair.now.new.now.decls pair.now.after.now)) }
+pub fn c18(pair: &Pair<'_>, found: &mut Findings) -> Result<(), OutOfMemory>
+    ensures { OnOk result (found.new ≡ found.old ++ breaks_at 18 C18 pair.now) }
 {
     let cs = pair.before.constants.as_slice();
     let ks = pair.after.constants.as_slice();
-    let places = constant_places(alloc, cs, ks)?;
+    let places = constant_places(found.alloc(), cs, ks)?;
     lost_constants(pair, cs, ks, places.as_slice(), found)
 }
 
@@ -188,7 +188,7 @@ fn lost_constants(
     found: &mut Findings,
 ) -> Result<(), OutOfMemory>
     requires { places.now ≡ places_among (λ c. c.name.0) cs.now ks.now }
-    ensures { OnOk result (found.new ≡ found.old ++ broken.of_rule 18 (broken.places (λ c. broken.member pair.now.before.now c.name) (λ c. not (broken.is_kept broken.same_constant (λ c k. (base_code c.ty == base_code k.ty) && broken.same_const c.value k.value) ks.now c)) cs.now)) }
+    ensures { OnOk result (found.new ≡ found.old ++ of_rule 18 (in_lost_constants pair.now cs.now ks.now)) }
 {
     for (i, constant) in cs.iter().enumerate() {
         let kept = is_constant_kept(constant, at_place(ks, places[i]));
@@ -198,7 +198,7 @@ fn lost_constants(
 }
 
 fn is_constant_kept(c: &Constant, k: Option<&Constant>) -> bool
-    ensures { result ≡ is_there_and (λ k. (base_code c.now.ty == base_code k.ty) && broken.same_const c.now.value k.value) (option_copied k.entry) }
+    ensures { result ≡ is_there_and (keeps_constant c.now) (option_copied k.entry) }
 {
     match k {
         Some(k) => same_base_code(c.ty, k.ty) && same_const(&c.value, &k.value),

@@ -1,9 +1,9 @@
 //! Where a rule is asked: at common methods, at their arguments, and at common or added fields.
-ghost use Rattle.std.specs.Prelude.{◌≡◌, ◌++◌, map, length, drop, OnOk};
-ghost use Rattle.std.specs.List.{enumerate_from, flat_map, zip};
-ghost use Rattle.aidl_schema.specs.Broken.{argument, at_arguments_of, is_refused_addition, member, of_rule, places};
+ghost use Rattle.std.specs.Prelude.{◌≡◌, ◌++◌, map, OnOk};
+ghost use Rattle.std.specs.List.{zip};
+ghost use Rattle.aidl_schema.specs.Broken.{of_rule};
+ghost use Rattle.compat_judge.specs.steps.Shapes.{in_additions, in_arguments, in_arguments_of, in_fields, in_methods};
 ghost use Rattle.compat_judge.specs.steps.Steps.{both_of};
-ghost use Rattle.compat_judge.specs.steps.Tests as tests;
 
 use crate::consts::is_refused_addition;
 use crate::findings::Findings;
@@ -13,7 +13,6 @@ use crate::tests::{
 };
 use aidl_base::OutOfMemory;
 use aidl_schema::{Field, Method};
-use std::alloc::Global;
 
 /// Common methods that break a rule.
 pub fn at_methods(
@@ -23,7 +22,7 @@ pub fn at_methods(
     common: &[Common<'_>],
     found: &mut Findings,
 ) -> Result<(), OutOfMemory>
-    ensures { OnOk result (found.new ≡ found.old ++ of_rule rule (places (λ p. member pair.now.before.now p.0.name) (λ p. tests.method_breaks test pair.now.old.now.decls pair.now.new.now.decls p.0 p.1) (map both_of common.now))) }
+    ensures { OnOk result (found.new ≡ found.old ++ of_rule rule (in_methods test pair.now (map both_of common.now))) }
 {
     for both in common {
         let broken = method_breaks(test, pair.old, both.before, pair.new, both.after);
@@ -40,7 +39,7 @@ pub fn at_arguments(
     common: &[Common<'_>],
     found: &mut Findings,
 ) -> Result<(), OutOfMemory>
-    ensures { OnOk result (found.new ≡ found.old ++ of_rule rule (flat_map (λ p. at_arguments_of (tests.argument_breaks test pair.now.old.now.decls pair.now.new.now.decls) pair.now.before.now p.0 p.1) (map both_of common.now))) }
+    ensures { OnOk result (found.new ≡ found.old ++ of_rule rule (in_arguments test pair.now (map both_of common.now))) }
 {
     for both in common {
         at_arguments_of(rule, test, pair, both.before, both.after, found)?;
@@ -57,7 +56,7 @@ fn at_arguments_of(
     after: &Method,
     found: &mut Findings,
 ) -> Result<(), OutOfMemory>
-    ensures { OnOk result (found.new ≡ found.old ++ of_rule rule (at_arguments_of (tests.argument_breaks test pair.now.old.now.decls pair.now.new.now.decls) pair.now.before.now before.now after.now)) }
+    ensures { OnOk result (found.new ≡ found.old ++ of_rule rule (in_arguments_of test pair.now before.now after.now)) }
 {
     let olds = before.args.as_slice();
     let news = after.args.as_slice();
@@ -72,7 +71,6 @@ fn at_arguments_of(
 
 /// Fields that break a rule, at the positions below both counts.
 pub fn at_fields(
-    alloc: Global,
     rule: u8,
     test: FieldTest,
     pair: &Pair<'_>,
@@ -80,12 +78,12 @@ pub fn at_fields(
     news: &[Field],
     found: &mut Findings,
 ) -> Result<(), OutOfMemory>
-    ensures { OnOk result (found.new ≡ found.old ++ of_rule rule (places (λ p. member pair.now.before.now p.0.name) (λ p. tests.field_breaks test pair.now.old.now.decls pair.now.new.now.decls p.0 p.1) (zip olds.now news.now))) }
+    ensures { OnOk result (found.new ≡ found.old ++ of_rule rule (in_fields test pair.now (zip olds.now news.now))) }
 {
     for k in 0..olds.len().min(news.len()) {
         let f = &olds[k];
         let g = &news[k];
-        let broken = field_breaks(alloc, test, pair.old, f, pair.new, g);
+        let broken = field_breaks(found.alloc(), test, pair.old, f, pair.new, g);
         found.member_if(rule, pair.name, &f.name, broken)?;
     }
     Ok(())
@@ -98,7 +96,7 @@ pub fn at_additions(
     added: &[Field],
     found: &mut Findings,
 ) -> Result<(), OutOfMemory>
-    ensures { OnOk result (found.new ≡ found.old ++ of_rule rule (places (λ g. member pair.now.before.now g.name) (λ g. is_refused_addition pair.now.new.now.decls g) added.now)) }
+    ensures { OnOk result (found.new ≡ found.old ++ of_rule rule (in_additions pair.now added.now)) }
 {
     for field in added {
         let broken = is_refused_addition(pair.new, field);

@@ -14,9 +14,9 @@ use Rattle.const_items.specs.declared.item.ItemRef.{ItemRef}
 use Rattle.const_eval.specs.declared.outcome.Outcome.{Outcome}
 use Rattle.const_eval.specs.declared.outcome.Outcome.TheVariants.{Given, Fault, Unjudged}
 use Rattle.const_items.specs.Items.{Item, items}
-use Rattle.const_items.specs.Dependence.{next}
+use Rattle.const_items.specs.Dependence.{has_unknown_name, next}
 use Rattle.const_eval.specs.Held.{is_held_outcome}
-use Rattle.const_eval.specs.Outcomes.{HasOutcome, Values, is_given, meaning, outcome_at, wanted_of}
+use Rattle.const_eval.specs.Outcomes.{HasOutcome, Values, is_given, judgement_of, meaning, outcome_at, wanted_of}
 
 -- these are the items of a tree
 abbrev pub AreItems : List Source → List Item → Type 0
@@ -39,6 +39,10 @@ value_of _ = value.Members []
 abbrev pub values_in : List Outcome → Values
 values_in outcomes n = value_of (outcome_at outcomes n)
 
+-- what an item is by the outcomes that are known
+abbrev pub judgement_by : List Source → List Outcome → Item → Result Const ConstFault
+judgement_by files outcomes x = judgement_of files (values_in outcomes) x x.value
+
 -- the files, the number of an item, and outcomes
 abbrev pub Known : Type 0
 Known = List ParsedFile × (ℕ × List Outcome)
@@ -51,13 +55,21 @@ meaning_for files outcomes (Some x) d = meaning files (values_in outcomes) x d
 abbrev pub known_meaning : Known → DottedTree → Result Operand ConstFault
 known_meaning k d = meaning_for (map source_of k.0) k.1.1 (slice_get (items (map source_of k.0)) k.1.0) d
 
+-- a value in this outcome of the item with a number can stand in an expression
+abbrev pub IsHeldAt : List Item → ℕ → Outcome → Type 0
+IsHeldAt xs n outcome = IsTrue (is_held_outcome (wanted_of (slice_get xs n)) outcome)
+
 -- each value that is known can stand in an expression
 abbrev pub AreHeld : List Item → List Outcome → Type 0
-AreHeld xs outcomes = (n : ℕ) → IsTrue (is_held_outcome (wanted_of (slice_get xs n)) (outcome_at outcomes n))
+AreHeld xs outcomes = (n : ℕ) → IsHeldAt xs n (outcome_at outcomes n)
 
 -- the outcomes of what an item depends on are known
 abbrev pub AreKnown : List Source → List Outcome → ℕ → Type 0
 AreKnown files outcomes n = (m : ℕ) → Contains (next files n) m → HasOutcome files m (outcome_at outcomes m)
+
+-- the flags say of each item whether a name in it has no meaning
+abbrev pub AreUnknown : List Source → List Bool → Type 0
+AreUnknown files flags = flags ≡ map (has_unknown_name files) (items files)
 
 -- the targets of the rows are what the items depend on
 abbrev pub AreNext : List Source → List (List ℕ) → Type 0

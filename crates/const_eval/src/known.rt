@@ -1,18 +1,18 @@
 //! The meanings of names while a tree is evaluated, by the outcomes that are known so far.
 ghost use Rattle.std.specs.Prelude.{◌≡◌, ◌<◌, ℕ, length, map, IfOk, IsTrue};
 ghost use Rattle.std.specs.List.{slice_get};
-ghost use Rattle.aidl_syntax.specs.Sources.{source_of};
 ghost use Rattle.const_values.specs.Operands.{IsWithin};
 ghost use Rattle.const_values.specs.Seen.{answer, seen};
 ghost use Rattle.const_eval.specs.Held.{is_held_outcome};
 ghost use Rattle.const_items.specs.ItemViews.{item_of};
-ghost use Rattle.const_eval.specs.Known.{AreHeld, AreItems, value_of, values_in};
+ghost use Rattle.const_eval.specs.Known.{AreHeld, value_of, values_in};
 ghost use Rattle.const_eval.specs.Outcomes as meant;
 ghost use Rattle.const_eval.specs.Outcomes.{outcome_at, wanted_of};
+ghost use Rattle.const_eval.specs.TreeViews.{HasItems, items_of};
 
 use crate::operands::operand_of;
 use crate::outcome::Outcome;
-use aidl_names::Names;
+use crate::tree::TreeItems;
 use aidl_syntax::DottedTree;
 use const_items::{ItemRef, Items, number_of, target_of};
 use const_values::{ConstFault, Meanings, Operand, Wanted};
@@ -22,50 +22,42 @@ use std::marker::Model;
 /// number of the item and the outcomes.
 #[derive(Drop)]
 pub struct KnownValues<'a> {
-    names: &'a Names<'a>,
-    items: &'a Items<'a>,
+    tree: TreeItems<'a>,
     number: usize,
     outcomes: &'a [Outcome],
 }
 
 impl<'a> Model for KnownValues<'a> {
-    ghost use Rattle.std.specs.Prelude.{◌<◌, length, map};
+    ghost use Rattle.std.specs.Prelude.{◌<◌, length};
     ghost use Rattle.std.specs.Coded.{codes};
     ghost use Rattle.aidl_syntax.specs.contracts.tree.ParsedFile as parsed_file;
     ghost use Rattle.const_eval.specs.contracts.outcome.Outcome as outcome;
-    ghost use Rattle.aidl_syntax.specs.Sources.{source_of};
-    ghost use Rattle.const_items.specs.ItemViews.{item_of};
-    ghost use Rattle.const_eval.specs.Known.{AreHeld, AreItems, Known};
+    ghost use Rattle.const_eval.specs.Known.{AreHeld, Known};
+    ghost use Rattle.const_eval.specs.TreeViews.{HasItems, items_of};
 
     ghost Value = { Known };
 
     ghost coded = { Prim.hlevel (codes, parsed_file.the_row.coded, outcome.the_row.coded) };
 
-    ghost view = { λ known. (known.names.now, (known.number, known.outcomes.now)) };
+    ghost view = { λ known. (known.tree.names.now, (known.number, known.outcomes.now)) };
 
     ghost invariant = { λ known. record {
-      all : AreItems (map source_of known.names.now) (map item_of known.items.now.list.items);
-      within : known.number < length known.items.now.list.items;
-      held : AreHeld (map item_of known.items.now.list.items) known.outcomes.now;
+      all : HasItems known.tree;
+      within : known.number < length known.tree.items.now.list.items;
+      held : AreHeld (items_of known.tree) known.outcomes.now;
     } };
 }
 
 impl<'a> KnownValues<'a> {
     /// For the item with a number. It takes no memory.
-    pub fn new(
-        names: &'a Names<'a>,
-        items: &'a Items<'a>,
-        number: usize,
-        outcomes: &'a [Outcome],
-    ) -> KnownValues<'a>
-        requires all { AreItems (map source_of names.now) (map item_of items.now.list.items) }
-        requires within { number < length items.now.list.items }
-        requires held { AreHeld (map item_of items.now.list.items) outcomes.now }
-        ensures { result ≡ (names.now, (number, outcomes.now)) }
+    pub fn new(tree: &TreeItems<'a>, number: usize, outcomes: &'a [Outcome]) -> KnownValues<'a>
+        requires all { HasItems tree.now }
+        requires within { number < length tree.now.items.now.list.items }
+        requires held { AreHeld (items_of tree.now) outcomes.now }
+        ensures { result ≡ (tree.now.names.now, (number, outcomes.now)) }
     {
         KnownValues {
-            names,
-            items,
+            tree: *tree,
             number,
             outcomes,
         }
@@ -78,9 +70,10 @@ impl<'a> Meanings for KnownValues<'a> {
     ghost meaning = { known_meaning };
 
     fn meaning(&self, name: &DottedTree) -> Result<Operand<'_>, ConstFault> {
-        let item = &self.items.list()[self.number];
-        let target = target_of(self.names, item, name);
-        operand_at(self.items, self.outcomes, number_of(self.items, target))
+        let item = &self.tree.items.list()[self.number];
+        let target = target_of(self.tree.names, item, name);
+        let number = number_of(self.tree.items, target);
+        operand_at(self.tree.items, self.outcomes, number)
     }
 }
 

@@ -13,13 +13,14 @@ use const_items::law_places;
 
 /// A law of the definitions: no item has two outcomes.
 pub fn law_one_outcome(files: &[ParsedFile])
-    ensures { (n : ℕ) (first second : Outcome) → HasOutcome (map source_of files.now) n first → HasOutcome (map source_of files.now) n second → first ≡ second }
+    ensures { (n : ℕ) (first second : Outcome) → HasOutcome (map source_of files.now) n first
+        → HasOutcome (map source_of files.now) n second → first ≡ second }
 {}
 
 /// A law of the definitions: the breaches of the items of a tree, whatever their outcomes, are sorted by file, offset and rule, each
 /// once.
 pub fn law_breaches_in_order(names: &Names<'_>)
-    ensures { (outcome : ℕ → Outcome) → in_order (breaches outcome (items (map source_of names.now))) ≡ breaches outcome (items (map source_of names.now)) }
+    ensures { (outcome : ℕ → Outcome) → let all = breaches outcome (items (map source_of names.now)) in in_order all ≡ all }
 {
     law_places(names.files());
 }

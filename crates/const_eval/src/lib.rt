@@ -13,6 +13,7 @@ mod outcome;
 mod ranked;
 mod settled;
 mod stepping;
+mod tree;
 
 pub use breach_rows::breaches;
 pub use eval::eval_all;

@@ -90,9 +90,13 @@ names_in (written e) = names_of e
 names_in first = []
 names_in (after place) = []
 
+-- one of some names in an item has no meaning
+abbrev pub is_unknown_among : List Source → Item → List DottedTree → Bool
+is_unknown_among files x names = list_any (λ d. is_none (target files x d)) names
+
 -- a name in its expression has no meaning
 abbrev pub has_unknown_name : List Source → Item → Bool
-has_unknown_name files x = list_any (λ d. is_none (target files x d)) (names_in x.value)
+has_unknown_name files x = is_unknown_among files x (names_in x.value)
 
 -- the number among items of that which a constant or an enumerator is
 abbrev pub number_among : List Item → Option Target → Option ℕ
@@ -111,9 +115,13 @@ before_among xs x _ = []
 abbrev pub number_before : List Source → Item → Written → List ℕ
 number_before files x w = before_among (items files) x w
 
+-- the numbers of what some names in an item mean
+abbrev pub numbers_of : List Source → Item → List DottedTree → List ℕ
+numbers_of files x names = filter_map (λ d. number_of files (target files x d)) names
+
 -- what an item depends on, by numbers
 abbrev pub depends_on : List Source → Item → List ℕ
-depends_on files x = filter_map (λ d. number_of files (target files x d)) (names_in x.value) ++ number_before files x x.value
+depends_on files x = numbers_of files x (names_in x.value) ++ number_before files x x.value
 
 abbrev pub next_of : List Source → Option Item → List ℕ
 next_of files None = []

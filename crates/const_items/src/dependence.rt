@@ -1,6 +1,6 @@
 //! The dependence of items on each other, as the edges of a graph.
-ghost use Rattle.std.specs.Prelude.{◌≡◌, ◌≤◌, ◌<◌, ◌++◌, ◌∷◌, ◌||◌, [], is_none, length, map, ℕ, IfOk, IfSome, OnOk};
-ghost use Rattle.std.specs.List.{cons_option, filter_map, list_any};
+ghost use Rattle.std.specs.Prelude.{◌≡◌, ◌≤◌, ◌<◌, ◌++◌, ◌||◌, [], length, map, ℕ, IfOk, IfSome, OnOk};
+ghost use Rattle.std.specs.List.{cons_option};
 ghost use Rattle.aidl_names.specs.Refusals.{IsScope};
 ghost use Rattle.aidl_syntax.specs.Sources.{source_of};
 ghost use Rattle.graph_cycles.specs.Paths.{targets};
@@ -33,9 +33,11 @@ pub fn dependence_of(
 ) -> Result<Dependence, OutOfMemory>
     requires count { length items.now.list.items ≤ 4294967296 }
     requires items { map item_of items.now.list.items ≡ items_of (map source_of names.now) }
-    ensures rows { IfOk result (λ all. all.next.items ≡ map (meant.depends_on (map source_of names.now)) (items_of (map source_of names.now))) }
+    ensures rows { IfOk result (λ all.
+        all.next.items ≡ map (meant.depends_on (map source_of names.now)) (items_of (map source_of names.now))) }
     ensures next { IfOk result (λ all. (n : ℕ) → targets all.next.items n ≡ meant.next (map source_of names.now) n) }
-    ensures unknown { IfOk result (λ all. all.unknown.items ≡ map (meant.has_unknown_name (map source_of names.now)) (items_of (map source_of names.now))) }
+    ensures unknown { IfOk result (λ all.
+        all.unknown.items ≡ map (meant.has_unknown_name (map source_of names.now)) (items_of (map source_of names.now))) }
 {
     let list = items.list();
     let mut next = Vec::with_capacity(alloc, list.len())?;
@@ -78,8 +80,10 @@ fn of_names(
     requires scope { IsScope (map source_of names.now) item.now.file item.now.scope }
     requires count { length items.now.list.items ≤ 4294967296 }
     requires items { map item_of items.now.list.items ≡ items_of (map source_of names.now) }
-    ensures next { IfOk result (λ all. all.0.items ≡ filter_map (λ d. meant.number_of (map source_of names.now) (meant.target (map source_of names.now) (item_of item.now) d)) (map (λ d. d.now) inside.now)) }
-    ensures unknown { IfOk result (λ all. all.1 ≡ list_any (λ d. is_none (meant.target (map source_of names.now) (item_of item.now) d)) (map (λ d. d.now) inside.now)) }
+    ensures next { IfOk result (λ all.
+        all.0.items ≡ meant.numbers_of (map source_of names.now) (item_of item.now) (map (λ d. d.now) inside.now)) }
+    ensures unknown { IfOk result (λ all.
+        all.1 ≡ meant.is_unknown_among (map source_of names.now) (item_of item.now) (map (λ d. d.now) inside.now)) }
 {
     let mut numbers = Vec::new(alloc);
     let mut unknown = false;
@@ -104,7 +108,8 @@ fn add_before(
     numbers: &mut Vec<u32>,
 ) -> Result<(), OutOfMemory>
     requires count { length items.now.list.items ≤ 4294967296 }
-    ensures { OnOk result (numbers.new.items ≡ numbers.old.items ++ meant.before_among (map item_of items.now.list.items) (item_of item.now) (item_of item.now).value) }
+    ensures { OnOk result (numbers.new.items ≡ numbers.old.items
+        ++ meant.before_among (map item_of items.now.list.items) (item_of item.now) (item_of item.now).value) }
 {
     match item.value {
         WrittenRef::After(place) => add_found(items.number_at(item.file, place), numbers),

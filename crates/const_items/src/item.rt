@@ -1,4 +1,4 @@
-//! An item, and what is written of it.
+//! An item, where it stands, and what is written of it.
 
 use aidl_syntax::ExprTree;
 use const_values::Wanted;
@@ -15,6 +15,13 @@ pub struct ItemRef<'a> {
     pub wanted: Wanted,
     pub unjudged: bool,
     pub value: WrittenRef<'a>,
+}
+
+/// The declaration in which names are looked up: the number of its file, and its own.
+#[derive(Clone, Copy)]
+pub struct Scope {
+    pub file: u32,
+    pub number: u32,
 }
 
 /// What is written of an item.

@@ -1,6 +1,7 @@
 //! The items of each declaration: its fields, constants and enumerators, and the members of brace lists.
 ghost use Rattle.std.specs.Prelude.{◌≡◌, ◌≤◌, ◌++◌, ◌∷◌, [], None, false, map, length, IfOk, OnOk};
-ghost use Rattle.aidl_syntax.specs.Trees.{Members, body_of, constant_of, enumerator_of, expr_of, exprs_of, field_of, init_of, map_option, member_of, members_of};
+ghost use Rattle.aidl_syntax.specs.Trees.{Members, body_of, constant_of, enumerator_of, expr_of, exprs_of, field_of, init_of};
+ghost use Rattle.aidl_syntax.specs.Trees.{map_option, member_of, members_of};
 ghost use Rattle.aidl_syntax.specs.Members.{listed};
 ghost use Rattle.declared_names.specs.Declarations.{declarations};
 ghost use Rattle.aidl_names.specs.Refusals.{IsScope};
@@ -9,7 +10,7 @@ ghost use Rattle.aidl_syntax.specs.Sources.{source_of};
 ghost use Rattle.const_items.specs.Items as meant;
 ghost use Rattle.const_items.specs.ItemViews.{item_of, written_of};
 
-use crate::item::{ItemRef, WrittenRef};
+use crate::item::{ItemRef, Scope, WrittenRef};
 use aidl_base::OutOfMemory;
 use aidl_names::Names;
 use aidl_syntax::{
@@ -37,7 +38,8 @@ fn add_all<'a>(
 ) -> Result<(), OutOfMemory>
     requires count { length found.now ≤ 16384 }
     requires found { map entry_of found.now ≡ declarations (map source_of names.now) }
-    ensures { OnOk result (map item_of all.new.items ≡ map item_of all.old.items ++ meant.declared (map source_of names.now)) }
+    ensures { OnOk result (map item_of all.new.items ≡ map item_of all.old.items
+        ++ meant.declared (map source_of names.now)) }
 {
     for (i, f) in found.iter().enumerate() {
         add_entry(names, i as u32, f, all)?;
@@ -53,53 +55,51 @@ fn add_entry<'a>(
     all: &mut Vec<ItemRef<'a>>,
 ) -> Result<(), OutOfMemory>
     requires { IsScope (map source_of names.now) found.now.file number }
-    ensures { OnOk result (map item_of all.new.items ≡ map item_of all.old.items ++ meant.of_entry (map source_of names.now) number (entry_of found.now)) }
+    ensures { OnOk result (map item_of all.new.items ≡ map item_of all.old.items
+        ++ meant.of_entry (map source_of names.now) number (entry_of found.now)) }
 {
-    let backing = backing_of(found.tree);
-    add_body(names, found.file, number, backing, &found.tree.body, all)
+    let scope = Scope {
+        file: found.file,
+        number,
+    };
+    add_body(names, scope, backing_of(found.tree), &found.tree.body, all)
 }
 
 fn add_body<'a>(
     names: &Names<'a>,
-    file: u32,
-    scope: u32,
+    scope: Scope,
     backing: Wanted,
     body: &'a BodyTree,
     all: &mut Vec<ItemRef<'a>>,
 ) -> Result<(), OutOfMemory>
-    requires { IsScope (map source_of names.now) file scope }
-    ensures { OnOk result (map item_of all.new.items ≡ map item_of all.old.items ++ meant.of_body (map source_of names.now) file scope backing (body_of body.now)) }
+    requires { IsScope (map source_of names.now) scope.file scope.number }
+    ensures { OnOk result (map item_of all.new.items ≡ map item_of all.old.items
+        ++ meant.of_body (map source_of names.now) scope.file scope.number backing (body_of body.now)) }
 {
     match body {
-        BodyTree::Parcelable(members) => {
-            add_members(names, file, scope, false, members.as_slice(), all)
-        }
-        BodyTree::Union(members) => {
-            add_members(names, file, scope, true, members.as_slice(), all)
-        }
-        BodyTree::Enum(enumerators) => {
-            add_enumerators(file, scope, backing, enumerators.as_slice(), all)
-        }
+        BodyTree::Parcelable(members) => add_members(names, scope, false, members.as_slice(), all),
+        BodyTree::Union(members) => add_members(names, scope, true, members.as_slice(), all),
+        BodyTree::Enum(enumerators) => add_enumerators(scope, backing, enumerators.as_slice(), all),
         BodyTree::Interface { members, .. } => {
-            add_members(names, file, scope, false, members.as_slice(), all)
+            add_members(names, scope, false, members.as_slice(), all)
         }
     }
 }
 
 fn add_members<'a>(
     names: &Names<'a>,
-    file: u32,
-    scope: u32,
+    scope: Scope,
     in_union: bool,
     members: &'a [MemberTree],
     all: &mut Vec<ItemRef<'a>>,
 ) -> Result<(), OutOfMemory>
-    requires { IsScope (map source_of names.now) file scope }
-    ensures { OnOk result (map item_of all.new.items ≡ map item_of all.old.items ++ meant.of_members (map source_of names.now) file scope in_union false (listed (members_of members.now))) }
+    requires { IsScope (map source_of names.now) scope.file scope.number }
+    ensures { OnOk result (map item_of all.new.items ≡ map item_of all.old.items
+        ++ meant.of_members (map source_of names.now) scope.file scope.number in_union false (listed (members_of members.now))) }
 {
     let mut later = false;
     for member in members {
-        later = add_member(names, file, scope, in_union, later, member, all)?;
+        later = add_member(names, scope, in_union, later, member, all)?;
     }
     Ok(())
 }
@@ -107,23 +107,24 @@ fn add_members<'a>(
 // Those of a member, and whether a field of a union stands before the next one.
 fn add_member<'a>(
     names: &Names<'a>,
-    file: u32,
-    scope: u32,
+    scope: Scope,
     in_union: bool,
     later: bool,
     member: &'a MemberTree,
     all: &mut Vec<ItemRef<'a>>,
 ) -> Result<bool, OutOfMemory>
-    requires { IsScope (map source_of names.now) file scope }
-    ensures { IfOk result (λ next. (ms : Members) → map item_of all.old.items ++ meant.of_members (map source_of names.now) file scope in_union later (listed (member_of member.now ms)) ≡ map item_of all.new.items ++ meant.of_members (map source_of names.now) file scope in_union next (listed ms)) }
+    requires { IsScope (map source_of names.now) scope.file scope.number }
+    ensures { let of = meant.of_members (map source_of names.now) scope.file scope.number in_union in
+        IfOk result (λ next. (ms : Members) → map item_of all.old.items ++ of later (listed (member_of member.now ms))
+        ≡ map item_of all.new.items ++ of next (listed ms)) }
 {
     match member {
         MemberTree::Field(field) => {
-            add_field(names, file, scope, later, field, all)?;
+            add_field(names, scope, later, field, all)?;
             Ok(later || in_union)
         }
         MemberTree::Constant(constant) => {
-            add_constant(names, file, scope, constant, all)?;
+            add_constant(names, scope, constant, all)?;
             Ok(later)
         }
         MemberTree::Method(_) => Ok(later),
@@ -133,77 +134,77 @@ fn add_member<'a>(
 
 fn add_field<'a>(
     names: &Names<'a>,
-    file: u32,
-    scope: u32,
+    scope: Scope,
     later: bool,
     field: &'a FieldTree,
     all: &mut Vec<ItemRef<'a>>,
 ) -> Result<(), OutOfMemory>
-    requires { IsScope (map source_of names.now) file scope }
-    ensures { OnOk result (map item_of all.new.items ≡ map item_of all.old.items ++ meant.of_field (map source_of names.now) file scope later (field_of field.now)) }
+    requires { IsScope (map source_of names.now) scope.file scope.number }
+    ensures { OnOk result (map item_of all.new.items ≡ map item_of all.old.items
+        ++ meant.of_field (map source_of names.now) scope.file scope.number later (field_of field.now)) }
 {
     match &field.initial {
         None => Ok(()),
         Some(init) => {
-            let shape = shape_of(names, file, scope, &field.ty);
-            add_typed(names.decls(), file, scope, later, shape, init, all)
+            let shape = shape_of(names, scope.file, scope.number, &field.ty);
+            add_typed(names.decls(), scope, later, shape, init, all)
         }
     }
 }
 
 fn add_typed<'a>(
     found: &[Found<'_>],
-    file: u32,
-    scope: u32,
+    scope: Scope,
     later: bool,
     shape: Shape,
     init: &'a InitTree,
     all: &mut Vec<ItemRef<'a>>,
 ) -> Result<(), OutOfMemory>
-    ensures { OnOk result (map item_of all.new.items ≡ map item_of all.old.items ++ meant.of_typed (map entry_of found.now) file scope later shape (init_of init.now)) }
+    ensures { OnOk result (map item_of all.new.items ≡ map item_of all.old.items
+        ++ meant.of_typed (map entry_of found.now) scope.file scope.number later shape (init_of init.now)) }
 {
     let unjudged = is_unjudged(found, later, shape, init);
     match init {
         InitTree::Single(tree) => {
             let wanted = wanted_one(found, shape);
-            add_expression(file, scope, wanted, unjudged, tree, all)
+            add_expression(scope, wanted, unjudged, tree, all)
         }
         InitTree::Braces { items, .. } => {
             let wanted = wanted_element(found, shape);
-            add_each(file, scope, wanted, unjudged, items.as_slice(), all)
+            add_each(scope, wanted, unjudged, items.as_slice(), all)
         }
     }
 }
 
 fn add_each<'a>(
-    file: u32,
-    scope: u32,
+    scope: Scope,
     wanted: Wanted,
     unjudged: bool,
     trees: &'a [ExprTree],
     all: &mut Vec<ItemRef<'a>>,
 ) -> Result<(), OutOfMemory>
-    ensures { OnOk result (map item_of all.new.items ≡ map item_of all.old.items ++ map (meant.of_expression file scope wanted unjudged) (exprs_of trees.now)) }
+    ensures { OnOk result (map item_of all.new.items ≡ map item_of all.old.items
+        ++ map (meant.of_expression scope.file scope.number wanted unjudged) (exprs_of trees.now)) }
 {
     for tree in trees {
-        add_expression(file, scope, wanted, unjudged, tree, all)?;
+        add_expression(scope, wanted, unjudged, tree, all)?;
     }
     Ok(())
 }
 
 fn add_expression<'a>(
-    file: u32,
-    scope: u32,
+    scope: Scope,
     wanted: Wanted,
     unjudged: bool,
     tree: &'a ExprTree,
     all: &mut Vec<ItemRef<'a>>,
 ) -> Result<(), OutOfMemory>
-    ensures { OnOk result (map item_of all.new.items ≡ map item_of all.old.items ++ meant.of_expression file scope wanted unjudged (expr_of tree.now) ∷ []) }
+    ensures { OnOk result (map item_of all.new.items ≡ map item_of all.old.items
+        ++ meant.of_expression scope.file scope.number wanted unjudged (expr_of tree.now) ∷ []) }
 {
     all.push(ItemRef {
-        file,
-        scope,
+        file: scope.file,
+        scope: scope.number,
         place: tree.offset,
         enumerates: false,
         wanted,
@@ -215,31 +216,31 @@ fn add_expression<'a>(
 
 fn add_constant<'a>(
     names: &Names<'a>,
-    file: u32,
-    scope: u32,
+    scope: Scope,
     constant: &'a ConstantTree,
     all: &mut Vec<ItemRef<'a>>,
 ) -> Result<(), OutOfMemory>
-    requires { IsScope (map source_of names.now) file scope }
-    ensures { OnOk result (map item_of all.new.items ≡ map item_of all.old.items ++ meant.of_constant (map source_of names.now) file scope (constant_of constant.now) ∷ []) }
+    requires { IsScope (map source_of names.now) scope.file scope.number }
+    ensures { OnOk result (map item_of all.new.items ≡ map item_of all.old.items
+        ++ meant.of_constant (map source_of names.now) scope.file scope.number (constant_of constant.now) ∷ []) }
 {
-    let shape = shape_of(names, file, scope, &constant.ty);
+    let shape = shape_of(names, scope.file, scope.number, &constant.ty);
     let wanted = wanted_one(names.decls(), shape);
-    add_expression(file, scope, wanted, false, &constant.value, all)
+    add_expression(scope, wanted, false, &constant.value, all)
 }
 
 fn add_enumerators<'a>(
-    file: u32,
-    scope: u32,
+    scope: Scope,
     backing: Wanted,
     enumerators: &'a [EnumeratorTree],
     all: &mut Vec<ItemRef<'a>>,
 ) -> Result<(), OutOfMemory>
-    ensures { OnOk result (map item_of all.new.items ≡ map item_of all.old.items ++ meant.of_enumerators file scope backing None (map enumerator_of enumerators.now)) }
+    ensures { OnOk result (map item_of all.new.items ≡ map item_of all.old.items
+        ++ meant.of_enumerators scope.file scope.number backing None (map enumerator_of enumerators.now)) }
 {
     let mut before = None;
     for enumerator in enumerators {
-        let item = of_enumerator(file, scope, backing, before, enumerator);
+        let item = of_enumerator(scope, backing, before, enumerator);
         all.push(item)?;
         before = Some(item.place);
     }
@@ -247,17 +248,16 @@ fn add_enumerators<'a>(
 }
 
 fn of_enumerator(
-    file: u32,
-    scope: u32,
+    scope: Scope,
     backing: Wanted,
     before: Option<u32>,
     enumerator: &EnumeratorTree,
 ) -> ItemRef<'_>
-    ensures { item_of result ≡ meant.of_enumerator file scope backing before (enumerator_of enumerator.now) }
+    ensures { item_of result ≡ meant.of_enumerator scope.file scope.number backing before (enumerator_of enumerator.now) }
 {
     ItemRef {
-        file,
-        scope,
+        file: scope.file,
+        scope: scope.number,
         place: place_by(enumerator.name.offset, &enumerator.value),
         enumerates: true,
         wanted: backing,

@@ -47,7 +47,8 @@ impl<'a> Items<'a> {
 
 // The number at each place, from the last item on, so that the first of a place stays.
 fn places(alloc: Global, list: &[ItemRef<'_>]) -> Result<IndexMap<(u32, u32), usize>, OutOfMemory>
-    ensures { IfOk result (λ places. (file place : ℕ) → get same_place places (file, place) ≡ meant.number_at (map item_of list.now) file place) }
+    ensures { IfOk result (λ places. (file place : ℕ) →
+        get same_place places (file, place) ≡ meant.number_at (map item_of list.now) file place) }
 {
     let mut places = IndexMap::new(alloc);
     for i in (0..list.len()).rev() {

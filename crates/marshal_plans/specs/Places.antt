@@ -1,5 +1,5 @@
 -- The ids that plans have for the places of a schema (own).
-use Rattle.std.specs.Prelude.{◌≡◌, ℕ, List, Option, Some, None, slice_get}
+use Rattle.std.specs.Prelude.{◌≡◌, ℕ, List, Option, Some, None, slice_get, MatchOption}
 use Rattle.aidl_schema.specs.declared.schema.AidlType.{AidlType}
 use Rattle.aidl_schema.specs.declared.schema.Arg.{Arg}
 use Rattle.aidl_schema.specs.declared.schema.Decl.{Decl}
@@ -18,6 +18,10 @@ IsMethod S n m w = (d : Decl) × (slice_get S n ≡ Some d) × (slice_get (metho
 -- There is a start of this place with this id.
 abbrev pub HasStart : List PlanStart → ℕ → ℕ → Option ℕ → PlanId → Type 0
 HasStart starts n m place id = Has starts (record { interface = n; method = m; place = place; item = id })
+
+-- It is the id of the start of this place, and None where no start is of it.
+abbrev pub IsItemOfStart : List PlanStart → ℕ → ℕ → Option ℕ → Option PlanId → Type 0
+IsItemOfStart starts n m place found = MatchOption found ((id : PlanId) → HasStart starts n m place id → ⊥) (λ id. HasStart starts n m place id)
 
 -- The plans stand for a schema in which the method is there.
 abbrev pub HasMethod : Plans → ℕ → ℕ → Type 0

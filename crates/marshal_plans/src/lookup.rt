@@ -1,10 +1,9 @@
 //! The ids of arguments, results and extra types.
-ghost use Rattle.std.specs.Prelude.{◌≡◌, ◌<◌, Some, None, slice_get, length, MatchOption};
-ghost use Rattle.marshal_plans.specs.declared.plans.PlanId.{PlanId};
-ghost use Rattle.marshal_plans.specs.Places.{HasArgument, HasMethod, HasStart, IsArgument, IsExtra, IsResult};
+ghost use Rattle.std.specs.Prelude.{◌≡◌, ◌<◌, Some, None, slice_get, length};
+ghost use Rattle.marshal_plans.specs.Places.{HasArgument, HasMethod, HasStart, IsArgument, IsExtra, IsItemOfStart, IsResult};
 ghost use Rattle.marshal_plans.specs.steps.Rising.{AreRising, order_to, place_order};
 
-use crate::plans::{PlanId, PlanStart, Plans};
+use crate::plans::{MethodNumbers, PlanId, PlanStart, Plans};
 use std::cmp::Ordering;
 
 impl Plans {
@@ -17,7 +16,8 @@ impl Plans {
         // It stands for the argument's type.
         ensures stands { IsArgument self.now interface method k result }
     {
-        match start_at(self.starts.as_slice(), interface, method, Some(k)) {
+        let numbers = MethodNumbers { interface, method };
+        match start_at(self.starts.as_slice(), numbers, Some(k)) {
             Some(id) => id,
             None => unreachable!(),
         }
@@ -27,11 +27,15 @@ impl Plans {
     pub fn result(&self, interface: u32, method: u32) -> Option<PlanId>
         requires { HasMethod self.now interface method }
         // It is that of the start of this place, and None where there is none.
-        ensures start { MatchOption result ((id : PlanId) → HasStart self.now.starts interface method None id → ⊥) (λ id. HasStart self.now.starts interface method None id) }
+        ensures start { IsItemOfStart self.now.starts interface method None result }
         // It stands for the result's type.
         ensures stands { IsResult self.now interface method result }
     {
-        start_at(self.starts.as_slice(), interface, method, None)
+        start_at(
+            self.starts.as_slice(),
+            MethodNumbers { interface, method },
+            None,
+        )
     }
 
     /// The id of an extra type. It takes no memory.
@@ -46,23 +50,23 @@ impl Plans {
 }
 
 // The item of the start of a place.
-fn start_at(starts: &[PlanStart], interface: u32, method: u32, place: Option<u32>) -> Option<PlanId>
-    requires { AreRising starts.now interface method place }
-    ensures { MatchOption result ((id : PlanId) → HasStart starts.now interface method place id → ⊥) (λ id. HasStart starts.now interface method place id) }
+fn start_at(starts: &[PlanStart], numbers: MethodNumbers, place: Option<u32>) -> Option<PlanId>
+    requires { AreRising starts.now numbers.interface numbers.method place }
+    ensures { IsItemOfStart starts.now numbers.interface numbers.method place result }
 {
-    match starts.binary_search_by(|start| order(start, interface, method, place)) {
+    match starts.binary_search_by(|start| order(start, numbers, place)) {
         Ok(i) => Some(starts[i].item),
         Err(_) => None,
     }
 }
 
 // How a start stands to a place.
-fn order(start: &PlanStart, interface: u32, method: u32, place: Option<u32>) -> Ordering
-    ensures { result ≡ order_to interface method place start.now }
+fn order(start: &PlanStart, numbers: MethodNumbers, place: Option<u32>) -> Ordering
+    ensures { result ≡ order_to numbers.interface numbers.method place start.now }
 {
     let places = place_order(start.place, place);
-    let methods = start.method.cmp(&method).then(places);
-    start.interface.cmp(&interface).then(methods)
+    let methods = start.method.cmp(&numbers.method).then(places);
+    start.interface.cmp(&numbers.interface).then(methods)
 }
 
 // Arguments stand by their positions, and the result after them.

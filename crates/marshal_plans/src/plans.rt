@@ -74,3 +74,10 @@ pub struct PlanStart {
     pub place: Option<u32>,
     pub item: PlanId,
 }
+
+/// Which method it is: the number of its interface in the schema, and its own in the interface, both from 0.
+#[derive(Clone, Copy)]
+pub struct MethodNumbers {
+    pub interface: u32,
+    pub method: u32,
+}

@@ -5,7 +5,7 @@ ghost use Rattle.aidl_schema.specs.Names.{methods_of};
 ghost use Rattle.marshal_plans.specs.steps.Compiled.{added, started, with_arguments, with_interfaces, with_methods, with_result};
 
 use crate::items::add_item;
-use crate::plans::{PlanStart, Plans};
+use crate::plans::{MethodNumbers, PlanStart, Plans};
 use aidl_base::OutOfMemory;
 use aidl_schema::{AidlType, Arg, Method, Schema, law_valid, methods_of};
 
@@ -32,9 +32,12 @@ fn add_methods(
     ensures { OnOk result (plans.new ≡ with_methods schema.now.decls firsts.now interface 0 plans.old methods.now) }
 {
     for (m, method) in methods.iter().enumerate() {
-        let arguments = method.args.as_slice();
-        add_arguments(schema, firsts, interface, m as u32, arguments, plans)?;
-        add_result(schema, firsts, interface, m as u32, method.result, plans)?;
+        let numbers = MethodNumbers {
+            interface,
+            method: m as u32,
+        };
+        add_arguments(schema, firsts, numbers, method.args.as_slice(), plans)?;
+        add_result(schema, firsts, numbers, method.result, plans)?;
     }
     Ok(())
 }
@@ -42,17 +45,16 @@ fn add_methods(
 fn add_arguments(
     schema: &Schema,
     firsts: &[usize],
-    interface: u32,
-    method: u32,
+    numbers: MethodNumbers,
     arguments: &[Arg],
     plans: &mut Plans,
 ) -> Result<(), OutOfMemory>
     requires { length arguments.now ≤ 255 }
-    ensures { OnOk result (plans.new ≡ with_arguments schema.now.decls firsts.now interface method 0 plans.old arguments.now) }
+    ensures { OnOk result (plans.new
+        ≡ with_arguments schema.now.decls firsts.now numbers.interface numbers.method 0 plans.old arguments.now) }
 {
     for (k, argument) in arguments.iter().enumerate() {
-        let place = Some(k as u32);
-        add_start(schema, firsts, interface, method, place, argument.ty, plans)?;
+        add_start(schema, firsts, numbers, Some(k as u32), argument.ty, plans)?;
     }
     Ok(())
 }
@@ -60,34 +62,32 @@ fn add_arguments(
 fn add_result(
     schema: &Schema,
     firsts: &[usize],
-    interface: u32,
-    method: u32,
+    numbers: MethodNumbers,
     returned: Option<AidlType>,
     plans: &mut Plans,
 ) -> Result<(), OutOfMemory>
-    ensures { OnOk result (plans.new ≡ with_result schema.now.decls firsts.now interface method plans.old returned) }
+    ensures { OnOk result (plans.new ≡ with_result schema.now.decls firsts.now numbers.interface numbers.method plans.old returned) }
 {
     match returned {
         None => Ok(()),
-        Some(ty) => add_start(schema, firsts, interface, method, None, ty, plans),
+        Some(ty) => add_start(schema, firsts, numbers, None, ty, plans),
     }
 }
 
 fn add_start(
     schema: &Schema,
     firsts: &[usize],
-    interface: u32,
-    method: u32,
+    numbers: MethodNumbers,
     place: Option<u32>,
     ty: AidlType,
     plans: &mut Plans,
 ) -> Result<(), OutOfMemory>
-    ensures { OnOk result (plans.new ≡ started (added schema.now.decls firsts.now plans.old ty) interface method place) }
+    ensures { OnOk result (plans.new ≡ started (added schema.now.decls firsts.now plans.old ty) numbers.interface numbers.method place) }
 {
     let item = add_item(schema, firsts, ty, plans)?;
     plans.starts.push(PlanStart {
-        interface,
-        method,
+        interface: numbers.interface,
+        method: numbers.method,
         place,
         item,
     })?;

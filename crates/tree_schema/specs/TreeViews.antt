@@ -10,6 +10,7 @@ use Rattle.const_items.specs.ItemViews.{item_of}
 use Rattle.const_eval.specs.Outcomes.{outcome_at}
 use Rattle.tree_schema.specs.declared.tree.Tree.{Tree}
 use Rattle.tree_schema.specs.declared.tree.Placed.{Placed}
+use Rattle.tree_schema.specs.declared.tree.Scope.{Scope}
 use Rattle.tree_schema.specs.Numbers.{Numbered, number_of}
 use Rattle.tree_schema.specs.Values.{Outcomes}
 
@@ -28,8 +29,8 @@ abbrev pub HasNumbers : Tree → Type 0
 HasNumbers t = (n : ℕ) → get nat_eq t.numbers.now n ≡ number_of (declarations (files_of t)) n
 
 -- the number is that of a declaration of the file
-abbrev pub HasScope : Tree → ℕ → ℕ → Type 0
-HasScope t file scope = IsScope (files_of t) file scope
+abbrev pub IsDeclared : Scope → Type 0
+IsDeclared s = IsScope (files_of s.tree) s.file s.number
 
 abbrev pub numbered_of : Placed → Numbered
 numbered_of x = (x.number, entry_of x.found.now)

@@ -1,20 +1,21 @@
 //! The draft of a schema: all declarations of a tree, valid or not.
 ghost use Rattle.std.specs.Prelude.{◌≡◌, map, IfOk};
 ghost use Rattle.declared_names.specs.Declarations.{declarations};
+ghost use Rattle.aidl_names.specs.Refusals.{IsScope};
 ghost use Rattle.aidl_syntax.specs.Sources.{source_of};
 ghost use Rattle.const_items.specs.Items.{items};
 ghost use Rattle.const_items.specs.ItemViews.{item_of};
 ghost use Rattle.const_eval.specs.Outcomes.{outcome_at};
 ghost use Rattle.tree_schema.specs.Numbers as numbers;
 ghost use Rattle.tree_schema.specs.SchemaOf as meant;
-ghost use Rattle.tree_schema.specs.TreeViews.{HasItems, HasNumbers, HasScope, files_of, numbered_of, outcomes_of};
+ghost use Rattle.tree_schema.specs.TreeViews.{HasItems, HasNumbers, files_of, numbered_of, outcomes_of};
 
 use crate::bases::number_of;
 use crate::copied::copied_parts;
 use crate::kinds::{constants_of, kind_of};
 use crate::numbers::numbers_of;
 use crate::order::in_schema_order;
-use crate::tree::{Placed, Tree};
+use crate::tree::{Placed, Scope, Tree};
 use aidl_base::{DottedName, OutOfMemory, Row};
 use aidl_names::Names;
 use aidl_schema::Decl;
@@ -67,19 +68,23 @@ fn declared(
 ) -> Result<Decl, OutOfMemory>
     requires items { HasItems tree.now }
     requires numbers { HasNumbers tree.now }
-    requires scope { HasScope tree.now placed.now.found.now.file placed.now.number }
+    requires scope { IsScope (files_of tree.now) placed.now.found.now.file placed.now.number }
     ensures { IfOk result (λ decl. decl ≡ meant.declared (files_of tree.now) (outcomes_of tree.now) (numbered_of placed.now)) }
 {
-    let number = placed.number;
     let found = placed.found;
+    let scope = Scope {
+        tree: *tree,
+        file: found.file,
+        number: placed.number,
+    };
     let kept = kept_of(found.tree.annots.as_slice());
     Ok(Decl {
         name: DottedName(copied_parts(alloc, found.name.0.as_slice())?),
         outer: outer_of(tree, found.outer),
-        kind: kind_of(alloc, tree, found.file, number, found.tree)?,
+        kind: kind_of(alloc, &scope, found.tree)?,
         vintf: kept.vintf,
         fixed: kept.fixed,
-        constants: constants_of(alloc, tree, found.file, number, &found.tree.body)?,
+        constants: constants_of(alloc, &scope, &found.tree.body)?,
     })
 }
 

@@ -5,75 +5,66 @@ ghost use Rattle.aidl_syntax.specs.Trees.{body_of, decl_of, enumerator_of};
 ghost use Rattle.type_shapes.specs.Backing.{backing_of as wanted_of};
 ghost use Rattle.tree_schema.specs.Parts as parts;
 ghost use Rattle.tree_schema.specs.SchemaOf as meant;
-ghost use Rattle.tree_schema.specs.TreeViews.{HasItems, HasNumbers, HasScope, files_of, outcomes_of};
+ghost use Rattle.tree_schema.specs.TreeViews.{HasItems, HasNumbers, IsDeclared, files_of, outcomes_of};
 
 use crate::backing::backing_of;
 use crate::constants::constants_in;
 use crate::copied::copied_ident;
 use crate::fields::fields_in;
 use crate::methods::methods_in;
-use crate::tree::Tree;
+use crate::tree::{Scope, Tree};
 use crate::values::enumerator_value;
 use aidl_base::{OutOfMemory, Row};
 use aidl_schema::{Backing, Constant, Enumerator, Kind};
 use aidl_syntax::{BodyTree, DeclTree, EnumeratorTree};
 use std::alloc::Global;
 
-/// What the declaration with the number `scope` declares.
+/// What the declaration of a scope declares.
 pub fn kind_of(
     alloc: Global,
-    tree: &Tree<'_, '_>,
-    file: u32,
-    scope: u32,
+    scope: &Scope<'_, '_>,
     declared: &DeclTree,
 ) -> Result<Kind, OutOfMemory>
-    requires items { HasItems tree.now }
-    requires scope { HasScope tree.now file scope }
-    requires numbers { HasNumbers tree.now }
-    ensures { IfOk result (λ kind. kind ≡ meant.kind_of (files_of tree.now) (outcomes_of tree.now) file scope (wanted_of (decl_of declared.now)) (inner (decl_of declared.now))) }
+    requires items { HasItems scope.now.tree }
+    requires scope { IsDeclared scope.now }
+    requires numbers { HasNumbers scope.now.tree }
+    ensures { IfOk result (λ kind. kind ≡ meant.kind_of (files_of scope.now.tree) (outcomes_of scope.now.tree)
+        scope.now.file scope.now.number (wanted_of (decl_of declared.now)) (inner (decl_of declared.now))) }
 {
-    let backing = backing_of(declared);
-    kind_in(alloc, tree, file, scope, backing, &declared.body)
+    kind_in(alloc, scope, backing_of(declared), &declared.body)
 }
 
 fn kind_in(
     alloc: Global,
-    tree: &Tree<'_, '_>,
-    file: u32,
-    scope: u32,
+    scope: &Scope<'_, '_>,
     backing: Backing,
     body: &BodyTree,
 ) -> Result<Kind, OutOfMemory>
-    requires items { HasItems tree.now }
-    requires scope { HasScope tree.now file scope }
-    requires numbers { HasNumbers tree.now }
-    ensures { IfOk result (λ kind. kind ≡ meant.kind_with (files_of tree.now) (outcomes_of tree.now) file scope backing (body_of body.now)) }
+    requires items { HasItems scope.now.tree }
+    requires scope { IsDeclared scope.now }
+    requires numbers { HasNumbers scope.now.tree }
+    ensures { IfOk result (λ kind. kind ≡ meant.kind_with (files_of scope.now.tree) (outcomes_of scope.now.tree)
+        scope.now.file scope.now.number backing (body_of body.now)) }
 {
     match body {
         BodyTree::Parcelable(members) => Ok(Kind::Parcelable(fields_in(
             alloc,
-            tree,
-            file,
             scope,
             false,
             members.as_slice(),
         )?)),
         BodyTree::Union(members) => Ok(Kind::Union(fields_in(
             alloc,
-            tree,
-            file,
             scope,
             true,
             members.as_slice(),
         )?)),
         BodyTree::Enum(enumerators) => Ok(Kind::Enum(
             backing,
-            enumerators_in(alloc, tree, file, enumerators.as_slice())?,
+            enumerators_in(alloc, &scope.tree, scope.file, enumerators.as_slice())?,
         )),
         BodyTree::Interface { oneway, members } => Ok(Kind::Interface(methods_in(
             alloc,
-            tree,
-            file,
             scope,
             *oneway,
             members.as_slice(),
@@ -88,7 +79,8 @@ fn enumerators_in(
     enumerators: &[EnumeratorTree],
 ) -> Result<Row<Enumerator>, OutOfMemory>
     requires items { HasItems tree.now }
-    ensures { IfOk result (λ row. row ≡ map (parts.enumerator_in (files_of tree.now) (outcomes_of tree.now) file) (map enumerator_of enumerators.now)) }
+    ensures { IfOk result (λ row.
+        row ≡ map (parts.enumerator_in (files_of tree.now) (outcomes_of tree.now) file) (map enumerator_of enumerators.now)) }
 {
     let mut row = Vec::with_capacity(alloc, enumerators.len())?;
     for enumerator in enumerators {
@@ -115,24 +107,19 @@ fn enumerator_in(
 /// The constants of a declaration, by their names; an enum has none.
 pub fn constants_of(
     alloc: Global,
-    tree: &Tree<'_, '_>,
-    file: u32,
-    scope: u32,
+    scope: &Scope<'_, '_>,
     body: &BodyTree,
 ) -> Result<Row<Constant>, OutOfMemory>
-    requires items { HasItems tree.now }
-    requires scope { HasScope tree.now file scope }
-    requires numbers { HasNumbers tree.now }
-    ensures { IfOk result (λ constants. constants ≡ parts.constants_in (files_of tree.now) (outcomes_of tree.now) file scope (members (body_of body.now))) }
+    requires items { HasItems scope.now.tree }
+    requires scope { IsDeclared scope.now }
+    requires numbers { HasNumbers scope.now.tree }
+    ensures { IfOk result (λ constants. constants ≡ parts.constants_in (files_of scope.now.tree) (outcomes_of scope.now.tree)
+        scope.now.file scope.now.number (members (body_of body.now))) }
 {
     match body {
-        BodyTree::Parcelable(members) => {
-            constants_in(alloc, tree, file, scope, members.as_slice())
-        }
-        BodyTree::Union(members) => constants_in(alloc, tree, file, scope, members.as_slice()),
+        BodyTree::Parcelable(members) => constants_in(alloc, scope, members.as_slice()),
+        BodyTree::Union(members) => constants_in(alloc, scope, members.as_slice()),
         BodyTree::Enum(_) => Ok(Row::new(alloc)),
-        BodyTree::Interface { members, .. } => {
-            constants_in(alloc, tree, file, scope, members.as_slice())
-        }
+        BodyTree::Interface { members, .. } => constants_in(alloc, scope, members.as_slice()),
     }
 }

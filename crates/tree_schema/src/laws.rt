@@ -28,7 +28,8 @@ pub fn law_named(names: &Names<'_>)
 
 /// A law of the definitions: the schema of a tree that breaks no rule and passes no limit is valid.
 pub fn law_valid(names: &Names<'_>)
-    ensures { (outcomes : Outcomes) → IsChecked (map source_of names.now) outcomes → IsValid (schema_of (map source_of names.now) outcomes) }
+    ensures { (outcomes : Outcomes) → IsChecked (map source_of names.now) outcomes
+        → IsValid (schema_of (map source_of names.now) outcomes) }
 {
     law_named(names);
     let files = names.files();

@@ -3,11 +3,11 @@ ghost use Rattle.std.specs.Prelude.{◌≡◌, ◌<◌, ◌+◌, ◌++◌, map, 
 ghost use Rattle.aidl_syntax.specs.Members.{listed};
 ghost use Rattle.aidl_syntax.specs.Trees.{Members, annot_of, arg_of, map_option, member_of, members_of, method_of};
 ghost use Rattle.tree_schema.specs.Parts as meant;
-ghost use Rattle.tree_schema.specs.TreeViews.{HasNumbers, HasScope, files_of};
+ghost use Rattle.tree_schema.specs.TreeViews.{HasNumbers, IsDeclared, files_of};
 ghost use Rattle.tree_schema.specs.Types as types;
 
 use crate::copied::copied_ident;
-use crate::tree::Tree;
+use crate::tree::Scope;
 use crate::types::type_of;
 use aidl_base::{OutOfMemory, Row};
 use aidl_schema::{AidlType, Arg, Direction, Method};
@@ -18,29 +18,19 @@ use type_uses::id_of;
 /// The methods among the members of an interface, each with its id: the number written, or else its position.
 pub fn methods_in(
     alloc: Global,
-    tree: &Tree<'_, '_>,
-    file: u32,
-    scope: u32,
+    scope: &Scope<'_, '_>,
     oneway: bool,
     members: &[MemberTree],
 ) -> Result<Row<Method>, OutOfMemory>
-    requires scope { HasScope tree.now file scope }
-    requires numbers { HasNumbers tree.now }
-    ensures { IfOk result (λ methods. methods ≡ meant.methods_in (files_of tree.now) file scope oneway 0 (listed (members_of members.now))) }
+    requires scope { IsDeclared scope.now }
+    requires numbers { HasNumbers scope.now.tree }
+    ensures { IfOk result (λ methods.
+        methods ≡ meant.methods_in (files_of scope.now.tree) scope.now.file scope.now.number oneway 0 (listed (members_of members.now))) }
 {
     let mut methods = Vec::new(alloc);
     let mut before = 0;
     for member in members {
-        before = add_member(
-            alloc,
-            tree,
-            file,
-            scope,
-            oneway,
-            before,
-            member,
-            &mut methods,
-        )?;
+        before = add_member(alloc, scope, oneway, before, member, &mut methods)?;
     }
     Ok(Row::from_vec(methods))
 }
@@ -48,24 +38,24 @@ pub fn methods_in(
 // The method that a member is, and how many methods stand before the next one.
 fn add_member(
     alloc: Global,
-    tree: &Tree<'_, '_>,
-    file: u32,
-    scope: u32,
+    scope: &Scope<'_, '_>,
     oneway: bool,
     before: u64,
     member: &MemberTree,
     methods: &mut Vec<Method>,
 ) -> Result<u64, OutOfMemory>
-    requires scope { HasScope tree.now file scope }
-    requires numbers { HasNumbers tree.now }
+    requires scope { IsDeclared scope.now }
+    requires numbers { HasNumbers scope.now.tree }
     requires few { before < 9223372036854775808 }
-    ensures all { IfOk result (λ next. (ms : Members) → methods.old.items ++ meant.methods_in (files_of tree.now) file scope oneway before (listed (member_of member.now ms)) ≡ methods.new.items ++ meant.methods_in (files_of tree.now) file scope oneway next (listed ms)) }
+    ensures all { let of = meant.methods_in (files_of scope.now.tree) scope.now.file scope.now.number oneway in
+        IfOk result (λ next. (ms : Members) → methods.old.items ++ of before (listed (member_of member.now ms))
+        ≡ methods.new.items ++ of next (listed ms)) }
     ensures few { IfOk result (λ next. next < before + 2) }
 {
     match member {
         MemberTree::Method(method) => {
             let id = kept_id(id_of(before, method));
-            methods.push(method_in(alloc, tree, file, scope, oneway, id, method)?)?;
+            methods.push(method_in(alloc, scope, oneway, id, method)?)?;
             Ok(before + 1)
         }
         MemberTree::Field(_) => Ok(before),
@@ -83,77 +73,64 @@ fn kept_id(id: u64) -> u32
 
 fn method_in(
     alloc: Global,
-    tree: &Tree<'_, '_>,
-    file: u32,
-    scope: u32,
+    scope: &Scope<'_, '_>,
     oneway: bool,
     id: u32,
     method: &MethodTree,
 ) -> Result<Method, OutOfMemory>
-    requires scope { HasScope tree.now file scope }
-    requires numbers { HasNumbers tree.now }
-    ensures { IfOk result (λ m. m ≡ meant.method_with (files_of tree.now) file scope oneway id (method_of method.now)) }
+    requires scope { IsDeclared scope.now }
+    requires numbers { HasNumbers scope.now.tree }
+    ensures { IfOk result (λ m. m ≡ meant.method_with (files_of scope.now.tree)
+        scope.now.file scope.now.number oneway id (method_of method.now)) }
 {
     let annots = method.annots.as_slice();
     Ok(Method {
         name: copied_ident(alloc, &method.name.name)?,
         id,
         oneway: method.oneway || oneway,
-        result: result_in(tree, file, scope, annots, &method.result),
-        args: args_in(alloc, tree, file, scope, method.args.as_slice())?,
+        result: result_in(scope, annots, &method.result),
+        args: args_in(alloc, scope, method.args.as_slice())?,
     })
 }
 
 fn result_in(
-    tree: &Tree<'_, '_>,
-    file: u32,
-    scope: u32,
+    scope: &Scope<'_, '_>,
     annots: &[AnnotTree],
     returned: &Option<TypeTree>,
 ) -> Option<AidlType>
-    requires scope { HasScope tree.now file scope }
-    requires numbers { HasNumbers tree.now }
-    ensures { result ≡ map_option (types.type_of (files_of tree.now) file scope (map annot_of annots.now)) returned.now }
+    requires scope { IsDeclared scope.now }
+    requires numbers { HasNumbers scope.now.tree }
+    ensures { result ≡ map_option (types.type_of (files_of scope.now.tree)
+        scope.now.file scope.now.number (map annot_of annots.now)) returned.now }
 {
     match returned {
         None => None,
-        Some(ty) => Some(type_of(tree, file, scope, annots, ty)),
+        Some(ty) => Some(type_of(scope, annots, ty)),
     }
 }
 
-fn args_in(
-    alloc: Global,
-    tree: &Tree<'_, '_>,
-    file: u32,
-    scope: u32,
-    args: &[ArgTree],
-) -> Result<Row<Arg>, OutOfMemory>
-    requires scope { HasScope tree.now file scope }
-    requires numbers { HasNumbers tree.now }
-    ensures { IfOk result (λ row. row ≡ map (meant.arg_in (files_of tree.now) file scope) (map arg_of args.now)) }
+fn args_in(alloc: Global, scope: &Scope<'_, '_>, args: &[ArgTree]) -> Result<Row<Arg>, OutOfMemory>
+    requires scope { IsDeclared scope.now }
+    requires numbers { HasNumbers scope.now.tree }
+    ensures { IfOk result (λ row.
+        row ≡ map (meant.arg_in (files_of scope.now.tree) scope.now.file scope.now.number) (map arg_of args.now)) }
 {
     let mut row = Vec::with_capacity(alloc, args.len())?;
     for arg in args {
-        row.push(arg_in(alloc, tree, file, scope, arg)?)?;
+        row.push(arg_in(alloc, scope, arg)?)?;
     }
     Ok(Row::from_vec(row))
 }
 
-fn arg_in(
-    alloc: Global,
-    tree: &Tree<'_, '_>,
-    file: u32,
-    scope: u32,
-    arg: &ArgTree,
-) -> Result<Arg, OutOfMemory>
-    requires scope { HasScope tree.now file scope }
-    requires numbers { HasNumbers tree.now }
-    ensures { IfOk result (λ a. a ≡ meant.arg_in (files_of tree.now) file scope (arg_of arg.now)) }
+fn arg_in(alloc: Global, scope: &Scope<'_, '_>, arg: &ArgTree) -> Result<Arg, OutOfMemory>
+    requires scope { IsDeclared scope.now }
+    requires numbers { HasNumbers scope.now.tree }
+    ensures { IfOk result (λ a. a ≡ meant.arg_in (files_of scope.now.tree) scope.now.file scope.now.number (arg_of arg.now)) }
 {
     Ok(Arg {
         name: copied_ident(alloc, &arg.name.name)?,
         way: way_of(arg.way),
-        ty: type_of(tree, file, scope, arg.annots.as_slice(), &arg.ty),
+        ty: type_of(scope, arg.annots.as_slice(), &arg.ty),
     })
 }
 

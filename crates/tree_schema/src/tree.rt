@@ -13,6 +13,14 @@ pub struct Tree<'a, 'b> {
     pub numbers: &'a IndexMap<u32, u32>,
 }
 
+/// A declaration of a tree in which names are looked up, by the number of its file and its own.
+#[derive(Clone, Copy)]
+pub struct Scope<'a, 'b> {
+    pub tree: Tree<'a, 'b>,
+    pub file: u32,
+    pub number: u32,
+}
+
 /// A declaration with its number in the trees.
 #[derive(Clone, Copy)]
 pub struct Placed<'a, 'b> {

@@ -2,30 +2,25 @@
 ghost use Rattle.std.specs.Prelude.{◌≡◌, map};
 ghost use Rattle.aidl_syntax.specs.Trees.{annot_of};
 ghost use Rattle.declared_names.specs.Declarations.{declarations};
-ghost use Rattle.tree_schema.specs.TreeViews.{HasNumbers, HasScope, files_of};
+ghost use Rattle.tree_schema.specs.TreeViews.{HasNumbers, IsDeclared, files_of};
 ghost use Rattle.tree_schema.specs.Types as meant;
 
 use crate::bases::base_of;
-use crate::tree::Tree;
+use crate::tree::{Scope, Tree};
 use aidl_schema::{AidlType, Base, Shape};
 use aidl_syntax::{AnnotTree, TypeTree};
 use type_shapes::{Shape as TreeShape, shape_of};
 use type_uses::kept_of;
 
-/// The type in the schema that a type of a file is, below the declaration with the number `scope` and behind annotations (AOSP, "AIDL
+/// The type in the schema that a type of a file is, where names are looked up in `scope`, and behind annotations (AOSP, "AIDL
 /// language", "Types"). For one that E16 refuses an array of int stands. It takes no memory.
-pub fn type_of(
-    tree: &Tree<'_, '_>,
-    file: u32,
-    scope: u32,
-    annots: &[AnnotTree],
-    ty: &TypeTree,
-) -> AidlType
-    requires scope { HasScope tree.now file scope }
-    requires numbers { HasNumbers tree.now }
-    ensures { result ≡ meant.type_of (files_of tree.now) file scope (map annot_of annots.now) ty.now }
+pub fn type_of(scope: &Scope<'_, '_>, annots: &[AnnotTree], ty: &TypeTree) -> AidlType
+    requires scope { IsDeclared scope.now }
+    requires numbers { HasNumbers scope.now.tree }
+    ensures { result ≡ meant.type_of (files_of scope.now.tree) scope.now.file scope.now.number (map annot_of annots.now) ty.now }
 {
-    typed(tree, annots, shape_of(tree.names, file, scope, ty))
+    let shape = shape_of(scope.tree.names, scope.file, scope.number, ty);
+    typed(&scope.tree, annots, shape)
 }
 
 fn typed(tree: &Tree<'_, '_>, annots: &[AnnotTree], shape: TreeShape) -> AidlType

@@ -1,11 +1,11 @@
 //! The values in the schema of initializers, constants and enumerators, by the outcomes of their expressions.
 ghost use Rattle.std.specs.Prelude.{◌≡◌, map, IfOk};
 ghost use Rattle.aidl_syntax.specs.Trees.{enumerator_of, expr_of, exprs_of, init_of, map_option};
-ghost use Rattle.tree_schema.specs.TreeViews.{HasItems, HasScope, files_of, outcomes_of};
+ghost use Rattle.tree_schema.specs.TreeViews.{HasItems, IsDeclared, files_of, outcomes_of};
 ghost use Rattle.tree_schema.specs.Values as meant;
 
 use crate::copied::copied;
-use crate::tree::Tree;
+use crate::tree::{Scope, Tree};
 use aidl_base::{Const, OutOfMemory, Row};
 use aidl_syntax::{EnumeratorTree, ExprTree, InitTree, TypeTree};
 use const_eval::Outcome;
@@ -17,25 +17,24 @@ use type_shapes::{is_unjudged, shape_of};
 /// there.
 pub fn initial_of(
     alloc: Global,
-    tree: &Tree<'_, '_>,
-    file: u32,
-    scope: u32,
+    scope: &Scope<'_, '_>,
     later: bool,
     ty: &TypeTree,
     initial: &Option<InitTree>,
 ) -> Result<Option<Const>, OutOfMemory>
-    requires items { HasItems tree.now }
-    requires scope { HasScope tree.now file scope }
-    ensures { IfOk result (λ value. value ≡ meant.initial_of (files_of tree.now) (outcomes_of tree.now) file scope later ty.now (map_option init_of initial.now)) }
+    requires items { HasItems scope.now.tree }
+    requires scope { IsDeclared scope.now }
+    ensures { IfOk result (λ value. value ≡ meant.initial_of (files_of scope.now.tree) (outcomes_of scope.now.tree)
+        scope.now.file scope.now.number later ty.now (map_option init_of initial.now)) }
 {
     match initial {
         None => Ok(None),
         Some(init) => {
-            let shape = shape_of(tree.names, file, scope, ty);
-            if is_unjudged(tree.names.decls(), later, shape, init) {
+            let shape = shape_of(scope.tree.names, scope.file, scope.number, ty);
+            if is_unjudged(scope.tree.names.decls(), later, shape, init) {
                 Ok(None)
             } else {
-                Ok(Some(initial_value(alloc, tree, file, init)?))
+                Ok(Some(initial_value(alloc, &scope.tree, scope.file, init)?))
             }
         }
     }
@@ -69,7 +68,8 @@ fn values(
     exprs: &[ExprTree],
 ) -> Result<Row<Const>, OutOfMemory>
     requires items { HasItems tree.now }
-    ensures { IfOk result (λ row. row ≡ map (λ e. meant.constant_value (files_of tree.now) (outcomes_of tree.now) file e) (exprs_of exprs.now)) }
+    ensures { IfOk result (λ row.
+        row ≡ map (λ e. meant.constant_value (files_of tree.now) (outcomes_of tree.now) file e) (exprs_of exprs.now)) }
 {
     let mut row = Vec::with_capacity(alloc, exprs.len())?;
     for expr in exprs {

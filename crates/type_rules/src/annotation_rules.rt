@@ -37,7 +37,8 @@ fn add_at_declaration(
     tree: &DeclTree,
     rows: &mut Vec<Breach>,
 ) -> Result<(), OutOfMemory>
-    ensures { OnOk result (rows.new.items ≡ rows.old.items ++ meant.bad_annotations file (stand_of_body (body (decl_of tree.now))) (annots_of (decl_of tree.now))) }
+    ensures { OnOk result (rows.new.items ≡ rows.old.items
+        ++ meant.bad_annotations file (stand_of_body (body (decl_of tree.now))) (annots_of (decl_of tree.now))) }
 {
     add_in_list(
         alloc,
@@ -54,7 +55,8 @@ fn add_at_uses(
     uses: &[TypeUseRef<'_>],
     rows: &mut Vec<Breach>,
 ) -> Result<(), OutOfMemory>
-    ensures { OnOk result (rows.new.items ≡ rows.old.items ++ flat_map (λ u. meant.bad_annotations file (stand_of u) (annotations_of u)) (map seen_use uses.now)) }
+    ensures { OnOk result (rows.new.items ≡ rows.old.items
+        ++ flat_map (λ u. meant.bad_annotations file (stand_of u) (annotations_of u)) (map seen_use uses.now)) }
 {
     for used in uses {
         add_in_list(alloc, file, stand_of(*used), annotations_of(*used), rows)?;

@@ -22,7 +22,8 @@ pub fn add_bad_fields(
     uses: &[TypeUseRef<'_>],
     rows: &mut Vec<Breach>,
 ) -> Result<(), OutOfMemory>
-    ensures { OnOk result (rows.new.items ≡ rows.old.items ++ meant.BadField (map entry_of all.now) (entry_of found.now) (map seen_use uses.now)) }
+    ensures { OnOk result (rows.new.items ≡ rows.old.items
+        ++ meant.BadField (map entry_of all.now) (entry_of found.now) (map seen_use uses.now)) }
 {
     let in_union = is_union_tree(found.tree);
     let empty = in_union && !has_field(uses);
@@ -63,7 +64,8 @@ fn add_in_uses(
     uses: &[TypeUseRef<'_>],
     rows: &mut Vec<Breach>,
 ) -> Result<(), OutOfMemory>
-    ensures { OnOk result (rows.new.items ≡ rows.old.items ++ meant.bad_fields (map entry_of all.now) file in_union false (map seen_use uses.now)) }
+    ensures { OnOk result (rows.new.items ≡ rows.old.items
+        ++ meant.bad_fields (map entry_of all.now) file in_union false (map seen_use uses.now)) }
 {
     let mut later = false;
     for used in uses {

@@ -20,6 +20,14 @@ use std::alloc::Global;
 use type_shapes::{Shape, is_composite};
 use type_uses::{TypeUseRef, is_fixed, is_nullable, is_refused, is_scalar, name_place};
 
+/// The declarations of a tree, and which of them have `@FixedSize`.
+#[derive(Clone, Copy)]
+pub struct Marked<'a> {
+    pub all: &'a [Found<'a>],
+    pub fixed: &'a [bool],
+    pub ghost marks: { fixed.now ≡ map is_fixed_entry (map entry_of all.now) },
+}
+
 /// Which declarations have `@FixedSize`, so that no list of annotations is read for each field of its type.
 pub fn fixed_ones(alloc: Global, found: &[Found<'_>]) -> Result<Vec<bool>, OutOfMemory>
     ensures { IfOk result (λ fixed. fixed.items ≡ map is_fixed_entry (map entry_of found.now)) }
@@ -37,82 +45,76 @@ fn is_fixed_tree(tree: &DeclTree) -> bool
     is_fixed(tree.annots.as_slice())
 }
 
-/// Adds the breaches of E24 in a declaration, by the types that it uses; `all` are the declarations of the tree, and `fixed` says which
-/// of them have `@FixedSize`.
+/// Adds the breaches of E24 in a declaration, by the types that it uses; `marked` are the declarations of the tree.
 pub fn add_not_fixed(
-    all: &[Found<'_>],
-    fixed: &[bool],
+    marked: &Marked<'_>,
     found: &Found<'_>,
     uses: &[TypeUseRef<'_>],
     rows: &mut Vec<Breach>,
 ) -> Result<(), OutOfMemory>
-    requires { fixed.now ≡ map is_fixed_entry (map entry_of all.now) }
-    ensures { OnOk result (rows.new.items ≡ rows.old.items ++ meant.NotFixed (map entry_of all.now) (entry_of found.now) (map seen_use uses.now)) }
+    ensures { OnOk result (rows.new.items ≡ rows.old.items
+        ++ meant.NotFixed (map entry_of marked.now.all.now) (entry_of found.now) (map seen_use uses.now)) }
 {
     if is_fixed_tree(found.tree) {
-        add_in_uses(all, fixed, found.file, uses, rows)?;
+        add_in_uses(marked, found.file, uses, rows)?;
     }
     Ok(())
 }
 
 fn add_in_uses(
-    all: &[Found<'_>],
-    fixed: &[bool],
+    marked: &Marked<'_>,
     file: u32,
     uses: &[TypeUseRef<'_>],
     rows: &mut Vec<Breach>,
 ) -> Result<(), OutOfMemory>
-    requires { fixed.now ≡ map is_fixed_entry (map entry_of all.now) }
-    ensures { OnOk result (rows.new.items ≡ rows.old.items ++ broken_where (meant.is_unfixed (map entry_of all.now)) 24 typed.name_place file (map seen_use uses.now)) }
+    ensures { OnOk result (rows.new.items ≡ rows.old.items
+        ++ broken_where (meant.is_unfixed (map entry_of marked.now.all.now)) 24 typed.name_place file (map seen_use uses.now)) }
 {
     for used in uses {
-        let broken = is_unfixed(all, fixed, *used);
+        let broken = is_unfixed(marked, *used);
         add_if(broken, 24, file, name_place(*used), rows)?;
     }
     Ok(())
 }
 
-fn is_unfixed(all: &[Found<'_>], fixed: &[bool], used: TypeUseRef<'_>) -> bool
-    requires { fixed.now ≡ map is_fixed_entry (map entry_of all.now) }
-    ensures { result ≡ meant.is_unfixed (map entry_of all.now) (seen_use used.entry) }
+fn is_unfixed(marked: &Marked<'_>, used: TypeUseRef<'_>) -> bool
+    ensures { result ≡ meant.is_unfixed (map entry_of marked.now.all.now) (seen_use used.entry) }
 {
     match used {
         TypeUseRef::Field(field, shape) => {
             !is_refused(shape)
-                && (is_nullable(field.annots.as_slice()) || !has_fixed_size(all, fixed, shape))
+                && (is_nullable(field.annots.as_slice()) || !has_fixed_size(marked, shape))
         }
         _ => false,
     }
 }
 
-fn has_fixed_size(all: &[Found<'_>], fixed: &[bool], shape: Shape) -> bool
-    requires { fixed.now ≡ map is_fixed_entry (map entry_of all.now) }
-    ensures { result ≡ meant.has_fixed_size (map entry_of all.now) shape }
+fn has_fixed_size(marked: &Marked<'_>, shape: Shape) -> bool
+    ensures { result ≡ meant.has_fixed_size (map entry_of marked.now.all.now) shape }
 {
     match shape {
-        Shape::One(base) => is_fixed_base(all, fixed, base),
+        Shape::One(base) => is_fixed_base(marked, base),
         _ => false,
     }
 }
 
-fn is_fixed_base(all: &[Found<'_>], fixed: &[bool], base: Resolved) -> bool
-    requires { fixed.now ≡ map is_fixed_entry (map entry_of all.now) }
-    ensures { result ≡ bases.is_fixed_base (map entry_of all.now) base }
+fn is_fixed_base(marked: &Marked<'_>, base: Resolved) -> bool
+    ensures { result ≡ bases.is_fixed_base (map entry_of marked.now.all.now) base }
 {
     match base {
         Resolved::Declared(number) => {
-            is_scalar(all, base) || (is_composite(all, base) && is_fixed_number(all, fixed, number))
+            is_scalar(marked.all, base)
+                || (is_composite(marked.all, base) && is_fixed_number(marked, number))
         }
-        _ => is_scalar(all, base),
+        _ => is_scalar(marked.all, base),
     }
 }
 
 #[tactic(auto, using(crate::proofs::MemberLoops::fixed_some, crate::proofs::MemberLoops::fixed_none))]
-fn is_fixed_number(all: &[Found<'_>], fixed: &[bool], number: u32) -> bool
-    requires { fixed.now ≡ map is_fixed_entry (map entry_of all.now) }
-    ensures { result ≡ bases.is_fixed_number (map entry_of all.now) number }
+fn is_fixed_number(marked: &Marked<'_>, number: u32) -> bool
+    ensures { result ≡ bases.is_fixed_number (map entry_of marked.now.all.now) number }
 {
-    match fixed.get(number as usize) {
+    match marked.fixed.get(number as usize) {
         Some(fixed) => *fixed,
         None => false,
     }

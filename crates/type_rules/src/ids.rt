@@ -45,7 +45,8 @@ fn add_method<'a>(
     used: TypeUseRef<'a>,
     methods: &mut Vec<&'a MethodTree>,
 ) -> Result<(), OutOfMemory>
-    ensures { OnOk result (map (λ m. method_of m.now) methods.new.items ≡ map (λ m. method_of m.now) methods.old.items ++ typed.methods_at (seen_use used.entry)) }
+    ensures { OnOk result (map (λ m. method_of m.now) methods.new.items ≡ map (λ m. method_of m.now) methods.old.items
+        ++ typed.methods_at (seen_use used.entry)) }
 {
     match used {
         TypeUseRef::Method(method, _) => {

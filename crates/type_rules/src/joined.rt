@@ -8,13 +8,12 @@ ghost use Rattle.declared_names.specs.Entries.{entry_of};
 ghost use Rattle.aidl_syntax.specs.Sources.{source_of};
 ghost use Rattle.type_rules.specs.Breaches as meant;
 ghost use Rattle.type_rules.specs.MethodRules as methods;
-ghost use Rattle.type_uses.specs.Bases.{is_fixed_entry};
 ghost use Rattle.type_uses.specs.TypeUseViews.{seen_use};
 
 use crate::annotation_rules::add_bad_annotations;
 use crate::backing_rule::add_bad_backing;
 use crate::fields::add_bad_fields;
-use crate::fixed::{add_not_fixed, fixed_ones};
+use crate::fixed::{Marked, add_not_fixed, fixed_ones};
 use crate::ids::add_bad_ids;
 use crate::nullable::add_bad_nullables;
 use crate::use_rules::{UseRule, add_where};
@@ -55,8 +54,12 @@ fn add_all(
     ensures { OnOk result (rows.new.items ≡ rows.old.items ++ meant.unsorted (map source_of names.now)) }
 {
     let fixed = fixed_ones(alloc, found)?;
+    let marked = Marked {
+        all: found,
+        fixed: fixed.as_slice(),
+    };
     for (i, f) in found.iter().enumerate() {
-        add_declaration(alloc, names, found, fixed.as_slice(), i as u32, f, rows)?;
+        add_declaration(alloc, names, &marked, i as u32, f, rows)?;
     }
     Ok(())
 }
@@ -65,44 +68,42 @@ fn add_all(
 fn add_declaration(
     alloc: Global,
     names: &Names<'_>,
-    all: &[Found<'_>],
-    fixed: &[bool],
+    marked: &Marked<'_>,
     number: u32,
     found: &Found<'_>,
     rows: &mut Vec<Breach>,
 ) -> Result<(), OutOfMemory>
-    requires all { map entry_of all.now ≡ declarations (map source_of names.now) }
-    requires fixed { fixed.now ≡ map is_fixed_entry (map entry_of all.now) }
+    requires all { map entry_of marked.now.all.now ≡ declarations (map source_of names.now) }
     requires scope { IsScope (map source_of names.now) found.now.file number }
-    ensures { OnOk result (rows.new.items ≡ rows.old.items ++ meant.broken_in (map source_of names.now) number (entry_of found.now)) }
+    ensures { OnOk result (rows.new.items ≡ rows.old.items
+        ++ meant.broken_in (map source_of names.now) number (entry_of found.now)) }
 {
     let uses = listed_uses(alloc, names, found.file, number, &found.tree.body)?;
-    add_broken(alloc, all, fixed, found, uses.as_slice(), rows)
+    add_broken(alloc, marked, found, uses.as_slice(), rows)
 }
 
 fn add_broken(
     alloc: Global,
-    all: &[Found<'_>],
-    fixed: &[bool],
+    marked: &Marked<'_>,
     found: &Found<'_>,
     uses: &[TypeUseRef<'_>],
     rows: &mut Vec<Breach>,
 ) -> Result<(), OutOfMemory>
-    requires { fixed.now ≡ map is_fixed_entry (map entry_of all.now) }
-    ensures { OnOk result (rows.new.items ≡ rows.old.items ++ meant.broken_by (map entry_of all.now) (entry_of found.now) (map seen_use uses.now)) }
+    ensures { OnOk result (rows.new.items ≡ rows.old.items
+        ++ meant.broken_by (map entry_of marked.now.all.now) (entry_of found.now) (map seen_use uses.now)) }
 {
     let oneway = is_oneway_tree(found.tree);
     let file = found.file;
     add_bad_annotations(alloc, found, uses, rows)?;
-    add_bad_nullables(all, file, uses, rows)?;
+    add_bad_nullables(marked.all, file, uses, rows)?;
     add_bad_backing(found, rows)?;
-    add_where(all, oneway, UseRule::Shape, file, uses, rows)?;
-    add_where(all, oneway, UseRule::Direction, file, uses, rows)?;
-    add_where(all, oneway, UseRule::Oneway, file, uses, rows)?;
+    add_where(marked.all, oneway, UseRule::Shape, file, uses, rows)?;
+    add_where(marked.all, oneway, UseRule::Direction, file, uses, rows)?;
+    add_where(marked.all, oneway, UseRule::Oneway, file, uses, rows)?;
     add_bad_ids(alloc, file, uses, rows)?;
-    add_where(all, oneway, UseRule::Constant, file, uses, rows)?;
-    add_bad_fields(all, found, uses, rows)?;
-    add_not_fixed(all, fixed, found, uses, rows)
+    add_where(marked.all, oneway, UseRule::Constant, file, uses, rows)?;
+    add_bad_fields(marked.all, found, uses, rows)?;
+    add_not_fixed(marked, found, uses, rows)
 }
 
 fn is_oneway_tree(tree: &DeclTree) -> bool

@@ -12,5 +12,6 @@ use aidl_syntax::ParsedFile;
 /// breaks E13 to E21 or E24.
 pub fn law_unbroken(files: &[ParsedFile])
     ensures further { (more : List Breach) → in_order (unsorted (map source_of files.now) ++ more) ≡ [] → more ≡ [] }
-    ensures declarations { (more : List Breach) → in_order (unsorted (map source_of files.now) ++ more) ≡ [] → AreUnbroken (map source_of files.now) }
+    ensures declarations { (more : List Breach) → in_order (unsorted (map source_of files.now) ++ more) ≡ []
+        → AreUnbroken (map source_of files.now) }
 {}

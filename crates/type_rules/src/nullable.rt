@@ -24,7 +24,8 @@ pub fn add_bad_nullables(
     uses: &[TypeUseRef<'_>],
     rows: &mut Vec<Breach>,
 ) -> Result<(), OutOfMemory>
-    ensures { OnOk result (rows.new.items ≡ rows.old.items ++ flat_map (meant.bad_nullables_of (map entry_of found.now) file) (map seen_use uses.now)) }
+    ensures { OnOk result (rows.new.items ≡ rows.old.items
+        ++ flat_map (meant.bad_nullables_of (map entry_of found.now) file) (map seen_use uses.now)) }
 {
     for used in uses {
         let nullable = refuses_nullable(found, *used);

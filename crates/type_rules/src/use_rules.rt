@@ -64,7 +64,9 @@ pub fn add_where(
     uses: &[TypeUseRef<'_>],
     rows: &mut Vec<Breach>,
 ) -> Result<(), OutOfMemory>
-    ensures { OnOk result (rows.new.items ≡ rows.old.items ++ broken_where (meant.breaks_of rule (map entry_of found.now) oneway) (meant.rule_of rule) (meant.place_of rule) file (map seen_use uses.now)) }
+    ensures { OnOk result (rows.new.items ≡ rows.old.items
+        ++ broken_where (meant.breaks_of rule (map entry_of found.now) oneway) (meant.rule_of rule) (meant.place_of rule) file
+        (map seen_use uses.now)) }
 {
     for used in uses {
         let broken = breaks(found, oneway, rule, *used);

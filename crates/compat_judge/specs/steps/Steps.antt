@@ -1,5 +1,5 @@
 -- What the steps of the walk add.
-use Rattle.std.specs.Prelude.{ℕ, Bool, List, [], ◌∷◌, ◌++◌, map, Option, Some, None, slice_get}
+use Rattle.std.specs.Prelude.{◌≡◌, ℕ, Bool, List, [], ◌∷◌, ◌++◌, map, Option, Some, None, slice_get}
 use Rattle.std.specs.Borrow.{Bor}
 use Rattle.std.specs.List.{find, flat_map, position_from}
 use Rattle.std.specs.Str.{chars}
@@ -8,9 +8,11 @@ use Rattle.aidl_base.specs.declared.name.Ident.{Ident}
 use Rattle.aidl_schema.specs.declared.schema.Decl.{Decl}
 use Rattle.aidl_schema.specs.declared.schema.Method.{Method}
 use Rattle.aidl_schema.specs.Same.{same_text}
-use Rattle.aidl_schema.specs.Broken.{Break, Place, Rule, of_rule, place_if, C1, C4, C5, C6, C7, C8, C9, C10, C11, C12, C13, C14, C15, C16, C17, C18, C19, if_found, broken_by, same_name}
+use Rattle.aidl_schema.specs.Broken.{Break, Place, Rule, of_rule, place_if, C1, C4, C5, C6, C7, C8, C9, C10, C11, C12, C13, C14, C15, C16, C17, C18, C19, if_found, broken_by, in_both, same_method, same_name}
+use Rattle.aidl_schema.specs.Names.{methods_of}
 use Rattle.compat_judge.specs.declared.findings.Finding.{Finding}
 use Rattle.compat_judge.specs.declared.sides.Common.{Common}
+use Rattle.compat_judge.specs.declared.sides.Pair.{Pair}
 
 -- what a declaration of old breaks
 abbrev pub breaks_of : List Decl → List Decl → Decl → List Break
@@ -27,6 +29,10 @@ break_if rule place breaks x = of_rule rule (place_if (place x) (breaks x))
 -- both methods of one name
 abbrev pub both_of : Common → Method × Method
 both_of c = (c.before.now, c.after.now)
+
+-- They are the methods that both declarations have by their names.
+abbrev pub AreCommon : List Common → Pair → Type 0
+AreCommon common p = map both_of common ≡ in_both same_method (methods_of p.before.now.kind) (methods_of p.after.now.kind)
 
 -- the texts of some names
 abbrev pub names_of : List (Bor Ident) → List (List ℕ)
@@ -45,9 +51,13 @@ abbrev pub item_at : {X : Type 0} → List X → Option ℕ → Option X
 item_at xs None = None
 item_at xs (Some i) = slice_get xs i
 
+-- what a rule of this number gives of a pair
+abbrev pub breaks_at : ℕ → Rule → Pair → List Break
+breaks_at number rule p = of_rule number (rule p.old.now.decls p.before.now p.new.now.decls p.after.now)
+
 -- what some rules give
-abbrev pub breaks_in : List (ℕ × Rule) → List Decl → Decl → List Decl → Decl → List Break
-breaks_in rules old d new e = flat_map (λ r. of_rule r.0 (r.1 old d new e)) rules
+abbrev pub breaks_in : List (ℕ × Rule) → Pair → List Break
+breaks_in rules p = flat_map (λ r. breaks_at r.0 r.1 p) rules
 
 abbrev pub interface_rules : List (ℕ × Rule)
 interface_rules = (4, C4) ∷ (5, C5) ∷ (6, C6) ∷ (7, C7) ∷ (8, C8) ∷ []

@@ -2,11 +2,11 @@ use Rattle.std.proofs.Common.{◌≡◌, IsTrue, map, get_or, sym, ap, subst, �
 use Rattle.std.specs.List.{slice_get}
 use Rattle.std.proofs.lemmas.Result.{IfOk-weaker}
 use Rattle.graph_cycles.specs.Paths.{flag, targets}
-use Rattle.aidl_syntax.specs.Sources.{source_of}
 use Rattle.const_eval.specs.Held.{is_held_outcome}
 use Rattle.const_items.specs.ItemViews.{item_of}
 use Rattle.const_eval.specs.Known.{are_given, values_in, without_value}
 use Rattle.const_eval.specs.Outcomes.{HasOutcome, judgement_of, outcome_of, wanted_of}
+use Rattle.const_eval.specs.TreeViews.{files_of}
 use Rattle.const_eval.proofs.Meant.{item_at}
 use Rattle.const_eval.proofs.OneItem.{by_values, without}
 use Rattle.const_eval.proofs.eval.outcome_of.Goals as goal
@@ -17,7 +17,7 @@ returns-in-Some-clause-exact c =
     let x = c.index-list-number.result in
     let k = c.is_set-unknown.result in
     let g = c.are_given-given.result in
-    without (map source_of c.args.names.now) c.args.items.now.list.items c.requires.all c.args.dependence.now.next.items c.requires.next c.args.on.now c.requires.cycles
+    without (files_of c.args.tree.now) c.args.tree.now.items.now.list.items c.requires.all c.args.dependence.now.next.items c.requires.next c.args.on.now c.requires.cycles
     c.args.dependence.now.unknown.items c.requires.unknown c.args.outcomes.now n x c.requires.within (c.index-list-number.is ∙ ap (λ xs. get_or xs n x) c.list.ensures) c.requires.known
     k g (c.is_set-unknown.ensures ∙ ap (λ bs. flag bs n) c.as_slice.ensures.value)
     (c.are_given-given.ensures ∙ ap (are_given c.args.outcomes.now) (c.targets_of.ensures ∙ ap (λ rows. targets rows n) c.as_slice-2.ensures.value))
@@ -25,12 +25,12 @@ returns-in-Some-clause-exact c =
 
 pub returns-in-None-clause-exact : goal.returns-in-None-clause-exact
 returns-in-None-clause-exact c =
-    let files = map source_of c.args.names.now in
+    let files = files_of c.args.tree.now in
     let n = c.args.number in
     let x = c.index-list-number.result in
     let k = c.is_set-unknown.result in
     let g = c.are_given-given.result in
-    let has = by_values files c.args.items.now.list.items c.requires.all c.args.dependence.now.next.items c.requires.next c.args.on.now c.requires.cycles
+    let has = by_values files c.args.tree.now.items.now.list.items c.requires.all c.args.dependence.now.next.items c.requires.next c.args.on.now c.requires.cycles
     c.args.dependence.now.unknown.items c.requires.unknown c.args.outcomes.now n x c.requires.within (c.index-list-number.is ∙ ap (λ xs. get_or xs n x) c.list.ensures) c.requires.known
     k g (c.is_set-unknown.ensures ∙ ap (λ bs. flag bs n) c.as_slice.ensures.value)
     (c.are_given-given.ensures ∙ ap (are_given c.args.outcomes.now) (c.targets_of.ensures ∙ ap (λ rows. targets rows n) c.as_slice-2.ensures.value))
@@ -40,7 +40,7 @@ returns-in-None-clause-exact c =
 
 pub returns-in-None-clause-held : goal.returns-in-None-clause-held
 returns-in-None-clause-held c =
-    let list = c.args.items.now.list.items in
+    let list = c.args.tree.now.items.now.list.items in
     let n = c.args.number in
     let x = c.index-list-number.result in
     let at = item_at list n x c.requires.within (c.index-list-number.is ∙ ap (λ xs. get_or xs n x) c.list.ensures) in

@@ -1,11 +1,11 @@
-use Rattle.std.proofs.Common.{ℕ, ◌<◌, map, length, Contains, slice_index, sym, ap, subst, arith}
+use Rattle.std.proofs.Common.{ℕ, ◌<◌, length, Contains, slice_index, sym, ap, subst, arith}
 use Rattle.std.specs.List.Sorted.{IsNonDecreasingBy}
 use Rattle.std.proofs.lemmas.List.{length-map}
 use Rattle.graph_cycles.specs.Paths.{Descends, targets}
-use Rattle.aidl_syntax.specs.Sources.{source_of}
 use Rattle.const_items.specs.Items.{items}
 use Rattle.const_items.specs.ItemViews.{item_of}
 use Rattle.const_eval.specs.Known.{IsInTurn}
+use Rattle.const_eval.specs.TreeViews.{files_of}
 use Rattle.const_eval.proofs.Turns.{in_turn}
 use Rattle.const_eval.proofs.eval.outcomes.Goals as goal
 
@@ -16,8 +16,8 @@ in_turn-requires-clause-each c n lt =
 
 pub in_turn-requires-clause-turn : goal.in_turn-requires-clause-turn
 in_turn-requires-clause-turn c =
-    let files = map source_of c.args.names.now in
-    let list = c.args.items.now.list.items in
+    let files = files_of c.args.tree.now in
+    let list = c.args.tree.now.items.now.list.items in
     let rows = c.in_ok-dependence.dependence.next.items in
     let on = c.in_ok-cycles.cycles.on.items in
     let ranks = c.in_ok-cycles.cycles.ranks.items in

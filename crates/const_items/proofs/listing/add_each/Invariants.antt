@@ -7,5 +7,5 @@ use Rattle.const_items.proofs.listing.add_each.Given as goal
 -- the items so far and those of the expressions that are left are all
 abbrev pub invariant-loop-tree : goal.invariant-loop-tree
 invariant-loop-tree l =
-    map item_of l.all.items ++ map (of_expression l.file l.scope l.wanted l.unjudged) (exprs_of (drop l.tree-index l.trees))
-    ≡ map item_of l.fn.all.items ++ map (of_expression l.file l.scope l.wanted l.unjudged) (exprs_of l.trees)
+    map item_of l.all.items ++ map (of_expression l.scope.file l.scope.number l.wanted l.unjudged) (exprs_of (drop l.tree-index l.trees))
+    ≡ map item_of l.fn.all.items ++ map (of_expression l.scope.file l.scope.number l.wanted l.unjudged) (exprs_of l.trees)

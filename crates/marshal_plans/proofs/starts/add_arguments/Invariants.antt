@@ -4,4 +4,4 @@ use Rattle.marshal_plans.proofs.starts.add_arguments.Given as goal
 
 -- with what is left added, all is
 abbrev pub invariant-loop-k : goal.invariant-loop-k
-invariant-loop-k l = with_arguments l.schema.decls l.firsts l.interface l.method l.k l.plans (drop l.k l.arguments) ≡ with_arguments l.schema.decls l.firsts l.interface l.method 0 l.initial.plans l.arguments
+invariant-loop-k l = with_arguments l.schema.decls l.firsts l.numbers.interface l.numbers.method l.k l.plans (drop l.k l.arguments) ≡ with_arguments l.schema.decls l.firsts l.numbers.interface l.numbers.method 0 l.initial.plans l.arguments

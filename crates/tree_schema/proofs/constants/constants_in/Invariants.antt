@@ -12,5 +12,5 @@ use Rattle.tree_schema.proofs.constants.constants_in.Given as goal
 abbrev pub invariant-loop-member : goal.invariant-loop-member
 invariant-loop-member l =
     IsKeyed (λ t. string_bytes t) bytes_of l.by_name.entries
-    × (fold put (values_at l.by_name.entries) (listed_constants (files_of l.tree) (outcomes_of l.tree) l.file l.scope (listed (members_of (drop l.member-index l.members))))
-    ≡ fold put [] (listed_constants (files_of l.tree) (outcomes_of l.tree) l.file l.scope (listed (members_of l.members))))
+    × (fold put (values_at l.by_name.entries) (listed_constants (files_of l.scope.tree) (outcomes_of l.scope.tree) l.scope.file l.scope.number (listed (members_of (drop l.member-index l.members))))
+    ≡ fold put [] (listed_constants (files_of l.scope.tree) (outcomes_of l.scope.tree) l.scope.file l.scope.number (listed (members_of l.members))))

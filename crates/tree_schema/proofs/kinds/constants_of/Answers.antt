@@ -13,8 +13,8 @@ use Rattle.tree_schema.proofs.kinds.constants_of.Goals as goal
 pub returns-in-Enum : goal.returns-in-Enum
 unfolding body_tree.roll-BodyTree denote.Hole.Carrier.roll
 returns-in-Enum c =
-    let files = files_of c.args.tree.now in
-    let outcomes = outcomes_of c.args.tree.now in
-    c.new.ensures ∙ sym (ap (fold put []) (no_constants files outcomes c.args.file c.args.scope (map enumerator_of c.in-Enum.field-0)))
-    ∙ ap (λ (b : Body). constants_in files outcomes c.args.file c.args.scope (members b)) (sym (fold-roll-BodyTree Body (Members → Members) Decl body_step member_step decl_step (BodyTree-F.Enum c.in-Enum.field-0)))
-    ∙ ap (λ (b : BodyTree). constants_in files outcomes c.args.file c.args.scope (members (body_of b))) (sym c.in-Enum.is)
+    let files = files_of c.args.scope.now.tree in
+    let outcomes = outcomes_of c.args.scope.now.tree in
+    c.new.ensures ∙ sym (ap (fold put []) (no_constants files outcomes c.args.scope.now.file c.args.scope.now.number (map enumerator_of c.in-Enum.field-0)))
+    ∙ ap (λ (b : Body). constants_in files outcomes c.args.scope.now.file c.args.scope.now.number (members b)) (sym (fold-roll-BodyTree Body (Members → Members) Decl body_step member_step decl_step (BodyTree-F.Enum c.in-Enum.field-0)))
+    ∙ ap (λ (b : BodyTree). constants_in files outcomes c.args.scope.now.file c.args.scope.now.number (members (body_of b))) (sym c.in-Enum.is)

@@ -6,4 +6,4 @@ use Rattle.tree_schema.proofs.methods.args_in.Given as goal
 
 -- the arguments so far and those that are left are all
 abbrev pub invariant-loop-arg : goal.invariant-loop-arg
-invariant-loop-arg l = l.row.items ++ map (arg_in (files_of l.tree) l.file l.scope) (map arg_of (drop l.arg-index l.args)) ≡ map (arg_in (files_of l.tree) l.file l.scope) (map arg_of l.args)
+invariant-loop-arg l = l.row.items ++ map (arg_in (files_of l.scope.tree) l.scope.file l.scope.number) (map arg_of (drop l.arg-index l.args)) ≡ map (arg_in (files_of l.scope.tree) l.scope.file l.scope.number) (map arg_of l.args)

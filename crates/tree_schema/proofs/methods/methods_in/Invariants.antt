@@ -8,6 +8,6 @@ use Rattle.tree_schema.proofs.methods.methods_in.Given as goal
 -- the methods so far and those that are left are all
 abbrev pub invariant-loop-member : goal.invariant-loop-member
 invariant-loop-member l =
-    (l.methods.items ++ methods_in (files_of l.tree) l.file l.scope l.oneway l.before (listed (members_of (drop l.member-index l.members)))
-    ≡ methods_in (files_of l.tree) l.file l.scope l.oneway 0 (listed (members_of l.members)))
+    (l.methods.items ++ methods_in (files_of l.scope.tree) l.scope.file l.scope.number l.oneway l.before (listed (members_of (drop l.member-index l.members)))
+    ≡ methods_in (files_of l.scope.tree) l.scope.file l.scope.number l.oneway 0 (listed (members_of l.members)))
     × (l.before ≤ l.member-index)

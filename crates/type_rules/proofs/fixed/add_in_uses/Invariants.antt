@@ -9,5 +9,5 @@ use Rattle.type_rules.proofs.fixed.add_in_uses.Given as goal
 -- the breaches so far and those that are left are all
 abbrev pub invariant-loop-used : goal.invariant-loop-used
 invariant-loop-used l =
-    l.rows.items ++ broken_where (is_unfixed (map entry_of l.all)) 24 name_place l.file (map seen_use (drop l.used-index l.uses))
-    ≡ l.fn.rows.items ++ broken_where (is_unfixed (map entry_of l.all)) 24 name_place l.file (map seen_use l.uses)
+    l.rows.items ++ broken_where (is_unfixed (map entry_of l.marked.all.now)) 24 name_place l.file (map seen_use (drop l.used-index l.uses))
+    ≡ l.fn.rows.items ++ broken_where (is_unfixed (map entry_of l.marked.all.now)) 24 name_place l.file (map seen_use l.uses)

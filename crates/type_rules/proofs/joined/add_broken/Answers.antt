@@ -16,7 +16,7 @@ use Rattle.type_rules.proofs.joined.add_broken.Goals as goal
 pub returns : goal.returns
 unfolding broken_by
 returns c =
-    let entries = map entry_of c.args.all.now in
+    let entries = map entry_of c.args.marked.now.all.now in
     let e = entry_of c.args.found.now in
     let uses = map seen_use c.args.uses.now in
     joined c.add_not_fixed.result c.args.rows.now.items c.add_bad_annotations.new.rows.items c.add_bad_nullables.new.rows.items c.add_bad_backing.new.rows.items

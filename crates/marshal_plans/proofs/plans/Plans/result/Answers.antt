@@ -1,8 +1,6 @@
 use Rattle.std.proofs.Common.{None, sym, subst, arith}
-use Rattle.std.specs.Prelude.{MatchOption}
 use Rattle.aidl_schema.proofs.lemmas.Valids.{all_hold}
-use Rattle.marshal_plans.specs.declared.plans.PlanId.{PlanId}
-use Rattle.marshal_plans.specs.Places.{HasStart}
+use Rattle.marshal_plans.specs.Places.{IsItemOfStart}
 use Rattle.marshal_plans.specs.steps.Rising.{AreRising}
 use Rattle.marshal_plans.proofs.Found.{result_stands}
 use Rattle.marshal_plans.proofs.Orders.{are_rising}
@@ -17,9 +15,9 @@ start_at-requires c =
 
 pub returns-clause-start : goal.returns-clause-start
 returns-clause-start c =
-    subst (λ xs. MatchOption c.start_at.result ((id : PlanId) → HasStart xs c.args.interface c.args.method None id → ⊥) (λ id. HasStart xs c.args.interface c.args.method None id)) c.as_slice.ensures c.start_at.ensures
+    subst (λ xs. IsItemOfStart xs c.args.interface c.args.method None c.start_at.result) c.as_slice.ensures c.start_at.ensures
 
 pub returns-clause-stands : goal.returns-clause-stands
 returns-clause-stands c = λ S extra types stand w is.
     result_stands S extra types c.args.self.now stand c.args.interface c.args.method w is c.start_at.result
-    (subst (λ xs. MatchOption c.start_at.result ((id : PlanId) → HasStart xs c.args.interface c.args.method None id → ⊥) (λ id. HasStart xs c.args.interface c.args.method None id)) c.as_slice.ensures c.start_at.ensures)
+    (subst (λ xs. IsItemOfStart xs c.args.interface c.args.method None c.start_at.result) c.as_slice.ensures c.start_at.ensures)
