@@ -34,20 +34,27 @@ use tool_frame::{Early, Exit, Printed, end, existing_file, limit_passed, load};
 use tree_output::check_tree;
 use version_lines::bad_versions;
 
+/// What `ask` is asked: the API, the version with the interface and the code, and the file of the request.
+#[derive(Clone, Copy)]
+pub struct Question<'a> {
+    pub api: &'a str,
+    pub asked: Asked<'a>,
+    pub path: &'a str,
+}
+
 /// Runs `ask API N INTERFACE CODE FILE`, by API and what is asked of version N. The answer is the exit.
 pub fn ask<S: Store, K: Sink, L: Link>(
     alloc: Global,
-    api: &str,
-    asked: Asked<'_>,
-    path: &str,
+    question: Question<'_>,
     store: &mut S,
     sink: &mut K,
     link: &L,
 ) -> Exit
-    ensures { let seen = seen_by S.kept S.fault_record K.told K.fault_record L.log L.is_faithful L.fault_record in
-        Ended (reads_by (AsksFile path.now also AsksVersions api.now) (meant.AskAnswers (words_seen api.now asked.entry) path.now)) (seen store.old sink.old link.now) (seen store.new sink.new link.now) (number_of result) }
+    ensures { let seen = seen_by S.kept S.fault_record K.told K.fault_record L.log L.is_faithful L.fault_record in let question = question.entry in
+        Ended (reads_by (AsksFile question.path.now also AsksVersions question.api.now) (meant.AskAnswers (words_seen question.api.now question.asked) question.path.now))
+        (seen store.old sink.old link.now) (seen store.new sink.new link.now) (number_of result) }
 {
-    let answered = answered(alloc, api, asked, path, store);
+    let answered = answered(alloc, question.api, question.asked, question.path, store);
     end(alloc, answered, sink)
 }
 

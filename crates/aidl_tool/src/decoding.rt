@@ -17,6 +17,7 @@ ghost use Rattle.tool_frame.specs.Seen.{seen_by};
 ghost use Rattle.tool_frame.specs.Trees as frame;
 ghost use Rattle.tool_frame.specs.Results.{GivesOne, held};
 
+use crate::typed_file::TypedFile;
 use aidl_base::{Limit, LimitName, Profile, Row, SourceFile};
 use aidl_outside::{Link, Sink, Store, StoreFault};
 use aidl_schema::Schema;
@@ -29,17 +30,16 @@ use tree_output::check_tree;
 pub fn decode<S: Store, K: Sink, L: Link>(
     alloc: Global,
     profile: Profile,
-    tree: Option<&str>,
-    types: &str,
-    path: &str,
+    asked: TypedFile<'_>,
     store: &mut S,
     sink: &mut K,
     link: &L,
 ) -> Exit
-    ensures { let seen = seen_by S.kept S.fault_record K.told K.fault_record L.log L.is_faithful L.fault_record in
-        Ended (reads_by (AsksFile path.now also AsksOptional (tree_seen tree.entry)) (DecodeAnswers profile (tree_seen tree.entry) types.now path.now)) (seen store.old sink.old link.now) (seen store.new sink.new link.now) (number_of result) }
+    ensures { let seen = seen_by S.kept S.fault_record K.told K.fault_record L.log L.is_faithful L.fault_record in let asked = asked.entry in
+        Ended (reads_by (AsksFile asked.path.now also AsksOptional (tree_seen asked.tree)) (DecodeAnswers profile (tree_seen asked.tree) asked.types.now asked.path.now))
+        (seen store.old sink.old link.now) (seen store.new sink.new link.now) (number_of result) }
 {
-    let answered = answered(alloc, profile, tree, types, path, store);
+    let answered = answered(alloc, profile, asked.tree, asked.types, asked.path, store);
     end(alloc, answered, sink)
 }
 

@@ -16,6 +16,7 @@ mod rehashing;
 mod replaying;
 mod running;
 mod top;
+mod typed_file;
 mod verifying;
 mod witnessing;
 

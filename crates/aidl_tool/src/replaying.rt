@@ -22,20 +22,27 @@ use std::alloc::Global;
 use tool_frame::{Early, Exit, Printed, end, existing_file, files_of, load, load_tree, text_of};
 use tree_output::check_tree;
 
+/// What `replay` is asked: the tree of the server, the interface whose requests are answered, and the trace.
+#[derive(Clone, Copy)]
+pub struct Asked<'a> {
+    pub server: &'a str,
+    pub interface: &'a str,
+    pub trace: &'a str,
+}
+
 /// Runs `replay SERVER INTERFACE TRACE`. The answer is the exit.
 pub fn replay<S: Store, K: Sink, L: Link>(
     alloc: Global,
-    server: &str,
-    interface: &str,
-    trace: &str,
+    asked: Asked<'_>,
     store: &mut S,
     sink: &mut K,
     link: &L,
 ) -> Exit
-    ensures { let seen = seen_by S.kept S.fault_record K.told K.fault_record L.log L.is_faithful L.fault_record in
-        Ended (reads_by (AsksFile trace.now also AsksBelow server.now) (ReplayAnswers server.now interface.now trace.now)) (seen store.old sink.old link.now) (seen store.new sink.new link.now) (number_of result) }
+    ensures { let seen = seen_by S.kept S.fault_record K.told K.fault_record L.log L.is_faithful L.fault_record in let asked = asked.entry in
+        Ended (reads_by (AsksFile asked.trace.now also AsksBelow asked.server.now) (ReplayAnswers asked.server.now asked.interface.now asked.trace.now))
+        (seen store.old sink.old link.now) (seen store.new sink.new link.now) (number_of result) }
 {
-    let answered = answered(alloc, server, interface, trace, store);
+    let answered = answered(alloc, asked.server, asked.interface, asked.trace, store);
     end(alloc, answered, sink)
 }
 

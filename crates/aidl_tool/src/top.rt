@@ -10,7 +10,7 @@ ghost use Rattle.tool_frame.specs.Ended.{Ran};
 ghost use Rattle.tool_frame.specs.Exit.{number_of};
 ghost use Rattle.tool_frame.specs.Seen.{seen_by};
 
-use crate::asking::ask;
+use crate::asking::{Question, ask};
 use crate::checking::check;
 use crate::decoding::decode;
 use crate::dumping::dump;
@@ -20,8 +20,9 @@ use crate::freezing::freeze;
 use crate::judging::judge;
 use crate::making::make;
 use crate::rehashing::rehash;
-use crate::replaying::replay;
+use crate::replaying::{Asked as AskedReplay, replay};
 use crate::running::{Asked as AskedRun, run};
+use crate::typed_file::TypedFile;
 use crate::verifying::verify;
 use crate::witnessing::witness;
 use aidl_base::Profile;
@@ -88,18 +89,21 @@ fn carry_out<S: Store, K: Sink, L: Link>(
             tree,
             types,
             file,
-        } => decode(
-            alloc,
-            profile_of(lenient),
-            tree,
-            types,
-            file,
-            store,
-            sink,
-            link,
-        ),
+        } => {
+            let asked = TypedFile {
+                tree,
+                types,
+                path: file,
+            };
+            decode(alloc, profile_of(lenient), asked, store, sink, link)
+        }
         Command::Encode { tree, types, file } => {
-            encode(alloc, tree, types, file, store, sink, link)
+            let asked = TypedFile {
+                tree,
+                types,
+                path: file,
+            };
+            encode(alloc, asked, store, sink, link)
         }
         Command::Check { tree } => check(alloc, tree, store, sink, link),
         Command::Dump { tree, out } => dump(alloc, tree, out, store, sink, link),
@@ -135,17 +139,34 @@ fn carry_out<S: Store, K: Sink, L: Link>(
                 interface,
                 code,
             };
-            ask(alloc, api, asked, file, store, sink, link)
+            let question = Question {
+                api,
+                asked,
+                path: file,
+            };
+            ask(alloc, question, store, sink, link)
         }
         Command::Rehash { api } => rehash(alloc, api, store, sink, link),
         Command::Explain { tree, types, file } => {
-            explain(alloc, tree, types, file, store, sink, link)
+            let asked = TypedFile {
+                tree,
+                types,
+                path: file,
+            };
+            explain(alloc, asked, store, sink, link)
         }
         Command::Replay {
             server,
             interface,
             trace,
-        } => replay(alloc, server, interface, trace, store, sink, link),
+        } => {
+            let asked = AskedReplay {
+                server,
+                interface,
+                trace,
+            };
+            replay(alloc, asked, store, sink, link)
+        }
         Command::Make { count, out } => make(alloc, count, out, store, sink, link),
     }
 }

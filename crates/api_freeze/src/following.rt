@@ -87,8 +87,8 @@ fn fit(alloc: Global, schema: &Schema, files: &[SourceFile]) -> Result<(), Freez
     ensures { Fits schema.now.decls files.now result }
 {
     match parse_files(alloc, files) {
-        Ok(parsed) => {
-            law_dump_back(schema, parsed.as_slice());
+        Ok(_parsed) => {
+            law_dump_back(schema);
             Ok(())
         }
         Err(FilesFault::Limit(limit)) => Err(FreezeFault::Limit(limit)),

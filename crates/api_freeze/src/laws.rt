@@ -18,7 +18,7 @@ pub fn law_same_dump(first: &Schema, second: &Schema, files: &[SourceFile], pars
     requires same { dump_text first.now.decls ≡ dump_text second.now.decls }
     ensures { first.now.decls ≡ second.now.decls }
 {
-    law_dump_back(first, parsed);
-    law_dump_back(second, parsed);
+    law_dump_back(first);
+    law_dump_back(second);
     law_one_schema(files);
 }

@@ -8,9 +8,9 @@ use Rattle.tool_frame.specs.Answer.{Answer}
 use Rattle.tool_frame.specs.Course.{Course, answer_after, due_after}
 use Rattle.aidl_outside.specs.Parcel.{Parcel, parcel_of}
 
--- The calls that it makes to read from the store. The files that it writes, in order, one list of them or none. The parcel that is due after those that were carried, by what was
--- delivered; None where no more is. And its answers, one or none: while a parcel is due, the text of an answer is what is printed
--- before that one is carried. A command either never carries, whatever the files are, or may.
+-- The calls that it makes to read from the store. The files that it writes, in order, one list of them or none. The parcel that is due after
+-- those that were carried, by what was delivered; None where no more is. And its answers, one or none: while a parcel is due, the text of an
+-- answer is what is printed before that one is carried. A command either never carries, whatever the files are, or may.
 pub record Meaning : Type 1 where
   pub may_carry : Bool
   pub asks : Asks

@@ -8,4 +8,4 @@ use Rattle.aidl_tool.proofs.decoding.decode.Goals as goal
 pub returns : goal.returns
 returns g c =
     let answered = c.answered-answered.ensures in
-    ended_read _ (DecodeAnswers c.args.profile (tree_seen c.args.tree) c.args.types.now c.args.path.now) _ _ answered.unchanged refl refl refl (number_of c.end.result) _ answered.cause answered.failed answered.answer c.end.ensures
+    ended_read _ (DecodeAnswers c.args.profile (tree_seen c.args.asked.tree) c.args.asked.types.now c.args.asked.path.now) _ _ answered.unchanged refl refl refl (number_of c.end.result) _ answered.cause answered.failed answered.answer c.end.ensures

@@ -7,4 +7,4 @@ use Rattle.aidl_tool.proofs.replaying.replay.Goals as goal
 pub returns : goal.returns
 returns g c =
     let answered = c.answered-answered.ensures in
-    ended_read _ (ReplayAnswers c.args.server.now c.args.interface.now c.args.trace.now) _ _ answered.unchanged refl refl refl (number_of c.end.result) _ answered.cause answered.failed answered.answer c.end.ensures
+    ended_read _ (ReplayAnswers c.args.asked.server.now c.args.asked.interface.now c.args.asked.trace.now) _ _ answered.unchanged refl refl refl (number_of c.end.result) _ answered.cause answered.failed answered.answer c.end.ensures
