@@ -2,8 +2,24 @@
 //! and last how many rows there were and how many were wrong. `data/README` says how a row is written.
 #![tactic(auto)]
 
+mod again;
+mod carries;
+mod case;
+mod run;
+mod runs;
+mod sources;
+mod texts;
+mod trees;
+mod tried;
+
+use crate::case::word_of;
+use crate::run::try_run;
+use crate::runs::{Cases, try_runs};
+use crate::sources::try_sources;
+use crate::trees::try_trees;
+use crate::tried::Tried;
 use aidl_base::OutOfMemory;
-use case_runs::{Asked, Cases, Kind, Tried, try_run, try_runs, try_sources, try_trees, word_of};
+use case_sources::{Asked, Kind};
 use std::alloc::Global;
 use std::io::ErrorKind;
 use std::{fs, io};
