@@ -1,7 +1,8 @@
 #!/bin/sh
 # Runs the program on the arguments, in the caller's folder. What is printed and the exit are the program's own; standard error says what an
 # odd exit means, and which folder isn't there. Where a source is newer than the program it is built first, and standard error names each
-# crate that is proved; a build that was cut off goes on where it was. Exit 9 where the build fails, with its messages on standard error.
+# crate that is proved; a build that was cut off goes on where it was, if the kit keeps what it has proved. Exit 9 where the build fails,
+# with its messages on standard error.
 top=$(CDPATH='' cd -- "$(dirname -- "$(readlink -f -- "$0")")" && pwd) || exit 9
 program=$top/crates/aidl/out/aidl
 
