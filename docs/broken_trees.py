@@ -9,6 +9,8 @@ import os
 import sys
 
 SIZES = (250, 500, 1000, 2000, 4090)
+# A record has at most 511 fields, since its default has at most 512 nodes.
+RECORD_SIZES = (64, 128, 256, 511)
 
 
 def put(side, name, text):
@@ -56,7 +58,21 @@ def methods(side, n, form):
     interface(side, "I", (form.format(k) for k in range(n)))
 
 
+def alternatives(side, n, name):
+    """A union with N alternatives, and a method that takes it."""
+    put(side, "U", f"union U {{ {' '.join(f'int {name}{k};' for k in range(n))} }}")
+    interface(side, "I", ["void f(in U u);"])
+
+
+def fields(side, n, name):
+    """A record with N fields, and a method that takes it."""
+    records(side, 1, " ".join(f"int {name}{k};" for k in range(n)))
+    interface(side, "I", ["void f(in R0 r);"])
+
+
 KINDS = {
+    "alternatives": (alternatives, "a", "b"),
+    "fields": (fields, "a", "b"),
     "hidden": (apart, "int a; String s;", "String s; int a;"),
     "shown": (apart, "int a; int b;", "int b; int a;"),
     "together": (together, "int a; int b;", "int b; int a;"),
@@ -69,7 +85,7 @@ KINDS = {
 
 def main():
     for kind, (make, old, new) in KINDS.items():
-        for n in SIZES:
+        for n in RECORD_SIZES if make is fields else SIZES:
             make(f"{sys.argv[1]}/{kind}/{n}/old", n, old)
             make(f"{sys.argv[1]}/{kind}/{n}/new", n, new)
 
