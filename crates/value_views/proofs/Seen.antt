@@ -1,18 +1,21 @@
 -- Views that are collected, and what a loop leaves.
-use Rattle.std.proofs.Common.{rules, ◌≡◌, ℕ, zero, suc, ◌+◌, ◌<◌, ◌≤◌, min, true, false, List, [], ◌∷◌, ◌++◌, map, length, drop, get_or, Option, Some, None, slice_get, refl, ap, sym, ◌∙◌, arith}
-use Rattle.std.specs.Prelude.{option_map}
+use Rattle.std.proofs.Common.{rules, ◌≡◌, ℕ, zero, suc, ◌+◌, ◌<◌, ◌≤◌, nat_lt, Bool, true, false, List, [], ◌∷◌, ◌++◌, map, length, drop, get_or, Option, Some, None, slice_get, refl, ap, sym, ◌∙◌, arith}
+use Rattle.std.specs.Prelude.{option_map, if◌then◌else◌}
+use Rattle.std.proofs.lemmas.Bool.Decides.{nat_tests}
 use Rattle.std.proofs.lemmas.Option.{slice_get_read}
 use Rattle.aidl_schema.specs.declared.schema.AidlType.{AidlType}
 use Rattle.aidl_schema.specs.declared.schema.Decl.{Decl}
 use Rattle.aidl_schema.specs.declared.schema.Field.{Field}
-use Rattle.aidl_schema.specs.Same.{same_text}
 use Rattle.aidl_schema.specs.Types.{form_of}
 use Rattle.aidl_values.specs.Data.{Data, Items, none, item, alt, seq, rec}
 use Rattle.aidl_values.specs.View.{items_of, view, views}
 use Rattle.aidl_values.specs.declared.value.Value.{Value, Seq, Rec, Alt, the_lemmas}
 use Rattle.wire_model.specs.Spell.{parcelable_fields}
-use Rattle.wire_model.specs.View.{agree, item_first, each_field, view_of, view_items, view_named, field_named, in_field, in_place}
-use Rattle.value_views.specs.steps.Seen.{onto, with_seen, field_view, beside}
+use Rattle.aidl_values.specs.Sound.{initial_in}
+use Rattle.wire_model.specs.View.{agree, item_first, each_field, view_of, view_items, view_named, field_named, in_field, in_place, or_initial}
+use Rattle.value_views.specs.steps.Places.{below, place_named}
+use Rattle.value_views.specs.steps.Seen.{onto, with_seen, field_view}
+use Rattle.value_views.proofs.Named.{named_there, seen_beyond, seen_nowhere, seen_there, unnamed}
 
 onto-push : (ds : List Data) (d : Data) (vs : Items) → onto (ds ++ d ∷ []) vs ≡ onto ds (item d vs)
 onto-push [] d vs = refl
@@ -50,11 +53,6 @@ dropped (y ∷ xs) (suc j) x lt e = dropped xs j x (omega arith) e
 pub drop_at : {X : Type 0} (xs : List X) (j : ℕ) (x : X) → j < length xs → x ≡ get_or xs j x → drop j xs ≡ x ∷ drop (j + 1) xs
 drop_at xs j x lt e = let one : suc j ≡ j + 1 = omega arith in dropped xs j x lt e ∙ ap (λ k. x ∷ drop k xs) one
 
-there : {X : Type 0} (xs : List X) (j : ℕ) → j < length xs → (x : X) × (drop j xs ≡ x ∷ drop (suc j) xs)
-there [] j lt = absurd (omega arith)
-there (y ∷ xs) zero lt = (y, refl)
-there (y ∷ xs) (suc j) lt = there xs j (omega arith)
-
 pub drop_all : {X : Type 0} (xs : List X) (j : ℕ) → length xs ≤ j → drop j xs ≡ []
 drop_all [] zero h = refl
 drop_all [] (suc j) h = refl
@@ -69,55 +67,59 @@ next_item A t B u vs j v lt is = ap (λ ys. view_items A t B u (views ys)) (drop
 pub next_field : (F : Field → Option Data) (gs : List Field) (j : ℕ) (g : Field) → j < length gs → g ≡ get_or gs j g → each_field F (drop j gs) ≡ item_first (F g) (each_field F (drop (j + 1) gs))
 next_field F gs j g lt is = ap (each_field F) (drop_at gs j g lt is)
 
--- a field of another name
-pub named_later : (A : List Decl) (fs : List Field) (B : List Decl) (g : Field) (vs : List Value) (j : ℕ) (f : Field) → j < min (length fs) (length vs) → f ≡ get_or fs j f → same_text f.name.0 g.name.0 ≡ false
-    → view_named A (drop (j + 1) fs) B g (views (drop (j + 1) vs)) ≡ view_named A (drop j fs) B g (views (drop j vs))
-named_later A fs B g vs j f lt is differ =
-    let one = drop_at fs j f (omega (arith, lt)) is in
-    let two = there vs j (omega (arith, lt)) in
-    let next : suc j ≡ j + 1 = omega arith in
-    let passes : view_named A (f ∷ drop (j + 1) fs) B g (views (two.0 ∷ drop (suc j) vs)) ≡ view_named A (drop (j + 1) fs) B g (views (drop (suc j) vs)) = rw differ refl in
-    sym (ap (λ xs. view_named A xs B g (views (drop j vs))) one ∙ ap (λ ys. view_named A (f ∷ drop (j + 1) fs) B g (views ys)) two.1 ∙ passes ∙ ap (λ k. view_named A (drop (j + 1) fs) B g (views (drop k vs))) next)
-
-no_fields : (A B : List Decl) (g : Field) (vs : Items) → view_named A [] B g vs ≡ None
-no_fields A B g none = refl
-no_fields A B g (item v vs) = refl
-
--- no field is left
-pub named_nowhere : (A : List Decl) (fs : List Field) (B : List Decl) (g : Field) (vs : List Value) (j : ℕ) → min (length fs) (length vs) ≤ j → view_named A (drop j fs) B g (views (drop j vs)) ≡ None
-named_nowhere A fs B g vs j h = by (drop j fs) refl (drop j vs) refl
-  where
-    length-drop : {X : Type 0} (xs : List X) (j : ℕ) (y : X) (ys : List X) → drop j xs ≡ y ∷ ys → j < length xs
-    length-drop [] zero y ys e = cc
-    length-drop [] (suc j) y ys e = cc
-    length-drop (x ∷ xs) zero y ys e = omega arith
-    length-drop (x ∷ xs) (suc j) y ys e = let later = length-drop xs j y ys e in omega (arith, later)
-
-    by : (xs : List Field) → drop j fs ≡ xs → (ys : List Value) → drop j vs ≡ ys → view_named A xs B g (views ys) ≡ None
-    by [] p ys q = no_fields A B g (views ys)
-    by (x ∷ xs) p [] q = refl
-    by (x ∷ xs) p (y ∷ ys) q = absurd (omega (arith, h, length-drop fs j x xs p, length-drop vs j y ys q))
-
--- the place of a name
-pub named_here : (name : List ℕ) (fs : List Field) (i : ℕ) (f : Field) → i < length fs → f ≡ get_or fs i f → same_text name f.name.0 ≡ true → field_named i name (drop i fs) ≡ beside i (slice_get fs i)
-named_here name fs i f lt is yes' =
-    let here : field_named i name (f ∷ drop (i + 1) fs) ≡ Some (i, f) = rw yes' refl in
-    ap (field_named i name) (drop_at fs i f lt is) ∙ here ∙ ap (beside i) (sym (slice_get_read fs (length fs) i f refl lt is))
-
 -- the view of an alternative, by its parts
-pub alternative : (A B : List Decl) (sent : Option Field) (fields : List Field) (k : ℕ) (f g : Field) (v : Data) → sent ≡ Some f → field_named 0 f.name.0 fields ≡ beside k (slice_get fields k) → slice_get fields k ≡ Some g
-    → in_field sent (λ f. in_place (field_named 0 f.name.0 fields) (λ j g. option_map (alt j) (view_of A f.ty B g.ty v))) ≡ option_map (alt k) (view_of A f.ty B g.ty v)
-alternative A B sent fields k f g v at named there =
-    ap (λ o. in_field o (λ f. in_place (field_named 0 f.name.0 fields) (λ j g. option_map (alt j) (view_of A f.ty B g.ty v)))) at
-    ∙ ap (λ o. in_place o (λ j g. option_map (alt j) (view_of A f.ty B g.ty v))) (named ∙ ap (beside k) there)
+module _ (A B : List Decl) (sent : Option Field) (f : Field) (at : sent ≡ Some f) (v : Data) (fields : List Field) where
+  abbrev alternative_of : Option Field → Option Data
+  alternative_of o = in_field o (λ f. in_place (field_named 0 f.name.0 fields) (λ j g. option_map (alt j) (view_of A f.ty B g.ty v)))
+
+  abbrev placed_at : Option (ℕ × Field) → Option Data
+  placed_at o = in_place o (λ j g. option_map (alt j) (view_of A f.ty B g.ty v))
+
+  pub alternative : (fs : List Field) (k : ℕ) (g : Field) (o : Option Data) → fs ≡ fields → Some k ≡ place_named f.name.0 fields → k < length fields → g ≡ get_or fs k g → view_of A f.ty B g.ty v ≡ o
+      → option_map (alt k) o ≡ alternative_of sent
+  alternative fs k g o are named lt is seen =
+      let read : slice_get fs k ≡ Some g = slice_get_read fs (length fields) k g (sym (ap length are)) lt is in
+      let there : slice_get fields k ≡ Some g = ap (λ xs. slice_get xs k) (sym are) ∙ read in
+      sym (ap alternative_of at ∙ ap placed_at (named_there f.name.0 fields k g (sym named) there) ∙ ap (option_map (alt k)) seen)
+
+  pub no_alternative : None ≡ place_named f.name.0 fields → None ≡ alternative_of sent
+  no_alternative missing = sym (ap alternative_of at ∙ ap placed_at (unnamed f.name.0 fields (sym missing)))
+
+-- the view of a field, by its parts
+module _ (A B : List Decl) (g : Field) (fields : List Field) (vs : List Value) where
+  pub nowhere_seen : (o : Option ℕ) → o ≡ below (length vs) (place_named g.name.0 fields) → o ≡ None → Some (initial_in B g) ≡ field_view A fields B (views vs) g
+  nowhere_seen o at missing = sym (ap (λ s. or_initial s (initial_in B g)) (by (place_named g.name.0 fields) refl (sym at ∙ missing)))
+    where
+      by_test : (i : ℕ) (b : Bool) → nat_lt i (length vs) ≡ b → place_named g.name.0 fields ≡ Some i → (if b then Some i else None) ≡ None → view_named A fields B g (views vs) ≡ None
+      by_test i true lt is e = cc
+      by_test i false lt is e = seen_beyond A B g fields vs i is (grind (arith, nat_tests))
+
+      by : (p : Option ℕ) → place_named g.name.0 fields ≡ p → below (length vs) p ≡ None → view_named A fields B g (views vs) ≡ None
+      by None is e = seen_nowhere A B g fields vs is
+      by (Some i) is e = by_test i (nat_lt i (length vs)) refl is e
+
+  was_below : (n k : ℕ) (p : Option ℕ) → Some k ≡ below n p → p ≡ Some k
+  was_below n k None e = cc
+  was_below n k (Some i) e = by (nat_lt i n) e
+    where
+      by : (b : Bool) → Some k ≡ (if b then Some i else None) → ◌≡◌ {A = Option ℕ} (Some i) (Some k)
+      by true e = sym e
+      by false e = cc
+
+  pub there_seen : (k : ℕ) (fs : List Field) (f : Field) (v : Value) → Some k ≡ below (length vs) (place_named g.name.0 fields) → fs ≡ fields → k < length fields → f ≡ get_or fs k f → k < length vs → v ≡ get_or vs k v
+      → view_of A f.ty B g.ty (view v) ≡ field_view A fields B (views vs) g
+  there_seen k fs f v at are lt is few has =
+      let read : slice_get fs k ≡ Some f = slice_get_read fs (length fields) k f (sym (ap length are)) lt is in
+      let there : slice_get fields k ≡ Some f = ap (λ xs. slice_get xs k) (sym are) ∙ read in
+      sym (ap (λ s. or_initial s (initial_in B g)) (seen_there A B g fields vs k f v (was_below (length vs) k (place_named g.name.0 fields) at) there (slice_get_read vs (length vs) k v refl few has)))
 
 -- the view of a record, by its parts
-pub record_view : (A : List Decl) (t : AidlType) (B : List Decl) (u : AidlType) (sent fields : List Field) (vs ws : List Value) (seen : Option (List Value)) → agree A t B u ≡ true
-    → sent ≡ parcelable_fields (form_of A t.base) → fields ≡ parcelable_fields (form_of B u.base) → ws ≡ vs → option_map views seen ≡ each_field (λ g. field_view A sent B (views ws) g) fields
+pub record_view : (A : List Decl) (t : AidlType) (B : List Decl) (u : AidlType) (fields : List Field) (vs ws : List Value) (seen : Option (List Value)) → agree A t B u ≡ true
+    → fields ≡ parcelable_fields (form_of B u.base) → ws ≡ vs → option_map views seen ≡ each_field (λ g. field_view A (parcelable_fields (form_of A t.base)) B (views ws) g) fields
     → option_map rec (option_map views seen) ≡ view_of A t B u (rec (views vs))
-record_view A t B u sent fields vs ws seen same_kind is_sent is_fields is e =
+record_view A t B u fields vs ws seen same_kind is_fields is e =
     let there : view_of A t B u (rec (views vs)) ≡ option_map rec (each_field (λ g. field_view A (parcelable_fields (form_of A t.base)) B (views vs) g) (parcelable_fields (form_of B u.base))) = rw same_kind refl in
-    ap (option_map rec) (e ∙ ap (λ xs. each_field (λ g. field_view A xs B (views ws) g) fields) is_sent ∙ ap (λ ys. each_field (λ g. field_view A (parcelable_fields (form_of A t.base)) B (views ws) g) ys) is_fields
+    ap (option_map rec) (e ∙ ap (λ ys. each_field (λ g. field_view A (parcelable_fields (form_of A t.base)) B (views ws) g) ys) is_fields
     ∙ ap (λ zs. each_field (λ g. field_view A (parcelable_fields (form_of A t.base)) B (views zs) g) (parcelable_fields (form_of B u.base))) is) ∙ sym there
 
 -- the data of one level

@@ -1,3 +1,5 @@
 -- What the code's steps do, for inner contracts: no contract of a function that the crate exports cites it.
+pub mod Places
 pub mod Same
 pub mod Seen
+pub mod Tables

@@ -1,8 +1,8 @@
 use Rattle.std.proofs.Common.{◌≡◌, ℕ, List, drop}
 use Rattle.std.specs.Str.{bytes_eq}
 use Rattle.indexmap.specs.IndexMap.{get_by}
-use Rattle.witness_calls.specs.steps.Tables.{field_from}
-use Rattle.witness_calls.proofs.named_decl.fields_by_name.Given as goal
+use Rattle.value_views.specs.steps.Tables.{field_from}
+use Rattle.value_views.proofs.decl_fields.fields_by_name.Given as goal
 
 -- the fields from i on
 abbrev pub invariant-loop-i : goal.invariant-loop-i
