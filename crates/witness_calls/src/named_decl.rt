@@ -13,7 +13,8 @@ use indexmap::IndexMap;
 use std::alloc::Global;
 use std::marker::Model;
 
-/// A declaration with the positions of its methods by their names and by their ids. Contracts see it as the declaration.
+/// A declaration with the positions of its methods by their names and by their ids. Contracts see it as the
+/// declaration.
 #[derive(Drop)]
 pub struct NamedDecl<'a> {
     decl: &'a Decl,

@@ -45,7 +45,8 @@ pub fn method_like(
     }
 }
 
-/// The position of the method of an interface of the server that has the transaction code of a client's method. It takes no memory.
+/// The position of the method of an interface of the server that has the transaction code of a client's method. It
+/// takes no memory.
 pub fn method_called(
     client: &VersionMethod<'_, '_>,
     server: &Version<'_>,
