@@ -34,7 +34,8 @@ impl<'a> Model for DeclFields<'a> {
 
     ghost view = { λ named. named.decl.now };
 
-    ghost invariant = { λ named. (q : List ℕ) → get_by (λ k. bytes_eq q k.now) named.places ≡ field_from q 0 (fields_of named.decl.now.kind) };
+    ghost invariant = { λ named. (q : List ℕ)
+        → get_by (λ k. bytes_eq q k.now) named.places ≡ field_from q 0 (fields_of named.decl.now.kind) };
 }
 
 impl<'a> DeclFields<'a> {

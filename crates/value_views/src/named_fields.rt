@@ -9,8 +9,8 @@ use aidl_schema::{Decl, Schema};
 use std::alloc::Global;
 use std::marker::Model;
 
-/// A schema with tables that find the fields of its declarations by their names, made once for all values. Contracts see it as the
-/// schema's declarations.
+/// A schema with tables that find the fields of its declarations by their names, made once for all values.
+/// Contracts see it as the schema's declarations.
 #[derive(Drop)]
 pub struct NamedFields<'a> {
     schema: &'a Schema,
@@ -55,7 +55,8 @@ impl<'a> NamedFields<'a> {
         self.tables.as_slice().get(number as usize)
     }
 
-    /// The position of the field of a name, which is in UTF-8, in a parcelable or union; None of another kind. It takes no memory.
+    /// The position of the field of a name, which is in UTF-8, in the parcelable or union of a number. It takes
+    /// no memory.
     pub fn field_named(&self, number: u32, name: &str) -> Option<usize>
         ensures { result ≡ field_named (fields_at self.now number) name.now }
     {

@@ -9,8 +9,9 @@ use crate::rows::{
 use aidl_values::Value;
 use compat_judge::same_text;
 
-/// Whether two values are the same data: equal truth values, numbers and texts, and parts that are the same one by one, in whichever form a sequence
-/// is kept. It needs no type, takes no memory and stops at the first difference (own).
+/// Whether two values are the same data: equal truth values, numbers and texts, and parts that are the same one
+/// by one, in whichever form a sequence is kept. It needs no type, takes no memory and stops at the first
+/// difference (own).
 pub fn same_value(a: &Value, b: &Value) -> bool
     ensures { IsTrue result ↔ (view a.now ≡ view b.now) }
 {

@@ -19,9 +19,10 @@ use aidl_values::{Numbers, Value, initial_of};
 use compat_judge::same_type;
 use std::alloc::Global;
 
-/// What a value that a sender spells by its type `t` is to a receiver that reads it by its type `u`, exactly *View*: fields and alternatives go by
-/// their names, a field that the sender lacks has its default, and one that the receiver lacks is dropped. None where there is nothing that it could
-/// be: at some part the types aren't the same or declare different kinds, or an alternative is none of the sender's or has a name that the receiver
+/// What a value that a sender spells by its type `t` is to a receiver that reads it by its type `u`, exactly
+/// *View*: fields and alternatives go by their names, a field that the sender lacks has its default, and one that
+/// the receiver lacks is dropped. None where there is nothing that it could be: at some part the types aren't the
+/// same or declare different kinds, or an alternative is none of the sender's or has a name that the receiver
 /// lacks (own). `OutOfMemory` is the one refusal.
 #[cycle(viewing)]
 pub fn view_value(
@@ -179,7 +180,8 @@ fn view_record(
     Ok(Some(Row::from_vec(seen)))
 }
 
-// What a field of the receiver is seen as: the view of the sender's field of its name, or its default where there is none.
+// What a field of the receiver is seen as: the view of the sender's field of its name, or its default where there
+// is none.
 #[cycle(viewing)]
 fn view_field(
     alloc: Global,
@@ -214,7 +216,8 @@ fn some_initial(
     Ok(Some(value))
 }
 
-// The view of an alternative, which is that of the receiver's field of the same name: None where there is no such field, or no view of what it holds.
+// The view of an alternative, which is that of the receiver's field of the same name: None where there is no such
+// field, or no view of what it holds.
 #[cycle(viewing)]
 fn view_alternative(
     alloc: Global,

@@ -1,14 +1,15 @@
 -- What a call shows, by its two sides.
 use Rattle.std.proofs.Common.{◌≡◌, ℕ, ◌<◌, zero, suc, Bool, true, false, List, [], ◌∷◌, length, Option, Some, None, slice_get, refl, sym, ap, ◌∙◌, subst, arith}
-use Rattle.std.specs.Prelude.{if◌then◌else◌, Err}
+use Rattle.std.specs.Prelude.{ℤ, if◌then◌else◌, Result, Err}
 use Rattle.aidl_base.specs.declared.profile.Profile.TheVariants.{Strict}
 use Rattle.aidl_schema.specs.declared.schema.Decl.{Decl}
 use Rattle.aidl_schema.specs.declared.schema.Method.{Method}
-use Rattle.aidl_schema.specs.Find.{methods_at}
+use Rattle.aidl_schema.specs.Find.{methods_at, position_of_code}
 use Rattle.aidl_values.specs.Data.{Items}
 use Rattle.stub_dispatch.specs.Callees.{MethodOf}
 use Rattle.wire_model.specs.Calls.{AnswerData, code_of, descriptor, method_at}
 use Rattle.wire_model.specs.Outcome.{declared_as, method_like}
+use Rattle.wire_model.specs.Receiver.{Received}
 unfoldable use Rattle.wire_model.specs.Receiver.{stub}
 use Rattle.wire_model.specs.Status.{unknown_transaction}
 use Rattle.compat_witness.specs.Candidates.{Candidate, request, reply, ValuesFit, IsAnswerAt, IsAnswerOf, answer_bytes, at_method, bytes_of, client_of, server_of, counterpart, read_side, projected_side}
@@ -103,9 +104,21 @@ no_like None ws e = refl
 no_like (Some v) ws e = cc
 
 -- the code is nobody's
-refused : (B : List Decl) (j code : ℕ) (b : List ℕ) → code ≡ 0 → stub Strict B j code b ≡ Err unknown_transaction
+refused : (B : List Decl) (j code : ℕ) (b : List ℕ) → position_of_code (methods_at B j) code ≡ None → stub Strict B j code b ≡ Err unknown_transaction
 unfolding stub
-refused B j code b e = let none = no_code (methods_at B j) in rw (e, none) refl
+refused B j code b e = rw e refl
+
+pub nobody_called : (B : List Decl) (j code : ℕ) (b : List ℕ) → None ≡ position_of_code (methods_at B j) code → transport unknown_transaction ≡ side_of (stub Strict B j code b)
+nobody_called B j code b e = sym (ap side_of (refused B j code b (sym e)))
+
+-- what the method of the code makes of it
+pub somebody_called : (B : List Decl) (j code : ℕ) (b : List ℕ) (n : ℕ) (s : MethodOf) (received : Result Received ℤ) (seen : Side)
+    → Some n ≡ position_of_code (methods_at B j) code → s ≡ record { decls = B; interface = j; method = n }
+    → ((q : ℕ) → position_of_code (methods_at s.decls s.interface) q ≡ Some s.method → received ≡ stub Strict s.decls s.interface q b) → seen ≡ side_of received
+    → seen ≡ side_of (stub Strict B j code b)
+somebody_called B j code b n s received seen at is of e =
+    let By : MethodOf → Type 0 = λ z. (q : ℕ) → position_of_code (methods_at z.decls z.interface) q ≡ Some z.method → received ≡ stub Strict z.decls z.interface q b in
+    e ∙ ap side_of (subst By is of code (sym at))
 
 lacks : (A : List Decl) (i m : ℕ) (B : List Decl) (j : ℕ) (args : Items) → declared_as B (descriptor A i) ≡ Some j → method_like (method_at A i m) (methods_at B j) ≡ None
     → projected_request A i m B args ≡ transport unknown_transaction
@@ -126,7 +139,7 @@ no_method A i m B args b h = by_declared (declared_as B (descriptor A i)) refl
     by_declared None at = ap (λ o. side_of (received_by B o (code_of (method_at A i m)) b)) at ∙ sym (lacks_all A i m B args at)
     by_declared (Some j) at =
         ap (λ o. side_of (received_by B o (code_of (method_at A i m)) b)) at
-        ∙ ap side_of (refused B j (code_of (method_at A i m)) b (ap code_of none))
+        ∙ ap side_of (refused B j (code_of (method_at A i m)) b (ap (λ q. position_of_code (methods_at B j) q) (ap code_of none) ∙ no_code (methods_at B j)))
         ∙ sym (lacks A i m B j args at (no_like (method_at A i m) (methods_at B j) none))
 
 no_counterpart : (A : List Decl) (i m : ℕ) (B : List Decl) → (m < length (methods_at A i) → ⊥) → counterpart A i m B ≡ None

@@ -1,5 +1,5 @@
 -- What a valid schema gives of its methods.
-use Rattle.std.proofs.Common.{◌≡◌, ℕ, zero, suc, ◌<◌, ◌≤◌, Bool, true, List, [], ◌∷◌, length, get_or, Option, Some, None, slice_get, refl, sym, ap, ◌∙◌}
+use Rattle.std.proofs.Common.{◌≡◌, ℕ, zero, suc, ◌<◌, Bool, true, List, [], ◌∷◌, length, get_or, Option, Some, None, slice_get, refl, sym, ap, ◌∙◌}
 use Rattle.std.specs.List.{list_all}
 use Rattle.std.proofs.lemmas.Option.{slice_get_read}
 use Rattle.aidl_base.proofs.lemmas.Tests.{both}
@@ -23,7 +23,6 @@ all_at p (y ∷ xs) (suc i) x all at = all_at p xs i x (both (p y) (list_all p x
 pub record IsTyped (S : List Decl) (w : Method) : Type 0 where
   pub passed : list_all (λ a. is_passed_type S a.ty) w.args ≡ true
   pub returned : is_result_type S w.result ≡ true
-  pub small : w.id ≤ 16777114
 
 pub typed : (S : List Decl) → AllHold S → (i m : ℕ) (w : Method) → method_at S i m ≡ Some w → IsTyped S w
 typed S hold i m w e = by_decl (slice_get S i) refl e
@@ -31,7 +30,7 @@ typed S hold i m w e = by_decl (slice_get S i) refl e
     in_decl : (d : Decl) → slice_get S i ≡ Some d → slice_get (methods_of d.kind) m ≡ Some w → IsTyped S w
     in_decl d at is =
         let parts = both (is_result_type S w.result) (list_all (λ a. is_passed_type S a.ty) w.args) (all_at (λ x. has_method_types S x) (methods_of d.kind) m w (hold i d at).method_types is) in
-        record { passed = parts.1; returned = parts.0; small = (hold i d at).small_ids m w is }
+        record { passed = parts.1; returned = parts.0 }
 
     by_decl : (o : Option Decl) → slice_get S i ≡ o → slice_get (methods_of_decl o) m ≡ Some w → IsTyped S w
     by_decl None at is = cc

@@ -13,25 +13,25 @@ ghost use Rattle.witness_calls.specs.steps.Positions.{argument_seen};
 
 use crate::ends::Ends;
 use aidl_base::{OutOfMemory, Row};
-use aidl_schema::{AidlType, Arg, Direction, Schema};
+use aidl_schema::{AidlType, Arg, Direction};
 use aidl_values::{Value, default_of};
 use compat_judge::same_type;
 use std::alloc::Global;
 use stub_dispatch::opening;
-use value_views::view_value;
+use value_views::{NamedFields, view_value};
 
 /// What the server's method, whose arguments are `wanted`, sees of the arguments `sent`, by position; None where one has no view.
 #[tactic(auto, using(crate::proofs::Types::passed_at))]
 pub fn project_arguments(
     alloc: Global,
-    ends: &Ends<'_>,
+    ends: &Ends<'_, '_, '_>,
     sent: &[Arg],
     wanted: &[Arg],
     values: &[Value],
 ) -> Result<Option<Row<Value>>, OutOfMemory>
-    requires { list_all (λ a. is_passed_type ends.now.receiver.now.decls a.ty) wanted.now ≡ true }
+    requires { list_all (λ a. is_passed_type ends.now.receiver.now a.ty) wanted.now ≡ true }
     ensures { IfOk result (λ o. option_map views o
-        ≡ projected_arguments ends.now.sender.now.decls sent.now ends.now.receiver.now.decls wanted.now
+        ≡ projected_arguments ends.now.sender.now sent.now ends.now.receiver.now wanted.now
         (views values.now)) }
 {
     let mut seen = Vec::with_capacity(alloc, wanted.len())?;
@@ -63,14 +63,14 @@ fn value_at(values: &[Value], k: usize) -> Option<&Value>
 // What it sees of one, where the client may have no argument at its position.
 fn project_argument(
     alloc: Global,
-    ends: &Ends<'_>,
+    ends: &Ends<'_, '_, '_>,
     sent: Option<&Arg>,
     wanted: &Arg,
     value: Option<&Value>,
 ) -> Result<Option<Value>, OutOfMemory>
-    requires { is_type ends.now.receiver.now.decls wanted.now.ty ≡ true }
+    requires { is_type ends.now.receiver.now wanted.now.ty ≡ true }
     ensures { IfOk result (λ o. option_map view o
-        ≡ argument_seen ends.now.sender.now.decls (option_copied sent.entry) ends.now.receiver.now.decls wanted.now
+        ≡ argument_seen ends.now.sender.now (option_copied sent.entry) ends.now.receiver.now wanted.now
         (option_map view (option_copied value.entry))) }
 {
     let Some(sent) = sent else {
@@ -85,18 +85,25 @@ fn project_argument(
 // What it sees of an argument that both methods have.
 fn project_sent(
     alloc: Global,
-    ends: &Ends<'_>,
+    ends: &Ends<'_, '_, '_>,
     sent: &Arg,
     wanted: &Arg,
     value: &Value,
 ) -> Result<Option<Value>, OutOfMemory>
-    requires { is_type ends.now.receiver.now.decls wanted.now.ty ≡ true }
+    requires { is_type ends.now.receiver.now wanted.now.ty ≡ true }
     ensures { IfOk result (λ o. option_map view o
-        ≡ projected_argument ends.now.sender.now.decls sent.now ends.now.receiver.now.decls wanted.now (view value.now)) }
+        ≡ projected_argument ends.now.sender.now sent.now ends.now.receiver.now wanted.now (view value.now)) }
 {
     if is_out(wanted.way) {
-        if is_out(sent.way) && same_type(ends.sender, sent.ty, ends.receiver, wanted.ty) {
-            let opened = opening(alloc, ends.receiver, wanted.ty, sent_length(value))?;
+        if is_out(sent.way)
+            && same_type(
+                ends.sender.schema(),
+                sent.ty,
+                ends.receiver.schema(),
+                wanted.ty,
+            )
+        {
+            let opened = opening(alloc, ends.receiver.schema(), wanted.ty, sent_length(value))?;
             return Ok(Some(opened));
         }
         return some_default(alloc, ends.receiver, wanted.ty);
@@ -110,13 +117,13 @@ fn project_sent(
 /// The default of a type.
 pub fn some_default(
     alloc: Global,
-    schema: &Schema,
+    named: &NamedFields<'_>,
     ty: AidlType,
 ) -> Result<Option<Value>, OutOfMemory>
-    requires { is_type schema.now.decls ty ≡ true }
-    ensures { IfOk result (λ o. option_map view o ≡ Some (zero_in schema.now.decls ty)) }
+    requires { is_type named.now ty ≡ true }
+    ensures { IfOk result (λ o. option_map view o ≡ Some (zero_in named.now ty)) }
 {
-    let value = default_of(alloc, schema, &ty)?;
+    let value = default_of(alloc, named.schema(), &ty)?;
     Ok(Some(value))
 }
 

@@ -1,10 +1,10 @@
-//! The schemas between which values go.
+//! The versions between which values go.
 
-use aidl_schema::Schema;
+use value_views::NamedFields;
 
-/// The schema that sends values, and the one that sees them.
+/// The version that sends values, and the one that sees them.
 #[derive(Drop)]
-pub struct Ends<'a> {
-    pub sender: &'a Schema,
-    pub receiver: &'a Schema,
+pub struct Ends<'e, 's, 'r> {
+    pub sender: &'e NamedFields<'s>,
+    pub receiver: &'e NamedFields<'r>,
 }

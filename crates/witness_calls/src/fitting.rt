@@ -7,10 +7,11 @@ ghost use Rattle.wire_model.specs.Calls.{answer_of, optional_view, outs_of};
 ghost use Rattle.wire_model.specs.Requests.{ArgsFit, ArgumentFits, ArgumentsFit, EachFits, ExceptionFits, IsAnswer, IsLength, ResultFits, asked_length, sum_of_lengths};
 
 use crate::arguments::is_out;
+use crate::version_method::VersionMethod;
 use aidl_base::Text;
 use aidl_schema::{AidlType, Arg, Schema, is_array};
 use aidl_values::{Answer, Value, depth, has_type};
-use stub_dispatch::{Callee, SERVICE_SPECIFIC, comes_back};
+use stub_dispatch::{SERVICE_SPECIFIC, comes_back};
 
 // The most that the lengths of the `out` arrays of a request may add up to.
 const MOST_ITEMS: usize = 65_536;
@@ -19,7 +20,7 @@ const MOST_ITEMS: usize = 65_536;
 const MOST_LEVELS: usize = 64;
 
 /// Whether arguments fit a method. It takes no memory.
-pub fn args_fit(client: &Callee<'_>, values: &[Value]) -> bool
+pub fn args_fit(client: &VersionMethod<'_, '_>, values: &[Value]) -> bool
     ensures { IsTrue result ↔ ArgsFit client.now.decls client.now.interface client.now.method (views values.now) }
 {
     let args = client.declared().args.as_slice();
@@ -136,7 +137,7 @@ fn asked_length(arg: &Arg, value: &Value) -> usize
 
 /// Whether an answer is one of a method. It takes no memory.
 #[tactic(auto, using(crate::proofs::Tests::first_fails, crate::proofs::Tests::second))]
-pub fn is_answer(server: &Callee<'_>, answer: &Answer) -> bool
+pub fn is_answer(server: &VersionMethod<'_, '_>, answer: &Answer) -> bool
     ensures { IsTrue result ↔ IsAnswer server.now.decls server.now.interface server.now.method (answer_of answer.now) }
 {
     match answer {

@@ -15,6 +15,7 @@ mod same;
 mod showing;
 mod sides;
 mod version;
+mod version_method;
 mod weighing;
 
 pub use call::Call;

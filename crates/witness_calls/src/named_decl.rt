@@ -1,27 +1,25 @@
-//! A declaration with tables that find its methods and its fields.
+//! A declaration with tables that find its methods.
 ghost use Rattle.std.specs.Prelude.{◌≡◌, ◌+◌, ℕ, List, IfOk, is_none, nat_eq, not};
 ghost use Rattle.std.specs.Str.{bytes_eq};
 ghost use Rattle.indexmap.specs.IndexMap.{get, get_by};
-ghost use Rattle.aidl_schema.specs.Containment.{fields_of};
 ghost use Rattle.aidl_schema.specs.Find.{position_of_code};
 ghost use Rattle.aidl_schema.specs.Names.{methods_of};
-ghost use Rattle.witness_calls.specs.Named.{field_named, method_named};
-ghost use Rattle.witness_calls.specs.steps.Tables.{field_from, id_from, method_from};
+ghost use Rattle.witness_calls.specs.Named.{method_named};
+ghost use Rattle.witness_calls.specs.steps.Tables.{id_from, method_from};
 
 use aidl_base::OutOfMemory;
-use aidl_schema::{Decl, Field, Method, fields_of, methods_of};
+use aidl_schema::{Decl, Method, methods_of};
 use indexmap::IndexMap;
 use std::alloc::Global;
 use std::marker::Model;
 
-/// A declaration with the positions of its methods by their names and by their ids, and those of its fields by their names. Contracts
-/// see it as the declaration.
+/// A declaration with the positions of its methods by their names and by their ids. Contracts see it as the
+/// declaration.
 #[derive(Drop)]
 pub struct NamedDecl<'a> {
     decl: &'a Decl,
     methods: IndexMap<&'a str, usize>,
     ids: IndexMap<u32, usize>,
-    fields: IndexMap<&'a str, usize>,
 }
 
 impl<'a> Model for NamedDecl<'a> {
@@ -30,9 +28,8 @@ impl<'a> Model for NamedDecl<'a> {
     ghost use Rattle.indexmap.specs.IndexMap.{get, get_by};
     ghost use Rattle.aidl_schema.specs.contracts.schema.Decl as declared;
     ghost use Rattle.aidl_schema.specs.declared.schema.Decl.{Decl};
-    ghost use Rattle.aidl_schema.specs.Containment.{fields_of};
     ghost use Rattle.aidl_schema.specs.Names.{methods_of};
-    ghost use Rattle.witness_calls.specs.steps.Tables.{field_from, id_from, method_from};
+    ghost use Rattle.witness_calls.specs.steps.Tables.{id_from, method_from};
 
     ghost Value = { Decl };
 
@@ -43,7 +40,6 @@ impl<'a> Model for NamedDecl<'a> {
     ghost invariant = { λ named. record {
       methods : (q : List ℕ) → get_by (λ k. bytes_eq q k.now) named.methods ≡ method_from q 0 (methods_of named.decl.now.kind);
       ids : (n : ℕ) → get nat_eq named.ids n ≡ id_from n 0 (methods_of named.decl.now.kind);
-      fields : (q : List ℕ) → get_by (λ k. bytes_eq q k.now) named.fields ≡ field_from q 0 (fields_of named.decl.now.kind);
     } };
 }
 
@@ -55,13 +51,7 @@ impl<'a> NamedDecl<'a> {
         let members = methods_of(&decl.kind);
         let methods = methods_by_name(alloc, members)?;
         let ids = methods_by_id(alloc, members)?;
-        let fields = fields_by_name(alloc, fields_of(&decl.kind))?;
-        Ok(NamedDecl {
-            decl,
-            methods,
-            ids,
-            fields,
-        })
+        Ok(NamedDecl { decl, methods, ids })
     }
 
     // The position of the method of a name, which is in UTF-8.
@@ -78,14 +68,6 @@ impl<'a> NamedDecl<'a> {
         ensures { result ≡ position_of_code (methods_of self.now.kind) (id + 1) }
     {
         place_of_id(&self.ids, id)
-    }
-
-    // The position of the field of a name, which is in UTF-8.
-    #[tactic(auto, using(crate::proofs::Tables::field_found))]
-    pub fn field_named(&self, name: &str) -> Option<usize>
-        ensures { result ≡ field_named (fields_of self.now.kind) name.now }
-    {
-        place_of(&self.fields, name)
     }
 }
 
@@ -124,21 +106,6 @@ fn methods_by_id(alloc: Global, methods: &[Method]) -> Result<IndexMap<u32, usiz
     for i in (0..methods.len()).rev() {
         let method = &methods[i];
         table.insert(method.id, i)?;
-    }
-    Ok(table)
-}
-
-// The first position of each name of a field.
-fn fields_by_name<'a>(
-    alloc: Global,
-    fields: &'a [Field],
-) -> Result<IndexMap<&'a str, usize>, OutOfMemory>
-    ensures { IfOk result (λ table. (q : List ℕ) → get_by (λ k. bytes_eq q k.now) table ≡ field_from q 0 fields.now) }
-{
-    let mut table = IndexMap::with_capacity(alloc, fields.len())?;
-    for i in (0..fields.len()).rev() {
-        let field = &fields[i];
-        table.insert(field.name.0.as_str(), i)?;
     }
     Ok(table)
 }

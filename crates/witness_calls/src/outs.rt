@@ -22,14 +22,14 @@ use value_views::view_value;
 /// What a client whose method returns `wanted` has of a result of type `sent`; None where it has no view.
 pub fn project_result(
     alloc: Global,
-    ends: &Ends<'_>,
+    ends: &Ends<'_, '_, '_>,
     sent: Option<AidlType>,
     wanted: Option<AidlType>,
     value: &Option<Value>,
 ) -> Result<Option<Option<Value>>, OutOfMemory>
-    requires { is_result_type ends.now.receiver.now.decls wanted ≡ true }
+    requires { is_result_type ends.now.receiver.now wanted ≡ true }
     ensures { IfOk result (λ o. option_map optional_view o
-        ≡ projected_result ends.now.sender.now.decls sent ends.now.receiver.now.decls wanted (optional_view value.now)) }
+        ≡ projected_result ends.now.sender.now sent ends.now.receiver.now wanted (optional_view value.now)) }
 {
     match wanted {
         Some(wanted) => {
@@ -43,14 +43,14 @@ pub fn project_result(
 // The same where the client's method returns a value.
 fn project_returned(
     alloc: Global,
-    ends: &Ends<'_>,
+    ends: &Ends<'_, '_, '_>,
     sent: Option<AidlType>,
     wanted: AidlType,
     value: &Option<Value>,
 ) -> Result<Option<Value>, OutOfMemory>
-    requires { is_passed_type ends.now.receiver.now.decls wanted ≡ true }
+    requires { is_passed_type ends.now.receiver.now wanted ≡ true }
     ensures { IfOk result (λ o. option_map Some (option_map view o)
-        ≡ projected_result ends.now.sender.now.decls sent ends.now.receiver.now.decls (Some wanted) (optional_view value.now)) }
+        ≡ projected_result ends.now.sender.now sent ends.now.receiver.now (Some wanted) (optional_view value.now)) }
 {
     let Some(sent) = sent else {
         return some_default(alloc, ends.receiver, wanted);
@@ -74,14 +74,14 @@ fn as_result(value: Option<Value>) -> Option<Option<Value>>
 #[tactic(auto, using(crate::proofs::Types::passed_at))]
 pub fn project_outs(
     alloc: Global,
-    ends: &Ends<'_>,
+    ends: &Ends<'_, '_, '_>,
     sent: &[Arg],
     wanted: &[Arg],
     values: &[Value],
 ) -> Result<Option<Row<Value>>, OutOfMemory>
-    requires { list_all (λ a. is_passed_type ends.now.receiver.now.decls a.ty) wanted.now ≡ true }
+    requires { list_all (λ a. is_passed_type ends.now.receiver.now a.ty) wanted.now ≡ true }
     ensures { IfOk result (λ o. option_map views o
-        ≡ projected_outs ends.now.sender.now.decls sent.now ends.now.receiver.now.decls wanted.now (views values.now)) }
+        ≡ projected_outs ends.now.sender.now sent.now ends.now.receiver.now wanted.now (views values.now)) }
 {
     let mut seen = Vec::with_capacity(alloc, wanted.len())?;
     let mut left = values;
@@ -99,15 +99,15 @@ pub fn project_outs(
 // Adds what the client has of an out, where the argument comes back to it. It answers false where it has no view.
 fn push_out(
     alloc: Global,
-    ends: &Ends<'_>,
+    ends: &Ends<'_, '_, '_>,
     sent: Option<&Arg>,
     wanted: &Arg,
     values: &[Value],
     seen: &mut Vec<Value>,
 ) -> Result<bool, OutOfMemory>
-    requires { is_type ends.now.receiver.now.decls wanted.now.ty ≡ true }
+    requires { is_type ends.now.receiver.now wanted.now.ty ≡ true }
     ensures { IfOk result (λ going. Puts seen.old.items seen.new.items going (λ others. out_first wanted.now
-        (out_seen ends.now.sender.now.decls (option_copied sent.entry) ends.now.receiver.now.decls wanted.now
+        (out_seen ends.now.sender.now (option_copied sent.entry) ends.now.receiver.now wanted.now
         (first_of (views values.now))) others)) }
 {
     if !comes_back(wanted.way) {
@@ -125,14 +125,14 @@ fn push_out(
 // What the client has of an out, where the server may have no argument at its position.
 fn project_out(
     alloc: Global,
-    ends: &Ends<'_>,
+    ends: &Ends<'_, '_, '_>,
     sent: Option<&Arg>,
     wanted: &Arg,
     values: &[Value],
 ) -> Result<Option<Value>, OutOfMemory>
-    requires { is_type ends.now.receiver.now.decls wanted.now.ty ≡ true }
+    requires { is_type ends.now.receiver.now wanted.now.ty ≡ true }
     ensures { IfOk result (λ o. option_map view o
-        ≡ out_seen ends.now.sender.now.decls (option_copied sent.entry) ends.now.receiver.now.decls wanted.now
+        ≡ out_seen ends.now.sender.now (option_copied sent.entry) ends.now.receiver.now wanted.now
         (first_of (views values.now))) }
 {
     let Some(sent) = sent else {
@@ -148,14 +148,14 @@ fn project_out(
 // What the client has of an out that both methods have, whose value comes first.
 fn project_sent_out(
     alloc: Global,
-    ends: &Ends<'_>,
+    ends: &Ends<'_, '_, '_>,
     sent: &Arg,
     wanted: &Arg,
     values: &[Value],
 ) -> Result<Option<Value>, OutOfMemory>
-    requires { is_type ends.now.receiver.now.decls wanted.now.ty ≡ true }
+    requires { is_type ends.now.receiver.now wanted.now.ty ≡ true }
     ensures { IfOk result (λ o. option_map view o
-        ≡ projected_out ends.now.sender.now.decls sent.now ends.now.receiver.now.decls wanted.now (first_of (views values.now))) }
+        ≡ projected_out ends.now.sender.now sent.now ends.now.receiver.now wanted.now (first_of (views values.now))) }
 {
     match values {
         [] => some_default(alloc, ends.receiver, wanted.ty),

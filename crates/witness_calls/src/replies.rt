@@ -20,15 +20,16 @@ use crate::outs::{project_outs, project_result};
 use crate::reading::Reading;
 use crate::requests::BAD_VALUE;
 use crate::sides::{Compared, beside};
+use crate::version_method::VersionMethod;
 use aidl_base::{LimitName, OutOfMemory, Profile, Row};
 use aidl_values::{Answer, Value};
 use std::alloc::Global;
-use stub_dispatch::{Callee, Got, answer_bytes, read_answer, reply_length};
+use stub_dispatch::{Got, answer_bytes, read_answer, reply_length};
 
 /// The bytes of a reply that counts, None of any other. Without an answer there are none.
 pub fn counted_reply(
     alloc: Global,
-    server: &Callee<'_>,
+    server: &VersionMethod<'_, '_>,
     answer: &Option<Answer>,
 ) -> Result<Option<Row<u8>>, OutOfMemory>
     ensures { IfOk result (λ o. IsCounted
@@ -44,7 +45,7 @@ pub fn counted_reply(
 // The same of an answer.
 fn counted_answer(
     alloc: Global,
-    server: &Callee<'_>,
+    server: &VersionMethod<'_, '_>,
     answer: &Answer,
 ) -> Result<Option<Row<u8>>, OutOfMemory>
     ensures { IfOk result (λ o. IsCounted (IsAnswer server.now.decls server.now.interface server.now.method (answer_of answer.now))
@@ -53,18 +54,18 @@ fn counted_answer(
     if !is_answer(server, answer) {
         return Ok(None);
     }
-    if reply_length(server, answer) > LimitName::ParcelBytes.number() as usize {
+    if reply_length(server.callee(), answer) > LimitName::ParcelBytes.number() as usize {
         return Ok(None);
     }
-    let bytes = answer_bytes(alloc, server, answer)?;
+    let bytes = answer_bytes(alloc, server.callee(), answer)?;
     Ok(Some(Row::from_vec(bytes)))
 }
 
 /// The two sides of a reply of these bytes, and whether they differ.
 pub fn compare_reply(
     alloc: Global,
-    client: &Callee<'_>,
-    server: &Callee<'_>,
+    client: &VersionMethod<'_, '_>,
+    server: &VersionMethod<'_, '_>,
     answer: &Option<Answer>,
     bytes: &[u8],
 ) -> Result<Compared, OutOfMemory>
@@ -82,8 +83,8 @@ pub fn compare_reply(
 // What the client makes of the bytes; a oneway method of the server has no reply.
 fn read_reply(
     alloc: Global,
-    client: &Callee<'_>,
-    server: &Callee<'_>,
+    client: &VersionMethod<'_, '_>,
+    server: &VersionMethod<'_, '_>,
     bytes: &[u8],
 ) -> Result<Reading, OutOfMemory>
     ensures { IfOk result (λ r. reading_seen r
@@ -93,15 +94,15 @@ fn read_reply(
     if server.declared().oneway {
         return Ok(Reading::NoReply);
     }
-    let got = read_answer(alloc, Profile::Strict, client, bytes)?;
+    let got = read_answer(alloc, Profile::Strict, client.callee(), bytes)?;
     Ok(Reading::Client(got))
 }
 
 // What an answer is to the client's method.
 fn project_answer(
     alloc: Global,
-    server: &Callee<'_>,
-    client: &Callee<'_>,
+    server: &VersionMethod<'_, '_>,
+    client: &VersionMethod<'_, '_>,
     answer: &Option<Answer>,
 ) -> Result<Got, OutOfMemory>
     ensures { IfOk result (λ got. got_of got
@@ -118,8 +119,8 @@ fn project_answer(
 #[tactic(auto, unfolding(compat_witness::specs::Sides::projected_answer))]
 fn project_given(
     alloc: Global,
-    server: &Callee<'_>,
-    client: &Callee<'_>,
+    server: &VersionMethod<'_, '_>,
+    client: &VersionMethod<'_, '_>,
     answer: &Answer,
 ) -> Result<Got, OutOfMemory>
     ensures { IfOk result (λ got. got_of got
@@ -149,8 +150,8 @@ fn project_given(
 #[tactic(auto, unfolding(compat_witness::specs::Sides::projected_answer))]
 fn project_values(
     alloc: Global,
-    server: &Callee<'_>,
-    client: &Callee<'_>,
+    server: &VersionMethod<'_, '_>,
+    client: &VersionMethod<'_, '_>,
     value: &Option<Value>,
     outs: &[Value],
 ) -> Result<Got, OutOfMemory>
@@ -159,8 +160,8 @@ fn project_values(
         (Some (calls.returned (optional_view value.now) (views outs.now)))) }
 {
     let ends = Ends {
-        sender: server.schema(),
-        receiver: client.schema(),
+        sender: server.fields(),
+        receiver: client.fields(),
     };
     let (sent, wanted) = (server.declared(), client.declared());
     law_method(client.schema(), client.interface(), client.method(), wanted);
@@ -184,16 +185,16 @@ fn project_values(
 #[tactic(auto, unfolding(compat_witness::specs::Sides::projected_answer))]
 fn project_nothing(
     alloc: Global,
-    server: &Callee<'_>,
-    client: &Callee<'_>,
+    server: &VersionMethod<'_, '_>,
+    client: &VersionMethod<'_, '_>,
 ) -> Result<Got, OutOfMemory>
     ensures { IfOk result (λ got. got_of got
         ≡ projected_answer server.now.decls server.now.interface server.now.method
         client.now.decls client.now.interface client.now.method None) }
 {
     let ends = Ends {
-        sender: server.schema(),
-        receiver: client.schema(),
+        sender: server.fields(),
+        receiver: client.fields(),
     };
     let wanted = client.declared();
     law_method(client.schema(), client.interface(), client.method(), wanted);

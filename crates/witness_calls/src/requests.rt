@@ -2,6 +2,9 @@
 ghost use Rattle.std.specs.Prelude.{◌≡◌, length, IfOk};
 ghost use Rattle.aidl_values.specs.View.{views};
 ghost use Rattle.compat_witness.specs.Sides.{projected_request, read_request, side_of};
+ghost use Rattle.stub_dispatch.specs.Receipts.{receipt_of};
+ghost use Rattle.wire_model.specs.Calls.{code_at};
+ghost use Rattle.wire_model.specs.Receiver.{stub};
 ghost use Rattle.wire_model.specs.Requests.{ArgsFit, request};
 ghost use Rattle.witness_calls.specs.Comparing.{AreCompared};
 ghost use Rattle.witness_calls.specs.Seen.{reading_seen};
@@ -11,14 +14,15 @@ ghost use Rattle.witness_calls.specs.steps.Projected.{called_at, called_in};
 use crate::arguments::project_arguments;
 use crate::ends::Ends;
 use crate::fitting::args_fit;
-use crate::names::{code_of, declared_as, law_method, method_like};
+use crate::names::{declared_as, law_method, method_called, method_like};
 use crate::reading::Reading;
 use crate::sides::{Compared, beside};
 use crate::version::Version;
+use crate::version_method::VersionMethod;
 use aidl_base::{OutOfMemory, Profile, Row};
 use aidl_values::Value;
 use std::alloc::Global;
-use stub_dispatch::{Callee, Receipt, WriteFault, receive, request};
+use stub_dispatch::{Receipt, WriteFault, receive_call, request};
 
 /// UNKNOWN_TRANSACTION: the server lacks the interface or the method.
 const UNKNOWN_TRANSACTION: i32 = -74;
@@ -29,7 +33,7 @@ pub const BAD_VALUE: i32 = -22;
 /// The bytes of a request that counts, None of any other.
 pub fn counted_request(
     alloc: Global,
-    client: &Callee<'_>,
+    client: &VersionMethod<'_, '_>,
     args: &[Value],
 ) -> Result<Option<Row<u8>>, OutOfMemory>
     ensures { IfOk result (λ o. IsCounted (ArgsFit client.now.decls client.now.interface client.now.method (views args.now))
@@ -38,7 +42,7 @@ pub fn counted_request(
     if !args_fit(client, args) {
         return Ok(None);
     }
-    match request(alloc, client, args) {
+    match request(alloc, client.callee(), args) {
         Ok(bytes) => Ok(Some(Row::from_vec(bytes))),
         Err(WriteFault::TooLarge) => Ok(None),
         Err(WriteFault::OutOfMemory) => Err(OutOfMemory),
@@ -48,7 +52,7 @@ pub fn counted_request(
 /// The two sides of a request of these bytes, and whether they differ.
 pub fn compare_request(
     alloc: Global,
-    client: &Callee<'_>,
+    client: &VersionMethod<'_, '_>,
     server: &Version<'_>,
     args: &[Value],
     bytes: &[u8],
@@ -64,27 +68,48 @@ pub fn compare_request(
 // What the server's interface of that name makes of the bytes.
 fn read_request(
     alloc: Global,
-    client: &Callee<'_>,
+    client: &VersionMethod<'_, '_>,
     server: &Version<'_>,
     bytes: &[u8],
 ) -> Result<Reading, OutOfMemory>
     ensures { IfOk result (λ r. reading_seen r
         ≡ read_request client.now.decls client.now.interface client.now.method server.now bytes.now) }
 {
-    let Some(interface) = declared_as(alloc, client, server.schema())? else {
-        return Ok(Reading::Transport(UNKNOWN_TRANSACTION));
-    };
-    match receive(
-        alloc,
-        Profile::Strict,
-        server.side(),
-        interface,
-        code_of(client),
-        bytes,
-    )? {
-        Receipt::Refused { status } => Ok(Reading::Transport(status)),
-        Receipt::Left { method } => Ok(Reading::Left(method)),
-        Receipt::Called { method, saw } => Ok(Reading::Called { method, saw }),
+    match declared_as(alloc, client, server.schema())? {
+        Some(interface) => read_in(alloc, client, server, interface, bytes),
+        None => Ok(Reading::Transport(UNKNOWN_TRANSACTION)),
+    }
+}
+
+// The same of the server's interface, whose method is found by the code that the client sends.
+fn read_in(
+    alloc: Global,
+    client: &VersionMethod<'_, '_>,
+    server: &Version<'_>,
+    interface: u32,
+    bytes: &[u8],
+) -> Result<Reading, OutOfMemory>
+    ensures { IfOk result (λ r. reading_seen r ≡ side_of (stub Profile.Strict server.now interface
+        (code_at client.now.decls client.now.interface client.now.method) bytes.now)) }
+{
+    match method_called(client, server, interface) {
+        Some(method) => {
+            let target = server.callee(interface, method);
+            let receipt = receive_call(alloc, Profile::Strict, target.callee(), bytes)?;
+            Ok(as_reading(receipt))
+        }
+        None => Ok(Reading::Transport(UNKNOWN_TRANSACTION)),
+    }
+}
+
+// What a stub makes of a request, as one side.
+fn as_reading(receipt: Receipt) -> Reading
+    ensures { reading_seen result ≡ side_of (receipt_of receipt) }
+{
+    match receipt {
+        Receipt::Refused { status } => Reading::Transport(status),
+        Receipt::Left { method } => Reading::Left(method),
+        Receipt::Called { method, saw } => Reading::Called { method, saw },
     }
 }
 
@@ -92,7 +117,7 @@ fn read_request(
 #[tactic(auto, unfolding(compat_witness::specs::Sides::projected_call))]
 fn project_request(
     alloc: Global,
-    client: &Callee<'_>,
+    client: &VersionMethod<'_, '_>,
     server: &Version<'_>,
     args: &[Value],
 ) -> Result<Reading, OutOfMemory>
@@ -108,7 +133,7 @@ fn project_request(
 // The same in the server's interface.
 fn project_in(
     alloc: Global,
-    client: &Callee<'_>,
+    client: &VersionMethod<'_, '_>,
     server: &Version<'_>,
     interface: u32,
     args: &[Value],
@@ -128,8 +153,8 @@ fn project_in(
 // The same of the server's method.
 fn project_called(
     alloc: Global,
-    client: &Callee<'_>,
-    target: &Callee<'_>,
+    client: &VersionMethod<'_, '_>,
+    target: &VersionMethod<'_, '_>,
     args: &[Value],
 ) -> Result<Reading, OutOfMemory>
     ensures { IfOk result (λ r. reading_seen r
@@ -137,8 +162,8 @@ fn project_called(
         target.now.decls target.now.interface target.now.method (views args.now))) }
 {
     let ends = Ends {
-        sender: client.schema(),
-        receiver: target.schema(),
+        sender: client.fields(),
+        receiver: target.fields(),
     };
     let wanted = target.declared();
     law_method(target.schema(), target.interface(), target.method(), wanted);

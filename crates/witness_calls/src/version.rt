@@ -8,12 +8,14 @@ ghost use Rattle.stub_dispatch.specs.Planned.{ArePlansOf};
 ghost use Rattle.witness_calls.specs.Named.{field_named, fields_at, method_named};
 
 use crate::named_decl::NamedDecl;
+use crate::version_method::VersionMethod;
 use aidl_base::OutOfMemory;
 use aidl_schema::{Decl, Method, Schema, methods_at};
 use marshal_plans::Plans;
 use std::alloc::Global;
 use std::marker::Model;
 use stub_dispatch::{Callee, Side};
+use value_views::NamedFields;
 
 /// A version of a tree: a side of calls, with tables that find the methods and the fields of its declarations by their names, and
 /// methods by their ids. They are made once for all calls. Contracts see it as the schema's declarations.
@@ -21,6 +23,7 @@ use stub_dispatch::{Callee, Side};
 pub struct Version<'a> {
     side: Side<'a>,
     named: Vec<NamedDecl<'a>>,
+    fields: NamedFields<'a>,
 }
 
 impl<'a> Model for Version<'a> {
@@ -35,7 +38,10 @@ impl<'a> Model for Version<'a> {
 
     ghost view = { λ version. version.side };
 
-    ghost invariant = { λ version. version.named.items ≡ version.side };
+    ghost invariant = { λ version. record {
+      named : version.named.items ≡ version.side;
+      fields : version.fields ≡ version.side;
+    } };
 }
 
 impl<'a> Version<'a> {
@@ -49,15 +55,13 @@ impl<'a> Version<'a> {
         ensures { IfOk result (λ version. version ≡ schema.now.decls) }
     {
         let named = named_decls(alloc, schema.decls.as_slice())?;
+        let fields = NamedFields::new(alloc, schema)?;
         let side = Side::new(schema, plans);
-        Ok(Version { side, named })
-    }
-
-    /// Its side of calls. It takes no memory.
-    pub fn side(&self) -> &Side<'a>
-        ensures { result.now ≡ self.now }
-    {
-        &self.side
+        Ok(Version {
+            side,
+            named,
+            fields,
+        })
     }
 
     /// Its schema. It takes no memory.
@@ -67,12 +71,20 @@ impl<'a> Version<'a> {
         self.side.schema()
     }
 
+    // The tables of the fields of its declarations.
+    fn fields(&self) -> &NamedFields<'a>
+        ensures { result.now ≡ self.now }
+    {
+        &self.fields
+    }
+
     /// The method at a position of an interface. It takes no memory.
-    pub fn callee(&self, interface: u32, method: u32) -> Callee<'a>
+    pub(crate) fn callee(&self, interface: u32, method: u32) -> VersionMethod<'_, 'a>
         requires { method < length (methods_at self.now interface) }
         ensures { result ≡ record { decls = self.now; interface = interface; method = method } }
     {
-        Callee::new(&self.side, interface, method)
+        let callee = Callee::new(&self.side, interface, method);
+        VersionMethod::new(callee, self.fields())
     }
 
     /// The methods of an interface; none where the number is of no interface. It takes no memory.
@@ -120,10 +132,7 @@ impl<'a> Version<'a> {
     pub fn field_named(&self, number: u32, name: &str) -> Option<usize>
         ensures { result ≡ field_named (fields_at self.now number) name.now }
     {
-        match self.decl(number) {
-            Some(decl) => decl.field_named(name),
-            None => None,
-        }
+        self.fields().field_named(number, name)
     }
 }
 

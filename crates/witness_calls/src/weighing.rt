@@ -17,10 +17,10 @@ use crate::replies::{compare_reply, counted_reply};
 use crate::requests::{compare_request, counted_request};
 use crate::sides::Compared;
 use crate::version::Version;
+use crate::version_method::VersionMethod;
 use aidl_base::{OutOfMemory, Row};
 use aidl_values::{Answer, Value};
 use std::alloc::Global;
-use stub_dispatch::Callee;
 
 /// The bytes of a call that counts, with its two sides and whether they differ; None of any other. It counts where its values fit and its
 /// bytes are at most 1,048,576. All reading is strict. `OutOfMemory` is the one refusal (own).
@@ -118,7 +118,7 @@ fn weigh_request(
 // The same by the client's method.
 fn weigh_call(
     alloc: Global,
-    client: &Callee<'_>,
+    client: &VersionMethod<'_, '_>,
     server: &Version<'_>,
     args: &[Value],
 ) -> Result<Option<(Row<u8>, Compared)>, OutOfMemory>
@@ -157,7 +157,7 @@ fn weigh_reply(
 // The same by the client's method.
 fn weigh_by_name(
     alloc: Global,
-    client: &Callee<'_>,
+    client: &VersionMethod<'_, '_>,
     server: &Version<'_>,
     answer: &Option<Answer>,
 ) -> Result<Option<(Row<u8>, Compared)>, OutOfMemory>
@@ -176,8 +176,8 @@ fn weigh_by_name(
 // The same by both methods.
 fn weigh_answer(
     alloc: Global,
-    client: &Callee<'_>,
-    server: &Callee<'_>,
+    client: &VersionMethod<'_, '_>,
+    server: &VersionMethod<'_, '_>,
     answer: &Option<Answer>,
 ) -> Result<Option<(Row<u8>, Compared)>, OutOfMemory>
     ensures { IfOk result (λ o. IsWeighedBy

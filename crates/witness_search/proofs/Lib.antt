@@ -5,6 +5,7 @@ mod Halves
 mod Letters
 mod NamedTexts
 mod PlaceBytes
+mod PlainUnions
 mod Reaches
 mod RecordParts
 mod SentBack

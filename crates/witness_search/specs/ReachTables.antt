@@ -1,7 +1,9 @@
--- A table of the methods that reach each declaration (own). A is the client's declarations, B the server's.
-use Rattle.std.specs.Prelude.{◌≡◌, ℕ, ◌<◌, List, [], length, map, Option, Some, None, slice_get}
+-- Tables of the methods that reach each declaration, and of the unions whose alternatives are all plain (own). A is the client's declarations, B the
+-- server's.
+use Rattle.std.specs.Prelude.{◌≡◌, ℕ, ◌<◌, Bool, true, List, [], length, map, Option, Some, None, slice_get}
 use Rattle.aidl_schema.specs.declared.schema.Decl.{Decl}
-use Rattle.compat_witness.specs.Reaching.{methods_reaching}
+use Rattle.aidl_schema.specs.Broken.{union_fields}
+use Rattle.compat_witness.specs.Reaching.{are_plain, methods_reaching}
 use Rattle.witness_search.specs.Asked.{method_seen}
 use Rattle.witness_search.specs.declared.candidates.Reach.{Reach}
 use Rattle.witness_search.specs.declared.reach_tables.ReachTables.{ReachTables}
@@ -18,7 +20,21 @@ row_at rows k = row_of (slice_get rows k)
 abbrev pub IsReachTable : List Decl → List Decl → List (List Reach) → Type 0
 IsReachTable A B rows = (k : ℕ) → k < length A → map method_seen (row_at rows k) ≡ methods_reaching A k B
 
--- Of two versions: the methods of old, and those of new.
+-- for each declaration whether all alternatives are plain, which it has where it is a union
+abbrev pub plain_unions : List Decl → List Bool
+plain_unions S = map (λ d. are_plain (union_fields d.kind)) S
+
+abbrev pub or_true : Option Bool → Bool
+or_true None = true
+or_true (Some b) = b
+
+-- what a number has; of no declaration there is nothing that isn't plain
+abbrev pub plain_at : List Bool → ℕ → Bool
+plain_at bs k = or_true (slice_get bs k)
+
+-- Of two versions: the methods of old, and those of new; the unions of old, and those of new.
 pub record AreReachTables (old new : List Decl) (t : ReachTables) : Type 0 where
   pub forth : IsReachTable old new t.forth.items
   pub back : IsReachTable new old t.back.items
+  pub olds : t.plain_olds.items ≡ plain_unions old
+  pub news : t.plain_news.items ≡ plain_unions new

@@ -43,7 +43,8 @@ pub fn alternatives_in(schema: &Schema, number: u32) -> &[Field]
     }
 }
 
-fn union_fields(kind: &Kind) -> &[Field]
+/// The alternatives of a union; none of another kind. It takes no memory.
+pub fn union_fields(kind: &Kind) -> &[Field]
     ensures { result.now ≡ union_fields kind.now }
 {
     match kind {

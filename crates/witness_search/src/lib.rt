@@ -21,6 +21,7 @@ mod shown;
 mod spot;
 mod table;
 mod unanswered;
+mod unions;
 mod ways;
 
 pub use laws::law_shown;

@@ -1,19 +1,23 @@
-//! Which methods reach each declaration, in both versions.
-ghost use Rattle.std.specs.Prelude.{◌≡◌, IfOk};
-ghost use Rattle.witness_search.specs.ReachTables.{AreReachTables, row_at};
+//! Which methods reach each declaration, and which unions have plain alternatives alone, in both versions.
+ghost use Rattle.std.specs.Prelude.{◌≡◌, ◌&&◌, IfOk};
+ghost use Rattle.witness_search.specs.ReachTables.{AreReachTables, plain_at, row_at};
 
 use crate::candidates::Reach;
 use crate::reaching::reach_table;
+use crate::unions::plain_unions;
 use aidl_base::{OutOfMemory, Row};
 use std::alloc::Global;
 use witness_calls::Version;
 
-/// For each declaration of two versions the methods that reach it: of the old one those by which a client of old sends it, and of the new
-/// one those of a client of new. They are made once for all broken rules (own).
+/// For each declaration of two versions the methods that reach it: of the old one those by which a client of old
+/// sends it, and of the new one those of a client of new. And for each whether all alternatives are plain, if it is
+/// a union. They are made once for all broken rules (own).
 #[derive(Drop)]
 pub struct ReachTables {
     pub forth: Vec<Row<Reach>>,
     pub back: Vec<Row<Reach>>,
+    pub plain_olds: Vec<bool>,
+    pub plain_news: Vec<bool>,
 }
 
 impl ReachTables {
@@ -27,7 +31,14 @@ impl ReachTables {
     {
         let forth = reach_table(alloc, old, new)?;
         let back = reach_table(alloc, new, old)?;
-        Ok(ReachTables { forth, back })
+        let plain_olds = plain_unions(alloc, old.schema())?;
+        let plain_news = plain_unions(alloc, new.schema())?;
+        Ok(ReachTables {
+            forth,
+            back,
+            plain_olds,
+            plain_news,
+        })
     }
 
     /// The methods of old that reach its declaration of a number. It takes no memory.
@@ -42,6 +53,23 @@ impl ReachTables {
         ensures { result.now ≡ row_at self.now.back.items number }
     {
         row_of(self.back.as_slice(), number)
+    }
+
+    /// Whether all alternatives of a union of old and of one of new are plain. It takes no memory.
+    pub fn are_plain(&self, k: u32, l: u32) -> bool
+        ensures { result ≡ (plain_at self.now.plain_olds.items k && plain_at self.now.plain_news.items l) }
+    {
+        plain_at(self.plain_olds.as_slice(), k) && plain_at(self.plain_news.as_slice(), l)
+    }
+}
+
+// What a number has; there is nothing that isn't plain where there is none.
+fn plain_at(plain: &[bool], number: u32) -> bool
+    ensures { result ≡ plain_at plain.now number }
+{
+    match plain.get(number as usize) {
+        None => true,
+        Some(plain) => *plain,
     }
 }
 

@@ -52,7 +52,7 @@ pub fn field_groups<'a>(
 }
 
 // The same by the bytes of the place.
-#[tactic(auto, using(crate::proofs::Reaches::both_reached))]
+#[tactic(auto, using(crate::proofs::Reaches::both_reached, crate::proofs::PlainUnions::both_plain))]
 fn groups_named<'a>(
     alloc: Global,
     row: FieldRow,
@@ -89,7 +89,7 @@ fn groups_named<'a>(
     match row {
         FieldRow::C10 => asked_c10(alloc, &both, position),
         FieldRow::C11 => asked_c11(alloc, &both, position),
-        FieldRow::C15 => asked_c15(alloc, &both, position),
+        FieldRow::C15 => asked_c15(alloc, &both, tables.are_plain(k, l), position),
     }
 }
 
@@ -210,20 +210,21 @@ fn low_record(
     one_value(alloc, Value::Rec(record))
 }
 
-// C15: a request with that tag and z0.
+// C15: a request with that tag and z0. It is known whether all alternatives of both are plain.
 fn asked_c15<'a>(
     alloc: Global,
     both: &Both<'_, '_, 'a>,
+    plain: bool,
     position: usize,
 ) -> Result<Option<Groups<'a>>, OutOfMemory>
     requires reached { AreReached both.now }
+    requires plain { plain ≡ (are_plain (rows.alternatives_in both.now.old.now.decls both.now.k)
+        && are_plain (rows.alternatives_in both.now.new.now.decls both.now.l)) }
     requires there { position < length (rows.alternatives_in both.now.old.now.decls both.now.k) }
     ensures { IfOk result (λ groups. option_map groups_seen groups
         ≡ steps.asked_C15 both.now.old.now.decls both.now.k both.now.new.now.decls both.now.l position) }
 {
-    let olds = alternatives_in(both.old, both.k);
-    let news = alternatives_in(both.new, both.l);
-    if is_none_of(both.forth) || !is_met_c15(both, position, olds, news) {
+    if is_none_of(both.forth) || !(plain && differ_there(both, position)) {
         return Ok(None);
     }
     let value = low_alternative(alloc, both.old, both.k, position)?;
@@ -256,12 +257,15 @@ fn base_at(fields: &[Field], position: usize) -> Base
     }
 }
 
-// All fields are plain in both, and names or types differ at the position, which both have.
-fn is_met_c15(both: &Both<'_, '_, '_>, position: usize, olds: &[Field], news: &[Field]) -> bool
-    ensures { result ≡ ((are_plain olds.now && are_plain news.now)
-        && rows.differ_at both.now.old.now.decls both.now.new.now.decls (slice_get olds.now position) (slice_get news.now position)) }
+// Whether names or types differ at the position, which both have.
+fn differ_there(both: &Both<'_, '_, '_>, position: usize) -> bool
+    ensures { result ≡ rows.differ_at both.now.old.now.decls both.now.new.now.decls
+        (slice_get (rows.alternatives_in both.now.old.now.decls both.now.k) position)
+        (slice_get (rows.alternatives_in both.now.new.now.decls both.now.l) position) }
 {
-    (are_plain(olds) && are_plain(news)) && differ_at(both, olds.get(position), news.get(position))
+    let olds = alternatives_in(both.old, both.k);
+    let news = alternatives_in(both.new, both.l);
+    differ_at(both, olds.get(position), news.get(position))
 }
 
 fn differ_at(both: &Both<'_, '_, '_>, before: Option<&Field>, after: Option<&Field>) -> bool

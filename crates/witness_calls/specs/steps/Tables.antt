@@ -1,8 +1,7 @@
--- What the tables of a declaration's members have: the first position of a name or of an id, where the list begins at a position.
+-- What the tables of an interface's methods have: the first position of a name or of an id, where the list begins at a position.
 use Rattle.std.specs.Prelude.{ℕ, ◌+◌, ◌==◌, List, Option}
 use Rattle.std.specs.List.{position_from}
 use Rattle.std.specs.Str.{encode_utf8_all}
-use Rattle.aidl_schema.specs.declared.schema.Field.{Field}
 use Rattle.aidl_schema.specs.declared.schema.Method.{Method}
 use Rattle.aidl_schema.specs.Same.{same_text}
 
@@ -13,7 +12,3 @@ method_from name i ms = position_from (λ m. same_text (encode_utf8_all m.name.0
 -- of the method of this id
 abbrev pub id_from : ℕ → ℕ → List Method → Option ℕ
 id_from id i ms = position_from (λ m. m.id + 1 == id + 1) i ms
-
--- of the field of this name
-abbrev pub field_from : List ℕ → ℕ → List Field → Option ℕ
-field_from name i fs = position_from (λ f. same_text (encode_utf8_all f.name.0) name) i fs

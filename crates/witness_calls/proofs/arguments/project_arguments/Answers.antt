@@ -11,8 +11,8 @@ use Rattle.witness_calls.proofs.arguments.project_arguments.Goals as goal
 
 pub loop-k-preserved : goal.loop-k-preserved
 loop-k-preserved c =
-    let A = c.args.ends.now.sender.now.decls in
-    let B = c.args.ends.now.receiver.now.decls in
+    let A = c.args.ends.now.sender.now in
+    let B = c.args.ends.now.receiver.now in
     let k = c.loop-k.k in
     let b = c.index-wanted-k.result in
     let next = next_argument A c.args.sent.now B c.args.wanted.now c.args.values.now k b c.loop-k-test.true c.index-wanted-k.is in
@@ -24,8 +24,8 @@ loop-k-preserved c =
 
 pub returns-in-None : goal.returns-in-None
 returns-in-None c =
-    let A = c.args.ends.now.sender.now.decls in
-    let B = c.args.ends.now.receiver.now.decls in
+    let A = c.args.ends.now.sender.now in
+    let B = c.args.ends.now.receiver.now in
     let k = c.loop-k.k in
     let b = c.index-wanted-k.result in
     let next = next_argument A c.args.sent.now B c.args.wanted.now c.args.values.now k b c.loop-k-test.true c.index-wanted-k.is in
@@ -37,8 +37,8 @@ returns-in-None c =
 
 pub returns : goal.returns
 returns c =
-    let A = c.args.ends.now.sender.now.decls in
-    let B = c.args.ends.now.receiver.now.decls in
+    let A = c.args.ends.now.sender.now in
+    let B = c.args.ends.now.receiver.now in
     let k = c.loop-k.k in
     let done = drop_all c.args.wanted.now k c.loop-k-test.false in
     complete c.loop-k.seen.items c.from_vec.result _ c.from_vec.ensures

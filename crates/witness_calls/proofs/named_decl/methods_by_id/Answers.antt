@@ -2,7 +2,8 @@ use Rattle.std.proofs.Common.{◌≡◌, ◌+◌, ◌-◌, ◌<◌, ◌==◌, le
 use Rattle.std.specs.Prelude.{nat_eq}
 use Rattle.indexmap.specs.IndexMap.{get}
 use Rattle.aidl_schema.specs.declared.schema.Method.{Method}
-use Rattle.witness_calls.proofs.Tables.{entered, same_code}
+use Rattle.value_views.proofs.lemmas.Tables.{entered}
+use Rattle.witness_calls.proofs.Tables.{same_code}
 use Rattle.witness_calls.proofs.named_decl.methods_by_id.Goals as goal
 
 pub loop-i-preserved : goal.loop-i-preserved

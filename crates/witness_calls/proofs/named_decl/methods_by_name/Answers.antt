@@ -4,7 +4,7 @@ use Rattle.std.proofs.lemmas.Map.Text.{hash_map_updates_str}
 use Rattle.indexmap.specs.IndexMap.{get_by}
 use Rattle.aidl_schema.specs.declared.schema.Method.{Method}
 use Rattle.aidl_schema.specs.Same.{same_text}
-use Rattle.witness_calls.proofs.Tables.{entered}
+use Rattle.value_views.proofs.lemmas.Tables.{entered}
 use Rattle.witness_calls.proofs.named_decl.methods_by_name.Goals as goal
 
 pub loop-i-preserved : goal.loop-i-preserved

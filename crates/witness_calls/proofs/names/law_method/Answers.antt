@@ -6,6 +6,3 @@ returns-clause-passed c = (typed c.args.schema.now.decls c.law_valid.ensures.dec
 
 pub returns-clause-returned : goal.returns-clause-returned
 returns-clause-returned c = (typed c.args.schema.now.decls c.law_valid.ensures.declarations c.args.interface c.args.number c.args.method.now c.requires).returned
-
-pub returns-clause-small : goal.returns-clause-small
-returns-clause-small c = (typed c.args.schema.now.decls c.law_valid.ensures.declarations c.args.interface c.args.number c.args.method.now c.requires).small
