@@ -12,10 +12,10 @@ use std::fmt::Write;
 pub fn shown_constants(
     alloc: Global,
     files: &[ParsedFile],
-    names: Result<Names<'_>, NameFault>,
+    names: &Result<Names<'_>, NameFault>,
 ) -> Result<String, OutOfMemory> {
     match names {
-        Ok(names) => shown_settled(alloc, files, &eval_all(alloc, &names)?),
+        Ok(names) => shown_settled(alloc, files, &eval_all(alloc, names)?),
         Err(NameFault::OutOfMemory) => Err(OutOfMemory),
         Err(_) => Ok(String::from_str(alloc, "no names")?),
     }

@@ -14,5 +14,4 @@ mod type_breaches;
 mod type_names;
 
 pub use outcome::{Kind, outcome_of};
-pub use outline::Outline;
 pub use tree::{Asked, answer_of};

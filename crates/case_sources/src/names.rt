@@ -17,10 +17,10 @@ use std::fmt::Write;
 pub fn shown_names(
     alloc: Global,
     files: &[ParsedFile],
-    names: Result<Names<'_>, NameFault>,
+    names: &Result<Names<'_>, NameFault>,
 ) -> Result<String, OutOfMemory> {
     match names {
-        Ok(names) => shown_declarations(alloc, &names),
+        Ok(names) => shown_declarations(alloc, names),
         Err(NameFault::Limit(limit)) => {
             Ok(format!(in alloc; "limit {} {}", limit.which.name(), limit.which.number())?)
         }

@@ -2,19 +2,21 @@
 //! and literal behind its offset and a colon. Where such a thing is a part of its own, its offset as a part stands before
 //! it with a `!`, if the two differ.
 
-use aidl_base::Row;
+use aidl_base::{OutOfMemory, Row};
 use aidl_syntax::{
     AnnotTree, ArgTree, BodyTree, ConstantTree, DeclTree, DottedTree, EnumeratorTree, ExprKind,
     ExprTree, FieldTree, FileTree, InitTree, MemberTree, MethodTree, NameTree, ParamTree, Reserved,
     Symbol, Token, TokenKind, TypeTree, WayTree,
 };
-use std::alloc::{AllocError, Global};
+use std::alloc::Global;
 use std::fmt::Write;
 
 /// The outline of a tree, or of a part of it.
 #[derive(Drop)]
 pub struct Outline {
     text: String,
+    // whether memory was there so far
+    is_whole: bool,
 }
 
 impl Outline {
@@ -22,88 +24,103 @@ impl Outline {
     pub fn new(alloc: Global) -> Outline {
         Outline {
             text: String::new(alloc),
+            is_whole: true,
         }
     }
 
     /// What was written.
-    pub fn into_text(self) -> String {
-        self.text
+    pub fn into_text(self) -> Result<String, OutOfMemory> {
+        if self.is_whole {
+            Ok(self.text)
+        } else {
+            Err(OutOfMemory)
+        }
     }
 
-    fn word(&mut self, word: &str) -> Result<(), AllocError> {
-        write!(self.text, "{word}")
+    fn word(&mut self, word: &str) {
+        if self.text.push_str(word).is_err() {
+            self.is_whole = false;
+        }
     }
 
-    fn offset(&mut self, offset: u32) -> Result<(), AllocError> {
-        write!(self.text, "{offset}")
+    fn letter(&mut self, letter: char) {
+        if self.text.push(letter).is_err() {
+            self.is_whole = false;
+        }
+    }
+
+    fn offset(&mut self, offset: u32) {
+        if write!(self.text, "{offset}").is_err() {
+            self.is_whole = false;
+        }
     }
 
     // An offset that is that of the next part, else both are seen.
-    fn same_offset(&mut self, offset: u32, next: u32) -> Result<(), AllocError> {
+    fn same_offset(&mut self, offset: u32, next: u32) {
         if offset != next {
-            self.offset(offset)?;
-            self.word("!")?;
+            self.offset(offset);
+            self.word("!");
         }
-        Ok(())
     }
 
-    fn begin(&mut self, offset: u32, word: &str) -> Result<(), AllocError> {
-        self.offset(offset)?;
-        self.word("(")?;
+    fn begin(&mut self, offset: u32, word: &str) {
+        self.offset(offset);
+        self.word("(");
         self.word(word)
     }
 
-    fn end(&mut self) -> Result<(), AllocError> {
+    fn end(&mut self) {
         self.word(")")
     }
 
-    fn name(&mut self, name: &NameTree) -> Result<(), AllocError> {
-        self.offset(name.offset)?;
-        write!(self.text, ":{}", name.name.0.as_str())
+    fn name(&mut self, name: &NameTree) {
+        self.offset(name.offset);
+        self.word(":");
+        self.word(name.name.0.as_str());
     }
 
-    fn dotted(&mut self, dotted: &DottedTree) -> Result<(), AllocError> {
-        self.offset(dotted.offset)?;
+    fn dotted(&mut self, dotted: &DottedTree) {
+        self.offset(dotted.offset);
         let mut before = ":";
         for part in dotted.name.0.as_slice() {
-            write!(self.text, "{before}{}", part.0.as_str())?;
+            self.word(before);
+            self.word(part.0.as_str());
             before = ".";
         }
-        Ok(())
     }
 }
 
 // Files and declarations.
 impl Outline {
     /// A file.
-    pub fn file(&mut self, file: &FileTree) -> Result<(), AllocError> {
-        self.begin(file.offset, "file")?;
+    pub fn file(&mut self, file: &FileTree) {
+        self.begin(file.offset, "file");
         if let Some(package) = &file.package {
-            self.word(" package ")?;
-            self.dotted(package)?;
+            self.word(" package ");
+            self.dotted(package);
         }
         for import in file.imports.as_slice() {
-            self.word(" import ")?;
-            self.dotted(import)?;
+            self.word(" import ");
+            self.dotted(import);
         }
-        self.word(" ")?;
-        self.decl(&file.decl)?;
+        self.word(" ");
+        self.decl(&file.decl);
         self.end()
     }
 
     #[cycle(decl)]
-    fn decl(&mut self, decl: &DeclTree) -> Result<(), AllocError> {
-        self.begin(decl.offset, "")?;
-        self.annots(&decl.annots)?;
-        self.word(kind_of(&decl.body))?;
-        self.word(" ")?;
-        self.name(&decl.name)?;
-        self.body(&decl.body)?;
+    fn decl(&mut self, decl: &DeclTree) {
+        self.begin(decl.offset, "");
+        self.annots(&decl.annots);
+        self.word(kind_of(&decl.body));
+        self.word(" ");
+        self.name(&decl.name);
+        self.body(&decl.body);
         self.end()
     }
 
     #[cycle(decl)]
-    fn body(&mut self, body: &BodyTree) -> Result<(), AllocError> {
+    fn body(&mut self, body: &BodyTree) {
         match body {
             BodyTree::Parcelable(members) => self.members(members),
             BodyTree::Union(members) => self.members(members),
@@ -113,16 +130,15 @@ impl Outline {
     }
 
     #[cycle(decl)]
-    fn members(&mut self, members: &Row<MemberTree>) -> Result<(), AllocError> {
+    fn members(&mut self, members: &Row<MemberTree>) {
         for member in members.as_slice() {
-            self.word(" ")?;
-            self.member(member)?;
+            self.word(" ");
+            self.member(member);
         }
-        Ok(())
     }
 
     #[cycle(decl)]
-    fn member(&mut self, member: &MemberTree) -> Result<(), AllocError> {
+    fn member(&mut self, member: &MemberTree) {
         match member {
             MemberTree::Field(field) => self.field(field),
             MemberTree::Constant(constant) => self.constant(constant),
@@ -131,14 +147,13 @@ impl Outline {
         }
     }
 
-    fn enumerators(&mut self, enumerators: &Row<EnumeratorTree>) -> Result<(), AllocError> {
+    fn enumerators(&mut self, enumerators: &Row<EnumeratorTree>) {
         for enumerator in enumerators.as_slice() {
-            self.word(" ")?;
-            self.same_offset(enumerator.offset, enumerator.name.offset)?;
-            self.name(&enumerator.name)?;
-            self.value(&enumerator.value)?;
+            self.word(" ");
+            self.same_offset(enumerator.offset, enumerator.name.offset);
+            self.name(&enumerator.name);
+            self.value(&enumerator.value);
         }
-        Ok(())
     }
 }
 
@@ -154,128 +169,125 @@ fn kind_of(body: &BodyTree) -> &'static str {
 
 // Members.
 impl Outline {
-    fn field(&mut self, field: &FieldTree) -> Result<(), AllocError> {
-        self.begin(field.offset, "")?;
-        self.annots(&field.annots)?;
-        self.typed(&field.ty, &field.name)?;
+    fn field(&mut self, field: &FieldTree) {
+        self.begin(field.offset, "");
+        self.annots(&field.annots);
+        self.typed(&field.ty, &field.name);
         if let Some(initial) = &field.initial {
-            self.word(" = ")?;
-            self.init(initial)?;
+            self.word(" = ");
+            self.init(initial);
         }
         self.end()
     }
 
-    fn constant(&mut self, constant: &ConstantTree) -> Result<(), AllocError> {
-        self.begin(constant.offset, "")?;
-        self.annots(&constant.annots)?;
-        self.word("const ")?;
-        self.typed(&constant.ty, &constant.name)?;
-        self.word(" = ")?;
-        self.expr(&constant.value)?;
+    fn constant(&mut self, constant: &ConstantTree) {
+        self.begin(constant.offset, "");
+        self.annots(&constant.annots);
+        self.word("const ");
+        self.typed(&constant.ty, &constant.name);
+        self.word(" = ");
+        self.expr(&constant.value);
         self.end()
     }
 
-    fn method(&mut self, method: &MethodTree) -> Result<(), AllocError> {
-        self.begin(method.offset, "")?;
-        self.annots(&method.annots)?;
+    fn method(&mut self, method: &MethodTree) {
+        self.begin(method.offset, "");
+        self.annots(&method.annots);
         if method.oneway {
-            self.word("oneway ")?;
+            self.word("oneway ");
         }
         match &method.result {
-            Some(ty) => self.ty(ty)?,
-            None => self.word("void")?,
+            Some(ty) => self.ty(ty),
+            None => self.word("void"),
         }
-        self.word(" ")?;
-        self.name(&method.name)?;
+        self.word(" ");
+        self.name(&method.name);
         for arg in method.args.as_slice() {
-            self.word(" ")?;
-            self.arg(arg)?;
+            self.word(" ");
+            self.arg(arg);
         }
         if let Some(id) = &method.id {
-            self.word(" = ")?;
-            self.token(id)?;
+            self.word(" = ");
+            self.token(id);
         }
         self.end()
     }
 
-    fn arg(&mut self, arg: &ArgTree) -> Result<(), AllocError> {
-        self.begin(arg.offset, "")?;
-        self.annots(&arg.annots)?;
+    fn arg(&mut self, arg: &ArgTree) {
+        self.begin(arg.offset, "");
+        self.annots(&arg.annots);
         self.word(match arg.way {
             None => "",
             Some(WayTree::In) => "in ",
             Some(WayTree::Out) => "out ",
             Some(WayTree::InOut) => "inout ",
-        })?;
-        self.typed(&arg.ty, &arg.name)?;
+        });
+        self.typed(&arg.ty, &arg.name);
         self.end()
     }
 
-    fn typed(&mut self, ty: &TypeTree, name: &NameTree) -> Result<(), AllocError> {
-        self.ty(ty)?;
-        self.word(" ")?;
+    fn typed(&mut self, ty: &TypeTree, name: &NameTree) {
+        self.ty(ty);
+        self.word(" ");
         self.name(name)
     }
 
-    fn ty(&mut self, ty: &TypeTree) -> Result<(), AllocError> {
-        self.same_offset(ty.offset, ty.name.offset)?;
-        self.dotted(&ty.name)?;
+    fn ty(&mut self, ty: &TypeTree) {
+        self.same_offset(ty.offset, ty.name.offset);
+        self.dotted(&ty.name);
         if let Some(element) = &ty.element {
-            self.word("<")?;
-            self.dotted(element)?;
-            self.word(">")?;
+            self.word("<");
+            self.dotted(element);
+            self.word(">");
         }
         if ty.array {
-            self.word("[]")?;
+            self.word("[]");
         }
-        Ok(())
     }
 }
 
 // Annotations and initializers.
 impl Outline {
-    fn annots(&mut self, annots: &Row<AnnotTree>) -> Result<(), AllocError> {
+    fn annots(&mut self, annots: &Row<AnnotTree>) {
         for annot in annots.as_slice() {
-            self.offset(annot.offset)?;
-            self.word("@")?;
-            self.name(&annot.name)?;
+            self.offset(annot.offset);
+            self.word("@");
+            self.name(&annot.name);
             for param in annot.params.as_slice() {
-                self.word(" ")?;
-                self.param(param)?;
+                self.word(" ");
+                self.param(param);
             }
-            self.word(" ")?;
+            self.word(" ");
         }
-        Ok(())
     }
 
-    fn param(&mut self, param: &ParamTree) -> Result<(), AllocError> {
+    fn param(&mut self, param: &ParamTree) {
         match &param.name {
             Some(name) => {
-                self.same_offset(param.offset, name.offset)?;
-                self.name(name)?;
-                self.word("=")?;
+                self.same_offset(param.offset, name.offset);
+                self.name(name);
+                self.word("=");
             }
-            None => self.same_offset(param.offset, offset_of(&param.value))?,
+            None => self.same_offset(param.offset, offset_of(&param.value)),
         }
         self.init(&param.value)
     }
 
-    fn value(&mut self, value: &Option<ExprTree>) -> Result<(), AllocError> {
+    fn value(&mut self, value: &Option<ExprTree>) {
         if let Some(value) = value {
-            self.word(" = ")?;
-            self.expr(value)?;
+            self.word(" = ");
+            self.expr(value);
         }
-        Ok(())
     }
 
-    fn init(&mut self, init: &InitTree) -> Result<(), AllocError> {
+    fn init(&mut self, init: &InitTree) {
         match init {
             InitTree::Single(expr) => self.expr(expr),
             InitTree::Braces { offset, items } => {
-                self.begin(*offset, "{}")?;
+                self.begin(*offset, "{}");
                 for item in items.as_slice() {
-                    self.word(" ")?;
-                    self.expr(item)?;
+                    self.word(" ");
+                    self.expr(item);
                 }
                 self.end()
             }
@@ -292,41 +304,41 @@ fn offset_of(init: &InitTree) -> u32 {
 
 // Expressions and tokens.
 impl Outline {
-    fn expr(&mut self, expr: &ExprTree) -> Result<(), AllocError> {
+    fn expr(&mut self, expr: &ExprTree) {
         match &expr.kind {
             ExprKind::Literal(token) => {
-                self.same_offset(expr.offset, token.offset)?;
+                self.same_offset(expr.offset, token.offset);
                 self.token(token)
             }
             ExprKind::Name(name) => {
-                self.same_offset(expr.offset, name.offset)?;
+                self.same_offset(expr.offset, name.offset);
                 self.dotted(name)
             }
             ExprKind::Group(inner) => {
-                self.begin(expr.offset, "() ")?;
-                self.expr(inner)?;
+                self.begin(expr.offset, "() ");
+                self.expr(inner);
                 self.end()
             }
             ExprKind::Unary(symbol, operand) => {
-                self.begin(expr.offset, spelled(*symbol))?;
-                self.word(" ")?;
-                self.expr(operand)?;
+                self.begin(expr.offset, spelled(*symbol));
+                self.word(" ");
+                self.expr(operand);
                 self.end()
             }
             ExprKind::Binary(symbol, first, second) => {
-                self.begin(expr.offset, spelled(*symbol))?;
-                self.word(" ")?;
-                self.expr(first)?;
-                self.word(" ")?;
-                self.expr(second)?;
+                self.begin(expr.offset, spelled(*symbol));
+                self.word(" ");
+                self.expr(first);
+                self.word(" ");
+                self.expr(second);
                 self.end()
             }
         }
     }
 
-    fn token(&mut self, token: &Token) -> Result<(), AllocError> {
-        self.offset(token.offset)?;
-        self.word(":")?;
+    fn token(&mut self, token: &Token) {
+        self.offset(token.offset);
+        self.word(":");
         match &token.kind {
             TokenKind::Name(text) => self.word(text.as_str()),
             TokenKind::Word(Reserved::True) => self.word("true"),
@@ -337,21 +349,34 @@ impl Outline {
                 hexadecimal,
                 long,
             } => self.number(*bits, *hexadecimal, *long),
-            TokenKind::Character(code) => {
-                write!(self.text, "'{}'", char::from_u32(*code).unwrap_or('?'))
-            },
-            TokenKind::Str(text) => write!(self.text, "\"{}\"", text.as_str()),
+            TokenKind::Character(code) => self.character(*code),
+            TokenKind::Str(text) => self.string(text.as_str()),
             TokenKind::Mark(symbol) => self.word(spelled(*symbol)),
         }
     }
 
-    fn number(&mut self, bits: u64, hexadecimal: bool, long: bool) -> Result<(), AllocError> {
-        if hexadecimal {
-            write!(self.text, "{bits:#x}")?;
+    fn character(&mut self, code: u32) {
+        self.word("'");
+        self.letter(char::from_u32(code).unwrap_or('?'));
+        self.word("'");
+    }
+
+    fn string(&mut self, text: &str) {
+        self.word("\"");
+        self.word(text);
+        self.word("\"");
+    }
+
+    fn number(&mut self, bits: u64, hexadecimal: bool, long: bool) {
+        let written = if hexadecimal {
+            write!(self.text, "{bits:#x}")
         } else {
-            write!(self.text, "{bits}")?;
+            write!(self.text, "{bits}")
+        };
+        if written.is_err() {
+            self.is_whole = false;
         }
-        self.word(if long { "L" } else { "" })
+        self.word(if long { "L" } else { "" });
     }
 }
 

@@ -33,7 +33,7 @@ pub fn answer_of(alloc: Global, asked: Asked, files: &[SourceFile]) -> Result<St
     match parsed(alloc, files)? {
         Some(files) => {
             let files = files.as_slice();
-            shown(alloc, asked, files, gather(alloc, files))
+            shown(alloc, asked, files, &gather(alloc, files))
         }
         None => Ok(String::from_str(alloc, "no tree")?),
     }
@@ -43,7 +43,7 @@ fn shown(
     alloc: Global,
     asked: Asked,
     files: &[ParsedFile],
-    names: Result<Names<'_>, NameFault>,
+    names: &Result<Names<'_>, NameFault>,
 ) -> Result<String, OutOfMemory> {
     match asked {
         Asked::Names => shown_names(alloc, files, names),

@@ -11,11 +11,11 @@ use type_rules::breaches;
 pub fn shown_types(
     alloc: Global,
     files: &[ParsedFile],
-    names: Result<Names<'_>, NameFault>,
+    names: &Result<Names<'_>, NameFault>,
 ) -> Result<String, OutOfMemory> {
     match names {
-        Ok(names) => shown_rows(alloc, files, &names),
-        Err(fault) => shown_names(alloc, files, Err(fault)),
+        Ok(names) => shown_rows(alloc, files, names),
+        Err(_) => shown_names(alloc, files, names),
     }
 }
 

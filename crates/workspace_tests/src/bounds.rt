@@ -1,10 +1,10 @@
 //! The bounds of declarations that form chains as long as may be.
 
+use crate::same::same;
 use aidl_base::{DottedName, Ident, OutOfMemory, Parts, Row, Text};
 use aidl_schema::{AidlType, Base, Decl, Field, Kind, Shape};
 use schema_bounds::{Bound, bounds};
 use std::alloc::Global;
-use std::test::Fail;
 
 // A record with as many fields, each of which is the record of that number.
 fn record(alloc: Global, number: u32, count: usize) -> Result<Decl, OutOfMemory> {
@@ -33,7 +33,7 @@ fn record(alloc: Global, number: u32, count: usize) -> Result<Decl, OutOfMemory>
 }
 
 // How many of 16,384 records have a bound, where each holds the next so many times and the last holds that of a number.
-fn count(alloc: Global, times: usize, last: u32, wanted: Bound) -> Result<usize, Fail> {
+fn count(alloc: Global, times: usize, last: u32, wanted: Bound) -> Result<usize, OutOfMemory> {
     let mut decls = Vec::new(alloc);
     for number in 1..16_384u32 {
         decls.push(record(alloc, number, times)?)?;
@@ -45,15 +45,14 @@ fn count(alloc: Global, times: usize, last: u32, wanted: Bound) -> Result<usize,
 
 // The last holds a number of no declaration: its default has depth 1 and, for each field, a null value.
 #[test]
-fn long_chains_are_judged_from_their_ends(rt: HostRuntime) -> Result<(), Fail> {
+fn long_chains_are_judged_from_their_ends(rt: HostRuntime) {
     let alloc = rt.alloc();
     // depths 1 to 32 of 16,384
-    assert_eq!(rt; count(alloc, 1, 99_999, Bound::Within)?, 32);
-    assert_eq!(rt; count(alloc, 1, 99_999, Bound::TooLarge)?, 16_352);
+    same(&rt, count(alloc, 1, 99_999, Bound::Within), Ok(32));
+    same(&rt, count(alloc, 1, 99_999, Bound::TooLarge), Ok(16_352));
     // 3, 7, 15, 31, 63, 127, 255 and 511 nodes
-    assert_eq!(rt; count(alloc, 2, 99_999, Bound::Within)?, 8);
+    same(&rt, count(alloc, 2, 99_999, Bound::Within), Ok(8));
     // a ring, and a chain into a ring of one
-    assert_eq!(rt; count(alloc, 2, 0, Bound::HoldsItself)?, 16_384);
-    assert_eq!(rt; count(alloc, 1, 16_383, Bound::Within)?, 16_383);
-    Ok(())
+    same(&rt, count(alloc, 2, 0, Bound::HoldsItself), Ok(16_384));
+    same(&rt, count(alloc, 1, 16_383, Bound::Within), Ok(16_383));
 }

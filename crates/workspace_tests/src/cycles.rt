@@ -1,6 +1,7 @@
 //! Which nodes of a graph lie on a cycle.
 
-use aidl_base::Row;
+use crate::same::same;
+use aidl_base::{OutOfMemory, Row};
 use graph_cycles::find_cycles;
 use std::alloc::Global;
 use std::test::Fail;
@@ -22,21 +23,26 @@ const GRAPHS: [(&[&[u32]], &[bool]); 7] = [
     ),
 ];
 
+// Which nodes of a graph lie on a cycle.
+fn on_cycles(alloc: Global, rows: &[&[u32]]) -> Result<Vec<bool>, OutOfMemory> {
+    let mut edges = Vec::new(alloc);
+    for row in rows {
+        edges.push(Row::from_vec(Vec::from_slice(alloc, row)?))?;
+    }
+    Ok(find_cycles(alloc, edges.as_slice())?.on)
+}
+
 #[test]
 fn nodes_between_cycles_are_on_none(rt: HostRuntime) -> Result<(), Fail> {
     for (rows, wanted) in GRAPHS {
-        let mut edges = Vec::new(rt.alloc());
-        for row in rows {
-            edges.push(Row::from_vec(Vec::from_slice(rt.alloc(), row)?))?;
-        }
-        let on = find_cycles(rt.alloc(), edges.as_slice())?.on;
-        assert_eq!(rt; on.as_slice(), wanted);
+        let on = on_cycles(rt.alloc(), rows)?;
+        same(&rt, on.as_slice(), wanted);
     }
     Ok(())
 }
 
 // A ring or a chain of so many nodes, each of which leads ahead to some others too.
-fn long_way(alloc: Global, count: u32, is_ring: bool) -> Result<Vec<Row<u32>>, Fail> {
+fn long_way(alloc: Global, count: u32, is_ring: bool) -> Result<Vec<Row<u32>>, OutOfMemory> {
     let mut edges = Vec::new(alloc);
     for node in 0..count {
         let mut row = Row::new(alloc);
@@ -51,14 +57,19 @@ fn long_way(alloc: Global, count: u32, is_ring: bool) -> Result<Vec<Row<u32>>, F
     Ok(edges)
 }
 
+// Which nodes of a long way lie on a cycle.
+fn on_long_way(alloc: Global, is_ring: bool) -> Result<Vec<bool>, OutOfMemory> {
+    let edges = long_way(alloc, 65_536, is_ring)?;
+    Ok(find_cycles(alloc, edges.as_slice())?.on)
+}
+
 // A search from each node would take hours: that this test ends shows that the certificate held.
 #[test]
 fn long_ways_take_linear_time(rt: HostRuntime) -> Result<(), Fail> {
     for is_ring in [false, true] {
-        let edges = long_way(rt.alloc(), 65_536, is_ring)?;
-        let on = find_cycles(rt.alloc(), edges.as_slice())?.on;
-        assert_eq!(rt; on.len(), 65_536);
-        assert!(rt; on.iter().all(|on| *on == is_ring));
+        let on = on_long_way(rt.alloc(), is_ring)?;
+        same(&rt, on.len(), 65_536);
+        same(&rt, on.iter().all(|on| *on == is_ring), true);
     }
     Ok(())
 }

@@ -13,6 +13,10 @@ mod outside;
 #[cfg(test)]
 mod records;
 #[cfg(test)]
+mod same;
+#[cfg(test)]
+mod stores;
+#[cfg(test)]
 mod trees;
 #[cfg(test)]
 mod values;

@@ -1,10 +1,12 @@
 //! Records and sequences as words: where a record ends, and what is put is taken again.
 
-use aidl_base::{Profile, Text};
+use crate::same::same;
+use aidl_base::{Profile, Row, Text};
 use parcel_words::{
     ReadFault, Wire, WordReader, WordWriter, law_sequence_taken_again, put_sequence,
     sequence_length, take_sequence,
 };
+use std::alloc::Global;
 use std::test::Fail;
 
 // A record of 12 bytes with the number 7 and the text `hi`, which passes its end.
@@ -22,54 +24,70 @@ const SIZES: [(&[u8], Result<(), ReadFault>); 5] = [
     (b"\x08\0\0\0\x07\0\0\0", Ok(())),
 ];
 
+const ITEMS: [i32; 2] = [5, -1];
+
 #[test]
 fn a_record_ends_where_its_size_says(rt: HostRuntime) -> Result<(), Fail> {
     let mut reader = WordReader::new(Profile::Strict, CROSSED);
     reader.enter()?;
-    assert!(rt; !reader.at_end());
-    assert_eq!(rt; reader.word()?, 7);
-    assert_eq!(rt; reader.text(rt.alloc(), false), Err(ReadFault::BadValue));
-    assert_eq!(rt; reader.position(), 8);
-    assert_eq!(rt; reader.word()?, 2);
-    assert!(rt; reader.at_end());
-    assert_eq!(rt; reader.word(), Err(ReadFault::BadValue));
+    same(&rt, reader.at_end(), false);
+    same(&rt, reader.word(), Ok(7));
+    let text = reader.text(rt.alloc(), false);
+    same(&rt, text.err(), Some(ReadFault::BadValue));
+    same(&rt, reader.position(), 8);
+    same(&rt, reader.word(), Ok(2));
+    same(&rt, reader.at_end(), true);
+    same(&rt, reader.word(), Err(ReadFault::BadValue));
+    Ok(())
+}
 
+#[test]
+fn a_record_that_passes_the_one_around_it_is_refused(rt: HostRuntime) -> Result<(), Fail> {
     let mut reader = WordReader::new(Profile::Strict, NESTED);
     reader.enter()?;
-    assert_eq!(rt; reader.word()?, 7);
-    assert_eq!(rt; reader.enter(), Err(ReadFault::BadValue));
-    assert_eq!(rt; reader.position(), 8);
+    same(&rt, reader.word(), Ok(7));
+    let entered = reader.enter();
+    assert!(rt; entered == Err(ReadFault::BadValue));
+    same(&rt, reader.position(), 8);
     reader.leave();
-    assert_eq!(rt; reader.position(), 12);
-    assert_eq!(rt; reader.word()?, 9);
-    assert_eq!(rt; reader.word(), Err(ReadFault::NotEnough));
-
-    for (bytes, wanted) in SIZES {
-        assert_eq!(rt; WordReader::new(Profile::Strict, bytes).enter(), wanted);
-    }
+    same(&rt, reader.position(), 12);
+    same(&rt, reader.word(), Ok(9));
+    same(&rt, reader.word(), Err(ReadFault::NotEnough));
     Ok(())
+}
+
+#[test]
+fn a_size_counts_whole_words_that_are_there(rt: HostRuntime) {
+    for (bytes, wanted) in SIZES {
+        let entered = WordReader::new(Profile::Strict, bytes).enter();
+        same(&rt, entered, wanted);
+    }
+}
+
+fn put_items(alloc: Global) -> Result<Vec<u8>, ReadFault> {
+    let mut writer = WordWriter::with_room(alloc, 12)?;
+    put_sequence(&ITEMS, &mut writer);
+    Ok(writer.finish())
+}
+
+fn take_items(alloc: Global, bytes: &[u8]) -> Result<Option<Row<i32>>, ReadFault> {
+    take_sequence::<i32>(alloc, false, &mut WordReader::new(Profile::Strict, bytes))
 }
 
 #[test]
 fn items_are_put_and_taken(rt: HostRuntime) -> Result<(), Fail> {
-    let items = [5_i32, -1];
-    assert_eq!(rt; sequence_length(&items), 12);
-    let mut writer = WordWriter::with_room(rt.alloc(), 12)?;
-    put_sequence(&items, &mut writer);
-    let bytes = writer.finish();
+    same(&rt, sequence_length(&ITEMS), 12);
+    law_sequence_taken_again(&ITEMS);
+    let bytes = put_items(rt.alloc())?;
     let wanted = b"\x02\0\0\0\x05\0\0\0\xff\xff\xff\xff".as_slice();
-    assert_eq!(rt; bytes.as_slice(), wanted);
-    law_sequence_taken_again(&items);
-    let mut reader = WordReader::new(Profile::Strict, bytes.as_slice());
-    let taken = take_sequence::<i32>(rt.alloc(), false, &mut reader)?.ok_or("null")?;
-    assert_eq!(rt; taken.as_slice(), items.as_slice());
+    same(&rt, bytes.as_slice(), wanted);
+    let taken = take_items(rt.alloc(), bytes.as_slice())?.ok_or("null")?;
+    same(&rt, taken.as_slice(), ITEMS.as_slice());
     Ok(())
 }
 
-// Each kind of item once, put one after the other and taken again.
-#[test]
-fn each_kind_of_item_is_put_and_taken(rt: HostRuntime) -> Result<(), Fail> {
-    let alloc = rt.alloc();
+// Each kind of item once, one after the other.
+fn put_kinds(alloc: Global) -> Result<Vec<u8>, ReadFault> {
     let mut writer = WordWriter::with_room(alloc, 44)?;
     true.put(&mut writer);
     (-128_i8).put(&mut writer);
@@ -78,20 +96,24 @@ fn each_kind_of_item_is_put_and_taken(rt: HostRuntime) -> Result<(), Fail> {
     (-1_i64).put(&mut writer);
     writer.text(None);
     writer.raw(b"\x01\x02\x03");
-    let bytes = writer.finish();
+    Ok(writer.finish())
+}
+
+#[test]
+fn each_kind_of_item_is_put_and_taken(rt: HostRuntime) -> Result<(), Fail> {
+    let alloc = rt.alloc();
+    let bytes = put_kinds(alloc)?;
     let mut reader = WordReader::new(Profile::Strict, bytes.as_slice());
-    assert_eq!(rt; bool::take(alloc, &mut reader)?, true);
-    assert_eq!(rt; i8::take(alloc, &mut reader)?, -128);
-    assert_eq!(rt; u16::take(alloc, &mut reader)?, 0xffff);
-    assert_eq!(rt; i32::take(alloc, &mut reader)?, 5);
-    assert_eq!(rt; i64::take(alloc, &mut reader)?, -1);
-    assert_eq!(rt; reader.text(alloc, true)?, None);
-    assert_eq!(rt; reader.raw(usize::MAX), Err(ReadFault::NotEnough));
-    assert_eq!(rt; reader.raw(3)?, b"\x01\x02\x03".as_slice());
-    assert_eq!(rt; reader.position(), 32);
-    assert_eq!(rt;
-        Text::take(alloc, &mut reader).map(|_| ()),
-        Err(ReadFault::NotEnough)
-    );
+    same(&rt, bool::take(alloc, &mut reader), Ok(true));
+    same(&rt, i8::take(alloc, &mut reader), Ok(-128));
+    same(&rt, u16::take(alloc, &mut reader), Ok(0xffff));
+    same(&rt, i32::take(alloc, &mut reader), Ok(5));
+    same(&rt, i64::take(alloc, &mut reader), Ok(-1));
+    same(&rt, reader.text(alloc, true)?, None);
+    same(&rt, reader.raw(usize::MAX), Err(ReadFault::NotEnough));
+    same(&rt, reader.raw(3), Ok(b"\x01\x02\x03".as_slice()));
+    same(&rt, reader.position(), 32);
+    let text = Text::take(alloc, &mut reader);
+    same(&rt, text.err(), Some(ReadFault::NotEnough));
     Ok(())
 }

@@ -5,6 +5,7 @@ ghost use Rattle.std.specs.Prelude.{◌≡◌, false, IfOk};
 ghost use Rattle.std.specs.Str.{chars};
 ghost use Rattle.aidl_schema.specs.Valid.{IsValid};
 
+use crate::same::{same, shows};
 use aidl_base::{Const, DottedName, Ident, OutOfMemory, Parts, Row, Text};
 use aidl_schema::{
     AidlType, Base, Decl, Field, Kind, Schema, Shape, find, is_type, method_of_code,
@@ -13,6 +14,7 @@ use aidl_values::{Value, default_of, depth, has_type, initial_of, law_one_defaul
 use compat_judge::judge;
 use json_values::to_json;
 use std::alloc::Global;
+use std::process::Abort;
 use std::test::Fail;
 
 fn one(base: Base) -> AidlType
@@ -76,67 +78,107 @@ fn nested(alloc: Global, levels: usize, mut value: Value) -> Result<Value, OutOf
     Ok(value)
 }
 
+// Compares a value with the default of P: its type, its depth, its JSON and its fields.
+fn is_default<R: Abort + AllocGlobal>(rt: &R, schema: &Schema, value: &Value) {
+    let ty = one(Base::Named(0));
+    assert!(*rt; has_type(schema, &ty, value));
+    same(rt, depth(value), 1);
+    let json = to_json(rt.alloc(), schema, &ty, value).expect(rt, "memory");
+    let json = json.to_string(rt.alloc()).expect(rt, "memory");
+    same(rt, json.as_str(), r#"{"a":0,"s":"x"}"#);
+    same(rt, fields_of(value), Some((0, "x")));
+}
+
+// A number and a text, where the value is a record of these two.
+fn fields_of(value: &Value) -> Option<(i64, &str)> {
+    match value {
+        Value::Rec(items) => match items.as_slice() {
+            [Value::Number(a), Value::Text(s)] => Some((*a, s.as_str())),
+            _ => None,
+        },
+        _ => None,
+    }
+}
+
+// The default of P.
+fn default<R: Abort + AllocGlobal>(rt: &R, schema: &Schema) -> Value {
+    let ty = one(Base::Named(0));
+    assert!(*rt; is_type(schema, ty));
+    default_of(rt.alloc(), schema, &ty).expect(rt, "memory")
+}
+
 #[test]
 fn the_default_has_the_initializer(rt: HostRuntime) -> Result<(), Fail> {
     let schema = schema(rt.alloc())?;
+    let value = default(&rt, &schema);
+    is_default(&rt, &schema, &value);
+    let copy = value.try_clone(rt.alloc())?;
+    is_default(&rt, &schema, &copy);
+    Ok(())
+}
+
+#[test]
+fn the_laws_of_defaults_hold(rt: HostRuntime) -> Result<(), Fail> {
+    let schema = schema(rt.alloc())?;
+    law_sound(&schema);
     let ty = one(Base::Named(0));
     assert!(rt; is_type(&schema, ty));
-    let value = default_of(rt.alloc(), &schema, &ty)?;
-    let copy = value.try_clone(rt.alloc())?;
-    for value in [&value, &copy] {
-        assert!(rt; has_type(&schema, &ty, value));
-        assert_eq!(rt; depth(value), 1);
-        let json = to_json(rt.alloc(), &schema, &ty, value)?;
-        assert_eq!(rt; json.to_string(rt.alloc())?.as_str(), r#"{"a":0,"s":"x"}"#);
-        let Value::Rec(items) = value else {
-            return Err("no record")?;
-        };
-        let [Value::Number(a), Value::Text(s)] = items.as_slice() else {
-            return Err("other fields")?;
-        };
-        assert_eq!(rt; *a, 0);
-        assert_eq!(rt; s.as_str(), "x");
-    }
-    law_one_default(&schema, &ty, &value);
+    law_one_default(&schema, &ty, &Value::Null);
+    Ok(())
+}
+
+#[test]
+fn a_number_is_the_initial_value_of_its_field(rt: HostRuntime) -> Result<(), Fail> {
+    let schema = schema(rt.alloc())?;
     let field = Field {
         name: Ident(text(rt.alloc(), "n")?),
         ty: one(Base::Int),
         initial: Some(Const::Number(4)),
     };
     let initial = initial_of(rt.alloc(), &schema, &field)?;
-    assert!(rt; matches!(initial, Value::Number(4)));
-    law_sound(&schema);
+    same(&rt, matches!(initial, Value::Number(4)), true);
     Ok(())
+}
+
+// A record of so many nulls.
+fn wide(alloc: Global, count: usize) -> Result<Value, OutOfMemory> {
+    let mut items = Row::new(alloc);
+    for _ in 0..count {
+        items.push(Value::Null)?;
+    }
+    Ok(Value::Rec(items))
 }
 
 #[test]
 fn values_are_deep_and_wide(rt: HostRuntime) -> Result<(), Fail> {
-    let mut items = Row::new(rt.alloc());
-    for _ in 0..100_000 {
-        items.push(Value::Null)?;
-    }
-    let wide = Value::Rec(items);
-    assert_eq!(rt; depth(&wide), 1);
+    let wide = wide(rt.alloc(), 100_000)?;
+    same(&rt, depth(&wide), 1);
     let deep = nested(rt.alloc(), 1_000, wide)?;
     let copy = deep.try_clone(rt.alloc())?;
-    assert_eq!(rt; depth(&copy), 1_001);
+    same(&rt, depth(&copy), 1_001);
+    Ok(())
+}
+
+#[test]
+fn a_declaration_is_found_by_its_name(rt: HostRuntime) -> Result<(), Fail> {
+    let schema = schema(rt.alloc())?;
+    same(&rt, find(&schema, "P"), Some(0));
+    same(&rt, find(&Schema::empty(rt.alloc()), "P"), None);
+    same(&rt, method_of_code(&schema, 0, 1), None);
     Ok(())
 }
 
 #[test]
 fn a_declaration_that_goes_breaks_a_rule(rt: HostRuntime) -> Result<(), Fail> {
-    let old = schema(rt.alloc())?;
-    let new = Schema::empty(rt.alloc());
-    assert_eq!(rt; find(&old, "P"), Some(0));
-    assert_eq!(rt; find(&new, "P"), None);
-    assert_eq!(rt; method_of_code(&old, 0, 1), None);
-    let broken = judge(rt.alloc(), &old, &new)?;
-    let [first] = broken.as_slice() else {
-        return Err("another list")?;
-    };
-    assert_eq!(rt; first.rule, 1);
-    assert_eq!(rt; first.place.as_str(), "P");
-    assert_eq!(rt; judge(rt.alloc(), &new, &old)?.len(), 0);
-    assert_eq!(rt; judge(rt.alloc(), &old, &old)?.len(), 0);
+    let alloc = rt.alloc();
+    let old = schema(alloc)?;
+    let new = Schema::empty(alloc);
+    shows(
+        &rt,
+        judge(alloc, &old, &new),
+        r#"Ok(Row { items: [Broken { rule: 1, place: "P" }] })"#,
+    );
+    shows(&rt, judge(alloc, &new, &old), "Ok(Row { items: [] })");
+    shows(&rt, judge(alloc, &old, &old), "Ok(Row { items: [] })");
     Ok(())
 }
