@@ -25,7 +25,7 @@ pub use call::{comes_back, method_of};
 pub use callee::Callee;
 pub use openings::opening;
 pub use parcel_write::WriteFault;
-pub use receiving::{Receipt, receive};
+pub use receiving::{Receipt, receive, receive_call};
 pub use replies::{Got, SERVICE_SPECIFIC, read_answer, reply};
 pub use reply_lengths::reply_length;
 pub use request_lengths::request_length;

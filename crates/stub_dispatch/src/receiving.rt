@@ -1,5 +1,6 @@
 //! What a stub makes of a request.
-ghost use Rattle.std.specs.Prelude.{◌≡◌, IfOk};
+ghost use Rattle.std.specs.Prelude.{◌≡◌, ℕ, IfOk, Some};
+ghost use Rattle.aidl_schema.specs.Find.{methods_at, position_of_code};
 ghost use Rattle.stub_dispatch.specs.Receipts.{receipt_of};
 ghost use Rattle.stub_dispatch.specs.steps.Calls.{arguments_received, call_received};
 ghost use Rattle.wire_model.specs.Receiver.{stub};
@@ -52,14 +53,29 @@ pub fn receive(
     }
 }
 
-// The same where a method has the code.
-fn receive_call(
+/// The same where the code is known to be that of a method: no method is looked for.
+pub fn receive_call(
     alloc: Global,
     profile: Profile,
     callee: &Callee<'_>,
     bytes: &[u8],
 ) -> Result<Receipt, OutOfMemory>
-    ensures { IfOk result (λ receipt. receipt_of receipt ≡ call_received profile callee.now.decls callee.now.interface callee.now.method bytes.now) }
+    ensures { IfOk result (λ receipt. (code : ℕ)
+        → position_of_code (methods_at callee.now.decls callee.now.interface) code ≡ Some callee.now.method
+        → receipt_of receipt ≡ stub profile callee.now.decls callee.now.interface code bytes.now) }
+{
+    receive_request(alloc, profile, callee, bytes)
+}
+
+// The same behind the code.
+fn receive_request(
+    alloc: Global,
+    profile: Profile,
+    callee: &Callee<'_>,
+    bytes: &[u8],
+) -> Result<Receipt, OutOfMemory>
+    ensures { IfOk result (λ receipt. receipt_of receipt
+        ≡ call_received profile callee.now.decls callee.now.interface callee.now.method bytes.now) }
 {
     let name = descriptor_of(alloc, callee.schema(), callee.interface())?;
     match after_token(alloc, profile, &name, bytes)? {
