@@ -23,6 +23,14 @@ use parcel_read::read;
 use std::alloc::Global;
 use tool_frame::{Early, Printed, Verdict};
 
+// What each item of a parcel is read by: the profile, the schema that its type is of, and the plans of its types.
+#[derive(Clone, Copy)]
+struct Decoder<'a> {
+    profile: Profile,
+    schema: &'a Schema,
+    plans: &'a Plans,
+}
+
 /// What `decode` prints of a parcel's bytes, read by the profile.
 #[tactic(auto, using(tool_frame::proofs::lemmas::EarlyEnds::ends_there))]
 pub fn decode(
@@ -50,28 +58,30 @@ fn print_items(
     ensures { IfOk result (λ p. printed p ≡ items_answer profile schema.now.decls types.now bytes.now) }
 {
     let plans = compile(alloc, schema, types)?;
-    print_planned(alloc, profile, schema, types, &plans, bytes)
+    let decoder = Decoder {
+        profile,
+        schema,
+        plans: &plans,
+    };
+    print_planned(alloc, &decoder, types, bytes)
 }
 
 // The same, by plans of the types.
 fn print_planned(
     alloc: Global,
-    profile: Profile,
-    schema: &Schema,
+    decoder: &Decoder<'_>,
     types: &[AidlType],
-    plans: &Plans,
     bytes: &[u8],
 ) -> Result<Printed, OutOfMemory>
-    requires { ArePlanned plans.now schema.now.decls types.now }
-    ensures { IfOk result (λ p. printed p ≡ items_answer profile schema.now.decls types.now bytes.now) }
+    requires { ArePlanned decoder.now.plans.now decoder.now.schema.now.decls types.now }
+    ensures { let S = decoder.now.schema.now.decls in
+        IfOk result (λ p. printed p ≡ items_answer decoder.now.profile S types.now bytes.now) }
 {
-    let ids = plans.extras.as_slice();
+    let ids = decoder.plans.extras.as_slice();
     let mut text = String::new(alloc);
     let mut rest = bytes;
     for i in 0..types.len() {
-        match push_item(
-            alloc, profile, schema, &types[i], plans, ids[i], rest, &mut text,
-        )? {
+        match push_item(alloc, decoder, &types[i], ids[i], rest, &mut text)? {
             Some(after) => rest = after,
             None => return Ok(Printed {
                 text,
@@ -86,20 +96,21 @@ fn print_planned(
 // Reads one item and adds its line. None where it is refused; else the bytes after it.
 fn push_item<'a>(
     alloc: Global,
-    profile: Profile,
-    schema: &Schema,
+    decoder: &Decoder<'_>,
     ty: &AidlType,
-    plans: &Plans,
     id: PlanId,
     bytes: &'a [u8],
     text: &mut String,
 ) -> Result<Option<&'a [u8]>, OutOfMemory>
-    requires { IsOf plans.now id schema.now.decls ty.now }
-    ensures { IfOk result (λ left. PrintsItem schema.now.decls ty.now (read_of profile schema.now.decls 64 ty.now false bytes.now) (string_bytes text.old) (string_bytes text.new) (option_map (λ rest. rest.now) left)) }
+    requires { IsOf decoder.now.plans.now id decoder.now.schema.now.decls ty.now }
+    ensures { let S = decoder.now.schema.now.decls in
+        let reading = read_of decoder.now.profile S 64 ty.now false bytes.now in
+        IfOk result (λ left. PrintsItem S ty.now reading (string_bytes text.old) (string_bytes text.new)
+        (option_map (λ rest. rest.now) left)) }
 {
-    match read(alloc, profile, plans, id, bytes) {
+    match read(alloc, decoder.profile, decoder.plans, id, bytes) {
         Ok((value, used)) => {
-            push_value(alloc, schema, ty, &value, text)?;
+            push_value(alloc, decoder.schema, ty, &value, text)?;
             Ok(Some(&bytes[used..]))
         }
         Err(fault) => match fault.status() {

@@ -10,10 +10,11 @@ ghost use Rattle.json_values.specs.Gives.{refusal_of};
 ghost use Rattle.json_values.specs.JsonText.{parsed_json};
 ghost use Rattle.parcel_words.specs.Written.{with_bytes};
 ghost use Rattle.tool_frame.specs.Answer.{done};
-ghost use Rattle.parcel_output.specs.Encode.{encode_answer, json_found, reason_name, refused, spell_values, values_found};
+ghost use Rattle.parcel_output.specs.Encode.{encode_answer, json_found, reason_name, refused, values_found};
 ghost use Rattle.parcel_output.specs.JsonFile.{AreTyped, unread_refusal, values_of};
 ghost use Rattle.tool_frame.specs.Refusals.{within};
 ghost use Rattle.parcel_output.specs.steps.Planned.{ArePlanned};
+ghost use Rattle.parcel_output.specs.steps.Spelled.{spelled};
 ghost use Rattle.tool_frame.specs.Results.{EndsAs, Finds, Gives, printed};
 
 use crate::json_file::{Unread, values_of};
@@ -107,7 +108,7 @@ fn parcel_of(
 ) -> Result<Vec<u8>, Early>
     requires known { list_all (is_type schema.now.decls) types.now ≡ true }
     requires typed { AreTyped schema.now.decls types.now (map view values.now) }
-    ensures { Finds (λ v. v.items) result (within LimitName.ParcelBytes (spell_values schema.now.decls types.now (map view values.now))) }
+    ensures { Finds (λ v. v.items) result (within LimitName.ParcelBytes (spelled schema.now.decls types.now values.now)) }
 {
     let plans = compile(alloc, schema, types)?;
     let length = length_of(schema, types, &plans, values);
@@ -126,7 +127,7 @@ fn parcel_of(
 fn length_of(_schema: &Schema, _types: &[AidlType], plans: &Plans, values: &[Value]) -> usize
     requires planned { ArePlanned plans.now _schema.now.decls _types.now }
     requires typed { AreTyped _schema.now.decls _types.now (map view values.now) }
-    ensures { result ≡ min (length (spell_values _schema.now.decls _types.now (map view values.now))) usize.MAX }
+    ensures { result ≡ min (length (spelled _schema.now.decls _types.now values.now)) usize.MAX }
 {
     let ids = plans.extras.as_slice();
     let mut length: usize = 0;
@@ -147,9 +148,9 @@ fn put_values(
 )
     requires planned { ArePlanned plans.now _schema.now.decls _types.now }
     requires typed { AreTyped _schema.now.decls _types.now (map view values.now) }
-    requires small { length (spell_values _schema.now.decls _types.now (map view values.now)) < 2 ^ 31 }
-    requires room { length (spell_values _schema.now.decls _types.now (map view values.now)) ≤ to.old.room }
-    ensures { to.new ≡ with_bytes to.old (spell_values _schema.now.decls _types.now (map view values.now)) }
+    requires small { length (spelled _schema.now.decls _types.now values.now) < 2 ^ 31 }
+    requires room { length (spelled _schema.now.decls _types.now values.now) ≤ to.old.room }
+    ensures { to.new ≡ with_bytes to.old (spelled _schema.now.decls _types.now values.now) }
 {
     let ids = plans.extras.as_slice();
     for i in 0..values.len() {

@@ -1,11 +1,12 @@
 //! The values that a file of JSON stands for, one for each of some types.
-ghost use Rattle.std.specs.Prelude.{◌≡◌, ◌≤◌, Ok, Err, IfOk, IfErr, IfSome, decimal, length, map};
+ghost use Rattle.std.specs.Prelude.{◌≡◌, ◌≤◌, Ok, IfOk, decimal, length, map};
 ghost use Rattle.serde_json.specs.View.{view as json_view, items_view};
 ghost use Rattle.aidl_values.specs.Fits.{Fits};
 ghost use Rattle.aidl_values.specs.View.{view};
 ghost use Rattle.json_values.specs.FromJson.{from_json_of};
 ghost use Rattle.json_values.specs.Refusal.{within};
-ghost use Rattle.parcel_output.specs.JsonFile.{AreTyped, unread_refusal, values_from, values_of};
+ghost use Rattle.parcel_output.specs.JsonFile.{AreTyped, values_from, values_of};
+ghost use Rattle.parcel_output.specs.steps.Refusing.{RefusesAs};
 
 use aidl_schema::{AidlType, Schema};
 use aidl_values::Value;
@@ -53,7 +54,7 @@ pub fn values_of(
 ) -> Result<Vec<Value>, Unread>
     ensures ok { IfOk result (λ vs. values_of schema.now.decls types.now (json_view json.now) ≡ Ok (map view vs.items)) }
     ensures typed { IfOk result (λ vs. AreTyped schema.now.decls types.now (map view vs.items)) }
-    ensures refused { IfErr result (λ u. IfSome (unread_refusal u) (λ r. values_of schema.now.decls types.now (json_view json.now) ≡ Err r)) }
+    ensures refused { RefusesAs result (values_of schema.now.decls types.now (json_view json.now)) }
 {
     let Json::Array(items) = json else {
         return Err(Unread::Shape);
@@ -74,7 +75,7 @@ fn values_from(
     requires { length types.now ≡ length items.now }
     ensures ok { IfOk result (λ vs. values_from schema.now.decls 0 types.now (items_view items.now) ≡ Ok (map view vs.items)) }
     ensures typed { IfOk result (λ vs. AreTyped schema.now.decls types.now (map view vs.items)) }
-    ensures refused { IfErr result (λ u. IfSome (unread_refusal u) (λ r. values_from schema.now.decls 0 types.now (items_view items.now) ≡ Err r)) }
+    ensures refused { RefusesAs result (values_from schema.now.decls 0 types.now (items_view items.now)) }
 {
     let mut values = Vec::with_capacity(alloc, types.len())?;
     for i in 0..types.len() {
@@ -93,7 +94,7 @@ fn value_at(
 ) -> Result<Value, Unread>
     ensures ok { IfOk result (λ v. within (decimal place) (from_json_of schema.now.decls 64 ty.now (json_view json.now)) ≡ Ok (view v)) }
     ensures fits { IfOk result (λ v. Fits schema.now.decls ty.now (view v)) }
-    ensures refused { IfErr result (λ u. IfSome (unread_refusal u) (λ r. within (decimal place) (from_json_of schema.now.decls 64 ty.now (json_view json.now)) ≡ Err r)) }
+    ensures refused { RefusesAs result (within (decimal place) (from_json_of schema.now.decls 64 ty.now (json_view json.now))) }
 {
     match from_json(alloc, schema, ty, json) {
         Ok(value) => Ok(value),

@@ -8,9 +8,11 @@ mod methods;
 mod objects;
 mod pieces;
 mod running;
+mod session;
 mod values;
 
 pub use clients::push_saw;
 pub use cutting::{cut, lines_within};
 pub use objects::push_object;
 pub use running::{both_plans, run_trees};
+pub use session::Session;

@@ -31,7 +31,7 @@ pub fn push_line(
     requires { IsTyped client.now.decls server.now.decls run.now.methods run.now.out }
     ensures { OnOk result (string_bytes out.new ≡ string_bytes out.old ++ line_text client.now.decls server.now.decls run.now.methods number (line_data run.now.out)) }
 {
-    push_object(alloc, client, server, number, &run.out, run.methods, out)?;
+    push_object(alloc, client, server, number, run, out)?;
     out.push_str("\n")?;
     Ok(())
 }
@@ -42,24 +42,34 @@ pub fn push_object(
     client: &Schema,
     server: &Schema,
     number: usize,
-    line: &LineOut,
-    methods: Option<Methods>,
+    run: &LineRun,
     out: &mut String,
 ) -> Result<(), OutOfMemory>
-    // Its values have the types of these methods.
-    requires { IsTyped client.now.decls server.now.decls methods line.now }
-    ensures { OnOk result (string_bytes out.new ≡ string_bytes out.old ++ object_text client.now.decls server.now.decls methods number (line_data line.now)) }
+    // Its values have the types of its methods.
+    requires { IsTyped client.now.decls server.now.decls run.now.methods run.now.out }
+    ensures { OnOk result (string_bytes out.new ≡ string_bytes out.old
+        ++ object_text client.now.decls server.now.decls run.now.methods number (line_data run.now.out)) }
 {
-    match line {
+    match &run.out {
         LineOut::Refused(why) => push_refused(alloc, number, why, out),
         LineOut::Transport { status } => push_transport(number, *status, out),
         LineOut::OnewayDone { saw } => {
-            let known = known(methods);
-            push_oneway(alloc, server, number, known, saw, out)
+            let methods = known(run.methods);
+            let call = Received {
+                number,
+                methods,
+                saw,
+            };
+            push_oneway(alloc, server, &call, out)
         }
         LineOut::Done { saw, client: got } => {
-            let known = known(methods);
-            push_done(alloc, client, server, number, known, saw, got, out)
+            let methods = known(run.methods);
+            let call = Received {
+                number,
+                methods,
+                saw,
+            };
+            push_done(alloc, client, server, &call, got, out)
         }
     }
 }
@@ -106,59 +116,65 @@ fn push_transport(number: usize, status: i32, out: &mut String) -> Result<(), Ou
     Ok(())
 }
 
+// A call that the server received: the number of its line, its methods, and what the handler saw.
+#[derive(Clone, Copy)]
+struct Received<'a> {
+    number: usize,
+    methods: Methods,
+    saw: &'a Option<Row<Value>>,
+}
+
 fn push_oneway(
     alloc: Global,
     server: &Schema,
-    number: usize,
-    methods: Methods,
-    saw: &Option<Row<Value>>,
+    call: &Received<'_>,
     out: &mut String,
 ) -> Result<(), OutOfMemory>
-    requires there { methods.called < length (methods_at server.now.decls methods.server) }
-    requires typed { AreSeen server.now.decls methods saw.now }
-    ensures { OnOk result (string_bytes out.new ≡ string_bytes out.old ++ (codes "{" ++ called_text number (saw_text server.now.decls (Some methods) (option_map views saw.now)))) }
+    requires there { call.now.methods.called < length (methods_at server.now.decls call.now.methods.server) }
+    requires typed { AreSeen server.now.decls call.now.methods call.now.saw.now }
+    ensures { let saw = saw_text server.now.decls (Some call.now.methods) (option_map views call.now.saw.now) in
+        OnOk result (string_bytes out.new ≡ string_bytes out.old ++ (codes "{" ++ called_text call.now.number saw)) }
 {
     out.push_str("{")?;
-    push_called(alloc, server, number, methods, saw, out)
+    push_called(alloc, server, call, out)
 }
 
 fn push_done(
     alloc: Global,
     client: &Schema,
     server: &Schema,
-    number: usize,
-    methods: Methods,
-    saw: &Option<Row<Value>>,
+    call: &Received<'_>,
     got: &Got,
     out: &mut String,
 ) -> Result<(), OutOfMemory>
-    requires there { methods.called < length (methods_at server.now.decls methods.server) }
-    requires typed { AreSeen server.now.decls methods saw.now }
-    requires got { IsGotBy client.now.decls methods (got_of got.now) }
-    ensures { OnOk result (string_bytes out.new ≡ string_bytes out.old ++ (codes "{\"client\":" ++ client_text client.now.decls (Some methods) (got_of got.now)
-        ++ codes "," ++ called_text number (saw_text server.now.decls (Some methods) (option_map views saw.now)))) }
+    requires there { call.now.methods.called < length (methods_at server.now.decls call.now.methods.server) }
+    requires typed { AreSeen server.now.decls call.now.methods call.now.saw.now }
+    requires got { IsGotBy client.now.decls call.now.methods (got_of got.now) }
+    ensures { let saw = saw_text server.now.decls (Some call.now.methods) (option_map views call.now.saw.now) in
+        OnOk result (string_bytes out.new ≡ string_bytes out.old ++ (codes "{\"client\":"
+        ++ client_text client.now.decls (Some call.now.methods) (got_of got.now) ++ codes "," ++ called_text call.now.number saw)) }
 {
     out.push_str("{\"client\":")?;
-    push_client(alloc, client, methods, got, out)?;
+    push_client(alloc, client, call.methods, got, out)?;
     out.push_str(",")?;
-    push_called(alloc, server, number, methods, saw, out)
+    push_called(alloc, server, call, out)
 }
 
 // What stands last in the line of a call that the server received.
 fn push_called(
     alloc: Global,
     server: &Schema,
-    number: usize,
-    methods: Methods,
-    saw: &Option<Row<Value>>,
+    call: &Received<'_>,
     out: &mut String,
 ) -> Result<(), OutOfMemory>
-    requires there { methods.called < length (methods_at server.now.decls methods.server) }
-    requires typed { AreSeen server.now.decls methods saw.now }
-    ensures { OnOk result (string_bytes out.new ≡ string_bytes out.old ++ called_text number (saw_text server.now.decls (Some methods) (option_map views saw.now))) }
+    requires there { call.now.methods.called < length (methods_at server.now.decls call.now.methods.server) }
+    requires typed { AreSeen server.now.decls call.now.methods call.now.saw.now }
+    ensures { let saw = saw_text server.now.decls (Some call.now.methods) (option_map views call.now.saw.now) in
+        OnOk result (string_bytes out.new ≡ string_bytes out.old ++ called_text call.now.number saw) }
 {
+    let number = call.number;
     write!(out, "\"line\":{number},\"saw\":")?;
-    push_saw(alloc, server, methods, saw, out)?;
+    push_saw(alloc, server, call.methods, call.saw, out)?;
     out.push_str(",\"transport\":0}")?;
     Ok(())
 }

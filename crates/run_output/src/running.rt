@@ -18,7 +18,8 @@ ghost use Rattle.wire_model.specs.Outcome.{OneFollows, SameWays};
 use crate::cutting::cut;
 use crate::judging::judge_both;
 use crate::pieces::line_piece;
-use aidl_base::{OutOfMemory, Profile};
+use crate::session::Session;
+use aidl_base::OutOfMemory;
 use aidl_outside::{Link, Sink};
 use aidl_schema::Schema;
 use call_runner::{LineRun, RunFault, Side, run_line};
@@ -31,23 +32,24 @@ use wire_model::law_ways;
 /// else the lines are run. The answer is the exit.
 pub fn run_trees<K: Sink, L: Link>(
     alloc: Global,
-    profile: Profile,
-    client: &Schema,
-    server: &Schema,
-    trace: bool,
+    session: &Session<&Schema>,
     calls: &[u8],
     sink: &mut K,
     link: &mut L,
 ) -> Exit
     ensures ran { let seen = seen_alone K.told K.fault_record L.log L.is_faithful L.fault_record in
-        RanCourse (run_course profile client.now.decls server.now.decls trace calls.now) (seen sink.old link.old) (seen sink.new link.new) (number_of result) }
+        let A = session.now.client.now.decls in let B = session.now.server.now.decls in
+        RanCourse (run_course session.now.profile A B session.now.trace calls.now)
+        (seen sink.old link.old) (seen sink.new link.new) (number_of result) }
     // Over a faithful link, between two schemas of which one may follow the other, a run that nothing stops ends with 0, and has put exactly
     // what its lines are projected to.
-    ensures projected { let seen = seen_alone K.told K.fault_record L.log L.is_faithful L.fault_record in let A = client.now.decls in let B = server.now.decls in
-        Projects A B (projected_text profile A B trace 1 (lines_of calls.now)) (seen sink.old link.old) (seen sink.new link.new) (number_of result) }
+    ensures projected { let seen = seen_alone K.told K.fault_record L.log L.is_faithful L.fault_record in
+        let A = session.now.client.now.decls in let B = session.now.server.now.decls in
+        Projects A B (projected_text session.now.profile A B session.now.trace 1 (lines_of calls.now))
+        (seen sink.old link.old) (seen sink.new link.new) (number_of result) }
 {
-    match judge_both(alloc, client, server) {
-        Ok(None) => run_judged(alloc, profile, client, server, trace, calls, sink, link),
+    match judge_both(alloc, session.client, session.server) {
+        Ok(None) => run_judged(alloc, session, calls, sink, link),
         Ok(Some(printed)) => print(alloc, Ok(printed), sink),
         Err(_) => Exit::OutOfMemory,
     }
@@ -56,35 +58,33 @@ pub fn run_trees<K: Sink, L: Link>(
 // Runs the lines of a calls file between two schemas of which one may follow the other.
 fn run_judged<K: Sink, L: Link>(
     alloc: Global,
-    profile: Profile,
-    client: &Schema,
-    server: &Schema,
-    trace: bool,
+    session: &Session<&Schema>,
     calls: &[u8],
     sink: &mut K,
     link: &mut L,
 ) -> Exit
-    requires { OneFollows client.now.decls server.now.decls }
+    requires { OneFollows session.now.client.now.decls session.now.server.now.decls }
     ensures ran { let seen = seen_alone K.told K.fault_record L.log L.is_faithful L.fault_record in
-        RanCourse (lines_course profile client.now.decls server.now.decls trace 1 (lines_of calls.now)) (seen sink.old link.old) (seen sink.new link.new) (number_of result) }
-    ensures projected { let seen = seen_alone K.told K.fault_record L.log L.is_faithful L.fault_record in let A = client.now.decls in let B = server.now.decls in
-        Projects A B (projected_text profile A B trace 1 (lines_of calls.now)) (seen sink.old link.old) (seen sink.new link.new) (number_of result) }
+        let A = session.now.client.now.decls in let B = session.now.server.now.decls in
+        RanCourse (lines_course session.now.profile A B session.now.trace 1 (lines_of calls.now))
+        (seen sink.old link.old) (seen sink.new link.new) (number_of result) }
+    ensures projected { let seen = seen_alone K.told K.fault_record L.log L.is_faithful L.fault_record in
+        let A = session.now.client.now.decls in let B = session.now.server.now.decls in
+        Projects A B (projected_text session.now.profile A B session.now.trace 1 (lines_of calls.now))
+        (seen sink.old link.old) (seen sink.new link.new) (number_of result) }
 {
-    match both_plans(alloc, client, server) {
+    match both_plans(alloc, session.client, session.server) {
         Ok((client_plans, server_plans)) => {
-            let client_side = Side::new(client, &client_plans);
-            let server_side = Side::new(server, &server_plans);
-            law_ways(client, server);
-            run_lines(
-                alloc,
-                profile,
-                &client_side,
-                &server_side,
-                trace,
-                calls,
-                sink,
-                link,
-            )
+            let client = Side::new(session.client, &client_plans);
+            let server = Side::new(session.server, &server_plans);
+            law_ways(session.client, session.server);
+            let planned = Session {
+                profile: session.profile,
+                client,
+                server,
+                trace: session.trace,
+            };
+            run_lines(alloc, &planned, calls, sink, link)
         }
         Err(_) => Exit::OutOfMemory,
     }
@@ -114,27 +114,26 @@ fn plans_of(alloc: Global, schema: &Schema) -> Result<Plans, OutOfMemory>
 /// answer is the exit.
 pub fn run_lines<K: Sink, L: Link>(
     alloc: Global,
-    profile: Profile,
-    client: &Side<'_>,
-    server: &Side<'_>,
-    trace: bool,
+    session: &Session<Side<'_>>,
     calls: &[u8],
     sink: &mut K,
     link: &mut L,
 ) -> Exit
-    requires { SameWays client.now server.now }
+    requires { SameWays session.now.client session.now.server }
     ensures ran { let seen = seen_alone K.told K.fault_record L.log L.is_faithful L.fault_record in
-        RanCourse (lines_course profile client.now server.now trace 1 (lines_of calls.now)) (seen sink.old link.old) (seen sink.new link.new) (number_of result) }
-    ensures projected { let seen = seen_alone K.told K.fault_record L.log L.is_faithful L.fault_record in let A = client.now in let B = server.now in
-        Projects A B (projected_text profile A B trace 1 (lines_of calls.now)) (seen sink.old link.old) (seen sink.new link.new) (number_of result) }
+        let A = session.now.client in let B = session.now.server in
+        RanCourse (lines_course session.now.profile A B session.now.trace 1 (lines_of calls.now))
+        (seen sink.old link.old) (seen sink.new link.new) (number_of result) }
+    ensures projected { let seen = seen_alone K.told K.fault_record L.log L.is_faithful L.fault_record in
+        let A = session.now.client in let B = session.now.server in
+        Projects A B (projected_text session.now.profile A B session.now.trace 1 (lines_of calls.now))
+        (seen sink.old link.old) (seen sink.new link.new) (number_of result) }
 {
     let mut rest = calls;
     let mut number = 1;
     while !rest.is_empty() {
         let (line, after) = cut(rest);
-        if let Err(exit) = run_next(
-            alloc, profile, client, server, trace, number, line, sink, link,
-        ) {
+        if let Err(exit) = run_next(alloc, session, number, line, sink, link) {
             return exit;
         }
         if after.is_empty() {
@@ -149,24 +148,31 @@ pub fn run_lines<K: Sink, L: Link>(
 // Runs the line with a number. Where that fails, the answer is the exit with which the run ends.
 fn run_next<K: Sink, L: Link>(
     alloc: Global,
-    profile: Profile,
-    client: &Side<'_>,
-    server: &Side<'_>,
-    trace: bool,
+    session: &Session<Side<'_>>,
     number: usize,
     line: &[u8],
     sink: &mut K,
     link: &mut L,
 ) -> Result<(), Exit>
-    requires { SameWays client.now server.now }
-    ensures steps { let seen = seen_alone K.told K.fault_record L.log L.is_faithful L.fault_record in let A = client.now in let B = server.now in
-        (next : Course) → Steps (line_course profile A B (puts A B trace number next) (script A B line.now)) next (seen sink.old link.old) (seen sink.new link.new) result }
+    requires { SameWays session.now.client session.now.server }
+    ensures steps { let seen = seen_alone K.told K.fault_record L.log L.is_faithful L.fault_record in
+        let p = session.now.profile in let A = session.now.client in let B = session.now.server in
+        (next : Course) → Steps (line_course p A B (puts A B session.now.trace number next) (script A B line.now)) next
+        (seen sink.old link.old) (seen sink.new link.new) result }
     ensures exits { IfErr result (λ exit. IsVerdict (number_of exit) → ⊥) }
-    ensures projected { let A = client.now in let B = server.now in OneFollows A B → L.is_faithful link.old ≡ true
-        → IfOk result (λ u. Adds (K.told sink.old) (K.told sink.new) (projected_piece profile A B trace number (script A B line.now))) }
+    ensures projected { let p = session.now.profile in let A = session.now.client in let B = session.now.server in
+        OneFollows A B → L.is_faithful link.old ≡ true → IfOk result (λ u. Adds (K.told sink.old) (K.told sink.new)
+        (projected_piece p A B session.now.trace number (script A B line.now))) }
 {
-    match run_line(alloc, profile, client, server, line, link) {
-        Ok(run) => put_line(alloc, client, server, trace, number, &run, sink),
+    match run_line(
+        alloc,
+        session.profile,
+        &session.client,
+        &session.server,
+        line,
+        link,
+    ) {
+        Ok(run) => put_line(alloc, session, number, &run, sink),
         Err(RunFault::LinkFault) => Err(Exit::LinkFailed),
         Err(RunFault::OutOfMemory) => Err(Exit::OutOfMemory),
     }
@@ -175,18 +181,19 @@ fn run_next<K: Sink, L: Link>(
 // Puts what is put of a line.
 fn put_line<K: Sink>(
     alloc: Global,
-    client: &Side<'_>,
-    server: &Side<'_>,
-    trace: bool,
+    session: &Session<Side<'_>>,
     number: usize,
     run: &LineRun,
     sink: &mut K,
 ) -> Result<(), Exit>
-    requires { IsTyped client.now server.now run.now.methods run.now.out }
-    ensures { PutsText (piece client.now server.now trace number run.now.carried run.now.methods (line_data run.now.out))
+    requires { IsTyped session.now.client session.now.server run.now.methods run.now.out }
+    ensures { let A = session.now.client in let B = session.now.server in
+        PutsText (piece A B session.now.trace number run.now.carried run.now.methods (line_data run.now.out))
         (K.told sink.old) (K.told sink.new) (K.fault_record sink.old) (K.fault_record sink.new) result }
 {
-    match line_piece(alloc, client.schema(), server.schema(), trace, number, run) {
+    let client = session.client.schema();
+    let server = session.server.schema();
+    match line_piece(alloc, client, server, session.trace, number, run) {
         Ok(text) => put(alloc, text.as_str(), sink),
         Err(_) => Err(Exit::OutOfMemory),
     }

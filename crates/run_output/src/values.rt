@@ -40,7 +40,12 @@ pub fn push_values(
         [] => push_empty(out),
         [ty, types @ ..] => match values {
             [] => push_empty(out),
-            [value, values @ ..] => push_some(alloc, schema, ty, types, value, values, out),
+            [value, values @ ..] => {
+                push_behind(alloc, "[", schema, ty, value, out)?;
+                push_others(alloc, schema, types, values, out)?;
+                out.push_str("]")?;
+                Ok(())
+            }
         },
     }
 }
@@ -49,27 +54,6 @@ fn push_empty(out: &mut String) -> Result<(), OutOfMemory>
     ensures { OnOk result (string_bytes out.new ≡ string_bytes out.old ++ codes "[]") }
 {
     out.push_str("[]")?;
-    Ok(())
-}
-
-// Adds an array of a value and others.
-fn push_some(
-    alloc: Global,
-    schema: &Schema,
-    ty: &AidlType,
-    types: &[AidlType],
-    value: &Value,
-    values: &[Value],
-    out: &mut String,
-) -> Result<(), OutOfMemory>
-    requires first { HasType schema.now.decls ty.now (view value.now) }
-    requires others { EachHasType schema.now.decls types.now (views values.now) }
-    ensures { OnOk result (string_bytes out.new ≡ string_bytes out.old
-        ++ (codes "[" ++ value_text schema.now.decls ty.now (view value.now) ++ others_text schema.now.decls types.now (views values.now) ++ codes "]")) }
-{
-    push_behind(alloc, "[", schema, ty, value, out)?;
-    push_others(alloc, schema, types, values, out)?;
-    out.push_str("]")?;
     Ok(())
 }
 

@@ -5,4 +5,6 @@ use Rattle.parcel_output.proofs.decoding.print_planned.Given as goal
 
 -- what was printed, and then what the items that are left print, is all
 abbrev pub invariant-loop-i : goal.invariant-loop-i
-invariant-loop-i l = after_text (string_bytes l.text) (items_answer l.profile l.schema.decls (drop l.i l.types) l.rest) ≡ items_answer l.profile l.schema.decls l.types l.fn.bytes
+invariant-loop-i l =
+    after_text (string_bytes l.text) (items_answer l.decoder.profile l.decoder.schema.now.decls (drop l.i l.types) l.rest)
+    ≡ items_answer l.decoder.profile l.decoder.schema.now.decls l.types l.fn.bytes

@@ -13,26 +13,30 @@ use Rattle.run_output.proofs.running.run_judged.Goals as goal
 
 pub run_lines-requires : goal.run_lines-requires
 run_lines-requires g c =
-    subst (λ (A : List Decl). SameWays A c.new-server_side.result) (sym c.new-client_side.ensures)
-    (subst (λ (B : List Decl). SameWays c.args.client.now.decls B) (sym c.new-server_side.ensures) (c.law_ways.ensures c.requires))
+    let s = c.args.session.now in
+    subst (λ (A : List Decl). SameWays A c.new-server.result) (sym c.new-client.ensures)
+    (subst (λ (B : List Decl). SameWays s.client.now.decls B) (sym c.new-server.ensures) (c.law_ways.ensures c.requires))
 
 pub returns-in-Ok-clause-ran : goal.returns-in-Ok-clause-ran
 returns-in-Ok-clause-ran g c =
+    let s = c.args.session.now in
     let before : Seen = seen_alone g.K.Sink.told g.K.Sink.fault_record g.L.Link.log g.L.Link.is_faithful g.L.Link.fault_record c.args.sink.now c.args.link.now in
     let after : Seen = seen_alone g.K.Sink.told g.K.Sink.fault_record g.L.Link.log g.L.Link.is_faithful g.L.Link.fault_record c.run_lines.new.sink c.run_lines.new.link in
-    subst (λ (A : List Decl). RanCourse (lines_course c.args.profile A c.args.server.now.decls c.args.trace 1 (lines_of c.args.calls.now)) before after (number_of c.run_lines.result)) c.new-client_side.ensures
-    (subst (λ (B : List Decl). RanCourse (lines_course c.args.profile c.new-client_side.result B c.args.trace 1 (lines_of c.args.calls.now)) before after (number_of c.run_lines.result)) c.new-server_side.ensures c.run_lines.ensures.ran)
+    subst (λ (A : List Decl). RanCourse (lines_course s.profile A s.server.now.decls s.trace 1 (lines_of c.args.calls.now)) before after (number_of c.run_lines.result)) c.new-client.ensures
+    (subst (λ (B : List Decl). RanCourse (lines_course s.profile c.new-client.result B s.trace 1 (lines_of c.args.calls.now)) before after (number_of c.run_lines.result)) c.new-server.ensures c.run_lines.ensures.ran)
 
 pub returns-in-Ok-clause-projected : goal.returns-in-Ok-clause-projected
 returns-in-Ok-clause-projected g c =
+    let s = c.args.session.now in
     let before : Seen = seen_alone g.K.Sink.told g.K.Sink.fault_record g.L.Link.log g.L.Link.is_faithful g.L.Link.fault_record c.args.sink.now c.args.link.now in
     let after : Seen = seen_alone g.K.Sink.told g.K.Sink.fault_record g.L.Link.log g.L.Link.is_faithful g.L.Link.fault_record c.run_lines.new.sink c.run_lines.new.link in
-    subst (λ (A : List Decl). Projects A c.args.server.now.decls (projected_text c.args.profile A c.args.server.now.decls c.args.trace 1 (lines_of c.args.calls.now)) before after (number_of c.run_lines.result)) c.new-client_side.ensures
-    (subst (λ (B : List Decl). Projects c.new-client_side.result B (projected_text c.args.profile c.new-client_side.result B c.args.trace 1 (lines_of c.args.calls.now)) before after (number_of c.run_lines.result)) c.new-server_side.ensures c.run_lines.ensures.projected)
+    subst (λ (A : List Decl). Projects A s.server.now.decls (projected_text s.profile A s.server.now.decls s.trace 1 (lines_of c.args.calls.now)) before after (number_of c.run_lines.result)) c.new-client.ensures
+    (subst (λ (B : List Decl). Projects c.new-client.result B (projected_text s.profile c.new-client.result B s.trace 1 (lines_of c.args.calls.now)) before after (number_of c.run_lines.result)) c.new-server.ensures c.run_lines.ensures.projected)
 
 pub returns-in-Err-clause-ran : goal.returns-in-Err-clause-ran
 returns-in-Err-clause-ran g c =
-    ran_none (lines_course c.args.profile c.args.client.now.decls c.args.server.now.decls c.args.trace 1 (lines_of c.args.calls.now))
+    let s = c.args.session.now in
+    ran_none (lines_course s.profile s.client.now.decls s.server.now.decls s.trace 1 (lines_of c.args.calls.now))
     (seen_alone g.K.Sink.told g.K.Sink.fault_record g.L.Link.log g.L.Link.is_faithful g.L.Link.fault_record c.args.sink.now c.args.link.now)
 
 pub returns-in-Err-clause-projected : goal.returns-in-Err-clause-projected

@@ -26,9 +26,10 @@ loop-rest-smaller g c = omega arith
 
 pub loop-rest-init : goal.loop-rest-init
 loop-rest-init g c =
-    let A : List Decl = c.args.client.now in
-    let B : List Decl = c.args.server.now in
-    let whole : Course = lines_course c.args.profile A B c.args.trace 1 (lines_of c.args.calls.now) in
+    let s = c.args.session.now in
+    let A : List Decl = s.client in
+    let B : List Decl = s.server in
+    let whole : Course = lines_course s.profile A B s.trace 1 (lines_of c.args.calls.now) in
     let start : Seen = seen_alone g.K.Sink.told g.K.Sink.fault_record g.L.Link.log g.L.Link.is_faithful g.L.Link.fault_record c.args.sink.now c.args.link.now in
     record {
       went = went_none whole start;
@@ -38,14 +39,15 @@ loop-rest-init g c =
 
 pub returns-in-Err-clause-ran : goal.returns-in-Err-clause-ran
 returns-in-Err-clause-ran g c =
-    let A : List Decl = c.args.client.now in
-    let B : List Decl = c.args.server.now in
-    let whole : Course = lines_course c.args.profile A B c.args.trace 1 (lines_of c.args.calls.now) in
+    let s = c.args.session.now in
+    let A : List Decl = s.client in
+    let B : List Decl = s.server in
+    let whole : Course = lines_course s.profile A B s.trace 1 (lines_of c.args.calls.now) in
     let start : Seen = seen_alone g.K.Sink.told g.K.Sink.fault_record g.L.Link.log g.L.Link.is_faithful g.L.Link.fault_record c.args.sink.now c.args.link.now in
     let now : Seen = seen_alone g.K.Sink.told g.K.Sink.fault_record g.L.Link.log g.L.Link.is_faithful g.L.Link.fault_record c.loop-rest.sink c.loop-rest.link in
     let later : Seen = seen_alone g.K.Sink.told g.K.Sink.fault_record g.L.Link.log g.L.Link.is_faithful g.L.Link.fault_record c.run_next.new.sink c.run_next.new.link in
-    let left : Course = lines_course c.args.profile A B c.args.trace (c.loop-rest.number + 1) (lines_of c.cut.result.1.now) in
-    next_ended c.args.profile A B c.args.trace c.loop-rest.number whole c.loop-rest.rest.now c.cut.result.0.now c.cut.result.1.now start now later c.cut.ensures.lines c.loop-rest.invariant.went (number_of c.in-Err.exit) (c.in-Err.ensures.steps left)
+    let left : Course = lines_course s.profile A B s.trace (c.loop-rest.number + 1) (lines_of c.cut.result.1.now) in
+    next_ended s.profile A B s.trace c.loop-rest.number whole c.loop-rest.rest.now c.cut.result.0.now c.cut.result.1.now start now later c.cut.ensures.lines c.loop-rest.invariant.went (number_of c.in-Err.exit) (c.in-Err.ensures.steps left)
 
 pub returns-in-Err-clause-projected : goal.returns-in-Err-clause-projected
 returns-in-Err-clause-projected g c =
@@ -53,43 +55,46 @@ returns-in-Err-clause-projected g c =
 
 pub returns-then-is_empty-clause-ran : goal.returns-then-is_empty-clause-ran
 returns-then-is_empty-clause-ran g c =
-    let A : List Decl = c.args.client.now in
-    let B : List Decl = c.args.server.now in
-    let whole : Course = lines_course c.args.profile A B c.args.trace 1 (lines_of c.args.calls.now) in
+    let s = c.args.session.now in
+    let A : List Decl = s.client in
+    let B : List Decl = s.server in
+    let whole : Course = lines_course s.profile A B s.trace 1 (lines_of c.args.calls.now) in
     let start : Seen = seen_alone g.K.Sink.told g.K.Sink.fault_record g.L.Link.log g.L.Link.is_faithful g.L.Link.fault_record c.args.sink.now c.args.link.now in
     let now : Seen = seen_alone g.K.Sink.told g.K.Sink.fault_record g.L.Link.log g.L.Link.is_faithful g.L.Link.fault_record c.loop-rest.sink c.loop-rest.link in
     let later : Seen = seen_alone g.K.Sink.told g.K.Sink.fault_record g.L.Link.log g.L.Link.is_faithful g.L.Link.fault_record c.run_next.new.sink c.run_next.new.link in
-    let left : Course = lines_course c.args.profile A B c.args.trace (c.loop-rest.number + 1) (lines_of c.cut.result.1.now) in
-    lines_ended c.args.profile A B c.args.trace (c.loop-rest.number + 1) whole c.cut.result.1.now start later
+    let left : Course = lines_course s.profile A B s.trace (c.loop-rest.number + 1) (lines_of c.cut.result.1.now) in
+    lines_ended s.profile A B s.trace (c.loop-rest.number + 1) whole c.cut.result.1.now start later
     (empty_list c.cut.result.1.now c.is_empty-in-loop-rest.result c.is_empty-in-loop-rest.ensures c.if-is_empty.true)
-    (next_went c.args.profile A B c.args.trace c.loop-rest.number whole c.loop-rest.rest.now c.cut.result.0.now c.cut.result.1.now start now later c.cut.ensures.lines c.loop-rest.invariant.went (c.in_default.ensures.steps left))
+    (next_went s.profile A B s.trace c.loop-rest.number whole c.loop-rest.rest.now c.cut.result.0.now c.cut.result.1.now start now later c.cut.ensures.lines c.loop-rest.invariant.went (c.in_default.ensures.steps left))
 
 pub returns-then-is_empty-clause-projected : goal.returns-then-is_empty-clause-projected
 returns-then-is_empty-clause-projected g c =
-    let A : List Decl = c.args.client.now in
-    let B : List Decl = c.args.server.now in
+    let s = c.args.session.now in
+    let A : List Decl = s.client in
+    let B : List Decl = s.server in
     λ one faithful verdict. (
       refl,
-      lines_added c.args.profile A B c.args.trace (c.loop-rest.number + 1) c.cut.result.1.now (projected_text c.args.profile A B c.args.trace 1 (lines_of c.args.calls.now)) (g.K.Sink.told c.args.sink.now)
+      lines_added s.profile A B s.trace (c.loop-rest.number + 1) c.cut.result.1.now (projected_text s.profile A B s.trace 1 (lines_of c.args.calls.now)) (g.K.Sink.told c.args.sink.now)
           (g.K.Sink.told c.run_next.new.sink) (empty_list c.cut.result.1.now c.is_empty-in-loop-rest.result c.is_empty-in-loop-rest.ensures c.if-is_empty.true)
-          (next_added c.args.profile A B c.args.trace c.loop-rest.number c.loop-rest.rest.now c.cut.result.0.now c.cut.result.1.now (projected_text c.args.profile A B c.args.trace 1 (lines_of c.args.calls.now)) (g.K.Sink.told c.args.sink.now)
+          (next_added s.profile A B s.trace c.loop-rest.number c.loop-rest.rest.now c.cut.result.0.now c.cut.result.1.now (projected_text s.profile A B s.trace 1 (lines_of c.args.calls.now)) (g.K.Sink.told c.args.sink.now)
           (g.K.Sink.told c.loop-rest.sink) c.cut.ensures.lines (c.loop-rest.invariant.completes one faithful) (g.K.Sink.told c.run_next.new.sink)
           (c.in_default.ensures.projected one (still_faithful (g.L.Link.is_faithful c.args.link.now) (g.L.Link.is_faithful c.loop-rest.link) c.loop-rest.invariant.went.link_nature faithful))),
     )
 
 pub loop-rest-preserved : goal.loop-rest-preserved
 loop-rest-preserved g c =
-    let A : List Decl = c.args.client.now in
-    let B : List Decl = c.args.server.now in
-    let whole : Course = lines_course c.args.profile A B c.args.trace 1 (lines_of c.args.calls.now) in
+    let s = c.args.session.now in
+    let A : List Decl = s.client in
+    let B : List Decl = s.server in
+    let whole : Course = lines_course s.profile A B s.trace 1 (lines_of c.args.calls.now) in
     let start : Seen = seen_alone g.K.Sink.told g.K.Sink.fault_record g.L.Link.log g.L.Link.is_faithful g.L.Link.fault_record c.args.sink.now c.args.link.now in
     let now : Seen = seen_alone g.K.Sink.told g.K.Sink.fault_record g.L.Link.log g.L.Link.is_faithful g.L.Link.fault_record c.loop-rest.sink c.loop-rest.link in
     let later : Seen = seen_alone g.K.Sink.told g.K.Sink.fault_record g.L.Link.log g.L.Link.is_faithful g.L.Link.fault_record c.run_next.new.sink c.run_next.new.link in
-    let left : Course = lines_course c.args.profile A B c.args.trace (c.loop-rest.number + 1) (lines_of c.cut.result.1.now) in
+    let left : Course = lines_course s.profile A B s.trace (c.loop-rest.number + 1) (lines_of c.cut.result.1.now) in
     record {
-      went = next_went c.args.profile A B c.args.trace c.loop-rest.number whole c.loop-rest.rest.now c.cut.result.0.now c.cut.result.1.now start now later c.cut.ensures.lines c.loop-rest.invariant.went (c.in_default.ensures.steps left);
+      went = next_went s.profile A B s.trace c.loop-rest.number whole c.loop-rest.rest.now c.cut.result.0.now c.cut.result.1.now start now later c.cut.ensures.lines c.loop-rest.invariant.went (c.in_default.ensures.steps left);
       completes = λ one faithful.
-          (next_added c.args.profile A B c.args.trace c.loop-rest.number c.loop-rest.rest.now c.cut.result.0.now c.cut.result.1.now (projected_text c.args.profile A B c.args.trace 1 (lines_of c.args.calls.now)) (g.K.Sink.told c.args.sink.now)
+          (next_added s.profile A B s.trace c.loop-rest.number c.loop-rest.rest.now c.cut.result.0.now c.cut.result.1.now (projected_text s.profile A B s.trace 1 (lines_of c.args.calls.now)) (g.K.Sink.told c.args.sink.now)
           (g.K.Sink.told c.loop-rest.sink) c.cut.ensures.lines (c.loop-rest.invariant.completes one faithful) (g.K.Sink.told c.run_next.new.sink)
           (c.in_default.ensures.projected one (still_faithful (g.L.Link.is_faithful c.args.link.now) (g.L.Link.is_faithful c.loop-rest.link) c.loop-rest.invariant.went.link_nature faithful)));
       few = omega arith;
@@ -97,20 +102,22 @@ loop-rest-preserved g c =
 
 pub returns-clause-ran : goal.returns-clause-ran
 returns-clause-ran g c =
-    let A : List Decl = c.args.client.now in
-    let B : List Decl = c.args.server.now in
-    let whole : Course = lines_course c.args.profile A B c.args.trace 1 (lines_of c.args.calls.now) in
+    let s = c.args.session.now in
+    let A : List Decl = s.client in
+    let B : List Decl = s.server in
+    let whole : Course = lines_course s.profile A B s.trace 1 (lines_of c.args.calls.now) in
     let start : Seen = seen_alone g.K.Sink.told g.K.Sink.fault_record g.L.Link.log g.L.Link.is_faithful g.L.Link.fault_record c.args.sink.now c.args.link.now in
     let now : Seen = seen_alone g.K.Sink.told g.K.Sink.fault_record g.L.Link.log g.L.Link.is_faithful g.L.Link.fault_record c.loop-rest.sink c.loop-rest.link in
-    lines_ended c.args.profile A B c.args.trace c.loop-rest.number whole c.loop-rest.rest.now start now
+    lines_ended s.profile A B s.trace c.loop-rest.number whole c.loop-rest.rest.now start now
     (empty_list c.loop-rest.rest.now c.is_empty.result c.is_empty.ensures c.loop-rest-test.false) c.loop-rest.invariant.went
 
 pub returns-clause-projected : goal.returns-clause-projected
 returns-clause-projected g c =
-    let A : List Decl = c.args.client.now in
-    let B : List Decl = c.args.server.now in
+    let s = c.args.session.now in
+    let A : List Decl = s.client in
+    let B : List Decl = s.server in
     λ one faithful verdict. (
       refl,
-      lines_added c.args.profile A B c.args.trace c.loop-rest.number c.loop-rest.rest.now (projected_text c.args.profile A B c.args.trace 1 (lines_of c.args.calls.now)) (g.K.Sink.told c.args.sink.now)
+      lines_added s.profile A B s.trace c.loop-rest.number c.loop-rest.rest.now (projected_text s.profile A B s.trace 1 (lines_of c.args.calls.now)) (g.K.Sink.told c.args.sink.now)
           (g.K.Sink.told c.loop-rest.sink) (empty_list c.loop-rest.rest.now c.is_empty.result c.is_empty.ensures c.loop-rest-test.false) (c.loop-rest.invariant.completes one faithful),
     )

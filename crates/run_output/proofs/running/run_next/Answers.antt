@@ -16,30 +16,32 @@ use Rattle.run_output.proofs.running.run_next.Goals as goal
 
 pub returns-in-Ok : goal.returns-in-Ok
 returns-in-Ok g c =
-    let A : List Decl = c.args.client.now in
-    let B : List Decl = c.args.server.now in
+    let s = c.args.session.now in
+    let A : List Decl = s.client in
+    let B : List Decl = s.server in
     let meant : Judged CallData = script A B c.args.line.now in
     let before : Seen = seen_alone g.K.Sink.told g.K.Sink.fault_record g.L.Link.log g.L.Link.is_faithful g.L.Link.fault_record c.args.sink.now c.args.link.now in
     let run : LineRun = c.in-Ok.run' in
     record {
-      steps = λ next. line_steps c.args.profile A B c.args.trace c.args.number next meant before (g.L.Link.log c.run_line.new.link) (g.L.Link.is_faithful c.run_line.new.link)
+      steps = λ next. line_steps s.profile A B s.trace c.args.number next meant before (g.L.Link.log c.run_line.new.link) (g.L.Link.is_faithful c.run_line.new.link)
           (g.L.Link.fault_record c.run_line.new.link) c.run_line.ensures.nature run (g.K.Sink.told c.put_line.new.sink) (g.K.Sink.fault_record c.put_line.new.sink) c.put_line.result
           c.in-Ok.ensures.line c.in-Ok.ensures.log c.in-Ok.ensures.faithful c.in-Ok.ensures.cause c.put_line.ensures;
       exits = put_stops _ _ _ _ _ c.put_line.result c.put_line.ensures;
-      projected = λ one faithful. put_projected A B c.args.number c.args.profile c.args.trace meant run.carried run.methods run.out _ _ _ _ c.put_line.result c.put_line.ensures
-          (carried_is c.args.profile A B meant run c.in-Ok.ensures.line (c.in-Ok.ensures.faithful faithful)) c.in-Ok.ensures.typed (c.in-Ok.ensures.outcome one faithful) (c.in-Ok.ensures.named one faithful);
+      projected = λ one faithful. put_projected A B c.args.number s.profile s.trace meant run.carried run.methods run.out _ _ _ _ c.put_line.result c.put_line.ensures
+          (carried_is s.profile A B meant run c.in-Ok.ensures.line (c.in-Ok.ensures.faithful faithful)) c.in-Ok.ensures.typed (c.in-Ok.ensures.outcome one faithful) (c.in-Ok.ensures.named one faithful);
     }
 
 pub returns-in-Err-LinkFault : goal.returns-in-Err-LinkFault
 returns-in-Err-LinkFault g c =
-    let A : List Decl = c.args.client.now in
-    let B : List Decl = c.args.server.now in
+    let s = c.args.session.now in
+    let A : List Decl = s.client in
+    let B : List Decl = s.server in
     let meant : Judged CallData = script A B c.args.line.now in
     let before : Seen = seen_alone g.K.Sink.told g.K.Sink.fault_record g.L.Link.log g.L.Link.is_faithful g.L.Link.fault_record c.args.sink.now c.args.link.now in
     record {
-      steps = λ next. line_link c.args.profile A B (puts A B c.args.trace c.args.number next) meant before (g.L.Link.log c.run_line.new.link) (g.L.Link.is_faithful c.run_line.new.link)
+      steps = λ next. line_link s.profile A B (puts A B s.trace c.args.number next) meant before (g.L.Link.log c.run_line.new.link) (g.L.Link.is_faithful c.run_line.new.link)
           (g.L.Link.fault_record c.run_line.new.link) c.run_line.ensures.nature
-          (subst (λ (f : RunFault). Stops c.args.profile A B meant before.is_faithful before.log (g.L.Link.log c.run_line.new.link) (g.L.Link.fault_record c.run_line.new.link) f) c.in-Err-LinkFault.field-0-is c.in-Err-LinkFault.ensures.stops)
+          (subst (λ (f : RunFault). Stops s.profile A B meant before.is_faithful before.log (g.L.Link.log c.run_line.new.link) (g.L.Link.fault_record c.run_line.new.link) f) c.in-Err-LinkFault.field-0-is c.in-Err-LinkFault.ensures.stops)
           (subst (λ (f : RunFault). RunCause {T = LineRun} before.link_faults (g.L.Link.fault_record c.run_line.new.link) (Err f)) c.in-Err-LinkFault.field-0-is c.in-Err-LinkFault.ensures.cause);
       exits = λ verdict. not_verdict 6 (omega arith) (omega arith) verdict;
       projected = λ one faithful. tt;
@@ -47,14 +49,15 @@ returns-in-Err-LinkFault g c =
 
 pub returns-in-Err-OutOfMemory : goal.returns-in-Err-OutOfMemory
 returns-in-Err-OutOfMemory g c =
-    let A : List Decl = c.args.client.now in
-    let B : List Decl = c.args.server.now in
+    let s = c.args.session.now in
+    let A : List Decl = s.client in
+    let B : List Decl = s.server in
     let meant : Judged CallData = script A B c.args.line.now in
     let before : Seen = seen_alone g.K.Sink.told g.K.Sink.fault_record g.L.Link.log g.L.Link.is_faithful g.L.Link.fault_record c.args.sink.now c.args.link.now in
     record {
-      steps = λ next. line_memory c.args.profile A B (puts A B c.args.trace c.args.number next) meant before (g.L.Link.log c.run_line.new.link) (g.L.Link.is_faithful c.run_line.new.link)
+      steps = λ next. line_memory s.profile A B (puts A B s.trace c.args.number next) meant before (g.L.Link.log c.run_line.new.link) (g.L.Link.is_faithful c.run_line.new.link)
           (g.L.Link.fault_record c.run_line.new.link) c.run_line.ensures.nature
-          (subst (λ (f : RunFault). Stops c.args.profile A B meant before.is_faithful before.log (g.L.Link.log c.run_line.new.link) (g.L.Link.fault_record c.run_line.new.link) f) c.in-Err-OutOfMemory.field-0-is c.in-Err-OutOfMemory.ensures.stops)
+          (subst (λ (f : RunFault). Stops s.profile A B meant before.is_faithful before.log (g.L.Link.log c.run_line.new.link) (g.L.Link.fault_record c.run_line.new.link) f) c.in-Err-OutOfMemory.field-0-is c.in-Err-OutOfMemory.ensures.stops)
           (subst (λ (f : RunFault). RunCause {T = LineRun} before.link_faults (g.L.Link.fault_record c.run_line.new.link) (Err f)) c.in-Err-OutOfMemory.field-0-is c.in-Err-OutOfMemory.ensures.cause);
       exits = λ verdict. not_verdict 5 (omega arith) (omega arith) verdict;
       projected = λ one faithful. tt;
