@@ -30,7 +30,7 @@ ghost use Rattle.type_check.specs.Checked.{IsSchemaOf};
 use aidl_base::{Limit, LimitName, Profile, Row, SourceFile};
 use aidl_outside::{Link, Sink, Store, StoreFault};
 use aidl_schema::Schema;
-use run_output::{lines_within, run_trees};
+use run_output::{Session, lines_within, run_trees};
 use std::alloc::Global;
 use tool_frame::{Early, Exit, existing_file, files_of, load, load_tree, print, text_of};
 use tree_output::check_tree;
@@ -268,16 +268,13 @@ fn run_both<K: Sink, L: Link>(
 {
     law_call_none(&run.client, &run.server);
     let calls = run.text.as_slice();
-    run_trees(
-        alloc,
+    let session = Session {
         profile,
-        &run.client,
-        &run.server,
+        client: &run.client,
+        server: &run.server,
         trace,
-        calls,
-        sink,
-        link,
-    )
+    };
+    run_trees(alloc, &session, calls, sink, link)
 }
 
 /// Prints how a run ends early. The answer is the exit.
