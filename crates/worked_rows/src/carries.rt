@@ -6,7 +6,6 @@ use aidl_base::{OutOfMemory, Row};
 use aidl_outside::{Carried, Way};
 use memory_outside::{Edit, EditKind, TamperLink};
 use std::alloc::Global;
-use std::mem;
 
 /// The link of a run: the edits of its carries and the carries that fail; and the log that is wanted.
 #[derive(Drop)]
@@ -79,25 +78,19 @@ impl Carries {
         Ok(true)
     }
 
-    /// The link. A second one has no edits and never fails.
-    pub fn link(&mut self, alloc: Global) -> Result<TamperLink, OutOfMemory> {
-        let edits = mem::replace(&mut self.edits, Row::new(alloc));
-        let fails = mem::replace(&mut self.fails, Row::new(alloc));
-        TamperLink::new(alloc, edits, fails)
-    }
-
-    /// The lines of a link's log; none where it isn't looked at.
-    pub fn log_of(&self, alloc: Global, link: &TamperLink) -> Result<String, OutOfMemory> {
-        if self.is_unseen {
-            Ok(String::new(alloc))
-        } else {
-            shown_log(alloc, link.log())
-        }
+    /// The link.
+    pub fn link(self, alloc: Global) -> Result<TamperLink, OutOfMemory> {
+        TamperLink::new(alloc, self.edits, self.fails)
     }
 
     /// The lines of the log that is wanted.
     pub fn wanted(&self) -> &str {
         self.log.as_str()
+    }
+
+    /// Whether the log is looked at.
+    pub fn is_seen(&self) -> bool {
+        !self.is_unseen
     }
 }
 
@@ -110,8 +103,8 @@ fn set_of(text: &str) -> Option<EditKind> {
     })
 }
 
-// A log as lines.
-fn shown_log(alloc: Global, log: &[Carried]) -> Result<String, OutOfMemory> {
+/// A log as lines.
+pub fn shown_log(alloc: Global, log: &[Carried]) -> Result<String, OutOfMemory> {
     let mut text = String::new(alloc);
     for entry in log {
         let way = match entry.way {

@@ -1,15 +1,14 @@
 //! A run as the lines of a row describe it, how it is tried, and how it ended as text.
 
 use crate::again::lines_of;
-use crate::carries::Carries;
+use crate::carries::{Carries, shown_log};
 use crate::case::word_of;
 use crate::texts::{plain, text_of};
 use crate::tried::Tried;
 use aidl_base::{OutOfMemory, Row, SourceFile, Text};
 use aidl_tool::aidl;
-use memory_outside::{MemSink, MemStore, TamperLink};
+use memory_outside::{MemSink, MemStore};
 use std::alloc::Global;
-use std::mem;
 
 /// A run of the program: its words, the files of its store, its link, the outside calls that fail, and what is to come
 /// of it.
@@ -166,38 +165,28 @@ impl Run {
         Ok(true)
     }
 
-    /// Runs the program over objects in memory, once, and counts how the run came out.
-    pub fn try_as(
-        &mut self,
-        alloc: Global,
-        row: &str,
-        tried: &mut Tried,
-    ) -> Result<(), OutOfMemory> {
+    /// Runs the program over objects in memory, and counts how the run came out.
+    pub fn try_as(self, alloc: Global, row: &str, tried: &mut Tried) -> Result<(), OutOfMemory> {
         let wanted = self.wanted(alloc)?;
-        let came = self.outcome(alloc)?;
-        tried.row(row, wanted.as_slice(), came.as_slice())
-    }
-
-    // How the run ends.
-    fn outcome(&mut self, alloc: Global) -> Result<Vec<u8>, OutOfMemory> {
-        let mut store = self.store(alloc)?;
-        let mut sink = self.sink(alloc)?;
+        let mut store = MemStore::new(
+            alloc,
+            rows_of(alloc, self.files.as_slice())?,
+            Row::from_vec(self.store_fails),
+        )?;
+        let mut sink = MemSink::new(alloc, Row::from_vec(self.sink_fails))?;
+        let is_seen = self.carries.is_seen();
         let mut link = self.carries.link(alloc)?;
-        let words = self.words.as_slice();
-        let exit = exit_of(alloc, words, &mut store, &mut sink, &mut link);
-        let log = self.carries.log_of(alloc, &link)?;
-        ended(alloc, Some(exit), sink.bytes(), log.as_str(), store.files())
-    }
-
-    fn store(&mut self, alloc: Global) -> Result<MemStore, OutOfMemory> {
-        let fails = mem::replace(&mut self.store_fails, Vec::new(alloc));
-        let files = rows_of(alloc, self.files.as_slice())?;
-        MemStore::new(alloc, files, Row::from_vec(fails))
-    }
-
-    fn sink(&mut self, alloc: Global) -> Result<MemSink, OutOfMemory> {
-        let fails = mem::replace(&mut self.sink_fails, Vec::new(alloc));
-        MemSink::new(alloc, Row::from_vec(fails))
+        let exit = aidl(
+            alloc,
+            self.words.as_slice(),
+            &mut store,
+            &mut sink,
+            &mut link,
+        );
+        let carried = if is_seen { link.log() } else { &[] };
+        let log = shown_log(alloc, carried)?;
+        let came = ended(alloc, Some(exit), sink.bytes(), log.as_str(), store.files())?;
+        tried.row(row, wanted.as_slice(), came.as_slice())
     }
 
     // How the run is to end.
@@ -216,17 +205,6 @@ impl Run {
             store.files(),
         )
     }
-}
-
-// Runs the program. It stands alone, since what it ensures makes proofs beside it long.
-fn exit_of(
-    alloc: Global,
-    words: &[String],
-    store: &mut MemStore,
-    sink: &mut MemSink,
-    link: &mut TamperLink,
-) -> u8 {
-    aidl(alloc, words, store, sink, link)
 }
 
 impl File {

@@ -30,10 +30,10 @@ pub fn try_runs(
     for line in block.lines() {
         if let Some((source, wanted)) = case_of(line) {
             let mut run = Run::new(alloc);
-            let is_read = add_common(alloc, block, &mut run)?
+            if add_common(alloc, block, &mut run)?
                 && add_source(alloc, cases, source, &mut run)?
-                && add_wanted(alloc, wanted, &mut run)?;
-            if is_read {
+                && add_wanted(alloc, wanted, &mut run)?
+            {
                 run.try_as(alloc, line, tried)?;
             } else {
                 tried.unread(line)?;
