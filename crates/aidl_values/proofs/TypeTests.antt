@@ -1,5 +1,7 @@
 -- The test of a type decides whether the value has it.
-use Rattle.std.proofs.Common.{◌≡◌, suc, Bool, true, false, List, [], ◌∷◌, length, Option, Some, None, slice_get, refl, sym, ap}
+use Rattle.std.proofs.Common.{◌≡◌, ℕ, suc, ◌+◌, ◌<◌, Bool, true, false, List, [], ◌∷◌, length, drop, get_or, Option, Some, None, slice_get, refl, sym, ap, ◌∙◌}
+use Rattle.std.specs.Prelude.{◌&&◌}
+use Rattle.std.proofs.lemmas.List.{drop_more}
 use Rattle.aidl_schema.specs.declared.schema.Decl.{Decl}
 use Rattle.aidl_schema.specs.declared.schema.Field.{Field}
 use Rattle.aidl_schema.specs.declared.schema.AidlType.{AidlType}
@@ -9,14 +11,22 @@ use Rattle.aidl_base.proofs.lemmas.Tests.{and_false, both, flipped}
 use Rattle.aidl_values.specs.Data.{Data, null, truth, number, text, seq, rec, alt, Items, none, item}
 use Rattle.aidl_values.specs.HasType.{HasType, HaveType, FieldsHaveType}
 use Rattle.aidl_values.specs.steps.TypeTest.{is_truth_form, is_text_form, of_parcelable, of_union, of_field, has_type_of, all_have_type, fields_have_type}
-use Rattle.aidl_values.specs.View.{views}
+use Rattle.aidl_values.specs.View.{view, views}
 use Rattle.aidl_values.specs.declared.value.Value.{Value}
+use Rattle.aidl_values.proofs.lemmas.Nexts.{next_of_rest}
 
 pub other_count : (S : List Decl) (fs : List Field) (vs : List Value) → (length fs ≡ length vs → ⊥) → false ≡ fields_have_type S fs (views vs)
 other_count S [] [] apart = absurd (apart refl)
 other_count S [] (v ∷ vs) apart = refl
 other_count S (f ∷ fs) [] apart = refl
 other_count S (f ∷ fs) (v ∷ vs) apart = sym (rw (sym (other_count S fs vs (λ e. apart (ap suc e)))) (and_false _))
+
+-- what is left of a record is of its fields' types where its first and the others are
+pub field_first : (S : List Decl) (fs : List Field) (vs : List Value) (i : ℕ) (f : Field) (v : Value) → i < length fs → f ≡ get_or fs i f → slice_get vs i ≡ Some v
+    → fields_have_type S (drop i fs) (views (drop i vs)) ≡ (has_type_of S f.ty (view v) && fields_have_type S (drop (i + 1) fs) (views (drop (i + 1) vs)))
+field_first S fs vs i f v within is there =
+    ap (λ gs. fields_have_type S gs (views (drop i vs))) (drop_more fs i f within ∙ ap (λ g. g ∷ drop (i + 1) fs) (sym is))
+    ∙ ap (λ ws. fields_have_type S (f ∷ drop (i + 1) fs) (views ws)) (next_of_rest vs i v there)
 
 truth_is : (f : Form) → is_truth_form f ≡ true → f ≡ form.truth
 truth_is form.truth e = refl

@@ -1,4 +1,5 @@
 -- Laws of this crate's definitions that crates above cite.
+pub mod Depths
 pub mod Fronts
 pub mod Levels
 pub mod Nexts

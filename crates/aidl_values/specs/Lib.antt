@@ -1,6 +1,7 @@
 pub mod Data
 pub mod Default
 pub mod Ends
+pub mod FieldValues
 pub mod Fits
 pub mod HasType
 pub mod Nodes

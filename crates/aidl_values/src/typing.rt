@@ -1,11 +1,12 @@
 //! Whether a value has a type of a schema.
 ghost use Rattle.std.specs.Prelude.{◌≡◌, ◌↔◌, IsTrue, map, slice_get};
 ghost use Rattle.aidl_schema.specs.Types as types;
-ghost use Rattle.aidl_values.specs.Data.{number, truth};
+ghost use Rattle.aidl_values.specs.Data.{number, rec, truth};
 ghost use Rattle.aidl_values.specs.HasType.{HasType};
 ghost use Rattle.aidl_values.specs.steps.TypeTest.{has_type_of, of_field, all_have_type, fields_have_type};
 ghost use Rattle.aidl_values.specs.View.{items_of, view, views};
 
+use crate::field_values::FieldValues;
 use crate::numbers::Numbers;
 use crate::value::Value;
 use aidl_schema::{AidlType, Field, Form, Schema, Shape, element, form_in, is_in_range};
@@ -41,12 +42,10 @@ fn is_of(schema: &Schema, ty: AidlType, value: &Value) -> bool
         Value::Numbers(numbers) => {
             !is_one(ty.shape) && are_numbers_of(schema, element(schema, ty), numbers)
         }
-        Value::Rec(items) => match form_in(schema, ty.base) {
-            Form::Parcelable(fields) => {
-                is_one(ty.shape) && are_of_fields(schema, fields, items.as_slice())
-            }
-            _ => false,
-        },
+        Value::Rec(given) => is_record_of(schema, ty, &FieldValues::whole(given)),
+        Value::Short(given, defaults) => {
+            is_record_of(schema, ty, &FieldValues::short(given, defaults))
+        }
         Value::Alt(tag, inner) => match form_in(schema, ty.base) {
             Form::Union(fields) => is_one(ty.shape) && is_of_field(schema, fields, *tag, inner),
             _ => false,
@@ -121,9 +120,20 @@ fn are_of(schema: &Schema, ty: AidlType, values: &[Value]) -> bool
     true
 }
 
+// Whether the values are a record of a type.
+#[cycle(typing)]
+fn is_record_of(schema: &Schema, ty: AidlType, values: &FieldValues<'_>) -> bool
+    ensures { result ≡ has_type_of schema.now.decls ty (rec (views values.now)) }
+{
+    match form_in(schema, ty.base) {
+        Form::Parcelable(fields) => is_one(ty.shape) && are_of_fields(schema, fields, values),
+        _ => false,
+    }
+}
+
 // Whether there is one value for each field, of its type.
 #[cycle(typing)]
-fn are_of_fields(schema: &Schema, fields: &[Field], values: &[Value]) -> bool
+fn are_of_fields(schema: &Schema, fields: &[Field], values: &FieldValues<'_>) -> bool
     ensures { result ≡ fields_have_type schema.now.decls fields.now (views values.now) }
 {
     if fields.len() != values.len() {
@@ -131,7 +141,7 @@ fn are_of_fields(schema: &Schema, fields: &[Field], values: &[Value]) -> bool
     }
     for i in 0..values.len() {
         let field = &fields[i];
-        let value = &values[i];
+        let value = values.get(i);
         if !is_of(schema, field.ty, value) {
             return false;
         }

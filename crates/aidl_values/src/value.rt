@@ -1,11 +1,13 @@
 //! Values with their copies and depths, and the answers of handlers.
-ghost use Rattle.std.specs.Prelude.{◌≡◌, min, map, IfOk};
+ghost use Rattle.std.specs.Prelude.{◌≡◌, suc, min, map, IfOk};
 ghost use Rattle.aidl_values.specs.Data.{depth_of, greatest};
 ghost use Rattle.aidl_values.specs.View.{view, views};
 
+use crate::field_values::FieldValues;
 use crate::numbers::Numbers;
 use aidl_base::{OutOfMemory, Row, Text};
 use std::alloc::Global;
+use std::rc::Rc;
 
 /// A value of a type. A sequence whose elements are truth values or numbers may be kept in either of two forms, as values or side by side:
 /// they are the same data.
@@ -24,6 +26,9 @@ pub enum Value {
     Numbers(Numbers),
     /// of a parcelable, one value per field in order
     Rec(Row<Value>),
+    /// the same of fewer values than fields: the defaults of all fields, of which those behind the values are meant, and which
+    /// records can share
+    Short(Row<Value>, Rc<Row<Value>>),
     /// of a union: the 0-based position of the field, and its value
     Alt(u32, Box<Value>),
 }
@@ -53,6 +58,10 @@ fn copy(alloc: Global, value: &Value) -> Result<Value, OutOfMemory>
         }
         Value::Numbers(numbers) => Ok(Value::Numbers(numbers.try_clone(alloc)?)),
         Value::Rec(items) => Ok(Value::Rec(copy_items(alloc, items.as_slice())?)),
+        Value::Short(given, defaults) => {
+            let copied = copy_items(alloc, given.as_slice())?;
+            Ok(Value::Short(copied, defaults.clone()?))
+        }
         Value::Alt(tag, inner) => {
             let copied = copy(alloc, inner)?;
             Ok(Value::Alt(*tag, Box::new(alloc, copied)?))
@@ -96,7 +105,8 @@ pub fn depth(value: &Value) -> usize
         Value::Truths(_) => 1,
         Value::Numbers(_) => 1,
         Value::Seq(items) => greatest_depth(items.as_slice()).saturating_add(1),
-        Value::Rec(items) => greatest_depth(items.as_slice()).saturating_add(1),
+        Value::Rec(given) => depth_of_fields(&FieldValues::whole(given)),
+        Value::Short(given, defaults) => depth_of_fields(&FieldValues::short(given, defaults)),
         Value::Alt(_, inner) => depth(inner).saturating_add(1),
     }
 }
@@ -113,4 +123,18 @@ fn greatest_depth(values: &[Value]) -> usize
         }
     }
     most
+}
+
+#[cycle(depth)]
+fn depth_of_fields(values: &FieldValues<'_>) -> usize
+    ensures { result ≡ min (suc (greatest (views values.now))) usize.MAX }
+{
+    let mut most = 0;
+    for i in 0..values.len() {
+        let here = depth(values.get(i));
+        if most < here {
+            most = here;
+        }
+    }
+    most.saturating_add(1)
 }
