@@ -1,8 +1,10 @@
 mod Defaults
+mod Kept
 mod Laws
 mod Levels
 mod Loop
 mod SameReads
+mod Short
 mod Records
 mod SideBySide
 mod Whole

@@ -1,10 +1,10 @@
 -- Reading items one after the other, as a loop does.
-use Rattle.std.proofs.Common.{◌≡◌, ℕ, suc, ◌-◌, ◌+◌, ◌≤◌, ◌<◌, ℤ, List, [], ◌∷◌, ◌++◌, Result, Ok, Err, refl, sym, ap, ◌∙◌, arith, length, drop, get_or, add-one, drop-cons}
+use Rattle.std.proofs.Common.{◌≡◌, true, false, ℕ, suc, ◌-◌, ◌+◌, ◌≤◌, ◌<◌, ℤ, List, [], ◌∷◌, ◌++◌, Result, Ok, Err, refl, sym, ap, ◌∙◌, arith, length, map, drop, get_or, add-one, drop-cons}
 use Rattle.std.proofs.lemmas.List.{drop_all}
 use Rattle.aidl_base.specs.Readings.{Read, ◌>>=◌}
 use Rattle.aidl_values.specs.Data.{Data, Items, item}
 use Rattle.aidl_values.specs.View.{items_of}
-use Rattle.aidl_values.proofs.lemmas.Fronts.{onto, onto-push, onto-none, with_front, front_more}
+use Rattle.aidl_values.proofs.lemmas.Fronts.{onto, onto-items, onto-push, onto-none, with_front, front_more}
 use Rattle.parcel_words.specs.declared.fault.ReadFault.{ReadFault}
 use Rattle.parcel_words.specs.Taken.{RefusesIfMemory}
 use Rattle.parcel_words.proofs.lemmas.Faults.{fails_as}
@@ -41,6 +41,16 @@ module _ (read : List ℕ → Read Data) (front : List Data) (count i : ℕ) (b 
       let one : with_items front (each_at read (count - i) b) ≡ Ok (items_of front, b) = rw k (ap (λ (vs : Items). Ok (vs, b)) (onto-none front)) in
       sym so_far ∙ one
 
+-- where no bytes are left, all fields are defaults
+all_left : (initial : PlanField → Data) (read : PlanField → List ℕ → Read Data) (fs : List PlanField) → fields_at initial read fs [] ≡ Ok (items_of (map initial fs))
+all_left initial read [] = refl
+all_left initial read (f ∷ fs) = ap (λ (others : Result Items ℤ). others >>= λ vs. Ok (item (initial f) vs)) (all_left initial read fs)
+
+-- where some are, a field is read
+pub field_there : (initial : PlanField → Data) (read : PlanField → List ℕ → Read Data) (f : PlanField) (b : List ℕ) → (b ≡ [] → false ≡ true) → field_at initial read f b ≡ read f b
+field_there initial read f [] some = let never : false ≡ true = some refl in cc
+field_there initial read f (x ∷ b) some = refl
+
 -- the same of a record's fields
 module _ (initial : PlanField → Data) (read : PlanField → List ℕ → Read Data) (front : List Data) (fs : List PlanField) (i : ℕ) (b : List ℕ) (total : Result Items ℤ) (so_far : with_front front (fields_at initial read (drop i fs) b) ≡ total) where
   next_field : (f : PlanField) → i < length fs → f ≡ get_or fs i f → drop i fs ≡ f ∷ drop (i + 1) fs
@@ -61,6 +71,11 @@ module _ (initial : PlanField → Data) (read : PlanField → List ℕ → Read 
 
   pub field_ends : (f : PlanField) (e : ReadFault) → i < length fs → f ≡ get_or fs i f → RefusesIfMemory e (field_at initial read f b) → RefusesIfMemory e total
   field_ends f e lt is h = fails_as e (field_at initial read f b) total (λ s k. sym so_far ∙ as_first f lt is ∙ ap first_of k) h
+
+  pub fields_left : b ≡ [] → total ≡ Ok (items_of (front ++ map initial (drop i fs)))
+  fields_left none_left =
+      sym so_far ∙ ap (λ c. with_front front (fields_at initial read (drop i fs) c)) none_left ∙ ap (λ vs. with_front front vs) (all_left initial read (drop i fs))
+      ∙ ap (λ (vs : Items). Ok vs) (onto-items front (map initial (drop i fs)))
 
   pub fields_done : length fs ≤ i → total ≡ Ok (items_of front)
   fields_done le =

@@ -1,11 +1,12 @@
 -- A record's fields are read of the bytes of its body.
-use Rattle.std.proofs.Common.{◌≡◌, ℕ, ℤ, Bool, List, Result, Ok, ap, ◌∙◌}
+use Rattle.std.proofs.Common.{◌≡◌, ℕ, ℤ, Bool, List, Result, Ok, Err, refl, ap, ◌∙◌}
 use Rattle.aidl_base.specs.Readings.{Read, ◌>>=◌}
 use Rattle.marshal_plans.specs.declared.plans.PlanField.{PlanField}
 use Rattle.aidl_values.specs.Data.{Data, Items, rec}
 use Rattle.parcel_words.specs.Place.{Place, left, closed, size_at, MovesOn, Enters, is_inside}
 use Rattle.parcel_words.specs.Taken.{RefusesIfMemory}
 use Rattle.parcel_words.specs.declared.fault.ReadFault.{ReadFault}
+use Rattle.parcel_read.specs.steps.Rows.{as_record}
 use Rattle.wire_model.specs.ReadOf.{body_at, body_value_at, fields_at}
 use Rattle.parcel_words.proofs.lemmas.Faults.{fails_as}
 use Rattle.parcel_words.proofs.lemmas.Records as cursor
@@ -24,19 +25,27 @@ module _ (initial : PlanField → Data) (read : PlanField → List ℕ → Read 
   abbrev with_fields_of : List PlanField → Read (List ℕ) → Read Data
   with_fields_of fs body = body >>= λ x. fields_at initial read fs x.0 >>= λ vs. Ok (rec vs, x.1)
 
-  abbrev as_record : List ℕ → Result Items ℤ → Read Data
-  as_record rest vs = vs >>= λ x. Ok (rec x, rest)
+  abbrev record_and_rest : List ℕ → Result Items ℤ → Read Data
+  record_and_rest rest vs = vs >>= λ x. Ok (rec x, rest)
 
-  pub record_is : (fs : List PlanField) (inside : Bool) (b inner rest : List ℕ) (vs : Items) → body_at inside b ≡ Ok (inner, rest) → fields_at initial read fs inner ≡ Ok vs
-      → body_value_at initial read fs inside b ≡ Ok (rec vs, rest)
+  -- a record, and then the bytes after it
+  abbrev and_rest : List ℕ → Result Data ℤ → Read Data
+  and_rest rest d = d >>= λ v. Ok (v, rest)
+
+  in_steps : (rest : List ℕ) (vs : Result Items ℤ) → record_and_rest rest vs ≡ and_rest rest (as_record vs)
+  in_steps rest (Ok vs) = refl
+  in_steps rest (Err s) = refl
+
+  pub record_is : (fs : List PlanField) (inside : Bool) (b inner rest : List ℕ) (d : Data) → body_at inside b ≡ Ok (inner, rest) → as_record (fields_at initial read fs inner) ≡ Ok d
+      → body_value_at initial read fs inside b ≡ Ok (d, rest)
   unfolding body_value_at
-  record_is fs inside b inner rest vs body h = ap (with_fields_of fs) body ∙ ap (as_record rest) h
+  record_is fs inside b inner rest d body h = ap (with_fields_of fs) body ∙ in_steps rest (fields_at initial read fs inner) ∙ ap (and_rest rest) h
 
   pub record_fails : (fs : List PlanField) (inside : Bool) (b inner rest : List ℕ) (e : ReadFault) → body_at inside b ≡ Ok (inner, rest) → RefusesIfMemory e (fields_at initial read fs inner)
       → RefusesIfMemory e (body_value_at initial read fs inside b)
   unfolding body_value_at
   record_fails fs inside b inner rest e body h =
-      fails_as e (fields_at initial read fs inner) (body_value_at initial read fs inside b) (λ s k. ap (with_fields_of fs) body ∙ ap (as_record rest) k) h
+      fails_as e (fields_at initial read fs inner) (body_value_at initial read fs inside b) (λ s k. ap (with_fields_of fs) body ∙ ap (record_and_rest rest) k) h
 
   pub no_record : (fs : List PlanField) (inside : Bool) (b : List ℕ) (e : ReadFault) → RefusesIfMemory e (size_at inside b) → RefusesIfMemory e (body_value_at initial read fs inside b)
   unfolding body_value_at

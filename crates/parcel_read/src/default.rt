@@ -1,5 +1,5 @@
 //! The defaults of fields that a record leaves out, by plans.
-ghost use Rattle.std.specs.Prelude.{◌≡◌, if◌then◌else◌, IfOk};
+ghost use Rattle.std.specs.Prelude.{◌≡◌, if◌then◌else◌, map, IfOk};
 ghost use Rattle.aidl_values.specs.Data.{null, seq, rec, none};
 ghost use Rattle.aidl_values.specs.View.{view, views};
 ghost use Rattle.parcel_read.specs.steps.PlanDefault.{entry_default, entry_defaults, first_default, initial_by_plan, item_default, plan_default, plan_default_parts, word_default};
@@ -13,8 +13,23 @@ use std::alloc::Global;
 // levels.
 const FUEL: usize = 33;
 
+/// The defaults of fields.
+pub fn initials_of(
+    alloc: Global,
+    plans: &Plans,
+    fields: &[PlanField],
+) -> Result<Row<Value>, OutOfMemory>
+    ensures { IfOk result (λ values. map view values ≡ map (λ g. initial_by_plan plans.now g) fields.now) }
+{
+    let mut values = Vec::with_capacity(alloc, fields.len())?;
+    for field in fields {
+        values.push(initial_of(alloc, plans, field)?)?;
+    }
+    Ok(Row::from_vec(values))
+}
+
 /// The default of a field: its initializer as a value, or else the default of its item.
-pub fn initial_of(alloc: Global, plans: &Plans, field: &PlanField) -> Result<Value, OutOfMemory>
+fn initial_of(alloc: Global, plans: &Plans, field: &PlanField) -> Result<Value, OutOfMemory>
     ensures { IfOk result (λ v. view v ≡ initial_by_plan plans.now field.now) }
 {
     match &field.initial {

@@ -11,6 +11,7 @@ ghost use Rattle.wire_model.specs.ReadOf.{read_of};
 ghost use Rattle.wire_model.specs.Reads.{Reads};
 ghost use Rattle.wire_model.specs.Stop.{Stop};
 
+use crate::shared_defaults::SharedDefaults;
 use crate::tree::value_from;
 use aidl_base::Profile;
 use aidl_values::Value;
@@ -46,6 +47,7 @@ pub fn read(
     ensures stopped { OfEachType plans.now id (λ S t. IfErr result (λ fault. IfSome (status_of fault) (λ s. Stop profile S 64 t bytes.now false s))) }
 {
     let mut from = WordReader::new(profile, bytes);
-    let value = value_from(alloc, plans, id, 64, &mut from)?;
+    let mut defaults = SharedDefaults::new(alloc, plans);
+    let value = value_from(alloc, &mut defaults, id, 64, &mut from)?;
     Ok((value, from.position()))
 }

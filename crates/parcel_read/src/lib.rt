@@ -7,6 +7,7 @@ mod leaf;
 mod marks;
 mod raw;
 mod rows;
+mod shared_defaults;
 mod tree;
 
 pub use front::read;

@@ -3,22 +3,23 @@ ghost use Rattle.std.specs.Prelude.{◌≡◌, ◌+◌, ◌<◌, ◌≤◌, true
 ghost use Rattle.std.specs.Option.{option_copied};
 ghost use Rattle.aidl_values.specs.View.{view, views};
 ghost use Rattle.aidl_values.specs.steps.Levels.{is_level_left};
+ghost use Rattle.marshal_plans.specs.Standing.{entries_of};
 ghost use Rattle.parcel_words.specs.Place.{left, is_inside, MovesOn};
 ghost use Rattle.parcel_words.specs.Taken.{TakesIfMemory, RefusesIfMemory};
 ghost use Rattle.parcel_read.specs.steps.PlanDefault.{initial_by_plan};
 ghost use Rattle.parcel_read.specs.steps.PlanRead.{item_at, plan_read, plan_parts};
-ghost use Rattle.parcel_read.specs.steps.Rows.{row_at};
-ghost use Rattle.wire_model.specs.ReadOf.{each_at, elements_at, array_at, field_at, fields_at, body_value_at, record_at, tagged_at, union_at};
+ghost use Rattle.parcel_read.specs.steps.Rows.{as_record, row_at};
+ghost use Rattle.wire_model.specs.ReadOf.{each_at, elements_at, array_at, fields_at, body_value_at, record_at, tagged_at, union_at};
 ghost use Rattle.wire_model.specs.Status.{bad_value};
 
-use crate::default::initial_of;
 use crate::leaf::{long_from, text_from, word_from};
 use crate::marks::{marker_from, tag_from};
 use crate::raw::raw_from;
 use crate::rows::{chars_from, ints_from, longs_from, truths_from};
+use crate::shared_defaults::{SharedDefaults, Span};
 use aidl_base::{OutOfMemory, Row};
 use aidl_values::Value;
-use marshal_plans::{PlanField, PlanId, PlanItem, Plans, WordKind};
+use marshal_plans::{PlanField, PlanId, PlanItem, WordKind};
 use parcel_words::{ReadFault, WordReader};
 use std::alloc::Global;
 
@@ -26,17 +27,18 @@ use std::alloc::Global;
 #[cycle(read)]
 pub fn value_from(
     alloc: Global,
-    plans: &Plans,
+    defaults: &mut SharedDefaults<'_>,
     id: PlanId,
     levels: usize,
     from: &mut WordReader,
 ) -> Result<Value, ReadFault>
     requires { length from.old.ends + levels ≤ 64 }
-    ensures taken { TakesIfMemory view result (plan_read from.old.profile plans.now levels id (is_inside from.old) (left from.old)) (left from.new) }
+    ensures taken { TakesIfMemory view result (plan_read from.old.profile defaults.old levels id (is_inside from.old) (left from.old)) (left from.new) }
     ensures on { OnOk result (MovesOn from.old from.new) }
+    ensures same { defaults.new ≡ defaults.old }
 {
-    match plans.item(id) {
-        Some(item) => item_from(alloc, plans, item, levels, from),
+    match defaults.item(id) {
+        Some(item) => item_from(alloc, defaults, item, levels, from),
         // No id of plans is a number of no item.
         None => Err(ReadFault::BadValue),
     }
@@ -46,15 +48,16 @@ pub fn value_from(
 #[cycle(read)]
 fn item_from(
     alloc: Global,
-    plans: &Plans,
+    defaults: &mut SharedDefaults<'_>,
     item: PlanItem,
     levels: usize,
     from: &mut WordReader,
 ) -> Result<Value, ReadFault>
     requires { length from.old.ends + levels ≤ 64 }
-    ensures taken { TakesIfMemory view result (item_at from.old.profile (is_level_left levels) (λ g. initial_by_plan plans.now g)
-        (λ u j b. plan_parts from.old.profile plans.now levels u j b) plans.now.fields item (is_inside from.old) (left from.old)) (left from.new) }
+    ensures taken { TakesIfMemory view result (item_at from.old.profile (is_level_left levels) (λ g. initial_by_plan defaults.old g)
+        (λ u j b. plan_parts from.old.profile defaults.old levels u j b) defaults.old.fields item (is_inside from.old) (left from.old)) (left from.new) }
     ensures on { OnOk result (MovesOn from.old from.new) }
+    ensures same { defaults.new ≡ defaults.old }
 {
     match item {
         PlanItem::Word { kind } => word_from(alloc, kind, from),
@@ -62,23 +65,23 @@ fn item_from(
         PlanItem::Text { nullable } => text_from(alloc, nullable, from),
         PlanItem::Raw { nullable } => bytes_from(alloc, nullable, levels, from),
         PlanItem::Seq { nullable, element } => {
-            sequence_from(alloc, plans, nullable, element, levels, from)
+            sequence_from(alloc, defaults, nullable, element, levels, from)
         }
         PlanItem::Rec {
             nullable,
             first,
             count,
         } => {
-            let fields = plans.entries(first, count);
-            record_from(alloc, plans, nullable, fields, levels, from)
+            let span = Span { first, count };
+            record_from(alloc, defaults, nullable, span, levels, from)
         }
         PlanItem::Alt {
             nullable,
             first,
             count,
         } => {
-            let fields = plans.entries(first, count);
-            union_from(alloc, plans, nullable, fields, levels, from)
+            let fields = defaults.entries(Span { first, count });
+            union_from(alloc, defaults, nullable, fields, levels, from)
         }
     }
 }
@@ -109,7 +112,7 @@ fn bytes_from(
 #[tactic(auto, unfolding(wire_model::specs::ReadOf::array_at))]
 fn sequence_from(
     alloc: Global,
-    plans: &Plans,
+    defaults: &mut SharedDefaults<'_>,
     nullable: bool,
     element: PlanId,
     levels: usize,
@@ -117,11 +120,12 @@ fn sequence_from(
 ) -> Result<Value, ReadFault>
     requires { length from.old.ends + levels ≤ 64 }
     ensures taken { TakesIfMemory view result (array_at from.old.profile (is_level_left levels) false nullable
-        (λ b. plan_parts from.old.profile plans.now levels element (is_inside from.old) b) (is_inside from.old) (left from.old)) (left from.new) }
+        (λ b. plan_parts from.old.profile defaults.old levels element (is_inside from.old) b) (is_inside from.old) (left from.old)) (left from.new) }
     ensures on { OnOk result (MovesOn from.old from.new) }
+    ensures same { defaults.new ≡ defaults.old }
 {
     let count = from.count(nullable)?;
-    elements_from(alloc, plans, element, levels, count, from)
+    elements_from(alloc, defaults, element, levels, count, from)
 }
 
 /// Reads the elements of a sequence, where a count of None is null.
@@ -129,7 +133,7 @@ fn sequence_from(
 #[tactic(auto, unfolding(wire_model::specs::ReadOf::elements_at))]
 fn elements_from(
     alloc: Global,
-    plans: &Plans,
+    defaults: &mut SharedDefaults<'_>,
     element: PlanId,
     levels: usize,
     count: Option<usize>,
@@ -137,8 +141,9 @@ fn elements_from(
 ) -> Result<Value, ReadFault>
     requires { length from.old.ends + levels ≤ 64 }
     ensures taken { TakesIfMemory view result (elements_at from.old.profile (is_level_left levels) false
-        (λ b. plan_parts from.old.profile plans.now levels element (is_inside from.old) b) (is_inside from.old) count (left from.old)) (left from.new) }
+        (λ b. plan_parts from.old.profile defaults.old levels element (is_inside from.old) b) (is_inside from.old) count (left from.old)) (left from.new) }
     ensures on { OnOk result (MovesOn from.old from.new) }
+    ensures same { defaults.new ≡ defaults.old }
 {
     let Some(count) = count else {
         return Ok(Value::Null);
@@ -146,14 +151,14 @@ fn elements_from(
     if levels == 0 {
         return Err(ReadFault::BadValue);
     }
-    row_from(alloc, plans, element, levels, count, from)
+    row_from(alloc, defaults, element, levels, count, from)
 }
 
 /// Reads so many elements: numbers and truth values side by side, others as values.
 #[cycle(read)]
 fn row_from(
     alloc: Global,
-    plans: &Plans,
+    defaults: &mut SharedDefaults<'_>,
     element: PlanId,
     levels: usize,
     count: usize,
@@ -162,10 +167,11 @@ fn row_from(
     requires some { 0 < levels }
     requires room { length from.old.ends + levels ≤ 64 }
     ensures taken { TakesIfMemory view result
-        (row_at (λ b. plan_parts from.old.profile plans.now levels element (is_inside from.old) b) count (left from.old)) (left from.new) }
+        (row_at (λ b. plan_parts from.old.profile defaults.old levels element (is_inside from.old) b) count (left from.old)) (left from.new) }
     ensures on { OnOk result (MovesOn from.old from.new) }
+    ensures same { defaults.new ≡ defaults.old }
 {
-    match plans.item(element) {
+    match defaults.item(element) {
         Some(
             PlanItem::Word {
                 kind: WordKind::Truth,
@@ -183,7 +189,7 @@ fn row_from(
         ) => ints_from(alloc, count, from),
         Some(PlanItem::Long) => longs_from(alloc, count, from),
         _ => {
-            let values = items_from(alloc, plans, element, levels, count, from)?;
+            let values = items_from(alloc, defaults, element, levels, count, from)?;
             Ok(Value::Seq(values))
         }
     }
@@ -193,7 +199,7 @@ fn row_from(
 #[cycle(read)]
 fn items_from(
     alloc: Global,
-    plans: &Plans,
+    defaults: &mut SharedDefaults<'_>,
     element: PlanId,
     levels: usize,
     count: usize,
@@ -201,12 +207,13 @@ fn items_from(
 ) -> Result<Row<Value>, ReadFault>
     requires some { 0 < levels }
     requires room { length from.old.ends + levels ≤ 64 }
-    ensures taken { TakesIfMemory views result (each_at (λ b. plan_parts from.old.profile plans.now levels element (is_inside from.old) b) count (left from.old)) (left from.new) }
+    ensures taken { TakesIfMemory views result (each_at (λ b. plan_parts from.old.profile defaults.old levels element (is_inside from.old) b) count (left from.old)) (left from.new) }
     ensures on { OnOk result (MovesOn from.old from.new) }
+    ensures same { defaults.new ≡ defaults.old }
 {
     let mut values = Row::new(alloc);
     for _ in 0..count {
-        let value = value_from(alloc, plans, element, levels - 1, from)?;
+        let value = value_from(alloc, defaults, element, levels - 1, from)?;
         values.push(value)?;
     }
     Ok(values)
@@ -217,16 +224,17 @@ fn items_from(
 #[tactic(auto, unfolding(wire_model::specs::ReadOf::record_at))]
 fn record_from(
     alloc: Global,
-    plans: &Plans,
+    defaults: &mut SharedDefaults<'_>,
     nullable: bool,
-    fields: &[PlanField],
+    span: Span,
     levels: usize,
     from: &mut WordReader,
 ) -> Result<Value, ReadFault>
     requires { length from.old.ends + levels ≤ 64 }
-    ensures taken { TakesIfMemory view result (record_at from.old.profile (is_level_left levels) nullable (λ g. initial_by_plan plans.now g)
-        (λ g b. plan_parts from.old.profile plans.now levels g.item true b) fields.now (is_inside from.old) (left from.old)) (left from.new) }
+    ensures taken { TakesIfMemory view result (record_at from.old.profile (is_level_left levels) nullable (λ g. initial_by_plan defaults.old g)
+        (λ g b. plan_parts from.old.profile defaults.old levels g.item true b) (entries_of defaults.old.fields span.first span.count) (is_inside from.old) (left from.old)) (left from.new) }
     ensures on { OnOk result (MovesOn from.old from.new) }
+    ensures same { defaults.new ≡ defaults.old }
 {
     if !marker_from(alloc, nullable, from)? {
         return Ok(Value::Null);
@@ -234,76 +242,64 @@ fn record_from(
     if levels == 0 {
         return Err(ReadFault::BadValue);
     }
-    body_from(alloc, plans, fields, levels, from)
+    body_from(alloc, defaults, span, levels, from)
 }
 
 /// Reads a parcelable after its marker, and goes to the end of its record, whatever stands after its fields.
 #[cycle(read)]
 fn body_from(
     alloc: Global,
-    plans: &Plans,
-    fields: &[PlanField],
+    defaults: &mut SharedDefaults<'_>,
+    span: Span,
     levels: usize,
     from: &mut WordReader,
 ) -> Result<Value, ReadFault>
     requires some { 0 < levels }
     requires room { length from.old.ends + levels ≤ 64 }
-    ensures taken { TakesIfMemory view result (body_value_at (λ g. initial_by_plan plans.now g)
-        (λ g b. plan_parts from.old.profile plans.now levels g.item true b) fields.now (is_inside from.old) (left from.old)) (left from.new) }
+    ensures taken { TakesIfMemory view result (body_value_at (λ g. initial_by_plan defaults.old g)
+        (λ g b. plan_parts from.old.profile defaults.old levels g.item true b) (entries_of defaults.old.fields span.first span.count) (is_inside from.old) (left from.old)) (left from.new) }
     ensures on { OnOk result (MovesOn from.old from.new) }
+    ensures same { defaults.new ≡ defaults.old }
 {
     from.enter()?;
-    let values = fields_from(alloc, plans, fields, levels, from)?;
+    let record = fields_from(alloc, defaults, span, levels, from)?;
     from.leave();
-    Ok(Value::Rec(values))
+    Ok(record)
 }
 
-/// Reads the fields of the record that is open.
+/// Reads the fields of the record that is open: where its bytes end before a field, that and those behind it are defaults.
 #[cycle(read)]
 fn fields_from(
     alloc: Global,
-    plans: &Plans,
-    fields: &[PlanField],
-    levels: usize,
-    from: &mut WordReader,
-) -> Result<Row<Value>, ReadFault>
-    requires some { 0 < levels }
-    requires inside { is_inside from.old ≡ true }
-    requires room { length from.old.ends + levels ≤ 65 }
-    ensures taken { MatchResult result
-        (λ values. fields_at (λ g. initial_by_plan plans.now g) (λ g b. plan_parts from.old.profile plans.now levels g.item true b) fields.now (left from.old) ≡ Ok (views values))
-        (λ fault. RefusesIfMemory fault (fields_at (λ g. initial_by_plan plans.now g) (λ g b. plan_parts from.old.profile plans.now levels g.item true b) fields.now (left from.old))) }
-    ensures on { OnOk result (MovesOn from.old from.new) }
-{
-    let mut values = Vec::with_capacity(alloc, fields.len())?;
-    for field in fields {
-        let value = field_from(alloc, plans, field, levels, from)?;
-        values.push(value)?;
-    }
-    Ok(Row::from_vec(values))
-}
-
-/// Reads a field of the record that is open: where its bytes are at an end, the field's default.
-#[cycle(read)]
-fn field_from(
-    alloc: Global,
-    plans: &Plans,
-    field: &PlanField,
+    defaults: &mut SharedDefaults<'_>,
+    span: Span,
     levels: usize,
     from: &mut WordReader,
 ) -> Result<Value, ReadFault>
     requires some { 0 < levels }
     requires inside { is_inside from.old ≡ true }
     requires room { length from.old.ends + levels ≤ 65 }
-    ensures taken { TakesIfMemory view result (field_at (λ g. initial_by_plan plans.now g)
-        (λ g b. plan_parts from.old.profile plans.now levels g.item true b) field.now (left from.old)) (left from.new) }
+    ensures taken { MatchResult result
+        (λ value. as_record (fields_at (λ g. initial_by_plan defaults.old g) (λ g b. plan_parts from.old.profile defaults.old levels g.item true b)
+        (entries_of defaults.old.fields span.first span.count) (left from.old)) ≡ Ok (view value))
+        (λ fault. RefusesIfMemory fault (fields_at (λ g. initial_by_plan defaults.old g) (λ g b. plan_parts from.old.profile defaults.old levels g.item true b)
+        (entries_of defaults.old.fields span.first span.count) (left from.old))) }
     ensures on { OnOk result (MovesOn from.old from.new) }
+    ensures same { defaults.new ≡ defaults.old }
 {
-    if from.at_end() {
-        let value = initial_of(alloc, plans, field)?;
-        return Ok(value);
+    let fields = defaults.entries(span);
+    // A field takes four bytes or more.
+    let most = fields.len().min(from.remaining() / 4);
+    let mut values = Vec::with_capacity(alloc, most)?;
+    for field in fields {
+        if from.at_end() {
+            let row = defaults.row(alloc, span)?;
+            return Ok(Value::Short(Row::from_vec(values), row));
+        }
+        let value = value_from(alloc, defaults, field.item, levels - 1, from)?;
+        values.push(value)?;
     }
-    value_from(alloc, plans, field.item, levels - 1, from)
+    Ok(Value::Rec(Row::from_vec(values)))
 }
 
 /// Reads a union.
@@ -311,7 +307,7 @@ fn field_from(
 #[tactic(auto, unfolding(wire_model::specs::ReadOf::union_at))]
 fn union_from(
     alloc: Global,
-    plans: &Plans,
+    defaults: &mut SharedDefaults<'_>,
     nullable: bool,
     fields: &[PlanField],
     levels: usize,
@@ -319,8 +315,9 @@ fn union_from(
 ) -> Result<Value, ReadFault>
     requires { length from.old.ends + levels ≤ 64 }
     ensures taken { TakesIfMemory view result (union_at from.old.profile (is_level_left levels) nullable
-        (λ g b. plan_parts from.old.profile plans.now levels g.item (is_inside from.old) b) fields.now (is_inside from.old) (left from.old)) (left from.new) }
+        (λ g b. plan_parts from.old.profile defaults.old levels g.item (is_inside from.old) b) fields.now (is_inside from.old) (left from.old)) (left from.new) }
     ensures on { OnOk result (MovesOn from.old from.new) }
+    ensures same { defaults.new ≡ defaults.old }
 {
     if !marker_from(alloc, nullable, from)? {
         return Ok(Value::Null);
@@ -328,7 +325,7 @@ fn union_from(
     if levels == 0 {
         return Err(ReadFault::BadValue);
     }
-    tagged_from(alloc, plans, fields, levels, from)
+    tagged_from(alloc, defaults, fields, levels, from)
 }
 
 /// Reads a union after its marker.
@@ -336,22 +333,23 @@ fn union_from(
 #[tactic(auto, unfolding(wire_model::specs::ReadOf::tagged_at))]
 fn tagged_from(
     alloc: Global,
-    plans: &Plans,
+    defaults: &mut SharedDefaults<'_>,
     fields: &[PlanField],
     levels: usize,
     from: &mut WordReader,
 ) -> Result<Value, ReadFault>
     requires some { 0 < levels }
     requires room { length from.old.ends + levels ≤ 64 }
-    ensures taken { TakesIfMemory view result (tagged_at (λ g b. plan_parts from.old.profile plans.now levels g.item (is_inside from.old) b)
+    ensures taken { TakesIfMemory view result (tagged_at (λ g b. plan_parts from.old.profile defaults.old levels g.item (is_inside from.old) b)
         fields.now (is_inside from.old) (left from.old)) (left from.new) }
     ensures on { OnOk result (MovesOn from.old from.new) }
+    ensures same { defaults.new ≡ defaults.old }
 {
     let tag = tag_from(from)?;
     match field_of(fields, tag) {
         None => Err(ReadFault::BadValue),
         Some(field) => {
-            let value = value_from(alloc, plans, field.item, levels - 1, from)?;
+            let value = value_from(alloc, defaults, field.item, levels - 1, from)?;
             Ok(Value::Alt(tag, boxed(alloc, value)?))
         }
     }

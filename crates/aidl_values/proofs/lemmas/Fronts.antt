@@ -17,6 +17,10 @@ pub onto-none : (ds : List Data) → onto ds none ≡ items_of ds
 onto-none [] = refl
 onto-none (d ∷ ds) = ap (item d) (onto-none ds)
 
+pub onto-items : (ds es : List Data) → onto ds (items_of es) ≡ items_of (ds ++ es)
+onto-items [] es = refl
+onto-items (d ∷ ds) es = ap (item d) (onto-items ds es)
+
 -- the values so far, and what comes of the others
 abbrev pub with_front : {R : Type 0} → List Data → Result Items R → Result Items R
 with_front ds others = others >>= λ vs. Ok (onto ds vs)

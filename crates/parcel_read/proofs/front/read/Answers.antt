@@ -1,7 +1,9 @@
-use Rattle.std.proofs.Common.{false, subst, arith, length-drop, ◌∙◌, sym}
+use Rattle.std.proofs.Common.{◌≡◌, Ok, false, subst, arith, length-drop, ◌∙◌, sym}
 use Rattle.std.proofs.lemmas.Result.{err_from_is_err_and}
 use Rattle.aidl_base.proofs.lemmas.Lists.{AreBytes}
 use Rattle.aidl_values.specs.View.{view}
+use Rattle.marshal_plans.specs.declared.plans.Plans.{Plans}
+use Rattle.parcel_words.specs.Place.{is_inside, left}
 use Rattle.parcel_words.specs.Taken.{RefusesIfMemory}
 use Rattle.wire_model.specs.ReadOf.{read_of}
 use Rattle.wire_model.specs.Reads.{Reads}
@@ -21,7 +23,8 @@ returns-in_err-value c =
     let bytes : AreBytes b = λ i. omega (arith, c.type_inv.bytes i) in
     let q = err_from_is_err_and c.from_residual.result c.from_residual.ensures.1 in
     let e = c.in_err-value.field-0.0 in
-    let planned = subst (RefusesIfMemory e) (at_start profile b c.new-from.result c.new-from.ensures (λ q i x. plan_read q P 64 id i x)) c.in_err-value.ensures.taken in
+    let planned = subst (RefusesIfMemory e) (at_start profile b c.new-from.result c.new-from.ensures (λ q i x. plan_read q P 64 id i x))
+    (subst (λ (plans : Plans). RefusesIfMemory e (plan_read c.new-from.result.profile plans 64 id (is_inside c.new-from.result) (left c.new-from.result))) c.new-defaults.ensures c.in_err-value.ensures.taken) in
     rw (q.1, q.2) (record {
       within = tt;
       exact = λ S t is. subst (RefusesIfMemory e) (reads_same S is.0 is.1 P is.2 profile 64 id t is.3 false b) planned;
@@ -53,7 +56,8 @@ returns c =
     let v = view c.in_ok-value.value in
     let n = c.position.result in
     let within = position_within profile b p c.new-from.ensures r on n c.position.ensures.value in
-    let planned = read_then profile b p c.new-from.ensures r on n c.position.ensures.value (λ q i x. plan_read q P 64 id i x) v c.in_ok-value.ensures.taken in
+    let planned = read_then profile b p c.new-from.ensures r on n c.position.ensures.value (λ q i x. plan_read q P 64 id i x) v
+    (subst (λ (plans : Plans). plan_read p.profile plans 64 id (is_inside p) (left p) ≡ Ok (v, left r)) c.new-defaults.ensures c.in_ok-value.ensures.taken) in
     record {
       within = within;
       exact = λ S t is. sym (reads_same S is.0 is.1 P is.2 profile 64 id t is.3 false b) ∙ planned;

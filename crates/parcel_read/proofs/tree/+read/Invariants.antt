@@ -1,4 +1,4 @@
-use Rattle.std.proofs.Common.{◌≡◌, ◌+◌, ◌-◌, ◌*◌, true, map, drop}
+use Rattle.std.proofs.Common.{◌≡◌, ◌+◌, ◌-◌, ◌*◌, true, length, map, drop}
 use Rattle.aidl_values.specs.View.{view}
 use Rattle.parcel_words.specs.Place.{left, is_inside, MovesOn}
 use Rattle.wire_model.specs.ReadOf.{each_at, fields_at}
@@ -35,9 +35,6 @@ decreases-body_from l = 8 * l.levels + 4
 abbrev pub decreases-fields_from : goal.decreases-fields_from
 decreases-fields_from l = 8 * l.levels + 1
 
-abbrev pub decreases-field_from : goal.decreases-field_from
-decreases-field_from l = 8 * l.levels
-
 abbrev pub decreases-union_from : goal.decreases-union_from
 decreases-union_from l = 8 * l.levels + 5
 
@@ -47,14 +44,17 @@ decreases-tagged_from l = 8 * l.levels + 4
 -- what was read before, and what is still read, are all; and the reader stands between them
 abbrev pub invariant-items_from-loop : goal.invariant-items_from-loop
 invariant-items_from-loop l = record {
-  read : with_items (map view l.values) (each_at (λ b. plan_parts l.initial.from.profile l.plans l.levels l.element (is_inside l.initial.from) b) (l.count - l.counter) (left l.from))
-      ≡ each_at (λ b. plan_parts l.initial.from.profile l.plans l.levels l.element (is_inside l.initial.from) b) l.count (left l.initial.from);
+  read : with_items (map view l.values) (each_at (λ b. plan_parts l.initial.from.profile l.initial.defaults l.levels l.element (is_inside l.initial.from) b) (l.count - l.counter) (left l.from))
+      ≡ each_at (λ b. plan_parts l.initial.from.profile l.initial.defaults l.levels l.element (is_inside l.initial.from) b) l.count (left l.initial.from);
   on : MovesOn l.initial.from l.from;
+  same : l.defaults ≡ l.initial.defaults;
 }
 
 abbrev pub invariant-fields_from-loop-field : goal.invariant-fields_from-loop-field
 invariant-fields_from-loop-field l = record {
-  read : with_front (map view l.values.items) (fields_at (λ g. initial_by_plan l.plans g) (λ g b. plan_parts l.initial.from.profile l.plans l.levels g.item true b) (drop l.field-index l.fields) (left l.from))
-      ≡ fields_at (λ g. initial_by_plan l.plans g) (λ g b. plan_parts l.initial.from.profile l.plans l.levels g.item true b) l.fields (left l.initial.from);
+  read : with_front (map view l.values.items) (fields_at (λ g. initial_by_plan l.initial.defaults g) (λ g b. plan_parts l.initial.from.profile l.initial.defaults l.levels g.item true b) (drop l.field-index l.fields) (left l.from))
+      ≡ fields_at (λ g. initial_by_plan l.initial.defaults g) (λ g b. plan_parts l.initial.from.profile l.initial.defaults l.levels g.item true b) l.fields (left l.initial.from);
+  many : length l.values.items ≡ l.field-index;
   on : MovesOn l.initial.from l.from;
+  same : l.defaults ≡ l.initial.defaults;
 }
