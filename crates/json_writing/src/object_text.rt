@@ -17,7 +17,7 @@ use crate::quoted::push_quoted;
 use crate::value_text::{push_null, push_value};
 use aidl_base::OutOfMemory;
 use aidl_schema::{AidlType, Field};
-use aidl_values::Value;
+use aidl_values::{FieldValues, Value};
 use std::alloc::Global;
 
 // Adds a parcelable: its fields in the order of their names.
@@ -26,7 +26,7 @@ pub fn push_record(
     alloc: Global,
     printer: &mut Printer<'_>,
     ty: AidlType,
-    values: &[Value],
+    values: &FieldValues<'_>,
     text: &mut String,
 ) -> Result<(), OutOfMemory>
     requires { HasType printer.old ty (rec (views values.now)) }
@@ -47,7 +47,7 @@ fn push_members(
     printer: &mut Printer<'_>,
     fields: &[Field],
     row: &[Member],
-    values: &[Value],
+    values: &FieldValues<'_>,
     text: &mut String,
 ) -> Result<(), OutOfMemory>
     requires typed { FieldsHaveType printer.old fields.now (views values.now) }
@@ -68,7 +68,7 @@ fn push_member(
     printer: &mut Printer<'_>,
     fields: &[Field],
     member: &Member,
-    values: &[Value],
+    values: &FieldValues<'_>,
     text: &mut String,
 ) -> Result<(), OutOfMemory>
     requires typed { FieldsHaveType printer.old fields.now (views values.now) }
@@ -79,7 +79,7 @@ fn push_member(
 {
     text.push_str(member.key.as_str())?;
     let field = &fields[member.place];
-    push_value(alloc, printer, field.ty, &values[member.place], text)
+    push_value(alloc, printer, field.ty, values.get(member.place), text)
 }
 
 // Adds a union: the one field that a tag names.

@@ -12,7 +12,7 @@ use crate::quoted::push_quoted;
 use crate::sequence_text::{push_numbers, push_sequence, push_truths};
 use aidl_base::OutOfMemory;
 use aidl_schema::{AidlType, Schema};
-use aidl_values::Value;
+use aidl_values::{FieldValues, Value};
 use std::alloc::Global;
 
 /// Adds a value of a type to a text, as compact JSON. It goes into the text piece by piece, with no JSON value between, but
@@ -51,7 +51,11 @@ pub fn push_value(
         Value::Seq(items) => push_sequence(alloc, printer, ty, items.as_slice(), text),
         Value::Truths(truths) => push_truths(truths.as_slice(), text),
         Value::Numbers(numbers) => push_numbers(alloc, printer, ty.base, numbers, text),
-        Value::Rec(items) => push_record(alloc, printer, ty, items.as_slice(), text),
+        Value::Rec(given) => push_record(alloc, printer, ty, &FieldValues::whole(given), text),
+        Value::Short(given, defaults) => {
+            let values = FieldValues::short(given, defaults);
+            push_record(alloc, printer, ty, &values, text)
+        }
         Value::Alt(tag, inner) => push_alternative(alloc, printer, ty, *tag, inner, text),
     }
 }

@@ -12,7 +12,7 @@ use crate::named::fields_of;
 use crate::value_names::ValueNames;
 use aidl_base::{Ident, OutOfMemory};
 use aidl_schema::{AidlType, Base, Field, Schema, element};
-use aidl_values::{Numbers, Value};
+use aidl_values::{FieldValues, Numbers, Value};
 use serde_json::{Map, Value as Json, put};
 use std::alloc::Global;
 
@@ -58,9 +58,14 @@ fn write(
         ),
         Value::Truths(truths) => write_truths(alloc, truths.as_slice()),
         Value::Numbers(numbers) => write_numbers(alloc, names, ty.base, numbers),
-        Value::Rec(items) => {
+        Value::Rec(given) => {
             let fields = fields_of(schema, ty.base);
-            write_fields(alloc, schema, names, fields, items.as_slice())
+            write_fields(alloc, schema, names, fields, &FieldValues::whole(given))
+        }
+        Value::Short(given, defaults) => {
+            let fields = fields_of(schema, ty.base);
+            let values = FieldValues::short(given, defaults);
+            write_fields(alloc, schema, names, fields, &values)
         }
         Value::Alt(tag, inner) => {
             let fields = fields_of(schema, ty.base);
@@ -123,7 +128,7 @@ fn write_fields(
     schema: &Schema,
     names: &mut ValueNames<'_>,
     fields: &[Field],
-    values: &[Value],
+    values: &FieldValues<'_>,
 ) -> Result<Json, OutOfMemory>
     requires { names.old ≡ schema.now.decls }
     ensures same { names.new ≡ names.old }
@@ -133,7 +138,7 @@ fn write_fields(
     let count = fields.len().min(values.len());
     for i in (0..count).rev() {
         let field = &fields[i];
-        let json = write(alloc, schema, names, field.ty, &values[i])?;
+        let json = write(alloc, schema, names, field.ty, values.get(i))?;
         put(&mut members, alloc, field.name.0.as_str(), json)?;
     }
     Ok(Json::from(members))

@@ -1,3 +1,3 @@
 mod Added
 mod Lines
-mod Numbered
+mod Parts

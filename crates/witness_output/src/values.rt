@@ -8,7 +8,7 @@ ghost use Rattle.aidl_values.specs.View.{items_of, view, views};
 ghost use Rattle.witness_output.specs.Texts.{parts_text, quoted, value_text, values_text};
 
 use aidl_base::OutOfMemory;
-use aidl_values::{Numbers, Value};
+use aidl_values::{FieldValues, Numbers, Value};
 use serde_json::Value as Json;
 use std::alloc::Global;
 use std::fmt::Write;
@@ -34,7 +34,10 @@ pub fn push_value(alloc: Global, value: &Value, text: &mut String) -> Result<(),
         Value::Seq(items) => push_sequence(alloc, items.as_slice(), text),
         Value::Truths(truths) => push_truths(truths.as_slice(), text),
         Value::Numbers(numbers) => push_numbers(numbers, text),
-        Value::Rec(items) => push_record(alloc, items.as_slice(), text),
+        Value::Rec(given) => push_record(alloc, &FieldValues::whole(given), text),
+        Value::Short(given, defaults) => {
+            push_record(alloc, &FieldValues::short(given, defaults), text)
+        }
         Value::Alt(tag, inner) => push_alternative(alloc, *tag, inner, text),
     }
 }
@@ -103,11 +106,20 @@ fn push_numbers(numbers: &Numbers, text: &mut String) -> Result<(), OutOfMemory>
 }
 
 #[cycle(showing)]
-fn push_record(alloc: Global, values: &[Value], text: &mut String) -> Result<(), OutOfMemory>
+fn push_record(
+    alloc: Global,
+    values: &FieldValues<'_>,
+    text: &mut String,
+) -> Result<(), OutOfMemory>
     ensures { OnOk result (string_bytes text.new ≡ string_bytes text.old ++ value_text (rec (views values.now))) }
 {
     text.push_str("{")?;
-    push_parts(alloc, values, text)?;
+    let mut later = false;
+    for i in 0..values.len() {
+        push_comma_if(later, text)?;
+        push_value(alloc, values.get(i), text)?;
+        later = true;
+    }
     text.push_str("}")?;
     Ok(())
 }

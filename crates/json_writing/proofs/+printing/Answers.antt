@@ -1,12 +1,12 @@
 use Rattle.std.proofs.Common.{◌≡◌, ◌<◌, ◌++◌, ℕ, List, length, string_bytes, sym, ap, subst, ◌∙◌, append_assoc, arith, rules}
 use Rattle.std.specs.Prelude.{OnOk}
-use denote.Param.Weighed.{at_most}
 use Rattle.serde_json.specs.Data.{Data, array}
 use Rattle.serde_json.specs.Written.{compact_text}
 use Rattle.aidl_schema.specs.declared.schema.Decl.{Decl}
 use Rattle.aidl_values.specs.HasType.{FieldsHaveType}
 use Rattle.aidl_values.specs.View.{view, views}
-use Rattle.aidl_values.proofs.value.Value.TheLaws.{the_size}
+use Rattle.aidl_values.proofs.lemmas.Depths.{no_deeper, item_no_deeper}
+use Rattle.aidl_values.proofs.lemmas.Nexts.{item_at}
 use Rattle.json_writing.specs.ValueText.{value_text}
 use Rattle.json_writing.specs.declared.members.Member.{Member}
 use Rattle.json_writing.specs.steps.Rows.{json_truths}
@@ -16,8 +16,8 @@ use Rattle.json_writing.proofs.Parts.{as_many, part_here, record_text, typed_her
 use Rattle.json_writing.proofs.Rows.{within_at}
 use Rattle.json_writing.proofs.+printing.Goals as goal
 
-pub object_text::push_member-bounds-values-member : goal.object_text::push_member-bounds-values-member
-object_text::push_member-bounds-values-member t c =
+pub object_text::push_member-get-requires : goal.object_text::push_member-get-requires
+object_text::push_member-get-requires t c =
     let many = as_many c.args.printer.now c.args.fields.now c.args.values.now c.requires.typed in
     omega (arith, many, c.requires.within)
 
@@ -25,13 +25,11 @@ pub object_text::push_member-push_value-requires : goal.object_text::push_member
 object_text::push_member-push_value-requires t c =
     let vs = c.args.values.now in
     let i = c.args.member.now.place in
-    let v = c.index-values-member.result in
-    let many = as_many c.args.printer.now c.args.fields.now vs c.requires.typed in
-    let lies : i < length vs = omega (arith, many, c.requires.within) in
-    let below = at_most the_size vs i v lies in
-    let same = ap the_size c.index-values-member.is in (
-      omega (arith, below, same, c.decreases),
-      typed_here c.args.printer.now c.args.fields.now vs i c.index-fields-member.result v c.requires.typed c.requires.within c.index-fields-member.is c.index-values-member.is,
+    let v = c.get.result.now in
+    let below = no_deeper vs i v c.get.ensures in
+    let there = item_at vs i v c.get.ensures in (
+      omega (arith, below, c.decreases),
+      typed_here c.args.printer.now c.args.fields.now vs i c.index-fields-member.result v c.requires.typed c.requires.within c.index-fields-member.is there,
     )
 
 pub object_text::push_member-returns-clause-text : goal.object_text::push_member-returns-clause-text
@@ -43,11 +41,12 @@ object_text::push_member-returns-clause-text t c =
     let key = string_bytes c.args.member.now.key in
     let old = string_bytes c.args.text.now in
     let f = c.index-fields-member.result in
-    let v = c.index-values-member.result in
+    let v = c.get.result.now in
+    let there = item_at vs i v c.get.ensures in
     let part = value_text S f.ty (view v) in
     subst (λ (z : List ℕ). OnOk c.push_value.result (string_bytes c.push_value.new.text ≡ z))
     (ap (λ (z : List ℕ). z ++ part) (c.in_ok-push_str.ensures.bytes ∙ ap (λ (z : List ℕ). old ++ z) c.as_str.ensures.value) ∙ append_assoc old key part
-    ∙ ap (λ (d : Data). old ++ (key ++ compact_text d)) (part_here S fs vs i f v c.requires.typed c.requires.within c.index-fields-member.is c.index-values-member.is))
+    ∙ ap (λ (d : Data). old ++ (key ++ compact_text d)) (part_here S fs vs i f v c.requires.typed c.requires.within c.index-fields-member.is there))
     c.push_value.ensures.text
 
 pub object_text::push_members-push_member-requires : goal.object_text::push_members-push_member-requires
@@ -74,9 +73,8 @@ sequence_text::push_elements-push_value-requires t c =
     let i = c.loop-value.value-index in
     let v = c.value-item.result in
     let lies : i < length vs = omega arith in
-    let below = at_most the_size vs i v lies in
-    let same = ap the_size c.value-item.is in
-    (omega (arith, below, same, c.decreases), element_here c.args.printer.now c.args.ty c.loop-value.printer vs i v c.loop-value.invariant.same c.value-item.is c.requires lies)
+    let below = item_no_deeper vs i v lies c.value-item.is in
+    (omega (arith, below, c.decreases), element_here c.args.printer.now c.args.ty c.loop-value.printer vs i v c.loop-value.invariant.same c.value-item.is c.requires lies)
 
 pub value_text::push_value-returns-in-Truths-clause-text : goal.value_text::push_value-returns-in-Truths-clause-text
 value_text::push_value-returns-in-Truths-clause-text t c =

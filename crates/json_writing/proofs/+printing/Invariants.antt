@@ -1,6 +1,7 @@
-use Rattle.std.proofs.Common.{◌≡◌, ◌++◌, false, drop, string_bytes}
+use Rattle.std.proofs.Common.{◌≡◌, ◌+◌, ◌*◌, ◌++◌, false, drop, string_bytes}
 use Rattle.serde_json.specs.Written.{compact_text, items_text}
-use Rattle.aidl_values.specs.View.{views}
+use Rattle.aidl_values.specs.Data.{depth_of, greatest}
+use Rattle.aidl_values.specs.View.{view, views}
 use Rattle.json_writing.specs.Json.{json_items}
 use Rattle.json_writing.specs.steps.Members.{row_text}
 use Rattle.json_writing.specs.steps.Parts.{part_at}
@@ -21,3 +22,28 @@ invariant-object_text::push_members-loop-member l = record {
   text : string_bytes l.text ++ row_text (λ i. compact_text (part_at l.fn.printer l.fields l.values i)) (drop l.member-index l.row)
       ≡ string_bytes l.fn.text ++ row_text (λ i. compact_text (part_at l.fn.printer l.fields l.values i)) l.row;
 }
+
+-- a value takes more steps than the list of its parts, and the list than each of them
+abbrev pub decreases-value_text::push_value : goal.decreases-value_text::push_value
+decreases-value_text::push_value l = 4 * depth_of (view l.value.now)
+
+abbrev pub decreases-sequence_text::push_sequence : goal.decreases-sequence_text::push_sequence
+decreases-sequence_text::push_sequence l = 4 * greatest (views l.values.now) + 2
+
+abbrev pub decreases-sequence_text::push_elements : goal.decreases-sequence_text::push_elements
+decreases-sequence_text::push_elements l = 4 * greatest (views l.values.now) + 1
+
+abbrev pub decreases-object_text::push_record : goal.decreases-object_text::push_record
+decreases-object_text::push_record l = 4 * greatest (views l.values.now) + 3
+
+abbrev pub decreases-object_text::push_members : goal.decreases-object_text::push_members
+decreases-object_text::push_members l = 4 * greatest (views l.values.now) + 2
+
+abbrev pub decreases-object_text::push_member : goal.decreases-object_text::push_member
+decreases-object_text::push_member l = 4 * greatest (views l.values.now) + 1
+
+abbrev pub decreases-object_text::push_alternative : goal.decreases-object_text::push_alternative
+decreases-object_text::push_alternative l = 4 * depth_of (view l.value.now) + 2
+
+abbrev pub decreases-object_text::push_only : goal.decreases-object_text::push_only
+decreases-object_text::push_only l = 4 * depth_of (view l.value.now) + 1
