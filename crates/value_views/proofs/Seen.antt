@@ -6,13 +6,11 @@ use Rattle.std.proofs.lemmas.Option.{slice_get_read}
 use Rattle.aidl_schema.specs.declared.schema.AidlType.{AidlType}
 use Rattle.aidl_schema.specs.declared.schema.Decl.{Decl}
 use Rattle.aidl_schema.specs.declared.schema.Field.{Field}
-use Rattle.aidl_schema.specs.Types.{form_of}
 use Rattle.aidl_values.specs.Data.{Data, Items, none, item, alt, seq, rec}
 use Rattle.aidl_values.specs.View.{items_of, view, views}
 use Rattle.aidl_values.specs.declared.value.Value.{Value, Seq, Rec, Alt, the_lemmas}
-use Rattle.wire_model.specs.Spell.{parcelable_fields}
 use Rattle.aidl_values.specs.Sound.{initial_in}
-use Rattle.wire_model.specs.View.{agree, item_first, each_field, view_of, view_items, view_named, field_named, in_field, in_place, or_initial}
+use Rattle.wire_model.specs.View.{item_first, each_field, view_of, view_items, view_named, field_named, in_field, in_place, or_initial}
 use Rattle.value_views.specs.steps.Places.{below, place_named}
 use Rattle.value_views.specs.steps.Seen.{onto, with_seen, field_view}
 use Rattle.value_views.proofs.Named.{named_there, seen_beyond, seen_nowhere, seen_there, unnamed}
@@ -106,28 +104,19 @@ module _ (A B : List Decl) (g : Field) (fields : List Field) (vs : List Value) w
       by true e = sym e
       by false e = cc
 
-  pub there_seen : (k : ℕ) (fs : List Field) (f : Field) (v : Value) → Some k ≡ below (length vs) (place_named g.name.0 fields) → fs ≡ fields → k < length fields → f ≡ get_or fs k f → k < length vs → v ≡ get_or vs k v
+  pub there_seen : (n k : ℕ) (fs : List Field) (f : Field) (v : Value) → Some k ≡ below n (place_named g.name.0 fields) → fs ≡ fields → k < length fields → f ≡ get_or fs k f → slice_get vs k ≡ Some v
       → view_of A f.ty B g.ty (view v) ≡ field_view A fields B (views vs) g
-  there_seen k fs f v at are lt is few has =
+  there_seen n k fs f v at are lt is has =
       let read : slice_get fs k ≡ Some f = slice_get_read fs (length fields) k f (sym (ap length are)) lt is in
       let there : slice_get fields k ≡ Some f = ap (λ xs. slice_get xs k) (sym are) ∙ read in
-      sym (ap (λ s. or_initial s (initial_in B g)) (seen_there A B g fields vs k f v (was_below (length vs) k (place_named g.name.0 fields) at) there (slice_get_read vs (length vs) k v refl few has)))
-
--- the view of a record, by its parts
-pub record_view : (A : List Decl) (t : AidlType) (B : List Decl) (u : AidlType) (fields : List Field) (vs ws : List Value) (seen : Option (List Value)) → agree A t B u ≡ true
-    → fields ≡ parcelable_fields (form_of B u.base) → ws ≡ vs → option_map views seen ≡ each_field (λ g. field_view A (parcelable_fields (form_of A t.base)) B (views ws) g) fields
-    → option_map rec (option_map views seen) ≡ view_of A t B u (rec (views vs))
-record_view A t B u fields vs ws seen same_kind is_fields is e =
-    let there : view_of A t B u (rec (views vs)) ≡ option_map rec (each_field (λ g. field_view A (parcelable_fields (form_of A t.base)) B (views vs) g) (parcelable_fields (form_of B u.base))) = rw same_kind refl in
-    ap (option_map rec) (e ∙ ap (λ ys. each_field (λ g. field_view A (parcelable_fields (form_of A t.base)) B (views ws) g) ys) is_fields
-    ∙ ap (λ zs. each_field (λ g. field_view A (parcelable_fields (form_of A t.base)) B (views zs) g) (parcelable_fields (form_of B u.base))) is) ∙ sym there
+      sym (ap (λ s. or_initial s (initial_in B g)) (seen_there A B g fields vs k f v (was_below n k (place_named g.name.0 fields) at) there has))
 
 -- the data of one level
 pub seen_seq : (v : Value) (vs : List Value) → v ≡ Seq vs → view v ≡ seq (views vs)
 seen_seq v vs is = let level : view (Seq vs) ≡ seq (views vs) = search (rules, the_lemmas) in ap view is ∙ level
 
-pub seen_rec : (v : Value) (vs : List Value) → v ≡ Rec vs → view v ≡ rec (views vs)
-seen_rec v vs is = let level : view (Rec vs) ≡ rec (views vs) = search (rules, the_lemmas) in ap view is ∙ level
+pub seen_rec : (vs : List Value) → view (Rec vs) ≡ rec (views vs)
+seen_rec vs = search (rules, the_lemmas)
 
 pub seen_alt : (k : ℕ) (b : _) → view (Alt k b) ≡ alt k (view b.value)
 seen_alt k b = search (rules, the_lemmas)

@@ -1,12 +1,13 @@
 //! Whether two values are the same data.
 ghost use Rattle.std.specs.Prelude.{◌≡◌, ◌↔◌, IsTrue};
+ghost use Rattle.aidl_values.specs.Data.{rec};
 ghost use Rattle.aidl_values.specs.View.{view, views};
 ghost use Rattle.value_views.specs.steps.Same.{same_data, same_items};
 
 use crate::rows::{
     are_numbers, are_truths, are_truths_numbers, same_numbers, same_truth, same_truths,
 };
-use aidl_values::Value;
+use aidl_values::{FieldValues, Value};
 use compat_judge::same_text;
 
 /// Whether two values are the same data: equal truth values, numbers and texts, and parts that are the same one
@@ -36,7 +37,10 @@ fn compare(a: &Value, b: &Value) -> bool
         (Value::Numbers(xs), Value::Seq(ys)) => are_numbers(ys.as_slice(), xs),
         (Value::Numbers(xs), Value::Truths(ys)) => are_truths_numbers(ys.as_slice(), xs),
         (Value::Numbers(xs), Value::Numbers(ys)) => same_numbers(xs, ys),
-        (Value::Rec(xs), Value::Rec(ys)) => compare_each(xs.as_slice(), ys.as_slice()),
+        (Value::Rec(given), _) => compare_record(&FieldValues::whole(given), b),
+        (Value::Short(given, defaults), _) => {
+            compare_record(&FieldValues::short(given, defaults), b)
+        }
         (Value::Alt(j, v), Value::Alt(k, w)) => *j == *k && compare(v, w),
         _ => false,
     }
@@ -51,6 +55,36 @@ fn compare_each(a: &[Value], b: &[Value]) -> bool
     }
     for i in 0..a.len() {
         if !compare(&a[i], &b[i]) {
+            return false;
+        }
+    }
+    true
+}
+
+// Whether a value is the record of these values, in whichever form it is kept.
+#[cycle(comparing)]
+fn compare_record(values: &FieldValues<'_>, other: &Value) -> bool
+    ensures { result ≡ same_data (rec (views values.now)) (view other.now) }
+{
+    match other {
+        Value::Rec(given) => compare_fields(values, &FieldValues::whole(given)),
+        Value::Short(given, defaults) => {
+            compare_fields(values, &FieldValues::short(given, defaults))
+        }
+        _ => false,
+    }
+}
+
+#[cycle(comparing)]
+fn compare_fields(a: &FieldValues<'_>, b: &FieldValues<'_>) -> bool
+    ensures { result ≡ same_items (views a.now) (views b.now) }
+{
+    let count = a.len();
+    if count != b.len() {
+        return false;
+    }
+    for i in 0..count {
+        if !compare(a.get(i), b.get(i)) {
             return false;
         }
     }

@@ -15,7 +15,7 @@ use crate::named_fields::NamedFields;
 use crate::places::{parcelable_fields, place_in_union, place_sent, union_fields};
 use aidl_base::{OutOfMemory, Row};
 use aidl_schema::{AidlType, Base, Decl, Field, Kind, element};
-use aidl_values::{Numbers, Value, initial_of};
+use aidl_values::{FieldValues, Numbers, Value, initial_of};
 use compat_judge::same_type;
 use std::alloc::Global;
 
@@ -51,10 +51,13 @@ pub fn view_value(
         }
         Value::Truths(truths) => view_truths(alloc, sender, t, receiver, u, truths.as_slice()),
         Value::Numbers(numbers) => view_numbers(alloc, sender, t, receiver, u, numbers),
-        Value::Rec(items) => {
-            let fields = parcelable_fields(receiver, u.base);
-            let seen = view_record(alloc, sender, t.base, receiver, fields, items.as_slice())?;
-            Ok(as_record(seen))
+        Value::Rec(given) => {
+            let values = FieldValues::whole(given);
+            view_record(alloc, sender, t.base, receiver, u.base, &values)
+        }
+        Value::Short(given, defaults) => {
+            let values = FieldValues::short(given, defaults);
+            view_record(alloc, sender, t.base, receiver, u.base, &values)
         }
         Value::Alt(tag, inner) => {
             let sent = field_at(union_fields(sender, t.base), *tag);
@@ -68,15 +71,6 @@ fn as_sequence(items: Option<Row<Value>>) -> Option<Value>
 {
     match items {
         Some(items) => Some(Value::Seq(items)),
-        None => None,
-    }
-}
-
-fn as_record(items: Option<Row<Value>>) -> Option<Value>
-    ensures { option_map view result ≡ option_map rec (option_map views items) }
-{
-    match items {
-        Some(items) => Some(Value::Rec(items)),
         None => None,
     }
 }
@@ -157,19 +151,21 @@ fn stay(
     count == 0 || agree(sender, sent, receiver, wanted)
 }
 
-// The views of the receiver's fields.
+// The view of a record: the views of the receiver's fields.
 #[cycle(viewing)]
 fn view_record(
     alloc: Global,
     sender: &NamedFields<'_>,
     base: Base,
     receiver: &NamedFields<'_>,
-    fields: &[Field],
-    values: &[Value],
-) -> Result<Option<Row<Value>>, OutOfMemory>
-    ensures { IfOk result (λ o. option_map views o ≡ meant.each_field
-        (λ g. field_view sender.now (parcelable_fields (form_of sender.now base)) receiver.now (views values.now) g) fields.now) }
+    other: Base,
+    values: &FieldValues<'_>,
+) -> Result<Option<Value>, OutOfMemory>
+    ensures { IfOk result (λ o. option_map view o ≡ option_map rec (meant.each_field
+        (λ g. field_view sender.now (parcelable_fields (form_of sender.now base)) receiver.now (views values.now) g)
+        (parcelable_fields (form_of receiver.now other)))) }
 {
+    let fields = parcelable_fields(receiver, other);
     let mut seen = Vec::with_capacity(alloc, fields.len())?;
     for field in fields {
         match view_field(alloc, sender, base, receiver, field, values)? {
@@ -177,7 +173,7 @@ fn view_record(
             None => return Ok(None),
         }
     }
-    Ok(Some(Row::from_vec(seen)))
+    Ok(Some(Value::Rec(Row::from_vec(seen))))
 }
 
 // What a field of the receiver is seen as: the view of the sender's field of its name, or its default where there
@@ -189,7 +185,7 @@ fn view_field(
     base: Base,
     receiver: &NamedFields<'_>,
     field: &Field,
-    values: &[Value],
+    values: &FieldValues<'_>,
 ) -> Result<Option<Value>, OutOfMemory>
     ensures { IfOk result (λ o. option_map view o
         ≡ field_view sender.now (parcelable_fields (form_of sender.now base)) receiver.now (views values.now) field.now) }
@@ -197,7 +193,7 @@ fn view_field(
     match place_sent(sender, base, &field.name.0, values.len()) {
         Some(place) => {
             let sent = parcelable_fields(sender, base);
-            let value = &values[place];
+            let value = values.get(place);
             view_value(alloc, sender, sent[place].ty, receiver, field.ty, value)
         }
         None => some_initial(alloc, receiver, field),

@@ -1,14 +1,16 @@
-use Rattle.std.proofs.Common.{◌≡◌, Option, Some, None, IfOk, sym, ap, ◌∙◌, map, subst}
+use Rattle.std.proofs.Common.{◌≡◌, Option, Some, None, IfOk, sym, ap, ◌∙◌, map, subst, arith}
 use Rattle.std.specs.Prelude.{option_map}
 use Rattle.std.specs.Option.{option_copied}
 use Rattle.aidl_schema.specs.declared.schema.Field.{Field}
 use Rattle.aidl_schema.specs.Types.{form_of}
-use Rattle.aidl_values.specs.Data.{Data, alt}
+use Rattle.aidl_values.specs.Data.{Data, alt, rec}
 use Rattle.aidl_values.specs.View.{view, views}
+use Rattle.aidl_values.proofs.lemmas.Depths.{no_deeper, item_no_deeper}
 use Rattle.wire_model.specs.Spell.{parcelable_fields, union_fields}
 use Rattle.wire_model.specs.View.{view_of, view_items, each_field}
+use Rattle.value_views.specs.steps.Places.{below, place_named}
 use Rattle.value_views.specs.steps.Seen.{field_view, with_seen}
-use Rattle.value_views.proofs.Seen.{alternative, no_alternative, nowhere_seen, there_seen, record_view, seen_alt, seen_rec, collected, complete, drop_all, next_field, next_item}
+use Rattle.value_views.proofs.Seen.{alternative, no_alternative, nowhere_seen, there_seen, seen_alt, seen_rec, collected, complete, drop_all, next_field, next_item}
 use Rattle.value_views.proofs.viewing.+viewing.Goals as goal
 
 pub view_alternative-returns-in_ok-new-in-Some-2 :
@@ -41,19 +43,30 @@ view_alternative-returns-in_default-place_in_union t c =
 
 pub view_field-returns-in-None : goal.view_field-returns-in-None
 view_field-returns-in-None t c =
+    let fields = parcelable_fields (form_of c.args.sender.now c.args.base) in
+    let at = c.place_sent.ensures.place ∙ ap (λ n. below n (place_named c.args.field.now.name.0 fields)) c.len.ensures in
     subst (λ z. IfOk c.some_initial.result (λ o. option_map view o ≡ z))
-    (nowhere_seen c.args.sender.now c.args.receiver.now c.args.field.now (parcelable_fields (form_of c.args.sender.now c.args.base)) c.args.values.now c.place_sent.result
-    c.place_sent.ensures.place c.in-None.is) c.some_initial.ensures
+    (nowhere_seen c.args.sender.now c.args.receiver.now c.args.field.now fields c.args.values.now c.place_sent.result at c.in-None.is) c.some_initial.ensures
 
 pub view_field-returns-in-Some : goal.view_field-returns-in-Some
 view_field-returns-in-Some t c =
     let f = c.index-sent-place.result in
-    let v = c.index-values-place.result in
+    let v = c.get-value.result.now in
     subst (λ z. IfOk c.view_value.result (λ o. option_map view o ≡ z))
     (sym (ap (λ (f : Field). view_of c.args.sender.now f.ty c.args.receiver.now c.args.field.now.ty (view v)) c.index-sent-place.is)
-    ∙ there_seen c.args.sender.now c.args.receiver.now c.args.field.now (parcelable_fields (form_of c.args.sender.now c.args.base)) c.args.values.now c.in-Some.place
-    c.parcelable_fields-sent.result.now f v c.in-Some.ensures.place c.parcelable_fields-sent.ensures c.in-Some.ensures.within c.index-sent-place.is c.in-Some.ensures.sent c.index-values-place.is)
+    ∙ there_seen c.args.sender.now c.args.receiver.now c.args.field.now (parcelable_fields (form_of c.args.sender.now c.args.base)) c.args.values.now c.len.result c.in-Some.place
+    c.parcelable_fields-sent.result.now f v c.in-Some.ensures.place c.parcelable_fields-sent.ensures c.in-Some.ensures.within c.index-sent-place.is c.get-value.ensures)
     c.view_value.ensures
+
+pub view_field-view_value-requires : goal.view_field-view_value-requires
+view_field-view_value-requires t c =
+    let inside = no_deeper c.args.values.now c.in-Some.place c.get-value.result.now c.get-value.ensures in
+    (omega (arith, inside, c.decreases), tt)
+
+pub view_items-view_value-requires : goal.view_items-view_value-requires
+view_items-view_value-requires t c =
+    let inside = item_no_deeper c.args.values.now c.loop-value.value-index c.value-item.result c.loop-value-test.true c.value-item.is in
+    (omega (arith, inside, c.decreases), tt)
 
 pub view_items-loop-value-preserved : goal.view_items-loop-value-preserved
 view_items-loop-value-preserved t c =
@@ -70,19 +83,14 @@ view_items-returns t c =
 pub view_record-loop-field-preserved : goal.view_record-loop-field-preserved
 view_record-loop-field-preserved t c =
     let F = field_view c.args.sender.now (parcelable_fields (form_of c.args.sender.now c.args.base)) c.args.receiver.now (views c.args.values.now) in
-    let next = next_field F c.args.fields.now c.loop-field.field-index c.field-item.result c.loop-field-test.true c.field-item.is in
+    let next = next_field F c.parcelable_fields-fields.result.now c.loop-field.field-index c.field-item.result c.loop-field-test.true c.field-item.is in
     collected c.loop-field.seen.items c.in-Some.view c.push.new.self.items (F c.field-item.result) _ _
     (sym c.in_ok-view.ensures ∙ ap (option_map view) c.in-Some.is) c.in_ok-push-in-Some.ensures.items (ap (with_seen (map view c.loop-field.seen.items)) (sym next) ∙ c.loop-field.invariant)
 
 pub view_record-returns : goal.view_record-returns
 view_record-returns t c =
     let F = field_view c.args.sender.now (parcelable_fields (form_of c.args.sender.now c.args.base)) c.args.receiver.now (views c.args.values.now) in
-    let done = drop_all c.args.fields.now c.loop-field.field-index c.loop-field-test.false in
-    complete c.loop-field.seen.items c.from_vec.result _ c.from_vec.ensures (ap (λ gs. with_seen (map view c.loop-field.seen.items) (each_field F gs)) (sym done) ∙ c.loop-field.invariant)
-
-pub view_value-returns-in_ok-seen-in-Rec : goal.view_value-returns-in_ok-seen-in-Rec
-view_value-returns-in_ok-seen-in-Rec t c =
-    c.as_record.ensures
-    ∙ record_view c.args.sender.now c.args.t c.args.receiver.now c.args.u c.parcelable_fields-fields.result.now c.in-Rec.items c.as_slice-in-Rec.result.now c.in_ok-seen-in-Rec.seen
-    (sym c.agree.ensures ∙ c.if-not-agree.false) c.parcelable_fields-fields.ensures c.as_slice-in-Rec.ensures c.in_ok-seen-in-Rec.ensures
-    ∙ sym (ap (λ d. view_of c.args.sender.now c.args.t c.args.receiver.now c.args.u d) (seen_rec c.args.value.now c.in-Rec.items c.in-Rec.is))
+    let fields = c.parcelable_fields-fields.result.now in
+    let done = drop_all fields c.loop-field.field-index c.loop-field-test.false in
+    let all = complete c.loop-field.seen.items c.from_vec.result _ c.from_vec.ensures (ap (λ gs. with_seen (map view c.loop-field.seen.items) (each_field F gs)) (sym done) ∙ c.loop-field.invariant) in
+    ap (λ d. let o : Option Data = Some d in o) (seen_rec c.from_vec.result) ∙ ap (option_map rec) (all ∙ ap (each_field F) c.parcelable_fields-fields.ensures)
