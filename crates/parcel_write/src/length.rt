@@ -1,6 +1,7 @@
 //! The number of bytes that a value takes in a parcel.
 ghost use Rattle.std.specs.Prelude.{◌≡◌, ◌+◌, ℤ, length, min};
 ghost use Rattle.aidl_base.specs.Words.{padding};
+ghost use Rattle.aidl_values.specs.Data.{rec};
 ghost use Rattle.aidl_values.specs.View.{view, views};
 ghost use Rattle.parcel_write.specs.Fitting.{FitsSome, OfEachFit};
 ghost use Rattle.parcel_write.specs.steps.PlanSpell.{EachSuits, EntriesSuit, Suits, number_by, plan_spell, plan_spell_entries, plan_spell_items};
@@ -8,7 +9,7 @@ ghost use Rattle.wire_model.specs.Spell.{spell};
 
 use crate::items::{alternative_in, element_in, fields_in, is_raw};
 use crate::rows::{numbers_length, truths_length};
-use aidl_values::Value;
+use aidl_values::{FieldValues, Value};
 use marshal_plans::{PlanField, PlanId, PlanItem, Plans};
 use parcel_words::Wire;
 
@@ -41,9 +42,9 @@ pub(crate) fn length_of(plans: &Plans, id: PlanId, value: &Value) -> usize
         }
         Value::Truths(truths) => truths_length(plans, id, truths.as_slice()),
         Value::Numbers(numbers) => numbers_length(plans, id, numbers),
-        Value::Rec(items) => {
-            let fields = fields_in(plans, plans.item(id));
-            fields_length(plans, fields, items.as_slice()).saturating_add(8)
+        Value::Rec(given) => record_length(plans, id, &FieldValues::whole(given)),
+        Value::Short(given, defaults) => {
+            record_length(plans, id, &FieldValues::short(given, defaults))
         }
         Value::Alt(tag, inner) => {
             let part = alternative_in(plans, plans.item(id), *tag);
@@ -82,16 +83,26 @@ fn items_length(plans: &Plans, element: PlanId, items: &[Value]) -> usize
     len
 }
 
+/// The bytes of a record by its item.
+#[cycle(length)]
+fn record_length(plans: &Plans, id: PlanId, values: &FieldValues<'_>) -> usize
+    requires { Suits plans.now id (rec (views values.now)) }
+    ensures { result ≡ min (length (plan_spell plans.now id (rec (views values.now)))) usize.MAX }
+{
+    let fields = fields_in(plans, plans.item(id));
+    fields_length(plans, fields, values).saturating_add(8)
+}
+
 /// The bytes of the fields of a record.
 #[cycle(length)]
 #[tactic(auto, using(crate::proofs::Typed::same_count))]
-fn fields_length(plans: &Plans, fields: &[PlanField], values: &[Value]) -> usize
+fn fields_length(plans: &Plans, fields: &[PlanField], values: &FieldValues<'_>) -> usize
     requires { EntriesSuit plans.now fields.now (views values.now) }
     ensures { result ≡ min (length (plan_spell_entries plans.now fields.now (views values.now))) usize.MAX }
 {
     let mut len: usize = 0;
     for i in 0..values.len() {
-        len = len.saturating_add(length_of(plans, fields[i].item, &values[i]));
+        len = len.saturating_add(length_of(plans, fields[i].item, values.get(i)));
     }
     len
 }

@@ -1,6 +1,7 @@
 //! How a value of any item is written: null, markers, tags, sequences, and the fields of records.
 ghost use Rattle.std.specs.Prelude.{◌≡◌, ◌≤◌, ◌<◌, ◌^◌, pos, length};
 ghost use Rattle.aidl_base.specs.Words.{word};
+ghost use Rattle.aidl_values.specs.Data.{rec};
 ghost use Rattle.aidl_values.specs.View.{view, views};
 ghost use Rattle.parcel_words.specs.Written.{with_bytes};
 ghost use Rattle.parcel_write.specs.Fitting.{FitsRoom, OfEachFit};
@@ -11,7 +12,7 @@ use crate::bytes::put_raw;
 use crate::items::{alternative_in, element_in, fields_in, is_raw};
 use crate::number::put_number;
 use crate::rows::{put_numbers, put_truths};
-use aidl_values::Value;
+use aidl_values::{FieldValues, Value};
 use marshal_plans::{PlanField, PlanId, PlanItem, Plans};
 use parcel_words::{Wire, WordWriter};
 
@@ -47,16 +48,9 @@ pub(crate) fn put(plans: &Plans, id: PlanId, value: &Value, to: &mut WordWriter)
         }
         Value::Truths(truths) => put_truths(plans, id, truths.as_slice(), to),
         Value::Numbers(numbers) => put_numbers(plans, id, numbers, to),
-        Value::Rec(items) => {
-            to.word(PRESENT);
-            let start = to.open_record();
-            put_fields(
-                plans,
-                fields_in(plans, plans.item(id)),
-                items.as_slice(),
-                to,
-            );
-            to.close_record(start);
+        Value::Rec(given) => put_record(plans, id, &FieldValues::whole(given), to),
+        Value::Short(given, defaults) => {
+            put_record(plans, id, &FieldValues::short(given, defaults), to);
         }
         Value::Alt(tag, inner) => {
             to.word(PRESENT);
@@ -108,16 +102,30 @@ fn put_items(plans: &Plans, element: PlanId, items: &[Value], to: &mut WordWrite
     }
 }
 
+/// Appends the bytes of a record by its item.
+#[cycle(put)]
+fn put_record(plans: &Plans, id: PlanId, values: &FieldValues<'_>, to: &mut WordWriter)
+    requires suits { Suits plans.now id (rec (views values.now)) }
+    requires small { length (plan_spell plans.now id (rec (views values.now))) < 2 ^ 31 }
+    requires room { length (plan_spell plans.now id (rec (views values.now))) ≤ to.old.room }
+    ensures { to.new ≡ with_bytes to.old (plan_spell plans.now id (rec (views values.now))) }
+{
+    to.word(PRESENT);
+    let start = to.open_record();
+    put_fields(plans, fields_in(plans, plans.item(id)), values, to);
+    to.close_record(start);
+}
+
 /// Appends the fields of a record.
 #[cycle(put)]
 #[tactic(auto, using(crate::proofs::Typed::same_count))]
-fn put_fields(plans: &Plans, fields: &[PlanField], values: &[Value], to: &mut WordWriter)
+fn put_fields(plans: &Plans, fields: &[PlanField], values: &FieldValues<'_>, to: &mut WordWriter)
     requires suits { EntriesSuit plans.now fields.now (views values.now) }
     requires small { length (plan_spell_entries plans.now fields.now (views values.now)) < 2 ^ 31 }
     requires room { length (plan_spell_entries plans.now fields.now (views values.now)) ≤ to.old.room }
     ensures { to.new ≡ with_bytes to.old (plan_spell_entries plans.now fields.now (views values.now)) }
 {
     for i in 0..values.len() {
-        put(plans, fields[i].item, &values[i], to);
+        put(plans, fields[i].item, values.get(i), to);
     }
 }

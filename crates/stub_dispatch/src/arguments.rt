@@ -84,6 +84,7 @@ fn items_in(value: &Value) -> usize
         | Value::Number(_)
         | Value::Text(_)
         | Value::Rec(_)
+        | Value::Short(_, _)
         | Value::Alt(_, _) => 0,
     }
 }

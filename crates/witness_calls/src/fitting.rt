@@ -79,6 +79,7 @@ fn is_length(ty: AidlType, value: &Value) -> bool
         Value::Truths(_) => false,
         Value::Numbers(_) => false,
         Value::Rec(_) => false,
+        Value::Short(_, _) => false,
         Value::Alt(_, _) => false,
     }
 }
@@ -95,6 +96,7 @@ fn is_null(value: &Value) -> bool
         Value::Truths(_) => false,
         Value::Numbers(_) => false,
         Value::Rec(_) => false,
+        Value::Short(_, _) => false,
         Value::Alt(_, _) => false,
     }
 }

@@ -1,21 +1,48 @@
-//! Values: the default of a parcelable with an initializer, its JSON, and the copy and the depth of values. Schemas: look-ups,
-//! and what the judge says of a declaration that goes.
+//! Values: the default of a parcelable with an initializer, records that share their last values, their JSON and their bytes, and
+//! the copy and the depth of values. Schemas: look-ups, and what the judge says of a declaration that goes.
 
-ghost use Rattle.std.specs.Prelude.{◌≡◌, false, IfOk};
+ghost use Rattle.std.specs.Prelude.{◌≡◌, false, true, IfOk};
 ghost use Rattle.std.specs.Str.{chars};
+ghost use Rattle.aidl_schema.specs.Types.{is_type};
 ghost use Rattle.aidl_schema.specs.Valid.{IsValid};
+ghost use Rattle.aidl_values.specs.Fits.{Fits};
+ghost use Rattle.aidl_values.specs.View.{view};
 
 use crate::same::{same, shows};
 use aidl_base::{Const, DottedName, Ident, OutOfMemory, Parts, Row, Text};
 use aidl_schema::{
     AidlType, Base, Decl, Field, Kind, Schema, Shape, find, is_type, method_of_code,
 };
-use aidl_values::{Value, default_of, depth, has_type, initial_of, law_one_default, law_sound};
+use aidl_values::{
+    FieldValues, Value, default_of, depth, has_type, initial_of, law_one_default, law_sound,
+};
 use compat_judge::judge;
 use json_values::to_json;
+use marshal_plans::compile;
+use parcel_write::write;
 use std::alloc::Global;
 use std::process::Abort;
+use std::rc::Rc;
 use std::test::Fail;
+
+// What is wanted of a record of P: its number, its JSON and its bytes.
+struct Wanted {
+    number: i64,
+    json: &'static str,
+    bytes: &'static [u8],
+}
+
+const DEFAULT: Wanted = Wanted {
+    number: 0,
+    json: r#"{"a":0,"s":"x"}"#,
+    bytes: b"\x01\0\0\0\x10\0\0\0\0\0\0\0\x01\0\0\0x\0\0\0",
+};
+
+const FOUR: Wanted = Wanted {
+    number: 4,
+    json: r#"{"a":4,"s":"x"}"#,
+    bytes: b"\x01\0\0\0\x10\0\0\0\x04\0\0\0\x01\0\0\0x\0\0\0",
+};
 
 fn one(base: Base) -> AidlType
     ensures { result ≡ record { base = base; shape = Shape.One; nullable = false; heap = false; utf8 = false } }
@@ -78,24 +105,46 @@ fn nested(alloc: Global, levels: usize, mut value: Value) -> Result<Value, OutOf
     Ok(value)
 }
 
-// Compares a value with the default of P: its type, its depth, its JSON and its fields.
-fn is_default<R: Abort + AllocGlobal>(rt: &R, schema: &Schema, value: &Value) {
+// Compares a value with a record of P: its type, its depth, its JSON, its bytes and its fields.
+fn is_record<R: Abort + AllocGlobal>(rt: &R, schema: &Schema, value: &Value, wanted: &Wanted) {
     let ty = one(Base::Named(0));
+    assert!(*rt; is_type(schema, ty));
     assert!(*rt; has_type(schema, &ty, value));
-    same(rt, depth(value), 1);
+    assert!(*rt; depth(value) == 1);
     let json = to_json(rt.alloc(), schema, &ty, value).expect(rt, "memory");
     let json = json.to_string(rt.alloc()).expect(rt, "memory");
-    same(rt, json.as_str(), r#"{"a":0,"s":"x"}"#);
-    same(rt, fields_of(value), Some((0, "x")));
+    same(rt, json.as_str(), wanted.json);
+    let bytes = bytes_of(rt, schema, ty, value);
+    same(rt, bytes.as_slice(), wanted.bytes);
+    same(rt, fields_of(value), Some((wanted.number, "x")));
+}
+
+// The bytes of a value.
+fn bytes_of<R: Abort + AllocGlobal>(rt: &R, schema: &Schema, ty: AidlType, value: &Value) -> Vec<u8>
+    requires known { is_type schema.now.decls ty ≡ true }
+    requires fits { Fits schema.now.decls ty (view value.now) }
+{
+    let plans = compile(rt.alloc(), schema, &[ty]).expect(rt, "memory");
+    let id = plans.extras.as_slice()[0];
+    write(rt.alloc(), &plans, id, value).expect(rt, "bytes")
 }
 
 // A number and a text, where the value is a record of these two.
 fn fields_of(value: &Value) -> Option<(i64, &str)> {
     match value {
-        Value::Rec(items) => match items.as_slice() {
-            [Value::Number(a), Value::Text(s)] => Some((*a, s.as_str())),
-            _ => None,
-        },
+        Value::Rec(given) => number_and_text(&FieldValues::whole(given)),
+        Value::Short(given, defaults) => number_and_text(&FieldValues::short(given, defaults)),
+        _ => None,
+    }
+}
+
+// A number and a text, where the values of fields are these two.
+fn number_and_text<'a>(values: &FieldValues<'a>) -> Option<(i64, &'a str)> {
+    if values.len() != 2 {
+        return None;
+    }
+    match (values.get(0), values.get(1)) {
+        (Value::Number(a), Value::Text(s)) => Some((*a, s.as_str())),
         _ => None,
     }
 }
@@ -111,9 +160,37 @@ fn default<R: Abort + AllocGlobal>(rt: &R, schema: &Schema) -> Value {
 fn the_default_has_the_initializer(rt: HostRuntime) -> Result<(), Fail> {
     let schema = schema(rt.alloc())?;
     let value = default(&rt, &schema);
-    is_default(&rt, &schema, &value);
+    is_record(&rt, &schema, &value, &DEFAULT);
     let copy = value.try_clone(rt.alloc())?;
-    is_default(&rt, &schema, &copy);
+    is_record(&rt, &schema, &copy, &DEFAULT);
+    Ok(())
+}
+
+// The defaults of the fields of P.
+fn defaults(alloc: Global) -> Result<Rc<Row<Value>>, OutOfMemory> {
+    let mut values = Row::new(alloc);
+    values.push(Value::Number(0))?;
+    values.push(Value::Text(text(alloc, "x")?))?;
+    Ok(Rc::new(alloc, values)?)
+}
+
+// A record of P of which the number 4 is given, and the text is shared.
+fn four(alloc: Global, defaults: &Rc<Row<Value>>) -> Result<Value, OutOfMemory> {
+    let mut given = Row::new(alloc);
+    given.push(Value::Number(4))?;
+    Ok(Value::Short(given, defaults.clone()?))
+}
+
+#[test]
+fn records_share_their_last_values(rt: HostRuntime) -> Result<(), Fail> {
+    let schema = schema(rt.alloc())?;
+    let defaults = defaults(rt.alloc())?;
+    let four = four(rt.alloc(), &defaults)?;
+    is_record(&rt, &schema, &four, &FOUR);
+    let copy = four.try_clone(rt.alloc())?;
+    is_record(&rt, &schema, &copy, &FOUR);
+    let all_shared = Value::Short(Row::new(rt.alloc()), defaults);
+    is_record(&rt, &schema, &all_shared, &DEFAULT);
     Ok(())
 }
 

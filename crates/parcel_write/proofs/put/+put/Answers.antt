@@ -1,15 +1,17 @@
-use Rattle.std.proofs.Common.{◌≡◌, ◌^◌, ◌<◌, true, false, pos, ◌++◌, length, slice_get, sym, ap, ◌∙◌, subst, arith, length-append}
+use Rattle.std.proofs.Common.{◌≡◌, ◌+◌, ◌^◌, ◌<◌, true, false, pos, ◌++◌, length, drop, get_or, slice_get, sym, ap, ◌∙◌, subst, arith, length-append}
 use Rattle.aidl_base.specs.Words.{word, pad}
 use Rattle.aidl_base.proofs.lemmas.Spelled.{length-spell_text}
 use Rattle.aidl_values.specs.View.{view, views}
+use Rattle.aidl_values.proofs.lemmas.Depths.{no_deeper, item_no_deeper}
 use Rattle.parcel_words.specs.Written.{with_bytes, with_size}
 use Rattle.parcel_words.proofs.lemmas.Appends.{with_more}
 use Rattle.wire_model.specs.Spell.{raw_bytes, body}
 use Rattle.parcel_write.specs.steps.PlanSpell.{is_raw_item, element_of, record_entries, union_entries, id_of_entry, item_of, plan_spell, plan_spell_items, plan_spell_entries}
 use Rattle.parcel_write.proofs.Records.{record_written}
 use Rattle.parcel_write.proofs.Raw.{count_views}
-use Rattle.parcel_write.proofs.Seen.{seen_text, seen_seq, seen_rec, seen_alt}
+use Rattle.parcel_write.proofs.Seen.{seen_text, seen_seq, seen_alt}
 use Rattle.parcel_write.proofs.Sequences.{few_items, raw_written, items_written}
+use Rattle.parcel_write.proofs.Typed.{element_suits, element_spelled, field_suits, field_spelled}
 use Rattle.parcel_write.proofs.put.+put.Goals as goal
 
 pub put-put-requires-clause-can : goal.put-put-requires-clause-can
@@ -22,19 +24,6 @@ put-count-requires-clause-few t c =
     let items = c.in-Seq.items in
     let small = subst (λ d. length (plan_spell c.args.plans.now c.args.id d) < 2 ^ 31) (seen_seq c.args.value.now items c.in-Seq.is) c.requires.small in
     omega (arith, c.len.ensures, few_items c.args.plans.now c.args.id (views items) _ (count_views items) small)
-
-pub put-close_record-requires-clause-small : goal.put-close_record-requires-clause-small
-put-close_record-requires-clause-small t c =
-    let P = c.args.plans.now in
-    let marked = c.word-in-Rec.new.self in
-    let entries = record_entries P.fields (item_of P c.args.id) in
-    let fields = plan_spell_entries P entries (views c.in-Rec.items) in
-    let are : c.fields_in.result.now ≡ entries = c.fields_in.ensures ∙ ap (record_entries P.fields) c.item-in-Rec.ensures in
-    let filled : c.put_fields.new.to ≡ with_bytes c.open_record-start.new.self fields = rw (← are, ← c.as_slice-in-Rec.ensures) c.put_fields.ensures in
-    let opened : c.put_fields.new.to ≡ with_bytes (with_bytes marked (word (pos 0))) fields = filled ∙ ap (λ x. with_bytes x fields) c.open_record-start.ensures.written in
-    let bytes : length c.put_fields.new.to.bytes ≡ length ((marked.bytes ++ word (pos 0)) ++ fields) = ap (λ w. length w.bytes) opened in
-    let small = subst (λ d. length (plan_spell P c.args.id d) < 2 ^ 31) (seen_rec c.args.value.now c.in-Rec.items c.in-Rec.is) c.requires.small in
-    omega (arith, small, bytes, c.open_record-start.ensures.start, length-append (marked.bytes ++ word (pos 0)) fields, length-append marked.bytes (word (pos 0)), length-append (word (pos 1)) (body fields))
 
 pub put-returns-then-is_raw : goal.put-returns-then-is_raw
 put-returns-then-is_raw t c =
@@ -61,21 +50,6 @@ put-returns-else-is_raw t c =
     added ∙ ap (λ x. with_bytes x (plan_spell_items P (element_of (item_of P id)) (views items))) counted ∙ items_written P id w (views items) _ (count_views items) apart
     ∙ ap (λ d. with_bytes w (plan_spell P id d)) (sym (seen_seq c.args.value.now items c.in-Seq.is))
 
-pub put-returns-in-Rec : goal.put-returns-in-Rec
-put-returns-in-Rec t c =
-    let P = c.args.plans.now in
-    let w = c.args.to.now in
-    let marked = c.word-in-Rec.new.self in
-    let entries = record_entries P.fields (item_of P c.args.id) in
-    let fields = plan_spell_entries P entries (views c.in-Rec.items) in
-    let are : c.fields_in.result.now ≡ entries = c.fields_in.ensures ∙ ap (record_entries P.fields) c.item-in-Rec.ensures in
-    let filled : c.put_fields.new.to ≡ with_bytes c.open_record-start.new.self fields = rw (← are, ← c.as_slice-in-Rec.ensures) c.put_fields.ensures in
-    let opened : c.put_fields.new.to ≡ with_bytes (with_bytes marked (word (pos 0))) fields = filled ∙ ap (λ x. with_bytes x fields) c.open_record-start.ensures.written in
-    let closed : c.close_record.new.self ≡ with_bytes marked (body fields) = c.close_record.ensures ∙ ap (λ n. with_size c.put_fields.new.to n) c.open_record-start.ensures.start
-    ∙ ap (λ x. with_size x (length marked.bytes)) opened ∙ record_written marked fields in
-    closed ∙ ap (λ x. with_bytes x (body fields)) c.word-in-Rec.ensures ∙ with_more w (word (pos 1)) (body fields)
-    ∙ ap (λ d. with_bytes w (plan_spell P c.args.id d)) (sym (seen_rec c.args.value.now c.in-Rec.items c.in-Rec.is))
-
 pub put-returns-in-Alt : goal.put-returns-in-Alt
 put-returns-in-Alt t c =
     let P = c.args.plans.now in
@@ -89,3 +63,76 @@ put-returns-in-Alt t c =
     added ∙ ap (λ x. with_bytes x inner) c.put_tag.ensures ∙ ap (λ x. with_bytes (with_bytes x tag) inner) c.word-in-Alt.ensures
     ∙ with_more (with_bytes w (word (pos 1))) tag inner ∙ with_more w (word (pos 1)) (tag ++ inner)
     ∙ ap (λ d. with_bytes w (plan_spell P c.args.id d)) (sym (seen_alt c.args.value.now c.in-Alt.tag c.in-Alt.inner c.in-Alt.is))
+
+pub put_items-put-requires : goal.put_items-put-requires
+put_items-put-requires t c =
+    let P = c.args.plans.now in
+    let vs = c.args.items.now in
+    let i = c.loop-item.item-index in
+    let v = c.item-item.result in
+    let inv = c.loop-item.invariant in
+    let below = item_no_deeper vs i v c.loop-item-test.true c.item-item.is in
+    let next = ap length (element_spelled P c.args.element vs i v c.loop-item-test.true c.item-item.is) in
+    let parts = length-append (plan_spell P c.args.element (view v)) (plan_spell_items P c.args.element (views (drop (i + 1) vs))) in
+    (omega (arith, below, c.decreases), ((element_suits P c.args.element vs i v c.loop-item-test.true c.item-item.is inv.suits).0, (omega (arith, next, parts, inv.small), omega (arith, next, parts, inv.room))))
+
+pub put_record-close_record-requires-clause-small : goal.put_record-close_record-requires-clause-small
+put_record-close_record-requires-clause-small t c =
+    let P = c.args.plans.now in
+    let marked = c.word.new.self in
+    let entries = record_entries P.fields (item_of P c.args.id) in
+    let fields = plan_spell_entries P entries (views c.args.values.now) in
+    let are : c.fields_in.result.now ≡ entries = c.fields_in.ensures ∙ ap (record_entries P.fields) c.item.ensures in
+    let filled : c.put_fields.new.to ≡ with_bytes c.open_record-start.new.self fields = rw (← are) c.put_fields.ensures in
+    let opened : c.put_fields.new.to ≡ with_bytes (with_bytes marked (word (pos 0))) fields = filled ∙ ap (λ x. with_bytes x fields) c.open_record-start.ensures.written in
+    let bytes : length c.put_fields.new.to.bytes ≡ length ((marked.bytes ++ word (pos 0)) ++ fields) = ap (λ w. length w.bytes) opened in
+    omega (arith, c.requires.small, bytes, c.open_record-start.ensures.start, length-append (marked.bytes ++ word (pos 0)) fields, length-append marked.bytes (word (pos 0)), length-append (word (pos 1)) (body fields))
+
+pub put_record-returns : goal.put_record-returns
+put_record-returns t c =
+    let P = c.args.plans.now in
+    let w = c.args.to.now in
+    let marked = c.word.new.self in
+    let entries = record_entries P.fields (item_of P c.args.id) in
+    let fields = plan_spell_entries P entries (views c.args.values.now) in
+    let are : c.fields_in.result.now ≡ entries = c.fields_in.ensures ∙ ap (record_entries P.fields) c.item.ensures in
+    let filled : c.put_fields.new.to ≡ with_bytes c.open_record-start.new.self fields = rw (← are) c.put_fields.ensures in
+    let opened : c.put_fields.new.to ≡ with_bytes (with_bytes marked (word (pos 0))) fields = filled ∙ ap (λ x. with_bytes x fields) c.open_record-start.ensures.written in
+    let closed : c.close_record.new.self ≡ with_bytes marked (body fields) = c.close_record.ensures ∙ ap (λ n. with_size c.put_fields.new.to n) c.open_record-start.ensures.start
+    ∙ ap (λ x. with_size x (length marked.bytes)) opened ∙ record_written marked fields in
+    closed ∙ ap (λ x. with_bytes x (body fields)) c.word.ensures ∙ with_more w (word (pos 1)) (body fields)
+
+pub put_fields-put-requires : goal.put_fields-put-requires
+put_fields-put-requires t c =
+    let P = c.args.plans.now in
+    let gs = c.args.fields.now in
+    let vs = c.args.values.now in
+    let i = c.loop-i.i in
+    let g = c.index-fields-i.result in
+    let v = c.get.result.now in
+    let inv = c.loop-i.invariant in
+    let below = no_deeper vs i v c.get.ensures in
+    let next = ap length (field_spelled P gs vs i g v inv.same c.get.ensures) in
+    let parts = length-append (plan_spell P (get_or gs i g).item (view v)) (plan_spell_entries P (drop (i + 1) gs) (views (drop (i + 1) vs))) in
+    (omega (arith, below, c.decreases), ((field_suits P gs vs i g v inv.same c.get.ensures inv.suits).0, (omega (arith, next, parts, inv.small), omega (arith, next, parts, inv.room))))
+
+pub put_fields-loop-i-preserved : goal.put_fields-loop-i-preserved
+put_fields-loop-i-preserved t c =
+    let P = c.args.plans.now in
+    let gs = c.args.fields.now in
+    let vs = c.args.values.now in
+    let i = c.loop-i.i in
+    let g = c.index-fields-i.result in
+    let v = c.get.result.now in
+    let inv = c.loop-i.invariant in
+    let this = plan_spell P (get_or gs i g).item (view v) in
+    let rest = plan_spell_entries P (drop (i + 1) gs) (views (drop (i + 1) vs)) in
+    let next = field_spelled P gs vs i g v inv.same c.get.ensures in
+    let wrote : c.put.new.to ≡ with_bytes c.loop-i.to this = c.put.ensures in
+    record {
+      same = inv.same;
+      suits = (field_suits P gs vs i g v inv.same c.get.ensures inv.suits).1;
+      small = omega (arith, ap length next, inv.small, length-append this rest);
+      room = omega (arith, ap length next, inv.room, ap (λ w. w.room) wrote, length-append this rest);
+      all = ap (λ w. with_bytes w rest) wrote ∙ with_more c.loop-i.to this rest ∙ ap (with_bytes c.loop-i.to) (sym next) ∙ inv.all;
+    }

@@ -1,5 +1,6 @@
-use Rattle.std.proofs.Common.{◌≡◌, ◌^◌, ◌<◌, ◌≤◌, length, drop}
-use Rattle.aidl_values.specs.View.{views}
+use Rattle.std.proofs.Common.{◌≡◌, ◌+◌, ◌*◌, ◌^◌, ◌<◌, ◌≤◌, length, drop}
+use Rattle.aidl_values.specs.Data.{depth_of, greatest}
+use Rattle.aidl_values.specs.View.{view, views}
 use Rattle.parcel_words.specs.Written.{with_bytes}
 use Rattle.parcel_write.specs.steps.PlanSpell.{EachSuits, EntriesSuit, plan_spell_entries, plan_spell_items}
 use Rattle.parcel_write.proofs.put.+put.Given as goal
@@ -24,3 +25,16 @@ invariant-put_fields-loop-i l = record {
   all : with_bytes l.to (plan_spell_entries l.plans (drop l.i l.fields) (views (drop l.i l.values)))
       ≡ with_bytes l.initial.to (plan_spell_entries l.plans l.fields (views l.values));
 }
+
+-- a value takes more steps than the list of its parts, and the list than each of them
+abbrev pub decreases-put : goal.decreases-put
+decreases-put l = 4 * depth_of (view l.value.now)
+
+abbrev pub decreases-put_items : goal.decreases-put_items
+decreases-put_items l = 4 * greatest (views l.items.now) + 1
+
+abbrev pub decreases-put_record : goal.decreases-put_record
+decreases-put_record l = 4 * greatest (views l.values.now) + 2
+
+abbrev pub decreases-put_fields : goal.decreases-put_fields
+decreases-put_fields l = 4 * greatest (views l.values.now) + 1
