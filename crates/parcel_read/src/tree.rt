@@ -267,7 +267,8 @@ fn body_from(
     Ok(record)
 }
 
-/// Reads the fields of the record that is open: where its bytes end before a field, that and those behind it are defaults.
+/// Reads the fields of the record that is open: where its bytes end before a field, that and those behind it are defaults. Room is
+/// taken as they are read.
 #[cycle(read)]
 fn fields_from(
     alloc: Global,
@@ -287,19 +288,16 @@ fn fields_from(
     ensures on { OnOk result (MovesOn from.old from.new) }
     ensures same { defaults.new ≡ defaults.old }
 {
-    let fields = defaults.entries(span);
-    // A field takes four bytes or more.
-    let most = fields.len().min(from.remaining() / 4);
-    let mut values = Vec::with_capacity(alloc, most)?;
-    for field in fields {
+    let mut values = Row::new(alloc);
+    for field in defaults.entries(span) {
         if from.at_end() {
             let row = defaults.row(alloc, span)?;
-            return Ok(Value::Short(Row::from_vec(values), row));
+            return Ok(Value::Short(values, row));
         }
         let value = value_from(alloc, defaults, field.item, levels - 1, from)?;
         values.push(value)?;
     }
-    Ok(Value::Rec(Row::from_vec(values)))
+    Ok(Value::Rec(values))
 }
 
 /// Reads a union.

@@ -65,13 +65,6 @@ impl<'a> WordReader<'a> {
         self.position
     }
 
-    /// The number of bytes up to the limit. It takes no memory.
-    pub fn remaining(&self) -> usize
-        ensures { result ≡ length (left self.now) }
-    {
-        self.rest().len()
-    }
-
     /// Whether the reader's profile takes an item, by whether it is as it would be written. It takes no memory.
     pub fn permits(&self, as_written: bool) -> bool
         ensures { result ≡ permits self.now.profile as_written }

@@ -1,11 +1,11 @@
-use Rattle.std.proofs.Common.{◌≡◌, ◌++◌, ◌∷◌, [], ◌+◌, ◌-◌, ℕ, List, Ok, true, refl, sym, ap, ◌∙◌, subst, rules, length, map, drop}
+use Rattle.std.proofs.Common.{◌≡◌, ◌++◌, ◌∷◌, [], ◌+◌, ◌-◌, ℕ, List, Ok, true, refl, sym, ap, ◌∙◌, subst, rules, length, map}
 use Rattle.std.proofs.lemmas.Result.{err_from_is_err_and}
 use Rattle.std.proofs.lemmas.List.{length_push, map_push}
 use Rattle.aidl_base.specs.Readings.{truth_at, char_at, word_at, long_at}
 use Rattle.marshal_plans.specs.declared.plans.PlanItem.TheVariants.{Word, Long}
 use Rattle.marshal_plans.specs.declared.plans.WordKind.TheVariants.{Truth, Char, Int}
 use Rattle.aidl_values.specs.Data.{Data, number, rec, truth}
-use Rattle.aidl_values.specs.View.{items_of, view, views}
+use Rattle.aidl_values.specs.View.{view, views}
 use Rattle.aidl_values.specs.declared.value.Value.{Rec, the_lemmas}
 use Rattle.marshal_plans.specs.declared.plans.PlanField.{PlanField}
 use Rattle.marshal_plans.specs.Standing.{entries_of}
@@ -105,7 +105,7 @@ pub fields_from-returns-in_err-value-clause-taken : goal.fields_from-returns-in_
 fields_from-returns-in_err-value-clause-taken t c =
     let P = c.args.defaults.now in
     let p = c.args.from.now in
-    let gs = c.entries-fields.result.now in
+    let gs = c.entries-field-items.result.now in
     let g = c.field-item.result in
     let here = c.loop-field.from in
     let q = err_from_is_err_and c.from_residual-in_err-value.result c.from_residual-in_err-value.ensures.1 in
@@ -117,9 +117,9 @@ fields_from-returns-in_err-value-clause-taken t c =
     let part = subst (λ b. RefusesIfMemory e (plan_read p.profile P (c.args.levels - 1) g.item b (left here))) inside by_profile in
     let as_field = field_there (λ g. initial_by_plan P g) (λ g b. plan_parts p.profile P c.args.levels g.item true b) g (left here) c.if-at_end.ensures.none_left.1
     ∙ plan_parts-below p.profile P c.args.levels g.item true (left here) c.requires.some in
-    let failed = field_ends (λ g. initial_by_plan P g) (λ g b. plan_parts p.profile P c.args.levels g.item true b) (map view c.loop-field.values.items) gs c.loop-field.field-index (left here) _ c.loop-field.invariant.read
+    let failed = field_ends (λ g. initial_by_plan P g) (λ g b. plan_parts p.profile P c.args.levels g.item true b) (map view c.loop-field.values) gs c.loop-field.field-index (left here) _ c.loop-field.invariant.read
     g e c.loop-field-test.true c.field-item.is (subst (RefusesIfMemory e) (sym as_field) part) in
-    rw (q.1, q.2) (subst (λ (fs : List PlanField). RefusesIfMemory e (fields_at (λ g. initial_by_plan P g) (λ g b. plan_parts p.profile P c.args.levels g.item true b) fs (left p))) c.entries-fields.ensures failed)
+    rw (q.1, q.2) (subst (λ (fs : List PlanField). RefusesIfMemory e (fields_at (λ g. initial_by_plan P g) (λ g b. plan_parts p.profile P c.args.levels g.item true b) fs (left p))) c.entries-field-items.ensures failed)
 
 pub fields_from-loop-field-preserved : goal.fields_from-loop-field-preserved
 fields_from-loop-field-preserved t c =
@@ -136,11 +136,11 @@ fields_from-loop-field-preserved t c =
     let part = subst (λ b. plan_read p.profile P (c.args.levels - 1) g.item b (left here) ≡ Ok (view v, left next)) inside by_profile in
     let as_field = field_there (λ g. initial_by_plan P g) (λ g b. plan_parts p.profile P c.args.levels g.item true b) g (left here) c.if-at_end.ensures.none_left.1
     ∙ plan_parts-below p.profile P c.args.levels g.item true (left here) c.requires.some in
-    let items = c.in_ok-push.ensures.items in
-    let more : map view c.push.new.self.items ≡ map view c.loop-field.values.items ++ view v ∷ [] = rw items (map_push _ c.loop-field.values.items v) in
-    let many : length c.push.new.self.items ≡ c.loop-field.field-index + 1 = ap length items ∙ length_push c.loop-field.values.items v ∙ ap (λ n. n + 1) c.loop-field.invariant.many in
+    let items = c.in_ok-push.ensures.ok in
+    let more : map view c.push.new.self ≡ map view c.loop-field.values ++ view v ∷ [] = rw items (map_push _ c.loop-field.values v) in
+    let many : length c.push.new.self ≡ c.loop-field.field-index + 1 = ap length items ∙ length_push c.loop-field.values v ∙ ap (λ n. n + 1) c.loop-field.invariant.many in
     record {
-      read = rw more (field_on (λ g. initial_by_plan P g) (λ g b. plan_parts p.profile P c.args.levels g.item true b) (map view c.loop-field.values.items) c.entries-fields.result.now c.loop-field.field-index (left here) _
+      read = rw more (field_on (λ g. initial_by_plan P g) (λ g b. plan_parts p.profile P c.args.levels g.item true b) (map view c.loop-field.values) c.entries-field-items.result.now c.loop-field.field-index (left here) _
           c.loop-field.invariant.read g (view v) (left next) c.loop-field-test.true c.field-item.is (as_field ∙ part));
       many = many;
       on = on_and_on p here next c.loop-field.invariant.on c.in_ok-value.ensures.on;
@@ -151,27 +151,27 @@ pub fields_from-returns-then-at_end-clause-taken : goal.fields_from-returns-then
 fields_from-returns-then-at_end-clause-taken t c =
     let P = c.args.defaults.now in
     let p = c.args.from.now in
-    let gs = c.entries-fields.result.now in
+    let gs = c.entries-field-items.result.now in
     let i = c.loop-field.field-index in
-    let vs = c.from_vec.result in
+    let vs = c.loop-field.values in
     let row = c.in_ok-row.row in
     let made = subst (λ (Q : Plans). map view row.value ≡ map (λ g. initial_by_plan Q g) (entries_of Q.fields c.args.span.first c.args.span.count)) c.loop-field.invariant.same c.in_ok-row.ensures.row in
-    let short = short_seen (λ g. initial_by_plan P g) gs vs i row (ap length c.from_vec.ensures ∙ c.loop-field.invariant.many)
-    (made ∙ ap (λ fs. map (λ g. initial_by_plan P g) fs) (sym c.entries-fields.ensures)) in
-    let read = fields_left (λ g. initial_by_plan P g) (λ g b. plan_parts p.profile P c.args.levels g.item true b) (map view c.loop-field.values.items) gs i (left c.loop-field.from) _ c.loop-field.invariant.read (c.if-at_end.ensures.none_left.0 refl) in
-    ap (λ (fs : List PlanField). as_record (fields_at (λ g. initial_by_plan P g) (λ g b. plan_parts p.profile P c.args.levels g.item true b) fs (left p))) (sym c.entries-fields.ensures)
-    ∙ ap as_record read ∙ ap (λ ws. Ok (rec (items_of (map view ws ++ map (λ g. initial_by_plan P g) (drop i gs))))) (sym c.from_vec.ensures) ∙ ap (λ (d : Data). Ok d) (sym short)
+    let short = short_seen (λ g. initial_by_plan P g) gs vs i row c.loop-field.invariant.many
+    (made ∙ ap (λ fs. map (λ g. initial_by_plan P g) fs) (sym c.entries-field-items.ensures)) in
+    let read = fields_left (λ g. initial_by_plan P g) (λ g b. plan_parts p.profile P c.args.levels g.item true b) (map view c.loop-field.values) gs i (left c.loop-field.from) _ c.loop-field.invariant.read (c.if-at_end.ensures.none_left.0 refl) in
+    ap (λ (fs : List PlanField). as_record (fields_at (λ g. initial_by_plan P g) (λ g b. plan_parts p.profile P c.args.levels g.item true b) fs (left p))) (sym c.entries-field-items.ensures)
+    ∙ ap as_record read ∙ ap (λ (d : Data). Ok d) (sym short)
 
 pub fields_from-returns-clause-taken : goal.fields_from-returns-clause-taken
 fields_from-returns-clause-taken t c =
     let P = c.args.defaults.now in
     let p = c.args.from.now in
-    let vs = c.from_vec-2.result in
+    let vs = c.loop-field.values in
     let whole : view (Rec vs) ≡ rec (views vs) = search (rules, the_lemmas) in
-    let read = fields_done (λ g. initial_by_plan P g) (λ g b. plan_parts p.profile P c.args.levels g.item true b) (map view c.loop-field.values.items) c.entries-fields.result.now c.loop-field.field-index (left c.loop-field.from) _
+    let read = fields_done (λ g. initial_by_plan P g) (λ g b. plan_parts p.profile P c.args.levels g.item true b) (map view c.loop-field.values) c.entries-field-items.result.now c.loop-field.field-index (left c.loop-field.from) _
     c.loop-field.invariant.read c.loop-field-test.false in
-    ap (λ (fs : List PlanField). as_record (fields_at (λ g. initial_by_plan P g) (λ g b. plan_parts p.profile P c.args.levels g.item true b) fs (left p))) (sym c.entries-fields.ensures)
-    ∙ ap as_record read ∙ ap (λ ws. Ok (rec (views ws))) (sym c.from_vec-2.ensures) ∙ ap (λ (d : Data). Ok d) (sym whole)
+    ap (λ (fs : List PlanField). as_record (fields_at (λ g. initial_by_plan P g) (λ g b. plan_parts p.profile P c.args.levels g.item true b) fs (left p))) (sym c.entries-field-items.ensures)
+    ∙ ap as_record read ∙ ap (λ (d : Data). Ok d) (sym whole)
 
 pub body_from-returns-in_err-enter-clause-taken : goal.body_from-returns-in_err-enter-clause-taken
 body_from-returns-in_err-enter-clause-taken t c =

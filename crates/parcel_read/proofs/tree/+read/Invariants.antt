@@ -52,9 +52,9 @@ invariant-items_from-loop l = record {
 
 abbrev pub invariant-fields_from-loop-field : goal.invariant-fields_from-loop-field
 invariant-fields_from-loop-field l = record {
-  read : with_front (map view l.values.items) (fields_at (λ g. initial_by_plan l.initial.defaults g) (λ g b. plan_parts l.initial.from.profile l.initial.defaults l.levels g.item true b) (drop l.field-index l.fields) (left l.from))
-      ≡ fields_at (λ g. initial_by_plan l.initial.defaults g) (λ g b. plan_parts l.initial.from.profile l.initial.defaults l.levels g.item true b) l.fields (left l.initial.from);
-  many : length l.values.items ≡ l.field-index;
+  read : with_front (map view l.values) (fields_at (λ g. initial_by_plan l.initial.defaults g) (λ g b. plan_parts l.initial.from.profile l.initial.defaults l.levels g.item true b) (drop l.field-index l.field-items) (left l.from))
+      ≡ fields_at (λ g. initial_by_plan l.initial.defaults g) (λ g b. plan_parts l.initial.from.profile l.initial.defaults l.levels g.item true b) l.field-items (left l.initial.from);
+  many : length l.values ≡ l.field-index;
   on : MovesOn l.initial.from l.from;
   same : l.defaults ≡ l.initial.defaults;
 }
