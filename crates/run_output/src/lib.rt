@@ -13,6 +13,5 @@ mod values;
 
 pub use clients::push_saw;
 pub use cutting::{cut, lines_within};
-pub use objects::push_object;
 pub use running::{both_plans, run_trees};
 pub use session::Session;
