@@ -6,11 +6,15 @@ valgrind --tool=callgrind crates/aidl/out/aidl encode 'byte[]' /tmp/values/bytes
 valgrind --tool=callgrind crates/aidl/out/aidl encode String /tmp/values/text.json
 valgrind --tool=callgrind crates/aidl/out/aidl encode --tree /tmp/values/tree 'm.P[]' /tmp/values/records.json
 
-What `encode` prints is the file for `decode` of the same type.
+What `encode` prints is the file for `decode` of the same type. The parcels of records `m.W` of 511 ints that leave out all fields, or all but the first:
+
+/usr/bin/time -f %M crates/aidl/out/aidl decode --tree /tmp/values/tree 'm.W[]' /tmp/values/none.hex
+/usr/bin/time -f %M crates/aidl/out/aidl decode --tree /tmp/values/tree 'm.W[]' /tmp/values/first.hex
 """
 
 import json
 import os
+import struct
 import sys
 
 
@@ -32,4 +36,12 @@ def values(folder):
     put(f"{folder}/tree/m/P.aidl", "package m; parcelable P { int a; long b; String c; }")
 
 
+def short_records(folder):
+    put(f"{folder}/tree/m/W.aidl", f"package m; parcelable W {{ {' '.join(f'int f{k};' for k in range(511))} }}")
+    for name, body, count in (("few", b"", 16_383), ("none", b"", 131_071), ("first", struct.pack("<i", 7), 87_381)):
+        record = struct.pack("<ii", 1, 4 + len(body)) + body
+        put(f"{folder}/{name}.hex", struct.pack("<i", count).hex() + record.hex() * count)
+
+
 values(sys.argv[1])
+short_records(sys.argv[1])
