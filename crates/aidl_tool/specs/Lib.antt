@@ -7,6 +7,7 @@ pub mod InTree
 pub mod Making
 pub mod Meant
 pub mod OneMeaning
+pub mod Outside
 pub mod Replaying
 pub mod Running
 pub mod Witnessing

@@ -2,9 +2,10 @@
 ghost use Rattle.std.specs.Prelude.{◌≡◌, ℕ, List, Option, Ok, Err, IfOk};
 ghost use Rattle.aidl_outside.specs.Asks.{AsksFile, ◌also◌};
 ghost use Rattle.aidl_outside.specs.Causes.{StoreCause};
-ghost use Rattle.aidl_outside.specs.Faults.{FailedIn, IfStoreFailed, StoreFaults};
+ghost use Rattle.aidl_outside.specs.Faults.{StoreFaults};
 ghost use Rattle.aidl_outside.specs.Files.{Files};
-ghost use Rattle.aidl_outside.specs.Told.{Tells};
+ghost use Rattle.aidl_tool.specs.Outside.{seen_of};
+ghost use Rattle.aidl_tool.specs.steps.Answered.{AnswersBy, FailsAsking};
 ghost use Rattle.aidl_tool.specs.Asking as meant;
 ghost use Rattle.aidl_tool.specs.Asking.{Words};
 ghost use Rattle.aidl_tool.specs.InTree.{Checked};
@@ -20,7 +21,6 @@ ghost use Rattle.tool_frame.specs.Answer.{Then};
 ghost use Rattle.tool_frame.specs.Ended.{Ended};
 ghost use Rattle.tool_frame.specs.Exit.{number_of};
 ghost use Rattle.tool_frame.specs.Meaning.{reads_by};
-ghost use Rattle.tool_frame.specs.Seen.{seen_by};
 ghost use Rattle.tool_frame.specs.Results.{GivesOne, held};
 ghost use Rattle.version_lines.specs.Lines as lines;
 
@@ -50,8 +50,9 @@ pub fn ask<S: Store, K: Sink, L: Link>(
     sink: &mut K,
     link: &L,
 ) -> Exit
-    ensures { let seen = seen_by S.kept S.fault_record K.told K.fault_record L.log L.is_faithful L.fault_record in let question = question.entry in
-        Ended (reads_by (AsksFile question.path.now also AsksVersions question.api.now) (meant.AskAnswers (words_seen question.api.now question.asked) question.path.now))
+    ensures { let seen = seen_of S.Store K.Sink L.Link in let question = question.entry in
+        Ended (reads_by (AsksFile question.path.now also AsksVersions question.api.now)
+        (meant.AskAnswers (words_seen question.api.now question.asked) question.path.now))
         (seen store.old sink.old link.now) (seen store.new sink.new link.now) (number_of result) }
 {
     let answered = answered(alloc, question.api, question.asked, question.path, store);
@@ -66,10 +67,12 @@ fn answered<S: Store>(
     path: &str,
     store: &mut S,
 ) -> Result<Result<Printed, Early>, StoreFault>
-    ensures answer { IfOk result (λ given. Tells (S.kept store.old) (λ files. GivesOne given (meant.AskAnswers (words_seen api.now asked.entry) path.now files))) }
+    ensures answer { AnswersBy (S.kept store.old) result
+        (meant.AskAnswers (words_seen api.now asked.entry) path.now) }
     ensures unchanged { S.kept store.new ≡ S.kept store.old }
     ensures cause { StoreCause (S.fault_record store.old) (S.fault_record store.new) result }
-    ensures failed { IfStoreFailed result (FailedIn (S.fault_record store.new) ((AsksFile path.now also AsksVersions api.now) (S.kept store.old))) }
+    ensures failed { FailsAsking (S.kept store.old) (S.fault_record store.new) result
+        (AsksFile path.now also AsksVersions api.now) }
 {
     let file = load(alloc, LimitName::TextBytes, path, store)?;
     match existing_file(alloc, path, file) {
@@ -86,10 +89,13 @@ fn answered_of<S: Store>(
     file: Result<Vec<u8>, Limit>,
     store: &mut S,
 ) -> Result<Result<Printed, Early>, StoreFault>
-    ensures answer { IfOk result (λ given. Tells (S.kept store.old) (λ files. GivesOne given (meant.AsksOver (words_seen api.now asked.entry) (held file) (path.versions_at files api.now)))) }
+    ensures answer { AnswersBy (S.kept store.old) result
+        (λ files. meant.AsksOver (words_seen api.now asked.entry) (held file)
+        (path.versions_at files api.now)) }
     ensures unchanged { S.kept store.new ≡ S.kept store.old }
     ensures cause { StoreCause (S.fault_record store.old) (S.fault_record store.new) result }
-    ensures failed { IfStoreFailed result (FailedIn (S.fault_record store.new) ((AsksVersions api.now) (S.kept store.old))) }
+    ensures failed { FailsAsking (S.kept store.old) (S.fault_record store.new) result
+        (AsksVersions api.now) }
 {
     match versions(alloc, store, api) {
         Ok(versions) => Ok(answer_over(alloc, api, asked, file, versions)),
@@ -104,10 +110,13 @@ fn without_versions(
     fault: FreezeFault,
 ) -> Result<Result<Printed, Early>, StoreFault>
     requires { (before : StoreFaults) × (now : StoreFaults) × ReadFaultCause before now fault }
-    ensures given { (w : Words) → IfOk result (λ given. GivesOne given (meant.AsksOver w (held file) (Err fault))) }
-    ensures cause { (before now : StoreFaults) → ReadFaultCause before now fault → StoreCause before now result }
-    ensures failed { (api : List ℕ) (kept : Option Files) (faults : StoreFaults) → FaultCall (AsksVersions api kept) faults fault
-        → IfStoreFailed result (FailedIn faults (AsksVersions api kept)) }
+    ensures given { (w : Words) → IfOk result
+        (λ given. GivesOne given (meant.AsksOver w (held file) (Err fault))) }
+    ensures cause { (before now : StoreFaults) → ReadFaultCause before now fault
+        → StoreCause before now result }
+    ensures failed { (api : List ℕ) (kept : Option Files) (faults : StoreFaults)
+        → FaultCall (AsksVersions api kept) faults fault
+        → FailsAsking kept faults result (AsksVersions api) }
 {
     match fault {
         FreezeFault::BadVersions { missing } => { Ok(answer_missing(alloc, file, missing)) }
@@ -129,7 +138,9 @@ fn answer_missing(
     file: Result<Vec<u8>, Limit>,
     missing: u32,
 ) -> Result<Printed, Early>
-    ensures { GivesOne result (Then (parcel.parcel_of (held file)) (λ bytes answer. answer ≡ lines.bad_versions missing)) }
+    ensures { GivesOne result
+        (Then (parcel.parcel_of (held file))
+        (λ bytes answer. answer ≡ lines.bad_versions missing)) }
 {
     let _parcel = parcel_of(alloc, file)?;
     Err(bad_versions(alloc, missing))
@@ -144,7 +155,8 @@ fn answer_over(
     file: Result<Vec<u8>, Limit>,
     versions: Row<Version>,
 ) -> Result<Printed, Early>
-    ensures { GivesOne result (meant.AsksFile (words_seen api.now asked.entry) (held file) (Ok versions)) }
+    ensures { GivesOne result
+        (meant.AsksFile (words_seen api.now asked.entry) (held file) (Ok versions)) }
 {
     let parcel = parcel_of(alloc, file)?;
     answer_of_versions(alloc, api, asked, parcel, versions)
@@ -159,7 +171,8 @@ fn answer_of_versions(
     parcel: Vec<u8>,
     versions: Row<Version>,
 ) -> Result<Printed, Early>
-    ensures { GivesOne result (meant.AsksVersion (words_seen api.now asked.entry) parcel.items versions) }
+    ensures { GivesOne result
+        (meant.AsksVersion (words_seen api.now asked.entry) parcel.items versions) }
 {
     let version = version_found(alloc, asked.version, versions)?;
     answer_of_version(alloc, api, asked, parcel, version)
@@ -193,7 +206,8 @@ fn answer_of_hash(
 ) -> Result<Printed, Early>
     requires version { IsVersion asked.version }
     requires hash { IsHash hash }
-    ensures { GivesOne result (meant.AsksHash (words_seen api.now asked.entry) parcel.items version hash) }
+    ensures { GivesOne result
+        (meant.AsksHash (words_seen api.now asked.entry) parcel.items version hash) }
 {
     let Version { files, .. } = version;
     let root = version_folder(alloc, api, asked.version)?;
@@ -213,7 +227,9 @@ fn answer_of_files(
     requires version { IsVersion asked.version }
     requires hash { IsHash hash }
     ensures { let asked = asked.entry in
-        GivesOne result (Checked root.now files (λ S answer. answer ≡ output.ask_answer S asked.version hash asked.interface.now asked.code parcel.items)) }
+        GivesOne result
+        (Checked root.now files (λ S answer. answer
+        ≡ output.ask_answer S asked.version hash asked.interface.now asked.code parcel.items)) }
 {
     let schema = check_tree(alloc, root, files)?;
     ask_answer(alloc, &schema, asked, hash, parcel.as_slice())

@@ -1,14 +1,13 @@
 //! The command `check`: whether the tree of a folder breaks a rule.
-ghost use Rattle.std.specs.Prelude.{◌≡◌, IfOk};
+ghost use Rattle.std.specs.Prelude.{◌≡◌};
 ghost use Rattle.aidl_outside.specs.Asks.{AsksBelow};
 ghost use Rattle.aidl_outside.specs.Causes.{StoreCause};
-ghost use Rattle.aidl_outside.specs.Faults.{FailedIn, IfStoreFailed};
-ghost use Rattle.aidl_outside.specs.Told.{Tells};
+ghost use Rattle.aidl_tool.specs.Outside.{seen_of};
+ghost use Rattle.aidl_tool.specs.steps.Answered.{AnswersBy, FailsAsking};
 ghost use Rattle.aidl_tool.specs.Meant.{CheckAnswers};
 ghost use Rattle.tool_frame.specs.Ended.{Ended};
 ghost use Rattle.tool_frame.specs.Exit.{number_of};
 ghost use Rattle.tool_frame.specs.Meaning.{reads_by};
-ghost use Rattle.tool_frame.specs.Seen.{seen_by};
 ghost use Rattle.tool_frame.specs.Trees.{OverTree, tree_seen};
 ghost use Rattle.tool_frame.specs.Results.{GivesOne};
 ghost use Rattle.tree_output.specs.Checked.{IsCheckAnswer};
@@ -27,8 +26,9 @@ pub fn check<S: Store, K: Sink, L: Link>(
     sink: &mut K,
     link: &L,
 ) -> Exit
-    ensures { let seen = seen_by S.kept S.fault_record K.told K.fault_record L.log L.is_faithful L.fault_record in
-        Ended (reads_by (AsksBelow root.now) (CheckAnswers root.now)) (seen store.old sink.old link.now) (seen store.new sink.new link.now) (number_of result) }
+    ensures { let seen = seen_of S.Store K.Sink L.Link in
+        Ended (reads_by (AsksBelow root.now) (CheckAnswers root.now))
+        (seen store.old sink.old link.now) (seen store.new sink.new link.now) (number_of result) }
 {
     let answered = answered(alloc, root, store);
     end(alloc, answered, sink)
@@ -40,10 +40,11 @@ fn answered<S: Store>(
     root: &str,
     store: &mut S,
 ) -> Result<Result<Printed, Early>, StoreFault>
-    ensures answer { IfOk result (λ given. Tells (S.kept store.old) (λ files. GivesOne given (CheckAnswers root.now files))) }
+    ensures answer { AnswersBy (S.kept store.old) result (CheckAnswers root.now) }
     ensures unchanged { S.kept store.new ≡ S.kept store.old }
     ensures cause { StoreCause (S.fault_record store.old) (S.fault_record store.new) result }
-    ensures failed { IfStoreFailed result (FailedIn (S.fault_record store.new) ((AsksBelow root.now) (S.kept store.old))) }
+    ensures failed { FailsAsking (S.kept store.old) (S.fault_record store.new) result
+        (AsksBelow root.now) }
 {
     let tree = load_tree(alloc, root, store)?;
     Ok(answer_of(alloc, root, tree))

@@ -1,10 +1,11 @@
 //! The command `dump`: the canonical dump of a tree, written below a folder.
-ghost use Rattle.std.specs.Prelude.{ℕ, List, Option, Err, map};
+ghost use Rattle.std.specs.Prelude.{List, Option, Err, map};
 ghost use Rattle.aidl_outside.specs.Asks.{AsksBelow, AsksNothing, IsWrite};
 ghost use Rattle.aidl_outside.specs.Faults.{FailedIn, IfStoreFailed, StoreFaults, WhereStoreFailed};
 ghost use Rattle.aidl_outside.specs.Causes.{StoreCause};
 ghost use Rattle.aidl_outside.specs.Files.{Files};
 ghost use Rattle.aidl_outside.specs.Writes as outside;
+ghost use Rattle.aidl_tool.specs.Outside.{seen_of};
 ghost use Rattle.aidl_tool.specs.Acting.{DumpActs};
 ghost use Rattle.aidl_tool.specs.steps.Left.{LeftBy};
 ghost use Rattle.api_versions.specs.Asks.{FaultCall};
@@ -16,7 +17,6 @@ ghost use Rattle.version_output.specs.Dumped.{Dumps};
 ghost use Rattle.tool_frame.specs.Acts.{acts_by};
 ghost use Rattle.tool_frame.specs.Ended.{Ended};
 ghost use Rattle.tool_frame.specs.Exit.{number_of};
-ghost use Rattle.tool_frame.specs.Seen.{seen_by};
 ghost use Rattle.tool_frame.specs.steps.Acts.{ActsAs};
 
 use crate::opening::open;
@@ -36,8 +36,9 @@ pub fn dump<S: Store, K: Sink, L: Link>(
     sink: &mut K,
     link: &L,
 ) -> Exit
-    ensures { let seen = seen_by S.kept S.fault_record K.told K.fault_record L.log L.is_faithful L.fault_record in
-        Ended (acts_by (AsksBelow tree.now) (DumpActs tree.now out.now)) (seen store.old sink.old link.now) (seen store.new sink.new link.now) (number_of result) }
+    ensures { let seen = seen_of S.Store K.Sink L.Link in
+        Ended (acts_by (AsksBelow tree.now) (DumpActs tree.now out.now))
+        (seen store.old sink.old link.now) (seen store.new sink.new link.now) (number_of result) }
 {
     let answered = answered(alloc, tree, out, store);
     end(alloc, answered, sink)
@@ -50,7 +51,8 @@ fn answered<S: Store>(
     out: &str,
     store: &mut S,
 ) -> Result<Result<Printed, Early>, StoreFault>
-    ensures acts { ActsAs (AsksBelow tree.now) (DumpActs tree.now out.now) (S.kept store.old) (S.kept store.new) (S.fault_record store.new) result }
+    ensures acts { ActsAs (AsksBelow tree.now) (DumpActs tree.now out.now)
+        (S.kept store.old) (S.kept store.new) (S.fault_record store.new) result }
     ensures cause { StoreCause (S.fault_record store.old) (S.fault_record store.new) result }
 {
     match open(alloc, tree, store) {
@@ -67,7 +69,8 @@ fn write_dump<S: Store>(
     schema: &Schema,
     store: &mut S,
 ) -> Result<Result<Printed, Early>, StoreFault>
-    ensures acts { ActsAs AsksNothing (λ files. Dumps out.now schema.now.decls) (S.kept store.old) (S.kept store.new) (S.fault_record store.new) result }
+    ensures acts { ActsAs AsksNothing (λ files. Dumps out.now schema.now.decls)
+        (S.kept store.old) (S.kept store.new) (S.fault_record store.new) result }
     ensures cause { StoreCause (S.fault_record store.old) (S.fault_record store.new) result }
 {
     let Ok(due) = dump_answer(alloc, out, schema) else {
@@ -81,7 +84,8 @@ fn write_dump<S: Store>(
 
 // Makes the writes that are due.
 fn write_due<S: Store>(alloc: Global, writes: &[Write], store: &mut S) -> Result<(), StoreFault>
-    ensures wrote { LeftBy (map write_seen writes.now) (S.kept store.old) (S.kept store.new) result }
+    ensures wrote { LeftBy (map write_seen writes.now)
+        (S.kept store.old) (S.kept store.new) result }
     ensures cause { StoreCause (S.fault_record store.old) (S.fault_record store.new) result }
     ensures failed { IfStoreFailed result (FailedIn (S.fault_record store.new) IsWrite) }
 {
@@ -94,9 +98,13 @@ fn write_due<S: Store>(alloc: Global, writes: &[Write], store: &mut S) -> Result
 // Why the writes ended before the last.
 fn store_fault(fault: FreezeFault) -> StoreFault
     requires { IsLate fault }
-    ensures wrote { (writes : List outside.Write) (before now : Option Files) → Left {A = Unit {0}} writes before now (Err fault) → LeftBy {A = Unit {0}} writes before now (Err result) }
-    ensures cause { (before now : StoreFaults) → FaultCause before now fault → StoreCause {T = Unit {0}} before now (Err result) }
-    ensures failed { (faults : StoreFaults) → FaultCall IsWrite faults fault → WhereStoreFailed result (FailedIn faults IsWrite) }
+    ensures wrote { (writes : List outside.Write) (before now : Option Files)
+        → Left {A = Unit {0}} writes before now (Err fault)
+        → LeftBy {A = Unit {0}} writes before now (Err result) }
+    ensures cause { (before now : StoreFaults) → FaultCause before now fault
+        → StoreCause {T = Unit {0}} before now (Err result) }
+    ensures failed { (faults : StoreFaults) → FaultCall IsWrite faults fault
+        → WhereStoreFailed result (FailedIn faults IsWrite) }
 {
     match fault {
         FreezeFault::WriteFault => StoreFault::Failed,

@@ -1,10 +1,10 @@
 //! The command `explain`: the items of a parcel in a file, read by types.
-ghost use Rattle.std.specs.Prelude.{◌≡◌, [], IfOk};
+ghost use Rattle.std.specs.Prelude.{◌≡◌, []};
 ghost use Rattle.aidl_outside.specs.Asks.{AsksFile, AsksOptional, ◌also◌};
 ghost use Rattle.aidl_outside.specs.Causes.{StoreCause};
-ghost use Rattle.aidl_outside.specs.Faults.{FailedIn, IfStoreFailed};
-ghost use Rattle.aidl_outside.specs.Told.{Tells};
 ghost use Rattle.tool_words.specs.Seen.{tree_seen};
+ghost use Rattle.aidl_tool.specs.Outside.{seen_of};
+ghost use Rattle.aidl_tool.specs.steps.Answered.{AnswersBy, FailsAsking};
 ghost use Rattle.aidl_tool.specs.InTree.{Checked};
 ghost use Rattle.aidl_tool.specs.Explaining.{ExplainAnswers, ExplainsFile};
 ghost use Rattle.parcel_output.specs.Explain.{explain_answer};
@@ -13,7 +13,6 @@ ghost use Rattle.tool_frame.specs.Answer.{Then};
 ghost use Rattle.tool_frame.specs.Ended.{Ended};
 ghost use Rattle.tool_frame.specs.Exit.{number_of};
 ghost use Rattle.tool_frame.specs.Meaning.{reads_by};
-ghost use Rattle.tool_frame.specs.Seen.{seen_by};
 ghost use Rattle.tool_frame.specs.Trees as frame;
 ghost use Rattle.tool_frame.specs.Results.{GivesOne, held};
 
@@ -34,8 +33,9 @@ pub fn explain<S: Store, K: Sink, L: Link>(
     sink: &mut K,
     link: &L,
 ) -> Exit
-    ensures { let seen = seen_by S.kept S.fault_record K.told K.fault_record L.log L.is_faithful L.fault_record in let asked = asked.entry in
-        Ended (reads_by (AsksFile asked.path.now also AsksOptional (tree_seen asked.tree)) (ExplainAnswers (tree_seen asked.tree) asked.types.now asked.path.now))
+    ensures { let seen = seen_of S.Store K.Sink L.Link in let asked = asked.entry in
+        Ended (reads_by (AsksFile asked.path.now also AsksOptional (tree_seen asked.tree))
+        (ExplainAnswers (tree_seen asked.tree) asked.types.now asked.path.now))
         (seen store.old sink.old link.now) (seen store.new sink.new link.now) (number_of result) }
 {
     let answered = answered(alloc, asked.tree, asked.types, asked.path, store);
@@ -50,10 +50,12 @@ fn answered<S: Store>(
     path: &str,
     store: &mut S,
 ) -> Result<Result<Printed, Early>, StoreFault>
-    ensures answer { IfOk result (λ given. Tells (S.kept store.old) (λ files. GivesOne given (ExplainAnswers (tree_seen tree.entry) types.now path.now files))) }
+    ensures answer { AnswersBy (S.kept store.old) result
+        (ExplainAnswers (tree_seen tree.entry) types.now path.now) }
     ensures unchanged { S.kept store.new ≡ S.kept store.old }
     ensures cause { StoreCause (S.fault_record store.old) (S.fault_record store.new) result }
-    ensures failed { IfStoreFailed result (FailedIn (S.fault_record store.new) ((AsksFile path.now also AsksOptional (tree_seen tree.entry)) (S.kept store.old))) }
+    ensures failed { FailsAsking (S.kept store.old) (S.fault_record store.new) result
+        (AsksFile path.now also AsksOptional (tree_seen tree.entry)) }
 {
     let file = load(alloc, LimitName::TextBytes, path, store)?;
     match existing_file(alloc, path, file) {
@@ -70,10 +72,12 @@ fn answered_of<S: Store>(
     file: Result<Vec<u8>, Limit>,
     store: &mut S,
 ) -> Result<Result<Printed, Early>, StoreFault>
-    ensures answer { IfOk result (λ given. Tells (S.kept store.old) (λ files. GivesOne given (ExplainsFile (tree_seen tree.entry) types.now files (held file)))) }
+    ensures answer { AnswersBy (S.kept store.old) result
+        (λ files. ExplainsFile (tree_seen tree.entry) types.now files (held file)) }
     ensures unchanged { S.kept store.new ≡ S.kept store.old }
     ensures cause { StoreCause (S.fault_record store.old) (S.fault_record store.new) result }
-    ensures failed { IfStoreFailed result (FailedIn (S.fault_record store.new) ((AsksOptional (tree_seen tree.entry)) (S.kept store.old))) }
+    ensures failed { FailsAsking (S.kept store.old) (S.fault_record store.new) result
+        (AsksOptional (tree_seen tree.entry)) }
 {
     match tree {
         None => Ok(answer_alone(alloc, types, file)),
@@ -87,7 +91,9 @@ fn answered_of<S: Store>(
 // What is answered of the file without a tree.
 #[tactic(auto, using(tool_frame::proofs::lemmas::EarlyEnds::then_ends, tool_frame::proofs::lemmas::EarlyEnds::then_goes, tool_frame::proofs::lemmas::Endings::gives_one))]
 fn answer_alone(alloc: Global, types: &str, file: Result<Vec<u8>, Limit>) -> Result<Printed, Early>
-    ensures { GivesOne result (Then (parcel_of (held file)) (λ parcel answer. answer ≡ explain_answer [] types.now parcel)) }
+    ensures { GivesOne result
+        (Then (parcel_of (held file))
+        (λ parcel answer. answer ≡ explain_answer [] types.now parcel)) }
 {
     let parcel = parcel_of(alloc, file)?;
     let schema = Schema::empty(alloc);
@@ -103,7 +109,11 @@ fn answer_in(
     types: &str,
     file: Result<Vec<u8>, Limit>,
 ) -> Result<Printed, Early>
-    ensures { GivesOne result (frame.OverTree (frame.tree_seen tree) (λ sources. Then (parcel_of (held file)) (λ parcel. Checked root.now sources (λ S answer. answer ≡ explain_answer S types.now parcel)))) }
+    ensures { GivesOne result
+        (frame.OverTree (frame.tree_seen tree)
+        (λ sources. Then (parcel_of (held file))
+        (λ parcel. Checked root.now sources
+        (λ S answer. answer ≡ explain_answer S types.now parcel)))) }
 {
     let files = files_of(alloc, tree)?;
     answer_of_files(alloc, root, files, types, file)
@@ -118,7 +128,10 @@ fn answer_of_files(
     types: &str,
     file: Result<Vec<u8>, Limit>,
 ) -> Result<Printed, Early>
-    ensures { GivesOne result (Then (parcel_of (held file)) (λ parcel. Checked root.now files (λ S answer. answer ≡ explain_answer S types.now parcel))) }
+    ensures { GivesOne result
+        (Then (parcel_of (held file))
+        (λ parcel. Checked root.now files
+        (λ S answer. answer ≡ explain_answer S types.now parcel))) }
 {
     let parcel = parcel_of(alloc, file)?;
     let schema = check_tree(alloc, root, files)?;

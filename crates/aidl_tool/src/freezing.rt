@@ -1,6 +1,7 @@
 //! The command `freeze`: a tree as the next version of an API.
 ghost use Rattle.aidl_outside.specs.Asks.{AsksBelow, ◌also◌};
 ghost use Rattle.aidl_outside.specs.Causes.{StoreCause};
+ghost use Rattle.aidl_tool.specs.Outside.{seen_of};
 ghost use Rattle.aidl_tool.specs.Acting.{FreezeActs};
 ghost use Rattle.api_versions.specs.Asks.{AsksVersions};
 ghost use Rattle.api_versions.specs.Versions.{versions_at};
@@ -8,7 +9,6 @@ ghost use Rattle.version_output.specs.Frozen.{Freezes};
 ghost use Rattle.tool_frame.specs.Acts.{acts_by};
 ghost use Rattle.tool_frame.specs.Ended.{Ended};
 ghost use Rattle.tool_frame.specs.Exit.{number_of};
-ghost use Rattle.tool_frame.specs.Seen.{seen_by};
 ghost use Rattle.tool_frame.specs.steps.Acts.{ActsAs};
 
 use crate::opening::open;
@@ -27,8 +27,9 @@ pub fn freeze<S: Store, K: Sink, L: Link>(
     sink: &mut K,
     link: &L,
 ) -> Exit
-    ensures { let seen = seen_by S.kept S.fault_record K.told K.fault_record L.log L.is_faithful L.fault_record in
-        Ended (acts_by (AsksBelow tree.now also AsksVersions api.now) (FreezeActs tree.now api.now)) (seen store.old sink.old link.now) (seen store.new sink.new link.now) (number_of result) }
+    ensures { let seen = seen_of S.Store K.Sink L.Link in
+        Ended (acts_by (AsksBelow tree.now also AsksVersions api.now) (FreezeActs tree.now api.now))
+        (seen store.old sink.old link.now) (seen store.new sink.new link.now) (number_of result) }
 {
     let answered = answered(alloc, tree, api, store);
     end(alloc, answered, sink)
@@ -41,7 +42,8 @@ fn answered<S: Store>(
     api: &str,
     store: &mut S,
 ) -> Result<Result<Printed, Early>, StoreFault>
-    ensures acts { ActsAs (AsksBelow tree.now also AsksVersions api.now) (FreezeActs tree.now api.now) (S.kept store.old) (S.kept store.new) (S.fault_record store.new) result }
+    ensures acts { ActsAs (AsksBelow tree.now also AsksVersions api.now) (FreezeActs tree.now api.now)
+        (S.kept store.old) (S.kept store.new) (S.fault_record store.new) result }
     ensures cause { StoreCause (S.fault_record store.old) (S.fault_record store.new) result }
 {
     match open(alloc, tree, store) {
@@ -58,7 +60,9 @@ fn freeze_schema<S: Store>(
     schema: &Schema,
     store: &mut S,
 ) -> Result<Result<Printed, Early>, StoreFault>
-    ensures acts { ActsAs (AsksVersions api.now) (λ files. Freezes api.now (versions_at files api.now) schema.now.decls) (S.kept store.old) (S.kept store.new) (S.fault_record store.new) result }
+    ensures acts { ActsAs (AsksVersions api.now)
+        (λ files. Freezes api.now (versions_at files api.now) schema.now.decls)
+        (S.kept store.old) (S.kept store.new) (S.fault_record store.new) result }
     ensures cause { StoreCause (S.fault_record store.old) (S.fault_record store.new) result }
 {
     match api_freeze::freeze(alloc, schema, store, api) {

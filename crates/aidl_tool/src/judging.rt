@@ -1,18 +1,18 @@
 //! The command `judge`: the evolution rules that a new tree breaks.
-ghost use Rattle.std.specs.Prelude.{◌≡◌, Some, List, IfOk};
+ghost use Rattle.std.specs.Prelude.{◌≡◌, Some, List};
 ghost use Rattle.aidl_outside.specs.Asks.{AsksBelow, ◌also◌};
 ghost use Rattle.aidl_outside.specs.Causes.{StoreCause};
-ghost use Rattle.aidl_outside.specs.Faults.{FailedIn, IfStoreFailed};
 ghost use Rattle.aidl_outside.specs.Told.{Tells};
 ghost use Rattle.aidl_schema.specs.Broken.{broken};
 ghost use Rattle.aidl_schema.specs.declared.schema.Decl.{Decl};
+ghost use Rattle.aidl_tool.specs.Outside.{seen_of};
+ghost use Rattle.aidl_tool.specs.steps.Answered.{AnswersBy, FailsAsking};
 ghost use Rattle.aidl_tool.specs.Acting.{HasSchema};
 ghost use Rattle.aidl_tool.specs.Headline.{Headline, IsChecked};
 ghost use Rattle.aidl_tool.specs.Meant.{JudgeAnswers, JudgesSecond};
 ghost use Rattle.tool_frame.specs.Ended.{Ended};
 ghost use Rattle.tool_frame.specs.Exit.{number_of};
 ghost use Rattle.tool_frame.specs.Meaning.{reads_by};
-ghost use Rattle.tool_frame.specs.Seen.{seen_by};
 ghost use Rattle.tool_frame.specs.Trees.{OverTree, tree_seen};
 ghost use Rattle.tool_frame.specs.Results.{GivesOne};
 ghost use Rattle.tool_words.specs.Command as words;
@@ -35,10 +35,13 @@ pub fn judge<S: Store, K: Sink, L: Link>(
     sink: &mut K,
     link: &L,
 ) -> Exit
-    ensures ends { let seen = seen_by S.kept S.fault_record K.told K.fault_record L.log L.is_faithful L.fault_record in
-        Ended (reads_by (AsksBelow old.now also AsksBelow new.now) (JudgeAnswers old.now new.now)) (seen store.old sink.old link.now) (seen store.new sink.new link.now) (number_of result) }
-    ensures headline { let seen = seen_by S.kept S.fault_record K.told K.fault_record L.log L.is_faithful L.fault_record in
-        Tells (S.kept store.old) (Headline (Some (words.judge old.now new.now)) (seen store.old sink.old link.now) (seen store.new sink.new link.now) (number_of result)) }
+    ensures ends { let seen = seen_of S.Store K.Sink L.Link in
+        Ended (reads_by (AsksBelow old.now also AsksBelow new.now) (JudgeAnswers old.now new.now))
+        (seen store.old sink.old link.now) (seen store.new sink.new link.now) (number_of result) }
+    ensures headline { let seen = seen_of S.Store K.Sink L.Link in
+        Tells (S.kept store.old)
+        (Headline (Some (words.judge old.now new.now))
+        (seen store.old sink.old link.now) (seen store.new sink.new link.now) (number_of result)) }
 {
     let answered = answered(alloc, old, new, store);
     end(alloc, answered, sink)
@@ -51,12 +54,13 @@ fn answered<S: Store>(
     new: &str,
     store: &mut S,
 ) -> Result<Result<Printed, Early>, StoreFault>
-    ensures answer { IfOk result (λ given. Tells (S.kept store.old) (λ files. GivesOne given (JudgeAnswers old.now new.now files))) }
-    ensures exact { (A B : List Decl) → IfOk result (λ given. Tells (S.kept store.old) (λ files. GivesOne given (λ answer.
-        IsChecked files old.now A → IsChecked files new.now B → answer ≡ judged (broken A B)))) }
+    ensures answer { AnswersBy (S.kept store.old) result (JudgeAnswers old.now new.now) }
+    ensures exact { (A B : List Decl) → AnswersBy (S.kept store.old) result (λ files answer.
+        IsChecked files old.now A → IsChecked files new.now B → answer ≡ judged (broken A B)) }
     ensures unchanged { S.kept store.new ≡ S.kept store.old }
     ensures cause { StoreCause (S.fault_record store.old) (S.fault_record store.new) result }
-    ensures failed { IfStoreFailed result (FailedIn (S.fault_record store.new) ((AsksBelow old.now also AsksBelow new.now) (S.kept store.old))) }
+    ensures failed { FailsAsking (S.kept store.old) (S.fault_record store.new) result
+        (AsksBelow old.now also AsksBelow new.now) }
 {
     let old_tree = load_tree(alloc, old, store)?;
     match files_of(alloc, old_tree) {
@@ -73,12 +77,14 @@ fn answered_of_second<S: Store>(
     new: &str,
     store: &mut S,
 ) -> Result<Result<Printed, Early>, StoreFault>
-    ensures answer { IfOk result (λ given. Tells (S.kept store.old) (λ files. GivesOne given (JudgesSecond old.now new.now files olds))) }
-    ensures exact { (A B : List Decl) → IfOk result (λ given. Tells (S.kept store.old) (λ files. GivesOne given (λ answer.
-        IsSchemaOf olds A → IsChecked files new.now B → answer ≡ judged (broken A B)))) }
+    ensures answer { AnswersBy (S.kept store.old) result
+        (λ files. JudgesSecond old.now new.now files olds) }
+    ensures exact { (A B : List Decl) → AnswersBy (S.kept store.old) result (λ files answer.
+        IsSchemaOf olds A → IsChecked files new.now B → answer ≡ judged (broken A B)) }
     ensures unchanged { S.kept store.new ≡ S.kept store.old }
     ensures cause { StoreCause (S.fault_record store.old) (S.fault_record store.new) result }
-    ensures failed { IfStoreFailed result (FailedIn (S.fault_record store.new) ((AsksBelow new.now) (S.kept store.old))) }
+    ensures failed { FailsAsking (S.kept store.old) (S.fault_record store.new) result
+        (AsksBelow new.now) }
 {
     let tree = load_tree(alloc, new, store)?;
     Ok(answer_of(alloc, old, olds, new, tree))
@@ -93,8 +99,11 @@ fn answer_of(
     new: &str,
     tree: Result<Row<SourceFile>, Limit>,
 ) -> Result<Printed, Early>
-    ensures answer { GivesOne result (OverTree (tree_seen tree) (λ news. IsJudgeAnswer old.now olds new.now news)) }
-    ensures exact { (A B : List Decl) → GivesOne result (λ answer. IsSchemaOf olds A → HasSchema (tree_seen tree) B → answer ≡ judged (broken A B)) }
+    ensures answer { GivesOne result
+        (OverTree (tree_seen tree) (λ news. IsJudgeAnswer old.now olds new.now news)) }
+    ensures exact { (A B : List Decl) → GivesOne result
+        (λ answer. IsSchemaOf olds A → HasSchema (tree_seen tree) B
+        → answer ≡ judged (broken A B)) }
 {
     let news = files_of(alloc, tree)?;
     answer_of_both(alloc, old, olds, new, news)
@@ -109,7 +118,8 @@ fn answer_of_both(
     news: Row<SourceFile>,
 ) -> Result<Printed, Early>
     ensures answer { GivesOne result (IsJudgeAnswer old.now olds new.now news) }
-    ensures exact { (A B : List Decl) → GivesOne result (λ answer. IsSchemaOf olds A → IsSchemaOf news B → answer ≡ judged (broken A B)) }
+    ensures exact { (A B : List Decl) → GivesOne result
+        (λ answer. IsSchemaOf olds A → IsSchemaOf news B → answer ≡ judged (broken A B)) }
 {
     let first = olds.as_slice();
     law_one_schema(first);

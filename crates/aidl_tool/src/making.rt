@@ -4,15 +4,14 @@ ghost use Rattle.aidl_outside.specs.Asks.{IsWrite};
 ghost use Rattle.aidl_outside.specs.Causes.{StoreCause};
 ghost use Rattle.aidl_outside.specs.Faults.{FailedIn, IfStoreFailed};
 ghost use Rattle.aidl_outside.specs.Writes.{Writes};
+ghost use Rattle.aidl_tool.specs.Outside.{carried_of, seen_of};
 ghost use Rattle.aidl_tool.specs.Making.{file_write, makes};
 ghost use Rattle.aidl_tool.specs.steps.Laying.{IsLaid, TakesLaid, TakesMade, laid_writes, tree_writes};
 ghost use Rattle.aidl_tool.specs.steps.Left.{LeftBy};
 ghost use Rattle.aidl_tool.specs.steps.Loading.{RanSome};
 ghost use Rattle.tool_frame.specs.Course.{Course};
-ghost use Rattle.tool_frame.specs.Courses.{seen_alone};
 ghost use Rattle.tool_frame.specs.Ended.{Ended};
 ghost use Rattle.tool_frame.specs.Exit.{number_of};
-ghost use Rattle.tool_frame.specs.Seen.{seen_by};
 ghost use Rattle.tree_make.specs.Made.{file_seen};
 
 use crate::running::{Prepared, print_early};
@@ -33,8 +32,9 @@ pub fn make<S: Store, K: Sink, L: Link>(
     sink: &mut K,
     link: &mut L,
 ) -> Exit
-    ensures { let seen = seen_by S.kept S.fault_record K.told K.fault_record L.log L.is_faithful L.fault_record in
-        Ended (makes count out.now) (seen store.old sink.old link.old) (seen store.new sink.new link.new) (number_of result) }
+    ensures { let seen = seen_of S.Store K.Sink L.Link in
+        Ended (makes count out.now)
+        (seen store.old sink.old link.old) (seen store.new sink.new link.new) (number_of result) }
 {
     match lay(alloc, count, out) {
         Ok(laid) => make_laid(alloc, laid, store, sink, link),
@@ -80,8 +80,9 @@ fn make_laid<S: Store, K: Sink, L: Link>(
     sink: &mut K,
     link: &mut L,
 ) -> Exit
-    ensures { let seen = seen_by S.kept S.fault_record K.told K.fault_record L.log L.is_faithful L.fault_record in (n : ℕ) (out : List ℕ) → IsLaid n out laid
-        → Ended (makes n out) (seen store.old sink.old link.old) (seen store.new sink.new link.new) (number_of result) }
+    ensures { let seen = seen_of S.Store K.Sink L.Link in (n : ℕ) (out : List ℕ) → IsLaid n out laid
+        → Ended (makes n out)
+        (seen store.old sink.old link.old) (seen store.new sink.new link.new) (number_of result) }
 {
     match write_laid(alloc, &laid, store) {
         Ok(()) => run_laid(alloc, laid, sink, link),
@@ -127,7 +128,8 @@ fn write_tree<S: Store>(
     files: &[SourceFile],
     store: &mut S,
 ) -> Result<(), StoreFault>
-    ensures wrote { LeftBy (map (file_write root.now) (map file_seen files.now)) (S.kept store.old) (S.kept store.new) result }
+    ensures wrote { LeftBy (map (file_write root.now) (map file_seen files.now))
+        (S.kept store.old) (S.kept store.new) result }
     ensures cause { StoreCause (S.fault_record store.old) (S.fault_record store.new) result }
     ensures failed { IfStoreFailed result (FailedIn (S.fault_record store.new) IsWrite) }
 {
@@ -147,7 +149,8 @@ fn write_file<S: Store>(
     file: &SourceFile,
     store: &mut S,
 ) -> Result<(), StoreFault>
-    ensures written { let write = file_write root.now (file_seen file.now) in Writes (S.kept store.old) (S.kept store.new) write.path write.bytes result }
+    ensures written { let write = file_write root.now (file_seen file.now) in
+        Writes (S.kept store.old) (S.kept store.new) write.path write.bytes result }
     ensures cause { StoreCause (S.fault_record store.old) (S.fault_record store.new) result }
     ensures failed { IfStoreFailed result (FailedIn (S.fault_record store.new) IsWrite) }
 {
@@ -161,8 +164,9 @@ fn write_file<S: Store>(
 
 // Checks what was laid out, and runs the calls, or prints how the run ends before that.
 fn run_laid<K: Sink, L: Link>(alloc: Global, laid: Laid, sink: &mut K, link: &mut L) -> Exit
-    ensures { let seen = seen_alone K.told K.fault_record L.log L.is_faithful L.fault_record in
-        RanSome (TakesLaid laid) (seen sink.old link.old) (seen sink.new link.new) (number_of result) }
+    ensures { let seen = carried_of K.Sink L.Link in
+        RanSome (TakesLaid laid)
+        (seen sink.old link.old) (seen sink.new link.new) (number_of result) }
 {
     match check_laid(alloc, laid) {
         Ok(run) => {

@@ -1,9 +1,8 @@
 //! Opening a tree for a command: its files, loaded from a store and checked.
-ghost use Rattle.std.specs.Prelude.{◌≡◌, IfOk};
+ghost use Rattle.std.specs.Prelude.{◌≡◌};
 ghost use Rattle.aidl_outside.specs.Asks.{AsksBelow};
 ghost use Rattle.aidl_outside.specs.Causes.{StoreCause};
-ghost use Rattle.aidl_outside.specs.Faults.{FailedIn, IfStoreFailed};
-ghost use Rattle.aidl_outside.specs.Told.{Tells};
+ghost use Rattle.aidl_tool.specs.steps.Answered.{FailsAsking, IfTold};
 ghost use Rattle.aidl_tool.specs.steps.Opens.{Opens};
 ghost use Rattle.tool_frame.specs.Trees.{tree_at, tree_seen};
 
@@ -20,10 +19,12 @@ pub fn open<S: Store>(
     root: &str,
     store: &mut S,
 ) -> Result<Result<Schema, Early>, StoreFault>
-    ensures opens { IfOk result (λ opened. Tells (S.kept store.old) (λ files. Opens root.now (tree_at files root.now) opened)) }
+    ensures opens { IfTold (S.kept store.old) result
+        (λ opened files. Opens root.now (tree_at files root.now) opened) }
     ensures unchanged { S.kept store.new ≡ S.kept store.old }
     ensures cause { StoreCause (S.fault_record store.old) (S.fault_record store.new) result }
-    ensures failed { IfStoreFailed result (FailedIn (S.fault_record store.new) ((AsksBelow root.now) (S.kept store.old))) }
+    ensures failed { FailsAsking (S.kept store.old) (S.fault_record store.new) result
+        (AsksBelow root.now) }
 {
     let tree = load_tree(alloc, root, store)?;
     Ok(open_loaded(alloc, root, tree))

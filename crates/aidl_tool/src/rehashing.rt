@@ -1,11 +1,11 @@
 //! The command `rehash`: the hashes of an API's versions, written again.
 ghost use Rattle.aidl_outside.specs.Causes.{StoreCause};
+ghost use Rattle.aidl_tool.specs.Outside.{seen_of};
 ghost use Rattle.aidl_tool.specs.Acting.{RehashActs};
 ghost use Rattle.api_versions.specs.Asks.{AsksVersions};
 ghost use Rattle.tool_frame.specs.Acts.{acts_by};
 ghost use Rattle.tool_frame.specs.Ended.{Ended};
 ghost use Rattle.tool_frame.specs.Exit.{number_of};
-ghost use Rattle.tool_frame.specs.Seen.{seen_by};
 ghost use Rattle.tool_frame.specs.steps.Acts.{ActsAs};
 
 use aidl_outside::{Link, Sink, Store, StoreFault};
@@ -21,8 +21,9 @@ pub fn rehash<S: Store, K: Sink, L: Link>(
     sink: &mut K,
     link: &L,
 ) -> Exit
-    ensures { let seen = seen_by S.kept S.fault_record K.told K.fault_record L.log L.is_faithful L.fault_record in
-        Ended (acts_by (AsksVersions api.now) (RehashActs api.now)) (seen store.old sink.old link.now) (seen store.new sink.new link.now) (number_of result) }
+    ensures { let seen = seen_of S.Store K.Sink L.Link in
+        Ended (acts_by (AsksVersions api.now) (RehashActs api.now))
+        (seen store.old sink.old link.now) (seen store.new sink.new link.now) (number_of result) }
 {
     let answered = answered(alloc, api, store);
     end(alloc, answered, sink)
@@ -34,7 +35,8 @@ fn answered<S: Store>(
     api: &str,
     store: &mut S,
 ) -> Result<Result<Printed, Early>, StoreFault>
-    ensures acts { ActsAs (AsksVersions api.now) (RehashActs api.now) (S.kept store.old) (S.kept store.new) (S.fault_record store.new) result }
+    ensures acts { ActsAs (AsksVersions api.now) (RehashActs api.now)
+        (S.kept store.old) (S.kept store.new) (S.fault_record store.new) result }
     ensures cause { StoreCause (S.fault_record store.old) (S.fault_record store.new) result }
 {
     match api_freeze::rehash(alloc, store, api) {

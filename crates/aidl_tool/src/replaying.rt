@@ -1,9 +1,9 @@
 //! The command `replay`: the requests of a trace, answered again by the interface of another tree.
-ghost use Rattle.std.specs.Prelude.{◌≡◌, IfOk};
+ghost use Rattle.std.specs.Prelude.{◌≡◌};
 ghost use Rattle.aidl_outside.specs.Asks.{AsksBelow, AsksFile, ◌also◌};
 ghost use Rattle.aidl_outside.specs.Causes.{StoreCause};
-ghost use Rattle.aidl_outside.specs.Faults.{FailedIn, IfStoreFailed};
-ghost use Rattle.aidl_outside.specs.Told.{Tells};
+ghost use Rattle.aidl_tool.specs.Outside.{seen_of};
+ghost use Rattle.aidl_tool.specs.steps.Answered.{AnswersBy, FailsAsking};
 ghost use Rattle.aidl_tool.specs.InTree.{Checked};
 ghost use Rattle.aidl_tool.specs.Replaying.{ReplayAnswers, ReplaysFile, ReplaysLoaded, trace_within};
 ghost use Rattle.replay_output.specs.Replaying.{replay_answer};
@@ -11,7 +11,6 @@ ghost use Rattle.tool_frame.specs.Answer.{Then};
 ghost use Rattle.tool_frame.specs.Ended.{Ended};
 ghost use Rattle.tool_frame.specs.Exit.{number_of};
 ghost use Rattle.tool_frame.specs.Meaning.{reads_by};
-ghost use Rattle.tool_frame.specs.Seen.{seen_by};
 ghost use Rattle.tool_frame.specs.Trees.{OverTree, tree_seen};
 ghost use Rattle.tool_frame.specs.Results.{Finds, GivesOne, held};
 
@@ -38,8 +37,9 @@ pub fn replay<S: Store, K: Sink, L: Link>(
     sink: &mut K,
     link: &L,
 ) -> Exit
-    ensures { let seen = seen_by S.kept S.fault_record K.told K.fault_record L.log L.is_faithful L.fault_record in let asked = asked.entry in
-        Ended (reads_by (AsksFile asked.trace.now also AsksBelow asked.server.now) (ReplayAnswers asked.server.now asked.interface.now asked.trace.now))
+    ensures { let seen = seen_of S.Store K.Sink L.Link in let asked = asked.entry in
+        Ended (reads_by (AsksFile asked.trace.now also AsksBelow asked.server.now)
+        (ReplayAnswers asked.server.now asked.interface.now asked.trace.now))
         (seen store.old sink.old link.now) (seen store.new sink.new link.now) (number_of result) }
 {
     let answered = answered(alloc, asked.server, asked.interface, asked.trace, store);
@@ -54,10 +54,12 @@ fn answered<S: Store>(
     trace: &str,
     store: &mut S,
 ) -> Result<Result<Printed, Early>, StoreFault>
-    ensures answer { IfOk result (λ given. Tells (S.kept store.old) (λ files. GivesOne given (ReplayAnswers server.now interface.now trace.now files))) }
+    ensures answer { AnswersBy (S.kept store.old) result
+        (ReplayAnswers server.now interface.now trace.now) }
     ensures unchanged { S.kept store.new ≡ S.kept store.old }
     ensures cause { StoreCause (S.fault_record store.old) (S.fault_record store.new) result }
-    ensures failed { IfStoreFailed result (FailedIn (S.fault_record store.new) ((AsksFile trace.now also AsksBelow server.now) (S.kept store.old))) }
+    ensures failed { FailsAsking (S.kept store.old) (S.fault_record store.new) result
+        (AsksFile trace.now also AsksBelow server.now) }
 {
     let file = load(alloc, LimitName::TextBytes, trace, store)?;
     match existing_file(alloc, trace, file) {
@@ -74,10 +76,12 @@ fn answered_of<S: Store>(
     file: Result<Vec<u8>, Limit>,
     store: &mut S,
 ) -> Result<Result<Printed, Early>, StoreFault>
-    ensures answer { IfOk result (λ given. Tells (S.kept store.old) (λ files. GivesOne given (ReplaysFile server.now interface.now files (held file)))) }
+    ensures answer { AnswersBy (S.kept store.old) result
+        (λ files. ReplaysFile server.now interface.now files (held file)) }
     ensures unchanged { S.kept store.new ≡ S.kept store.old }
     ensures cause { StoreCause (S.fault_record store.old) (S.fault_record store.new) result }
-    ensures failed { IfStoreFailed result (FailedIn (S.fault_record store.new) ((AsksBelow server.now) (S.kept store.old))) }
+    ensures failed { FailsAsking (S.kept store.old) (S.fault_record store.new) result
+        (AsksBelow server.now) }
 {
     let tree = load_tree(alloc, server, store)?;
     Ok(answer_in(alloc, server, interface, tree, file))
@@ -92,7 +96,8 @@ fn answer_in(
     tree: Result<Row<SourceFile>, Limit>,
     file: Result<Vec<u8>, Limit>,
 ) -> Result<Printed, Early>
-    ensures { GivesOne result (OverTree (tree_seen tree) (ReplaysLoaded server.now interface.now (held file))) }
+    ensures { GivesOne result
+        (OverTree (tree_seen tree) (ReplaysLoaded server.now interface.now (held file))) }
 {
     let files = files_of(alloc, tree)?;
     answer_of_files(alloc, server, interface, files, file)
@@ -107,7 +112,10 @@ fn answer_of_files(
     files: Row<SourceFile>,
     file: Result<Vec<u8>, Limit>,
 ) -> Result<Printed, Early>
-    ensures { GivesOne result (Then (trace_within (held file)) (λ text. Checked server.now files (λ S answer. answer ≡ replay_answer S interface.now text))) }
+    ensures { GivesOne result
+        (Then (trace_within (held file))
+        (λ text. Checked server.now files
+        (λ S answer. answer ≡ replay_answer S interface.now text))) }
 {
     let trace = trace_of(alloc, file)?;
     let schema = check_tree(alloc, server, files)?;

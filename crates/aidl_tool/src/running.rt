@@ -2,9 +2,10 @@
 ghost use Rattle.std.specs.Prelude.{◌≡◌, Bool, Some, List, map, IfErr, IfOk};
 ghost use Rattle.aidl_outside.specs.Asks.{AsksBelow, AsksFile, ◌also◌};
 ghost use Rattle.aidl_outside.specs.Causes.{StoreCause};
-ghost use Rattle.aidl_outside.specs.Faults.{FailedIn, IfStoreFailed};
 ghost use Rattle.aidl_outside.specs.Told.{Tells};
 ghost use Rattle.aidl_schema.specs.declared.schema.Decl.{Decl};
+ghost use Rattle.aidl_tool.specs.Outside.{carried_of, seen_of};
+ghost use Rattle.aidl_tool.specs.steps.Answered.{FailsAsking, IfTold};
 ghost use Rattle.aidl_tool.specs.Headline.{Headline};
 ghost use Rattle.aidl_tool.specs.Running.{RunTakes, TakesOver, calls_within};
 ghost use Rattle.aidl_tool.specs.steps.Loading.{LoadsFor, RanSome, TakesAll, TakesEarly, TakesLoaded, all_held, loaded_seen, server_held, trees_held};
@@ -18,9 +19,7 @@ ghost use Rattle.run_output.specs.Running.{run_course};
 ghost use Rattle.tool_frame.specs.Ended.{Ended};
 ghost use Rattle.tool_frame.specs.Exit.{number_of};
 ghost use Rattle.tool_frame.specs.Meaning.{carries_by};
-ghost use Rattle.tool_frame.specs.Seen.{seen_by};
 ghost use Rattle.tool_frame.specs.Trees.{file_seen, tree_at};
-ghost use Rattle.tool_frame.specs.Courses.{seen_alone};
 ghost use Rattle.tool_frame.specs.Results.{Finds, held};
 ghost use Rattle.tool_words.specs.Command as words;
 ghost use Rattle.tree_output.specs.Faults.{IsFaultAnswer};
@@ -56,12 +55,15 @@ pub fn run<S: Store, K: Sink, L: Link>(
     sink: &mut K,
     link: &mut L,
 ) -> Exit
-    ensures ends { let seen = seen_by S.kept S.fault_record K.told K.fault_record L.log L.is_faithful L.fault_record in let asked = asked.entry in
-        Ended (carries_by (AsksFile asked.calls.now also AsksBelow asked.client.now also AsksBelow asked.server.now) (RunTakes asked.profile asked.trace asked.client.now asked.server.now asked.calls.now))
+    ensures ends { let seen = seen_of S.Store K.Sink L.Link in let asked = asked.entry in
+        Ended (carries_by
+        (AsksFile asked.calls.now also AsksBelow asked.client.now also AsksBelow asked.server.now)
+        (RunTakes asked.profile asked.trace asked.client.now asked.server.now asked.calls.now))
         (seen store.old sink.old link.old) (seen store.new sink.new link.new) (number_of result) }
-    ensures headline { let seen = seen_by S.kept S.fault_record K.told K.fault_record L.log L.is_faithful L.fault_record in let asked = asked.entry in
+    ensures headline { let seen = seen_of S.Store K.Sink L.Link in let asked = asked.entry in
         (lenient : Bool) → asked.profile ≡ profile_of lenient → Tells (S.kept store.old)
-        (Headline (Some (words.run asked.trace lenient asked.client.now asked.server.now asked.calls.now))
+        (Headline
+        (Some (words.run asked.trace lenient asked.client.now asked.server.now asked.calls.now))
         (seen store.old sink.old link.old) (seen store.new sink.new link.new) (number_of result)) }
 {
     match load_calls(alloc, asked.client, asked.server, asked.calls, store) {
@@ -101,11 +103,14 @@ fn load_calls<'a, S: Store>(
     calls: &str,
     store: &mut S,
 ) -> Result<Result<Loaded<'a>, Early>, StoreFault>
-    ensures loads { IfOk result (λ given. Tells (S.kept store.old) (λ files. LoadsFor given (λ p trace. RunTakes p trace client.entry.now server.entry.now calls.now files))) }
-    ensures found { IfOk result (λ given. Tells (S.kept store.old) (λ files. Finds loaded_seen given (all_held files client.entry.now server.entry.now calls.now))) }
+    ensures loads { IfTold (S.kept store.old) result (λ given files. LoadsFor given (λ p trace.
+        RunTakes p trace client.entry.now server.entry.now calls.now files)) }
+    ensures found { IfTold (S.kept store.old) result (λ given files. Finds loaded_seen given
+        (all_held files client.entry.now server.entry.now calls.now)) }
     ensures unchanged { S.kept store.new ≡ S.kept store.old }
     ensures cause { StoreCause (S.fault_record store.old) (S.fault_record store.new) result }
-    ensures failed { IfStoreFailed result (FailedIn (S.fault_record store.new) ((AsksFile calls.now also AsksBelow client.entry.now also AsksBelow server.entry.now) (S.kept store.old))) }
+    ensures failed { FailsAsking (S.kept store.old) (S.fault_record store.new) result
+        (AsksFile calls.now also AsksBelow client.entry.now also AsksBelow server.entry.now) }
 {
     let file = load(alloc, LimitName::TextBytes, calls, store)?;
     match existing_file(alloc, calls, file) {
@@ -122,13 +127,16 @@ fn load_trees<'a, S: Store>(
     text: Result<Vec<u8>, Limit>,
     store: &mut S,
 ) -> Result<Result<Loaded<'a>, Early>, StoreFault>
-    ensures loads { IfOk result (λ given. Tells (S.kept store.old) (λ files. LoadsFor given (λ p trace.
-        TakesOver (tree_at files client.entry.now) (λ olds. TakesOver (tree_at files server.entry.now) (λ news.
-        meant.RunsLoaded p trace client.entry.now olds server.entry.now news (held text)))))) }
-    ensures found { IfOk result (λ given. Tells (S.kept store.old) (λ files. Finds loaded_seen given (trees_held files (held text) client.entry.now server.entry.now))) }
+    ensures loads { IfTold (S.kept store.old) result (λ given files. LoadsFor given (λ p trace.
+        TakesOver (tree_at files client.entry.now) (λ olds.
+        TakesOver (tree_at files server.entry.now) (λ news.
+        meant.RunsLoaded p trace client.entry.now olds server.entry.now news (held text))))) }
+    ensures found { IfTold (S.kept store.old) result (λ given files. Finds loaded_seen given
+        (trees_held files (held text) client.entry.now server.entry.now)) }
     ensures unchanged { S.kept store.new ≡ S.kept store.old }
     ensures cause { StoreCause (S.fault_record store.old) (S.fault_record store.new) result }
-    ensures failed { IfStoreFailed result (FailedIn (S.fault_record store.new) ((AsksBelow client.entry.now also AsksBelow server.entry.now) (S.kept store.old))) }
+    ensures failed { FailsAsking (S.kept store.old) (S.fault_record store.new) result
+        (AsksBelow client.entry.now also AsksBelow server.entry.now) }
 {
     let tree = load_tree(alloc, client, store)?;
     match files_of(alloc, tree) {
@@ -151,14 +159,15 @@ fn load_server<'a, S: Store>(
     text: Result<Vec<u8>, Limit>,
     store: &mut S,
 ) -> Result<Result<Loaded<'a>, Early>, StoreFault>
-    ensures loads { IfOk result (λ given. Tells (S.kept store.old) (λ files. LoadsFor given (λ p trace.
-        TakesOver (tree_at files server.entry.now) (λ news.
-        meant.RunsLoaded p trace client.entry.root.now client.entry.files server.entry.now news (held text))))) }
-    ensures found { IfOk result (λ given. Tells (S.kept store.old) (λ files. Finds loaded_seen given
-        (server_held files (held text) (map file_seen client.entry.files) server.entry.now))) }
+    ensures loads { IfTold (S.kept store.old) result (λ given files. LoadsFor given (λ p trace.
+        let client = client.entry in TakesOver (tree_at files server.entry.now) (λ news.
+        meant.RunsLoaded p trace client.root.now client.files server.entry.now news (held text)))) }
+    ensures found { IfTold (S.kept store.old) result (λ given files. Finds loaded_seen given
+        (server_held files (held text) (map file_seen client.entry.files) server.entry.now)) }
     ensures unchanged { S.kept store.new ≡ S.kept store.old }
     ensures cause { StoreCause (S.fault_record store.old) (S.fault_record store.new) result }
-    ensures failed { IfStoreFailed result (FailedIn (S.fault_record store.new) ((AsksBelow server.entry.now) (S.kept store.old))) }
+    ensures failed { FailsAsking (S.kept store.old) (S.fault_record store.new) result
+        (AsksBelow server.entry.now) }
 {
     let tree = load_tree(alloc, server, store)?;
     match files_of(alloc, tree) {
@@ -241,10 +250,12 @@ fn run_prepared<K: Sink, L: Link>(
     sink: &mut K,
     link: &mut L,
 ) -> Exit
-    ensures ran { let seen = seen_alone K.told K.fault_record L.log L.is_faithful L.fault_record in
-        RanSome (TakesPrepared profile trace given) (seen sink.old link.old) (seen sink.new link.new) (number_of result) }
-    ensures projected { let seen = seen_alone K.told K.fault_record L.log L.is_faithful L.fault_record in
-        ProjectsPrepared profile trace given (seen sink.old link.old) (seen sink.new link.new) (number_of result) }
+    ensures ran { let seen = carried_of K.Sink L.Link in
+        RanSome (TakesPrepared profile trace given)
+        (seen sink.old link.old) (seen sink.new link.new) (number_of result) }
+    ensures projected { let seen = carried_of K.Sink L.Link in
+        ProjectsPrepared profile trace given
+        (seen sink.old link.old) (seen sink.new link.new) (number_of result) }
 {
     match given {
         Ok(run) => run_both(alloc, profile, trace, &run, sink, link),
@@ -261,10 +272,14 @@ fn run_both<K: Sink, L: Link>(
     sink: &mut K,
     link: &mut L,
 ) -> Exit
-    ensures ran { let seen = seen_alone K.told K.fault_record L.log L.is_faithful L.fault_record in let A = run.now.client.decls in let B = run.now.server.decls in
-        RanSome (λ course. course ≡ run_course profile A B trace run.now.text.items) (seen sink.old link.old) (seen sink.new link.new) (number_of result) }
-    ensures projected { let seen = seen_alone K.told K.fault_record L.log L.is_faithful L.fault_record in let A = run.now.client.decls in let B = run.now.server.decls in
-        EndsProjected A B (projected_text profile A B trace 1 (lines_of run.now.text.items)) (seen sink.old link.old) (seen sink.new link.new) (number_of result) }
+    ensures ran { let seen = carried_of K.Sink L.Link in
+        let A = run.now.client.decls in let B = run.now.server.decls in
+        RanSome (λ course. course ≡ run_course profile A B trace run.now.text.items)
+        (seen sink.old link.old) (seen sink.new link.new) (number_of result) }
+    ensures projected { let seen = carried_of K.Sink L.Link in
+        let A = run.now.client.decls in let B = run.now.server.decls in
+        EndsProjected A B (projected_text profile A B trace 1 (lines_of run.now.text.items))
+        (seen sink.old link.old) (seen sink.new link.new) (number_of result) }
 {
     law_call_none(&run.client, &run.server);
     let calls = run.text.as_slice();
@@ -280,8 +295,9 @@ fn run_both<K: Sink, L: Link>(
 /// Prints how a run ends early. The answer is the exit.
 #[tactic(auto, using(crate::proofs::Takes::printed_early))]
 pub fn print_early<K: Sink, L: Link>(alloc: Global, early: Early, sink: &mut K, link: &L) -> Exit
-    ensures { let seen = seen_alone K.told K.fault_record L.log L.is_faithful L.fault_record in
-        RanSome (TakesEarly early) (seen sink.old link.now) (seen sink.new link.now) (number_of result) }
+    ensures { let seen = carried_of K.Sink L.Link in
+        RanSome (TakesEarly early)
+        (seen sink.old link.now) (seen sink.new link.now) (number_of result) }
 {
     print(alloc, Err(early), sink)
 }

@@ -3,12 +3,12 @@ ghost use Rattle.std.specs.Prelude.{◌≡◌, Some, map, string_bytes};
 ghost use Rattle.aidl_outside.specs.Told.{Tells};
 ghost use Rattle.tool_words.specs.Rows as table;
 ghost use Rattle.tool_words.specs.Seen.{command_seen};
+ghost use Rattle.aidl_tool.specs.Outside.{seen_of};
 ghost use Rattle.aidl_tool.specs.Headline.{Headline};
 ghost use Rattle.aidl_tool.specs.Meant.{meaning, meant};
 ghost use Rattle.parcel_output.specs.Decode.{profile_of};
 ghost use Rattle.tool_frame.specs.Ended.{Ran};
 ghost use Rattle.tool_frame.specs.Exit.{number_of};
-ghost use Rattle.tool_frame.specs.Seen.{seen_by};
 
 use crate::asking::{Question, ask};
 use crate::checking::check;
@@ -41,11 +41,14 @@ pub fn aidl<S: Store, K: Sink, L: Link>(
     link: &mut L,
 ) -> u8
     // Exits, counts, and what was printed, written and carried.
-    ensures ran { let seen = seen_by S.kept S.fault_record K.told K.fault_record L.log L.is_faithful L.fault_record in
-        Ran (meant (map string_bytes words.now)) (seen store.old sink.old link.old) (seen store.new sink.new link.new) result }
+    ensures ran { let seen = seen_of S.Store K.Sink L.Link in
+        Ran (meant (map string_bytes words.now))
+        (seen store.old sink.old link.old) (seen store.new sink.new link.new) result }
     // What the judge accepts, every call keeps.
-    ensures headline { let seen = seen_by S.kept S.fault_record K.told K.fault_record L.log L.is_faithful L.fault_record in
-        Tells (S.kept store.old) (Headline (table.command_of (map string_bytes words.now)) (seen store.old sink.old link.old) (seen store.new sink.new link.new) result) }
+    ensures headline { let seen = seen_of S.Store K.Sink L.Link in
+        Tells (S.kept store.old)
+        (Headline (table.command_of (map string_bytes words.now))
+        (seen store.old sink.old link.old) (seen store.new sink.new link.new) result) }
 {
     run_words(alloc, words, store, sink, link).status()
 }
@@ -58,10 +61,13 @@ fn run_words<S: Store, K: Sink, L: Link>(
     sink: &mut K,
     link: &mut L,
 ) -> Exit
-    ensures ran { let seen = seen_by S.kept S.fault_record K.told K.fault_record L.log L.is_faithful L.fault_record in
-        Ran (meant (map string_bytes words.now)) (seen store.old sink.old link.old) (seen store.new sink.new link.new) (number_of result) }
-    ensures headline { let seen = seen_by S.kept S.fault_record K.told K.fault_record L.log L.is_faithful L.fault_record in
-        Tells (S.kept store.old) (Headline (table.command_of (map string_bytes words.now)) (seen store.old sink.old link.old) (seen store.new sink.new link.new) (number_of result)) }
+    ensures ran { let seen = seen_of S.Store K.Sink L.Link in
+        Ran (meant (map string_bytes words.now))
+        (seen store.old sink.old link.old) (seen store.new sink.new link.new) (number_of result) }
+    ensures headline { let seen = seen_of S.Store K.Sink L.Link in
+        Tells (S.kept store.old)
+        (Headline (table.command_of (map string_bytes words.now))
+        (seen store.old sink.old link.old) (seen store.new sink.new link.new) (number_of result)) }
 {
     match command_of(words) {
         None => refuse(alloc, store, sink, link),
@@ -78,10 +84,13 @@ fn carry_out<S: Store, K: Sink, L: Link>(
     sink: &mut K,
     link: &mut L,
 ) -> Exit
-    ensures ran { let seen = seen_by S.kept S.fault_record K.told K.fault_record L.log L.is_faithful L.fault_record in
-        Ran (meaning (command_seen command.entry)) (seen store.old sink.old link.old) (seen store.new sink.new link.new) (number_of result) }
-    ensures headline { let seen = seen_by S.kept S.fault_record K.told K.fault_record L.log L.is_faithful L.fault_record in
-        Tells (S.kept store.old) (Headline (Some (command_seen command.entry)) (seen store.old sink.old link.old) (seen store.new sink.new link.new) (number_of result)) }
+    ensures ran { let seen = seen_of S.Store K.Sink L.Link in
+        Ran (meaning (command_seen command.entry))
+        (seen store.old sink.old link.old) (seen store.new sink.new link.new) (number_of result) }
+    ensures headline { let seen = seen_of S.Store K.Sink L.Link in
+        Tells (S.kept store.old)
+        (Headline (Some (command_seen command.entry))
+        (seen store.old sink.old link.old) (seen store.new sink.new link.new) (number_of result)) }
 {
     match command {
         Command::Decode {

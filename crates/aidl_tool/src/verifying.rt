@@ -1,16 +1,16 @@
 //! The command `verify`: whether the versions of an API are whole.
 ghost use Rattle.std.specs.Prelude.{◌≡◌, ℕ, List, Option, IfOk};
 ghost use Rattle.aidl_outside.specs.Causes.{StoreCause};
-ghost use Rattle.aidl_outside.specs.Faults.{FailedIn, IfStoreFailed, StoreFaults};
+ghost use Rattle.aidl_outside.specs.Faults.{StoreFaults};
 ghost use Rattle.aidl_outside.specs.Files.{Files};
-ghost use Rattle.aidl_outside.specs.Told.{Tells};
+ghost use Rattle.aidl_tool.specs.Outside.{seen_of};
+ghost use Rattle.aidl_tool.specs.steps.Answered.{AnswersBy, FailsAsking};
 ghost use Rattle.aidl_tool.specs.Meant.{VerifyAnswers};
 ghost use Rattle.api_versions.specs.Asks.{AsksVersions, FaultCall};
 ghost use Rattle.api_versions.specs.Answers.{ReadFaultCause};
 ghost use Rattle.tool_frame.specs.Ended.{Ended};
 ghost use Rattle.tool_frame.specs.Exit.{number_of};
 ghost use Rattle.tool_frame.specs.Meaning.{reads_by};
-ghost use Rattle.tool_frame.specs.Seen.{seen_by};
 ghost use Rattle.tool_frame.specs.Results.{GivesOne};
 ghost use Rattle.version_output.specs.Verified.{IsUnread};
 
@@ -29,8 +29,9 @@ pub fn verify<S: Store, K: Sink, L: Link>(
     sink: &mut K,
     link: &L,
 ) -> Exit
-    ensures { let seen = seen_by S.kept S.fault_record K.told K.fault_record L.log L.is_faithful L.fault_record in
-        Ended (reads_by (AsksVersions api.now) (VerifyAnswers api.now)) (seen store.old sink.old link.now) (seen store.new sink.new link.now) (number_of result) }
+    ensures { let seen = seen_of S.Store K.Sink L.Link in
+        Ended (reads_by (AsksVersions api.now) (VerifyAnswers api.now))
+        (seen store.old sink.old link.now) (seen store.new sink.new link.now) (number_of result) }
 {
     let answered = answered(alloc, api, store);
     end(alloc, answered, sink)
@@ -42,10 +43,11 @@ fn answered<S: Store>(
     api: &str,
     store: &mut S,
 ) -> Result<Result<Printed, Early>, StoreFault>
-    ensures answer { IfOk result (λ given. Tells (S.kept store.old) (λ files. GivesOne given (VerifyAnswers api.now files))) }
+    ensures answer { AnswersBy (S.kept store.old) result (VerifyAnswers api.now) }
     ensures unchanged { S.kept store.new ≡ S.kept store.old }
     ensures cause { StoreCause (S.fault_record store.old) (S.fault_record store.new) result }
-    ensures failed { IfStoreFailed result (FailedIn (S.fault_record store.new) ((AsksVersions api.now) (S.kept store.old))) }
+    ensures failed { FailsAsking (S.kept store.old) (S.fault_record store.new) result
+        (AsksVersions api.now) }
 {
     match versions(alloc, store, api) {
         Ok(versions) => Ok(verify_answer(alloc, versions.as_slice())),
@@ -57,9 +59,11 @@ fn answered<S: Store>(
 fn unread(alloc: Global, fault: FreezeFault) -> Result<Result<Printed, Early>, StoreFault>
     requires { (before : StoreFaults) × (now : StoreFaults) × ReadFaultCause before now fault }
     ensures given { IfOk result (λ given. GivesOne given (IsUnread fault)) }
-    ensures cause { (before now : StoreFaults) → ReadFaultCause before now fault → StoreCause before now result }
-    ensures failed { (api : List ℕ) (kept : Option Files) (faults : StoreFaults) → FaultCall (AsksVersions api kept) faults fault
-        → IfStoreFailed result (FailedIn faults (AsksVersions api kept)) }
+    ensures cause { (before now : StoreFaults) → ReadFaultCause before now fault
+        → StoreCause before now result }
+    ensures failed { (api : List ℕ) (kept : Option Files) (faults : StoreFaults)
+        → FaultCall (AsksVersions api kept) faults fault
+        → FailsAsking kept faults result (AsksVersions api) }
 {
     match fault {
         FreezeFault::BadVersions { missing } => Ok(Err(bad_versions(alloc, missing))),

@@ -1,14 +1,13 @@
 //! The command `witness`: the evolution rules that a new tree breaks, each with a call that shows it or the reason why none is shown.
-ghost use Rattle.std.specs.Prelude.{◌≡◌, IfOk};
+ghost use Rattle.std.specs.Prelude.{◌≡◌};
 ghost use Rattle.aidl_outside.specs.Asks.{AsksBelow, ◌also◌};
 ghost use Rattle.aidl_outside.specs.Causes.{StoreCause};
-ghost use Rattle.aidl_outside.specs.Faults.{FailedIn, IfStoreFailed};
-ghost use Rattle.aidl_outside.specs.Told.{Tells};
+ghost use Rattle.aidl_tool.specs.Outside.{seen_of};
+ghost use Rattle.aidl_tool.specs.steps.Answered.{AnswersBy, FailsAsking};
 ghost use Rattle.aidl_tool.specs.Witnessing.{WitnessAnswers, WitnessesSecond};
 ghost use Rattle.tool_frame.specs.Ended.{Ended};
 ghost use Rattle.tool_frame.specs.Exit.{number_of};
 ghost use Rattle.tool_frame.specs.Meaning.{reads_by};
-ghost use Rattle.tool_frame.specs.Seen.{seen_by};
 ghost use Rattle.tool_frame.specs.Trees.{OverTree, tree_seen};
 ghost use Rattle.tool_frame.specs.Results.{GivesOne};
 ghost use Rattle.witness_output.specs.Witnessed.{IsWitnessAnswer};
@@ -28,8 +27,9 @@ pub fn witness<S: Store, K: Sink, L: Link>(
     sink: &mut K,
     link: &L,
 ) -> Exit
-    ensures { let seen = seen_by S.kept S.fault_record K.told K.fault_record L.log L.is_faithful L.fault_record in
-        Ended (reads_by (AsksBelow old.now also AsksBelow new.now) (WitnessAnswers old.now new.now)) (seen store.old sink.old link.now) (seen store.new sink.new link.now) (number_of result) }
+    ensures { let seen = seen_of S.Store K.Sink L.Link in
+        Ended (reads_by (AsksBelow old.now also AsksBelow new.now) (WitnessAnswers old.now new.now))
+        (seen store.old sink.old link.now) (seen store.new sink.new link.now) (number_of result) }
 {
     let answered = answered(alloc, old, new, store);
     end(alloc, answered, sink)
@@ -42,10 +42,11 @@ fn answered<S: Store>(
     new: &str,
     store: &mut S,
 ) -> Result<Result<Printed, Early>, StoreFault>
-    ensures answer { IfOk result (λ given. Tells (S.kept store.old) (λ files. GivesOne given (WitnessAnswers old.now new.now files))) }
+    ensures answer { AnswersBy (S.kept store.old) result (WitnessAnswers old.now new.now) }
     ensures unchanged { S.kept store.new ≡ S.kept store.old }
     ensures cause { StoreCause (S.fault_record store.old) (S.fault_record store.new) result }
-    ensures failed { IfStoreFailed result (FailedIn (S.fault_record store.new) ((AsksBelow old.now also AsksBelow new.now) (S.kept store.old))) }
+    ensures failed { FailsAsking (S.kept store.old) (S.fault_record store.new) result
+        (AsksBelow old.now also AsksBelow new.now) }
 {
     let old_tree = load_tree(alloc, old, store)?;
     match files_of(alloc, old_tree) {
@@ -62,10 +63,12 @@ fn answered_of_second<S: Store>(
     new: &str,
     store: &mut S,
 ) -> Result<Result<Printed, Early>, StoreFault>
-    ensures answer { IfOk result (λ given. Tells (S.kept store.old) (λ files. GivesOne given (WitnessesSecond old.now new.now files olds))) }
+    ensures answer { AnswersBy (S.kept store.old) result
+        (λ files. WitnessesSecond old.now new.now files olds) }
     ensures unchanged { S.kept store.new ≡ S.kept store.old }
     ensures cause { StoreCause (S.fault_record store.old) (S.fault_record store.new) result }
-    ensures failed { IfStoreFailed result (FailedIn (S.fault_record store.new) ((AsksBelow new.now) (S.kept store.old))) }
+    ensures failed { FailsAsking (S.kept store.old) (S.fault_record store.new) result
+        (AsksBelow new.now) }
 {
     let tree = load_tree(alloc, new, store)?;
     Ok(answer_of(alloc, old, olds, new, tree))
@@ -80,7 +83,8 @@ fn answer_of(
     new: &str,
     tree: Result<Row<SourceFile>, Limit>,
 ) -> Result<Printed, Early>
-    ensures { GivesOne result (OverTree (tree_seen tree) (λ news. IsWitnessAnswer old.now olds new.now news)) }
+    ensures { GivesOne result
+        (OverTree (tree_seen tree) (λ news. IsWitnessAnswer old.now olds new.now news)) }
 {
     let news = files_of(alloc, tree)?;
     witness_answer(alloc, old, olds, new, news)
