@@ -31,7 +31,9 @@ pub fn send_request<L: Link>(
     ensures faithful { L.is_faithful link.old ≡ true → IfOk result (λ e. e.delivered ≡ e.sent) }
     ensures nature { L.is_faithful link.new ≡ L.is_faithful link.old }
     ensures cause { RunCause (L.fault_record link.old) (L.fault_record link.new) result }
-    ensures failed { IfLinkFailed result (FailedIn (L.fault_record link.new) (λ sent. sent ≡ parcel_of (request_entry client.now (call_of call.now) []))) }
+    ensures failed { IfLinkFailed result
+        (FailedIn (L.fault_record link.new)
+        (λ sent. sent ≡ parcel_of (request_entry client.now (call_of call.now) []))) }
 {
     let bytes = request_bytes(alloc, client, call)?;
     let code = code_of(client.schema(), call.interface, call.method);
@@ -41,7 +43,9 @@ pub fn send_request<L: Link>(
 // The bytes of the request of a call. They are few enough, so nothing but memory may lack.
 fn request_bytes(alloc: Global, client: &Side<'_>, call: &Call) -> Result<Vec<u8>, OutOfMemory>
     requires sendable { CanBeSent client.now (call_of call.now) }
-    ensures { IfOk result (λ bytes. bytes.items ≡ request client.now (call_of call.now).interface (call_of call.now).method (call_of call.now).args) }
+    ensures { IfOk result (λ bytes. bytes.items
+        ≡ request client.now
+        (call_of call.now).interface (call_of call.now).method (call_of call.now).args) }
 {
     let args = call.args.as_slice();
     let callee = Callee::new(client, call.interface, call.method);
@@ -84,7 +88,8 @@ pub fn send_reply<L: Link>(
     ensures faithful { L.is_faithful link.old ≡ true → IfOk result (λ e. AreFaithful (listed e)) }
     ensures nature { L.is_faithful link.new ≡ L.is_faithful link.old }
     ensures cause { RunCause (L.fault_record link.old) (L.fault_record link.new) result }
-    ensures failed { IfLinkFailed result (FailedIn (L.fault_record link.new) (IsFirst (reply_entries code reply []))) }
+    ensures failed { IfLinkFailed result
+        (FailedIn (L.fault_record link.new) (IsFirst (reply_entries code reply []))) }
 {
     match reply {
         Some(bytes) => {
@@ -108,7 +113,8 @@ fn carry<L: Link>(
     ensures faithful { L.is_faithful link.old ≡ true → IfOk result (λ e. e.delivered ≡ e.sent) }
     ensures nature { L.is_faithful link.new ≡ L.is_faithful link.old }
     ensures cause { RunCause (L.fault_record link.old) (L.fault_record link.new) result }
-    ensures failed { IfLinkFailed result (FailedIn (L.fault_record link.new) (λ sent. sent ≡ parcel way code bytes.items)) }
+    ensures failed { IfLinkFailed result
+        (FailedIn (L.fault_record link.new) (λ sent. sent ≡ parcel way code bytes.items)) }
 {
     match link.carry(alloc, way, code, bytes.as_slice()) {
         Ok(delivered) => Ok(Carried {

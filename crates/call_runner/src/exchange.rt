@@ -34,11 +34,15 @@ pub fn carry_call<L: Link>(
     link: &mut L,
 ) -> Result<Exchange, RunFault>
     requires fits { CallFits client.now server.now (call_of call.now) }
-    ensures exchange { IfOk result (λ x. IsExchange profile client.now server.now (call_of call.now) x) }
+    ensures exchange { IfOk result
+        (λ x. IsExchange profile client.now server.now (call_of call.now) x) }
     ensures log { IfOk result (λ x. Adds (L.log link.old) (L.log link.new) (carried_of x)) }
-    ensures faithful { L.is_faithful link.old ≡ true → IfOk result (λ x. AreFaithful (carried_of x)) }
-    ensures stops { IfErr result (λ fault. Stops profile client.now server.now (Ok (call_of call.now))
-        (L.is_faithful link.old) (L.log link.old) (L.log link.new) (L.fault_record link.new) fault) }
+    ensures faithful { L.is_faithful link.old ≡ true
+        → IfOk result (λ x. AreFaithful (carried_of x)) }
+    ensures stops { IfErr result
+        (λ fault. Stops profile client.now server.now (Ok (call_of call.now))
+        (L.is_faithful link.old) (L.log link.old) (L.log link.new)
+        (L.fault_record link.new) fault) }
     ensures nature { L.is_faithful link.new ≡ L.is_faithful link.old }
     ensures cause { RunCause (L.fault_record link.old) (L.fault_record link.new) result }
 {

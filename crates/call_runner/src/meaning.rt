@@ -22,8 +22,11 @@ use wire_model::{law_client, law_outcome, law_outcome_within, law_stub};
 
 // A status that the server refuses with isn't 0, and what its handler is called with has the types of its arguments.
 pub fn law_received(profile: Profile, server: &Schema, call: &Call, code: u32, bytes: &[u8])
-    ensures refused { (s : ℤ) → received_at profile server.now.decls call.now.server code bytes.now ≡ Err s → s ≢ pos 0 }
-    ensures typed { (j n : ℕ) (saw : Items) → call.now.server ≡ Some j → stub profile server.now.decls j code bytes.now ≡ Ok (called n saw)
+    ensures refused { (s : ℤ)
+        → received_at profile server.now.decls call.now.server code bytes.now ≡ Err s
+        → s ≢ pos 0 }
+    ensures typed { (j n : ℕ) (saw : Items) → call.now.server ≡ Some j
+        → stub profile server.now.decls j code bytes.now ≡ Ok (called n saw)
         → AreArguments server.now.decls j n saw }
 {
     if let Some(other) = call.server {
@@ -43,7 +46,9 @@ pub fn law_typed(
 )
     requires there { call.now.method < length (methods_at client.now.decls call.now.interface) }
     requires code { code ≡ code_at client.now.decls call.now.interface call.now.method }
-    ensures { IsTypedLine client.now.decls server.now.decls (methods_by (call_of call.now) call.now.server (received profile client.now.decls server.now.decls (call_of call.now) bytes.now))
+    ensures { IsTypedLine client.now.decls server.now.decls
+        (methods_by (call_of call.now) call.now.server
+        (received profile client.now.decls server.now.decls (call_of call.now) bytes.now))
         (line_of profile client.now.decls server.now.decls (call_of call.now) bytes.now reply.now) }
 {
     law_received(profile, server, call, code, bytes);
@@ -61,11 +66,17 @@ pub fn law_projected(
     reply: &[u8],
 )
     requires fits { CallFits client.now.decls server.now.decls (call_of call.now) }
-    requires sent { sent.now ≡ request client.now.decls call.now.interface call.now.method (views call.now.args) }
-    ensures outcome { OneFollows client.now.decls server.now.decls → IsReplied (reply_sent profile client.now.decls server.now.decls (call_of call.now) sent.now) reply.now
-        → line_of profile client.now.decls server.now.decls (call_of call.now) sent.now reply.now ≡ projected client.now.decls server.now.decls (Ok (call_of call.now)) }
+    requires sent { sent.now
+        ≡ request client.now.decls call.now.interface call.now.method (views call.now.args) }
+    ensures outcome { OneFollows client.now.decls server.now.decls
+        → IsReplied
+        (reply_sent profile client.now.decls server.now.decls (call_of call.now) sent.now) reply.now
+        → line_of profile client.now.decls server.now.decls (call_of call.now) sent.now reply.now
+        ≡ projected client.now.decls server.now.decls (Ok (call_of call.now)) }
     ensures named { OneFollows client.now.decls server.now.decls
-        → NamesOf (call_of call.now) (methods_by (call_of call.now) call.now.server (received profile client.now.decls server.now.decls (call_of call.now) sent.now)) }
+        → NamesOf (call_of call.now)
+        (methods_by (call_of call.now) call.now.server
+        (received profile client.now.decls server.now.decls (call_of call.now) sent.now)) }
 {
     if let Some(other) = call.server {
         match &call.target {
@@ -104,11 +115,17 @@ fn law_projected_at(
     requires fits { CallFits client.now.decls server.now.decls (call_of call.now) }
     requires server { call.now.server ≡ Some other }
     requires answer { answer_of answer.now ≡ answer_by (option_map target_of call.now.target) }
-    requires sent { sent.now ≡ request client.now.decls call.now.interface call.now.method (views call.now.args) }
-    ensures outcome { OneFollows client.now.decls server.now.decls → IsReplied (reply_sent profile client.now.decls server.now.decls (call_of call.now) sent.now) reply.now
-        → line_of profile client.now.decls server.now.decls (call_of call.now) sent.now reply.now ≡ projected client.now.decls server.now.decls (Ok (call_of call.now)) }
+    requires sent { sent.now
+        ≡ request client.now.decls call.now.interface call.now.method (views call.now.args) }
+    ensures outcome { OneFollows client.now.decls server.now.decls
+        → IsReplied
+        (reply_sent profile client.now.decls server.now.decls (call_of call.now) sent.now) reply.now
+        → line_of profile client.now.decls server.now.decls (call_of call.now) sent.now reply.now
+        ≡ projected client.now.decls server.now.decls (Ok (call_of call.now)) }
     ensures named { OneFollows client.now.decls server.now.decls
-        → NamesOf (call_of call.now) (methods_by (call_of call.now) call.now.server (received profile client.now.decls server.now.decls (call_of call.now) sent.now)) }
+        → NamesOf (call_of call.now)
+        (methods_by (call_of call.now) call.now.server
+        (received profile client.now.decls server.now.decls (call_of call.now) sent.now)) }
 {
     let args = call.args.as_slice();
     law_outcome(
@@ -128,9 +145,11 @@ fn law_projected_at(
 // Over one tree, which follows itself, a call's outcome is that the handler sees what was sent and the client has what was answered.
 pub fn law_within(alloc: Global, client: &Schema, server: &Schema, call: &Call)
     requires fits { CallFits client.now.decls server.now.decls (call_of call.now) }
-    ensures follows { server.now.decls ≡ client.now.decls → OneFollows client.now.decls server.now.decls }
+    ensures follows { server.now.decls ≡ client.now.decls
+        → OneFollows client.now.decls server.now.decls }
     ensures within { server.now.decls ≡ client.now.decls
-        → projected client.now.decls server.now.decls (Ok (call_of call.now)) ≡ within_one client.now.decls (Ok (call_of call.now)) }
+        → projected client.now.decls server.now.decls (Ok (call_of call.now))
+        ≡ within_one client.now.decls (Ok (call_of call.now)) }
 {
     law_chain(client, client, client);
     match &call.target {
@@ -150,7 +169,8 @@ fn law_within_by(client: &Schema, server: &Schema, call: &Call, answer: &Answer)
     requires fits { CallFits client.now.decls server.now.decls (call_of call.now) }
     requires answer { answer_of answer.now ≡ answer_by (option_map target_of call.now.target) }
     ensures { server.now.decls ≡ client.now.decls
-        → projected client.now.decls server.now.decls (Ok (call_of call.now)) ≡ within_one client.now.decls (Ok (call_of call.now)) }
+        → projected client.now.decls server.now.decls (Ok (call_of call.now))
+        ≡ within_one client.now.decls (Ok (call_of call.now)) }
 {
     let args = call.args.as_slice();
     law_outcome_within(client, call.interface, call.method, args, answer);

@@ -33,12 +33,17 @@ pub fn report(
 ) -> Result<LineRun, OutOfMemory>
     requires there { call.now.method < length (find.methods_at client.now call.now.interface) }
     requires exchange { IsExchange profile client.now server.now (call_of call.now) exchange }
-    requires two_way { exchange.reply ≢ None → is_oneway client.now call.now.interface call.now.method ≡ false }
-    requires refused { (s : ℤ) → received profile client.now server.now (call_of call.now) exchange.request.delivered ≡ Err s → s ≢ pos 0 }
+    requires two_way { exchange.reply ≢ None
+        → is_oneway client.now call.now.interface call.now.method ≡ false }
+    requires refused { (s : ℤ)
+        → received profile client.now server.now (call_of call.now) exchange.request.delivered
+        ≡ Err s → s ≢ pos 0 }
     ensures carried { IfOk result (λ run. run.carried ≡ carried_of exchange) }
-    ensures line { IfOk result (λ run. line_data run.out ≡ line_of profile client.now server.now (call_of call.now)
+    ensures line { IfOk result (λ run. line_data run.out
+        ≡ line_of profile client.now server.now (call_of call.now)
         exchange.request.delivered (delivered_of exchange.reply)) }
-    ensures methods { IfOk result (λ run. run.methods ≡ methods_by (call_of call.now) call.now.server
+    ensures methods { IfOk result (λ run. run.methods
+        ≡ methods_by (call_of call.now) call.now.server
         (received profile client.now server.now (call_of call.now) exchange.request.delivered)) }
 {
     let Exchange {
@@ -83,7 +88,8 @@ fn got_by(
 ) -> Result<Got, OutOfMemory>
     requires there { call.now.method < length (find.methods_at client.now call.now.interface) }
     requires two_way { is_oneway client.now call.now.interface call.now.method ≡ false }
-    ensures { IfOk result (λ got. got_of got ≡ receiver.client profile client.now call.now.interface call.now.method bytes.now) }
+    ensures { IfOk result (λ got. got_of got
+        ≡ receiver.client profile client.now call.now.interface call.now.method bytes.now) }
 {
     let callee = Callee::new(client, call.interface, call.method);
     reply(alloc, profile, &callee, bytes)
@@ -109,9 +115,14 @@ fn methods_of(
     bytes: &[u8],
     transport: i32,
 ) -> Option<Methods>
-    requires transport { transport ≡ transport_of (received_at profile server.now call.now.server code bytes.now) }
-    requires refused { (s : ℤ) → received_at profile server.now call.now.server code bytes.now ≡ Err s → s ≢ pos 0 }
-    ensures { result ≡ methods_by (call_of call.now) call.now.server (received_at profile server.now call.now.server code bytes.now) }
+    requires transport { transport
+        ≡ transport_of (received_at profile server.now call.now.server code bytes.now) }
+    requires refused { (s : ℤ)
+        → received_at profile server.now call.now.server code bytes.now ≡ Err s
+        → s ≢ pos 0 }
+    ensures { result
+        ≡ methods_by (call_of call.now) call.now.server
+        (received_at profile server.now call.now.server code bytes.now) }
 {
     if transport != 0 {
         return None;
@@ -133,7 +144,9 @@ fn methods_at(
 ) -> Option<Methods>
     requires accepted { transport_of (stub profile server.now other code bytes.now) ≡ pos 0 }
     requires refused { (s : ℤ) → stub profile server.now other code bytes.now ≡ Err s → s ≢ pos 0 }
-    ensures { result ≡ methods_by (call_of call.now) (Some other) (stub profile server.now other code bytes.now) }
+    ensures { result
+        ≡ methods_by (call_of call.now) (Some other)
+        (stub profile server.now other code bytes.now) }
 {
     match method_of_code(server.schema(), other, code) {
         Some(called) => Some(Methods {

@@ -37,10 +37,13 @@ pub fn run_line<L: Link>(
         (script client.now server.now line.now) run) }
     // The link's log gains exactly what is carried.
     ensures log { IfOk result (λ run. Adds (L.log link.old) (L.log link.new) run.carried) }
-    ensures faithful { L.is_faithful link.old ≡ true → IfOk result (λ run. AreFaithful run.carried) }
+    ensures faithful { L.is_faithful link.old ≡ true
+        → IfOk result (λ run. AreFaithful run.carried) }
     // After a fault it has gained the carries that succeeded; what failed is the parcel that was due then.
-    ensures stops { IfErr result (λ fault. Stops profile client.now server.now
-        (script client.now server.now line.now) (L.is_faithful link.old) (L.log link.old) (L.log link.new) (L.fault_record link.new) fault) }
+    ensures stops { IfErr result
+        (λ fault. Stops profile client.now server.now (script client.now server.now line.now)
+        (L.is_faithful link.old) (L.log link.old) (L.log link.new)
+        (L.fault_record link.new) fault) }
     ensures nature { L.is_faithful link.new ≡ L.is_faithful link.old }
     // A fault of the link comes only where its count rose.
     ensures cause { RunCause (L.fault_record link.old) (L.fault_record link.new) result }
@@ -79,16 +82,21 @@ fn run_call<L: Link>(
 ) -> Result<LineRun, RunFault>
     requires ways { SameWays client.now server.now }
     requires fits { CallFits client.now server.now (call_of call.now) }
-    ensures line { IfOk result (λ run. LineRuns profile client.now server.now (Ok (call_of call.now)) run) }
+    ensures line { IfOk result
+        (λ run. LineRuns profile client.now server.now (Ok (call_of call.now)) run) }
     ensures log { IfOk result (λ run. Adds (L.log link.old) (L.log link.new) run.carried) }
-    ensures faithful { L.is_faithful link.old ≡ true → IfOk result (λ run. AreFaithful run.carried) }
-    ensures stops { IfErr result (λ fault. Stops profile client.now server.now (Ok (call_of call.now))
-        (L.is_faithful link.old) (L.log link.old) (L.log link.new) (L.fault_record link.new) fault) }
+    ensures faithful { L.is_faithful link.old ≡ true
+        → IfOk result (λ run. AreFaithful run.carried) }
+    ensures stops { IfErr result
+        (λ fault. Stops profile client.now server.now (Ok (call_of call.now))
+        (L.is_faithful link.old) (L.log link.old) (L.log link.new)
+        (L.fault_record link.new) fault) }
     ensures nature { L.is_faithful link.new ≡ L.is_faithful link.old }
     ensures cause { RunCause (L.fault_record link.old) (L.fault_record link.new) result }
     ensures typed { IfOk result (λ run. IsTyped client.now server.now run.methods run.out) }
     ensures outcome { OneFollows client.now server.now → L.is_faithful link.old ≡ true
-        → IfOk result (λ run. line_data run.out ≡ projected client.now server.now (Ok (call_of call.now))) }
+        → IfOk result (λ run. line_data run.out
+        ≡ projected client.now server.now (Ok (call_of call.now))) }
     ensures named { OneFollows client.now server.now → L.is_faithful link.old ≡ true
         → IfOk result (λ run. AreNamed (Ok (call_of call.now)) run.methods) }
     ensures within { server.now ≡ client.now → L.is_faithful link.old ≡ true
@@ -111,11 +119,13 @@ fn report_call(
     requires ways { SameWays client.now server.now }
     requires fits { CallFits client.now server.now (call_of call.now) }
     requires exchange { IsExchange profile client.now server.now (call_of call.now) exchange }
-    ensures line { IfOk result (λ run. LineRuns profile client.now server.now (Ok (call_of call.now)) run) }
+    ensures line { IfOk result
+        (λ run. LineRuns profile client.now server.now (Ok (call_of call.now)) run) }
     ensures carried { IfOk result (λ run. run.carried ≡ carried_of exchange) }
     ensures typed { IfOk result (λ run. IsTyped client.now server.now run.methods run.out) }
     ensures outcome { OneFollows client.now server.now → AreFaithful (carried_of exchange)
-        → IfOk result (λ run. line_data run.out ≡ projected client.now server.now (Ok (call_of call.now))) }
+        → IfOk result (λ run. line_data run.out
+        ≡ projected client.now server.now (Ok (call_of call.now))) }
     ensures named { OneFollows client.now server.now → AreFaithful (carried_of exchange)
         → IfOk result (λ run. AreNamed (Ok (call_of call.now)) run.methods) }
     ensures within { server.now ≡ client.now → AreFaithful (carried_of exchange)

@@ -26,7 +26,8 @@ pub fn serve(
     bytes: &[u8],
 ) -> Result<Answered, OutOfMemory>
     requires { TargetFits server.now call.now.server (option_map target_of call.now.target) }
-    ensures { IfOk result (λ a. IsServed server.now call.now.server (option_map target_of call.now.target)
+    ensures { IfOk result
+        (λ a. IsServed server.now call.now.server (option_map target_of call.now.target)
         (meant.received_at profile server.now call.now.server code bytes.now) a) }
 {
     match call.server {
@@ -46,7 +47,8 @@ pub fn serve(
 
 // What the handler answers for a method: the scripted answer for the line's, and an exception for any other.
 fn scripted(alloc: Global, target: &Option<Target>, method: u32) -> Result<Answer, OutOfMemory>
-    ensures { IfOk result (λ a. answer_of a ≡ meant.scripted (option_map target_of target.now) method) }
+    ensures { IfOk result
+        (λ a. answer_of a ≡ meant.scripted (option_map target_of target.now) method) }
 {
     match target {
         Some(target) => {
