@@ -29,7 +29,8 @@ pub fn push_saw(
 ) -> Result<(), OutOfMemory>
     requires there { methods.called < length (methods_at server.now.decls methods.server) }
     requires typed { AreSeen server.now.decls methods saw.now }
-    ensures { OnOk result (string_bytes out.new ≡ string_bytes out.old ++ saw_text server.now.decls (Some methods) (option_map views saw.now)) }
+    ensures { OnOk result (string_bytes out.new ≡ string_bytes out.old
+        ++ saw_text server.now.decls (Some methods) (option_map views saw.now)) }
 {
     match saw {
         None => push_null(out),
@@ -50,7 +51,8 @@ pub fn push_client(
     out: &mut String,
 ) -> Result<(), OutOfMemory>
     requires { IsGotBy client.now.decls methods (got_of got.now) }
-    ensures { OnOk result (string_bytes out.new ≡ string_bytes out.old ++ client_text client.now.decls (Some methods) (got_of got.now)) }
+    ensures { OnOk result (string_bytes out.new
+        ≡ string_bytes out.old ++ client_text client.now.decls (Some methods) (got_of got.now)) }
 {
     match got {
         Got::Returned { result, outs } => {
@@ -66,7 +68,8 @@ pub fn push_client(
 }
 
 fn push_failed(status: i32, out: &mut String) -> Result<(), OutOfMemory>
-    ensures { OnOk result (string_bytes out.new ≡ string_bytes out.old ++ (codes "{\"status\":" ++ signed_decimal status ++ codes "}")) }
+    ensures { OnOk result (string_bytes out.new
+        ≡ string_bytes out.old ++ (codes "{\"status\":" ++ signed_decimal status ++ codes "}")) }
 {
     out.push_str("{\"status\":")?;
     write!(out, "{status}")?;
@@ -83,8 +86,11 @@ fn push_returned(
     outs: &[Value],
     out: &mut String,
 ) -> Result<(), OutOfMemory>
-    requires { IsGotBy client.now.decls methods (Ok (returned (optional_view value.now) (views outs.now))) }
-    ensures { OnOk result (string_bytes out.new ≡ string_bytes out.old ++ client_text client.now.decls (Some methods) (Ok (returned (optional_view value.now) (views outs.now)))) }
+    requires { IsGotBy client.now.decls methods
+        (Ok (returned (optional_view value.now) (views outs.now))) }
+    ensures { OnOk result (string_bytes out.new ≡ string_bytes out.old
+        ++ client_text client.now.decls (Some methods)
+        (Ok (returned (optional_view value.now) (views outs.now)))) }
 {
     let method = method_of(client, methods.interface, methods.method);
     let types = outs_of(alloc, method.args.as_slice())?;
@@ -105,7 +111,8 @@ fn push_exception(
     out: &mut String,
 ) -> Result<(), OutOfMemory>
     ensures { OnOk result (string_bytes out.new ≡ string_bytes out.old
-        ++ (code_text code ++ quoted (encode_utf8_all message.now) ++ error_text code error ++ codes "]}")) }
+        ++ (code_text code ++ quoted (encode_utf8_all message.now)
+        ++ error_text code error ++ codes "]}")) }
 {
     push_code(code, out)?;
     push_message(alloc, message, out)?;
@@ -132,7 +139,8 @@ fn push_code(code: i32, out: &mut String) -> Result<(), OutOfMemory>
 }
 
 fn push_message(alloc: Global, message: &Text, out: &mut String) -> Result<(), OutOfMemory>
-    ensures { OnOk result (string_bytes out.new ≡ string_bytes out.old ++ quoted (encode_utf8_all message.now)) }
+    ensures { OnOk result
+        (string_bytes out.new ≡ string_bytes out.old ++ quoted (encode_utf8_all message.now)) }
 {
     push_quoted(alloc, message.as_str(), out)
 }

@@ -25,7 +25,10 @@ pub fn judge_both(
     client: &Schema,
     server: &Schema,
 ) -> Result<Option<Printed>, OutOfMemory>
-    ensures course { IfOk result (λ p. (lines : Course) → judged_course (broken client.now.decls server.now.decls) (broken server.now.decls client.now.decls) lines ≡ course_by p lines) }
+    ensures course { IfOk result (λ p. (lines : Course)
+        → judged_course (broken client.now.decls server.now.decls)
+        (broken server.now.decls client.now.decls) lines
+        ≡ course_by p lines) }
     ensures follows { IfOk result (λ p. p ≡ None → OneFollows client.now.decls server.now.decls) }
 {
     let there = judge(alloc, client, server)?;
@@ -66,7 +69,8 @@ fn marked(alloc: Global, mark: &str, rows: &[Broken]) -> Result<String, OutOfMem
 
 // Adds the line of a broken rule, behind a mark.
 fn push_marked(mark: &str, row: &Broken, text: &mut String) -> Result<(), OutOfMemory>
-    ensures { OnOk result (string_bytes text.new ≡ string_bytes text.old ++ (mark.now ++ break_line (seen row.now))) }
+    ensures { OnOk result
+        (string_bytes text.new ≡ string_bytes text.old ++ (mark.now ++ break_line (seen row.now))) }
 {
     text.push_str(mark)?;
     push_break(row, text)

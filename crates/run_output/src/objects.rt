@@ -29,7 +29,9 @@ pub fn push_line(
 ) -> Result<(), OutOfMemory>
     // Its values have the types of its methods.
     requires { IsTyped client.now.decls server.now.decls run.now.methods run.now.out }
-    ensures { OnOk result (string_bytes out.new ≡ string_bytes out.old ++ line_text client.now.decls server.now.decls run.now.methods number (line_data run.now.out)) }
+    ensures { OnOk result (string_bytes out.new ≡ string_bytes out.old
+        ++ line_text client.now.decls server.now.decls run.now.methods number
+        (line_data run.now.out)) }
 {
     push_object(alloc, client, server, number, run, out)?;
     out.push_str("\n")?;
@@ -48,7 +50,8 @@ pub fn push_object(
     // Its values have the types of its methods.
     requires { IsTyped client.now.decls server.now.decls run.now.methods run.now.out }
     ensures { OnOk result (string_bytes out.new ≡ string_bytes out.old
-        ++ object_text client.now.decls server.now.decls run.now.methods number (line_data run.now.out)) }
+        ++ object_text client.now.decls server.now.decls run.now.methods number
+        (line_data run.now.out)) }
 {
     match &run.out {
         LineOut::Refused(why) => push_refused(alloc, number, why, out),
@@ -91,7 +94,8 @@ fn push_refused(
     why: &Refused,
     out: &mut String,
 ) -> Result<(), OutOfMemory>
-    ensures { OnOk result (string_bytes out.new ≡ string_bytes out.old ++ refused_text number (refusal_of why.now)) }
+    ensures { OnOk result
+        (string_bytes out.new ≡ string_bytes out.old ++ refused_text number (refusal_of why.now)) }
 {
     out.push_str("{\"at\":")?;
     push_quoted(alloc, why.at.as_str(), out)?;
@@ -99,7 +103,8 @@ fn push_refused(
 }
 
 fn push_named(number: usize, name: &str, out: &mut String) -> Result<(), OutOfMemory>
-    ensures { OnOk result (string_bytes out.new ≡ string_bytes out.old ++ named_text number name.now) }
+    ensures { OnOk result
+        (string_bytes out.new ≡ string_bytes out.old ++ named_text number name.now) }
 {
     write!(out, ",\"line\":{number},\"refused\":\"{name}\"")?;
     out.push_str("}")?;
@@ -108,7 +113,8 @@ fn push_named(number: usize, name: &str, out: &mut String) -> Result<(), OutOfMe
 
 fn push_transport(number: usize, status: i32, out: &mut String) -> Result<(), OutOfMemory>
     ensures { OnOk result (string_bytes out.new ≡ string_bytes out.old
-        ++ (codes "{\"line\":" ++ decimal number ++ codes ",\"transport\":" ++ signed_decimal status ++ codes "}")) }
+        ++ (codes "{\"line\":" ++ decimal number
+        ++ codes ",\"transport\":" ++ signed_decimal status ++ codes "}")) }
 {
     out.push_str("{")?;
     write!(out, "\"line\":{number},\"transport\":{status}")?;
@@ -130,10 +136,13 @@ fn push_oneway(
     call: &Received<'_>,
     out: &mut String,
 ) -> Result<(), OutOfMemory>
-    requires there { call.now.methods.called < length (methods_at server.now.decls call.now.methods.server) }
+    requires there { call.now.methods.called
+        < length (methods_at server.now.decls call.now.methods.server) }
     requires typed { AreSeen server.now.decls call.now.methods call.now.saw.now }
-    ensures { let saw = saw_text server.now.decls (Some call.now.methods) (option_map views call.now.saw.now) in
-        OnOk result (string_bytes out.new ≡ string_bytes out.old ++ (codes "{" ++ called_text call.now.number saw)) }
+    ensures { let saw = saw_text server.now.decls (Some call.now.methods)
+        (option_map views call.now.saw.now) in
+        OnOk result (string_bytes out.new
+        ≡ string_bytes out.old ++ (codes "{" ++ called_text call.now.number saw)) }
 {
     out.push_str("{")?;
     push_called(alloc, server, call, out)
@@ -147,12 +156,15 @@ fn push_done(
     got: &Got,
     out: &mut String,
 ) -> Result<(), OutOfMemory>
-    requires there { call.now.methods.called < length (methods_at server.now.decls call.now.methods.server) }
+    requires there { call.now.methods.called
+        < length (methods_at server.now.decls call.now.methods.server) }
     requires typed { AreSeen server.now.decls call.now.methods call.now.saw.now }
     requires got { IsGotBy client.now.decls call.now.methods (got_of got.now) }
-    ensures { let saw = saw_text server.now.decls (Some call.now.methods) (option_map views call.now.saw.now) in
+    ensures { let saw = saw_text server.now.decls (Some call.now.methods)
+        (option_map views call.now.saw.now) in
         OnOk result (string_bytes out.new ≡ string_bytes out.old ++ (codes "{\"client\":"
-        ++ client_text client.now.decls (Some call.now.methods) (got_of got.now) ++ codes "," ++ called_text call.now.number saw)) }
+        ++ client_text client.now.decls (Some call.now.methods) (got_of got.now)
+        ++ codes "," ++ called_text call.now.number saw)) }
 {
     out.push_str("{\"client\":")?;
     push_client(alloc, client, call.methods, got, out)?;
@@ -167,10 +179,13 @@ fn push_called(
     call: &Received<'_>,
     out: &mut String,
 ) -> Result<(), OutOfMemory>
-    requires there { call.now.methods.called < length (methods_at server.now.decls call.now.methods.server) }
+    requires there { call.now.methods.called
+        < length (methods_at server.now.decls call.now.methods.server) }
     requires typed { AreSeen server.now.decls call.now.methods call.now.saw.now }
-    ensures { let saw = saw_text server.now.decls (Some call.now.methods) (option_map views call.now.saw.now) in
-        OnOk result (string_bytes out.new ≡ string_bytes out.old ++ called_text call.now.number saw) }
+    ensures { let saw = saw_text server.now.decls (Some call.now.methods)
+        (option_map views call.now.saw.now) in
+        OnOk result
+        (string_bytes out.new ≡ string_bytes out.old ++ called_text call.now.number saw) }
 {
     let number = call.number;
     write!(out, "\"line\":{number},\"saw\":")?;

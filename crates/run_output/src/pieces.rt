@@ -25,7 +25,9 @@ pub fn line_piece(
     run: &LineRun,
 ) -> Result<String, OutOfMemory>
     requires { IsTyped client.now.decls server.now.decls run.now.methods run.now.out }
-    ensures { IfOk result (λ text. string_bytes text ≡ piece client.now.decls server.now.decls trace number run.now.carried run.now.methods (line_data run.now.out)) }
+    ensures { IfOk result (λ text. string_bytes text
+        ≡ piece client.now.decls server.now.decls trace number
+        run.now.carried run.now.methods (line_data run.now.out)) }
 {
     let mut text = traced(alloc, trace, run.carried.as_slice())?;
     push_line(alloc, client, server, number, run, &mut text)?;
@@ -68,7 +70,8 @@ fn push_entry(alloc: Global, entry: &Carried, text: &mut String) -> Result<(), O
 
 // Adds which way it went, and the code.
 fn push_way(way: Way, code: u32, text: &mut String) -> Result<(), OutOfMemory>
-    ensures { OnOk result (string_bytes text.new ≡ string_bytes text.old ++ (way_text way ++ codes " " ++ decimal code ++ codes " ")) }
+    ensures { OnOk result (string_bytes text.new
+        ≡ string_bytes text.old ++ (way_text way ++ codes " " ++ decimal code ++ codes " ")) }
 {
     let name = way_name(way);
     write!(text, "{name} {code} ")?;

@@ -43,9 +43,11 @@ pub fn run_trees<K: Sink, L: Link>(
         (seen sink.old link.old) (seen sink.new link.new) (number_of result) }
     // Over a faithful link, between two schemas of which one may follow the other, a run that nothing stops ends with 0, and has put exactly
     // what its lines are projected to.
-    ensures projected { let seen = seen_alone K.told K.fault_record L.log L.is_faithful L.fault_record in
+    ensures projected { let seen = seen_alone K.told K.fault_record
+        L.log L.is_faithful L.fault_record in
         let A = session.now.client.now.decls in let B = session.now.server.now.decls in
-        Projects A B (projected_text session.now.profile A B session.now.trace 1 (lines_of calls.now))
+        Projects A B
+        (projected_text session.now.profile A B session.now.trace 1 (lines_of calls.now))
         (seen sink.old link.old) (seen sink.new link.new) (number_of result) }
 {
     match judge_both(alloc, session.client, session.server) {
@@ -68,9 +70,11 @@ fn run_judged<K: Sink, L: Link>(
         let A = session.now.client.now.decls in let B = session.now.server.now.decls in
         RanCourse (lines_course session.now.profile A B session.now.trace 1 (lines_of calls.now))
         (seen sink.old link.old) (seen sink.new link.new) (number_of result) }
-    ensures projected { let seen = seen_alone K.told K.fault_record L.log L.is_faithful L.fault_record in
+    ensures projected { let seen = seen_alone K.told K.fault_record
+        L.log L.is_faithful L.fault_record in
         let A = session.now.client.now.decls in let B = session.now.server.now.decls in
-        Projects A B (projected_text session.now.profile A B session.now.trace 1 (lines_of calls.now))
+        Projects A B
+        (projected_text session.now.profile A B session.now.trace 1 (lines_of calls.now))
         (seen sink.old link.old) (seen sink.new link.new) (number_of result) }
 {
     match both_plans(alloc, session.client, session.server) {
@@ -96,7 +100,8 @@ pub fn both_plans(
     client: &Schema,
     server: &Schema,
 ) -> Result<(Plans, Plans), OutOfMemory>
-    ensures { IfOk result (λ plans. ArePlansOf plans.0 client.now.decls × ArePlansOf plans.1 server.now.decls) }
+    ensures { IfOk result
+        (λ plans. ArePlansOf plans.0 client.now.decls × ArePlansOf plans.1 server.now.decls) }
 {
     let client_plans = plans_of(alloc, client)?;
     let server_plans = plans_of(alloc, server)?;
@@ -124,9 +129,11 @@ pub fn run_lines<K: Sink, L: Link>(
         let A = session.now.client in let B = session.now.server in
         RanCourse (lines_course session.now.profile A B session.now.trace 1 (lines_of calls.now))
         (seen sink.old link.old) (seen sink.new link.new) (number_of result) }
-    ensures projected { let seen = seen_alone K.told K.fault_record L.log L.is_faithful L.fault_record in
+    ensures projected { let seen = seen_alone K.told K.fault_record
+        L.log L.is_faithful L.fault_record in
         let A = session.now.client in let B = session.now.server in
-        Projects A B (projected_text session.now.profile A B session.now.trace 1 (lines_of calls.now))
+        Projects A B
+        (projected_text session.now.profile A B session.now.trace 1 (lines_of calls.now))
         (seen sink.old link.old) (seen sink.new link.new) (number_of result) }
 {
     let mut rest = calls;
@@ -155,13 +162,17 @@ fn run_next<K: Sink, L: Link>(
     link: &mut L,
 ) -> Result<(), Exit>
     requires { SameWays session.now.client session.now.server }
-    ensures steps { let seen = seen_alone K.told K.fault_record L.log L.is_faithful L.fault_record in
+    ensures steps { let seen = seen_alone K.told K.fault_record
+        L.log L.is_faithful L.fault_record in
         let p = session.now.profile in let A = session.now.client in let B = session.now.server in
-        (next : Course) → Steps (line_course p A B (puts A B session.now.trace number next) (script A B line.now)) next
+        (next : Course) → Steps
+        (line_course p A B (puts A B session.now.trace number next) (script A B line.now)) next
         (seen sink.old link.old) (seen sink.new link.new) result }
     ensures exits { IfErr result (λ exit. IsVerdict (number_of exit) → ⊥) }
-    ensures projected { let p = session.now.profile in let A = session.now.client in let B = session.now.server in
-        OneFollows A B → L.is_faithful link.old ≡ true → IfOk result (λ u. Adds (K.told sink.old) (K.told sink.new)
+    ensures projected { let p = session.now.profile in
+        let A = session.now.client in let B = session.now.server in
+        OneFollows A B → L.is_faithful link.old ≡ true
+        → IfOk result (λ u. Adds (K.told sink.old) (K.told sink.new)
         (projected_piece p A B session.now.trace number (script A B line.now))) }
 {
     match run_line(
@@ -188,8 +199,10 @@ fn put_line<K: Sink>(
 ) -> Result<(), Exit>
     requires { IsTyped session.now.client session.now.server run.now.methods run.now.out }
     ensures { let A = session.now.client in let B = session.now.server in
-        PutsText (piece A B session.now.trace number run.now.carried run.now.methods (line_data run.now.out))
-        (K.told sink.old) (K.told sink.new) (K.fault_record sink.old) (K.fault_record sink.new) result }
+        PutsText
+        (piece A B session.now.trace number run.now.carried run.now.methods (line_data run.now.out))
+        (K.told sink.old) (K.told sink.new)
+        (K.fault_record sink.old) (K.fault_record sink.new) result }
 {
     let client = session.client.schema();
     let server = session.server.schema();

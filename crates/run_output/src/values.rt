@@ -34,7 +34,8 @@ pub fn push_values(
     out: &mut String,
 ) -> Result<(), OutOfMemory>
     requires { EachHasType schema.now.decls types.now (views values.now) }
-    ensures { OnOk result (string_bytes out.new ≡ string_bytes out.old ++ values_text schema.now.decls types.now (views values.now)) }
+    ensures { OnOk result (string_bytes out.new
+        ≡ string_bytes out.old ++ values_text schema.now.decls types.now (views values.now)) }
 {
     match types {
         [] => push_empty(out),
@@ -66,7 +67,8 @@ fn push_others(
     out: &mut String,
 ) -> Result<(), OutOfMemory>
     requires { EachHasType schema.now.decls types.now (views values.now) }
-    ensures { OnOk result (string_bytes out.new ≡ string_bytes out.old ++ others_text schema.now.decls types.now (views values.now)) }
+    ensures { OnOk result (string_bytes out.new
+        ≡ string_bytes out.old ++ others_text schema.now.decls types.now (views values.now)) }
 {
     match types {
         [] => Ok(()),
@@ -90,7 +92,8 @@ fn push_behind(
     out: &mut String,
 ) -> Result<(), OutOfMemory>
     requires { HasType schema.now.decls ty.now (view value.now) }
-    ensures { OnOk result (string_bytes out.new ≡ string_bytes out.old ++ (mark.now ++ value_text schema.now.decls ty.now (view value.now))) }
+    ensures { OnOk result (string_bytes out.new ≡ string_bytes out.old
+        ++ (mark.now ++ value_text schema.now.decls ty.now (view value.now))) }
 {
     out.push_str(mark)?;
     push_value_text(alloc, schema, ty, value, out)
@@ -105,7 +108,8 @@ pub fn push_result(
     out: &mut String,
 ) -> Result<(), OutOfMemory>
     requires { IsResult schema.now.decls ty (optional_view value.now) }
-    ensures { OnOk result (string_bytes out.new ≡ string_bytes out.old ++ result_text schema.now.decls ty (optional_view value.now)) }
+    ensures { OnOk result (string_bytes out.new
+        ≡ string_bytes out.old ++ result_text schema.now.decls ty (optional_view value.now)) }
 {
     match ty {
         Some(ty) => match value {
