@@ -55,7 +55,8 @@ fn print_items(
     bytes: &[u8],
 ) -> Result<Printed, OutOfMemory>
     requires { list_all (is_type schema.now.decls) types.now ≡ true }
-    ensures { IfOk result (λ p. printed p ≡ items_answer profile schema.now.decls types.now bytes.now) }
+    ensures { IfOk result (λ p. printed p
+        ≡ items_answer profile schema.now.decls types.now bytes.now) }
 {
     let plans = compile(alloc, schema, types)?;
     let decoder = Decoder {
@@ -105,8 +106,8 @@ fn push_item<'a>(
     requires { IsOf decoder.now.plans.now id decoder.now.schema.now.decls ty.now }
     ensures { let S = decoder.now.schema.now.decls in
         let reading = read_of decoder.now.profile S 64 ty.now false bytes.now in
-        IfOk result (λ left. PrintsItem S ty.now reading (string_bytes text.old) (string_bytes text.new)
-        (option_map (λ rest. rest.now) left)) }
+        IfOk result (λ left. PrintsItem S ty.now reading
+        (string_bytes text.old) (string_bytes text.new) (option_map (λ rest. rest.now) left)) }
 {
     match read(alloc, decoder.profile, decoder.plans, id, bytes) {
         Ok((value, used)) => {
@@ -132,7 +133,8 @@ fn push_value(
     text: &mut String,
 ) -> Result<(), OutOfMemory>
     requires { HasType schema.now.decls ty.now (view value.now) }
-    ensures { OnOk result (string_bytes text.new ≡ string_bytes text.old ++ value_line schema.now.decls ty.now (view value.now)) }
+    ensures { OnOk result (string_bytes text.new
+        ≡ string_bytes text.old ++ value_line schema.now.decls ty.now (view value.now)) }
 {
     push_value_text(alloc, schema, ty, value, text)?;
     text.push_str("\n")?;
@@ -141,7 +143,8 @@ fn push_value(
 
 // Adds the line for the bytes after the last item, where there are some. How the decode ends.
 fn push_rest(text: &mut String, rest: &[u8]) -> Result<Verdict, OutOfMemory>
-    ensures text { OnOk result (string_bytes text.new ≡ string_bytes text.old ++ (rest_answer rest.now).text) }
+    ensures text { OnOk result (string_bytes text.new
+        ≡ string_bytes text.old ++ (rest_answer rest.now).text) }
     ensures verdict { IfOk result (λ verdict. verdict ≡ (rest_answer rest.now).verdict) }
 {
     if rest.is_empty() {

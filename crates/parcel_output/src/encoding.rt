@@ -62,7 +62,8 @@ fn values_in(
     types: &[AidlType],
     json: &Json,
 ) -> Result<Vec<Value>, Early>
-    ensures values { Finds (λ vs. map view vs.items) result (values_found (values_of schema.now.decls types.now (json_view json.now))) }
+    ensures values { Finds (λ vs. map view vs.items) result
+        (values_found (values_of schema.now.decls types.now (json_view json.now))) }
     ensures typed { IfOk result (λ vs. AreTyped schema.now.decls types.now (map view vs.items)) }
 {
     match values_of(alloc, schema, types, json) {
@@ -73,7 +74,8 @@ fn values_in(
 
 // The line of a refusal.
 fn refusal_of(alloc: Global, unread: &Unread) -> Early
-    ensures { MatchOption (unread_refusal unread.now) (result ≡ Early.OutOfMemory) (λ r. EndsAs result (refused (reason_name r.reason) r.at)) }
+    ensures { MatchOption (unread_refusal unread.now) (result ≡ Early.OutOfMemory)
+        (λ r. EndsAs result (refused (reason_name r.reason) r.at)) }
 {
     match unread {
         Unread::Shape => refusal(alloc, "refused WrongShape ", ""),
@@ -87,7 +89,9 @@ fn refusal_of(alloc: Global, unread: &Unread) -> Early
 
 // The printed name of a refusal and its place in the value. None of a want of memory.
 fn name_and_place(fault: &JsonFault) -> Option<(&str, &str)>
-    ensures { option_map {U = List ℕ × List ℕ} (λ p. (p.0.now, p.1.now)) result ≡ option_map {U = List ℕ × List ℕ} (λ r. (reason_name r.reason, r.at)) (refusal_of fault.now) }
+    ensures { option_map {U = List ℕ × List ℕ} (λ p. (p.0.now, p.1.now)) result
+        ≡ option_map {U = List ℕ × List ℕ}
+        (λ r. (reason_name r.reason, r.at)) (refusal_of fault.now) }
 {
     match fault {
         JsonFault::WrongShape { at } => Some(("WrongShape", at.as_str())),
@@ -108,7 +112,8 @@ fn parcel_of(
 ) -> Result<Vec<u8>, Early>
     requires known { list_all (is_type schema.now.decls) types.now ≡ true }
     requires typed { AreTyped schema.now.decls types.now (map view values.now) }
-    ensures { Finds (λ v. v.items) result (within LimitName.ParcelBytes (spelled schema.now.decls types.now values.now)) }
+    ensures { Finds (λ v. v.items) result
+        (within LimitName.ParcelBytes (spelled schema.now.decls types.now values.now)) }
 {
     let plans = compile(alloc, schema, types)?;
     let length = length_of(schema, types, &plans, values);

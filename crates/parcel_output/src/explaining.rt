@@ -31,7 +31,8 @@ pub fn explain(alloc: Global, schema: &Schema, types: &str, parcel: &[u8]) -> Re
 
 // A line for each item.
 fn lines_of(alloc: Global, parcel: &[u8], items: &[Item]) -> Result<String, OutOfMemory>
-    ensures { IfOk result (λ text. string_bytes text ≡ flat_map (λ i. item_line parcel.now i) items.now) }
+    ensures { IfOk result (λ text. string_bytes text
+        ≡ flat_map (λ i. item_line parcel.now i) items.now) }
 {
     let mut digits = Buffer::new();
     let mut text = String::new(alloc);
@@ -49,7 +50,8 @@ fn push_item(
     digits: &mut Buffer,
     text: &mut String,
 ) -> Result<(), OutOfMemory>
-    ensures { OnOk result (string_bytes text.new ≡ string_bytes text.old ++ item_line parcel.now item.now) }
+    ensures { OnOk result (string_bytes text.new
+        ≡ string_bytes text.old ++ item_line parcel.now item.now) }
 {
     text.push_str(digits.format(item.offset))?;
     text.push_str(" ")?;
@@ -77,7 +79,8 @@ fn path_text(path: &Text) -> &str
 
 // Adds a blank, the word of a kind and the newline.
 fn push_kind(kind: ItemKind, text: &mut String) -> Result<(), OutOfMemory>
-    ensures { OnOk result (string_bytes text.new ≡ string_bytes text.old ++ (codes " " ++ line (kind_text kind))) }
+    ensures { OnOk result (string_bytes text.new
+        ≡ string_bytes text.old ++ (codes " " ++ line (kind_text kind))) }
 {
     match kind {
         ItemKind::Value => text.push_str(" value\n")?,

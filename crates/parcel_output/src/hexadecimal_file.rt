@@ -36,7 +36,8 @@ fn line_of(file: &[u8]) -> &[u8]
 
 // The bytes of digits. None where another byte stands, or their number is odd.
 fn decoded(alloc: Global, digits: &[u8]) -> Result<Option<Vec<u8>>, OutOfMemory>
-    ensures { IfOk result (λ bytes. option_map (λ v. v.items) bytes ≡ result_ok (decode_of digits.now)) }
+    ensures { IfOk result (λ bytes. option_map (λ v. v.items) bytes
+        ≡ result_ok (decode_of digits.now)) }
 {
     match hex::decode(alloc, digits) {
         Ok(bytes) => Ok(Some(bytes)),

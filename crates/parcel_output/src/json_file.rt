@@ -52,7 +52,8 @@ pub fn values_of(
     types: &[AidlType],
     json: &Json,
 ) -> Result<Vec<Value>, Unread>
-    ensures ok { IfOk result (λ vs. values_of schema.now.decls types.now (json_view json.now) ≡ Ok (map view vs.items)) }
+    ensures ok { IfOk result (λ vs. values_of schema.now.decls types.now (json_view json.now)
+        ≡ Ok (map view vs.items)) }
     ensures typed { IfOk result (λ vs. AreTyped schema.now.decls types.now (map view vs.items)) }
     ensures refused { RefusesAs result (values_of schema.now.decls types.now (json_view json.now)) }
 {
@@ -73,9 +74,11 @@ fn values_from(
     items: &[Json],
 ) -> Result<Vec<Value>, Unread>
     requires { length types.now ≡ length items.now }
-    ensures ok { IfOk result (λ vs. values_from schema.now.decls 0 types.now (items_view items.now) ≡ Ok (map view vs.items)) }
+    ensures ok { IfOk result (λ vs. values_from schema.now.decls 0 types.now (items_view items.now)
+        ≡ Ok (map view vs.items)) }
     ensures typed { IfOk result (λ vs. AreTyped schema.now.decls types.now (map view vs.items)) }
-    ensures refused { RefusesAs result (values_from schema.now.decls 0 types.now (items_view items.now)) }
+    ensures refused { RefusesAs result
+        (values_from schema.now.decls 0 types.now (items_view items.now)) }
 {
     let mut values = Vec::with_capacity(alloc, types.len())?;
     for i in 0..types.len() {
@@ -92,9 +95,12 @@ fn value_at(
     place: usize,
     json: &Json,
 ) -> Result<Value, Unread>
-    ensures ok { IfOk result (λ v. within (decimal place) (from_json_of schema.now.decls 64 ty.now (json_view json.now)) ≡ Ok (view v)) }
+    ensures ok { IfOk result (λ v.
+        within (decimal place) (from_json_of schema.now.decls 64 ty.now (json_view json.now))
+        ≡ Ok (view v)) }
     ensures fits { IfOk result (λ v. Fits schema.now.decls ty.now (view v)) }
-    ensures refused { RefusesAs result (within (decimal place) (from_json_of schema.now.decls 64 ty.now (json_view json.now))) }
+    ensures refused { RefusesAs result
+        (within (decimal place) (from_json_of schema.now.decls 64 ty.now (json_view json.now))) }
 {
     match from_json(alloc, schema, ty, json) {
         Ok(value) => Ok(value),

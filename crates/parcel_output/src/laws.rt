@@ -14,13 +14,16 @@ use parcel_explain::law_parts;
 /// its status; `left COUNT` exactly where it is what is left, with its bytes; and else nothing. The items' verdict is that of `decode`.
 pub fn law_explain_stops(schema: &Schema, types: &[AidlType], parcel: &[u8])
     ensures ends { items_answer Strict schema.now.decls types.now parcel.now
-        ≡ after_text (value_lines schema.now.decls types.now parcel.now) (ending_of (explained schema.now.decls types.now parcel.now)) }
-    ensures verdict { (items_answer Strict schema.now.decls types.now parcel.now).verdict ≡ items_verdict (explained schema.now.decls types.now parcel.now) }
+        ≡ after_text (value_lines schema.now.decls types.now parcel.now)
+        (ending_of (explained schema.now.decls types.now parcel.now)) }
+    ensures verdict { (items_answer Strict schema.now.decls types.now parcel.now).verdict
+        ≡ items_verdict (explained schema.now.decls types.now parcel.now) }
 {
     law_parts(schema, types, parcel);
 }
 
 /// `explain` has the exit of `decode`, whatever TYPES are.
 pub fn law_explain_exits(schema: &Schema, types: &str, parcel: &[u8])
-    ensures { (explain_answer schema.now.decls types.now parcel.now).verdict ≡ (decode_answer Strict schema.now.decls types.now parcel.now).verdict }
+    ensures { (explain_answer schema.now.decls types.now parcel.now).verdict
+        ≡ (decode_answer Strict schema.now.decls types.now parcel.now).verdict }
 {}

@@ -11,7 +11,8 @@ use tool_frame::{Early, Printed, Verdict};
 
 /// The line of a refused value of a file of JSON: the refusal's name, the value's 0-based place, and the place in it.
 pub fn refused_value(alloc: Global, name: &str, place: usize, at: &str) -> Early
-    ensures { EndsAs result (negative (codes "refused " ++ name.now ++ codes " /" ++ decimal place ++ at.now)) }
+    ensures { EndsAs result
+        (negative (codes "refused " ++ name.now ++ codes " /" ++ decimal place ++ at.now)) }
 {
     match value_line(alloc, name, place, at) {
         Ok(text) => Early::Answered(Printed {
@@ -23,7 +24,8 @@ pub fn refused_value(alloc: Global, name: &str, place: usize, at: &str) -> Early
 }
 
 fn value_line(alloc: Global, name: &str, place: usize, at: &str) -> Result<String, OutOfMemory>
-    ensures { IfOk result (λ text. string_bytes text ≡ line (codes "refused " ++ name.now ++ codes " /" ++ decimal place ++ at.now)) }
+    ensures { IfOk result (λ text. string_bytes text
+        ≡ line (codes "refused " ++ name.now ++ codes " /" ++ decimal place ++ at.now)) }
 {
     let mut text = String::new(alloc);
     writeln!(text, "refused {name} /{place}{at}")?;
@@ -32,7 +34,8 @@ fn value_line(alloc: Global, name: &str, place: usize, at: &str) -> Result<Strin
 
 /// Adds the line for a refused item.
 pub fn push_status(text: &mut String, status: i32) -> Result<(), OutOfMemory>
-    ensures { OnOk result (string_bytes text.new ≡ string_bytes text.old ++ line (codes "status " ++ signed_decimal status)) }
+    ensures { OnOk result (string_bytes text.new
+        ≡ string_bytes text.old ++ line (codes "status " ++ signed_decimal status)) }
 {
     writeln!(text, "status {status}")?;
     Ok(())
@@ -40,7 +43,8 @@ pub fn push_status(text: &mut String, status: i32) -> Result<(), OutOfMemory>
 
 /// Adds the line for bytes that are left.
 pub fn push_left(text: &mut String, count: usize) -> Result<(), OutOfMemory>
-    ensures { OnOk result (string_bytes text.new ≡ string_bytes text.old ++ line (codes "left " ++ decimal count)) }
+    ensures { OnOk result (string_bytes text.new
+        ≡ string_bytes text.old ++ line (codes "left " ++ decimal count)) }
 {
     writeln!(text, "left {count}")?;
     Ok(())

@@ -27,7 +27,8 @@ pub fn types_of<'a>(
     schema: &Schema,
     types: &'a str,
 ) -> Result<Types<'a>, OutOfMemory>
-    ensures types { IfOk result (λ known. types_seen known ≡ types_of schema.now.decls (entries_of types.now)) }
+    ensures types { IfOk result (λ known. types_seen known
+        ≡ types_of schema.now.decls (entries_of types.now)) }
     ensures known { IfOk result (λ known. AreKnown schema.now.decls known) }
 {
     let mut known = Vec::new(alloc);

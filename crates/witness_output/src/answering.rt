@@ -52,7 +52,8 @@ fn answer_of_second(
 
 // What is printed of two schemas.
 fn answer_of_schemas(alloc: Global, old: &Schema, new: &Schema) -> Result<Printed, Early>
-    ensures { GivesOne result (IsWitnessed old.now.decls new.now.decls (broken old.now.decls new.now.decls)) }
+    ensures { GivesOne result
+        (IsWitnessed old.now.decls new.now.decls (broken old.now.decls new.now.decls)) }
 {
     let rows = judge(alloc, old, new)?;
     match rows.as_slice() {
@@ -98,7 +99,8 @@ fn lines_between(
     rows: &[Broken],
 ) -> Result<String, OutOfMemory>
     requires { map seen rows.now ≡ broken old.now.decls new.now.decls }
-    ensures { IfOk result (λ text. AreEntries old.now.decls new.now.decls (map seen rows.now) (string_bytes text)) }
+    ensures { IfOk result (λ text.
+        AreEntries old.now.decls new.now.decls (map seen rows.now) (string_bytes text)) }
 {
     let old_plans = plans_of(alloc, old)?;
     let new_plans = plans_of(alloc, new)?;

@@ -27,7 +27,8 @@ pub fn push_call(
     text: &mut String,
 ) -> Result<(), OutOfMemory>
     requires { ShowsIt old.now.decls new.now.decls (call_seen call.now) showing.now }
-    ensures { OnOk result (string_bytes text.new ≡ string_bytes text.old ++ call_lines old.now.decls new.now.decls (call_seen call.now)) }
+    ensures { OnOk result (string_bytes text.new
+        ≡ string_bytes text.old ++ call_lines old.now.decls new.now.decls (call_seen call.now)) }
 {
     let heading = heading_of(call);
     if heading.back {
@@ -47,7 +48,8 @@ fn push_between(
     text: &mut String,
 ) -> Result<(), OutOfMemory>
     ensures { OnOk result (string_bytes text.new ≡ string_bytes text.old
-        ++ lines_between client.now.decls server.now.decls heading showing.now.bytes (reading_seen showing.now.read) (reading_seen showing.now.projected)) }
+        ++ lines_between client.now.decls server.now.decls heading showing.now.bytes
+        (reading_seen showing.now.read) (reading_seen showing.now.projected)) }
 {
     let name = interface_name(alloc, client, heading.interface)?;
     push_first(
@@ -87,7 +89,8 @@ fn push_first(
     bytes: &[u8],
     text: &mut String,
 ) -> Result<(), OutOfMemory>
-    ensures { OnOk result (string_bytes text.new ≡ string_bytes text.old ++ call_line name.now client.now.decls heading bytes.now) }
+    ensures { OnOk result (string_bytes text.new
+        ≡ string_bytes text.old ++ call_line name.now client.now.decls heading bytes.now) }
 {
     push_heading(client, name, heading, text)?;
     text.push_str(" ")?;
@@ -103,7 +106,8 @@ fn push_heading(
     heading: Heading,
     text: &mut String,
 ) -> Result<(), OutOfMemory>
-    ensures { OnOk result (string_bytes text.new ≡ string_bytes text.old ++ heading_text name.now client.now.decls heading) }
+    ensures { OnOk result (string_bytes text.new
+        ≡ string_bytes text.old ++ heading_text name.now client.now.decls heading) }
 {
     push_word(heading.reply, text)?;
     push_way(heading.back, text)?;
@@ -118,7 +122,8 @@ fn push_full_name(
     method: u32,
     text: &mut String,
 ) -> Result<(), OutOfMemory>
-    ensures { OnOk result (string_bytes text.new ≡ string_bytes text.old ++ full_name name.now client.now.decls interface method) }
+    ensures { OnOk result (string_bytes text.new
+        ≡ string_bytes text.old ++ full_name name.now client.now.decls interface method) }
 {
     push_text(name, text)?;
     text.push_str(".")?;
@@ -126,7 +131,8 @@ fn push_full_name(
 }
 
 fn push_text(name: &Text, text: &mut String) -> Result<(), OutOfMemory>
-    ensures { OnOk result (string_bytes text.new ≡ string_bytes text.old ++ encode_utf8_all name.now) }
+    ensures { OnOk result (string_bytes text.new
+        ≡ string_bytes text.old ++ encode_utf8_all name.now) }
 {
     text.push_str(name.as_str())?;
     Ok(())
@@ -138,7 +144,8 @@ fn push_method(
     method: u32,
     text: &mut String,
 ) -> Result<(), OutOfMemory>
-    ensures { OnOk result (string_bytes text.new ≡ string_bytes text.old ++ name_of_method (method_at schema.now.decls interface method)) }
+    ensures { OnOk result (string_bytes text.new
+        ≡ string_bytes text.old ++ name_of_method (method_at schema.now.decls interface method)) }
 {
     text.push_str(method_name(schema, interface, method))?;
     Ok(())
@@ -154,7 +161,8 @@ fn push_sides(
     text: &mut String,
 ) -> Result<(), OutOfMemory>
     ensures { OnOk result (string_bytes text.new ≡ string_bytes text.old
-        ++ side_lines name.now server.now.decls (reading_seen read.now) (reading_seen projected.now)) }
+        ++ side_lines name.now server.now.decls
+        (reading_seen read.now) (reading_seen projected.now)) }
 {
     let interface = interface_like(server, name);
     push_both(alloc, server, interface, read, projected, text)
@@ -169,7 +177,9 @@ fn push_both(
     text: &mut String,
 ) -> Result<(), OutOfMemory>
     ensures { OnOk result (string_bytes text.new ≡ string_bytes text.old
-        ++ (side_line (codes "read ") server.now.decls interface (reading_seen read.now) ++ side_line (codes "projected ") server.now.decls interface (reading_seen projected.now))) }
+        ++ (side_line (codes "read ") server.now.decls interface (reading_seen read.now)
+        ++ side_line (codes "projected ") server.now.decls interface
+        (reading_seen projected.now))) }
 {
     push_line(alloc, "read ", server, interface, read, text)?;
     push_line(alloc, "projected ", server, interface, projected, text)
@@ -191,7 +201,8 @@ fn push_line(
     side: &Reading,
     text: &mut String,
 ) -> Result<(), OutOfMemory>
-    ensures { OnOk result (string_bytes text.new ≡ string_bytes text.old ++ side_line word.now server.now.decls interface (reading_seen side.now)) }
+    ensures { OnOk result (string_bytes text.new ≡ string_bytes text.old
+        ++ side_line word.now server.now.decls interface (reading_seen side.now)) }
 {
     text.push_str(word)?;
     push_side(alloc, server, interface, side, text)?;

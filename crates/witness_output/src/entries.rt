@@ -30,7 +30,8 @@ pub fn entry_lines(
 ) -> Result<String, OutOfMemory>
     // They are the judge's.
     requires { map seen rows.now ≡ broken old.now new.now }
-    ensures { IfOk result (λ text. AreEntries old.now new.now (map seen rows.now) (string_bytes text)) }
+    ensures { IfOk result (λ text.
+        AreEntries old.now new.now (map seen rows.now) (string_bytes text)) }
 {
     let tables = ReachTables::new(alloc, old, new)?;
     let mut text = String::new(alloc);
@@ -51,7 +52,8 @@ fn push_entry(
 ) -> Result<(), OutOfMemory>
     requires tables { AreReachTables old.now new.now tables.now }
     requires among { Has (broken old.now new.now) (seen row.now) }
-    ensures { OnOk result (AddsEntry old.now new.now (seen row.now) (string_bytes text.old) (string_bytes text.new)) }
+    ensures { OnOk result
+        (AddsEntry old.now new.now (seen row.now) (string_bytes text.old) (string_bytes text.new)) }
 {
     let shown = witness(alloc, old, new, tables, row)?;
     push_break(row, text)?;
@@ -67,7 +69,8 @@ fn push_shown_lines(
     text: &mut String,
 ) -> Result<(), OutOfMemory>
     requires { ShowsAny old.now new.now shown.now }
-    ensures { OnOk result (string_bytes text.new ≡ string_bytes text.old ++ shown_lines old.now new.now shown.now) }
+    ensures { OnOk result (string_bytes text.new
+        ≡ string_bytes text.old ++ shown_lines old.now new.now shown.now) }
 {
     match shown {
         Shown::Found(found) => push_found(alloc, old, new, found, text),
@@ -84,7 +87,8 @@ fn push_found(
     text: &mut String,
 ) -> Result<(), OutOfMemory>
     requires { ShowsIt old.now new.now (call_seen found.now.call) found.now.showing }
-    ensures { OnOk result (string_bytes text.new ≡ string_bytes text.old ++ call_lines old.now new.now (call_seen found.now.call)) }
+    ensures { OnOk result (string_bytes text.new
+        ≡ string_bytes text.old ++ call_lines old.now new.now (call_seen found.now.call)) }
 {
     let before = old.schema();
     let after = new.schema();
@@ -92,7 +96,8 @@ fn push_found(
 }
 
 fn push_reason(why: NoCall, text: &mut String) -> Result<(), OutOfMemory>
-    ensures { OnOk result (string_bytes text.new ≡ string_bytes text.old ++ line (reason_text why)) }
+    ensures { OnOk result (string_bytes text.new
+        ≡ string_bytes text.old ++ line (reason_text why)) }
 {
     match why {
         NoCall::OutsideWire => text.push_str("none outside the wire\n")?,

@@ -27,7 +27,8 @@ pub fn push_side(
     side: &Reading,
     text: &mut String,
 ) -> Result<(), OutOfMemory>
-    ensures { OnOk result (string_bytes text.new ≡ string_bytes text.old ++ side_text server.now.decls interface (reading_seen side.now)) }
+    ensures { OnOk result (string_bytes text.new
+        ≡ string_bytes text.old ++ side_text server.now.decls interface (reading_seen side.now)) }
 {
     match side {
         Reading::Transport(status) => push_status("transport ", status, text),
@@ -42,7 +43,8 @@ pub fn push_side(
 
 // Adds a number behind a word.
 fn push_status(word: &str, status: &i32, text: &mut String) -> Result<(), OutOfMemory>
-    ensures { OnOk result (string_bytes text.new ≡ string_bytes text.old ++ (word.now ++ signed_decimal status.now)) }
+    ensures { OnOk result (string_bytes text.new
+        ≡ string_bytes text.old ++ (word.now ++ signed_decimal status.now)) }
 {
     write!(text, "{word}{status}")?;
     Ok(())
@@ -54,7 +56,8 @@ fn push_left(
     method: u32,
     text: &mut String,
 ) -> Result<(), OutOfMemory>
-    ensures { OnOk result (string_bytes text.new ≡ string_bytes text.old ++ (codes "left " ++ name_at server.now.decls interface method)) }
+    ensures { OnOk result (string_bytes text.new
+        ≡ string_bytes text.old ++ (codes "left " ++ name_at server.now.decls interface method)) }
 {
     let name = name_at(server, interface, method);
     write!(text, "left {name}")?;
@@ -70,7 +73,8 @@ fn push_called(
     text: &mut String,
 ) -> Result<(), OutOfMemory>
     ensures { OnOk result (string_bytes text.new ≡ string_bytes text.old
-        ++ (codes "called " ++ name_at server.now.decls interface method ++ codes " " ++ values_text (views saw.now))) }
+        ++ (codes "called " ++ name_at server.now.decls interface method
+        ++ codes " " ++ values_text (views saw.now))) }
 {
     let name = name_at(server, interface, method);
     write!(text, "called {name} ")?;
@@ -78,7 +82,8 @@ fn push_called(
 }
 
 fn push_client(alloc: Global, got: &Got, text: &mut String) -> Result<(), OutOfMemory>
-    ensures { OnOk result (string_bytes text.new ≡ string_bytes text.old ++ client_text (got_of got.now)) }
+    ensures { OnOk result (string_bytes text.new
+        ≡ string_bytes text.old ++ client_text (got_of got.now)) }
 {
     match got {
         Got::Returned { result, outs } => push_returned(alloc, result, outs.as_slice(), text),
@@ -94,7 +99,8 @@ fn push_returned(
     text: &mut String,
 ) -> Result<(), OutOfMemory>
     ensures { OnOk result (string_bytes text.new ≡ string_bytes text.old
-        ++ (codes "returned " ++ result_text (optional_view value.now) ++ codes " " ++ values_text (views outs.now))) }
+        ++ (codes "returned " ++ result_text (optional_view value.now)
+        ++ codes " " ++ values_text (views outs.now))) }
 {
     text.push_str("returned ")?;
     push_result(alloc, value, text)?;
@@ -103,7 +109,8 @@ fn push_returned(
 }
 
 fn push_result(alloc: Global, value: &Option<Value>, text: &mut String) -> Result<(), OutOfMemory>
-    ensures { OnOk result (string_bytes text.new ≡ string_bytes text.old ++ result_text (optional_view value.now)) }
+    ensures { OnOk result (string_bytes text.new
+        ≡ string_bytes text.old ++ result_text (optional_view value.now)) }
 {
     match value {
         Some(value) => push_value(alloc, value, text),

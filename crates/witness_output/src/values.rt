@@ -15,7 +15,8 @@ use std::fmt::Write;
 
 /// Adds values as a list in `[` and `]` (own). Memory may be wanted.
 pub fn push_values(alloc: Global, values: &[Value], text: &mut String) -> Result<(), OutOfMemory>
-    ensures { OnOk result (string_bytes text.new ≡ string_bytes text.old ++ values_text (views values.now)) }
+    ensures { OnOk result (string_bytes text.new
+        ≡ string_bytes text.old ++ values_text (views values.now)) }
 {
     push_sequence(alloc, values, text)
 }
@@ -24,7 +25,8 @@ pub fn push_values(alloc: Global, values: &[Value], text: &mut String) -> Result
 /// `}`, an alternative as `<TAG:VALUE>`, parts joined by commas (own). Memory may be wanted.
 #[cycle(showing)]
 pub fn push_value(alloc: Global, value: &Value, text: &mut String) -> Result<(), OutOfMemory>
-    ensures { OnOk result (string_bytes text.new ≡ string_bytes text.old ++ value_text (view value.now)) }
+    ensures { OnOk result (string_bytes text.new
+        ≡ string_bytes text.old ++ value_text (view value.now)) }
 {
     match value {
         Value::Null => push_null(text),
@@ -77,7 +79,8 @@ fn push_quoted(alloc: Global, string: &str, text: &mut String) -> Result<(), Out
 // Adds values as a sequence.
 #[cycle(showing)]
 fn push_sequence(alloc: Global, values: &[Value], text: &mut String) -> Result<(), OutOfMemory>
-    ensures { OnOk result (string_bytes text.new ≡ string_bytes text.old ++ value_text (seq (views values.now))) }
+    ensures { OnOk result (string_bytes text.new
+        ≡ string_bytes text.old ++ value_text (seq (views values.now))) }
 {
     text.push_str("[")?;
     push_parts(alloc, values, text)?;
@@ -87,7 +90,8 @@ fn push_sequence(alloc: Global, values: &[Value], text: &mut String) -> Result<(
 
 // The same of truth values.
 fn push_truths(truths: &[bool], text: &mut String) -> Result<(), OutOfMemory>
-    ensures { OnOk result (string_bytes text.new ≡ string_bytes text.old ++ value_text (seq (items_of (map truth truths.now)))) }
+    ensures { OnOk result (string_bytes text.new
+        ≡ string_bytes text.old ++ value_text (seq (items_of (map truth truths.now)))) }
 {
     text.push_str("[")?;
     push_truth_parts(truths, text)?;
@@ -97,7 +101,8 @@ fn push_truths(truths: &[bool], text: &mut String) -> Result<(), OutOfMemory>
 
 // The same of numbers.
 fn push_numbers(numbers: &Numbers, text: &mut String) -> Result<(), OutOfMemory>
-    ensures { OnOk result (string_bytes text.new ≡ string_bytes text.old ++ value_text (seq (items_of (map number numbers.now)))) }
+    ensures { OnOk result (string_bytes text.new
+        ≡ string_bytes text.old ++ value_text (seq (items_of (map number numbers.now)))) }
 {
     text.push_str("[")?;
     push_number_parts(numbers, text)?;
@@ -111,7 +116,8 @@ fn push_record(
     values: &FieldValues<'_>,
     text: &mut String,
 ) -> Result<(), OutOfMemory>
-    ensures { OnOk result (string_bytes text.new ≡ string_bytes text.old ++ value_text (rec (views values.now))) }
+    ensures { OnOk result (string_bytes text.new
+        ≡ string_bytes text.old ++ value_text (rec (views values.now))) }
 {
     text.push_str("{")?;
     let mut later = false;
@@ -131,7 +137,8 @@ fn push_alternative(
     value: &Value,
     text: &mut String,
 ) -> Result<(), OutOfMemory>
-    ensures { OnOk result (string_bytes text.new ≡ string_bytes text.old ++ value_text (alt tag (view value.now))) }
+    ensures { OnOk result (string_bytes text.new
+        ≡ string_bytes text.old ++ value_text (alt tag (view value.now))) }
 {
     push_tag(tag, text)?;
     push_value(alloc, value, text)?;
@@ -140,7 +147,8 @@ fn push_alternative(
 }
 
 fn push_tag(tag: u32, text: &mut String) -> Result<(), OutOfMemory>
-    ensures { OnOk result (string_bytes text.new ≡ string_bytes text.old ++ (codes "<" ++ decimal tag ++ codes ":")) }
+    ensures { OnOk result (string_bytes text.new
+        ≡ string_bytes text.old ++ (codes "<" ++ decimal tag ++ codes ":")) }
 {
     write!(text, "<{tag}:")?;
     Ok(())
@@ -149,7 +157,8 @@ fn push_tag(tag: u32, text: &mut String) -> Result<(), OutOfMemory>
 // Adds values, joined by commas.
 #[cycle(showing)]
 fn push_parts(alloc: Global, values: &[Value], text: &mut String) -> Result<(), OutOfMemory>
-    ensures { OnOk result (string_bytes text.new ≡ string_bytes text.old ++ parts_text false (views values.now)) }
+    ensures { OnOk result (string_bytes text.new
+        ≡ string_bytes text.old ++ parts_text false (views values.now)) }
 {
     let mut later = false;
     for value in values {
@@ -162,7 +171,8 @@ fn push_parts(alloc: Global, values: &[Value], text: &mut String) -> Result<(), 
 
 // The same of truth values.
 fn push_truth_parts(truths: &[bool], text: &mut String) -> Result<(), OutOfMemory>
-    ensures { OnOk result (string_bytes text.new ≡ string_bytes text.old ++ parts_text false (items_of (map truth truths.now))) }
+    ensures { OnOk result (string_bytes text.new
+        ≡ string_bytes text.old ++ parts_text false (items_of (map truth truths.now))) }
 {
     let mut later = false;
     for b in truths {
@@ -175,7 +185,8 @@ fn push_truth_parts(truths: &[bool], text: &mut String) -> Result<(), OutOfMemor
 
 // The same of numbers.
 fn push_number_parts(numbers: &Numbers, text: &mut String) -> Result<(), OutOfMemory>
-    ensures { OnOk result (string_bytes text.new ≡ string_bytes text.old ++ parts_text false (items_of (map number numbers.now))) }
+    ensures { OnOk result (string_bytes text.new
+        ≡ string_bytes text.old ++ parts_text false (items_of (map number numbers.now))) }
 {
     let mut later = false;
     for i in 0..numbers.len() {

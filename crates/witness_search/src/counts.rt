@@ -29,7 +29,8 @@ pub fn asked_c6(
     before: &Spot<'_>,
     after: &Spot<'_>,
 ) -> Result<Option<Calls>, OutOfMemory>
-    ensures { IfOk result (λ calls. option_map calls_seen calls ≡ asked_C6 (spot_seen before.now) (spot_seen after.now)) }
+    ensures { IfOk result (λ calls. option_map calls_seen calls
+        ≡ asked_C6 (spot_seen before.now) (spot_seen after.now)) }
 {
     let args = before.method.args.as_slice();
     if !is_met(args, after.method.args.as_slice()) {
@@ -69,7 +70,8 @@ pub fn asked_c6_at(
     before: &Spot<'_>,
     after: &Spot<'_>,
 ) -> Result<Option<Calls>, OutOfMemory>
-    ensures { IfOk result (λ calls. option_map calls_seen calls ≡ of_only asked_C6_at (spot_seen before.now) (spot_seen after.now)) }
+    ensures { IfOk result (λ calls. option_map calls_seen calls
+        ≡ of_only asked_C6_at (spot_seen before.now) (spot_seen after.now)) }
 {
     match both_only(before, after) {
         Some((a, b)) if is_plain_in(a) && is_plain_in(b) => {
@@ -82,7 +84,8 @@ pub fn asked_c6_at(
 
 /// The one argument of each, where their ids are the same. It takes no memory.
 pub fn both_only<'a>(before: &Spot<'a>, after: &Spot<'a>) -> Option<(&'a Arg, &'a Arg)>
-    ensures { option_map (λ q. (q.0.now, q.1.now)) result ≡ both_only (spot_seen before.now) (spot_seen after.now) }
+    ensures { option_map (λ q. (q.0.now, q.1.now)) result
+        ≡ both_only (spot_seen before.now) (spot_seen after.now) }
 {
     if before.method.id != after.method.id {
         return None;
@@ -113,7 +116,8 @@ pub fn one_value(alloc: Global, value: Value) -> Result<Row<Value>, OutOfMemory>
 
 /// A request from the old version. It takes no memory.
 pub fn request_with(client: &Spot<'_>, args: Row<Value>) -> Call
-    ensures { call_seen result ≡ request false client.now.interface client.now.position (views args) }
+    ensures { call_seen result
+        ≡ request false client.now.interface client.now.position (views args) }
 {
     Call::Request {
         back: false,

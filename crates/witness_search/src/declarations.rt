@@ -36,7 +36,8 @@ pub fn declaration_groups<'a>(
     place: &Text,
 ) -> Result<Option<Groups<'a>>, OutOfMemory>
     requires { AreReachTables old.now.decls new.now.decls tables.now }
-    ensures { IfOk result (λ groups. option_map groups_seen groups ≡ declaration_row row old.now.decls new.now.decls place.now) }
+    ensures { IfOk result (λ groups. option_map groups_seen groups
+        ≡ declaration_row row old.now.decls new.now.decls place.now) }
 {
     let Some(k) = declared(old, place) else {
         return Ok(None);
@@ -113,7 +114,8 @@ pub fn one_group<'a>(
     methods: &'a [Reach],
     value: Value,
 ) -> Result<Option<Groups<'a>>, OutOfMemory>
-    ensures { IfOk result (λ groups. option_map groups_seen groups ≡ Some (asks back (map method_seen methods.now) (view value ∷ []))) }
+    ensures { IfOk result (λ groups. option_map groups_seen groups
+        ≡ Some (asks back (map method_seen methods.now) (view value ∷ []))) }
 {
     let first = Group {
         back,

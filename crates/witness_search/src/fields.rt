@@ -90,7 +90,8 @@ pub fn with_value(
     position: usize,
     fields: &[Field],
 ) -> Result<Row<Value>, OutOfMemory>
-    ensures { IfOk result (λ values. views values ≡ reaching.with_value schema.now.decls high position fields.now) }
+    ensures { IfOk result (λ values. views values
+        ≡ reaching.with_value schema.now.decls high position fields.now) }
 {
     let mut values = Vec::with_capacity(alloc, fields.len())?;
     for i in 0..fields.len() {

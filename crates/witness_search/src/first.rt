@@ -97,7 +97,8 @@ fn first_of_methods(
     methods: &[Reach],
     values: &[Value],
 ) -> Result<Option<Witness>, OutOfMemory>
-    ensures { IfOk result (λ found. IsFirst old.now new.now (flat_map (requests_of back values.now) methods.now) found) }
+    ensures { IfOk result (λ found.
+        IsFirst old.now new.now (flat_map (requests_of back values.now) methods.now) found) }
 {
     for reach in methods {
         if let Some(found) = first_of_method(alloc, old, new, back, reach, values)? {
@@ -116,7 +117,8 @@ fn first_of_method(
     reach: &Reach,
     values: &[Value],
 ) -> Result<Option<Witness>, OutOfMemory>
-    ensures { IfOk result (λ found. IsFirst old.now new.now (requests_of back values.now reach.now) found) }
+    ensures { IfOk result (λ found.
+        IsFirst old.now new.now (requests_of back values.now reach.now) found) }
 {
     for value in values {
         if let Some(found) = try_request(alloc, old, new, back, reach, value)? {
@@ -135,7 +137,8 @@ fn try_request(
     reach: &Reach,
     value: &Value,
 ) -> Result<Option<Witness>, OutOfMemory>
-    ensures { IfOk result (λ found. IsFirst old.now new.now (request_of back reach.now value.now ∷ []) found) }
+    ensures { IfOk result (λ found.
+        IsFirst old.now new.now (request_of back reach.now value.now ∷ []) found) }
 {
     let call = request_of(alloc, back, reach, value)?;
     try_one(alloc, old, new, call)

@@ -37,7 +37,8 @@ pub fn calls_at(
     new: &Version<'_>,
     place: &Text,
 ) -> Result<Option<Calls>, OutOfMemory>
-    ensures { IfOk result (λ calls. option_map calls_seen calls ≡ calls_row row old.now new.now place.now) }
+    ensures { IfOk result (λ calls. option_map calls_seen calls
+        ≡ calls_row row old.now new.now place.now) }
 {
     let text = place.as_str();
     match row {
@@ -122,7 +123,8 @@ fn asked(
     before: &Spot<'_>,
     after: &Spot<'_>,
 ) -> Result<Option<Calls>, OutOfMemory>
-    ensures { IfOk result (λ calls. option_map calls_seen calls ≡ asked row old.now new.now (spot_seen before.now) (spot_seen after.now)) }
+    ensures { IfOk result (λ calls. option_map calls_seen calls
+        ≡ asked row old.now new.now (spot_seen before.now) (spot_seen after.now)) }
 {
     match row {
         MethodRow::C4 => Ok(asked_c4(alloc, before, after)),

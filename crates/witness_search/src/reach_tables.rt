@@ -57,7 +57,8 @@ impl ReachTables {
 
     /// Whether all alternatives of a union of old and of one of new are plain. It takes no memory.
     pub fn are_plain(&self, k: u32, l: u32) -> bool
-        ensures { result ≡ (plain_at self.now.plain_olds.items k && plain_at self.now.plain_news.items l) }
+        ensures { result
+            ≡ (plain_at self.now.plain_olds.items k && plain_at self.now.plain_news.items l) }
     {
         plain_at(self.plain_olds.as_slice(), k) && plain_at(self.plain_news.as_slice(), l)
     }

@@ -54,7 +54,8 @@ fn add_all(
     server: &Version<'_>,
     rows: &mut [Row<Reach>],
 ) -> Result<(), OutOfMemory>
-    ensures { OnOk result (AreAdded (λ k. meant.methods_reaching client.now k server.now) rows.old rows.new) }
+    ensures { OnOk result (AreAdded
+        (λ k. meant.methods_reaching client.now k server.now) rows.old rows.new) }
 {
     let schema = client.schema();
     law_valid(schema);
@@ -73,7 +74,8 @@ fn add_reaching(
     interface: u32,
     rows: &mut [Row<Reach>],
 ) -> Result<(), OutOfMemory>
-    ensures { OnOk result (AreAdded (λ k. reached_in client.now k server.now interface) rows.old rows.new) }
+    ensures { OnOk result (AreAdded
+        (λ k. reached_in client.now k server.now interface) rows.old rows.new) }
 {
     let ends = Ends {
         client,
@@ -93,7 +95,8 @@ fn add_methods(
     requires named { IsNamed ends.now }
     requires few { length methods.now ≤ 4096 }
     ensures { OnOk result (AreAdded
-        (λ k. reached_from 0 (λ v. meant.reaches ends.now.client.now k ends.now.server.now ends.now.interface v)
+        (λ k. reached_from 0
+        (λ v. meant.reaches ends.now.client.now k ends.now.server.now ends.now.interface v)
         ends.now.interface methods.now)
         rows.old rows.new) }
 {
@@ -172,7 +175,8 @@ fn number_if(is_met: bool, number: u32) -> Option<u32>
 // Whether a method reaches the declaration: the server has it by names with the same id, and it has this one argument in both.
 fn reaches(ends: &Ends<'_>, number: u32, method: &Method) -> bool
     requires { IsNamed ends.now }
-    ensures { result ≡ meant.reaches ends.now.client.now number ends.now.server.now ends.now.interface method.now }
+    ensures { result ≡ meant.reaches ends.now.client.now number
+        ends.now.server.now ends.now.interface method.now }
 {
     match spot_there(ends, method) {
         Some(spot) => is_same(ends, number, method, spot.method),
@@ -195,7 +199,8 @@ fn spot_there<'a>(ends: &Ends<'a>, method: &Method) -> Option<Spot<'a>>
 // The same id, and this one argument in both.
 fn is_same(ends: &Ends<'_>, number: u32, v: &Method, w: &Method) -> bool
     ensures { result ≡ ((v.now.id == w.now.id)
-        && meant.both_take ends.now.client.now number ends.now.server.now (only v.now.args) (only w.now.args)) }
+        && meant.both_take ends.now.client.now number ends.now.server.now
+        (only v.now.args) (only w.now.args)) }
 {
     v.id == w.id
         && both_take(
@@ -207,7 +212,8 @@ fn is_same(ends: &Ends<'_>, number: u32, v: &Method, w: &Method) -> bool
 }
 
 fn both_take(ends: &Ends<'_>, number: u32, a: Option<&Arg>, b: Option<&Arg>) -> bool
-    ensures { result ≡ meant.both_take ends.now.client.now number ends.now.server.now (option_copied a.entry) (option_copied b.entry) }
+    ensures { result ≡ meant.both_take ends.now.client.now number ends.now.server.now
+        (option_copied a.entry) (option_copied b.entry) }
 {
     match a {
         Some(a) => match b {

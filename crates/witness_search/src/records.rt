@@ -46,7 +46,8 @@ pub fn field_groups<'a>(
     place: &Text,
 ) -> Result<Option<Groups<'a>>, OutOfMemory>
     requires { AreReachTables old.now new.now tables.now }
-    ensures { IfOk result (λ groups. option_map groups_seen groups ≡ steps.field_row row old.now new.now place.now) }
+    ensures { IfOk result (λ groups. option_map groups_seen groups
+        ≡ steps.field_row row old.now new.now place.now) }
 {
     groups_named(alloc, row, old, new, tables, place.as_str())
 }
@@ -62,7 +63,8 @@ fn groups_named<'a>(
     place: &str,
 ) -> Result<Option<Groups<'a>>, OutOfMemory>
     requires { AreReachTables old.now new.now tables.now }
-    ensures { IfOk result (λ groups. option_map groups_seen groups ≡ steps.field_row_named row old.now new.now place.now) }
+    ensures { IfOk result (λ groups. option_map groups_seen groups
+        ≡ steps.field_row_named row old.now new.now place.now) }
 {
     let Some((name, field)) = at_last_dot(place) else {
         return Ok(None);
@@ -122,7 +124,8 @@ fn asked_c10<'a>(
 ) -> Result<Option<Groups<'a>>, OutOfMemory>
     requires { AreReached both.now }
     ensures { IfOk result (λ groups. option_map groups_seen groups
-        ≡ steps.asked_C10 both.now.old.now.decls both.now.k both.now.new.now.decls both.now.l position) }
+        ≡ steps.asked_C10 both.now.old.now.decls both.now.k
+        both.now.new.now.decls both.now.l position) }
 {
     let olds = fields_in(both.old, both.k);
     let news = fields_in(both.new, both.l);
@@ -159,7 +162,8 @@ fn asked_c11<'a>(
     requires reached { AreReached both.now }
     requires there { position < length (rows.fields_in both.now.old.now.decls both.now.k) }
     ensures { IfOk result (λ groups. option_map groups_seen groups
-        ≡ steps.asked_C11 both.now.old.now.decls both.now.k both.now.new.now.decls both.now.l position) }
+        ≡ steps.asked_C11 both.now.old.now.decls both.now.k
+        both.now.new.now.decls both.now.l position) }
 {
     let olds = fields_in(both.old, both.k);
     let news = fields_in(both.new, both.l);
@@ -186,9 +190,11 @@ fn asked_c11<'a>(
 #[tactic(auto, using(crate::proofs::RecordParts::not_last, crate::proofs::RecordParts::at_last))]
 fn is_met_c11(both: &Both<'_, '_, '_>, position: usize, olds: &[Field], news: &[Field]) -> bool
     requires { position < length olds.now }
-    ensures { result ≡ ((are_plain olds.now && are_plain news.now) && (rows.names_agree olds.now news.now
+    ensures { result ≡ ((are_plain olds.now && are_plain news.now)
+        && (rows.names_agree olds.now news.now
         && (rows.is_last position olds.now
-        && rows.types_agree both.now.old.now.decls (take position olds.now) both.now.new.now.decls news.now))) }
+        && rows.types_agree both.now.old.now.decls (take position olds.now)
+        both.now.new.now.decls news.now))) }
 {
     if position + 1 != olds.len() {
         return false;
@@ -204,7 +210,8 @@ fn low_record(
     position: usize,
     fields: &[Field],
 ) -> Result<Row<Value>, OutOfMemory>
-    ensures { IfOk result (λ values. map view values ≡ rec (with_value schema.now.decls false position fields.now) ∷ []) }
+    ensures { IfOk result (λ values. map view values
+        ≡ rec (with_value schema.now.decls false position fields.now) ∷ []) }
 {
     let record = with_value(alloc, schema, false, position, fields)?;
     one_value(alloc, Value::Rec(record))
@@ -222,7 +229,8 @@ fn asked_c15<'a>(
         && are_plain (rows.alternatives_in both.now.new.now.decls both.now.l)) }
     requires there { position < length (rows.alternatives_in both.now.old.now.decls both.now.k) }
     ensures { IfOk result (λ groups. option_map groups_seen groups
-        ≡ steps.asked_C15 both.now.old.now.decls both.now.k both.now.new.now.decls both.now.l position) }
+        ≡ steps.asked_C15 both.now.old.now.decls both.now.k
+        both.now.new.now.decls both.now.l position) }
 {
     if is_none_of(both.forth) || !(plain && differ_there(both, position)) {
         return Ok(None);
@@ -239,7 +247,8 @@ fn low_alternative(
     position: usize,
 ) -> Result<Value, OutOfMemory>
     requires { position < length (rows.alternatives_in schema.now.decls number) }
-    ensures { IfOk result (λ value. view value ≡ rows.low_alternative position (rows.alternatives_in schema.now.decls number)) }
+    ensures { IfOk result (λ value. view value
+        ≡ rows.low_alternative position (rows.alternatives_in schema.now.decls number)) }
 {
     let tag = small_position(schema, number, position);
     let base = base_at(alternatives_in(schema, number), position);
@@ -269,8 +278,8 @@ fn differ_there(both: &Both<'_, '_, '_>, position: usize) -> bool
 }
 
 fn differ_at(both: &Both<'_, '_, '_>, before: Option<&Field>, after: Option<&Field>) -> bool
-    ensures { result
-        ≡ rows.differ_at both.now.old.now.decls both.now.new.now.decls (option_copied before.entry) (option_copied after.entry) }
+    ensures { result ≡ rows.differ_at both.now.old.now.decls both.now.new.now.decls
+        (option_copied before.entry) (option_copied after.entry) }
 {
     match before {
         Some(f) => match after {

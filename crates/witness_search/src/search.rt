@@ -49,7 +49,8 @@ pub fn witness_of(
 // The law of witnesses for the schemas of two sides.
 fn law_of_sides(old: &Version<'_>, new: &Version<'_>, entry: &Broken)
     requires among { Has (broken old.now new.now) (seen entry.now) }
-    ensures { (row : Row) → row_of entry.now.rule ≡ Some row → (cs : List Candidate) → row old.now new.now entry.now.place ≡ Some cs
+    ensures { (row : Row) → row_of entry.now.rule ≡ Some row
+        → (cs : List Candidate) → row old.now new.now entry.now.place ≡ Some cs
         → AreSmall old.now new.now cs → Shows old.now new.now cs }
 {
     let before = old.schema();
@@ -84,7 +85,8 @@ fn of_row(
     place: &Text,
 ) -> Result<Shown, OutOfMemory>
     requires { AreReachTables old.now new.now tables.now }
-    ensures { IfOk result (λ shown. IsOfRow old.now new.now (those_of (table_row row old.now new.now place.now)) shown) }
+    ensures { IfOk result (λ shown.
+        IsOfRow old.now new.now (those_of (table_row row old.now new.now place.now)) shown) }
 {
     match row {
         TableRow::Declaration(row) => {
@@ -110,7 +112,8 @@ fn among_requests(
     new: &Version<'_>,
     groups: Option<Groups<'_>>,
 ) -> Result<Shown, OutOfMemory>
-    ensures { IfOk result (λ shown. IsOfRow old.now new.now (those_of (option_map groups_seen groups.entry)) shown) }
+    ensures { IfOk result (λ shown.
+        IsOfRow old.now new.now (those_of (option_map groups_seen groups.entry)) shown) }
 {
     match groups {
         Some(groups) => Ok(or_reason(first_request(alloc, old, new, &groups)?)),
@@ -124,7 +127,8 @@ fn among_calls(
     new: &Version<'_>,
     calls: Option<Calls>,
 ) -> Result<Shown, OutOfMemory>
-    ensures { IfOk result (λ shown. IsOfRow old.now new.now (those_of (option_map calls_seen calls)) shown) }
+    ensures { IfOk result (λ shown.
+        IsOfRow old.now new.now (those_of (option_map calls_seen calls)) shown) }
 {
     match calls {
         Some(calls) => Ok(or_reason(first_call(alloc, old, new, calls)?)),

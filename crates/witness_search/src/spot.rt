@@ -24,7 +24,8 @@ pub struct Spot<'a> {
 
 /// The method that a place names. It takes no memory.
 pub fn spot_of<'a>(version: &Version<'a>, place: &str) -> Option<Spot<'a>>
-    ensures { (p : List ℕ) → place.now ≡ encode_utf8_all p → option_map spot_seen result ≡ spot_of version.now p }
+    ensures { (p : List ℕ) → place.now ≡ encode_utf8_all p
+        → option_map spot_seen result ≡ spot_of version.now p }
 {
     spot_named(version, place)
 }
@@ -53,7 +54,8 @@ pub fn spot_like<'a>(
     method: &Method,
     server: &Version<'a>,
 ) -> Result<Option<Spot<'a>>, OutOfMemory>
-    ensures { IfOk result (λ spot. option_map spot_seen spot ≡ spot_like client.now interface method.now server.now) }
+    ensures { IfOk result (λ spot. option_map spot_seen spot
+        ≡ spot_like client.now interface method.now server.now) }
 {
     match declared_like(alloc, client, interface, server)? {
         Some(number) => Ok(spot_in(server, number, method)),

@@ -39,7 +39,8 @@ pub fn c3_calls(
 }
 
 fn asked_c3(alloc: Global, spot: &Spot<'_>, new: &Version<'_>, interface: u32) -> Option<Calls>
-    ensures { option_map calls_seen result ≡ asked_C3 (spot_seen spot.now) (methods_at new.now interface) }
+    ensures { option_map calls_seen result
+        ≡ asked_C3 (spot_seen spot.now) (methods_at new.now interface) }
 {
     if is_empty(spot.method.args.as_slice()) && has_id(new, interface, spot.method.id) {
         Some(one_call(bare_request(alloc, spot)))
@@ -50,7 +51,8 @@ fn asked_c3(alloc: Global, spot: &Spot<'_>, new: &Version<'_>, interface: u32) -
 
 // Whether a method of an interface has an id.
 fn has_id(version: &Version<'_>, interface: u32, id: u32) -> bool
-    ensures { result ≡ not (is_none (position_of_code (methods_at version.now interface) (id + 1))) }
+    ensures { result
+        ≡ not (is_none (position_of_code (methods_at version.now interface) (id + 1))) }
 {
     match version.method_of_id(interface, id) {
         Some(_) => true,

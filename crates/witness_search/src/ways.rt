@@ -34,7 +34,8 @@ pub fn asked_c7(
     after: &Spot<'_>,
 ) -> Result<Option<Calls>, OutOfMemory>
     ensures { IfOk result (λ calls. option_map calls_seen calls
-        ≡ of_only (asked_C7 old.now.decls new.now.decls) (spot_seen before.now) (spot_seen after.now)) }
+        ≡ of_only (asked_C7 old.now.decls new.now.decls)
+        (spot_seen before.now) (spot_seen after.now)) }
 {
     match both_only(before, after) {
         Some(args) if is_met(old, new, before, after, args) => {
@@ -53,7 +54,8 @@ fn is_met(
     after: &Spot<'_>,
     args: (&Arg, &Arg),
 ) -> bool
-    ensures { result ≡ is_met_C7 old.now.decls new.now.decls (spot_seen before.now) (spot_seen after.now)
+    ensures { result
+        ≡ is_met_C7 old.now.decls new.now.decls (spot_seen before.now) (spot_seen after.now)
         args.entry.0.now args.entry.1.now }
 {
     (same_type(old, args.0.ty, new, args.1.ty) && is_sent_back(old, args.0.ty, new, args.1.ty))
@@ -90,7 +92,8 @@ fn ask(
     after: &Spot<'_>,
     args: (&Arg, &Arg),
 ) -> Result<Call, OutOfMemory>
-    requires { is_met_C7 old.now.decls new.now.decls (spot_seen before.now) (spot_seen after.now) args.0.now args.1.now ≡ true }
+    requires { is_met_C7 old.now.decls new.now.decls (spot_seen before.now) (spot_seen after.now)
+        args.0.now args.1.now ≡ true }
     ensures { IfOk result (λ call. call_seen call ∷ []
         ≡ ask_C7 old.now.decls new.now.decls (spot_seen before.now) (spot_seen after.now)
         args.entry.0.now args.entry.1.now) }
@@ -110,7 +113,8 @@ fn ask(
 
 // What can be sent back is a type of both schemas.
 fn law_types(old: &Schema, new: &Schema, before: &Spot<'_>, after: &Spot<'_>, args: (&Arg, &Arg))
-    requires { is_met_C7 old.now.decls new.now.decls (spot_seen before.now) (spot_seen after.now) args.0.now args.1.now ≡ true }
+    requires { is_met_C7 old.now.decls new.now.decls (spot_seen before.now) (spot_seen after.now)
+        args.0.now args.1.now ≡ true }
     ensures before { is_type old.now.decls args.entry.0.now.ty ≡ true }
     ensures after { is_type new.now.decls args.entry.1.now.ty ≡ true }
 {}
@@ -131,7 +135,8 @@ fn default_reply(
 ) -> Result<Call, OutOfMemory>
     requires { is_type server.now.decls ty ≡ true }
     ensures { IfOk result (λ call. call_seen call
-        ≡ reply back client.now.interface client.now.position (Some (returned None (item (zero_in server.now.decls ty) none)))) }
+        ≡ reply back client.now.interface client.now.position
+        (Some (returned None (item (zero_in server.now.decls ty) none)))) }
 {
     let value = default_of(alloc, server, &ty)?;
     let outs = one_value(alloc, value)?;
@@ -153,7 +158,8 @@ fn default_request(
 ) -> Result<Call, OutOfMemory>
     requires { is_type schema.now.decls ty ≡ true }
     ensures { IfOk result (λ call. call_seen call
-        ≡ request back client.now.interface client.now.position (item (sent_in_out schema.now.decls ty) none)) }
+        ≡ request back client.now.interface client.now.position
+        (item (sent_in_out schema.now.decls ty) none)) }
 {
     let value = sent_in_out(alloc, schema, ty)?;
     Ok(Call::Request {
