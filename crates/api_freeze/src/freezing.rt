@@ -41,12 +41,16 @@ pub fn freeze<S: Store>(
     store: &mut S,
     api: &str,
 ) -> Result<Frozen, FreezeFault>
-    ensures told { Tells (S.kept store.old) (λ files. FreezesAt api.now (versions_at files api.now) schema.now.decls (Some files) (S.kept store.new) result) }
-    ensures chains { Tells (S.kept store.old) (λ files. IfOk result (λ frozen. FollowsEachAt (versions_at files api.now) schema.now.decls)) }
+    ensures told { Tells (S.kept store.old) (λ files.
+        FreezesAt api.now (versions_at files api.now) schema.now.decls
+        (Some files) (S.kept store.new) result) }
+    ensures chains { Tells (S.kept store.old) (λ files. IfOk result (λ frozen.
+        FollowsEachAt (versions_at files api.now) schema.now.decls)) }
     ensures untold { S.kept store.old ≡ None → S.kept store.new ≡ None }
     ensures read { IfErr result IsRead }
     ensures cause { Cause (S.fault_record store.old) (S.fault_record store.new) result }
-    ensures failed { FailedCall (AsksVersions api.now (S.kept store.old)) (S.fault_record store.new) result }
+    ensures failed { FailedCall (AsksVersions api.now (S.kept store.old))
+        (S.fault_record store.new) result }
 {
     match versions(alloc, store, api) {
         Ok(versions) => freeze_next(alloc, schema, store, api, versions),
@@ -62,7 +66,8 @@ fn freeze_next<S: Store>(
     api: &str,
     versions: Row<Version>,
 ) -> Result<Frozen, FreezeFault>
-    ensures answer { Freezes api.now versions schema.now.decls (S.kept store.old) (S.kept store.new) result }
+    ensures answer { Freezes api.now versions schema.now.decls
+        (S.kept store.old) (S.kept store.new) result }
     ensures read { IfErr result IsRead }
     ensures cause { Cause (S.fault_record store.old) (S.fault_record store.new) result }
     ensures failed { FailedCall (AsksNothing None) (S.fault_record store.new) result }
@@ -83,7 +88,8 @@ fn write_next<S: Store>(
     ensures version { IfOk result (λ frozen. frozen.version ≡ next.number) }
     ensures hash { IfOk result (λ frozen. frozen.hash ≡ hash_digits next.files next.number) }
     ensures late { IfErr result IsLate }
-    ensures wrote { Left (version_writes api.now next.number next.files) (S.kept store.old) (S.kept store.new) result }
+    ensures wrote { Left (version_writes api.now next.number next.files)
+        (S.kept store.old) (S.kept store.new) result }
     ensures cause { Cause (S.fault_record store.old) (S.fault_record store.new) result }
     ensures failed { FailedCall (AsksNothing None) (S.fault_record store.new) result }
 {
@@ -106,7 +112,8 @@ struct Due {
 fn due_of(alloc: Global, api: &str, next: Next) -> Result<Due, OutOfMemory>
     ensures version { IfOk result (λ due. due.frozen.version ≡ next.number) }
     ensures hash { IfOk result (λ due. due.frozen.hash ≡ hash_digits next.files next.number) }
-    ensures writes { IfOk result (λ due. map write_seen due.writes.items ≡ version_writes api.now next.number next.files) }
+    ensures writes { IfOk result (λ due.
+        map write_seen due.writes.items ≡ version_writes api.now next.number next.files) }
 {
     let version = next.number;
     let text = hash_text(alloc, next.files.as_slice(), Recipe::Two(version))?;
@@ -136,7 +143,8 @@ fn file_writes(
     folder: &str,
     files: Row<SourceFile>,
 ) -> Result<Vec<Write>, OutOfMemory>
-    ensures { IfOk result (λ writes. map write_seen writes.items ≡ map (meant.file_write folder.now) files) }
+    ensures { IfOk result (λ writes.
+        map write_seen writes.items ≡ map (meant.file_write folder.now) files) }
 {
     let mut writes = Vec::new(alloc);
     for file in files.into_vec() {

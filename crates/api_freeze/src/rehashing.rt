@@ -23,12 +23,15 @@ use std::alloc::Global;
 /// write, and `WriteFault`.
 #[tactic(auto, using(crate::proofs::Untold::untold_left))]
 pub fn rehash<S: Store>(alloc: Global, store: &mut S, api: &str) -> Result<Row<u32>, FreezeFault>
-    ensures told { Tells (S.kept store.old) (λ files. Gives (meant.rehash_at files api.now) result) }
-    ensures wrote { Tells (S.kept store.old) (λ files. Left (meant.rehash_writes files api.now) (Some files) (S.kept store.new) result) }
+    ensures told { Tells (S.kept store.old) (λ files.
+        Gives (meant.rehash_at files api.now) result) }
+    ensures wrote { Tells (S.kept store.old) (λ files.
+        Left (meant.rehash_writes files api.now) (Some files) (S.kept store.new) result) }
     ensures untold { S.kept store.old ≡ None → S.kept store.new ≡ None }
     ensures refusal { IfErr result meant.IsRehashFault }
     ensures cause { Cause (S.fault_record store.old) (S.fault_record store.new) result }
-    ensures failed { FailedCall (AsksVersions api.now (S.kept store.old)) (S.fault_record store.new) result }
+    ensures failed { FailedCall (AsksVersions api.now (S.kept store.old))
+        (S.fault_record store.new) result }
 {
     match versions(alloc, store, api) {
         Ok(versions) => rehash_all(alloc, api, versions.as_slice(), store),
@@ -46,7 +49,8 @@ fn rehash_all<S: Store>(
 ) -> Result<Row<u32>, FreezeFault>
     ensures defined { Gives (meant.rehash_of versions.now) result }
     ensures refusal { IfErr result meant.IsRehashFault }
-    ensures wrote { Left (meant.whole_writes api.now versions.now) (S.kept store.old) (S.kept store.new) result }
+    ensures wrote { Left (meant.whole_writes api.now versions.now)
+        (S.kept store.old) (S.kept store.new) result }
     ensures cause { Cause (S.fault_record store.old) (S.fault_record store.new) result }
     ensures failed { FailedCall (AsksNothing None) (S.fault_record store.new) result }
 {
@@ -65,7 +69,8 @@ fn rehash_whole<S: Store>(
 ) -> Result<Row<u32>, FreezeFault>
     ensures numbers { IfOk result (λ numbers. numbers ≡ meant.stale_numbers versions.now) }
     ensures late { IfErr result IsLate }
-    ensures wrote { Left (meant.hash_writes api.now versions.now) (S.kept store.old) (S.kept store.new) result }
+    ensures wrote { Left (meant.hash_writes api.now versions.now)
+        (S.kept store.old) (S.kept store.new) result }
     ensures cause { Cause (S.fault_record store.old) (S.fault_record store.new) result }
     ensures failed { FailedCall (AsksNothing None) (S.fault_record store.new) result }
 {
@@ -87,7 +92,8 @@ struct Stale {
 
 fn stale_of(alloc: Global, api: &str, versions: &[Version]) -> Result<Stale, OutOfMemory>
     ensures numbers { IfOk result (λ stale. stale.numbers ≡ meant.stale_numbers versions.now) }
-    ensures writes { IfOk result (λ stale. map write_seen stale.writes.items ≡ meant.hash_writes api.now versions.now) }
+    ensures writes { IfOk result (λ stale.
+        map write_seen stale.writes.items ≡ meant.hash_writes api.now versions.now) }
 {
     let mut stale = Stale {
         numbers: Row::new(alloc),
@@ -105,8 +111,10 @@ fn add_stale(
     version: &Version,
     stale: &mut Stale,
 ) -> Result<(), OutOfMemory>
-    ensures numbers { OnOk result (stale.new.numbers ≡ stale.old.numbers ++ meant.stale_numbers (version.now ∷ [])) }
-    ensures writes { OnOk result (map write_seen stale.new.writes.items ≡ map write_seen stale.old.writes.items ++ meant.hash_writes api.now (version.now ∷ [])) }
+    ensures numbers { OnOk result (stale.new.numbers
+        ≡ stale.old.numbers ++ meant.stale_numbers (version.now ∷ [])) }
+    ensures writes { OnOk result (map write_seen stale.new.writes.items
+        ≡ map write_seen stale.old.writes.items ++ meant.hash_writes api.now (version.now ∷ [])) }
 {
     if is_current(alloc, version)? {
         return Ok(());

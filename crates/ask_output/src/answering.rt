@@ -33,9 +33,11 @@ pub fn answered(
     requires version { IsVersion request.version }
     requires hash { IsHash hash }
     // What the handler saw has the types of the method of the code.
-    ensures seen { IfOk result (λ a. IsSeenBy schema.now.decls request.interface request.code a.saw) }
+    ensures seen { IfOk result (λ a.
+        IsSeenBy schema.now.decls request.interface request.code a.saw) }
     ensures text { IfOk result (λ a. answered_text schema.now.decls request.interface request.code a
-        ≡ asked_text schema.now.decls request.interface request.version hash request.code bytes.now) }
+        ≡ asked_text schema.now.decls request.interface request.version hash
+        request.code bytes.now) }
 {
     law_stub(
         Profile::Strict,
@@ -58,7 +60,10 @@ fn transacted(
 ) -> Result<Answered, OutOfMemory>
     requires version { IsVersion request.version }
     requires hash { IsHash hash }
-    ensures { IfOk result (IsAnswered schema.now.decls request.interface (meta_stub schema.now.decls request.interface request.version hash request.code bytes.now)) }
+    ensures { IfOk result
+        (IsAnswered schema.now.decls request.interface
+        (meta_stub schema.now.decls request.interface request.version hash
+        request.code bytes.now)) }
 {
     let plans = compile(alloc, schema, &[])?;
     let side = Side::new(schema, &plans);

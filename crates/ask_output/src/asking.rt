@@ -33,7 +33,8 @@ pub fn ask_answer(
     requires version { IsVersion asked.version }
     requires hash { IsHash hash }
     ensures { let asked = asked.entry in
-        Gives result (meant.ask_answer schema.now.decls asked.version hash asked.interface.now asked.code bytes.now) }
+        Gives result (meant.ask_answer schema.now.decls asked.version hash
+        asked.interface.now asked.code bytes.now) }
 {
     let interface = interface_found(alloc, schema, asked.interface)?;
     let request = Request {
@@ -58,7 +59,9 @@ fn text_of(
 ) -> Result<String, OutOfMemory>
     requires version { IsVersion request.version }
     requires hash { IsHash hash }
-    ensures { IfOk result (λ text. string_bytes text ≡ meant.asked_text schema.now.decls request.interface request.version hash request.code bytes.now) }
+    ensures { IfOk result (λ text. string_bytes text
+        ≡ meant.asked_text schema.now.decls request.interface request.version hash
+        request.code bytes.now) }
 {
     let answered = answered(alloc, schema, request, hash, bytes)?;
     answered_text(alloc, schema, request.interface, request.code, &answered)

@@ -50,7 +50,8 @@ fn full_name(
     interface: u32,
     method: u32,
 ) -> Result<String, OutOfMemory>
-    ensures { IfOk result (λ name. string_bytes name ≡ step.full_name schema.now.decls interface method) }
+    ensures { IfOk result (λ name.
+        string_bytes name ≡ step.full_name schema.now.decls interface method) }
 {
     let descriptor = descriptor_of(alloc, schema, interface)?;
     let mut name = String::from_str(alloc, descriptor.as_str())?;

@@ -24,7 +24,8 @@ pub fn answered_text(
     answered: &Answered,
 ) -> Result<String, OutOfMemory>
     requires { IsSeenBy schema.now.decls interface code answered.now.saw }
-    ensures { IfOk result (λ text. string_bytes text ≡ answered_text schema.now.decls interface code answered.now) }
+    ensures { IfOk result (λ text.
+        string_bytes text ≡ answered_text schema.now.decls interface code answered.now) }
 {
     let mut text = String::new(alloc);
     let transport = answered.transport;
@@ -47,8 +48,10 @@ fn push_seen(
     text: &mut String,
 ) -> Result<(), OutOfMemory>
     requires { IsSeenBy schema.now.decls interface code saw.now }
-    ensures { OnOk result (string_bytes text.new ≡ string_bytes text.old
-        ++ saw_of schema.now.decls interface (position_of_code (methods_at schema.now.decls interface) code) (option_map views saw.now)) }
+    ensures { OnOk result (string_bytes text.new
+        ≡ string_bytes text.old ++ saw_of schema.now.decls interface
+        (position_of_code (methods_at schema.now.decls interface) code)
+        (option_map views saw.now)) }
 {
     match method_of_code(schema, interface, code) {
         Some(called) => {

@@ -60,7 +60,8 @@ fn no_version(alloc: Global, number: u32) -> Early
 }
 
 fn no_version_line(alloc: Global, number: u32) -> Result<String, OutOfMemory>
-    ensures { IfOk result (λ text. string_bytes text ≡ line (codes "no version " ++ decimal number)) }
+    ensures { IfOk result (λ text.
+        string_bytes text ≡ line (codes "no version " ++ decimal number)) }
 {
     let mut text = String::new(alloc);
     writeln!(text, "no version {number}")?;
@@ -98,7 +99,8 @@ fn digits_of(alloc: Global, kept: &Option<Row<u8>>) -> Result<Text, OutOfMemory>
 
 // The line of a version that isn't whole.
 fn torn(alloc: Global, version: &Version) -> Early
-    ensures { EndsAs result (lines.torn version.now.number version.now.kept (whole.defined version.now)) }
+    ensures { EndsAs result
+        (lines.torn version.now.number version.now.kept (whole.defined version.now)) }
 {
     match defined_of(alloc, version) {
         Ok(defined) => torn_answer(alloc, version.number, &version.kept, &defined),

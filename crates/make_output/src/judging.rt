@@ -15,7 +15,8 @@ use tree_output::judge_lines;
 /// What is printed where the newer schema may not follow the older one: a line for each broken rule, with a negative verdict. None
 /// where it may. Memory may be wanted.
 pub fn judge_made(alloc: Global, old: &Schema, new: &Schema) -> Result<Option<Printed>, OutOfMemory>
-    ensures course { IfOk result (λ p. (calls : Course) → by_breaks (broken old.now.decls new.now.decls) calls ≡ course_by p calls) }
+    ensures course { IfOk result (λ p. (calls : Course)
+        → by_breaks (broken old.now.decls new.now.decls) calls ≡ course_by p calls) }
     ensures follows { IfOk result (λ p. p ≡ None → broken old.now.decls new.now.decls ≡ []) }
 {
     let rows = judge(alloc, old, new)?;

@@ -38,7 +38,8 @@ pub fn run_made<K: Sink, L: Link>(
     link: &mut L,
 ) -> Exit
     ensures { let seen = seen_alone K.told K.fault_record L.log L.is_faithful L.fault_record in
-        RanCourse (make_course old.now.decls new.now.decls calls.now) (seen sink.old link.old) (seen sink.new link.new) (number_of result) }
+        RanCourse (make_course old.now.decls new.now.decls calls.now)
+        (seen sink.old link.old) (seen sink.new link.new) (number_of result) }
 {
     match judge_made(alloc, old, new) {
         Ok(None) => run_calls(alloc, old, new, calls, sink, link),
@@ -57,8 +58,10 @@ fn run_calls<K: Sink, L: Link>(
     link: &mut L,
 ) -> Exit
     requires { broken old.now.decls new.now.decls ≡ [] }
-    ensures { let seen = seen_alone K.told K.fault_record L.log L.is_faithful L.fault_record in let A = old.now.decls in let B = new.now.decls in
-        RanCourse (counted_course B A (λ c. at_once (made A B c)) nothing (lines_of calls.now)) (seen sink.old link.old) (seen sink.new link.new) (number_of result) }
+    ensures { let seen = seen_alone K.told K.fault_record L.log L.is_faithful L.fault_record in
+        let A = old.now.decls in let B = new.now.decls in
+        RanCourse (counted_course B A (λ c. at_once (made A B c)) nothing (lines_of calls.now))
+        (seen sink.old link.old) (seen sink.new link.new) (number_of result) }
 {
     match count_calls(alloc, old, new, calls, link) {
         Ok(tally) => print(alloc, made_answer(alloc, old, new, &tally), sink),
@@ -75,8 +78,10 @@ fn count_calls<L: Link>(
     link: &mut L,
 ) -> Result<Tally, Exit>
     requires { broken old.now.decls new.now.decls ≡ [] }
-    ensures { let seen = with_link L.log L.is_faithful L.fault_record in (others : Seen) (last : Counts → Course)
-        → CountsTo (counted_course new.now.decls old.now.decls last nothing (lines_of calls.now)) last (seen others link.old) (seen others link.new) result }
+    ensures { let seen = with_link L.log L.is_faithful L.fault_record in
+        (others : Seen) (last : Counts → Course)
+        → CountsTo (counted_course new.now.decls old.now.decls last nothing (lines_of calls.now))
+        last (seen others link.old) (seen others link.new) result }
 {
     match both_plans(alloc, new, old) {
         Ok((new_plans, old_plans)) => {
@@ -98,8 +103,10 @@ fn count_lines<L: Link>(
     link: &mut L,
 ) -> Result<Tally, Exit>
     requires { SameWays client.now server.now }
-    ensures { let seen = with_link L.log L.is_faithful L.fault_record in (others : Seen) (last : Counts → Course)
-        → CountsTo (counted_course client.now server.now last nothing (lines_of calls.now)) last (seen others link.old) (seen others link.new) result }
+    ensures { let seen = with_link L.log L.is_faithful L.fault_record in
+        (others : Seen) (last : Counts → Course)
+        → CountsTo (counted_course client.now server.now last nothing (lines_of calls.now))
+        last (seen others link.old) (seen others link.new) result }
 {
     let mut tally = Tally::new();
     let mut rest = calls;
@@ -123,8 +130,12 @@ fn count_line<L: Link>(
 ) -> Result<Tally, Exit>
     requires ways { SameWays client.now server.now }
     requires few { tally.lines < 2 ^ 63 }
-    ensures counts { let seen = with_link L.log L.is_faithful L.fault_record in let A = client.now in let B = server.now in (others : Seen) (next : Counts → Course)
-        → CountsTo (line_course profile.Strict A B (λ carried methods out. next (counted tally carried out)) (script A B line.now)) next (seen others link.old) (seen others link.new) result }
+    ensures counts { let seen = with_link L.log L.is_faithful L.fault_record in
+        let A = client.now in let B = server.now in
+        (others : Seen) (next : Counts → Course)
+        → CountsTo (line_course profile.Strict A B
+        (λ carried methods out. next (counted tally carried out)) (script A B line.now))
+        next (seen others link.old) (seen others link.new) result }
     ensures lines { IfOk result (λ t. t.lines ≡ tally.lines + 1) }
 {
     match run_line(alloc, Profile::Strict, client, server, line, link) {

@@ -34,21 +34,24 @@ pub fn made_answer(
 }
 
 fn push_types(old: usize, new: usize, text: &mut String) -> Result<(), OutOfMemory>
-    ensures { OnOk result (string_bytes text.new ≡ string_bytes text.old ++ meant.types_line old new) }
+    ensures { OnOk result (string_bytes text.new
+        ≡ string_bytes text.old ++ meant.types_line old new) }
 {
     writeln!(text, "types {old} {new}")?;
     Ok(())
 }
 
 fn push_broken(count: usize, text: &mut String) -> Result<(), OutOfMemory>
-    ensures { OnOk result (string_bytes text.new ≡ string_bytes text.old ++ meant.broken_line count) }
+    ensures { OnOk result (string_bytes text.new
+        ≡ string_bytes text.old ++ meant.broken_line count) }
 {
     writeln!(text, "broken {count}")?;
     Ok(())
 }
 
 fn push_lines(tally: &Tally, text: &mut String) -> Result<(), OutOfMemory>
-    ensures { OnOk result (string_bytes text.new ≡ string_bytes text.old ++ meant.lines_line tally.now) }
+    ensures { OnOk result (string_bytes text.new
+        ≡ string_bytes text.old ++ meant.lines_line tally.now) }
 {
     push_counts(
         tally.lines,
@@ -66,7 +69,8 @@ fn push_counts(
     refused: usize,
     text: &mut String,
 ) -> Result<(), OutOfMemory>
-    ensures { OnOk result (string_bytes text.new ≡ string_bytes text.old ++ meant.counts_line lines done transport refused) }
+    ensures { OnOk result (string_bytes text.new
+        ≡ string_bytes text.old ++ meant.counts_line lines done transport refused) }
 {
     writeln!(
         text,
@@ -76,7 +80,8 @@ fn push_counts(
 }
 
 fn push_sent(tally: &Tally, text: &mut String) -> Result<(), OutOfMemory>
-    ensures { OnOk result (string_bytes text.new ≡ string_bytes text.old ++ meant.sent_line tally.now) }
+    ensures { OnOk result (string_bytes text.new
+        ≡ string_bytes text.old ++ meant.sent_line tally.now) }
 {
     let sent = tally.sent;
     writeln!(text, "sent {sent}")?;

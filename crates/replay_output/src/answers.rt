@@ -16,7 +16,8 @@ use stub_dispatch::Answered;
 
 /// Adds the line of a request that isn't read again, with the name of the refusal.
 pub fn push_refused(number: usize, name: &str, out: &mut String) -> Result<(), OutOfMemory>
-    ensures { OnOk result (string_bytes out.new ≡ string_bytes out.old ++ refused_line number name.now) }
+    ensures { OnOk result (string_bytes out.new
+        ≡ string_bytes out.old ++ refused_line number name.now) }
 {
     out.push_str("{\"line\":")?;
     write!(out, "{number},\"refused\":\"{name}\"")?;
@@ -36,7 +37,8 @@ pub fn push_answered(
 ) -> Result<(), OutOfMemory>
     requires there { AreThere schema.now.decls methods }
     requires typed { IsSeenBy schema.now.decls methods answered.now.saw }
-    ensures { OnOk result (string_bytes out.new ≡ string_bytes out.old ++ answered_line schema.now.decls methods number answered.now) }
+    ensures { OnOk result (string_bytes out.new
+        ≡ string_bytes out.old ++ answered_line schema.now.decls methods number answered.now) }
 {
     if answered.transport == 0 {
         push_called(alloc, schema, methods, number, &answered.saw, out)
@@ -46,7 +48,8 @@ pub fn push_answered(
 }
 
 fn push_transport(number: usize, status: i32, out: &mut String) -> Result<(), OutOfMemory>
-    ensures { OnOk result (string_bytes out.new ≡ string_bytes out.old ++ transport_line number status) }
+    ensures { OnOk result (string_bytes out.new
+        ≡ string_bytes out.old ++ transport_line number status) }
 {
     out.push_str("{\"line\":")?;
     write!(out, "{number},\"transport\":{status}")?;
@@ -64,7 +67,9 @@ fn push_called(
 ) -> Result<(), OutOfMemory>
     requires there { AreThere schema.now.decls methods }
     requires typed { IsSeenBy schema.now.decls methods saw.now }
-    ensures { OnOk result (string_bytes out.new ≡ string_bytes out.old ++ called_line number (saw_text schema.now.decls methods (option_map views saw.now))) }
+    ensures { OnOk result (string_bytes out.new
+        ≡ string_bytes out.old ++ called_line number
+        (saw_text schema.now.decls methods (option_map views saw.now))) }
 {
     out.push_str("{\"line\":")?;
     write!(out, "{number},\"saw\":")?;
@@ -83,7 +88,8 @@ fn push_seen(
 ) -> Result<(), OutOfMemory>
     requires there { AreThere schema.now.decls methods }
     requires typed { IsSeenBy schema.now.decls methods saw.now }
-    ensures { OnOk result (string_bytes out.new ≡ string_bytes out.old ++ saw_text schema.now.decls methods (option_map views saw.now)) }
+    ensures { OnOk result (string_bytes out.new
+        ≡ string_bytes out.old ++ saw_text schema.now.decls methods (option_map views saw.now)) }
 {
     match methods {
         Some(methods) => push_saw(alloc, schema, methods, saw, out),

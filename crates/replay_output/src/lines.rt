@@ -22,7 +22,8 @@ pub fn push_line(
     line: &[u8],
     out: &mut String,
 ) -> Result<(), OutOfMemory>
-    ensures { OnOk result (string_bytes out.new ≡ string_bytes out.old ++ replayed_line side.now interface number (traced line.now)) }
+    ensures { OnOk result (string_bytes out.new
+        ≡ string_bytes out.old ++ replayed_line side.now interface number (traced line.now)) }
 {
     let schema = side.schema();
     match replay_line(alloc, schema, side.plans(), interface, line)? {
@@ -40,7 +41,8 @@ pub fn push_line(
 #[tactic(auto, using(crate::proofs::Replayed::method_there))]
 fn recorded_methods(schema: &Schema, interface: u32, line: &[u8]) -> Option<Methods>
     ensures there { AreThere schema.now.decls result }
-    ensures coded { (code : ℕ) (b : List ℕ) → traced line.now ≡ request code b → AreOfCode schema.now.decls interface code result }
+    ensures coded { (code : ℕ) (b : List ℕ) → traced line.now ≡ request code b
+        → AreOfCode schema.now.decls interface code result }
 {
     let code = recorded_code(line)?;
     let method = method_of_code(schema, interface, code)?;

@@ -38,7 +38,8 @@ fn replayed_text(
     interface: u32,
     trace: &[u8],
 ) -> Result<String, OutOfMemory>
-    ensures { IfOk result (λ text. string_bytes text ≡ replayed_text schema.now.decls interface 1 (lines_of trace.now)) }
+    ensures { IfOk result (λ text.
+        string_bytes text ≡ replayed_text schema.now.decls interface 1 (lines_of trace.now)) }
 {
     let plans = compile(alloc, schema, &[])?;
     let side = Side::new(schema, &plans);
@@ -55,7 +56,8 @@ fn push_lines(
     trace: &[u8],
     out: &mut String,
 ) -> Result<(), OutOfMemory>
-    ensures { OnOk result (string_bytes out.new ≡ string_bytes out.old ++ replayed_text side.now interface 1 (lines_of trace.now)) }
+    ensures { OnOk result (string_bytes out.new
+        ≡ string_bytes out.old ++ replayed_text side.now interface 1 (lines_of trace.now)) }
 {
     let mut rest = trace;
     let mut number = 1;

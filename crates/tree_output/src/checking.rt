@@ -54,7 +54,8 @@ fn accepted(alloc: Global, schema: &Schema) -> Result<Printed, Early>
 
 // The line of a number of declarations.
 fn count_line(alloc: Global, count: usize) -> Result<String, OutOfMemory>
-    ensures { IfOk result (λ text. string_bytes text ≡ line (codes "ok " ++ decimal count ++ codes " types")) }
+    ensures { IfOk result (λ text.
+        string_bytes text ≡ line (codes "ok " ++ decimal count ++ codes " types")) }
 {
     let mut text = String::new(alloc);
     writeln!(text, "ok {count} types")?;

@@ -86,7 +86,8 @@ pub fn judge_lines(alloc: Global, rows: &[Broken]) -> Result<String, OutOfMemory
 
 /// Adds the line of a broken evolution rule, `C10 PLACE`.
 pub fn push_break(row: &Broken, text: &mut String) -> Result<(), OutOfMemory>
-    ensures { OnOk result (string_bytes text.new ≡ string_bytes text.old ++ break_line (seen row.now)) }
+    ensures { OnOk result (string_bytes text.new
+        ≡ string_bytes text.old ++ break_line (seen row.now)) }
 {
     let rule = row.rule;
     let place = row.place.as_str();

@@ -18,7 +18,8 @@ pub fn lex_lines(
     files: &[SourceFile],
     rows: &[LexBreach],
 ) -> Result<String, OutOfMemory>
-    ensures { IfOk result (λ text. string_bytes text ≡ flat_map (meant.lex_line root.now files.now) rows.now) }
+    ensures { IfOk result (λ text.
+        string_bytes text ≡ flat_map (meant.lex_line root.now files.now) rows.now) }
 {
     let mut text = String::new(alloc);
     for row in rows {
@@ -34,7 +35,8 @@ fn push_lex(
     row: &LexBreach,
     text: &mut String,
 ) -> Result<(), OutOfMemory>
-    ensures { OnOk result (string_bytes text.new ≡ string_bytes text.old ++ meant.lex_line root.now files.now row.now) }
+    ensures { OnOk result (string_bytes text.new
+        ≡ string_bytes text.old ++ meant.lex_line root.now files.now row.now) }
 {
     match files.get(row.file as usize) {
         Some(file) => push_lex_words(
@@ -58,7 +60,9 @@ fn push_lex_words(
     name: Option<&str>,
     text: &mut String,
 ) -> Result<(), OutOfMemory>
-    ensures { OnOk result (string_bytes text.new ≡ string_bytes text.old ++ meant.lex_words root.now file.now offset number (option_copied name.entry)) }
+    ensures { OnOk result (string_bytes text.new
+        ≡ string_bytes text.old ++ meant.lex_words root.now file.now offset number
+        (option_copied name.entry)) }
 {
     let path = file.path.as_str();
     if let (Some(offset), Some(number), Some(name)) = (offset, number, name) {
@@ -74,7 +78,8 @@ pub fn breach_lines(
     files: &[SourceFile],
     rows: &[Breach],
 ) -> Result<String, OutOfMemory>
-    ensures { IfOk result (λ text. string_bytes text ≡ flat_map (meant.breach_line root.now files.now) rows.now) }
+    ensures { IfOk result (λ text.
+        string_bytes text ≡ flat_map (meant.breach_line root.now files.now) rows.now) }
 {
     let mut text = String::new(alloc);
     for row in rows {
@@ -90,7 +95,8 @@ fn push_breach(
     row: Breach,
     text: &mut String,
 ) -> Result<(), OutOfMemory>
-    ensures { OnOk result (string_bytes text.new ≡ string_bytes text.old ++ meant.breach_line root.now files.now row) }
+    ensures { OnOk result (string_bytes text.new
+        ≡ string_bytes text.old ++ meant.breach_line root.now files.now row) }
 {
     let name = rule_name(row.rule);
     match files.get(row.file as usize) {
@@ -108,7 +114,9 @@ fn push_rule(
     name: &str,
     text: &mut String,
 ) -> Result<(), OutOfMemory>
-    ensures { OnOk result (string_bytes text.new ≡ string_bytes text.old ++ meant.line_at root.now file.now offset (codes "E" ++ decimal rule ++ codes " " ++ name.now)) }
+    ensures { OnOk result (string_bytes text.new
+        ≡ string_bytes text.old ++ meant.line_at root.now file.now offset
+        (codes "E" ++ decimal rule ++ codes " " ++ name.now)) }
 {
     let path = file.path.as_str();
     writeln!(text, "{root}/{path}:{offset}: E{rule} {name}")?;
@@ -122,7 +130,8 @@ pub fn push_syntax(
     offset: usize,
     text: &mut String,
 ) -> Result<(), OutOfMemory>
-    ensures { OnOk result (string_bytes text.new ≡ string_bytes text.old ++ meant.line_at root.now file.now offset (codes "syntax")) }
+    ensures { OnOk result (string_bytes text.new
+        ≡ string_bytes text.old ++ meant.line_at root.now file.now offset (codes "syntax")) }
 {
     let path = file.path.as_str();
     writeln!(text, "{root}/{path}:{offset}: syntax")?;

@@ -22,7 +22,8 @@ pub fn syntax_lines(
     numbers: &[u32],
 ) -> Result<String, OutOfMemory>
     requires { All (λ f. length f.bytes ≤ 262144) files.now }
-    ensures { IfOk result (λ text. AreSyntaxLines root.now files.now numbers.now (string_bytes text)) }
+    ensures { IfOk result (λ text.
+        AreSyntaxLines root.now files.now numbers.now (string_bytes text)) }
 {
     let mut text = String::new(alloc);
     for number in numbers {
@@ -40,7 +41,8 @@ fn push_line(
     text: &mut String,
 ) -> Result<(), OutOfMemory>
     requires { All (λ f. length f.bytes ≤ 262144) files.now }
-    ensures { OnOk result (AddsLine root.now files.now number (string_bytes text.old) (string_bytes text.new)) }
+    ensures { OnOk result
+        (AddsLine root.now files.now number (string_bytes text.old) (string_bytes text.new)) }
 {
     match files.get(number as usize) {
         Some(file) => push_fault(alloc, root, file, text),
@@ -56,7 +58,8 @@ fn push_fault(
     text: &mut String,
 ) -> Result<(), OutOfMemory>
     requires { length file.now.bytes ≤ 262144 }
-    ensures { OnOk result (Adds (IsSyntaxLine root.now file.now) (string_bytes text.old) (string_bytes text.new)) }
+    ensures { OnOk result
+        (Adds (IsSyntaxLine root.now file.now) (string_bytes text.old) (string_bytes text.new)) }
 {
     match lex(alloc, file.bytes.as_slice()) {
         Ok(tokens) => push_place(alloc, root, file, tokens.as_slice(), text),
@@ -73,7 +76,8 @@ fn push_place(
     text: &mut String,
 ) -> Result<(), OutOfMemory>
     requires { Tokens file.now.bytes tokens.now }
-    ensures { OnOk result (Adds (IsSyntaxLine root.now file.now) (string_bytes text.old) (string_bytes text.new)) }
+    ensures { OnOk result
+        (Adds (IsSyntaxLine root.now file.now) (string_bytes text.old) (string_bytes text.new)) }
 {
     match fault_place(alloc, tokens)? {
         Some(place) => push_syntax(root, file, offset_at(file, tokens, place), text),

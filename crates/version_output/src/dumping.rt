@@ -29,7 +29,8 @@ pub struct Due {
 pub fn dump_answer(alloc: Global, out: &str, schema: &Schema) -> Result<Due, OutOfMemory>
     ensures due { IfOk result (IsDue (meant.Dumps out.now schema.now.decls)) }
     // What is written is a checked tree with that schema.
-    ensures reads_back { IfOk result (λ due. meant.ReadBack out.now schema.now.decls (map write_seen due.writes.items)) }
+    ensures reads_back { IfOk result (λ due.
+        meant.ReadBack out.now schema.now.decls (map write_seen due.writes.items)) }
 {
     law_dump_back(schema);
     let files = dump(alloc, schema)?;
@@ -37,7 +38,8 @@ pub fn dump_answer(alloc: Global, out: &str, schema: &Schema) -> Result<Due, Out
 }
 
 fn due_of(alloc: Global, out: &str, files: Row<SourceFile>) -> Result<Due, OutOfMemory>
-    ensures writes { IfOk result (λ due. map write_seen due.writes.items ≡ map (meant.file_write out.now) (map seen files)) }
+    ensures writes { IfOk result (λ due.
+        map write_seen due.writes.items ≡ map (meant.file_write out.now) (map seen files)) }
     ensures prints { IfOk result (λ due. printed due.printed ≡ meant.wrote (length files)) }
 {
     let text = count_line(alloc, files.len())?;
@@ -52,7 +54,8 @@ fn due_of(alloc: Global, out: &str, files: Row<SourceFile>) -> Result<Due, OutOf
 }
 
 fn count_line(alloc: Global, count: usize) -> Result<String, OutOfMemory>
-    ensures { IfOk result (λ text. string_bytes text ≡ line (codes "wrote " ++ decimal count ++ codes " files")) }
+    ensures { IfOk result (λ text.
+        string_bytes text ≡ line (codes "wrote " ++ decimal count ++ codes " files")) }
 {
     let mut text = String::new(alloc);
     writeln!(text, "wrote {count} files")?;
@@ -61,7 +64,8 @@ fn count_line(alloc: Global, count: usize) -> Result<String, OutOfMemory>
 
 // The writes of some files below a folder.
 fn file_writes(alloc: Global, out: &str, files: Row<SourceFile>) -> Result<Vec<Write>, OutOfMemory>
-    ensures { IfOk result (λ writes. map write_seen writes.items ≡ map (meant.file_write out.now) (map seen files)) }
+    ensures { IfOk result (λ writes.
+        map write_seen writes.items ≡ map (meant.file_write out.now) (map seen files)) }
 {
     let mut writes = Vec::new(alloc);
     for file in files.into_vec() {

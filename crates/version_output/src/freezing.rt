@@ -22,7 +22,8 @@ pub fn freeze_answer(alloc: Global, frozen: &Frozen) -> Result<Printed, Early>
 }
 
 fn frozen_line(alloc: Global, version: u32, hash: &str) -> Result<String, OutOfMemory>
-    ensures { IfOk result (λ text. string_bytes text ≡ line (codes "frozen " ++ decimal version ++ codes " " ++ hash.now)) }
+    ensures { IfOk result (λ text.
+        string_bytes text ≡ line (codes "frozen " ++ decimal version ++ codes " " ++ hash.now)) }
 {
     let mut text = String::new(alloc);
     writeln!(text, "frozen {version} {hash}")?;

@@ -74,7 +74,8 @@ fn negative_line(text: Result<String, OutOfMemory>) -> Early
 
 // A word and the number of a version.
 fn version_line(alloc: Global, word: &str, version: u32) -> Result<String, OutOfMemory>
-    ensures { IfOk result (λ text. string_bytes text ≡ line (word.now ++ (codes " " ++ decimal version))) }
+    ensures { IfOk result (λ text.
+        string_bytes text ≡ line (word.now ++ (codes " " ++ decimal version))) }
 {
     let mut text = String::new(alloc);
     writeln!(text, "{word} {version}")?;
@@ -120,7 +121,8 @@ fn behind(alloc: Global, version: u32, faults: Early) -> Early
 }
 
 fn behind_printed(alloc: Global, version: u32, faults: Printed) -> Early
-    ensures { EndsAs result (after_text (line (codes "unreadable " ++ decimal version)) (printed faults)) }
+    ensures { EndsAs result
+        (after_text (line (codes "unreadable " ++ decimal version)) (printed faults)) }
 {
     match text_behind(alloc, version, faults.text.as_str()) {
         Ok(text) => Early::Answered(Printed {
@@ -132,7 +134,8 @@ fn behind_printed(alloc: Global, version: u32, faults: Printed) -> Early
 }
 
 fn text_behind(alloc: Global, version: u32, faults: &str) -> Result<String, OutOfMemory>
-    ensures { IfOk result (λ text. string_bytes text ≡ line (codes "unreadable " ++ decimal version) ++ faults.now) }
+    ensures { IfOk result (λ text.
+        string_bytes text ≡ line (codes "unreadable " ++ decimal version) ++ faults.now) }
 {
     let mut text = version_line(alloc, "unreadable", version)?;
     text.push_str(faults)?;

@@ -30,7 +30,8 @@ fn push_versions(
     versions: &[Version],
     text: &mut String,
 ) -> Result<bool, OutOfMemory>
-    ensures lines { OnOk result (string_bytes text.new ≡ string_bytes text.old ++ flat_map version_line versions.now) }
+    ensures lines { OnOk result (string_bytes text.new
+        ≡ string_bytes text.old ++ flat_map version_line versions.now) }
     ensures whole { IfOk result (λ all_whole. all_whole ≡ list_all whole.is_whole versions.now) }
 {
     let mut all_whole = true;
