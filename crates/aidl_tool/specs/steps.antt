@@ -1,6 +1,7 @@
 -- What the code's steps do, for inner contracts: no contract of a function that the crate exports cites it.
 pub mod Answered
 pub mod Asking
+pub mod Carried
 pub mod Laying
 pub mod Left
 pub mod Loading
