@@ -35,7 +35,9 @@ fn number_of(path: &str) -> u32
 /// The folders of the versions from 1 to a number, by the paths below an API.
 pub fn folders(alloc: Global, paths: &[String], highest: u32) -> Result<Vec<Folder>, OutOfMemory>
     requires { highest ≤ 9999 }
-    ensures { IfOk result (λ folders. map folder_seen folders.items ≡ map (meant.folder (places (map string_bytes paths.now))) (range_with_len 1 highest)) }
+    ensures { IfOk result (λ folders.
+        map folder_seen folders.items
+        ≡ map (meant.folder (places (map string_bytes paths.now))) (range_with_len 1 highest)) }
 {
     let mut folders = empty_folders(alloc, highest)?;
     for path in paths {
@@ -46,7 +48,8 @@ pub fn folders(alloc: Global, paths: &[String], highest: u32) -> Result<Vec<Fold
 
 fn empty_folders(alloc: Global, highest: u32) -> Result<Vec<Folder>, OutOfMemory>
     requires { highest ≤ 9999 }
-    ensures { IfOk result (λ folders. map folder_seen folders.items ≡ map no_folder (range_with_len 1 highest)) }
+    ensures { IfOk result
+        (λ folders. map folder_seen folders.items ≡ map no_folder (range_with_len 1 highest)) }
 {
     let mut folders = Vec::with_capacity(alloc, highest as usize)?;
     for before in 0..highest {
@@ -59,7 +62,9 @@ fn empty_folders(alloc: Global, highest: u32) -> Result<Vec<Folder>, OutOfMemory
 fn add_path(alloc: Global, path: &str, folders: &mut Vec<Folder>) -> Result<(), OutOfMemory>
     requires numbered { AreNumbered (map folder_seen folders.old.items) }
     requires few { length folders.old.items ≤ 9999 }
-    ensures { OnOk result (map folder_seen folders.new.items ≡ map (with_place (place_of path.now)) (map folder_seen folders.old.items)) }
+    ensures { OnOk result
+        (map folder_seen folders.new.items
+        ≡ map (with_place (place_of path.now)) (map folder_seen folders.old.items)) }
 {
     let Some(place) = place_of(path) else {
         return Ok(());

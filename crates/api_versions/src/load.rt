@@ -20,10 +20,12 @@ pub fn load_below<S: Store>(
     path: &str,
     store: &mut S,
 ) -> Result<Option<Row<u8>>, FreezeFault>
-    ensures told { Tells (S.kept store.old) (λ files. Gives (file_at files (path_below folder.now path.now)) result) }
+    ensures told { Tells (S.kept store.old)
+        (λ files. Gives (file_at files (path_below folder.now path.now)) result) }
     ensures unchanged { S.kept store.new ≡ S.kept store.old }
     ensures cause { ReadCause (S.fault_record store.old) (S.fault_record store.new) result }
-    ensures failed { FailedCall (AsksFile (path_below folder.now path.now) (S.kept store.old)) (S.fault_record store.new) result }
+    ensures failed { FailedCall (AsksFile (path_below folder.now path.now) (S.kept store.old))
+        (S.fault_record store.new) result }
 {
     match path_below(alloc, folder, path) {
         Ok(whole) => load(alloc, whole.as_str(), store),
@@ -36,7 +38,8 @@ fn load<S: Store>(alloc: Global, path: &str, store: &mut S) -> Result<Option<Row
     ensures told { Tells (S.kept store.old) (λ files. Gives (file_at files path.now) result) }
     ensures unchanged { S.kept store.new ≡ S.kept store.old }
     ensures cause { ReadCause (S.fault_record store.old) (S.fault_record store.new) result }
-    ensures failed { FailedCall (AsksFile path.now (S.kept store.old)) (S.fault_record store.new) result }
+    ensures failed { FailedCall (AsksFile path.now (S.kept store.old))
+        (S.fault_record store.new) result }
 {
     match store.read(alloc, path, LimitName::FileBytes.number() as usize) {
         Ok(file) => held(file),

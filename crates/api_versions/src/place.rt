@@ -17,7 +17,8 @@ pub struct Place<'a> {
 
 /// The place of a path below an API; none where it belongs to no version.
 pub fn place_of(path: &str) -> Option<Place<'_>>
-    ensures place { option_map place_seen result ≡ option_map meant.bounded (meant.place_of path.now) }
+    ensures place { option_map place_seen result
+        ≡ option_map meant.bounded (meant.place_of path.now) }
     ensures positive { IfSome result (λ p. 0 < p.number) }
 {
     let (name, path) = path.split_once('/')?;

@@ -31,12 +31,14 @@ pub fn versions<S: Store>(
     store: &mut S,
     api: &str,
 ) -> Result<Row<Version>, FreezeFault>
-    ensures told { Tells (S.kept store.old) (λ files. Gives (meant.versions_at files api.now) result) }
+    ensures told { Tells (S.kept store.old)
+        (λ files. Gives (meant.versions_at files api.now) result) }
     ensures numbered { IfOk result AreNumbered }
     ensures ascending { IfOk result (λ versions. are_ascending versions ≡ true) }
     ensures unchanged { S.kept store.new ≡ S.kept store.old }
     ensures cause { ReadCause (S.fault_record store.old) (S.fault_record store.new) result }
-    ensures failed { FailedCall (AsksVersions api.now (S.kept store.old)) (S.fault_record store.new) result }
+    ensures failed { FailedCall (AsksVersions api.now (S.kept store.old))
+        (S.fault_record store.new) result }
 {
     let paths = listed(alloc, api, store)?;
     match folders_in(alloc, paths.as_slice()) {
@@ -47,7 +49,8 @@ pub fn versions<S: Store>(
 
 // The paths of all files below an API.
 fn listed<S: Store>(alloc: Global, api: &str, store: &mut S) -> Result<Vec<String>, FreezeFault>
-    ensures told { Tells (S.kept store.old) (λ files. GivesAs (λ paths. map string_bytes paths.items) (Ok (listing api.now files)) result) }
+    ensures told { Tells (S.kept store.old) (λ files.
+        GivesAs (λ paths. map string_bytes paths.items) (Ok (listing api.now files)) result) }
     ensures ascending { IfOk result (λ paths. is_ascending (map string_bytes paths.items) ≡ true) }
     ensures unchanged { S.kept store.new ≡ S.kept store.old }
     ensures cause { ReadCause (S.fault_record store.old) (S.fault_record store.new) result }
@@ -66,12 +69,19 @@ fn load_all<S: Store>(
     folders: Vec<Folder>,
     store: &mut S,
 ) -> Result<Row<Version>, FreezeFault>
-    ensures told { Tells (S.kept store.old) (λ files. Gives (meant.all_in files api.now (map folder_seen folders.items)) result) }
-    ensures numbered { map (λ f. f.number) (map folder_seen folders.items) ≡ range_with_len 1 (length folders.items) → IfOk result AreNumbered }
-    ensures ascending { list_all (λ f. is_ascending f.sources) (map folder_seen folders.items) ≡ true → IfOk result (λ versions. are_ascending versions ≡ true) }
+    ensures told { Tells (S.kept store.old)
+        (λ files. Gives (meant.all_in files api.now (map folder_seen folders.items)) result) }
+    ensures numbered { map (λ f. f.number) (map folder_seen folders.items)
+        ≡ range_with_len 1 (length folders.items)
+        → IfOk result AreNumbered }
+    ensures ascending { list_all (λ f. is_ascending f.sources)
+        (map folder_seen folders.items) ≡ true
+        → IfOk result (λ versions. are_ascending versions ≡ true) }
     ensures unchanged { S.kept store.new ≡ S.kept store.old }
     ensures cause { ReadCause (S.fault_record store.old) (S.fault_record store.new) result }
-    ensures failed { FailedCall (AsksFolders api.now (meant.present (map folder_seen folders.items))) (S.fault_record store.new) result }
+    ensures failed { FailedCall
+        (AsksFolders api.now (meant.present (map folder_seen folders.items)))
+        (S.fault_record store.new) result }
 {
     let missing = missing(folders.as_slice());
     let versions = load_versions(alloc, api, present(folders), store)?;
@@ -85,12 +95,17 @@ fn load_versions<S: Store>(
     folders: Vec<Folder>,
     store: &mut S,
 ) -> Result<Row<Version>, FreezeFault>
-    ensures told { Tells (S.kept store.old) (λ files. Gives (meant.versions_in files api.now (map folder_seen folders.items)) result) }
-    ensures numbers { IfOk result (λ versions. map (λ v. v.number) versions ≡ map (λ f. f.number) (map folder_seen folders.items)) }
-    ensures ascending { list_all (λ f. is_ascending f.sources) (map folder_seen folders.items) ≡ true → IfOk result (λ versions. are_ascending versions ≡ true) }
+    ensures told { Tells (S.kept store.old)
+        (λ files. Gives (meant.versions_in files api.now (map folder_seen folders.items)) result) }
+    ensures numbers { IfOk result (λ versions.
+        map (λ v. v.number) versions ≡ map (λ f. f.number) (map folder_seen folders.items)) }
+    ensures ascending { list_all (λ f. is_ascending f.sources)
+        (map folder_seen folders.items) ≡ true
+        → IfOk result (λ versions. are_ascending versions ≡ true) }
     ensures unchanged { S.kept store.new ≡ S.kept store.old }
     ensures cause { ReadCause (S.fault_record store.old) (S.fault_record store.new) result }
-    ensures failed { FailedCall (AsksFolders api.now (map folder_seen folders.items)) (S.fault_record store.new) result }
+    ensures failed { FailedCall (AsksFolders api.now (map folder_seen folders.items))
+        (S.fault_record store.new) result }
 {
     let mut versions = Row::new(alloc);
     for folder in folders {
@@ -107,12 +122,15 @@ fn load_version<S: Store>(
     folder: Folder,
     store: &mut S,
 ) -> Result<Version, FreezeFault>
-    ensures told { Tells (S.kept store.old) (λ files. Gives (meant.version_at files api.now (folder_seen folder)) result) }
+    ensures told { Tells (S.kept store.old)
+        (λ files. Gives (meant.version_at files api.now (folder_seen folder)) result) }
     ensures number { IfOk result (λ version. version.number ≡ folder.number) }
-    ensures ascending { is_ascending (map string_bytes folder.sources.items) ≡ true → IfOk result (λ version. is_ascending (map path_of version.files) ≡ true) }
+    ensures ascending { is_ascending (map string_bytes folder.sources.items) ≡ true
+        → IfOk result (λ version. is_ascending (map path_of version.files) ≡ true) }
     ensures unchanged { S.kept store.new ≡ S.kept store.old }
     ensures cause { ReadCause (S.fault_record store.old) (S.fault_record store.new) result }
-    ensures failed { FailedCall (AsksFolder api.now (folder_seen folder)) (S.fault_record store.new) result }
+    ensures failed { FailedCall (AsksFolder api.now (folder_seen folder))
+        (S.fault_record store.new) result }
 {
     let path = version_folder(alloc, api, folder.number)?;
     let files = load_sources(alloc, path.as_str(), folder.sources, store)?;

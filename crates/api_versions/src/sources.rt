@@ -21,11 +21,14 @@ pub fn load_sources<S: Store>(
     paths: Vec<String>,
     store: &mut S,
 ) -> Result<Row<SourceFile>, FreezeFault>
-    ensures told { Tells (S.kept store.old) (λ files. Gives (meant.sources_at files folder.now (map string_bytes paths.items)) result) }
-    ensures ascending { is_ascending (map string_bytes paths.items) ≡ true → IfOk result (λ files. is_ascending (map path_of files) ≡ true) }
+    ensures told { Tells (S.kept store.old)
+        (λ files. Gives (meant.sources_at files folder.now (map string_bytes paths.items)) result) }
+    ensures ascending { is_ascending (map string_bytes paths.items) ≡ true
+        → IfOk result (λ files. is_ascending (map path_of files) ≡ true) }
     ensures unchanged { S.kept store.new ≡ S.kept store.old }
     ensures cause { ReadCause (S.fault_record store.old) (S.fault_record store.new) result }
-    ensures failed { FailedCall (AsksThese folder.now (map string_bytes paths.items)) (S.fault_record store.new) result }
+    ensures failed { FailedCall (AsksThese folder.now (map string_bytes paths.items))
+        (S.fault_record store.new) result }
 {
     let mut files = Row::new(alloc);
     for path in paths {

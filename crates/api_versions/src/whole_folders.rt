@@ -17,7 +17,8 @@ use std::alloc::Global;
 /// The folders of all versions by the paths below an API. Refused are numbers above 9,999, and then more than 4,096 `.aidl` files of
 /// a version.
 pub fn folders_in(alloc: Global, paths: &[String]) -> Result<Vec<Folder>, FreezeFault>
-    ensures defined { GivesAs (λ folders. map folder_seen folders.items) (meant.folders_in (map string_bytes paths.now)) result }
+    ensures defined { GivesAs (λ folders. map folder_seen folders.items)
+        (meant.folders_in (map string_bytes paths.now)) result }
     ensures cause { (faults : StoreFaults) → ReadCause faults faults result }
     ensures failed { (faults : StoreFaults) → FailedCall (AsksNothing None) faults result }
 {
