@@ -39,7 +39,8 @@ use aidl_schema::{Schema, law_valid};
 /// The paths of a canonical dump ascend by their bytes, so no two files have one path, and each declaration of the schema that
 /// stands in no other has its file.
 pub fn law_dump_files(schema: &Schema)
-    ensures sorted { IsStrictlySortedBy (slice_cmp nat_cmp) (map (λ f. f.0) (dump_text schema.now.decls)) }
+    ensures sorted { IsStrictlySortedBy (slice_cmp nat_cmp)
+        (map (λ f. f.0) (dump_text schema.now.decls)) }
     ensures whole { HasEachFile schema.now.decls }
 {
     law_valid(schema);
@@ -62,7 +63,10 @@ pub fn law_dump_tree(schema: &Schema)
 
 /// What stands for a canonical dump breaks neither E1 nor E3, and has no import.
 pub fn law_dump_imports(schema: &Schema)
-    ensures { (files : List Source) → AreSources schema.now.decls (dump_text schema.now.decls) files → (WrongFile files ≡ []) × (UnknownImport files ≡ []) × (in_each other_imports 0 files ≡ []) }
+    ensures { (files : List Source)
+        → AreSources schema.now.decls (dump_text schema.now.decls) files
+        → (WrongFile files ≡ []) × (UnknownImport files ≡ [])
+        × (in_each other_imports 0 files ≡ []) }
 {
     law_valid(schema);
 }
@@ -70,8 +74,12 @@ pub fn law_dump_imports(schema: &Schema)
 /// What stands for a canonical dump has exactly the declarations of the schema, passes no limit on declarations and breaks no
 /// rule of the names stage.
 pub fn law_dump_names(schema: &Schema)
-    ensures declared { (files : List Source) → AreSources schema.now.decls (dump_text schema.now.decls) files → AreDeclared schema.now.decls files }
-    ensures accepted { (files : List Source) → AreSources schema.now.decls (dump_text schema.now.decls) files → IsAccepted files }
+    ensures declared { (files : List Source)
+        → AreSources schema.now.decls (dump_text schema.now.decls) files
+        → AreDeclared schema.now.decls files }
+    ensures accepted { (files : List Source)
+        → AreSources schema.now.decls (dump_text schema.now.decls) files
+        → IsAccepted files }
 {
     law_valid(schema);
 }
@@ -79,8 +87,16 @@ pub fn law_dump_names(schema: &Schema)
 /// Where the places in each tree ascend, as they do in a tree of tokens, each item of what stands for a canonical dump has a
 /// value, so no rule of the constants stage is broken.
 pub fn law_dump_constants(schema: &Schema)
-    ensures given { (files : List Source) → AreSources schema.now.decls (dump_text schema.now.decls) files → All (λ s. IsStrictlyIncreasing (places_of s.tree)) files → (n : ℕ) (o : Outcome) → n < length (items files) → HasOutcome files n o → is_given o ≡ true }
-    ensures unbroken { (files : List Source) → AreSources schema.now.decls (dump_text schema.now.decls) files → All (λ s. IsStrictlyIncreasing (places_of s.tree)) files → (outcomes : ℕ → Outcome) → AreOutcomes files outcomes → breaches outcomes (items files) ≡ [] }
+    ensures given { (files : List Source)
+        → AreSources schema.now.decls (dump_text schema.now.decls) files
+        → All (λ s. IsStrictlyIncreasing (places_of s.tree)) files
+        → (n : ℕ) (o : Outcome) → n < length (items files) → HasOutcome files n o
+        → is_given o ≡ true }
+    ensures unbroken { (files : List Source)
+        → AreSources schema.now.decls (dump_text schema.now.decls) files
+        → All (λ s. IsStrictlyIncreasing (places_of s.tree)) files
+        → (outcomes : ℕ → Outcome) → AreOutcomes files outcomes
+        → breaches outcomes (items files) ≡ [] }
 {
     law_valid(schema);
 }
@@ -88,15 +104,25 @@ pub fn law_dump_constants(schema: &Schema)
 /// Where the places in each tree ascend, the values of constants, initializers and enumerators in each declaration of what stands for a
 /// canonical dump are those of its declaration in the schema.
 pub fn law_dump_values(schema: &Schema)
-    ensures { (files : List Source) → AreSources schema.now.decls (dump_text schema.now.decls) files → All (λ s. IsStrictlyIncreasing (places_of s.tree)) files → (outcomes : ℕ → Outcome) → AreOutcomes files outcomes → (j : ℕ) (e : Entry) → slice_get (declarations files) j ≡ Some e → (n : ℕ) × (is : IsDeclaration schema.now.decls files n e) × HasValues files outcomes j e is.declared }
+    ensures { (files : List Source)
+        → AreSources schema.now.decls (dump_text schema.now.decls) files
+        → All (λ s. IsStrictlyIncreasing (places_of s.tree)) files
+        → (outcomes : ℕ → Outcome) → AreOutcomes files outcomes
+        → (j : ℕ) (e : Entry) → slice_get (declarations files) j ≡ Some e
+        → (n : ℕ) × (is : IsDeclaration schema.now.decls files n e)
+        × HasValues files outcomes j e is.declared }
 {
     law_valid(schema);
 }
 
 /// No declaration of what stands for a canonical dump breaks one of E13 to E21 and E24.
 pub fn law_dump_rules(schema: &Schema)
-    ensures unbroken { (files : List Source) → AreSources schema.now.decls (dump_text schema.now.decls) files → AreUnbroken files }
-    ensures unlisted { (files : List Source) → AreSources schema.now.decls (dump_text schema.now.decls) files → rules.breaches files ≡ [] }
+    ensures unbroken { (files : List Source)
+        → AreSources schema.now.decls (dump_text schema.now.decls) files
+        → AreUnbroken files }
+    ensures unlisted { (files : List Source)
+        → AreSources schema.now.decls (dump_text schema.now.decls) files
+        → rules.breaches files ≡ [] }
 {
     law_valid(schema);
 }
@@ -104,16 +130,26 @@ pub fn law_dump_rules(schema: &Schema)
 /// Where the places in each tree ascend, the schema of what stands for a canonical dump is the one that was dumped, and all that is asked of a
 /// tree whose schema is valid holds: no rule from E6 on is broken.
 pub fn law_dump_schema(schema: &Schema)
-    ensures same { (files : List Source) → AreSources schema.now.decls (dump_text schema.now.decls) files → All (λ s. IsStrictlyIncreasing (places_of s.tree)) files → (outcomes : ℕ → Outcome) → AreOutcomes files outcomes → schema_of files outcomes ≡ schema.now.decls }
-    ensures checked { (files : List Source) → AreSources schema.now.decls (dump_text schema.now.decls) files → All (λ s. IsStrictlyIncreasing (places_of s.tree)) files → (outcomes : ℕ → Outcome) → AreOutcomes files outcomes → IsChecked files outcomes }
+    ensures same { (files : List Source)
+        → AreSources schema.now.decls (dump_text schema.now.decls) files
+        → All (λ s. IsStrictlyIncreasing (places_of s.tree)) files
+        → (outcomes : ℕ → Outcome) → AreOutcomes files outcomes
+        → schema_of files outcomes ≡ schema.now.decls }
+    ensures checked { (files : List Source)
+        → AreSources schema.now.decls (dump_text schema.now.decls) files
+        → All (λ s. IsStrictlyIncreasing (places_of s.tree)) files
+        → (outcomes : ℕ → Outcome) → AreOutcomes files outcomes
+        → IsChecked files outcomes }
 {
     law_valid(schema);
 }
 
 /// Files with the paths and bytes of a canonical dump are never refused for want of tokens or of a tree.
 pub fn law_dump_parses(schema: &Schema)
-    ensures tokens { (files : List SourceFile) → AreDumped schema.now.decls files → (rows : List LexBreach) → IsRefusal files (fault.Lex rows) → ⊥ }
-    ensures trees { (files : List SourceFile) → AreDumped schema.now.decls files → (rows : List ℕ) → IsRefusal files (fault.Syntax rows) → ⊥ }
+    ensures tokens { (files : List SourceFile) → AreDumped schema.now.decls files
+        → (rows : List LexBreach) → IsRefusal files (fault.Lex rows) → ⊥ }
+    ensures trees { (files : List SourceFile) → AreDumped schema.now.decls files
+        → (rows : List ℕ) → IsRefusal files (fault.Syntax rows) → ⊥ }
 {
     law_dump_tree(schema);
 }
@@ -121,9 +157,11 @@ pub fn law_dump_parses(schema: &Schema)
 /// The canonical dump reads back: where files with its paths and bytes are parsed, so that no limit on files or tokens is passed, their
 /// schema is the one that was dumped, and they are refused for nothing: for no limit and no breach.
 pub fn law_dump_back(schema: &Schema)
-    ensures schema { (files : List SourceFile) (trees : List ParsedFile) → AreDumped schema.now.decls files → AreParsed files trees
+    ensures schema { (files : List SourceFile) (trees : List ParsedFile)
+        → AreDumped schema.now.decls files → AreParsed files trees
         → IsSchemaOf files schema.now.decls }
-    ensures unrefused { (files : List SourceFile) (trees : List ParsedFile) → AreDumped schema.now.decls files → AreParsed files trees
+    ensures unrefused { (files : List SourceFile) (trees : List ParsedFile)
+        → AreDumped schema.now.decls files → AreParsed files trees
         → (refusal : CheckFault) → refusal ≢ fault.OutOfMemory → IsRefusal files refusal → ⊥ }
 {
     law_valid(schema);
