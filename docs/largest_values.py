@@ -8,8 +8,8 @@ valgrind --tool=callgrind crates/aidl/out/aidl encode --tree /tmp/values/tree 'm
 
 What `encode` prints is the file for `decode` of the same type. The parcels of records `m.W` of 511 ints that leave out all fields, or all but the first:
 
-/usr/bin/time -f %M crates/aidl/out/aidl decode --tree /tmp/values/tree 'm.W[]' /tmp/values/none.hex
-/usr/bin/time -f %M crates/aidl/out/aidl decode --tree /tmp/values/tree 'm.W[]' /tmp/values/first.hex
+/usr/bin/time -f %M crates/aidl/out/aidl decode --tree /tmp/values/wide 'm.W[]' /tmp/values/none.hex
+/usr/bin/time -f %M crates/aidl/out/aidl decode --tree /tmp/values/wide 'm.W[]' /tmp/values/first.hex
 """
 
 import json
@@ -37,7 +37,7 @@ def values(folder):
 
 
 def short_records(folder):
-    put(f"{folder}/tree/m/W.aidl", f"package m; parcelable W {{ {' '.join(f'int f{k};' for k in range(511))} }}")
+    put(f"{folder}/wide/m/W.aidl", f"package m; parcelable W {{ {' '.join(f'int f{k};' for k in range(511))} }}")
     for name, body, count in (("few", b"", 16_383), ("none", b"", 131_071), ("first", struct.pack("<i", 7), 87_381)):
         record = struct.pack("<ii", 1, 4 + len(body)) + body
         put(f"{folder}/{name}.hex", struct.pack("<i", count).hex() + record.hex() * count)
