@@ -20,11 +20,13 @@ pub fn lex(alloc: Global, bytes: &[u8]) -> Result<Vec<Token>, LexFault>
 
     // What is answered is the list of the bytes' tokens; and if there is one, it is answered.
     ensures tokens { IfOk result (λ tokens. Tokens bytes.now tokens.items) }
-    ensures only_tokens { (tokens : List Token) → Tokens bytes.now tokens → Gives result (Ok tokens) }
+    ensures only_tokens { (tokens : List Token)
+        → Tokens bytes.now tokens → Gives result (Ok tokens) }
 
     // What is answered is the bytes' fault; and if there is one, it is answered.
     ensures fault { IfErr result (HasFault bytes.now) }
-    ensures only_fault { (number offset : ℕ) → faults.LexFault bytes.now number offset → Gives result (Err (number, offset)) }
+    ensures only_fault { (number offset : ℕ) → faults.LexFault bytes.now number offset
+        → Gives result (Err (number, offset)) }
 {
     tokens_of(alloc, bytes)
 }
@@ -52,7 +54,8 @@ fn step(alloc: Global, out: &mut Vec<Token>, offset: u32, rest: &[u8]) -> Result
     ensures within { IfOk result (λ n. (0 < n) × (n ≤ length rest.now)) }
 
     // What was read, and then what is still read, stays the same.
-    ensures read { IfOk result (λ n. with_front out.new.items (lex_of 0 (offset + n) (drop n rest.now)) ≡ with_front out.old.items (lex_of 0 offset rest.now)) }
+    ensures read { IfOk result (λ n. with_front out.new.items (lex_of 0
+        (offset + n) (drop n rest.now)) ≡ with_front out.old.items (lex_of 0 offset rest.now)) }
     ensures fault { IfErr result (λ e. IsFault e (lex_of 0 offset rest.now)) }
 {
     match front_of(alloc, rest)? {

@@ -22,7 +22,8 @@ pub fn add_repeated(
     found: &[Found<'_>],
     rows: &mut Vec<Breach>,
 ) -> Result<(), OutOfMemory>
-    ensures { OnOk result (rows.new.items ≡ rows.old.items ++ flat_map repeated_inside (map entry_of found.now)) }
+    ensures { OnOk result (rows.new.items
+        ≡ rows.old.items ++ flat_map repeated_inside (map entry_of found.now)) }
 {
     for f in found {
         add_repeated_inside(alloc, f, rows)?;
@@ -35,7 +36,8 @@ fn add_repeated_inside(
     found: &Found<'_>,
     rows: &mut Vec<Breach>,
 ) -> Result<(), OutOfMemory>
-    ensures { OnOk result (rows.new.items ≡ rows.old.items ++ repeated_inside (entry_of found.now)) }
+    ensures { OnOk result (rows.new.items
+        ≡ rows.old.items ++ repeated_inside (entry_of found.now)) }
 {
     let all = members(alloc, found.tree)?;
     let names = member_names(alloc, all.as_slice())?;
@@ -50,7 +52,8 @@ fn add_repeated_arguments(
     members: &[MemberRef<'_>],
     rows: &mut Vec<Breach>,
 ) -> Result<(), OutOfMemory>
-    ensures { OnOk result (rows.new.items ≡ rows.old.items ++ flat_map (λ m. repeated file (argument_names m)) (map seen_member members.now)) }
+    ensures { OnOk result (rows.new.items ≡ rows.old.items ++ flat_map
+        (λ m. repeated file (argument_names m)) (map seen_member members.now)) }
 {
     for member in members {
         let names = argument_names(alloc, *member)?;
@@ -63,7 +66,8 @@ fn member_names<'a>(
     alloc: Global,
     members: &[MemberRef<'a>],
 ) -> Result<Vec<&'a NameTree>, OutOfMemory>
-    ensures { IfOk result (λ names. map (λ n. n.now) names.items ≡ map member_name (map seen_member members.now)) }
+    ensures { IfOk result (λ names. map (λ n. n.now) names.items
+        ≡ map member_name (map seen_member members.now)) }
 {
     let mut names = Vec::with_capacity(alloc, members.len())?;
     for member in members {
@@ -73,7 +77,8 @@ fn member_names<'a>(
 }
 
 fn argument_names(alloc: Global, member: MemberRef<'_>) -> Result<Vec<&NameTree>, OutOfMemory>
-    ensures { IfOk result (λ names. map (λ n. n.now) names.items ≡ argument_names (seen_member member.entry)) }
+    ensures { IfOk result (λ names. map (λ n. n.now) names.items
+        ≡ argument_names (seen_member member.entry)) }
 {
     match member {
         MemberRef::Method(method) => names_of_arguments(alloc, method.args.as_slice()),
@@ -85,7 +90,8 @@ fn argument_names(alloc: Global, member: MemberRef<'_>) -> Result<Vec<&NameTree>
 }
 
 fn names_of_arguments(alloc: Global, args: &[ArgTree]) -> Result<Vec<&NameTree>, OutOfMemory>
-    ensures { IfOk result (λ names. map (λ n. n.now) names.items ≡ map (λ a. a.name) (map arg_of args.now)) }
+    ensures { IfOk result (λ names. map (λ n. n.now) names.items
+        ≡ map (λ a. a.name) (map arg_of args.now)) }
 {
     let mut names = Vec::with_capacity(alloc, args.len())?;
     for arg in args {
@@ -101,7 +107,8 @@ fn add_repeated_names(
     names: &[&NameTree],
     rows: &mut Vec<Breach>,
 ) -> Result<(), OutOfMemory>
-    ensures { OnOk result (rows.new.items ≡ rows.old.items ++ repeated file (map (λ n. n.now) names.now)) }
+    ensures { OnOk result (rows.new.items
+        ≡ rows.old.items ++ repeated file (map (λ n. n.now) names.now)) }
 {
     let mut seen: IndexSet<&str> = IndexSet::new(alloc);
     for n in names {
@@ -113,7 +120,8 @@ fn add_repeated_names(
 
 /// Adds the breaches of E2 by declarations.
 pub fn add_taken(declarations: &Declarations<'_>, rows: &mut Vec<Breach>) -> Result<(), OutOfMemory>
-    ensures { OnOk result (rows.new.items ≡ rows.old.items ++ taken (map entry_of declarations.now)) }
+    ensures { OnOk result (rows.new.items
+        ≡ rows.old.items ++ taken (map entry_of declarations.now)) }
 {
     let found = declarations.as_slice();
     for (i, f) in found.iter().enumerate() {
@@ -140,7 +148,8 @@ fn is_taken(declarations: &Declarations<'_>, i: usize, inner: &Found<'_>) -> boo
 
 // Whether one of the first declarations has this canonical name.
 fn is_again(declarations: &Declarations<'_>, i: usize, name: &[Ident]) -> bool
-    ensures { result ≡ list_any (λ d. same d.name name.now) (take i (map entry_of declarations.now)) }
+    ensures { result ≡ list_any (λ d. same d.name name.now)
+        (take i (map entry_of declarations.now)) }
 {
     match number_of(declarations, 0, &[], name) {
         Some(first) => (first as usize) < i,

@@ -22,7 +22,8 @@ pub fn add_unknown_imports(
     rows: &mut Vec<Breach>,
 ) -> Result<(), OutOfMemory>
     requires files { length files.now ≤ 4096 }
-    ensures { OnOk result (rows.new.items ≡ rows.old.items ++ in_each (unknown_imports (map entry_of declarations.now)) 0 (map source_of files.now)) }
+    ensures { OnOk result (rows.new.items ≡ rows.old.items ++ in_each
+        (unknown_imports (map entry_of declarations.now)) 0 (map source_of files.now)) }
 {
     for (i, file) in files.iter().enumerate() {
         add_unknown(declarations, i as u32, file, rows)?;
@@ -36,7 +37,8 @@ fn add_unknown(
     file: &ParsedFile,
     rows: &mut Vec<Breach>,
 ) -> Result<(), OutOfMemory>
-    ensures { OnOk result (rows.new.items ≡ rows.old.items ++ unknown_imports (map entry_of declarations.now) number (source_of file.now)) }
+    ensures { OnOk result (rows.new.items ≡ rows.old.items ++ unknown_imports
+        (map entry_of declarations.now) number (source_of file.now)) }
 {
     for import in file.tree.imports.as_slice() {
         let unknown = number_of(declarations, 0, &[], import.name.0.as_slice()).is_none();
@@ -52,7 +54,8 @@ pub fn add_other_imports(
     rows: &mut Vec<Breach>,
 ) -> Result<(), OutOfMemory>
     requires files { length files.now ≤ 4096 }
-    ensures { OnOk result (rows.new.items ≡ rows.old.items ++ in_each other_imports 0 (map source_of files.now)) }
+    ensures { OnOk result (rows.new.items
+        ≡ rows.old.items ++ in_each other_imports 0 (map source_of files.now)) }
 {
     for (i, file) in files.iter().enumerate() {
         add_others(alloc, i as u32, file, rows)?;
@@ -67,7 +70,8 @@ fn add_others(
     file: &ParsedFile,
     rows: &mut Vec<Breach>,
 ) -> Result<(), OutOfMemory>
-    ensures { OnOk result (rows.new.items ≡ rows.old.items ++ other_imports number (source_of file.now)) }
+    ensures { OnOk result (rows.new.items
+        ≡ rows.old.items ++ other_imports number (source_of file.now)) }
 {
     let imports = file.tree.imports.as_slice();
     let table = Table::new(alloc, last_marks(alloc, imports)?)?;

@@ -52,7 +52,8 @@ impl<'a> Model for Names<'a> {
     ghost invariant = { λ names. record {
       of_bytes : AreOfBytes names.resolver.0;
       accepted : IsAccepted (map source_of names.resolver.0);
-      called : map seen_table names.members.items ≡ map called (declarations (map source_of names.resolver.0));
+      called : map seen_table names.members.items
+          ≡ map called (declarations (map source_of names.resolver.0));
     } };
 }
 
@@ -84,7 +85,8 @@ impl<'a> Names<'a> {
 
     /// The first member with a name of the declaration with a number, and None where there is none. It takes no memory.
     pub fn member(&self, number: u32, name: &Ident) -> Option<MemberRef<'a>>
-        ensures { map_option seen_member result ≡ called_at (declarations (map source_of self.now)) number name.now }
+        ensures { map_option seen_member result
+            ≡ called_at (declarations (map source_of self.now)) number name.now }
     {
         match self.members.get(number as usize) {
             Some(table) => called(table, name),

@@ -12,7 +12,8 @@ pub fn add_if(
     offset: u32,
     rows: &mut Vec<Breach>,
 ) -> Result<(), OutOfMemory>
-    ensures { OnOk result (rows.new.items ≡ rows.old.items ++ (if broken then breach rule file offset ∷ [] else [])) }
+    ensures { OnOk result (rows.new.items
+        ≡ rows.old.items ++ (if broken then breach rule file offset ∷ [] else [])) }
 {
     if broken {
         rows.push(Breach { rule, file, offset })?;

@@ -41,7 +41,8 @@ pub fn add_types(
     resolver: &Resolver<'_>,
     rows: &mut Vec<Breach>,
 ) -> Result<(), OutOfMemory>
-    ensures { OnOk result (rows.new.items ≡ rows.old.items ++ UnknownType (map source_of resolver.now.0) ++ LeftOutType (map source_of resolver.now.0)) }
+    ensures { OnOk result (rows.new.items ≡ rows.old.items ++ UnknownType
+        (map source_of resolver.now.0) ++ LeftOutType (map source_of resolver.now.0)) }
 {
     let asking = Asking::new(alloc, !rows.is_empty(), resolver)?;
     add_types_by(alloc, &asking, TypeRule::Unknown, rows)?;
@@ -55,7 +56,8 @@ fn add_types_by(
     rule: TypeRule,
     rows: &mut Vec<Breach>,
 ) -> Result<(), OutOfMemory>
-    ensures { OnOk result (rows.new.items ≡ rows.old.items ++ types_where (breaks_of rule (map source_of asking.now)) (rule_of rule) (map source_of asking.now)) }
+    ensures { OnOk result (rows.new.items ≡ rows.old.items ++ types_where
+        (breaks_of rule (map source_of asking.now)) (rule_of rule) (map source_of asking.now)) }
 {
     let found = asking.found();
     for (i, f) in found.iter().enumerate() {
@@ -73,7 +75,8 @@ fn add_types_in(
     inside: &Found<'_>,
     rows: &mut Vec<Breach>,
 ) -> Result<(), OutOfMemory>
-    ensures { OnOk result (rows.new.items ≡ rows.old.items ++ types_in (breaks_of rule (map source_of asking.now)) (rule_of rule) number (entry_of inside.now)) }
+    ensures { OnOk result (rows.new.items ≡ rows.old.items ++ types_in
+        (breaks_of rule (map source_of asking.now)) (rule_of rule) number (entry_of inside.now)) }
 {
     let names = names_of_types(alloc, inside.tree)?;
     for name in names.as_slice() {

@@ -52,10 +52,12 @@ pub trait Link {
         bytes: &[u8],
     ) -> Result<Vec<u8>, CarryFault>
         ensures carried { Carries (log self.old) (log self.new) way code bytes.now result }
-        ensures faithful { is_faithful self.old ≡ true → IfOk result (λ delivered. delivered.items ≡ bytes.now) }
+        ensures faithful { is_faithful self.old ≡ true
+            → IfOk result (λ delivered. delivered.items ≡ bytes.now) }
         ensures nature { is_faithful self.new ≡ is_faithful self.old }
         ensures cause { CarryCause (fault_record self.old) (fault_record self.new) result }
-        ensures failed_call { IfCarryFailed result (FailedIn (fault_record self.new) (λ sent. sent ≡ parcel way code bytes.now)) }
+        ensures failed_call { IfCarryFailed result
+            (FailedIn (fault_record self.new) (λ sent. sent ≡ parcel way code bytes.now)) }
         ensures never_falls { (fault_record self.old).count ≤ (fault_record self.new).count };
 
     /// The number of faults so far.

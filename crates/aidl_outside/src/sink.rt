@@ -25,7 +25,8 @@ pub trait Sink {
     fn put(&mut self, alloc: Global, bytes: &[u8]) -> Result<(), SinkFault>
         ensures bytes { Puts (told self.old) (told self.new) bytes.now result }
         ensures cause { SinkCause (fault_record self.old) (fault_record self.new) result }
-        ensures failed_call { IfSinkFailed result (FailedIn (fault_record self.new) (λ piece. piece ≡ bytes.now)) }
+        ensures failed_call { IfSinkFailed result
+            (FailedIn (fault_record self.new) (λ piece. piece ≡ bytes.now)) }
         ensures never_falls { (fault_record self.old).count ≤ (fault_record self.new).count };
 
     /// The number of faults so far.

@@ -29,11 +29,14 @@ pub trait Store {
 
     /// The paths of all files below a root, relative to it, sorted by bytes.
     fn list(&mut self, alloc: Global, root: &str) -> Result<Vec<String>, StoreFault>
-        ensures listed { IfOk result (λ paths. Tells (kept self.old) (λ files. map string_bytes paths.items ≡ listing root.now files)) }
-        ensures ascending { IfOk result (λ paths. is_ascending (map string_bytes paths.items) ≡ true) }
+        ensures listed { IfOk result (λ paths. Tells (kept self.old)
+            (λ files. map string_bytes paths.items ≡ listing root.now files)) }
+        ensures ascending { IfOk result (λ paths. is_ascending (map string_bytes paths.items)
+            ≡ true) }
         ensures unchanged { kept self.new ≡ kept self.old }
         ensures cause { StoreCause (fault_record self.old) (fault_record self.new) result }
-        ensures failed_call { IfStoreFailed result (FailedIn (fault_record self.new) (λ call. call ≡ lists root.now)) }
+        ensures failed_call { IfStoreFailed result
+            (FailedIn (fault_record self.new) (λ call. call ≡ lists root.now)) }
         ensures never_falls { (fault_record self.old).count ≤ (fault_record self.new).count };
 
     /// The file at a path, and of one longer than `most` bytes its first `most + 1`. None where nothing stands there.
@@ -44,18 +47,21 @@ pub trait Store {
         most: usize,
     ) -> Result<Option<Vec<u8>>, StoreFault>
         requires { most < usize.MAX }
-        ensures found { IfOk result (λ file. Tells (kept self.old) (λ files. IsRead most (files_map.get files path.now) file)) }
+        ensures found { IfOk result (λ file. Tells (kept self.old)
+            (λ files. IsRead most (files_map.get files path.now) file)) }
         ensures within { IfOk result (IsWithin most) }
         ensures unchanged { kept self.new ≡ kept self.old }
         ensures cause { StoreCause (fault_record self.old) (fault_record self.new) result }
-        ensures failed_call { IfStoreFailed result (FailedIn (fault_record self.new) (λ call. call ≡ reading path.now)) }
+        ensures failed_call { IfStoreFailed result
+            (FailedIn (fault_record self.new) (λ call. call ≡ reading path.now)) }
         ensures never_falls { (fault_record self.old).count ≤ (fault_record self.new).count };
 
     /// Sets the file at a path. After `Failed` that one path may hold any bytes or nothing, and all others stay.
     fn write(&mut self, alloc: Global, path: &str, bytes: &[u8]) -> Result<(), StoreFault>
         ensures written { Writes (kept self.old) (kept self.new) path.now bytes.now result }
         ensures cause { StoreCause (fault_record self.old) (fault_record self.new) result }
-        ensures failed_call { IfStoreFailed result (FailedIn (fault_record self.new) (λ call. call ≡ writing path.now)) }
+        ensures failed_call { IfStoreFailed result
+            (FailedIn (fault_record self.new) (λ call. call ≡ writing path.now)) }
         ensures never_falls { (fault_record self.old).count ≤ (fault_record self.new).count };
 
     /// The number of faults so far.

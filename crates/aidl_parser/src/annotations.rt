@@ -25,7 +25,8 @@ pub fn annots<'a>(
     tokens: &'a [Token],
 ) -> Result<(Row<AnnotTree>, &'a [Token]), ParseFault>
     requires { length tokens.now < fuel }
-    ensures gives { Gives (λ x. (map annot_of x.0, x.1.now)) result (read.annots_at fuel tokens.entry.now) }
+    ensures gives { Gives (λ x. (map annot_of x.0, x.1.now)) result
+        (read.annots_at fuel tokens.entry.now) }
     ensures left { IfOk result (λ x. length x.1.now ≤ length tokens.entry.now) }
 {
     many(alloc, fuel, Repeat::Annotations, Row::new(alloc), tokens)
@@ -77,7 +78,8 @@ fn maybe_params<'a>(
     tokens: &'a [Token],
 ) -> Result<(Option<Row<ParamTree>>, &'a [Token]), ParseFault>
     requires { length tokens.now < fuel }
-    ensures gives { Gives (λ x. (map_option (map param_of) x.0, x.1.now)) result (part.maybe (part.begins mark.OpenParen) (read.params_at fuel) tokens.entry.now) }
+    ensures gives { Gives (λ x. (map_option (map param_of) x.0, x.1.now)) result
+        (part.maybe (part.begins mark.OpenParen) (read.params_at fuel) tokens.entry.now) }
     ensures left { IfOk result (λ x. length x.1.now ≤ length tokens.entry.now) }
 {
     if begins(Symbol::OpenParen, tokens) {
@@ -120,7 +122,8 @@ fn maybe_named<'a>(
     alloc: Global,
     tokens: &'a [Token],
 ) -> Result<(Option<NameTree>, &'a [Token]), ParseFault>
-    ensures gives { Gives (λ x. (x.0, x.1.now)) result (part.maybe read.begins_named (part.upto ident_at mark.Equal) tokens.entry.now) }
+    ensures gives { Gives (λ x. (x.0, x.1.now)) result
+        (part.maybe read.begins_named (part.upto ident_at mark.Equal) tokens.entry.now) }
     ensures left { IfOk result (λ x. length x.1.now ≤ length tokens.entry.now) }
 {
     if begins_named(tokens) {

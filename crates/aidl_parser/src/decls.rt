@@ -33,7 +33,8 @@ pub fn decl<'a>(
     tokens: &'a [Token],
 ) -> Result<(DeclTree, &'a [Token]), ParseFault>
     requires { length tokens.now < fuel }
-    ensures gives { Gives (λ x. (decl_of x.0, x.1.now)) result (read.decl_at fuel offset (annots_of annots) tokens.entry.now) }
+    ensures gives { Gives (λ x. (decl_of x.0, x.1.now)) result
+        (read.decl_at fuel offset (annots_of annots) tokens.entry.now) }
     ensures left { IfOk result (λ x. length x.1.now < length tokens.entry.now) }
 {
     decl_by(alloc, fuel, offset, annots, tokens)
@@ -48,7 +49,9 @@ fn decl_by<'a>(
     tokens: &'a [Token],
 ) -> Result<(DeclTree, &'a [Token]), ParseFault>
     requires { length tokens.now < fuel }
-    ensures gives { Gives (λ x. (decl_of x.0, x.1.now)) result (part.alter (read.declared offset (annots_of annots)) (read.body_by (λ inside us. read.members_at fuel fuel inside us) fuel) tokens.entry.now) }
+    ensures gives { Gives (λ x. (decl_of x.0, x.1.now)) result
+        (part.alter (read.declared offset (annots_of annots))
+        (read.body_by (λ inside us. read.members_at fuel fuel inside us) fuel) tokens.entry.now) }
     ensures left { IfOk result (λ x. length x.1.now < length tokens.entry.now) }
 {
     let ((name, body), rest) = body(alloc, fuel, tokens)?;
@@ -72,7 +75,8 @@ fn body<'a>(
     tokens: &'a [Token],
 ) -> Result<((NameTree, BodyTree), &'a [Token]), ParseFault>
     requires { length tokens.now < fuel }
-    ensures gives { Gives (λ x. ((x.0.0, body_of x.0.1), x.1.now)) result (read.body_by (λ inside us. read.members_at fuel fuel inside us) fuel tokens.entry.now) }
+    ensures gives { Gives (λ x. ((x.0.0, body_of x.0.1), x.1.now)) result
+        (read.body_by (λ inside us. read.members_at fuel fuel inside us) fuel tokens.entry.now) }
     ensures left { IfOk result (λ x. length x.1.now < length tokens.entry.now) }
 {
     if begins_word(Reserved::Parcelable, tokens) {
@@ -102,7 +106,8 @@ fn braced<'a>(
     tokens: &'a [Token],
 ) -> Result<((NameTree, Row<MemberTree>), &'a [Token]), ParseFault>
     requires { length tokens.now < fuel }
-    ensures gives { Gives (λ x. ((x.0.0, members_of x.0.1), x.1.now)) result (read.braced_at (λ inner us. read.members_at fuel fuel inner us) word inside tokens.entry.now) }
+    ensures gives { Gives (λ x. ((x.0.0, members_of x.0.1), x.1.now)) result (read.braced_at
+        (λ inner us. read.members_at fuel fuel inner us) word inside tokens.entry.now) }
     ensures left { IfOk result (λ x. length x.1.now < length tokens.entry.now) }
 {
     let (name, rest) = head(alloc, word, tokens)?;
@@ -120,7 +125,8 @@ fn members<'a>(
     tokens: &'a [Token],
 ) -> Result<(Row<MemberTree>, &'a [Token]), ParseFault>
     requires { length tokens.now + 1 < fuel }
-    ensures gives { Gives (λ x. (members_of x.0, x.1.now)) result (read.members_at fuel fuel inside tokens.entry.now) }
+    ensures gives { Gives (λ x. (members_of x.0, x.1.now)) result
+        (read.members_at fuel fuel inside tokens.entry.now) }
     ensures left { IfOk result (λ x. length x.1.now ≤ length tokens.entry.now) }
 {
     let mut all = Row::new(alloc);
@@ -144,7 +150,8 @@ fn member<'a>(
     tokens: &'a [Token],
 ) -> Result<(MemberTree, &'a [Token]), ParseFault>
     requires { length tokens.now + 1 < fuel }
-    ensures gives { Gives (λ x. (member_of x.0, x.1.now)) result (read.member_at fuel inside tokens.entry.now) }
+    ensures gives { Gives (λ x. (member_of x.0, x.1.now)) result
+        (read.member_at fuel inside tokens.entry.now) }
     ensures left { IfOk result (λ x. length x.1.now < length tokens.entry.now) }
 {
     let (annots, rest) = annots(alloc, fuel, tokens)?;
@@ -163,7 +170,9 @@ fn member_by<'a>(
     tokens: &'a [Token],
 ) -> Result<(MemberTree, &'a [Token]), ParseFault>
     requires { length tokens.now + 1 < fuel }
-    ensures gives { Gives (λ x. (member_of x.0, x.1.now)) result (read.member_by (λ p annotations ws. read.decl_at (fuel - 1) p annotations ws) fuel inside offset (annots_of annots) tokens.entry.now) }
+    ensures gives { Gives (λ x. (member_of x.0, x.1.now)) result
+        (read.member_by (λ p annotations ws. read.decl_at (fuel - 1) p annotations ws)
+        fuel inside offset (annots_of annots) tokens.entry.now) }
     ensures left { IfOk result (λ x. length x.1.now < length tokens.entry.now) }
 {
     if begins_word(Reserved::Const, tokens) {
@@ -202,7 +211,8 @@ fn enum_body<'a>(
     tokens: &'a [Token],
 ) -> Result<((NameTree, Row<EnumeratorTree>), &'a [Token]), ParseFault>
     requires { length tokens.now < fuel }
-    ensures gives { Gives (λ x. ((x.0.0, map enumerator_of x.0.1), x.1.now)) result (read.enum_at fuel tokens.entry.now) }
+    ensures gives { Gives (λ x. ((x.0.0, map enumerator_of x.0.1), x.1.now)) result
+        (read.enum_at fuel tokens.entry.now) }
     ensures left { IfOk result (λ x. length x.1.now < length tokens.entry.now) }
 {
     let (name, rest) = head(alloc, Reserved::Enum, tokens)?;

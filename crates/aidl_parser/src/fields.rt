@@ -27,7 +27,8 @@ pub fn field<'a>(
     tokens: &'a [Token],
 ) -> Result<(MemberTree, &'a [Token]), ParseFault>
     requires { length tokens.now < fuel }
-    ensures gives { Gives (λ x. (member_of x.0, x.1.now)) result (part.alter (decls.field_made offset (annots_of annots)) (read.field_at fuel) tokens.entry.now) }
+    ensures gives { Gives (λ x. (member_of x.0, x.1.now)) result (part.alter
+        (decls.field_made offset (annots_of annots)) (read.field_at fuel) tokens.entry.now) }
     ensures left { IfOk result (λ x. length x.1.now < length tokens.entry.now) }
 {
     let (ty, rest) = type_of(alloc, tokens)?;
@@ -56,7 +57,8 @@ pub fn constant<'a>(
     tokens: &'a [Token],
 ) -> Result<(MemberTree, &'a [Token]), ParseFault>
     requires { length tokens.now < fuel }
-    ensures gives { Gives (λ x. (member_of x.0, x.1.now)) result (part.alter (decls.constant_made offset (annots_of annots)) (read.constant_at fuel) tokens.entry.now) }
+    ensures gives { Gives (λ x. (member_of x.0, x.1.now)) result (part.alter
+        (decls.constant_made offset (annots_of annots)) (read.constant_at fuel) tokens.entry.now) }
     ensures left { IfOk result (λ x. length x.1.now < length tokens.entry.now) }
 {
     let (_word, rest) = worded(Reserved::Const, tokens)?;
@@ -83,7 +85,8 @@ fn value<'a>(
     tokens: &'a [Token],
 ) -> Result<(ExprTree, &'a [Token]), ParseFault>
     requires { length tokens.now < fuel }
-    ensures gives { Gives (λ x. (expr_of x.0, x.1.now)) result (read.value_at fuel tokens.entry.now) }
+    ensures gives { Gives (λ x. (expr_of x.0, x.1.now)) result
+        (read.value_at fuel tokens.entry.now) }
     ensures left { IfOk result (λ x. length x.1.now < length tokens.entry.now) }
 {
     let (_sign, rest) = quoted(Symbol::Equal, tokens)?;

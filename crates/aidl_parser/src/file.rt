@@ -61,7 +61,8 @@ fn maybe_package<'a>(
     tokens: &'a [Token],
 ) -> Result<(Option<DottedTree>, &'a [Token]), ParseFault>
     requires { length tokens.now < fuel }
-    ensures gives { Gives (λ x. (x.0, x.1.now)) result (part.maybe (part.begins_word word.Package) (read.named_at word.Package) tokens.entry.now) }
+    ensures gives { Gives (λ x. (x.0, x.1.now)) result
+        (part.maybe (part.begins_word word.Package) (read.named_at word.Package) tokens.entry.now) }
     ensures left { IfOk result (λ x. length x.1.now ≤ length tokens.entry.now) }
 {
     if begins_word(Reserved::Package, tokens) {

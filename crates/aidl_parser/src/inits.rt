@@ -43,7 +43,8 @@ fn braces<'a>(
     tokens: &'a [Token],
 ) -> Result<(InitTree, &'a [Token]), ParseFault>
     requires { length tokens.now < fuel }
-    ensures gives { Gives (λ x. (init_of x.0, x.1.now)) result (read.braces_at fuel tokens.entry.now) }
+    ensures gives { Gives (λ x. (init_of x.0, x.1.now)) result
+        (read.braces_at fuel tokens.entry.now) }
     ensures left { IfOk result (λ x. length x.1.now < length tokens.entry.now) }
 {
     let (_begin, rest) = quoted(Symbol::OpenBrace, tokens)?;

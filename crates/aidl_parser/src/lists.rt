@@ -57,7 +57,8 @@ pub fn many<'a, T: Part>(
     tokens: &'a [Token],
 ) -> Result<(Row<T>, &'a [Token]), ParseFault>
     requires { length tokens.now < fuel }
-    ensures gives { Gives (λ x. (map T.seen x.0, x.1.now)) result (part.with_items (map T.seen items) (repeats.many_by fuel repeat (T.read fuel) tokens.entry.now)) }
+    ensures gives { Gives (λ x. (map T.seen x.0, x.1.now)) result (part.with_items
+        (map T.seen items) (repeats.many_by fuel repeat (T.read fuel) tokens.entry.now)) }
     ensures left { IfOk result (λ x. length x.1.now ≤ length tokens.entry.now) }
 {
     let mut all = items;
@@ -101,7 +102,8 @@ fn round<'a, T: Part>(
     tokens: &'a [Token],
 ) -> Result<(T, &'a [Token]), ParseFault>
     requires { length tokens.now < fuel }
-    ensures gives { Gives (λ x. (T.seen x.0, x.1.now)) result (repeats.round repeat (T.read fuel) tokens.entry.now) }
+    ensures gives { Gives (λ x. (T.seen x.0, x.1.now)) result
+        (repeats.round repeat (T.read fuel) tokens.entry.now) }
     ensures left { IfOk result (λ x. length x.1.now < length tokens.entry.now) }
 {
     match repeat {
@@ -119,7 +121,8 @@ pub fn statement<'a, T: Part>(
     tokens: &'a [Token],
 ) -> Result<(T, &'a [Token]), ParseFault>
     requires { length tokens.now < fuel }
-    ensures gives { Gives (λ x. (T.seen x.0, x.1.now)) result (part.alter part.second (part.both (part.worded word) (part.upto (T.read fuel) mark.Semicolon)) tokens.entry.now) }
+    ensures gives { Gives (λ x. (T.seen x.0, x.1.now)) result (part.alter part.second
+        (part.both (part.worded word) (part.upto (T.read fuel) mark.Semicolon)) tokens.entry.now) }
     ensures left { IfOk result (λ x. length x.1.now < length tokens.entry.now) }
 {
     let (_word, rest) = worded(word, tokens)?;
@@ -136,7 +139,8 @@ pub fn behind<'a, T: Part>(
     tokens: &'a [Token],
 ) -> Result<(T, &'a [Token]), ParseFault>
     requires { length tokens.now < fuel }
-    ensures gives { Gives (λ x. (T.seen x.0, x.1.now)) result (part.behind s (T.read fuel) tokens.entry.now) }
+    ensures gives { Gives (λ x. (T.seen x.0, x.1.now)) result
+        (part.behind s (T.read fuel) tokens.entry.now) }
     ensures left { IfOk result (λ x. length x.1.now < length tokens.entry.now) }
 {
     let (_sign, rest) = quoted(s, tokens)?;
@@ -151,7 +155,8 @@ pub fn maybe_behind<'a, T: Part>(
     tokens: &'a [Token],
 ) -> Result<(Option<T>, &'a [Token]), ParseFault>
     requires { length tokens.now < fuel }
-    ensures gives { Gives (λ x. (map_option T.seen x.0, x.1.now)) result (part.maybe (part.begins s) (part.behind s (T.read fuel)) tokens.entry.now) }
+    ensures gives { Gives (λ x. (map_option T.seen x.0, x.1.now)) result
+        (part.maybe (part.begins s) (part.behind s (T.read fuel)) tokens.entry.now) }
     ensures left { IfOk result (λ x. length x.1.now ≤ length tokens.entry.now) }
 {
     if begins(s, tokens) {
@@ -171,7 +176,8 @@ fn listed<'a, T: Part>(
     tokens: &'a [Token],
 ) -> Result<(Row<T>, &'a [Token]), ParseFault>
     requires { length tokens.now < fuel }
-    ensures gives { Gives (λ x. (map T.seen x.0, x.1.now)) result (repeats.listed_by fuel repeat (T.read fuel) tokens.entry.now) }
+    ensures gives { Gives (λ x. (map T.seen x.0, x.1.now)) result
+        (repeats.listed_by fuel repeat (T.read fuel) tokens.entry.now) }
     ensures left { IfOk result (λ x. length x.1.now < length tokens.entry.now) }
 {
     let (first, rest) = T::part(alloc, fuel, tokens)?;
@@ -187,7 +193,8 @@ pub fn in_parens<'a, T: Part>(
     tokens: &'a [Token],
 ) -> Result<(Row<T>, &'a [Token]), ParseFault>
     requires { length tokens.now < fuel }
-    ensures gives { Gives (λ x. (map T.seen x.0, x.1.now)) result (part.behind mark.OpenParen (part.upto (inits.maybe_listed fuel (T.read fuel)) mark.CloseParen) tokens.entry.now) }
+    ensures gives { Gives (λ x. (map T.seen x.0, x.1.now)) result (part.behind mark.OpenParen
+        (part.upto (inits.maybe_listed fuel (T.read fuel)) mark.CloseParen) tokens.entry.now) }
     ensures left { IfOk result (λ x. length x.1.now < length tokens.entry.now) }
 {
     let (_begin, rest) = quoted(Symbol::OpenParen, tokens)?;
@@ -204,7 +211,8 @@ fn maybe_listed<'a, T: Part>(
     tokens: &'a [Token],
 ) -> Result<(Row<T>, &'a [Token]), ParseFault>
     requires { length tokens.now < fuel }
-    ensures gives { Gives (λ x. (map T.seen x.0, x.1.now)) result (inits.maybe_listed fuel (T.read fuel) tokens.entry.now) }
+    ensures gives { Gives (λ x. (map T.seen x.0, x.1.now)) result
+        (inits.maybe_listed fuel (T.read fuel) tokens.entry.now) }
     ensures left { IfOk result (λ x. length x.1.now ≤ length tokens.entry.now) }
 {
     if begins(Symbol::CloseParen, tokens) {
@@ -222,7 +230,8 @@ pub fn maybe_trailing<'a, T: Part>(
     tokens: &'a [Token],
 ) -> Result<(Row<T>, &'a [Token]), ParseFault>
     requires { length tokens.now < fuel }
-    ensures gives { Gives (λ x. (map T.seen x.0, x.1.now)) result (inits.maybe_trailing fuel (T.read fuel) tokens.entry.now) }
+    ensures gives { Gives (λ x. (map T.seen x.0, x.1.now)) result
+        (inits.maybe_trailing fuel (T.read fuel) tokens.entry.now) }
     ensures left { IfOk result (λ x. length x.1.now ≤ length tokens.entry.now) }
 {
     if begins(Symbol::CloseBrace, tokens) {
@@ -240,7 +249,8 @@ pub fn trailing<'a, T: Part>(
     tokens: &'a [Token],
 ) -> Result<(Row<T>, &'a [Token]), ParseFault>
     requires { length tokens.now < fuel }
-    ensures gives { Gives (λ x. (map T.seen x.0, x.1.now)) result (inits.trailing fuel (T.read fuel) tokens.entry.now) }
+    ensures gives { Gives (λ x. (map T.seen x.0, x.1.now)) result
+        (inits.trailing fuel (T.read fuel) tokens.entry.now) }
     ensures left { IfOk result (λ x. length x.1.now < length tokens.entry.now) }
 {
     let (items, rest) = listed(alloc, fuel, Repeat::CommasInBraces, tokens)?;
@@ -250,7 +260,8 @@ pub fn trailing<'a, T: Part>(
 
 // [","]
 fn maybe_comma<'a>(tokens: &'a [Token]) -> Result<(Option<()>, &'a [Token]), ParseFault>
-    ensures gives { Gives (λ x. (x.0, x.1.now)) result (part.maybe (part.begins mark.Comma) (part.quoted mark.Comma) tokens.entry.now) }
+    ensures gives { Gives (λ x. (x.0, x.1.now)) result
+        (part.maybe (part.begins mark.Comma) (part.quoted mark.Comma) tokens.entry.now) }
     ensures left { IfOk result (λ x. length x.1.now ≤ length tokens.entry.now) }
 {
     if begins(Symbol::Comma, tokens) {

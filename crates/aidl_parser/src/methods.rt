@@ -26,7 +26,8 @@ pub fn method<'a>(
     tokens: &'a [Token],
 ) -> Result<(MemberTree, &'a [Token]), ParseFault>
     requires { length tokens.now < fuel }
-    ensures gives { Gives (λ x. (member_of x.0, x.1.now)) result (part.alter (decls.method_made offset (annots_of annots)) (read.method_at fuel) tokens.entry.now) }
+    ensures gives { Gives (λ x. (member_of x.0, x.1.now)) result (part.alter
+        (decls.method_made offset (annots_of annots)) (read.method_at fuel) tokens.entry.now) }
     ensures left { IfOk result (λ x. length x.1.now < length tokens.entry.now) }
 {
     let (oneway, rest) = oneway(tokens)?;

@@ -22,12 +22,15 @@ use std::alloc::Global;
 pub fn parse(alloc: Global, tokens: &[Token]) -> Result<FileTree, ParseFault>
     // What is answered stands for the tokens, which pass no limit; and such a tree is answered.
     ensures tree { IfOk result (λ tree. (passed tokens.now ≡ None) × Tree tokens.now tree) }
-    ensures only_tree { (tree : File) → passed tokens.now ≡ None → IsFile tokens.now tree → Gives file_of result (Some tree) }
+    ensures only_tree { (tree : File) → passed tokens.now ≡ None
+        → IsFile tokens.now tree → Gives file_of result (Some tree) }
 
     // A refusal is true; and a limit that is passed, or that there is no tree, is answered.
     ensures refusal { IfErr result (IsRefusal tokens.now) }
-    ensures only_limit { (name : LimitName) → passed tokens.now ≡ Some name → result ≡ Err (fault.Limit (record { which = name })) }
-    ensures only_syntax { passed tokens.now ≡ None → ((tree : File) → IsFile tokens.now tree → ⊥) → Gives {Y = File} file_of result None }
+    ensures only_limit { (name : LimitName) → passed tokens.now ≡ Some name
+        → result ≡ Err (fault.Limit (record { which = name })) }
+    ensures only_syntax { passed tokens.now ≡ None
+        → ((tree : File) → IsFile tokens.now tree → ⊥) → Gives {Y = File} file_of result None }
 {
     answer(alloc, tokens)
 }
@@ -43,5 +46,6 @@ fn answer(alloc: Global, tokens: &[Token]) -> Result<FileTree, ParseFault>
 
 /// A law of the definitions: no tokens have two trees.
 pub fn law_one_tree(tokens: &[Token])
-    ensures { (first second : File) → IsFile tokens.now first → IsFile tokens.now second → first ≡ second }
+    ensures { (first second : File) → IsFile tokens.now first
+        → IsFile tokens.now second → first ≡ second }
 {}

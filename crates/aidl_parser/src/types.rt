@@ -42,7 +42,8 @@ fn maybe_element<'a>(
     alloc: Global,
     tokens: &'a [Token],
 ) -> Result<(Option<DottedTree>, &'a [Token]), ParseFault>
-    ensures gives { Gives (λ x. (x.0, x.1.now)) result (part.maybe (part.begins mark.Less) read.element tokens.entry.now) }
+    ensures gives { Gives (λ x. (x.0, x.1.now)) result
+        (part.maybe (part.begins mark.Less) read.element tokens.entry.now) }
     ensures left { IfOk result (λ x. length x.1.now ≤ length tokens.entry.now) }
 {
     if begins(Symbol::Less, tokens) {

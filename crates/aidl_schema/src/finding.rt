@@ -64,7 +64,8 @@ fn end_order(text: &[u8]) -> Ordering
 
 // The text after a dot and this front, or how they stand to it, whatever follows.
 fn dot_order<'a>(front: &[u8], text: &'a [u8]) -> Result<&'a [u8], Ordering>
-    ensures { MatchResult result (λ rest. text.now ≡ 46 ∷ front.now ++ rest.now) (λ order. (more : List ℕ) → slice_cmp nat_cmp (46 ∷ front.now ++ more) text.now ≡ order) }
+    ensures { MatchResult result (λ rest. text.now ≡ 46 ∷ front.now ++ rest.now)
+        (λ order. (more : List ℕ) → slice_cmp nat_cmp (46 ∷ front.now ++ more) text.now ≡ order) }
 {
     match front_order(b".", text) {
         Ok(rest) => front_order(front, rest),
@@ -74,7 +75,8 @@ fn dot_order<'a>(front: &[u8], text: &'a [u8]) -> Result<&'a [u8], Ordering>
 
 // The text after this front, or how the front and whatever follows it stands to a text that doesn't begin so.
 fn front_order<'a>(front: &[u8], text: &'a [u8]) -> Result<&'a [u8], Ordering>
-    ensures { MatchResult result (λ rest. text.now ≡ front.now ++ rest.now) (λ order. (more : List ℕ) → slice_cmp nat_cmp (front.now ++ more) text.now ≡ order) }
+    ensures { MatchResult result (λ rest. text.now ≡ front.now ++ rest.now)
+        (λ order. (more : List ℕ) → slice_cmp nat_cmp (front.now ++ more) text.now ≡ order) }
 {
     let len = front.len().min(text.len());
     match front.cmp(&text[..len]) {

@@ -19,13 +19,16 @@ use crate::schema::{AidlType, Decl, Schema};
 pub fn law_same(a: &[Decl], t: &AidlType, b: &[Decl], u: &AidlType, c: &[Decl], w: &AidlType)
     ensures itself { is_type a.now t.now ≡ true → same a.now t.now a.now t.now ≡ true }
     ensures back { same a.now t.now b.now u.now ≡ true → same b.now u.now a.now t.now ≡ true }
-    ensures along { same a.now t.now b.now u.now ≡ true → same b.now u.now c.now w.now ≡ true → same a.now t.now c.now w.now ≡ true }
+    ensures along { same a.now t.now b.now u.now ≡ true
+        → same b.now u.now c.now w.now ≡ true → same a.now t.now c.now w.now ≡ true }
 {}
 
 /// The same of all types of two schemas at once: each is the same as itself, and what is the same is so the other way round.
 pub fn law_same_types(a: &Schema, b: &Schema)
-    ensures itself { (t : AidlType) → is_type a.now.decls t ≡ true → same a.now.decls t a.now.decls t ≡ true }
-    ensures back { (t u : AidlType) → same a.now.decls t b.now.decls u ≡ true → same b.now.decls u a.now.decls t ≡ true }
+    ensures itself { (t : AidlType) → is_type a.now.decls t ≡ true
+        → same a.now.decls t a.now.decls t ≡ true }
+    ensures back { (t u : AidlType) → same a.now.decls t b.now.decls u ≡ true
+        → same b.now.decls u a.now.decls t ≡ true }
 {}
 
 /// A declaration holds itself (E22) exactly where a chain of containment leads from it back to it, however long.
@@ -35,8 +38,10 @@ pub fn law_holds_itself(decls: &[Decl], number: u32)
 
 /// The sizes of a type's default follow from those of its fields' types, up to a depth of 33 and up to 513 nodes.
 pub fn law_default_sizes(decls: &[Decl], ty: &AidlType)
-    ensures depth { default_depth decls.now ty.now ≡ min 33 (depth_by decls.now (λ u. default_depth decls.now u) ty.now) }
-    ensures nodes { default_nodes decls.now ty.now ≡ min 513 (nodes_by decls.now (λ u. default_nodes decls.now u) ty.now) }
+    ensures depth { default_depth decls.now ty.now
+        ≡ min 33 (depth_by decls.now (λ u. default_depth decls.now u) ty.now) }
+    ensures nodes { default_nodes decls.now ty.now
+        ≡ min 513 (nodes_by decls.now (λ u. default_nodes decls.now u) ty.now) }
 {}
 
 /// What a schema gives since it is valid: what holds of each declaration (`Holds` names it), that their names rise and
@@ -55,7 +60,8 @@ pub fn law_valid(schema: &Schema)
 /// to a third, none is from the first to the third.
 pub fn law_chain(a: &Schema, b: &Schema, c: &Schema)
     ensures itself { broken a.now.decls a.now.decls ≡ [] }
-    ensures along { broken a.now.decls b.now.decls ≡ [] → broken b.now.decls c.now.decls ≡ [] → broken a.now.decls c.now.decls ≡ [] }
+    ensures along { broken a.now.decls b.now.decls ≡ []
+        → broken b.now.decls c.now.decls ≡ [] → broken a.now.decls c.now.decls ≡ [] }
 {}
 
 /// The list of broken rules is empty exactly where nothing is broken, rule by rule (`Unbroken` says it sentence by sentence).

@@ -13,8 +13,10 @@ use crate::tree::FileTree;
 
 /// A law of the definitions: the tokens of any bytes ascend, lie inside the bytes, and hold what their kind may hold.
 pub fn law_tokens(tokens: &[Token])
-    ensures ascend { (bytes : List ℕ) → Tokens bytes tokens.now → IsStrictlyIncreasing (map (λ t. t.offset) tokens.now) }
-    ensures inside { (bytes : List ℕ) → Tokens bytes tokens.now → All (λ t. t.offset < length bytes) tokens.now }
+    ensures ascend { (bytes : List ℕ) → Tokens bytes tokens.now
+        → IsStrictlyIncreasing (map (λ t. t.offset) tokens.now) }
+    ensures inside { (bytes : List ℕ) → Tokens bytes tokens.now
+        → All (λ t. t.offset < length bytes) tokens.now }
     ensures hold { (bytes : List ℕ) → Tokens bytes tokens.now → All (λ t. Holds t.kind) tokens.now }
 {}
 
@@ -22,9 +24,14 @@ pub fn law_tokens(tokens: &[Token])
 /// no two are the same, and lie inside the bytes; each name and each part of a dotted name is an identifier; each dotted
 /// name has a part; and each literal holds what its kind may hold.
 pub fn law_tree(tree: &FileTree)
-    ensures ascend { (bytes : List ℕ) → FileParse bytes tree.now → IsStrictlyIncreasing (places_of (file_of tree.now)) }
-    ensures inside { (bytes : List ℕ) → FileParse bytes tree.now → All (λ o. o < length bytes) (places_of (file_of tree.now)) }
-    ensures names { (bytes : List ℕ) → FileParse bytes tree.now → All (λ i. is_identifier i.0 ≡ true) (names_of (file_of tree.now)) }
-    ensures parts { (bytes : List ℕ) → FileParse bytes tree.now → All (λ d. 0 < length d.name.0) (dotted_of (file_of tree.now)) }
-    ensures literals { (bytes : List ℕ) → FileParse bytes tree.now → All (λ t. Holds t.kind) (literals_of (file_of tree.now)) }
+    ensures ascend { (bytes : List ℕ) → FileParse bytes tree.now
+        → IsStrictlyIncreasing (places_of (file_of tree.now)) }
+    ensures inside { (bytes : List ℕ) → FileParse bytes tree.now
+        → All (λ o. o < length bytes) (places_of (file_of tree.now)) }
+    ensures names { (bytes : List ℕ) → FileParse bytes tree.now
+        → All (λ i. is_identifier i.0 ≡ true) (names_of (file_of tree.now)) }
+    ensures parts { (bytes : List ℕ) → FileParse bytes tree.now
+        → All (λ d. 0 < length d.name.0) (dotted_of (file_of tree.now)) }
+    ensures literals { (bytes : List ℕ) → FileParse bytes tree.now
+        → All (λ t. Holds t.kind) (literals_of (file_of tree.now)) }
 {}

@@ -42,7 +42,8 @@ fn answered<S: Store>(
     api: &str,
     store: &mut S,
 ) -> Result<Result<Printed, Early>, StoreFault>
-    ensures acts { ActsAs (AsksBelow tree.now also AsksVersions api.now) (FreezeActs tree.now api.now)
+    ensures acts { ActsAs (AsksBelow tree.now also AsksVersions api.now)
+        (FreezeActs tree.now api.now)
         (S.kept store.old) (S.kept store.new) (S.fault_record store.new) result }
     ensures cause { StoreCause (S.fault_record store.old) (S.fault_record store.new) result }
 {

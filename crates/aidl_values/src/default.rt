@@ -30,7 +30,8 @@ pub fn default_of(alloc: Global, schema: &Schema, ty: &AidlType) -> Result<Value
 
 /// The default of a field: its initializer as a value, or else the default of its type.
 pub fn initial_of(alloc: Global, schema: &Schema, field: &Field) -> Result<Value, OutOfMemory>
-    ensures initial { IfOk result (λ v. IsFieldOf schema.now.decls field.now → IsInitial schema.now.decls field.now (view v)) }
+    ensures initial { IfOk result (λ v. IsFieldOf schema.now.decls field.now
+        → IsInitial schema.now.decls field.now (view v)) }
     ensures value { IfOk result (λ v. view v ≡ initial_in schema.now.decls field.now) }
 {
     law_valid(schema);
@@ -60,7 +61,8 @@ fn default_by(
     ty: AidlType,
     levels: usize,
 ) -> Result<Value, OutOfMemory>
-    ensures { IfOk result (λ v. view v ≡ zero_by schema.now.decls (λ u. zero_parts levels schema.now.decls u) ty) }
+    ensures { IfOk result (λ v. view v
+        ≡ zero_by schema.now.decls (λ u. zero_parts levels schema.now.decls u) ty) }
 {
     if ty.nullable {
         return Ok(Value::Null);
@@ -78,7 +80,8 @@ fn default_of_form(
     form: Form<'_>,
     levels: usize,
 ) -> Result<Value, OutOfMemory>
-    ensures { IfOk result (λ v. view v ≡ zero_of_form (λ u. zero_parts levels schema.now.decls u) (seen form.entry)) }
+    ensures { IfOk result (λ v. view v
+        ≡ zero_of_form (λ u. zero_parts levels schema.now.decls u) (seen form.entry)) }
 {
     match form {
         Form::Truth => Ok(Value::Truth(false)),
@@ -101,7 +104,8 @@ fn initials(
     fields: &[Field],
     levels: usize,
 ) -> Result<Row<Value>, OutOfMemory>
-    ensures { IfOk result (λ vs. views vs ≡ initials_by (λ u. zero_parts levels schema.now.decls u) fields.now) }
+    ensures { IfOk result (λ vs. views vs
+        ≡ initials_by (λ u. zero_parts levels schema.now.decls u) fields.now) }
 {
     let mut values = Vec::with_capacity(alloc, fields.len())?;
     for field in fields {
@@ -117,7 +121,8 @@ fn initial(
     field: &Field,
     levels: usize,
 ) -> Result<Value, OutOfMemory>
-    ensures { IfOk result (λ v. view v ≡ initial_by (λ u. zero_parts levels schema.now.decls u) field.now) }
+    ensures { IfOk result (λ v. view v
+        ≡ initial_by (λ u. zero_parts levels schema.now.decls u) field.now) }
 {
     match &field.initial {
         Some(constant) => value_of(alloc, constant),

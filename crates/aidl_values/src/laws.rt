@@ -19,7 +19,8 @@ use aidl_schema::{AidlType, Base, Decl, Field, Schema, law_valid};
 pub fn law_one_default(schema: &Schema, ty: &AidlType, value: &Value)
     requires { is_type schema.now.decls ty.now ≡ true }
     ensures there { IsZero schema.now.decls ty.now (zero_within 33 schema.now.decls ty.now) }
-    ensures only { IsZero schema.now.decls ty.now (view value.now) ↔ (view value.now ≡ zero_within 33 schema.now.decls ty.now) }
+    ensures only { IsZero schema.now.decls ty.now (view value.now)
+        ↔ (view value.now ≡ zero_within 33 schema.now.decls ty.now) }
 {
     law_valid(schema);
 }
@@ -58,21 +59,24 @@ pub fn law_sound(schema: &Schema)
 
 /// What is a default has at most 512 nodes.
 pub fn law_small_defaults(schema: &Schema)
-    ensures { (t : AidlType) (v : Data) → is_type schema.now.decls t ≡ true → IsZero schema.now.decls t v → nodes_of v ≤ 512 }
+    ensures { (t : AidlType) (v : Data) → is_type schema.now.decls t ≡ true
+        → IsZero schema.now.decls t v → nodes_of v ≤ 512 }
 {
     law_valid(schema);
 }
 
 /// What is a default has at most 32 levels.
 pub fn law_shallow_defaults(schema: &Schema)
-    ensures { (t : AidlType) (v : Data) → is_type schema.now.decls t ≡ true → IsZero schema.now.decls t v → depth_of v ≤ 32 }
+    ensures { (t : AidlType) (v : Data) → is_type schema.now.decls t ≡ true
+        → IsZero schema.now.decls t v → depth_of v ≤ 32 }
 {
     law_valid(schema);
 }
 
 /// What is found as the default of a type of the schema has the type.
 pub fn law_typed_defaults(schema: &Schema)
-    ensures { (t : AidlType) → is_type schema.now.decls t ≡ true → HasType schema.now.decls t (zero_within 33 schema.now.decls t) }
+    ensures { (t : AidlType) → is_type schema.now.decls t ≡ true
+        → HasType schema.now.decls t (zero_within 33 schema.now.decls t) }
 {
     law_valid(schema);
 }
@@ -80,15 +84,20 @@ pub fn law_typed_defaults(schema: &Schema)
 /// What E23 counts of a type's default is what the default has, of any declarations, valid or not: its depth up to 33, its
 /// nodes up to 513, and so E23 permits it exactly where it has at most 32 levels and 512 nodes.
 pub fn law_counted_defaults(decls: &[Decl])
-    ensures depth { (t : AidlType) (v : Data) → IsZero decls.now t v → default_depth decls.now t ≡ min 33 (depth_of v) }
-    ensures nodes { (t : AidlType) (v : Data) → IsZero decls.now t v → default_nodes decls.now t ≡ min 513 (nodes_of v) }
-    ensures small { (t : AidlType) (v : Data) → IsZero decls.now t v → IsTrue (has_small_default decls.now t) ↔ IsSmall v }
+    ensures depth { (t : AidlType) (v : Data)
+        → IsZero decls.now t v → default_depth decls.now t ≡ min 33 (depth_of v) }
+    ensures nodes { (t : AidlType) (v : Data)
+        → IsZero decls.now t v → default_nodes decls.now t ≡ min 513 (nodes_of v) }
+    ensures small { (t : AidlType) (v : Data)
+        → IsZero decls.now t v → IsTrue (has_small_default decls.now t) ↔ IsSmall v }
 {}
 
 /// Where the types of fields break no rule and each union has a field, each declaration that reaches no cycle of containment has a
 /// default, though the declarations needn't be valid. It has only one. So such a declaration breaks E23 exactly where that value is
 /// deeper than 32 levels or has more than 512 nodes (`law_counted_defaults`).
 pub fn law_default_ends(decls: &[Decl])
-    ensures there { HaveFieldTypes decls.now → (n : ℕ) → is_type decls.now (one_of n) ≡ true → ReachesNoCycle decls.now n → (v : Data) × IsZero decls.now (one_of n) v }
-    ensures only { (t : AidlType) (v w : Data) → IsZero decls.now t v → IsZero decls.now t w → v ≡ w }
+    ensures there { HaveFieldTypes decls.now → (n : ℕ) → is_type decls.now (one_of n) ≡ true
+        → ReachesNoCycle decls.now n → (v : Data) × IsZero decls.now (one_of n) v }
+    ensures only { (t : AidlType) (v w : Data)
+        → IsZero decls.now t v → IsZero decls.now t w → v ≡ w }
 {}

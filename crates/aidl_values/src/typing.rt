@@ -100,7 +100,8 @@ fn are_numbers_of(schema: &Schema, ty: AidlType, numbers: &Numbers) -> bool
 // Whether a union has a field at the position, and the value is of its type.
 #[cycle(typing)]
 fn is_of_field(schema: &Schema, fields: &[Field], tag: u32, value: &Value) -> bool
-    ensures { result ≡ of_field (slice_get fields.now tag) (λ u. has_type_of schema.now.decls u (view value.now)) }
+    ensures { result ≡ of_field (slice_get fields.now tag)
+        (λ u. has_type_of schema.now.decls u (view value.now)) }
 {
     match fields.get(tag as usize) {
         Some(field) => is_of(schema, field.ty, value),

@@ -20,7 +20,8 @@ pub fn push_front(
     decl: &Decl,
 ) -> Result<(), OutOfMemory>
     requires { depth ≤ 4294967296 }
-    ensures { OnOk result (string_bytes out.new ≡ string_bytes out.old ++ text_of (meant.front decls.now depth decl.now)) }
+    ensures { OnOk result (string_bytes out.new
+        ≡ string_bytes out.old ++ text_of (meant.front decls.now depth decl.now)) }
 {
     push_indent(out, depth)?;
     push_annotations(out, decl)?;
@@ -31,7 +32,8 @@ pub fn push_front(
 
 /// Appends the brace that closes a declaration.
 pub fn push_closing(out: &mut String, depth: usize) -> Result<(), OutOfMemory>
-    ensures { OnOk result (string_bytes out.new ≡ string_bytes out.old ++ text_of (meant.closing depth)) }
+    ensures { OnOk result (string_bytes out.new
+        ≡ string_bytes out.old ++ text_of (meant.closing depth)) }
 {
     push_indent(out, depth)?;
     out.push_str("}\n")?;
@@ -40,7 +42,8 @@ pub fn push_closing(out: &mut String, depth: usize) -> Result<(), OutOfMemory>
 
 // Appends two spaces a level.
 fn push_indent(out: &mut String, depth: usize) -> Result<(), OutOfMemory>
-    ensures { OnOk result (string_bytes out.new ≡ string_bytes out.old ++ text_of (meant.indent depth)) }
+    ensures { OnOk result (string_bytes out.new
+        ≡ string_bytes out.old ++ text_of (meant.indent depth)) }
 {
     let mut left = depth;
     while left > 0 {
@@ -52,7 +55,8 @@ fn push_indent(out: &mut String, depth: usize) -> Result<(), OutOfMemory>
 
 // Appends the annotations that are kept.
 fn push_annotations(out: &mut String, decl: &Decl) -> Result<(), OutOfMemory>
-    ensures { OnOk result (string_bytes out.new ≡ string_bytes out.old ++ text_of (meant.annotations decl.now)) }
+    ensures { OnOk result (string_bytes out.new
+        ≡ string_bytes out.old ++ text_of (meant.annotations decl.now)) }
 {
     push_backing(out, &decl.kind)?;
     push_fixed(out, decl.fixed)?;
@@ -61,7 +65,8 @@ fn push_annotations(out: &mut String, decl: &Decl) -> Result<(), OutOfMemory>
 }
 
 fn push_backing(out: &mut String, kind: &Kind) -> Result<(), OutOfMemory>
-    ensures { OnOk result (string_bytes out.new ≡ string_bytes out.old ++ text_of (meant.backing_mark kind.now)) }
+    ensures { OnOk result (string_bytes out.new
+        ≡ string_bytes out.old ++ text_of (meant.backing_mark kind.now)) }
 {
     match kind {
         Kind::Enum(backing, _) => push_backed(out, *backing),
@@ -73,7 +78,8 @@ fn push_backing(out: &mut String, kind: &Kind) -> Result<(), OutOfMemory>
 
 #[tactic(auto, unfolding(crate::specs::Pieces::spelling))]
 fn push_backed(out: &mut String, backing: Backing) -> Result<(), OutOfMemory>
-    ensures { OnOk result (string_bytes out.new ≡ string_bytes out.old ++ text_of (meant.backed backing)) }
+    ensures { OnOk result (string_bytes out.new
+        ≡ string_bytes out.old ++ text_of (meant.backed backing)) }
 {
     match backing {
         Backing::Byte => out.push_str("@Backing(type=\"byte\") ")?,
@@ -85,7 +91,8 @@ fn push_backed(out: &mut String, backing: Backing) -> Result<(), OutOfMemory>
 
 #[tactic(auto, unfolding(crate::specs::Pieces::spelling))]
 fn push_fixed(out: &mut String, fixed: bool) -> Result<(), OutOfMemory>
-    ensures { OnOk result (string_bytes out.new ≡ string_bytes out.old ++ text_of (flag (codes "FixedSize") fixed)) }
+    ensures { OnOk result (string_bytes out.new
+        ≡ string_bytes out.old ++ text_of (flag (codes "FixedSize") fixed)) }
 {
     if fixed {
         out.push_str("@FixedSize ")?;
@@ -95,7 +102,8 @@ fn push_fixed(out: &mut String, fixed: bool) -> Result<(), OutOfMemory>
 
 #[tactic(auto, unfolding(crate::specs::Pieces::spelling))]
 fn push_vintf(out: &mut String, vintf: bool) -> Result<(), OutOfMemory>
-    ensures { OnOk result (string_bytes out.new ≡ string_bytes out.old ++ text_of (flag (codes "VintfStability") vintf)) }
+    ensures { OnOk result (string_bytes out.new
+        ≡ string_bytes out.old ++ text_of (flag (codes "VintfStability") vintf)) }
 {
     if vintf {
         out.push_str("@VintfStability ")?;
@@ -105,7 +113,8 @@ fn push_vintf(out: &mut String, vintf: bool) -> Result<(), OutOfMemory>
 
 // Appends the kind, the simple name and the brace that opens a declaration.
 fn push_heading(out: &mut String, decl: &Decl) -> Result<(), OutOfMemory>
-    ensures { OnOk result (string_bytes out.new ≡ string_bytes out.old ++ text_of (meant.heading decl.now)) }
+    ensures { OnOk result (string_bytes out.new
+        ≡ string_bytes out.old ++ text_of (meant.heading decl.now)) }
 {
     push_kind(out, &decl.kind)?;
     push_last(out, decl.name.0.as_slice())?;
@@ -115,7 +124,8 @@ fn push_heading(out: &mut String, decl: &Decl) -> Result<(), OutOfMemory>
 
 #[tactic(auto, unfolding(crate::specs::Pieces::spelling))]
 fn push_kind(out: &mut String, kind: &Kind) -> Result<(), OutOfMemory>
-    ensures { OnOk result (string_bytes out.new ≡ string_bytes out.old ++ text_of (reserved (meant.kind_word kind.now) ∷ space ∷ [])) }
+    ensures { OnOk result (string_bytes out.new
+        ≡ string_bytes out.old ++ text_of (reserved (meant.kind_word kind.now) ∷ space ∷ [])) }
 {
     match kind {
         Kind::Interface(_) => out.push_str("interface ")?,
@@ -133,7 +143,8 @@ fn push_own_lines(
     depth: usize,
     decl: &Decl,
 ) -> Result<(), OutOfMemory>
-    ensures { OnOk result (string_bytes out.new ≡ string_bytes out.old ++ text_of (meant.own_lines decls.now depth decl.now)) }
+    ensures { OnOk result (string_bytes out.new
+        ≡ string_bytes out.old ++ text_of (meant.own_lines decls.now depth decl.now)) }
 {
     push_members(out, decls, depth, &decl.kind)?;
     push_constants(out, decls, depth, decl.constants.as_slice())?;
@@ -146,7 +157,8 @@ fn push_members(
     depth: usize,
     kind: &Kind,
 ) -> Result<(), OutOfMemory>
-    ensures { OnOk result (string_bytes out.new ≡ string_bytes out.old ++ text_of (meant.member_lines decls.now depth kind.now)) }
+    ensures { OnOk result (string_bytes out.new
+        ≡ string_bytes out.old ++ text_of (meant.member_lines decls.now depth kind.now)) }
 {
     match kind {
         Kind::Interface(methods) => push_methods(out, decls, depth, methods.as_slice()),
@@ -162,7 +174,8 @@ fn push_methods(
     depth: usize,
     methods: &[Method],
 ) -> Result<(), OutOfMemory>
-    ensures { OnOk result (string_bytes out.new ≡ string_bytes out.old ++ text_of (flat_map (λ x. meant.indent depth ++ method decls.now x) methods.now)) }
+    ensures { OnOk result (string_bytes out.new ≡ string_bytes out.old ++ text_of
+        (flat_map (λ x. meant.indent depth ++ method decls.now x) methods.now)) }
 {
     for each in methods {
         push_indent(out, depth)?;
@@ -177,7 +190,8 @@ fn push_fields(
     depth: usize,
     fields: &[Field],
 ) -> Result<(), OutOfMemory>
-    ensures { OnOk result (string_bytes out.new ≡ string_bytes out.old ++ text_of (flat_map (λ x. meant.indent depth ++ field decls.now x) fields.now)) }
+    ensures { OnOk result (string_bytes out.new ≡ string_bytes out.old ++ text_of
+        (flat_map (λ x. meant.indent depth ++ field decls.now x) fields.now)) }
 {
     for each in fields {
         push_indent(out, depth)?;
@@ -192,7 +206,8 @@ fn push_enumerators(
     backing: Backing,
     items: &[Enumerator],
 ) -> Result<(), OutOfMemory>
-    ensures { OnOk result (string_bytes out.new ≡ string_bytes out.old ++ text_of (flat_map (λ x. meant.indent depth ++ enumerator backing x) items.now)) }
+    ensures { OnOk result (string_bytes out.new ≡ string_bytes out.old ++ text_of
+        (flat_map (λ x. meant.indent depth ++ enumerator backing x) items.now)) }
 {
     for each in items {
         push_indent(out, depth)?;
@@ -207,7 +222,8 @@ fn push_constants(
     depth: usize,
     constants: &[Constant],
 ) -> Result<(), OutOfMemory>
-    ensures { OnOk result (string_bytes out.new ≡ string_bytes out.old ++ text_of (flat_map (λ x. meant.indent depth ++ constant decls.now x) constants.now)) }
+    ensures { OnOk result (string_bytes out.new ≡ string_bytes out.old ++ text_of
+        (flat_map (λ x. meant.indent depth ++ constant decls.now x) constants.now)) }
 {
     for each in constants {
         push_indent(out, depth)?;

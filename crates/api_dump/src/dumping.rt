@@ -34,7 +34,8 @@ fn texts(
 ) -> Result<BTreeMap<String, String>, OutOfMemory>
     requires table { IsTable decls.now rows.now }
     requires few { length decls.now ≤ 16384 }
-    ensures { IfOk result (λ texts. map (λ e. (string_bytes e.0, string_bytes e.1)) texts.entries ≡ meant.dump_text decls.now) }
+    ensures { IfOk result (λ texts. map (λ e. (string_bytes e.0, string_bytes e.1)) texts.entries
+        ≡ meant.dump_text decls.now) }
 {
     let mut texts = BTreeMap::new(alloc);
     for (i, decl) in decls.iter().enumerate() {
@@ -54,7 +55,9 @@ fn add_file(
 ) -> Result<(), OutOfMemory>
     requires table { IsTable decls.now rows.now }
     requires few { length decls.now ≤ 16384 }
-    ensures { OnOk result (map (λ e. (string_bytes e.0, string_bytes e.1)) texts.new.entries ≡ with_file decls.now (number, decl.now) (map (λ e. (string_bytes e.0, string_bytes e.1)) texts.old.entries)) }
+    ensures { OnOk result (map (λ e. (string_bytes e.0, string_bytes e.1)) texts.new.entries
+        ≡ with_file decls.now (number, decl.now)
+        (map (λ e. (string_bytes e.0, string_bytes e.1)) texts.old.entries)) }
 {
     if decl.outer.is_none() {
         let path = path_of(alloc, decl.name.0.as_slice())?;
@@ -84,7 +87,8 @@ fn text_of(
 ) -> Result<String, OutOfMemory>
     requires table { IsTable decls.now rows.now }
     requires few { length decls.now ≤ 16384 }
-    ensures { IfOk result (λ text. string_bytes text ≡ text_of (meant.file_pieces decls.now (number, decl.now))) }
+    ensures { IfOk result (λ text. string_bytes text
+        ≡ text_of (meant.file_pieces decls.now (number, decl.now))) }
 {
     let mut text = String::new(alloc);
     push_package(&mut text, decl.name.0.as_slice())?;
@@ -94,7 +98,8 @@ fn text_of(
 
 // Appends the line of the package of a canonical name, where there is one.
 fn push_package(out: &mut String, parts: &[Ident]) -> Result<(), OutOfMemory>
-    ensures { OnOk result (string_bytes out.new ≡ string_bytes out.old ++ text_of (meant.package_line (without_last parts.now))) }
+    ensures { OnOk result (string_bytes out.new
+        ≡ string_bytes out.old ++ text_of (meant.package_line (without_last parts.now))) }
 {
     match parts {
         [] => Ok(()),
@@ -103,7 +108,8 @@ fn push_package(out: &mut String, parts: &[Ident]) -> Result<(), OutOfMemory>
 }
 
 fn push_package_line(out: &mut String, parts: &[Ident]) -> Result<(), OutOfMemory>
-    ensures { OnOk result (string_bytes out.new ≡ string_bytes out.old ++ text_of (meant.package_line parts.now)) }
+    ensures { OnOk result (string_bytes out.new
+        ≡ string_bytes out.old ++ text_of (meant.package_line parts.now)) }
 {
     match parts {
         [] => Ok(()),
@@ -121,7 +127,8 @@ fn listed(
     alloc: Global,
     mut texts: BTreeMap<String, String>,
 ) -> Result<Row<SourceFile>, OutOfMemory>
-    ensures { IfOk result (λ files. map meant.seen files ≡ map (λ e. (string_bytes e.0, string_bytes e.1)) texts.entries) }
+    ensures { IfOk result (λ files. map meant.seen files
+        ≡ map (λ e. (string_bytes e.0, string_bytes e.1)) texts.entries) }
 {
     let mut files = Vec::with_capacity(alloc, texts.len())?;
     'texts: while let Some((path, text)) = texts.pop_first() {

@@ -15,7 +15,8 @@ use std::fmt::Write;
 
 /// Appends the line of a field.
 pub fn push_field(out: &mut String, decls: &[Decl], field: &Field) -> Result<(), OutOfMemory>
-    ensures { OnOk result (string_bytes out.new ≡ string_bytes out.old ++ text_of (meant.field decls.now field.now)) }
+    ensures { OnOk result (string_bytes out.new
+        ≡ string_bytes out.old ++ text_of (meant.field decls.now field.now)) }
 {
     push_marks(out, &field.ty)?;
     push_type(out, decls, &field.ty)?;
@@ -31,7 +32,8 @@ pub fn push_constant(
     decls: &[Decl],
     constant: &Constant,
 ) -> Result<(), OutOfMemory>
-    ensures { OnOk result (string_bytes out.new ≡ string_bytes out.old ++ text_of (meant.constant decls.now constant.now)) }
+    ensures { OnOk result (string_bytes out.new
+        ≡ string_bytes out.old ++ text_of (meant.constant decls.now constant.now)) }
 {
     out.push_str("const ")?;
     push_base(out, decls, constant.ty)?;
@@ -44,7 +46,8 @@ pub fn push_constant(
 
 /// Appends the line of a method.
 pub fn push_method(out: &mut String, decls: &[Decl], method: &Method) -> Result<(), OutOfMemory>
-    ensures { OnOk result (string_bytes out.new ≡ string_bytes out.old ++ text_of (meant.method decls.now method.now)) }
+    ensures { OnOk result (string_bytes out.new
+        ≡ string_bytes out.old ++ text_of (meant.method decls.now method.now)) }
 {
     push_oneway(out, method.oneway)?;
     push_returned(out, decls, &method.result)?;
@@ -56,7 +59,8 @@ pub fn push_method(out: &mut String, decls: &[Decl], method: &Method) -> Result<
 
 #[tactic(auto, unfolding(crate::specs::Pieces::spelling))]
 fn push_oneway(out: &mut String, oneway: bool) -> Result<(), OutOfMemory>
-    ensures { OnOk result (string_bytes out.new ≡ string_bytes out.old ++ text_of (meant.oneway oneway)) }
+    ensures { OnOk result (string_bytes out.new
+        ≡ string_bytes out.old ++ text_of (meant.oneway oneway)) }
 {
     if oneway {
         out.push_str("oneway ")?;
@@ -71,7 +75,8 @@ fn push_returned(
     decls: &[Decl],
     result_type: &Option<AidlType>,
 ) -> Result<(), OutOfMemory>
-    ensures { OnOk result (string_bytes out.new ≡ string_bytes out.old ++ text_of (meant.returned decls.now result_type.now)) }
+    ensures { OnOk result (string_bytes out.new
+        ≡ string_bytes out.old ++ text_of (meant.returned decls.now result_type.now)) }
 {
     match result_type {
         None => {
@@ -84,7 +89,8 @@ fn push_returned(
 
 // Appends a type and what stands before it.
 fn push_whole_type(out: &mut String, decls: &[Decl], ty: &AidlType) -> Result<(), OutOfMemory>
-    ensures { OnOk result (string_bytes out.new ≡ string_bytes out.old ++ text_of (meant.whole_type decls.now ty.now)) }
+    ensures { OnOk result (string_bytes out.new
+        ≡ string_bytes out.old ++ text_of (meant.whole_type decls.now ty.now)) }
 {
     push_marks(out, ty)?;
     push_type(out, decls, ty)?;
@@ -93,7 +99,8 @@ fn push_whole_type(out: &mut String, decls: &[Decl], ty: &AidlType) -> Result<()
 
 // Appends the arguments in parentheses.
 fn push_arguments(out: &mut String, decls: &[Decl], args: &[Arg]) -> Result<(), OutOfMemory>
-    ensures { OnOk result (string_bytes out.new ≡ string_bytes out.old ++ text_of (meant.arguments decls.now args.now)) }
+    ensures { OnOk result (string_bytes out.new
+        ≡ string_bytes out.old ++ text_of (meant.arguments decls.now args.now)) }
 {
     out.push_str("(")?;
     push_joined(out, decls, args)?;
@@ -103,7 +110,8 @@ fn push_arguments(out: &mut String, decls: &[Decl], args: &[Arg]) -> Result<(), 
 
 // Appends arguments joined by commas.
 fn push_joined(out: &mut String, decls: &[Decl], args: &[Arg]) -> Result<(), OutOfMemory>
-    ensures { OnOk result (string_bytes out.new ≡ string_bytes out.old ++ text_of (joined (λ a. meant.argument decls.now a) args.now)) }
+    ensures { OnOk result (string_bytes out.new
+        ≡ string_bytes out.old ++ text_of (joined (λ a. meant.argument decls.now a) args.now)) }
 {
     match args {
         [] => Ok(()),
@@ -117,7 +125,8 @@ fn push_joined(out: &mut String, decls: &[Decl], args: &[Arg]) -> Result<(), Out
 
 // Appends arguments, each behind a comma.
 fn push_others(out: &mut String, decls: &[Decl], args: &[Arg]) -> Result<(), OutOfMemory>
-    ensures { OnOk result (string_bytes out.new ≡ string_bytes out.old ++ text_of (flat_map (λ a. sign mark.Comma ∷ space ∷ meant.argument decls.now a) args.now)) }
+    ensures { OnOk result (string_bytes out.new ≡ string_bytes out.old ++ text_of
+        (flat_map (λ a. sign mark.Comma ∷ space ∷ meant.argument decls.now a) args.now)) }
 {
     for arg in args {
         out.push_str(", ")?;
@@ -128,7 +137,8 @@ fn push_others(out: &mut String, decls: &[Decl], args: &[Arg]) -> Result<(), Out
 
 // Appends an argument.
 fn push_argument(out: &mut String, decls: &[Decl], arg: &Arg) -> Result<(), OutOfMemory>
-    ensures { OnOk result (string_bytes out.new ≡ string_bytes out.old ++ text_of (meant.argument decls.now arg.now)) }
+    ensures { OnOk result (string_bytes out.new
+        ≡ string_bytes out.old ++ text_of (meant.argument decls.now arg.now)) }
 {
     push_way(out, arg.way)?;
     push_marks(out, &arg.ty)?;
@@ -139,7 +149,8 @@ fn push_argument(out: &mut String, decls: &[Decl], arg: &Arg) -> Result<(), OutO
 
 #[tactic(auto, unfolding(crate::specs::Pieces::spelling))]
 fn push_way(out: &mut String, way: Direction) -> Result<(), OutOfMemory>
-    ensures { OnOk result (string_bytes out.new ≡ string_bytes out.old ++ text_of (reserved (meant.way way) ∷ space ∷ [])) }
+    ensures { OnOk result (string_bytes out.new
+        ≡ string_bytes out.old ++ text_of (reserved (meant.way way) ∷ space ∷ [])) }
 {
     match way {
         Direction::In => out.push_str("in ")?,
@@ -152,7 +163,8 @@ fn push_way(out: &mut String, way: Direction) -> Result<(), OutOfMemory>
 // Appends the end of the line of a method.
 #[tactic(auto, unfolding(crate::specs::Pieces::spelling))]
 fn push_id(out: &mut String, id: u32) -> Result<(), OutOfMemory>
-    ensures { OnOk result (string_bytes out.new ≡ string_bytes out.old ++ text_of (meant.identity id)) }
+    ensures { OnOk result (string_bytes out.new
+        ≡ string_bytes out.old ++ text_of (meant.identity id)) }
 {
     write!(out, " = {id};\n")?;
     Ok(())
@@ -164,7 +176,8 @@ pub fn push_enumerator(
     backing: Backing,
     enumerator: &Enumerator,
 ) -> Result<(), OutOfMemory>
-    ensures { OnOk result (string_bytes out.new ≡ string_bytes out.old ++ text_of (meant.enumerator backing enumerator.now)) }
+    ensures { OnOk result (string_bytes out.new
+        ≡ string_bytes out.old ++ text_of (meant.enumerator backing enumerator.now)) }
 {
     out.push_str(enumerator.name.0.as_str())?;
     out.push_str(" = ")?;

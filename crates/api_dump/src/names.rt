@@ -11,7 +11,8 @@ use aidl_base::{Ident, OutOfMemory};
 /// Appends identifiers joined by dots.
 #[tactic(auto, unfolding(crate::specs::Pieces::spelling))]
 pub fn push_dotted(out: &mut String, parts: &[Ident]) -> Result<(), OutOfMemory>
-    ensures { OnOk result (string_bytes out.new ≡ string_bytes out.old ++ text_of (dotted parts.now)) }
+    ensures { OnOk result (string_bytes out.new
+        ≡ string_bytes out.old ++ text_of (dotted parts.now)) }
 {
     match parts {
         [] => Ok(()),
@@ -25,7 +26,8 @@ pub fn push_dotted(out: &mut String, parts: &[Ident]) -> Result<(), OutOfMemory>
 // Appends identifiers, each behind a dot.
 #[tactic(auto, unfolding(crate::specs::Pieces::spelling))]
 fn push_others(out: &mut String, parts: &[Ident]) -> Result<(), OutOfMemory>
-    ensures { OnOk result (string_bytes out.new ≡ string_bytes out.old ++ text_of (flat_map (λ j. sign mark.Dot ∷ name j ∷ []) parts.now)) }
+    ensures { OnOk result (string_bytes out.new
+        ≡ string_bytes out.old ++ text_of (flat_map (λ j. sign mark.Dot ∷ name j ∷ []) parts.now)) }
 {
     for part in parts {
         out.push_str(".")?;
@@ -37,7 +39,8 @@ fn push_others(out: &mut String, parts: &[Ident]) -> Result<(), OutOfMemory>
 /// Appends a space and a name.
 #[tactic(auto, unfolding(crate::specs::Pieces::spelling))]
 pub fn push_name(out: &mut String, label: &Ident) -> Result<(), OutOfMemory>
-    ensures { OnOk result (string_bytes out.new ≡ string_bytes out.old ++ text_of (space ∷ name label.now ∷ [])) }
+    ensures { OnOk result (string_bytes out.new
+        ≡ string_bytes out.old ++ text_of (space ∷ name label.now ∷ [])) }
 {
     out.push_str(" ")?;
     out.push_str(label.0.as_str())?;
@@ -47,7 +50,8 @@ pub fn push_name(out: &mut String, label: &Ident) -> Result<(), OutOfMemory>
 /// Appends the last part of a name.
 #[tactic(auto, unfolding(crate::specs::Pieces::spelling))]
 pub fn push_last(out: &mut String, parts: &[Ident]) -> Result<(), OutOfMemory>
-    ensures { OnOk result (string_bytes out.new ≡ string_bytes out.old ++ text_of (name (ident (last_part parts.now)) ∷ [])) }
+    ensures { OnOk result (string_bytes out.new
+        ≡ string_bytes out.old ++ text_of (name (ident (last_part parts.now)) ∷ [])) }
 {
     match parts {
         [] => Ok(()),

@@ -20,7 +20,8 @@ pub fn push_declaration(
 ) -> Result<(), OutOfMemory>
     requires table { IsTable decls.now rows.now }
     requires deep { depth + levels ≤ 4294967296 }
-    ensures { OnOk result (string_bytes out.new ≡ string_bytes out.old ++ text_of (meant.declaration decls.now levels depth number)) }
+    ensures { OnOk result (string_bytes out.new
+        ≡ string_bytes out.old ++ text_of (meant.declaration decls.now levels depth number)) }
 {
     match decls.get(number as usize) {
         None => Ok(()),
@@ -46,7 +47,8 @@ fn push_nested(
     requires table { IsTable decls.now rows.now }
     requires deep { depth + levels ≤ 4294967296 }
     requires there { number < length decls.now }
-    ensures { OnOk result (string_bytes out.new ≡ string_bytes out.old ++ text_of (meant.nested_lines decls.now levels (suc depth) number)) }
+    ensures { OnOk result (string_bytes out.new ≡ string_bytes out.old ++ text_of
+        (meant.nested_lines decls.now levels (suc depth) number)) }
 {
     if levels == 0 {
         return Ok(());

@@ -21,7 +21,8 @@ pub fn push_slashed(out: &mut String, parts: &[Ident]) -> Result<(), OutOfMemory
 
 // Appends identifiers, each behind `/`.
 fn push_behind_slashes(out: &mut String, parts: &[Ident]) -> Result<(), OutOfMemory>
-    ensures { OnOk result (string_bytes out.new ≡ string_bytes out.old ++ flat_map (λ j. 47 ∷ encode_utf8_all j.0) parts.now) }
+    ensures { OnOk result (string_bytes out.new
+        ≡ string_bytes out.old ++ flat_map (λ j. 47 ∷ encode_utf8_all j.0) parts.now) }
 {
     for part in parts {
         out.push_str("/")?;

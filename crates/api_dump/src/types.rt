@@ -10,7 +10,8 @@ use aidl_schema::{AidlType, Base, Decl, Shape};
 /// Appends what stands before a type.
 #[tactic(auto, using(crate::proofs::lemmas::Texts::text_append), unfolding(crate::specs::Pieces::spelling))]
 pub fn push_marks(out: &mut String, ty: &AidlType) -> Result<(), OutOfMemory>
-    ensures { OnOk result (string_bytes out.new ≡ string_bytes out.old ++ text_of (meant.marks ty.now)) }
+    ensures { OnOk result (string_bytes out.new
+        ≡ string_bytes out.old ++ text_of (meant.marks ty.now)) }
 {
     push_nullable(out, ty.nullable, ty.heap)?;
     push_utf8(out, ty.utf8)
@@ -18,7 +19,8 @@ pub fn push_marks(out: &mut String, ty: &AidlType) -> Result<(), OutOfMemory>
 
 #[tactic(auto, unfolding(crate::specs::Pieces::spelling))]
 fn push_nullable(out: &mut String, is_nullable: bool, heap: bool) -> Result<(), OutOfMemory>
-    ensures { OnOk result (string_bytes out.new ≡ string_bytes out.old ++ text_of (meant.nullable is_nullable heap)) }
+    ensures { OnOk result (string_bytes out.new
+        ≡ string_bytes out.old ++ text_of (meant.nullable is_nullable heap)) }
 {
     if is_nullable && heap {
         out.push_str("@nullable(heap=true) ")?;
@@ -30,7 +32,8 @@ fn push_nullable(out: &mut String, is_nullable: bool, heap: bool) -> Result<(), 
 
 #[tactic(auto, unfolding(crate::specs::Pieces::spelling))]
 fn push_utf8(out: &mut String, utf8: bool) -> Result<(), OutOfMemory>
-    ensures { OnOk result (string_bytes out.new ≡ string_bytes out.old ++ text_of (meant.flag (codes "utf8InCpp") utf8)) }
+    ensures { OnOk result (string_bytes out.new
+        ≡ string_bytes out.old ++ text_of (meant.flag (codes "utf8InCpp") utf8)) }
 {
     if utf8 {
         out.push_str("@utf8InCpp ")?;
@@ -41,7 +44,8 @@ fn push_utf8(out: &mut String, utf8: bool) -> Result<(), OutOfMemory>
 /// Appends a type without what stands before it.
 #[tactic(auto, using(crate::proofs::lemmas::Texts::text_append), unfolding(crate::specs::Pieces::spelling))]
 pub fn push_type(out: &mut String, decls: &[Decl], ty: &AidlType) -> Result<(), OutOfMemory>
-    ensures { OnOk result (string_bytes out.new ≡ string_bytes out.old ++ text_of (meant.plain_type decls.now ty.now)) }
+    ensures { OnOk result (string_bytes out.new
+        ≡ string_bytes out.old ++ text_of (meant.plain_type decls.now ty.now)) }
 {
     match ty.shape {
         Shape::One => push_base(out, decls, ty.base),
@@ -62,7 +66,8 @@ pub fn push_type(out: &mut String, decls: &[Decl], ty: &AidlType) -> Result<(), 
 /// Appends a built-in name, or the canonical name of a declaration.
 #[tactic(auto, unfolding(crate::specs::Pieces::spelling))]
 pub fn push_base(out: &mut String, decls: &[Decl], base: Base) -> Result<(), OutOfMemory>
-    ensures { OnOk result (string_bytes out.new ≡ string_bytes out.old ++ text_of (dotted (meant.base_name decls.now base))) }
+    ensures { OnOk result (string_bytes out.new
+        ≡ string_bytes out.old ++ text_of (dotted (meant.base_name decls.now base))) }
 {
     match base {
         Base::Boolean => out.push_str("boolean")?,
@@ -77,7 +82,8 @@ pub fn push_base(out: &mut String, decls: &[Decl], base: Base) -> Result<(), Out
 }
 
 fn push_declared(out: &mut String, decls: &[Decl], number: u32) -> Result<(), OutOfMemory>
-    ensures { OnOk result (string_bytes out.new ≡ string_bytes out.old ++ text_of (dotted (meant.declared_name (slice_get decls.now number)))) }
+    ensures { OnOk result (string_bytes out.new ≡ string_bytes out.old ++ text_of
+        (dotted (meant.declared_name (slice_get decls.now number)))) }
 {
     match decls.get(number as usize) {
         Some(decl) => push_dotted(out, decl.name.0.as_slice()),

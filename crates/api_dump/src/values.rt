@@ -23,7 +23,8 @@ pub fn push_initial(
     ty: &AidlType,
     initial: &Option<Const>,
 ) -> Result<(), OutOfMemory>
-    ensures { OnOk result (string_bytes out.new ≡ string_bytes out.old ++ text_of (meant.initial decls.now ty.now initial.now)) }
+    ensures { OnOk result (string_bytes out.new
+        ≡ string_bytes out.old ++ text_of (meant.initial decls.now ty.now initial.now)) }
 {
     match initial {
         None => Ok(()),
@@ -40,7 +41,8 @@ fn push_initial_value(
     ty: &AidlType,
     constant: &Const,
 ) -> Result<(), OutOfMemory>
-    ensures { OnOk result (string_bytes out.new ≡ string_bytes out.old ++ text_of (meant.initial_value decls.now ty.now constant.now)) }
+    ensures { OnOk result (string_bytes out.new
+        ≡ string_bytes out.old ++ text_of (meant.initial_value decls.now ty.now constant.now)) }
 {
     match ty.shape {
         Shape::One => push_value(out, decls, ty.base, constant),
@@ -57,7 +59,8 @@ fn push_braced(
     base: Base,
     constant: &Const,
 ) -> Result<(), OutOfMemory>
-    ensures { OnOk result (string_bytes out.new ≡ string_bytes out.old ++ text_of (meant.braced decls.now base (out-Const constant.now))) }
+    ensures { OnOk result (string_bytes out.new
+        ≡ string_bytes out.old ++ text_of (meant.braced decls.now base (out-Const constant.now))) }
 {
     match constant {
         Const::Members(members) => push_list(out, decls, base, members.as_slice()),
@@ -74,7 +77,9 @@ fn push_list(
     base: Base,
     constants: &[Const],
 ) -> Result<(), OutOfMemory>
-    ensures { OnOk result (string_bytes out.new ≡ string_bytes out.old ++ text_of (sign mark.OpenBrace ∷ (joined (λ c. meant.value decls.now base c) constants.now ++ (sign mark.CloseBrace ∷ [])))) }
+    ensures { OnOk result (string_bytes out.new
+        ≡ string_bytes out.old ++ text_of (sign mark.OpenBrace ∷ (joined
+        (λ c. meant.value decls.now base c) constants.now ++ (sign mark.CloseBrace ∷ [])))) }
 {
     out.push_str("{")?;
     push_values(out, decls, base, constants)?;
@@ -89,7 +94,8 @@ fn push_values(
     base: Base,
     constants: &[Const],
 ) -> Result<(), OutOfMemory>
-    ensures { OnOk result (string_bytes out.new ≡ string_bytes out.old ++ text_of (joined (λ c. meant.value decls.now base c) constants.now)) }
+    ensures { OnOk result (string_bytes out.new ≡ string_bytes out.old ++ text_of
+        (joined (λ c. meant.value decls.now base c) constants.now)) }
 {
     match constants {
         [] => Ok(()),
@@ -109,7 +115,8 @@ fn push_others(
     base: Base,
     constants: &[Const],
 ) -> Result<(), OutOfMemory>
-    ensures { OnOk result (string_bytes out.new ≡ string_bytes out.old ++ text_of (flat_map (λ c. sign mark.Comma ∷ space ∷ meant.value decls.now base c) constants.now)) }
+    ensures { OnOk result (string_bytes out.new ≡ string_bytes out.old ++ text_of
+        (flat_map (λ c. sign mark.Comma ∷ space ∷ meant.value decls.now base c) constants.now)) }
 {
     for constant in constants {
         out.push_str(", ")?;
@@ -126,7 +133,8 @@ pub fn push_value(
     base: Base,
     constant: &Const,
 ) -> Result<(), OutOfMemory>
-    ensures { OnOk result (string_bytes out.new ≡ string_bytes out.old ++ text_of (meant.value decls.now base constant.now)) }
+    ensures { OnOk result (string_bytes out.new
+        ≡ string_bytes out.old ++ text_of (meant.value decls.now base constant.now)) }
 {
     match constant {
         Const::Truth(true) => out.push_str("true")?,
@@ -141,7 +149,8 @@ pub fn push_value(
 // Appends a text in quotes.
 #[tactic(auto, unfolding(crate::specs::Pieces::spelling))]
 fn push_quoted(out: &mut String, text: &Text) -> Result<(), OutOfMemory>
-    ensures { OnOk result (string_bytes out.new ≡ string_bytes out.old ++ text_of (token (kind.Str text.now) ∷ [])) }
+    ensures { OnOk result (string_bytes out.new
+        ≡ string_bytes out.old ++ text_of (token (kind.Str text.now) ∷ [])) }
 {
     out.push_str("\"")?;
     out.push_str(text.as_str())?;
@@ -151,7 +160,8 @@ fn push_quoted(out: &mut String, text: &Text) -> Result<(), OutOfMemory>
 
 // Appends a number, by its type.
 fn push_number(out: &mut String, decls: &[Decl], base: Base, number: i64) -> Result<(), OutOfMemory>
-    ensures { OnOk result (string_bytes out.new ≡ string_bytes out.old ++ text_of (meant.number decls.now base number)) }
+    ensures { OnOk result (string_bytes out.new
+        ≡ string_bytes out.old ++ text_of (meant.number decls.now base number)) }
 {
     match base {
         Base::Char => push_character(out, number),
@@ -167,7 +177,8 @@ fn push_number(out: &mut String, decls: &[Decl], base: Base, number: i64) -> Res
 // Appends a character in apostrophes.
 #[tactic(auto, unfolding(crate::specs::Pieces::spelling))]
 fn push_character(out: &mut String, number: i64) -> Result<(), OutOfMemory>
-    ensures { OnOk result (string_bytes out.new ≡ string_bytes out.old ++ text_of (token (kind.Character (meant.character_of number)) ∷ [])) }
+    ensures { OnOk result (string_bytes out.new ≡ string_bytes out.old ++ text_of
+        (token (kind.Character (meant.character_of number)) ∷ [])) }
 {
     out.push_str("'")?;
     out.push(character_of(number))?;
@@ -193,7 +204,8 @@ fn push_named(
     declared: u32,
     number: &i64,
 ) -> Result<(), OutOfMemory>
-    ensures { OnOk result (string_bytes out.new ≡ string_bytes out.old ++ text_of (meant.named_value (slice_get decls.now declared) number.now)) }
+    ensures { OnOk result (string_bytes out.new ≡ string_bytes out.old ++ text_of
+        (meant.named_value (slice_get decls.now declared) number.now)) }
 {
     match decls.get(declared as usize) {
         None => Ok(()),
@@ -203,7 +215,9 @@ fn push_named(
 
 // Appends the name of an enum and that of its first enumerator of a value.
 fn push_first(out: &mut String, decl: &Decl, number: &i64) -> Result<(), OutOfMemory>
-    ensures { OnOk result (string_bytes out.new ≡ string_bytes out.old ++ text_of (dotted decl.now.name.0 ++ meant.after_dot (find (λ e. int_eq e.value number.now) (enumerators_of decl.now.kind)))) }
+    ensures { OnOk result (string_bytes out.new
+        ≡ string_bytes out.old ++ text_of (dotted decl.now.name.0 ++ meant.after_dot
+        (find (λ e. int_eq e.value number.now) (enumerators_of decl.now.kind)))) }
 {
     push_dotted(out, decl.name.0.as_slice())?;
     push_enumerator(out, enumerators_of(&decl.kind), number)?;
@@ -228,7 +242,8 @@ fn push_enumerator(
     enumerators: &[Enumerator],
     number: &i64,
 ) -> Result<(), OutOfMemory>
-    ensures { OnOk result (string_bytes out.new ≡ string_bytes out.old ++ text_of (meant.after_dot (find (λ e. int_eq e.value number.now) enumerators.now))) }
+    ensures { OnOk result (string_bytes out.new ≡ string_bytes out.old ++ text_of
+        (meant.after_dot (find (λ e. int_eq e.value number.now) enumerators.now))) }
 {
     for enumerator in enumerators {
         if enumerator.value == *number {
@@ -242,7 +257,8 @@ fn push_enumerator(
 
 /// Appends an enumerator's value, by the backing of its enum.
 pub fn push_backed(out: &mut String, backing: Backing, number: &i64) -> Result<(), OutOfMemory>
-    ensures { OnOk result (string_bytes out.new ≡ string_bytes out.old ++ text_of (meant.of_backing backing number.now)) }
+    ensures { OnOk result (string_bytes out.new
+        ≡ string_bytes out.old ++ text_of (meant.of_backing backing number.now)) }
 {
     match backing {
         Backing::Byte => push_decimal(out, *number),
@@ -254,7 +270,8 @@ pub fn push_backed(out: &mut String, backing: Backing, number: &i64) -> Result<(
 // Appends a long number.
 #[tactic(auto, unfolding(crate::specs::Pieces::spelling))]
 fn push_long(out: &mut String, number: i64) -> Result<(), OutOfMemory>
-    ensures { OnOk result (string_bytes out.new ≡ string_bytes out.old ++ text_of (meant.long_of number)) }
+    ensures { OnOk result (string_bytes out.new
+        ≡ string_bytes out.old ++ text_of (meant.long_of number)) }
 {
     if number == i64::MIN {
         push_least(out)
@@ -267,7 +284,8 @@ fn push_long(out: &mut String, number: i64) -> Result<(), OutOfMemory>
 
 // Appends the least long, which has no decimal.
 fn push_least(out: &mut String) -> Result<(), OutOfMemory>
-    ensures { OnOk result (string_bytes out.new ≡ string_bytes out.old ++ text_of (token (kind.Number 9223372036854775808 true false) ∷ [])) }
+    ensures { OnOk result (string_bytes out.new ≡ string_bytes out.old ++ text_of
+        (token (kind.Number 9223372036854775808 true false) ∷ [])) }
 {
     out.push_str("0x8000000000000000")?;
     Ok(())
@@ -275,7 +293,8 @@ fn push_least(out: &mut String) -> Result<(), OutOfMemory>
 
 #[tactic(auto, unfolding(crate::specs::Pieces::spelling))]
 fn push_decimal(out: &mut String, number: i64) -> Result<(), OutOfMemory>
-    ensures { OnOk result (string_bytes out.new ≡ string_bytes out.old ++ text_of (meant.decimal_of false number)) }
+    ensures { OnOk result (string_bytes out.new
+        ≡ string_bytes out.old ++ text_of (meant.decimal_of false number)) }
 {
     write!(out, "{number}")?;
     Ok(())

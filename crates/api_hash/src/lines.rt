@@ -10,7 +10,8 @@ use std::fmt::Write;
 
 /// The line of each file.
 pub fn lines(alloc: Global, files: &[&SourceFile]) -> Result<String, OutOfMemory>
-    ensures { IfOk result (λ text. string_bytes text ≡ flat_map meant.line (map (λ f. f.now) files.now)) }
+    ensures { IfOk result (λ text. string_bytes text
+        ≡ flat_map meant.line (map (λ f. f.now) files.now)) }
 {
     let mut text = String::new(alloc);
     for file in files {

@@ -12,7 +12,8 @@ pub fn in_order<'a>(
     alloc: Global,
     files: &'a [SourceFile],
 ) -> Result<Vec<&'a SourceFile>, OutOfMemory>
-    ensures { IfOk result (λ sorted. map (λ f. f.now) sorted.items ≡ meant.in_order files.entry.now) }
+    ensures { IfOk result (λ sorted. map (λ f. f.now) sorted.items
+        ≡ meant.in_order files.entry.now) }
 {
     let mut places = BTreeMap::new(alloc);
     for file in files {
@@ -25,7 +26,8 @@ fn listed<'a>(
     alloc: Global,
     mut places: BTreeMap<&'a str, &'a SourceFile>,
 ) -> Result<Vec<&'a SourceFile>, OutOfMemory>
-    ensures { IfOk result (λ files. map (λ f. f.now) files.items ≡ map (λ e. e.1.now) places.entry.entries) }
+    ensures { IfOk result (λ files. map (λ f. f.now) files.items
+        ≡ map (λ e. e.1.now) places.entry.entries) }
 {
     let mut files = Vec::with_capacity(alloc, places.len())?;
     'places: while let Some((_, file)) = places.pop_first() {

@@ -36,7 +36,8 @@ pub fn two_way_from(
 ) -> Result<Answer, Fault<RefusedName>>
     requires returned { is_result_type schema.now.decls ty ≡ true }
     requires passed { list_all (λ a. is_passed_type schema.now.decls a.ty) args.now ≡ true }
-    ensures gives { Gives answer_of result (meant.two_way_from schema.now.decls ty (outs_of args.now) (option_map (λ j. json_view j.now) json.entry)) }
+    ensures gives { Gives answer_of result (meant.two_way_from schema.now.decls ty
+        (outs_of args.now) (option_map (λ j. json_view j.now) json.entry)) }
     ensures fits { IfOk result (λ a. IsAnswerOf schema.now.decls ty (outs_of args.now) a) }
 {
     match json {
@@ -55,7 +56,8 @@ fn object_from(
 ) -> Result<Answer, Fault<RefusedName>>
     requires returned { is_result_type schema.now.decls ty ≡ true }
     requires passed { list_all (λ a. is_passed_type schema.now.decls a.ty) args.now ≡ true }
-    ensures gives { Gives answer_of result (meant.object_from schema.now.decls ty (outs_of args.now) (members_view members.now.entries)) }
+    ensures gives { Gives answer_of result (meant.object_from schema.now.decls ty
+        (outs_of args.now) (members_view members.now.entries)) }
     ensures fits { IfOk result (λ a. IsAnswerOf schema.now.decls ty (outs_of args.now) a) }
 {
     if !is_alone(members) {
@@ -100,7 +102,9 @@ fn returned_from(
 ) -> Result<Answer, Fault<RefusedName>>
     requires returned { is_result_type schema.now.decls ty ≡ true }
     requires passed { list_all (λ a. is_passed_type schema.now.decls a.ty) args.now ≡ true }
-    ensures gives { Gives answer_of result (meant.returned_from schema.now.decls ty (outs_of args.now) (option_map (λ j. json_view j.now) returned.entry) (option_map (λ j. json_view j.now) outs.entry)) }
+    ensures gives { Gives answer_of result (meant.returned_from schema.now.decls ty
+        (outs_of args.now) (option_map (λ j. json_view j.now) returned.entry)
+        (option_map (λ j. json_view j.now) outs.entry)) }
     ensures fits { IfOk result (λ a. IsAnswerOf schema.now.decls ty (outs_of args.now) a) }
 {
     let result = result_from(alloc, schema, ty, returned)?;
@@ -115,7 +119,8 @@ fn result_from(
     json: Option<&Json>,
 ) -> Result<Option<Value>, Fault<RefusedName>>
     requires { is_result_type schema.now.decls ty ≡ true }
-    ensures gives { Gives optional_view result (meant.result_from schema.now.decls ty (option_map (λ j. json_view j.now) json.entry)) }
+    ensures gives { Gives optional_view result
+        (meant.result_from schema.now.decls ty (option_map (λ j. json_view j.now) json.entry)) }
     ensures fits { IfOk result (λ v. ResultFits schema.now.decls ty (optional_view v)) }
 {
     match (ty, json) {
@@ -148,7 +153,8 @@ fn outs_from(
     json: Option<&Json>,
 ) -> Result<Row<Value>, Fault<RefusedName>>
     requires { list_all (λ a. is_passed_type schema.now.decls a.ty) args.now ≡ true }
-    ensures gives { Gives views result (meant.outs_from schema.now.decls (outs_of args.now) (option_map (λ j. json_view j.now) json.entry)) }
+    ensures gives { Gives views result (meant.outs_from schema.now.decls
+        (outs_of args.now) (option_map (λ j. json_view j.now) json.entry)) }
     ensures fits { IfOk result (λ vs. EachFits schema.now.decls (outs_of args.now) (views vs)) }
 {
     let types = out_types(alloc, args)?;
@@ -174,7 +180,8 @@ fn outs_of_types(
     json: Option<&Json>,
 ) -> Result<Row<Value>, Fault<RefusedName>>
     requires { list_all (λ t. is_passed_type schema.now.decls t) types.now ≡ true }
-    ensures gives { Gives views result (meant.outs_from schema.now.decls types.now (option_map (λ j. json_view j.now) json.entry)) }
+    ensures gives { Gives views result (meant.outs_from schema.now.decls types.now
+        (option_map (λ j. json_view j.now) json.entry)) }
     ensures fits { IfOk result (λ vs. EachFits schema.now.decls types.now (views vs)) }
 {
     match json {
@@ -213,7 +220,8 @@ fn values_from(
     items: &[Json],
 ) -> Result<Row<Value>, Fault<RefusedName>>
     requires { length types.now ≡ length items.now }
-    ensures gives { Gives views result (meant.values_from schema.now.decls 0 types.now (items_view items.now)) }
+    ensures gives { Gives views result
+        (meant.values_from schema.now.decls 0 types.now (items_view items.now)) }
     ensures fits { IfOk result (λ vs. EachFits schema.now.decls types.now (views vs)) }
 {
     let mut values = Vec::with_capacity(alloc, types.len())?;

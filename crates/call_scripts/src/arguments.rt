@@ -32,7 +32,8 @@ pub fn args_from(
     args: &[Arg],
     json: Option<&Json>,
 ) -> Result<Row<Value>, Fault<RefusedName>>
-    ensures gives { Gives views result (meant.args_from schema.now.decls args.now (option_map (λ j. json_view j.now) json.entry)) }
+    ensures gives { Gives views result
+        (meant.args_from schema.now.decls args.now (option_map (λ j. json_view j.now) json.entry)) }
     ensures fit { IfOk result (λ vs. ArgumentsFit schema.now.decls args.now (views vs)) }
     ensures few { IfOk result (λ vs. sum_of_lengths args.now (views vs) ≤ 65536) }
 {
@@ -49,7 +50,8 @@ fn counted_entries(
     args: &[Arg],
     items: &[Json],
 ) -> Result<Row<Value>, Fault<RefusedName>>
-    ensures gives { Gives views result (meant.counted_entries schema.now.decls args.now (items_view items.now)) }
+    ensures gives { Gives views result
+        (meant.counted_entries schema.now.decls args.now (items_view items.now)) }
     ensures fit { IfOk result (λ vs. ArgumentsFit schema.now.decls args.now (views vs)) }
     ensures few { IfOk result (λ vs. sum_of_lengths args.now (views vs) ≤ 65536) }
 {
@@ -67,7 +69,8 @@ fn entries_from(
     items: &[Json],
 ) -> Result<Row<Value>, Fault<RefusedName>>
     requires { length args.now ≡ length items.now }
-    ensures gives { Gives views result (meant.entries_from schema.now.decls 0 0 args.now (items_view items.now)) }
+    ensures gives { Gives views result
+        (meant.entries_from schema.now.decls 0 0 args.now (items_view items.now)) }
     ensures fit { IfOk result (λ vs. ArgumentsFit schema.now.decls args.now (views vs)) }
     ensures few { IfOk result (λ vs. sum_of_lengths args.now (views vs) ≤ 65536) }
 {
@@ -101,7 +104,8 @@ fn entry_from(
     json: &Json,
 ) -> Result<Value, Fault<RefusedName>>
     requires { sum ≤ 65536 }
-    ensures gives { Gives view result (meant.entry_from schema.now.decls sum (at_entry k) arg.now (json_view json.now)) }
+    ensures gives { Gives view result
+        (meant.entry_from schema.now.decls sum (at_entry k) arg.now (json_view json.now)) }
     ensures fits { IfOk result (λ v. ArgumentFits schema.now.decls arg.now (view v)) }
     ensures few { IfOk result (λ v. sum + requests.asked_length arg.now (view v) ≤ 65536) }
 {
@@ -130,7 +134,8 @@ fn array_from(
     json: &Json,
 ) -> Result<Value, Fault<RefusedName>>
     requires { sum ≤ 65536 }
-    ensures gives { Gives view result (meant.array_from nullable sum (at_entry k) (json_view json.now)) }
+    ensures gives { Gives view result
+        (meant.array_from nullable sum (at_entry k) (json_view json.now)) }
     ensures length { IfOk result (λ v. IsLengthWithin nullable sum (view v)) }
 {
     match json {
@@ -147,7 +152,8 @@ fn length_from(
     number: &Number,
 ) -> Result<Value, Fault<RefusedName>>
     requires { sum ≤ 65536 }
-    ensures gives { Gives view result (meant.length_from sum (at_entry k) (as_integer (number_view number.now))) }
+    ensures gives { Gives view result
+        (meant.length_from sum (at_entry k) (as_integer (number_view number.now))) }
     ensures length { IfOk result (λ v. IsLengthWithin false sum (view v)) }
 {
     match number.as_u64() {

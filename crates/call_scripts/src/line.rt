@@ -29,7 +29,8 @@ pub fn check_keys(
     members: &Map<String, Json>,
     place: Place,
 ) -> Result<(), Fault<RefusedName>>
-    ensures { Gives (λ _. tt) result (all_known (place_bytes place) (unknown_in (seen_keys known.now) (members_view members.now.entries))) }
+    ensures { Gives (λ _. tt) result (all_known
+        (place_bytes place) (unknown_in (seen_keys known.now) (members_view members.now.entries))) }
 {
     match unknown_key(known, members) {
         Some(key) => match key_step(alloc, key) {
@@ -42,7 +43,8 @@ pub fn check_keys(
 
 // The least key that isn't known.
 fn unknown_key<'a>(known: &[&str], members: &'a Map<String, Json>) -> Option<&'a str>
-    ensures { option_map (λ key. key.now) result ≡ unknown_in (seen_keys known.now) (members_view members.now.entries) }
+    ensures { option_map (λ key. key.now) result
+        ≡ unknown_in (seen_keys known.now) (members_view members.now.entries) }
 {
     for (key, _) in members.iter() {
         if !is_known(known, key.as_str()) {
@@ -65,7 +67,8 @@ fn is_known(known: &[&str], key: &str) -> bool
 
 /// The value of a key.
 pub fn member_of<'a>(members: &'a Map<String, Json>, name: &str) -> Option<&'a Json>
-    ensures { option_map (λ j. json_view j.now) result ≡ get_member name.now (members_view members.now.entries) }
+    ensures { option_map (λ j. json_view j.now) result
+        ≡ get_member name.now (members_view members.now.entries) }
 {
     members.get(name)
 }
@@ -87,7 +90,8 @@ pub fn value_from(
     json: &Json,
     place: Place,
 ) -> Result<Value, Fault<RefusedName>>
-    ensures gives { Gives view result (placed (place_bytes place) (from_json_of schema.now.decls 64 ty.now (json_view json.now))) }
+    ensures gives { Gives view result (placed
+        (place_bytes place) (from_json_of schema.now.decls 64 ty.now (json_view json.now))) }
     ensures fits { IfOk result (λ v. Fits schema.now.decls ty.now (view v)) }
 {
     match from_json(alloc, schema, ty, json) {

@@ -18,7 +18,8 @@ pub struct Named {
 
 // The method that a text means: the canonical name of an interface, a dot and the method's name.
 pub fn method_meant(client: &Schema, server: &Schema, text: &str) -> Option<Named>
-    ensures named { option_map named_data result ≡ meant.method_meant client.now.decls server.now.decls text.now }
+    ensures named { option_map named_data result
+        ≡ meant.method_meant client.now.decls server.now.decls text.now }
     ensures known { IfSome result (λ n. IsNamed client.now.decls server.now.decls n) }
 {
     match at_last_dot(text) {
@@ -34,7 +35,8 @@ fn at_last_dot(text: &str) -> Option<(&str, &str)>
 }
 
 fn named_by(client: &Schema, server: &Schema, interface: &str, method: &str) -> Option<Named>
-    ensures named { option_map named_data result ≡ meant.named_by client.now.decls server.now.decls interface.now method.now }
+    ensures named { option_map named_data result
+        ≡ meant.named_by client.now.decls server.now.decls interface.now method.now }
     ensures known { IfSome result (λ n. IsNamed client.now.decls server.now.decls n) }
 {
     let number = interface_named(client, interface)?;

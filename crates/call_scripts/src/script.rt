@@ -64,7 +64,8 @@ pub fn script_of(
     line: &[u8],
 ) -> Result<Script, OutOfMemory>
     // It is the script of the line: the call that it means, or its first refusal.
-    ensures script { IfOk result (λ s. script_data s ≡ meant.script client.now server.now line.now) }
+    ensures script { IfOk result (λ s. script_data s
+        ≡ meant.script client.now server.now line.now) }
     // Of a call the arguments and the answer fit, the request and the reply are small enough, and the server's numbers are those of the
     // same names.
     ensures fits { IfOk result (λ s. ScriptFits client.now server.now s) }
@@ -103,7 +104,8 @@ fn call_from(
     server: &Side<'_>,
     members: &Map<String, Json>,
 ) -> Result<Call, Fault<RefusedName>>
-    ensures gives { Gives call_of result (meant.call_from client.now server.now (members_view members.now.entries)) }
+    ensures gives { Gives call_of result
+        (meant.call_from client.now server.now (members_view members.now.entries)) }
     ensures fits { IfOk result (λ c. CallFits client.now server.now (call_of c)) }
 {
     let known = ["call", "args", "answer"];
@@ -134,7 +136,8 @@ fn named_from(
     server: &Schema,
     json: Option<&Json>,
 ) -> Result<Named, Fault<RefusedName>>
-    ensures gives { Gives named_data result (meant.named_from client.now.decls server.now.decls (option_map (λ j. json_view j.now) json.entry)) }
+    ensures gives { Gives named_data result (meant.named_from client.now.decls server.now.decls
+        (option_map (λ j. json_view j.now) json.entry)) }
     ensures known { IfOk result (λ n. IsNamed client.now.decls server.now.decls n) }
 {
     match json {
@@ -155,8 +158,10 @@ fn sent_from(
     json: Option<&Json>,
 ) -> Result<Row<Value>, Fault<RefusedName>>
     requires there { named.now.method < length (methods_at side.now named.now.interface) }
-    ensures gives { Gives views result (meant.sent_from side.now named.now.interface named.now.method (option_map (λ j. json_view j.now) json.entry)) }
-    ensures sent { IfOk result (λ vs. IsSent side.now named.now.interface named.now.method (views vs)) }
+    ensures gives { Gives views result (meant.sent_from side.now
+        named.now.interface named.now.method (option_map (λ j. json_view j.now) json.entry)) }
+    ensures sent { IfOk result (λ vs. IsSent side.now named.now.interface named.now.method
+        (views vs)) }
 {
     let callee = Callee::new(side, named.interface, named.method);
     let declared = callee.declared();
@@ -184,7 +189,8 @@ fn target_from(
     json: Option<&Json>,
 ) -> Result<Option<Target>, Fault<RefusedName>>
     requires within { IsWithin side.now named.now.server named.now.target }
-    ensures gives { Gives (option_map target_of) result (meant.target_from side.now named.now.server named.now.target (option_map (λ j. json_view j.now) json.entry)) }
+    ensures gives { Gives (option_map target_of) result (meant.target_from
+        side.now named.now.server named.now.target (option_map (λ j. json_view j.now) json.entry)) }
     ensures target { IfOk result (λ t. IsTarget side.now named.now.server named.now.target t) }
 {
     match (named.server, named.target) {
@@ -204,8 +210,10 @@ fn answered(
     callee: &Callee<'_>,
     json: Option<&Json>,
 ) -> Result<Target, Fault<RefusedName>>
-    ensures gives { Gives target_of result (meant.answered callee.now.decls callee.now.interface callee.now.method (option_map (λ j. json_view j.now) json.entry)) }
-    ensures fits { IfOk result (λ t. IsAnswered callee.now.decls callee.now.interface callee.now.method t) }
+    ensures gives { Gives target_of result (meant.answered callee.now.decls
+        callee.now.interface callee.now.method (option_map (λ j. json_view j.now) json.entry)) }
+    ensures fits { IfOk result (λ t. IsAnswered
+        callee.now.decls callee.now.interface callee.now.method t) }
 {
     let answer = answer_from(alloc, callee, json)?;
     if is_small(reply_length(callee, &answer)) {
@@ -222,8 +230,10 @@ fn answer_from(
     callee: &Callee<'_>,
     json: Option<&Json>,
 ) -> Result<Answer, Fault<RefusedName>>
-    ensures gives { Gives answer_of result (answers.answer_from callee.now.decls callee.now.interface callee.now.method (option_map (λ j. json_view j.now) json.entry)) }
-    ensures fits { IfOk result (λ a. IsAnswer callee.now.decls callee.now.interface callee.now.method (answer_of a)) }
+    ensures gives { Gives answer_of result (answers.answer_from callee.now.decls
+        callee.now.interface callee.now.method (option_map (λ j. json_view j.now) json.entry)) }
+    ensures fits { IfOk result (λ a. IsAnswer
+        callee.now.decls callee.now.interface callee.now.method (answer_of a)) }
 {
     let schema = callee.schema();
     law_types(schema, callee.interface(), callee.method());
@@ -243,7 +253,8 @@ fn answer_from(
 
 // Of a oneway method nothing may stand there.
 fn oneway_from(alloc: Global, json: Option<&Json>) -> Result<Answer, Fault<RefusedName>>
-    ensures gives { Gives answer_of result (answers.oneway_from (option_map (λ j. json_view j.now) json.entry)) }
+    ensures gives { Gives answer_of result
+        (answers.oneway_from (option_map (λ j. json_view j.now) json.entry)) }
     ensures nothing { IfOk result (λ a. answer_of a ≡ returned None none) }
 {
     match json {

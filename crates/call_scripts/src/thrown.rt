@@ -27,7 +27,8 @@ pub struct Thrown<'a> {
 
 // The exception that a handler answers.
 pub fn exception_from(alloc: Global, json: &Json) -> Result<Answer, Fault<RefusedName>>
-    ensures gives { Gives answer_of result (meant.exception_from (meant.thrown_of (json_view json.now))) }
+    ensures gives { Gives answer_of result
+        (meant.exception_from (meant.thrown_of (json_view json.now))) }
     ensures fits { IfOk result IsException }
 {
     match thrown_of(json) {
@@ -81,7 +82,8 @@ fn thrown_in(items: &[Json]) -> Option<Thrown<'_>>
 }
 
 fn thrown_after(code: Option<i128>, items: &[Json]) -> Option<Thrown<'_>>
-    ensures thrown { option_map thrown_data result ≡ steps.thrown_after code (items_view items.now) }
+    ensures thrown { option_map thrown_data result
+        ≡ steps.thrown_after code (items_view items.now) }
     ensures error { IfSome result (λ x. IsQuiet x.code x.error) }
 {
     match items {
@@ -91,7 +93,8 @@ fn thrown_after(code: Option<i128>, items: &[Json]) -> Option<Thrown<'_>>
 }
 
 fn thrown_with<'a>(code: Option<i128>, message: &'a Json, rest: &[Json]) -> Option<Thrown<'a>>
-    ensures thrown { option_map thrown_data result ≡ steps.thrown_with code (json_view message.entry.now) (items_view rest.now) }
+    ensures thrown { option_map thrown_data result
+        ≡ steps.thrown_with code (json_view message.entry.now) (items_view rest.now) }
     ensures error { IfSome result (λ x. IsQuiet x.code x.error) }
 {
     match message {
@@ -101,7 +104,8 @@ fn thrown_with<'a>(code: Option<i128>, message: &'a Json, rest: &[Json]) -> Opti
 }
 
 fn thrown_by<'a>(code: Option<i128>, message: &'a str, rest: &[Json]) -> Option<Thrown<'a>>
-    ensures thrown { option_map thrown_data result ≡ steps.thrown_by code message.entry.now (items_view rest.now) }
+    ensures thrown { option_map thrown_data result
+        ≡ steps.thrown_by code message.entry.now (items_view rest.now) }
     ensures error { IfSome result (λ x. IsQuiet x.code x.error) }
 {
     match rest {
@@ -116,7 +120,8 @@ fn thrown_by_error<'a>(
     error: Option<i128>,
     rest: &[Json],
 ) -> Option<Thrown<'a>>
-    ensures thrown { option_map thrown_data result ≡ steps.thrown_by_error code message.entry.now error (items_view rest.now) }
+    ensures thrown { option_map thrown_data result
+        ≡ steps.thrown_by_error code message.entry.now error (items_view rest.now) }
     ensures error { IfSome result (λ x. IsQuiet x.code x.error) }
 {
     match rest {

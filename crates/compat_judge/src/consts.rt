@@ -90,7 +90,8 @@ fn same_default(a: Option<&Const>, b: Option<&Const>) -> bool
 
 /// Whether two fields have the same default.
 pub fn same_defaults(alloc: Global, old: &Schema, f: &Field, new: &Schema, g: &Field) -> bool
-    ensures { result ≡ broken.same_default (broken.default_in old.now.decls f.now) (broken.default_in new.now.decls g.now) }
+    ensures { result ≡ broken.same_default (broken.default_in old.now.decls f.now)
+        (broken.default_in new.now.decls g.now) }
 {
     let zero = zero_in(alloc, old, f.ty);
     let other = zero_in(alloc, new, g.ty);

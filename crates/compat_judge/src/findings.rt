@@ -77,7 +77,8 @@ impl Findings {
         member: &Ident,
         broken: bool,
     ) -> Result<(), OutOfMemory>
-        ensures { OnOk result (self.new ≡ self.old ++ of_rule rule (place_if (name.now ++ (46 ∷ member.now.0)) broken)) }
+        ensures { OnOk result (self.new
+            ≡ self.old ++ of_rule rule (place_if (name.now ++ (46 ∷ member.now.0)) broken)) }
     {
         if broken {
             let place = member_place(self.alloc, name, member)?;
@@ -96,7 +97,8 @@ impl Findings {
         broken: bool,
     ) -> Result<(), OutOfMemory>
         ensures { OnOk result (self.new ≡ self.old
-            ++ of_rule rule (place_if (name.now ++ (46 ∷ method.now.0) ++ (47 ∷ decimal k)) broken)) }
+            ++ of_rule rule
+            (place_if (name.now ++ (46 ∷ method.now.0) ++ (47 ∷ decimal k)) broken)) }
     {
         if broken {
             let place = argument_place(self.alloc, name, method, k)?;

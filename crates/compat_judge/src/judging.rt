@@ -40,7 +40,8 @@ fn judge_decl(
     new: &Schema,
     found: &mut Findings,
 ) -> Result<(), OutOfMemory>
-    ensures { OnOk result (found.new ≡ found.old ++ breaks_of old.now.decls new.now.decls decl.now) }
+    ensures { OnOk result (found.new
+        ≡ found.old ++ breaks_of old.now.decls new.now.decls decl.now) }
 {
     let name = name_place(found.alloc(), &decl.name)?;
     match find_decl(new, decl, &name) {

@@ -40,7 +40,8 @@ pub fn places_of(
     olds: &[&Ident],
     news: &[&Ident],
 ) -> Result<Vec<Option<usize>>, OutOfMemory>
-    ensures { IfOk result (λ places. places.items ≡ map (λ x. place_of (names_of news.now) x) (names_of olds.now)) }
+    ensures { IfOk result (λ places. places.items
+        ≡ map (λ x. place_of (names_of news.now) x) (names_of olds.now)) }
 {
     let table = table_of(alloc, news)?;
     places_in(alloc, &table, olds)
@@ -53,7 +54,8 @@ fn places_in(
     names: &[&Ident],
 ) -> Result<Vec<Option<usize>>, OutOfMemory>
     ensures { IfOk result (λ places.
-        places.items ≡ map (λ name. get_by (λ k. bytes_eq (encode_utf8_all name.now.0) k.now) table.now) names.now) }
+        places.items ≡ map
+        (λ name. get_by (λ k. bytes_eq (encode_utf8_all name.now.0) k.now) table.now) names.now) }
 {
     let mut places = Vec::with_capacity(alloc, names.len())?;
     for name in names {
@@ -71,7 +73,8 @@ fn place_in(table: &IndexMap<&str, usize>, name: &Ident) -> Option<usize>
 // The first place of each name.
 fn table_of<'a>(alloc: Global, names: &[&'a Ident]) -> Result<IndexMap<&'a str, usize>, OutOfMemory>
     ensures { IfOk result (λ table. (q : List ℕ) →
-        get_by (λ k. bytes_eq q k.now) table ≡ position_from (λ x. bytes_eq q (encode_utf8_all x)) 0 (names_of names.now)) }
+        get_by (λ k. bytes_eq q k.now) table ≡ position_from
+        (λ x. bytes_eq q (encode_utf8_all x)) 0 (names_of names.now)) }
 {
     let mut table = IndexMap::with_capacity(alloc, names.len())?;
     for i in (0..names.len()).rev() {

@@ -33,7 +33,8 @@ pub fn method_places(
     olds: &[Method],
     news: &[Method],
 ) -> Result<Vec<Option<usize>>, OutOfMemory>
-    ensures { IfOk result (λ places. places.items ≡ places_among (λ x. x.name.0) olds.now news.now) }
+    ensures { IfOk result (λ places. places.items
+        ≡ places_among (λ x. x.name.0) olds.now news.now) }
 {
     let names = method_names(alloc, olds)?;
     let others = method_names(alloc, news)?;
@@ -56,7 +57,8 @@ fn enumerator_places(
     olds: &[Enumerator],
     news: &[Enumerator],
 ) -> Result<Vec<Option<usize>>, OutOfMemory>
-    ensures { IfOk result (λ places. places.items ≡ places_among (λ x. x.name.0) olds.now news.now) }
+    ensures { IfOk result (λ places. places.items
+        ≡ places_among (λ x. x.name.0) olds.now news.now) }
 {
     let names = enumerator_names(alloc, olds)?;
     let others = enumerator_names(alloc, news)?;
@@ -79,7 +81,8 @@ fn constant_places(
     olds: &[Constant],
     news: &[Constant],
 ) -> Result<Vec<Option<usize>>, OutOfMemory>
-    ensures { IfOk result (λ places. places.items ≡ places_among (λ x. x.name.0) olds.now news.now) }
+    ensures { IfOk result (λ places. places.items
+        ≡ places_among (λ x. x.name.0) olds.now news.now) }
 {
     let names = constant_names(alloc, olds)?;
     let others = constant_names(alloc, news)?;
@@ -123,7 +126,8 @@ pub fn c3(
     found: &mut Findings,
 ) -> Result<(), OutOfMemory>
     requires old { ms.now ≡ methods_of pair.now.before.now.kind }
-    requires places { places.now ≡ places_among (λ m. m.name.0) ms.now (methods_of pair.now.after.now.kind) }
+    requires places { places.now ≡ places_among
+        (λ m. m.name.0) ms.now (methods_of pair.now.after.now.kind) }
     ensures { OnOk result (found.new ≡ found.old ++ breaks_at 3 C3 pair.now) }
 {
     let ws = methods_of(&pair.after.kind);
@@ -152,7 +156,8 @@ fn lost_enumerators(
     found: &mut Findings,
 ) -> Result<(), OutOfMemory>
     requires { places.now ≡ places_among (λ x. x.name.0) xs.now ys.now }
-    ensures { OnOk result (found.new ≡ found.old ++ of_rule 17 (in_lost_enumerators pair.now xs.now ys.now)) }
+    ensures { OnOk result (found.new
+        ≡ found.old ++ of_rule 17 (in_lost_enumerators pair.now xs.now ys.now)) }
 {
     for (i, x) in xs.iter().enumerate() {
         let kept = is_enumerator_kept(x, at_place(ys, places[i]));
@@ -188,7 +193,8 @@ fn lost_constants(
     found: &mut Findings,
 ) -> Result<(), OutOfMemory>
     requires { places.now ≡ places_among (λ c. c.name.0) cs.now ks.now }
-    ensures { OnOk result (found.new ≡ found.old ++ of_rule 18 (in_lost_constants pair.now cs.now ks.now)) }
+    ensures { OnOk result (found.new
+        ≡ found.old ++ of_rule 18 (in_lost_constants pair.now cs.now ks.now)) }
 {
     for (i, constant) in cs.iter().enumerate() {
         let kept = is_constant_kept(constant, at_place(ks, places[i]));

@@ -30,7 +30,8 @@ pub fn argument_place(
     method: &Ident,
     k: usize,
 ) -> Result<String, OutOfMemory>
-    ensures { IfOk result (λ place. chars (string_bytes place) ≡ name.now ++ (46 ∷ method.now.0) ++ (47 ∷ decimal k)) }
+    ensures { IfOk result (λ place. chars (string_bytes place)
+        ≡ name.now ++ (46 ∷ method.now.0) ++ (47 ∷ decimal k)) }
 {
     let name = name.as_str();
     let method = method.0.as_str();

@@ -20,7 +20,8 @@ use aidl_schema::{Decl, Field, fields_of, methods_of};
 /// C2 to C19: what a declaration of old and that of its name in new break.
 pub fn broken_by(pair: &Pair<'_>, found: &mut Findings) -> Result<(), OutOfMemory>
     ensures { OnOk result (found.new ≡ found.old
-        ++ broken.broken_by pair.now.old.now.decls pair.now.before.now pair.now.new.now.decls pair.now.after.now) }
+        ++ broken.broken_by pair.now.old.now.decls
+        pair.now.before.now pair.now.new.now.decls pair.now.after.now) }
 {
     if same_kind(&pair.before.kind, &pair.after.kind) {
         broken_inside(pair, found)

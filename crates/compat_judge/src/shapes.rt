@@ -22,7 +22,8 @@ pub fn at_methods(
     common: &[Common<'_>],
     found: &mut Findings,
 ) -> Result<(), OutOfMemory>
-    ensures { OnOk result (found.new ≡ found.old ++ of_rule rule (in_methods test pair.now (map both_of common.now))) }
+    ensures { OnOk result (found.new
+        ≡ found.old ++ of_rule rule (in_methods test pair.now (map both_of common.now))) }
 {
     for both in common {
         let broken = method_breaks(test, pair.old, both.before, pair.new, both.after);
@@ -39,7 +40,8 @@ pub fn at_arguments(
     common: &[Common<'_>],
     found: &mut Findings,
 ) -> Result<(), OutOfMemory>
-    ensures { OnOk result (found.new ≡ found.old ++ of_rule rule (in_arguments test pair.now (map both_of common.now))) }
+    ensures { OnOk result (found.new
+        ≡ found.old ++ of_rule rule (in_arguments test pair.now (map both_of common.now))) }
 {
     for both in common {
         at_arguments_of(rule, test, pair, both.before, both.after, found)?;
@@ -56,7 +58,8 @@ fn at_arguments_of(
     after: &Method,
     found: &mut Findings,
 ) -> Result<(), OutOfMemory>
-    ensures { OnOk result (found.new ≡ found.old ++ of_rule rule (in_arguments_of test pair.now before.now after.now)) }
+    ensures { OnOk result (found.new
+        ≡ found.old ++ of_rule rule (in_arguments_of test pair.now before.now after.now)) }
 {
     let olds = before.args.as_slice();
     let news = after.args.as_slice();
@@ -78,7 +81,8 @@ pub fn at_fields(
     news: &[Field],
     found: &mut Findings,
 ) -> Result<(), OutOfMemory>
-    ensures { OnOk result (found.new ≡ found.old ++ of_rule rule (in_fields test pair.now (zip olds.now news.now))) }
+    ensures { OnOk result (found.new
+        ≡ found.old ++ of_rule rule (in_fields test pair.now (zip olds.now news.now))) }
 {
     for k in 0..olds.len().min(news.len()) {
         let f = &olds[k];
@@ -96,7 +100,8 @@ pub fn at_additions(
     added: &[Field],
     found: &mut Findings,
 ) -> Result<(), OutOfMemory>
-    ensures { OnOk result (found.new ≡ found.old ++ of_rule rule (in_additions pair.now added.now)) }
+    ensures { OnOk result (found.new
+        ≡ found.old ++ of_rule rule (in_additions pair.now added.now)) }
 {
     for field in added {
         let broken = is_refused_addition(pair.new, field);

@@ -85,7 +85,8 @@ pub fn field_breaks(
 
 // Whether the types are the same and the defaults differ, where neither is a record or an alternative.
 fn default_breaks(alloc: Global, old: &Schema, f: &Field, new: &Schema, g: &Field) -> bool
-    ensures { result ≡ tests.field_breaks FieldTest.Defaults old.now.decls new.now.decls f.now g.now }
+    ensures { result ≡ tests.field_breaks FieldTest.Defaults
+        old.now.decls new.now.decls f.now g.now }
 {
     same_type(old, f.ty, new, g.ty)
         && (!(has_composite_default(old, f.ty) || has_composite_default(new, g.ty))

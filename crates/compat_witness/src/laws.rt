@@ -55,7 +55,8 @@ pub fn law_c5(old: &Schema, new: &Schema, place: &Text)
 /// in `law_c2`.
 pub fn law_c6(old: &Schema, new: &Schema, place: &Text)
     requires entry { Has (broken old.now.decls new.now.decls) (6, place.now) }
-    ensures { (cs : List Candidate) → at_slash place.now ≡ None → row_C6 old.now.decls new.now.decls place.now ≡ Some cs
+    ensures { (cs : List Candidate) → at_slash place.now ≡ None
+        → row_C6 old.now.decls new.now.decls place.now ≡ Some cs
         → AreSmall old.now.decls new.now.decls cs → Shows old.now.decls new.now.decls cs }
 {
     law_valid(old);

@@ -15,7 +15,8 @@ use std::alloc::Global;
 /// The breaches of E6 to E12: one for each item whose outcome is a fault, at the item's place, in the order of files and places.
 pub fn breaches(alloc: Global, settled: &Settled<'_>) -> Result<Row<Breach>, OutOfMemory>
     ensures { IfOk result (λ rows.
-        rows ≡ meant.breaches (outcome_at settled.now.outcomes.items) (map item_of settled.now.items.list.items)) }
+        rows ≡ meant.breaches (outcome_at settled.now.outcomes.items)
+        (map item_of settled.now.items.list.items)) }
 {
     let mut rows = Row::new(alloc);
     for (i, item) in settled.items().iter().enumerate() {
@@ -29,7 +30,8 @@ fn add_breach(
     outcome: &Outcome,
     rows: &mut Row<Breach>,
 ) -> Result<(), OutOfMemory>
-    ensures { OnOk result (rows.new ≡ rows.old ++ option_to_list (meant.breach_by (item_of item.now) outcome.now)) }
+    ensures { OnOk result (rows.new
+        ≡ rows.old ++ option_to_list (meant.breach_by (item_of item.now) outcome.now)) }
 {
     match outcome {
         Outcome::Fault(fault) => rows.push(breach_of(item, *fault)),

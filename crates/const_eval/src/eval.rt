@@ -27,8 +27,10 @@ use std::alloc::Global;
 /// The outcome of each item of a tree (own, after AOSP, "AIDL language", "Constants"). Items are judged by their ranks, each behind
 /// all that it depends on.
 pub fn eval_all<'a>(alloc: Global, names: &Names<'a>) -> Result<Settled<'a>, OutOfMemory>
-    ensures items { IfOk result (λ settled. map item_of settled.items.list.items ≡ items_in (map source_of names.now)) }
-    ensures outcomes { IfOk result (λ settled. AreOutcomes (map source_of names.now) settled.outcomes.items) }
+    ensures items { IfOk result (λ settled. map item_of settled.items.list.items
+        ≡ items_in (map source_of names.now)) }
+    ensures outcomes { IfOk result (λ settled. AreOutcomes
+        (map source_of names.now) settled.outcomes.items) }
 {
     law_count(names);
     let items = number_items(alloc, names)?;
@@ -138,7 +140,8 @@ fn judged(
     requires all { HasItems tree.now }
     requires at { IsItemAt tree.now.items.now.list.items number item.now }
     requires held { AreHeld (items_of tree.now) outcomes.now }
-    ensures value { IfOk result (λ outcome. outcome ≡ meant.outcome_of (judgement_by (files_of tree.now) outcomes.now (item_of item.now))) }
+    ensures value { IfOk result (λ outcome. outcome
+        ≡ meant.outcome_of (judgement_by (files_of tree.now) outcomes.now (item_of item.now))) }
     ensures held { IfOk result (λ outcome. IsTrue (is_held_outcome item.now.wanted outcome)) }
 {
     match judgement(alloc, tree, number, item, outcomes) {

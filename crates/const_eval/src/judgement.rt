@@ -35,7 +35,8 @@ pub fn judgement(
     requires all { HasItems tree.now }
     requires at { IsItemAt tree.now.items.now.list.items number item.now }
     requires held { AreHeld (items_of tree.now) outcomes.now }
-    ensures value { Answers (λ c. c) result (judgement_by (files_of tree.now) outcomes.now (item_of item.now)) }
+    ensures value { Answers
+        (λ c. c) result (judgement_by (files_of tree.now) outcomes.now (item_of item.now)) }
     ensures held { IfOk result (λ c. IsTrue (is_held item.now.wanted c)) }
 {
     match item.value {
@@ -61,7 +62,8 @@ fn of_expression(
     requires at { IsItemAt tree.now.items.now.list.items number item.now }
     requires held { AreHeld (items_of tree.now) outcomes.now }
     ensures value { Answers (λ c. c) result
-        (meant.expression_of (files_of tree.now) (values_in outcomes.now) (item_of item.now) (expr_of expr.now)) }
+        (meant.expression_of (files_of tree.now)
+        (values_in outcomes.now) (item_of item.now) (expr_of expr.now)) }
     ensures held { IfOk result (λ c. IsTrue (is_held item.now.wanted c)) }
 {
     let known = KnownValues::new(tree, number, outcomes);
@@ -77,7 +79,8 @@ fn of_expression(
 // The enum of whose enumerator an expression is the name, without parentheses.
 fn named_enum(names: &Names<'_>, item: &ItemRef<'_>, expr: &ExprTree) -> Option<u32>
     requires { IsScope (map source_of names.now) item.now.file item.now.scope }
-    ensures { result ≡ meant.named_enum (map source_of names.now) (item_of item.now) (expr_of expr.now) }
+    ensures { result ≡ meant.named_enum (map source_of names.now)
+        (item_of item.now) (expr_of expr.now) }
 {
     match &expr.kind {
         ExprKind::Name(name) => enum_of(target_of(names, item, name)),

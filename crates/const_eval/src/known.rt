@@ -84,7 +84,8 @@ fn operand_at<'a>(
     number: Option<usize>,
 ) -> Result<Operand<'a>, ConstFault>
     requires { AreHeld (map item_of items.now.list.items) outcomes.now }
-    ensures value { answer result ≡ meant.operand_at (map item_of items.now.list.items) (values_in outcomes.now) number }
+    ensures value { answer result
+        ≡ meant.operand_at (map item_of items.now.list.items) (values_in outcomes.now) number }
     ensures within { IfOk result (λ operand. IsWithin (seen operand)) }
 {
     match number {

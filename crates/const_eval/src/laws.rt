@@ -20,7 +20,8 @@ pub fn law_one_outcome(files: &[ParsedFile])
 /// A law of the definitions: the breaches of the items of a tree, whatever their outcomes, are sorted by file, offset and rule, each
 /// once.
 pub fn law_breaches_in_order(names: &Names<'_>)
-    ensures { (outcome : ℕ → Outcome) → let all = breaches outcome (items (map source_of names.now)) in in_order all ≡ all }
+    ensures { (outcome : ℕ → Outcome)
+        → let all = breaches outcome (items (map source_of names.now)) in in_order all ≡ all }
 {
     law_places(names.files());
 }

@@ -10,7 +10,8 @@ use std::alloc::Global;
 pub fn ranked(alloc: Global, count: usize, ranks: &[usize]) -> Result<Vec<usize>, OutOfMemory>
     ensures each { IfOk result (λ order. (n : ℕ) → n < count → Contains order.items n) }
     ensures below { IfOk result (λ order. All (λ n. n < count) order.items) }
-    ensures order { IfOk result (λ order. IsNonDecreasingBy (λ n. slice_index ranks.now n) order.items) }
+    ensures order { IfOk result (λ order. IsNonDecreasingBy
+        (λ n. slice_index ranks.now n) order.items) }
 {
     let mut order = numbers_below(alloc, count)?;
     order.sort_by_key(|number| rank_of(ranks, *number))?;

@@ -42,7 +42,8 @@ impl<'a> Settled<'a> {
 
     /// The item with a place in a file, and None where there is none. It takes no memory.
     pub fn init_at(&self, file: u32, offset: u32) -> Option<InitId>
-        ensures exact { result ≡ option_map numbered (meant.number_at (map item_of self.now.items.list.items) file offset) }
+        ensures exact { result ≡ option_map numbered
+            (meant.number_at (map item_of self.now.items.list.items) file offset) }
         ensures within { IfSome result (λ init. init.0 < length self.now.items.list.items) }
     {
         match self.items.number_at(file, offset) {

@@ -30,7 +30,8 @@ pub fn one_more(
     outcomes: &[Outcome],
     before: Option<usize>,
 ) -> Result<Const, EvalFault>
-    ensures value { Answers (λ c. c) result (meant.one_more wanted (values_in outcomes.now) before) }
+    ensures value { Answers
+        (λ c. c) result (meant.one_more wanted (values_in outcomes.now) before) }
     ensures held { IfOk result (λ c. IsTrue (is_held wanted c)) }
 {
     match before {
@@ -41,7 +42,8 @@ pub fn one_more(
 
 // One more than a value.
 fn above(alloc: Global, wanted: Wanted, value: i64) -> Result<Const, EvalFault>
-    ensures value { Answers (λ c. c) result (fitted wanted None (operand.number Wide (value +ℤ pos 1))) }
+    ensures value { Answers
+        (λ c. c) result (fitted wanted None (operand.number Wide (value +ℤ pos 1))) }
     ensures held { IfOk result (λ c. IsTrue (is_held wanted c)) }
 {
     match value.checked_add(1) {

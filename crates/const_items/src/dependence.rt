@@ -34,10 +34,13 @@ pub fn dependence_of(
     requires count { length items.now.list.items ≤ 4294967296 }
     requires items { map item_of items.now.list.items ≡ items_of (map source_of names.now) }
     ensures rows { IfOk result (λ all.
-        all.next.items ≡ map (meant.depends_on (map source_of names.now)) (items_of (map source_of names.now))) }
-    ensures next { IfOk result (λ all. (n : ℕ) → targets all.next.items n ≡ meant.next (map source_of names.now) n) }
+        all.next.items
+        ≡ map (meant.depends_on (map source_of names.now)) (items_of (map source_of names.now))) }
+    ensures next { IfOk result (λ all. (n : ℕ)
+        → targets all.next.items n ≡ meant.next (map source_of names.now) n) }
     ensures unknown { IfOk result (λ all.
-        all.unknown.items ≡ map (meant.has_unknown_name (map source_of names.now)) (items_of (map source_of names.now))) }
+        all.unknown.items ≡ map (meant.has_unknown_name (map source_of names.now))
+        (items_of (map source_of names.now))) }
 {
     let list = items.list();
     let mut next = Vec::with_capacity(alloc, list.len())?;
@@ -60,8 +63,10 @@ fn of_item(
     requires scope { IsScope (map source_of names.now) item.now.file item.now.scope }
     requires count { length items.now.list.items ≤ 4294967296 }
     requires items { map item_of items.now.list.items ≡ items_of (map source_of names.now) }
-    ensures next { IfOk result (λ all. all.0.items ≡ meant.depends_on (map source_of names.now) (item_of item.now)) }
-    ensures unknown { IfOk result (λ all. all.1 ≡ meant.has_unknown_name (map source_of names.now) (item_of item.now)) }
+    ensures next { IfOk result (λ all. all.0.items
+        ≡ meant.depends_on (map source_of names.now) (item_of item.now)) }
+    ensures unknown { IfOk result (λ all. all.1
+        ≡ meant.has_unknown_name (map source_of names.now) (item_of item.now)) }
 {
     let inside = names_in(alloc, *item)?;
     let (mut numbers, unknown) = of_names(alloc, names, items, item, inside.as_slice())?;
@@ -81,9 +86,11 @@ fn of_names(
     requires count { length items.now.list.items ≤ 4294967296 }
     requires items { map item_of items.now.list.items ≡ items_of (map source_of names.now) }
     ensures next { IfOk result (λ all.
-        all.0.items ≡ meant.numbers_of (map source_of names.now) (item_of item.now) (map (λ d. d.now) inside.now)) }
+        all.0.items ≡ meant.numbers_of (map source_of names.now)
+        (item_of item.now) (map (λ d. d.now) inside.now)) }
     ensures unknown { IfOk result (λ all.
-        all.1 ≡ meant.is_unknown_among (map source_of names.now) (item_of item.now) (map (λ d. d.now) inside.now)) }
+        all.1 ≡ meant.is_unknown_among (map source_of names.now)
+        (item_of item.now) (map (λ d. d.now) inside.now)) }
 {
     let mut numbers = Vec::new(alloc);
     let mut unknown = false;
@@ -109,7 +116,8 @@ fn add_before(
 ) -> Result<(), OutOfMemory>
     requires count { length items.now.list.items ≤ 4294967296 }
     ensures { OnOk result (numbers.new.items ≡ numbers.old.items
-        ++ meant.before_among (map item_of items.now.list.items) (item_of item.now) (item_of item.now).value) }
+        ++ meant.before_among (map item_of items.now.list.items)
+        (item_of item.now) (item_of item.now).value) }
 {
     match item.value {
         WrittenRef::After(place) => add_found(items.number_at(item.file, place), numbers),

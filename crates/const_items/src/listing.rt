@@ -23,7 +23,8 @@ use type_shapes::{Shape, backing_of, is_unjudged, shape_of, wanted_element, want
 
 /// The items of a tree, in the order of the declarations.
 pub fn declared<'a>(alloc: Global, names: &Names<'a>) -> Result<Vec<ItemRef<'a>>, OutOfMemory>
-    ensures { IfOk result (λ all. map item_of all.items ≡ meant.declared (map source_of names.now)) }
+    ensures { IfOk result (λ all. map item_of all.items
+        ≡ meant.declared (map source_of names.now)) }
 {
     let _files = names.files();
     let mut all = Vec::new(alloc);
@@ -74,7 +75,8 @@ fn add_body<'a>(
 ) -> Result<(), OutOfMemory>
     requires { IsScope (map source_of names.now) scope.file scope.number }
     ensures { OnOk result (map item_of all.new.items ≡ map item_of all.old.items
-        ++ meant.of_body (map source_of names.now) scope.file scope.number backing (body_of body.now)) }
+        ++ meant.of_body (map source_of names.now) scope.file scope.number backing
+        (body_of body.now)) }
 {
     match body {
         BodyTree::Parcelable(members) => add_members(names, scope, false, members.as_slice(), all),
@@ -95,7 +97,8 @@ fn add_members<'a>(
 ) -> Result<(), OutOfMemory>
     requires { IsScope (map source_of names.now) scope.file scope.number }
     ensures { OnOk result (map item_of all.new.items ≡ map item_of all.old.items
-        ++ meant.of_members (map source_of names.now) scope.file scope.number in_union false (listed (members_of members.now))) }
+        ++ meant.of_members (map source_of names.now) scope.file scope.number in_union false
+        (listed (members_of members.now))) }
 {
     let mut later = false;
     for member in members {
@@ -114,8 +117,10 @@ fn add_member<'a>(
     all: &mut Vec<ItemRef<'a>>,
 ) -> Result<bool, OutOfMemory>
     requires { IsScope (map source_of names.now) scope.file scope.number }
-    ensures { let of = meant.of_members (map source_of names.now) scope.file scope.number in_union in
-        IfOk result (λ next. (ms : Members) → map item_of all.old.items ++ of later (listed (member_of member.now ms))
+    ensures { let of = meant.of_members
+        (map source_of names.now) scope.file scope.number in_union in
+        IfOk result (λ next. (ms : Members)
+        → map item_of all.old.items ++ of later (listed (member_of member.now ms))
         ≡ map item_of all.new.items ++ of next (listed ms)) }
 {
     match member {
@@ -141,7 +146,8 @@ fn add_field<'a>(
 ) -> Result<(), OutOfMemory>
     requires { IsScope (map source_of names.now) scope.file scope.number }
     ensures { OnOk result (map item_of all.new.items ≡ map item_of all.old.items
-        ++ meant.of_field (map source_of names.now) scope.file scope.number later (field_of field.now)) }
+        ++ meant.of_field (map source_of names.now) scope.file scope.number later
+        (field_of field.now)) }
 {
     match &field.initial {
         None => Ok(()),
@@ -161,7 +167,8 @@ fn add_typed<'a>(
     all: &mut Vec<ItemRef<'a>>,
 ) -> Result<(), OutOfMemory>
     ensures { OnOk result (map item_of all.new.items ≡ map item_of all.old.items
-        ++ meant.of_typed (map entry_of found.now) scope.file scope.number later shape (init_of init.now)) }
+        ++ meant.of_typed (map entry_of found.now) scope.file scope.number later shape
+        (init_of init.now)) }
 {
     let unjudged = is_unjudged(found, later, shape, init);
     match init {
@@ -222,7 +229,8 @@ fn add_constant<'a>(
 ) -> Result<(), OutOfMemory>
     requires { IsScope (map source_of names.now) scope.file scope.number }
     ensures { OnOk result (map item_of all.new.items ≡ map item_of all.old.items
-        ++ meant.of_constant (map source_of names.now) scope.file scope.number (constant_of constant.now) ∷ []) }
+        ++ meant.of_constant (map source_of names.now) scope.file scope.number
+        (constant_of constant.now) ∷ []) }
 {
     let shape = shape_of(names, scope.file, scope.number, &constant.ty);
     let wanted = wanted_one(names.decls(), shape);
@@ -236,7 +244,8 @@ fn add_enumerators<'a>(
     all: &mut Vec<ItemRef<'a>>,
 ) -> Result<(), OutOfMemory>
     ensures { OnOk result (map item_of all.new.items ≡ map item_of all.old.items
-        ++ meant.of_enumerators scope.file scope.number backing None (map enumerator_of enumerators.now)) }
+        ++ meant.of_enumerators scope.file scope.number backing None
+        (map enumerator_of enumerators.now)) }
 {
     let mut before = None;
     for enumerator in enumerators {
@@ -253,7 +262,8 @@ fn of_enumerator(
     before: Option<u32>,
     enumerator: &EnumeratorTree,
 ) -> ItemRef<'_>
-    ensures { item_of result ≡ meant.of_enumerator scope.file scope.number backing before (enumerator_of enumerator.now) }
+    ensures { item_of result ≡ meant.of_enumerator scope.file scope.number backing before
+        (enumerator_of enumerator.now) }
 {
     ItemRef {
         file: scope.file,

@@ -11,7 +11,8 @@ use std::alloc::Global;
 
 /// The names in what is written of an item, in the order of the file.
 pub fn names_in<'a>(alloc: Global, item: ItemRef<'a>) -> Result<Vec<&'a DottedTree>, OutOfMemory>
-    ensures { IfOk result (λ names. map (λ d. d.now) names.items ≡ meant.names_in (item_of item.entry).value) }
+    ensures { IfOk result (λ names. map (λ d. d.now) names.items
+        ≡ meant.names_in (item_of item.entry).value) }
 {
     let mut names = Vec::new(alloc);
     match item.value {
@@ -24,7 +25,8 @@ pub fn names_in<'a>(alloc: Global, item: ItemRef<'a>) -> Result<Vec<&'a DottedTr
 
 #[cycle(names)]
 fn add_names<'a>(tree: &'a ExprTree, names: &mut Vec<&'a DottedTree>) -> Result<(), OutOfMemory>
-    ensures { OnOk result (map (λ d. d.now) names.new.items ≡ map (λ d. d.now) names.old.items ++ meant.names_of (expr_of tree.now)) }
+    ensures { OnOk result (map (λ d. d.now) names.new.items
+        ≡ map (λ d. d.now) names.old.items ++ meant.names_of (expr_of tree.now)) }
 {
     match &tree.kind {
         ExprKind::Literal(_) => Ok(()),

@@ -22,7 +22,8 @@ pub struct Items<'a> {
 
 /// The items of a tree, which have an outcome each.
 pub fn number_items<'a>(alloc: Global, names: &Names<'a>) -> Result<Items<'a>, OutOfMemory>
-    ensures { IfOk result (λ all. map item_of all.list.items ≡ meant.items (map source_of names.now)) }
+    ensures { IfOk result (λ all. map item_of all.list.items
+        ≡ meant.items (map source_of names.now)) }
 {
     let list = items(alloc, names)?;
     let places = places(alloc, list.as_slice())?;

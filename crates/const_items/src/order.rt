@@ -23,7 +23,8 @@ pub fn items<'a>(alloc: Global, names: &Names<'a>) -> Result<Vec<ItemRef<'a>>, O
 }
 
 fn in_order<'a>(alloc: Global, rows: &[ItemRef<'a>]) -> Result<Vec<ItemRef<'a>>, OutOfMemory>
-    ensures { IfOk result (λ sorted. map item_of sorted.items ≡ fold meant.put [] (map item_of rows.now)) }
+    ensures { IfOk result (λ sorted. map item_of sorted.items
+        ≡ fold meant.put [] (map item_of rows.now)) }
 {
     let mut places = BTreeMap::new(alloc);
     for item in rows {
@@ -36,7 +37,8 @@ fn listed<'a>(
     alloc: Global,
     mut places: BTreeMap<(u32, u32), ItemRef<'a>>,
 ) -> Result<Vec<ItemRef<'a>>, OutOfMemory>
-    ensures { IfOk result (λ rows. map item_of rows.items ≡ map (λ e. item_of e.1) places.entry.entries) }
+    ensures { IfOk result (λ rows. map item_of rows.items
+        ≡ map (λ e. item_of e.1) places.entry.entries) }
 {
     let mut rows = Vec::with_capacity(alloc, places.len())?;
     'places: while let Some((_, item)) = places.pop_first() {

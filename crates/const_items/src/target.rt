@@ -39,14 +39,16 @@ pub enum Target<'a> {
 /// that name; with more, a constant or an enumerator of what the parts before the last mean as a type. It takes no memory.
 pub fn target_of<'a>(names: &Names<'a>, item: &ItemRef<'_>, name: &DottedTree) -> Option<Target<'a>>
     requires { IsScope (map source_of names.now) item.now.file item.now.scope }
-    ensures { seen_targets result ≡ meant.target (map source_of names.now) (item_of item.now) name.now }
+    ensures { seen_targets result
+        ≡ meant.target (map source_of names.now) (item_of item.now) name.now }
 {
     target_by(names, item, name.name.0.as_slice())
 }
 
 fn target_by<'a>(names: &Names<'a>, item: &ItemRef<'_>, name: &[Ident]) -> Option<Target<'a>>
     requires { IsScope (map source_of names.now) item.now.file item.now.scope }
-    ensures { seen_targets result ≡ meant.target_by (map source_of names.now) (item_of item.now) name.now }
+    ensures { seen_targets result
+        ≡ meant.target_by (map source_of names.now) (item_of item.now) name.now }
 {
     match name {
         [] => None,
@@ -60,7 +62,8 @@ fn target_by<'a>(names: &Names<'a>, item: &ItemRef<'_>, name: &[Ident]) -> Optio
 
 // A constant or an enumerator of a declared type.
 fn member_of<'a>(names: &Names<'a>, name: &Ident, meaning: Option<Resolved>) -> Option<Target<'a>>
-    ensures { seen_targets result ≡ meant.member_of (declarations (map source_of names.now)) name.now meaning }
+    ensures { seen_targets result
+        ≡ meant.member_of (declarations (map source_of names.now)) name.now meaning }
 {
     match meaning {
         Some(Resolved::Declared(number)) => member_at(names, number, name),
@@ -69,7 +72,8 @@ fn member_of<'a>(names: &Names<'a>, name: &Ident, meaning: Option<Resolved>) -> 
 }
 
 fn target_of_part<'a>(names: &Names<'a>, item: &ItemRef<'_>, name: &Ident) -> Option<Target<'a>>
-    ensures { seen_targets result ≡ meant.target_of_part (declarations (map source_of names.now)) (item_of item.now) name.now }
+    ensures { seen_targets result ≡ meant.target_of_part
+        (declarations (map source_of names.now)) (item_of item.now) name.now }
 {
     match enumerator_beside(names, item, name) {
         Some(target) => Some(target),
@@ -78,7 +82,8 @@ fn target_of_part<'a>(names: &Names<'a>, item: &ItemRef<'_>, name: &Ident) -> Op
 }
 
 fn enumerator_beside<'a>(names: &Names<'a>, item: &ItemRef<'_>, name: &Ident) -> Option<Target<'a>>
-    ensures { seen_targets result ≡ meant.enumerator_beside (declarations (map source_of names.now)) (item_of item.now) name.now }
+    ensures { seen_targets result ≡ meant.enumerator_beside
+        (declarations (map source_of names.now)) (item_of item.now) name.now }
 {
     if item.enumerates {
         only_enumerators(member_at(names, item.scope, name))
@@ -112,7 +117,8 @@ fn constant_around<'a>(
     name: &Ident,
     scope: Option<u32>,
 ) -> Option<Target<'a>>
-    ensures { seen_targets result ≡ meant.constant_around (declarations (map source_of names.now)) levels name.now scope }
+    ensures { seen_targets result
+        ≡ meant.constant_around (declarations (map source_of names.now)) levels name.now scope }
 {
     if levels == 0 {
         return None;
@@ -127,7 +133,8 @@ fn constant_around<'a>(
 
 // The constant or enumerator of that name in the declaration with a number.
 fn member_at<'a>(names: &Names<'a>, number: u32, name: &Ident) -> Option<Target<'a>>
-    ensures { seen_targets result ≡ meant.member_at (declarations (map source_of names.now)) number name.now }
+    ensures { seen_targets result
+        ≡ meant.member_at (declarations (map source_of names.now)) number name.now }
 {
     match names.decls().get(number as usize) {
         None => None,
@@ -136,7 +143,8 @@ fn member_at<'a>(names: &Names<'a>, number: u32, name: &Ident) -> Option<Target<
 }
 
 fn target_if(file: u32, number: u32, member: Option<MemberRef<'_>>) -> Option<Target<'_>>
-    ensures { seen_targets result ≡ meant.target_if file number (map_option seen_member member.entry) }
+    ensures { seen_targets result
+        ≡ meant.target_if file number (map_option seen_member member.entry) }
 {
     match member {
         None => None,
@@ -166,7 +174,8 @@ fn target_of_member(file: u32, number: u32, member: MemberRef<'_>) -> Option<Tar
 
 /// The number among items of that which a name means, where it means something. It takes no memory.
 pub fn number_of(items: &Items<'_>, target: Option<Target<'_>>) -> Option<usize>
-    ensures { result ≡ meant.number_among (map item_of items.now.list.items) (seen_targets target.entry) }
+    ensures { result ≡ meant.number_among (map item_of items.now.list.items)
+        (seen_targets target.entry) }
 {
     match target {
         None => None,

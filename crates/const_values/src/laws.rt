@@ -11,7 +11,8 @@ use crate::width::Width;
 /// A law of the definitions: a decimal, which is at most 9223372036854775807, is its number, with the suffix or without.
 pub fn law_decimal_is_its_number(bits: u64)
     ensures long { bits < 2 ^ 63 → number_of false true bits ≡ number Wide (pos bits) }
-    ensures plain { bits < 2 ^ 63 → number_of false false bits ≡ number (if nat_le bits 2147483647 then Narrow else Wide) (pos bits) }
+    ensures plain { bits < 2 ^ 63 → number_of false false bits
+        ≡ number (if nat_le bits 2147483647 then Narrow else Wide) (pos bits) }
 {}
 
 /// A law of the definitions: `a - (a / b) * b` is the remainder with the sign of `a`, and is smaller than `b` in size.
@@ -22,7 +23,8 @@ pub fn law_remainder(a: i64, b: i64)
 
 /// A law of the definitions: `<<` multiplies by the power of two, where the product lies inside the width.
 pub fn law_left_shift_multiplies(width: Width, a: i64, places: u32)
-    ensures { IsTrue (is_within width (a *ℤ pos (2 ^ places))) → int_shl (form_of width) a places ≡ a *ℤ pos (2 ^ places) }
+    ensures { IsTrue (is_within width (a *ℤ pos (2 ^ places)))
+        → int_shl (form_of width) a places ≡ a *ℤ pos (2 ^ places) }
 {}
 
 /// A law of the definitions: `>>` rounds down, to the greatest number whose product with the power of two is no more.

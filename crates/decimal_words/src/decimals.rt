@@ -24,7 +24,8 @@ pub fn number_within(low: u32, high: u32, word: &[u8]) -> Option<u32>
 // The value of the digits, where 32 bits hold it.
 fn value_of(word: &[u8]) -> Option<u32>
     requires { decimal.is_decimal word.now ≡ true }
-    ensures { MatchOption result (2 ^ 32 ≤ digits_value 10 word.now) (λ value. value ≡ digits_value 10 word.now) }
+    ensures { MatchOption result (2 ^ 32 ≤ digits_value 10 word.now) (λ value. value
+        ≡ digits_value 10 word.now) }
 {
     match str::from_utf8(word) {
         Ok(text) => parsed(text),
@@ -35,7 +36,8 @@ fn value_of(word: &[u8]) -> Option<u32>
 // The same of a text.
 fn parsed(text: &str) -> Option<u32>
     requires { decimal.is_decimal text.now ≡ true }
-    ensures { MatchOption result (2 ^ 32 ≤ digits_value 10 text.now) (λ value. value ≡ digits_value 10 text.now) }
+    ensures { MatchOption result (2 ^ 32 ≤ digits_value 10 text.now) (λ value. value
+        ≡ digits_value 10 text.now) }
 {
     text.parse::<u32>().ok()
 }

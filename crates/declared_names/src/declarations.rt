@@ -66,7 +66,8 @@ impl<'a> Declarations<'a> {
 
     /// The number of the first declaration whose name has a mark. It takes no memory.
     pub fn first(&self, mark: u64) -> Option<usize>
-        ensures { result ≡ position_from (nat_eq mark) 0 (map mark_of_entry (map entry_of self.now)) }
+        ensures { result ≡ position_from (nat_eq mark) 0
+            (map mark_of_entry (map entry_of self.now)) }
     {
         self.table.first(mark)
     }
@@ -74,7 +75,9 @@ impl<'a> Declarations<'a> {
     /// The next one whose name has the mark that the name of the declaration with a number has. It takes no memory.
     pub fn next(&self, number: usize) -> Option<usize>
         requires { number < length self.now }
-        ensures { result ≡ position_from (nat_eq (get_or (map mark_of_entry (map entry_of self.now)) number 0)) (number + 1) (drop (number + 1) (map mark_of_entry (map entry_of self.now))) }
+        ensures { result ≡ position_from
+            (nat_eq (get_or (map mark_of_entry (map entry_of self.now)) number 0))
+            (number + 1) (drop (number + 1) (map mark_of_entry (map entry_of self.now))) }
     {
         self.table.next(number)
     }

@@ -67,7 +67,8 @@ fn counted<'a>(
     alloc: Global,
     enumerators: &'a Row<EnumeratorTree>,
 ) -> Result<Vec<MemberRef<'a>>, OutOfMemory>
-    ensures { IfOk result (λ all. map seen_member all.items ≡ map enumerator (map enumerator_of enumerators.now)) }
+    ensures { IfOk result (λ all. map seen_member all.items
+        ≡ map enumerator (map enumerator_of enumerators.now)) }
 {
     let mut all = Vec::with_capacity(alloc, enumerators.len())?;
     for item in enumerators.as_slice() {

@@ -23,7 +23,8 @@ pub fn members_by_name<'a>(
     alloc: Global,
     found: &[Found<'a>],
 ) -> Result<Vec<IndexMap<&'a str, MemberRef<'a>>>, OutOfMemory>
-    ensures { IfOk result (λ tables. map seen_table tables.items ≡ map called (map entry_of found.now)) }
+    ensures { IfOk result (λ tables. map seen_table tables.items
+        ≡ map called (map entry_of found.now)) }
 {
     let mut tables = Vec::with_capacity(alloc, found.len())?;
     for f in found {
@@ -36,7 +37,8 @@ fn table_of<'a>(
     alloc: Global,
     tree: &'a DeclTree,
 ) -> Result<IndexMap<&'a str, MemberRef<'a>>, OutOfMemory>
-    ensures { IfOk result (λ table. seen_table table ≡ (λ (name : Name). find (is_called (text name)) (members (inner (decl_of tree.now))))) }
+    ensures { IfOk result (λ table. seen_table table
+        ≡ (λ (name : Name). find (is_called (text name)) (members (inner (decl_of tree.now))))) }
 {
     let all = members(alloc, tree)?;
     by_name(alloc, all.as_slice())
@@ -47,7 +49,8 @@ fn by_name<'a>(
     alloc: Global,
     members: &[MemberRef<'a>],
 ) -> Result<IndexMap<&'a str, MemberRef<'a>>, OutOfMemory>
-    ensures { IfOk result (λ table. (bytes : List ℕ) → map_option seen_member (get_by (λ k. bytes_eq bytes k.now) table) ≡ find (is_called bytes) (map seen_member members.now)) }
+    ensures { IfOk result (λ table. (bytes : List ℕ) → map_option seen_member (get_by
+        (λ k. bytes_eq bytes k.now) table) ≡ find (is_called bytes) (map seen_member members.now)) }
 {
     let mut table = IndexMap::with_capacity(alloc, members.len())?;
     for i in (0..members.len()).rev() {

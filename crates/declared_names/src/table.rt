@@ -26,7 +26,8 @@ impl Model for Table {
     ghost view = { λ table. table.marks.items };
 
     ghost invariant = { λ table. record {
-      heads : (mark : ℕ) → get nat_eq table.heads mark ≡ position_from (nat_eq mark) 0 table.marks.items;
+      heads : (mark : ℕ) → get nat_eq table.heads mark
+          ≡ position_from (nat_eq mark) 0 table.marks.items;
       count : length table.nexts.items ≡ length table.marks.items;
       nexts : AreNexts table.marks.items table.nexts.items 0;
     } };
@@ -69,7 +70,8 @@ impl Table {
     /// The next place with the mark that a place has. It takes no memory.
     pub fn next(&self, place: usize) -> Option<usize>
         requires { place < length self.now }
-        ensures { result ≡ position_from (nat_eq (get_or self.now place 0)) (place + 1) (drop (place + 1) self.now) }
+        ensures { result ≡ position_from (nat_eq (get_or self.now place 0))
+            (place + 1) (drop (place + 1) self.now) }
     {
         self.nexts[place]
     }

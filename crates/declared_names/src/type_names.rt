@@ -13,7 +13,8 @@ use std::alloc::Global;
 
 /// The names of types in a declaration, but for those in nested declarations.
 pub fn names_of_types(alloc: Global, tree: &DeclTree) -> Result<Vec<&DottedTree>, OutOfMemory>
-    ensures { IfOk result (λ names. map (λ d. d.now) names.items ≡ flat_map type_names (members (body (decl_of tree.now)))) }
+    ensures { IfOk result (λ names. map (λ d. d.now) names.items
+        ≡ flat_map type_names (members (body (decl_of tree.now)))) }
 {
     let all = members(alloc, tree)?;
     let mut names = Vec::new(alloc);
@@ -27,7 +28,8 @@ fn add_member_types<'a>(
     member: MemberRef<'a>,
     names: &mut Vec<&'a DottedTree>,
 ) -> Result<(), OutOfMemory>
-    ensures { OnOk result (map (λ d. d.now) names.new.items ≡ map (λ d. d.now) names.old.items ++ type_names (seen_member member.entry)) }
+    ensures { OnOk result (map (λ d. d.now) names.new.items
+        ≡ map (λ d. d.now) names.old.items ++ type_names (seen_member member.entry)) }
 {
     match member {
         MemberRef::Field(field) => add_type(&field.ty, names),
@@ -47,7 +49,8 @@ fn add_argument_types<'a>(
     args: &'a [ArgTree],
     names: &mut Vec<&'a DottedTree>,
 ) -> Result<(), OutOfMemory>
-    ensures { OnOk result (map (λ d. d.now) names.new.items ≡ map (λ d. d.now) names.old.items ++ flat_map (λ a. names_of_type a.ty) (map arg_of args.now)) }
+    ensures { OnOk result (map (λ d. d.now) names.new.items ≡ map
+        (λ d. d.now) names.old.items ++ flat_map (λ a. names_of_type a.ty) (map arg_of args.now)) }
 {
     for arg in args {
         add_type(&arg.ty, names)?;
@@ -56,7 +59,8 @@ fn add_argument_types<'a>(
 }
 
 fn add_type<'a>(ty: &'a TypeTree, names: &mut Vec<&'a DottedTree>) -> Result<(), OutOfMemory>
-    ensures { OnOk result (map (λ d. d.now) names.new.items ≡ map (λ d. d.now) names.old.items ++ names_of_type ty.now) }
+    ensures { OnOk result (map (λ d. d.now) names.new.items
+        ≡ map (λ d. d.now) names.old.items ++ names_of_type ty.now) }
 {
     names.push(&ty.name)?;
     if let Some(element) = &ty.element {

@@ -17,7 +17,8 @@ use std::alloc::Global;
 /// The declarations of files, in the order of their numbers.
 pub fn walk<'a>(alloc: Global, files: &'a [ParsedFile]) -> Result<Vec<Found<'a>>, WalkFault>
     requires { length files.now ≤ 4096 }
-    ensures ok { IfOk result (λ found. map entry_of found.items ≡ declarations (map source_of files.now)) }
+    ensures ok { IfOk result (λ found. map entry_of found.items
+        ≡ declarations (map source_of files.now)) }
     ensures err { IfErr result (IsFull (declarations (map source_of files.now))) }
 {
     let mut found = Vec::new(alloc);
@@ -34,8 +35,10 @@ fn add_file<'a>(
     file: &'a ParsedFile,
     found: &mut Vec<Found<'a>>,
 ) -> Result<(), WalkFault>
-    ensures ok { OnOk result (map entry_of found.new.items ≡ with_file number (source_of file.now) (map entry_of found.old.items)) }
-    ensures err { IfErr result (IsFull (with_file number (source_of file.now) (map entry_of found.old.items))) }
+    ensures ok { OnOk result (map entry_of found.new.items
+        ≡ with_file number (source_of file.now) (map entry_of found.old.items)) }
+    ensures err { IfErr result (IsFull
+        (with_file number (source_of file.now) (map entry_of found.old.items))) }
 {
     let tree = &file.tree.decl;
     let name = extended(alloc, package(&file.tree), &tree.name.name)?;
@@ -62,8 +65,10 @@ fn add_decl<'a>(
     tree: &'a DeclTree,
     found: &mut Vec<Found<'a>>,
 ) -> Result<(), WalkFault>
-    ensures ok { OnOk result (map entry_of found.new.items ≡ with_decl file outer name.now (decl_of tree.now) (map entry_of found.old.items)) }
-    ensures err { IfErr result (IsFull (with_decl file outer name.now (decl_of tree.now) (map entry_of found.old.items))) }
+    ensures ok { OnOk result (map entry_of found.new.items
+        ≡ with_decl file outer name.now (decl_of tree.now) (map entry_of found.old.items)) }
+    ensures err { IfErr result (IsFull
+        (with_decl file outer name.now (decl_of tree.now) (map entry_of found.old.items))) }
 {
     let number = found.len();
     if number >= 16_384 {
@@ -89,8 +94,10 @@ fn add_body<'a>(
     body: &'a BodyTree,
     found: &mut Vec<Found<'a>>,
 ) -> Result<(), WalkFault>
-    ensures ok { OnOk result (map entry_of found.new.items ≡ with_body file number name.now (body_of body.now) (map entry_of found.old.items)) }
-    ensures err { IfErr result (IsFull (with_body file number name.now (body_of body.now) (map entry_of found.old.items))) }
+    ensures ok { OnOk result (map entry_of found.new.items
+        ≡ with_body file number name.now (body_of body.now) (map entry_of found.old.items)) }
+    ensures err { IfErr result (IsFull
+        (with_body file number name.now (body_of body.now) (map entry_of found.old.items))) }
 {
     match body {
         BodyTree::Parcelable(members) => add_members(alloc, file, number, name, members, found),
@@ -111,8 +118,10 @@ fn add_members<'a>(
     members: &'a Row<MemberTree>,
     found: &mut Vec<Found<'a>>,
 ) -> Result<(), WalkFault>
-    ensures ok { OnOk result (map entry_of found.new.items ≡ with_members file number name.now (members_of members.now) (map entry_of found.old.items)) }
-    ensures err { IfErr result (IsFull (with_members file number name.now (members_of members.now) (map entry_of found.old.items))) }
+    ensures ok { OnOk result (map entry_of found.new.items ≡ with_members file number name.now
+        (members_of members.now) (map entry_of found.old.items)) }
+    ensures err { IfErr result (IsFull (with_members file number name.now
+        (members_of members.now) (map entry_of found.old.items))) }
 {
     for member in members.as_slice() {
         add_member(alloc, file, number, name, member, found)?;
@@ -130,8 +139,11 @@ fn add_member<'a>(
     member: &'a MemberTree,
     found: &mut Vec<Found<'a>>,
 ) -> Result<(), WalkFault>
-    ensures ok { OnOk result ((ms : Members) → with_members file number name.now (member_of member.now ms) (map entry_of found.old.items) ≡ with_members file number name.now ms (map entry_of found.new.items)) }
-    ensures err { IfErr result (λ e. (ms : Members) → IsFull (with_members file number name.now (member_of member.now ms) (map entry_of found.old.items)) e) }
+    ensures ok { OnOk result ((ms : Members)
+        → with_members file number name.now (member_of member.now ms) (map entry_of found.old.items)
+        ≡ with_members file number name.now ms (map entry_of found.new.items)) }
+    ensures err { IfErr result (λ e. (ms : Members) → IsFull (with_members file number name.now
+        (member_of member.now ms) (map entry_of found.old.items)) e) }
 {
     match member {
         MemberTree::Field(_) => Ok(()),

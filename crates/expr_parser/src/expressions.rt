@@ -27,7 +27,8 @@ pub fn expr<'a>(
     tokens: &'a [Token],
 ) -> Result<(ExprTree, &'a [Token]), ParseFault>
     requires { length tokens.now < fuel }
-    ensures gives { Gives (λ x. (expr_of x.0, x.1.now)) result (read.expr fuel (rank least) tokens.entry.now) }
+    ensures gives { Gives (λ x. (expr_of x.0, x.1.now)) result
+        (read.expr fuel (rank least) tokens.entry.now) }
     ensures left { IfOk result (λ x. length x.1.now < length tokens.entry.now) }
 {
     let (first, rest) = operand(alloc, fuel - 1, tokens)?;
@@ -42,7 +43,8 @@ fn operand<'a>(
     tokens: &'a [Token],
 ) -> Result<(ExprTree, &'a [Token]), ParseFault>
     requires { length tokens.now ≤ fuel }
-    ensures gives { Gives (λ x. (expr_of x.0, x.1.now)) result (read.operand (λ k us. read.expr fuel k us) tokens.entry.now) }
+    ensures gives { Gives (λ x. (expr_of x.0, x.1.now)) result
+        (read.operand (λ k us. read.expr fuel k us) tokens.entry.now) }
     ensures left { IfOk result (λ x. length x.1.now < length tokens.entry.now) }
 {
     match tokens {
@@ -75,7 +77,8 @@ fn by_symbol<'a>(
     rest: &'a [Token],
 ) -> Result<(ExprTree, &'a [Token]), ParseFault>
     requires { length rest.now < fuel }
-    ensures gives { Gives (λ x. (expr_of x.0, x.1.now)) result (read.by_symbol (λ k us. read.expr fuel k us) offset s rest.entry.now) }
+    ensures gives { Gives (λ x. (expr_of x.0, x.1.now)) result
+        (read.by_symbol (λ k us. read.expr fuel k us) offset s rest.entry.now) }
     ensures left { IfOk result (λ x. length x.1.now ≤ length rest.entry.now) }
 {
     if is_open(s) {
@@ -99,7 +102,8 @@ fn climb<'a>(
     tokens: &'a [Token],
 ) -> Result<(ExprTree, &'a [Token]), ParseFault>
     requires { length tokens.now < fuel }
-    ensures gives { Gives (λ x. (expr_of x.0, x.1.now)) result (read.climb (λ k us. read.expr fuel k us) fuel (rank least) (expr_of first) tokens.entry.now) }
+    ensures gives { Gives (λ x. (expr_of x.0, x.1.now)) result (read.climb
+        (λ k us. read.expr fuel k us) fuel (rank least) (expr_of first) tokens.entry.now) }
     ensures left { IfOk result (λ x. length x.1.now ≤ length tokens.entry.now) }
 {
     let mut tree = first;
@@ -138,7 +142,8 @@ fn closed<'a>(
     inner: ExprTree,
     rest: &'a [Token],
 ) -> Result<(ExprTree, &'a [Token]), ParseFault>
-    ensures gives { Gives (λ x. (expr_of x.0, x.1.now)) result (read.closed offset (expr_of inner) rest.entry.now) }
+    ensures gives { Gives (λ x. (expr_of x.0, x.1.now)) result
+        (read.closed offset (expr_of inner) rest.entry.now) }
     ensures left { IfOk result (λ x. length x.1.now ≤ length rest.entry.now) }
 {
     match rest {
@@ -172,7 +177,8 @@ fn binary(
     left: ExprTree,
     right: ExprTree,
 ) -> Result<ExprTree, ParseFault>
-    ensures ok { IfOk result (λ e. expr_of e ≡ binary_tree (shown.offset_of (expr_of left)) sign (expr_of left) (expr_of right)) }
+    ensures ok { IfOk result (λ e. expr_of e
+        ≡ binary_tree (shown.offset_of (expr_of left)) sign (expr_of left) (expr_of right)) }
     ensures fault { IfErr result (λ e. e ≡ fault.OutOfMemory) }
 {
     let offset = left.offset;

@@ -36,7 +36,8 @@ pub enum Level {
 
 // The binary operator of this level or above that a token is, and its level.
 pub fn operator(least: Level, kind: &TokenKind) -> Option<(Symbol, Level)>
-    ensures { MatchOption result (read.goes_on (rank_of least) (read.level_by (read.mark_of kind.now)) ≡ false) (λ x. IsOperator (rank_of least) (read.mark_of kind.now) x.0 x.1) }
+    ensures { MatchOption result (read.goes_on (rank_of least) (read.level_by (read.mark_of
+        kind.now)) ≡ false) (λ x. IsOperator (rank_of least) (read.mark_of kind.now) x.0 x.1) }
 {
     let sign = mark_of(kind)?;
     let level = level_of(sign)?;

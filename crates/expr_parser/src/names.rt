@@ -51,7 +51,8 @@ fn parts_behind<'a>(
     part: Ident,
     tokens: &'a [Token],
 ) -> Result<(Parts, &'a [Token]), ParseFault>
-    ensures gives { Gives (λ x. (x.0, x.1.now)) result (read.with_names (part ∷ []) (read.names true tokens.now)) }
+    ensures gives { Gives (λ x. (x.0, x.1.now)) result
+        (read.with_names (part ∷ []) (read.names true tokens.now)) }
     ensures left { IfOk result (λ x. length x.1.now < length tokens.entry.now) }
 {
     // Few names have more than four parts.

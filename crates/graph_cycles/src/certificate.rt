@@ -10,7 +10,8 @@ use aidl_base::Row;
 fn node_holds(edges: &[Row<u32>], ranks: &[usize], on: &[bool], node: usize) -> bool
     ensures { IsTrue result →
         (n : ℕ) → Contains (targets edges.now node) n →
-        (slice_index ranks.now n ≤ slice_index ranks.now node) × (flag on.now node ≡ false → slice_index ranks.now n < slice_index ranks.now node) }
+        (slice_index ranks.now n ≤ slice_index ranks.now node)
+        × (flag on.now node ≡ false → slice_index ranks.now n < slice_index ranks.now node) }
 {
     let rank = number_at(ranks, node);
     let marked = is_set(on, node);

@@ -26,7 +26,8 @@ pub struct Cycles {
 pub fn find_cycles(alloc: Global, edges: &[Row<u32>]) -> Result<Cycles, OutOfMemory>
     ensures len { IfOk result (λ found. vec_len found.on ≡ length edges.now) }
     ensures exact { IfOk result (λ found. TellsCycles (targets edges.now) found.on.items) }
-    ensures ranks { IfOk result (λ found. Descends (targets edges.now) found.on.items found.ranks.items) }
+    ensures ranks { IfOk result (λ found. Descends
+        (targets edges.now) found.on.items found.ranks.items) }
 {
     match certified_cycles(alloc, edges)? {
         Some(found) => Ok(found),
@@ -36,9 +37,12 @@ pub fn find_cycles(alloc: Global, edges: &[Row<u32>]) -> Result<Cycles, OutOfMem
 
 // Which nodes lie on a cycle, with ranks, where the search gave a certificate for it.
 fn certified_cycles(alloc: Global, edges: &[Row<u32>]) -> Result<Option<Cycles>, OutOfMemory>
-    ensures len { IfOk result (λ given. IfSome given (λ found. vec_len found.on ≡ length edges.now)) }
-    ensures exact { IfOk result (λ given. IfSome given (λ found. TellsCycles (targets edges.now) found.on.items)) }
-    ensures ranks { IfOk result (λ given. IfSome given (λ found. Descends (targets edges.now) found.on.items found.ranks.items)) }
+    ensures len { IfOk result (λ given. IfSome given (λ found. vec_len found.on
+        ≡ length edges.now)) }
+    ensures exact { IfOk result (λ given. IfSome given
+        (λ found. TellsCycles (targets edges.now) found.on.items)) }
+    ensures ranks { IfOk result (λ given. IfSome given
+        (λ found. Descends (targets edges.now) found.on.items found.ranks.items)) }
 {
     let visited = depth_first(alloc, edges)?;
     let found = grouped(alloc, edges, &visited.left)?;

@@ -20,7 +20,8 @@ struct Reach {
 pub fn cycles_slowly(alloc: Global, edges: &[Row<u32>]) -> Result<Cycles, OutOfMemory>
     ensures len { IfOk result (λ found. vec_len found.on ≡ length edges.now) }
     ensures exact { IfOk result (λ found. TellsCycles (targets edges.now) found.on.items) }
-    ensures ranks { IfOk result (λ found. Descends (targets edges.now) found.on.items found.ranks.items) }
+    ensures ranks { IfOk result (λ found. Descends
+        (targets edges.now) found.on.items found.ranks.items) }
 {
     let mut on = Vec::new(alloc);
     let mut ranks = Vec::new(alloc);
@@ -34,8 +35,10 @@ pub fn cycles_slowly(alloc: Global, edges: &[Row<u32>]) -> Result<Cycles, OutOfM
 
 // A target of a node that has a flag and no mark.
 fn unmarked_target(edges: &[Row<u32>], node: usize, marks: &[bool]) -> Option<usize>
-    ensures some { IfSome result (λ to. IsEdge (targets edges.now) node to × flag marks.now to ≡ false × to < length marks.now) }
-    ensures none { IfNone result ((n : ℕ) → IsEdge (targets edges.now) node n → n < length marks.now → flag marks.now n ≡ true) }
+    ensures some { IfSome result (λ to. IsEdge (targets edges.now) node to
+        × flag marks.now to ≡ false × to < length marks.now) }
+    ensures none { IfNone result ((n : ℕ) → IsEdge (targets edges.now) node n
+        → n < length marks.now → flag marks.now n ≡ true) }
 {
     for target in targets_of(edges, node) {
         let to = *target as usize;
@@ -50,7 +53,8 @@ fn unmarked_target(edges: &[Row<u32>], node: usize, marks: &[bool]) -> Option<us
 fn open_target(edges: &[Row<u32>], start: usize, marks: &[bool]) -> Option<usize>
     requires marks { AfterNode (targets edges.now) start marks.now }
     requires len { length marks.now ≡ length edges.now }
-    ensures some { IfSome result (λ to. Leads (targets edges.now) start to × flag marks.now to ≡ false × to < length marks.now) }
+    ensures some { IfSome result (λ to. Leads (targets edges.now) start to
+        × flag marks.now to ≡ false × to < length marks.now) }
     ensures none { IfNone result (IsClosed (targets edges.now) start marks.now) }
 {
     if let Some(to) = unmarked_target(edges, start, marks) {

@@ -48,7 +48,8 @@ impl<'a, R: Files> FolderStore<'a, R> {
 
     // Counts a failed call. Want of memory is none.
     fn counted(&mut self, fault: HostFault) -> StoreFault
-        ensures cause { StoreCause {T = Unit {0}} (untold self.old.faults) (untold self.new.faults) (Err result) }
+        ensures cause { StoreCause {T = Unit {0}}
+            (untold self.old.faults) (untold self.new.faults) (Err result) }
         ensures never_falls { self.old.faults ≤ self.new.faults }
         ensures answer { result ≡ store_fault fault }
     {

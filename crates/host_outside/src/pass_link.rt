@@ -43,7 +43,8 @@ impl Link for PassLink {
         ensures faithful { IfOk result (λ delivered. delivered.items ≡ bytes.now) }
         ensures never_failed { IfErr result (λ fault. fault ≡ OutOfMemory) }
         ensures cause { CarryCause (untold self.old.faults) (untold self.new.faults) result }
-        ensures failed_call { IfCarryFailed result (FailedIn (untold self.new.faults) (λ sent. sent ≡ parcel way code bytes.now)) }
+        ensures failed_call { IfCarryFailed result
+            (FailedIn (untold self.new.faults) (λ sent. sent ≡ parcel way code bytes.now)) }
         ensures never_falls { self.old.faults ≤ self.new.faults }
         ensures unchanged { self.new ≡ self.old }
     {

@@ -61,7 +61,8 @@ fn read_front<F: Read + Drop>(
 ) -> Result<Vec<u8>, HostFault>
     requires { most < usize.MAX }
     ensures within { IfOk result (λ bytes. length bytes.items ≤ most + 1) }
-    ensures front { IfOk result (λ bytes. IfSome (F.remaining file) (λ left. bytes.items ≡ take (most + 1) left)) }
+    ensures front { IfOk result (λ bytes. IfSome (F.remaining file) (λ left. bytes.items
+        ≡ take (most + 1) left)) }
 {
     let mut bytes = Vec::with_capacity(alloc, expected)?;
     file.take(most as u64 + 1).read_to_end(&mut bytes)?;

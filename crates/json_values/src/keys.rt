@@ -28,7 +28,8 @@ pub fn check_keys<'a>(
     members: &Map<String, Json>,
 ) -> Result<(), Fault<Reason>>
     requires { AreApart (λ f. f.name.0) fields.now }
-    ensures { Gives (λ _. tt) result (answer.known_from (answer.unknown_in fields.now (members_view members.now.entries))) }
+    ensures { Gives (λ _. tt) result
+        (answer.known_from (answer.unknown_in fields.now (members_view members.now.entries))) }
 {
     let mut found: usize = 0;
     for field in fields {
@@ -56,7 +57,8 @@ fn unknown_key<'a, 'm>(
     fields: &'a [Field],
     members: &'m Map<String, Json>,
 ) -> Result<Option<&'m str>, OutOfMemory>
-    ensures { IfOk result (λ o. option_map (λ key. key.now) o ≡ answer.unknown_in fields.now (members_view members.now.entries)) }
+    ensures { IfOk result (λ o. option_map (λ key. key.now) o
+        ≡ answer.unknown_in fields.now (members_view members.now.entries)) }
 {
     for (key, _) in members.iter() {
         let name = key.as_str();

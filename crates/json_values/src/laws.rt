@@ -11,7 +11,8 @@ use aidl_values::Value;
 /// What a value that fits is written as reads as the value.
 pub fn law_json_reads_back(schema: &Schema, ty: &AidlType, value: &Value)
     requires { Fits schema.now.decls ty.now (view value.now) }
-    ensures { from_json_of schema.now.decls 64 ty.now (json_of schema.now.decls ty.now (view value.now)) ≡ Ok (view value.now) }
+    ensures { from_json_of schema.now.decls 64 ty.now
+        (json_of schema.now.decls ty.now (view value.now)) ≡ Ok (view value.now) }
 {
     law_valid(schema);
 }

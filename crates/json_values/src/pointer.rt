@@ -50,7 +50,8 @@ pub fn key_step(alloc: Global, key: &str) -> Result<String, AllocError>
 }
 
 fn push_escaped(text: &mut String, c: char) -> Result<(), AllocError>
-    ensures { OnOk result (string_bytes text.new ≡ string_bytes text.old ++ encode_utf8_all (escaped_character c)) }
+    ensures { OnOk result (string_bytes text.new
+        ≡ string_bytes text.old ++ encode_utf8_all (escaped_character c)) }
 {
     match c {
         '~' => text.push_str("~0"),

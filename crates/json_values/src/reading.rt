@@ -39,10 +39,12 @@ pub fn from_json(
     ty: &AidlType,
     json: &Json,
 ) -> Result<Value, JsonFault>
-    ensures ok { IfOk result (λ v. from_json_of schema.now.decls 64 ty.now (json_view json.now) ≡ Ok (view v)) }
+    ensures ok { IfOk result (λ v. from_json_of schema.now.decls 64 ty.now (json_view json.now)
+        ≡ Ok (view v)) }
     ensures fits { IfOk result (λ v. Fits schema.now.decls ty.now (view v)) }
     ensures refused { IfErr result
-        (λ fault. IfSome (refusal_of fault) (λ r. from_json_of schema.now.decls 64 ty.now (json_view json.now) ≡ Err r)) }
+        (λ fault. IfSome (refusal_of fault)
+        (λ r. from_json_of schema.now.decls 64 ty.now (json_view json.now) ≡ Err r)) }
 {
     match read_fitting(alloc, schema, *ty, json) {
         Ok(value) => Ok(value),
@@ -101,7 +103,8 @@ fn read_within<'a>(
     json: &Json,
 ) -> Result<Value, Fault<Reason>>
     requires { reader.now.levels ≤ 64 }
-    ensures { Gives view result (from_json_of reader.now.schema.now.decls reader.now.levels ty (json_view json.now)) }
+    ensures { Gives view result
+        (from_json_of reader.now.schema.now.decls reader.now.levels ty (json_view json.now)) }
 {
     match plain_number(ty, json) {
         Some(n) => Ok(number_value(n)),
@@ -117,7 +120,8 @@ fn read<'a>(
     json: &Json,
 ) -> Result<Value, Fault<Reason>>
     requires { reader.now.levels ≤ 64 }
-    ensures { Gives view result (from_by reader.now.schema.now.decls (is_level_left reader.now.levels)
+    ensures { Gives view result
+        (from_by reader.now.schema.now.decls (is_level_left reader.now.levels)
         (default_in reader.now) (part_of reader.now) ty (json_view json.now)) }
 {
     if is_absent(ty.nullable, json) {
@@ -147,8 +151,10 @@ fn read_one<'a>(
     json: &Json,
 ) -> Result<Value, Fault<Reason>>
     requires { reader.now.levels ≤ 64 }
-    ensures { Gives view result (answer.one_from (is_level_left reader.now.levels) (default_in reader.now) (part_of reader.now)
-        (enumerators_of reader.now.schema.now.decls base) (form_of reader.now.schema.now.decls base) (json_view json.now)) }
+    ensures { Gives view result (answer.one_from
+        (is_level_left reader.now.levels) (default_in reader.now) (part_of reader.now)
+        (enumerators_of reader.now.schema.now.decls base)
+        (form_of reader.now.schema.now.decls base) (json_view json.now)) }
 {
     law_valid(reader.schema);
     law_sound(reader.schema);

@@ -34,7 +34,8 @@ pub fn read_record<'a>(
 ) -> Result<Value, Fault<Reason>>
     requires few { reader.now.levels ≤ 64 }
     requires apart { AreApart (λ f. f.name.0) fields.now }
-    ensures { Gives view result (answer.record_from (is_level_left reader.now.levels) (default_in reader.now) (part_of reader.now)
+    ensures { Gives view result (answer.record_from
+        (is_level_left reader.now.levels) (default_in reader.now) (part_of reader.now)
         fields.now (json_view json.now)) }
 {
     let Json::Object(members) = json else {
@@ -58,7 +59,8 @@ fn read_object<'a>(
     requires few { reader.now.levels ≤ 64 }
     requires apart { AreApart (λ f. f.name.0) fields.now }
     ensures { Gives view result
-        (answer.object_from (default_in reader.now) (part_of reader.now) fields.now (members_view members.now.entries)) }
+        (answer.object_from (default_in reader.now)
+        (part_of reader.now) fields.now (members_view members.now.entries)) }
 {
     if let Err(fault) = check_keys(reader.alloc, hints, base, fields, members) {
         return Err(fault);
@@ -78,7 +80,8 @@ fn read_fields<'a>(
 ) -> Result<Row<Value>, Fault<Reason>>
     requires left { 0 < reader.now.levels }
     requires few { reader.now.levels ≤ 64 }
-    ensures { Gives views result (answer.fields_from (default_in reader.now) (part_of reader.now) fields.now
+    ensures { Gives views result
+        (answer.fields_from (default_in reader.now) (part_of reader.now) fields.now
         (λ key. get_member key (members_view members.now.entries))) }
 {
     let mut values = Vec::with_capacity(reader.alloc, fields.len())?;
@@ -97,7 +100,8 @@ fn read_member<'a>(
 ) -> Result<Value, Fault<Reason>>
     requires left { 0 < reader.now.levels }
     requires few { reader.now.levels ≤ 64 }
-    ensures { Gives view result (within (escaped (bytes_of field.now.name)) (answer.field_from (default_in reader.now) (part_of reader.now)
+    ensures { Gives view result (within (escaped (bytes_of field.now.name))
+        (answer.field_from (default_in reader.now) (part_of reader.now)
         field.now (get_member (bytes_of field.now.name) (members_view members.now.entries)))) }
 {
     let name = field.name.0.as_str();
@@ -108,7 +112,8 @@ fn read_member<'a>(
 }
 
 pub fn member_of<'a>(members: &'a Map<String, Json>, name: &str) -> Option<&'a Json>
-    ensures { option_map (λ j. json_view j.now) result ≡ get_member name.now (members_view members.now.entries) }
+    ensures { option_map (λ j. json_view j.now) result
+        ≡ get_member name.now (members_view members.now.entries) }
 {
     members.get(name)
 }
@@ -122,7 +127,8 @@ fn read_field<'a>(
 ) -> Result<Value, Fault<Reason>>
     requires left { 0 < reader.now.levels }
     requires few { reader.now.levels ≤ 64 }
-    ensures { Gives view result (answer.field_from (default_in reader.now) (part_of reader.now) field.now
+    ensures { Gives view result
+        (answer.field_from (default_in reader.now) (part_of reader.now) field.now
         (option_map (λ j. json_view j.now) json.entry)) }
 {
     match json {

@@ -48,7 +48,8 @@ pub fn read_number<'a>(
     form: &Form<'_>,
     json: &Json,
 ) -> Result<Value, Fault<Reason>>
-    ensures { Gives view result (answer.number_from (enumerators_of schema.now.decls base) (seen form.now) (json_view json.now)) }
+    ensures { Gives view result (answer.number_from
+        (enumerators_of schema.now.decls base) (seen form.now) (json_view json.now)) }
 {
     match json {
         Json::Number(number) => read_whole(alloc, form, number),
@@ -59,7 +60,8 @@ pub fn read_number<'a>(
 
 // A whole number in the range of a type or of a backing.
 fn read_whole(alloc: Global, form: &Form<'_>, number: &Number) -> Result<Value, Fault<Reason>>
-    ensures { Gives view result (answer.whole_from (seen form.now) (as_integer (number_view number.now))) }
+    ensures { Gives view result
+        (answer.whole_from (seen form.now) (as_integer (number_view number.now))) }
 {
     match number.as_i64() {
         Some(n) if is_in_range(form, n) => Ok(Value::Number(n)),

@@ -28,7 +28,8 @@ pub fn read_sequence<'a>(
     json: &Json,
 ) -> Result<Value, Fault<Reason>>
     requires { reader.now.levels ≤ 64 }
-    ensures { Gives view result (answer.sequence_from (is_level_left reader.now.levels) (part_of reader.now ty) (json_view json.now)) }
+    ensures { Gives view result (answer.sequence_from
+        (is_level_left reader.now.levels) (part_of reader.now ty) (json_view json.now)) }
 {
     let Json::Array(items) = json else {
         return Err(refused(reader.alloc, Reason::WrongShape));
@@ -49,7 +50,8 @@ fn read_elements<'a>(
 ) -> Result<Value, Fault<Reason>>
     requires left { 0 < reader.now.levels }
     requires few { reader.now.levels ≤ 64 }
-    ensures { Gives view result (answer.elements_from (part_of reader.now ty) (items_view items.now)) }
+    ensures { Gives view result
+        (answer.elements_from (part_of reader.now ty) (items_view items.now)) }
 {
     if let Some(value) = plain_sequence(reader.alloc, ty, items)? {
         return Ok(value);
@@ -69,7 +71,8 @@ fn read_items<'a>(
 ) -> Result<Row<Value>, Fault<Reason>>
     requires left { 0 < reader.now.levels }
     requires few { reader.now.levels ≤ 64 }
-    ensures { Gives views result (answer.items_from (part_of reader.now ty) 0 (items_view items.now)) }
+    ensures { Gives views result
+        (answer.items_from (part_of reader.now ty) 0 (items_view items.now)) }
 {
     let mut values = Vec::with_capacity(reader.alloc, items.len())?;
     for (i, item) in items.iter().enumerate() {
@@ -88,7 +91,8 @@ fn read_item<'a>(
 ) -> Result<Value, Fault<Reason>>
     requires left { 0 < reader.now.levels }
     requires few { reader.now.levels ≤ 64 }
-    ensures { Gives view result (within (decimal index) (part_of reader.now ty (json_view json.now))) }
+    ensures { Gives view result
+        (within (decimal index) (part_of reader.now ty (json_view json.now))) }
 {
     match read_part(reader, hints, ty, json) {
         Ok(value) => Ok(value),

@@ -20,7 +20,8 @@ pub fn plain_sequence(
     ty: AidlType,
     items: &[Json],
 ) -> Result<Option<Value>, OutOfMemory>
-    ensures { IfOk result (λ o. IfSome o (λ value. ArePlain ty (items_view items.now) (view value))) }
+    ensures { IfOk result (λ o. IfSome o
+        (λ value. ArePlain ty (items_view items.now) (view value))) }
 {
     match ty.base {
         Base::Boolean => sequence_of::<bool>(alloc, ty, items),
@@ -38,7 +39,8 @@ fn sequence_of<E: Element>(
     ty: AidlType,
     items: &[Json],
 ) -> Result<Option<Value>, OutOfMemory>
-    ensures { IfOk result (λ o. IfSome o (λ value. ArePlain ty (items_view items.now) (view value))) }
+    ensures { IfOk result (λ o. IfSome o
+        (λ value. ArePlain ty (items_view items.now) (view value))) }
 {
     let mut elements = Vec::with_capacity(alloc, items.len())?;
     for item in items {
@@ -99,7 +101,8 @@ impl Element for u8 {
     }
 
     fn sequence(elements: Vec<u8>) -> Value
-        ensures { view result ≡ seq (items_of (map (λ b. number (cast_signed w8 b)) elements.items)) }
+        ensures { view result
+            ≡ seq (items_of (map (λ b. number (cast_signed w8 b)) elements.items)) }
     {
         Value::Numbers(Numbers::from_bytes(elements))
     }

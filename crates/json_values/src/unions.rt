@@ -32,7 +32,8 @@ pub fn read_union<'a>(
     requires few { reader.now.levels ≤ 64 }
     requires apart { AreApart (λ f. f.name.0) fields.now }
     requires fields { length fields.now ≤ 4096 }
-    ensures { Gives view result (answer.union_from (is_level_left reader.now.levels) (part_of reader.now) fields.now (json_view json.now)) }
+    ensures { Gives view result (answer.union_from
+        (is_level_left reader.now.levels) (part_of reader.now) fields.now (json_view json.now)) }
 {
     let Json::Object(members) = json else {
         return Err(refused(reader.alloc, Reason::WrongShape));
@@ -48,7 +49,8 @@ pub fn read_union<'a>(
 }
 
 fn only_member(members: &Map<String, Json>) -> Option<(&String, &Json)>
-    ensures { option_map (λ p. (string_bytes p.0.now, json_view p.1.now)) result ≡ answer.only_member (members_view members.now.entries) }
+    ensures { option_map (λ p. (string_bytes p.0.now, json_view p.1.now)) result
+        ≡ answer.only_member (members_view members.now.entries) }
 {
     if members.len() == 1 {
         members.first_key_value()
@@ -72,7 +74,8 @@ fn read_alternative<'a>(
     requires few { reader.now.levels ≤ 64 }
     requires apart { AreApart (λ f. f.name.0) fields.now }
     requires fields { length fields.now ≤ 4096 }
-    ensures { Gives view result (answer.alternative_from (part_of reader.now) 0 fields.now key.now (json_view json.now)) }
+    ensures { Gives view result
+        (answer.alternative_from (part_of reader.now) 0 fields.now key.now (json_view json.now)) }
 {
     match fields.get(place) {
         Some(field) if is_called(&field.name, key) => {
@@ -93,7 +96,8 @@ fn find_alternative<'a>(
     requires left { 0 < reader.now.levels }
     requires few { reader.now.levels ≤ 64 }
     requires fields { length fields.now ≤ 4096 }
-    ensures { Gives view result (answer.alternative_from (part_of reader.now) 0 fields.now key.now (json_view json.now)) }
+    ensures { Gives view result
+        (answer.alternative_from (part_of reader.now) 0 fields.now key.now (json_view json.now)) }
 {
     for (i, field) in fields.iter().enumerate() {
         if is_called(&field.name, key) {
@@ -117,7 +121,8 @@ fn read_chosen<'a>(
     requires left { 0 < reader.now.levels }
     requires few { reader.now.levels ≤ 64 }
     requires place { place < 4096 }
-    ensures { Gives view result (chosen_from (part_of reader.now) place field.now key.now (json_view json.now)) }
+    ensures { Gives view result
+        (chosen_from (part_of reader.now) place field.now key.now (json_view json.now)) }
 {
     match read_part(reader, hints, field.ty, json) {
         Ok(value) => alternative(reader.alloc, place as u32, value),

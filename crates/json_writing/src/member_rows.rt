@@ -39,7 +39,8 @@ impl<'a> Model for MemberRows<'a> {
     ghost view = { λ rows. rows.schema.now.decls };
 
     ghost invariant = { λ rows. (decl : ℕ) → IfSome (get nat_eq rows.rows decl)
-        (λ row. IsRow (fields_in (form_of rows.schema.now.decls (base.Named decl))) row.value.items) };
+        (λ row. IsRow
+        (fields_in (form_of rows.schema.now.decls (base.Named decl))) row.value.items) };
 }
 
 impl<'a> MemberRows<'a> {
@@ -56,7 +57,8 @@ impl<'a> MemberRows<'a> {
     // The row of the parcelable that a base is.
     pub fn row(&mut self, alloc: Global, base: Base) -> Result<Rc<Vec<Member>>, OutOfMemory>
         ensures same { self.new ≡ self.old }
-        ensures row { IfOk result (λ row. IsRow (fields_in (form_of self.old base)) row.value.items) }
+        ensures row { IfOk result (λ row. IsRow
+            (fields_in (form_of self.old base)) row.value.items) }
     {
         match base {
             Base::Named(decl) => self.row_of(alloc, decl),
@@ -66,7 +68,8 @@ impl<'a> MemberRows<'a> {
 
     fn row_of(&mut self, alloc: Global, decl: u32) -> Result<Rc<Vec<Member>>, OutOfMemory>
         ensures same { self.new ≡ self.old }
-        ensures row { IfOk result (λ row. IsRow (fields_in (form_of self.old (base.Named decl))) row.value.items) }
+        ensures row { IfOk result (λ row. IsRow
+            (fields_in (form_of self.old (base.Named decl))) row.value.items) }
     {
         if let Some(row) = self.rows.get(&decl) {
             return Ok(row.clone()?);

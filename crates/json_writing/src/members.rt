@@ -60,7 +60,8 @@ fn in_order(
 }
 
 fn member_of(alloc: Global, later: bool, name: &str, place: usize) -> Result<Member, OutOfMemory>
-    ensures key { IfOk result (λ member. string_bytes member.key ≡ comma_if later ++ (compact_text (string name.now) ++ 58 ∷ [])) }
+    ensures key { IfOk result (λ member. string_bytes member.key
+        ≡ comma_if later ++ (compact_text (string name.now) ++ 58 ∷ [])) }
     ensures place { IfOk result (λ member. member.place ≡ place) }
 {
     let mut key = String::new(alloc);

@@ -31,7 +31,8 @@ pub fn push_record(
 ) -> Result<(), OutOfMemory>
     requires { HasType printer.old ty (rec (views values.now)) }
     ensures same { printer.new ≡ printer.old }
-    ensures text { OnOk result (string_bytes text.new ≡ string_bytes text.old ++ value_text printer.old ty (rec (views values.now))) }
+    ensures text { OnOk result (string_bytes text.new
+        ≡ string_bytes text.old ++ value_text printer.old ty (rec (views values.now))) }
 {
     let fields = printer.fields(ty.base);
     let row = printer.row(alloc, ty.base)?;
@@ -75,7 +76,8 @@ fn push_member(
     requires within { member.now.place < length fields.now }
     ensures same { printer.new ≡ printer.old }
     ensures text { OnOk result (string_bytes text.new ≡ string_bytes text.old
-        ++ (string_bytes member.now.key ++ compact_text (part_at printer.old fields.now values.now member.now.place))) }
+        ++ (string_bytes member.now.key ++ compact_text
+        (part_at printer.old fields.now values.now member.now.place))) }
 {
     text.push_str(member.key.as_str())?;
     let field = &fields[member.place];
@@ -94,7 +96,8 @@ pub fn push_alternative(
 ) -> Result<(), OutOfMemory>
     requires { HasType printer.old ty (alt tag (view value.now)) }
     ensures same { printer.new ≡ printer.old }
-    ensures text { OnOk result (string_bytes text.new ≡ string_bytes text.old ++ value_text printer.old ty (alt tag (view value.now))) }
+    ensures text { OnOk result (string_bytes text.new
+        ≡ string_bytes text.old ++ value_text printer.old ty (alt tag (view value.now))) }
 {
     match printer.fields(ty.base).get(tag as usize) {
         Some(field) => push_only(alloc, printer, field, value, text),
@@ -114,7 +117,8 @@ fn push_only(
     requires { HasType printer.old field.now.ty (view value.now) }
     ensures same { printer.new ≡ printer.old }
     ensures text { OnOk result (string_bytes text.new ≡ string_bytes text.old
-        ++ compact_text (object (member (bytes_of field.now.name) (json_of printer.old field.now.ty (view value.now)) no_members))) }
+        ++ compact_text (object (member (bytes_of field.now.name)
+        (json_of printer.old field.now.ty (view value.now)) no_members))) }
 {
     text.push_str("{")?;
     push_quoted(alloc, field.name.0.as_str(), text)?;

@@ -83,7 +83,8 @@ impl<'a> Printer<'a> {
     // The row of members of the parcelable that a base is.
     pub fn row(&mut self, alloc: Global, base: Base) -> Result<Rc<Vec<Member>>, OutOfMemory>
         ensures same { self.new ≡ self.old }
-        ensures row { IfOk result (λ row. IsRow (fields_in (form_of self.old base)) row.value.items) }
+        ensures row { IfOk result (λ row. IsRow
+            (fields_in (form_of self.old base)) row.value.items) }
     {
         self.rows.row(alloc, base)
     }
@@ -98,7 +99,8 @@ impl<'a> Printer<'a> {
     ) -> Result<(), OutOfMemory>
         ensures same { self.new ≡ self.old }
         ensures text { OnOk result
-            (string_bytes text.new ≡ string_bytes text.old ++ compact_text (json_number (enumerators_of self.old base) n)) }
+            (string_bytes text.new ≡ string_bytes text.old ++ compact_text
+            (json_number (enumerators_of self.old base) n)) }
     {
         match self.names.name(alloc, base, n)? {
             Some(name) => push_quoted(alloc, name.0.as_str(), text),

@@ -11,7 +11,8 @@ use std::alloc::Global;
 
 // Adds a text as a JSON string: straight, where none of its characters is escaped, and else by way of a JSON value.
 pub fn push_quoted(alloc: Global, quoted: &str, text: &mut String) -> Result<(), OutOfMemory>
-    ensures { OnOk result (string_bytes text.new ≡ string_bytes text.old ++ compact_text (string quoted.now)) }
+    ensures { OnOk result (string_bytes text.new
+        ≡ string_bytes text.old ++ compact_text (string quoted.now)) }
 {
     if is_plain(quoted.as_bytes()) {
         push_plain(quoted, text)
@@ -35,7 +36,8 @@ fn is_plain_byte(byte: u8) -> bool
 #[tactic(auto, using(crate::proofs::Plain::quoted_plain))]
 fn push_plain(quoted: &str, text: &mut String) -> Result<(), OutOfMemory>
     requires { list_all plain.is_plain_byte quoted.now ≡ true }
-    ensures { OnOk result (string_bytes text.new ≡ string_bytes text.old ++ compact_text (string quoted.now)) }
+    ensures { OnOk result (string_bytes text.new
+        ≡ string_bytes text.old ++ compact_text (string quoted.now)) }
 {
     text.push_str("\"")?;
     text.push_str(quoted)?;
@@ -44,7 +46,8 @@ fn push_plain(quoted: &str, text: &mut String) -> Result<(), OutOfMemory>
 }
 
 fn push_escaped(alloc: Global, quoted: &str, text: &mut String) -> Result<(), OutOfMemory>
-    ensures { OnOk result (string_bytes text.new ≡ string_bytes text.old ++ compact_text (string quoted.now)) }
+    ensures { OnOk result (string_bytes text.new
+        ≡ string_bytes text.old ++ compact_text (string quoted.now)) }
 {
     let json = Json::try_from_str(alloc, quoted)?;
     let written = json.to_string(alloc)?;

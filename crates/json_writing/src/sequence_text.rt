@@ -29,7 +29,8 @@ pub fn push_sequence(
 ) -> Result<(), OutOfMemory>
     requires { HasType printer.old ty (seq (views values.now)) }
     ensures same { printer.new ≡ printer.old }
-    ensures text { OnOk result (string_bytes text.new ≡ string_bytes text.old ++ value_text printer.old ty (seq (views values.now))) }
+    ensures text { OnOk result (string_bytes text.new
+        ≡ string_bytes text.old ++ value_text printer.old ty (seq (views values.now))) }
 {
     let ty = printer.element(ty);
     text.push_str("[")?;
@@ -48,7 +49,8 @@ fn push_elements(
     requires { HaveType printer.old ty (views values.now) }
     ensures same { printer.new ≡ printer.old }
     ensures text { OnOk result
-        (string_bytes text.new ≡ string_bytes text.old ++ items_text false (json_items printer.old ty (views values.now))) }
+        (string_bytes text.new ≡ string_bytes text.old ++ items_text false
+        (json_items printer.old ty (views values.now))) }
 {
     let mut later = false;
     for value in values {
@@ -62,7 +64,8 @@ fn push_elements(
 
 // Adds an array or a List of booleans, side by side.
 pub fn push_truths(truths: &[bool], text: &mut String) -> Result<(), OutOfMemory>
-    ensures { OnOk result (string_bytes text.new ≡ string_bytes text.old ++ compact_text (array (json_truths truths.now))) }
+    ensures { OnOk result (string_bytes text.new
+        ≡ string_bytes text.old ++ compact_text (array (json_truths truths.now))) }
 {
     text.push_str("[")?;
     let mut later = false;
@@ -104,7 +107,8 @@ fn push_named(
 ) -> Result<(), OutOfMemory>
     ensures same { printer.new ≡ printer.old }
     ensures text { OnOk result
-        (string_bytes text.new ≡ string_bytes text.old ++ items_text false (json_numbers (enumerators_of printer.old base) numbers.now)) }
+        (string_bytes text.new ≡ string_bytes text.old ++ items_text false
+        (json_numbers (enumerators_of printer.old base) numbers.now)) }
 {
     let mut later = false;
     for i in 0..numbers.len() {
@@ -118,7 +122,8 @@ fn push_named(
 
 // The same of numbers that no enumerator names, of which there may be many: a buffer of digits for all.
 fn push_unnamed(numbers: &Numbers, text: &mut String) -> Result<(), OutOfMemory>
-    ensures { OnOk result (string_bytes text.new ≡ string_bytes text.old ++ items_text false (json_numbers None numbers.now)) }
+    ensures { OnOk result (string_bytes text.new
+        ≡ string_bytes text.old ++ items_text false (json_numbers None numbers.now)) }
 {
     let mut digits = Buffer::new();
     let mut later = false;

@@ -61,7 +61,8 @@ impl<'a> ValueNames<'a> {
         n: i64,
     ) -> Result<Option<&'a Ident>, OutOfMemory>
         ensures same { self.new ≡ self.old }
-        ensures name { IfOk result (λ name. json_named (option_map (λ i. i.now) name) n ≡ json_number (enumerators_of self.old base) n) }
+        ensures name { IfOk result (λ name. json_named (option_map (λ i. i.now) name) n
+            ≡ json_number (enumerators_of self.old base) n) }
     {
         match enumerators_in(self.schema, base) {
             Some(enumerators) => self.name_among(alloc, base, enumerators, n),
@@ -79,7 +80,8 @@ impl<'a> ValueNames<'a> {
     ) -> Result<Option<&'a Ident>, OutOfMemory>
         requires { enumerators_of self.old base ≡ Some enumerators.now }
         ensures same { self.new ≡ self.old }
-        ensures name { IfOk result (λ name. json_named (option_map (λ i. i.now) name) n ≡ json_among enumerators.now n) }
+        ensures name { IfOk result (λ name. json_named (option_map (λ i. i.now) name) n
+            ≡ json_among enumerators.now n) }
     {
         match base {
             Base::Named(decl) if enumerators.len() > WALKS => {
@@ -99,7 +101,8 @@ impl<'a> ValueNames<'a> {
     ) -> Result<Option<&'a Ident>, OutOfMemory>
         requires { enumerators_of self.old (base.Named decl) ≡ Some enumerators.now }
         ensures same { self.new ≡ self.old }
-        ensures name { IfOk result (λ name. json_named (option_map (λ i. i.now) name) n ≡ json_among enumerators.now n) }
+        ensures name { IfOk result (λ name. json_named (option_map (λ i. i.now) name) n
+            ≡ json_among enumerators.now n) }
     {
         if let Some(table) = self.tables.get(&decl) {
             return Ok(table.name(n));

@@ -27,7 +27,8 @@ impl<'a> Model for ValueTable<'a> {
     ghost view = { λ table. table.enumerators.now };
 
     ghost invariant = { λ table. (n : ℤ) →
-        json_named (option_map (λ name. name.now) (get int_eq table.names n)) n ≡ json_among table.enumerators.now n };
+        json_named (option_map (λ name. name.now) (get int_eq table.names n)) n
+        ≡ json_among table.enumerators.now n };
 }
 
 impl<'a> ValueTable<'a> {

@@ -25,7 +25,8 @@ pub fn push_value_text(
     text: &mut String,
 ) -> Result<(), OutOfMemory>
     requires { HasType schema.now.decls ty.now (view value.now) }
-    ensures { OnOk result (string_bytes text.new ≡ string_bytes text.old ++ value_text schema.now.decls ty.now (view value.now)) }
+    ensures { OnOk result (string_bytes text.new
+        ≡ string_bytes text.old ++ value_text schema.now.decls ty.now (view value.now)) }
 {
     let mut printer = Printer::new(alloc, schema);
     push_value(alloc, &mut printer, *ty, value, text)
@@ -41,7 +42,8 @@ pub fn push_value(
 ) -> Result<(), OutOfMemory>
     requires { HasType printer.old ty (view value.now) }
     ensures same { printer.new ≡ printer.old }
-    ensures text { OnOk result (string_bytes text.new ≡ string_bytes text.old ++ value_text printer.old ty (view value.now)) }
+    ensures text { OnOk result (string_bytes text.new
+        ≡ string_bytes text.old ++ value_text printer.old ty (view value.now)) }
 {
     match value {
         Value::Null => push_null(text),
@@ -68,7 +70,8 @@ pub fn push_null(text: &mut String) -> Result<(), OutOfMemory>
 }
 
 pub fn push_truth(b: bool, text: &mut String) -> Result<(), OutOfMemory>
-    ensures { OnOk result (string_bytes text.new ≡ string_bytes text.old ++ compact_text (boolean b)) }
+    ensures { OnOk result (string_bytes text.new
+        ≡ string_bytes text.old ++ compact_text (boolean b)) }
 {
     text.push_str(if b { "true" } else { "false" })?;
     Ok(())

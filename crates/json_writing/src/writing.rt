@@ -84,7 +84,8 @@ fn write_items(
 ) -> Result<Json, OutOfMemory>
     requires { names.old ≡ schema.now.decls }
     ensures same { names.new ≡ names.old }
-    ensures json { IfOk result (λ j. json_view j ≡ array (json_items schema.now.decls ty (views values.now))) }
+    ensures json { IfOk result (λ j. json_view j
+        ≡ array (json_items schema.now.decls ty (views values.now))) }
 {
     let mut items = Vec::with_capacity(alloc, values.len())?;
     for value in values {
@@ -112,7 +113,8 @@ fn write_numbers(
     numbers: &Numbers,
 ) -> Result<Json, OutOfMemory>
     ensures same { names.new ≡ names.old }
-    ensures json { IfOk result (λ j. json_view j ≡ array (json_numbers (enumerators_of names.old base) numbers.now)) }
+    ensures json { IfOk result (λ j. json_view j
+        ≡ array (json_numbers (enumerators_of names.old base) numbers.now)) }
 {
     let mut items = Vec::with_capacity(alloc, numbers.len())?;
     for i in 0..numbers.len() {
@@ -132,7 +134,8 @@ fn write_fields(
 ) -> Result<Json, OutOfMemory>
     requires { names.old ≡ schema.now.decls }
     ensures same { names.new ≡ names.old }
-    ensures json { IfOk result (λ j. json_view j ≡ object (json_members schema.now.decls fields.now (views values.now))) }
+    ensures json { IfOk result (λ j. json_view j
+        ≡ object (json_members schema.now.decls fields.now (views values.now))) }
 {
     let mut members = Map::new(alloc);
     let count = fields.len().min(values.len());
@@ -156,7 +159,8 @@ fn write_alternative(
     requires { names.old ≡ schema.now.decls }
     ensures same { names.new ≡ names.old }
     ensures json { IfOk result
-        (λ j. json_view j ≡ json_alternative (slice_get fields.now tag) (λ u. json_of schema.now.decls u (view value.now))) }
+        (λ j. json_view j ≡ json_alternative (slice_get fields.now tag)
+        (λ u. json_of schema.now.decls u (view value.now))) }
 {
     match fields.get(tag as usize) {
         Some(field) => {
@@ -169,7 +173,8 @@ fn write_alternative(
 
 // An object with one key.
 fn one_member(alloc: Global, name: &Ident, json: Json) -> Result<Json, OutOfMemory>
-    ensures { IfOk result (λ j. json_view j ≡ object (member (bytes_of name.now) (json_view json) no_members)) }
+    ensures { IfOk result (λ j. json_view j
+        ≡ object (member (bytes_of name.now) (json_view json) no_members)) }
 {
     let mut members = Map::new(alloc);
     put(&mut members, alloc, name.0.as_str(), json)?;

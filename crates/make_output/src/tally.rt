@@ -23,10 +23,17 @@ impl Model for Tally {
 
     ghost Value = { Counts };
 
-    ghost view = { λ t. record { lines = t.lines; done = t.done; transport = t.transport; refused = t.refused; sent = t.sent } };
+    ghost view = { λ t. record {
+      lines = t.lines;
+      done = t.done;
+      transport = t.transport;
+      refused = t.refused;
+      sent = t.sent;
+    } };
 
     // A line is of one sort, and at most two parcels are sent of it.
-    ghost invariant = { λ t. (t.done ≤ t.lines) × (t.transport ≤ t.lines) × (t.refused ≤ t.lines) × (t.sent ≤ t.lines * (2 ^ 65 - 2)) };
+    ghost invariant = { λ t. (t.done ≤ t.lines)
+        × (t.transport ≤ t.lines) × (t.refused ≤ t.lines) × (t.sent ≤ t.lines * (2 ^ 65 - 2)) };
 }
 
 impl Tally {

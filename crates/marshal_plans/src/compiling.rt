@@ -18,7 +18,8 @@ use std::alloc::Global;
 pub fn compile(alloc: Global, schema: &Schema, extra: &[AidlType]) -> Result<Plans, OutOfMemory>
     requires { list_all (is_type schema.now.decls) extra.now ≡ true }
     // They stand for the schema and these types.
-    ensures { IfOk result (λ plans. (types : List AidlType) × StandFor schema.now.decls extra.now types plans) }
+    ensures { IfOk result (λ plans. (types : List AidlType)
+        × StandFor schema.now.decls extra.now types plans) }
 {
     let firsts = firsts_of(alloc, schema)?;
     let mut plans = nothing(alloc);
@@ -45,7 +46,8 @@ fn add_extras(
     extra: &[AidlType],
     plans: &mut Plans,
 ) -> Result<(), OutOfMemory>
-    ensures { OnOk result (plans.new ≡ with_extras schema.now.decls firsts.now plans.old extra.now) }
+    ensures { OnOk result (plans.new
+        ≡ with_extras schema.now.decls firsts.now plans.old extra.now) }
 {
     for ty in extra {
         let id = add_item(schema, firsts, *ty, plans)?;

@@ -39,7 +39,8 @@ pub fn add_entries(
     firsts: &[usize],
     plans: &mut Plans,
 ) -> Result<(), OutOfMemory>
-    ensures { OnOk result (plans.new ≡ with_decls schema.now.decls firsts.now plans.old schema.now.decls) }
+    ensures { OnOk result (plans.new
+        ≡ with_decls schema.now.decls firsts.now plans.old schema.now.decls) }
 {
     for decl in schema.decls.as_slice() {
         add_fields(alloc, schema, firsts, fields_of(&decl.kind), plans)?;
@@ -54,7 +55,8 @@ fn add_fields(
     fields: &[Field],
     plans: &mut Plans,
 ) -> Result<(), OutOfMemory>
-    ensures { OnOk result (plans.new ≡ with_fields schema.now.decls firsts.now plans.old fields.now) }
+    ensures { OnOk result (plans.new
+        ≡ with_fields schema.now.decls firsts.now plans.old fields.now) }
 {
     for field in fields {
         let item = add_item(schema, firsts, field.ty, plans)?;

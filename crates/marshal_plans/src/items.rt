@@ -16,7 +16,8 @@ pub fn add_item(
     ty: AidlType,
     plans: &mut Plans,
 ) -> Result<PlanId, OutOfMemory>
-    ensures { IfOk result (λ id. added schema.now.decls firsts.now plans.old ty ≡ record { plans = plans.new; id = id }) }
+    ensures { IfOk result (λ id. added schema.now.decls firsts.now plans.old ty
+        ≡ record { plans = plans.new; id = id }) }
 {
     if is_one(ty.shape) {
         return push(single(schema, firsts, ty), plans);

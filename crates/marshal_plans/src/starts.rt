@@ -11,7 +11,8 @@ use aidl_schema::{AidlType, Arg, Method, Schema, law_valid, methods_of};
 
 /// Adds a start for each argument and each result of each method.
 pub fn add_starts(schema: &Schema, firsts: &[usize], plans: &mut Plans) -> Result<(), OutOfMemory>
-    ensures { OnOk result (plans.new ≡ with_interfaces schema.now.decls firsts.now 0 plans.old schema.now.decls) }
+    ensures { OnOk result (plans.new
+        ≡ with_interfaces schema.now.decls firsts.now 0 plans.old schema.now.decls) }
 {
     law_valid(schema);
     for (n, decl) in schema.decls.as_slice().iter().enumerate() {
@@ -29,7 +30,8 @@ fn add_methods(
 ) -> Result<(), OutOfMemory>
     requires few { length methods.now ≤ 4096 }
     requires short { OfEach methods.now (λ m. length m.args ≤ 255) }
-    ensures { OnOk result (plans.new ≡ with_methods schema.now.decls firsts.now interface 0 plans.old methods.now) }
+    ensures { OnOk result (plans.new
+        ≡ with_methods schema.now.decls firsts.now interface 0 plans.old methods.now) }
 {
     for (m, method) in methods.iter().enumerate() {
         let numbers = MethodNumbers {
@@ -51,7 +53,8 @@ fn add_arguments(
 ) -> Result<(), OutOfMemory>
     requires { length arguments.now ≤ 255 }
     ensures { OnOk result (plans.new
-        ≡ with_arguments schema.now.decls firsts.now numbers.interface numbers.method 0 plans.old arguments.now) }
+        ≡ with_arguments schema.now.decls firsts.now
+        numbers.interface numbers.method 0 plans.old arguments.now) }
 {
     for (k, argument) in arguments.iter().enumerate() {
         add_start(schema, firsts, numbers, Some(k as u32), argument.ty, plans)?;
@@ -66,7 +69,8 @@ fn add_result(
     returned: Option<AidlType>,
     plans: &mut Plans,
 ) -> Result<(), OutOfMemory>
-    ensures { OnOk result (plans.new ≡ with_result schema.now.decls firsts.now numbers.interface numbers.method plans.old returned) }
+    ensures { OnOk result (plans.new ≡ with_result
+        schema.now.decls firsts.now numbers.interface numbers.method plans.old returned) }
 {
     match returned {
         None => Ok(()),
@@ -82,7 +86,8 @@ fn add_start(
     ty: AidlType,
     plans: &mut Plans,
 ) -> Result<(), OutOfMemory>
-    ensures { OnOk result (plans.new ≡ started (added schema.now.decls firsts.now plans.old ty) numbers.interface numbers.method place) }
+    ensures { OnOk result (plans.new ≡ started
+        (added schema.now.decls firsts.now plans.old ty) numbers.interface numbers.method place) }
 {
     let item = add_item(schema, firsts, ty, plans)?;
     plans.starts.push(PlanStart {

@@ -15,7 +15,8 @@ pub fn record(
     sent: &[u8],
     delivered: Vec<u8>,
 ) -> Result<Vec<u8>, OutOfMemory>
-    ensures ok { OnOk result (log.new.items ≡ log.old.items ++ entry way code sent.now delivered.items ∷ []) }
+    ensures ok { OnOk result (log.new.items
+        ≡ log.old.items ++ entry way code sent.now delivered.items ∷ []) }
     ensures err { OnErr result (log.new.items ≡ log.old.items) }
     ensures delivered { IfOk result (λ bytes. bytes.items ≡ delivered.items) }
 {

@@ -61,7 +61,8 @@ fn set(bytes: &mut Vec<u8>, at: usize, byte: u8)
 
 /// Edits of other carries change nothing.
 pub fn law_other_edits_change_nothing(edits: &[Edit], bytes: &[u8])
-    ensures { (carry : ℕ) → All (λ edit. edit.carry ≢ carry) edits.now → delivered edits.now carry bytes.now ≡ bytes.now }
+    ensures { (carry : ℕ) → All (λ edit. edit.carry ≢ carry) edits.now
+        → delivered edits.now carry bytes.now ≡ bytes.now }
 {}
 
 /// To set a byte past the end changes nothing.

@@ -62,13 +62,15 @@ fn fails_at(failing: &Failing, call: u64) -> bool
 
 /// A call fails exactly where its 0-based number was given. Each call past `u64::MAX` has that number.
 pub fn law_fails_by_number(failing: &[u64])
-    ensures { (count : ℕ) → (IsTrue (fails_next (after_calls count (uncounted (Numbers failing.now))))
+    ensures { (count : ℕ)
+        → (IsTrue (fails_next (after_calls count (uncounted (Numbers failing.now))))
         ↔ Contains failing.now (min count (2 ^ 64 - 1))) }
 {}
 
 /// Where a first number was given, that call fails and every later one, and no other.
 pub fn law_fails_from(first: u64)
-    ensures { (count : ℕ) → (IsTrue (fails_next (after_calls count (uncounted (From first)))) ↔ (first ≤ count)) }
+    ensures { (count : ℕ) → (IsTrue (fails_next (after_calls count (uncounted (From first))))
+        ↔ (first ≤ count)) }
 {}
 
 /// Where no number was given, no fault is ever counted.
@@ -78,5 +80,6 @@ pub fn law_no_number_no_fault()
 
 /// The number of a call is that of the calls before it, and stands still at `u64::MAX`.
 pub fn law_calls_are_numbered()
-    ensures { (failing : Failing) (count : ℕ) → (after_calls count (uncounted failing)).calls ≡ min count (2 ^ 64 - 1) }
+    ensures { (failing : Failing) (count : ℕ)
+        → (after_calls count (uncounted failing)).calls ≡ min count (2 ^ 64 - 1) }
 {}

@@ -54,13 +54,16 @@ impl Sink for MemSink {
     ghost fault_record = { λ sink. sink_faults sink };
 
     fn put(&mut self, alloc: Global, bytes: &[u8]) -> Result<(), SinkFault>
-        ensures bytes { Puts (Some (sink_bytes self.old)) (Some (sink_bytes self.new)) bytes.now result }
+        ensures bytes { Puts (Some (sink_bytes self.old))
+            (Some (sink_bytes self.new)) bytes.now result }
         ensures cause { SinkCause (sink_faults self.old) (sink_faults self.new) result }
-        ensures failed_call { IfSinkFailed result (FailedIn (sink_faults self.new) (λ piece. piece ≡ bytes.now)) }
+        ensures failed_call { IfSinkFailed result
+            (FailedIn (sink_faults self.new) (λ piece. piece ≡ bytes.now)) }
         ensures never_falls { (sink_failures self.old).faults ≤ (sink_failures self.new).faults }
         ensures failed { sink_failed result ≡ fails_next (sink_failures self.old) }
         ensures counts { sink_failures self.new ≡ counted (sink_failures self.old) }
-        ensures half { IsTrue (sink_failed result) → AddsHalf (sink_room self.old) (sink_bytes self.old) (sink_bytes self.new) bytes.now }
+        ensures half { IsTrue (sink_failed result)
+            → AddsHalf (sink_room self.old) (sink_bytes self.old) (sink_bytes self.new) bytes.now }
     {
         if self.failures.fails_now() {
             self.last = piece(alloc, bytes);

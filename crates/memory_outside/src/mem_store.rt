@@ -44,7 +44,8 @@ impl MemStore {
         failing: Row<u64>,
     ) -> Result<MemStore, OutOfMemory>
         ensures files { IfOk result (λ store. store_files store ≡ files_of files) }
-        ensures failures { IfOk result (λ store. store_failures store ≡ uncounted (Numbers failing)) }
+        ensures failures { IfOk result (λ store. store_failures store
+            ≡ uncounted (Numbers failing)) }
     {
         MemStore::filled(alloc, sorted(files)?, Failing::Numbers(failing))
     }
@@ -95,7 +96,8 @@ impl MemStore {
 
     // Adds a file, unless its path is there. On a refusal the store is as it was.
     fn add(&mut self, file: SourceFile) -> Result<(), OutOfMemory>
-        ensures ok { OnOk result (store_files self.new ≡ with_new (store_files self.old) (path_of file) file.bytes) }
+        ensures ok { OnOk result (store_files self.new
+            ≡ with_new (store_files self.old) (path_of file) file.bytes) }
         ensures failures { store_failures self.new ≡ store_failures self.old }
     {
         add_to(&mut self.files, file)
@@ -112,11 +114,14 @@ impl Store for MemStore {
     ghost fault_record = { λ store. store_faults store };
 
     fn list(&mut self, alloc: Global, root: &str) -> Result<Vec<String>, StoreFault>
-        ensures listed { IfOk result (λ paths. map string_bytes paths.items ≡ listing root.now (store_files self.old)) }
-        ensures ascending { IfOk result (λ paths. is_ascending (map string_bytes paths.items) ≡ true) }
+        ensures listed { IfOk result (λ paths. map string_bytes paths.items
+            ≡ listing root.now (store_files self.old)) }
+        ensures ascending { IfOk result (λ paths. is_ascending (map string_bytes paths.items)
+            ≡ true) }
         ensures unchanged { store_files self.new ≡ store_files self.old }
         ensures cause { StoreCause (store_faults self.old) (store_faults self.new) result }
-        ensures failed_call { IfStoreFailed result (FailedIn (store_faults self.new) (λ call. call ≡ lists root.now)) }
+        ensures failed_call { IfStoreFailed result
+            (FailedIn (store_faults self.new) (λ call. call ≡ lists root.now)) }
         ensures never_falls { faults_of self.old ≤ faults_of self.new }
         ensures failed { store_failed result ≡ fails_next (store_failures self.old) }
         ensures counts { store_failures self.new ≡ counted (store_failures self.old) }
@@ -138,11 +143,13 @@ impl Store for MemStore {
         most: usize,
     ) -> Result<Option<Vec<u8>>, StoreFault>
         requires { most < usize.MAX }
-        ensures found { IfOk result (λ file. IsRead most (files_map.get (store_files self.old) path.now) file) }
+        ensures found { IfOk result (λ file. IsRead most
+            (files_map.get (store_files self.old) path.now) file) }
         ensures within { IfOk result (IsWithin most) }
         ensures unchanged { store_files self.new ≡ store_files self.old }
         ensures cause { StoreCause (store_faults self.old) (store_faults self.new) result }
-        ensures failed_call { IfStoreFailed result (FailedIn (store_faults self.new) (λ call. call ≡ reading path.now)) }
+        ensures failed_call { IfStoreFailed result
+            (FailedIn (store_faults self.new) (λ call. call ≡ reading path.now)) }
         ensures never_falls { faults_of self.old ≤ faults_of self.new }
         ensures failed { store_failed result ≡ fails_next (store_failures self.old) }
         ensures counts { store_failures self.new ≡ counted (store_failures self.old) }
@@ -158,13 +165,16 @@ impl Store for MemStore {
     }
 
     fn write(&mut self, alloc: Global, path: &str, bytes: &[u8]) -> Result<(), StoreFault>
-        ensures written { Writes (Some (store_files self.old)) (Some (store_files self.new)) path.now bytes.now result }
+        ensures written { Writes (Some (store_files self.old))
+            (Some (store_files self.new)) path.now bytes.now result }
         ensures cause { StoreCause (store_faults self.old) (store_faults self.new) result }
-        ensures failed_call { IfStoreFailed result (FailedIn (store_faults self.new) (λ call. call ≡ writing path.now)) }
+        ensures failed_call { IfStoreFailed result
+            (FailedIn (store_faults self.new) (λ call. call ≡ writing path.now)) }
         ensures never_falls { faults_of self.old ≤ faults_of self.new }
         ensures failed { store_failed result ≡ fails_next (store_failures self.old) }
         ensures counts { store_failures self.new ≡ counted (store_failures self.old) }
-        ensures half { IsTrue (store_failed result) → SetsHalf (store_files self.old) (store_files self.new) path.now bytes.now }
+        ensures half { IsTrue (store_failed result)
+            → SetsHalf (store_files self.old) (store_files self.new) path.now bytes.now }
     {
         if self.failures.fails_now() {
             self.last = writing(alloc, path);
@@ -215,7 +225,8 @@ fn file_of(alloc: Global, path: &str, bytes: &[u8]) -> Result<SourceFile, OutOfM
 // Sets a file among files that are sorted by path. On a refusal they are as they were.
 fn set_in(files: &mut Vec<SourceFile>, file: SourceFile) -> Result<(), OutOfMemory>
     requires { is_sorted (slice_cmp nat_cmp) (entries files.old.items) ≡ true }
-    ensures ok { OnOk result (entries files.new.items ≡ put (slice_cmp nat_cmp) (path_of file) file.bytes (entries files.old.items)) }
+    ensures ok { OnOk result (entries files.new.items
+        ≡ put (slice_cmp nat_cmp) (path_of file) file.bytes (entries files.old.items)) }
     ensures err { OnErr result (files.new.items ≡ files.old.items) }
 {
     match place_among(files.as_slice(), file.path.as_str()) {
@@ -230,7 +241,8 @@ fn set_in(files: &mut Vec<SourceFile>, file: SourceFile) -> Result<(), OutOfMemo
 // Adds a file to files that are sorted by path, unless its path is there. On a refusal they are as they were.
 fn add_to(files: &mut Vec<SourceFile>, file: SourceFile) -> Result<(), OutOfMemory>
     requires { is_sorted (slice_cmp nat_cmp) (entries files.old.items) ≡ true }
-    ensures ok { OnOk result (entries files.new.items ≡ put_new (path_of file) file.bytes (entries files.old.items)) }
+    ensures ok { OnOk result (entries files.new.items
+        ≡ put_new (path_of file) file.bytes (entries files.old.items)) }
     ensures err { OnErr result (files.new.items ≡ files.old.items) }
 {
     match place_among(files.as_slice(), file.path.as_str()) {
@@ -292,7 +304,8 @@ fn front(alloc: Global, bytes: &[u8], most: usize) -> Result<Vec<u8>, AllocError
 
 // The paths of the files below a root, relative to it.
 fn paths_below(alloc: Global, files: &[SourceFile], root: &str) -> Result<Vec<String>, OutOfMemory>
-    ensures { IfOk result (λ paths. map string_bytes paths.items ≡ filter_map (below root.now) (map path_of files.now)) }
+    ensures { IfOk result (λ paths. map string_bytes paths.items
+        ≡ filter_map (below root.now) (map path_of files.now)) }
 {
     let mut paths = Vec::new(alloc);
     for file in files {
@@ -308,7 +321,8 @@ fn push_below(
     root: &str,
     file: &SourceFile,
 ) -> Result<(), OutOfMemory>
-    ensures { OnOk result (map string_bytes paths.new.items ≡ map string_bytes paths.old.items ++ option_to_list (below root.now (path_of file.now))) }
+    ensures { OnOk result (map string_bytes paths.new.items
+        ≡ map string_bytes paths.old.items ++ option_to_list (below root.now (path_of file.now))) }
 {
     match relative(root, file.path.as_str()) {
         None => Ok(()),
@@ -337,7 +351,8 @@ impl MemStore {
 
     // Sets the bytes at a path. On a refusal the store is as it was.
     fn set_bytes(&mut self, alloc: Global, path: &str, bytes: &[u8]) -> Result<(), OutOfMemory>
-        ensures ok { OnOk result (store_files self.new ≡ files_map.insert (store_files self.old) path.now bytes.now) }
+        ensures ok { OnOk result (store_files self.new
+            ≡ files_map.insert (store_files self.old) path.now bytes.now) }
         ensures err { OnErr result (store_files self.new ≡ store_files self.old) }
         ensures failures { store_failures self.new ≡ store_failures self.old }
         ensures faults { store_faults self.new ≡ store_faults self.old }

@@ -30,7 +30,8 @@ impl RecordLink {
     pub fn new(alloc: Global, failing: Row<u64>) -> Result<RecordLink, OutOfMemory>
         ensures made { IsOk result }
         ensures log { IfOk result (λ link. recorded link ≡ []) }
-        ensures failures { IfOk result (λ link. record_failures link ≡ uncounted (Numbers failing)) }
+        ensures failures { IfOk result (λ link. record_failures link
+            ≡ uncounted (Numbers failing)) }
     {
         Ok(RecordLink {
             log: Vec::new(alloc),
@@ -61,11 +62,14 @@ impl Link for RecordLink {
         code: u32,
         bytes: &[u8],
     ) -> Result<Vec<u8>, CarryFault>
-        ensures carried { Carries (Some (recorded self.old)) (Some (recorded self.new)) way code bytes.now result }
+        ensures carried { Carries (Some (recorded self.old))
+            (Some (recorded self.new)) way code bytes.now result }
         ensures faithful { IfOk result (λ delivered. delivered.items ≡ bytes.now) }
         ensures cause { CarryCause (record_faults self.old) (record_faults self.new) result }
-        ensures failed_call { IfCarryFailed result (FailedIn (record_faults self.new) (λ sent. sent ≡ parcel way code bytes.now)) }
-        ensures never_falls { (record_failures self.old).faults ≤ (record_failures self.new).faults }
+        ensures failed_call { IfCarryFailed result
+            (FailedIn (record_faults self.new) (λ sent. sent ≡ parcel way code bytes.now)) }
+        ensures never_falls { (record_failures self.old).faults
+            ≤ (record_failures self.new).faults }
         ensures failed { carry_failed result ≡ fails_next (record_failures self.old) }
         ensures counts { record_failures self.new ≡ counted (record_failures self.old) }
     {
@@ -93,7 +97,8 @@ impl RecordLink {
         code: u32,
         bytes: &[u8],
     ) -> Result<Vec<u8>, OutOfMemory>
-        ensures ok { OnOk result (recorded self.new ≡ recorded self.old ++ entry way code bytes.now bytes.now ∷ []) }
+        ensures ok { OnOk result (recorded self.new
+            ≡ recorded self.old ++ entry way code bytes.now bytes.now ∷ []) }
         ensures err { OnErr result (recorded self.new ≡ recorded self.old) }
         ensures delivered { IfOk result (λ delivered. delivered.items ≡ bytes.now) }
         ensures failures { record_failures self.new ≡ record_failures self.old }

@@ -38,7 +38,8 @@ impl TamperLink {
         ensures made { IsOk result }
         ensures log { IfOk result (λ link. tampered link ≡ []) }
         ensures edits { IfOk result (λ link. tamper_edits link ≡ edits) }
-        ensures failures { IfOk result (λ link. tamper_failures link ≡ uncounted (Numbers failing)) }
+        ensures failures { IfOk result (λ link. tamper_failures link
+            ≡ uncounted (Numbers failing)) }
     {
         Ok(TamperLink {
             log: Vec::new(alloc),
@@ -70,12 +71,16 @@ impl Link for TamperLink {
         code: u32,
         bytes: &[u8],
     ) -> Result<Vec<u8>, CarryFault>
-        ensures carried { Carries (Some (tampered self.old)) (Some (tampered self.new)) way code bytes.now result }
-        ensures edited { IfOk result (λ bytes'. bytes'.items ≡ delivered (tamper_edits self.old) (tamper_failures self.old).calls bytes.now) }
+        ensures carried { Carries (Some (tampered self.old))
+            (Some (tampered self.new)) way code bytes.now result }
+        ensures edited { IfOk result (λ bytes'. bytes'.items
+            ≡ delivered (tamper_edits self.old) (tamper_failures self.old).calls bytes.now) }
         ensures edits { tamper_edits self.new ≡ tamper_edits self.old }
         ensures cause { CarryCause (tamper_faults self.old) (tamper_faults self.new) result }
-        ensures failed_call { IfCarryFailed result (FailedIn (tamper_faults self.new) (λ sent. sent ≡ parcel way code bytes.now)) }
-        ensures never_falls { (tamper_failures self.old).faults ≤ (tamper_failures self.new).faults }
+        ensures failed_call { IfCarryFailed result
+            (FailedIn (tamper_faults self.new) (λ sent. sent ≡ parcel way code bytes.now)) }
+        ensures never_falls { (tamper_failures self.old).faults
+            ≤ (tamper_failures self.new).faults }
         ensures failed { carry_failed result ≡ fails_next (tamper_failures self.old) }
         ensures counts { tamper_failures self.new ≡ counted (tamper_failures self.old) }
     {
@@ -105,9 +110,11 @@ impl TamperLink {
         code: u32,
         bytes: &[u8],
     ) -> Result<Vec<u8>, OutOfMemory>
-        ensures ok { OnOk result (tampered self.new ≡ tampered self.old ++ entry way code bytes.now (delivered (tamper_edits self.old) carry bytes.now) ∷ []) }
+        ensures ok { OnOk result (tampered self.new ≡ tampered self.old ++ entry way code bytes.now
+            (delivered (tamper_edits self.old) carry bytes.now) ∷ []) }
         ensures err { OnErr result (tampered self.new ≡ tampered self.old) }
-        ensures delivered { IfOk result (λ edited. edited.items ≡ delivered (tamper_edits self.old) carry bytes.now) }
+        ensures delivered { IfOk result (λ edited. edited.items
+            ≡ delivered (tamper_edits self.old) carry bytes.now) }
         ensures edits { tamper_edits self.new ≡ tamper_edits self.old }
         ensures failures { tamper_failures self.new ≡ tamper_failures self.old }
         ensures faults { tamper_faults self.new ≡ tamper_faults self.old }

@@ -93,10 +93,14 @@ impl<'a, 'b, F: Fn(u32, &[Value]) -> Result<Answer, OutOfMemory>> MetaService<'a
     /// token and at the bytes left over (own); its handler isn't called. Every other code is asked of the inner service, whose handler may be
     /// called on every method of the interface with well-typed arguments, each of its Ok answers fitting.
     pub fn transact(&self, alloc: Global, code: u32, bytes: &[u8]) -> Result<Answered, OutOfMemory>
-        requires callable { MayBeCalled self.now.service.decls self.now.service.interface (F.pre self.now.service.handler) }
-        requires fits { AnswersFit self.now.service.decls self.now.service.interface (F.post self.now.service.handler) }
-        ensures { IfOk result (λ answered. MetaAnswers (F.post self.now.service.handler) self.now.service.decls self.now.service.interface answered
-            (meta_stub self.now.service.decls self.now.service.interface self.now.version self.now.hash code bytes.now)) }
+        requires callable { MayBeCalled self.now.service.decls self.now.service.interface
+            (F.pre self.now.service.handler) }
+        requires fits { AnswersFit self.now.service.decls self.now.service.interface
+            (F.post self.now.service.handler) }
+        ensures { IfOk result (λ answered. MetaAnswers (F.post self.now.service.handler)
+            self.now.service.decls self.now.service.interface answered
+            (meta_stub self.now.service.decls
+            self.now.service.interface self.now.version self.now.hash code bytes.now)) }
     {
         match told_reply(alloc, self.version, &self.hash, code)? {
             Some(told) => answer_told(alloc, self.schema, self.interface, told, bytes),
@@ -114,7 +118,8 @@ fn told_reply(
 ) -> Result<Option<Vec<u8>>, OutOfMemory>
     requires version { IsVersion version }
     requires hash { IsHash hash.now }
-    ensures { IfOk result (λ told. option_map (λ t. t.items) told ≡ option_map (λ item. word (pos 0) ++ item) (told_of version hash.now code)) }
+    ensures { IfOk result (λ told. option_map (λ t. t.items) told
+        ≡ option_map (λ item. word (pos 0) ++ item) (told_of version hash.now code)) }
 {
     if code == VERSION_CODE {
         return Ok(Some(version_reply(alloc, version)?));
@@ -155,7 +160,8 @@ fn answer_told(
     bytes: &[u8],
 ) -> Result<Answered, OutOfMemory>
     ensures { (item : List ℕ) → told.items ≡ word (pos 0) ++ item
-        → IfOk result (λ answered. answered ≡ told_answer schema.now.decls interface item (token_at Strict (descriptor schema.now.decls interface) bytes.now)) }
+        → IfOk result (λ answered. answered ≡ told_answer schema.now.decls interface item
+        (token_at Strict (descriptor schema.now.decls interface) bytes.now)) }
 {
     let name = descriptor_of(alloc, schema, interface)?;
     match after_token(alloc, Profile::Strict, &name, bytes)? {

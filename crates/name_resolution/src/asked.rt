@@ -85,7 +85,8 @@ impl<'a> Asked<'a> {
         name: &'a DottedTree,
         meaning: Option<Resolved>,
     ) -> Result<(), OutOfMemory>
-        ensures { OnOk result (self.new ≡ self.old ++ record { file = file; name = name.entry; meaning = meaning } ∷ []) }
+        ensures { OnOk result (self.new
+            ≡ self.old ++ record { file = file; name = name.entry; meaning = meaning } ∷ []) }
     {
         let mark = with_parts(u64::from(file), name.name.0.as_slice());
         self.places.insert(mark, self.answers.len())?;

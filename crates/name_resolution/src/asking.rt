@@ -41,7 +41,8 @@ impl<'r, 'a> Model for Asking<'r, 'a> {
 
     ghost view = { λ asking. asking.resolver.now.0 };
 
-    ghost invariant = { λ asking. AreRight asking.resolver.now.1 (declarations (map source_of asking.resolver.now.0)) asking.asked };
+    ghost invariant = { λ asking. AreRight asking.resolver.now.1
+        (declarations (map source_of asking.resolver.now.0)) asking.asked };
 }
 
 impl<'r, 'a> Asking<'r, 'a> {

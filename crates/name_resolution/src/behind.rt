@@ -19,7 +19,8 @@ pub fn behind(
     first: &Ident,
     rest: &[Ident],
 ) -> Option<Resolved>
-    ensures { result ≡ first_declared (map entry_of declared.now) (imported (map (λ d. d.now) imports.now) (first.now ∷ rest.now)) }
+    ensures { result ≡ first_declared (map entry_of declared.now)
+        (imported (map (λ d. d.now) imports.now) (first.now ∷ rest.now)) }
 {
     match first_through(declared, imports, first, rest) {
         Some(place) => through_at(declared.declarations(), imports, place, first, rest),
@@ -59,7 +60,8 @@ fn led_at(
     first: &Ident,
     rest: &[Ident],
 ) -> Option<usize>
-    ensures { result ≡ led_at (map entry_of declarations.now) first.now rest.now imports.now ends.now place }
+    ensures { result ≡ led_at
+        (map entry_of declarations.now) first.now rest.now imports.now ends.now place }
 {
     match ends.get(place) {
         Some(end) => led_by(declarations, imports, end.owner, first, rest),
@@ -75,7 +77,8 @@ fn led_by(
     first: &Ident,
     rest: &[Ident],
 ) -> Option<usize>
-    ensures { result ≡ led_by (map entry_of declarations.now) first.now rest.now imports.now number }
+    ensures { result ≡ led_by
+        (map entry_of declarations.now) first.now rest.now imports.now number }
 {
     match declarations.as_slice().get(number) {
         Some(f) => {
@@ -94,7 +97,8 @@ fn led(
     first: &Ident,
     rest: &[Ident],
 ) -> Option<usize>
-    ensures { result ≡ led (map entry_of declarations.now) first.now rest.now imports.now declared.now }
+    ensures { result ≡ led
+        (map entry_of declarations.now) first.now rest.now imports.now declared.now }
 {
     let place = imports.place_of(without(declared, rest.len()));
     if_through(declarations, imports, place, first, rest)
@@ -108,7 +112,8 @@ fn if_through(
     first: &Ident,
     rest: &[Ident],
 ) -> Option<usize>
-    ensures { result ≡ if_through (map entry_of declarations.now) first.now rest.now imports.now place }
+    ensures { result ≡ if_through
+        (map entry_of declarations.now) first.now rest.now imports.now place }
 {
     match place {
         Some(at) => {
@@ -130,7 +135,8 @@ fn through_at(
     first: &Ident,
     rest: &[Ident],
 ) -> Option<Resolved>
-    ensures { result ≡ through_at (map entry_of declarations.now) first.now rest.now imports.now place }
+    ensures { result ≡ through_at
+        (map entry_of declarations.now) first.now rest.now imports.now place }
 {
     match imports.as_slice().get(place) {
         Some(import) => through(declarations, *import, first, rest),

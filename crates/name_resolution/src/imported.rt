@@ -41,7 +41,8 @@ impl<'a> Model for Imports<'a> {
 
     ghost view = { λ imports. map (λ d. d.now) imports.kept.items };
 
-    ghost invariant = { λ imports. imports.table ≡ map mark_of_last (map (λ d. d.now) imports.kept.items) };
+    ghost invariant = { λ imports. imports.table
+        ≡ map mark_of_last (map (λ d. d.now) imports.kept.items) };
 }
 
 impl<'a> Imports<'a> {
@@ -62,14 +63,16 @@ impl<'a> Imports<'a> {
     // The place of the next one whose last part has the mark that the one at a place has.
     fn next(&self, place: usize) -> Option<usize>
         requires { place < length self.now }
-        ensures { result ≡ position_from (nat_eq (get_or (map mark_of_last self.now) place 0)) (place + 1) (drop (place + 1) (map mark_of_last self.now)) }
+        ensures { result ≡ position_from (nat_eq (get_or (map mark_of_last self.now) place 0))
+            (place + 1) (drop (place + 1) (map mark_of_last self.now)) }
     {
         self.table.next(place)
     }
 
     /// Whether fewer of them have a part as their last one than ends have a mark, as far as marks tell. It takes no memory.
     pub fn are_fewer(&self, part: &Ident, ends: &Ends, mark: u64) -> bool
-        ensures { result ≡ is_rarer (mark_of (part.now ∷ [])) (map mark_of_last self.now) mark (map (λ e. e.mark) ends.now) }
+        ensures { result ≡ is_rarer (mark_of (part.now ∷ []))
+            (map mark_of_last self.now) mark (map (λ e. e.mark) ends.now) }
     {
         is_rarer(&self.table, with_part(0, part), ends.table(), mark)
     }
@@ -90,7 +93,8 @@ pub fn imports_of_files<'a>(
     alloc: Global,
     files: &'a [ParsedFile],
 ) -> Result<Vec<Imports<'a>>, OutOfMemory>
-    ensures { IfOk result (λ all. map meant_through all.items ≡ map meant_in (map source_of files.now)) }
+    ensures { IfOk result (λ all. map meant_through all.items
+        ≡ map meant_in (map source_of files.now)) }
 {
     let mut all = Vec::with_capacity(alloc, files.len())?;
     for file in files {
@@ -110,7 +114,8 @@ fn imports_of(alloc: Global, imports: &[DottedTree]) -> Result<Imports<'_>, OutO
 
 // Imports without copies of earlier ones.
 fn without_copies(alloc: Global, imports: &[DottedTree]) -> Result<Vec<&DottedTree>, OutOfMemory>
-    ensures { IfOk result (λ kept. meant_through (map (λ d. d.now) kept.items) ≡ meant_through imports.now) }
+    ensures { IfOk result (λ kept. meant_through (map (λ d. d.now) kept.items)
+        ≡ meant_through imports.now) }
 {
     let mut kept = Vec::new(alloc);
     let mut places = IndexMap::new(alloc);
@@ -126,7 +131,8 @@ fn keep<'a>(
     kept: &mut Vec<&'a DottedTree>,
     import: &'a DottedTree,
 ) -> Result<(), OutOfMemory>
-    ensures { OnOk result (meant_through (map (λ d. d.now) kept.new.items) ≡ meant_through (map (λ d. d.now) kept.old.items ++ import.now ∷ [])) }
+    ensures { OnOk result (meant_through (map (λ d. d.now) kept.new.items)
+        ≡ meant_through (map (λ d. d.now) kept.old.items ++ import.now ∷ [])) }
 {
     let name = import.name.0.as_slice();
     let mark = with_parts(0, name);
@@ -189,7 +195,8 @@ fn in_imports_of(
     first: &Ident,
     rest: &[Ident],
 ) -> Option<Resolved>
-    ensures { result ≡ first_declared (map entry_of declarations.now) (imported imports.now (first.now ∷ rest.now)) }
+    ensures { result ≡ first_declared (map entry_of declarations.now)
+        (imported imports.now (first.now ∷ rest.now)) }
 {
     let kept = imports.kept();
     let mut at = imports.first(with_part(0, first));
@@ -210,7 +217,8 @@ pub fn through(
     first: &Ident,
     rest: &[Ident],
 ) -> Option<Resolved>
-    ensures { result ≡ first_declared (map entry_of declarations.now) (imported (import.now ∷ []) (first.now ∷ rest.now)) }
+    ensures { result ≡ first_declared (map entry_of declarations.now)
+        (imported (import.now ∷ []) (first.now ∷ rest.now)) }
 {
     let parts = import.name.0.as_slice();
     if ends_in(parts, first) {

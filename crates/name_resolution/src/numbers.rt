@@ -38,7 +38,8 @@ pub fn declared(
     back: &[Ident],
 ) -> Option<Resolved>
     requires mark { mark ≡ mark_of front.now }
-    ensures { result ≡ first_declared (map entry_of declarations.now) ((front.now ++ back.now) ∷ []) }
+    ensures { result ≡ first_declared (map entry_of declarations.now)
+        ((front.now ++ back.now) ∷ []) }
 {
     match number_of(declarations, mark, front, back) {
         Some(number) => Some(Resolved::Declared(number)),

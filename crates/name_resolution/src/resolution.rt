@@ -44,7 +44,8 @@ impl<'a> Model for Resolver<'a> {
     ghost view = { λ resolver. (resolver.files.now, resolver.imports.items) };
 
     ghost invariant = { λ resolver. record {
-      kept : map meant_through resolver.imports.items ≡ map meant_in (map source_of resolver.files.now);
+      kept : map meant_through resolver.imports.items
+          ≡ map meant_in (map source_of resolver.files.now);
       all : map entry_of resolver.declarations ≡ declarations_of (map source_of resolver.files.now);
     } };
 }
@@ -106,7 +107,8 @@ pub fn resolved(
     scope: u32,
     name: &[Ident],
 ) -> Option<Resolved>
-    requires known { Knows (means resolver.now.1 (declarations_of (map source_of resolver.now.0)) number name.now) known }
+    requires known { Knows (means resolver.now.1
+        (declarations_of (map source_of resolver.now.0)) number name.now) known }
     ensures { result ≡ resolved (map source_of resolver.now.0) number scope name.now }
 {
     let files = resolver.files();
@@ -130,8 +132,10 @@ fn meaning_in_file(
     name: &[Ident],
 ) -> Option<Resolved>
     requires imports { meant_through imports.now ≡ meant_in (source_of file.now) }
-    requires known { Knows (meant_through imports.now (map entry_of declarations.now) name.now) known }
-    ensures { result ≡ meaning_in_file (map entry_of declarations.now) (source_of file.now) scope name.now }
+    requires known { Knows
+        (meant_through imports.now (map entry_of declarations.now) name.now) known }
+    ensures { result ≡ meaning_in_file (map entry_of declarations.now)
+        (source_of file.now) scope name.now }
 {
     match own_meaning(name) {
         Some(meaning) => Some(meaning),
@@ -149,8 +153,10 @@ fn first_declared(
     name: &[Ident],
 ) -> Option<Resolved>
     requires imports { meant_through imports.now ≡ meant_in (source_of file.now) }
-    requires known { Knows (meant_through imports.now (map entry_of declarations.now) name.now) known }
-    ensures { result ≡ first_declared (map entry_of declarations.now) (candidates (map entry_of declarations.now) (source_of file.now) scope name.now) }
+    requires known { Knows
+        (meant_through imports.now (map entry_of declarations.now) name.now) known }
+    ensures { result ≡ first_declared (map entry_of declarations.now)
+        (candidates (map entry_of declarations.now) (source_of file.now) scope name.now) }
 {
     let found = declarations.as_slice();
     match declared(declarations, 0, &[], name) {
@@ -176,7 +182,8 @@ fn through_imports(
     known: Known,
     name: &[Ident],
 ) -> Option<Resolved>
-    requires known { Knows (meant_through imports.now (map entry_of declarations.now) name.now) known }
+    requires known { Knows
+        (meant_through imports.now (map entry_of declarations.now) name.now) known }
     ensures { result ≡ meant_through imports.now (map entry_of declarations.now) name.now }
 {
     match known {
@@ -192,7 +199,8 @@ fn in_enclosing(
     scope: Option<u32>,
     name: &[Ident],
 ) -> Option<Resolved>
-    ensures { result ≡ first_declared (map entry_of declarations.now) (map (λ around. around ++ name.now) (enclosing (map entry_of declarations.now) levels scope)) }
+    ensures { result ≡ first_declared (map entry_of declarations.now) (map
+        (λ around. around ++ name.now) (enclosing (map entry_of declarations.now) levels scope)) }
 {
     if levels == 0 {
         return None;

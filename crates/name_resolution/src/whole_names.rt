@@ -70,7 +70,8 @@ impl<'a, 'b> WholeNames<'a, 'b> {
 
     // The place of the first import whose whole name has a mark.
     fn first(&self, mark: u64) -> Option<usize>
-        ensures { result ≡ position_from (nat_eq mark) 0 (map (λ d. mark_of_import d.now) self.now) }
+        ensures { result ≡ position_from (nat_eq mark) 0
+            (map (λ d. mark_of_import d.now) self.now) }
     {
         self.table.first(mark)
     }
@@ -78,7 +79,8 @@ impl<'a, 'b> WholeNames<'a, 'b> {
     // The place of the next one with the mark that the one at a place has.
     fn next(&self, place: usize) -> Option<usize>
         requires { place < length self.now }
-        ensures { result ≡ position_from (nat_eq (get_or (map (λ d. mark_of_import d.now) self.now) place 0)) (place + 1) (drop (place + 1) (map (λ d. mark_of_import d.now) self.now)) }
+        ensures { result ≡ position_from (nat_eq (get_or (map (λ d. mark_of_import d.now) self.now)
+            place 0)) (place + 1) (drop (place + 1) (map (λ d. mark_of_import d.now) self.now)) }
     {
         self.table.next(place)
     }

@@ -17,11 +17,16 @@ use wire_model::law_read_of;
 /// strict profile, and their parts, joined, are that front. They end at a wrong item, with its status, exactly where the bytes stop with it.
 pub fn law_items(schema: &Schema, ty: &AidlType, levels: usize, path: &Text, b: &[u8], inside: bool)
     requires known { is_type schema.now.decls ty.now ≡ true }
-    ensures reads { (rest : List ℕ) → ((items_of schema.now.decls levels ty.now path.now inside b.now).found ≡ Ok (tt, rest))
-        ↔ ((v : Data) × (front : List ℕ) × (b.now ≡ front ++ rest) × Reads Strict schema.now.decls levels ty.now front v) }
-    ensures parts { (rest : List ℕ) → (items_of schema.now.decls levels ty.now path.now inside b.now).found ≡ Ok (tt, rest)
-        → b.now ≡ joined (items_of schema.now.decls levels ty.now path.now inside b.now).parts ++ rest }
-    ensures stops { (s : ℤ) → ((at : List ℕ) × ((items_of schema.now.decls levels ty.now path.now inside b.now).found ≡ Err (record { path = at; status = s })))
+    ensures reads { (rest : List ℕ)
+        → ((items_of schema.now.decls levels ty.now path.now inside b.now).found ≡ Ok (tt, rest))
+        ↔ ((v : Data) × (front : List ℕ) × (b.now ≡ front ++ rest)
+        × Reads Strict schema.now.decls levels ty.now front v) }
+    ensures parts { (rest : List ℕ)
+        → (items_of schema.now.decls levels ty.now path.now inside b.now).found ≡ Ok (tt, rest)
+        → b.now
+        ≡ joined (items_of schema.now.decls levels ty.now path.now inside b.now).parts ++ rest }
+    ensures stops { (s : ℤ) → ((at : List ℕ) × ((items_of schema.now.decls
+        levels ty.now path.now inside b.now).found ≡ Err (record { path = at; status = s })))
         ↔ Stop Strict schema.now.decls levels ty.now b.now inside s }
 {
     law_read_of(Profile::Strict, schema, ty, levels, b, inside);
@@ -33,6 +38,8 @@ pub fn law_items(schema: &Schema, ty: &AidlType, levels: usize, path: &Text, b: 
 pub fn law_parts(schema: &Schema, types: &[AidlType], b: &[u8])
     ensures joined { joined (parts_of schema.now.decls types.now b.now) ≡ b.now }
     ensures last { NoneStopsBefore (parts_of schema.now.decls types.now b.now) }
-    ensures stops { last_status (parts_of schema.now.decls types.now b.now) ≡ status_of_end (read_each schema.now.decls types.now b.now) }
-    ensures ends { EndsBy (parts_of schema.now.decls types.now b.now) (read_each schema.now.decls types.now b.now) }
+    ensures stops { last_status (parts_of schema.now.decls types.now b.now)
+        ≡ status_of_end (read_each schema.now.decls types.now b.now) }
+    ensures ends { EndsBy (parts_of schema.now.decls types.now b.now)
+        (read_each schema.now.decls types.now b.now) }
 {}

@@ -28,7 +28,9 @@ pub fn elements_count_item(
     items: &mut Row<Item>,
 ) -> Result<Option<usize>, Stopped>
     requires small { length from.old.bytes ≤ 1048576 }
-    ensures told { Tells (λ n. n) result (item path.now kind.Count (λ c. elements_count_at (is_level_left levels) nullable (is_inside from.old) c) (left from.old)) (left from.new) items.old items.new }
+    ensures told { Tells (λ n. n) result (item path.now kind.Count
+        (λ c. elements_count_at (is_level_left levels) nullable (is_inside from.old) c)
+        (left from.old)) (left from.new) items.old items.new }
     ensures level { IfOk result (λ n. IfSome n (λ k. 0 < levels)) }
     ensures on { OnOk result (MovesOn from.old from.new) }
 {
@@ -48,7 +50,8 @@ fn elements_count(
     nullable: bool,
     from: &mut WordReader,
 ) -> Result<Option<usize>, ReadFault>
-    ensures taken { TakesIfMemory (λ n. n) result (elements_count_at (is_level_left levels) nullable (is_inside from.old) (left from.old)) (left from.new) }
+    ensures taken { TakesIfMemory (λ n. n) result (elements_count_at
+        (is_level_left levels) nullable (is_inside from.old) (left from.old)) (left from.new) }
     ensures level { IfOk result (λ n. IfSome n (λ k. 0 < levels)) }
     ensures on { OnOk result (MovesOn from.old from.new) }
 {
@@ -70,7 +73,9 @@ pub fn marker_item(
 ) -> Result<bool, Stopped>
     requires strict { from.old.profile ≡ Strict }
     requires small { length from.old.bytes ≤ 1048576 }
-    ensures told { Tells (λ m. m) result (item path.now kind.Marker (λ c. value_marker_at (is_level_left levels) nullable (is_inside from.old) c) (left from.old)) (left from.new) items.old items.new }
+    ensures told { Tells (λ m. m) result (item path.now kind.Marker
+        (λ c. value_marker_at (is_level_left levels) nullable (is_inside from.old) c)
+        (left from.old)) (left from.new) items.old items.new }
     ensures level { IfOk result (λ m. m ≡ true → 0 < levels) }
     ensures on { OnOk result (MovesOn from.old from.new) }
 {
@@ -98,7 +103,8 @@ fn value_marker(
     from: &mut WordReader,
 ) -> Result<bool, ReadFault>
     requires strict { from.old.profile ≡ Strict }
-    ensures taken { TakesIfMemory (λ m. m) result (value_marker_at (is_level_left levels) nullable (is_inside from.old) (left from.old)) (left from.new) }
+    ensures taken { TakesIfMemory (λ m. m) result (value_marker_at
+        (is_level_left levels) nullable (is_inside from.old) (left from.old)) (left from.new) }
     ensures level { IfOk result (λ m. m ≡ true → 0 < levels) }
     ensures on { OnOk result (MovesOn from.old from.new) }
 {
@@ -121,7 +127,9 @@ pub fn tag_item<'a>(
     items: &mut Row<Item>,
 ) -> Result<&'a Field, Stopped>
     requires small { length from.old.bytes ≤ 1048576 }
-    ensures told { Tells (λ f. f.now) result (item path.now kind.Tag (λ c. field_tag_at fields.entry.now (is_inside from.old) c) (left from.old)) (left from.new) items.old items.new }
+    ensures told { Tells (λ f. f.now) result (item path.now kind.Tag
+        (λ c. field_tag_at fields.entry.now (is_inside from.old) c) (left from.old))
+        (left from.new) items.old items.new }
     ensures on { OnOk result (MovesOn from.old from.new) }
 {
     let start = from.position();
@@ -136,7 +144,8 @@ pub fn tag_item<'a>(
 
 #[tactic(auto, unfolding(crate::specs::Marks::field_tag_at, wire_model::specs::ReadOf::tag_at))]
 fn field_tag<'a>(fields: &'a [Field], from: &mut WordReader) -> Result<&'a Field, ReadFault>
-    ensures taken { TakesIfMemory (λ f. f.now) result (field_tag_at fields.entry.now (is_inside from.old) (left from.old)) (left from.new) }
+    ensures taken { TakesIfMemory (λ f. f.now) result
+        (field_tag_at fields.entry.now (is_inside from.old) (left from.old)) (left from.new) }
     ensures on { OnOk result (MovesOn from.old from.new) }
 {
     let word = from.word()?;

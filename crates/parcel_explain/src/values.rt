@@ -33,7 +33,9 @@ pub fn value_items(
     requires strict { from.old.profile ≡ Strict }
     requires small { length from.old.bytes ≤ 1048576 }
     requires room { length from.old.ends + spot.now.levels ≤ 64 }
-    ensures told { Tells done result (meant.items_of spot.now.schema.now.decls spot.now.levels ty spot.now.path.now (is_inside from.old) (left from.old)) (left from.new) items.old items.new }
+    ensures told { Tells done result
+        (meant.items_of spot.now.schema.now.decls spot.now.levels ty spot.now.path.now
+        (is_inside from.old) (left from.old)) (left from.new) items.old items.new }
     ensures on { OnOk result (MovesOn from.old from.new) }
 {
     match ty.shape {
@@ -59,7 +61,9 @@ fn one_items(
     requires strict { from.old.profile ≡ Strict }
     requires small { length from.old.bytes ≤ 1048576 }
     requires room { length from.old.ends + spot.now.levels ≤ 64 }
-    ensures told { Tells done result (meant.one_items (is_level_left spot.now.levels) (λ u q j b. part_items spot.now.schema.now.decls spot.now.levels u q j b) nullable spot.now.path.now (seen form.entry) (is_inside from.old) (left from.old))
+    ensures told { Tells done result (meant.one_items (is_level_left spot.now.levels)
+        (λ u q j b. part_items spot.now.schema.now.decls spot.now.levels u q j b)
+        nullable spot.now.path.now (seen form.entry) (is_inside from.old) (left from.old))
         (left from.new) items.old items.new }
     ensures on { OnOk result (MovesOn from.old from.new) }
 {
@@ -90,8 +94,11 @@ fn sequence_items(
     requires strict { from.old.profile ≡ Strict }
     requires small { length from.old.bytes ≤ 1048576 }
     requires room { length from.old.ends + spot.now.levels ≤ 64 }
-    ensures told { Tells done result (meant.sequence_items (is_level_left spot.now.levels) (is_raw spot.now.schema.now.decls ty) ty.nullable
-        (λ q b. part_items spot.now.schema.now.decls spot.now.levels (elem spot.now.schema.now.decls ty) q (is_inside from.old) b) spot.now.path.now (is_inside from.old) (left from.old)) (left from.new) items.old items.new }
+    ensures told { Tells done result (meant.sequence_items
+        (is_level_left spot.now.levels) (is_raw spot.now.schema.now.decls ty) ty.nullable
+        (λ q b. part_items spot.now.schema.now.decls spot.now.levels
+        (elem spot.now.schema.now.decls ty) q (is_inside from.old) b) spot.now.path.now
+        (is_inside from.old) (left from.old)) (left from.new) items.old items.new }
     ensures on { OnOk result (MovesOn from.old from.new) }
 {
     match elements_count_item(alloc, spot.levels, ty.nullable, spot.path, from, items)? {
@@ -114,8 +121,11 @@ fn counted_items(
     requires small { length from.old.bytes ≤ 1048576 }
     requires some { 0 < spot.now.levels }
     requires room { length from.old.ends + spot.now.levels ≤ 64 }
-    ensures told { Tells done result (meant.counted_items (is_raw spot.now.schema.now.decls ty) (λ q b. part_items spot.now.schema.now.decls spot.now.levels (elem spot.now.schema.now.decls ty) q (is_inside from.old) b)
-        spot.now.path.now (is_inside from.old) (Some count) (left from.old)) (left from.new) items.old items.new }
+    ensures told { Tells done result (meant.counted_items (is_raw spot.now.schema.now.decls ty)
+        (λ q b. part_items spot.now.schema.now.decls spot.now.levels
+        (elem spot.now.schema.now.decls ty) q (is_inside from.old) b)
+        spot.now.path.now (is_inside from.old) (Some count) (left from.old))
+        (left from.new) items.old items.new }
     ensures on { OnOk result (MovesOn from.old from.new) }
 {
     if is_raw(spot.schema, ty) {
@@ -139,7 +149,9 @@ fn elements_items(
     requires small { length from.old.bytes ≤ 1048576 }
     requires some { 0 < spot.now.levels }
     requires room { length from.old.ends + spot.now.levels ≤ 64 }
-    ensures told { Tells done result (meant.elements_items (λ q b. part_items spot.now.schema.now.decls spot.now.levels element q (is_inside from.old) b) spot.now.path.now 0 count (left from.old)) (left from.new) items.old items.new }
+    ensures told { Tells done result (meant.elements_items
+        (λ q b. part_items spot.now.schema.now.decls spot.now.levels element q (is_inside from.old)
+        b) spot.now.path.now 0 count (left from.old)) (left from.new) items.old items.new }
     ensures on { OnOk result (MovesOn from.old from.new) }
 {
     for index in 0..count {
@@ -168,7 +180,9 @@ fn record_items(
     requires strict { from.old.profile ≡ Strict }
     requires small { length from.old.bytes ≤ 1048576 }
     requires room { length from.old.ends + spot.now.levels ≤ 64 }
-    ensures told { Tells done result (meant.record_items (is_level_left spot.now.levels) nullable (λ u q b. part_items spot.now.schema.now.decls spot.now.levels u q true b) spot.now.path.now fields.now (is_inside from.old) (left from.old))
+    ensures told { Tells done result (meant.record_items (is_level_left spot.now.levels) nullable
+        (λ u q b. part_items spot.now.schema.now.decls spot.now.levels u q true b)
+        spot.now.path.now fields.now (is_inside from.old) (left from.old))
         (left from.new) items.old items.new }
     ensures on { OnOk result (MovesOn from.old from.new) }
 {
@@ -191,7 +205,9 @@ fn body_items(
     requires small { length from.old.bytes ≤ 1048576 }
     requires some { 0 < spot.now.levels }
     requires room { length from.old.ends + spot.now.levels ≤ 64 }
-    ensures told { Tells done result (meant.body_items (λ u q b. part_items spot.now.schema.now.decls spot.now.levels u q true b) spot.now.path.now fields.now (is_inside from.old) (left from.old)) (left from.new) items.old items.new }
+    ensures told { Tells done result (meant.body_items
+        (λ u q b. part_items spot.now.schema.now.decls spot.now.levels u q true b) spot.now.path.now
+        fields.now (is_inside from.old) (left from.old)) (left from.new) items.old items.new }
     ensures on { OnOk result (MovesOn from.old from.new) }
 {
     if let Err(fault) = from.enter() {
@@ -225,7 +241,9 @@ fn fields_items(
     requires some { 0 < spot.now.levels }
     requires inside { is_inside from.old ≡ true }
     requires room { length from.old.ends + spot.now.levels ≤ 65 }
-    ensures told { Tells done result (meant.fields_items (λ u q b. part_items spot.now.schema.now.decls spot.now.levels u q true b) spot.now.path.now fields.now (left from.old)) (left from.new) items.old items.new }
+    ensures told { Tells done result (meant.fields_items
+        (λ u q b. part_items spot.now.schema.now.decls spot.now.levels u q true b)
+        spot.now.path.now fields.now (left from.old)) (left from.new) items.old items.new }
     ensures on { OnOk result (MovesOn from.old from.new) }
 {
     for field in fields {
@@ -257,7 +275,9 @@ fn union_items(
     requires strict { from.old.profile ≡ Strict }
     requires small { length from.old.bytes ≤ 1048576 }
     requires room { length from.old.ends + spot.now.levels ≤ 64 }
-    ensures told { Tells done result (meant.union_items (is_level_left spot.now.levels) nullable (λ u q b. part_items spot.now.schema.now.decls spot.now.levels u q (is_inside from.old) b) spot.now.path.now fields.now (is_inside from.old) (left from.old))
+    ensures told { Tells done result (meant.union_items (is_level_left spot.now.levels) nullable
+        (λ u q b. part_items spot.now.schema.now.decls spot.now.levels u q (is_inside from.old) b)
+        spot.now.path.now fields.now (is_inside from.old) (left from.old))
         (left from.new) items.old items.new }
     ensures on { OnOk result (MovesOn from.old from.new) }
 {
@@ -281,7 +301,9 @@ fn chosen_items(
     requires small { length from.old.bytes ≤ 1048576 }
     requires some { 0 < spot.now.levels }
     requires room { length from.old.ends + spot.now.levels ≤ 64 }
-    ensures told { Tells done result (meant.chosen_items (λ u q b. part_items spot.now.schema.now.decls spot.now.levels u q (is_inside from.old) b) spot.now.path.now fields.now (is_inside from.old) (left from.old)) (left from.new) items.old items.new }
+    ensures told { Tells done result (meant.chosen_items (λ u q b. part_items
+        spot.now.schema.now.decls spot.now.levels u q (is_inside from.old) b) spot.now.path.now
+        fields.now (is_inside from.old) (left from.old)) (left from.new) items.old items.new }
     ensures on { OnOk result (MovesOn from.old from.new) }
 {
     let field = tag_item(alloc, fields, spot.path, from, items)?;

@@ -48,7 +48,8 @@ fn values_items(
     requires strict { from.old.profile ≡ Strict }
     requires small { length from.old.bytes ≤ 1048576 }
     requires outside { from.old.ends ≡ [] }
-    ensures told { Tells done result (meant.values_items schema.now.decls 0 types.now (left from.old)) (left from.new) items.old items.new }
+    ensures told { Tells done result (meant.values_items schema.now.decls 0 types.now
+        (left from.old)) (left from.new) items.old items.new }
     ensures on { OnOk result (MovesOn from.old from.new) }
 {
     let root = Text::empty();
@@ -82,7 +83,12 @@ fn place(items: Row<Item>) -> (Row<Item>, usize)
 fn item_to_end(offset: usize, count: usize, path: Text, kind: ItemKind) -> Item
     requires within { offset ≤ count }
     requires small { count ≤ 1048576 }
-    ensures { result ≡ record { offset = offset; length = count - offset; path = path; kind = kind } }
+    ensures { result ≡ record {
+      offset = offset;
+      length = count - offset;
+      path = path;
+      kind = kind;
+    } }
 {
     Item {
         offset: offset as u32,
@@ -96,7 +102,8 @@ fn item_to_end(offset: usize, count: usize, path: Text, kind: ItemKind) -> Item
 fn with_left(items: Row<Item>, count: usize) -> Result<Row<Item>, OutOfMemory>
     requires within { total items ≤ count }
     requires small { count ≤ 1048576 }
-    ensures { IfOk result (λ all. all ≡ at_offsets 0 items ++ some_at (total items) [] kind.Left (count - total items)) }
+    ensures { IfOk result (λ all. all
+        ≡ at_offsets 0 items ++ some_at (total items) [] kind.Left (count - total items)) }
 {
     let (mut placed, end) = place(items);
     if end < count {
@@ -114,7 +121,12 @@ fn with_stop(
 ) -> Result<Row<Item>, OutOfMemory>
     requires within { total items ≤ count }
     requires small { count ≤ 1048576 }
-    ensures { IfOk result (λ all. all ≡ at_offsets 0 items ++ record { offset = total items; length = count - total items; path = path; kind = kind.Stop status } ∷ []) }
+    ensures { IfOk result (λ all. all ≡ at_offsets 0 items ++ record {
+      offset = total items;
+      length = count - total items;
+      path = path;
+      kind = kind.Stop status;
+    } ∷ []) }
 {
     let (mut placed, end) = place(items);
     placed.push(item_to_end(end, count, path, ItemKind::Stop(status)))?;

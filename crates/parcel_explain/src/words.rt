@@ -22,7 +22,8 @@ pub fn word_item<W: Wire>(
     items: &mut Row<Item>,
 ) -> Result<(), Stopped>
     requires small { length from.old.bytes ≤ 1048576 }
-    ensures told { Tells done result (value_item path.now (λ c. W.reading from.old.profile (is_inside from.old) c) (left from.old)) (left from.new) items.old items.new }
+    ensures told { Tells done result (value_item path.now (λ c. W.reading from.old.profile
+        (is_inside from.old) c) (left from.old)) (left from.new) items.old items.new }
     ensures on { OnOk result (MovesOn from.old from.new) }
 {
     let start = from.position();
@@ -43,7 +44,8 @@ pub fn text_items(
 ) -> Result<(), Stopped>
     requires strict { from.old.profile ≡ Strict }
     requires small { length from.old.bytes ≤ 1048576 }
-    ensures told { Tells done result (text_items nullable path.now (is_inside from.old) (left from.old)) (left from.new) items.old items.new }
+    ensures told { Tells done result (text_items nullable path.now
+        (is_inside from.old) (left from.old)) (left from.new) items.old items.new }
     ensures on { OnOk result (MovesOn from.old from.new) }
 {
     match count_item(alloc, nullable, path, from, items)? {
@@ -61,7 +63,8 @@ fn count_item(
     items: &mut Row<Item>,
 ) -> Result<Option<usize>, Stopped>
     requires small { length from.old.bytes ≤ 1048576 }
-    ensures told { Tells (λ n. n) result (item path.now kind.Count (λ c. count_at nullable (is_inside from.old) c) (left from.old)) (left from.new) items.old items.new }
+    ensures told { Tells (λ n. n) result (item path.now kind.Count (λ c. count_at nullable
+        (is_inside from.old) c) (left from.old)) (left from.new) items.old items.new }
     ensures few { IfOk result (λ n. IfSome n (λ units. units < 2 ^ 31)) }
     ensures on { OnOk result (MovesOn from.old from.new) }
 {
@@ -86,7 +89,8 @@ fn block_item(
     requires strict { from.old.profile ≡ Strict }
     requires small { length from.old.bytes ≤ 1048576 }
     requires few { units < 2 ^ 31 }
-    ensures told { Tells done result (block_item path.now (is_inside from.old) (Some units) (left from.old)) (left from.new) items.old items.new }
+    ensures told { Tells done result (block_item path.now
+        (is_inside from.old) (Some units) (left from.old)) (left from.new) items.old items.new }
     ensures on { OnOk result (MovesOn from.old from.new) }
 {
     let start = from.position();
@@ -106,7 +110,8 @@ pub fn bytes_item(
 ) -> Result<(), Stopped>
     requires strict { from.old.profile ≡ Strict }
     requires small { length from.old.bytes ≤ 1048576 }
-    ensures told { Tells done result (bytes_item path.now (left from.old) (raw_at Strict count (is_inside from.old) (left from.old))) (left from.new) items.old items.new }
+    ensures told { Tells done result (bytes_item path.now (left from.old) (raw_at Strict count
+        (is_inside from.old) (left from.old))) (left from.new) items.old items.new }
     ensures on { OnOk result (MovesOn from.old from.new) }
 {
     let start = from.position();

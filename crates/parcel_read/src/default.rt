@@ -19,7 +19,8 @@ pub fn initials_of(
     plans: &Plans,
     fields: &[PlanField],
 ) -> Result<Row<Value>, OutOfMemory>
-    ensures { IfOk result (λ values. map view values ≡ map (λ g. initial_by_plan plans.now g) fields.now) }
+    ensures { IfOk result (λ values. map view values
+        ≡ map (λ g. initial_by_plan plans.now g) fields.now) }
 {
     let mut values = Vec::with_capacity(alloc, fields.len())?;
     for field in fields {
@@ -58,7 +59,8 @@ fn default_of_item(
     item: Option<PlanItem>,
     levels: usize,
 ) -> Result<Value, OutOfMemory>
-    ensures { IfOk result (λ v. view v ≡ item_default (λ u. plan_default_parts levels plans.now u) plans.now.fields item) }
+    ensures { IfOk result (λ v. view v
+        ≡ item_default (λ u. plan_default_parts levels plans.now u) plans.now.fields item) }
 {
     match item {
         None => Ok(Value::Null),
@@ -112,7 +114,8 @@ fn record_of(
     fields: &[PlanField],
     levels: usize,
 ) -> Result<Value, OutOfMemory>
-    ensures { IfOk result (λ v. view v ≡ rec (entry_defaults (λ u. plan_default_parts levels plans.now u) fields.now)) }
+    ensures { IfOk result (λ v. view v
+        ≡ rec (entry_defaults (λ u. plan_default_parts levels plans.now u) fields.now)) }
 {
     let mut values = Vec::with_capacity(alloc, fields.len())?;
     for field in fields {
@@ -128,7 +131,8 @@ fn alternative_of(
     fields: &[PlanField],
     levels: usize,
 ) -> Result<Value, OutOfMemory>
-    ensures { IfOk result (λ v. view v ≡ first_default (λ u. plan_default_parts levels plans.now u) fields.now) }
+    ensures { IfOk result (λ v. view v
+        ≡ first_default (λ u. plan_default_parts levels plans.now u) fields.now) }
 {
     match fields {
         // No union of a valid schema is without fields.
@@ -147,7 +151,8 @@ fn initial(
     field: &PlanField,
     levels: usize,
 ) -> Result<Value, OutOfMemory>
-    ensures { IfOk result (λ v. view v ≡ entry_default (λ u. plan_default_parts levels plans.now u) field.now) }
+    ensures { IfOk result (λ v. view v
+        ≡ entry_default (λ u. plan_default_parts levels plans.now u) field.now) }
 {
     match &field.initial {
         Some(constant) => value_of(alloc, constant),

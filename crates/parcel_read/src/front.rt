@@ -35,16 +35,20 @@ pub fn read(
         (λ x. read_of profile S 64 t false bytes.now ≡ Ok (view x.0, drop x.1 bytes.now))
         (λ fault. RefusesIfMemory fault (read_of profile S 64 t false bytes.now))) }
     // What is read is a reading.
-    ensures found { OfEachType plans.now id (λ S t. IfOk result (λ x. Reads profile S 64 t (take x.1 bytes.now) (view x.0))) }
+    ensures found { OfEachType plans.now id
+        (λ S t. IfOk result (λ x. Reads profile S 64 t (take x.1 bytes.now) (view x.0))) }
     // It has the type.
     ensures typed { OfEachType plans.now id (λ S t. IfOk result (λ x. HasType S t (view x.0))) }
     // It has at most 64 nodes for each byte that is used.
-    ensures nodes { OfEachType plans.now id (λ S t. IfOk result (λ x. nodes_of (view x.0) ≤ 64 * x.1)) }
+    ensures nodes { OfEachType plans.now id
+        (λ S t. IfOk result (λ x. nodes_of (view x.0) ≤ 64 * x.1)) }
     // A front that is a reading is what is read, unless memory runs out.
-    ensures only { OfEachType plans.now id (λ S t. (v : Data) (n : ℕ) → n ≤ length bytes.now → Reads profile S 64 t (take n bytes.now) v
+    ensures only { OfEachType plans.now id (λ S t. (v : Data) (n : ℕ)
+        → n ≤ length bytes.now → Reads profile S 64 t (take n bytes.now) v
         → MatchResult result (λ x. (view x.0 ≡ v) × (x.1 ≡ n)) (λ fault. fault ≡ NoMemory)) }
     // A refusal has the status of the first wrong item.
-    ensures stopped { OfEachType plans.now id (λ S t. IfErr result (λ fault. IfSome (status_of fault) (λ s. Stop profile S 64 t bytes.now false s))) }
+    ensures stopped { OfEachType plans.now id (λ S t. IfErr result (λ fault. IfSome
+        (status_of fault) (λ s. Stop profile S 64 t bytes.now false s))) }
 {
     let mut from = WordReader::new(profile, bytes);
     let mut defaults = SharedDefaults::new(alloc, plans);

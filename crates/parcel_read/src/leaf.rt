@@ -16,7 +16,8 @@ use std::alloc::Global;
 
 /// Reads a word of four bytes.
 pub fn word_from(alloc: Global, kind: WordKind, from: &mut WordReader) -> Result<Value, ReadFault>
-    ensures taken { TakesIfMemory view result (word_by from.old.profile kind (is_inside from.old) (left from.old)) (left from.new) }
+    ensures taken { TakesIfMemory view result
+        (word_by from.old.profile kind (is_inside from.old) (left from.old)) (left from.new) }
     ensures on { OnOk result (MovesOn from.old from.new) }
 {
     match kind {
@@ -29,7 +30,8 @@ pub fn word_from(alloc: Global, kind: WordKind, from: &mut WordReader) -> Result
 
 /// Reads a boolean.
 fn truth_from(alloc: Global, from: &mut WordReader) -> Result<Value, ReadFault>
-    ensures taken { TakesIfMemory view result (read_as truth (here (truth_at from.old.profile) from.old)) (left from.new) }
+    ensures taken { TakesIfMemory view result
+        (read_as truth (here (truth_at from.old.profile) from.old)) (left from.new) }
     ensures on { OnOk result (MovesOn from.old from.new) }
 {
     let truth = bool::take(alloc, from)?;
@@ -38,7 +40,8 @@ fn truth_from(alloc: Global, from: &mut WordReader) -> Result<Value, ReadFault>
 
 /// Reads a byte or an enum of byte.
 fn byte_from(alloc: Global, from: &mut WordReader) -> Result<Value, ReadFault>
-    ensures taken { TakesIfMemory view result (read_as number (here (byte_at from.old.profile) from.old)) (left from.new) }
+    ensures taken { TakesIfMemory view result
+        (read_as number (here (byte_at from.old.profile) from.old)) (left from.new) }
     ensures on { OnOk result (MovesOn from.old from.new) }
 {
     let byte = i8::take(alloc, from)?;
@@ -47,7 +50,8 @@ fn byte_from(alloc: Global, from: &mut WordReader) -> Result<Value, ReadFault>
 
 /// Reads a char.
 fn char_from(alloc: Global, from: &mut WordReader) -> Result<Value, ReadFault>
-    ensures taken { TakesIfMemory view result (read_as char_data (here (char_at from.old.profile) from.old)) (left from.new) }
+    ensures taken { TakesIfMemory view result
+        (read_as char_data (here (char_at from.old.profile) from.old)) (left from.new) }
     ensures on { OnOk result (MovesOn from.old from.new) }
 {
     let unit = u16::take(alloc, from)?;
@@ -56,7 +60,8 @@ fn char_from(alloc: Global, from: &mut WordReader) -> Result<Value, ReadFault>
 
 /// Reads an int or an enum of int.
 fn int_from(alloc: Global, from: &mut WordReader) -> Result<Value, ReadFault>
-    ensures taken { TakesIfMemory view result (read_as number (here word_at from.old)) (left from.new) }
+    ensures taken { TakesIfMemory view result
+        (read_as number (here word_at from.old)) (left from.new) }
     ensures on { OnOk result (MovesOn from.old from.new) }
 {
     let word = i32::take(alloc, from)?;
@@ -65,7 +70,8 @@ fn int_from(alloc: Global, from: &mut WordReader) -> Result<Value, ReadFault>
 
 /// Reads a long or an enum of long.
 pub fn long_from(alloc: Global, from: &mut WordReader) -> Result<Value, ReadFault>
-    ensures taken { TakesIfMemory view result (read_as number (here long_at from.old)) (left from.new) }
+    ensures taken { TakesIfMemory view result
+        (read_as number (here long_at from.old)) (left from.new) }
     ensures on { OnOk result (MovesOn from.old from.new) }
 {
     let number = i64::take(alloc, from)?;
@@ -74,7 +80,8 @@ pub fn long_from(alloc: Global, from: &mut WordReader) -> Result<Value, ReadFaul
 
 /// Reads a String, which may be null.
 pub fn text_from(alloc: Global, nullable: bool, from: &mut WordReader) -> Result<Value, ReadFault>
-    ensures taken { TakesIfMemory view result (read_as text_data (here (text_at from.old.profile nullable) from.old)) (left from.new) }
+    ensures taken { TakesIfMemory view result
+        (read_as text_data (here (text_at from.old.profile nullable) from.old)) (left from.new) }
     ensures on { OnOk result (MovesOn from.old from.new) }
 {
     match from.text(alloc, nullable)? {

@@ -10,7 +10,8 @@ use std::alloc::Global;
 /// Reads the marker of a parcelable or union: whether a value follows. Otherwise it is null.
 #[tactic(auto, unfolding(wire_model::specs::ReadOf::marker_at))]
 pub fn marker_from(alloc: Global, nullable: bool, from: &mut WordReader) -> Result<bool, ReadFault>
-    ensures taken { TakesIfMemory (λ there. there) result (marker_at from.old.profile nullable (is_inside from.old) (left from.old)) (left from.new) }
+    ensures taken { TakesIfMemory (λ there. there) result
+        (marker_at from.old.profile nullable (is_inside from.old) (left from.old)) (left from.new) }
     ensures on { OnOk result (MovesOn from.old from.new) }
 {
     if bool::take(alloc, from)? {
@@ -25,7 +26,8 @@ pub fn marker_from(alloc: Global, nullable: bool, from: &mut WordReader) -> Resu
 /// Reads the tag of a union.
 #[tactic(auto, unfolding(wire_model::specs::ReadOf::tag_at))]
 pub fn tag_from(from: &mut WordReader) -> Result<u32, ReadFault>
-    ensures taken { TakesIfMemory (λ tag. tag) result (tag_at (is_inside from.old) (left from.old)) (left from.new) }
+    ensures taken { TakesIfMemory (λ tag. tag) result
+        (tag_at (is_inside from.old) (left from.old)) (left from.new) }
     ensures on { OnOk result (MovesOn from.old from.new) }
 {
     let word = from.word()?;

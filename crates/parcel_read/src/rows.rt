@@ -15,7 +15,8 @@ use std::alloc::Global;
 /// Reads so many booleans.
 pub fn truths_from(alloc: Global, count: usize, from: &mut WordReader) -> Result<Value, ReadFault>
     ensures taken { TakesIfMemory view result
-        (row_at (λ b. read_as truth (truth_at from.old.profile (is_inside from.old) b)) count (left from.old)) (left from.new) }
+        (row_at (λ b. read_as truth (truth_at from.old.profile (is_inside from.old) b)) count
+        (left from.old)) (left from.new) }
     ensures on { OnOk result (MovesOn from.old from.new) }
 {
     match take_items::<bool>(alloc, count, from) {
@@ -27,7 +28,8 @@ pub fn truths_from(alloc: Global, count: usize, from: &mut WordReader) -> Result
 /// Reads so many chars.
 pub fn chars_from(alloc: Global, count: usize, from: &mut WordReader) -> Result<Value, ReadFault>
     ensures taken { TakesIfMemory view result
-        (row_at (λ b. read_as char_data (char_at from.old.profile (is_inside from.old) b)) count (left from.old)) (left from.new) }
+        (row_at (λ b. read_as char_data (char_at from.old.profile (is_inside from.old) b)) count
+        (left from.old)) (left from.new) }
     ensures on { OnOk result (MovesOn from.old from.new) }
 {
     match take_items::<u16>(alloc, count, from) {
@@ -39,7 +41,8 @@ pub fn chars_from(alloc: Global, count: usize, from: &mut WordReader) -> Result<
 /// Reads so many ints or values of an enum of int.
 pub fn ints_from(alloc: Global, count: usize, from: &mut WordReader) -> Result<Value, ReadFault>
     ensures taken { TakesIfMemory view result
-        (row_at (λ b. read_as number (word_at (is_inside from.old) b)) count (left from.old)) (left from.new) }
+        (row_at (λ b. read_as number (word_at (is_inside from.old) b)) count (left from.old))
+        (left from.new) }
     ensures on { OnOk result (MovesOn from.old from.new) }
 {
     match take_items::<i32>(alloc, count, from) {
@@ -51,7 +54,8 @@ pub fn ints_from(alloc: Global, count: usize, from: &mut WordReader) -> Result<V
 /// Reads so many longs or values of an enum of long.
 pub fn longs_from(alloc: Global, count: usize, from: &mut WordReader) -> Result<Value, ReadFault>
     ensures taken { TakesIfMemory view result
-        (row_at (λ b. read_as number (long_at (is_inside from.old) b)) count (left from.old)) (left from.new) }
+        (row_at (λ b. read_as number (long_at (is_inside from.old) b)) count (left from.old))
+        (left from.new) }
     ensures on { OnOk result (MovesOn from.old from.new) }
 {
     match take_items::<i64>(alloc, count, from) {

@@ -77,7 +77,8 @@ impl<'a> SharedDefaults<'a> {
     pub fn row(&mut self, alloc: Global, span: Span) -> Result<Rc<Row<Value>>, OutOfMemory>
         ensures same { self.new ≡ self.old }
         ensures row { IfOk result (λ row. map view row.value
-            ≡ map (λ g. initial_by_plan self.old g) (entries_of self.old.fields span.first span.count)) }
+            ≡ map (λ g. initial_by_plan self.old g)
+            (entries_of self.old.fields span.first span.count)) }
     {
         if let Some(row) = self.row_made(span)? {
             return Ok(row);
@@ -89,7 +90,8 @@ impl<'a> SharedDefaults<'a> {
 
     fn row_made(&self, span: Span) -> Result<Option<Rc<Row<Value>>>, OutOfMemory>
         ensures { IfOk result (λ made. IfSome made (λ row. map view row.value
-            ≡ map (λ g. initial_by_plan self.now g) (entries_of self.now.fields span.first span.count))) }
+            ≡ map (λ g. initial_by_plan self.now g)
+            (entries_of self.now.fields span.first span.count))) }
     {
         match self.rows.get(&span.first) {
             Some(row) if row.as_ref().len() == span.count => Ok(Some(row.clone()?)),
@@ -100,9 +102,11 @@ impl<'a> SharedDefaults<'a> {
 
 fn make_row(alloc: Global, plans: &Plans, span: Span) -> Result<Rc<Row<Value>>, OutOfMemory>
     ensures row { IfOk result (λ row. map view row.value
-        ≡ map (λ g. initial_by_plan plans.now g) (entries_of plans.now.fields span.first span.count)) }
+        ≡ map (λ g. initial_by_plan plans.now g)
+        (entries_of plans.now.fields span.first span.count)) }
     ensures whole { IfOk result (λ row. map view row.value
-        ≡ map (λ g. initial_by_plan plans.now g) (entries_of plans.now.fields span.first (length row.value))) }
+        ≡ map (λ g. initial_by_plan plans.now g)
+        (entries_of plans.now.fields span.first (length row.value))) }
 {
     let row = initials_of(alloc, plans, plans.entries(span.first, span.count))?;
     Ok(Rc::new(alloc, row)?)

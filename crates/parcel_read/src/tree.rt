@@ -33,7 +33,8 @@ pub fn value_from(
     from: &mut WordReader,
 ) -> Result<Value, ReadFault>
     requires { length from.old.ends + levels ≤ 64 }
-    ensures taken { TakesIfMemory view result (plan_read from.old.profile defaults.old levels id (is_inside from.old) (left from.old)) (left from.new) }
+    ensures taken { TakesIfMemory view result (plan_read from.old.profile defaults.old levels id
+        (is_inside from.old) (left from.old)) (left from.new) }
     ensures on { OnOk result (MovesOn from.old from.new) }
     ensures same { defaults.new ≡ defaults.old }
 {
@@ -54,8 +55,10 @@ fn item_from(
     from: &mut WordReader,
 ) -> Result<Value, ReadFault>
     requires { length from.old.ends + levels ≤ 64 }
-    ensures taken { TakesIfMemory view result (item_at from.old.profile (is_level_left levels) (λ g. initial_by_plan defaults.old g)
-        (λ u j b. plan_parts from.old.profile defaults.old levels u j b) defaults.old.fields item (is_inside from.old) (left from.old)) (left from.new) }
+    ensures taken { TakesIfMemory view result
+        (item_at from.old.profile (is_level_left levels) (λ g. initial_by_plan defaults.old g)
+        (λ u j b. plan_parts from.old.profile defaults.old levels u j b) defaults.old.fields item
+        (is_inside from.old) (left from.old)) (left from.new) }
     ensures on { OnOk result (MovesOn from.old from.new) }
     ensures same { defaults.new ≡ defaults.old }
 {
@@ -94,7 +97,8 @@ fn bytes_from(
     levels: usize,
     from: &mut WordReader,
 ) -> Result<Value, ReadFault>
-    ensures taken { TakesIfMemory view result (array_at from.old.profile (is_level_left levels) true nullable (λ b. Err bad_value) (is_inside from.old) (left from.old)) (left from.new) }
+    ensures taken { TakesIfMemory view result (array_at from.old.profile (is_level_left levels)
+        true nullable (λ b. Err bad_value) (is_inside from.old) (left from.old)) (left from.new) }
     ensures on { OnOk result (MovesOn from.old from.new) }
 {
     let Some(count) = from.count(nullable)? else {
@@ -119,8 +123,10 @@ fn sequence_from(
     from: &mut WordReader,
 ) -> Result<Value, ReadFault>
     requires { length from.old.ends + levels ≤ 64 }
-    ensures taken { TakesIfMemory view result (array_at from.old.profile (is_level_left levels) false nullable
-        (λ b. plan_parts from.old.profile defaults.old levels element (is_inside from.old) b) (is_inside from.old) (left from.old)) (left from.new) }
+    ensures taken { TakesIfMemory view result
+        (array_at from.old.profile (is_level_left levels) false nullable
+        (λ b. plan_parts from.old.profile defaults.old levels element (is_inside from.old) b)
+        (is_inside from.old) (left from.old)) (left from.new) }
     ensures on { OnOk result (MovesOn from.old from.new) }
     ensures same { defaults.new ≡ defaults.old }
 {
@@ -140,8 +146,10 @@ fn elements_from(
     from: &mut WordReader,
 ) -> Result<Value, ReadFault>
     requires { length from.old.ends + levels ≤ 64 }
-    ensures taken { TakesIfMemory view result (elements_at from.old.profile (is_level_left levels) false
-        (λ b. plan_parts from.old.profile defaults.old levels element (is_inside from.old) b) (is_inside from.old) count (left from.old)) (left from.new) }
+    ensures taken { TakesIfMemory view result
+        (elements_at from.old.profile (is_level_left levels) false
+        (λ b. plan_parts from.old.profile defaults.old levels element (is_inside from.old) b)
+        (is_inside from.old) count (left from.old)) (left from.new) }
     ensures on { OnOk result (MovesOn from.old from.new) }
     ensures same { defaults.new ≡ defaults.old }
 {
@@ -167,7 +175,8 @@ fn row_from(
     requires some { 0 < levels }
     requires room { length from.old.ends + levels ≤ 64 }
     ensures taken { TakesIfMemory view result
-        (row_at (λ b. plan_parts from.old.profile defaults.old levels element (is_inside from.old) b) count (left from.old)) (left from.new) }
+        (row_at (λ b. plan_parts from.old.profile defaults.old levels element
+        (is_inside from.old) b) count (left from.old)) (left from.new) }
     ensures on { OnOk result (MovesOn from.old from.new) }
     ensures same { defaults.new ≡ defaults.old }
 {
@@ -207,7 +216,8 @@ fn items_from(
 ) -> Result<Row<Value>, ReadFault>
     requires some { 0 < levels }
     requires room { length from.old.ends + levels ≤ 64 }
-    ensures taken { TakesIfMemory views result (each_at (λ b. plan_parts from.old.profile defaults.old levels element (is_inside from.old) b) count (left from.old)) (left from.new) }
+    ensures taken { TakesIfMemory views result (each_at (λ b. plan_parts from.old.profile
+        defaults.old levels element (is_inside from.old) b) count (left from.old)) (left from.new) }
     ensures on { OnOk result (MovesOn from.old from.new) }
     ensures same { defaults.new ≡ defaults.old }
 {
@@ -231,8 +241,11 @@ fn record_from(
     from: &mut WordReader,
 ) -> Result<Value, ReadFault>
     requires { length from.old.ends + levels ≤ 64 }
-    ensures taken { TakesIfMemory view result (record_at from.old.profile (is_level_left levels) nullable (λ g. initial_by_plan defaults.old g)
-        (λ g b. plan_parts from.old.profile defaults.old levels g.item true b) (entries_of defaults.old.fields span.first span.count) (is_inside from.old) (left from.old)) (left from.new) }
+    ensures taken { TakesIfMemory view result (record_at from.old.profile
+        (is_level_left levels) nullable (λ g. initial_by_plan defaults.old g)
+        (λ g b. plan_parts from.old.profile defaults.old levels g.item true b)
+        (entries_of defaults.old.fields span.first span.count) (is_inside from.old) (left from.old))
+        (left from.new) }
     ensures on { OnOk result (MovesOn from.old from.new) }
     ensures same { defaults.new ≡ defaults.old }
 {
@@ -257,7 +270,9 @@ fn body_from(
     requires some { 0 < levels }
     requires room { length from.old.ends + levels ≤ 64 }
     ensures taken { TakesIfMemory view result (body_value_at (λ g. initial_by_plan defaults.old g)
-        (λ g b. plan_parts from.old.profile defaults.old levels g.item true b) (entries_of defaults.old.fields span.first span.count) (is_inside from.old) (left from.old)) (left from.new) }
+        (λ g b. plan_parts from.old.profile defaults.old levels g.item true b)
+        (entries_of defaults.old.fields span.first span.count) (is_inside from.old) (left from.old))
+        (left from.new) }
     ensures on { OnOk result (MovesOn from.old from.new) }
     ensures same { defaults.new ≡ defaults.old }
 {
@@ -281,9 +296,11 @@ fn fields_from(
     requires inside { is_inside from.old ≡ true }
     requires room { length from.old.ends + levels ≤ 65 }
     ensures taken { MatchResult result
-        (λ value. as_record (fields_at (λ g. initial_by_plan defaults.old g) (λ g b. plan_parts from.old.profile defaults.old levels g.item true b)
+        (λ value. as_record (fields_at (λ g. initial_by_plan defaults.old g)
+        (λ g b. plan_parts from.old.profile defaults.old levels g.item true b)
         (entries_of defaults.old.fields span.first span.count) (left from.old)) ≡ Ok (view value))
-        (λ fault. RefusesIfMemory fault (fields_at (λ g. initial_by_plan defaults.old g) (λ g b. plan_parts from.old.profile defaults.old levels g.item true b)
+        (λ fault. RefusesIfMemory fault (fields_at (λ g. initial_by_plan defaults.old g)
+        (λ g b. plan_parts from.old.profile defaults.old levels g.item true b)
         (entries_of defaults.old.fields span.first span.count) (left from.old))) }
     ensures on { OnOk result (MovesOn from.old from.new) }
     ensures same { defaults.new ≡ defaults.old }
@@ -312,8 +329,10 @@ fn union_from(
     from: &mut WordReader,
 ) -> Result<Value, ReadFault>
     requires { length from.old.ends + levels ≤ 64 }
-    ensures taken { TakesIfMemory view result (union_at from.old.profile (is_level_left levels) nullable
-        (λ g b. plan_parts from.old.profile defaults.old levels g.item (is_inside from.old) b) fields.now (is_inside from.old) (left from.old)) (left from.new) }
+    ensures taken { TakesIfMemory view result
+        (union_at from.old.profile (is_level_left levels) nullable
+        (λ g b. plan_parts from.old.profile defaults.old levels g.item (is_inside from.old) b)
+        fields.now (is_inside from.old) (left from.old)) (left from.new) }
     ensures on { OnOk result (MovesOn from.old from.new) }
     ensures same { defaults.new ≡ defaults.old }
 {
@@ -338,7 +357,8 @@ fn tagged_from(
 ) -> Result<Value, ReadFault>
     requires some { 0 < levels }
     requires room { length from.old.ends + levels ≤ 64 }
-    ensures taken { TakesIfMemory view result (tagged_at (λ g b. plan_parts from.old.profile defaults.old levels g.item (is_inside from.old) b)
+    ensures taken { TakesIfMemory view result (tagged_at
+        (λ g b. plan_parts from.old.profile defaults.old levels g.item (is_inside from.old) b)
         fields.now (is_inside from.old) (left from.old)) (left from.new) }
     ensures on { OnOk result (MovesOn from.old from.new) }
     ensures same { defaults.new ≡ defaults.old }

@@ -47,7 +47,8 @@ fn is_digit(byte: u8) -> bool
 
 /// Whether a word of bytes stands for more than a parcel has, 1,048,576. It takes no memory.
 pub fn is_too_large(word: &[u8]) -> bool
-    ensures { (bytes : List ℕ) → traced.bytes_of word.now ≡ Some bytes → result ≡ nat_lt (limit_number ParcelBytes) (length bytes) }
+    ensures { (bytes : List ℕ) → traced.bytes_of word.now ≡ Some bytes
+        → result ≡ nat_lt (limit_number ParcelBytes) (length bytes) }
 {
     word.len() / 2 > LimitName::ParcelBytes.number() as usize
 }

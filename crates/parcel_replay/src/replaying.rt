@@ -41,7 +41,8 @@ pub fn replay_line(
 ) -> Result<Replayed, OutOfMemory>
     requires { ArePlansOf plans.now server.now.decls }
     ensures replays { IfOk result (Replays server.now.decls interface (traced line.now)) }
-    ensures lawful { IfOk result (λ r. IsLawfulRequest server.now.decls interface (traced line.now)) }
+    ensures lawful { IfOk result (λ r. IsLawfulRequest server.now.decls interface
+        (traced line.now)) }
 {
     match request_text(line) {
         Some(text) => replay_text(alloc, server, plans, interface, text),
@@ -58,8 +59,10 @@ fn replay_text(
     text: &[u8],
 ) -> Result<Replayed, OutOfMemory>
     requires { ArePlansOf plans.now server.now.decls }
-    ensures replays { IfOk result (Replays server.now.decls interface (traced_by (request_of text.now))) }
-    ensures lawful { IfOk result (λ r. IsLawfulRequest server.now.decls interface (traced_by (request_of text.now))) }
+    ensures replays { IfOk result (Replays server.now.decls interface
+        (traced_by (request_of text.now))) }
+    ensures lawful { IfOk result (λ r. IsLawfulRequest server.now.decls interface
+        (traced_by (request_of text.now))) }
 {
     match request_of(text) {
         Some((code, delivered)) => {
@@ -79,8 +82,10 @@ fn replay_request(
     delivered: &[u8],
 ) -> Result<Replayed, OutOfMemory>
     requires { is_some (bytes_of delivered.now) ≡ true }
-    ensures replays { IfOk result (λ r. (b : List ℕ) → bytes_of delivered.now ≡ Some b → Replays side.now interface (within_parcel code b) r) }
-    ensures lawful { IfOk result (λ r. (b : List ℕ) → bytes_of delivered.now ≡ Some b → IsLawfulRequest side.now interface (within_parcel code b)) }
+    ensures replays { IfOk result (λ r. (b : List ℕ)
+        → bytes_of delivered.now ≡ Some b → Replays side.now interface (within_parcel code b) r) }
+    ensures lawful { IfOk result (λ r. (b : List ℕ) → bytes_of delivered.now ≡ Some b
+        → IsLawfulRequest side.now interface (within_parcel code b)) }
 {
     if is_too_large(delivered) {
         return Ok(Replayed::TooLarge);
@@ -99,8 +104,10 @@ fn answer(
     code: u32,
     bytes: &[u8],
 ) -> Result<Answered, OutOfMemory>
-    ensures answers { IfOk result (λ a. Answers IsUnscripted side.now interface a (stub Strict side.now interface code bytes.now)) }
-    ensures lawful { IfOk result (λ a. IsLawful side.now interface code (stub Strict side.now interface code bytes.now)) }
+    ensures answers { IfOk result (λ a. Answers IsUnscripted side.now interface a
+        (stub Strict side.now interface code bytes.now)) }
+    ensures lawful { IfOk result (λ a. IsLawful side.now interface code
+        (stub Strict side.now interface code bytes.now)) }
 {
     law_stub(Profile::Strict, side.schema(), interface, code, bytes);
     let handler = |_method: u32, _args: &[Value]| not_scripted(alloc);

@@ -24,14 +24,16 @@ pub fn request_of(text: &[u8]) -> Option<(u32, &[u8])>
 
 /// What stands behind `request `, where a line begins so. It takes no memory.
 pub fn request_text(line: &[u8]) -> Option<&[u8]>
-    ensures { MatchOption result (traced.is_request line.now ≡ false) (λ text. (traced.is_request line.now ≡ true) × (text.now ≡ drop 8 line.now)) }
+    ensures { MatchOption result (traced.is_request line.now
+        ≡ false) (λ text. (traced.is_request line.now ≡ true) × (text.now ≡ drop 8 line.now)) }
 {
     line.strip_prefix(b"request ".as_slice())
 }
 
 /// The code of a request's line; of any other line maybe None. It takes no memory.
 pub fn recorded_code(line: &[u8]) -> Option<u32>
-    ensures { (code : ℕ) (b : List ℕ) → traced.traced line.now ≡ traced.request code b → result ≡ Some code }
+    ensures { (code : ℕ) (b : List ℕ) → traced.traced line.now ≡ traced.request code b
+        → result ≡ Some code }
 {
     match request_text(line) {
         Some(text) => first_code(text),
@@ -42,7 +44,8 @@ pub fn recorded_code(line: &[u8]) -> Option<u32>
 // The code of what stands behind `request `.
 #[tactic(auto, using(crate::proofs::Codes::first_code, crate::proofs::Codes::some_word))]
 fn first_code(text: &[u8]) -> Option<u32>
-    ensures { (code : ℕ) (b : List ℕ) → traced.request_of text.now ≡ Some (code, b) → result ≡ Some code }
+    ensures { (code : ℕ) (b : List ℕ) → traced.request_of text.now ≡ Some (code, b)
+        → result ≡ Some code }
 {
     match word_at(text) {
         Some((word, _)) => code_of(word),
@@ -60,7 +63,8 @@ fn code_of(word: &[u8]) -> Option<u32>
 // The word up to the first blank, and what stands behind that blank.
 #[tactic(auto, unfolding(crate::specs::Traced::word_at))]
 fn word_at(text: &[u8]) -> Option<(&[u8], &[u8])>
-    ensures { option_map {U = List ℕ × List ℕ} (λ p. (p.0.now, p.1.now)) result ≡ traced.word_at text.now }
+    ensures { option_map {U = List ℕ × List ℕ} (λ p. (p.0.now, p.1.now)) result
+        ≡ traced.word_at text.now }
 {
     match blank_at(text) {
         Some(end) => Some((&text[..end], &text[end + 1..])),

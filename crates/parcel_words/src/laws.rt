@@ -29,7 +29,8 @@ pub fn law_sequence_taken_again<W: Wire>(items: &[W])
     requires values { All W.is_value items.now }
     requires can { All W.can_put items.now }
     ensures { (p : Profile) (nullable inside : Bool) (rest : List ℕ)
-        → sequence_at (W.reading p) nullable inside (spell_sequence W.spelling items.now ++ rest) ≡ Ok (Some items.now, rest) }
+        → sequence_at (W.reading p) nullable inside (spell_sequence W.spelling items.now ++ rest)
+        ≡ Ok (Some items.now, rest) }
 {}
 
 /// No spelling of a sequence is a proper prefix of another.
@@ -41,5 +42,6 @@ pub fn law_sequence_no_prefix<W: Wire>(first: &[W], second: &[W])
     requires second { All W.is_value second.now }
     requires second_can { All W.can_put second.now }
     ensures { (rest : List ℕ)
-        → spell_sequence W.spelling first.now ++ rest ≡ spell_sequence W.spelling second.now → rest ≡ [] }
+        → spell_sequence W.spelling first.now ++ rest ≡ spell_sequence W.spelling second.now
+        → rest ≡ [] }
 {}

@@ -44,7 +44,12 @@ impl<'a> Model for WordReader<'a> {
 impl<'a> WordReader<'a> {
     /// A reader by the profile at the start of the bytes, with no record open. It takes no memory.
     pub fn new(profile: Profile, bytes: &'a [u8]) -> WordReader<'a>
-        ensures { result ≡ record { profile = profile; bytes = bytes.now; position = 0; ends = [] } }
+        ensures { result ≡ record {
+          profile = profile;
+          bytes = bytes.now;
+          position = 0;
+          ends = [];
+        } }
     {
         WordReader {
             profile,
@@ -104,7 +109,8 @@ impl<'a> WordReader<'a> {
     /// `BadValue` where the item is inside the limit and the profile doesn't permit its padding. It takes no memory.
     #[tactic(auto, unfolding(aidl_base::specs::Readings::raw_at))]
     pub fn raw(&mut self, count: usize) -> Result<&'a [u8], ReadFault>
-        ensures taken { Takes (λ x. x.now) result (here (raw_at self.old.profile count) self.old) (left self.new) }
+        ensures taken { Takes (λ x. x.now) result
+            (here (raw_at self.old.profile count) self.old) (left self.new) }
         ensures passed { OnOk result (self.new ≡ moved self.old (count + padding count)) }
         ensures on { OnOk result (MovesOn self.old self.new) }
         ensures unchanged { OnErr result (self.new ≡ self.old) }
@@ -125,7 +131,8 @@ impl<'a> WordReader<'a> {
     /// -1 unless it may be null; and by `BadValue` another negative one. It takes no memory.
     #[tactic(auto, unfolding(aidl_base::specs::Readings::count_at))]
     pub fn count(&mut self, nullable: bool) -> Result<Option<usize>, ReadFault>
-        ensures taken { Takes (λ n. n) result (count_at nullable (is_inside self.old) (left self.old)) (left self.new) }
+        ensures taken { Takes (λ n. n) result
+            (count_at nullable (is_inside self.old) (left self.old)) (left self.new) }
         ensures small { IfOk result (λ n. IfSome n (λ k. k < 2 ^ 31)) }
         ensures passed { OnOk result (self.new ≡ moved self.old 4) }
         ensures on { OnOk result (MovesOn self.old self.new) }
@@ -245,7 +252,8 @@ impl<'a> WordReader<'a> {
 
     /// The next item, of so many bytes.
     fn item(&self, size: usize) -> Result<&'a [u8], ReadFault>
-        ensures { Takes (λ x. x.now) result (here (bytes_at size) self.now) (drop size (left self.now)) }
+        ensures { Takes (λ x. x.now) result (here (bytes_at size) self.now)
+            (drop size (left self.now)) }
     {
         let rest = self.rest();
         if rest.len() < size {

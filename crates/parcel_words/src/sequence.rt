@@ -47,7 +47,8 @@ pub fn take_sequence<W: Wire>(
     nullable: bool,
     from: &mut WordReader,
 ) -> Result<Option<Row<W>>, ReadFault>
-    ensures taken { TakesIfMemory (λ x. x) result (here (sequence_at (W.reading from.old.profile) nullable) from.old) (left from.new) }
+    ensures taken { TakesIfMemory (λ x. x) result
+        (here (sequence_at (W.reading from.old.profile) nullable) from.old) (left from.new) }
     ensures passed { OnOk result (MovesOn from.old from.new) }
     ensures unchanged { OnErr result (from.new ≡ from.old) }
 {
@@ -70,7 +71,8 @@ pub fn take_items<W: Wire>(
     count: usize,
     from: &mut WordReader,
 ) -> Result<Row<W>, ReadFault>
-    ensures taken { TakesIfMemory (λ x. x) result (here (λ inside. items_at (W.reading from.old.profile inside) count) from.old) (left from.new) }
+    ensures taken { TakesIfMemory (λ x. x) result (here
+        (λ inside. items_at (W.reading from.old.profile inside) count) from.old) (left from.new) }
     ensures passed { OnOk result (MovesOn from.old from.new) }
     ensures unchanged { OnErr result (from.new ≡ from.old) }
 {
@@ -88,7 +90,8 @@ fn take_each<W: Wire>(
     count: usize,
     from: &mut WordReader,
 ) -> Result<Row<W>, ReadFault>
-    ensures taken { TakesIfMemory (λ x. x) result (here (λ inside. items_at (W.reading from.old.profile inside) count) from.old) (left from.new) }
+    ensures taken { TakesIfMemory (λ x. x) result (here
+        (λ inside. items_at (W.reading from.old.profile inside) count) from.old) (left from.new) }
     ensures passed { MovesOn from.old from.new }
 {
     let mut items = Row::new(alloc);

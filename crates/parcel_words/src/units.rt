@@ -20,7 +20,8 @@ pub fn text_of(
     block: &[u8],
 ) -> Result<Option<String>, OutOfMemory>
     requires { 2 * count + 2 ≤ length block.now }
-    ensures { IfOk result (λ text. option_map (λ x. chars (string_bytes x)) text ≡ text_of profile count block.now) }
+    ensures { IfOk result (λ text. option_map (λ x. chars (string_bytes x)) text
+        ≡ text_of profile count block.now) }
 {
     let (bytes, tail) = block.split_at(2 * count);
     let units = units_of(alloc, bytes)?;

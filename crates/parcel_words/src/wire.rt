@@ -42,7 +42,8 @@ pub trait Wire: Sized + Drop {
 
     /// Takes a value. It refuses exactly by the rules of its type.
     fn take(alloc: Global, from: &mut WordReader) -> Result<Self, ReadFault>
-        ensures taken { TakesIfMemory (λ x. x) result (here (reading from.old.profile) from.old) (left from.new) }
+        ensures taken { TakesIfMemory (λ x. x) result
+            (here (reading from.old.profile) from.old) (left from.new) }
         ensures passed { OnOk result (MovesOn from.old from.new) }
         ensures unchanged { OnErr result (from.new ≡ from.old) };
 

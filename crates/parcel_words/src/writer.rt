@@ -73,7 +73,8 @@ impl WordWriter {
     pub fn text(&mut self, text: Option<&str>)
         requires few { length (units (scalars text)) ≤ 2147483647 }
         requires room { length (spell_nullable_text (nullable_scalars text)) ≤ self.old.room }
-        ensures { self.new ≡ with_bytes self.old (spell_nullable_text (nullable_scalars text.entry)) }
+        ensures { self.new
+            ≡ with_bytes self.old (spell_nullable_text (nullable_scalars text.entry)) }
     {
         match text {
             None => self.word(-1),

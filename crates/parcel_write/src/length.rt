@@ -17,7 +17,8 @@ use parcel_words::Wire;
 /// memory.
 pub fn spelled_length(plans: &Plans, id: PlanId, value: &Value) -> usize
     requires { FitsSome plans.now id (view value.now) }
-    ensures { OfEachFit plans.now id (view value.now) (λ S t. result ≡ min (length (spell S t (view value.now))) usize.MAX) }
+    ensures { OfEachFit plans.now id (view value.now) (λ S t. result
+        ≡ min (length (spell S t (view value.now))) usize.MAX) }
 {
     length_of(plans, id, value)
 }
@@ -74,7 +75,8 @@ pub(crate) fn padded(len: usize) -> usize
 #[cycle(length)]
 fn items_length(plans: &Plans, element: PlanId, items: &[Value]) -> usize
     requires { EachSuits plans.now element (views items.now) }
-    ensures { result ≡ min (length (plan_spell_items plans.now element (views items.now))) usize.MAX }
+    ensures { result ≡ min
+        (length (plan_spell_items plans.now element (views items.now))) usize.MAX }
 {
     let mut len: usize = 0;
     for item in items {
@@ -98,7 +100,8 @@ fn record_length(plans: &Plans, id: PlanId, values: &FieldValues<'_>) -> usize
 #[tactic(auto, using(crate::proofs::Typed::same_count))]
 fn fields_length(plans: &Plans, fields: &[PlanField], values: &FieldValues<'_>) -> usize
     requires { EntriesSuit plans.now fields.now (views values.now) }
-    ensures { result ≡ min (length (plan_spell_entries plans.now fields.now (views values.now))) usize.MAX }
+    ensures { result ≡ min
+        (length (plan_spell_entries plans.now fields.now (views values.now))) usize.MAX }
 {
     let mut len: usize = 0;
     for i in 0..values.len() {

@@ -36,9 +36,11 @@ impl From<OutOfMemory> for WriteFault {
 pub fn write(alloc: Global, plans: &Plans, id: PlanId, value: &Value) -> Result<Vec<u8>, WriteFault>
     requires { FitsSome plans.now id (view value.now) }
     // What is written is the spelling.
-    ensures spelled { OfEachFit plans.now id (view value.now) (λ S t. IfOk result (λ bytes. bytes.items ≡ spell S t (view value.now))) }
+    ensures spelled { OfEachFit plans.now id (view value.now)
+        (λ S t. IfOk result (λ bytes. bytes.items ≡ spell S t (view value.now))) }
     // Too large are the spellings of more than 1,048,576 bytes, and no others.
-    ensures too_large { OfEachFit plans.now id (view value.now) (λ S t. IsErrOf result TooLarge ↔ 1048576 < length (spell S t (view value.now))) }
+    ensures too_large { OfEachFit plans.now id (view value.now) (λ S t. IsErrOf result TooLarge
+        ↔ 1048576 < length (spell S t (view value.now))) }
 {
     write_by_item(alloc, plans, id, value)
 }
@@ -51,8 +53,10 @@ fn write_by_item(
     value: &Value,
 ) -> Result<Vec<u8>, WriteFault>
     requires { Suits plans.now id (view value.now) }
-    ensures spelled { IfOk result (λ bytes. bytes.items ≡ plan_spell plans.now id (view value.now)) }
-    ensures too_large { IsErrOf result TooLarge ↔ 1048576 < length (plan_spell plans.now id (view value.now)) }
+    ensures spelled { IfOk result (λ bytes. bytes.items
+        ≡ plan_spell plans.now id (view value.now)) }
+    ensures too_large { IsErrOf result TooLarge
+        ↔ 1048576 < length (plan_spell plans.now id (view value.now)) }
 {
     let length = length_of(plans, id, value);
     if length > LimitName::ParcelBytes.number() as usize {

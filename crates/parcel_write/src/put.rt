@@ -19,7 +19,8 @@ use parcel_words::{Wire, WordWriter};
 /// Appends the bytes that spell a value of the type that the id stands for. It takes no memory.
 pub fn put_value(plans: &Plans, id: PlanId, value: &Value, to: &mut WordWriter)
     requires { FitsRoom plans.now id (view value.now) to.old.room }
-    ensures { OfEachFit plans.now id (view value.now) (λ S t. to.new ≡ with_bytes to.old (spell S t (view value.now))) }
+    ensures { OfEachFit plans.now id (view value.now) (λ S t. to.new
+        ≡ with_bytes to.old (spell S t (view value.now))) }
 {
     put(plans, id, value, to);
 }
@@ -122,8 +123,10 @@ fn put_record(plans: &Plans, id: PlanId, values: &FieldValues<'_>, to: &mut Word
 fn put_fields(plans: &Plans, fields: &[PlanField], values: &FieldValues<'_>, to: &mut WordWriter)
     requires suits { EntriesSuit plans.now fields.now (views values.now) }
     requires small { length (plan_spell_entries plans.now fields.now (views values.now)) < 2 ^ 31 }
-    requires room { length (plan_spell_entries plans.now fields.now (views values.now)) ≤ to.old.room }
-    ensures { to.new ≡ with_bytes to.old (plan_spell_entries plans.now fields.now (views values.now)) }
+    requires room { length (plan_spell_entries plans.now fields.now (views values.now))
+        ≤ to.old.room }
+    ensures { to.new
+        ≡ with_bytes to.old (plan_spell_entries plans.now fields.now (views values.now)) }
 {
     for i in 0..values.len() {
         put(plans, fields[i].item, values.get(i), to);

@@ -21,7 +21,8 @@ use parcel_words::{WordWriter, put_sequence, sequence_length};
 #[tactic(auto, using(crate::proofs::Packed::truths_spelled))]
 pub(crate) fn truths_length(_plans: &Plans, _id: PlanId, truths: &[bool]) -> usize
     requires { Suits _plans.now _id (seq (items_of (map truth truths.now))) }
-    ensures { result ≡ min (length (plan_spell _plans.now _id (seq (items_of (map truth truths.now))))) usize.MAX }
+    ensures { result ≡ min
+        (length (plan_spell _plans.now _id (seq (items_of (map truth truths.now))))) usize.MAX }
 {
     sequence_length(truths)
 }
@@ -30,16 +31,20 @@ pub(crate) fn truths_length(_plans: &Plans, _id: PlanId, truths: &[bool]) -> usi
 #[tactic(auto, using(crate::proofs::Packed::truths_spelled))]
 pub(crate) fn put_truths(_plans: &Plans, _id: PlanId, truths: &[bool], to: &mut WordWriter)
     requires suits { Suits _plans.now _id (seq (items_of (map truth truths.now))) }
-    requires small { length (plan_spell _plans.now _id (seq (items_of (map truth truths.now)))) < 2 ^ 31 }
-    requires room { length (plan_spell _plans.now _id (seq (items_of (map truth truths.now)))) ≤ to.old.room }
-    ensures { to.new ≡ with_bytes to.old (plan_spell _plans.now _id (seq (items_of (map truth truths.now)))) }
+    requires small { length
+        (plan_spell _plans.now _id (seq (items_of (map truth truths.now)))) < 2 ^ 31 }
+    requires room { length (plan_spell _plans.now _id (seq (items_of (map truth truths.now))))
+        ≤ to.old.room }
+    ensures { to.new
+        ≡ with_bytes to.old (plan_spell _plans.now _id (seq (items_of (map truth truths.now)))) }
 {
     put_sequence(truths, to);
 }
 
 /// The bytes of a sequence of numbers by its item.
 pub(crate) fn numbers_length(plans: &Plans, id: PlanId, numbers: &Numbers) -> usize
-    ensures { result ≡ min (length (plan_spell plans.now id (seq (items_of (map number numbers.now))))) usize.MAX }
+    ensures { result ≡ min
+        (length (plan_spell plans.now id (seq (items_of (map number numbers.now))))) usize.MAX }
 {
     let item = plans.item(id);
     if is_raw(item) {
@@ -53,9 +58,12 @@ pub(crate) fn numbers_length(plans: &Plans, id: PlanId, numbers: &Numbers) -> us
 /// Appends a sequence of numbers by its item.
 pub(crate) fn put_numbers(plans: &Plans, id: PlanId, numbers: &Numbers, to: &mut WordWriter)
     requires suits { Suits plans.now id (seq (items_of (map number numbers.now))) }
-    requires small { length (plan_spell plans.now id (seq (items_of (map number numbers.now)))) < 2 ^ 31 }
-    requires room { length (plan_spell plans.now id (seq (items_of (map number numbers.now)))) ≤ to.old.room }
-    ensures { to.new ≡ with_bytes to.old (plan_spell plans.now id (seq (items_of (map number numbers.now)))) }
+    requires small { length
+        (plan_spell plans.now id (seq (items_of (map number numbers.now)))) < 2 ^ 31 }
+    requires room { length (plan_spell plans.now id (seq (items_of (map number numbers.now))))
+        ≤ to.old.room }
+    ensures { to.new
+        ≡ with_bytes to.old (plan_spell plans.now id (seq (items_of (map number numbers.now)))) }
 {
     to.count(numbers.len());
     let item = plans.item(id);
@@ -70,8 +78,10 @@ pub(crate) fn put_numbers(plans: &Plans, id: PlanId, numbers: &Numbers, to: &mut
 #[tactic(auto, using(aidl_values::proofs::lemmas::Nexts::next_of_rest, parcel_words::proofs::lemmas::Appends::with_more, parcel_words::proofs::lemmas::Appends::with_none))]
 fn put_each(plans: &Plans, element: PlanId, numbers: &Numbers, to: &mut WordWriter)
     requires suits { EachSuits plans.now element (items_of (map number numbers.now)) }
-    requires room { length (plan_spell_items plans.now element (items_of (map number numbers.now))) ≤ to.old.room }
-    ensures { to.new ≡ with_bytes to.old (plan_spell_items plans.now element (items_of (map number numbers.now))) }
+    requires room { length (plan_spell_items plans.now element (items_of (map number numbers.now)))
+        ≤ to.old.room }
+    ensures { to.new ≡ with_bytes to.old
+        (plan_spell_items plans.now element (items_of (map number numbers.now))) }
 {
     let item = plans.item(element);
     for i in 0..numbers.len() {
@@ -97,8 +107,10 @@ fn put_raw(numbers: &Numbers, to: &mut WordWriter)
 
 /// Appends numbers that are kept as bytes, with their padding.
 fn put_kept(bytes: &[u8], to: &mut WordWriter)
-    requires { length (pad (raw_bytes (items_of (map number (map (λ b. cast_signed w8 b) bytes.now))))) ≤ to.old.room }
-    ensures { to.new ≡ with_bytes to.old (pad (raw_bytes (items_of (map number (map (λ b. cast_signed w8 b) bytes.now))))) }
+    requires { length (pad
+        (raw_bytes (items_of (map number (map (λ b. cast_signed w8 b) bytes.now))))) ≤ to.old.room }
+    ensures { to.new ≡ with_bytes to.old
+        (pad (raw_bytes (items_of (map number (map (λ b. cast_signed w8 b) bytes.now))))) }
 {
     to.raw(bytes);
 }

@@ -12,7 +12,8 @@ use aidl_base::OutOfMemory;
 
 // Moves the stack on by a terminal, where it goes on with it.
 pub fn step(stack: &mut Vec<Expected>, terminal: Terminal) -> Result<bool, OutOfMemory>
-    ensures { IfOk result (λ on. gone_on on stack.new.items ≡ moves.step (reverse stack.old.items) terminal) }
+    ensures { IfOk result (λ on. gone_on on stack.new.items
+        ≡ moves.step (reverse stack.old.items) terminal) }
 {
     while let Some(expected) = stack.pop() {
         if moved(stack, expected, terminal)? {
@@ -32,7 +33,8 @@ fn moved(
     expected: Expected,
     terminal: Terminal,
 ) -> Result<bool, OutOfMemory>
-    ensures { IfOk result (λ on. Went on (moves.moves expected terminal) stack.old.items stack.new.items) }
+    ensures { IfOk result (λ on. Went on
+        (moves.moves expected terminal) stack.old.items stack.new.items) }
 {
     match expected {
         Token(wanted) => Ok(wanted == terminal),
@@ -52,7 +54,8 @@ fn put(
     last: Option<Expected>,
     row: Option<&[Expected]>,
 ) -> Result<bool, OutOfMemory>
-    ensures { IfOk result (λ on. Went on (and_last (seen row.entry) last) stack.old.items stack.new.items) }
+    ensures { IfOk result (λ on. Went on
+        (and_last (seen row.entry) last) stack.old.items stack.new.items) }
 {
     match row {
         Some(list) => {
@@ -72,7 +75,8 @@ fn put_behind_comma(
     next: Expected,
     terminal: Terminal,
 ) -> Result<bool, OutOfMemory>
-    ensures { IfOk result (λ on. Went on (and_last (moves.behind_comma next terminal) last) stack.old.items stack.new.items) }
+    ensures { IfOk result (λ on. Went on
+        (and_last (moves.behind_comma next terminal) last) stack.old.items stack.new.items) }
 {
     if terminal == Terminal::Comma {
         put_last(stack, last)?;

@@ -16,24 +16,28 @@ use std::alloc::Global;
 /// them. No token limit is asked (own). It may also answer that memory was wanted.
 pub fn fault_place(alloc: Global, tokens: &[Token]) -> Result<Option<usize>, OutOfMemory>
     // None is answered only where a tree stands for the tokens, and a number only where it is the place.
-    ensures place { IfOk result (λ place. MatchOption place (HasTree tokens.now) (IsFaultPlace tokens.now)) }
+    ensures place { IfOk result (λ place. MatchOption place
+        (HasTree tokens.now) (IsFaultPlace tokens.now)) }
 
     // Where a tree stands, None is answered; and else the place, of which there is one.
     ensures only_tree { HasTree tokens.now → IfOk result (λ place. place ≡ None) }
-    ensures only_place { (k : ℕ) → (HasTree tokens.now → ⊥) → IsFaultPlace tokens.now k → IfOk result (λ place. place ≡ Some k) }
+    ensures only_place { (k : ℕ) → (HasTree tokens.now → ⊥)
+        → IsFaultPlace tokens.now k → IfOk result (λ place. place ≡ Some k) }
 {
     place(alloc, tokens)
 }
 
 /// A law of the definitions: whether tokens are viable, no offset of theirs decides.
 pub fn law_offsets(first: &[Token], second: &[Token])
-    ensures { map (λ t. t.kind) first.now ≡ map (λ t. t.kind) second.now → Viable first.now → Viable second.now }
+    ensures { map (λ t. t.kind) first.now ≡ map (λ t. t.kind) second.now
+        → Viable first.now → Viable second.now }
 {}
 
 /// A law of the definitions: a tree stands for tokens, or none does and they have the place of a fault; and no tokens have two
 /// places.
 pub fn law_one_place(tokens: &[Token])
-    ensures one { HasTree tokens.now ⊎ ((HasTree tokens.now → ⊥) × ((k : ℕ) × IsFaultPlace tokens.now k)) }
+    ensures one { HasTree tokens.now ⊎ ((HasTree tokens.now → ⊥)
+        × ((k : ℕ) × IsFaultPlace tokens.now k)) }
     ensures only { (j k : ℕ) → IsFaultPlace tokens.now j → IsFaultPlace tokens.now k → j ≡ k }
 {}
 

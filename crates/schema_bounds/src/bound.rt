@@ -26,7 +26,8 @@ pub enum Bound {
 /// that are found first are right, as both always were so far. That they are isn't proved, and the answer doesn't rest on it.
 pub fn bounds(alloc: Global, decls: &[Decl]) -> Result<Vec<Bound>, OutOfMemory>
     requires { length decls.now ≤ 16384 }
-    ensures { IfOk result (λ bounds. bounds.items ≡ map (meant.bound decls.now) (range_with_len 0 (length decls.now))) }
+    ensures { IfOk result (λ bounds. bounds.items
+        ≡ map (meant.bound decls.now) (range_with_len 0 (length decls.now))) }
 {
     let reach = reach_of(alloc, decls)?;
     let small = small_defaults(alloc, decls)?;

@@ -24,7 +24,8 @@ pub fn const_size(measure: Measure, top: usize, constant: &Const) -> usize
 #[cycle(const_size)]
 fn members_size(measure: Measure, top: usize, members: &[Const]) -> usize
     requires { top < 2 ^ 64 - 1 }
-    ensures { result ≡ min top (measures.total measure (map (measures.const_size measure) members.now)) }
+    ensures { result ≡ min top
+        (measures.total measure (map (measures.const_size measure) members.now)) }
 {
     let mut size = 0;
     for member in members {

@@ -11,7 +11,8 @@ use std::alloc::Global;
 
 /// What each declaration contains, by their numbers.
 pub fn containment(alloc: Global, decls: &[Decl]) -> Result<Vec<Row<u32>>, OutOfMemory>
-    ensures { IfOk result (λ rows. rows.items ≡ map (λ d. containment.contained_by_decl decls.now (Some d)) decls.now) }
+    ensures { IfOk result (λ rows. rows.items
+        ≡ map (λ d. containment.contained_by_decl decls.now (Some d)) decls.now) }
 {
     let mut rows = Vec::with_capacity(alloc, decls.len())?;
     for decl in decls {

@@ -22,7 +22,8 @@ pub fn kind_size(measure: Measure, sizes: &[usize], kind: &Kind) -> usize
 
 // The size of fields beside each other, counted up to one less.
 fn fields_size(measure: Measure, sizes: &[usize], fields: &[Field]) -> usize
-    ensures { result ≡ min (measures.most measure - 1) (measures.total measure (map (λ f. measures.start_size measure sizes.now f) fields.now)) }
+    ensures { result ≡ min (measures.most measure - 1)
+        (measures.total measure (map (λ f. measures.start_size measure sizes.now f) fields.now)) }
 {
     let top = measure.most() - 1;
     let mut size = 0;
@@ -35,7 +36,8 @@ fn fields_size(measure: Measure, sizes: &[usize], fields: &[Field]) -> usize
 // The size of a union's default, which has the first field.
 #[tactic(auto, using(crate::proofs::Totals::one_above))]
 fn first_size(measure: Measure, sizes: &[usize], fields: &[Field]) -> usize
-    ensures { result ≡ min (measures.most measure) (measures.first_size measure sizes.now fields.now) }
+    ensures { result ≡ min (measures.most measure)
+        (measures.first_size measure sizes.now fields.now) }
 {
     match fields {
         [] => 1,
@@ -45,7 +47,8 @@ fn first_size(measure: Measure, sizes: &[usize], fields: &[Field]) -> usize
 
 // The size of what a field starts with, counted up to where counting stops.
 fn start_size(measure: Measure, sizes: &[usize], field: &Field) -> usize
-    ensures { result ≡ min (measures.most measure) (measures.start_size measure sizes.now field.now) }
+    ensures { result ≡ min (measures.most measure)
+        (measures.start_size measure sizes.now field.now) }
 {
     match &field.initial {
         Some(constant) => const_size(measure, measure.most(), constant),

@@ -21,8 +21,10 @@ pub struct Reach {
 /// What the declarations reach by containment.
 pub fn reach_of(alloc: Global, decls: &[Decl]) -> Result<Reach, OutOfMemory>
     requires { length decls.now ≤ 16384 }
-    ensures holds { IfOk result (λ reach. (n : ℕ) → flag reach.holds.items n ≡ holds_itself decls.now n) }
-    ensures reaches { IfOk result (λ reach. (n : ℕ) → n < length decls.now → flag reach.reaches.items n ≡ reaches_cycle decls.now n) }
+    ensures holds { IfOk result (λ reach. (n : ℕ)
+        → flag reach.holds.items n ≡ holds_itself decls.now n) }
+    ensures reaches { IfOk result (λ reach. (n : ℕ)
+        → n < length decls.now → flag reach.reaches.items n ≡ reaches_cycle decls.now n) }
 {
     let edges = containment(alloc, decls)?;
     let found = find_cycles(alloc, &edges)?;

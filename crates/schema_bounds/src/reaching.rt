@@ -15,7 +15,8 @@ pub fn reaching(alloc: Global, edges: &[Row<u32>], on: &[bool]) -> Result<Vec<bo
     requires few { length edges.now ≤ 16384 }
     requires inside { hubs.LeadInside edges.now }
     requires exact { TellsCycles (targets edges.now) on.now }
-    ensures { IfOk result (λ reach. (n : ℕ) → n < length edges.now → IsTrue (flag reach.items n) ↔ hubs.LeadsToCycle (targets edges.now) n) }
+    ensures { IfOk result (λ reach. (n : ℕ) → n < length edges.now
+        → IsTrue (flag reach.items n) ↔ hubs.LeadsToCycle (targets edges.now) n) }
 {
     let rows = with_hub(alloc, edges, on)?;
     let found = find_cycles(alloc, &rows)?;

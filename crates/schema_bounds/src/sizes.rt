@@ -17,7 +17,8 @@ pub fn sizes(
     decls: &[Decl],
     order: &Order,
 ) -> Result<Vec<usize>, OutOfMemory>
-    ensures { IfOk result (λ sizes. measures.AreRight measure decls.now sizes.items (measures.most measure)) }
+    ensures { IfOk result (λ sizes. measures.AreRight measure decls.now sizes.items
+        (measures.most measure)) }
 {
     let mut sizes = sizes_in_order(alloc, measure, decls, order)?;
     for count in 0..measure.most() {
@@ -37,7 +38,8 @@ fn counted(
     decls: &[Decl],
     sizes: &[usize],
 ) -> Result<Vec<usize>, OutOfMemory>
-    ensures { IfOk result (λ next. next.items ≡ map (λ d. min (measures.most measure) (measures.kind_size measure sizes.now d.kind)) decls.now) }
+    ensures { IfOk result (λ next. next.items ≡ map (λ d. min
+        (measures.most measure) (measures.kind_size measure sizes.now d.kind)) decls.now) }
 {
     let mut next = Vec::with_capacity(alloc, decls.len())?;
     for decl in decls {

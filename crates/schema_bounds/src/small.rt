@@ -14,7 +14,8 @@ use std::alloc::Global;
 
 /// Which declarations have a default of at most 32 levels and 512 nodes.
 pub fn small_defaults(alloc: Global, decls: &[Decl]) -> Result<Vec<bool>, OutOfMemory>
-    ensures { IfOk result (λ small. small.items ≡ map (λ n. has_small_default decls.now (one_of n)) (range_with_len 0 (length decls.now))) }
+    ensures { IfOk result (λ small. small.items
+        ≡ map (λ n. has_small_default decls.now (one_of n)) (range_with_len 0 (length decls.now))) }
 {
     let order = default_order(alloc, decls)?;
     let depths = sizes(alloc, Measure::Depth, decls, &order)?;

@@ -29,7 +29,11 @@ pub fn answer_unread(
     interface: u32,
     method: u32,
 ) -> Result<Answered, OutOfMemory>
-    ensures { IfOk result (λ answered. answered ≡ record { transport = pos 0; saw = None; reply = sent_reply schema.now.decls interface method unread }) }
+    ensures { IfOk result (λ answered. answered ≡ record {
+      transport = pos 0;
+      saw = None;
+      reply = sent_reply schema.now.decls interface method unread;
+    }) }
 {
     let reply = unread_reply(alloc, schema, interface, method)?;
     Ok(Answered {
@@ -46,10 +50,12 @@ pub fn answer_call<F: Fn(u32, &[Value]) -> Result<Answer, OutOfMemory>>(
     handler: &F,
     saw: Row<Value>,
 ) -> Result<Answered, OutOfMemory>
-    requires typed { AreArguments callee.now.decls callee.now.interface callee.now.method (views saw) }
+    requires typed { AreArguments callee.now.decls callee.now.interface callee.now.method
+        (views saw) }
     requires callable { MayBeCalled callee.now.decls callee.now.interface (F.pre handler.now) }
     requires fits { AnswersFit callee.now.decls callee.now.interface (F.post handler.now) }
-    ensures { IfOk result (λ answered. AnswersCall (F.post handler.now) callee.now.decls callee.now.interface answered callee.now.method saw) }
+    ensures { IfOk result (λ answered. AnswersCall
+        (F.post handler.now) callee.now.decls callee.now.interface answered callee.now.method saw) }
 {
     let method = callee.method();
     let answer = handler(method, saw.as_slice())?;

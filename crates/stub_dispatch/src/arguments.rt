@@ -22,7 +22,8 @@ pub fn arguments_front<'a>(
     saw: &mut Vec<Value>,
 ) -> Result<&'a [u8], ReadFault>
     requires { sum ≤ 65536 }
-    ensures { Continues (views saw.old.items) (views saw.new.items) result (arguments_at profile args.now.decls sum args.now.args bytes.now) }
+    ensures { Continues (views saw.old.items) (views saw.new.items) result
+        (arguments_at profile args.now.decls sum args.now.args bytes.now) }
 {
     match args.first() {
         None => Ok(bytes),

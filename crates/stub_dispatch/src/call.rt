@@ -22,8 +22,10 @@ pub fn method_of(schema: &Schema, interface: u32, method: u32) -> &Method
 pub fn law_planned(schema: &Schema, plans: &Plans, interface: u32, method: u32)
     requires plans { ArePlansOf plans.now schema.now.decls }
     requires there { method < length (methods_at schema.now.decls interface) }
-    ensures arguments { ArePlanned plans.now schema.now.decls interface method 0 (arguments schema.now.decls interface method) }
-    ensures result { IsResultPlanned plans.now schema.now.decls interface method (result_type schema.now.decls interface method) }
+    ensures arguments { ArePlanned plans.now schema.now.decls interface method 0
+        (arguments schema.now.decls interface method) }
+    ensures result { IsResultPlanned plans.now schema.now.decls interface method
+        (result_type schema.now.decls interface method) }
 {
     law_valid(schema);
 }

@@ -33,7 +33,11 @@ impl<'a> Model for Callee<'a> {
 
     ghost coded = { method_code decl.the_row.coded };
 
-    ghost view = { λ callee. record { decls = callee.schema.now.decls; interface = callee.interface; method = callee.method } };
+    ghost view = { λ callee. record {
+      decls = callee.schema.now.decls;
+      interface = callee.interface;
+      method = callee.method;
+    } };
 
     ghost invariant = { λ callee. record {
       plans : ArePlansOf callee.plans.now callee.schema.now.decls;
@@ -86,7 +90,10 @@ impl<'a> Callee<'a> {
 
     /// Its arguments, with their plans. It takes no memory.
     pub(crate) fn arguments(&self) -> PlannedArguments<'a>
-        ensures { result ≡ record { decls = self.now.decls; args = arguments self.now.decls self.now.interface self.now.method } }
+        ensures { result ≡ record {
+          decls = self.now.decls;
+          args = arguments self.now.decls self.now.interface self.now.method;
+        } }
     {
         law_planned(self.schema, self.plans, self.interface, self.method);
         let args = method_of(self.schema, self.interface, self.method)
@@ -97,7 +104,10 @@ impl<'a> Callee<'a> {
 
     /// The type of its result, with the plan of it, None of a void method. It takes no memory.
     pub(crate) fn result(&self) -> Option<PlannedType<'a>>
-        ensures { result ≡ option_map (λ ty. let of : TypeOf = record { decls = self.now.decls; ty = ty } in of) (result_type self.now.decls self.now.interface self.now.method) }
+        ensures { result ≡ option_map (λ ty. let of : TypeOf = record {
+          decls = self.now.decls;
+          ty = ty;
+        } in of) (result_type self.now.decls self.now.interface self.now.method) }
     {
         law_planned(self.schema, self.plans, self.interface, self.method);
         let ty = method_of(self.schema, self.interface, self.method).result;

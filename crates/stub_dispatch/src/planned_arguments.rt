@@ -71,7 +71,8 @@ impl<'a> Model for PlannedArguments<'a> {
 
     ghost view = { λ of. record { decls = of.schema.now.decls; args = of.args.now } };
 
-    ghost invariant = { λ of. ArePlanned of.plans.now of.schema.now.decls of.interface of.method of.first of.args.now };
+    ghost invariant = { λ of. ArePlanned of.plans.now
+        of.schema.now.decls of.interface of.method of.first of.args.now };
 }
 
 impl<'a> PlannedArguments<'a> {

@@ -61,7 +61,8 @@ impl<'a> PlannedType<'a> {
     /// The number of bytes that spell a value, or `usize::MAX` where they are more. It takes no memory.
     pub fn length(&self, value: &Value) -> usize
         requires { Fits self.now.decls self.now.ty (view value.now) }
-        ensures { result ≡ min (length (spell self.now.decls self.now.ty (view value.now))) usize.MAX }
+        ensures { result ≡ min
+            (length (spell self.now.decls self.now.ty (view value.now))) usize.MAX }
     {
         spelled_length(self.plans, self.id, value)
     }
@@ -83,7 +84,8 @@ impl<'a> PlannedType<'a> {
         profile: Profile,
         bytes: &'b [u8],
     ) -> Result<(Value, &'b [u8]), ReadFault>
-        ensures { Fronts view result (read_of profile self.now.decls 64 self.now.ty false bytes.now) }
+        ensures { Fronts view result
+            (read_of profile self.now.decls 64 self.now.ty false bytes.now) }
     {
         let (value, used) = read(alloc, profile, self.plans, self.id, bytes)?;
         Ok((value, &bytes[used..]))

@@ -40,7 +40,8 @@ pub fn receive(
     code: u32,
     bytes: &[u8],
 ) -> Result<Receipt, OutOfMemory>
-    ensures { IfOk result (λ receipt. receipt_of receipt ≡ stub profile side.now interface code bytes.now) }
+    ensures { IfOk result (λ receipt. receipt_of receipt
+        ≡ stub profile side.now interface code bytes.now) }
 {
     match method_of_code(side.schema(), interface, code) {
         Some(method) => {
@@ -61,7 +62,8 @@ pub fn receive_call(
     bytes: &[u8],
 ) -> Result<Receipt, OutOfMemory>
     ensures { IfOk result (λ receipt. (code : ℕ)
-        → position_of_code (methods_at callee.now.decls callee.now.interface) code ≡ Some callee.now.method
+        → position_of_code (methods_at callee.now.decls callee.now.interface) code
+        ≡ Some callee.now.method
         → receipt_of receipt ≡ stub profile callee.now.decls callee.now.interface code bytes.now) }
 {
     receive_request(alloc, profile, callee, bytes)
@@ -91,7 +93,8 @@ fn receive_arguments(
     callee: &Callee<'_>,
     bytes: &[u8],
 ) -> Result<Receipt, OutOfMemory>
-    ensures { IfOk result (λ receipt. receipt_of receipt ≡ arguments_received profile callee.now.decls callee.now.interface callee.now.method bytes.now) }
+    ensures { IfOk result (λ receipt. receipt_of receipt ≡ arguments_received
+        profile callee.now.decls callee.now.interface callee.now.method bytes.now) }
 {
     let method = callee.method();
     let args = callee.arguments();

@@ -44,7 +44,8 @@ pub fn reply(
 ) -> Result<Got, OutOfMemory>
     requires two_way { is_oneway callee.now.decls callee.now.interface callee.now.method ≡ false }
     // An answer is what the client reads, and a failure has the status with which reading stops.
-    ensures { IfOk result (λ got. got_of got ≡ client profile callee.now.decls callee.now.interface callee.now.method bytes.now) }
+    ensures { IfOk result (λ got. got_of got
+        ≡ client profile callee.now.decls callee.now.interface callee.now.method bytes.now) }
 {
     read_answer(alloc, profile, callee, bytes)
 }
@@ -57,7 +58,8 @@ pub fn read_answer(
     callee: &Callee<'_>,
     bytes: &[u8],
 ) -> Result<Got, OutOfMemory>
-    ensures { IfOk result (λ got. got_of got ≡ client profile callee.now.decls callee.now.interface callee.now.method bytes.now) }
+    ensures { IfOk result (λ got. got_of got
+        ≡ client profile callee.now.decls callee.now.interface callee.now.method bytes.now) }
 {
     match answer_in(alloc, profile, callee, bytes) {
         Ok(Answer::Returned { result, outs }) => Ok(Got::Returned { result, outs }),
@@ -87,7 +89,8 @@ fn answer_in(
     callee: &Callee<'_>,
     bytes: &[u8],
 ) -> Result<Answer, ReadFault>
-    ensures { IsAnswer result (client profile callee.now.decls callee.now.interface callee.now.method bytes.now) }
+    ensures { IsAnswer result
+        (client profile callee.now.decls callee.now.interface callee.now.method bytes.now) }
 {
     let (status, rest) = word_front(bytes)?;
     let (answer, rest) = status_front(alloc, profile, callee, status, rest)?;
@@ -106,7 +109,8 @@ fn status_front<'a>(
     status: i32,
     bytes: &'a [u8],
 ) -> Result<(Answer, &'a [u8]), ReadFault>
-    ensures { Fronts answer_of result (status_at profile callee.now.decls (result_type callee.now.decls callee.now.interface callee.now.method)
+    ensures { Fronts answer_of result (status_at profile callee.now.decls
+        (result_type callee.now.decls callee.now.interface callee.now.method)
         (out_types callee.now.decls callee.now.interface callee.now.method) status bytes.now) }
 {
     if status == 0 {
@@ -168,7 +172,8 @@ fn returned_front<'a>(
     callee: &Callee<'_>,
     bytes: &'a [u8],
 ) -> Result<(Answer, &'a [u8]), ReadFault>
-    ensures { Fronts answer_of result (returned_at profile callee.now.decls (result_type callee.now.decls callee.now.interface callee.now.method)
+    ensures { Fronts answer_of result (returned_at profile callee.now.decls
+        (result_type callee.now.decls callee.now.interface callee.now.method)
         (out_types callee.now.decls callee.now.interface callee.now.method) bytes.now) }
 {
     let (result, rest) = result_front(alloc, profile, callee, bytes)?;
@@ -185,7 +190,8 @@ fn result_front<'a>(
     callee: &Callee<'_>,
     bytes: &'a [u8],
 ) -> Result<(Option<Value>, &'a [u8]), ReadFault>
-    ensures { Fronts optional_view result (result_at profile callee.now.decls (result_type callee.now.decls callee.now.interface callee.now.method) bytes.now) }
+    ensures { Fronts optional_view result (result_at profile callee.now.decls
+        (result_type callee.now.decls callee.now.interface callee.now.method) bytes.now) }
 {
     match callee.result() {
         Some(ty) => {
@@ -204,7 +210,8 @@ fn outs_front<'a>(
     bytes: &'a [u8],
     outs: &mut Vec<Value>,
 ) -> Result<&'a [u8], ReadFault>
-    ensures { Continues (views outs.old.items) (views outs.new.items) result (values_at profile args.now.decls (outs_of args.now.args) bytes.now) }
+    ensures { Continues (views outs.old.items) (views outs.new.items) result
+        (values_at profile args.now.decls (outs_of args.now.args) bytes.now) }
 {
     match args.first() {
         None => Ok(bytes),

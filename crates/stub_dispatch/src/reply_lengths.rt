@@ -15,8 +15,10 @@ use parcel_words::Wire;
 
 /// The number of bytes of a reply, or `usize::MAX` where they are more. It takes no memory.
 pub fn reply_length(callee: &Callee<'_>, answer: &Answer) -> usize
-    requires { IsAnswer callee.now.decls callee.now.interface callee.now.method (answer_of answer.now) }
-    ensures { result ≡ min (length (reply callee.now.decls callee.now.interface callee.now.method (answer_of answer.now))) usize.MAX }
+    requires { IsAnswer callee.now.decls callee.now.interface callee.now.method
+        (answer_of answer.now) }
+    ensures { result ≡ min (length (reply callee.now.decls callee.now.interface callee.now.method
+        (answer_of answer.now))) usize.MAX }
 {
     match answer {
         Answer::Returned { result, outs } => returned_length(callee, result, outs.as_slice()),
@@ -31,9 +33,12 @@ pub fn reply_length(callee: &Callee<'_>, answer: &Answer) -> usize
 /// The same of a result and outs.
 #[tactic(auto, using(crate::proofs::lemmas::Parts::returned_count))]
 pub fn returned_length(callee: &Callee<'_>, value: &Option<Value>, outs: &[Value]) -> usize
-    requires value { ResultFits callee.now.decls (result_type callee.now.decls callee.now.interface callee.now.method) (optional_view value.now) }
-    requires outs { EachFits callee.now.decls (out_types callee.now.decls callee.now.interface callee.now.method) (views outs.now) }
-    ensures { result ≡ min (length (reply callee.now.decls callee.now.interface callee.now.method (returned (optional_view value.now) (views outs.now)))) usize.MAX }
+    requires value { ResultFits callee.now.decls (result_type
+        callee.now.decls callee.now.interface callee.now.method) (optional_view value.now) }
+    requires outs { EachFits callee.now.decls
+        (out_types callee.now.decls callee.now.interface callee.now.method) (views outs.now) }
+    ensures { result ≡ min (length (reply callee.now.decls callee.now.interface callee.now.method
+        (returned (optional_view value.now) (views outs.now)))) usize.MAX }
 {
     let rest = outs_length(&callee.arguments(), outs);
     result_length(callee, value)
@@ -43,8 +48,10 @@ pub fn returned_length(callee: &Callee<'_>, value: &Option<Value>, outs: &[Value
 
 // The number of bytes of a result, or `usize::MAX` where they are more; 0 of a void method. It takes no memory.
 fn result_length(callee: &Callee<'_>, value: &Option<Value>) -> usize
-    requires { ResultFits callee.now.decls (result_type callee.now.decls callee.now.interface callee.now.method) (optional_view value.now) }
-    ensures { result ≡ min (length (spell_result callee.now.decls (result_type callee.now.decls callee.now.interface callee.now.method) (optional_view value.now))) usize.MAX }
+    requires { ResultFits callee.now.decls (result_type
+        callee.now.decls callee.now.interface callee.now.method) (optional_view value.now) }
+    ensures { result ≡ min (length (spell_result callee.now.decls (result_type callee.now.decls
+        callee.now.interface callee.now.method) (optional_view value.now))) usize.MAX }
 {
     match value {
         Some(value) => match callee.result() {
@@ -60,7 +67,8 @@ fn result_length(callee: &Callee<'_>, value: &Option<Value>) -> usize
 #[tactic(auto, using(crate::proofs::lemmas::Parts::each_count))]
 fn outs_length(args: &PlannedArguments<'_>, values: &[Value]) -> usize
     requires { EachFits args.now.decls (outs_of args.now.args) (views values.now) }
-    ensures { result ≡ min (length (spell_each args.now.decls (outs_of args.now.args) (views values.now))) usize.MAX }
+    ensures { result ≡ min
+        (length (spell_each args.now.decls (outs_of args.now.args) (views values.now))) usize.MAX }
 {
     match args.first() {
         None => 0,

@@ -12,8 +12,10 @@ use aidl_values::Value;
 
 /// The number of bytes of a request, or `usize::MAX` where they are more. It takes no memory.
 pub fn request_length(callee: &Callee<'_>, args: &[Value]) -> usize
-    requires { ArgumentsFit callee.now.decls (arguments callee.now.decls callee.now.interface callee.now.method) (views args.now) }
-    ensures { result ≡ min (length (request callee.now.decls callee.now.interface callee.now.method (views args.now))) usize.MAX }
+    requires { ArgumentsFit callee.now.decls
+        (arguments callee.now.decls callee.now.interface callee.now.method) (views args.now) }
+    ensures { result ≡ min (length (request callee.now.decls callee.now.interface callee.now.method
+        (views args.now))) usize.MAX }
 {
     let parts = parts_length(&callee.arguments(), args);
     token_length(callee.schema(), callee.interface()).saturating_add(parts)
@@ -23,7 +25,8 @@ pub fn request_length(callee: &Callee<'_>, args: &[Value]) -> usize
 #[tactic(auto, using(crate::proofs::lemmas::Parts::parts_count))]
 fn parts_length(args: &PlannedArguments<'_>, values: &[Value]) -> usize
     requires { ArgumentsFit args.now.decls args.now.args (views values.now) }
-    ensures { result ≡ min (length (argument_parts args.now.decls args.now.args (views values.now))) usize.MAX }
+    ensures { result ≡ min
+        (length (argument_parts args.now.decls args.now.args (views values.now))) usize.MAX }
 {
     match args.first() {
         None => 0,
@@ -40,7 +43,8 @@ fn parts_length(args: &PlannedArguments<'_>, values: &[Value]) -> usize
 // Of an argument's part: its spelling, the length of an `out` array, or nothing.
 fn part_length(of: &PlannedArgument<'_>, value: &Value) -> usize
     requires { ArgumentFits of.now.decls of.now.arg (view value.now) }
-    ensures { result ≡ min (length (argument_part of.now.decls of.now.arg (view value.now))) usize.MAX }
+    ensures { result ≡ min
+        (length (argument_part of.now.decls of.now.arg (view value.now))) usize.MAX }
 {
     let arg = of.declared();
     match arg.way {

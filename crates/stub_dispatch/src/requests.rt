@@ -21,9 +21,11 @@ use std::alloc::Global;
 pub fn request(alloc: Global, callee: &Callee<'_>, args: &[Value]) -> Result<Vec<u8>, WriteFault>
     requires { ArgsFit callee.now.decls callee.now.interface callee.now.method (views args.now) }
     // What is written is the request.
-    ensures sent { IfOk result (λ bytes. bytes.items ≡ request callee.now.decls callee.now.interface callee.now.method (views args.now)) }
+    ensures sent { IfOk result (λ bytes. bytes.items
+        ≡ request callee.now.decls callee.now.interface callee.now.method (views args.now)) }
     // Too large are requests of more than 1,048,576 bytes, and no others.
-    ensures too_large { IsErrOf result TooLarge ↔ 1048576 < length (request callee.now.decls callee.now.interface callee.now.method (views args.now)) }
+    ensures too_large { IsErrOf result TooLarge ↔ 1048576 < length
+        (request callee.now.decls callee.now.interface callee.now.method (views args.now)) }
 {
     let length = request_length(callee, args);
     if length > LimitName::ParcelBytes.number() as usize {
@@ -41,9 +43,12 @@ pub fn request(alloc: Global, callee: &Callee<'_>, args: &[Value]) -> Result<Vec
 fn put_parts(args: &PlannedArguments<'_>, values: &[Value], to: &mut WordWriter)
     requires fit { ArgumentsFit args.now.decls args.now.args (views values.now) }
     requires few { sum_of_lengths args.now.args (views values.now) ≤ 65536 }
-    requires small { length (argument_parts args.now.decls args.now.args (views values.now)) < 2 ^ 31 }
-    requires room { length (argument_parts args.now.decls args.now.args (views values.now)) ≤ to.old.room }
-    ensures { to.new ≡ with_bytes to.old (argument_parts args.now.decls args.now.args (views values.now)) }
+    requires small { length
+        (argument_parts args.now.decls args.now.args (views values.now)) < 2 ^ 31 }
+    requires room { length (argument_parts args.now.decls args.now.args (views values.now))
+        ≤ to.old.room }
+    ensures { to.new
+        ≡ with_bytes to.old (argument_parts args.now.decls args.now.args (views values.now)) }
 {
     match args.first() {
         None => {}

@@ -25,8 +25,10 @@ pub fn answer_reply(
     callee: &Callee<'_>,
     answer: &Answer,
 ) -> Result<Option<Row<u8>>, OutOfMemory>
-    requires fits { AnswerFits callee.now.decls callee.now.interface callee.now.method (answer_of answer.now) }
-    ensures { IfOk result (λ reply. reply ≡ sent_reply callee.now.decls callee.now.interface callee.now.method (answer_of answer.now)) }
+    requires fits { AnswerFits callee.now.decls callee.now.interface callee.now.method
+        (answer_of answer.now) }
+    ensures { IfOk result (λ reply. reply ≡ sent_reply
+        callee.now.decls callee.now.interface callee.now.method (answer_of answer.now)) }
 {
     if is_oneway(callee.schema(), callee.interface(), callee.method()) {
         return Ok(None);
@@ -54,7 +56,8 @@ pub fn unread_reply(
 /// The bytes of the reply to a request with bytes left over: an exception, the same of every method that isn't oneway.
 #[tactic(auto, using(crate::proofs::Unread::unread_small))]
 pub fn unread_bytes(alloc: Global) -> Result<Vec<u8>, OutOfMemory>
-    ensures { IfOk result (λ bytes. bytes.items ≡ spell_exception (negsuc 1) (codes "unread argument bytes") (pos 0)) }
+    ensures { IfOk result (λ bytes. bytes.items
+        ≡ spell_exception (negsuc 1) (codes "unread argument bytes") (pos 0)) }
 {
     let message = unread_message(alloc)?;
     exception_bytes(alloc, BAD_PARCELABLE, &message, 0)
@@ -87,8 +90,10 @@ pub fn answer_bytes(
     callee: &Callee<'_>,
     answer: &Answer,
 ) -> Result<Vec<u8>, OutOfMemory>
-    requires fits { AnswerFits callee.now.decls callee.now.interface callee.now.method (answer_of answer.now) }
-    ensures { IfOk result (λ bytes. bytes.items ≡ reply callee.now.decls callee.now.interface callee.now.method (answer_of answer.now)) }
+    requires fits { AnswerFits callee.now.decls callee.now.interface callee.now.method
+        (answer_of answer.now) }
+    ensures { IfOk result (λ bytes. bytes.items
+        ≡ reply callee.now.decls callee.now.interface callee.now.method (answer_of answer.now)) }
 {
     match answer {
         Answer::Returned { result, outs } => returned_bytes(alloc, callee, result, outs.as_slice()),
@@ -108,10 +113,14 @@ fn returned_bytes(
     value: &Option<Value>,
     outs: &[Value],
 ) -> Result<Vec<u8>, OutOfMemory>
-    requires fits { ResultFits callee.now.decls (result_type callee.now.decls callee.now.interface callee.now.method) (optional_view value.now) }
-    requires each { EachFits callee.now.decls (out_types callee.now.decls callee.now.interface callee.now.method) (views outs.now) }
-    requires small { length (reply callee.now.decls callee.now.interface callee.now.method (returned (optional_view value.now) (views outs.now))) ≤ 1048576 }
-    ensures { IfOk result (λ bytes. bytes.items ≡ reply callee.now.decls callee.now.interface callee.now.method (returned (optional_view value.now) (views outs.now))) }
+    requires fits { ResultFits callee.now.decls (result_type
+        callee.now.decls callee.now.interface callee.now.method) (optional_view value.now) }
+    requires each { EachFits callee.now.decls
+        (out_types callee.now.decls callee.now.interface callee.now.method) (views outs.now) }
+    requires small { length (reply callee.now.decls callee.now.interface callee.now.method
+        (returned (optional_view value.now) (views outs.now))) ≤ 1048576 }
+    ensures { IfOk result (λ bytes. bytes.items ≡ reply callee.now.decls callee.now.interface
+        callee.now.method (returned (optional_view value.now) (views outs.now))) }
 {
     let length = returned_length(callee, value, outs);
     let mut to = WordWriter::with_room(alloc, length)?;
@@ -123,10 +132,14 @@ fn returned_bytes(
 
 // Appends a result, where there is one.
 fn put_result(callee: &Callee<'_>, value: &Option<Value>, to: &mut WordWriter)
-    requires fits { ResultFits callee.now.decls (result_type callee.now.decls callee.now.interface callee.now.method) (optional_view value.now) }
-    requires small { length (spell_result callee.now.decls (result_type callee.now.decls callee.now.interface callee.now.method) (optional_view value.now)) < 2 ^ 31 }
-    requires room { length (spell_result callee.now.decls (result_type callee.now.decls callee.now.interface callee.now.method) (optional_view value.now)) ≤ to.old.room }
-    ensures { to.new ≡ with_bytes to.old (spell_result callee.now.decls (result_type callee.now.decls callee.now.interface callee.now.method) (optional_view value.now)) }
+    requires fits { ResultFits callee.now.decls (result_type
+        callee.now.decls callee.now.interface callee.now.method) (optional_view value.now) }
+    requires small { length (spell_result callee.now.decls (result_type callee.now.decls
+        callee.now.interface callee.now.method) (optional_view value.now)) < 2 ^ 31 }
+    requires room { length (spell_result callee.now.decls (result_type callee.now.decls
+        callee.now.interface callee.now.method) (optional_view value.now)) ≤ to.old.room }
+    ensures { to.new ≡ with_bytes to.old (spell_result callee.now.decls (result_type
+        callee.now.decls callee.now.interface callee.now.method) (optional_view value.now)) }
 {
     match value {
         Some(value) => match callee.result() {
@@ -141,9 +154,12 @@ fn put_result(callee: &Callee<'_>, value: &Option<Value>, to: &mut WordWriter)
 #[tactic(auto, using(crate::proofs::lemmas::Parts::each_count, parcel_words::proofs::lemmas::Appends::with_more, parcel_words::proofs::lemmas::Appends::with_none))]
 fn put_outs(args: &PlannedArguments<'_>, values: &[Value], to: &mut WordWriter)
     requires fit { EachFits args.now.decls (outs_of args.now.args) (views values.now) }
-    requires small { length (spell_each args.now.decls (outs_of args.now.args) (views values.now)) < 2 ^ 31 }
-    requires room { length (spell_each args.now.decls (outs_of args.now.args) (views values.now)) ≤ to.old.room }
-    ensures { to.new ≡ with_bytes to.old (spell_each args.now.decls (outs_of args.now.args) (views values.now)) }
+    requires small { length
+        (spell_each args.now.decls (outs_of args.now.args) (views values.now)) < 2 ^ 31 }
+    requires room { length (spell_each args.now.decls (outs_of args.now.args) (views values.now))
+        ≤ to.old.room }
+    ensures { to.new
+        ≡ with_bytes to.old (spell_each args.now.decls (outs_of args.now.args) (views values.now)) }
 {
     match args.first() {
         None => {}

@@ -32,7 +32,12 @@ impl<'a, 'b, F> Model for Service<'a, 'b, F> {
 
     ghost coded = { seen_code decl.the_row.coded F.code };
 
-    ghost view = { λ s. record { decls = s.side.now; profile = s.profile; interface = s.interface; handler = s.handler } };
+    ghost view = { λ s. record {
+      decls = s.side.now;
+      profile = s.profile;
+      interface = s.interface;
+      handler = s.handler;
+    } };
 }
 
 impl<'a, 'b, F> Service<'a, 'b, F> {
@@ -44,7 +49,12 @@ impl<'a, 'b, F> Service<'a, 'b, F> {
         interface: u32,
         handler: F,
     ) -> Service<'a, 'b, F>
-        ensures { result ≡ record { decls = side.now; profile = profile; interface = interface; handler = handler } }
+        ensures { result ≡ record {
+          decls = side.now;
+          profile = profile;
+          interface = interface;
+          handler = handler;
+        } }
     {
         Service {
             side,
@@ -62,7 +72,8 @@ impl<'a, 'b, F: Fn(u32, &[Value]) -> Result<Answer, OutOfMemory>> Service<'a, 'b
         requires callable { MayBeCalled self.now.decls self.now.interface (F.pre self.now.handler) }
         requires fits { AnswersFit self.now.decls self.now.interface (F.post self.now.handler) }
         // A refusal has its status alone, bytes left over have their exception, and a call has the reply of an answer of the handler.
-        ensures { IfOk result (λ answered. Answers (F.post self.now.handler) self.now.decls self.now.interface answered
+        ensures { IfOk result (λ answered. Answers
+            (F.post self.now.handler) self.now.decls self.now.interface answered
             (stub self.now.profile self.now.decls self.now.interface code bytes.now)) }
     {
         let schema = self.side.schema();

@@ -15,7 +15,8 @@ pub fn end<K: Sink>(
     answered: Result<Result<Printed, Early>, StoreFault>,
     sink: &mut K,
 ) -> Exit
-    ensures { EndsRead answered (K.told sink.old) (K.told sink.new) (K.fault_record sink.old) (K.fault_record sink.new) (number_of result) }
+    ensures { EndsRead answered (K.told sink.old)
+        (K.told sink.new) (K.fault_record sink.old) (K.fault_record sink.new) (number_of result) }
 {
     match answered {
         Err(StoreFault::Failed) => Exit::StoreFailed,

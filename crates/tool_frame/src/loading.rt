@@ -20,11 +20,13 @@ pub fn load<S: Store>(
     path: &str,
     store: &mut S,
 ) -> Result<Option<Result<Vec<u8>, Limit>>, StoreFault>
-    ensures file { IfOk result (λ file. Tells (S.kept store.old) (λ files. loaded file ≡ file_at which files path.now)) }
+    ensures file { IfOk result (λ file. Tells (S.kept store.old) (λ files. loaded file
+        ≡ file_at which files path.now)) }
     ensures short { IfOk result (IsShort which) }
     ensures unchanged { S.kept store.new ≡ S.kept store.old }
     ensures cause { StoreCause (S.fault_record store.old) (S.fault_record store.new) result }
-    ensures failed { IfStoreFailed result (FailedIn (S.fault_record store.new) (AsksFile path.now (S.kept store.old))) }
+    ensures failed { IfStoreFailed result
+        (FailedIn (S.fault_record store.new) (AsksFile path.now (S.kept store.old))) }
 {
     match store.read(alloc, path, which.number() as usize) {
         Ok(file) => Ok(file_held(which, file)),

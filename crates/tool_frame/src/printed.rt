@@ -70,7 +70,8 @@ pub fn limit_passed(alloc: Global, limit: Limit) -> Early
 }
 
 fn limit_line(alloc: Global, name: &str, number: u32) -> Result<String, OutOfMemory>
-    ensures { IfOk result (λ text. string_bytes text ≡ line (codes "limit " ++ name.now ++ codes " " ++ decimal number)) }
+    ensures { IfOk result (λ text. string_bytes text
+        ≡ line (codes "limit " ++ name.now ++ codes " " ++ decimal number)) }
 {
     let mut text = String::new(alloc);
     writeln!(text, "limit {name} {number}")?;

@@ -12,7 +12,8 @@ use std::alloc::Global;
 
 /// Puts a text in one piece, and no empty one. Where that fails, the answer is the exit with which the run ends.
 pub fn put<K: Sink>(alloc: Global, text: &str, sink: &mut K) -> Result<(), Exit>
-    ensures { PutsText text.now (K.told sink.old) (K.told sink.new) (K.fault_record sink.old) (K.fault_record sink.new) result }
+    ensures { PutsText text.now (K.told sink.old)
+        (K.told sink.new) (K.fault_record sink.old) (K.fault_record sink.new) result }
 {
     if text.is_empty() {
         return Ok(());
@@ -26,7 +27,8 @@ pub fn put<K: Sink>(alloc: Global, text: &str, sink: &mut K) -> Result<(), Exit>
 
 /// Prints what a command answers, in one piece. The answer is the exit.
 pub fn print<K: Sink>(alloc: Global, answered: Result<Printed, Early>, sink: &mut K) -> Exit
-    ensures { PrintsGiven answered (K.told sink.old) (K.told sink.new) (K.fault_record sink.old) (K.fault_record sink.new) (number_of result) }
+    ensures { PrintsGiven answered (K.told sink.old)
+        (K.told sink.new) (K.fault_record sink.old) (K.fault_record sink.new) (number_of result) }
 {
     match answered {
         Ok(printed) => print_whole(alloc, &printed, sink),
@@ -38,7 +40,8 @@ pub fn print<K: Sink>(alloc: Global, answered: Result<Printed, Early>, sink: &mu
 // Prints an answer.
 #[tactic(auto, using(crate::proofs::Puts::prints_whole, crate::proofs::Puts::prints_front))]
 fn print_whole<K: Sink>(alloc: Global, answer: &Printed, sink: &mut K) -> Exit
-    ensures { Prints (printed answer.now) (K.told sink.old) (K.told sink.new) (K.fault_record sink.old) (K.fault_record sink.new) (number_of result) }
+    ensures { Prints (printed answer.now) (K.told sink.old)
+        (K.told sink.new) (K.fault_record sink.old) (K.fault_record sink.new) (number_of result) }
 {
     match put(alloc, answer.text.as_str(), sink) {
         Ok(()) => answer.verdict.exit(),

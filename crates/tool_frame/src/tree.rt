@@ -25,11 +25,13 @@ pub fn load_tree<S: Store>(
     root: &str,
     store: &mut S,
 ) -> Result<Result<Row<SourceFile>, Limit>, StoreFault>
-    ensures tree { IfOk result (λ tree. Tells (S.kept store.old) (λ files. tree_seen tree ≡ tree_at files root.now)) }
+    ensures tree { IfOk result (λ tree. Tells (S.kept store.old) (λ files. tree_seen tree
+        ≡ tree_at files root.now)) }
     ensures short { IfOk result (λ tree. IfOk tree AreShort) }
     ensures unchanged { S.kept store.new ≡ S.kept store.old }
     ensures cause { StoreCause (S.fault_record store.old) (S.fault_record store.new) result }
-    ensures failed { IfStoreFailed result (FailedIn (S.fault_record store.new) (AsksBelow root.now (S.kept store.old))) }
+    ensures failed { IfStoreFailed result
+        (FailedIn (S.fault_record store.new) (AsksBelow root.now (S.kept store.old))) }
 {
     let paths = source_paths(alloc, root, store)?;
     let which = LimitName::Files;
@@ -45,10 +47,12 @@ fn source_paths<S: Store>(
     root: &str,
     store: &mut S,
 ) -> Result<Vec<String>, StoreFault>
-    ensures paths { IfOk result (λ paths. Tells (S.kept store.old) (λ files. map string_bytes paths.items ≡ sources_below root.now files)) }
+    ensures paths { IfOk result (λ paths. Tells (S.kept store.old)
+        (λ files. map string_bytes paths.items ≡ sources_below root.now files)) }
     ensures unchanged { S.kept store.new ≡ S.kept store.old }
     ensures cause { StoreCause (S.fault_record store.old) (S.fault_record store.new) result }
-    ensures failed { IfStoreFailed result (FailedIn (S.fault_record store.new) (λ call. call ≡ lists root.now)) }
+    ensures failed { IfStoreFailed result (FailedIn (S.fault_record store.new) (λ call. call
+        ≡ lists root.now)) }
 {
     let paths = store.list(alloc, root)?;
     Ok(sources(paths))
@@ -76,11 +80,13 @@ fn load_files<S: Store>(
     paths: Vec<String>,
     store: &mut S,
 ) -> Result<Result<Row<SourceFile>, Limit>, StoreFault>
-    ensures tree { IfOk result (λ tree. Tells (S.kept store.old) (λ files. tree_seen tree ≡ files_at files root.now (map string_bytes paths.items))) }
+    ensures tree { IfOk result (λ tree. Tells (S.kept store.old) (λ files. tree_seen tree
+        ≡ files_at files root.now (map string_bytes paths.items))) }
     ensures short { IfOk result (λ tree. IfOk tree AreShort) }
     ensures unchanged { S.kept store.new ≡ S.kept store.old }
     ensures cause { StoreCause (S.fault_record store.old) (S.fault_record store.new) result }
-    ensures failed { IfStoreFailed result (FailedIn (S.fault_record store.new) (AsksThese root.now (map string_bytes paths.items))) }
+    ensures failed { IfStoreFailed result
+        (FailedIn (S.fault_record store.new) (AsksThese root.now (map string_bytes paths.items))) }
 {
     let mut files = Row::new(alloc);
     for path in paths {
@@ -99,11 +105,14 @@ fn load_next<S: Store>(
     files: &mut Row<SourceFile>,
     store: &mut S,
 ) -> Result<Result<(), Limit>, StoreFault>
-    ensures file { IfOk result (λ step. Tells (S.kept store.old) (λ kept. onto files.old (file_found (string_bytes path) (file_at FileBytes kept (path_below root.now (string_bytes path)))) ≡ so_far files.new step)) }
+    ensures file { IfOk result (λ step. Tells (S.kept store.old) (λ kept. onto files.old (file_found
+        (string_bytes path) (file_at FileBytes kept (path_below root.now (string_bytes path))))
+        ≡ so_far files.new step)) }
     ensures short { AreShort files.old → AreShort files.new }
     ensures unchanged { S.kept store.new ≡ S.kept store.old }
     ensures cause { StoreCause (S.fault_record store.old) (S.fault_record store.new) result }
-    ensures failed { IfStoreFailed result (FailedIn (S.fault_record store.new) (AsksFile (path_below root.now (string_bytes path)) (S.kept store.old))) }
+    ensures failed { IfStoreFailed result (FailedIn (S.fault_record store.new)
+        (AsksFile (path_below root.now (string_bytes path)) (S.kept store.old))) }
 {
     let file = load_below(alloc, root, path.as_str(), store)?;
     match push_loaded(files, path, file) {
@@ -119,11 +128,13 @@ fn load_below<S: Store>(
     path: &str,
     store: &mut S,
 ) -> Result<Option<Result<Vec<u8>, Limit>>, StoreFault>
-    ensures file { IfOk result (λ file. Tells (S.kept store.old) (λ files. loaded file ≡ file_at FileBytes files (path_below root.now path.now))) }
+    ensures file { IfOk result (λ file. Tells (S.kept store.old) (λ files. loaded file
+        ≡ file_at FileBytes files (path_below root.now path.now))) }
     ensures short { IfOk result (IsShort FileBytes) }
     ensures unchanged { S.kept store.new ≡ S.kept store.old }
     ensures cause { StoreCause (S.fault_record store.old) (S.fault_record store.new) result }
-    ensures failed { IfStoreFailed result (FailedIn (S.fault_record store.new) (AsksFile (path_below root.now path.now) (S.kept store.old))) }
+    ensures failed { IfStoreFailed result (FailedIn
+        (S.fault_record store.new) (AsksFile (path_below root.now path.now) (S.kept store.old))) }
 {
     match path_below(alloc, root, path) {
         Ok(whole) => load(alloc, LimitName::FileBytes, whole.as_str(), store),
@@ -137,7 +148,8 @@ fn push_loaded(
     path: String,
     file: Option<Result<Vec<u8>, Limit>>,
 ) -> Result<Result<(), Limit>, OutOfMemory>
-    ensures file { IfOk result (λ step. onto files.old (file_found (string_bytes path) (loaded file)) ≡ so_far files.new step) }
+    ensures file { IfOk result (λ step. onto files.old
+        (file_found (string_bytes path) (loaded file)) ≡ so_far files.new step) }
     ensures short { IsShort FileBytes file → AreShort files.old → AreShort files.new }
 {
     match file {

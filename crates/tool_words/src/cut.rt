@@ -7,7 +7,8 @@ ghost use Rattle.tool_words.specs.Cut.{cut_at, pieces_left};
 /// The first piece of a text, and what stands after its mark, where one stands.
 #[tactic(auto, using(crate::proofs::Cuts::cut_none))]
 pub fn first_piece(text: &[u8], mark: u8) -> (&[u8], Option<&[u8]>)
-    ensures pieces { cut_at mark text.now ≡ result.0.now ∷ pieces_left mark (option_map (λ others. others.now) result.1) }
+    ensures pieces { cut_at mark text.now
+        ≡ result.0.now ∷ pieces_left mark (option_map (λ others. others.now) result.1) }
     ensures shorter { IfSome result.1 (λ others. length others.now < length text.now) }
 {
     let len = first_len(text, mark);

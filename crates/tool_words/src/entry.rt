@@ -26,7 +26,8 @@ pub struct Entry<'a> {
 
 /// The first entry of TYPES, and what stands after its comma.
 pub fn first_entry(types: &str) -> (&str, Option<&str>)
-    ensures entries { entries_of types.now ≡ result.0.now ∷ pieces_left 44 (option_map (λ others. others.now) result.1) }
+    ensures entries { entries_of types.now
+        ≡ result.0.now ∷ pieces_left 44 (option_map (λ others. others.now) result.1) }
     ensures shorter { IfSome result.1 (λ others. length others.now < length types.now) }
 {
     match types.split_once(',') {

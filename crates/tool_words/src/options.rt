@@ -17,7 +17,8 @@ pub fn has_flag(words: &[String], flag: &str) -> bool
 
 /// The words after a flag, where it stands first, or else all.
 pub fn after_flag<'a>(words: &'a [String], flag: &str) -> &'a [String]
-    ensures { map string_bytes result.now ≡ option.after_flag flag.now (map string_bytes words.now) }
+    ensures { map string_bytes result.now
+        ≡ option.after_flag flag.now (map string_bytes words.now) }
 {
     match words {
         [word, rest @ ..] if word.as_str() == flag => rest,

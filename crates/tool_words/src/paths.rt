@@ -29,7 +29,8 @@ pub fn one_path(words: &[String]) -> Option<&str>
 
 /// The words where they are two paths.
 pub fn two_paths(words: &[String]) -> Option<(&str, &str)>
-    ensures { option_map {U = List ℕ × List ℕ} (λ p. (p.0.now, p.1.now)) result ≡ path.two_paths (map string_bytes words.now) }
+    ensures { option_map {U = List ℕ × List ℕ} (λ p. (p.0.now, p.1.now)) result
+        ≡ path.two_paths (map string_bytes words.now) }
 {
     match words {
         [first, second] if is_path(first.as_str()) && is_path(second.as_str()) => Some((
@@ -42,7 +43,8 @@ pub fn two_paths(words: &[String]) -> Option<(&str, &str)>
 
 /// The words where they are three paths.
 pub fn three_paths(words: &[String]) -> Option<(&str, &str, &str)>
-    ensures { option_map {U = List ℕ × List ℕ × List ℕ} (λ p. (p.0.now, p.1.now, p.2.now)) result ≡ path.three_paths (map string_bytes words.now) }
+    ensures { option_map {U = List ℕ × List ℕ × List ℕ} (λ p. (p.0.now, p.1.now, p.2.now)) result
+        ≡ path.three_paths (map string_bytes words.now) }
 {
     match words {
         [first, second, third] if are_paths(first.as_str(), second.as_str(), third.as_str()) =>

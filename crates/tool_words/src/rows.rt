@@ -191,7 +191,8 @@ fn ask_of<'a>(
     code: &str,
     file: &'a str,
 ) -> Option<Command<'a>>
-    ensures { option_map command_seen result ≡ table.ask_of api.now version.now interface.now code.now file.now }
+    ensures { option_map command_seen result
+        ≡ table.ask_of api.now version.now interface.now code.now file.now }
 {
     let version = number_within(1, 9999, version.as_bytes())?;
     let code = number_within(0, 4294967295, code.as_bytes())?;

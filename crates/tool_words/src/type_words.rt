@@ -11,7 +11,8 @@ use aidl_base::is_identifier;
 
 /// The words where they are TYPES and a path.
 pub fn types_and_file(words: &[String]) -> Option<(&str, &str)>
-    ensures { option_map {U = List ℕ × List ℕ} (λ p. (p.0.now, p.1.now)) result ≡ entries.types_and_file (map string_bytes words.now) }
+    ensures { option_map {U = List ℕ × List ℕ} (λ p. (p.0.now, p.1.now)) result
+        ≡ entries.types_and_file (map string_bytes words.now) }
 {
     match words {
         [types, file] if are_types(types.as_str()) && is_path(file.as_str()) => Some((

@@ -52,7 +52,8 @@ impl Found {
 
     // The next file has no tokens, because of this fault.
     fn add_fault(&mut self, number: u32, fault: LexFault) -> Result<(), OutOfMemory>
-        ensures { OnOk result ((file : SourceFile) → HasFault file.bytes fault → Extends number file self.old self.new) }
+        ensures { OnOk result ((file : SourceFile)
+            → HasFault file.bytes fault → Extends number file self.old self.new) }
     {
         match fault {
             LexFault::OutOfMemory => Err(OutOfMemory),
@@ -100,8 +101,10 @@ impl Found {
 
     /// The files parsed, or the first refusal. It takes no memory.
     pub fn answer(self) -> Result<Row<ParsedFile>, FilesFault>
-        ensures ok { IfOk result (λ parsed. (files : List SourceFile) → oversized files ≡ None → Stands files self → AreParsed files parsed) }
-        ensures err { IfErr result (λ e. (files : List SourceFile) → oversized files ≡ None → Stands files self → IsRefusal files e) }
+        ensures ok { IfOk result (λ parsed. (files : List SourceFile)
+            → oversized files ≡ None → Stands files self → AreParsed files parsed) }
+        ensures err { IfErr result (λ e. (files : List SourceFile)
+            → oversized files ≡ None → Stands files self → IsRefusal files e) }
     {
         if self.faults.len() > 0 {
             return Err(FilesFault::Lex(self.faults));

@@ -11,9 +11,13 @@ use aidl_base::SourceFile;
 
 /// A law of the definitions: files have at most one list of trees or one refusal, and never both. Want of memory is no refusal here.
 pub fn law_one_answer(files: &[SourceFile])
-    ensures one_list { (first second : List ParsedFile) → AreParsed files.now first → AreParsed files.now second → map source_of first ≡ map source_of second }
-    ensures one_refusal { (first second : FilesFault) → first ≢ fault.OutOfMemory → second ≢ fault.OutOfMemory → IsRefusal files.now first → IsRefusal files.now second → first ≡ second }
-    ensures never_both { (parsed : List ParsedFile) (refusal : FilesFault) → refusal ≢ fault.OutOfMemory → AreParsed files.now parsed → IsRefusal files.now refusal → ⊥ }
+    ensures one_list { (first second : List ParsedFile) → AreParsed files.now first
+        → AreParsed files.now second → map source_of first ≡ map source_of second }
+    ensures one_refusal { (first second : FilesFault)
+        → first ≢ fault.OutOfMemory → second ≢ fault.OutOfMemory
+        → IsRefusal files.now first → IsRefusal files.now second → first ≡ second }
+    ensures never_both { (parsed : List ParsedFile) (refusal : FilesFault) → refusal
+        ≢ fault.OutOfMemory → AreParsed files.now parsed → IsRefusal files.now refusal → ⊥ }
 {}
 
 /// A law of the definitions: files as they are parsed are at most 4,096, each of some bytes.

@@ -61,7 +61,8 @@ fn files(
     record_part: Part,
     numbers: &[u32],
 ) -> Result<Row<SourceFile>, OutOfMemory>
-    ensures { IfOk result (λ files. map meant.file_seen files ≡ map (meant.file_of interface) numbers.now ++ map (meant.file_of record_part) numbers.now) }
+    ensures { IfOk result (λ files. map meant.file_seen files ≡ map
+        (meant.file_of interface) numbers.now ++ map (meant.file_of record_part) numbers.now) }
 {
     let mut files = Row::new(alloc);
     push_files(alloc, interface, numbers, &mut files)?;
@@ -75,7 +76,8 @@ fn push_files(
     numbers: &[u32],
     files: &mut Row<SourceFile>,
 ) -> Result<(), OutOfMemory>
-    ensures { OnOk result (map meant.file_seen files.new ≡ map meant.file_seen files.old ++ map (meant.file_of part) numbers.now) }
+    ensures { OnOk result (map meant.file_seen files.new
+        ≡ map meant.file_seen files.old ++ map (meant.file_of part) numbers.now) }
 {
     for k in numbers {
         files.push(file_of(alloc, part, *k)?)?;

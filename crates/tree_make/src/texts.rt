@@ -29,7 +29,8 @@ pub fn text_of(alloc: Global, part: Part, k: u32) -> Result<String, OutOfMemory>
 }
 
 fn old_record(alloc: Global, k: u32) -> Result<String, OutOfMemory>
-    ensures { IfOk result (λ text. string_bytes text ≡ meant.filled (meant.text_of part.OldRecord) k) }
+    ensures { IfOk result (λ text. string_bytes text
+        ≡ meant.filled (meant.text_of part.OldRecord) k) }
 {
     let mut text = String::new(alloc);
     writeln!(
@@ -40,7 +41,8 @@ fn old_record(alloc: Global, k: u32) -> Result<String, OutOfMemory>
 }
 
 fn old_interface(alloc: Global, k: u32) -> Result<String, OutOfMemory>
-    ensures { IfOk result (λ text. string_bytes text ≡ meant.filled (meant.text_of part.OldInterface) k) }
+    ensures { IfOk result (λ text. string_bytes text
+        ≡ meant.filled (meant.text_of part.OldInterface) k) }
 {
     let mut text = String::new(alloc);
     writeln!(text, "package m; interface I{k} {{ int put(in R{k} r); }}")?;
@@ -48,7 +50,8 @@ fn old_interface(alloc: Global, k: u32) -> Result<String, OutOfMemory>
 }
 
 fn new_record(alloc: Global, k: u32) -> Result<String, OutOfMemory>
-    ensures { IfOk result (λ text. string_bytes text ≡ meant.filled (meant.text_of part.NewRecord) k) }
+    ensures { IfOk result (λ text. string_bytes text
+        ≡ meant.filled (meant.text_of part.NewRecord) k) }
 {
     let mut text = String::new(alloc);
     writeln!(
@@ -59,7 +62,8 @@ fn new_record(alloc: Global, k: u32) -> Result<String, OutOfMemory>
 }
 
 fn new_interface(alloc: Global, k: u32) -> Result<String, OutOfMemory>
-    ensures { IfOk result (λ text. string_bytes text ≡ meant.filled (meant.text_of part.NewInterface) k) }
+    ensures { IfOk result (λ text. string_bytes text
+        ≡ meant.filled (meant.text_of part.NewInterface) k) }
 {
     let mut text = String::new(alloc);
     writeln!(
@@ -90,7 +94,8 @@ pub fn push_calls(k: u32, text: &mut String) -> Result<(), OutOfMemory>
 }
 
 fn push_put(k: u32, text: &mut String) -> Result<(), OutOfMemory>
-    ensures { OnOk result (string_bytes text.new ≡ string_bytes text.old ++ meant.filled meant.put_call k) }
+    ensures { OnOk result (string_bytes text.new
+        ≡ string_bytes text.old ++ meant.filled meant.put_call k) }
 {
     writeln!(
         text,
@@ -100,7 +105,8 @@ fn push_put(k: u32, text: &mut String) -> Result<(), OutOfMemory>
 }
 
 fn push_get(k: u32, text: &mut String) -> Result<(), OutOfMemory>
-    ensures { OnOk result (string_bytes text.new ≡ string_bytes text.old ++ meant.filled meant.get_call k) }
+    ensures { OnOk result (string_bytes text.new
+        ≡ string_bytes text.old ++ meant.filled meant.get_call k) }
 {
     writeln!(text, "{{\"call\":\"m.I{k}.get\"}}")?;
     Ok(())

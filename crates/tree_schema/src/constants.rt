@@ -26,7 +26,8 @@ pub fn constants_in(
     requires items { HasItems scope.now.tree }
     requires scope { IsDeclared scope.now }
     requires numbers { HasNumbers scope.now.tree }
-    ensures { IfOk result (λ constants. constants ≡ meant.constants_in (files_of scope.now.tree) (outcomes_of scope.now.tree)
+    ensures { IfOk result (λ constants. constants
+        ≡ meant.constants_in (files_of scope.now.tree) (outcomes_of scope.now.tree)
         scope.now.file scope.now.number (listed (members_of members.now))) }
 {
     let mut by_name = BTreeMap::new(alloc);
@@ -61,8 +62,10 @@ fn add_member(
     requires numbers { HasNumbers scope.now.tree }
     requires keyed { IsKeyed (λ t. string_bytes t) meant.bytes_of by_name.old.entries }
     ensures keyed { OnOk result (IsKeyed (λ t. string_bytes t) meant.bytes_of by_name.new.entries) }
-    ensures all { let of = meant.listed_constants (files_of scope.now.tree) (outcomes_of scope.now.tree) scope.now.file scope.now.number in
-        OnOk result ((ms : Members) → fold meant.put (values_at by_name.old.entries) (of (listed (member_of member.now ms)))
+    ensures all { let of = meant.listed_constants
+        (files_of scope.now.tree) (outcomes_of scope.now.tree) scope.now.file scope.now.number in
+        OnOk result ((ms : Members)
+        → fold meant.put (values_at by_name.old.entries) (of (listed (member_of member.now ms)))
         ≡ fold meant.put (values_at by_name.new.entries) (of (listed ms))) }
 {
     match member {
@@ -84,7 +87,8 @@ fn add_constant(
 ) -> Result<(), OutOfMemory>
     requires keyed { IsKeyed (λ t. string_bytes t) meant.bytes_of by_name.old.entries }
     ensures keyed { OnOk result (IsKeyed (λ t. string_bytes t) meant.bytes_of by_name.new.entries) }
-    ensures all { OnOk result (values_at by_name.new.entries ≡ meant.put (values_at by_name.old.entries) constant) }
+    ensures all { OnOk result (values_at by_name.new.entries
+        ≡ meant.put (values_at by_name.old.entries) constant) }
 {
     let text = String::from_str(alloc, constant.name.0.as_str())?;
     by_name.insert(text, constant)?;
@@ -99,7 +103,8 @@ fn constant_in(
     requires items { HasItems scope.now.tree }
     requires scope { IsDeclared scope.now }
     requires numbers { HasNumbers scope.now.tree }
-    ensures { IfOk result (λ c. c ≡ meant.constant_in (files_of scope.now.tree) (outcomes_of scope.now.tree)
+    ensures { IfOk result (λ c. c
+        ≡ meant.constant_in (files_of scope.now.tree) (outcomes_of scope.now.tree)
         scope.now.file scope.now.number (constant_of constant.now)) }
 {
     let ty = type_of(scope, constant.annots.as_slice(), &constant.ty);

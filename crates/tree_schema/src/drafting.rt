@@ -31,7 +31,8 @@ pub fn draft(
     settled: &Settled<'_>,
 ) -> Result<Row<Decl>, OutOfMemory>
     requires items { map item_of settled.now.items.list.items ≡ items (map source_of names.now) }
-    ensures { IfOk result (λ decls. decls ≡ meant.schema_of (map source_of names.now) (outcome_at settled.now.outcomes.items)) }
+    ensures { IfOk result (λ decls. decls
+        ≡ meant.schema_of (map source_of names.now) (outcome_at settled.now.outcomes.items)) }
 {
     let _files = names.files();
     let order = in_schema_order(alloc, names.decls())?;
@@ -52,7 +53,8 @@ fn declared_in(
     requires items { HasItems tree.now }
     requires numbers { HasNumbers tree.now }
     requires order { map numbered_of order.now ≡ numbers.sorted (declarations (files_of tree.now)) }
-    ensures { IfOk result (λ decls. decls ≡ map (meant.declared (files_of tree.now) (outcomes_of tree.now)) (map numbered_of order.now)) }
+    ensures { IfOk result (λ decls. decls ≡ map
+        (meant.declared (files_of tree.now) (outcomes_of tree.now)) (map numbered_of order.now)) }
 {
     let mut decls = Vec::with_capacity(alloc, order.len())?;
     for placed in order {
@@ -69,7 +71,8 @@ fn declared(
     requires items { HasItems tree.now }
     requires numbers { HasNumbers tree.now }
     requires scope { IsScope (files_of tree.now) placed.now.found.now.file placed.now.number }
-    ensures { IfOk result (λ decl. decl ≡ meant.declared (files_of tree.now) (outcomes_of tree.now) (numbered_of placed.now)) }
+    ensures { IfOk result (λ decl. decl
+        ≡ meant.declared (files_of tree.now) (outcomes_of tree.now) (numbered_of placed.now)) }
 {
     let found = placed.found;
     let scope = Scope {

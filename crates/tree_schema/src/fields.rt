@@ -24,7 +24,8 @@ pub fn fields_in(
     requires items { HasItems scope.now.tree }
     requires scope { IsDeclared scope.now }
     requires numbers { HasNumbers scope.now.tree }
-    ensures { IfOk result (λ fields. fields ≡ meant.fields_in (files_of scope.now.tree) (outcomes_of scope.now.tree)
+    ensures { IfOk result (λ fields. fields
+        ≡ meant.fields_in (files_of scope.now.tree) (outcomes_of scope.now.tree)
         scope.now.file scope.now.number in_union false (listed (members_of members.now))) }
 {
     let mut fields = Vec::new(alloc);
@@ -47,8 +48,10 @@ fn add_member(
     requires items { HasItems scope.now.tree }
     requires scope { IsDeclared scope.now }
     requires numbers { HasNumbers scope.now.tree }
-    ensures { let of = meant.fields_in (files_of scope.now.tree) (outcomes_of scope.now.tree) scope.now.file scope.now.number in_union in
-        IfOk result (λ next. (ms : Members) → fields.old.items ++ of later (listed (member_of member.now ms))
+    ensures { let of = meant.fields_in (files_of scope.now.tree)
+        (outcomes_of scope.now.tree) scope.now.file scope.now.number in_union in
+        IfOk result (λ next. (ms : Members)
+        → fields.old.items ++ of later (listed (member_of member.now ms))
         ≡ fields.new.items ++ of next (listed ms)) }
 {
     match member {
@@ -71,7 +74,8 @@ fn field_in(
     requires items { HasItems scope.now.tree }
     requires scope { IsDeclared scope.now }
     requires numbers { HasNumbers scope.now.tree }
-    ensures { IfOk result (λ f. f ≡ meant.field_in (files_of scope.now.tree) (outcomes_of scope.now.tree)
+    ensures { IfOk result (λ f. f
+        ≡ meant.field_in (files_of scope.now.tree) (outcomes_of scope.now.tree)
         scope.now.file scope.now.number later (field_of field.now)) }
 {
     Ok(Field {

@@ -28,8 +28,10 @@ pub fn kind_of(
     requires items { HasItems scope.now.tree }
     requires scope { IsDeclared scope.now }
     requires numbers { HasNumbers scope.now.tree }
-    ensures { IfOk result (λ kind. kind ≡ meant.kind_of (files_of scope.now.tree) (outcomes_of scope.now.tree)
-        scope.now.file scope.now.number (wanted_of (decl_of declared.now)) (inner (decl_of declared.now))) }
+    ensures { IfOk result (λ kind. kind
+        ≡ meant.kind_of (files_of scope.now.tree) (outcomes_of scope.now.tree)
+        scope.now.file scope.now.number (wanted_of (decl_of declared.now))
+        (inner (decl_of declared.now))) }
 {
     kind_in(alloc, scope, backing_of(declared), &declared.body)
 }
@@ -43,7 +45,8 @@ fn kind_in(
     requires items { HasItems scope.now.tree }
     requires scope { IsDeclared scope.now }
     requires numbers { HasNumbers scope.now.tree }
-    ensures { IfOk result (λ kind. kind ≡ meant.kind_with (files_of scope.now.tree) (outcomes_of scope.now.tree)
+    ensures { IfOk result (λ kind. kind
+        ≡ meant.kind_with (files_of scope.now.tree) (outcomes_of scope.now.tree)
         scope.now.file scope.now.number backing (body_of body.now)) }
 {
     match body {
@@ -80,7 +83,8 @@ fn enumerators_in(
 ) -> Result<Row<Enumerator>, OutOfMemory>
     requires items { HasItems tree.now }
     ensures { IfOk result (λ row.
-        row ≡ map (parts.enumerator_in (files_of tree.now) (outcomes_of tree.now) file) (map enumerator_of enumerators.now)) }
+        row ≡ map (parts.enumerator_in (files_of tree.now) (outcomes_of tree.now) file)
+        (map enumerator_of enumerators.now)) }
 {
     let mut row = Vec::with_capacity(alloc, enumerators.len())?;
     for enumerator in enumerators {
@@ -96,7 +100,8 @@ fn enumerator_in(
     enumerator: &EnumeratorTree,
 ) -> Result<Enumerator, OutOfMemory>
     requires items { HasItems tree.now }
-    ensures { IfOk result (λ e. e ≡ parts.enumerator_in (files_of tree.now) (outcomes_of tree.now) file (enumerator_of enumerator.now)) }
+    ensures { IfOk result (λ e. e ≡ parts.enumerator_in
+        (files_of tree.now) (outcomes_of tree.now) file (enumerator_of enumerator.now)) }
 {
     Ok(Enumerator {
         name: copied_ident(alloc, &enumerator.name.name)?,
@@ -113,7 +118,8 @@ pub fn constants_of(
     requires items { HasItems scope.now.tree }
     requires scope { IsDeclared scope.now }
     requires numbers { HasNumbers scope.now.tree }
-    ensures { IfOk result (λ constants. constants ≡ parts.constants_in (files_of scope.now.tree) (outcomes_of scope.now.tree)
+    ensures { IfOk result (λ constants. constants
+        ≡ parts.constants_in (files_of scope.now.tree) (outcomes_of scope.now.tree)
         scope.now.file scope.now.number (members (body_of body.now))) }
 {
     match body {

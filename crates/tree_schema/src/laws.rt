@@ -18,9 +18,12 @@ use aidl_syntax::{ParsedFile, law_tree};
 /// A law of the definitions: the schema of a tree that breaks none of E1 to E5 and passes no limit has the first two
 /// rules of a valid schema, and is within its limits, whatever the outcomes of the tree's items.
 pub fn law_named(names: &Names<'_>)
-    ensures names { (outcomes : Outcomes) → IsTrue (has_names (schema_of (map source_of names.now) outcomes)) }
-    ensures members { (outcomes : Outcomes) → IsTrue (has_members (schema_of (map source_of names.now) outcomes)) }
-    ensures limits { (outcomes : Outcomes) → IsTrue (is_within_limits (schema_of (map source_of names.now) outcomes)) }
+    ensures names { (outcomes : Outcomes)
+        → IsTrue (has_names (schema_of (map source_of names.now) outcomes)) }
+    ensures members { (outcomes : Outcomes)
+        → IsTrue (has_members (schema_of (map source_of names.now) outcomes)) }
+    ensures limits { (outcomes : Outcomes)
+        → IsTrue (is_within_limits (schema_of (map source_of names.now) outcomes)) }
 {
     let files = names.files();
     law_identifiers(files);

@@ -25,7 +25,8 @@ pub fn methods_in(
     requires scope { IsDeclared scope.now }
     requires numbers { HasNumbers scope.now.tree }
     ensures { IfOk result (λ methods.
-        methods ≡ meant.methods_in (files_of scope.now.tree) scope.now.file scope.now.number oneway 0 (listed (members_of members.now))) }
+        methods ≡ meant.methods_in (files_of scope.now.tree)
+        scope.now.file scope.now.number oneway 0 (listed (members_of members.now))) }
 {
     let mut methods = Vec::new(alloc);
     let mut before = 0;
@@ -47,8 +48,10 @@ fn add_member(
     requires scope { IsDeclared scope.now }
     requires numbers { HasNumbers scope.now.tree }
     requires few { before < 9223372036854775808 }
-    ensures all { let of = meant.methods_in (files_of scope.now.tree) scope.now.file scope.now.number oneway in
-        IfOk result (λ next. (ms : Members) → methods.old.items ++ of before (listed (member_of member.now ms))
+    ensures all { let of = meant.methods_in
+        (files_of scope.now.tree) scope.now.file scope.now.number oneway in
+        IfOk result (λ next. (ms : Members)
+        → methods.old.items ++ of before (listed (member_of member.now ms))
         ≡ methods.new.items ++ of next (listed ms)) }
     ensures few { IfOk result (λ next. next < before + 2) }
 {
@@ -113,7 +116,8 @@ fn args_in(alloc: Global, scope: &Scope<'_, '_>, args: &[ArgTree]) -> Result<Row
     requires scope { IsDeclared scope.now }
     requires numbers { HasNumbers scope.now.tree }
     ensures { IfOk result (λ row.
-        row ≡ map (meant.arg_in (files_of scope.now.tree) scope.now.file scope.now.number) (map arg_of args.now)) }
+        row ≡ map (meant.arg_in (files_of scope.now.tree) scope.now.file scope.now.number)
+        (map arg_of args.now)) }
 {
     let mut row = Vec::with_capacity(alloc, args.len())?;
     for arg in args {
@@ -125,7 +129,8 @@ fn args_in(alloc: Global, scope: &Scope<'_, '_>, args: &[ArgTree]) -> Result<Row
 fn arg_in(alloc: Global, scope: &Scope<'_, '_>, arg: &ArgTree) -> Result<Arg, OutOfMemory>
     requires scope { IsDeclared scope.now }
     requires numbers { HasNumbers scope.now.tree }
-    ensures { IfOk result (λ a. a ≡ meant.arg_in (files_of scope.now.tree) scope.now.file scope.now.number (arg_of arg.now)) }
+    ensures { IfOk result (λ a. a
+        ≡ meant.arg_in (files_of scope.now.tree) scope.now.file scope.now.number (arg_of arg.now)) }
 {
     Ok(Arg {
         name: copied_ident(alloc, &arg.name.name)?,

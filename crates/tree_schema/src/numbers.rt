@@ -13,7 +13,8 @@ use std::alloc::Global;
 /// The place in a list of each declaration that stands there, by its number in the trees.
 pub fn numbers_of(alloc: Global, all: &[Placed<'_, '_>]) -> Result<IndexMap<u32, u32>, OutOfMemory>
     requires few { length all.now ≤ 4294967296 }
-    ensures { IfOk result (λ numbers. (n : ℕ) → get nat_eq numbers n ≡ position_from (has_number n) 0 (map numbered_of all.now)) }
+    ensures { IfOk result (λ numbers. (n : ℕ)
+        → get nat_eq numbers n ≡ position_from (has_number n) 0 (map numbered_of all.now)) }
 {
     let mut numbers = IndexMap::new(alloc);
     for i in (0..all.len()).rev() {

@@ -17,7 +17,8 @@ pub fn in_schema_order<'a, 'b>(
     found: &'a [Found<'b>],
 ) -> Result<Vec<Placed<'a, 'b>>, OutOfMemory>
     requires few { length found.now ≤ 16384 }
-    ensures { IfOk result (λ all. map numbered_of all.items ≡ meant.sorted (map entry_of found.entry.now)) }
+    ensures { IfOk result (λ all. map numbered_of all.items
+        ≡ meant.sorted (map entry_of found.entry.now)) }
 {
     let mut places = BTreeMap::new(alloc);
     for (i, f) in found.iter().enumerate() {
@@ -36,7 +37,8 @@ fn listed<'a, 'b>(
     alloc: Global,
     mut places: BTreeMap<String, Placed<'a, 'b>>,
 ) -> Result<Vec<Placed<'a, 'b>>, OutOfMemory>
-    ensures { IfOk result (λ all. map numbered_of all.items ≡ map (λ e. numbered_of e.1) places.entry.entries) }
+    ensures { IfOk result (λ all. map numbered_of all.items
+        ≡ map (λ e. numbered_of e.1) places.entry.entries) }
 {
     let mut all = Vec::with_capacity(alloc, places.len())?;
     'places: while let Some((_, placed)) = places.pop_first() {

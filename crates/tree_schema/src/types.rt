@@ -17,7 +17,8 @@ use type_uses::kept_of;
 pub fn type_of(scope: &Scope<'_, '_>, annots: &[AnnotTree], ty: &TypeTree) -> AidlType
     requires scope { IsDeclared scope.now }
     requires numbers { HasNumbers scope.now.tree }
-    ensures { result ≡ meant.type_of (files_of scope.now.tree) scope.now.file scope.now.number (map annot_of annots.now) ty.now }
+    ensures { result ≡ meant.type_of (files_of scope.now.tree) scope.now.file scope.now.number
+        (map annot_of annots.now) ty.now }
 {
     let shape = shape_of(scope.tree.names, scope.file, scope.number, ty);
     typed(&scope.tree, annots, shape)
@@ -25,7 +26,8 @@ pub fn type_of(scope: &Scope<'_, '_>, annots: &[AnnotTree], ty: &TypeTree) -> Ai
 
 fn typed(tree: &Tree<'_, '_>, annots: &[AnnotTree], shape: TreeShape) -> AidlType
     requires numbers { HasNumbers tree.now }
-    ensures { result ≡ meant.typed (declarations (files_of tree.now)) (map annot_of annots.now) shape }
+    ensures { result ≡ meant.typed (declarations (files_of tree.now))
+        (map annot_of annots.now) shape }
 {
     match shape {
         TreeShape::One(base) => flagged(annots, base_of(tree, base), Shape::One),

@@ -24,7 +24,8 @@ pub fn initial_of(
 ) -> Result<Option<Const>, OutOfMemory>
     requires items { HasItems scope.now.tree }
     requires scope { IsDeclared scope.now }
-    ensures { IfOk result (λ value. value ≡ meant.initial_of (files_of scope.now.tree) (outcomes_of scope.now.tree)
+    ensures { IfOk result (λ value. value
+        ≡ meant.initial_of (files_of scope.now.tree) (outcomes_of scope.now.tree)
         scope.now.file scope.now.number later ty.now (map_option init_of initial.now)) }
 {
     match initial {
@@ -48,7 +49,8 @@ fn initial_value(
     init: &InitTree,
 ) -> Result<Const, OutOfMemory>
     requires items { HasItems tree.now }
-    ensures { IfOk result (λ value. value ≡ meant.initial_value (files_of tree.now) (outcomes_of tree.now) file (init_of init.now)) }
+    ensures { IfOk result (λ value. value
+        ≡ meant.initial_value (files_of tree.now) (outcomes_of tree.now) file (init_of init.now)) }
 {
     match init {
         InitTree::Single(expr) => constant_value(alloc, tree, file, expr),
@@ -69,7 +71,8 @@ fn values(
 ) -> Result<Row<Const>, OutOfMemory>
     requires items { HasItems tree.now }
     ensures { IfOk result (λ row.
-        row ≡ map (λ e. meant.constant_value (files_of tree.now) (outcomes_of tree.now) file e) (exprs_of exprs.now)) }
+        row ≡ map (λ e. meant.constant_value (files_of tree.now) (outcomes_of tree.now) file e)
+        (exprs_of exprs.now)) }
 {
     let mut row = Vec::with_capacity(alloc, exprs.len())?;
     for expr in exprs {
@@ -86,7 +89,8 @@ pub fn constant_value(
     expr: &ExprTree,
 ) -> Result<Const, OutOfMemory>
     requires items { HasItems tree.now }
-    ensures { IfOk result (λ value. value ≡ meant.constant_value (files_of tree.now) (outcomes_of tree.now) file (expr_of expr.now)) }
+    ensures { IfOk result (λ value. value
+        ≡ meant.constant_value (files_of tree.now) (outcomes_of tree.now) file (expr_of expr.now)) }
 {
     match value_at(tree, file, expr.offset) {
         None => Ok(Const::Number(0)),
@@ -97,7 +101,8 @@ pub fn constant_value(
 /// The value of an enumerator, and 0 where it has none. It takes no memory.
 pub fn enumerator_value(tree: &Tree<'_, '_>, file: u32, enumerator: &EnumeratorTree) -> i64
     requires items { HasItems tree.now }
-    ensures { result ≡ meant.enumerator_value (files_of tree.now) (outcomes_of tree.now) file (enumerator_of enumerator.now) }
+    ensures { result ≡ meant.enumerator_value
+        (files_of tree.now) (outcomes_of tree.now) file (enumerator_of enumerator.now) }
 {
     let place = place_by(enumerator.name.offset, &enumerator.value);
     match value_at(tree, file, place) {
@@ -120,7 +125,8 @@ fn whole(value: &Const) -> i64
 // The value of what has its place there in a file.
 fn value_at<'a>(tree: &Tree<'a, '_>, file: u32, place: u32) -> Option<&'a Const>
     requires items { HasItems tree.now }
-    ensures { map_option (λ c. c.now) result ≡ meant.value_at (files_of tree.entry.now) (outcomes_of tree.entry.now) file place }
+    ensures { map_option (λ c. c.now) result
+        ≡ meant.value_at (files_of tree.entry.now) (outcomes_of tree.entry.now) file place }
 {
     match tree.settled.init_at(file, place) {
         None => None,

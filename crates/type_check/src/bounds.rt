@@ -19,7 +19,8 @@ pub fn add_broken(
 ) -> Result<(), OutOfMemory>
     requires few { length order.now ≤ 16384 }
     requires same { length bounds.now ≡ length order.now }
-    ensures { OnOk result (rows.new.items ≡ rows.old.items ++ in_each (meant.broken_at rule (bound_at bounds.now)) 0 (map numbered_of order.now)) }
+    ensures { OnOk result (rows.new.items ≡ rows.old.items ++ in_each
+        (meant.broken_at rule (bound_at bounds.now)) 0 (map numbered_of order.now)) }
 {
     for (i, placed) in order.iter().enumerate() {
         let name = &placed.found.tree.name;

@@ -66,7 +66,8 @@ fn of_gathered(alloc: Global, names: &Names<'_>) -> Result<Schema, CheckFault>
 fn of_settled(alloc: Global, names: &Names<'_>, settled: &Settled<'_>) -> Result<Schema, CheckFault>
     requires items { map item_of settled.now.items.list.items ≡ items (map source_of names.now) }
     requires outcomes { AreOutcomes (map source_of names.now) settled.now.outcomes.items }
-    requires constants { constants_broken (map source_of names.now) settled.now.outcomes.items ≡ [] }
+    requires constants { constants_broken (map source_of names.now) settled.now.outcomes.items
+        ≡ [] }
     ensures ok { IfOk result (λ schema. IsSchemaOfTrees (map source_of names.now) schema.decls) }
     ensures err { IfErr result (IsRefusalOfTrees (map source_of names.now)) }
 {
@@ -83,7 +84,8 @@ fn of_settled(alloc: Global, names: &Names<'_>, settled: &Settled<'_>) -> Result
 // The schema with these declarations, which are those of a tree that breaks no rule.
 fn schema(names: &Names<'_>, settled: &Settled<'_>, decls: Row<Decl>) -> Schema
     requires outcomes { AreOutcomes (map source_of names.now) settled.now.outcomes.items }
-    requires constants { constants_broken (map source_of names.now) settled.now.outcomes.items ≡ [] }
+    requires constants { constants_broken (map source_of names.now) settled.now.outcomes.items
+        ≡ [] }
     requires types { types_broken (map source_of names.now) decls ≡ [] }
     requires exact { decls ≡ schema_by (map source_of names.now) settled.now.outcomes.items }
     ensures { result.decls ≡ decls }

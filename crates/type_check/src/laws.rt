@@ -11,21 +11,24 @@ use tree_files::law_one_answer;
 
 /// A law of the definitions: files have at most one schema.
 pub fn law_one_schema(files: &[SourceFile])
-    ensures { (first second : List Decl) → IsSchemaOf files.now first → IsSchemaOf files.now second → first ≡ second }
+    ensures { (first second : List Decl) → IsSchemaOf files.now first
+        → IsSchemaOf files.now second → first ≡ second }
 {
     law_one_answer(files);
 }
 
 /// A law of the definitions: files have at most one refusal. Want of memory is no refusal here.
 pub fn law_one_refusal(files: &[SourceFile])
-    ensures { (first second : CheckFault) → first ≢ fault.OutOfMemory → second ≢ fault.OutOfMemory → IsRefusal files.now first → IsRefusal files.now second → first ≡ second }
+    ensures { (first second : CheckFault) → first ≢ fault.OutOfMemory → second ≢ fault.OutOfMemory
+        → IsRefusal files.now first → IsRefusal files.now second → first ≡ second }
 {
     law_one_answer(files);
 }
 
 /// A law of the definitions: files never have a schema and a refusal. Want of memory is no refusal here.
 pub fn law_never_both(files: &[SourceFile])
-    ensures { (schema : List Decl) (refusal : CheckFault) → refusal ≢ fault.OutOfMemory → IsSchemaOf files.now schema → IsRefusal files.now refusal → ⊥ }
+    ensures { (schema : List Decl) (refusal : CheckFault) → refusal ≢ fault.OutOfMemory
+        → IsSchemaOf files.now schema → IsRefusal files.now refusal → ⊥ }
 {
     law_one_answer(files);
 }

@@ -12,7 +12,8 @@ use tree_files::FilesFault;
 
 /// What is answered where the files aren't parsed. It takes no memory.
 pub fn of_files(fault: FilesFault) -> CheckFault
-    ensures { (sources : List SourceFile) → files.IsRefusal sources fault → IsRefusal sources result }
+    ensures { (sources : List SourceFile) → files.IsRefusal sources fault
+        → IsRefusal sources result }
 {
     match fault {
         FilesFault::Limit(limit) => CheckFault::Limit(limit),

@@ -25,7 +25,8 @@ pub fn add_bad_annotations(
     uses: &[TypeUseRef<'_>],
     rows: &mut Vec<Breach>,
 ) -> Result<(), OutOfMemory>
-    ensures { OnOk result (rows.new.items ≡ rows.old.items ++ meant.BadAnnotation (entry_of found.now) (map seen_use uses.now)) }
+    ensures { OnOk result (rows.new.items
+        ≡ rows.old.items ++ meant.BadAnnotation (entry_of found.now) (map seen_use uses.now)) }
 {
     add_at_declaration(alloc, found.file, found.tree, rows)?;
     add_at_uses(alloc, found.file, uses, rows)
@@ -38,7 +39,8 @@ fn add_at_declaration(
     rows: &mut Vec<Breach>,
 ) -> Result<(), OutOfMemory>
     ensures { OnOk result (rows.new.items ≡ rows.old.items
-        ++ meant.bad_annotations file (stand_of_body (body (decl_of tree.now))) (annots_of (decl_of tree.now))) }
+        ++ meant.bad_annotations file (stand_of_body (body (decl_of tree.now)))
+        (annots_of (decl_of tree.now))) }
 {
     add_in_list(
         alloc,
@@ -56,7 +58,8 @@ fn add_at_uses(
     rows: &mut Vec<Breach>,
 ) -> Result<(), OutOfMemory>
     ensures { OnOk result (rows.new.items ≡ rows.old.items
-        ++ flat_map (λ u. meant.bad_annotations file (stand_of u) (annotations_of u)) (map seen_use uses.now)) }
+        ++ flat_map (λ u. meant.bad_annotations file (stand_of u) (annotations_of u))
+        (map seen_use uses.now)) }
 {
     for used in uses {
         add_in_list(alloc, file, stand_of(*used), annotations_of(*used), rows)?;
@@ -72,7 +75,8 @@ fn add_in_list(
     annots: &[AnnotTree],
     rows: &mut Vec<Breach>,
 ) -> Result<(), OutOfMemory>
-    ensures { OnOk result (rows.new.items ≡ rows.old.items ++ meant.bad_annotations file stand (map annot_of annots.now)) }
+    ensures { OnOk result (rows.new.items
+        ≡ rows.old.items ++ meant.bad_annotations file stand (map annot_of annots.now)) }
 {
     let mut seen: IndexSet<&str> = IndexSet::new(alloc);
     for annot in annots {
@@ -84,7 +88,8 @@ fn add_in_list(
 }
 
 fn breaks_row(stand: Stand, annot: &AnnotTree, again: bool) -> bool
-    ensures { result ≡ meant.breaks_row stand (annot_of annot.now).params again (row_of (annot_of annot.now)) }
+    ensures { result ≡ meant.breaks_row stand
+        (annot_of annot.now).params again (row_of (annot_of annot.now)) }
 {
     match row_of(annot) {
         None => true,

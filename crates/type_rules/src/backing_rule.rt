@@ -15,7 +15,8 @@ use type_uses::is_backing_word;
 
 /// Adds the breach of E15 in a declaration.
 pub fn add_bad_backing(found: &Found<'_>, rows: &mut Vec<Breach>) -> Result<(), OutOfMemory>
-    ensures { OnOk result (rows.new.items ≡ rows.old.items ++ meant.BadBacking (entry_of found.now)) }
+    ensures { OnOk result (rows.new.items
+        ≡ rows.old.items ++ meant.BadBacking (entry_of found.now)) }
 {
     if is_enum_tree(found.tree) {
         add_in_list(found.file, found.tree.annots.as_slice(), rows)?;
@@ -24,7 +25,8 @@ pub fn add_bad_backing(found: &Found<'_>, rows: &mut Vec<Breach>) -> Result<(), 
 }
 
 fn add_in_list(file: u32, annots: &[AnnotTree], rows: &mut Vec<Breach>) -> Result<(), OutOfMemory>
-    ensures { OnOk result (rows.new.items ≡ rows.old.items ++ meant.bad_backing file (find is_backing (map annot_of annots.now))) }
+    ensures { OnOk result (rows.new.items
+        ≡ rows.old.items ++ meant.bad_backing file (find is_backing (map annot_of annots.now))) }
 {
     match backing_annot(annots) {
         None => Ok(()),

@@ -86,7 +86,8 @@ fn is_bad_field(all: &[Found<'_>], later: bool, used: TypeUseRef<'_>) -> bool
 }
 
 fn is_bad_initial(all: &[Found<'_>], later: bool, shape: Shape, initial: &Option<InitTree>) -> bool
-    ensures { result ≡ meant.is_bad_initial (map entry_of all.now) later shape (map_option init_of initial.now) }
+    ensures { result ≡ meant.is_bad_initial (map entry_of all.now) later shape
+        (map_option init_of initial.now) }
 {
     match initial {
         None => false,

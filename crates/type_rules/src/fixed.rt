@@ -53,7 +53,8 @@ pub fn add_not_fixed(
     rows: &mut Vec<Breach>,
 ) -> Result<(), OutOfMemory>
     ensures { OnOk result (rows.new.items ≡ rows.old.items
-        ++ meant.NotFixed (map entry_of marked.now.all.now) (entry_of found.now) (map seen_use uses.now)) }
+        ++ meant.NotFixed (map entry_of marked.now.all.now)
+        (entry_of found.now) (map seen_use uses.now)) }
 {
     if is_fixed_tree(found.tree) {
         add_in_uses(marked, found.file, uses, rows)?;
@@ -68,7 +69,8 @@ fn add_in_uses(
     rows: &mut Vec<Breach>,
 ) -> Result<(), OutOfMemory>
     ensures { OnOk result (rows.new.items ≡ rows.old.items
-        ++ broken_where (meant.is_unfixed (map entry_of marked.now.all.now)) 24 typed.name_place file (map seen_use uses.now)) }
+        ++ broken_where (meant.is_unfixed (map entry_of marked.now.all.now))
+        24 typed.name_place file (map seen_use uses.now)) }
 {
     for used in uses {
         let broken = is_unfixed(marked, *used);

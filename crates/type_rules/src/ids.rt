@@ -22,7 +22,8 @@ pub fn add_bad_ids(
     uses: &[TypeUseRef<'_>],
     rows: &mut Vec<Breach>,
 ) -> Result<(), OutOfMemory>
-    ensures { OnOk result (rows.new.items ≡ rows.old.items ++ rules.bad_ids file (typed.methods_in (map seen_use uses.now))) }
+    ensures { OnOk result (rows.new.items
+        ≡ rows.old.items ++ rules.bad_ids file (typed.methods_in (map seen_use uses.now))) }
 {
     let methods = methods_in(alloc, uses)?;
     add_in_list(alloc, file, methods.as_slice(), rows)
@@ -32,7 +33,8 @@ fn methods_in<'a>(
     alloc: Global,
     uses: &[TypeUseRef<'a>],
 ) -> Result<Vec<&'a MethodTree>, OutOfMemory>
-    ensures { IfOk result (λ methods. map (λ m. method_of m.now) methods.items ≡ typed.methods_in (map seen_use uses.now)) }
+    ensures { IfOk result (λ methods. map (λ m. method_of m.now) methods.items
+        ≡ typed.methods_in (map seen_use uses.now)) }
 {
     let mut methods = Vec::new(alloc);
     for used in uses {
@@ -45,7 +47,8 @@ fn add_method<'a>(
     used: TypeUseRef<'a>,
     methods: &mut Vec<&'a MethodTree>,
 ) -> Result<(), OutOfMemory>
-    ensures { OnOk result (map (λ m. method_of m.now) methods.new.items ≡ map (λ m. method_of m.now) methods.old.items
+    ensures { OnOk result (map (λ m. method_of m.now) methods.new.items
+        ≡ map (λ m. method_of m.now) methods.old.items
         ++ typed.methods_at (seen_use used.entry)) }
 {
     match used {
@@ -66,7 +69,8 @@ fn add_in_list(
     methods: &[&MethodTree],
     rows: &mut Vec<Breach>,
 ) -> Result<(), OutOfMemory>
-    ensures { OnOk result (rows.new.items ≡ rows.old.items ++ rules.bad_ids file (map (λ m. method_of m.now) methods.now)) }
+    ensures { OnOk result (rows.new.items
+        ≡ rows.old.items ++ rules.bad_ids file (map (λ m. method_of m.now) methods.now)) }
 {
     let some = has_ids(methods);
     let mut taken: IndexSet<u64> = IndexSet::new(alloc);
@@ -90,8 +94,10 @@ fn has_ids(methods: &[&MethodTree]) -> bool
 
 // Whether an id, or that there is none, breaks E19; it is taken from then on.
 fn is_bad(some: bool, id: &Option<Token>, taken: &mut IndexSet<u64>) -> Result<bool, OutOfMemory>
-    ensures broken { IfOk result (λ broken. broken ≡ rules.is_bad_token some (contains nat_eq taken.old) id.now) }
-    ensures taken { OnOk result ((n : ℕ) → contains nat_eq taken.new n ≡ (contains nat_eq taken.old n || rules.has_value n id.now)) }
+    ensures broken { IfOk result (λ broken. broken
+        ≡ rules.is_bad_token some (contains nat_eq taken.old) id.now) }
+    ensures taken { OnOk result ((n : ℕ) → contains nat_eq taken.new n
+        ≡ (contains nat_eq taken.old n || rules.has_value n id.now)) }
 {
     match id {
         None => Ok(some),

@@ -51,7 +51,8 @@ fn add_all(
 ) -> Result<(), OutOfMemory>
     requires count { length found.now ≤ 16384 }
     requires found { map entry_of found.now ≡ declarations (map source_of names.now) }
-    ensures { OnOk result (rows.new.items ≡ rows.old.items ++ meant.unsorted (map source_of names.now)) }
+    ensures { OnOk result (rows.new.items
+        ≡ rows.old.items ++ meant.unsorted (map source_of names.now)) }
 {
     let fixed = fixed_ones(alloc, found)?;
     let marked = Marked {
@@ -90,7 +91,8 @@ fn add_broken(
     rows: &mut Vec<Breach>,
 ) -> Result<(), OutOfMemory>
     ensures { OnOk result (rows.new.items ≡ rows.old.items
-        ++ meant.broken_by (map entry_of marked.now.all.now) (entry_of found.now) (map seen_use uses.now)) }
+        ++ meant.broken_by (map entry_of marked.now.all.now)
+        (entry_of found.now) (map seen_use uses.now)) }
 {
     let oneway = is_oneway_tree(found.tree);
     let file = found.file;

@@ -11,7 +11,9 @@ use aidl_syntax::ParsedFile;
 /// A law of the definitions: where these breaches and further ones, in order, are none, there are no further ones, and no declaration
 /// breaks E13 to E21 or E24.
 pub fn law_unbroken(files: &[ParsedFile])
-    ensures further { (more : List Breach) → in_order (unsorted (map source_of files.now) ++ more) ≡ [] → more ≡ [] }
-    ensures declarations { (more : List Breach) → in_order (unsorted (map source_of files.now) ++ more) ≡ []
+    ensures further { (more : List Breach) → in_order (unsorted (map source_of files.now) ++ more)
+        ≡ [] → more ≡ [] }
+    ensures declarations { (more : List Breach)
+        → in_order (unsorted (map source_of files.now) ++ more) ≡ []
         → AreUnbroken (map source_of files.now) }
 {}

@@ -25,7 +25,8 @@ pub fn add_bad_nullables(
     rows: &mut Vec<Breach>,
 ) -> Result<(), OutOfMemory>
     ensures { OnOk result (rows.new.items ≡ rows.old.items
-        ++ flat_map (meant.bad_nullables_of (map entry_of found.now) file) (map seen_use uses.now)) }
+        ++ flat_map (meant.bad_nullables_of (map entry_of found.now) file)
+        (map seen_use uses.now)) }
 {
     for used in uses {
         let nullable = refuses_nullable(found, *used);
@@ -43,7 +44,8 @@ fn add_in_list(
     annots: &[AnnotTree],
     rows: &mut Vec<Breach>,
 ) -> Result<(), OutOfMemory>
-    ensures { OnOk result (rows.new.items ≡ rows.old.items ++ meant.bad_nullables file nullable heap (map annot_of annots.now)) }
+    ensures { OnOk result (rows.new.items
+        ≡ rows.old.items ++ meant.bad_nullables file nullable heap (map annot_of annots.now)) }
 {
     for annot in annots {
         let broken = is_bad_nullable(nullable, heap, annot);

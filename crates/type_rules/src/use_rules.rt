@@ -65,7 +65,8 @@ pub fn add_where(
     rows: &mut Vec<Breach>,
 ) -> Result<(), OutOfMemory>
     ensures { OnOk result (rows.new.items ≡ rows.old.items
-        ++ broken_where (meant.breaks_of rule (map entry_of found.now) oneway) (meant.rule_of rule) (meant.place_of rule) file
+        ++ broken_where (meant.breaks_of rule (map entry_of found.now) oneway)
+        (meant.rule_of rule) (meant.place_of rule) file
         (map seen_use uses.now)) }
 {
     for used in uses {

@@ -22,7 +22,8 @@ pub fn backing_of(tree: &DeclTree) -> Wanted
 
 /// The first annotation `Backing`. It takes no memory.
 pub fn backing_annot(annots: &[AnnotTree]) -> Option<&AnnotTree>
-    ensures { map_option (λ a. annot_of a.now) result ≡ find meant.is_backing (map annot_of annots.now) }
+    ensures { map_option (λ a. annot_of a.now) result
+        ≡ find meant.is_backing (map annot_of annots.now) }
 {
     for annot in annots {
         if annot.name.name.0.as_str() == "Backing" {
@@ -43,7 +44,8 @@ fn backing_of_annot(annot: &AnnotTree) -> Wanted
 
 /// The first parameter `type`. It takes no memory.
 pub fn type_param(params: &[ParamTree]) -> Option<&ParamTree>
-    ensures { map_option (λ p. param_of p.now) result ≡ find meant.is_type (map param_of params.now) }
+    ensures { map_option (λ p. param_of p.now) result
+        ≡ find meant.is_type (map param_of params.now) }
 {
     for param in params {
         if is_type(&param.name) {

@@ -32,7 +32,8 @@ pub enum Shape {
 /// no memory.
 pub fn shape_of(names: &Names<'_>, file: u32, scope: u32, ty: &TypeTree) -> Shape
     requires { IsScope (map source_of names.now) file scope }
-    ensures { result ≡ meant.shaped (declarations (map source_of names.now)) (meaning_in (map source_of names.now) file scope) ty.now }
+    ensures { result ≡ meant.shaped (declarations (map source_of names.now))
+        (meaning_in (map source_of names.now) file scope) ty.now }
 {
     match names.resolve(file, scope, ty.name.name.0.as_slice()) {
         None => Shape::Refused,
@@ -49,7 +50,8 @@ fn list_with(
     brackets: bool,
 ) -> Shape
     requires { IsScope (map source_of names.now) file scope }
-    ensures { result ≡ meant.list_with (declarations (map source_of names.now)) (meaning_in (map source_of names.now) file scope) element.now brackets }
+    ensures { result ≡ meant.list_with (declarations (map source_of names.now))
+        (meaning_in (map source_of names.now) file scope) element.now brackets }
 {
     match element {
         None => Shape::Refused,

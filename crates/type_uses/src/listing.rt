@@ -24,7 +24,8 @@ pub fn listed_uses<'a>(
     body: &'a BodyTree,
 ) -> Result<Vec<TypeUseRef<'a>>, OutOfMemory>
     requires { IsScope (map source_of names.now) file number }
-    ensures { IfOk result (λ uses. map seen_use uses.items ≡ meant.of_members (shape_in (map source_of names.now) file number) (members (body_of body.now))) }
+    ensures { IfOk result (λ uses. map seen_use uses.items ≡ meant.of_members
+        (shape_in (map source_of names.now) file number) (members (body_of body.now))) }
 {
     match body {
         BodyTree::Parcelable(members) => { used_by(alloc, names, file, number, members.as_slice()) }
@@ -44,7 +45,8 @@ fn used_by<'a>(
     members: &'a [MemberTree],
 ) -> Result<Vec<TypeUseRef<'a>>, OutOfMemory>
     requires { IsScope (map source_of names.now) file number }
-    ensures { IfOk result (λ uses. map seen_use uses.items ≡ meant.of_members (shape_in (map source_of names.now) file number) (listed (members_of members.now))) }
+    ensures { IfOk result (λ uses. map seen_use uses.items ≡ meant.of_members
+        (shape_in (map source_of names.now) file number) (listed (members_of members.now))) }
 {
     let mut uses = Vec::with_capacity(alloc, members.len())?;
     for member in members {
@@ -61,7 +63,10 @@ fn add_member<'a>(
     uses: &mut Vec<TypeUseRef<'a>>,
 ) -> Result<(), OutOfMemory>
     requires { IsScope (map source_of names.now) file number }
-    ensures { OnOk result ((ms : Members) → map seen_use uses.old.items ++ meant.of_members (shape_in (map source_of names.now) file number) (listed (member_of member.now ms)) ≡ map seen_use uses.new.items ++ meant.of_members (shape_in (map source_of names.now) file number) (listed ms)) }
+    ensures { OnOk result ((ms : Members) → map seen_use uses.old.items ++ meant.of_members
+        (shape_in (map source_of names.now) file number) (listed (member_of member.now ms))
+        ≡ map seen_use uses.new.items ++ meant.of_members
+        (shape_in (map source_of names.now) file number) (listed ms)) }
 {
     match member {
         MemberTree::Field(field) => {
@@ -87,7 +92,9 @@ fn add_method<'a>(
     uses: &mut Vec<TypeUseRef<'a>>,
 ) -> Result<(), OutOfMemory>
     requires { IsScope (map source_of names.now) file number }
-    ensures { OnOk result (map seen_use uses.new.items ≡ map seen_use uses.old.items ++ meant.of_method_tree (shape_in (map source_of names.now) file number) (method_of method.now)) }
+    ensures { OnOk result (map seen_use uses.new.items
+        ≡ map seen_use uses.old.items ++ meant.of_method_tree
+        (shape_in (map source_of names.now) file number) (method_of method.now)) }
 {
     let returned = returned(names, file, number, &method.result);
     uses.push(TypeUseRef::Method(method, returned))?;
@@ -112,7 +119,8 @@ fn add_arguments<'a>(
     uses: &mut Vec<TypeUseRef<'a>>,
 ) -> Result<(), OutOfMemory>
     requires { IsScope (map source_of names.now) file number }
-    ensures { OnOk result (map seen_use uses.new.items ≡ map seen_use uses.old.items ++ map (meant.of_arg (shape_in (map source_of names.now) file number)) (map arg_of args.now)) }
+    ensures { OnOk result (map seen_use uses.new.items ≡ map seen_use uses.old.items ++ map
+        (meant.of_arg (shape_in (map source_of names.now) file number)) (map arg_of args.now)) }
 {
     for arg in args {
         let shape = shape_of(names, file, number, &arg.ty);

@@ -35,7 +35,8 @@ impl<'a> Model for DeclFields<'a> {
     ghost view = { λ named. named.decl.now };
 
     ghost invariant = { λ named. (q : List ℕ)
-        → get_by (λ k. bytes_eq q k.now) named.places ≡ field_from q 0 (fields_of named.decl.now.kind) };
+        → get_by (λ k. bytes_eq q k.now) named.places
+        ≡ field_from q 0 (fields_of named.decl.now.kind) };
 }
 
 impl<'a> DeclFields<'a> {
@@ -67,7 +68,8 @@ fn fields_by_name<'a>(
     alloc: Global,
     fields: &'a [Field],
 ) -> Result<IndexMap<&'a str, usize>, OutOfMemory>
-    ensures { IfOk result (λ table. (q : List ℕ) → get_by (λ k. bytes_eq q k.now) table ≡ field_from q 0 fields.now) }
+    ensures { IfOk result (λ table. (q : List ℕ)
+        → get_by (λ k. bytes_eq q k.now) table ≡ field_from q 0 fields.now) }
 {
     let mut table = IndexMap::with_capacity(alloc, fields.len())?;
     for i in (0..fields.len()).rev() {

@@ -35,7 +35,8 @@ pub fn union_fields<'a>(named: &NamedFields<'a>, base: Base) -> &'a [Field]
 /// The position of the field of a name in the parcelable that a base names, where it is one of the first
 /// `count`: where a record with so many values has a value of it. It takes no memory.
 pub fn place_sent(named: &NamedFields<'_>, base: Base, name: &Text, count: usize) -> Option<usize>
-    ensures place { result ≡ below count (place_named name.now (parcelable_fields (form_of named.now base))) }
+    ensures place { result ≡ below count
+        (place_named name.now (parcelable_fields (form_of named.now base))) }
     ensures within { IfSome result (λ i. i < length (parcelable_fields (form_of named.now base))) }
     ensures sent { IfSome result (λ i. i < count) }
 {

@@ -41,7 +41,8 @@ pub fn are_truths(values: &[Value], truths: &[bool]) -> bool
 
 /// Whether truth values are the same data as numbers, which they are where there are none of either.
 pub fn are_truths_numbers(truths: &[bool], numbers: &Numbers) -> bool
-    ensures { result ≡ same_items (items_of (map truth truths.now)) (items_of (map number numbers.now)) }
+    ensures { result ≡ same_items (items_of (map truth truths.now))
+        (items_of (map number numbers.now)) }
 {
     truths.len() == 0 && numbers.len() == 0
 }

@@ -33,7 +33,8 @@ pub fn view_value(
     u: AidlType,
     value: &Value,
 ) -> Result<Option<Value>, OutOfMemory>
-    ensures { IfOk result (λ o. option_map view o ≡ meant.view_of sender.now t receiver.now u (view value.now)) }
+    ensures { IfOk result (λ o. option_map view o
+        ≡ meant.view_of sender.now t receiver.now u (view value.now)) }
 {
     if !agree(sender, t, receiver, u) {
         return Ok(None);
@@ -85,7 +86,8 @@ fn view_items(
     u: AidlType,
     values: &[Value],
 ) -> Result<Option<Row<Value>>, OutOfMemory>
-    ensures { IfOk result (λ o. option_map views o ≡ meant.view_items sender.now t receiver.now u (views values.now)) }
+    ensures { IfOk result (λ o. option_map views o
+        ≡ meant.view_items sender.now t receiver.now u (views values.now)) }
 {
     let mut seen = Vec::with_capacity(alloc, values.len())?;
     for value in values {
@@ -107,7 +109,8 @@ fn view_truths(
     truths: &[bool],
 ) -> Result<Option<Value>, OutOfMemory>
     ensures { IfOk result (λ o. option_map view o ≡ option_map seq (meant.view_items
-        sender.now (elem sender.now t) receiver.now (elem receiver.now u) (items_of (map truth truths.now)))) }
+        sender.now (elem sender.now t) receiver.now
+        (elem receiver.now u) (items_of (map truth truths.now)))) }
 {
     if !stay(sender, t, receiver, u, truths.len()) {
         return Ok(None);
@@ -126,7 +129,8 @@ fn view_numbers(
     numbers: &Numbers,
 ) -> Result<Option<Value>, OutOfMemory>
     ensures { IfOk result (λ o. option_map view o ≡ option_map seq (meant.view_items
-        sender.now (elem sender.now t) receiver.now (elem receiver.now u) (items_of (map number numbers.now)))) }
+        sender.now (elem sender.now t) receiver.now
+        (elem receiver.now u) (items_of (map number numbers.now)))) }
 {
     if !stay(sender, t, receiver, u, numbers.len()) {
         return Ok(None);
@@ -162,7 +166,8 @@ fn view_record(
     values: &FieldValues<'_>,
 ) -> Result<Option<Value>, OutOfMemory>
     ensures { IfOk result (λ o. option_map view o ≡ option_map rec (meant.each_field
-        (λ g. field_view sender.now (parcelable_fields (form_of sender.now base)) receiver.now (views values.now) g)
+        (λ g. field_view sender.now (parcelable_fields (form_of sender.now base)) receiver.now
+        (views values.now) g)
         (parcelable_fields (form_of receiver.now other)))) }
 {
     let fields = parcelable_fields(receiver, other);
@@ -188,7 +193,8 @@ fn view_field(
     values: &FieldValues<'_>,
 ) -> Result<Option<Value>, OutOfMemory>
     ensures { IfOk result (λ o. option_map view o
-        ≡ field_view sender.now (parcelable_fields (form_of sender.now base)) receiver.now (views values.now) field.now) }
+        ≡ field_view sender.now (parcelable_fields (form_of sender.now base)) receiver.now
+        (views values.now) field.now) }
 {
     match place_sent(sender, base, &field.name.0, values.len()) {
         Some(place) => {
@@ -223,9 +229,11 @@ fn view_alternative(
     base: Base,
     value: &Value,
 ) -> Result<Option<Value>, OutOfMemory>
-    ensures { IfOk result (λ o. option_map view o ≡ meant.in_field (option_copied sent.entry) (λ f. meant.in_place
+    ensures { IfOk result (λ o. option_map view o
+        ≡ meant.in_field (option_copied sent.entry) (λ f. meant.in_place
         (meant.field_named 0 f.name.0 (union_fields (form_of receiver.now base)))
-        (λ j g. option_map (alt j) (meant.view_of sender.now f.ty receiver.now g.ty (view value.now))))) }
+        (λ j g. option_map
+        (alt j) (meant.view_of sender.now f.ty receiver.now g.ty (view value.now))))) }
 {
     let Some(field) = sent else {
         return Ok(None);

@@ -17,7 +17,8 @@ pub fn push_version(
     text: &mut String,
 ) -> Result<(), OutOfMemory>
     requires { is_whole ≡ whole.is_whole version.now }
-    ensures { OnOk result (string_bytes text.new ≡ string_bytes text.old ++ meant.version_line version.now) }
+    ensures { OnOk result (string_bytes text.new
+        ≡ string_bytes text.old ++ meant.version_line version.now) }
 {
     let number = version.number;
     write!(text, "{number} ")?;
@@ -33,7 +34,8 @@ fn push_words(
     text: &mut String,
 ) -> Result<(), OutOfMemory>
     requires { is_whole ≡ whole.is_whole version.now }
-    ensures { OnOk result (string_bytes text.new ≡ string_bytes text.old ++ meant.version_words version.now) }
+    ensures { OnOk result (string_bytes text.new
+        ≡ string_bytes text.old ++ meant.version_words version.now) }
 {
     if is_whole {
         push_whole(alloc, &version.kept, text)
@@ -44,7 +46,8 @@ fn push_words(
 }
 
 fn push_whole(alloc: Global, kept: &Option<Row<u8>>, text: &mut String) -> Result<(), OutOfMemory>
-    ensures { OnOk result (string_bytes text.new ≡ string_bytes text.old ++ meant.whole_words kept.now) }
+    ensures { OnOk result (string_bytes text.new
+        ≡ string_bytes text.old ++ meant.whole_words kept.now) }
 {
     match kept {
         None => Ok(()),
@@ -63,7 +66,8 @@ pub fn push_torn(
     defined: &[u8],
     text: &mut String,
 ) -> Result<(), OutOfMemory>
-    ensures { OnOk result (string_bytes text.new ≡ string_bytes text.old ++ meant.torn_words kept.now defined.now) }
+    ensures { OnOk result (string_bytes text.new
+        ≡ string_bytes text.old ++ meant.torn_words kept.now defined.now) }
 {
     push_reason(alloc, kept, text)?;
     push_digits(alloc, defined, text)

@@ -29,7 +29,8 @@ fn torn_line(
     kept: &Option<Row<u8>>,
     defined: &str,
 ) -> Result<String, OutOfMemory>
-    ensures { IfOk result (λ text. string_bytes text ≡ line (codes "torn " ++ (decimal version ++ (codes " " ++ meant.torn_words kept.now defined.now)))) }
+    ensures { IfOk result (λ text. string_bytes text ≡ line (codes "torn "
+        ++ (decimal version ++ (codes " " ++ meant.torn_words kept.now defined.now)))) }
 {
     let mut text = String::new(alloc);
     write!(text, "torn {version} ")?;

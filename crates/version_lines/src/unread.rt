@@ -23,7 +23,8 @@ pub fn bad_versions(alloc: Global, missing: u32) -> Early
 }
 
 fn missing_line(alloc: Global, missing: u32) -> Result<String, OutOfMemory>
-    ensures { IfOk result (λ text. string_bytes text ≡ line (codes "bad versions missing " ++ decimal missing)) }
+    ensures { IfOk result (λ text. string_bytes text
+        ≡ line (codes "bad versions missing " ++ decimal missing)) }
 {
     let mut text = String::new(alloc);
     writeln!(text, "bad versions missing {missing}")?;

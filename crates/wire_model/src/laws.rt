@@ -42,7 +42,8 @@ pub fn law_spelled_reads(
     requires deep { depth_of (view value.now) ≤ levels }
     requires few { levels ≤ 64 }
     requires small { length (spell schema.now.decls ty.now (view value.now)) ≤ 1048576 }
-    ensures { Reads profile schema.now.decls levels ty.now (spell schema.now.decls ty.now (view value.now)) (view value.now) }
+    ensures { Reads profile schema.now.decls levels ty.now
+        (spell schema.now.decls ty.now (view value.now)) (view value.now) }
 {}
 
 /// No reading is the front of a longer one of the same type and level, and a reading is of one value.
@@ -85,7 +86,8 @@ pub fn law_reads_or_stops(
         → Stops profile schema.now.decls levels ty.now b.now inside → ⊥ }
     ensures one_status { Stop profile schema.now.decls levels ty.now b.now inside first
         → Stop profile schema.now.decls levels ty.now b.now inside second → first ≡ second }
-    ensures status { (s : ℤ) → Stop profile schema.now.decls levels ty.now b.now inside s → IsStatus s }
+    ensures status { (s : ℤ) → Stop profile schema.now.decls levels ty.now b.now inside s
+        → IsStatus s }
 {
     law_sound(schema);
 }
@@ -102,13 +104,17 @@ pub fn law_read_of(
     inside: bool,
 )
     requires known { is_type schema.now.decls ty.now ≡ true }
-    ensures reads { (v : Data) (rest : List ℕ) → (read_of profile schema.now.decls levels ty.now inside b.now ≡ Ok (v, rest))
-        ↔ ((front : List ℕ) × (b.now ≡ front ++ rest) × Reads profile schema.now.decls levels ty.now front v) }
+    ensures reads { (v : Data) (rest : List ℕ)
+        → (read_of profile schema.now.decls levels ty.now inside b.now ≡ Ok (v, rest))
+        ↔ ((front : List ℕ) × (b.now ≡ front ++ rest)
+        × Reads profile schema.now.decls levels ty.now front v) }
     ensures stops { (s : ℤ) → (read_of profile schema.now.decls levels ty.now inside b.now ≡ Err s)
         ↔ Stop profile schema.now.decls levels ty.now b.now inside s }
-    ensures typed { (v : Data) (rest : List ℕ) → read_of profile schema.now.decls levels ty.now inside b.now ≡ Ok (v, rest)
+    ensures typed { (v : Data) (rest : List ℕ)
+        → read_of profile schema.now.decls levels ty.now inside b.now ≡ Ok (v, rest)
         → HasType schema.now.decls ty.now v }
-    ensures nodes { (v : Data) (rest : List ℕ) → read_of profile schema.now.decls levels ty.now inside b.now ≡ Ok (v, rest)
+    ensures nodes { (v : Data) (rest : List ℕ)
+        → read_of profile schema.now.decls levels ty.now inside b.now ≡ Ok (v, rest)
         → nodes_of v ≤ 64 * (length b.now - length rest) }
 {
     law_sound(schema);
@@ -154,11 +160,14 @@ pub fn law_view_reads(
     requires same { same a.now.decls t.now b.now.decls u.now ≡ true }
     requires fits { Fits a.now.decls t.now (view value.now) }
     requires small { length (spell a.now.decls t.now (view value.now)) ≤ 1048576 }
-    ensures reads { (w : Data) → view_of a.now.decls t.now b.now.decls u.now (view value.now) ≡ Some w
+    ensures reads { (w : Data)
+        → view_of a.now.decls t.now b.now.decls u.now (view value.now) ≡ Some w
         → Reads profile b.now.decls 64 u.now (spell a.now.decls t.now (view value.now)) w }
-    ensures typed { (w : Data) → view_of a.now.decls t.now b.now.decls u.now (view value.now) ≡ Some w → HasType b.now.decls u.now w }
+    ensures typed { (w : Data) → view_of a.now.decls t.now b.now.decls u.now (view value.now)
+        ≡ Some w → HasType b.now.decls u.now w }
     ensures stops { view_of a.now.decls t.now b.now.decls u.now (view value.now) ≡ None
-        → Stop profile b.now.decls 64 u.now (spell a.now.decls t.now (view value.now) ++ c.now) inside bad_value }
+        → Stop profile b.now.decls 64 u.now
+        (spell a.now.decls t.now (view value.now) ++ c.now) inside bad_value }
 {
     law_meets(a, b);
 }
@@ -167,7 +176,8 @@ pub fn law_view_reads(
 pub fn law_view_same(schema: &Schema, ty: &AidlType, value: &Value)
     requires known { is_type schema.now.decls ty.now ≡ true }
     requires typed { HasType schema.now.decls ty.now (view value.now) }
-    ensures { view_of schema.now.decls ty.now schema.now.decls ty.now (view value.now) ≡ Some (view value.now) }
+    ensures { view_of schema.now.decls ty.now schema.now.decls ty.now (view value.now)
+        ≡ Some (view value.now) }
 {
     law_chain(schema, schema, schema);
     law_meets(schema, schema);
@@ -177,14 +187,17 @@ pub fn law_view_same(schema: &Schema, ty: &AidlType, value: &Value)
 /// Of any two schemas: where a value has a view, this is what it is seen as: common fields are what they were, what the sender lacks is
 /// the default, and what the receiver lacks is dropped.
 pub fn law_seen_as(a: &Schema, b: &Schema)
-    ensures { (t u : AidlType) (v w : Data) → view_of a.now.decls t b.now.decls u v ≡ Some w → SeenAs a.now.decls t b.now.decls u v w }
+    ensures { (t u : AidlType) (v w : Data) → view_of a.now.decls t b.now.decls u v ≡ Some w
+        → SeenAs a.now.decls t b.now.decls u v w }
 {}
 
 /// Between two schemas of which one is a legal evolution of the other, a value of the sender's type has no view exactly where a tag in
 /// it, not below a field that is dropped, has no alternative of its name in the receiver's schema.
 pub fn law_view_none(a: &Schema, b: &Schema)
-    ensures { OneFollows a.now.decls b.now.decls → (t u : AidlType) (v : Data) → same a.now.decls t b.now.decls u ≡ true → HasType a.now.decls t v
-        → is_none (view_of a.now.decls t b.now.decls u v) ≡ has_unknown_tag a.now.decls t b.now.decls u v }
+    ensures { OneFollows a.now.decls b.now.decls → (t u : AidlType) (v : Data)
+        → same a.now.decls t b.now.decls u ≡ true → HasType a.now.decls t v
+        → is_none (view_of a.now.decls t b.now.decls u v)
+        ≡ has_unknown_tag a.now.decls t b.now.decls u v }
 {
     law_meets(a, b);
 }
@@ -192,13 +205,18 @@ pub fn law_view_none(a: &Schema, b: &Schema)
 /// The same of a call from a client `a` to a method of the server `b` that has its name: of the arguments, where what is sent of an `out` one
 /// isn't looked at, and of the result and the outs.
 pub fn law_call_none(a: &Schema, b: &Schema)
-    ensures sent { OneFollows a.now.decls b.now.decls → (i m j n : ℕ) (args : Items) → Reaches a.now.decls i m b.now.decls j n
+    ensures sent { OneFollows a.now.decls b.now.decls
+        → (i m j n : ℕ) (args : Items) → Reaches a.now.decls i m b.now.decls j n
         → ArgumentsFit a.now.decls (arguments a.now.decls i m) args
-        → is_none (view_arguments a.now.decls (arguments a.now.decls i m) b.now.decls (arguments b.now.decls j n) args) ≡ is_unknown_sent a.now.decls i m b.now.decls j n args }
-    ensures answered { OneFollows a.now.decls b.now.decls → (i m j n : ℕ) (result : Option Data) (outs : Items) → Reaches a.now.decls i m b.now.decls j n
+        → is_none (view_arguments a.now.decls (arguments a.now.decls i m) b.now.decls
+        (arguments b.now.decls j n) args) ≡ is_unknown_sent a.now.decls i m b.now.decls j n args }
+    ensures answered { OneFollows a.now.decls b.now.decls → (i m j n : ℕ)
+        (result : Option Data) (outs : Items) → Reaches a.now.decls i m b.now.decls j n
         → IsAnswer b.now.decls j n (returned result outs)
-        → (is_none (view_result b.now.decls (result_type b.now.decls j n) a.now.decls (result_type a.now.decls i m) result)
-        || is_none (view_values b.now.decls (out_types b.now.decls j n) a.now.decls (out_types a.now.decls i m) outs))
+        → (is_none (view_result b.now.decls (result_type b.now.decls j n) a.now.decls
+        (result_type a.now.decls i m) result)
+        || is_none (view_values b.now.decls (out_types b.now.decls j n) a.now.decls
+        (out_types a.now.decls i m) outs))
         ≡ is_unknown_answered a.now.decls i m b.now.decls j n result outs }
 {
     law_meets(a, b);
@@ -211,11 +229,14 @@ pub fn law_call_none(a: &Schema, b: &Schema)
 /// Where a stub calls a method, the code is the method's, and the values have the types of its arguments. A request is refused
 /// with UNKNOWN_TRANSACTION, with BAD_TYPE or with a status of reading.
 pub fn law_stub(profile: Profile, schema: &Schema, interface: u32, code: u32, bytes: &[u8])
-    ensures coded { (m : ℕ) (saw : Items) → stub profile schema.now.decls interface code bytes.now ≡ Ok (called m saw)
+    ensures coded { (m : ℕ) (saw : Items) → stub profile schema.now.decls interface code bytes.now
+        ≡ Ok (called m saw)
         → position_of_code (methods_at schema.now.decls interface) code ≡ Some m }
-    ensures typed { (m : ℕ) (saw : Items) → stub profile schema.now.decls interface code bytes.now ≡ Ok (called m saw)
+    ensures typed { (m : ℕ) (saw : Items) → stub profile schema.now.decls interface code bytes.now
+        ≡ Ok (called m saw)
         → AreArguments schema.now.decls interface m saw }
-    ensures status { (s : ℤ) → stub profile schema.now.decls interface code bytes.now ≡ Err s → IsTransport s }
+    ensures status { (s : ℤ) → stub profile schema.now.decls interface code bytes.now ≡ Err s
+        → IsTransport s }
 {
     law_sound(schema);
     law_valid(schema);
@@ -224,8 +245,10 @@ pub fn law_stub(profile: Profile, schema: &Schema, interface: u32, code: u32, by
 
 /// What a client gets of a method has the types of its result and of its outs. A reply is refused with a status of reading.
 pub fn law_client(profile: Profile, schema: &Schema, interface: u32, method: u32, bytes: &[u8])
-    ensures typed { (a : AnswerData) → client profile schema.now.decls interface method bytes.now ≡ Ok a → IsGot schema.now.decls interface method a }
-    ensures status { (s : ℤ) → client profile schema.now.decls interface method bytes.now ≡ Err s → IsStatus s }
+    ensures typed { (a : AnswerData) → client profile schema.now.decls interface method bytes.now
+        ≡ Ok a → IsGot schema.now.decls interface method a }
+    ensures status { (s : ℤ) → client profile schema.now.decls interface method bytes.now ≡ Err s
+        → IsStatus s }
 {
     law_sound(schema);
     law_valid(schema);
@@ -244,8 +267,10 @@ pub fn law_request_called(
     requires fits { ArgsFit schema.now.decls interface method (views args.now) }
     requires spelled { bytes.now ≡ request schema.now.decls interface method (views args.now) }
     requires small { length bytes.now ≤ 1048576 }
-    ensures { stub profile schema.now.decls interface (code_at schema.now.decls interface method) bytes.now
-        ≡ Ok (called method (opened_arguments schema.now.decls (arguments schema.now.decls interface method) (views args.now))) }
+    ensures { stub profile schema.now.decls interface
+        (code_at schema.now.decls interface method) bytes.now
+        ≡ Ok (called method (opened_arguments schema.now.decls
+        (arguments schema.now.decls interface method) (views args.now))) }
 {
     law_chain(schema, schema, schema);
     law_meets(schema, schema);
@@ -267,7 +292,8 @@ pub fn law_reply_got(
     requires there { method < length (methods_at schema.now.decls interface) }
     requires fits { AnswerFits schema.now.decls interface method (answer_of answer.now) }
     requires spelled { bytes.now ≡ reply schema.now.decls interface method (answer_of answer.now) }
-    ensures { client profile schema.now.decls interface method bytes.now ≡ Ok (answer_of answer.now) }
+    ensures { client profile schema.now.decls interface method bytes.now
+        ≡ Ok (answer_of answer.now) }
 {
     law_chain(schema, schema, schema);
     law_meets(schema, schema);
@@ -319,11 +345,13 @@ pub fn law_reply_seen(
 )
     requires unbroken { OneFollows a.now.decls b.now.decls }
     requires shared { declared_as b.now.decls (descriptor a.now.decls interface) ≡ Some other }
-    requires common { method_like (method_at a.now.decls interface method) (methods_at b.now.decls other) ≡ Some other_method }
+    requires common { method_like (method_at a.now.decls interface method)
+        (methods_at b.now.decls other) ≡ Some other_method }
     requires fits { AnswerFits b.now.decls other other_method (answer_of answer.now) }
     requires spelled { bytes.now ≡ reply b.now.decls other other_method (answer_of answer.now) }
     ensures { client profile a.now.decls interface method bytes.now
-        ≡ seen_answer b.now.decls other other_method a.now.decls interface method (answer_of answer.now) }
+        ≡ seen_answer b.now.decls other other_method a.now.decls interface method
+        (answer_of answer.now) }
 {
     law_meets(b, a);
     law_calls_meet(b, a);
@@ -349,25 +377,42 @@ pub fn law_outcome(
     requires fits { ArgsFit a.now.decls interface method (views args.now) }
     requires spelled { sent.now ≡ request a.now.decls interface method (views args.now) }
     requires small { length sent.now ≤ 1048576 }
-    ensures nowhere { OneFollows a.now.decls b.now.decls → declared_as b.now.decls (descriptor a.now.decls interface) ≡ None
-        → outcome a.now.decls interface method b.now.decls (views args.now) (answer_of answer.now) ≡ Err unknown_transaction }
-    ensures refused { OneFollows a.now.decls b.now.decls → declared_as b.now.decls (descriptor a.now.decls interface) ≡ Some other
-        → (s : ℤ) → stub profile b.now.decls other (code_at a.now.decls interface method) sent.now ≡ Err s
-        → outcome a.now.decls interface method b.now.decls (views args.now) (answer_of answer.now) ≡ Err s }
-    ensures never_left { OneFollows a.now.decls b.now.decls → declared_as b.now.decls (descriptor a.now.decls interface) ≡ Some other
-        → (n : ℕ) → stub profile b.now.decls other (code_at a.now.decls interface method) sent.now ≡ Ok (left n) → ⊥ }
-    ensures common { OneFollows a.now.decls b.now.decls → declared_as b.now.decls (descriptor a.now.decls interface) ≡ Some other
-        → (n : ℕ) (saw : Items) → stub profile b.now.decls other (code_at a.now.decls interface method) sent.now ≡ Ok (called n saw)
-        → method_like (method_at a.now.decls interface method) (methods_at b.now.decls other) ≡ Some n }
-    ensures oneway { OneFollows a.now.decls b.now.decls → declared_as b.now.decls (descriptor a.now.decls interface) ≡ Some other
-        → (n : ℕ) (saw : Items) → stub profile b.now.decls other (code_at a.now.decls interface method) sent.now ≡ Ok (called n saw)
+    ensures nowhere { OneFollows a.now.decls b.now.decls
+        → declared_as b.now.decls (descriptor a.now.decls interface) ≡ None
+        → outcome a.now.decls interface method b.now.decls (views args.now) (answer_of answer.now)
+        ≡ Err unknown_transaction }
+    ensures refused { OneFollows a.now.decls b.now.decls
+        → declared_as b.now.decls (descriptor a.now.decls interface) ≡ Some other
+        → (s : ℤ) → stub profile b.now.decls other
+        (code_at a.now.decls interface method) sent.now ≡ Err s
+        → outcome a.now.decls interface method b.now.decls
+        (views args.now) (answer_of answer.now) ≡ Err s }
+    ensures never_left { OneFollows a.now.decls b.now.decls
+        → declared_as b.now.decls (descriptor a.now.decls interface) ≡ Some other
+        → (n : ℕ) → stub profile b.now.decls other (code_at a.now.decls interface method) sent.now
+        ≡ Ok (left n) → ⊥ }
+    ensures common { OneFollows a.now.decls b.now.decls
+        → declared_as b.now.decls (descriptor a.now.decls interface) ≡ Some other
+        → (n : ℕ) (saw : Items) → stub profile b.now.decls other
+        (code_at a.now.decls interface method) sent.now ≡ Ok (called n saw)
+        → method_like (method_at a.now.decls interface method)
+        (methods_at b.now.decls other) ≡ Some n }
+    ensures oneway { OneFollows a.now.decls b.now.decls
+        → declared_as b.now.decls (descriptor a.now.decls interface) ≡ Some other
+        → (n : ℕ) (saw : Items) → stub profile b.now.decls other
+        (code_at a.now.decls interface method) sent.now ≡ Ok (called n saw)
         → is_oneway b.now.decls other n ≡ true
-        → outcome a.now.decls interface method b.now.decls (views args.now) (answer_of answer.now) ≡ Ok (oneway saw) }
-    ensures done { OneFollows a.now.decls b.now.decls → declared_as b.now.decls (descriptor a.now.decls interface) ≡ Some other
-        → (n : ℕ) (saw : Items) → stub profile b.now.decls other (code_at a.now.decls interface method) sent.now ≡ Ok (called n saw)
-        → is_oneway b.now.decls other n ≡ false → AnswerFits b.now.decls other n (answer_of answer.now)
+        → outcome a.now.decls interface method b.now.decls (views args.now) (answer_of answer.now)
+        ≡ Ok (oneway saw) }
+    ensures done { OneFollows a.now.decls b.now.decls
+        → declared_as b.now.decls (descriptor a.now.decls interface) ≡ Some other
+        → (n : ℕ) (saw : Items) → stub profile b.now.decls other
+        (code_at a.now.decls interface method) sent.now ≡ Ok (called n saw)
+        → is_oneway b.now.decls other n ≡ false
+        → AnswerFits b.now.decls other n (answer_of answer.now)
         → replied.now ≡ reply b.now.decls other n (answer_of answer.now)
-        → outcome a.now.decls interface method b.now.decls (views args.now) (answer_of answer.now) ≡ Ok (done saw (client profile a.now.decls interface method replied.now)) }
+        → outcome a.now.decls interface method b.now.decls (views args.now) (answer_of answer.now)
+        ≡ Ok (done saw (client profile a.now.decls interface method replied.now)) }
 {
     law_meets(a, b);
     law_meets(b, a);
@@ -390,11 +435,15 @@ pub fn law_outcome_within(
 )
     requires there { method < length (methods_at schema.now.decls interface) }
     requires fits { ArgsFit schema.now.decls interface method (views args.now) }
-    ensures declared { declared_as schema.now.decls (descriptor schema.now.decls interface) ≡ Some interface }
-    ensures like { method_like (method_at schema.now.decls interface method) (methods_at schema.now.decls interface) ≡ Some method }
+    ensures declared { declared_as schema.now.decls (descriptor schema.now.decls interface)
+        ≡ Some interface }
+    ensures like { method_like (method_at schema.now.decls interface method)
+        (methods_at schema.now.decls interface) ≡ Some method }
     ensures comes { AnswerFits schema.now.decls interface method (answer_of answer.now)
-        → outcome schema.now.decls interface method schema.now.decls (views args.now) (answer_of answer.now)
-        ≡ Ok (outcome_within schema.now.decls interface method (views args.now) (answer_of answer.now)) }
+        → outcome schema.now.decls interface method schema.now.decls
+        (views args.now) (answer_of answer.now)
+        ≡ Ok
+        (outcome_within schema.now.decls interface method (views args.now) (answer_of answer.now)) }
 {
     law_chain(schema, schema, schema);
     law_meets(schema, schema);

@@ -70,7 +70,8 @@ fn project_argument(
 ) -> Result<Option<Value>, OutOfMemory>
     requires { is_type ends.now.receiver.now wanted.now.ty ≡ true }
     ensures { IfOk result (λ o. option_map view o
-        ≡ argument_seen ends.now.sender.now (option_copied sent.entry) ends.now.receiver.now wanted.now
+        ≡ argument_seen ends.now.sender.now
+        (option_copied sent.entry) ends.now.receiver.now wanted.now
         (option_map view (option_copied value.entry))) }
 {
     let Some(sent) = sent else {
@@ -92,7 +93,8 @@ fn project_sent(
 ) -> Result<Option<Value>, OutOfMemory>
     requires { is_type ends.now.receiver.now wanted.now.ty ≡ true }
     ensures { IfOk result (λ o. option_map view o
-        ≡ projected_argument ends.now.sender.now sent.now ends.now.receiver.now wanted.now (view value.now)) }
+        ≡ projected_argument ends.now.sender.now sent.now ends.now.receiver.now wanted.now
+        (view value.now)) }
 {
     if is_out(wanted.way) {
         if is_out(sent.way)

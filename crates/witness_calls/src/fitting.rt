@@ -21,7 +21,8 @@ const MOST_LEVELS: usize = 64;
 
 /// Whether arguments fit a method. It takes no memory.
 pub fn args_fit(client: &VersionMethod<'_, '_>, values: &[Value]) -> bool
-    ensures { IsTrue result ↔ ArgsFit client.now.decls client.now.interface client.now.method (views values.now) }
+    ensures { IsTrue result
+        ↔ ArgsFit client.now.decls client.now.interface client.now.method (views values.now) }
 {
     let args = client.declared().args.as_slice();
     if !arguments_fit(client.schema(), args, values) {
@@ -140,7 +141,8 @@ fn asked_length(arg: &Arg, value: &Value) -> usize
 /// Whether an answer is one of a method. It takes no memory.
 #[tactic(auto, using(crate::proofs::Tests::first_fails, crate::proofs::Tests::second))]
 pub fn is_answer(server: &VersionMethod<'_, '_>, answer: &Answer) -> bool
-    ensures { IsTrue result ↔ IsAnswer server.now.decls server.now.interface server.now.method (answer_of answer.now) }
+    ensures { IsTrue result
+        ↔ IsAnswer server.now.decls server.now.interface server.now.method (answer_of answer.now) }
 {
     match answer {
         Answer::Returned { result, outs } => {

@@ -38,7 +38,8 @@ impl<'a> Model for NamedDecl<'a> {
     ghost view = { λ named. named.decl.now };
 
     ghost invariant = { λ named. record {
-      methods : (q : List ℕ) → get_by (λ k. bytes_eq q k.now) named.methods ≡ method_from q 0 (methods_of named.decl.now.kind);
+      methods : (q : List ℕ) → get_by (λ k. bytes_eq q k.now) named.methods
+          ≡ method_from q 0 (methods_of named.decl.now.kind);
       ids : (n : ℕ) → get nat_eq named.ids n ≡ id_from n 0 (methods_of named.decl.now.kind);
     } };
 }
@@ -88,7 +89,8 @@ fn methods_by_name<'a>(
     alloc: Global,
     methods: &'a [Method],
 ) -> Result<IndexMap<&'a str, usize>, OutOfMemory>
-    ensures { IfOk result (λ table. (q : List ℕ) → get_by (λ k. bytes_eq q k.now) table ≡ method_from q 0 methods.now) }
+    ensures { IfOk result (λ table. (q : List ℕ)
+        → get_by (λ k. bytes_eq q k.now) table ≡ method_from q 0 methods.now) }
 {
     let mut table = IndexMap::with_capacity(alloc, methods.len())?;
     for i in (0..methods.len()).rev() {

@@ -22,7 +22,8 @@ pub fn declared_as(
     client: &VersionMethod<'_, '_>,
     server: &Schema,
 ) -> Result<Option<u32>, OutOfMemory>
-    ensures { IfOk result (λ j. j ≡ meant.declared_as server.now.decls (descriptor client.now.decls client.now.interface)) }
+    ensures { IfOk result (λ j. j
+        ≡ meant.declared_as server.now.decls (descriptor client.now.decls client.now.interface)) }
 {
     let name = descriptor_of(alloc, client.schema(), client.interface())?;
     Ok(find(server, name.as_str()))
@@ -34,7 +35,8 @@ pub fn method_like(
     server: &Version<'_>,
     interface: u32,
 ) -> Option<u32>
-    ensures like { result ≡ meant.method_like (method_at client.now.decls client.now.interface client.now.method)
+    ensures like { result ≡ meant.method_like
+        (method_at client.now.decls client.now.interface client.now.method)
         (methods_at server.now interface) }
     ensures within { IfSome result (λ n. n < length (methods_at server.now interface)) }
 {
@@ -69,7 +71,8 @@ pub fn counterpart<'v, 'a>(
     client: &VersionMethod<'_, '_>,
     server: &'v Version<'a>,
 ) -> Result<Option<VersionMethod<'v, 'a>>, OutOfMemory>
-    ensures { IfOk result (λ o. o ≡ callee_at server.now (counterpart client.now.decls client.now.interface client.now.method server.now)) }
+    ensures { IfOk result (λ o. o ≡ callee_at server.now
+        (counterpart client.now.decls client.now.interface client.now.method server.now)) }
 {
     let Some(interface) = declared_as(alloc, client, server.schema())? else {
         return Ok(None);

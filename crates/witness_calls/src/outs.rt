@@ -29,7 +29,8 @@ pub fn project_result(
 ) -> Result<Option<Option<Value>>, OutOfMemory>
     requires { is_result_type ends.now.receiver.now wanted ≡ true }
     ensures { IfOk result (λ o. option_map optional_view o
-        ≡ projected_result ends.now.sender.now sent ends.now.receiver.now wanted (optional_view value.now)) }
+        ≡ projected_result ends.now.sender.now sent ends.now.receiver.now wanted
+        (optional_view value.now)) }
 {
     match wanted {
         Some(wanted) => {
@@ -50,7 +51,8 @@ fn project_returned(
 ) -> Result<Option<Value>, OutOfMemory>
     requires { is_passed_type ends.now.receiver.now wanted ≡ true }
     ensures { IfOk result (λ o. option_map Some (option_map view o)
-        ≡ projected_result ends.now.sender.now sent ends.now.receiver.now (Some wanted) (optional_view value.now)) }
+        ≡ projected_result ends.now.sender.now sent ends.now.receiver.now
+        (Some wanted) (optional_view value.now)) }
 {
     let Some(sent) = sent else {
         return some_default(alloc, ends.receiver, wanted);
@@ -81,7 +83,8 @@ pub fn project_outs(
 ) -> Result<Option<Row<Value>>, OutOfMemory>
     requires { list_all (λ a. is_passed_type ends.now.receiver.now a.ty) wanted.now ≡ true }
     ensures { IfOk result (λ o. option_map views o
-        ≡ projected_outs ends.now.sender.now sent.now ends.now.receiver.now wanted.now (views values.now)) }
+        ≡ projected_outs ends.now.sender.now sent.now ends.now.receiver.now wanted.now
+        (views values.now)) }
 {
     let mut seen = Vec::with_capacity(alloc, wanted.len())?;
     let mut left = values;
@@ -106,7 +109,8 @@ fn push_out(
     seen: &mut Vec<Value>,
 ) -> Result<bool, OutOfMemory>
     requires { is_type ends.now.receiver.now wanted.now.ty ≡ true }
-    ensures { IfOk result (λ going. Puts seen.old.items seen.new.items going (λ others. out_first wanted.now
+    ensures { IfOk result (λ going. Puts seen.old.items seen.new.items going
+        (λ others. out_first wanted.now
         (out_seen ends.now.sender.now (option_copied sent.entry) ends.now.receiver.now wanted.now
         (first_of (views values.now))) others)) }
 {
@@ -155,7 +159,8 @@ fn project_sent_out(
 ) -> Result<Option<Value>, OutOfMemory>
     requires { is_type ends.now.receiver.now wanted.now.ty ≡ true }
     ensures { IfOk result (λ o. option_map view o
-        ≡ projected_out ends.now.sender.now sent.now ends.now.receiver.now wanted.now (first_of (views values.now))) }
+        ≡ projected_out ends.now.sender.now sent.now ends.now.receiver.now wanted.now
+        (first_of (views values.now))) }
 {
     match values {
         [] => some_default(alloc, ends.receiver, wanted.ty),

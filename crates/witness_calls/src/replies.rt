@@ -33,8 +33,10 @@ pub fn counted_reply(
     answer: &Option<Answer>,
 ) -> Result<Option<Row<u8>>, OutOfMemory>
     ensures { IfOk result (λ o. IsCounted
-        (IsAnswerOf server.now.decls server.now.interface server.now.method (option_map answer_of answer.now))
-        (answer_bytes server.now.decls server.now.interface server.now.method (option_map answer_of answer.now)) o) }
+        (IsAnswerOf server.now.decls server.now.interface server.now.method
+        (option_map answer_of answer.now))
+        (answer_bytes server.now.decls server.now.interface server.now.method
+        (option_map answer_of answer.now)) o) }
 {
     match answer {
         Some(answer) => counted_answer(alloc, server, answer),
@@ -48,7 +50,8 @@ fn counted_answer(
     server: &VersionMethod<'_, '_>,
     answer: &Answer,
 ) -> Result<Option<Row<u8>>, OutOfMemory>
-    ensures { IfOk result (λ o. IsCounted (IsAnswer server.now.decls server.now.interface server.now.method (answer_of answer.now))
+    ensures { IfOk result (λ o. IsCounted
+        (IsAnswer server.now.decls server.now.interface server.now.method (answer_of answer.now))
         (reply server.now.decls server.now.interface server.now.method (answer_of answer.now)) o) }
 {
     if !is_answer(server, answer) {
@@ -73,7 +76,8 @@ pub fn compare_reply(
         (read_reply client.now.decls client.now.interface client.now.method
         server.now.decls server.now.interface server.now.method bytes.now)
         (projected_reply server.now.decls server.now.interface server.now.method
-        client.now.decls client.now.interface client.now.method (option_map answer_of answer.now)) c) }
+        client.now.decls client.now.interface client.now.method
+        (option_map answer_of answer.now)) c) }
 {
     let read = read_reply(alloc, client, server, bytes)?;
     let got = project_answer(alloc, server, client, answer)?;
@@ -156,7 +160,8 @@ fn project_values(
     outs: &[Value],
 ) -> Result<Got, OutOfMemory>
     ensures { IfOk result (λ got. got_of got
-        ≡ projected_answer server.now.decls server.now.interface server.now.method client.now.decls client.now.interface client.now.method
+        ≡ projected_answer server.now.decls server.now.interface
+        server.now.method client.now.decls client.now.interface client.now.method
         (Some (calls.returned (optional_view value.now) (views outs.now)))) }
 {
     let ends = Ends {

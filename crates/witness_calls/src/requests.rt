@@ -36,7 +36,8 @@ pub fn counted_request(
     client: &VersionMethod<'_, '_>,
     args: &[Value],
 ) -> Result<Option<Row<u8>>, OutOfMemory>
-    ensures { IfOk result (λ o. IsCounted (ArgsFit client.now.decls client.now.interface client.now.method (views args.now))
+    ensures { IfOk result (λ o. IsCounted
+        (ArgsFit client.now.decls client.now.interface client.now.method (views args.now))
         (request client.now.decls client.now.interface client.now.method (views args.now)) o) }
 {
     if !args_fit(client, args) {
@@ -57,8 +58,10 @@ pub fn compare_request(
     args: &[Value],
     bytes: &[u8],
 ) -> Result<Compared, OutOfMemory>
-    ensures { IfOk result (λ c. AreCompared (read_request client.now.decls client.now.interface client.now.method server.now bytes.now)
-        (projected_request client.now.decls client.now.interface client.now.method server.now (views args.now)) c) }
+    ensures { IfOk result (λ c. AreCompared
+        (read_request client.now.decls client.now.interface client.now.method server.now bytes.now)
+        (projected_request client.now.decls client.now.interface client.now.method server.now
+        (views args.now)) c) }
 {
     let read = read_request(alloc, client, server, bytes)?;
     let projected = project_request(alloc, client, server, args)?;
@@ -73,7 +76,8 @@ fn read_request(
     bytes: &[u8],
 ) -> Result<Reading, OutOfMemory>
     ensures { IfOk result (λ r. reading_seen r
-        ≡ read_request client.now.decls client.now.interface client.now.method server.now bytes.now) }
+        ≡ read_request client.now.decls client.now.interface
+        client.now.method server.now bytes.now) }
 {
     match declared_as(alloc, client, server.schema())? {
         Some(interface) => read_in(alloc, client, server, interface, bytes),
@@ -122,7 +126,8 @@ fn project_request(
     args: &[Value],
 ) -> Result<Reading, OutOfMemory>
     ensures { IfOk result (λ r. reading_seen r
-        ≡ projected_request client.now.decls client.now.interface client.now.method server.now (views args.now)) }
+        ≡ projected_request client.now.decls client.now.interface client.now.method server.now
+        (views args.now)) }
 {
     match declared_as(alloc, client, server.schema())? {
         Some(interface) => project_in(alloc, client, server, interface, args),
@@ -139,7 +144,8 @@ fn project_in(
     args: &[Value],
 ) -> Result<Reading, OutOfMemory>
     ensures { IfOk result (λ r. reading_seen r
-        ≡ side_of (called_in client.now.decls client.now.interface client.now.method server.now interface (views args.now))) }
+        ≡ side_of (called_in client.now.decls
+        client.now.interface client.now.method server.now interface (views args.now))) }
 {
     match method_like(client, server, interface) {
         Some(method) => {

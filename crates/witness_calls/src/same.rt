@@ -108,7 +108,8 @@ fn same_got(a: &Got, b: &Got) -> bool
 }
 
 fn is_returned(got: &Got, value: &Option<Value>, values: &[Value]) -> bool
-    ensures { IsTrue result ↔ (Ok (returned (optional_view value.now) (views values.now)) ≡ got_of got.now) }
+    ensures { IsTrue result
+        ↔ (Ok (returned (optional_view value.now) (views values.now)) ≡ got_of got.now) }
 {
     match got {
         Got::Returned { result, outs } => {

@@ -113,7 +113,8 @@ impl<'a> Version<'a> {
 
     /// The position of the method that has the name of another one. It takes no memory.
     pub fn method_like(&self, interface: u32, method: &Method) -> Option<usize>
-        ensures { result ≡ position (λ w. same_method method.now w) (methods_at self.now interface) }
+        ensures { result ≡ position (λ w. same_method method.now w)
+            (methods_at self.now interface) }
     {
         self.method_named(interface, method.name.0.as_str())
     }

@@ -109,7 +109,8 @@ fn weigh_request(
     args: &[Value],
 ) -> Result<Option<(Row<u8>, Compared)>, OutOfMemory>
     requires { method < length (methods_at client.now interface) }
-    ensures { IfOk result (λ o. IsWeighed client.now server.now (candidate.request false interface method (views args.now)) o) }
+    ensures { IfOk result (λ o. IsWeighed client.now server.now
+        (candidate.request false interface method (views args.now)) o) }
 {
     let callee = client.callee(interface, method);
     weigh_call(alloc, &callee, server, args)
@@ -122,11 +123,13 @@ fn weigh_call(
     server: &Version<'_>,
     args: &[Value],
 ) -> Result<Option<(Row<u8>, Compared)>, OutOfMemory>
-    ensures { IfOk result (λ o. IsWeighedBy (ArgsFit client.now.decls client.now.interface client.now.method (views args.now))
+    ensures { IfOk result (λ o. IsWeighedBy
+        (ArgsFit client.now.decls client.now.interface client.now.method (views args.now))
         (request client.now.decls client.now.interface client.now.method (views args.now))
         (read_request client.now.decls client.now.interface client.now.method server.now
         (request client.now.decls client.now.interface client.now.method (views args.now)))
-        (projected_request client.now.decls client.now.interface client.now.method server.now (views args.now)) o) }
+        (projected_request client.now.decls client.now.interface client.now.method server.now
+        (views args.now)) o) }
 {
     match counted_request(alloc, client, args)? {
         Some(bytes) => {
@@ -162,7 +165,8 @@ fn weigh_by_name(
     answer: &Option<Answer>,
 ) -> Result<Option<(Row<u8>, Compared)>, OutOfMemory>
     ensures { IfOk result (λ o. IsWeighed client.now.decls server.now
-        (candidate.reply false client.now.interface client.now.method (option_map answer_of answer.now)) o) }
+        (candidate.reply false client.now.interface client.now.method
+        (option_map answer_of answer.now)) o) }
 {
     match counterpart(alloc, client, server)? {
         Some(target) => {
@@ -181,12 +185,17 @@ fn weigh_answer(
     answer: &Option<Answer>,
 ) -> Result<Option<(Row<u8>, Compared)>, OutOfMemory>
     ensures { IfOk result (λ o. IsWeighedBy
-        (IsAnswerOf server.now.decls server.now.interface server.now.method (option_map answer_of answer.now))
-        (answer_bytes server.now.decls server.now.interface server.now.method (option_map answer_of answer.now))
-        (read_reply client.now.decls client.now.interface client.now.method server.now.decls server.now.interface server.now.method
-        (answer_bytes server.now.decls server.now.interface server.now.method (option_map answer_of answer.now)))
+        (IsAnswerOf server.now.decls server.now.interface server.now.method
+        (option_map answer_of answer.now))
+        (answer_bytes server.now.decls server.now.interface server.now.method
+        (option_map answer_of answer.now))
+        (read_reply client.now.decls client.now.interface
+        client.now.method server.now.decls server.now.interface server.now.method
+        (answer_bytes server.now.decls server.now.interface server.now.method
+        (option_map answer_of answer.now)))
         (projected_reply server.now.decls server.now.interface server.now.method
-        client.now.decls client.now.interface client.now.method (option_map answer_of answer.now)) o) }
+        client.now.decls client.now.interface client.now.method
+        (option_map answer_of answer.now)) o) }
 {
     match counted_reply(alloc, server, answer)? {
         Some(bytes) => {

@@ -45,7 +45,13 @@ const FOUR: Wanted = Wanted {
 };
 
 fn one(base: Base) -> AidlType
-    ensures { result ≡ record { base = base; shape = Shape.One; nullable = false; heap = false; utf8 = false } }
+    ensures { result ≡ record {
+      base = base;
+      shape = Shape.One;
+      nullable = false;
+      heap = false;
+      utf8 = false;
+    } }
 {
     AidlType {
         base,
