@@ -1,5 +1,5 @@
 -- Where as many fields are found as there are keys, each key names a field.
-use Rattle.std.proofs.Common.{◌≡◌, ℕ, zero, suc, ◌+◌, ◌≤◌, Bool, true, false, cond, List, [], ◌∷◌, Option, Some, None, slice_get, is_some, Ordering, Less, Equal, Greater, refl, sym, ap, ◌∙◌, arith, true≢false}
+use Rattle.std.proofs.Common.{◌≡◌, ℕ, zero, suc, ◌+◌, ◌≤◌, Bool, true, false, cond, List, [], ◌∷◌, take, length, Option, Some, None, slice_get, is_some, Ordering, Less, Equal, Greater, refl, sym, ap, ◌∙◌, arith, true≢false}
 use Rattle.std.specs.Prelude.{if◌then◌else◌}
 use Rattle.std.specs.Cmp.Lexicographic.{slice_cmp}
 use Rattle.std.specs.List.{count_by, list_any}
@@ -15,6 +15,7 @@ use Rattle.aidl_schema.specs.Holds.{AreApart}
 use Rattle.aidl_base.proofs.lemmas.Tests.{neither}
 use Rattle.json_values.specs.FromJson.{has_name, unknown_in}
 use Rattle.json_writing.specs.Named.{bytes_of}
+use Rattle.json_values.specs.steps.Defaults.{AreMissing}
 use Rattle.json_values.proofs.Names.{name_of_field, later_fields, names_differ}
 use Rattle.json_values.proofs.lemmas.Names.{text_apart}
 
@@ -87,3 +88,48 @@ all_known fs apart (json.member l j ms) all = by (list_any (λ f. has_name l f) 
     by : (b : Bool) → list_any (λ f. has_name l f) fs ≡ b → (members_len ms ≤ count_by (is_found ms) fs → unknown_in fs ms ≡ None) → (if b then unknown_in fs ms else Some l) ≡ None
     by true is rest = let more = one_more l j ms fs apart in rest (omega arith)
     by false is rest = let same = none_more l j ms fs is in let few = few_found fs apart ms in absurd (omega arith)
+
+-- a field that is found behind a position is one more than those before
+found_behind : (ms : json.Members) (fs : List Field) (i k : ℕ) (f : Field) → i ≤ k → slice_get fs k ≡ Some f → is_found ms f ≡ true → suc (count_by (is_found ms) (take i fs)) ≤ count_by (is_found ms) fs
+found_behind ms [] i k f le at is = absurd (true≢false (sym (ap is_some at)))
+found_behind ms (g ∷ fs) zero zero f le at is =
+    let here : is_found ms g ≡ true = ap (λ (o : Option Field). found_in o) at ∙ is in
+    omega (arith, found-cons ms g fs, ap one_if here)
+  where
+    found_in : Option Field → Bool
+    found_in None = false
+    found_in (Some x) = is_found ms x
+found_behind ms (g ∷ fs) zero (suc k) f le at is = let later = found_behind ms fs 0 k f (omega arith) at is in omega (arith, found-cons ms g fs, later)
+found_behind ms (g ∷ fs) (suc i) zero f le at is = absurd (omega arith)
+found_behind ms (g ∷ fs) (suc i) (suc k) f le at is =
+    let later = found_behind ms fs i k f (omega arith) at is in
+    omega (arith, found-cons ms g fs, found-cons ms g (take i fs), later)
+
+found_before : (ms : json.Members) (fs : List Field) (i : ℕ) → count_by (is_found ms) (take i fs) ≤ count_by (is_found ms) fs
+found_before ms fs zero = omega arith
+found_before ms [] (suc i) = omega arith
+found_before ms (f ∷ fs) (suc i) = let later = found_before ms fs i in omega (arith, found-cons ms f fs, found-cons ms f (take i fs), later)
+
+-- where as many fields are found before a position as there are keys, each key names a field
+pub known_before : (fs : List Field) → AreApart name_of_field fs → (ms : json.Members) (i : ℕ) → members_len ms ≤ count_by (is_found ms) (take i fs) → unknown_in fs ms ≡ None
+known_before fs apart ms i all = let before = found_before ms fs i in all_known fs apart ms (omega arith)
+
+-- and no field from there on is found
+pub missing_behind : (fs : List Field) → AreApart name_of_field fs → (ms : json.Members) (i : ℕ) → members_len ms ≤ count_by (is_found ms) (take i fs) → AreMissing ms i fs
+missing_behind fs apart ms i all k f le at = by (get_member (bytes_of f.name) ms) refl
+  where
+    by : (o : Option json.Data) → get_member (bytes_of f.name) ms ≡ o → get_member (bytes_of f.name) ms ≡ None
+    by None is = is
+    by (Some j) is =
+        let more = found_behind ms fs i k f le at (ap is_some is) in
+        let few = few_found fs apart ms in
+        absurd (omega arith)
+
+-- no field stands behind the last
+pub missing_after : (fs : List Field) (ms : json.Members) → AreMissing ms (length fs) fs
+missing_after fs ms k f le at = absurd (true≢false (sym (ap is_some (sym (outside fs k le) ∙ at))))
+  where
+    outside : (gs : List Field) (n : ℕ) → length gs ≤ n → slice_get gs n ≡ None
+    outside [] n le = refl
+    outside (g ∷ gs) zero le = absurd (omega arith)
+    outside (g ∷ gs) (suc n) le = outside gs n (omega arith)

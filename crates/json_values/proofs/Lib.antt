@@ -5,6 +5,7 @@ mod Fits
 mod JsonTexts
 mod Loops
 mod Members
+mod Missing
 mod Names
 mod Parts
 mod Plain

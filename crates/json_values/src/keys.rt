@@ -6,6 +6,7 @@ ghost use Rattle.aidl_schema.specs.Holds.{AreApart};
 ghost use Rattle.aidl_schema.specs.Same.{same_text};
 ghost use Rattle.json_values.specs.FromJson as answer;
 ghost use Rattle.json_writing.specs.Named.{bytes_of};
+ghost use Rattle.json_values.specs.steps.Defaults.{AreMissing};
 ghost use Rattle.json_values.specs.steps.Gives.{Gives};
 
 use crate::fault::{Fault, Reason, refused};
@@ -18,34 +19,39 @@ use json_writing::is_called;
 use serde_json::{Map, Value as Json};
 use std::alloc::Global;
 
-// Refuses the least key that names no field. Where as many fields are found as there are keys, each key names one, so
-// the keys are looked through only for a refusal.
+// Refuses the least key that names no field; else the number of fields up to the last that has a key. Once as many fields are
+// found as there are keys, each key names one, and no field behind has any: so the keys are looked through only for a refusal.
 pub fn check_keys<'a>(
     alloc: Global,
     hints: &mut Hints<'a>,
     base: Base,
     fields: &'a [Field],
     members: &Map<String, Json>,
-) -> Result<(), Fault<Reason>>
+) -> Result<usize, Fault<Reason>>
     requires { AreApart (λ f. f.name.0) fields.now }
-    ensures { Gives (λ _. tt) result
+    ensures known { Gives (λ _. tt) result
         (answer.known_from (answer.unknown_in fields.now (members_view members.now.entries))) }
+    ensures missing { IfOk result
+        (λ given. AreMissing (members_view members.now.entries) given fields.now) }
 {
     let mut found: usize = 0;
-    for field in fields {
+    for (i, field) in fields.iter().enumerate() {
+        if found == members.len() {
+            return Ok(i);
+        }
         if member_of(members, field.name.0.as_str()).is_some() {
             found += 1;
         }
     }
     if found == members.len() {
-        return Ok(());
+        return Ok(fields.len());
     }
     match unknown_key(alloc, hints, base, fields, members)? {
         Some(key) => {
             let fault = refused(alloc, Reason::UnknownKey);
             Err(below_key(alloc, key, fault))
         }
-        None => Ok(()),
+        None => Ok(fields.len()),
     }
 }
 

@@ -1,6 +1,7 @@
 //! JSON as values, by the types of a schema, with refusals that name their place as a JSON pointer (RFC 6901).
 #![tactic(auto)]
 
+mod default_rows;
 mod enumerators;
 mod fault;
 mod hints;
@@ -18,7 +19,6 @@ mod side_by_side;
 mod unions;
 
 pub use fault::{Fault, JsonFault, Reason};
-pub use hints::Hints;
 pub use json_text::parse_json;
 pub use json_writing::to_json;
 pub use laws::law_json_reads_back;

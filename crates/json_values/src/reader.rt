@@ -1,5 +1,7 @@
-//! What goes with a JSON value on the way down.
+//! What goes with a JSON value on the way down, and what is kept while it is read.
 
+use crate::default_rows::DefaultRows;
+use crate::hints::Hints;
 use aidl_schema::Schema;
 use std::alloc::Global;
 
@@ -10,4 +12,11 @@ pub struct Reader<'a> {
     pub alloc: Global,
     pub schema: &'a Schema,
     pub levels: usize,
+}
+
+// What is kept while one JSON value is read: where members stand by their names, and the defaults that objects have left out.
+#[derive(Drop)]
+pub struct Kept<'a> {
+    pub hints: Hints<'a>,
+    pub defaults: DefaultRows<'a>,
 }

@@ -12,10 +12,11 @@ ghost use Rattle.json_values.specs.steps.Levels.{part_of, default_in};
 ghost use Rattle.aidl_values.specs.steps.Levels.{is_level_left};
 ghost use Rattle.json_values.specs.steps.Gives.{Gives};
 
+use crate::default_rows::DefaultRows;
 use crate::fault::{Fault, JsonFault, Reason, refused, reported};
 use crate::hints::Hints;
 use crate::numbers::{number_value, plain_number};
-use crate::reader::Reader;
+use crate::reader::{Kept, Reader};
 use crate::records::read_record;
 use crate::scalars::{read_number, read_text, read_truth};
 use crate::sequences::read_sequence;
@@ -64,33 +65,38 @@ fn read_fitting(
 {
     law_valid(schema);
     law_sound(schema);
-    let mut hints = Hints::new(alloc);
+    let mut kept = Kept {
+        hints: Hints::new(alloc),
+        defaults: DefaultRows::new(alloc, schema),
+    };
     let reader = Reader {
         alloc,
         schema,
         levels: LEVELS,
     };
-    read_within(&reader, &mut hints, ty, json)
+    read_within(&reader, &mut kept, ty, json)
 }
 
 // A part, which has one level fewer.
 #[cycle(reading)]
 pub fn read_part<'a>(
     reader: &Reader<'a>,
-    hints: &mut Hints<'a>,
+    kept: &mut Kept<'a>,
     ty: AidlType,
     json: &Json,
 ) -> Result<Value, Fault<Reason>>
     requires left { 0 < reader.now.levels }
     requires few { reader.now.levels ≤ 64 }
-    ensures { Gives view result (part_of reader.now ty (json_view json.now)) }
+    requires known { kept.old.defaults ≡ reader.now.schema.now.decls }
+    ensures gives { Gives view result (part_of reader.now ty (json_view json.now)) }
+    ensures known { kept.new.defaults ≡ reader.now.schema.now.decls }
 {
     let below = Reader {
         alloc: reader.alloc,
         schema: reader.schema,
         levels: reader.levels - 1,
     };
-    read_within(&below, hints, ty, json)
+    read_within(&below, kept, ty, json)
 }
 
 // Numbers, of which there may be many, are answered without a look at the schema.
@@ -98,39 +104,43 @@ pub fn read_part<'a>(
 #[inline(always)]
 fn read_within<'a>(
     reader: &Reader<'a>,
-    hints: &mut Hints<'a>,
+    kept: &mut Kept<'a>,
     ty: AidlType,
     json: &Json,
 ) -> Result<Value, Fault<Reason>>
-    requires { reader.now.levels ≤ 64 }
-    ensures { Gives view result
+    requires few { reader.now.levels ≤ 64 }
+    requires known { kept.old.defaults ≡ reader.now.schema.now.decls }
+    ensures gives { Gives view result
         (from_json_of reader.now.schema.now.decls reader.now.levels ty (json_view json.now)) }
+    ensures known { kept.new.defaults ≡ reader.now.schema.now.decls }
 {
     match plain_number(ty, json) {
         Some(n) => Ok(number_value(n)),
-        None => read(reader, hints, ty, json),
+        None => read(reader, kept, ty, json),
     }
 }
 
 #[cycle(reading)]
 fn read<'a>(
     reader: &Reader<'a>,
-    hints: &mut Hints<'a>,
+    kept: &mut Kept<'a>,
     ty: AidlType,
     json: &Json,
 ) -> Result<Value, Fault<Reason>>
-    requires { reader.now.levels ≤ 64 }
-    ensures { Gives view result
+    requires few { reader.now.levels ≤ 64 }
+    requires known { kept.old.defaults ≡ reader.now.schema.now.decls }
+    ensures gives { Gives view result
         (from_by reader.now.schema.now.decls (is_level_left reader.now.levels)
         (default_in reader.now) (part_of reader.now) ty (json_view json.now)) }
+    ensures known { kept.new.defaults ≡ reader.now.schema.now.decls }
 {
     if is_absent(ty.nullable, json) {
         return Ok(Value::Null);
     }
     match ty.shape {
-        Shape::One => read_one(reader, hints, ty.base, json),
+        Shape::One => read_one(reader, kept, ty.base, json),
         Shape::Array | Shape::List => {
-            read_sequence(reader, hints, element(reader.schema, ty), json)
+            read_sequence(reader, kept, element(reader.schema, ty), json)
         }
     }
 }
@@ -146,15 +156,17 @@ fn is_absent(nullable: bool, json: &Json) -> bool
 #[cycle(reading)]
 fn read_one<'a>(
     reader: &Reader<'a>,
-    hints: &mut Hints<'a>,
+    kept: &mut Kept<'a>,
     base: Base,
     json: &Json,
 ) -> Result<Value, Fault<Reason>>
-    requires { reader.now.levels ≤ 64 }
-    ensures { Gives view result (answer.one_from
+    requires few { reader.now.levels ≤ 64 }
+    requires known { kept.old.defaults ≡ reader.now.schema.now.decls }
+    ensures gives { Gives view result (answer.one_from
         (is_level_left reader.now.levels) (default_in reader.now) (part_of reader.now)
         (enumerators_of reader.now.schema.now.decls base)
         (form_of reader.now.schema.now.decls base) (json_view json.now)) }
+    ensures known { kept.new.defaults ≡ reader.now.schema.now.decls }
 {
     law_valid(reader.schema);
     law_sound(reader.schema);
@@ -162,11 +174,18 @@ fn read_one<'a>(
     match form {
         Form::Truth => read_truth(reader.alloc, json),
         Form::Text => read_text(reader.alloc, json),
-        Form::Parcelable(fields) => read_record(reader, hints, base, fields, json),
-        Form::Union(fields) => read_union(reader, hints, base, fields, json),
+        Form::Parcelable(fields) => read_record(reader, kept, base, fields, json),
+        Form::Union(fields) => read_union(reader, kept, base, fields, json),
         Form::Nothing => Err(refused(reader.alloc, Reason::WrongShape)),
         Form::Byte | Form::Char | Form::Int | Form::Long => {
-            read_number(reader.alloc, reader.schema, hints, base, &form, json)
+            read_number(
+                reader.alloc,
+                reader.schema,
+                &mut kept.hints,
+                base,
+                &form,
+                json,
+            )
         }
     }
 }

@@ -3,19 +3,20 @@ ghost use Rattle.std.specs.Prelude.{◌≡◌, ◌<◌, ◌≤◌, option_map, O
 ghost use Rattle.serde_json.specs.Find.{get_member};
 ghost use Rattle.serde_json.specs.View.{view as json_view, members_view};
 ghost use Rattle.aidl_schema.specs.Holds.{AreApart};
-ghost use Rattle.aidl_values.specs.View.{view, views};
+ghost use Rattle.aidl_schema.specs.Types.{form_of};
+ghost use Rattle.aidl_values.specs.View.{view};
 ghost use Rattle.json_values.specs.FromJson as answer;
-ghost use Rattle.json_writing.specs.Named.{bytes_of};
+ghost use Rattle.json_writing.specs.Named.{bytes_of, fields_in};
 ghost use Rattle.json_values.specs.Refusal.{escaped, within};
+ghost use Rattle.json_values.specs.steps.Defaults.{AreMissing, as_record};
 ghost use Rattle.json_values.specs.steps.Levels.{part_of, default_in};
 ghost use Rattle.aidl_values.specs.steps.Levels.{is_level_left};
 ghost use Rattle.json_values.specs.steps.Gives.{Gives};
 
 use crate::fault::{Fault, Reason, refused};
-use crate::hints::Hints;
 use crate::keys::check_keys;
 use crate::pointer::below_key;
-use crate::reader::Reader;
+use crate::reader::{Kept, Reader};
 use crate::reading::read_part;
 use aidl_base::Row;
 use aidl_schema::{Base, Field, Schema};
@@ -27,16 +28,19 @@ use std::alloc::Global;
 #[cycle(reading)]
 pub fn read_record<'a>(
     reader: &Reader<'a>,
-    hints: &mut Hints<'a>,
+    kept: &mut Kept<'a>,
     base: Base,
     fields: &'a [Field],
     json: &Json,
 ) -> Result<Value, Fault<Reason>>
     requires few { reader.now.levels ≤ 64 }
     requires apart { AreApart (λ f. f.name.0) fields.now }
-    ensures { Gives view result (answer.record_from
+    requires declared { fields.now ≡ fields_in (form_of reader.now.schema.now.decls base) }
+    requires known { kept.old.defaults ≡ reader.now.schema.now.decls }
+    ensures gives { Gives view result (answer.record_from
         (is_level_left reader.now.levels) (default_in reader.now) (part_of reader.now)
         fields.now (json_view json.now)) }
+    ensures known { kept.new.defaults ≡ reader.now.schema.now.decls }
 {
     let Json::Object(members) = json else {
         return Err(refused(reader.alloc, Reason::WrongShape));
@@ -44,13 +48,13 @@ pub fn read_record<'a>(
     if reader.levels == 0 {
         return Err(refused(reader.alloc, Reason::TooDeep));
     }
-    read_object(reader, hints, base, fields, members)
+    read_object(reader, kept, base, fields, members)
 }
 
 #[cycle(reading)]
 fn read_object<'a>(
     reader: &Reader<'a>,
-    hints: &mut Hints<'a>,
+    kept: &mut Kept<'a>,
     base: Base,
     fields: &'a [Field],
     members: &Map<String, Json>,
@@ -58,54 +62,68 @@ fn read_object<'a>(
     requires left { 0 < reader.now.levels }
     requires few { reader.now.levels ≤ 64 }
     requires apart { AreApart (λ f. f.name.0) fields.now }
-    ensures { Gives view result
+    requires declared { fields.now ≡ fields_in (form_of reader.now.schema.now.decls base) }
+    requires known { kept.old.defaults ≡ reader.now.schema.now.decls }
+    ensures gives { Gives view result
         (answer.object_from (default_in reader.now)
         (part_of reader.now) fields.now (members_view members.now.entries)) }
+    ensures known { kept.new.defaults ≡ reader.now.schema.now.decls }
 {
-    if let Err(fault) = check_keys(reader.alloc, hints, base, fields, members) {
-        return Err(fault);
-    }
-    match read_fields(reader, hints, fields, members) {
-        Ok(values) => Ok(Value::Rec(values)),
+    match check_keys(reader.alloc, &mut kept.hints, base, fields, members) {
+        Ok(given) => read_fields(reader, kept, base, fields, members, given),
         Err(fault) => Err(fault),
     }
 }
 
+// The fields, of which those from a position on have no key: their defaults are shared, where they fit in the levels left.
 #[cycle(reading)]
 fn read_fields<'a>(
     reader: &Reader<'a>,
-    hints: &mut Hints<'a>,
+    kept: &mut Kept<'a>,
+    base: Base,
     fields: &[Field],
     members: &Map<String, Json>,
-) -> Result<Row<Value>, Fault<Reason>>
+    given: usize,
+) -> Result<Value, Fault<Reason>>
     requires left { 0 < reader.now.levels }
     requires few { reader.now.levels ≤ 64 }
-    ensures { Gives views result
-        (answer.fields_from (default_in reader.now) (part_of reader.now) fields.now
-        (λ key. get_member key (members_view members.now.entries))) }
+    requires declared { fields.now ≡ fields_in (form_of reader.now.schema.now.decls base) }
+    requires missing { AreMissing (members_view members.now.entries) given fields.now }
+    requires known { kept.old.defaults ≡ reader.now.schema.now.decls }
+    ensures gives { Gives view result (as_record (answer.fields_from
+        (default_in reader.now) (part_of reader.now) fields.now
+        (λ key. get_member key (members_view members.now.entries)))) }
+    ensures known { kept.new.defaults ≡ reader.now.schema.now.decls }
 {
-    let mut values = Vec::with_capacity(reader.alloc, fields.len())?;
-    for field in fields {
-        values.push(read_member(reader, hints, field, members)?)?;
+    let mut values = Vec::with_capacity(reader.alloc, given)?;
+    for (i, field) in fields.iter().enumerate() {
+        if i == given {
+            if let Some(row) = kept.defaults.within(reader.alloc, base, reader.levels)? {
+                return Ok(Value::Short(Row::from_vec(values), row));
+            }
+        }
+        values.push(read_member(reader, kept, field, members)?)?;
     }
-    Ok(Row::from_vec(values))
+    Ok(Value::Rec(Row::from_vec(values)))
 }
 
 #[cycle(reading)]
 fn read_member<'a>(
     reader: &Reader<'a>,
-    hints: &mut Hints<'a>,
+    kept: &mut Kept<'a>,
     field: &Field,
     members: &Map<String, Json>,
 ) -> Result<Value, Fault<Reason>>
     requires left { 0 < reader.now.levels }
     requires few { reader.now.levels ≤ 64 }
-    ensures { Gives view result (within (escaped (bytes_of field.now.name))
+    requires known { kept.old.defaults ≡ reader.now.schema.now.decls }
+    ensures gives { Gives view result (within (escaped (bytes_of field.now.name))
         (answer.field_from (default_in reader.now) (part_of reader.now)
         field.now (get_member (bytes_of field.now.name) (members_view members.now.entries)))) }
+    ensures known { kept.new.defaults ≡ reader.now.schema.now.decls }
 {
     let name = field.name.0.as_str();
-    match read_field(reader, hints, field, member_of(members, name)) {
+    match read_field(reader, kept, field, member_of(members, name)) {
         Ok(value) => Ok(value),
         Err(fault) => Err(below_key(reader.alloc, name, fault)),
     }
@@ -121,18 +139,20 @@ pub fn member_of<'a>(members: &'a Map<String, Json>, name: &str) -> Option<&'a J
 #[cycle(reading)]
 fn read_field<'a>(
     reader: &Reader<'a>,
-    hints: &mut Hints<'a>,
+    kept: &mut Kept<'a>,
     field: &Field,
     json: Option<&Json>,
 ) -> Result<Value, Fault<Reason>>
     requires left { 0 < reader.now.levels }
     requires few { reader.now.levels ≤ 64 }
-    ensures { Gives view result
+    requires known { kept.old.defaults ≡ reader.now.schema.now.decls }
+    ensures gives { Gives view result
         (answer.field_from (default_in reader.now) (part_of reader.now) field.now
         (option_map (λ j. json_view j.now) json.entry)) }
+    ensures known { kept.new.defaults ≡ reader.now.schema.now.decls }
 {
     match json {
-        Some(json) => read_part(reader, hints, field.ty, json),
+        Some(json) => read_part(reader, kept, field.ty, json),
         None => default_within(reader.alloc, reader.schema, field, reader.levels - 1),
     }
 }

@@ -1,5 +1,5 @@
 //! JSON arrays as arrays and Lists.
-ghost use Rattle.std.specs.Prelude.{◌<◌, ◌≤◌, decimal, Ok, Err};
+ghost use Rattle.std.specs.Prelude.{◌≡◌, ◌<◌, ◌≤◌, decimal, Ok, Err};
 ghost use Rattle.serde_json.specs.View.{view as json_view, items_view};
 ghost use Rattle.aidl_values.specs.View.{view, views};
 ghost use Rattle.json_values.specs.FromJson as answer;
@@ -9,9 +9,8 @@ ghost use Rattle.aidl_values.specs.steps.Levels.{is_level_left};
 ghost use Rattle.json_values.specs.steps.Gives.{Gives};
 
 use crate::fault::{Fault, Reason, refused};
-use crate::hints::Hints;
 use crate::pointer::below_index;
-use crate::reader::Reader;
+use crate::reader::{Kept, Reader};
 use crate::reading::read_part;
 use crate::side_by_side::plain_sequence;
 use aidl_base::Row;
@@ -23,13 +22,15 @@ use serde_json::Value as Json;
 #[cycle(reading)]
 pub fn read_sequence<'a>(
     reader: &Reader<'a>,
-    hints: &mut Hints<'a>,
+    kept: &mut Kept<'a>,
     ty: AidlType,
     json: &Json,
 ) -> Result<Value, Fault<Reason>>
-    requires { reader.now.levels ≤ 64 }
-    ensures { Gives view result (answer.sequence_from
+    requires few { reader.now.levels ≤ 64 }
+    requires known { kept.old.defaults ≡ reader.now.schema.now.decls }
+    ensures gives { Gives view result (answer.sequence_from
         (is_level_left reader.now.levels) (part_of reader.now ty) (json_view json.now)) }
+    ensures known { kept.new.defaults ≡ reader.now.schema.now.decls }
 {
     let Json::Array(items) = json else {
         return Err(refused(reader.alloc, Reason::WrongShape));
@@ -37,26 +38,28 @@ pub fn read_sequence<'a>(
     if reader.levels == 0 {
         return Err(refused(reader.alloc, Reason::TooDeep));
     }
-    read_elements(reader, hints, ty, items.as_slice())
+    read_elements(reader, kept, ty, items.as_slice())
 }
 
 // Numbers and truth values, of which there may be many, are read side by side.
 #[cycle(reading)]
 fn read_elements<'a>(
     reader: &Reader<'a>,
-    hints: &mut Hints<'a>,
+    kept: &mut Kept<'a>,
     ty: AidlType,
     items: &[Json],
 ) -> Result<Value, Fault<Reason>>
     requires left { 0 < reader.now.levels }
     requires few { reader.now.levels ≤ 64 }
-    ensures { Gives view result
+    requires known { kept.old.defaults ≡ reader.now.schema.now.decls }
+    ensures gives { Gives view result
         (answer.elements_from (part_of reader.now ty) (items_view items.now)) }
+    ensures known { kept.new.defaults ≡ reader.now.schema.now.decls }
 {
     if let Some(value) = plain_sequence(reader.alloc, ty, items)? {
         return Ok(value);
     }
-    match read_items(reader, hints, ty, items) {
+    match read_items(reader, kept, ty, items) {
         Ok(values) => Ok(Value::Seq(values)),
         Err(fault) => Err(fault),
     }
@@ -65,18 +68,20 @@ fn read_elements<'a>(
 #[cycle(reading)]
 fn read_items<'a>(
     reader: &Reader<'a>,
-    hints: &mut Hints<'a>,
+    kept: &mut Kept<'a>,
     ty: AidlType,
     items: &[Json],
 ) -> Result<Row<Value>, Fault<Reason>>
     requires left { 0 < reader.now.levels }
     requires few { reader.now.levels ≤ 64 }
-    ensures { Gives views result
+    requires known { kept.old.defaults ≡ reader.now.schema.now.decls }
+    ensures gives { Gives views result
         (answer.items_from (part_of reader.now ty) 0 (items_view items.now)) }
+    ensures known { kept.new.defaults ≡ reader.now.schema.now.decls }
 {
     let mut values = Vec::with_capacity(reader.alloc, items.len())?;
     for (i, item) in items.iter().enumerate() {
-        values.push(read_item(reader, hints, ty, i, item)?)?;
+        values.push(read_item(reader, kept, ty, i, item)?)?;
     }
     Ok(Row::from_vec(values))
 }
@@ -84,17 +89,19 @@ fn read_items<'a>(
 #[cycle(reading)]
 fn read_item<'a>(
     reader: &Reader<'a>,
-    hints: &mut Hints<'a>,
+    kept: &mut Kept<'a>,
     ty: AidlType,
     index: usize,
     json: &Json,
 ) -> Result<Value, Fault<Reason>>
     requires left { 0 < reader.now.levels }
     requires few { reader.now.levels ≤ 64 }
-    ensures { Gives view result
+    requires known { kept.old.defaults ≡ reader.now.schema.now.decls }
+    ensures gives { Gives view result
         (within (decimal index) (part_of reader.now ty (json_view json.now))) }
+    ensures known { kept.new.defaults ≡ reader.now.schema.now.decls }
 {
-    match read_part(reader, hints, ty, json) {
+    match read_part(reader, kept, ty, json) {
         Ok(value) => Ok(value),
         Err(fault) => Err(below_index(reader.alloc, index, fault)),
     }

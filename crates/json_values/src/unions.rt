@@ -10,9 +10,8 @@ ghost use Rattle.aidl_values.specs.steps.Levels.{is_level_left};
 ghost use Rattle.json_values.specs.steps.Gives.{Gives};
 
 use crate::fault::{Fault, Reason, refused};
-use crate::hints::Hints;
 use crate::pointer::below_key;
-use crate::reader::Reader;
+use crate::reader::{Kept, Reader};
 use crate::reading::read_part;
 use aidl_schema::{Base, Field};
 use aidl_values::Value;
@@ -24,7 +23,7 @@ use std::alloc::Global;
 #[cycle(reading)]
 pub fn read_union<'a>(
     reader: &Reader<'a>,
-    hints: &mut Hints<'a>,
+    kept: &mut Kept<'a>,
     base: Base,
     fields: &'a [Field],
     json: &Json,
@@ -32,8 +31,10 @@ pub fn read_union<'a>(
     requires few { reader.now.levels ≤ 64 }
     requires apart { AreApart (λ f. f.name.0) fields.now }
     requires fields { length fields.now ≤ 4096 }
-    ensures { Gives view result (answer.union_from
+    requires known { kept.old.defaults ≡ reader.now.schema.now.decls }
+    ensures gives { Gives view result (answer.union_from
         (is_level_left reader.now.levels) (part_of reader.now) fields.now (json_view json.now)) }
+    ensures known { kept.new.defaults ≡ reader.now.schema.now.decls }
 {
     let Json::Object(members) = json else {
         return Err(refused(reader.alloc, Reason::WrongShape));
@@ -44,8 +45,8 @@ pub fn read_union<'a>(
     if reader.levels == 0 {
         return Err(refused(reader.alloc, Reason::TooDeep));
     }
-    let place = hints.place(reader.alloc, base, fields, key.as_str())?;
-    read_alternative(reader, hints, fields, place, key.as_str(), inner)
+    let place = kept.hints.place(reader.alloc, base, fields, key.as_str())?;
+    read_alternative(reader, kept, fields, place, key.as_str(), inner)
 }
 
 fn only_member(members: &Map<String, Json>) -> Option<(&String, &Json)>
@@ -64,7 +65,7 @@ fn only_member(members: &Map<String, Json>) -> Option<(&String, &Json)>
 #[cycle(reading)]
 fn read_alternative<'a>(
     reader: &Reader<'a>,
-    hints: &mut Hints<'a>,
+    kept: &mut Kept<'a>,
     fields: &[Field],
     place: usize,
     key: &str,
@@ -74,21 +75,23 @@ fn read_alternative<'a>(
     requires few { reader.now.levels ≤ 64 }
     requires apart { AreApart (λ f. f.name.0) fields.now }
     requires fields { length fields.now ≤ 4096 }
-    ensures { Gives view result
+    requires known { kept.old.defaults ≡ reader.now.schema.now.decls }
+    ensures gives { Gives view result
         (answer.alternative_from (part_of reader.now) 0 fields.now key.now (json_view json.now)) }
+    ensures known { kept.new.defaults ≡ reader.now.schema.now.decls }
 {
     match fields.get(place) {
         Some(field) if is_called(&field.name, key) => {
-            read_chosen(reader, hints, field, place, key, json)
+            read_chosen(reader, kept, field, place, key, json)
         }
-        _ => find_alternative(reader, hints, fields, key, json),
+        _ => find_alternative(reader, kept, fields, key, json),
     }
 }
 
 #[cycle(reading)]
 fn find_alternative<'a>(
     reader: &Reader<'a>,
-    hints: &mut Hints<'a>,
+    kept: &mut Kept<'a>,
     fields: &[Field],
     key: &str,
     json: &Json,
@@ -96,12 +99,14 @@ fn find_alternative<'a>(
     requires left { 0 < reader.now.levels }
     requires few { reader.now.levels ≤ 64 }
     requires fields { length fields.now ≤ 4096 }
-    ensures { Gives view result
+    requires known { kept.old.defaults ≡ reader.now.schema.now.decls }
+    ensures gives { Gives view result
         (answer.alternative_from (part_of reader.now) 0 fields.now key.now (json_view json.now)) }
+    ensures known { kept.new.defaults ≡ reader.now.schema.now.decls }
 {
     for (i, field) in fields.iter().enumerate() {
         if is_called(&field.name, key) {
-            return read_chosen(reader, hints, field, i, key, json);
+            return read_chosen(reader, kept, field, i, key, json);
         }
     }
     let fault = refused(reader.alloc, Reason::UnknownKey);
@@ -112,7 +117,7 @@ fn find_alternative<'a>(
 #[cycle(reading)]
 fn read_chosen<'a>(
     reader: &Reader<'a>,
-    hints: &mut Hints<'a>,
+    kept: &mut Kept<'a>,
     field: &Field,
     place: usize,
     key: &str,
@@ -121,10 +126,12 @@ fn read_chosen<'a>(
     requires left { 0 < reader.now.levels }
     requires few { reader.now.levels ≤ 64 }
     requires place { place < 4096 }
-    ensures { Gives view result
+    requires known { kept.old.defaults ≡ reader.now.schema.now.decls }
+    ensures gives { Gives view result
         (chosen_from (part_of reader.now) place field.now key.now (json_view json.now)) }
+    ensures known { kept.new.defaults ≡ reader.now.schema.now.decls }
 {
-    match read_part(reader, hints, field.ty, json) {
+    match read_part(reader, kept, field.ty, json) {
         Ok(value) => alternative(reader.alloc, place as u32, value),
         Err(fault) => Err(below_key(reader.alloc, key, fault)),
     }

@@ -1,4 +1,4 @@
-use Rattle.std.proofs.Common.{◌≡◌, ◌+◌, ◌*◌, drop, map}
+use Rattle.std.proofs.Common.{◌≡◌, ◌+◌, ◌*◌, drop, length, map}
 use Rattle.serde_json.specs.Find.{get_member}
 use Rattle.serde_json.specs.View.{view as json_view, items_view, members_view}
 use Rattle.aidl_values.specs.View.{view}
@@ -53,20 +53,27 @@ abbrev pub decreases-records::read_field : goal.decreases-records::read_field
 decreases-records::read_field l = 9 * l.reader.now.levels + 1
 
 abbrev pub invariant-sequences::read_items-loop-i : goal.invariant-sequences::read_items-loop-i
-invariant-sequences::read_items-loop-i l =
-    with_front (map view l.values.items) (items_from (λ j. part_from l.reader.schema.now.decls l.reader.levels l.ty j) l.i (items_view (drop l.i l.items)))
-    ≡ items_from (λ j. part_from l.reader.schema.now.decls l.reader.levels l.ty j) 0 (items_view l.items)
+invariant-sequences::read_items-loop-i l = record {
+  read : with_front (map view l.values.items) (items_from (λ j. part_from l.reader.schema.now.decls l.reader.levels l.ty j) l.i (items_view (drop l.i l.items)))
+      ≡ items_from (λ j. part_from l.reader.schema.now.decls l.reader.levels l.ty j) 0 (items_view l.items);
+  known : l.kept.defaults ≡ l.reader.schema.now.decls;
+}
 
-abbrev pub invariant-records::read_fields-loop-field : goal.invariant-records::read_fields-loop-field
-invariant-records::read_fields-loop-field l =
-    with_front (map view l.values.items) (fields_from (λ f. default_of l.reader.schema.now.decls l.reader.levels f) (λ u j. part_from l.reader.schema.now.decls l.reader.levels u j) (drop l.field-index l.fields) (λ key. get_member key (members_view l.members.entries)))
-    ≡ fields_from (λ f. default_of l.reader.schema.now.decls l.reader.levels f) (λ u j. part_from l.reader.schema.now.decls l.reader.levels u j) l.fields (λ key. get_member key (members_view l.members.entries))
+abbrev pub invariant-records::read_fields-loop-i : goal.invariant-records::read_fields-loop-i
+invariant-records::read_fields-loop-i l = record {
+  read : with_front (map view l.values.items) (fields_from (λ f. default_of l.reader.schema.now.decls l.reader.levels f) (λ u j. part_from l.reader.schema.now.decls l.reader.levels u j) (drop l.i l.fields) (λ key. get_member key (members_view l.members.entries)))
+      ≡ fields_from (λ f. default_of l.reader.schema.now.decls l.reader.levels f) (λ u j. part_from l.reader.schema.now.decls l.reader.levels u j) l.fields (λ key. get_member key (members_view l.members.entries));
+  many : length l.values.items ≡ l.i;
+  known : l.kept.defaults ≡ l.reader.schema.now.decls;
+}
 
 -- what is left decides
 abbrev pub invariant-unions::find_alternative-loop-i : goal.invariant-unions::find_alternative-loop-i
-invariant-unions::find_alternative-loop-i l =
-    alternative_from (λ u j. part_from l.reader.schema.now.decls l.reader.levels u j) l.i (drop l.i l.fields) l.key (json_view l.json)
-    ≡ alternative_from (λ u j. part_from l.reader.schema.now.decls l.reader.levels u j) 0 l.fields l.key (json_view l.json)
+invariant-unions::find_alternative-loop-i l = record {
+  read : alternative_from (λ u j. part_from l.reader.schema.now.decls l.reader.levels u j) l.i (drop l.i l.fields) l.key (json_view l.json)
+      ≡ alternative_from (λ u j. part_from l.reader.schema.now.decls l.reader.levels u j) 0 l.fields l.key (json_view l.json);
+  known : l.kept.defaults ≡ l.reader.schema.now.decls;
+}
 
 abbrev pub decreases-sequences::read_elements : goal.decreases-sequences::read_elements
 decreases-sequences::read_elements l = 9 * l.reader.now.levels + 4

@@ -1,16 +1,30 @@
 use Rattle.std.proofs.Common.{ap, arith}
-use Rattle.std.specs.List.{count_by}
-use Rattle.std.proofs.lemmas.List.{take_all}
 use Rattle.serde_json.specs.View.{members_view}
 use Rattle.serde_json.proofs.Views.{members_len-members_view}
 use Rattle.json_values.specs.FromJson.{known_from}
-use Rattle.json_values.proofs.Counted.{is_found, all_known}
+use Rattle.json_values.proofs.Counted.{known_before, missing_behind, missing_after}
 use Rattle.json_values.proofs.keys.check_keys.Goals as goal
 
-pub returns-then-found-len : goal.returns-then-found-len
-returns-then-found-len c =
+pub returns-then-found-len-clause-known : goal.returns-then-found-len-clause-known
+returns-then-found-len-clause-known c =
     let es = c.args.members.now.entries in
-    let fs = c.args.fields.now in
-    let counted = ap (count_by (is_found (members_view es))) (take_all c.loop-field.field-index fs (omega arith)) in
     let keys = members_len-members_view es in
-    ap known_from (all_known fs c.requires (members_view es) (omega (arith, counted, keys, c.loop-field.invariant, c.len.ensures.len)))
+    ap known_from (known_before c.args.fields.now c.requires (members_view es) c.loop-i.i (omega (arith, keys, c.loop-i.invariant, c.len.ensures.len)))
+
+pub returns-then-found-len-clause-missing : goal.returns-then-found-len-clause-missing
+returns-then-found-len-clause-missing c =
+    let es = c.args.members.now.entries in
+    let keys = members_len-members_view es in
+    missing_behind c.args.fields.now c.requires (members_view es) c.loop-i.i (omega (arith, keys, c.loop-i.invariant, c.len.ensures.len))
+
+pub returns-then-found-len-2-clause-known : goal.returns-then-found-len-2-clause-known
+returns-then-found-len-2-clause-known c =
+    let es = c.args.members.now.entries in
+    let keys = members_len-members_view es in
+    ap known_from (known_before c.args.fields.now c.requires (members_view es) c.loop-i.i (omega (arith, keys, c.loop-i.invariant, c.len-2.ensures.len)))
+
+pub returns-then-found-len-2-clause-missing : goal.returns-then-found-len-2-clause-missing
+returns-then-found-len-2-clause-missing c = missing_after c.args.fields.now (members_view c.args.members.now.entries)
+
+pub returns-in-None-clause-missing : goal.returns-in-None-clause-missing
+returns-in-None-clause-missing c = missing_after c.args.fields.now (members_view c.args.members.now.entries)
