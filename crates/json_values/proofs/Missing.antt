@@ -1,8 +1,7 @@
 -- Fields that an object leaves out are read as their defaults.
-use Rattle.std.proofs.Common.{◌≡◌, ℕ, zero, suc, ◌≤◌, Bool, true, false, nat_le, List, [], ◌∷◌, ◌++◌, drop, length, map, max, Option, Some, None, slice_get, IfSome, Ok, rc_value, refl, sym, ap, ◌∙◌, arith}
+use Rattle.std.proofs.Common.{◌≡◌, ℕ, zero, suc, ◌≤◌, Bool, true, false, nat_le, List, [], ◌∷◌, ◌++◌, drop, length, map, Option, Some, None, slice_get, IfSome, Ok, rc_value, refl, sym, ap, ◌∙◌, arith}
 use Rattle.std.specs.Prelude.{if◌then◌else◌}
 use Rattle.std.proofs.lemmas.Bool.Decides.{nat_tests}
-use Rattle.std.proofs.lemmas.List.{drop-map, length-map}
 use Rattle.serde_json.specs.Data as json
 use Rattle.serde_json.specs.Find.{get_member}
 use Rattle.aidl_schema.specs.declared.schema.AidlType.{AidlType}
@@ -11,26 +10,18 @@ use Rattle.aidl_schema.specs.declared.schema.Base.TheVariants as base
 use Rattle.aidl_schema.specs.declared.schema.Decl.{Decl}
 use Rattle.aidl_schema.specs.declared.schema.Field.{Field}
 use Rattle.aidl_schema.specs.Types.{form_of}
-use Rattle.aidl_values.specs.Data.{Data, Items, depth_of, greatest, rec}
+use Rattle.aidl_values.specs.Data.{Data, Items, depth_of, rec}
 use Rattle.aidl_values.specs.Sound.{initial_in}
 use Rattle.aidl_values.specs.View.{items_of, view}
 use Rattle.aidl_values.specs.declared.value.Value.{Value}
 use Rattle.aidl_values.specs.declared.value.Value.TheVariants.{Short}
 use Rattle.aidl_values.proofs.lemmas.Fronts.{with_front, onto-items}
-use Rattle.aidl_values.proofs.lemmas.Views.{given_seen, view_of_short}
+use Rattle.aidl_values.proofs.lemmas.Views.{short_seen}
 use Rattle.json_values.specs.FromJson.{fields_from}
-use Rattle.json_values.specs.Refusal.{Answer, ◌>>=◌, refuse, too_deep, within, escaped}
-use Rattle.json_values.specs.steps.Defaults.{AreMissing, as_record, defaults_in, defaults_within, within_levels}
+use Rattle.json_values.specs.Refusal.{Answer}
+use Rattle.json_values.specs.steps.Defaults.{AreMissing, as_record, defaults_in, defaults_within}
 use Rattle.json_values.specs.steps.Levels.{default_of}
 use Rattle.json_writing.specs.Named.{bytes_of, fields_in}
-
--- a record has the values that were read, and behind them the defaults of the other fields
-pub short_seen : {F : Type 0} (value_of : F → Data) (fs : List F) (vs : List Value) (i : ℕ) (row : _) → length vs ≡ i → map view (rc_value row) ≡ map value_of fs
-    → view (Short vs row) ≡ rec (items_of (map view vs ++ map value_of (drop i fs)))
-short_seen value_of fs vs i row many are =
-    let others : drop (length (map view vs)) (map view (rc_value row)) ≡ map value_of (drop i fs) =
-    ap (λ n. drop n (map view (rc_value row))) (length-map vs view ∙ many) ∙ ap (λ ds. drop i ds) are ∙ drop-map value_of i fs in
-    view_of_short vs row ∙ ap (λ ds. rec (items_of ds)) (sym (given_seen vs (rc_value row))) ∙ ap (λ ds. rec (items_of (map view vs ++ ds))) others
 
 -- how many levels a record of the fields' defaults has
 abbrev pub levels_in : List Decl → List Field → ℕ

@@ -4,7 +4,6 @@ mod Laws
 mod Levels
 mod Loop
 mod SameReads
-mod Short
 mod Records
 mod SideBySide
 mod Whole

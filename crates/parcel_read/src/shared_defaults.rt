@@ -88,6 +88,7 @@ impl<'a> SharedDefaults<'a> {
         Ok(row)
     }
 
+    // The row that was made, if it was. A parcelable without fields begins where the next one does, so their numbers are compared.
     fn row_made(&self, span: Span) -> Result<Option<Rc<Row<Value>>>, OutOfMemory>
         ensures { IfOk result (λ made. IfSome made (λ row. map view row.value
             ≡ map (λ g. initial_by_plan self.now g)

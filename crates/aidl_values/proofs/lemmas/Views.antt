@@ -1,5 +1,5 @@
 -- What is seen of a sequence that is kept side by side, and of a record some of whose values are shared.
-use Rattle.std.proofs.Common.{◌≡◌, ℤ, Bool, List, [], ◌∷◌, ◌++◌, drop, length, map, rc_value, refl, sym, ap, ◌∙◌}
+use Rattle.std.proofs.Common.{◌≡◌, ℕ, ℤ, Bool, List, [], ◌∷◌, ◌++◌, drop, length, map, rc_value, refl, sym, ap, ◌∙◌}
 use Rattle.std.proofs.lemmas.List.{drop-map, map-append, length-map}
 use Rattle.aidl_values.specs.Data.{Data, truth, number, seq, rec, Items, none, item}
 use Rattle.aidl_values.specs.FieldValues.{given_then}
@@ -39,3 +39,11 @@ views_then vs ws ds same =
 pub view_of_short : (vs : List Value) (ds : _) → view (value.Short vs ds) ≡ rec (views (given_then vs (rc_value ds)))
 unfolding Rattle.aidl_values.specs.declared.value.Value.TheViews.roll-Value denote.Hole.Carrier.roll
 view_of_short vs ds = fold-roll-Value Data view_step (Value-F.Short vs ds) ∙ ap (λ ws. rec (items_of ws)) (given_seen vs (rc_value ds))
+
+-- It has the values that were read, and behind them those of the other fields.
+pub short_seen : {F : Type 0} (value_of : F → Data) (fs : List F) (vs : List Value) (i : ℕ) (row : _) → length vs ≡ i → map view (rc_value row) ≡ map value_of fs
+    → view (value.Short vs row) ≡ rec (items_of (map view vs ++ map value_of (drop i fs)))
+short_seen value_of fs vs i row many are =
+    let others : drop (length (map view vs)) (map view (rc_value row)) ≡ map value_of (drop i fs) =
+    ap (λ n. drop n (map view (rc_value row))) (length-map vs view ∙ many) ∙ ap (λ ds. drop i ds) are ∙ drop-map value_of i fs in
+    view_of_short vs row ∙ ap (λ ds. rec (items_of ds)) (sym (given_seen vs (rc_value row))) ∙ ap (λ ds. rec (items_of (map view vs ++ ds))) others

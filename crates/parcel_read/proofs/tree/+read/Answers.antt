@@ -16,7 +16,7 @@ use Rattle.parcel_words.proofs.lemmas.Moves.{on_and_on}
 use Rattle.parcel_words.proofs.lemmas.Faults.{refused_if_memory}
 use Rattle.parcel_words.proofs.lemmas.Records.{stays, leaves}
 use Rattle.parcel_read.proofs.Loop.{goes_on, ends, is_done, field_ends, field_on, field_there, fields_done, fields_left}
-use Rattle.parcel_read.proofs.Short.{short_seen}
+use Rattle.aidl_values.proofs.lemmas.Views.{short_seen}
 use Rattle.parcel_read.proofs.SideBySide.{element_is, row_alike}
 use Rattle.parcel_read.proofs.Records.{body_is, record_is, record_fails, no_record}
 use Rattle.parcel_read.proofs.tree.+read.Goals as goal
