@@ -26,7 +26,8 @@ impl Defaults {
     fn within(&self, levels: usize) -> Result<Option<Rc<Row<Value>>>, OutOfMemory>
         requires { levels ≤ 64 }
         ensures { IfOk result (λ row. self.now.levels ≡ levels_of (map view self.now.row.value)
-            → option_map (λ row. map view row.value) row ≡ within_levels levels (map view self.now.row.value)) }
+            → option_map (λ row. map view row.value) row
+            ≡ within_levels levels (map view self.now.row.value)) }
     {
         if self.levels <= levels {
             Ok(Some(self.row.clone()?))
