@@ -10,6 +10,11 @@ What `encode` prints is the file for `decode` of the same type. The parcels of r
 
 /usr/bin/time -f %M crates/aidl/out/aidl decode --tree /tmp/values/wide 'm.W[]' /tmp/values/none.hex
 /usr/bin/time -f %M crates/aidl/out/aidl decode --tree /tmp/values/wide 'm.W[]' /tmp/values/first.hex
+
+And objects that leave them out, the parcel of which would be too long:
+
+/usr/bin/time -f %M crates/aidl/out/aidl encode --tree /tmp/values/wide 'm.W[]' /tmp/values/none.json
+/usr/bin/time -f %M crates/aidl/out/aidl encode --tree /tmp/values/wide 'm.W[]' /tmp/values/first.json
 """
 
 import json
@@ -41,6 +46,8 @@ def short_records(folder):
     for name, body, count in (("few", b"", 16_383), ("none", b"", 131_071), ("first", struct.pack("<i", 7), 87_381)):
         record = struct.pack("<ii", 1, 4 + len(body)) + body
         put(f"{folder}/{name}.hex", struct.pack("<i", count).hex() + record.hex() * count)
+    for name, text, count in (("none", "{}", 131_000), ("first", '{"f0":1}', 40_000)):
+        put(f"{folder}/{name}.json", f"[[{','.join([text] * count)}]]")
 
 
 values(sys.argv[1])
