@@ -6,10 +6,6 @@
 top=$(CDPATH='' cd -- "$(dirname -- "$(readlink -f -- "$0")")" && pwd) || exit 9
 program=$top/crates/aidl/out/aidl
 
-is_current() {
-    [ -x "$program" ] && [ -z "$(find "$top/crates.txt" "$top/crates" -name out -prune -o -type f -newer "$program" -print -quit)" ]
-}
-
 say() {
     echo "aidl: $*" >&2
 }
@@ -29,31 +25,57 @@ lines_below() {
         END { take("aidl") }' "$top/crates.txt"
 }
 
-# Copies the crates of these lines into a folder, without the edits that the proofs have to refuse.
+# The program is there, and no source of it is newer.
+is_current() {
+    [ -x "$program" ] || return
+    set -- "$top/crates.txt" "$top/HANDLES"
+    for crate in $(lines_below | cut -d: -f1); do
+        set -- "$@" "$top/crates/$crate"
+    done
+    [ -z "$(find "$@" \( -name out -o -name must-fail -o -name wrong \) -prune -o -type f -newer "$program" -print -quit)" ]
+}
+
+# Copies the crates of these lines into a folder, without the edits that the proofs have to refuse. `rt ci` takes the folder for the top of a
+# repository by its .git, wherever it stands.
 copy() {
-    lines_below >"$1/crates.txt" && cp "$top/HANDLES" "$1" || return
+    mkdir "$1" "$1/.git" && lines_below >"$1/crates.txt" && cp "$top/HANDLES" "$1" || return
     for crate in $(cut -d: -f1 "$1/crates.txt"); do
         mkdir -p "$1/crates/$crate" || return
         for part in "$top/crates/$crate"/*; do
             case ${part##*/} in
-                out | must-fail) ;;
+                out | must-fail | wrong) ;;
                 *) cp -r "$part" "$1/crates/$crate" || return ;;
             esac
         done
     done
 }
 
-# Proves the copy, the longest row of crates first and each by the processors that are idle, and takes the program from there, with
-# the time at which the copy was begun.
+# Says of each crate that the log tells as proved which of so many it is, those counted that were proved before.
+tell() {
+    count=0
+    sed -un 's/^rt: \([a-z0-9_]*\) \(proved\)$/\1 \2/p; s/^rt: \([a-z0-9_]*\) is \(kept\):.*/\1 \2/p' | while read -r crate how; do
+        count=$((count + 1))
+        [ "$how" = kept ] || say "proved $crate, $count of $1"
+    done
+}
+
+# Takes the program from the copy, with the time at which the copy was begun: whole or not at all.
+take() {
+    touch -r "$1/crates.txt" "$1/crates/aidl/out/aidl" && mkdir -p "${program%/*}" &&
+        mv "$1/crates/aidl/out/aidl" "$program.new" && mv "$program.new" "$program"
+}
+
+# Proves the copy, the longest row of crates first and each by the processors that are idle, and takes the program from there.
 build() (
     room=$(mktemp -d) || exit
     trap 'rm -rf "$room"' EXIT
-    mkdir "$room/copy" && touch "$room/log" && copy "$room/copy" && cd "$room/copy" || exit
+    trap 'exit 9' HUP INT TERM
+    copy "$room/copy" && touch "$room/log" && cd "$room/copy" || exit
     rt ci </dev/null >"$room/log" 2>&1 &
-    trap 'kill $!; wait; exit 9' HUP INT TERM
-    tail -n +1 -f --pid=$! "$room/log" | sed -un 's/^rt: \([a-z0-9_]*\) proved$/aidl: proved \1/p' >&2
+    trap 'kill $! 2>/dev/null; wait; exit 9' HUP INT TERM
+    tail -n +1 -f --pid=$! "$room/log" | tell "$(wc -l <crates.txt)"
     wait $! || { cat "$room/log" >&2; exit 9; }
-    touch -r crates.txt crates/aidl/out/aidl && mkdir -p "${program%/*}" && mv crates/aidl/out/aidl "$program"
+    take "$room/copy"
 )
 
 # What the words may be.
@@ -114,7 +136,7 @@ want_folders() {
 
 if ! is_current; then
     command -v rt >/dev/null || { say "there is no rt on the path: it is bin/rt of the Rattle kit (README.md, \"A look in two minutes\")"; exit 9; }
-    say "building first, crate by crate; README.md says how long that takes"
+    say "building first, crate by crate; README.md says how long that takes, and what is proved is kept if it is cut off"
     build || exit 9
 fi
 "$program" "$@"

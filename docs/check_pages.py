@@ -61,8 +61,8 @@ class Names:
     """What there is: the paths of files, the words of the code, and of each crate its code."""
 
     def __init__(self):
-        inside = (path for path in TOP.rglob("*") if not {".git", "out", "__pycache__"} & set(path.parts))
-        self.paths = {f"/{path.relative_to(TOP)}" for path in inside}
+        inside = (path.relative_to(TOP) for path in TOP.rglob("*"))
+        self.paths = {f"/{path}" for path in inside if not {".git", "out", "__pycache__"} & set(path.parts)}
         sources = {path: (TOP / path[1:]).read_text() for path in self.paths if re.search(r"\.(rt|antt|py|txt|edit|aidl)$", path)}
         self.code = "".join(squeezed(re.sub(r"^ *//.*\n", "", text, flags=re.M)) for text in sources.values())
         self.known = set(re.findall(r"\w+", "\n".join(sources.values())))
@@ -106,7 +106,7 @@ def wrong_counts():
     counted = run_script("definitions.py")
     yield from counted.stderr.splitlines()
     yield from run_script("layers.py").stderr.splitlines()
-    for page, part in (("PROVED", counted.stdout), ("ARCHITECTURE", counted.stdout.splitlines()[-1])):
+    for page, part in (("PROVED", counted.stdout), ("ARCHITECTURE", "".join(counted.stdout.splitlines()[-1:]))):
         if part not in (TOP / f"docs/{page}.md").read_text():
             yield f"docs/{page}.md: its count of lines isn't what docs/definitions.py prints"
 

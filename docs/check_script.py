@@ -5,6 +5,7 @@ python3 docs/check_script.py
 """
 
 import pathlib
+import re
 import shutil
 import subprocess
 import sys
@@ -65,9 +66,11 @@ def wrong(room):
 def main():
     with tempfile.TemporaryDirectory() as name:
         room = pathlib.Path(name)
-        (room / "crates/aidl/out").mkdir(parents=True)
-        shutil.copy(TOP / "aidl", room)
-        shutil.copy(TOP / "crates.txt", room)
+        for name in ("aidl", "crates.txt", "HANDLES"):
+            shutil.copy(TOP / name, room)
+        for crate in re.findall(r"^(\w+):", (room / "crates.txt").read_text(), re.M):
+            (room / "crates" / crate).mkdir(parents=True)
+        (room / "crates/aidl/out").mkdir()
         found = list(wrong(room))
     print("\n".join(found) if found else "the script passes on what the program prints, its words and its exit")
     sys.exit(bool(found))

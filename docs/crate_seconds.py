@@ -13,6 +13,7 @@ but lengthens them.
 """
 
 import os
+import signal
 import subprocess
 import sys
 import time
@@ -37,9 +38,9 @@ def kind_of(words, folder):
 def seconds_of(number, session):
     """The crate, the kind and the processor seconds of a process by its number, or None where it is no check of the session."""
     try:
-        with open(f"/proc/{number}/cmdline", encoding="utf-8") as file:
+        with open(f"/proc/{number}/cmdline", encoding="utf-8", errors="replace") as file:
             words = file.read().split("\0")
-        with open(f"/proc/{number}/stat", encoding="utf-8") as file:
+        with open(f"/proc/{number}/stat", encoding="utf-8", errors="replace") as file:
             fields = file.read().rsplit(")", 1)[1].split()
         folder = os.readlink(f"/proc/{number}/cwd")
     except OSError:
@@ -78,7 +79,12 @@ def main():
     goes_by_layer = words[:1] == ["--layers"]
     run = subprocess.Popen(["rt", "ci", *words[goes_by_layer:]], start_new_session=True)
     table = {}
-    for crate, kind, seconds in read(run).values():
+    try:
+        checks = read(run)
+    except BaseException:
+        os.killpg(run.pid, signal.SIGTERM)
+        raise
+    for crate, kind, seconds in checks.values():
         row = table.setdefault(crate, dict.fromkeys(KINDS, 0.0))
         row[kind] += seconds
     rows = by_layer(table) if goes_by_layer else {f"`{crate}`": table[crate] for crate in sorted(table)}

@@ -143,7 +143,7 @@ class Command:
         with tempfile.TemporaryDirectory() as folder:
             room, counted = pathlib.Path(folder) / "room", pathlib.Path(folder) / "counted"
             self.end, self.text, after = self.outcome(COUNTED=str(counted))
-            self.allocations = int(counted.read_text())
+            self.allocations = int(counted.read_text()) if counted.exists() else 0
             self.copy_to(room)
             self.stages = list(stages(files(room), after)) if self.writes else [after]
 

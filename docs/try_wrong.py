@@ -46,7 +46,7 @@ def told_of(crate, folder):
 
 
 def main():
-    crates = sys.argv[1:] or sorted(filter(edits_of, os.listdir(f"{TOP}/crates")))
+    crates = list(dict.fromkeys(sys.argv[1:])) or sorted(filter(edits_of, os.listdir(f"{TOP}/crates")))
     for crate in crates:
         if not edits_of(crate):
             sys.exit(f"crates/{crate}/wrong has no edit")
