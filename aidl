@@ -65,18 +65,22 @@ take() {
         mv "$1/crates/aidl/out/aidl" "$program.new" && mv "$program.new" "$program"
 }
 
-# Proves the copy, the longest row of crates first and each by the processors that are idle, and takes the program from there.
-build() (
-    room=$(mktemp -d) || exit
+# Proves the copy, the longest row of crates first and each by the processors that are idle, and takes the program from there. It ends the
+# shell that it runs in.
+build() {
+    room=$(mktemp -d) || exit 9
     trap 'rm -rf "$room"' EXIT
     trap 'exit 9' HUP INT TERM
-    copy "$room/copy" && touch "$room/log" && cd "$room/copy" || exit
+    copy "$room/copy" && touch "$room/log" && cd "$room/copy" || exit 9
     rt ci </dev/null >"$room/log" 2>&1 &
-    trap 'kill $! 2>/dev/null; wait; exit 9' HUP INT TERM
-    tail -n +1 -f --pid=$! "$room/log" | tell "$(wc -l <crates.txt)"
-    wait $! || { cat "$room/log" >&2; exit 9; }
-    take "$room/copy"
-)
+    proof=$!
+    trap 'kill $proof 2>/dev/null; wait; exit 9' HUP INT TERM
+    tail -n +1 -f --pid=$proof "$room/log" | tell "$(wc -l <crates.txt)" &
+    wait $proof || { cat "$room/log" >&2; exit 9; }
+    wait
+    take "$room/copy" || exit 9
+    exit
+}
 
 # What the words may be.
 commands() {
@@ -137,7 +141,10 @@ want_folders() {
 if ! is_current; then
     command -v rt >/dev/null || { say "there is no rt on the path: it is bin/rt of the Rattle kit (README.md, \"A look in two minutes\")"; exit 9; }
     say "building first, crate by crate; README.md says how long that takes, and what is proved is kept if it is cut off"
-    build || exit 9
+    build &
+    trap 'kill $! 2>/dev/null; wait; exit 9' HUP INT TERM
+    wait $! || exit 9
+    trap - HUP INT TERM
 fi
 "$program" "$@"
 status=$?
