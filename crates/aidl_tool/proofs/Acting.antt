@@ -7,7 +7,7 @@ use Rattle.aidl_outside.specs.declared.store.StoreFault.{StoreFault}
 use Rattle.aidl_outside.specs.declared.store.StoreFault.TheVariants.{Failed, OutOfMemory as StoreMemory}
 use Rattle.aidl_outside.specs.Asks.{Asks, IsWrite}
 use Rattle.aidl_outside.specs.Causes.{StoreCause}
-use Rattle.aidl_outside.specs.Faults.{FailedIn, IfStoreFailed, StoreCall, StoreFaults, WhereStoreFailed}
+use Rattle.aidl_outside.specs.Faults.{FailedIn, IfStoreFailed, StoreCall, StoreFaults}
 use Rattle.aidl_outside.specs.Files.{Files}
 use Rattle.aidl_outside.specs.Told.{Tells}
 use Rattle.aidl_outside.specs.Writes.{ChangesOnly, Write}
@@ -108,17 +108,18 @@ module _ (asks : Asks) (faults : StoreFaults) where
     wrote_first None now (made, rest, e, wrote) = wrote
     wrote_first (Some files) now (made, rest, e, wrote) = inr (made, rest, (a, subst (λ l. acts l a) e is), wrote)
 
-    failed_next : (before now : Option Files) → versions.FailedAt ws before now → FailedAt (writes_of Same) before now
-    failed_next None now (made, rest, w, middle, e, wrote, only) = subst (λ m. ChangesOnly m now w.path) wrote only
-    failed_next (Some files) now (made, rest, w, middle, e, wrote, only) = (made, rest, w, (a, subst (λ l. acts l a) e is), subst (λ m. ChangesOnly m now w.path) wrote only)
+    failed_next : (before now : Option Files) (call : StoreCall) → versions.FailedAt ws before now call → FailedAt (writes_of Same) before now call
+    failed_next None now call (made, rest, w, middle, e, wrote, only, called) = ((w.path, called), subst (λ m. ChangesOnly m now w.path) wrote only)
+    failed_next (Some files) now call (made, rest, w, middle, e, wrote, only, called) =
+        (made, rest, w, (a, subst (λ l. acts l a) e is), subst (λ m. ChangesOnly m now w.path) wrote only, called)
 
   pub acts_wrote : (acts : Acts) (ws : List Write) (p : Printed) (before now : Option Files) → acts ws (printed p) → Wrote ws before now → ActsAs asks (λ files. acts) before now faults (Ok (Ok p))
   acts_wrote acts ws p before now is wrote = wrote_all acts ws (printed p) is before now wrote
 
-  pub acts_left : (acts : Acts) (ws : List Write) (a : Answer) (e : StoreFault) (before now : Option Files) → acts ws a → LeftBy {A = Unit {0}} ws before now (Err e)
-      → WhereStoreFailed e (FailedIn faults IsWrite) → ActsAs asks (λ files. acts) before now faults (Err e)
-  acts_left acts ws a Failed before now is left failed = failed_as faults _ _ (λ call write. inr (write, failed_next acts ws a is before now left)) failed
-  acts_left acts ws a StoreMemory before now is some failed = wrote_first acts ws a is before now some
+  pub acts_left : (acts : Acts) (ws : List Write) (a : Answer) (e : StoreFault) (before now : Option Files) → acts ws a → LeftBy {A = Unit {0}} ws before now faults (Err e)
+      → ActsAs asks (λ files. acts) before now faults (Err e)
+  acts_left acts ws a Failed before now is failed = failed_as faults _ _ (λ call next. inr (failed_next acts ws a is before now call next)) failed
+  acts_left acts ws a StoreMemory before now is some = wrote_first acts ws a is before now some
 
   -- what comes of a tree that isn't checked, and of one that is
   refused_by : (root : List ℕ) (tree : Found (List TreeFile)) (next : List Decl → Acts) (a : Answer) → Unchecked root tree a → BySchema root tree next [] a
@@ -185,10 +186,13 @@ module _ (asks : Asks) (faults : StoreFaults) where
 
   -- The writes of a list that goes with an answer, of a store that tells its files.
   module _ (acts : Files → Acts) (files : Files) (ws : List Write) (a : Answer) (is : acts files ws a) (now : Option Files) where
-    failed_late : (end : Result Early StoreFault) → end ≡ Err Failed → FailedIn faults IsWrite → versions.FailedAt ws (Some files) now → ActsAs asks acts (Some files) now faults (ended end)
-    failed_late end e failed (made, rest, w, middle, split, wrote, only) =
-        subst (λ r. ActsAs asks acts (Some files) now faults (ended r)) (sym e)
-        (failed_as faults _ _ (λ call write. inr (write, (made, rest, w, (a, subst (λ l. acts files l a) split is), subst (λ m. ChangesOnly m now w.path) wrote only))) failed)
+    failed_next_of : (call : StoreCall) → versions.FailedAt ws (Some files) now call → FailedAt (writes_of acts) (Some files) now call
+    failed_next_of call (made, rest, w, middle, split, wrote, only, called) =
+        (made, rest, w, (a, subst (λ l. acts files l a) split is), subst (λ m. ChangesOnly m now w.path) wrote only, called)
+
+    failed_late : (end : Result Early StoreFault) → end ≡ Err Failed → FailedIn faults (versions.FailedAt ws (Some files) now) → ActsAs asks acts (Some files) now faults (ended end)
+    failed_late end e failed =
+        subst (λ r. ActsAs asks acts (Some files) now faults (ended r)) (sym e) (failed_as faults _ _ (λ call next. inr (failed_next_of call next)) failed)
 
     lost_late : (end : Result Early StoreFault) → end ≡ Err StoreMemory → versions.WroteSome ws (Some files) now → ActsAs asks acts (Some files) now faults (ended end)
     lost_late end e (made, rest, split, wrote) =
@@ -212,7 +216,7 @@ module _ (asks : Asks) (faults : StoreFaults) where
       carried : (given : Result (List Version) FreezeFault) (made : List Write) (a : Answer) → IsFound given → Freezes api given S made a → FreezesOf files made a
       carried given made a e h = subst (λ g. Freezes api g S made a) (sym e) h
 
-      frozen_told : (given : Result (List Version) FreezeFault) (f : Frozen) → IsFound given → freeze.FreezesAt api given S (Some files) now (Ok f) → Acted FreezesOf (Some files) now (frozen f.version f.hash)
+      frozen_told : (given : Result (List Version) FreezeFault) (f : Frozen) → IsFound given → freeze.FreezesAt api given S (Some files) now faults (Ok f) → Acted FreezesOf (Some files) now (frozen f.version f.hash)
       frozen_told (Ok vs) f e (sources, ready, version, hash, wrote) =
           let same : frozen f.version f.hash ≡ frozen (freeze.next vs) (freeze.hash_digits sources (freeze.next vs)) = rw (version, hash) refl in
           (freeze.version_writes api (freeze.next vs) sources, carried (Ok vs) _ _ e (inl (sources, ready, refl, same)), wrote)
@@ -227,7 +231,7 @@ module _ (asks : Asks) (faults : StoreFaults) where
           let which : r ≡ e = ap (refusal_or r) one in
           refused_unwritten FreezesOf files now same (IsUnfrozen api e) end (λ a h. carried (Err r) [] a is (refl, subst (λ x. IsUnfrozen api x a) (sym which) h)) ends
 
-      refused_read : (vs : List Version) (e : FreezeFault) (end : Result Early StoreFault) → IsFound (Ok vs) → freeze.Freezes api vs S (Some files) now (Err e) → EndsBy (IsUnfrozen api) e end
+      refused_read : (vs : List Version) (e : FreezeFault) (end : Result Early StoreFault) → IsFound (Ok vs) → freeze.Freezes api vs S (Some files) now faults (Err e) → EndsBy (IsUnfrozen api) e end
           → FaultCall (asks (Some files)) faults e → ActsAs asks FreezesOf (Some files) now faults (ended end)
       refused_read vs (fault.BadVersions missing) end is told ends call = absurd told
       refused_read vs (fault.Torn version kept text) end is told ends call = plain_read vs (fault.Torn version kept text) end is told.0 told.1 ends
@@ -238,7 +242,7 @@ module _ (asks : Asks) (faults : StoreFaults) where
       refused_read vs fault.ReadFault end is told ends call = failed_unwritten FreezesOf files now told end ends call
       refused_read vs fault.WriteFault end is (sources, ready, failed) ends call =
           failed_late FreezesOf files (freeze.version_writes api (freeze.next vs) sources) (frozen (freeze.next vs) (freeze.hash_digits sources (freeze.next vs)))
-          (carried (Ok vs) _ _ is (inl (sources, ready, refl, refl))) now end ends call failed
+          (carried (Ok vs) _ _ is (inl (sources, ready, refl, refl))) now end ends failed
       refused_read vs fault.OutOfMemory end is (inl same) ends call = lost_unwritten FreezesOf files now same end ends
       refused_read vs fault.OutOfMemory end is (inr (sources, ready, some)) ends call =
           lost_late FreezesOf files (freeze.version_writes api (freeze.next vs) sources) (frozen (freeze.next vs) (freeze.hash_digits sources (freeze.next vs)))
@@ -256,18 +260,18 @@ module _ (asks : Asks) (faults : StoreFaults) where
       refused_unread r fault.WriteFault end is same one unwritten ends call = absurd (unwritten refl)
       refused_unread r fault.OutOfMemory end is same one unwritten ends call = lost_unwritten FreezesOf files now same end ends
 
-      refused_told : (given : Result (List Version) FreezeFault) (e : FreezeFault) (end : Result Early StoreFault) → IsFound given → freeze.FreezesAt api given S (Some files) now (Err e) → EndsBy (IsUnfrozen api) e end
+      refused_told : (given : Result (List Version) FreezeFault) (e : FreezeFault) (end : Result Early StoreFault) → IsFound given → freeze.FreezesAt api given S (Some files) now faults (Err e) → EndsBy (IsUnfrozen api) e end
           → FaultCall (asks (Some files)) faults e → ActsAs asks FreezesOf (Some files) now faults (ended end)
       refused_told (Ok vs) e end is told ends call = refused_read vs e end is told ends call
       refused_told (Err r) e end is told ends call = refused_unread r e end is told.0 told.1 told.2 ends call
 
     pub freeze_done : (before now : Option Files) (f : Frozen) (given : Result Printed Early) → (before ≡ None → now ≡ None)
-        → Tells before (λ files. freeze.FreezesAt api (versions_at files api) S (Some files) now (Ok f)) → Gives given (frozen f.version f.hash) → ActsAs asks FreezesOf before now faults (Ok given)
+        → Tells before (λ files. freeze.FreezesAt api (versions_at files api) S (Some files) now faults (Ok f)) → Gives given (frozen f.version f.hash) → ActsAs asks FreezesOf before now faults (Ok given)
     freeze_done None now f given untold told gives = untold_acts FreezesOf now (Ok given) (untold refl) (given_call given)
     freeze_done (Some files) now f given untold told gives = gives_told FreezesOf files now given (frozen f.version f.hash) gives (frozen_told files now (versions_at files api) f refl told)
 
     pub freeze_refused : (before now : Option Files) (e : FreezeFault) (end : Result Early StoreFault) → (before ≡ None → now ≡ None)
-        → Tells before (λ files. freeze.FreezesAt api (versions_at files api) S (Some files) now (Err e)) → EndsBy (IsUnfrozen api) e end → FaultCall (asks before) faults e
+        → Tells before (λ files. freeze.FreezesAt api (versions_at files api) S (Some files) now faults (Err e)) → EndsBy (IsUnfrozen api) e end → FaultCall (asks before) faults e
         → ActsAs asks FreezesOf before now faults (ended end)
     freeze_refused None now e end untold told ends call = untold_acts FreezesOf now (ended end) (untold refl) (ended_call (IsUnfrozen api) e end faults (asks None) ends call)
     freeze_refused (Some files) now e end untold told ends call = refused_told files now (versions_at files api) e end refl told ends call
@@ -303,10 +307,10 @@ module _ (asks : Asks) (faults : StoreFaults) where
     unhashed_plain : (e : FreezeFault) (end : Result Early StoreFault) → rehash_at files api ≡ Err e → now ≡ Some files → EndsIn (IsUnhashed e) end → ActsAs asks Hashes (Some files) now faults (ended end)
     unhashed_plain e end is same ends = refused_unwritten Hashes files now same (IsUnhashed e) end (λ a h. carried_hashes (Err e) [] a is (refl, h)) ends
 
-    failed_by : (given : Numbers) (end : Result Early StoreFault) → rehash_at files api ≡ given → end ≡ Err Failed → FailedIn faults IsWrite → versions.FailedAt (rehash_writes files api) (Some files) now → ActsAs asks Hashes (Some files) now faults (ended end)
-    failed_by (Ok numbers) end is ends call failed =
-        failed_late Hashes files (rehash_writes files api) (rehashed (length numbers)) (carried_hashes (Ok numbers) _ _ is (refl, refl)) now end ends call failed
-    failed_by (Err e) end is ends call (made, rest, w, middle, split, wrote, only) =
+    failed_by : (given : Numbers) (end : Result Early StoreFault) → rehash_at files api ≡ given → end ≡ Err Failed → FailedIn faults (versions.FailedAt (rehash_writes files api) (Some files) now) → ActsAs asks Hashes (Some files) now faults (ended end)
+    failed_by (Ok numbers) end is ends failed =
+        failed_late Hashes files (rehash_writes files api) (rehashed (length numbers)) (carried_hashes (Ok numbers) _ _ is (refl, refl)) now end ends failed
+    failed_by (Err e) end is ends (call, (made, rest, w, middle, split, wrote, only, called), told) =
         absurd (no_next made rest w (sym (none_due api (versions_at files api) e is) ∙ split))
 
     lost_by : (given : Numbers) (end : Result Early StoreFault) → rehash_at files api ≡ given → end ≡ Err StoreMemory → versions.WroteSome (rehash_writes files api) (Some files) now → ActsAs asks Hashes (Some files) now faults (ended end)
@@ -316,7 +320,7 @@ module _ (asks : Asks) (faults : StoreFaults) where
         let none : made ≡ [] = no_first made rest (sym (none_due api (versions_at files api) e is) ∙ split) in
         lost_unwritten Hashes files now (subst (λ ws. Wrote ws (Some files) now) none wrote) end ends
 
-    unhashed_told : (e : FreezeFault) (end : Result Early StoreFault) → Refuses (rehash_at files api) e → Left {A = List ℕ} (rehash_writes files api) (Some files) now (Err e) → EndsBy IsUnhashed e end
+    unhashed_told : (e : FreezeFault) (end : Result Early StoreFault) → Refuses (rehash_at files api) e → Left {A = List ℕ} (rehash_writes files api) (Some files) now faults (Err e) → EndsBy IsUnhashed e end
         → FaultCall (asks (Some files)) faults e → ActsAs asks Hashes (Some files) now faults (ended end)
     unhashed_told (fault.BadVersions missing) end is left ends call = unhashed_plain (fault.BadVersions missing) end is left ends
     unhashed_told (fault.Torn version kept text) end is left ends call = unhashed_plain (fault.Torn version kept text) end is left ends
@@ -325,19 +329,19 @@ module _ (asks : Asks) (faults : StoreFaults) where
     unhashed_told (fault.Incompatible rows) end is left ends call = unhashed_plain (fault.Incompatible rows) end is left ends
     unhashed_told (fault.Limit limit) end is left ends call = unhashed_plain (fault.Limit limit) end is left ends
     unhashed_told fault.ReadFault end is left ends call = failed_unwritten Hashes files now left end ends call
-    unhashed_told fault.WriteFault end is left ends call = failed_by (rehash_at files api) end refl ends call left
+    unhashed_told fault.WriteFault end is left ends call = failed_by (rehash_at files api) end refl ends left
     unhashed_told fault.OutOfMemory end is left ends call = lost_by (rehash_at files api) end refl ends left
 
   module _ (api : List ℕ) where
     pub rehash_done : (before now : Option Files) (numbers : List ℕ) (given : Result Printed Early) → (before ≡ None → now ≡ None)
-        → Tells before (λ files. answers.Gives (rehash_at files api) (Ok numbers)) → Tells before (λ files. Left (rehash_writes files api) (Some files) now (Ok numbers))
+        → Tells before (λ files. answers.Gives (rehash_at files api) (Ok numbers)) → Tells before (λ files. Left (rehash_writes files api) (Some files) now faults (Ok numbers))
         → Gives given (rehashed (length numbers)) → ActsAs asks (RehashActs api) before now faults (Ok given)
     rehash_done None now numbers given untold told wrote gives = untold_acts (RehashActs api) now (Ok given) (untold refl) (given_call given)
     rehash_done (Some files) now numbers given untold told wrote gives =
         gives_told (RehashActs api) files now given (rehashed (length numbers)) gives (rehash_writes files api, carried_hashes api files now (Ok numbers) _ _ told (refl, refl), wrote)
 
     pub rehash_refused : (before now : Option Files) (e : FreezeFault) (end : Result Early StoreFault) → (before ≡ None → now ≡ None)
-        → Tells before (λ files. answers.Gives {A = List ℕ} (rehash_at files api) (Err e)) → Tells before (λ files. Left {A = List ℕ} (rehash_writes files api) (Some files) now (Err e))
+        → Tells before (λ files. answers.Gives {A = List ℕ} (rehash_at files api) (Err e)) → Tells before (λ files. Left {A = List ℕ} (rehash_writes files api) (Some files) now faults (Err e))
         → EndsBy IsUnhashed e end → FaultCall (asks before) faults e → ActsAs asks (RehashActs api) before now faults (ended end)
     rehash_refused None now e end untold told wrote ends call = untold_acts (RehashActs api) now (ended end) (untold refl) (ended_call IsUnhashed e end faults (asks None) ends call)
     rehash_refused (Some files) now e end untold told wrote ends call = unhashed_told api files now e end told wrote ends call

@@ -1,14 +1,13 @@
 //! The command `dump`: the canonical dump of a tree, written below a folder.
 ghost use Rattle.std.specs.Prelude.{List, Option, Err, map};
-ghost use Rattle.aidl_outside.specs.Asks.{AsksBelow, AsksNothing, IsWrite};
-ghost use Rattle.aidl_outside.specs.Faults.{FailedIn, IfStoreFailed, StoreFaults, WhereStoreFailed};
+ghost use Rattle.aidl_outside.specs.Asks.{AsksBelow, AsksNothing};
+ghost use Rattle.aidl_outside.specs.Faults.{StoreFaults};
 ghost use Rattle.aidl_outside.specs.Causes.{StoreCause};
 ghost use Rattle.aidl_outside.specs.Files.{Files};
 ghost use Rattle.aidl_outside.specs.Writes as outside;
 ghost use Rattle.aidl_tool.specs.Outside.{seen_of};
 ghost use Rattle.aidl_tool.specs.Acting.{DumpActs};
 ghost use Rattle.aidl_tool.specs.steps.Left.{LeftBy};
-ghost use Rattle.api_versions.specs.Asks.{FaultCall};
 ghost use Rattle.api_versions.specs.Causes.{FaultCause};
 ghost use Rattle.api_versions.specs.Writes.{Left};
 ghost use Rattle.api_versions.specs.Early.{IsLate};
@@ -85,9 +84,8 @@ fn write_dump<S: Store>(
 // Makes the writes that are due.
 fn write_due<S: Store>(alloc: Global, writes: &[Write], store: &mut S) -> Result<(), StoreFault>
     ensures wrote { LeftBy (map write_seen writes.now)
-        (S.kept store.old) (S.kept store.new) result }
+        (S.kept store.old) (S.kept store.new) (S.fault_record store.new) result }
     ensures cause { StoreCause (S.fault_record store.old) (S.fault_record store.new) result }
-    ensures failed { IfStoreFailed result (FailedIn (S.fault_record store.new) IsWrite) }
 {
     match write_all(alloc, writes, store) {
         Ok(()) => Ok(()),
@@ -98,13 +96,11 @@ fn write_due<S: Store>(alloc: Global, writes: &[Write], store: &mut S) -> Result
 // Why the writes ended before the last.
 fn store_fault(fault: FreezeFault) -> StoreFault
     requires { IsLate fault }
-    ensures wrote { (writes : List outside.Write) (before now : Option Files)
-        → Left {A = Unit {0}} writes before now (Err fault)
-        → LeftBy {A = Unit {0}} writes before now (Err result) }
+    ensures wrote { (writes : List outside.Write) (before now : Option Files) (faults : StoreFaults)
+        → Left {A = Unit {0}} writes before now faults (Err fault)
+        → LeftBy {A = Unit {0}} writes before now faults (Err result) }
     ensures cause { (before now : StoreFaults) → FaultCause before now fault
         → StoreCause {T = Unit {0}} before now (Err result) }
-    ensures failed { (faults : StoreFaults) → FaultCall IsWrite faults fault
-        → WhereStoreFailed result (FailedIn faults IsWrite) }
 {
     match fault {
         FreezeFault::WriteFault => StoreFault::Failed,

@@ -1,8 +1,7 @@
 //! The command `make`: two trees and calls between them, which are written, checked, judged and run.
-ghost use Rattle.std.specs.Prelude.{ℕ, IfOk, List, map};
-ghost use Rattle.aidl_outside.specs.Asks.{IsWrite};
+ghost use Rattle.std.specs.Prelude.{◌≡◌, ℕ, IfOk, List, map};
 ghost use Rattle.aidl_outside.specs.Causes.{StoreCause};
-ghost use Rattle.aidl_outside.specs.Faults.{FailedIn, IfStoreFailed};
+ghost use Rattle.aidl_outside.specs.Faults.{FailedIn, IfStoreFailed, writing};
 ghost use Rattle.aidl_outside.specs.Writes.{Writes};
 ghost use Rattle.aidl_tool.specs.Outside.{seen_of};
 ghost use Rattle.aidl_tool.specs.steps.Carried.{carried_of};
@@ -94,9 +93,9 @@ fn make_laid<S: Store, K: Sink, L: Link>(
 
 // Writes the calls file, and then both trees.
 fn write_laid<S: Store>(alloc: Global, laid: &Laid, store: &mut S) -> Result<(), StoreFault>
-    ensures wrote { LeftBy (laid_writes laid.now) (S.kept store.old) (S.kept store.new) result }
+    ensures wrote { LeftBy (laid_writes laid.now)
+        (S.kept store.old) (S.kept store.new) (S.fault_record store.new) result }
     ensures cause { StoreCause (S.fault_record store.old) (S.fault_record store.new) result }
-    ensures failed { IfStoreFailed result (FailedIn (S.fault_record store.new) IsWrite) }
 {
     let path = laid.calls_path.as_str();
     let calls = laid.calls.as_slice();
@@ -108,9 +107,9 @@ fn write_laid<S: Store>(alloc: Global, laid: &Laid, store: &mut S) -> Result<(),
 
 // Writes the newer tree, and then the older one.
 fn write_trees<S: Store>(alloc: Global, laid: &Laid, store: &mut S) -> Result<(), StoreFault>
-    ensures wrote { LeftBy (tree_writes laid.now) (S.kept store.old) (S.kept store.new) result }
+    ensures wrote { LeftBy (tree_writes laid.now)
+        (S.kept store.old) (S.kept store.new) (S.fault_record store.new) result }
     ensures cause { StoreCause (S.fault_record store.old) (S.fault_record store.new) result }
-    ensures failed { IfStoreFailed result (FailedIn (S.fault_record store.new) IsWrite) }
 {
     let new_root = laid.new_root.as_str();
     let news = laid.news.as_slice();
@@ -130,9 +129,8 @@ fn write_tree<S: Store>(
     store: &mut S,
 ) -> Result<(), StoreFault>
     ensures wrote { LeftBy (map (file_write root.now) (map file_seen files.now))
-        (S.kept store.old) (S.kept store.new) result }
+        (S.kept store.old) (S.kept store.new) (S.fault_record store.new) result }
     ensures cause { StoreCause (S.fault_record store.old) (S.fault_record store.new) result }
-    ensures failed { IfStoreFailed result (FailedIn (S.fault_record store.new) IsWrite) }
 {
     for file in files {
         match write_file(alloc, root, file, store) {
@@ -153,7 +151,9 @@ fn write_file<S: Store>(
     ensures written { let write = file_write root.now (file_seen file.now) in
         Writes (S.kept store.old) (S.kept store.new) write.path write.bytes result }
     ensures cause { StoreCause (S.fault_record store.old) (S.fault_record store.new) result }
-    ensures failed { IfStoreFailed result (FailedIn (S.fault_record store.new) IsWrite) }
+    ensures failed { let write = file_write root.now (file_seen file.now) in
+        IfStoreFailed result
+        (FailedIn (S.fault_record store.new) (λ call. call ≡ writing write.path)) }
 {
     let relative = file.path.as_str();
     let bytes = file.bytes.as_slice();

@@ -3,6 +3,7 @@ use Rattle.std.proofs.Common.{◌≡◌, ℕ, List, [], ◌∷◌, ◌++◌, Opt
 use Rattle.std.specs.List.{All, AllZip}
 use Rattle.std.specs.Result.{IfOk, OnOk}
 use Rattle.std.proofs.lemmas.List.Elements.{All-nil, All-cons, All-head}
+use Rattle.aidl_outside.specs.Faults.{StoreFaults}
 use Rattle.aidl_outside.specs.Files.{Files}
 use Rattle.aidl_outside.specs.Told.{Tells}
 use Rattle.aidl_schema.specs.declared.schema.Decl.{Decl}
@@ -63,14 +64,14 @@ module _ (new : List Decl) (valid : IsValid new) where
   each_by_latest vs v (Err e) is one = tt
 
 -- what is frozen follows each of the versions that are told
-follows_at : (api : List ℕ) (S : List Decl) (before now : Option Files) (d : Result (List Version) FreezeFault) (r : Result Frozen FreezeFault)
-    → FreezesAt api d S before now r → IfOk r (λ x. FollowsEachAt d S)
-follows_at api S before now (Ok vs) (Ok x) (files, ready, version, hash, wrote) = ready.each
-follows_at api S before now (Err e) (Ok x) h = h
-follows_at api S before now d (Err e) h = tt
+follows_at : (api : List ℕ) (S : List Decl) (before now : Option Files) (faults : StoreFaults) (d : Result (List Version) FreezeFault) (r : Result Frozen FreezeFault)
+    → FreezesAt api d S before now faults r → IfOk r (λ x. FollowsEachAt d S)
+follows_at api S before now faults (Ok vs) (Ok x) (files, ready, version, hash, wrote) = ready.each
+follows_at api S before now faults (Err e) (Ok x) h = h
+follows_at api S before now faults d (Err e) h = tt
 
-pub follows_told : (api : List ℕ) (kept : Option Files) (defined : Files → Result (List Version) FreezeFault) (S : List Decl) (now : Option Files)
-    (r : Result Frozen FreezeFault) → Tells kept (λ files. FreezesAt api (defined files) S (Some files) now r)
+pub follows_told : (api : List ℕ) (kept : Option Files) (defined : Files → Result (List Version) FreezeFault) (S : List Decl) (now : Option Files) (faults : StoreFaults)
+    (r : Result Frozen FreezeFault) → Tells kept (λ files. FreezesAt api (defined files) S (Some files) now faults r)
     → Tells kept (λ files. IfOk r (λ x. FollowsEachAt (defined files) S))
-follows_told api None defined S now r h = tt
-follows_told api (Some files) defined S now r h = follows_at api S (Some files) now (defined files) r h
+follows_told api None defined S now faults r h = tt
+follows_told api (Some files) defined S now faults r h = follows_at api S (Some files) now faults (defined files) r h

@@ -98,16 +98,16 @@ refused_torn vs S fault.WriteFault h early = early
 refused_torn vs S fault.OutOfMemory h early = tt
 
 -- nothing was written
-pub freezes_refused : (api : List ℕ) (vs : List Version) (S : List Decl) (before now : Option Files) (e : FreezeFault) → now ≡ before → IsEarly e → RefusedAs vs S e → Freezes api vs S before now (Err e)
-freezes_refused api vs S before now (fault.BadVersions missing) same early h = h
-freezes_refused api vs S before now (fault.Torn version kept text) same early h = (same, h)
-freezes_refused api vs S before now (fault.Unreadable version files cause) same early h = (same, h)
-freezes_refused api vs S before now (fault.Unchanged version) same early h = (same, h)
-freezes_refused api vs S before now (fault.Incompatible rows) same early h = (same, h)
-freezes_refused api vs S before now (fault.Limit l) same early h = (same, h)
-freezes_refused api vs S before now fault.ReadFault same early h = absurd early
-freezes_refused api vs S before now fault.WriteFault same early h = absurd early
-freezes_refused api vs S before now fault.OutOfMemory same early h = inl same
+pub freezes_refused : (api : List ℕ) (vs : List Version) (S : List Decl) (before now : Option Files) (faults : StoreFaults) (e : FreezeFault) → now ≡ before → IsEarly e → RefusedAs vs S e → Freezes api vs S before now faults (Err e)
+freezes_refused api vs S before now faults (fault.BadVersions missing) same early h = h
+freezes_refused api vs S before now faults (fault.Torn version kept text) same early h = (same, h)
+freezes_refused api vs S before now faults (fault.Unreadable version files cause) same early h = (same, h)
+freezes_refused api vs S before now faults (fault.Unchanged version) same early h = (same, h)
+freezes_refused api vs S before now faults (fault.Incompatible rows) same early h = (same, h)
+freezes_refused api vs S before now faults (fault.Limit l) same early h = (same, h)
+freezes_refused api vs S before now faults fault.ReadFault same early h = absurd early
+freezes_refused api vs S before now faults fault.WriteFault same early h = absurd early
+freezes_refused api vs S before now faults fault.OutOfMemory same early h = inl same
 
 -- what was prepared was written, or a front of it
 late_only : (e : FreezeFault) → IsLate e → (e ≡ fault.WriteFault) ⊎ (e ≡ fault.OutOfMemory)
@@ -121,19 +121,19 @@ late_only fault.ReadFault h = absurd h
 late_only fault.WriteFault h = inl refl
 late_only fault.OutOfMemory h = inr refl
 
-pub freezes_late : (api : List ℕ) (vs : List Version) (S : List Decl) (before now : Option Files) (n : ℕ) (files : List SourceFile) (e : FreezeFault) → Ready vs S files → n ≡ next vs → IsLate e
-    → Left {A = Frozen} (version_writes api n files) before now (Err e) → Freezes api vs S before now (Err e)
-freezes_late api vs S before now n files e ready number late left =
-    let there = subst (λ m. Left {A = Frozen} (version_writes api m files) before now (Err e)) number left in
+pub freezes_late : (api : List ℕ) (vs : List Version) (S : List Decl) (before now : Option Files) (faults : StoreFaults) (n : ℕ) (files : List SourceFile) (e : FreezeFault) → Ready vs S files → n ≡ next vs → IsLate e
+    → Left {A = Frozen} (version_writes api n files) before now faults (Err e) → Freezes api vs S before now faults (Err e)
+freezes_late api vs S before now faults n files e ready number late left =
+    let there = subst (λ m. Left {A = Frozen} (version_writes api m files) before now faults (Err e)) number left in
     elim (late_only e late) [
-      | inl is ↦ subst (λ x. Freezes api vs S before now (Err x)) (sym is) (files, ready, subst (λ x. Left {A = Frozen} (version_writes api (next vs) files) before now (Err x)) is there)
-      | inr is ↦ subst (λ x. Freezes api vs S before now (Err x)) (sym is) (inr (files, ready, subst (λ x. Left {A = Frozen} (version_writes api (next vs) files) before now (Err x)) is there))
+      | inl is ↦ subst (λ x. Freezes api vs S before now faults (Err x)) (sym is) (files, ready, subst (λ x. Left {A = Frozen} (version_writes api (next vs) files) before now faults (Err x)) is there)
+      | inr is ↦ subst (λ x. Freezes api vs S before now faults (Err x)) (sym is) (inr (files, ready, subst (λ x. Left {A = Frozen} (version_writes api (next vs) files) before now faults (Err x)) is there))
     ]
 
-pub freezes_done : (api : List ℕ) (vs : List Version) (S : List Decl) (before now : Option Files) (n : ℕ) (files : List SourceFile) (x : Frozen) → Ready vs S files → n ≡ next vs → x.version ≡ n → x.hash ≡ hash_digits files n
-    → Left {A = Frozen} (version_writes api n files) before now (Ok x) → Freezes api vs S before now (Ok x)
-freezes_done api vs S before now n files x ready number version hash left =
-    (files, ready, version ∙ number, hash ∙ ap (hash_digits files) number, subst (λ m. Left {A = Frozen} (version_writes api m files) before now (Ok x)) number left)
+pub freezes_done : (api : List ℕ) (vs : List Version) (S : List Decl) (before now : Option Files) (faults : StoreFaults) (n : ℕ) (files : List SourceFile) (x : Frozen) → Ready vs S files → n ≡ next vs → x.version ≡ n → x.hash ≡ hash_digits files n
+    → Left {A = Frozen} (version_writes api n files) before now faults (Ok x) → Freezes api vs S before now faults (Ok x)
+freezes_done api vs S before now faults n files x ready number version hash left =
+    (files, ready, version ∙ number, hash ∙ ap (hash_digits files) number, subst (λ m. Left {A = Frozen} (version_writes api m files) before now faults (Ok x)) number left)
 
 -- the same files have the same texts, and others don't
 same_file : (f g : SourceFile) → is_same f g ≡ true → seen f ≡ seen g
@@ -203,13 +203,13 @@ torn_read vs fault.WriteFault h = tt
 torn_read vs fault.OutOfMemory h = tt
 
 -- of what is told
-pub freezes_at : (api : List ℕ) (kept : Option Files) (defined : Files → Result (List Version) FreezeFault) (vs : List Version) (S : List Decl) (before now : Option Files) (r : Result Frozen FreezeFault)
-    → before ≡ kept → Tells kept (λ files. defined files ≡ Ok vs) → Freezes api vs S before now r → Tells kept (λ files. FreezesAt api (defined files) S (Some files) now r)
-freezes_at api None defined vs S before now r same told h = tt
-freezes_at api (Some files) defined vs S before now r same told h =
-    subst (λ d. FreezesAt api d S (Some files) now r) (sym told) (subst (λ b. Freezes api vs S b now r) same h)
+pub freezes_at : (api : List ℕ) (kept : Option Files) (defined : Files → Result (List Version) FreezeFault) (vs : List Version) (S : List Decl) (before now : Option Files) (faults : StoreFaults) (r : Result Frozen FreezeFault)
+    → before ≡ kept → Tells kept (λ files. defined files ≡ Ok vs) → Freezes api vs S before now faults r → Tells kept (λ files. FreezesAt api (defined files) S (Some files) now faults r)
+freezes_at api None defined vs S before now faults r same told h = tt
+freezes_at api (Some files) defined vs S before now faults r same told h =
+    subst (λ d. FreezesAt api d S (Some files) now faults r) (sym told) (subst (λ b. Freezes api vs S b now faults r) same h)
 
-unread_by : (api : List ℕ) (S : List Decl) (before now : Option Files) (old new : StoreFaults) (d : Result (List Version) FreezeFault) (e : FreezeFault) → now ≡ before → ReadFaultCause old new e → Refuses d e → FreezesAt api d S before now (Err e)
+unread_by : (api : List ℕ) (S : List Decl) (before now : Option Files) (old new : StoreFaults) (d : Result (List Version) FreezeFault) (e : FreezeFault) → now ≡ before → ReadFaultCause old new e → Refuses d e → FreezesAt api d S before now new (Err e)
 unread_by api S before now old new (Ok vs) (fault.BadVersions missing) same cause h = absurd (cc)
 unread_by api S before now old new (Ok vs) (fault.Torn version kept text) same cause h = absurd cause
 unread_by api S before now old new (Ok vs) (fault.Unreadable version files x) same cause h = absurd cause
@@ -230,11 +230,11 @@ unread_by api S before now old new (Err r) fault.WriteFault same cause h = absur
 unread_by api S before now old new (Err r) fault.OutOfMemory same cause h = (same, tt, λ wrote. cc)
 
 pub unread_at : (api : List ℕ) (kept : Option Files) (defined : Files → Result (List Version) FreezeFault) (S : List Decl) (now : Option Files) (old new : StoreFaults) (e : FreezeFault) → now ≡ kept → ReadFaultCause old new e
-    → Tells kept (λ files. Refuses (defined files) e) → Tells kept (λ files. FreezesAt api (defined files) S (Some files) now (Err e))
+    → Tells kept (λ files. Refuses (defined files) e) → Tells kept (λ files. FreezesAt api (defined files) S (Some files) now new (Err e))
 unread_at api None defined S now old new e same cause told = tt
 unread_at api (Some files) defined S now old new e same cause told = unread_by api S (Some files) now old new (defined files) e same cause told
 
-pub freezes_next : (api : List ℕ) (vs : List Version) (S : List Decl) (before now : Option Files) (n : Next) (r : Result Frozen FreezeFault) → Ready vs S n.files × (n.number ≡ next vs)
-    → IfOk r (λ x. x.version ≡ n.number) → IfOk r (λ x. x.hash ≡ hash_digits n.files n.number) → IfErr r IsLate → Left (version_writes api n.number n.files) before now r → Freezes api vs S before now r
-freezes_next api vs S before now n (Ok x) ready version hash late left = freezes_done api vs S before now n.number n.files x ready.0 ready.1 version hash left
-freezes_next api vs S before now n (Err e) ready version hash late left = freezes_late api vs S before now n.number n.files e ready.0 ready.1 late left
+pub freezes_next : (api : List ℕ) (vs : List Version) (S : List Decl) (before now : Option Files) (faults : StoreFaults) (n : Next) (r : Result Frozen FreezeFault) → Ready vs S n.files × (n.number ≡ next vs)
+    → IfOk r (λ x. x.version ≡ n.number) → IfOk r (λ x. x.hash ≡ hash_digits n.files n.number) → IfErr r IsLate → Left (version_writes api n.number n.files) before now faults r → Freezes api vs S before now faults r
+freezes_next api vs S before now faults n (Ok x) ready version hash late left = freezes_done api vs S before now faults n.number n.files x ready.0 ready.1 version hash left
+freezes_next api vs S before now faults n (Err e) ready version hash late left = freezes_late api vs S before now faults n.number n.files e ready.0 ready.1 late left

@@ -3,6 +3,7 @@ use Rattle.std.specs.Prelude.{◌≡◌, ◌≢◌, ℕ, ◌+◌, ◌≤◌, ◌
 use Rattle.aidl_base.specs.declared.limit.Limit.{Limit}
 use Rattle.aidl_base.specs.declared.limit.LimitName.TheVariants as limit
 use Rattle.aidl_base.specs.declared.source_file.SourceFile.{SourceFile}
+use Rattle.aidl_outside.specs.Faults.{FailedIn, StoreFaults}
 use Rattle.aidl_outside.specs.Files.{Files, path_below}
 use Rattle.aidl_schema.specs.declared.schema.Decl.{Decl}
 use Rattle.aidl_schema.specs.Broken.{broken}
@@ -102,18 +103,18 @@ file_write folder f = record { path = path_below folder (seen f).0; bytes = f.by
 abbrev pub version_writes : List ℕ → ℕ → List SourceFile → List Write
 version_writes api number files = map (file_write (version_folder api number)) files ++ record { path = hash_path api number; bytes = hash_text files (Two number) } ∷ []
 
--- what is answered, and what a store holds before and now, of versions that are read
-abbrev pub Freezes : List ℕ → List Version → List Decl → Option Files → Option Files → Result Frozen FreezeFault → Type 0
-Freezes api vs S before now (Ok frozen) = (files : List SourceFile) × Ready vs S files × (frozen.version ≡ next vs) × (frozen.hash ≡ hash_digits files (next vs)) × Wrote (version_writes api (next vs) files) before now
-Freezes api vs S before now (Err fault.WriteFault) = (files : List SourceFile) × Ready vs S files × FailedAt (version_writes api (next vs) files) before now
-Freezes api vs S before now (Err fault.OutOfMemory) = (now ≡ before) ⊎ ((files : List SourceFile) × Ready vs S files × WroteSome (version_writes api (next vs) files) before now)
-Freezes api vs S before now (Err (fault.Torn version kept text)) = (now ≡ before) × RefusedAs vs S (fault.Torn version kept text)
-Freezes api vs S before now (Err (fault.Unreadable version files cause)) = (now ≡ before) × RefusedAs vs S (fault.Unreadable version files cause)
-Freezes api vs S before now (Err (fault.Unchanged version)) = (now ≡ before) × RefusedAs vs S (fault.Unchanged version)
-Freezes api vs S before now (Err (fault.Incompatible rows)) = (now ≡ before) × RefusedAs vs S (fault.Incompatible rows)
-Freezes api vs S before now (Err (fault.Limit l)) = (now ≡ before) × RefusedAs vs S (fault.Limit l)
-Freezes api vs S before now (Err (fault.BadVersions missing)) = ⊥
-Freezes api vs S before now (Err fault.ReadFault) = now ≡ before
+-- what is answered, what a store holds before and now, and its faults now, of versions that are read
+abbrev pub Freezes : List ℕ → List Version → List Decl → Option Files → Option Files → StoreFaults → Result Frozen FreezeFault → Type 0
+Freezes api vs S before now faults (Ok frozen) = (files : List SourceFile) × Ready vs S files × (frozen.version ≡ next vs) × (frozen.hash ≡ hash_digits files (next vs)) × Wrote (version_writes api (next vs) files) before now
+Freezes api vs S before now faults (Err fault.WriteFault) = (files : List SourceFile) × Ready vs S files × FailedIn faults (FailedAt (version_writes api (next vs) files) before now)
+Freezes api vs S before now faults (Err fault.OutOfMemory) = (now ≡ before) ⊎ ((files : List SourceFile) × Ready vs S files × WroteSome (version_writes api (next vs) files) before now)
+Freezes api vs S before now faults (Err (fault.Torn version kept text)) = (now ≡ before) × RefusedAs vs S (fault.Torn version kept text)
+Freezes api vs S before now faults (Err (fault.Unreadable version files cause)) = (now ≡ before) × RefusedAs vs S (fault.Unreadable version files cause)
+Freezes api vs S before now faults (Err (fault.Unchanged version)) = (now ≡ before) × RefusedAs vs S (fault.Unchanged version)
+Freezes api vs S before now faults (Err (fault.Incompatible rows)) = (now ≡ before) × RefusedAs vs S (fault.Incompatible rows)
+Freezes api vs S before now faults (Err (fault.Limit l)) = (now ≡ before) × RefusedAs vs S (fault.Limit l)
+Freezes api vs S before now faults (Err (fault.BadVersions missing)) = ⊥
+Freezes api vs S before now faults (Err fault.ReadFault) = now ≡ before
 
 -- a refusal of versions that can't be read, which changes nothing, and comes before any write
 abbrev pub Unread : FreezeFault → Option Files → Option Files → Result Frozen FreezeFault → Type 0
@@ -121,9 +122,9 @@ Unread r before now (Ok frozen) = ⊥
 Unread r before now (Err e) = (now ≡ before) × Refuses {A = Frozen} (Err r) e × (e ≢ fault.WriteFault)
 
 -- of what a store tells
-abbrev pub FreezesAt : List ℕ → Result (List Version) FreezeFault → List Decl → Option Files → Option Files → Result Frozen FreezeFault → Type 0
-FreezesAt api (Ok vs) S before now r = Freezes api vs S before now r
-FreezesAt api (Err refused) S before now r = Unread refused before now r
+abbrev pub FreezesAt : List ℕ → Result (List Version) FreezeFault → List Decl → Option Files → Option Files → StoreFaults → Result Frozen FreezeFault → Type 0
+FreezesAt api (Ok vs) S before now faults r = Freezes api vs S before now faults r
+FreezesAt api (Err refused) S before now faults r = Unread refused before now r
 
 -- the fault of `Unreadable` is what `check` answers for its files
 abbrev pub IsRead : FreezeFault → Type 0

@@ -43,7 +43,7 @@ pub fn freeze<S: Store>(
 ) -> Result<Frozen, FreezeFault>
     ensures told { Tells (S.kept store.old) (λ files.
         FreezesAt api.now (versions_at files api.now) schema.now.decls
-        (Some files) (S.kept store.new) result) }
+        (Some files) (S.kept store.new) (S.fault_record store.new) result) }
     ensures chains { Tells (S.kept store.old) (λ files. IfOk result (λ frozen.
         FollowsEachAt (versions_at files api.now) schema.now.decls)) }
     ensures untold { S.kept store.old ≡ None → S.kept store.new ≡ None }
@@ -67,7 +67,7 @@ fn freeze_next<S: Store>(
     versions: Row<Version>,
 ) -> Result<Frozen, FreezeFault>
     ensures answer { Freezes api.now versions schema.now.decls
-        (S.kept store.old) (S.kept store.new) result }
+        (S.kept store.old) (S.kept store.new) (S.fault_record store.new) result }
     ensures read { IfErr result IsRead }
     ensures cause { Cause (S.fault_record store.old) (S.fault_record store.new) result }
     ensures failed { FailedCall (AsksNothing None) (S.fault_record store.new) result }
@@ -89,7 +89,7 @@ fn write_next<S: Store>(
     ensures hash { IfOk result (λ frozen. frozen.hash ≡ hash_digits next.files next.number) }
     ensures late { IfErr result IsLate }
     ensures wrote { Left (version_writes api.now next.number next.files)
-        (S.kept store.old) (S.kept store.new) result }
+        (S.kept store.old) (S.kept store.new) (S.fault_record store.new) result }
     ensures cause { Cause (S.fault_record store.old) (S.fault_record store.new) result }
     ensures failed { FailedCall (AsksNothing None) (S.fault_record store.new) result }
 {

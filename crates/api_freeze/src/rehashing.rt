@@ -26,7 +26,8 @@ pub fn rehash<S: Store>(alloc: Global, store: &mut S, api: &str) -> Result<Row<u
     ensures told { Tells (S.kept store.old) (λ files.
         Gives (meant.rehash_at files api.now) result) }
     ensures wrote { Tells (S.kept store.old) (λ files.
-        Left (meant.rehash_writes files api.now) (Some files) (S.kept store.new) result) }
+        Left (meant.rehash_writes files api.now)
+        (Some files) (S.kept store.new) (S.fault_record store.new) result) }
     ensures untold { S.kept store.old ≡ None → S.kept store.new ≡ None }
     ensures refusal { IfErr result meant.IsRehashFault }
     ensures cause { Cause (S.fault_record store.old) (S.fault_record store.new) result }
@@ -50,7 +51,7 @@ fn rehash_all<S: Store>(
     ensures defined { Gives (meant.rehash_of versions.now) result }
     ensures refusal { IfErr result meant.IsRehashFault }
     ensures wrote { Left (meant.whole_writes api.now versions.now)
-        (S.kept store.old) (S.kept store.new) result }
+        (S.kept store.old) (S.kept store.new) (S.fault_record store.new) result }
     ensures cause { Cause (S.fault_record store.old) (S.fault_record store.new) result }
     ensures failed { FailedCall (AsksNothing None) (S.fault_record store.new) result }
 {
@@ -70,7 +71,7 @@ fn rehash_whole<S: Store>(
     ensures numbers { IfOk result (λ numbers. numbers ≡ meant.stale_numbers versions.now) }
     ensures late { IfErr result IsLate }
     ensures wrote { Left (meant.hash_writes api.now versions.now)
-        (S.kept store.old) (S.kept store.new) result }
+        (S.kept store.old) (S.kept store.new) (S.fault_record store.new) result }
     ensures cause { Cause (S.fault_record store.old) (S.fault_record store.new) result }
     ensures failed { FailedCall (AsksNothing None) (S.fault_record store.new) result }
 {

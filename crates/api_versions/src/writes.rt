@@ -26,7 +26,8 @@ pub fn write_all<S: Store>(
     store: &mut S,
 ) -> Result<(), FreezeFault>
     ensures late { IfErr result IsLate }
-    ensures wrote { Left (map write_seen writes.now) (S.kept store.old) (S.kept store.new) result }
+    ensures wrote { Left (map write_seen writes.now)
+        (S.kept store.old) (S.kept store.new) (S.fault_record store.new) result }
     ensures cause { Cause (S.fault_record store.old) (S.fault_record store.new) result }
     ensures failed { FailedCall IsWrite (S.fault_record store.new) result }
 {

@@ -8,7 +8,7 @@ ghost use Rattle.json_writing.specs.Named.{bytes_of, enumerators_of, fields_in};
 use aidl_base::Ident;
 use aidl_schema::{Base, Enumerator, Field, Form, Kind, Schema, form_in};
 
-// The enumerators of the enum that a base is.
+/// The enumerators of the enum that a base is; None of another base. It takes no memory.
 pub fn enumerators_in(schema: &Schema, base: Base) -> Option<&[Enumerator]>
     ensures { option_map (λ es. es.now) result ≡ enumerators_of schema.now.decls base }
 {
@@ -34,10 +34,11 @@ pub fn fields_of(schema: &Schema, base: Base) -> &[Field]
     }
 }
 
-// What has a name: an enumerator or a field.
+/// What has a name: an enumerator or a field.
 pub trait Called {
     ghost called: { Self → Ident };
 
+    /// Its name.
     fn name(&self) -> &Ident
         ensures { result.now ≡ called self.now };
 }
@@ -58,7 +59,7 @@ impl Called for Field {
     }
 }
 
-// The key is the name.
+/// Whether a key is the name, byte by byte.
 pub fn is_called(name: &Ident, key: &str) -> bool
     ensures { result ≡ same_text (bytes_of name.now) key.now }
 {

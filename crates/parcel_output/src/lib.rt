@@ -16,4 +16,4 @@ pub use decoding::decode;
 pub use encoding::encode;
 pub use explaining::explain;
 pub use laws::{law_explain_exits, law_explain_stops};
-pub use steps::{known_types, parcel_of};
+pub use steps::parcel_of;

@@ -3,7 +3,7 @@ use Rattle.std.specs.Prelude.{◌≡◌, ◌≢◌, ℕ, ◌⊎◌, List, [], �
 use Rattle.aidl_outside.specs.declared.link.Carried.{Carried}
 use Rattle.aidl_outside.specs.Asks.{IsWrite}
 use Rattle.aidl_outside.specs.Causes.{Rose}
-use Rattle.aidl_outside.specs.Faults.{FailedIn, StoreCall}
+use Rattle.aidl_outside.specs.Faults.{FailedIn, StoreCall, writing}
 use Rattle.aidl_outside.specs.Files.{Files}
 use Rattle.aidl_outside.specs.Told.{Tells, Adds, AddsFront}
 use Rattle.aidl_outside.specs.Writes.{ChangesOnly, Write, written}
@@ -32,15 +32,15 @@ WroteSome are_meant None now = now ≡ None
 WroteSome are_meant (Some files) now = (now ≡ Some files)
     ⊎ ((made rest : List Write) × are_meant files (made ++ rest) × (now ≡ Some (written made files)))
 
--- the first of them were made, maybe none, and then at most the path of the next one was changed
-abbrev pub FailedAt : Writes → Option Files → Option Files → Type 0
-FailedAt are_meant None now = now ≡ None
-FailedAt are_meant (Some files) now =
-    (made rest : List Write) × (w : Write) × are_meant files (made ++ w ∷ rest) × ChangesOnly (Some (written made files)) now w.path
+-- the first of them were made, maybe none, and the call is that of the next one, which changed at most its path
+abbrev pub FailedAt : Writes → Option Files → Option Files → StoreCall → Type 0
+FailedAt are_meant None now call = IsWrite call × (now ≡ None)
+FailedAt are_meant (Some files) now call =
+    (made rest : List Write) × (w : Write) × are_meant files (made ++ w ∷ rest) × ChangesOnly (Some (written made files)) now w.path × (call ≡ writing w.path)
 
 -- The call of the store that failed is one that the command makes: one that it asks, before any write, or the next write.
 abbrev pub StopsAtStore : Meaning → Option Files → Option Files → StoreCall → Type 0
-StopsAtStore m before now call = (m.asks before call × (now ≡ before)) ⊎ (IsWrite call × FailedAt m.writes before now)
+StopsAtStore m before now call = (m.asks before call × (now ≡ before)) ⊎ FailedAt m.writes before now call
 
 -- The parcels that were carried: those that the log gained, each the one that was due, and delivered as it was sent by a
 -- faithful link.

@@ -14,7 +14,7 @@ mod verdict;
 
 pub use ending::end;
 pub use exit::Exit;
-pub use loading::{load, within_limit};
+pub use loading::load;
 pub use printed::{Early, Printed, limit_passed, refusal};
 pub use putting::{print, put};
 pub use refusing::refuse;

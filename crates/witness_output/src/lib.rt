@@ -9,8 +9,5 @@ mod sides;
 mod values;
 
 pub use answering::witness_answer;
-pub use call_lines::push_call;
-pub use entries::entry_lines;
 pub use heading::Heading;
-pub use sides::push_side;
 pub use values::{push_value, push_values};

@@ -199,13 +199,13 @@ module _ (less more : Files → Acts) (files : Files) (wider : (made : List Writ
   some_more now (inl same) = inl same
   some_more now (inr (made, rest, (a, is), e)) = inr (made, rest, (a, wider _ a is), e)
 
-  failed_more : (now : Option Files) → FailedAt (writes_of less) (Some files) now → FailedAt (writes_of more) (Some files) now
-  failed_more now (made, rest, w, (a, is), changes) = (made, rest, w, (a, wider _ a is), changes)
+  failed_more : (now : Option Files) (call : StoreCall) → FailedAt (writes_of less) (Some files) now call → FailedAt (writes_of more) (Some files) now call
+  failed_more now call (made, rest, w, (a, is), changes, called) = (made, rest, w, (a, wider _ a is), changes, called)
 
   stops_more : (asks wide : Asks) (now : Option Files) (call : StoreCall) → (asks (Some files) call → wide (Some files) call)
       → StopsAtStore (acts_by asks less) (Some files) now call → StopsAtStore (acts_by wide more) (Some files) now call
   stops_more asks wide now call also (inl (is, same)) = inl (also is, same)
-  stops_more asks wide now call also (inr (is, failed)) = inr (is, failed_more now failed)
+  stops_more asks wide now call also (inr failed) = inr (failed_more now call failed)
 
   told_more : (asks wide : Asks) (now : Option Files) (faults : StoreFaults) (answered : Result (Result Printed Early) StoreFault)
       → ((call : StoreCall) → asks (Some files) call → wide (Some files) call) → ActsAs asks less (Some files) now faults answered → ActsAs wide more (Some files) now faults answered
@@ -218,7 +218,7 @@ module _ (less more : Files → Acts) (files : Files) (wider : (made : List Writ
 stops_untold : (asks wide : Asks) (less more : Files → Acts) (now : Option Files) (call : StoreCall) → (asks None call → wide None call)
     → StopsAtStore (acts_by asks less) None now call → StopsAtStore (acts_by wide more) None now call
 stops_untold asks wide less more now call also (inl (is, same)) = inl (also is, same)
-stops_untold asks wide less more now call also (inr (is, failed)) = inr (is, failed)
+stops_untold asks wide less more now call also (inr failed) = inr failed
 
 same_untold : (asks wide : Asks) (less more : Files → Acts) (now : Option Files) (faults : StoreFaults) (answered : Result (Result Printed Early) StoreFault)
     → ((call : StoreCall) → asks None call → wide None call) → ActsAs asks less None now faults answered → ActsAs wide more None now faults answered

@@ -9,4 +9,4 @@ use Rattle.aidl_tool.proofs.dumping.write_dump.Goals as goal
 pub returns-in-Err-clause-acts : goal.returns-in-Err-clause-acts
 returns-in-Err-clause-acts g c =
     acts_left AsksNothing (g.S.Store.fault_record c.write_due.new.store) (Dumps c.args.out.now c.args.schema.now.decls) _ _ c.in-Err.fault _ _ c.in-Ok.ensures.due
-    (subst (λ ws. LeftBy {A = Unit {0}} (map write_seen ws) (g.S.Store.kept c.args.store.now) (g.S.Store.kept c.write_due.new.store) (Err c.in-Err.fault)) c.as_slice.ensures.value c.in-Err.ensures.wrote) c.in-Err.ensures.failed
+    (subst (λ ws. LeftBy {A = Unit {0}} (map write_seen ws) (g.S.Store.kept c.args.store.now) (g.S.Store.kept c.write_due.new.store) (g.S.Store.fault_record c.write_due.new.store) (Err c.in-Err.fault)) c.as_slice.ensures.value c.in-Err.ensures.wrote)

@@ -11,4 +11,4 @@ pub returns-in-Err : goal.returns-in-Err
 returns-in-Err g c =
     let before : Seen =
     seen_by g.S.Store.kept g.S.Store.fault_record g.K.Sink.told g.K.Sink.fault_record g.L.Link.log g.L.Link.is_faithful g.L.Link.fault_record c.args.store.now c.args.sink.now c.args.link.now in
-    ended_lost (make_writes c.args.count c.args.out.now) (MakeTakes c.args.count c.args.out.now) before before (left_none (make_writes c.args.count c.args.out.now) before.kept) refl refl
+    ended_lost (make_writes c.args.count c.args.out.now) (MakeTakes c.args.count c.args.out.now) before before (left_none (make_writes c.args.count c.args.out.now) before.kept before.store_faults) refl refl

@@ -1,6 +1,4 @@
 use Rattle.std.proofs.Common.{List, Err, refl, subst}
-use Rattle.aidl_outside.specs.Asks.{IsWrite}
-use Rattle.aidl_outside.specs.Faults.{FailedIn, WhereStoreFailed}
 use Rattle.aidl_outside.specs.declared.store.StoreFault.{StoreFault}
 use Rattle.aidl_outside.specs.declared.store.StoreFault.TheVariants.{Failed, OutOfMemory}
 use Rattle.aidl_outside.specs.Causes.{StoreCause}
@@ -30,9 +28,8 @@ returns-in-Err-Failed g c = λ n out is.
     let now : Seen =
     seen_by g.S.Store.kept g.S.Store.fault_record g.K.Sink.told g.K.Sink.fault_record g.L.Link.log g.L.Link.is_faithful g.L.Link.fault_record c.write_laid.new.store c.args.sink.now c.args.link.now in
     ended_failed (make_writes n out) (MakeTakes n out) before now
-    (subst (λ (ws : List Write). LeftBy {A = Unit {0}} ws before.kept now.kept (Err Failed)) (same_writes n out c.args.laid is)
-    (subst (λ (f : StoreFault). LeftBy {A = Unit {0}} (laid_writes c.args.laid) before.kept now.kept (Err f)) c.in-Err-Failed.field-0-is c.in-Err-Failed.ensures.wrote))
-    (subst (λ (f : StoreFault). WhereStoreFailed f (FailedIn now.store_faults IsWrite)) c.in-Err-Failed.field-0-is c.in-Err-Failed.ensures.failed)
+    (subst (λ (ws : List Write). LeftBy {A = Unit {0}} ws before.kept now.kept now.store_faults (Err Failed)) (same_writes n out c.args.laid is)
+    (subst (λ (f : StoreFault). LeftBy {A = Unit {0}} (laid_writes c.args.laid) before.kept now.kept now.store_faults (Err f)) c.in-Err-Failed.field-0-is c.in-Err-Failed.ensures.wrote))
     (subst (λ (f : StoreFault). StoreCause {T = Unit {0}} before.store_faults now.store_faults (Err f)) c.in-Err-Failed.field-0-is c.in-Err-Failed.ensures.cause) refl
 
 pub returns : goal.returns
@@ -42,6 +39,6 @@ returns g c = λ n out is.
     let now : Seen =
     seen_by g.S.Store.kept g.S.Store.fault_record g.K.Sink.told g.K.Sink.fault_record g.L.Link.log g.L.Link.is_faithful g.L.Link.fault_record c.write_laid.new.store c.args.sink.now c.args.link.now in
     ended_lost (make_writes n out) (MakeTakes n out) before now
-    (subst (λ (ws : List Write). LeftBy {A = Unit {0}} ws before.kept now.kept (Err OutOfMemory)) (same_writes n out c.args.laid is)
-    (subst (λ (f : StoreFault). LeftBy {A = Unit {0}} (laid_writes c.args.laid) before.kept now.kept (Err f)) c.in-Err-OutOfMemory.field-0-is c.in-Err-OutOfMemory.ensures.wrote))
+    (subst (λ (ws : List Write). LeftBy {A = Unit {0}} ws before.kept now.kept now.store_faults (Err OutOfMemory)) (same_writes n out c.args.laid is)
+    (subst (λ (f : StoreFault). LeftBy {A = Unit {0}} (laid_writes c.args.laid) before.kept now.kept now.store_faults (Err f)) c.in-Err-OutOfMemory.field-0-is c.in-Err-OutOfMemory.ensures.wrote))
     (subst (λ (f : StoreFault). StoreCause {T = Unit {0}} before.store_faults now.store_faults (Err f)) c.in-Err-OutOfMemory.field-0-is c.in-Err-OutOfMemory.ensures.cause) refl

@@ -4,19 +4,19 @@ use Rattle.aidl_tool.proofs.making.write_tree.Goals as goal
 
 pub loop-file-preserved : goal.loop-file-preserved
 loop-file-preserved g c = record {
-  completes = λ later r left. c.loop-file.invariant.completes later r
+  completes = λ later faults r left. c.loop-file.invariant.completes later faults r
       (file_next c.args.root.now c.args.files.now c.loop-file.file-index c.file-item.result c.loop-file-test.true c.file-item.is (g.S.Store.kept c.loop-file.store)
-      (g.S.Store.kept c.write_file.new.store) later r c.in-Ok.ensures.written left);
+      (g.S.Store.kept c.write_file.new.store) later faults r c.in-Ok.ensures.written left);
   cause = c.in-Ok.ensures.cause ∙ c.loop-file.invariant.cause;
 }
 
 pub returns-clause-wrote : goal.returns-clause-wrote
 returns-clause-wrote g c =
-    c.loop-file.invariant.completes (g.S.Store.kept c.loop-file.store) (Ok tt)
-    (files_done c.args.root.now c.args.files.now c.loop-file.file-index (g.S.Store.kept c.loop-file.store) c.loop-file-test.false)
+    c.loop-file.invariant.completes (g.S.Store.kept c.loop-file.store) (g.S.Store.fault_record c.loop-file.store) (Ok tt)
+    (files_done c.args.root.now c.args.files.now c.loop-file.file-index (g.S.Store.kept c.loop-file.store) (g.S.Store.fault_record c.loop-file.store) c.loop-file-test.false)
 
 pub returns-in-Err-clause-wrote : goal.returns-in-Err-clause-wrote
 returns-in-Err-clause-wrote g c =
-    c.loop-file.invariant.completes (g.S.Store.kept c.write_file.new.store) (Err c.in-Err.fault)
+    c.loop-file.invariant.completes (g.S.Store.kept c.write_file.new.store) (g.S.Store.fault_record c.write_file.new.store) (Err c.in-Err.fault)
     (file_stopped c.args.root.now c.args.files.now c.loop-file.file-index c.file-item.result c.loop-file-test.true c.file-item.is (g.S.Store.kept c.loop-file.store)
-    (g.S.Store.kept c.write_file.new.store) c.in-Err.fault c.in-Err.ensures.written)
+    (g.S.Store.kept c.write_file.new.store) (g.S.Store.fault_record c.write_file.new.store) c.in-Err.fault c.in-Err.ensures.written c.in-Err.ensures.failed)

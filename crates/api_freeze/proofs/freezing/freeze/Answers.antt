@@ -9,7 +9,7 @@ use Rattle.api_freeze.proofs.freezing.freeze.Goals as goal
 pub returns-in-Ok-clause-told : goal.returns-in-Ok-clause-told
 returns-in-Ok-clause-told g c =
     let kept = g.S.Store.kept in
-    freezes_at c.args.api.now (kept c.args.store.now) (λ files. versions_at files c.args.api.now) c.in-Ok.versions c.args.schema.now.decls (kept c.versions.new.store) (kept c.freeze_next.new.store) c.freeze_next.result
+    freezes_at c.args.api.now (kept c.args.store.now) (λ files. versions_at files c.args.api.now) c.in-Ok.versions c.args.schema.now.decls (kept c.versions.new.store) (kept c.freeze_next.new.store) (g.S.Store.fault_record c.freeze_next.new.store) c.freeze_next.result
     c.in-Ok.ensures.unchanged c.in-Ok.ensures.told c.freeze_next.ensures.answer
 
 pub returns-in-Err-clause-told : goal.returns-in-Err-clause-told
@@ -21,13 +21,13 @@ returns-in-Err-clause-told g c =
 pub returns-in-Ok-clause-chains : goal.returns-in-Ok-clause-chains
 returns-in-Ok-clause-chains g c =
     let kept = g.S.Store.kept in
-    follows_told c.args.api.now (kept c.args.store.now) (λ files. versions_at files c.args.api.now) c.args.schema.now.decls (kept c.freeze_next.new.store) c.freeze_next.result
+    follows_told c.args.api.now (kept c.args.store.now) (λ files. versions_at files c.args.api.now) c.args.schema.now.decls (kept c.freeze_next.new.store) (g.S.Store.fault_record c.freeze_next.new.store) c.freeze_next.result
     (returns-in-Ok-clause-told g c)
 
 pub returns-in-Ok-clause-untold : goal.returns-in-Ok-clause-untold
 returns-in-Ok-clause-untold g c =
     let kept = g.S.Store.kept in
-    λ none. untold_freezes c.args.api.now c.in-Ok.versions c.args.schema.now.decls (kept c.versions.new.store) (kept c.freeze_next.new.store) c.freeze_next.result
+    λ none. untold_freezes c.args.api.now c.in-Ok.versions c.args.schema.now.decls (kept c.versions.new.store) (kept c.freeze_next.new.store) (g.S.Store.fault_record c.freeze_next.new.store) c.freeze_next.result
     (c.in-Ok.ensures.unchanged ∙ none) c.freeze_next.ensures.answer
 
 pub returns-in-Ok-clause-failed : goal.returns-in-Ok-clause-failed

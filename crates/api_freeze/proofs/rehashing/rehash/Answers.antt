@@ -5,7 +5,7 @@ use Rattle.api_freeze.proofs.rehashing.rehash.Goals as goal
 
 pub returns-in-Ok-clause-wrote : goal.returns-in-Ok-clause-wrote
 returns-in-Ok-clause-wrote g c =
-    written_told c.args.api.now c.as_slice.result.now c.in-Ok.versions _ _ _ c.rehash_all.result c.as_slice.ensures c.in-Ok.ensures.unchanged c.in-Ok.ensures.told c.rehash_all.ensures.wrote
+    written_told c.args.api.now c.as_slice.result.now c.in-Ok.versions _ _ _ (g.S.Store.fault_record c.rehash_all.new.store) c.rehash_all.result c.as_slice.ensures c.in-Ok.ensures.unchanged c.in-Ok.ensures.told c.rehash_all.ensures.wrote
 
 pub returns-in-Err-clause-refusal : goal.returns-in-Err-clause-refusal
 returns-in-Err-clause-refusal g c = of_read _ _ c.in-Err.fault c.in-Err.ensures.cause

@@ -1,7 +1,9 @@
 use Rattle.std.proofs.Common.{◌∙◌, ◌+◌, ◌++◌, ◌∷◌, [], ap, sym, subst, map, take, drop, string_bytes}
+use Rattle.aidl_outside.specs.Faults.{writing}
 use Rattle.aidl_outside.specs.Writes.{ChangesOnly, Sets}
 use Rattle.api_versions.specs.Writes.{Wrote}
 use Rattle.api_versions.specs.Seen.{write_seen}
+use Rattle.aidl_outside.proofs.lemmas.Failing.{failed_as}
 use Rattle.api_versions.proofs.Writing.{wrote_more, wrote_some, writes_more, writes_split}
 use Rattle.api_versions.proofs.writes.write_all.Goals as goal
 
@@ -27,7 +29,8 @@ returns-in-Err-Failed-clause-wrote g c =
     let i = c.loop-write.write-index in
     let item = c.write-item.result in
     let failed = rw c.in-Err-Failed.field-0-is at c.in-Err-Failed.ensures.written in
-    let changes = subst (λ p. ChangesOnly (kept c.loop-write.store) (kept c.write.new.self) p) c.as_str.ensures.value failed in (
+    let changes = subst (λ p. ChangesOnly (kept c.loop-write.store) (kept c.write.new.self) p) c.as_str.ensures.value failed in
+    failed_as (g.S.Store.fault_record c.write.new.self) _ _ (λ call is. (
       map write_seen (take i ws),
       map write_seen (drop (i + 1) ws),
       write_seen item,
@@ -35,7 +38,8 @@ returns-in-Err-Failed-clause-wrote g c =
       writes_split ws i item c.loop-write-test.true ∙ ap (λ w. map write_seen (take i ws) ++ write_seen w ∷ map write_seen (drop (i + 1) ws)) (sym c.write-item.is),
       c.loop-write.invariant.made,
       changes,
-    )
+      is ∙ ap writing c.as_str.ensures.value,
+    )) (rw c.in-Err-Failed.field-0-is at c.in-Err-Failed.ensures.failed_call)
 
 pub returns-in-Err-OutOfMemory-clause-wrote : goal.returns-in-Err-OutOfMemory-clause-wrote
 returns-in-Err-OutOfMemory-clause-wrote g c =
