@@ -32,7 +32,7 @@ is_current() {
     for crate in $(lines_below | cut -d: -f1); do
         set -- "$@" "$top/crates/$crate"
     done
-    [ -z "$(find "$@" \( -name out -o -name must-fail -o -name wrong \) -prune -o -type f -newer "$program" -print -quit)" ]
+    newer=$(find "$@" \( -name out -o -name must-fail -o -name wrong \) -prune -o -type f -newer "$program" -print -quit) && [ -z "$newer" ]
 }
 
 # Copies the crates of these lines into a folder, without the edits that the proofs have to refuse. `rt ci` takes the folder for the top of a
@@ -62,19 +62,18 @@ tell() {
 # Takes the program from the copy, with the time at which the copy was begun: whole or not at all.
 take() {
     touch -r "$1/crates.txt" "$1/crates/aidl/out/aidl" && mkdir -p "${program%/*}" &&
-        mv "$1/crates/aidl/out/aidl" "$program.new" && mv "$program.new" "$program"
+        mv "$1/crates/aidl/out/aidl" "$program.$$" && mv "$program.$$" "$program"
 }
 
 # Proves the copy, the longest row of crates first and each by the processors that are idle, and takes the program from there. It ends the
 # shell that it runs in.
 build() {
     room=$(mktemp -d) || exit 9
-    trap 'rm -rf "$room"' EXIT
-    trap 'exit 9' HUP INT TERM
+    trap 'rm -rf "$room" "$program.$$"' EXIT
+    trap 'kill $proof 2>/dev/null; wait; exit 9' HUP INT QUIT TERM
     copy "$room/copy" && touch "$room/log" && cd "$room/copy" || exit 9
     rt ci </dev/null >"$room/log" 2>&1 &
     proof=$!
-    trap 'kill $proof 2>/dev/null; wait; exit 9' HUP INT TERM
     tail -n +1 -f --pid=$proof "$room/log" | tell "$(wc -l <crates.txt)" &
     wait $proof || { cat "$room/log" >&2; exit 9; }
     wait
@@ -141,10 +140,10 @@ want_folders() {
 if ! is_current; then
     command -v rt >/dev/null || { say "there is no rt on the path: it is bin/rt of the Rattle kit (README.md, \"A look in two minutes\")"; exit 9; }
     say "building first, crate by crate; README.md says how long that takes, and what is proved is kept if it is cut off"
+    trap 'kill $! 2>/dev/null; wait; exit 9' HUP INT QUIT TERM
     build &
-    trap 'kill $! 2>/dev/null; wait; exit 9' HUP INT TERM
     wait $! || exit 9
-    trap - HUP INT TERM
+    trap - HUP INT QUIT TERM
 fi
 "$program" "$@"
 status=$?

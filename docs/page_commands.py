@@ -33,10 +33,12 @@ def commands(text):
 def furnish(room, program):
     """Makes the folder in which the commands of a page run."""
     shutil.copytree(TOP / "examples", room / "examples")
-    shutil.copy(TOP / "aidl", room)
-    shutil.copy(TOP / "crates.txt", room)
+    for name in ("aidl", "crates.txt", "HANDLES"):
+        shutil.copy(TOP / name, room)
+    for crate in re.findall(r"^(\w+):", (room / "crates.txt").read_text(), re.M):
+        (room / "crates" / crate).mkdir(parents=True)
     built = room / "crates/aidl/out/aidl"
-    built.parent.mkdir(parents=True)
+    built.parent.mkdir()
     shutil.copy(program, built)
     built.touch()
     (room / "try").symlink_to(built)

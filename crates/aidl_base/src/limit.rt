@@ -19,11 +19,11 @@ pub enum LimitName {
     Nesting,
     /// neighbouring tokens without `;`, `,`, `{` or `}`
     RunLength,
-    /// bytes of a parcel that is written, or that `decode` reads
+    /// bytes of a parcel that is written, or that `decode`, `explain`, `ask` or `replay` reads
     ParcelBytes,
-    /// bytes of a calls file, a value file or a hexadecimal file
+    /// bytes of a calls file, a trace, a value file or a hexadecimal file
     TextBytes,
-    /// lines of a calls file
+    /// lines of a calls file or a trace
     Lines,
     /// the highest version number
     Versions,

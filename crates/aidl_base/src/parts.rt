@@ -1,4 +1,4 @@
-//! How the parts of a dotted name are kept: one in place, more in a row.
+//! How the parts of a dotted name are kept: what `one` makes in place, else in a row.
 ghost use Rattle.std.specs.Prelude.{◌≡◌, [], ◌∷◌};
 
 use crate::name::Ident;
@@ -6,7 +6,7 @@ use crate::row::Row;
 use std::marker::Model;
 use std::{fmt, slice};
 
-/// The parts of a name, which contracts see as their list. A name of one part, as most are, takes no memory for the list.
+/// The parts of a name, which contracts see as their list. What `one` makes takes no memory for the list.
 pub struct Parts {
     kept: KeptParts,
 }

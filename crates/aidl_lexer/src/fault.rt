@@ -16,7 +16,7 @@ pub enum LexFault {
     OpenComment { offset: u32 },
     /// 3: a quote that begins no character and no string
     OpenLiteral { offset: u32 },
-    /// 4: a run of letters and digits from a digit on that isn't a number
+    /// 4: a run of letters, digits and `_` from a digit on that isn't a number
     BadNumber { offset: u32 },
     /// memory was wanted and was not there
     OutOfMemory,

@@ -6,7 +6,7 @@ ghost use Rattle.aidl_outside.specs.Told.{Puts};
 
 use std::alloc::Global;
 
-/// Why a call of a sink put not all of its bytes.
+/// Why a call of a sink failed. After `Failed` a front of its bytes was put, maybe all of them.
 #[derive(Clone, Copy, Debug, PartialEq, Eq)]
 pub enum SinkFault {
     Failed,

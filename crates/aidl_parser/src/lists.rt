@@ -17,13 +17,16 @@ use std::alloc::Global;
 
 /// A part of the productions that stands in lists or behind a symbol, read by its type.
 pub trait Part: Drop + Sized {
+    /// what contracts see of it
     ghost Seen: { Type 0 };
 
+    /// how it is seen
     ghost seen: { Self → Seen };
 
+    /// what reading gives, by fuel
     ghost read: { ℕ → List Token → Read Seen };
 
-    /// Reads it off the front of the tokens, of which it takes one at least.
+    /// Reads it off the front of the tokens, of which it takes one at least; `Syntax` where it doesn't stand first.
     fn part<'a>(
         alloc: Global,
         fuel: usize,

@@ -1,4 +1,4 @@
--- *Broken*: which evolution rules a new schema breaks, and where (AIDL language, "Evolution rules"; the numbering is own).
+-- *Broken*: which evolution rules a new schema breaks, and where (own; what may change at all: AOSP, "Stable AIDL").
 -- Each of C1 to C19 is the sentence of its rule: the places at which it is broken.
 use Rattle.std.specs.Prelude.{ℕ, pos, Bool, true, false, not, ◌&&◌, ◌||◌, ◌==◌, nat_lt, if◌then◌else◌, List, [], ◌∷◌, ◌++◌, map, length, take, drop, Option, Some, None, is_none}
 use Rattle.std.specs.List.{filter, find, flat_map, zip, enumerate_from}

@@ -50,10 +50,11 @@ EncodeAnswers tree types path files = Then (there path (file_at TextBytes files 
 abbrev pub CheckAnswers : List ℕ → Files → Answer → Type 0
 CheckAnswers root files = OverTree (tree_at files root) (IsCheckAnswer root)
 
--- `judge OLD NEW`: the limits of OLD's files, and of NEW's; then all else
+-- once the files of OLD pass no limit: the limits of NEW's files, and then all else
 abbrev pub JudgesSecond : List ℕ → List ℕ → Files → List SourceFile → Answer → Type 0
 JudgesSecond old new files olds = OverTree (tree_at files new) (λ news. IsJudgeAnswer old olds new news)
 
+-- `judge OLD NEW`: the limits of OLD's files, and of NEW's; then all else
 abbrev pub JudgeAnswers : List ℕ → List ℕ → Files → Answer → Type 0
 JudgeAnswers old new files = OverTree (tree_at files old) (JudgesSecond old new files)
 

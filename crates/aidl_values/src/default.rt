@@ -28,7 +28,7 @@ pub fn default_of(alloc: Global, schema: &Schema, ty: &AidlType) -> Result<Value
     default_within(alloc, schema, *ty, FUEL)
 }
 
-/// The default of a field: its initializer as a value, or else the default of its type.
+/// The default of a field of a declaration of the schema: its initializer as a value, or else the default of its type.
 pub fn initial_of(alloc: Global, schema: &Schema, field: &Field) -> Result<Value, OutOfMemory>
     ensures initial { IfOk result (λ v. IsFieldOf schema.now.decls field.now
         → IsInitial schema.now.decls field.now (view v)) }

@@ -50,14 +50,14 @@ pub fn law_initial_fits(schema: &Schema, base: Base, field: &Field, value: &Valu
     law_valid(schema);
 }
 
-/// In a schema the fields of each parcelable and union have types of the schema and one default each, of their type.
+/// In a schema the fields of each parcelable and union have types of the schema and a default each, of their type, and are at most 4,096.
 pub fn law_sound(schema: &Schema)
     ensures { IsSound schema.now.decls }
 {
     law_valid(schema);
 }
 
-/// What is a default has at most 512 nodes.
+/// What is a default of a type of the schema has at most 512 nodes.
 pub fn law_small_defaults(schema: &Schema)
     ensures { (t : AidlType) (v : Data) → is_type schema.now.decls t ≡ true
         → IsZero schema.now.decls t v → nodes_of v ≤ 512 }
@@ -65,7 +65,7 @@ pub fn law_small_defaults(schema: &Schema)
     law_valid(schema);
 }
 
-/// What is a default has at most 32 levels.
+/// What is a default of a type of the schema has at most 32 levels.
 pub fn law_shallow_defaults(schema: &Schema)
     ensures { (t : AidlType) (v : Data) → is_type schema.now.decls t ≡ true
         → IsZero schema.now.decls t v → depth_of v ≤ 32 }
@@ -92,9 +92,9 @@ pub fn law_counted_defaults(decls: &[Decl])
         → IsZero decls.now t v → IsTrue (has_small_default decls.now t) ↔ IsSmall v }
 {}
 
-/// Where the types of fields break no rule and each union has a field, each declaration that reaches no cycle of containment has a
-/// default, though the declarations needn't be valid. It has only one. So such a declaration breaks E23 exactly where that value is
-/// deeper than 32 levels or has more than 512 nodes (`law_counted_defaults`).
+/// Where the types of fields break no rule and each union has a field, each declaration that is a type, so no interface, and reaches no
+/// cycle of containment has a default, though the declarations needn't be valid. A type has only one. So such a declaration breaks E23
+/// exactly where that value is deeper than 32 levels or has more than 512 nodes (`law_counted_defaults`).
 pub fn law_default_ends(decls: &[Decl])
     ensures there { HaveFieldTypes decls.now → (n : ℕ) → is_type decls.now (one_of n) ≡ true
         → ReachesNoCycle decls.now n → (v : Data) × IsZero decls.now (one_of n) v }

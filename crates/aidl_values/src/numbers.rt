@@ -7,7 +7,7 @@ use aidl_base::OutOfMemory;
 use std::alloc::Global;
 use std::marker::Model;
 
-/// Numbers of one width, which contracts see as a list: those of an array or `List` of byte, char, int, long or an enum. A byte takes one
+/// Numbers of one width, which contracts see as a list: those of an array of byte, char, int, long or an enum. A byte takes one
 /// byte, a char two, an int four and a long eight.
 #[derive(Debug, Drop)]
 pub struct Numbers {

@@ -80,7 +80,7 @@ fn copy_items(alloc: Global, values: &[Value]) -> Result<Row<Value>, OutOfMemory
     Ok(Row::from_vec(copies))
 }
 
-/// What a handler answers. `error` is 0 unless `code` is -8, the service specific exception.
+/// What a handler answers. Of an answer that fits its method `error` is 0 unless `code` is -8, the service specific exception.
 #[derive(Debug, Drop)]
 pub enum Answer {
     Returned {

@@ -33,6 +33,7 @@ pub struct Frozen {
 /// new number. It refuses as `versions` does; then `Torn` for the least version that isn't whole; what the check answers for the latest
 /// version's files, a limit as `Limit` and any other fault as `Unreadable`; `Unchanged`; `Incompatible`; the limit `versions` for a new
 /// number 10,000; and the limit that the check answers for the dump. All these come before any write, and leave the store as it was.
+/// `WriteFault` comes after the writes before the one that failed, which changes its path at most; a want of memory may come after any.
 /// On Ok what is written is a checked tree with this schema, and no evolution rule is broken from the latest version to it; nor is one from
 /// any earlier version from which on none is broken from each version to the next one (`FollowsEach`).
 pub fn freeze<S: Store>(

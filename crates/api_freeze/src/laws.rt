@@ -11,7 +11,7 @@ use dump_reading::law_dump_back;
 use type_check::law_one_schema;
 
 /// A law of the definitions: two schemas with the same dump are the same, where the files of the dump are parsed, so that they pass no
-/// limit on files or tokens. So what is refused as `Unchanged` declares what the latest version does.
+/// limit on files or tokens. So what is refused as `Unchanged`, and has such a dump, declares what the latest version does.
 pub fn law_same_dump(first: &Schema, second: &Schema, files: &[SourceFile], parsed: &[ParsedFile])
     requires dumped { IsDump first.now.decls files.now }
     requires parsed { AreParsed files.now parsed.now }

@@ -24,8 +24,8 @@ use std::alloc::Global;
 
 /// All versions of an API, in order of their numbers (own). A file below it belongs to version n where its first path part is the
 /// decimal number n, 1 or more, without a leading zero, and isn't its whole path; all others are ignored. Refused are, in this order:
-/// the limits `versions`, `files` and `file-bytes`, each over all versions, and numbers that aren't 1 to n. The first two need only the
-/// listing, so nothing is read then, and no more after the first file that is too long.
+/// the limits `versions`, `files` and `file-bytes`, each over all versions, and numbers that aren't 1 to n. A listing or a reading that
+/// failed is `ReadFault`.
 pub fn versions<S: Store>(
     alloc: Global,
     store: &mut S,

@@ -19,7 +19,7 @@ pub struct Write {
     pub bytes: Row<u8>,
 }
 
-/// Makes some writes, one after another, up to the first that fails.
+/// Makes some writes, one after another, up to the first that fails, which is `WriteFault`, or for which memory is wanted.
 pub fn write_all<S: Store>(
     alloc: Global,
     writes: &[Write],

@@ -37,7 +37,8 @@ pub struct Methods {
     pub called: u32,
 }
 
-/// What a line comes to, the parcels that were carried of it, in order, and the methods by whose types its values are; None where it has no values.
+/// What a line comes to, the parcels that were carried of it, in order, and the methods by whose types its values are; None where the line
+/// or its request is refused, so where it has none.
 #[derive(Drop)]
 pub struct LineRun {
     pub out: LineOut,

@@ -14,7 +14,8 @@ use std::alloc::{AllocError, Global};
 pub enum RefusedName {
     /// It isn't UTF-8, or `serde_json` reads no value of it.
     NotJson,
-    /// A value is of another kind than is wanted, or an array has a wrong count.
+    /// A value is of another kind than is wanted, or an array has a wrong count; `exception` stands beside another key; or a oneway method
+    /// has an `answer`.
     WrongShape,
     /// A key is none of those that may stand there. The place ends with the key.
     UnknownKey,

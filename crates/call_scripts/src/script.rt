@@ -55,8 +55,8 @@ pub enum Script {
     Call(Call),
 }
 
-/// What a line of a calls file means between a client and a server. `line` is without its newline. A refusal is the first one in the order of *Script* (own), with its place; a request or a reply is refused above
-/// 1,048,576 bytes, and its bytes aren't made.
+/// What a line of a calls file means between a client and a server. `line` is without its newline. A refusal is the first one in the order
+/// of *Script* (own), with its place; a request or a reply is refused above 1,048,576 bytes.
 pub fn script_of(
     alloc: Global,
     client: &Side<'_>,

@@ -21,7 +21,7 @@ pub struct Broken {
     pub place: Text,
 }
 
-/// Which evolution rules a new schema breaks (AIDL language, "Stable AIDL"; the numbering is own), sorted by the bytes of
+/// Which evolution rules a new schema breaks (own; what may change at all: AOSP, "Stable AIDL"), sorted by the bytes of
 /// the place, then by the rule, each once. None is broken exactly where the row is empty.
 pub fn judge(alloc: Global, old: &Schema, new: &Schema) -> Result<Row<Broken>, OutOfMemory>
     ensures exact { IfOk result (λ rows. map seen rows ≡ broken old.now.decls new.now.decls) }

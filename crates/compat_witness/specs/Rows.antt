@@ -97,7 +97,7 @@ ask_C2 old k new l = if not (is_empty (methods_reaching old k new))
 abbrev pub row_C2 : Row
 row_C2 old new p = decl_at old p (λ k. decl_at new p (λ l. ask_C2 old k new l))
 
--- C3: the method has no arguments, and new has a method with its id: a request from old.
+-- C3: the method has no arguments, and new's interface of that name has a method with its id: a request from old.
 abbrev pub row_C3 : Row
 row_C3 old new p = option_and_then (λ s. decl_at new (descriptor old s.interface) (λ j.
     candidates_if (is_empty s.method.args && not (is_none (position_of_code (methods_at new j) (s.method.id + 1))))

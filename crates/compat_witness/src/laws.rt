@@ -21,7 +21,8 @@ pub fn law_c2(old: &Schema, new: &Schema, place: &Text)
     law_valid(new);
 }
 
-/// The law of C3, a method of old that new lacks: it has no arguments, and new has a method with its id. The rest is as in `law_c2`.
+/// The law of C3, a method of old that new lacks: it has no arguments, and new's interface of that name has a method with its id. The rest
+/// is as in `law_c2`.
 pub fn law_c3(old: &Schema, new: &Schema, place: &Text)
     requires entry { Has (broken old.now.decls new.now.decls) (3, place.now) }
     ensures { (cs : List Candidate) → row_C3 old.now.decls new.now.decls place.now ≡ Some cs
@@ -122,7 +123,7 @@ pub fn law_c11(old: &Schema, new: &Schema, place: &Text)
     law_sound(new);
 }
 
-/// The law of C15 at a field of a union, whose name or type differs: all fields are plain in both, and a method reaches the union. The rest is as in
+/// The law of C15 at a position of a union at which name or type differs: all fields are plain in both, and a method reaches the union. The rest is as in
 /// `law_c2`.
 pub fn law_c15(old: &Schema, new: &Schema, place: &Text)
     requires entry { Has (broken old.now.decls new.now.decls) (15, place.now) }

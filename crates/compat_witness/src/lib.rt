@@ -1,4 +1,4 @@
-//! Calls that show that an evolution rule is broken: definitions in `specs/` and the laws about them. No code of this crate runs.
+//! Calls that show that an evolution rule is broken: definitions in `specs/` and the laws about them, which do nothing when they run.
 //!
 //! `Sides` (what is read of a request or a reply, and what it is projected to by the view of one version on the other), `Candidates`
 //! (calls that may show a broken rule, and when one counts), `Places` (the methods and fields that a broken rule names), `Reaching`

@@ -1,4 +1,4 @@
-//! The evaluation of all items of a tree, each behind those that it depends on.
+//! The evaluation of all items of a tree, each that is on no cycle behind those that it depends on.
 ghost use Rattle.std.specs.Prelude.{◌≡◌, ◌<◌, ◌≤◌, ℕ, false, length, map, IfOk, IsTrue, Contains};
 ghost use Rattle.std.specs.List.{All};
 ghost use Rattle.graph_cycles.specs.Paths.{TellsCycles, flag, targets};
@@ -24,8 +24,8 @@ use const_values::{ConstFault, EvalFault};
 use graph_cycles::find_cycles;
 use std::alloc::Global;
 
-/// The outcome of each item of a tree (own, after AOSP, "AIDL language", "Constants"). Items are judged by their ranks, each behind
-/// all that it depends on.
+/// The outcome of each item of a tree (own, after AOSP, "AIDL language", "Constants"). Items are judged by their ranks, each that
+/// is on no cycle behind all that it depends on.
 pub fn eval_all<'a>(alloc: Global, names: &Names<'a>) -> Result<Settled<'a>, OutOfMemory>
     ensures items { IfOk result (λ settled. map item_of settled.items.list.items
         ≡ items_in (map source_of names.now)) }
@@ -59,7 +59,7 @@ fn outcomes(alloc: Global, tree: &TreeItems<'_>) -> Result<Vec<Outcome>, OutOfMe
     )
 }
 
-// The outcomes of all items, each behind those that it depends on.
+// The outcomes of all items, each that is on no cycle behind those that it depends on.
 fn in_turn(
     alloc: Global,
     tree: &TreeItems<'_>,

@@ -54,10 +54,11 @@ constant_around entries (suc levels) name (Some number) = elim (slice_get entrie
   | Some e ↦ or_else (only_constants (member_at entries number name)) (constant_around entries levels name e.outer)
 ]
 
--- a name of one part: in an enumerator's expression an enumerator of the same enum, else a constant around
+-- in an enumerator's expression an enumerator of the same enum
 abbrev pub enumerator_beside : List Entry → Item → Ident → Option Target
 enumerator_beside entries x name = if x.enumerates then only_enumerators (member_at entries x.scope name) else None
 
+-- a name of one part: in an enumerator's expression an enumerator of the same enum, else a constant around
 abbrev pub target_of_part : List Entry → Item → Ident → Option Target
 target_of_part entries x name = or_else (enumerator_beside entries x name) (constant_around entries (length entries) name (Some x.scope))
 

@@ -20,10 +20,10 @@ use std::alloc::Global;
 
 /// What the names in expressions mean.
 pub trait Meanings {
-    /// the operand that a name means, or `Mismatch`
+    /// the operand that a name means, or its fault
     ghost meaning: { Self → DottedTree → Result operand.Operand ConstFault };
 
-    /// The operand that a name means, and `Mismatch` where it means a constant that is none. It takes no memory.
+    /// The operand that a name means, or its fault, as `Mismatch` where it means a constant that is none. It takes no memory.
     fn meaning(&self, name: &DottedTree) -> Result<Operand<'_>, ConstFault>
         ensures value { answer result ≡ meaning self.now name.now }
         ensures within { IfOk result (λ value. IsWithin (seen value)) };

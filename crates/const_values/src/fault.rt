@@ -9,7 +9,7 @@ use aidl_base::OutOfMemory;
 /// Why an expression has no value.
 #[derive(Clone, Copy, Debug, PartialEq, Eq)]
 pub enum ConstFault {
-    /// 1: a number outside its width, or a text of more than 4,096 characters
+    /// 1: a number outside its width, or two texts that `+` would join to more than 4,096 characters
     Overflow,
     /// 2: a divisor 0
     DivideByZero,

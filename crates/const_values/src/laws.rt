@@ -15,7 +15,7 @@ pub fn law_decimal_is_its_number(bits: u64)
         ≡ number (if nat_le bits 2147483647 then Narrow else Wide) (pos bits) }
 {}
 
-/// A law of the definitions: `a - (a / b) * b` is the remainder with the sign of `a`, and is smaller than `b` in size.
+/// A law of the definitions: `a - (a / b) * b` is the remainder with the sign of `a`, and where `b` isn't 0 smaller than `b` in size.
 pub fn law_remainder(a: i64, b: i64)
     ensures same { a -ℤ int_div a b *ℤ b ≡ int_rem a b }
     ensures smaller { 0 < unsigned_abs b → unsigned_abs (a -ℤ int_div a b *ℤ b) < unsigned_abs b }

@@ -15,7 +15,7 @@ pub enum Width {
 }
 
 impl Width {
-    /// The wider of two: the width of an operator's result (own).
+    /// The wider of two: the width of the result of `+ - * / %` and `& | ^` (own).
     pub fn or_wider(self, other: Width) -> Width
         ensures { result ≡ wider self other }
     {

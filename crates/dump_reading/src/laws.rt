@@ -61,7 +61,7 @@ pub fn law_dump_tree(schema: &Schema)
     law_valid(schema);
 }
 
-/// What stands for a canonical dump breaks neither E1 nor E3, and has no import.
+/// What stands for a canonical dump breaks neither E1 nor E3, and E2 by no import.
 pub fn law_dump_imports(schema: &Schema)
     ensures { (files : List Source)
         → AreSources schema.now.decls (dump_text schema.now.decls) files

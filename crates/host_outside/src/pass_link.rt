@@ -9,7 +9,7 @@ ghost use Rattle.aidl_outside.specs.declared.link.CarryFault.TheVariants.{OutOfM
 use aidl_outside::{CarryFault, Link, Way};
 use std::alloc::Global;
 
-/// A faithful link that keeps no log and never fails.
+/// A faithful link that keeps no log. Want of memory is its one refusal.
 #[derive(Drop)]
 pub struct PassLink {
     // so that the struct isn't empty

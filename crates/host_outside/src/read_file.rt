@@ -44,7 +44,7 @@ fn metadata<R: Files>(runtime: &R, path: &str, is_named: bool) -> io::Result<Met
     }
 }
 
-// How many bytes of the file will be read, where it is as long as the system says, and one byte more.
+// The length that the system says, at most `most`, and one byte more.
 fn expected_length(found: &Metadata, most: usize) -> usize
     requires { most < usize.MAX }
     ensures { result ≤ most + 1 }

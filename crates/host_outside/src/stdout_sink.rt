@@ -5,7 +5,7 @@ ghost use Rattle.aidl_outside.specs.Faults.{untold};
 use aidl_outside::{Sink, SinkFault};
 use std::alloc::Global;
 
-/// Standard output. It is a trusted edge and tells nothing. A piece is handed to the system whole.
+/// Standard output. It is a trusted edge and tells nothing. A piece is handed to the system until all of it is taken.
 #[derive(Drop)]
 pub struct StdoutSink<'a, R: Print> {
     runtime: &'a R,

@@ -19,8 +19,8 @@ use json_writing::is_called;
 use serde_json::{Map, Value as Json};
 use std::alloc::Global;
 
-// Refuses the least key that names no field; else the number of fields up to the last that has a key. Once as many fields are
-// found as there are keys, each key names one, and no field behind has any: so the keys are looked through only for a refusal.
+// Refuses the least key that names no field; else a position from which on no field has a key. Once as many fields are found as there
+// are keys, each key names one, and no field behind has any: so the keys are looked through only for a refusal.
 pub fn check_keys<'a>(
     alloc: Global,
     hints: &mut Hints<'a>,

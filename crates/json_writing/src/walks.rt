@@ -23,7 +23,7 @@ impl Walks {
         }
     }
 
-    /// Whether the members of a declaration are to be gone through once more, which is counted.
+    /// Whether the members of a declaration are to be gone through once more, which is counted. It is an advice, and no clause binds it.
     pub fn is_walk(&mut self, decl: u32) -> Result<bool, OutOfMemory> {
         let count = match self.counts.get(&decl) {
             Some(count) => *count,

@@ -27,7 +27,7 @@ use tool_frame::{Exit, print};
 use wire_model::law_ways;
 
 /// Judges a newer schema after an older one, and prints the lines of what is broken. Where nothing is, it runs the calls of a file from
-/// the newer to the older one, which both read strictly, and then prints four lines in one piece: the numbers of declarations, of broken
+/// the newer to the older one, which both read strictly, and then prints four lines: the numbers of declarations, of broken
 /// rules, of lines that came to what, and of bytes that were sent. Before that nothing is printed. The answer is the exit.
 pub fn run_made<K: Sink, L: Link>(
     alloc: Global,

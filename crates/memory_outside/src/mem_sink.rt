@@ -12,7 +12,8 @@ use aidl_base::{OutOfMemory, Row};
 use aidl_outside::{Sink, SinkFault};
 use std::alloc::Global;
 
-/// A sink in memory, which tells its bytes. A failing call adds the first half of its bytes, rounded down.
+/// A sink in memory, which tells its bytes. A failing call adds the first half of its bytes, rounded down, or nothing where memory
+/// is wanted for them.
 #[derive(Drop)]
 pub struct MemSink {
     bytes: Vec<u8>,

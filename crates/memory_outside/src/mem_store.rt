@@ -20,7 +20,8 @@ use aidl_outside::{Store, StoreFault};
 use std::alloc::{AllocError, Global};
 use std::cmp::Ordering;
 
-/// A store in memory, which tells its files. A failing write keeps the first half of the bytes, rounded down.
+/// A store in memory, which tells its files. A failing write keeps the first half of the bytes, rounded down, or leaves all as it was
+/// where memory is wanted for them.
 ///
 /// The files lie sorted by path and are found by halving; they are sorted once, when the store is made. A write of a new
 /// path moves the files after it, so to write many costs little where they come in their order.

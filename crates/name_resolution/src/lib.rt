@@ -1,5 +1,5 @@
 //! What a name means: among the declarations of a tree, through the imports of its file, and below the declaration where it
-//! stands, with each name of a file asked once.
+//! stands; where rules are broken, what some names mean through imports is kept.
 #![tactic(auto)]
 
 mod asked;

@@ -10,7 +10,7 @@ ghost use Rattle.tool_frame.specs.Answer.{after_text};
 use aidl_schema::{AidlType, Schema};
 use parcel_explain::law_parts;
 
-/// Behind the lines of the values that are read, `decode` prints what the last item says: `status NUMBER` exactly where it is a stop, with
+/// Behind the lines of the values that are read, `decode` without `--lenient` prints what the last item says: `status NUMBER` exactly where it is a stop, with
 /// its status; `left COUNT` exactly where it is what is left, with its bytes; and else nothing. The items' verdict is that of `decode`.
 pub fn law_explain_stops(schema: &Schema, types: &[AidlType], parcel: &[u8])
     ensures ends { items_answer Strict schema.now.decls types.now parcel.now
@@ -22,7 +22,7 @@ pub fn law_explain_stops(schema: &Schema, types: &[AidlType], parcel: &[u8])
     law_parts(schema, types, parcel);
 }
 
-/// `explain` has the exit of `decode`, whatever TYPES are.
+/// `explain` has the exit of `decode` without `--lenient`, whatever TYPES are.
 pub fn law_explain_exits(schema: &Schema, types: &str, parcel: &[u8])
     ensures { (explain_answer schema.now.decls types.now parcel.now).verdict
         ≡ (decode_answer Strict schema.now.decls types.now parcel.now).verdict }

@@ -12,7 +12,8 @@ use aidl_schema::{AidlType, Schema};
 use std::alloc::Global;
 use tool_frame::{Early, bytes_within, refusal, text_of};
 
-/// The bytes that the text of a file stands for, at most 1,048,576.
+/// The bytes that the text of a file stands for, at most 1,048,576; else the line of its limit, `not hexadecimal`, or the line of
+/// `parcel-bytes`.
 pub fn parcel_of(alloc: Global, file: Result<Vec<u8>, Limit>) -> Result<Vec<u8>, Early>
     ensures bytes { Finds (λ v. v.items) result (step.parcel_of (held file)) }
     ensures small { IfOk result (λ v. length v.items ≤ 1048576) }

@@ -40,7 +40,6 @@ pub fn put_sequence<W: Wire>(items: &[W], to: &mut WordWriter)
 }
 
 /// Takes a sequence, where None is null. It refuses as `word` does, by the rules for counts, and as an item is refused.
-/// It takes room for an item only once the item was read.
 #[tactic(auto, using(crate::proofs::lemmas::Moves::on_and_on), unfolding(aidl_base::specs::Readings::sequence_at))]
 pub fn take_sequence<W: Wire>(
     alloc: Global,
@@ -64,8 +63,7 @@ pub fn take_sequence<W: Wire>(
     }
 }
 
-/// Takes so many items, without a count before them. It refuses as an item is refused, and takes room for an item only once the item was
-/// read.
+/// Takes so many items, without a count before them. It refuses as an item is refused.
 pub fn take_items<W: Wire>(
     alloc: Global,
     count: usize,

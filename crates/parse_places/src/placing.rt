@@ -12,7 +12,7 @@ use aidl_syntax::Token;
 use std::alloc::Global;
 
 /// The place of the syntax fault of some tokens, as the number of tokens before it: None where a tree stands for the
-/// tokens, and else how many of them, from the first on, some longer list with a tree can begin with. That may be all of
+/// tokens, and else how many of them, from the first on, some list with a tree can begin with. That may be all of
 /// them. No token limit is asked (own). It may also answer that memory was wanted.
 pub fn fault_place(alloc: Global, tokens: &[Token]) -> Result<Option<usize>, OutOfMemory>
     // None is answered only where a tree stands for the tokens, and a number only where it is the place.

@@ -28,7 +28,7 @@ fn newline_at(text: &[u8]) -> Option<usize>
     text.iter().position(|b| *b == 10)
 }
 
-/// A text whose lines pass no limit: at most 65,536.
+/// A text of at most 65,536 lines; else the line of the limit `lines`.
 pub fn lines_within(alloc: Global, text: Vec<u8>) -> Result<Vec<u8>, Early>
     ensures text { Finds (λ v. v.items) result (lines.within_lines text.items) }
     ensures few { IfOk result (λ v. length (lines.lines_of v.items) ≤ 65536) }

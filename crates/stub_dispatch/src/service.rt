@@ -67,7 +67,7 @@ impl<'a, 'b, F> Service<'a, 'b, F> {
 
 impl<'a, 'b, F: Fn(u32, &[Value]) -> Result<Answer, OutOfMemory>> Service<'a, 'b, F> {
     /// What the service answers a request with a code. The handler may be called on every method of the interface with well-typed
-    /// arguments, and each of its Ok answers fits. It is called at most once, and only where the stub calls it.
+    /// arguments, and each of its Ok answers fits. Where the stub doesn't call it, `saw` is None.
     pub fn transact(&self, alloc: Global, code: u32, bytes: &[u8]) -> Result<Answered, OutOfMemory>
         requires callable { MayBeCalled self.now.decls self.now.interface (F.pre self.now.handler) }
         requires fits { AnswersFit self.now.decls self.now.interface (F.post self.now.handler) }

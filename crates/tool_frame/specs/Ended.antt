@@ -32,7 +32,8 @@ WroteSome are_meant None now = now ≡ None
 WroteSome are_meant (Some files) now = (now ≡ Some files)
     ⊎ ((made rest : List Write) × are_meant files (made ++ rest) × (now ≡ Some (written made files)))
 
--- the first of them were made, maybe none, and the call is that of the next one, which changed at most its path
+-- The first of them were made, maybe none, and the call is that of the next one, which changed at most its path; of a store that doesn't tell
+-- its files, the call is a write.
 abbrev pub FailedAt : Writes → Option Files → Option Files → StoreCall → Type 0
 FailedAt are_meant None now call = IsWrite call × (now ≡ None)
 FailedAt are_meant (Some files) now call =

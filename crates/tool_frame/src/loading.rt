@@ -13,7 +13,8 @@ use aidl_base::{Limit, LimitName};
 use aidl_outside::{Store, StoreFault};
 use std::alloc::Global;
 
-/// The file at a path, up to a limit. None where nothing stands there.
+/// The file at a path, or the limit that its bytes pass; None where nothing stands there. A `StoreFault` where the call failed or memory was
+/// wanted.
 pub fn load<S: Store>(
     alloc: Global,
     which: LimitName,

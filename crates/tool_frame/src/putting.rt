@@ -10,7 +10,8 @@ use crate::printed::{Early, Printed};
 use aidl_outside::{Sink, SinkFault};
 use std::alloc::Global;
 
-/// Puts a text in one piece, and no empty one. Where that fails, the answer is the exit with which the run ends.
+/// Puts a text. Where that fails, the answer is the exit with which the run ends, a front of the text was put, and the piece that failed
+/// isn't empty.
 pub fn put<K: Sink>(alloc: Global, text: &str, sink: &mut K) -> Result<(), Exit>
     ensures { PutsText text.now (K.told sink.old)
         (K.told sink.new) (K.fault_record sink.old) (K.fault_record sink.new) result }
@@ -25,7 +26,7 @@ pub fn put<K: Sink>(alloc: Global, text: &str, sink: &mut K) -> Result<(), Exit>
     }
 }
 
-/// Prints what a command answers, in one piece. The answer is the exit.
+/// Prints what a command answers. The answer is the exit.
 pub fn print<K: Sink>(alloc: Global, answered: Result<Printed, Early>, sink: &mut K) -> Exit
     ensures { PrintsGiven answered (K.told sink.old)
         (K.told sink.new) (K.fault_record sink.old) (K.fault_record sink.new) (number_of result) }

@@ -9,7 +9,7 @@ use crate::printed::{Early, limit_passed, refusal};
 use aidl_base::{Limit, LimitName, Row, SourceFile};
 use std::alloc::Global;
 
-/// A file that is there.
+/// A file that is there; else the line `no file PATH`.
 pub fn existing_file(
     alloc: Global,
     path: &str,
@@ -23,7 +23,7 @@ pub fn existing_file(
     }
 }
 
-/// A text that was held.
+/// A text that was loaded; else the line of the limit that it passes.
 pub fn text_of(alloc: Global, found: Result<Vec<u8>, Limit>) -> Result<Vec<u8>, Early>
     ensures { Finds (λ v. v.items) result (held found) }
 {
@@ -33,14 +33,14 @@ pub fn text_of(alloc: Global, found: Result<Vec<u8>, Limit>) -> Result<Vec<u8>, 
     }
 }
 
-/// Bytes that don't pass a limit.
+/// Bytes that don't pass a limit; else its line.
 pub fn bytes_within(alloc: Global, which: LimitName, bytes: Vec<u8>) -> Result<Vec<u8>, Early>
     ensures { Finds (λ v. v.items) result (step.within which bytes.items) }
 {
     text_of(alloc, within_limit(which, bytes))
 }
 
-/// The files of a tree that was loaded.
+/// The files of a tree that was loaded; else the line of the limit that they pass.
 pub fn files_of(
     alloc: Global,
     tree: Result<Row<SourceFile>, Limit>,

@@ -18,7 +18,7 @@ use aidl_outside::{Store, StoreFault, path_below};
 use std::alloc::Global;
 
 /// The files below a root that end in `.aidl`, sorted by the bytes of their paths, which are relative to the root.
-/// Refused are more than 4,096 of them, before any is read, and else the first of more than 262,144 bytes. A root
+/// Refused are more than 4,096 of them, and else the first of more than 262,144 bytes. A root
 /// with none below it is the empty tree.
 pub fn load_tree<S: Store>(
     alloc: Global,

@@ -16,8 +16,8 @@ use Rattle.type_uses.specs.TypeUses.{TypeUse, of_field, of_constant, of_method, 
 use Rattle.type_uses.specs.Bases.{is_one_composite, is_one_scalar, is_refused, is_refused_result}
 use Rattle.type_rules.specs.Filters.{broken_where}
 
--- E14 BadNullable: `@nullable` on a type of shape one whose base is a primitive or an enum, or on void; `heap=true` elsewhere than
--- on a field of shape one whose base is a parcelable or union. A type that E16 refuses has no breach.
+-- E14 BadNullable, of fields, arguments and methods: `@nullable` on a type of shape one whose base is a primitive or an enum, or on
+-- void; `heap=true` elsewhere than on a field of shape one whose base is a parcelable or union. A type that E16 refuses has no breach.
 
 abbrev pub result_refuses_nullable : List Entry → Option Shape → Bool
 result_refuses_nullable entries None = true

@@ -1,5 +1,5 @@
 -- What is kept of a list of annotations: by their names, whatever else their parameters are (own). The backing of an enum is
--- `backing_of` of const_eval.
+-- `backing_of` of type_shapes.
 use Rattle.std.specs.Prelude.{ℕ, Bool, ◌&&◌, codes, List}
 use Rattle.std.specs.List.{list_any}
 use Rattle.std.specs.Str.{bytes_eq}

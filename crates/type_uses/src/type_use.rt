@@ -55,7 +55,7 @@ pub fn name_place(used: TypeUseRef<'_>) -> u32
     }
 }
 
-/// The place of the type. It takes no memory.
+/// The place of the type; 0 where a method returns void. It takes no memory.
 pub fn type_place(used: TypeUseRef<'_>) -> u32
     ensures { result ≡ meant.type_place (seen_use used.entry) }
 {

@@ -11,8 +11,7 @@ use aidl_values::{FieldValues, Value};
 use compat_judge::same_text;
 
 /// Whether two values are the same data: equal truth values, numbers and texts, and parts that are the same one
-/// by one, in whichever form a sequence is kept. It needs no type, takes no memory and stops at the first
-/// difference (own).
+/// by one, in whichever form a sequence is kept. It needs no type and takes no memory (own).
 pub fn same_value(a: &Value, b: &Value) -> bool
     ensures { IsTrue result ↔ (view a.now ≡ view b.now) }
 {

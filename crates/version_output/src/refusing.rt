@@ -27,7 +27,8 @@ use type_check::CheckFault;
 use version_lines::{bad_versions, torn_answer};
 
 /// What `freeze` prints where it refuses: `bad versions missing N`; `torn N missing HASH` or `torn N kept BYTES HASH`; `unreadable N`
-/// and the lines of the version's faults; `unchanged N`; the judge's lines; or a limit. Memory may be wanted.
+/// and the lines of the version's faults; `unchanged N`; the judge's lines; or a limit. Of a call of the store that failed, or
+/// where memory was wanted, it is that fault.
 pub fn freeze_refusal(alloc: Global, api: &str, fault: FreezeFault) -> Result<Early, StoreFault>
     requires { IsRead fault }
     ensures { EndsBy (meant.IsUnfrozen api.now) fault result }

@@ -33,7 +33,8 @@ fn count_line(alloc: Global, count: usize) -> Result<String, OutOfMemory>
     Ok(text)
 }
 
-/// What `rehash` prints where no hash is written again.
+/// What `rehash` prints of a refusal: `bad versions missing N`; `torn N missing HASH` or `torn N kept BYTES HASH`; or a limit. Of a call of
+/// the store that failed, or where memory was wanted, it is that fault.
 pub fn rehash_refusal(alloc: Global, fault: FreezeFault) -> Result<Early, StoreFault>
     requires { IsRehashFault fault }
     ensures { EndsBy meant.IsUnhashed fault result }

@@ -30,7 +30,7 @@ use aidl_base::Profile;
 use aidl_schema::{AidlType, Schema, law_chain, law_same_types, law_unbroken, law_valid};
 use aidl_values::{Answer, Value, law_small_defaults, law_sound, law_typed_defaults};
 
-/// What spells a value is a reading of it.
+/// What spells a value of a type, of at most 64 levels and in at most 1,048,576 bytes, is a reading of it by either profile.
 pub fn law_spelled_reads(
     profile: Profile,
     schema: &Schema,

@@ -1,4 +1,4 @@
-//! What the bytes of a Parcel mean: definitions in `specs/` and the laws about them. No code of this crate runs.
+//! What the bytes of a Parcel mean: definitions in `specs/` and the laws about them, which do nothing when they run.
 //!
 //! Of values: `Spell` (the bytes that spell a value), `Reads` (which bytes are a reading of which value), `Stop` (which bytes
 //! begin no reading, and with which status), `ReadOf`, reading as one plain function, `View` (what a value is to another

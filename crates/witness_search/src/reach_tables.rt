@@ -41,21 +41,22 @@ impl ReachTables {
         })
     }
 
-    /// The methods of old that reach its declaration of a number. It takes no memory.
+    /// What the table has for a declaration of old by its number: of tables of two versions the methods of old that reach it. It takes no memory.
     pub fn forth_of(&self, number: u32) -> &[Reach]
         ensures { result.now ≡ row_at self.now.forth.items number }
     {
         row_of(self.forth.as_slice(), number)
     }
 
-    /// The methods of new that reach its declaration of a number. It takes no memory.
+    /// The same for a declaration of new, by its number. It takes no memory.
     pub fn back_of(&self, number: u32) -> &[Reach]
         ensures { result.now ≡ row_at self.now.back.items number }
     {
         row_of(self.back.as_slice(), number)
     }
 
-    /// Whether all alternatives of a union of old and of one of new are plain. It takes no memory.
+    /// Whether the tables have a union of old and one of new as plain: of tables of two versions, whether all their alternatives are. It takes
+    /// no memory.
     pub fn are_plain(&self, k: u32, l: u32) -> bool
         ensures { result
             ≡ (plain_at self.now.plain_olds.items k && plain_at self.now.plain_news.items l) }

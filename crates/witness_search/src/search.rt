@@ -39,7 +39,7 @@ pub fn witness_of(
     requires tables { AreReachTables old.now new.now tables.now }
     requires among { Has (broken old.now new.now) (seen entry.now) }
     ensures exact { IfOk result (λ shown. IsWitness old.now new.now (seen entry.now) shown) }
-    // A reason comes only where the row's condition isn't met, or where a call whose values fit is too long.
+    // Of a rule with a row a reason comes only where the row's condition isn't met, or where a call whose values fit is too long.
     ensures allowed { IfOk result (λ shown. IsAllowed old.now new.now (seen entry.now) shown) }
 {
     law_of_sides(old, new, entry);

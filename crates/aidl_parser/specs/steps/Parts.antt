@@ -70,17 +70,19 @@ altered f x = Some (f x.0, x.1)
 abbrev pub alter : {A B : Type 0} → (A → B) → (List Token → Read A) → List Token → Read B
 alter f r ts = r ts >>= altered f
 
--- a quoted symbol, and then a part
+-- the second of two
 abbrev pub second : {A B : Type 0} → A × B → B
 second x = x.1
 
+-- a quoted symbol, and then a part
 abbrev pub behind : {A : Type 0} → Symbol → (List Token → Read A) → List Token → Read A
 behind s r = alter second (both (quoted s) r)
 
--- a part, and then a quoted symbol
+-- the first of two
 abbrev pub fore : {A B : Type 0} → A × B → A
 fore x = x.0
 
+-- a part, and then a quoted symbol
 abbrev pub upto : {A : Type 0} → (List Token → Read A) → Symbol → List Token → Read A
 upto r s = alter fore (both r (quoted s))
 
