@@ -1,4 +1,4 @@
--- The breaches of the names stage as one list: sorted by file, offset and rule, each once.
+-- The breaches of the names stage as one list: sorted by file, offset and rule, each once (own).
 use Rattle.std.specs.Prelude.{List, [], ◌∷◌, ◌++◌}
 use Rattle.std.specs.declared.cmp.Ordering.{Ordering}
 use Rattle.std.specs.Ordering.{nat_cmp, ordering_then, match_ordering}

@@ -1,4 +1,4 @@
--- Why the names of a tree are refused.
+-- Why the names of a tree are refused (own).
 use Rattle.std.specs.Prelude.{◌≡◌, ◌≢◌, ℕ, List, [], Some, None}
 use Rattle.std.specs.List.{slice_get}
 use Rattle.aidl_names.specs.declared.fault.NameFault.{NameFault}

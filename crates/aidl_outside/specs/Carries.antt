@@ -1,4 +1,4 @@
--- What a carry does to the log that a link tells.
+-- What a carry does to the log that a link tells (own).
 use Rattle.std.specs.Prelude.{◌≡◌, ℕ, List, [], ◌∷◌, Option, Result, Ok, Err, Vec}
 use Rattle.std.specs.declared.alloc.Global.{Global}
 use Rattle.aidl_outside.specs.declared.link.Way.{Way}

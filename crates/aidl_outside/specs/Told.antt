@@ -1,4 +1,4 @@
--- What is said of an object that tells what it holds, and what a put adds to a sink.
+-- What is said of an object that tells what it holds, and what a put adds to a sink (own).
 use Rattle.std.specs.Prelude.{◌≡◌, ℕ, List, [], ◌++◌, Option, Some, None, Result, Ok, Err}
 use Rattle.aidl_outside.specs.declared.sink.SinkFault.{SinkFault}
 use Rattle.aidl_outside.specs.declared.sink.SinkFault.TheVariants.{Failed, OutOfMemory}

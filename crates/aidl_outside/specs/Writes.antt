@@ -1,4 +1,4 @@
--- What writes do to the files that a store tells.
+-- What writes do to the files that a store tells (own).
 use Rattle.std.specs.Prelude.{◌≡◌, ◌≢◌, ℕ, List, [], ◌∷◌, Option, Some, None, Result, Ok, Err}
 use Rattle.std.specs.FinMap.{get, insert}
 use Rattle.aidl_outside.specs.declared.store.StoreFault.{StoreFault}

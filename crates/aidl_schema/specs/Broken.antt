@@ -81,6 +81,7 @@ is_there_and test (Some x) = test x
 abbrev pub is_kept : {X : Type 0} → (X → X → Bool) → (X → X → Bool) → List X → X → Bool
 is_kept alike keeps ys x = is_there_and (λ y. keeps x y) (find (λ y. alike x y) ys)
 
+-- an item beside what was found for it, if anything was
 abbrev pub with_found : {X : Type 0} → X → Option X → List (X × X)
 with_found x None = []
 with_found x (Some y) = (x, y) ∷ []
@@ -169,7 +170,7 @@ zero_of form.int = Some (roll-Const (Const-F.Number (pos 0)))
 zero_of form.long = Some (roll-Const (Const-F.Number (pos 0)))
 zero_of _ = None
 
--- a type's default, where None is null
+-- a type's default: None is null, and also that of a single parcelable or union, which C12 doesn't compare
 abbrev pub zero_in : List Decl → AidlType → Option Const
 zero_in S t = if t.nullable then None else (if is_one t.shape then zero_of (form_of S t.base) else Some (roll-Const (Const-F.Members [])))
 

@@ -82,8 +82,8 @@ is_outer S (Some n) parts = encloses (slice_get S n) parts
 abbrev pub name_of : Decl → List ℕ
 name_of d = dotted d.name.0
 
--- Rule 1. The canonical names are sorted by bytes and distinct, each is a name, and `outer` is a declaration that
--- encloses it.
+-- Rule 1. The canonical names are sorted by bytes and distinct, each is a name, and `outer`, where there is one, is a
+-- declaration that encloses it.
 unfoldable pub has_names : List Decl → Bool
 has_names S = are_ascending (map name_of S) && list_all (λ d. is_name d.name.0 && is_outer S d.outer d.name.0) S
 

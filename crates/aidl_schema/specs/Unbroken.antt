@@ -32,7 +32,7 @@ OfMethods d e R = (m w : Method) → AreBoth same_method (methods_of d.kind) (me
 abbrev pub is_same_default : List Decl → Field → List Decl → Field → Bool
 is_same_default old f new g = (has_composite_default old f.ty || has_composite_default new g.ty) || same_default (default_in old f) (default_in new g)
 
--- d of old and e of new are of one name and kind, and break none of C3 to C19.
+-- d of old and e of new break none of C3 to C19, whatever their names and kinds are.
 pub record Follows (old : List Decl) (d : Decl) (new : List Decl) (e : Decl) : Type 0 where
   pub methods : (m : Method) → Has (methods_of d.kind) m → is_kept same_method (λ x y. true) (methods_of e.kind) m ≡ true  -- C3
   pub ids : OfMethods d e (λ m w. (m.id == w.id) ≡ true)  -- C4

@@ -1,4 +1,4 @@
--- What is answered by the schema of the tree that the words name.
+-- What is answered by the schema of the tree that the words name (own).
 use Rattle.std.specs.Prelude.{ℕ, List, [], Option, Some, None}
 use Rattle.aidl_base.specs.declared.source_file.SourceFile.{SourceFile}
 use Rattle.aidl_outside.specs.Files.{Files}

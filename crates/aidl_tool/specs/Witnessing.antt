@@ -1,4 +1,4 @@
--- What `witness` answers over the files of a store.
+-- What `witness` answers over the files of a store (own).
 use Rattle.std.specs.Prelude.{ℕ, List}
 use Rattle.aidl_base.specs.declared.source_file.SourceFile.{SourceFile}
 use Rattle.aidl_outside.specs.Files.{Files}

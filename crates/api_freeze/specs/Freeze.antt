@@ -68,8 +68,8 @@ Forbids (Some v) S (fault.Torn version kept text) = ⊥
 Forbids (Some v) S fault.ReadFault = ⊥
 Forbids (Some v) S fault.WriteFault = ⊥
 
--- What is asked before anything is written: the files of the dump are a checked tree with this schema. So, along a chain of versions
--- up to the latest, the schema follows each of them.
+-- What holds before anything is written: each version is whole; the latest is no reason against it, so along a chain of versions up to the latest
+-- the schema follows each of them; the new number is at most 9,999; and the files are the schema's dump, and a checked tree with this schema.
 pub record Ready (vs : List Version) (S : List Decl) (files : List SourceFile) : Type 0 where
   pub whole : all_whole vs ≡ Ok tt
   pub follows : MayFollow (latest vs) S

@@ -18,7 +18,7 @@ stale vs = filter (λ v. not (is_current v)) vs
 abbrev pub hash_write : List ℕ → Version → Write
 hash_write api v = record { path = hash_path api v.number; bytes = defined v }
 
--- the writes for some versions
+-- the writes for those of some versions that are stale
 abbrev pub hash_writes : List ℕ → List Version → List Write
 hash_writes api vs = map (hash_write api) (stale vs)
 
@@ -43,7 +43,7 @@ abbrev pub writes_of : {A : Type 0} → (A → List Write) → Result A FreezeFa
 writes_of writes (Ok x) = writes x
 writes_of writes (Err e) = []
 
--- for versions that are read: those for each, where each is whole
+-- for versions that are read: those for the stale ones, where each is whole
 abbrev pub whole_writes : List ℕ → List Version → List Write
 whole_writes api vs = writes_of (λ whole. hash_writes api vs) (all_whole vs)
 

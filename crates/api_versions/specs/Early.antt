@@ -1,4 +1,4 @@
--- Refusals that need no call of the store, that of a version that isn't whole, and those of the writes alone.
+-- Refusals at which no call of the store failed, that of a version that isn't whole, and those of the writes alone (own).
 use Rattle.api_versions.specs.declared.fault.FreezeFault.{FreezeFault}
 use Rattle.api_versions.specs.declared.fault.FreezeFault.TheVariants as fault
 

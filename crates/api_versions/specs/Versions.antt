@@ -90,17 +90,19 @@ abbrev pub complete : Option ℕ → List Version → Result (List Version) Free
 complete None versions = Ok versions
 complete (Some number) versions = Err (fault.BadVersions number)
 
--- The limits come before a missing number: `versions`, `files`, `file-bytes`, each over all versions.
+-- the folders, or the limit that is passed: `versions`, then `files`
 abbrev pub folders_in : List (List ℕ) → Result (List Folder) FreezeFault
 folders_in paths = do
   all ← numbered (places paths)
   few all
 
+-- the versions in these folders; else the limit `file-bytes`, and then the least number that is missing
 abbrev pub all_in : Files → List ℕ → List Folder → Result (List Version) FreezeFault
 all_in files api fs = do
   versions ← versions_in files api (present fs)
   complete (missing fs) versions
 
+-- The versions. The limits come before a missing number: `versions`, `files`, `file-bytes`, each over all versions.
 abbrev pub versions_at : Files → List ℕ → Result (List Version) FreezeFault
 versions_at files api = do
   fs ← folders_in (listing api files)

@@ -69,15 +69,17 @@ RunCause before now (Ok x) = now ≡ before
 RunCause before now (Err LinkFault) = Rose before now
 RunCause before now (Err OutOfMemory) = now ≡ before
 
--- The values of a line have the types of its methods.
+-- What the handler saw, where it was called, has the types of the arguments of SERVER's method.
 abbrev pub AreSeen : List Decl → Methods → Option (List Value) → Type 0
 AreSeen B m None = Unit {0}
 AreSeen B m (Some saw) = AreArguments B m.server m.called (views saw)
 
+-- an answer that the client has is one of CLIENT's method
 abbrev pub IsGotBy : List Decl → Methods → Result AnswerData ℤ → Type 0
 IsGotBy A m (Err status) = Unit {0}
 IsGotBy A m (Ok answer) = (m.method < length (methods_at A m.interface)) × IsGot A m.interface m.method answer
 
+-- the values of a line have the types of its methods
 abbrev pub IsTyped : List Decl → List Decl → Option Methods → LineOut → Type 0
 IsTyped A B methods (out.Refused why) = Unit {0}
 IsTyped A B methods (out.Transport status) = Unit {0}

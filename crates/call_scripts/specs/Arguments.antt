@@ -33,7 +33,7 @@ null_from at _ = refuse WrongShape at
 abbrev pub out_from : Arg → ℕ → List ℕ → json.Data → Judged Data
 out_from a sum at j = if is_array a.ty.shape then array_from a.ty.nullable sum at j else null_from at j
 
--- an `in` or `inout` argument: a value of its type
+-- the entry of an argument: of an `out` one a length or null, as above, and of an `in` or `inout` one a value of its type
 abbrev pub entry_from : List Decl → ℕ → List ℕ → Arg → json.Data → Judged Data
 entry_from S sum at a j = if is_out a.way then out_from a sum at j else placed at (from_json_of S 64 a.ty j)
 

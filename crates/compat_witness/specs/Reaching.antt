@@ -26,7 +26,7 @@ only [] = None
 only (a ∷ []) = Some a
 only (a ∷ b ∷ xs) = None
 
--- the declaration of this number
+-- the base names the declaration of this number
 abbrev pub is_number : ℕ → Base → Bool
 is_number k (base.Named n) = n == k
 is_number k _ = false

@@ -1,4 +1,4 @@
--- The outcome of each item: the first of six cases (own, after AOSP, "AIDL language", "Constants").
+-- The outcome of each item: the first that applies of the cases of `HasOutcome` (own, after AOSP, "AIDL language", "Constants").
 use Rattle.std.specs.Prelude.{◌≡◌, ◌<◌, ℕ, ℤ, pos, negsuc, ◌+ℤ◌, Bool, true, false, List, length, Option, Some, None, Result, Ok, Err, Contains}
 use Rattle.std.specs.List.{slice_get, slice_index_or}
 use Rattle.aidl_base.specs.Results.{◌>>=◌}

@@ -7,7 +7,7 @@ use Rattle.declared_names.specs.Declarations.{Entry}
 use Rattle.name_resolution.specs.Resolution.{first_declared, imported}
 use Rattle.aidl_syntax.specs.Sources.{Source}
 
--- through imports, whatever is declared
+-- through imports: the first of the names that they make of it which is declared
 abbrev pub meant_through : List DottedTree → List Entry → List Ident → Option Resolved
 meant_through imports entries name = first_declared entries (imported imports name)
 

@@ -104,7 +104,7 @@ union_items left nullable note path fs inside b = do
   m ← item path kind.Marker (λ c. value_marker_at left nullable inside c) b
   if m.0 then chosen_items note path fs inside m.1 else no_more m.1
 
--- what is no type has no items
+-- what is no type has no parts, and is wrong with BAD_VALUE
 abbrev pub no_items : List ℕ → Notes
 no_items path = record { parts = []; found = Err (record { path = path; status = bad_value }) }
 

@@ -1,4 +1,4 @@
--- What `decode` answers of its file, by the types of a schema.
+-- What `decode` answers of its file, by the types of a schema (own).
 use Rattle.std.specs.Prelude.{ℕ, ℤ, Bool, true, false, List, [], ◌∷◌, ◌++◌, length, Result, Ok, Err, codes}
 use Rattle.std.specs.Fmt.{decimal, signed_decimal}
 use Rattle.aidl_base.specs.declared.profile.Profile.{Profile}

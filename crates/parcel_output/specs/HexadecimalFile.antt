@@ -1,4 +1,4 @@
--- What a hexadecimal file stands for: digits of either case, two a byte, with blanks anywhere between them.
+-- What a hexadecimal file stands for: digits of either case, two a byte, with blanks anywhere between them (own).
 use Rattle.std.specs.Prelude.{ℕ, Bool, not, ◌||◌, ◌==◌, List, Option}
 use Rattle.std.specs.List.{filter}
 use Rattle.std.specs.Result.{result_ok}

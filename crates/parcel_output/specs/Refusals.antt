@@ -1,4 +1,4 @@
--- The refusals of bytes and of types, each a step of the answers.
+-- The refusals of bytes and of types, each a step of the answers (own).
 use Rattle.std.specs.Prelude.{ℕ, List, ◌++◌, Option, Some, None, Result, Ok, Err, codes}
 use Rattle.aidl_base.specs.declared.limit.LimitName.TheVariants.{ParcelBytes}
 use Rattle.aidl_base.specs.Results.{◌>>=◌}

@@ -1,4 +1,4 @@
--- The types that entries of TYPES name.
+-- The types that entries of TYPES name (own).
 use Rattle.std.specs.Prelude.{ℕ, false, if◌then◌else◌, List, [], ◌∷◌, Option, Some, None, Result, Ok, Err, codes, bytes_eq}
 use Rattle.std.specs.Option.{option_map}
 use Rattle.std.specs.Str.{is_utf8}
@@ -51,11 +51,12 @@ abbrev pub onto_types : AidlType → Result (List AidlType) (List ℕ) → Resul
 onto_types ty (Ok types) = Ok (ty ∷ types)
 onto_types ty (Err entry) = Err entry
 
--- the types of entries, or the first entry that names none
+-- the type of an entry in front of those of the others, or the entry itself where it names none
 abbrev pub named : List ℕ → Option AidlType → Result (List AidlType) (List ℕ) → Result (List AidlType) (List ℕ)
 named entry None others = Err entry
 named entry (Some ty) others = onto_types ty others
 
+-- the types of entries, or the first entry that names none
 abbrev pub types_of : List Decl → List (List ℕ) → Result (List AidlType) (List ℕ)
 types_of S [] = Ok []
 types_of S (entry ∷ entries) = named entry (type_of S entry) (types_of S entries)

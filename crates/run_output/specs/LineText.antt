@@ -55,7 +55,7 @@ abbrev pub result_type : List Decl → Option Methods → Option AidlType
 result_type A None = None
 result_type A (Some m) = calls.result_type A m.interface m.method
 
--- null for a void method
+-- the result by its type, or null for a void method
 abbrev pub result_text : List Decl → Option AidlType → Option Data → List ℕ
 result_text A (Some t) (Some v) = value_text A t v
 result_text A (Some t) None = codes "null"

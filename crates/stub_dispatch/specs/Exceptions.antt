@@ -1,4 +1,4 @@
--- The parts of a reply.
+-- The reply of an exception, by its parts (libbinder, Status.cpp: `writeToParcel`).
 use Rattle.std.specs.Prelude.{ℕ, ℤ, pos, List, ◌++◌}
 use Rattle.aidl_base.specs.Words.{word}
 use Rattle.wire_model.specs.Requests.{spell_error}

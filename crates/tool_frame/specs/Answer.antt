@@ -1,4 +1,4 @@
--- What a command answers: the text that it prints, and a verdict. It is found step by step, up to the first refusal.
+-- What a command answers: the text that it prints, and a verdict. It is found step by step, up to the first refusal (own).
 use Rattle.std.specs.Prelude.{◌≡◌, ℕ, List, [], ◌∷◌, ◌++◌, Result, Ok, Err, codes}
 use Rattle.std.specs.Fmt.{decimal}
 use Rattle.aidl_base.specs.declared.limit.LimitName.{LimitName}

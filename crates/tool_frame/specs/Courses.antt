@@ -1,4 +1,4 @@
--- How a run of one course goes: what it left of the outside, which told its files or not.
+-- How a run of one course goes: what it left of the outside, which told its files or not (own).
 use Rattle.std.specs.Prelude.{◌≡◌, ◌≢◌, ℕ, ◌⊎◌, Bool, true, List, [], ◌++◌, Option, Some, None, All}
 use Rattle.aidl_outside.specs.declared.link.Carried.{Carried}
 use Rattle.aidl_outside.specs.Causes.{Rose}

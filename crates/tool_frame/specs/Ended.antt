@@ -1,4 +1,4 @@
--- How a run of the program ends: its exit has its cause, and this is what it left of the outside.
+-- How a run of the program ends: its exit has its cause, and this is what it left of the outside (own).
 use Rattle.std.specs.Prelude.{◌≡◌, ◌≢◌, ℕ, ◌⊎◌, List, [], ◌∷◌, ◌++◌, Option, Some, None, true, All, codes}
 use Rattle.aidl_outside.specs.declared.link.Carried.{Carried}
 use Rattle.aidl_outside.specs.Asks.{IsWrite}
@@ -76,8 +76,8 @@ StopsAtCarry m before now parcel files = (entries : List Carried) × CarriedThes
     × Adds before.told now.told answer.text
 
 pub record Ended (m : Meaning) (before now : Seen) (exit : ℕ) : Type 0 where
-  -- the exits, and that those of the store, the sink and the link come only where the count of the store, the sink and the link rose, and never
-  -- that of the link where nothing is carried
+  -- the exits; that of the store, the sink or the link comes only where its count of faults rose, and after any other exit its faults are as they were;
+  -- that of the link never comes where nothing is carried; and the link is as faithful as before
   pub exits : IsVerdict exit ⊎ ((exit ≡ number_of StoreFailed) ⊎ ((exit ≡ number_of SinkFailed) ⊎ ((exit ≡ number_of OutOfMemory) ⊎ (exit ≡ number_of LinkFailed))))
   pub store_fault : exit ≡ number_of StoreFailed → Rose before.store_faults now.store_faults
   pub store_good : exit ≢ number_of StoreFailed → now.store_faults ≡ before.store_faults
@@ -96,7 +96,8 @@ pub record Ended (m : Meaning) (before now : Seen) (exit : ℕ) : Type 0 where
   pub wrote_some : exit ≡ number_of OutOfMemory → WroteSome m.writes before.kept now.kept
   -- what was carried, where nothing ever is, and after a fault of the store
   pub carries_nothing : CarriesNothing m ⊎ (exit ≡ number_of StoreFailed) → now.log ≡ before.log
-  -- what was printed: nothing after a fault of the store, and a front after one of the sink or a want of memory
+  -- what was printed: after a verdict the text of an answer that is meant, nothing after a fault of the store, and a front after one of the sink or a
+  -- want of memory
   pub answer : IsVerdict exit → Tells before.kept (EndsAsMeant m before now exit)
   pub silent : exit ≡ number_of StoreFailed → now.told ≡ before.told
   pub front : (exit ≡ number_of SinkFailed) ⊎ (exit ≡ number_of OutOfMemory) → Tells before.kept (PutsFront m before now)

@@ -1,4 +1,4 @@
--- What a command means over the files that a store told before.
+-- What a command means over the files that a store told before (own).
 use Rattle.std.specs.Prelude.{◌≡◌, Bool, true, false, List, [], ◌∷◌, ◌++◌, Option, Some, None}
 use Rattle.aidl_outside.specs.declared.link.Carried.{Carried}
 use Rattle.aidl_outside.specs.Asks.{Asks}

@@ -1,4 +1,4 @@
--- How a text is put, and how an answer is printed.
+-- How a text is put, and how an answer is printed (own).
 use Rattle.std.specs.Prelude.{◌≡◌, ◌≢◌, ℕ, ⊤, ◌⊎◌, List, [], ◌++◌, Option, Result, Ok, Err}
 use Rattle.aidl_outside.specs.Causes.{Rose}
 use Rattle.aidl_outside.specs.Faults.{FailedIn, SinkFaults}
@@ -13,7 +13,7 @@ use Rattle.tool_frame.specs.Verdict.{exit_of}
 abbrev pub CutAt : List ℕ → Option (List ℕ) → Option (List ℕ) → List ℕ → Type 0
 CutAt text before now piece = (done rest put unput : List ℕ) × (text ≡ done ++ piece ++ rest) × (piece ≡ put ++ unput) × (piece ≢ []) × Adds before now (done ++ put)
 
--- a put failed
+-- a put failed, or memory was wanted: a front of the text was put
 pub record IsCut (text : List ℕ) (before now : Option (List ℕ)) (faults_before faults_now : SinkFaults) (exit : ℕ) : Type 0 where
   pub exits : (exit ≡ number_of SinkFailed) ⊎ (exit ≡ number_of OutOfMemory)
   pub fault : exit ≡ number_of SinkFailed → Rose faults_before faults_now

@@ -1,4 +1,4 @@
--- The refusals that several commands share, each a step of their answers.
+-- The refusals that several commands share, each a step of their answers (own).
 use Rattle.std.specs.Prelude.{ℕ, nat_lt, if◌then◌else◌, List, ◌++◌, length, Option, Some, None, Ok, Err, codes}
 use Rattle.std.specs.Option.{option_map}
 use Rattle.std.specs.FinMap.{get}

@@ -1,4 +1,4 @@
--- A command and its words.
+-- A command and its words (own).
 use Rattle.std.specs.Prelude.{ℕ, Bool, List, Option}
 
 pub data Command : Type 0 where

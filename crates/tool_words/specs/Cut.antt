@@ -1,4 +1,4 @@
--- A text cut at each place where a byte stands.
+-- A text cut at each place where a byte stands (own).
 use Rattle.std.specs.Prelude.{ℕ, ◌==◌, if◌then◌else◌, List, [], ◌∷◌, Option, Some, None}
 
 -- a byte in front of the first piece

@@ -1,4 +1,4 @@
--- TYPES and its entries.
+-- TYPES and its entries (own).
 use Rattle.std.specs.Prelude.{ℕ, ◌-◌, Bool, true, false, ◌&&◌, nat_le, if◌then◌else◌, List, [], ◌∷◌, length, take, drop, Option, Some, None, codes, bytes_eq}
 use Rattle.std.specs.List.{list_all}
 use Rattle.aidl_base.specs.Identifiers.{is_identifier}

@@ -1,4 +1,4 @@
--- Options among the words: each may stand where the table shows it, and there alone.
+-- Options among the words: each may stand where the table shows it, and there alone (own).
 use Rattle.std.specs.Prelude.{ℕ, Bool, false, ◌&&◌, if◌then◌else◌, List, [], ◌∷◌, Option, Some, None, codes, bytes_eq}
 use Rattle.tool_words.specs.Paths.{is_path}
 

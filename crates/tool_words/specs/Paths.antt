@@ -1,4 +1,4 @@
--- Paths among the words.
+-- Paths among the words (own).
 use Rattle.std.specs.Prelude.{ℕ, Bool, not, ◌&&◌, ◌==◌, if◌then◌else◌, List, [], ◌∷◌, length, take, Option, Some, None, codes, bytes_eq}
 
 -- neither empty nor does it start with `--`

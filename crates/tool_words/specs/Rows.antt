@@ -1,4 +1,4 @@
--- The table of commands: which command the words are.
+-- The table of commands: which command the words are (own).
 use Rattle.std.specs.Prelude.{ℕ, Bool, ◌&&◌, option_and_then, if◌then◌else◌, List, [], ◌∷◌, Option, Some, None, codes, bytes_eq}
 use Rattle.std.specs.Option.{option_map}
 use Rattle.decimal_words.specs.Decimals.{number_within}

@@ -1,4 +1,4 @@
--- The breaches of E13 to E21 and E24 as one list: sorted by file, offset and rule, each once.
+-- The breaches of E13 to E21 and E24 as one list: sorted by file, offset and rule, each once (own).
 use Rattle.std.specs.Prelude.{ℕ, List, ◌++◌}
 use Rattle.aidl_base.specs.declared.breach.Breach.{Breach}
 use Rattle.aidl_syntax.specs.Sources.{Source}

@@ -11,12 +11,12 @@ abbrev pub is_some_list : List Expr → Bool
 is_some_list [] = false
 is_some_list (e ∷ es) = true
 
--- A type takes no expression: a sequence, and a single parcelable or union.
+-- A type takes no expression: a sequence, a single parcelable or union, and one that E16 refuses.
 abbrev pub refuses_single : List Entry → Shape → Bool
 refuses_single entries (shape.One r) = is_composite entries r
 refuses_single entries _ = true
 
--- A type takes no such brace list: a single value takes none, and a sequence of parcelables or unions only the empty one.
+-- A type takes no such brace list: a single value and a type that E16 refuses take none, and a sequence of parcelables or unions only the empty one.
 abbrev pub refuses_braces : List Entry → Shape → Bool → Bool
 refuses_braces entries (shape.One r) some = true
 refuses_braces entries (shape.Array r) some = is_composite entries r && some

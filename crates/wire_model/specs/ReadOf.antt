@@ -109,7 +109,7 @@ record_at p left nullable initial read fs inside b = do
   m ← marker_at p nullable inside b
   marked_at left (λ c. body_value_at initial read fs inside c) m.0 m.1
 
--- a union's tag, and its field
+-- the tag that a word says: no number below 0
 abbrev pub tag_of : ℤ → Result ℕ ℤ
 tag_of (pos k) = Ok k
 tag_of (negsuc k) = Err bad_value

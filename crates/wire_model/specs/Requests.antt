@@ -58,11 +58,12 @@ ArgumentsFit S [] (item v vs) = ⊥
 ArgumentsFit S (a ∷ xs) none = ⊥
 ArgumentsFit S (a ∷ xs) (item v vs) = ArgumentFits S a v × ArgumentsFit S xs vs
 
--- the length that an argument asks for
+-- a length, and 0 where there is none
 abbrev pub number_or_0 : Option ℕ → ℕ
 number_or_0 None = 0
 number_or_0 (Some n) = n
 
+-- the length that an argument asks for: that of an `out` array, and 0 of any other
 abbrev pub asked_length : Arg → Data → ℕ
 asked_length a v = if is_out a.way then number_or_0 (sent_length v) else 0
 

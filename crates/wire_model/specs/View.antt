@@ -21,6 +21,7 @@ same_kind None o = false
 abbrev pub agree : List Decl → AidlType → List Decl → AidlType → Bool
 agree A t B u = same A t B u && (if is_named t.base then same_kind (decl_of A t.base) (decl_of B u.base) else true)
 
+-- the view where the test holds, else None
 abbrev pub when : Bool → Option Data → Option Data
 when true v = v
 when false v = None

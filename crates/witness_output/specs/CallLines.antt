@@ -44,6 +44,7 @@ abbrev pub side_lines : List ℕ → List Decl → Side → Side → List ℕ
 side_lines name B read projected =
     side_line (codes "read ") B (declared_as B name) read ++ side_line (codes "projected ") B (declared_as B name) projected
 
+-- the three lines of a call: its own, what is read of it, and what it is projected to
 abbrev pub lines_between : List Decl → List Decl → Heading → List ℕ → Side → Side → List ℕ
 lines_between A B h bytes read projected =
     call_line (descriptor A h.interface) A h bytes ++ side_lines (descriptor A h.interface) B read projected

@@ -8,6 +8,7 @@ use Rattle.witness_search.specs.Asked.{method_seen}
 use Rattle.witness_search.specs.declared.candidates.Reach.{Reach}
 use Rattle.witness_search.specs.declared.reach_tables.ReachTables.{ReachTables}
 
+-- a row of a table, and the empty one where there is none
 abbrev pub row_of : Option (List Reach) → List Reach
 row_of None = []
 row_of (Some row) = row
