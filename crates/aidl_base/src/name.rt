@@ -8,11 +8,17 @@ use crate::text::Text;
 use std::alloc::Global;
 
 /// An identifier.
-#[derive(Debug, Drop)]
+#[derive(Debug)]
 pub struct Ident(pub Text);
 
+impl Drop for Ident {
+    fn drop(self) {
+        let Ident(_) = self;
+    }
+}
+
 /// Identifiers joined by dots, as the name of a package or of a declaration.
-#[derive(Debug, Drop)]
+#[derive(Drop)]
 pub struct DottedName(pub Parts);
 
 /// The parts of a name joined by dots, as text.

@@ -8,7 +8,7 @@ use std::alloc::AllocFailed;
 
 /// Why bytes have no tokens. The offset is that of the first byte at which no blank, comment or token can be taken,
 /// from the start of the file.
-#[derive(Clone, Copy, Debug, PartialEq, Eq)]
+#[derive(Clone, Copy, PartialEq, Eq)]
 pub enum LexFault {
     /// 1: the byte begins nothing
     BadByte { offset: u32 },
@@ -86,7 +86,7 @@ impl<T: Drop> From<AllocFailed<T>> for LexFault {
 }
 
 /// What stops the cutting, without its place.
-#[derive(Clone, Copy, Debug, PartialEq, Eq)]
+#[derive(Clone, Copy, PartialEq, Eq)]
 pub enum FaultKind {
     BadByte,
     OpenComment,

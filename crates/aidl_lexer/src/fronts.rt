@@ -14,7 +14,7 @@ use aidl_syntax::TokenKind;
 use std::alloc::Global;
 
 // What stands at the front of some bytes: a piece of a gap or a token, and of how many bytes; or a fault.
-#[derive(Debug, Drop)]
+#[derive(Drop)]
 pub enum Front {
     Gap(usize),
     Token(TokenKind, usize),

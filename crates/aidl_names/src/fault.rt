@@ -2,7 +2,7 @@
 use aidl_base::{Breach, Limit, OutOfMemory, Row};
 
 /// Why the names of a tree are refused.
-#[derive(Debug, Drop)]
+#[derive(Drop)]
 pub enum NameFault {
     /// a limit on declarations, members or arguments is passed
     Limit(Limit),

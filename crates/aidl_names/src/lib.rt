@@ -13,8 +13,10 @@ mod order;
 mod rows;
 mod types;
 
+pub use declared_names::Found;
 pub use fault::NameFault;
-pub use laws::law_in_order;
+pub use laws::{law_accepted, law_in_order};
+pub use name_resolution::{BuiltinName, Resolved};
 pub use names::{Names, gather};
 pub use order::in_order;
 pub use rows::add_if;

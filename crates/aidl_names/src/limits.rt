@@ -15,7 +15,7 @@ pub fn passed(alloc: Global, found: &[Found<'_>]) -> Result<Option<LimitName>, O
     ensures limit { IfOk result (λ limit. limit ≡ passed (map entry_of found.now)) }
     ensures few { IfOk result (λ limit. IfNone limit (length found.now ≤ 16384)) }
 {
-    if found.len() > 16_384 {
+    if found.len() > LimitName::Declarations.number() as usize {
         return Ok(Some(LimitName::Declarations));
     }
     if any_with_many_members(alloc, found)? {
@@ -32,7 +32,7 @@ fn any_with_many_members(alloc: Global, found: &[Found<'_>]) -> Result<bool, Out
 {
     for f in found {
         let all = members(alloc, f.tree)?;
-        if all.len() > 4096 {
+        if all.len() > LimitName::Members.number() as usize {
             return Ok(true);
         }
     }
@@ -66,7 +66,7 @@ fn is_long(member: MemberRef<'_>) -> bool
     ensures { result ≡ is_long_method (seen_member member.entry) }
 {
     match member {
-        MemberRef::Method(method) => method.args.len() > 255,
+        MemberRef::Method(method) => method.args.len() > LimitName::Arguments.number() as usize,
         MemberRef::Field(_) => false,
         MemberRef::Constant(_) => false,
         MemberRef::Enumerator(_) => false,

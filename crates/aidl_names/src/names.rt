@@ -27,10 +27,18 @@ use std::alloc::Global;
 use std::marker::Model;
 
 /// A tree of files that passes no limit on declarations and breaks none of E1 to E5. Contracts see it as its files.
-#[derive(Drop)]
 pub struct Names<'a> {
     resolver: Resolver<'a>,
     members: Vec<IndexMap<&'a str, MemberRef<'a>>>,
+}
+
+impl Drop for Names<'_> {
+    fn drop(self) {
+        let Names {
+            resolver: _,
+            members: _,
+        } = self;
+    }
 }
 
 impl<'a> Model for Names<'a> {

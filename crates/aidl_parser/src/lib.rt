@@ -16,5 +16,6 @@ mod parsing;
 mod parts;
 mod types;
 
+pub use expr_parser::ParseFault;
 pub use lists::{Part, Repeat};
 pub use parsing::{law_one_tree, parse};

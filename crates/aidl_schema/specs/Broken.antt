@@ -33,6 +33,12 @@ use Rattle.aidl_schema.specs.Names.{methods_of, enumerators_of}
 
 -- Places and their rules
 
+abbrev pub dot : ℕ
+dot = 46
+
+abbrev pub slash : ℕ
+slash = 47
+
 -- a canonical name, or one with a member or an argument behind it, as text
 abbrev pub Place : Type 0
 Place = List ℕ
@@ -43,11 +49,11 @@ whole d = dotted d.name.0
 
 -- n.member
 abbrev pub member : Decl → Ident → Place
-member d x = whole d ++ (46 ∷ x.0)
+member d x = whole d ++ (dot ∷ x.0)
 
 -- n.method/k
 abbrev pub argument : Decl → Ident → ℕ → Place
-argument d x k = member d x ++ (47 ∷ decimal k)
+argument d x k = member d x ++ (slash ∷ decimal k)
 
 -- the places of those that break a rule
 abbrev pub places : {X : Type 0} → (X → Place) → (X → Bool) → List X → List Place
@@ -96,6 +102,15 @@ kind_code (Interface ms) = 0
 kind_code (Parcelable fs) = 1
 kind_code (Union fs) = 2
 kind_code (Enum b es) = 3
+
+abbrev pub is_parcelable : Kind → Bool
+is_parcelable k = kind_code k == 1
+
+abbrev pub is_union : Kind → Bool
+is_union k = kind_code k == 2
+
+abbrev pub is_enum : Kind → Bool
+is_enum k = kind_code k == 3
 
 -- a number for the backing of an enum
 abbrev pub backing_code : Kind → ℕ
@@ -198,7 +213,7 @@ has_composite_default S t = is_one_value t && is_composite (form_of S t.base)
 
 -- an enum that has no enumerator of value 0
 abbrev pub is_enum_without_zero : List Decl → Base → Bool
-is_enum_without_zero S b = is_there_and (λ d. kind_code d.kind == 3) (decl_of S b) && not (is_enumerator_of (decl_of S b) (pos 0))
+is_enum_without_zero S b = is_there_and (λ d. is_enum d.kind) (decl_of S b) && not (is_enumerator_of (decl_of S b) (pos 0))
 
 -- what C19 compares of two types
 abbrev pub same_marks : AidlType → AidlType → Bool
@@ -270,9 +285,12 @@ C11 old d new e = at_fields (λ f g. not (same old f.ty new g.ty)) parcelable_fi
 
 -- C12: the types at such a position of a parcelable, or at position 0 of a union, are the same and the defaults differ,
 -- unless the default is a record or an alternative in old or in new.
+abbrev pub is_default_changed : List Decl → Field → List Decl → Field → Bool
+is_default_changed old f new g = same old f.ty new g.ty
+    && (not (has_composite_default old f.ty || has_composite_default new g.ty) && not (same_default (default_in old f) (default_in new g)))
+
 abbrev pub C12 : Rule
-C12 old d new e = at_fields (λ f g. same old f.ty new g.ty && (not (has_composite_default old f.ty || has_composite_default new g.ty) && not (same_default (default_in old f) (default_in new g))))
-    fields_with_default d e
+C12 old d new e = at_fields (λ f g. is_default_changed old f new g) fields_with_default d e
 
 -- C13: a parcelable's field at a position not below old's count has as its default a record, an alternative, or the 0 of
 -- an enum that has no enumerator of value 0.
@@ -284,7 +302,7 @@ C13 old d new e = places (λ g. member d g.name) (λ g. is_refused_addition new 
 
 -- C14: a parcelable or union has `@FixedSize` in one schema alone; or in both, and new has more fields.
 abbrev pub C14 : Rule
-C14 old d new e = place_if (whole d) ((kind_code d.kind == 1 || kind_code d.kind == 2)
+C14 old d new e = place_if (whole d) ((is_parcelable d.kind || is_union d.kind)
     && (not (same_bool d.fixed e.fixed) || ((d.fixed && e.fixed) && nat_lt (length (fields_of d.kind)) (length (fields_of e.kind)))))
 
 -- C15: a union of new has fewer fields; or names or types at a position below both counts differ.

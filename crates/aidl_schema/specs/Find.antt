@@ -1,8 +1,10 @@
 -- Looking up declarations by their names, and methods by their transaction codes (own).
-use Rattle.std.specs.Prelude.{ℕ, ◌+◌, ◌==◌, List, [], Option, Some, None, slice_get}
+use Rattle.std.specs.Prelude.{ℕ, Bool, true, false, ◌+◌, ◌==◌, if◌then◌else◌, List, [], Option, Some, None, option_and_then, slice_get}
 use Rattle.std.specs.List.{position}
 use Rattle.std.specs.Str.{encode_utf8_all}
 use Rattle.aidl_schema.specs.declared.schema.Decl.{Decl}
+use Rattle.aidl_schema.specs.declared.schema.Kind.{Kind}
+use Rattle.aidl_schema.specs.declared.schema.Kind.TheVariants.{Interface}
 use Rattle.aidl_schema.specs.declared.schema.Method.{Method}
 use Rattle.aidl_schema.specs.Names.{methods_of, name_of}
 use Rattle.aidl_schema.specs.Same.{same_text}
@@ -10,6 +12,17 @@ use Rattle.aidl_schema.specs.Same.{same_text}
 -- the number of the declaration of this canonical name, which is in UTF-8
 abbrev pub number_of_name : List Decl → List ℕ → Option ℕ
 number_of_name S name = position (λ d. same_text (encode_utf8_all (name_of d)) name) S
+
+abbrev pub is_interface_kind : Kind → Bool
+is_interface_kind (Interface ms) = true
+is_interface_kind _ = false
+
+abbrev pub is_interface : List Decl → ℕ → Bool
+is_interface S n = elim (slice_get S n) [ None ↦ false | Some d ↦ is_interface_kind d.kind ]
+
+-- the number of the interface of this canonical name
+abbrev pub interface_named : List Decl → List ℕ → Option ℕ
+interface_named S name = option_and_then (λ n. if is_interface S n then Some n else None) (number_of_name S name)
 
 -- the methods of the interface that a declaration is; none of what is no interface
 abbrev pub methods_of_decl : Option Decl → List Method

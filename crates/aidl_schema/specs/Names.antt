@@ -4,6 +4,7 @@ use Rattle.std.specs.Prelude.{ℕ, Bool, true, false, not, ◌&&◌, ◌==◌, L
 use Rattle.std.specs.Cmp.Lexicographic.{slice_cmp}
 use Rattle.std.specs.List.{filter, list_all, list_any, enumerate_from}
 use Rattle.std.specs.Ordering.{is_lt, nat_cmp}
+use Rattle.std.specs.Str.{encode_utf8_all}
 use Rattle.aidl_base.specs.declared.name.Ident.{Ident}
 use Rattle.aidl_base.specs.Identifiers.{is_identifier}
 use Rattle.aidl_base.specs.Names.{dotted}
@@ -53,6 +54,10 @@ type_words = codes "boolean" ∷ codes "byte" ∷ codes "char" ∷ codes "int" �
 -- one of these names
 abbrev pub is_type_word : List ℕ → Bool
 is_type_word x = list_any (λ w. same_text w x) type_words
+
+-- a name's bytes in UTF-8
+abbrev pub bytes_of : Ident → List ℕ
+bytes_of i = encode_utf8_all i.0
 
 -- at least one part
 abbrev pub has_part : List Ident → Bool

@@ -9,7 +9,7 @@ ghost use Rattle.aidl_schema.specs.Find as find;
 
 use crate::laws::law_valid;
 use crate::members::methods_at;
-use crate::schema::{Method, Schema};
+use crate::schema::{Kind, Method, Schema};
 use aidl_base::Ident;
 use std::cmp::Ordering;
 
@@ -82,6 +82,25 @@ fn front_order<'a>(front: &[u8], text: &'a [u8]) -> Result<&'a [u8], Ordering>
     match front.cmp(&text[..len]) {
         Ordering::Equal => Ok(&text[len..]),
         order => Err(order),
+    }
+}
+
+/// The number of the interface of a canonical name, None where no declaration has it or it is none of an interface.
+pub fn interface_named(schema: &Schema, name: &str) -> Option<u32>
+    ensures { result ≡ find.interface_named schema.now.decls name.now }
+{
+    match find(schema, name) {
+        Some(number) if is_interface(schema, number) => Some(number),
+        _ => None,
+    }
+}
+
+fn is_interface(schema: &Schema, number: u32) -> bool
+    ensures { result ≡ find.is_interface schema.now.decls number }
+{
+    match schema.decls.as_slice().get(number as usize) {
+        Some(decl) => matches!(decl.kind, Kind::Interface(_)),
+        None => false,
     }
 }
 

@@ -70,7 +70,7 @@ pub enum Symbol {
 }
 
 /// What a token is.
-#[derive(Debug, Drop)]
+#[derive(Drop)]
 pub enum TokenKind {
     /// an identifier
     Name(Text),
@@ -91,7 +91,7 @@ pub enum TokenKind {
 }
 
 /// A token, and the place of its first byte, in bytes from the start of the file.
-#[derive(Debug, Drop)]
+#[derive(Drop)]
 pub struct Token {
     pub kind: TokenKind,
     pub offset: u32,

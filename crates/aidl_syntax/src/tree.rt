@@ -6,14 +6,18 @@ use aidl_base::{DottedName, Ident, Row, Text};
 // Each `offset` is that of the part's first token, annotations included, in bytes from the start of the file.
 
 /// A file's path below its tree, and what it says.
-#[derive(Debug, Drop)]
 pub struct ParsedFile {
     pub path: Text,
     pub tree: FileTree,
 }
 
+impl Drop for ParsedFile {
+    fn drop(self) {
+        let ParsedFile { path: _, tree: _ } = self;
+    }
+}
+
 /// A whole file: its package, its imports in order and its one top-level declaration.
-#[derive(Debug, Drop)]
 pub struct FileTree {
     pub offset: u32,
     pub package: Option<DottedTree>,
@@ -21,15 +25,26 @@ pub struct FileTree {
     pub decl: DeclTree,
 }
 
+impl Drop for FileTree {
+    fn drop(self) {
+        let FileTree {
+            offset: _,
+            package: _,
+            imports: _,
+            decl: _,
+        } = self;
+    }
+}
+
 /// An identifier.
-#[derive(Debug, Drop)]
+#[derive(Drop)]
 pub struct NameTree {
     pub offset: u32,
     pub name: Ident,
 }
 
 /// Identifiers joined by dots.
-#[derive(Debug, Drop)]
+#[derive(Drop)]
 pub struct DottedTree {
     pub offset: u32,
     pub name: DottedName,
@@ -37,7 +52,7 @@ pub struct DottedTree {
 
 /// A declaration.
 #[cycle(decl)]
-#[derive(Debug, Drop)]
+#[derive(Drop)]
 pub struct DeclTree {
     pub offset: u32,
     pub annots: Row<AnnotTree>,
@@ -47,7 +62,7 @@ pub struct DeclTree {
 
 /// What a declaration declares, with its parts in order.
 #[cycle(decl)]
-#[derive(Debug, Drop)]
+#[derive(Drop)]
 pub enum BodyTree {
     Parcelable(Row<MemberTree>),
     Union(Row<MemberTree>),
@@ -60,7 +75,7 @@ pub enum BodyTree {
 
 /// A member of a parcelable, a union or an interface.
 #[cycle(decl)]
-#[derive(Debug, Drop)]
+#[derive(Drop)]
 pub enum MemberTree {
     Field(FieldTree),
     Constant(ConstantTree),
@@ -69,7 +84,7 @@ pub enum MemberTree {
 }
 
 /// A field of a parcelable or a union, with its initializer where it has one.
-#[derive(Debug, Drop)]
+#[derive(Drop)]
 pub struct FieldTree {
     pub offset: u32,
     pub annots: Row<AnnotTree>,
@@ -79,7 +94,7 @@ pub struct FieldTree {
 }
 
 /// A constant.
-#[derive(Debug, Drop)]
+#[derive(Drop)]
 pub struct ConstantTree {
     pub offset: u32,
     pub annots: Row<AnnotTree>,
@@ -89,7 +104,7 @@ pub struct ConstantTree {
 }
 
 /// An enumerator, with its expression where it has one.
-#[derive(Debug, Drop)]
+#[derive(Drop)]
 pub struct EnumeratorTree {
     pub offset: u32,
     pub name: NameTree,
@@ -97,7 +112,7 @@ pub struct EnumeratorTree {
 }
 
 /// A method. Its `result` is None for `void`, and its `id` is the token of the number after `=`, where one stands.
-#[derive(Debug, Drop)]
+#[derive(Drop)]
 pub struct MethodTree {
     pub offset: u32,
     pub annots: Row<AnnotTree>,
@@ -109,7 +124,7 @@ pub struct MethodTree {
 }
 
 /// The direction of an argument.
-#[derive(Clone, Copy, Debug, PartialEq, Eq)]
+#[derive(Clone, Copy, PartialEq, Eq)]
 pub enum WayTree {
     In,
     Out,
@@ -118,7 +133,7 @@ pub enum WayTree {
 
 /// An argument, with its direction where one is written. Its annotations are those before the direction and those
 /// after it, as one list.
-#[derive(Debug, Drop)]
+#[derive(Drop)]
 pub struct ArgTree {
     pub offset: u32,
     pub annots: Row<AnnotTree>,
@@ -128,7 +143,6 @@ pub struct ArgTree {
 }
 
 /// A type: a name, the name between `<` and `>` where there is one, and whether `[]` follows.
-#[derive(Debug, Drop)]
 pub struct TypeTree {
     pub offset: u32,
     pub name: DottedTree,
@@ -136,23 +150,43 @@ pub struct TypeTree {
     pub array: bool,
 }
 
+impl Drop for TypeTree {
+    fn drop(self) {
+        let TypeTree {
+            offset: _,
+            name: _,
+            element: _,
+            array: _,
+        } = self;
+    }
+}
+
 /// An initializer: one expression, or a list of them in braces.
-#[derive(Debug, Drop)]
+#[derive(Drop)]
 pub enum InitTree {
     Single(ExprTree),
     Braces { offset: u32, items: Row<ExprTree> },
 }
 
 /// An annotation.
-#[derive(Debug, Drop)]
 pub struct AnnotTree {
     pub offset: u32,
     pub name: NameTree,
     pub params: Row<ParamTree>,
 }
 
+impl Drop for AnnotTree {
+    fn drop(self) {
+        let AnnotTree {
+            offset: _,
+            name: _,
+            params: _,
+        } = self;
+    }
+}
+
 /// A parameter of an annotation, with its name where one is written.
-#[derive(Debug, Drop)]
+#[derive(Drop)]
 pub struct ParamTree {
     pub offset: u32,
     pub name: Option<NameTree>,
@@ -161,15 +195,20 @@ pub struct ParamTree {
 
 /// An expression.
 #[cycle(expr)]
-#[derive(Debug, Drop)]
 pub struct ExprTree {
     pub offset: u32,
     pub kind: ExprKind,
 }
 
+impl Drop for ExprTree {
+    fn drop(self) {
+        let ExprTree { offset: _, kind: _ } = self;
+    }
+}
+
 /// What an expression is.
 #[cycle(expr)]
-#[derive(Debug, Drop)]
+#[derive(Drop)]
 pub enum ExprKind {
     /// a number, a character, a string, `true` or `false`, as its token
     Literal(Token),

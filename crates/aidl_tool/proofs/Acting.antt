@@ -2,34 +2,35 @@
 use Rattle.std.proofs.Common.{◌≡◌, ℕ, List, [], ◌∷◌, ◌++◌, length, Option, Some, None, Ok, Err, refl, sym, ap, subst, ◌∙◌, inl, inr}
 use Rattle.std.specs.Prelude.{◌≢◌, ◌⊎◌, Result}
 use Rattle.std.proofs.lemmas.List.{append-nil}
-use Rattle.aidl_base.specs.Results.{◌>>=◌}
 use Rattle.aidl_outside.specs.declared.store.StoreFault.{StoreFault}
 use Rattle.aidl_outside.specs.declared.store.StoreFault.TheVariants.{Failed, OutOfMemory as StoreMemory}
 use Rattle.aidl_outside.specs.Asks.{Asks, IsWrite}
 use Rattle.aidl_outside.specs.Causes.{StoreCause}
-use Rattle.aidl_outside.specs.Faults.{FailedIn, IfStoreFailed, StoreCall, StoreFaults}
+use Rattle.aidl_outside.specs.Faults.{FailedIn, IfStoreFailed, StoreCall, StoreFaults, WhereStoreFailed}
 use Rattle.aidl_outside.specs.Files.{Files}
 use Rattle.aidl_outside.specs.Told.{Tells}
 use Rattle.aidl_outside.specs.Writes.{ChangesOnly, Write}
 use Rattle.aidl_schema.specs.declared.schema.Decl.{Decl}
 use Rattle.aidl_schema.specs.declared.schema.Schema.{Schema}
 use Rattle.aidl_tool.specs.Acting.{BySchema, HasSchema, RehashActs}
-use Rattle.aidl_tool.specs.steps.Left.{LeftBy}
 use Rattle.aidl_tool.specs.steps.Opens.{Opens, Unchecked}
 use Rattle.api_freeze.specs.declared.freezing.Frozen.{Frozen}
 use Rattle.api_freeze.specs.Freeze as freeze
-use Rattle.api_freeze.specs.Rehash.{hash_writes, rehash_at, rehash_of, rehash_writes, stale_numbers, whole_writes}
-use Rattle.api_freeze.specs.Rehash.{writes_of as writes_for}
-use Rattle.api_versions.specs.declared.fault.FreezeFault.{FreezeFault}
-use Rattle.api_versions.specs.declared.fault.FreezeFault.TheVariants as fault
+use Rattle.api_freeze.specs.Rehash.{GivesNumbers, Left, RefusesNumbers, hash_writes, numbers_or, rehash_at, rehash_by, rehash_writes, stale_numbers, writes_by, writes_or}
+use Rattle.api_freeze.specs.Causes.{FaultCall, FaultCause, RehashFaultCall, RehashFaultCause, WriteCause}
+use Rattle.api_freeze.specs.declared.fault.FreezeFault.{FreezeFault}
+use Rattle.api_freeze.specs.declared.fault.FreezeFault.TheVariants as fault
+use Rattle.api_freeze.specs.declared.fault.RehashFault.{RehashFault}
+use Rattle.api_freeze.specs.declared.fault.RehashFault.TheVariants as rehash
+use Rattle.api_versions.specs.declared.fault.VersionsFault.{VersionsFault}
+use Rattle.api_versions.specs.declared.fault.VersionsFault.TheVariants as read
 use Rattle.api_versions.specs.declared.version.Version.{Version}
-use Rattle.api_versions.specs.Answers.{Refuses}
-use Rattle.api_versions.specs.Asks.{FaultCall}
-use Rattle.api_versions.specs.Answers as answers
-use Rattle.api_versions.specs.Causes.{FaultCause}
+use Rattle.api_versions.specs.declared.whole.Torn.{Torn}
+use Rattle.api_versions.specs.Answers.{ReadFaultCause, Refuses}
+use Rattle.api_versions.specs.Asks.{FaultCall as ReadFaultCall}
 use Rattle.api_versions.specs.Versions.{versions_at}
-use Rattle.api_versions.specs.Whole.{all_whole}
-use Rattle.api_versions.specs.Writes.{Left, Wrote}
+use Rattle.api_versions.specs.Whole.{first_torn}
+use Rattle.api_versions.specs.Writes.{LeftAt, Wrote}
 use Rattle.api_versions.specs.Writes as versions
 use Rattle.version_output.specs.Frozen.{Freezes, IsUnfrozen, frozen}
 use Rattle.tool_frame.specs.declared.printed.Early.{Early}
@@ -44,7 +45,8 @@ use Rattle.tool_frame.specs.Trees.{TreeFile, tree_at}
 use Rattle.aidl_outside.proofs.lemmas.Failing.{failed_as}
 use Rattle.aidl_outside.proofs.lemmas.Telling.{tells}
 use Rattle.tool_frame.proofs.lemmas.Writings.{acts_more, ends_unwritten}
-use Rattle.version_output.specs.Ends.{EndsBy, EndsIn}
+use Rattle.version_lines.specs.Lines.{IsUnread}
+use Rattle.version_output.specs.Ends.{EndsIn, FreezeEnds, RehashEnds, UnreadEnds}
 use Rattle.version_output.specs.Rehashed.{IsUnhashed, Rehashes, rehashed}
 
 -- What is answered by a refusal.
@@ -52,46 +54,81 @@ abbrev pub ended : Result Early StoreFault → Result (Result Printed Early) Sto
 ended (Ok early) = Ok (Err early)
 ended (Err e) = Err e
 
-pub ended_cause : (Is : FreezeFault → Answer → Type 0) (e : FreezeFault) (end : Result Early StoreFault) (before now : StoreFaults) → EndsBy Is e end → FaultCause before now e → StoreCause before now (ended end)
-ended_cause Is (fault.BadVersions missing) (Ok early) before now ends cause = cause
-ended_cause Is (fault.Torn version kept text) (Ok early) before now ends cause = cause
-ended_cause Is (fault.Unreadable version files why) (Ok early) before now ends cause = cause
-ended_cause Is (fault.Unchanged version) (Ok early) before now ends cause = cause
-ended_cause Is (fault.Incompatible rows) (Ok early) before now ends cause = cause
-ended_cause Is (fault.Limit limit) (Ok early) before now ends cause = cause
-ended_cause Is (fault.BadVersions missing) (Err s) before now ends cause = absurd ends
-ended_cause Is (fault.Torn version kept text) (Err s) before now ends cause = absurd ends
-ended_cause Is (fault.Unreadable version files why) (Err s) before now ends cause = absurd ends
-ended_cause Is (fault.Unchanged version) (Err s) before now ends cause = absurd ends
-ended_cause Is (fault.Incompatible rows) (Err s) before now ends cause = absurd ends
-ended_cause Is (fault.Limit limit) (Err s) before now ends cause = absurd ends
-ended_cause Is fault.ReadFault end before now ends cause = subst (λ r. StoreCause before now (ended r)) (sym ends) cause
-ended_cause Is fault.WriteFault end before now ends cause = subst (λ r. StoreCause before now (ended r)) (sym ends) cause
-ended_cause Is fault.OutOfMemory end before now ends cause = subst (λ r. StoreCause before now (ended r)) (sym ends) cause
+unread_cause : (Is : Answer → Type 0) (e : VersionsFault) (end : Result Early StoreFault) (before now : StoreFaults) → UnreadEnds Is e end → ReadFaultCause before now e → StoreCause before now (ended end)
+unread_cause Is (read.BadVersions missing) (Ok early) before now ends cause = cause
+unread_cause Is (read.Limit limit) (Ok early) before now ends cause = cause
+unread_cause Is (read.BadVersions missing) (Err s) before now ends cause = absurd ends
+unread_cause Is (read.Limit limit) (Err s) before now ends cause = absurd ends
+unread_cause Is read.ReadFault end before now ends cause = subst (λ r. StoreCause before now (ended r)) (sym ends) cause
+unread_cause Is read.OutOfMemory end before now ends cause = subst (λ r. StoreCause before now (ended r)) (sym ends) cause
+
+write_cause : (e : StoreFault) (end : Result Early StoreFault) (before now : StoreFaults) → end ≡ Err e → WriteCause before now e → StoreCause before now (ended end)
+write_cause Failed end before now ends cause = subst (λ r. StoreCause before now (ended r)) (sym ends) cause
+write_cause StoreMemory end before now ends cause = subst (λ r. StoreCause before now (ended r)) (sym ends) cause
+
+pub freeze_cause : (Is : FreezeFault → Answer → Type 0) (e : FreezeFault) (end : Result Early StoreFault) (before now : StoreFaults) → FreezeEnds Is e end → FaultCause before now e → StoreCause before now (ended end)
+freeze_cause Is (fault.Versions e) end before now ends cause = unread_cause (Is (fault.Versions e)) e end before now ends cause
+freeze_cause Is (fault.Torn torn) (Ok early) before now ends cause = cause
+freeze_cause Is (fault.Unreadable version files why) (Ok early) before now ends cause = cause
+freeze_cause Is (fault.Unchanged version) (Ok early) before now ends cause = cause
+freeze_cause Is (fault.Incompatible rows) (Ok early) before now ends cause = cause
+freeze_cause Is (fault.Limit limit) (Ok early) before now ends cause = cause
+freeze_cause Is (fault.Torn torn) (Err s) before now ends cause = absurd ends
+freeze_cause Is (fault.Unreadable version files why) (Err s) before now ends cause = absurd ends
+freeze_cause Is (fault.Unchanged version) (Err s) before now ends cause = absurd ends
+freeze_cause Is (fault.Incompatible rows) (Err s) before now ends cause = absurd ends
+freeze_cause Is (fault.Limit limit) (Err s) before now ends cause = absurd ends
+freeze_cause Is (fault.Write e) end before now ends cause = write_cause e end before now ends cause
+freeze_cause Is fault.OutOfMemory end before now ends cause = subst (λ r. StoreCause before now (ended r)) (sym ends) cause
+
+pub rehash_cause : (Is : RehashFault → Answer → Type 0) (e : RehashFault) (end : Result Early StoreFault) (before now : StoreFaults) → RehashEnds Is e end → RehashFaultCause before now e → StoreCause before now (ended end)
+rehash_cause Is (rehash.Versions e) end before now ends cause = unread_cause (Is (rehash.Versions e)) e end before now ends cause
+rehash_cause Is (rehash.Torn torn) (Ok early) before now ends cause = cause
+rehash_cause Is (rehash.Torn torn) (Err s) before now ends cause = absurd ends
+rehash_cause Is (rehash.Write e) end before now ends cause = write_cause e end before now ends cause
+rehash_cause Is rehash.OutOfMemory end before now ends cause = subst (λ r. StoreCause before now (ended r)) (sym ends) cause
 
 -- one of these calls, or a write
 abbrev AskedOr : (StoreCall → Type 0) → StoreCall → Type 0
 AskedOr Asked call = Asked call ⊎ IsWrite call
 
-pub ended_call : (Is : FreezeFault → Answer → Type 0) (e : FreezeFault) (end : Result Early StoreFault) (faults : StoreFaults) (Asked : StoreCall → Type 0) → EndsBy Is e end
-    → FaultCall Asked faults e → IfStoreFailed (ended end) (FailedIn faults (AskedOr Asked))
-ended_call Is (fault.BadVersions missing) (Ok early) faults Asked ends call = tt
-ended_call Is (fault.Torn version kept text) (Ok early) faults Asked ends call = tt
-ended_call Is (fault.Unreadable version files why) (Ok early) faults Asked ends call = tt
-ended_call Is (fault.Unchanged version) (Ok early) faults Asked ends call = tt
-ended_call Is (fault.Incompatible rows) (Ok early) faults Asked ends call = tt
-ended_call Is (fault.Limit limit) (Ok early) faults Asked ends call = tt
-ended_call Is (fault.BadVersions missing) (Err s) faults Asked ends call = absurd ends
-ended_call Is (fault.Torn version kept text) (Err s) faults Asked ends call = absurd ends
-ended_call Is (fault.Unreadable version files why) (Err s) faults Asked ends call = absurd ends
-ended_call Is (fault.Unchanged version) (Err s) faults Asked ends call = absurd ends
-ended_call Is (fault.Incompatible rows) (Err s) faults Asked ends call = absurd ends
-ended_call Is (fault.Limit limit) (Err s) faults Asked ends call = absurd ends
-ended_call Is fault.ReadFault end faults Asked ends call =
-    subst (λ r. IfStoreFailed (ended r) (FailedIn faults (AskedOr Asked))) (sym ends) (failed_as faults _ _ (λ c is. inl is) call)
-ended_call Is fault.WriteFault end faults Asked ends call =
-    subst (λ r. IfStoreFailed (ended r) (FailedIn faults (AskedOr Asked))) (sym ends) (failed_as faults _ _ (λ c is. inr is) call)
-ended_call Is fault.OutOfMemory end faults Asked ends call = subst (λ r. IfStoreFailed (ended r) (FailedIn faults (AskedOr Asked))) (sym ends) tt
+-- the call that failed, if one did
+abbrev CalledOr : (StoreCall → Type 0) → StoreFaults → Result Early StoreFault → Type 0
+CalledOr Asked faults end = IfStoreFailed (ended end) (FailedIn faults (AskedOr Asked))
+
+unread_call : (Is : Answer → Type 0) (e : VersionsFault) (end : Result Early StoreFault) (faults : StoreFaults) (Asked : StoreCall → Type 0) → UnreadEnds Is e end → ReadFaultCall Asked faults e → CalledOr Asked faults end
+unread_call Is (read.BadVersions missing) (Ok early) faults Asked ends call = tt
+unread_call Is (read.Limit limit) (Ok early) faults Asked ends call = tt
+unread_call Is (read.BadVersions missing) (Err s) faults Asked ends call = absurd ends
+unread_call Is (read.Limit limit) (Err s) faults Asked ends call = absurd ends
+unread_call Is read.ReadFault end faults Asked ends call = subst (CalledOr Asked faults) (sym ends) (failed_as faults _ _ (λ c is. inl is) call)
+unread_call Is read.OutOfMemory end faults Asked ends call = subst (CalledOr Asked faults) (sym ends) tt
+
+write_call : (e : StoreFault) (end : Result Early StoreFault) (faults : StoreFaults) (Asked : StoreCall → Type 0) → end ≡ Err e → WhereStoreFailed e (FailedIn faults IsWrite) → CalledOr Asked faults end
+write_call Failed end faults Asked ends call = subst (CalledOr Asked faults) (sym ends) (failed_as faults _ _ (λ c is. inr is) call)
+write_call StoreMemory end faults Asked ends call = subst (CalledOr Asked faults) (sym ends) tt
+
+freeze_call : (Is : FreezeFault → Answer → Type 0) (e : FreezeFault) (end : Result Early StoreFault) (faults : StoreFaults) (Asked : StoreCall → Type 0) → FreezeEnds Is e end → FaultCall Asked faults e → CalledOr Asked faults end
+freeze_call Is (fault.Versions e) end faults Asked ends call = unread_call (Is (fault.Versions e)) e end faults Asked ends call
+freeze_call Is (fault.Torn torn) (Ok early) faults Asked ends call = tt
+freeze_call Is (fault.Unreadable version files why) (Ok early) faults Asked ends call = tt
+freeze_call Is (fault.Unchanged version) (Ok early) faults Asked ends call = tt
+freeze_call Is (fault.Incompatible rows) (Ok early) faults Asked ends call = tt
+freeze_call Is (fault.Limit limit) (Ok early) faults Asked ends call = tt
+freeze_call Is (fault.Torn torn) (Err s) faults Asked ends call = absurd ends
+freeze_call Is (fault.Unreadable version files why) (Err s) faults Asked ends call = absurd ends
+freeze_call Is (fault.Unchanged version) (Err s) faults Asked ends call = absurd ends
+freeze_call Is (fault.Incompatible rows) (Err s) faults Asked ends call = absurd ends
+freeze_call Is (fault.Limit limit) (Err s) faults Asked ends call = absurd ends
+freeze_call Is (fault.Write e) end faults Asked ends call = write_call e end faults Asked ends call
+freeze_call Is fault.OutOfMemory end faults Asked ends call = subst (CalledOr Asked faults) (sym ends) tt
+
+rehash_call : (Is : RehashFault → Answer → Type 0) (e : RehashFault) (end : Result Early StoreFault) (faults : StoreFaults) (Asked : StoreCall → Type 0) → RehashEnds Is e end → RehashFaultCall Asked faults e → CalledOr Asked faults end
+rehash_call Is (rehash.Versions e) end faults Asked ends call = unread_call (Is (rehash.Versions e)) e end faults Asked ends call
+rehash_call Is (rehash.Torn torn) (Ok early) faults Asked ends call = tt
+rehash_call Is (rehash.Torn torn) (Err s) faults Asked ends call = absurd ends
+rehash_call Is (rehash.Write e) end faults Asked ends call = write_call e end faults Asked ends call
+rehash_call Is rehash.OutOfMemory end faults Asked ends call = subst (CalledOr Asked faults) (sym ends) tt
 
 -- By what is asked of the store, and its faults at the end.
 module _ (asks : Asks) (faults : StoreFaults) where
@@ -116,7 +153,7 @@ module _ (asks : Asks) (faults : StoreFaults) where
   pub acts_wrote : (acts : Acts) (ws : List Write) (p : Printed) (before now : Option Files) → acts ws (printed p) → Wrote ws before now → ActsAs asks (λ files. acts) before now faults (Ok (Ok p))
   acts_wrote acts ws p before now is wrote = wrote_all acts ws (printed p) is before now wrote
 
-  pub acts_left : (acts : Acts) (ws : List Write) (a : Answer) (e : StoreFault) (before now : Option Files) → acts ws a → LeftBy {A = Unit {0}} ws before now faults (Err e)
+  pub acts_left : (acts : Acts) (ws : List Write) (a : Answer) (e : StoreFault) (before now : Option Files) → acts ws a → LeftAt ws before now faults e
       → ActsAs asks (λ files. acts) before now faults (Err e)
   acts_left acts ws a Failed before now is failed = failed_as faults _ _ (λ call next. inr (failed_next acts ws a is before now call next)) failed
   acts_left acts ws a StoreMemory before now is some = wrote_first acts ws a is before now some
@@ -190,18 +227,19 @@ module _ (asks : Asks) (faults : StoreFaults) where
     failed_next_of call (made, rest, w, middle, split, wrote, only, called) =
         (made, rest, w, (a, subst (λ l. acts files l a) split is), subst (λ m. ChangesOnly m now w.path) wrote only, called)
 
-    failed_late : (end : Result Early StoreFault) → end ≡ Err Failed → FailedIn faults (versions.FailedAt ws (Some files) now) → ActsAs asks acts (Some files) now faults (ended end)
-    failed_late end e failed =
+    stopped_late : (e : StoreFault) (end : Result Early StoreFault) → end ≡ Err e → LeftAt ws (Some files) now faults e → ActsAs asks acts (Some files) now faults (ended end)
+    stopped_late Failed end e failed =
         subst (λ r. ActsAs asks acts (Some files) now faults (ended r)) (sym e) (failed_as faults _ _ (λ call next. inr (failed_next_of call next)) failed)
-
-    lost_late : (end : Result Early StoreFault) → end ≡ Err StoreMemory → versions.WroteSome ws (Some files) now → ActsAs asks acts (Some files) now faults (ended end)
-    lost_late end e (made, rest, split, wrote) =
+    stopped_late StoreMemory end e (made, rest, split, wrote) =
         subst (λ r. ActsAs asks acts (Some files) now faults (ended r)) (sym e) (inr (made, rest, (a, subst (λ l. acts files l a) split is), wrote))
 
-  -- the refusal, where it is one
-  abbrev refusal_or : FreezeFault → Result Frozen FreezeFault → FreezeFault
-  refusal_or other (Ok f) = other
-  refusal_or other (Err e) = e
+  -- versions that aren't read
+  unread_unwritten : (acts : Files → Acts) (files : Files) (now : Option Files) → now ≡ Some files → (defined : Result (List Version) VersionsFault) (Is : Answer → Type 0) (e : VersionsFault) (end : Result Early StoreFault)
+      → ((a : Answer) → defined ≡ Err e → Is a → acts files [] a) → Refuses defined e → UnreadEnds Is e end → ReadFaultCall (asks (Some files)) faults e → ActsAs asks acts (Some files) now faults (ended end)
+  unread_unwritten acts files now same defined Is (read.BadVersions missing) end meant is ends call = refused_unwritten acts files now same Is end (λ a h. meant a is h) ends
+  unread_unwritten acts files now same defined Is (read.Limit limit) end meant is ends call = refused_unwritten acts files now same Is end (λ a h. meant a is h) ends
+  unread_unwritten acts files now same defined Is read.ReadFault end meant is ends call = failed_unwritten acts files now same end ends call
+  unread_unwritten acts files now same defined Is read.OutOfMemory end meant is ends call = lost_unwritten acts files now same end ends
 
   -- Freezing.
   module _ (api : List ℕ) (S : List Decl) where
@@ -210,13 +248,13 @@ module _ (asks : Asks) (faults : StoreFaults) where
 
     module _ (files : Files) (now : Option Files) where
       -- what is found at the API
-      abbrev IsFound : Result (List Version) FreezeFault → Type 0
+      abbrev IsFound : Result (List Version) VersionsFault → Type 0
       IsFound given = versions_at files api ≡ given
 
-      carried : (given : Result (List Version) FreezeFault) (made : List Write) (a : Answer) → IsFound given → Freezes api given S made a → FreezesOf files made a
+      carried : (given : Result (List Version) VersionsFault) (made : List Write) (a : Answer) → IsFound given → Freezes api given S made a → FreezesOf files made a
       carried given made a e h = subst (λ g. Freezes api g S made a) (sym e) h
 
-      frozen_told : (given : Result (List Version) FreezeFault) (f : Frozen) → IsFound given → freeze.FreezesAt api given S (Some files) now faults (Ok f) → Acted FreezesOf (Some files) now (frozen f.version f.hash)
+      frozen_told : (given : Result (List Version) VersionsFault) (f : Frozen) → IsFound given → freeze.FreezesAt api given S (Some files) now faults (Ok f) → Acted FreezesOf (Some files) now (frozen f.version f.hash)
       frozen_told (Ok vs) f e (sources, ready, version, hash, wrote) =
           let same : frozen f.version f.hash ≡ frozen (freeze.next vs) (freeze.hash_digits sources (freeze.next vs)) = rw (version, hash) refl in
           (freeze.version_writes api (freeze.next vs) sources, carried (Ok vs) _ _ e (inl (sources, ready, refl, same)), wrote)
@@ -226,44 +264,41 @@ module _ (asks : Asks) (faults : StoreFaults) where
       plain_read : (vs : List Version) (e : FreezeFault) (end : Result Early StoreFault) → IsFound (Ok vs) → now ≡ Some files → freeze.RefusedAs vs S e → EndsIn (IsUnfrozen api e) end → ActsAs asks FreezesOf (Some files) now faults (ended end)
       plain_read vs e end is same refused ends = refused_unwritten FreezesOf files now same (IsUnfrozen api e) end (λ a h. carried (Ok vs) [] a is (inr (refl, (e, refused, h)))) ends
 
-      plain_unread : (r e : FreezeFault) (end : Result Early StoreFault) → IsFound (Err r) → now ≡ Some files → ◌≡◌ {A = Result Frozen FreezeFault} (Err r) (Err e) → EndsIn (IsUnfrozen api e) end → ActsAs asks FreezesOf (Some files) now faults (ended end)
-      plain_unread r e end is same one ends =
-          let which : r ≡ e = ap (refusal_or r) one in
-          refused_unwritten FreezesOf files now same (IsUnfrozen api e) end (λ a h. carried (Err r) [] a is (refl, subst (λ x. IsUnfrozen api x a) (sym which) h)) ends
+      carried_unread : (given : Result (List Version) VersionsFault) (e : VersionsFault) (a : Answer) → IsFound given → given ≡ Err e → IsUnread e a → FreezesOf files [] a
+      carried_unread given e a is one h = carried (Err e) [] a (is ∙ one) (refl, h)
 
-      refused_read : (vs : List Version) (e : FreezeFault) (end : Result Early StoreFault) → IsFound (Ok vs) → freeze.Freezes api vs S (Some files) now faults (Err e) → EndsBy (IsUnfrozen api) e end
+      unread_told : (given : Result (List Version) VersionsFault) (e : VersionsFault) (end : Result Early StoreFault) → IsFound given → now ≡ Some files → Refuses given e → UnreadEnds (IsUnread e) e end
+          → ReadFaultCall (asks (Some files)) faults e → ActsAs asks FreezesOf (Some files) now faults (ended end)
+      unread_told given e end is same refused ends call = unread_unwritten FreezesOf files now same given (IsUnread e) e end (λ a one h. carried_unread given e a is one h) refused ends call
+
+      refused_read : (vs : List Version) (e : FreezeFault) (end : Result Early StoreFault) → IsFound (Ok vs) → freeze.Freezes api vs S (Some files) now faults (Err e) → FreezeEnds (IsUnfrozen api) e end
           → FaultCall (asks (Some files)) faults e → ActsAs asks FreezesOf (Some files) now faults (ended end)
-      refused_read vs (fault.BadVersions missing) end is told ends call = absurd told
-      refused_read vs (fault.Torn version kept text) end is told ends call = plain_read vs (fault.Torn version kept text) end is told.0 told.1 ends
+      refused_read vs (fault.Versions e) end is told ends call = unread_told (Ok vs) e end is told.0 told.1 ends call
+      refused_read vs (fault.Torn torn) end is told ends call = plain_read vs (fault.Torn torn) end is told.0 told.1 ends
       refused_read vs (fault.Unreadable version sources why) end is told ends call = plain_read vs (fault.Unreadable version sources why) end is told.0 told.1 ends
       refused_read vs (fault.Unchanged version) end is told ends call = plain_read vs (fault.Unchanged version) end is told.0 told.1 ends
       refused_read vs (fault.Incompatible rows) end is told ends call = plain_read vs (fault.Incompatible rows) end is told.0 told.1 ends
       refused_read vs (fault.Limit limit) end is told ends call = plain_read vs (fault.Limit limit) end is told.0 told.1 ends
-      refused_read vs fault.ReadFault end is told ends call = failed_unwritten FreezesOf files now told end ends call
-      refused_read vs fault.WriteFault end is (sources, ready, failed) ends call =
-          failed_late FreezesOf files (freeze.version_writes api (freeze.next vs) sources) (frozen (freeze.next vs) (freeze.hash_digits sources (freeze.next vs)))
-          (carried (Ok vs) _ _ is (inl (sources, ready, refl, refl))) now end ends failed
-      refused_read vs fault.OutOfMemory end is (inl same) ends call = lost_unwritten FreezesOf files now same end ends
-      refused_read vs fault.OutOfMemory end is (inr (sources, ready, some)) ends call =
-          lost_late FreezesOf files (freeze.version_writes api (freeze.next vs) sources) (frozen (freeze.next vs) (freeze.hash_digits sources (freeze.next vs)))
-          (carried (Ok vs) _ _ is (inl (sources, ready, refl, refl))) now end ends some
+      refused_read vs (fault.Write e) end is (sources, ready, left) ends call =
+          stopped_late FreezesOf files (freeze.version_writes api (freeze.next vs) sources) (frozen (freeze.next vs) (freeze.hash_digits sources (freeze.next vs)))
+          (carried (Ok vs) _ _ is (inl (sources, ready, refl, refl))) now e end ends left
+      refused_read vs fault.OutOfMemory end is same ends call = lost_unwritten FreezesOf files now same end ends
 
-      refused_unread : (r e : FreezeFault) (end : Result Early StoreFault) → IsFound (Err r) → now ≡ Some files → Refuses {A = Frozen} (Err r) e → e ≢ fault.WriteFault → EndsBy (IsUnfrozen api) e end
+      refused_unread : (r : VersionsFault) (e : FreezeFault) (end : Result Early StoreFault) → IsFound (Err r) → freeze.Unread r (Some files) now (Err e) → FreezeEnds (IsUnfrozen api) e end
           → FaultCall (asks (Some files)) faults e → ActsAs asks FreezesOf (Some files) now faults (ended end)
-      refused_unread r (fault.BadVersions missing) end is same one unwritten ends call = plain_unread r (fault.BadVersions missing) end is same one ends
-      refused_unread r (fault.Torn version kept text) end is same one unwritten ends call = plain_unread r (fault.Torn version kept text) end is same one ends
-      refused_unread r (fault.Unreadable version sources why) end is same one unwritten ends call = plain_unread r (fault.Unreadable version sources why) end is same one ends
-      refused_unread r (fault.Unchanged version) end is same one unwritten ends call = plain_unread r (fault.Unchanged version) end is same one ends
-      refused_unread r (fault.Incompatible rows) end is same one unwritten ends call = plain_unread r (fault.Incompatible rows) end is same one ends
-      refused_unread r (fault.Limit limit) end is same one unwritten ends call = plain_unread r (fault.Limit limit) end is same one ends
-      refused_unread r fault.ReadFault end is same one unwritten ends call = failed_unwritten FreezesOf files now same end ends call
-      refused_unread r fault.WriteFault end is same one unwritten ends call = absurd (unwritten refl)
-      refused_unread r fault.OutOfMemory end is same one unwritten ends call = lost_unwritten FreezesOf files now same end ends
+      refused_unread r (fault.Versions e) end is told ends call = unread_told (Err r) e end is told.0 told.1 ends call
+      refused_unread r (fault.Torn torn) end is told ends call = absurd told
+      refused_unread r (fault.Unreadable version sources why) end is told ends call = absurd told
+      refused_unread r (fault.Unchanged version) end is told ends call = absurd told
+      refused_unread r (fault.Incompatible rows) end is told ends call = absurd told
+      refused_unread r (fault.Limit limit) end is told ends call = absurd told
+      refused_unread r (fault.Write e) end is told ends call = absurd told
+      refused_unread r fault.OutOfMemory end is told ends call = absurd told
 
-      refused_told : (given : Result (List Version) FreezeFault) (e : FreezeFault) (end : Result Early StoreFault) → IsFound given → freeze.FreezesAt api given S (Some files) now faults (Err e) → EndsBy (IsUnfrozen api) e end
+      refused_told : (given : Result (List Version) VersionsFault) (e : FreezeFault) (end : Result Early StoreFault) → IsFound given → freeze.FreezesAt api given S (Some files) now faults (Err e) → FreezeEnds (IsUnfrozen api) e end
           → FaultCall (asks (Some files)) faults e → ActsAs asks FreezesOf (Some files) now faults (ended end)
       refused_told (Ok vs) e end is told ends call = refused_read vs e end is told ends call
-      refused_told (Err r) e end is told ends call = refused_unread r e end is told.0 told.1 told.2 ends call
+      refused_told (Err r) e end is told ends call = refused_unread r e end is told ends call
 
     pub freeze_done : (before now : Option Files) (f : Frozen) (given : Result Printed Early) → (before ≡ None → now ≡ None)
         → Tells before (λ files. freeze.FreezesAt api (versions_at files api) S (Some files) now faults (Ok f)) → Gives given (frozen f.version f.hash) → ActsAs asks FreezesOf before now faults (Ok given)
@@ -271,9 +306,9 @@ module _ (asks : Asks) (faults : StoreFaults) where
     freeze_done (Some files) now f given untold told gives = gives_told FreezesOf files now given (frozen f.version f.hash) gives (frozen_told files now (versions_at files api) f refl told)
 
     pub freeze_refused : (before now : Option Files) (e : FreezeFault) (end : Result Early StoreFault) → (before ≡ None → now ≡ None)
-        → Tells before (λ files. freeze.FreezesAt api (versions_at files api) S (Some files) now faults (Err e)) → EndsBy (IsUnfrozen api) e end → FaultCall (asks before) faults e
+        → Tells before (λ files. freeze.FreezesAt api (versions_at files api) S (Some files) now faults (Err e)) → FreezeEnds (IsUnfrozen api) e end → FaultCall (asks before) faults e
         → ActsAs asks FreezesOf before now faults (ended end)
-    freeze_refused None now e end untold told ends call = untold_acts FreezesOf now (ended end) (untold refl) (ended_call (IsUnfrozen api) e end faults (asks None) ends call)
+    freeze_refused None now e end untold told ends call = untold_acts FreezesOf now (ended end) (untold refl) (freeze_call (IsUnfrozen api) e end faults (asks None) ends call)
     freeze_refused (Some files) now e end untold told ends call = refused_told files now (versions_at files api) e end refl told ends call
 
   -- Hashing again.
@@ -286,12 +321,12 @@ module _ (asks : Asks) (faults : StoreFaults) where
   no_first (m ∷ made) rest e = absurd cc
 
   -- where hashing is refused, no write is due
-  by_whole : (api : List ℕ) (vs : List Version) (e : FreezeFault) (whole : Result (Unit {0}) FreezeFault) → (whole >>= λ x. Ok (stale_numbers vs)) ≡ Err e → writes_for (λ x. hash_writes api vs) whole ≡ []
-  by_whole api vs e (Ok x) h = absurd cc
-  by_whole api vs e (Err r) h = refl
+  by_torn : (torn : Option Torn) (numbers : List ℕ) (writes : List Write) (e : RehashFault) → numbers_or torn numbers ≡ Err e → writes_or torn writes ≡ []
+  by_torn None numbers writes e h = absurd cc
+  by_torn (Some torn) numbers writes e h = refl
 
-  none_due : (api : List ℕ) (given : Result (List Version) FreezeFault) (e : FreezeFault) → (given >>= rehash_of) ≡ Err e → writes_for (whole_writes api) given ≡ []
-  none_due api (Ok vs) e h = by_whole api vs e (all_whole vs) h
+  none_due : (api : List ℕ) (given : Result (List Version) VersionsFault) (e : RehashFault) → rehash_by given ≡ Err e → writes_by api given ≡ []
+  none_due api (Ok vs) e h = by_torn (first_torn vs) (stale_numbers vs) (hash_writes api vs) e h
   none_due api (Err r) e h = refl
 
   module _ (api : List ℕ) (files : Files) (now : Option Files) where
@@ -299,49 +334,47 @@ module _ (asks : Asks) (faults : StoreFaults) where
     Hashes = RehashActs api
 
     abbrev Numbers : Type 0
-    Numbers = Result (List ℕ) FreezeFault
+    Numbers = Result (List ℕ) RehashFault
 
     carried_hashes : (given : Numbers) (made : List Write) (a : Answer) → rehash_at files api ≡ given → Rehashes (rehash_writes files api) given made a → Hashes files made a
     carried_hashes given made a e h = subst (λ g. Rehashes (rehash_writes files api) g made a) (sym e) h
 
-    unhashed_plain : (e : FreezeFault) (end : Result Early StoreFault) → rehash_at files api ≡ Err e → now ≡ Some files → EndsIn (IsUnhashed e) end → ActsAs asks Hashes (Some files) now faults (ended end)
-    unhashed_plain e end is same ends = refused_unwritten Hashes files now same (IsUnhashed e) end (λ a h. carried_hashes (Err e) [] a is (refl, h)) ends
+    unhashed : (e : RehashFault) (a : Answer) → rehash_at files api ≡ Err e → IsUnhashed e a → Hashes files [] a
+    unhashed e a is h = carried_hashes (Err e) [] a is (refl, h)
 
-    failed_by : (given : Numbers) (end : Result Early StoreFault) → rehash_at files api ≡ given → end ≡ Err Failed → FailedIn faults (versions.FailedAt (rehash_writes files api) (Some files) now) → ActsAs asks Hashes (Some files) now faults (ended end)
-    failed_by (Ok numbers) end is ends failed =
-        failed_late Hashes files (rehash_writes files api) (rehashed (length numbers)) (carried_hashes (Ok numbers) _ _ is (refl, refl)) now end ends failed
-    failed_by (Err e) end is ends (call, (made, rest, w, middle, split, wrote, only, called), told) =
-        absurd (no_next made rest w (sym (none_due api (versions_at files api) e is) ∙ split))
-
-    lost_by : (given : Numbers) (end : Result Early StoreFault) → rehash_at files api ≡ given → end ≡ Err StoreMemory → versions.WroteSome (rehash_writes files api) (Some files) now → ActsAs asks Hashes (Some files) now faults (ended end)
-    lost_by (Ok numbers) end is ends some =
-        lost_late Hashes files (rehash_writes files api) (rehashed (length numbers)) (carried_hashes (Ok numbers) _ _ is (refl, refl)) now end ends some
-    lost_by (Err e) end is ends (made, rest, split, wrote) =
-        let none : made ≡ [] = no_first made rest (sym (none_due api (versions_at files api) e is) ∙ split) in
+    stopped_by : (given : Numbers) (e : StoreFault) (end : Result Early StoreFault) → rehash_at files api ≡ given → end ≡ Err e → LeftAt (rehash_writes files api) (Some files) now faults e → ActsAs asks Hashes (Some files) now faults (ended end)
+    stopped_by (Ok numbers) e end is ends left =
+        stopped_late Hashes files (rehash_writes files api) (rehashed (length numbers)) (carried_hashes (Ok numbers) _ _ is (refl, refl)) now e end ends left
+    stopped_by (Err r) Failed end is ends (call, (made, rest, w, middle, split, wrote, only, called), told) =
+        absurd (no_next made rest w (sym (none_due api (versions_at files api) r is) ∙ split))
+    stopped_by (Err r) StoreMemory end is ends (made, rest, split, wrote) =
+        let none : made ≡ [] = no_first made rest (sym (none_due api (versions_at files api) r is) ∙ split) in
         lost_unwritten Hashes files now (subst (λ ws. Wrote ws (Some files) now) none wrote) end ends
 
-    unhashed_told : (e : FreezeFault) (end : Result Early StoreFault) → Refuses (rehash_at files api) e → Left {A = List ℕ} (rehash_writes files api) (Some files) now faults (Err e) → EndsBy IsUnhashed e end
-        → FaultCall (asks (Some files)) faults e → ActsAs asks Hashes (Some files) now faults (ended end)
-    unhashed_told (fault.BadVersions missing) end is left ends call = unhashed_plain (fault.BadVersions missing) end is left ends
-    unhashed_told (fault.Torn version kept text) end is left ends call = unhashed_plain (fault.Torn version kept text) end is left ends
-    unhashed_told (fault.Unreadable version sources why) end is left ends call = unhashed_plain (fault.Unreadable version sources why) end is left ends
-    unhashed_told (fault.Unchanged version) end is left ends call = unhashed_plain (fault.Unchanged version) end is left ends
-    unhashed_told (fault.Incompatible rows) end is left ends call = unhashed_plain (fault.Incompatible rows) end is left ends
-    unhashed_told (fault.Limit limit) end is left ends call = unhashed_plain (fault.Limit limit) end is left ends
-    unhashed_told fault.ReadFault end is left ends call = failed_unwritten Hashes files now left end ends call
-    unhashed_told fault.WriteFault end is left ends call = failed_by (rehash_at files api) end refl ends left
-    unhashed_told fault.OutOfMemory end is left ends call = lost_by (rehash_at files api) end refl ends left
+    unhashed_unread : (e : VersionsFault) (end : Result Early StoreFault) → now ≡ Some files → RefusesNumbers (rehash_at files api) (rehash.Versions e) → UnreadEnds (IsUnread e) e end
+        → ReadFaultCall (asks (Some files)) faults e → ActsAs asks Hashes (Some files) now faults (ended end)
+    unhashed_unread (read.BadVersions missing) end same is ends call = refused_unwritten Hashes files now same (IsUnread (read.BadVersions missing)) end (λ a h. unhashed (rehash.Versions (read.BadVersions missing)) a is h) ends
+    unhashed_unread (read.Limit limit) end same is ends call = refused_unwritten Hashes files now same (IsUnread (read.Limit limit)) end (λ a h. unhashed (rehash.Versions (read.Limit limit)) a is h) ends
+    unhashed_unread read.ReadFault end same is ends call = failed_unwritten Hashes files now same end ends call
+    unhashed_unread read.OutOfMemory end same is ends call = lost_unwritten Hashes files now same end ends
+
+    unhashed_told : (e : RehashFault) (end : Result Early StoreFault) → RefusesNumbers (rehash_at files api) e → Left (rehash_writes files api) (Some files) now faults (Err e) → RehashEnds IsUnhashed e end
+        → RehashFaultCall (asks (Some files)) faults e → ActsAs asks Hashes (Some files) now faults (ended end)
+    unhashed_told (rehash.Versions e) end is left ends call = unhashed_unread e end left is ends call
+    unhashed_told (rehash.Torn torn) end is left ends call = refused_unwritten Hashes files now left (IsUnhashed (rehash.Torn torn)) end (λ a h. unhashed (rehash.Torn torn) a is h) ends
+    unhashed_told (rehash.Write e) end is left ends call = stopped_by (rehash_at files api) e end refl ends left
+    unhashed_told rehash.OutOfMemory end is left ends call = lost_unwritten Hashes files now left end ends
 
   module _ (api : List ℕ) where
     pub rehash_done : (before now : Option Files) (numbers : List ℕ) (given : Result Printed Early) → (before ≡ None → now ≡ None)
-        → Tells before (λ files. answers.Gives (rehash_at files api) (Ok numbers)) → Tells before (λ files. Left (rehash_writes files api) (Some files) now faults (Ok numbers))
+        → Tells before (λ files. GivesNumbers (rehash_at files api) (Ok numbers)) → Tells before (λ files. Left (rehash_writes files api) (Some files) now faults (Ok numbers))
         → Gives given (rehashed (length numbers)) → ActsAs asks (RehashActs api) before now faults (Ok given)
     rehash_done None now numbers given untold told wrote gives = untold_acts (RehashActs api) now (Ok given) (untold refl) (given_call given)
     rehash_done (Some files) now numbers given untold told wrote gives =
         gives_told (RehashActs api) files now given (rehashed (length numbers)) gives (rehash_writes files api, carried_hashes api files now (Ok numbers) _ _ told (refl, refl), wrote)
 
-    pub rehash_refused : (before now : Option Files) (e : FreezeFault) (end : Result Early StoreFault) → (before ≡ None → now ≡ None)
-        → Tells before (λ files. answers.Gives {A = List ℕ} (rehash_at files api) (Err e)) → Tells before (λ files. Left {A = List ℕ} (rehash_writes files api) (Some files) now faults (Err e))
-        → EndsBy IsUnhashed e end → FaultCall (asks before) faults e → ActsAs asks (RehashActs api) before now faults (ended end)
-    rehash_refused None now e end untold told wrote ends call = untold_acts (RehashActs api) now (ended end) (untold refl) (ended_call IsUnhashed e end faults (asks None) ends call)
+    pub rehash_refused : (before now : Option Files) (e : RehashFault) (end : Result Early StoreFault) → (before ≡ None → now ≡ None)
+        → Tells before (λ files. GivesNumbers (rehash_at files api) (Err e)) → Tells before (λ files. Left (rehash_writes files api) (Some files) now faults (Err e))
+        → RehashEnds IsUnhashed e end → RehashFaultCall (asks before) faults e → ActsAs asks (RehashActs api) before now faults (ended end)
+    rehash_refused None now e end untold told wrote ends call = untold_acts (RehashActs api) now (ended end) (untold refl) (rehash_call IsUnhashed e end faults (asks None) ends call)
     rehash_refused (Some files) now e end untold told wrote ends call = unhashed_told api files now e end told wrote ends call

@@ -8,7 +8,7 @@ use Rattle.aidl_schema.specs.Broken.{broken}
 use Rattle.aidl_schema.specs.declared.schema.Decl.{Decl}
 use Rattle.aidl_tool.specs.Between.{CallRun}
 use Rattle.aidl_tool.specs.Headline.{Headline, IsCallsText, IsChecked}
-use Rattle.aidl_tool.specs.steps.Tags.{TagsHinder}
+use Rattle.aidl_tool.specs.steps.Tags.{SchemasGive}
 use Rattle.aidl_tool.proofs.Phrases.{answered_known, answered_unknown, each, lacking, sent_known, sent_unknown}
 use Rattle.parcel_output.specs.Decode.{profile_of}
 use Rattle.run_output.specs.CallLines.{lines_of}
@@ -23,7 +23,7 @@ use Rattle.wire_model.specs.Outcome.{OneFollows}
 module _ (before now : Seen) (exit : ℕ) (files : Files) where
   pub record RunKeeps (p : Profile) (trace : Bool) (client server calls : List ℕ) : Type 0 where
     pub prints : (text : List ℕ) (A B : List Decl) → IsChecked files client A → IsChecked files server B → IsCallsText files calls text → before.is_faithful ≡ true
-        → OneFollows A B → IsVerdict exit → (exit ≡ 0) × Adds before.told now.told (projected_text p A B trace 1 (lines_of text)) × TagsHinder A B
+        → OneFollows A B → IsVerdict exit → (exit ≡ 0) × Adds before.told now.told (projected_text p A B trace 1 (lines_of text)) × SchemasGive A B
     pub refuses_both : (text : List ℕ) (A B : List Decl) → IsChecked files client A → IsChecked files server B → IsCallsText files calls text → broken A B ≢ [] → broken B A ≢ []
         → IsVerdict exit → (exit ≡ 1) × Adds before.told now.told (neither (broken A B) (broken B A)).text
 
@@ -60,7 +60,7 @@ module _ (before now : Seen) (exit : ℕ) (files : Files) where
       runs trace lenient client server calls is = subst Keeps is keeps
 
       -- what is known of the run of a call
-      kept : (x : CallRun words before exit files) → (exit ≡ 0) × Adds before.told now.told (projected_text (profile_of x.lenient) x.client x.server x.trace 1 (lines_of x.text)) × TagsHinder x.client x.server
+      kept : (x : CallRun words before exit files) → (exit ≡ 0) × Adds before.told now.told (projected_text (profile_of x.lenient) x.client x.server x.trace 1 (lines_of x.text)) × SchemasGive x.client x.server
       kept x =
           let r = x.between in
           (runs x.trace x.lenient r.client r.server r.calls r.words_are).prints x.text x.client x.server r.client_checked r.server_checked r.calls_are r.unaltered r.one_follows r.verdict

@@ -14,11 +14,10 @@ use Rattle.aidl_tool.specs.declared.making.Laid.{Laid}
 use Rattle.aidl_tool.specs.Making.{MakeTakes, file_write, make_writes, new_root, old_root}
 use Rattle.aidl_tool.specs.Running.{Takes, TakesChecked}
 use Rattle.aidl_tool.specs.steps.Laying.{IsLaid, TakesLaid, laid_writes}
-use Rattle.aidl_tool.specs.steps.Left.{LeftBy}
 use Rattle.aidl_tool.specs.steps.Loading.{RanSome, TakesEarly}
 use Rattle.aidl_tool.proofs.CourseEnds.{alone}
 use Rattle.aidl_tool.proofs.Takes.{early_checked}
-use Rattle.api_versions.specs.Writes.{Wrote}
+use Rattle.api_versions.specs.Writes.{Left, Wrote}
 use Rattle.api_versions.specs.Writes as versions
 use Rattle.make_output.specs.Making.{make_course}
 use Rattle.tree_output.specs.Faults.{IsFaultAnswer}
@@ -47,20 +46,20 @@ failed_behind : (w : Write) (ws : List Write) (before middle now : Option Files)
 failed_behind w ws before middle now call set (made, rest, v, between, split, wrote, only, called) =
     (w ∷ made, rest, v, between, ap (λ l. w ∷ l) split, wrote_next w made before middle between set wrote, only, called)
 
-pub left_next : (w : Write) (ws : List Write) (before middle now : Option Files) (faults : StoreFaults) (r : Result (Unit {0}) StoreFault) → Sets before middle w.path w.bytes → LeftBy ws middle now faults r
-    → LeftBy (w ∷ ws) before now faults r
+pub left_next : (w : Write) (ws : List Write) (before middle now : Option Files) (faults : StoreFaults) (r : Result (Unit {0}) StoreFault) → Sets before middle w.path w.bytes → Left ws middle now faults r
+    → Left (w ∷ ws) before now faults r
 left_next w ws before middle now faults (Ok x) set wrote = wrote_next w ws before middle now set wrote
 left_next w ws before middle now faults (Err Failed) set failed = failed_as faults _ _ (λ call next. failed_behind w ws before middle now call set next) failed
 left_next w ws before middle now faults (Err OutOfMemory) set (made, rest, split, wrote) = (w ∷ made, rest, ap (λ l. w ∷ l) split, wrote_next w made before middle now set wrote)
 
 -- a write that failed, or for which memory was wanted
 pub left_stopped : (w : Write) (ws : List Write) (before now : Option Files) (faults : StoreFaults) (e : StoreFault) → Writes {T = Unit {0}} before now w.path w.bytes (Err e)
-    → WhereStoreFailed e (FailedIn faults (λ call. call ≡ writing w.path)) → LeftBy {A = Unit {0}} (w ∷ ws) before now faults (Err e)
+    → WhereStoreFailed e (FailedIn faults (λ call. call ≡ writing w.path)) → Left {A = Unit {0}} (w ∷ ws) before now faults (Err e)
 left_stopped w ws before now faults Failed only failed = failed_as faults _ _ (λ call called. ([], ws, w, before, refl, nothing_wrote before, only, called)) failed
 left_stopped w ws before now faults OutOfMemory same failed = ([], w ∷ ws, refl, subst (λ k. Wrote [] before k) (sym same) (nothing_wrote before))
 
 -- memory was wanted before any
-pub left_none : (ws : List Write) (kept : Option Files) (faults : StoreFaults) → LeftBy {A = Unit {0}} ws kept kept faults (Err OutOfMemory)
+pub left_none : (ws : List Write) (kept : Option Files) (faults : StoreFaults) → Left {A = Unit {0}} ws kept kept faults (Err OutOfMemory)
 left_none ws kept faults = ([], ws, refl, nothing_wrote kept)
 
 written_on : (xs ys : List Write) (files : Files) → written (xs ++ ys) files ≡ written ys (written xs files)
@@ -78,7 +77,7 @@ failed_on : (xs ys : List Write) (before middle now : Option Files) (call : Stor
 failed_on xs ys before middle now call first (made, rest, w, between, split, wrote, only, called) =
     (xs ++ made, rest, w, between, ap (λ l. xs ++ l) split ∙ sym (append_assoc xs made (w ∷ rest)), wrote_on xs made before middle between first wrote, only, called)
 
-pub left_on : (xs ys : List Write) (before middle now : Option Files) (faults : StoreFaults) (r : Result (Unit {0}) StoreFault) → Wrote xs before middle → LeftBy ys middle now faults r → LeftBy (xs ++ ys) before now faults r
+pub left_on : (xs ys : List Write) (before middle now : Option Files) (faults : StoreFaults) (r : Result (Unit {0}) StoreFault) → Wrote xs before middle → Left ys middle now faults r → Left (xs ++ ys) before now faults r
 left_on xs ys before middle now faults (Ok x) first wrote = wrote_on xs ys before middle now first wrote
 left_on xs ys before middle now faults (Err Failed) first failed = failed_as faults _ _ (λ call next. failed_on xs ys before middle now call first next) failed
 left_on xs ys before middle now faults (Err OutOfMemory) first (made, rest, split, wrote) =
@@ -89,7 +88,7 @@ failed_first : (xs ys : List Write) (before now : Option Files) (call : StoreCal
 failed_first xs ys before now call (made, rest, w, between, split, wrote, only, called) =
     (made, rest ++ ys, w, between, ap (λ l. l ++ ys) split ∙ append_assoc made (w ∷ rest) ys, wrote, only, called)
 
-pub left_first : (xs ys : List Write) (before now : Option Files) (faults : StoreFaults) (e : StoreFault) → LeftBy {A = Unit {0}} xs before now faults (Err e) → LeftBy {A = Unit {0}} (xs ++ ys) before now faults (Err e)
+pub left_first : (xs ys : List Write) (before now : Option Files) (faults : StoreFaults) (e : StoreFault) → Left {A = Unit {0}} xs before now faults (Err e) → Left {A = Unit {0}} (xs ++ ys) before now faults (Err e)
 left_first xs ys before now faults Failed failed = failed_as faults _ _ (λ call next. failed_first xs ys before now call next) failed
 left_first xs ys before now faults OutOfMemory (made, rest, split, wrote) = (made, rest ++ ys, ap (λ l. l ++ ys) split ∙ append_assoc made rest ys, wrote)
 
@@ -113,19 +112,19 @@ module _ (root : List ℕ) (files : List SourceFile) where
         let e : drop i files ≡ get_or files i file ∷ drop (i + 1) files = rw add-one (drop-cons files i file lt) in
         ap (λ (fs : List SourceFile). map (file_write root) (map file_seen fs)) e ∙ ap (λ (f : SourceFile). file_write root (file_seen f) ∷ writes_from (i + 1)) (sym at)
 
-    pub file_next : (here there later : Option Files) (faults : StoreFaults) (r : Result (Unit {0}) StoreFault) → Sets here there first.path first.bytes → LeftBy (writes_from (i + 1)) there later faults r
-        → LeftBy (writes_from i) here later faults r
+    pub file_next : (here there later : Option Files) (faults : StoreFaults) (r : Result (Unit {0}) StoreFault) → Sets here there first.path first.bytes → Left (writes_from (i + 1)) there later faults r
+        → Left (writes_from i) here later faults r
     file_next here there later faults r set left =
-        subst (λ ws. LeftBy ws here later faults r) (sym first_write) (left_next first (writes_from (i + 1)) here there later faults r set left)
+        subst (λ ws. Left ws here later faults r) (sym first_write) (left_next first (writes_from (i + 1)) here there later faults r set left)
 
     pub file_stopped : (here there : Option Files) (faults : StoreFaults) (e : StoreFault) → Writes {T = Unit {0}} here there first.path first.bytes (Err e)
-        → WhereStoreFailed e (FailedIn faults (λ call. call ≡ writing first.path)) → LeftBy {A = Unit {0}} (writes_from i) here there faults (Err e)
+        → WhereStoreFailed e (FailedIn faults (λ call. call ≡ writing first.path)) → Left {A = Unit {0}} (writes_from i) here there faults (Err e)
     file_stopped here there faults e stopped failed =
-        subst (λ ws. LeftBy {A = Unit {0}} ws here there faults (Err e)) (sym first_write) (left_stopped first (writes_from (i + 1)) here there faults e stopped failed)
+        subst (λ ws. Left {A = Unit {0}} ws here there faults (Err e)) (sym first_write) (left_stopped first (writes_from (i + 1)) here there faults e stopped failed)
 
-  pub files_done : (i : ℕ) (kept : Option Files) (faults : StoreFaults) → length files ≤ i → LeftBy {A = Unit {0}} (writes_from i) kept kept faults (Ok tt)
+  pub files_done : (i : ℕ) (kept : Option Files) (faults : StoreFaults) → length files ≤ i → Left {A = Unit {0}} (writes_from i) kept kept faults (Ok tt)
   files_done i kept faults past =
-      subst (λ (fs : List SourceFile). LeftBy {A = Unit {0}} (map (file_write root) (map file_seen fs)) kept kept faults (Ok tt)) (sym (drop_past i files past)) (nothing_wrote kept)
+      subst (λ (fs : List SourceFile). Left {A = Unit {0}} (map (file_write root) (map file_seen fs)) kept kept faults (Ok tt)) (sym (drop_past i files past)) (nothing_wrote kept)
 
 -- what was laid out is what is meant
 module _ (n : ℕ) (out : List ℕ) (l : Laid) (is : IsLaid n out l) where
@@ -192,13 +191,13 @@ module _ (ws : List Write) (takes : Takes) (before now : Seen) where
       (ap (λ s. s.told) same) (ap (λ s. s.sink_faults) same) (ap (λ s. s.log) same) (ap (λ s. s.link_faults) same) (ap (λ s. s.is_faithful) same)
 
   -- A write failed.
-  pub ended_failed : LeftBy {A = Unit {0}} ws before.kept now.kept now.store_faults (Err Failed) → Rose before.store_faults now.store_faults → alone now ≡ alone before → Ended (does_by AsksNothing are_these may_take) before now 3
+  pub ended_failed : Left {A = Unit {0}} ws before.kept now.kept now.store_faults (Err Failed) → Rose before.store_faults now.store_faults → alone now ≡ alone before → Ended (does_by AsksNothing are_these may_take) before now 3
   ended_failed failed rose same =
       ended_before AsksNothing are_these may_take before now 3 (inl refl) (λ three. rose) (λ other. absurd (other refl)) (λ three. failed_as now.store_faults _ _ (λ call next. inr (failed_next before.kept now.kept call next)) failed) (λ five. absurd (omega arith))
       (ap (λ s. s.told) same) (ap (λ s. s.sink_faults) same) (ap (λ s. s.log) same) (ap (λ s. s.link_faults) same) (ap (λ s. s.is_faithful) same)
 
   -- Memory was wanted before the last write.
-  pub ended_lost : LeftBy {A = Unit {0}} ws before.kept now.kept now.store_faults (Err OutOfMemory) → now.store_faults ≡ before.store_faults → alone now ≡ alone before → Ended (does_by AsksNothing are_these may_take) before now 5
+  pub ended_lost : Left {A = Unit {0}} ws before.kept now.kept now.store_faults (Err OutOfMemory) → now.store_faults ≡ before.store_faults → alone now ≡ alone before → Ended (does_by AsksNothing are_these may_take) before now 5
   ended_lost left good same =
       ended_before AsksNothing are_these may_take before now 5 (inr refl) (λ three. absurd (omega arith)) (λ other. good) (λ three. absurd (omega arith)) (λ five. wrote_first before.kept now.kept left)
       (ap (λ s. s.told) same) (ap (λ s. s.sink_faults) same) (ap (λ s. s.log) same) (ap (λ s. s.link_faults) same) (ap (λ s. s.is_faithful) same)

@@ -6,8 +6,10 @@ mod Kept
 mod Lacking
 mod Laying
 mod LineAt
+mod OneRun
 mod Phrases
 mod Takes
 mod Unread
 mod ones
 mod schemas
+mod some

@@ -3,4 +3,5 @@ pub mod Acting
 pub mod Answers
 pub mod Freezing
 pub mod Meanings
+pub mod Unread
 pub mod Witnessing

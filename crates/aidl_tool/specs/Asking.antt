@@ -3,8 +3,8 @@ use Rattle.std.specs.Prelude.{◌≡◌, ℕ, List, Result, Ok, Err}
 use Rattle.aidl_base.specs.declared.limit.LimitName.TheVariants.{TextBytes}
 use Rattle.aidl_outside.specs.Files.{Files}
 use Rattle.aidl_tool.specs.InTree.{Checked}
-use Rattle.api_versions.specs.declared.fault.FreezeFault.{FreezeFault}
-use Rattle.api_versions.specs.declared.fault.FreezeFault.TheVariants as fault
+use Rattle.api_versions.specs.declared.fault.VersionsFault.{VersionsFault}
+use Rattle.api_versions.specs.declared.fault.VersionsFault.TheVariants as fault
 use Rattle.api_versions.specs.declared.version.Version.{Version}
 use Rattle.api_versions.specs.Versions.{version_folder, versions_at}
 use Rattle.ask_output.specs.Asked.{ask_answer}
@@ -38,16 +38,11 @@ abbrev pub AsksFile : Words → Found (List ℕ) → Found (List Version) → An
 AsksFile w file versions = Then (parcel_of file) (AsksParcel w versions)
 
 -- a limit of API comes at once, and a missing number is answered later; there is no other reason
-abbrev pub AsksOver : Words → Found (List ℕ) → Result (List Version) FreezeFault → Answer → Type 0
+abbrev pub AsksOver : Words → Found (List ℕ) → Result (List Version) VersionsFault → Answer → Type 0
 AsksOver w file (Ok versions) answer = AsksFile w file (Ok versions) answer
 AsksOver w file (Err (fault.BadVersions missing)) answer = AsksFile w file (Err (bad_versions missing)) answer
 AsksOver w file (Err (fault.Limit limit)) answer = answer ≡ limit_passed limit.which
-AsksOver w file (Err (fault.Torn version kept text)) answer = ⊥
-AsksOver w file (Err (fault.Unreadable version files cause)) answer = ⊥
-AsksOver w file (Err (fault.Unchanged version)) answer = ⊥
-AsksOver w file (Err (fault.Incompatible rows)) answer = ⊥
 AsksOver w file (Err fault.ReadFault) answer = ⊥
-AsksOver w file (Err fault.WriteFault) answer = ⊥
 AsksOver w file (Err fault.OutOfMemory) answer = ⊥
 
 -- `ask API N INTERFACE CODE FILE`: `no file`; the limits of API; those of FILE, with `not hexadecimal` between them; and then the rest

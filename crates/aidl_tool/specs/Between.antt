@@ -10,7 +10,7 @@ use Rattle.aidl_schema.specs.declared.schema.Decl.{Decl}
 use Rattle.aidl_tool.specs.Acting.{HasSchema}
 use Rattle.aidl_values.specs.Data.{Data, Items}
 use Rattle.call_runner.specs.Lines.{LineData, refused, transport, oneway, done}
-use Rattle.call_scripts.specs.Calls.{CallData, CallFits}
+use Rattle.call_scripts.specs.Calls.{CallData}
 use Rattle.call_scripts.specs.Script.{script}
 use Rattle.parcel_output.specs.Decode.{profile_of}
 use Rattle.run_output.specs.CallLines.{lines_of, within_lines}
@@ -49,12 +49,11 @@ pub record RunsBetween (words : Option Command) (before : Seen) (exit : ℕ) (fi
   pub one_follows : OneFollows A B
   pub verdict : IsVerdict exit
 
--- The line at k is a well-typed call. That it fits is no premise on the file: the clause `fits` of `script_of` says it of each call.
+-- The line at k is a well-typed call: what `script` takes for one fits (`law_script_fits` of `call_scripts`).
 pub record IsCallAt (A B : List Decl) (text : List ℕ) (k : ℕ) (c : CallData) : Type 0 where
   pub line : List ℕ
   pub there : slice_get (lines_of text) k ≡ Some line
   pub meant : script A B line ≡ Ok c
-  pub fits : CallFits A B c
 
 -- a call of such a run, by the schemas of CLIENT and of SERVER
 pub record CallRun (words : Option Command) (before : Seen) (exit : ℕ) (files : Files) : Type 0 where

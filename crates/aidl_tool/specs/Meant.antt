@@ -1,21 +1,16 @@
 -- What the words mean. They are unknown where they are in no row of the table of commands.
-use Rattle.std.specs.Prelude.{◌≡◌, ℕ, List, Option, Some, None}
-use Rattle.aidl_base.specs.declared.limit.LimitName.TheVariants.{TextBytes}
-use Rattle.aidl_base.specs.declared.profile.Profile.{Profile}
+use Rattle.std.specs.Prelude.{ℕ, List, Option, Some, None}
 use Rattle.aidl_base.specs.declared.source_file.SourceFile.{SourceFile}
-use Rattle.aidl_outside.specs.Asks.{AsksBelow, AsksFile, AsksOptional, ◌also◌}
 use Rattle.aidl_outside.specs.Files.{Files}
 use Rattle.tool_words.specs.Command.{Command, decode, encode, check, dump, explain, freeze, judge, rehash, run, verify, replay, ask, make, witness}
 use Rattle.tool_words.specs.Rows.{command_of}
 use Rattle.api_versions.specs.Asks.{AsksVersions}
-use Rattle.parcel_output.specs.Decode.{profile_of, decode_answer}
-use Rattle.parcel_output.specs.Encode.{encode_answer}
-use Rattle.parcel_output.specs.Refusals.{parcel_of}
+use Rattle.parcel_output.specs.Decode.{profile_of}
 use Rattle.tool_frame.specs.Acts.{acts_by}
-use Rattle.tool_frame.specs.Answer.{Answer, Found, Then}
+use Rattle.tool_frame.specs.Answer.{Answer}
+use Rattle.tool_frame.specs.Asks.{AsksOptional, AsksTree}
 use Rattle.tool_frame.specs.Meaning.{Meant, carries_by, reads_by}
 use Rattle.tool_frame.specs.Meaning.Meant.{unknown, means}
-use Rattle.tool_frame.specs.Refusals.{file_at, there}
 use Rattle.tool_frame.specs.Trees.{OverTree, tree_at}
 use Rattle.tree_output.specs.Checked.{IsCheckAnswer}
 use Rattle.tree_output.specs.Judged.{IsJudgeAnswer}
@@ -23,28 +18,13 @@ use Rattle.api_versions.specs.Versions.{versions_at}
 use Rattle.version_output.specs.Verified.{IsVerified}
 use Rattle.aidl_tool.specs.Asking.{AskAnswers}
 use Rattle.aidl_tool.specs.Acting.{DumpActs, FreezeActs, RehashActs}
-use Rattle.aidl_tool.specs.Explaining.{ExplainAnswers}
-use Rattle.aidl_tool.specs.InTree.{InTree}
+use Rattle.aidl_tool.specs.Due.{AsksCheckedThen, AsksFileThen, AsksTreeThen}
 use Rattle.aidl_tool.specs.Replaying.{ReplayAnswers}
 use Rattle.aidl_tool.specs.Making.{makes}
 use Rattle.aidl_tool.specs.Running.{RunTakes}
+use Rattle.aidl_tool.specs.Tasks.{TaskAnswers}
+use Rattle.aidl_tool.specs.declared.tasks.Task.TheVariants.{Decode, Encode, Explain}
 use Rattle.aidl_tool.specs.Witnessing.{WitnessAnswers}
-
--- of a file that is there: the limits of the tree's files; what refuses the bytes; all else of the tree; and the values
-abbrev pub DecodesFile : Profile → Option (List ℕ) → List ℕ → Files → Found (List ℕ) → Answer → Type 0
-DecodesFile p tree types files file = InTree tree files (λ schema. Then (parcel_of file) (λ parcel. schema (λ S answer. answer ≡ decode_answer p S types parcel)))
-
--- `decode [--lenient] [--tree TREE] TYPES FILE`
-abbrev pub DecodeAnswers : Profile → Option (List ℕ) → List ℕ → List ℕ → Files → Answer → Type 0
-DecodeAnswers p tree types path files = Then (there path (file_at TextBytes files path)) (DecodesFile p tree types files)
-
--- of a file that is there: the limits of the tree's files, and of the file; all else of the tree; and the parcel
-abbrev pub EncodesFile : Option (List ℕ) → List ℕ → Files → Found (List ℕ) → Answer → Type 0
-EncodesFile tree types files file = InTree tree files (λ schema. Then file (λ text. schema (λ S answer. answer ≡ encode_answer S types text)))
-
--- `encode [--tree TREE] TYPES FILE`
-abbrev pub EncodeAnswers : Option (List ℕ) → List ℕ → List ℕ → Files → Answer → Type 0
-EncodeAnswers tree types path files = Then (there path (file_at TextBytes files path)) (EncodesFile tree types files)
 
 -- `check TREE`
 abbrev pub CheckAnswers : List ℕ → Files → Answer → Type 0
@@ -64,19 +44,19 @@ VerifyAnswers api files = IsVerified (versions_at files api)
 
 -- the meaning of a command
 abbrev pub meaning : Command → Meant
-meaning (decode lenient tree types path) = means (reads_by (AsksFile path also AsksOptional tree) (DecodeAnswers (profile_of lenient) tree types path))
-meaning (encode tree types path) = means (reads_by (AsksFile path also AsksOptional tree) (EncodeAnswers tree types path))
-meaning (check tree) = means (reads_by (AsksBelow tree) (CheckAnswers tree))
-meaning (judge old new) = means (reads_by (AsksBelow old also AsksBelow new) (JudgeAnswers old new))
-meaning (witness old new) = means (reads_by (AsksBelow old also AsksBelow new) (WitnessAnswers old new))
+meaning (decode lenient tree types path) = means (reads_by (AsksFileThen path (AsksOptional tree)) (TaskAnswers (Decode (profile_of lenient)) tree types path))
+meaning (encode tree types path) = means (reads_by (AsksFileThen path (AsksOptional tree)) (TaskAnswers Encode tree types path))
+meaning (check tree) = means (reads_by (AsksTree tree) (CheckAnswers tree))
+meaning (judge old new) = means (reads_by (AsksTreeThen old (AsksTree new)) (JudgeAnswers old new))
+meaning (witness old new) = means (reads_by (AsksTreeThen old (AsksTree new)) (WitnessAnswers old new))
 meaning (verify api) = means (reads_by (AsksVersions api) (VerifyAnswers api))
-meaning (dump tree out) = means (acts_by (AsksBelow tree) (DumpActs tree out))
-meaning (freeze tree api) = means (acts_by (AsksBelow tree also AsksVersions api) (FreezeActs tree api))
+meaning (dump tree out) = means (acts_by (AsksTree tree) (DumpActs tree out))
+meaning (freeze tree api) = means (acts_by (AsksCheckedThen tree (AsksVersions api)) (FreezeActs tree api))
 meaning (rehash api) = means (acts_by (AsksVersions api) (RehashActs api))
-meaning (run trace lenient client server calls) = means (carries_by (AsksFile calls also AsksBelow client also AsksBelow server) (RunTakes (profile_of lenient) trace client server calls))
-meaning (explain tree types path) = means (reads_by (AsksFile path also AsksOptional tree) (ExplainAnswers tree types path))
-meaning (replay server interface trace) = means (reads_by (AsksFile trace also AsksBelow server) (ReplayAnswers server interface trace))
-meaning (ask api version interface code path) = means (reads_by (AsksFile path also AsksVersions api) (AskAnswers (record { api = api; version = version; interface = interface; code = code }) path))
+meaning (run trace lenient client server calls) = means (carries_by (AsksFileThen calls (AsksTreeThen client (AsksTree server))) (RunTakes (profile_of lenient) trace client server calls))
+meaning (explain tree types path) = means (reads_by (AsksFileThen path (AsksOptional tree)) (TaskAnswers Explain tree types path))
+meaning (replay server interface trace) = means (reads_by (AsksFileThen trace (AsksTree server)) (ReplayAnswers server interface trace))
+meaning (ask api version interface code path) = means (reads_by (AsksFileThen path (AsksVersions api)) (AskAnswers (record { api = api; version = version; interface = interface; code = code }) path))
 meaning (make count out) = means (makes count out)
 
 -- the meaning of the command that words are, if any

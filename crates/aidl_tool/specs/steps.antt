@@ -3,8 +3,8 @@ pub mod Answered
 pub mod Asking
 pub mod Carried
 pub mod Laying
-pub mod Left
 pub mod Loading
 pub mod Opens
 pub mod Preparing
 pub mod Tags
+pub mod Tasks

@@ -1,9 +1,9 @@
 //! The command `ask`: one request to a version of an API.
 ghost use Rattle.std.specs.Prelude.{◌≡◌, ℕ, List, Option, Ok, Err, IfOk};
-ghost use Rattle.aidl_outside.specs.Asks.{AsksFile, ◌also◌};
 ghost use Rattle.aidl_outside.specs.Causes.{StoreCause};
 ghost use Rattle.aidl_outside.specs.Faults.{StoreFaults};
 ghost use Rattle.aidl_outside.specs.Files.{Files};
+ghost use Rattle.aidl_tool.specs.Due.{AsksFileThen};
 ghost use Rattle.aidl_tool.specs.Outside.{seen_of};
 ghost use Rattle.aidl_tool.specs.steps.Answered.{AnswersBy, FailsAsking};
 ghost use Rattle.aidl_tool.specs.Asking as meant;
@@ -26,7 +26,7 @@ ghost use Rattle.version_lines.specs.Lines as lines;
 
 use aidl_base::{Limit, LimitName, Row, SourceFile, Text};
 use aidl_outside::{Link, Sink, Store, StoreFault};
-use api_versions::{FreezeFault, Version, version_folder, versions};
+use api_versions::{Version, VersionsFault, version_folder, versions};
 use ask_output::{Asked, ask_answer, version_found, whole_found};
 use parcel_output::parcel_of;
 use std::alloc::Global;
@@ -51,7 +51,7 @@ pub fn ask<S: Store, K: Sink, L: Link>(
     link: &L,
 ) -> Exit
     ensures { let seen = seen_of S.Store K.Sink L.Link in let question = question.entry in
-        Ended (reads_by (AsksFile question.path.now also AsksVersions question.api.now)
+        Ended (reads_by (AsksFileThen question.path.now (AsksVersions question.api.now))
         (meant.AskAnswers (words_seen question.api.now question.asked) question.path.now))
         (seen store.old sink.old link.now) (seen store.new sink.new link.now) (number_of result) }
 {
@@ -72,7 +72,7 @@ fn answered<S: Store>(
     ensures unchanged { S.kept store.new ≡ S.kept store.old }
     ensures cause { StoreCause (S.fault_record store.old) (S.fault_record store.new) result }
     ensures failed { FailsAsking (S.kept store.old) (S.fault_record store.new) result
-        (AsksFile path.now also AsksVersions api.now) }
+        (AsksFileThen path.now (AsksVersions api.now)) }
 {
     let file = load(alloc, LimitName::TextBytes, path, store)?;
     match existing_file(alloc, path, file) {
@@ -107,9 +107,8 @@ fn answered_of<S: Store>(
 fn without_versions(
     alloc: Global,
     file: Result<Vec<u8>, Limit>,
-    fault: FreezeFault,
+    fault: VersionsFault,
 ) -> Result<Result<Printed, Early>, StoreFault>
-    requires { (before : StoreFaults) × (now : StoreFaults) × ReadFaultCause before now fault }
     ensures given { (w : Words) → IfOk result
         (λ given. GivesOne given (meant.AsksOver w (held file) (Err fault))) }
     ensures cause { (before now : StoreFaults) → ReadFaultCause before now fault
@@ -119,15 +118,10 @@ fn without_versions(
         → FailsAsking kept faults result (AsksVersions api) }
 {
     match fault {
-        FreezeFault::BadVersions { missing } => { Ok(answer_missing(alloc, file, missing)) }
-        FreezeFault::Limit(limit) => Ok(Err(limit_passed(alloc, limit))),
-        FreezeFault::ReadFault => Err(StoreFault::Failed),
-        FreezeFault::OutOfMemory => Err(StoreFault::OutOfMemory),
-        FreezeFault::Torn { .. } => unreachable!(),
-        FreezeFault::Unreadable { .. } => unreachable!(),
-        FreezeFault::Unchanged { .. } => unreachable!(),
-        FreezeFault::Incompatible(_) => unreachable!(),
-        FreezeFault::WriteFault => unreachable!(),
+        VersionsFault::BadVersions { missing } => Ok(answer_missing(alloc, file, missing)),
+        VersionsFault::Limit(limit) => Ok(Err(limit_passed(alloc, limit))),
+        VersionsFault::ReadFault => Err(StoreFault::Failed),
+        VersionsFault::OutOfMemory => Err(StoreFault::OutOfMemory),
     }
 }
 

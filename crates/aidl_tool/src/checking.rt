@@ -1,10 +1,10 @@
 //! The command `check`: whether the tree of a folder breaks a rule.
 ghost use Rattle.std.specs.Prelude.{◌≡◌};
-ghost use Rattle.aidl_outside.specs.Asks.{AsksBelow};
 ghost use Rattle.aidl_outside.specs.Causes.{StoreCause};
 ghost use Rattle.aidl_tool.specs.Outside.{seen_of};
 ghost use Rattle.aidl_tool.specs.steps.Answered.{AnswersBy, FailsAsking};
 ghost use Rattle.aidl_tool.specs.Meant.{CheckAnswers};
+ghost use Rattle.tool_frame.specs.Asks.{AsksTree};
 ghost use Rattle.tool_frame.specs.Ended.{Ended};
 ghost use Rattle.tool_frame.specs.Exit.{number_of};
 ghost use Rattle.tool_frame.specs.Meaning.{reads_by};
@@ -27,7 +27,7 @@ pub fn check<S: Store, K: Sink, L: Link>(
     link: &L,
 ) -> Exit
     ensures { let seen = seen_of S.Store K.Sink L.Link in
-        Ended (reads_by (AsksBelow root.now) (CheckAnswers root.now))
+        Ended (reads_by (AsksTree root.now) (CheckAnswers root.now))
         (seen store.old sink.old link.now) (seen store.new sink.new link.now) (number_of result) }
 {
     let answered = answered(alloc, root, store);
@@ -44,7 +44,7 @@ fn answered<S: Store>(
     ensures unchanged { S.kept store.new ≡ S.kept store.old }
     ensures cause { StoreCause (S.fault_record store.old) (S.fault_record store.new) result }
     ensures failed { FailsAsking (S.kept store.old) (S.fault_record store.new) result
-        (AsksBelow root.now) }
+        (AsksTree root.now) }
 {
     let tree = load_tree(alloc, root, store)?;
     Ok(answer_of(alloc, root, tree))

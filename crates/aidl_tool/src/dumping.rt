@@ -1,19 +1,11 @@
 //! The command `dump`: the canonical dump of a tree, written below a folder.
-ghost use Rattle.std.specs.Prelude.{List, Option, Err, map};
-ghost use Rattle.aidl_outside.specs.Asks.{AsksBelow, AsksNothing};
-ghost use Rattle.aidl_outside.specs.Faults.{StoreFaults};
+ghost use Rattle.aidl_outside.specs.Asks.{AsksNothing};
 ghost use Rattle.aidl_outside.specs.Causes.{StoreCause};
-ghost use Rattle.aidl_outside.specs.Files.{Files};
-ghost use Rattle.aidl_outside.specs.Writes as outside;
 ghost use Rattle.aidl_tool.specs.Outside.{seen_of};
 ghost use Rattle.aidl_tool.specs.Acting.{DumpActs};
-ghost use Rattle.aidl_tool.specs.steps.Left.{LeftBy};
-ghost use Rattle.api_versions.specs.Causes.{FaultCause};
-ghost use Rattle.api_versions.specs.Writes.{Left};
-ghost use Rattle.api_versions.specs.Early.{IsLate};
-ghost use Rattle.api_versions.specs.Seen.{write_seen};
 ghost use Rattle.version_output.specs.Dumped.{Dumps};
 ghost use Rattle.tool_frame.specs.Acts.{acts_by};
+ghost use Rattle.tool_frame.specs.Asks.{AsksTree};
 ghost use Rattle.tool_frame.specs.Ended.{Ended};
 ghost use Rattle.tool_frame.specs.Exit.{number_of};
 ghost use Rattle.tool_frame.specs.steps.Acts.{ActsAs};
@@ -21,7 +13,7 @@ ghost use Rattle.tool_frame.specs.steps.Acts.{ActsAs};
 use crate::opening::open;
 use aidl_outside::{Link, Sink, Store, StoreFault};
 use aidl_schema::Schema;
-use api_versions::{FreezeFault, Write, write_all};
+use api_versions::write_all;
 use std::alloc::Global;
 use tool_frame::{Early, Exit, Printed, end};
 use version_output::dump_answer;
@@ -36,7 +28,7 @@ pub fn dump<S: Store, K: Sink, L: Link>(
     link: &L,
 ) -> Exit
     ensures { let seen = seen_of S.Store K.Sink L.Link in
-        Ended (acts_by (AsksBelow tree.now) (DumpActs tree.now out.now))
+        Ended (acts_by (AsksTree tree.now) (DumpActs tree.now out.now))
         (seen store.old sink.old link.now) (seen store.new sink.new link.now) (number_of result) }
 {
     let answered = answered(alloc, tree, out, store);
@@ -50,7 +42,7 @@ fn answered<S: Store>(
     out: &str,
     store: &mut S,
 ) -> Result<Result<Printed, Early>, StoreFault>
-    ensures acts { ActsAs (AsksBelow tree.now) (DumpActs tree.now out.now)
+    ensures acts { ActsAs (AsksTree tree.now) (DumpActs tree.now out.now)
         (S.kept store.old) (S.kept store.new) (S.fault_record store.new) result }
     ensures cause { StoreCause (S.fault_record store.old) (S.fault_record store.new) result }
 {
@@ -75,42 +67,8 @@ fn write_dump<S: Store>(
     let Ok(due) = dump_answer(alloc, out, schema) else {
         return Ok(Err(Early::OutOfMemory));
     };
-    match write_due(alloc, due.writes.as_slice(), store) {
+    match write_all(alloc, due.writes.as_slice(), store) {
         Ok(()) => Ok(Ok(due.printed)),
         Err(fault) => Err(fault),
-    }
-}
-
-// Makes the writes that are due.
-fn write_due<S: Store>(alloc: Global, writes: &[Write], store: &mut S) -> Result<(), StoreFault>
-    ensures wrote { LeftBy (map write_seen writes.now)
-        (S.kept store.old) (S.kept store.new) (S.fault_record store.new) result }
-    ensures cause { StoreCause (S.fault_record store.old) (S.fault_record store.new) result }
-{
-    match write_all(alloc, writes, store) {
-        Ok(()) => Ok(()),
-        Err(fault) => Err(store_fault(fault)),
-    }
-}
-
-// Why the writes ended before the last.
-fn store_fault(fault: FreezeFault) -> StoreFault
-    requires { IsLate fault }
-    ensures wrote { (writes : List outside.Write) (before now : Option Files) (faults : StoreFaults)
-        → Left {A = Unit {0}} writes before now faults (Err fault)
-        → LeftBy {A = Unit {0}} writes before now faults (Err result) }
-    ensures cause { (before now : StoreFaults) → FaultCause before now fault
-        → StoreCause {T = Unit {0}} before now (Err result) }
-{
-    match fault {
-        FreezeFault::WriteFault => StoreFault::Failed,
-        FreezeFault::OutOfMemory => StoreFault::OutOfMemory,
-        FreezeFault::BadVersions { .. } => unreachable!(),
-        FreezeFault::Torn { .. } => unreachable!(),
-        FreezeFault::Unreadable { .. } => unreachable!(),
-        FreezeFault::Unchanged { .. } => unreachable!(),
-        FreezeFault::Incompatible(_) => unreachable!(),
-        FreezeFault::Limit(_) => unreachable!(),
-        FreezeFault::ReadFault => unreachable!(),
     }
 }

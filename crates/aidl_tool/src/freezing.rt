@@ -1,8 +1,8 @@
 //! The command `freeze`: a tree as the next version of an API.
-ghost use Rattle.aidl_outside.specs.Asks.{AsksBelow, ◌also◌};
 ghost use Rattle.aidl_outside.specs.Causes.{StoreCause};
 ghost use Rattle.aidl_tool.specs.Outside.{seen_of};
 ghost use Rattle.aidl_tool.specs.Acting.{FreezeActs};
+ghost use Rattle.aidl_tool.specs.Due.{AsksCheckedThen};
 ghost use Rattle.api_versions.specs.Asks.{AsksVersions};
 ghost use Rattle.api_versions.specs.Versions.{versions_at};
 ghost use Rattle.version_output.specs.Frozen.{Freezes};
@@ -28,7 +28,8 @@ pub fn freeze<S: Store, K: Sink, L: Link>(
     link: &L,
 ) -> Exit
     ensures { let seen = seen_of S.Store K.Sink L.Link in
-        Ended (acts_by (AsksBelow tree.now also AsksVersions api.now) (FreezeActs tree.now api.now))
+        Ended (acts_by (AsksCheckedThen tree.now (AsksVersions api.now))
+        (FreezeActs tree.now api.now))
         (seen store.old sink.old link.now) (seen store.new sink.new link.now) (number_of result) }
 {
     let answered = answered(alloc, tree, api, store);
@@ -42,7 +43,7 @@ fn answered<S: Store>(
     api: &str,
     store: &mut S,
 ) -> Result<Result<Printed, Early>, StoreFault>
-    ensures acts { ActsAs (AsksBelow tree.now also AsksVersions api.now)
+    ensures acts { ActsAs (AsksCheckedThen tree.now (AsksVersions api.now))
         (FreezeActs tree.now api.now)
         (S.kept store.old) (S.kept store.new) (S.fault_record store.new) result }
     ensures cause { StoreCause (S.fault_record store.old) (S.fault_record store.new) result }

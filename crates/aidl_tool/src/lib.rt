@@ -3,10 +3,7 @@
 
 mod asking;
 mod checking;
-mod decoding;
 mod dumping;
-mod encoding;
-mod explaining;
 mod freezing;
 mod judging;
 mod laws;
@@ -15,10 +12,10 @@ mod opening;
 mod rehashing;
 mod replaying;
 mod running;
+mod tasks;
 mod top;
-mod typed_file;
 mod verifying;
 mod witnessing;
 
-pub use laws::{law_one_act, law_one_meaning};
+pub use laws::{law_one_act, law_one_meaning, law_one_run, law_some_meaning};
 pub use top::aidl;

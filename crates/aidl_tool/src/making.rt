@@ -7,7 +7,7 @@ ghost use Rattle.aidl_tool.specs.Outside.{seen_of};
 ghost use Rattle.aidl_tool.specs.steps.Carried.{carried_of};
 ghost use Rattle.aidl_tool.specs.Making.{file_write, makes};
 ghost use Rattle.aidl_tool.specs.steps.Laying.{IsLaid, TakesLaid, TakesMade, laid_writes, tree_writes};
-ghost use Rattle.aidl_tool.specs.steps.Left.{LeftBy};
+ghost use Rattle.api_versions.specs.Writes.{Left};
 ghost use Rattle.aidl_tool.specs.steps.Loading.{RanSome};
 ghost use Rattle.tool_frame.specs.Course.{Course};
 ghost use Rattle.tool_frame.specs.Ended.{Ended};
@@ -93,7 +93,7 @@ fn make_laid<S: Store, K: Sink, L: Link>(
 
 // Writes the calls file, and then both trees.
 fn write_laid<S: Store>(alloc: Global, laid: &Laid, store: &mut S) -> Result<(), StoreFault>
-    ensures wrote { LeftBy (laid_writes laid.now)
+    ensures wrote { Left (laid_writes laid.now)
         (S.kept store.old) (S.kept store.new) (S.fault_record store.new) result }
     ensures cause { StoreCause (S.fault_record store.old) (S.fault_record store.new) result }
 {
@@ -107,7 +107,7 @@ fn write_laid<S: Store>(alloc: Global, laid: &Laid, store: &mut S) -> Result<(),
 
 // Writes the newer tree, and then the older one.
 fn write_trees<S: Store>(alloc: Global, laid: &Laid, store: &mut S) -> Result<(), StoreFault>
-    ensures wrote { LeftBy (tree_writes laid.now)
+    ensures wrote { Left (tree_writes laid.now)
         (S.kept store.old) (S.kept store.new) (S.fault_record store.new) result }
     ensures cause { StoreCause (S.fault_record store.old) (S.fault_record store.new) result }
 {
@@ -128,7 +128,7 @@ fn write_tree<S: Store>(
     files: &[SourceFile],
     store: &mut S,
 ) -> Result<(), StoreFault>
-    ensures wrote { LeftBy (map (file_write root.now) (map file_seen files.now))
+    ensures wrote { Left (map (file_write root.now) (map file_seen files.now))
         (S.kept store.old) (S.kept store.new) (S.fault_record store.new) result }
     ensures cause { StoreCause (S.fault_record store.old) (S.fault_record store.new) result }
 {

@@ -1,9 +1,9 @@
 //! Opening a tree for a command: its files, loaded from a store and checked.
 ghost use Rattle.std.specs.Prelude.{◌≡◌};
-ghost use Rattle.aidl_outside.specs.Asks.{AsksBelow};
 ghost use Rattle.aidl_outside.specs.Causes.{StoreCause};
 ghost use Rattle.aidl_tool.specs.steps.Answered.{FailsAsking, IfTold};
 ghost use Rattle.aidl_tool.specs.steps.Opens.{Opens};
+ghost use Rattle.tool_frame.specs.Asks.{AsksTree};
 ghost use Rattle.tool_frame.specs.Trees.{tree_at, tree_seen};
 
 use aidl_base::{Limit, Row, SourceFile};
@@ -24,7 +24,7 @@ pub fn open<S: Store>(
     ensures unchanged { S.kept store.new ≡ S.kept store.old }
     ensures cause { StoreCause (S.fault_record store.old) (S.fault_record store.new) result }
     ensures failed { FailsAsking (S.kept store.old) (S.fault_record store.new) result
-        (AsksBelow root.now) }
+        (AsksTree root.now) }
 {
     let tree = load_tree(alloc, root, store)?;
     Ok(open_loaded(alloc, root, tree))

@@ -1,13 +1,14 @@
 //! The command `replay`: the requests of a trace, answered again by the interface of another tree.
 ghost use Rattle.std.specs.Prelude.{◌≡◌};
-ghost use Rattle.aidl_outside.specs.Asks.{AsksBelow, AsksFile, ◌also◌};
 ghost use Rattle.aidl_outside.specs.Causes.{StoreCause};
+ghost use Rattle.aidl_tool.specs.Due.{AsksFileThen};
 ghost use Rattle.aidl_tool.specs.Outside.{seen_of};
 ghost use Rattle.aidl_tool.specs.steps.Answered.{AnswersBy, FailsAsking};
 ghost use Rattle.aidl_tool.specs.InTree.{Checked};
 ghost use Rattle.aidl_tool.specs.Replaying.{ReplayAnswers, ReplaysFile, ReplaysLoaded, trace_within};
 ghost use Rattle.replay_output.specs.Replaying.{replay_answer};
 ghost use Rattle.tool_frame.specs.Answer.{Then};
+ghost use Rattle.tool_frame.specs.Asks.{AsksTree};
 ghost use Rattle.tool_frame.specs.Ended.{Ended};
 ghost use Rattle.tool_frame.specs.Exit.{number_of};
 ghost use Rattle.tool_frame.specs.Meaning.{reads_by};
@@ -38,7 +39,7 @@ pub fn replay<S: Store, K: Sink, L: Link>(
     link: &L,
 ) -> Exit
     ensures { let seen = seen_of S.Store K.Sink L.Link in let asked = asked.entry in
-        Ended (reads_by (AsksFile asked.trace.now also AsksBelow asked.server.now)
+        Ended (reads_by (AsksFileThen asked.trace.now (AsksTree asked.server.now))
         (ReplayAnswers asked.server.now asked.interface.now asked.trace.now))
         (seen store.old sink.old link.now) (seen store.new sink.new link.now) (number_of result) }
 {
@@ -59,7 +60,7 @@ fn answered<S: Store>(
     ensures unchanged { S.kept store.new ≡ S.kept store.old }
     ensures cause { StoreCause (S.fault_record store.old) (S.fault_record store.new) result }
     ensures failed { FailsAsking (S.kept store.old) (S.fault_record store.new) result
-        (AsksFile trace.now also AsksBelow server.now) }
+        (AsksFileThen trace.now (AsksTree server.now)) }
 {
     let file = load(alloc, LimitName::TextBytes, trace, store)?;
     match existing_file(alloc, trace, file) {
@@ -81,7 +82,7 @@ fn answered_of<S: Store>(
     ensures unchanged { S.kept store.new ≡ S.kept store.old }
     ensures cause { StoreCause (S.fault_record store.old) (S.fault_record store.new) result }
     ensures failed { FailsAsking (S.kept store.old) (S.fault_record store.new) result
-        (AsksBelow server.now) }
+        (AsksTree server.now) }
 {
     let tree = load_tree(alloc, server, store)?;
     Ok(answer_in(alloc, server, interface, tree, file))

@@ -1,9 +1,9 @@
 //! The command `run`: the calls of a file between a client's tree and a server's.
 ghost use Rattle.std.specs.Prelude.{◌≡◌, Bool, Some, List, map, IfErr, IfOk};
-ghost use Rattle.aidl_outside.specs.Asks.{AsksBelow, AsksFile, ◌also◌};
 ghost use Rattle.aidl_outside.specs.Causes.{StoreCause};
 ghost use Rattle.aidl_outside.specs.Told.{Tells};
 ghost use Rattle.aidl_schema.specs.declared.schema.Decl.{Decl};
+ghost use Rattle.aidl_tool.specs.Due.{AsksFileThen, AsksTreeThen};
 ghost use Rattle.aidl_tool.specs.Outside.{seen_of};
 ghost use Rattle.aidl_tool.specs.steps.Carried.{carried_of};
 ghost use Rattle.aidl_tool.specs.steps.Answered.{FailsAsking, IfTold};
@@ -17,6 +17,7 @@ ghost use Rattle.parcel_output.specs.Decode.{profile_of};
 ghost use Rattle.run_output.specs.CallLines.{lines_of};
 ghost use Rattle.run_output.specs.Projected.{projected_text};
 ghost use Rattle.run_output.specs.Running.{run_course};
+ghost use Rattle.tool_frame.specs.Asks.{AsksTree};
 ghost use Rattle.tool_frame.specs.Ended.{Ended};
 ghost use Rattle.tool_frame.specs.Exit.{number_of};
 ghost use Rattle.tool_frame.specs.Meaning.{carries_by};
@@ -30,6 +31,7 @@ ghost use Rattle.type_check.specs.Checked.{IsSchemaOf};
 use aidl_base::{Limit, LimitName, Profile, Row, SourceFile};
 use aidl_outside::{Link, Sink, Store, StoreFault};
 use aidl_schema::Schema;
+use call_scripts::law_script_fits;
 use run_output::{Session, lines_within, run_trees};
 use std::alloc::Global;
 use tool_frame::{Early, Exit, existing_file, files_of, load, load_tree, print, text_of};
@@ -58,7 +60,8 @@ pub fn run<S: Store, K: Sink, L: Link>(
 ) -> Exit
     ensures ends { let seen = seen_of S.Store K.Sink L.Link in let asked = asked.entry in
         Ended (carries_by
-        (AsksFile asked.calls.now also AsksBelow asked.client.now also AsksBelow asked.server.now)
+        (AsksFileThen asked.calls.now
+        (AsksTreeThen asked.client.now (AsksTree asked.server.now)))
         (RunTakes asked.profile asked.trace asked.client.now asked.server.now asked.calls.now))
         (seen store.old sink.old link.old) (seen store.new sink.new link.new) (number_of result) }
     ensures headline { let seen = seen_of S.Store K.Sink L.Link in let asked = asked.entry in
@@ -111,7 +114,7 @@ fn load_calls<'a, S: Store>(
     ensures unchanged { S.kept store.new ≡ S.kept store.old }
     ensures cause { StoreCause (S.fault_record store.old) (S.fault_record store.new) result }
     ensures failed { FailsAsking (S.kept store.old) (S.fault_record store.new) result
-        (AsksFile calls.now also AsksBelow client.entry.now also AsksBelow server.entry.now) }
+        (AsksFileThen calls.now (AsksTreeThen client.entry.now (AsksTree server.entry.now))) }
 {
     let file = load(alloc, LimitName::TextBytes, calls, store)?;
     match existing_file(alloc, calls, file) {
@@ -137,7 +140,7 @@ fn load_trees<'a, S: Store>(
     ensures unchanged { S.kept store.new ≡ S.kept store.old }
     ensures cause { StoreCause (S.fault_record store.old) (S.fault_record store.new) result }
     ensures failed { FailsAsking (S.kept store.old) (S.fault_record store.new) result
-        (AsksBelow client.entry.now also AsksBelow server.entry.now) }
+        (AsksTreeThen client.entry.now (AsksTree server.entry.now)) }
 {
     let tree = load_tree(alloc, client, store)?;
     match files_of(alloc, tree) {
@@ -168,7 +171,7 @@ fn load_server<'a, S: Store>(
     ensures unchanged { S.kept store.new ≡ S.kept store.old }
     ensures cause { StoreCause (S.fault_record store.old) (S.fault_record store.new) result }
     ensures failed { FailsAsking (S.kept store.old) (S.fault_record store.new) result
-        (AsksBelow server.entry.now) }
+        (AsksTree server.entry.now) }
 {
     let tree = load_tree(alloc, server, store)?;
     match files_of(alloc, tree) {
@@ -283,6 +286,7 @@ fn run_both<K: Sink, L: Link>(
         (seen sink.old link.old) (seen sink.new link.new) (number_of result) }
 {
     law_call_none(&run.client, &run.server);
+    law_script_fits(&run.client, &run.server);
     let calls = run.text.as_slice();
     let session = Session {
         profile,

@@ -12,17 +12,14 @@ ghost use Rattle.tool_frame.specs.Exit.{number_of};
 
 use crate::asking::{Question, ask};
 use crate::checking::check;
-use crate::decoding::decode;
 use crate::dumping::dump;
-use crate::encoding::encode;
-use crate::explaining::explain;
 use crate::freezing::freeze;
 use crate::judging::judge;
 use crate::making::make;
 use crate::rehashing::rehash;
 use crate::replaying::{Asked as AskedReplay, replay};
 use crate::running::{Asked as AskedRun, run};
-use crate::typed_file::TypedFile;
+use crate::tasks::{Task, TypedFile, run_task};
 use crate::verifying::verify;
 use crate::witnessing::witness;
 use aidl_base::Profile;
@@ -99,12 +96,13 @@ fn carry_out<S: Store, K: Sink, L: Link>(
             types,
             file,
         } => {
+            let task = Task::Decode(profile_of(lenient));
             let asked = TypedFile {
                 tree,
                 types,
                 path: file,
             };
-            decode(alloc, profile_of(lenient), asked, store, sink, link)
+            run_task(alloc, task, asked, store, sink, link)
         }
         Command::Encode { tree, types, file } => {
             let asked = TypedFile {
@@ -112,7 +110,7 @@ fn carry_out<S: Store, K: Sink, L: Link>(
                 types,
                 path: file,
             };
-            encode(alloc, asked, store, sink, link)
+            run_task(alloc, Task::Encode, asked, store, sink, link)
         }
         Command::Check { tree } => check(alloc, tree, store, sink, link),
         Command::Dump { tree, out } => dump(alloc, tree, out, store, sink, link),
@@ -162,7 +160,7 @@ fn carry_out<S: Store, K: Sink, L: Link>(
                 types,
                 path: file,
             };
-            explain(alloc, asked, store, sink, link)
+            run_task(alloc, Task::Explain, asked, store, sink, link)
         }
         Command::Replay {
             server,

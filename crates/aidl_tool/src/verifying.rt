@@ -12,10 +12,10 @@ ghost use Rattle.tool_frame.specs.Ended.{Ended};
 ghost use Rattle.tool_frame.specs.Exit.{number_of};
 ghost use Rattle.tool_frame.specs.Meaning.{reads_by};
 ghost use Rattle.tool_frame.specs.Results.{GivesOne};
-ghost use Rattle.version_output.specs.Verified.{IsUnread};
+ghost use Rattle.version_lines.specs.Lines.{IsUnread};
 
 use aidl_outside::{Link, Sink, Store, StoreFault};
-use api_versions::{FreezeFault, versions};
+use api_versions::{VersionsFault, versions};
 use std::alloc::Global;
 use tool_frame::{Early, Exit, Printed, end, limit_passed};
 use version_lines::bad_versions;
@@ -56,8 +56,7 @@ fn answered<S: Store>(
 }
 
 // What is answered where the versions aren't read.
-fn unread(alloc: Global, fault: FreezeFault) -> Result<Result<Printed, Early>, StoreFault>
-    requires { (before : StoreFaults) × (now : StoreFaults) × ReadFaultCause before now fault }
+fn unread(alloc: Global, fault: VersionsFault) -> Result<Result<Printed, Early>, StoreFault>
     ensures given { IfOk result (λ given. GivesOne given (IsUnread fault)) }
     ensures cause { (before now : StoreFaults) → ReadFaultCause before now fault
         → StoreCause before now result }
@@ -66,14 +65,9 @@ fn unread(alloc: Global, fault: FreezeFault) -> Result<Result<Printed, Early>, S
         → FailsAsking kept faults result (AsksVersions api) }
 {
     match fault {
-        FreezeFault::BadVersions { missing } => Ok(Err(bad_versions(alloc, missing))),
-        FreezeFault::Limit(limit) => Ok(Err(limit_passed(alloc, limit))),
-        FreezeFault::ReadFault => Err(StoreFault::Failed),
-        FreezeFault::OutOfMemory => Err(StoreFault::OutOfMemory),
-        FreezeFault::Torn { .. } => unreachable!(),
-        FreezeFault::Unreadable { .. } => unreachable!(),
-        FreezeFault::Unchanged { .. } => unreachable!(),
-        FreezeFault::Incompatible(_) => unreachable!(),
-        FreezeFault::WriteFault => unreachable!(),
+        VersionsFault::BadVersions { missing } => Ok(Err(bad_versions(alloc, missing))),
+        VersionsFault::Limit(limit) => Ok(Err(limit_passed(alloc, limit))),
+        VersionsFault::ReadFault => Err(StoreFault::Failed),
+        VersionsFault::OutOfMemory => Err(StoreFault::OutOfMemory),
     }
 }

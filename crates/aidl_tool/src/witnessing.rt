@@ -1,10 +1,11 @@
 //! The command `witness`: the evolution rules that a new tree breaks, each with a call that shows it or the reason why none is shown.
 ghost use Rattle.std.specs.Prelude.{◌≡◌};
-ghost use Rattle.aidl_outside.specs.Asks.{AsksBelow, ◌also◌};
 ghost use Rattle.aidl_outside.specs.Causes.{StoreCause};
+ghost use Rattle.aidl_tool.specs.Due.{AsksTreeThen};
 ghost use Rattle.aidl_tool.specs.Outside.{seen_of};
 ghost use Rattle.aidl_tool.specs.steps.Answered.{AnswersBy, FailsAsking};
 ghost use Rattle.aidl_tool.specs.Witnessing.{WitnessAnswers, WitnessesSecond};
+ghost use Rattle.tool_frame.specs.Asks.{AsksTree};
 ghost use Rattle.tool_frame.specs.Ended.{Ended};
 ghost use Rattle.tool_frame.specs.Exit.{number_of};
 ghost use Rattle.tool_frame.specs.Meaning.{reads_by};
@@ -28,7 +29,7 @@ pub fn witness<S: Store, K: Sink, L: Link>(
     link: &L,
 ) -> Exit
     ensures { let seen = seen_of S.Store K.Sink L.Link in
-        Ended (reads_by (AsksBelow old.now also AsksBelow new.now) (WitnessAnswers old.now new.now))
+        Ended (reads_by (AsksTreeThen old.now (AsksTree new.now)) (WitnessAnswers old.now new.now))
         (seen store.old sink.old link.now) (seen store.new sink.new link.now) (number_of result) }
 {
     let answered = answered(alloc, old, new, store);
@@ -46,7 +47,7 @@ fn answered<S: Store>(
     ensures unchanged { S.kept store.new ≡ S.kept store.old }
     ensures cause { StoreCause (S.fault_record store.old) (S.fault_record store.new) result }
     ensures failed { FailsAsking (S.kept store.old) (S.fault_record store.new) result
-        (AsksBelow old.now also AsksBelow new.now) }
+        (AsksTreeThen old.now (AsksTree new.now)) }
 {
     let old_tree = load_tree(alloc, old, store)?;
     match files_of(alloc, old_tree) {
@@ -68,7 +69,7 @@ fn answered_of_second<S: Store>(
     ensures unchanged { S.kept store.new ≡ S.kept store.old }
     ensures cause { StoreCause (S.fault_record store.old) (S.fault_record store.new) result }
     ensures failed { FailsAsking (S.kept store.old) (S.fault_record store.new) result
-        (AsksBelow new.now) }
+        (AsksTree new.now) }
 {
     let tree = load_tree(alloc, new, store)?;
     Ok(answer_of(alloc, old, olds, new, tree))

@@ -2,6 +2,7 @@
 ghost use Rattle.std.specs.Prelude.{◌≡◌, true, map, IfOk};
 ghost use Rattle.aidl_schema.specs.Seen.{seen};
 ghost use Rattle.aidl_schema.specs.Types.{is_type};
+ghost use Rattle.aidl_values.specs.Data.{rec};
 ghost use Rattle.aidl_values.specs.Default.{IsZero, IsInitial, const_value, initial_by, initials_by, zero_of_form, zero_by, zero_within};
 ghost use Rattle.aidl_values.specs.Sound.{IsFieldOf, initial_in};
 ghost use Rattle.aidl_values.specs.View.{view, views};
@@ -11,6 +12,7 @@ use crate::value::Value;
 use aidl_base::{Const, OutOfMemory, Row, Text};
 use aidl_schema::{AidlType, Field, Form, Schema, Shape, form_in, law_valid};
 use std::alloc::Global;
+use std::rc::Rc;
 
 // The fuel of a default, of which each level of parts takes one. It never runs out: by E23 the defaults of a valid schema
 // have at most 32 levels.
@@ -87,7 +89,7 @@ fn default_of_form(
         Form::Truth => Ok(Value::Truth(false)),
         Form::Byte | Form::Char | Form::Int | Form::Long => Ok(Value::Number(0)),
         Form::Text => Ok(Value::Text(Text::empty())),
-        Form::Parcelable(fields) => Ok(Value::Rec(initials(alloc, schema, fields, levels)?)),
+        Form::Parcelable(fields) => shared(alloc, initials(alloc, schema, fields, levels)?),
         Form::Union([first, ..]) => {
             let value = initial(alloc, schema, first, levels)?;
             Ok(Value::Alt(0, Box::new(alloc, value)?))
@@ -95,6 +97,14 @@ fn default_of_form(
         // No type of a valid schema means a union without fields, or nothing.
         Form::Union([]) | Form::Nothing => Ok(Value::Null),
     }
+}
+
+// A record of values, which its copies share.
+fn shared(alloc: Global, values: Row<Value>) -> Result<Value, OutOfMemory>
+    ensures { IfOk result (λ v. view v ≡ rec (views values)) }
+{
+    let row = Rc::new(alloc, values)?;
+    Ok(Value::Short(Row::new(alloc), row))
 }
 
 #[cycle(default)]

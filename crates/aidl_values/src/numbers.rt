@@ -9,13 +9,13 @@ use std::marker::Model;
 
 /// Numbers of one width, which contracts see as a list: those of an array of byte, char, int, long or an enum. A byte takes one
 /// byte, a char two, an int four and a long eight.
-#[derive(Debug, Drop)]
+#[derive(Drop)]
 pub struct Numbers {
     row: NumberRow,
 }
 
 /// Numbers as they lie in memory; a byte as the 8 bits that it has in a parcel.
-#[derive(Debug, Drop)]
+#[derive(Drop)]
 pub enum NumberRow {
     Bytes(Vec<u8>),
     Chars(Vec<u16>),

@@ -1,7 +1,9 @@
 //! Values with their copies and depths, and the answers of handlers.
 ghost use Rattle.std.specs.Prelude.{◌≡◌, suc, min, map, IfOk};
-ghost use Rattle.aidl_values.specs.Data.{depth_of, greatest};
-ghost use Rattle.aidl_values.specs.View.{view, views};
+ghost use Rattle.std.specs.Rc.{rc_value};
+ghost use Rattle.aidl_values.specs.Data.{alt, depth_of, greatest, rec, seq, truth};
+ghost use Rattle.aidl_values.specs.FieldValues.{given_then};
+ghost use Rattle.aidl_values.specs.View.{items_of, view, views};
 
 use crate::field_values::FieldValues;
 use crate::numbers::Numbers;
@@ -11,7 +13,7 @@ use std::rc::Rc;
 
 /// A value of a type. A sequence whose elements are truth values or numbers may be kept in either of two forms, as values or side by side:
 /// they are the same data.
-#[derive(Debug, Drop)]
+#[derive(Drop)]
 pub enum Value {
     Null,
     Truth(bool),
@@ -52,21 +54,38 @@ fn copy(alloc: Global, value: &Value) -> Result<Value, OutOfMemory>
         Value::Number(n) => Ok(Value::Number(*n)),
         Value::Text(text) => Ok(Value::Text(text.try_clone(alloc)?)),
         Value::Seq(items) => Ok(Value::Seq(copy_items(alloc, items.as_slice())?)),
-        Value::Truths(truths) => {
-            let copied = truths.as_slice().to_vec(alloc)?;
-            Ok(Value::Truths(Row::from_vec(copied)))
-        }
+        Value::Truths(truths) => copy_truths(alloc, truths),
         Value::Numbers(numbers) => Ok(Value::Numbers(numbers.try_clone(alloc)?)),
         Value::Rec(items) => Ok(Value::Rec(copy_items(alloc, items.as_slice())?)),
         Value::Short(given, defaults) => {
             let copied = copy_items(alloc, given.as_slice())?;
-            Ok(Value::Short(copied, defaults.clone()?))
+            before_defaults(copied, defaults)
         }
         Value::Alt(tag, inner) => {
             let copied = copy(alloc, inner)?;
-            Ok(Value::Alt(*tag, Box::new(alloc, copied)?))
+            alternative(alloc, *tag, copied)
         }
     }
+}
+
+fn copy_truths(alloc: Global, truths: &Row<bool>) -> Result<Value, OutOfMemory>
+    ensures { IfOk result (λ v. view v ≡ seq (items_of (map truth truths.now))) }
+{
+    let copied = truths.as_slice().to_vec(alloc)?;
+    Ok(Value::Truths(Row::from_vec(copied)))
+}
+
+// A record of the given values and of those behind them, which it shares.
+fn before_defaults(given: Row<Value>, defaults: &Rc<Row<Value>>) -> Result<Value, OutOfMemory>
+    ensures { IfOk result (λ v. view v ≡ rec (views (given_then given (rc_value defaults.now)))) }
+{
+    Ok(Value::Short(given, defaults.clone()?))
+}
+
+fn alternative(alloc: Global, tag: u32, value: Value) -> Result<Value, OutOfMemory>
+    ensures { IfOk result (λ v. view v ≡ alt tag (view value)) }
+{
+    Ok(Value::Alt(tag, Box::new(alloc, value)?))
 }
 
 #[cycle(copy)]
@@ -81,7 +100,7 @@ fn copy_items(alloc: Global, values: &[Value]) -> Result<Row<Value>, OutOfMemory
 }
 
 /// What a handler answers. Of an answer that fits its method `error` is 0 unless `code` is -8, the service specific exception.
-#[derive(Debug, Drop)]
+#[derive(Drop)]
 pub enum Answer {
     Returned {
         result: Option<Value>,

@@ -14,7 +14,8 @@ use Rattle.aidl_schema.proofs.lemmas.BrokenSelf.{distinct_names}
 use Rattle.aidl_schema.proofs.lemmas.Valids.{all_hold, decls_apart}
 use Rattle.type_check.specs.Checked.{IsSchemaOf}
 use Rattle.type_check.proofs.lemmas.ValidOf.{schema_valid}
-use Rattle.api_versions.specs.declared.fault.FreezeFault.{FreezeFault}
+use Rattle.api_freeze.specs.declared.fault.FreezeFault.{FreezeFault}
+use Rattle.api_versions.specs.declared.fault.VersionsFault.{VersionsFault}
 use Rattle.api_versions.specs.declared.version.Version.{Version}
 use Rattle.api_freeze.specs.declared.freezing.Frozen.{Frozen}
 use Rattle.api_freeze.specs.Chains.{FollowsEach, FollowsEachAt, IsChain, IsItsSchema}
@@ -63,14 +64,19 @@ module _ (new : List Decl) (valid : IsValid new) where
       follows_each run (λ w on. let at : latest vs ≡ Some w = latest_of vs earlier run split w on in let same : v ≡ w = cc in subst (λ (u : Version). FollowsOne u new) same one)
   each_by_latest vs v (Err e) is one = tt
 
+  -- where there is none, no run has a schema
+  pub each_of_none : (vs : List Version) → latest vs ≡ None → FollowsEach vs new
+  each_of_none vs none = λ earlier run split.
+      follows_each run (λ w on. let at : latest vs ≡ Some w = latest_of vs earlier run split w on in absurd (cc))
+
 -- what is frozen follows each of the versions that are told
-follows_at : (api : List ℕ) (S : List Decl) (before now : Option Files) (faults : StoreFaults) (d : Result (List Version) FreezeFault) (r : Result Frozen FreezeFault)
+follows_at : (api : List ℕ) (S : List Decl) (before now : Option Files) (faults : StoreFaults) (d : Result (List Version) VersionsFault) (r : Result Frozen FreezeFault)
     → FreezesAt api d S before now faults r → IfOk r (λ x. FollowsEachAt d S)
 follows_at api S before now faults (Ok vs) (Ok x) (files, ready, version, hash, wrote) = ready.each
 follows_at api S before now faults (Err e) (Ok x) h = h
 follows_at api S before now faults d (Err e) h = tt
 
-pub follows_told : (api : List ℕ) (kept : Option Files) (defined : Files → Result (List Version) FreezeFault) (S : List Decl) (now : Option Files) (faults : StoreFaults)
+pub follows_told : (api : List ℕ) (kept : Option Files) (defined : Files → Result (List Version) VersionsFault) (S : List Decl) (now : Option Files) (faults : StoreFaults)
     (r : Result Frozen FreezeFault) → Tells kept (λ files. FreezesAt api (defined files) S (Some files) now faults r)
     → Tells kept (λ files. IfOk r (λ x. FollowsEachAt (defined files) S))
 follows_told api None defined S now faults r h = tt

@@ -2,5 +2,5 @@ mod Chains
 mod Failed
 mod Files
 mod Numbered
-mod RehashFaults
 mod Untold
+pub mod lemmas

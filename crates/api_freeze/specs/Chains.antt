@@ -4,7 +4,7 @@ use Rattle.std.specs.Prelude.{◌≡◌, List, [], ◌∷◌, ◌++◌, Result, 
 use Rattle.std.specs.List.{All, AllZip}
 use Rattle.aidl_schema.specs.declared.schema.Decl.{Decl}
 use Rattle.aidl_schema.specs.Broken.{broken}
-use Rattle.api_versions.specs.declared.fault.FreezeFault.{FreezeFault}
+use Rattle.api_versions.specs.declared.fault.VersionsFault.{VersionsFault}
 use Rattle.api_versions.specs.declared.version.Version.{Version}
 use Rattle.type_check.specs.Checked.{IsSchemaOf}
 
@@ -28,6 +28,6 @@ abbrev pub FollowsEach : List Version → List Decl → Type 0
 FollowsEach versions new = (earlier run : List Version) → earlier ++ run ≡ versions → FollowsRun run new
 
 -- the same of the versions that a store tells, which are there
-abbrev pub FollowsEachAt : Result (List Version) FreezeFault → List Decl → Type 0
+abbrev pub FollowsEachAt : Result (List Version) VersionsFault → List Decl → Type 0
 FollowsEachAt (Ok versions) new = FollowsEach versions new
 FollowsEachAt (Err refused) new = ⊥

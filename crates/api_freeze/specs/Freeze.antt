@@ -3,7 +3,7 @@ use Rattle.std.specs.Prelude.{◌≡◌, ◌≢◌, ℕ, ◌+◌, ◌≤◌, ◌
 use Rattle.aidl_base.specs.declared.limit.Limit.{Limit}
 use Rattle.aidl_base.specs.declared.limit.LimitName.TheVariants as limit
 use Rattle.aidl_base.specs.declared.source_file.SourceFile.{SourceFile}
-use Rattle.aidl_outside.specs.Faults.{FailedIn, StoreFaults}
+use Rattle.aidl_outside.specs.Faults.{StoreFaults}
 use Rattle.aidl_outside.specs.Files.{Files, path_below}
 use Rattle.aidl_schema.specs.declared.schema.Decl.{Decl}
 use Rattle.aidl_schema.specs.Broken.{broken}
@@ -17,13 +17,14 @@ use Rattle.type_check.specs.Checked.{IsSchemaOf}
 use Rattle.type_check.specs.Refusals.{IsRefusal}
 use Rattle.api_freeze.specs.declared.freezing.Frozen.{Frozen}
 use Rattle.api_freeze.specs.Chains.{FollowsEach}
-use Rattle.api_versions.specs.declared.fault.FreezeFault.{FreezeFault}
-use Rattle.api_versions.specs.declared.fault.FreezeFault.TheVariants as fault
+use Rattle.api_freeze.specs.declared.fault.FreezeFault.{FreezeFault}
+use Rattle.api_freeze.specs.declared.fault.FreezeFault.TheVariants as fault
+use Rattle.api_versions.specs.declared.fault.VersionsFault.{VersionsFault}
 use Rattle.api_versions.specs.declared.version.Version.{Version}
 use Rattle.api_versions.specs.Answers.{Refuses}
 use Rattle.api_versions.specs.Versions.{hash_path, version_folder}
-use Rattle.api_versions.specs.Whole.{all_whole}
-use Rattle.api_versions.specs.Writes.{FailedAt, Write, Wrote, WroteSome}
+use Rattle.api_versions.specs.Whole.{first_torn}
+use Rattle.api_versions.specs.Writes.{LeftAt, Write, Wrote}
 
 -- the version of the highest number
 abbrev pub latest : List Version → Option Version
@@ -63,15 +64,14 @@ Forbids (Some v) S (fault.Unchanged version) = (version ≡ v.number) × ((old :
 -- another dump, and broken rules
 Forbids (Some v) S (fault.Incompatible rows) = (old : List Decl) × IsSchemaOf v.files old × (dump_text old ≢ dump_text S) × (map break_of rows ≡ broken old S) × (rows ≢ [])
 Forbids (Some v) S fault.OutOfMemory = Unit {0}
-Forbids (Some v) S (fault.BadVersions missing) = ⊥
-Forbids (Some v) S (fault.Torn version kept text) = ⊥
-Forbids (Some v) S fault.ReadFault = ⊥
-Forbids (Some v) S fault.WriteFault = ⊥
+Forbids (Some v) S (fault.Versions e) = ⊥
+Forbids (Some v) S (fault.Torn torn) = ⊥
+Forbids (Some v) S (fault.Write e) = ⊥
 
 -- What holds before anything is written: each version is whole; the latest is no reason against it, so along a chain of versions up to the latest
 -- the schema follows each of them; the new number is at most 9,999; and the files are the schema's dump, and a checked tree with this schema.
 pub record Ready (vs : List Version) (S : List Decl) (files : List SourceFile) : Type 0 where
-  pub whole : all_whole vs ≡ Ok tt
+  pub whole : first_torn vs ≡ None
   pub follows : MayFollow (latest vs) S
   pub each : FollowsEach vs S
   pub few : next vs ≤ 9999
@@ -85,14 +85,13 @@ PassesLimit vs S l = ((9999 < next vs) × (l ≡ record { which = limit.Versions
 
 -- why it isn't frozen, of versions that are read: `Torn`; what forbids it; or a limit
 abbrev pub RefusedAs : List Version → List Decl → FreezeFault → Type 0
-RefusedAs vs S (fault.Torn version kept text) = all_whole vs ≡ Err (fault.Torn version kept text)
-RefusedAs vs S (fault.Unreadable version files cause) = (all_whole vs ≡ Ok tt) × Forbids (latest vs) S (fault.Unreadable version files cause)
-RefusedAs vs S (fault.Unchanged version) = (all_whole vs ≡ Ok tt) × Forbids (latest vs) S (fault.Unchanged version)
-RefusedAs vs S (fault.Incompatible rows) = (all_whole vs ≡ Ok tt) × Forbids (latest vs) S (fault.Incompatible rows)
-RefusedAs vs S (fault.Limit l) = (all_whole vs ≡ Ok tt) × (Forbids (latest vs) S (fault.Limit l) ⊎ (MayFollow (latest vs) S × PassesLimit vs S l))
-RefusedAs vs S (fault.BadVersions missing) = ⊥
-RefusedAs vs S fault.ReadFault = ⊥
-RefusedAs vs S fault.WriteFault = ⊥
+RefusedAs vs S (fault.Torn torn) = first_torn vs ≡ Some torn
+RefusedAs vs S (fault.Unreadable version files cause) = (first_torn vs ≡ None) × Forbids (latest vs) S (fault.Unreadable version files cause)
+RefusedAs vs S (fault.Unchanged version) = (first_torn vs ≡ None) × Forbids (latest vs) S (fault.Unchanged version)
+RefusedAs vs S (fault.Incompatible rows) = (first_torn vs ≡ None) × Forbids (latest vs) S (fault.Incompatible rows)
+RefusedAs vs S (fault.Limit l) = (first_torn vs ≡ None) × (Forbids (latest vs) S (fault.Limit l) ⊎ (MayFollow (latest vs) S × PassesLimit vs S l))
+RefusedAs vs S (fault.Versions e) = ⊥
+RefusedAs vs S (fault.Write e) = ⊥
 RefusedAs vs S fault.OutOfMemory = Unit {0}
 
 -- a file below a folder
@@ -106,23 +105,30 @@ version_writes api number files = map (file_write (version_folder api number)) f
 -- what is answered, what a store holds before and now, and its faults now, of versions that are read
 abbrev pub Freezes : List ℕ → List Version → List Decl → Option Files → Option Files → StoreFaults → Result Frozen FreezeFault → Type 0
 Freezes api vs S before now faults (Ok frozen) = (files : List SourceFile) × Ready vs S files × (frozen.version ≡ next vs) × (frozen.hash ≡ hash_digits files (next vs)) × Wrote (version_writes api (next vs) files) before now
-Freezes api vs S before now faults (Err fault.WriteFault) = (files : List SourceFile) × Ready vs S files × FailedIn faults (FailedAt (version_writes api (next vs) files) before now)
-Freezes api vs S before now faults (Err fault.OutOfMemory) = (now ≡ before) ⊎ ((files : List SourceFile) × Ready vs S files × WroteSome (version_writes api (next vs) files) before now)
-Freezes api vs S before now faults (Err (fault.Torn version kept text)) = (now ≡ before) × RefusedAs vs S (fault.Torn version kept text)
+Freezes api vs S before now faults (Err (fault.Write e)) = (files : List SourceFile) × Ready vs S files × LeftAt (version_writes api (next vs) files) before now faults e
+Freezes api vs S before now faults (Err (fault.Torn torn)) = (now ≡ before) × RefusedAs vs S (fault.Torn torn)
 Freezes api vs S before now faults (Err (fault.Unreadable version files cause)) = (now ≡ before) × RefusedAs vs S (fault.Unreadable version files cause)
 Freezes api vs S before now faults (Err (fault.Unchanged version)) = (now ≡ before) × RefusedAs vs S (fault.Unchanged version)
 Freezes api vs S before now faults (Err (fault.Incompatible rows)) = (now ≡ before) × RefusedAs vs S (fault.Incompatible rows)
 Freezes api vs S before now faults (Err (fault.Limit l)) = (now ≡ before) × RefusedAs vs S (fault.Limit l)
-Freezes api vs S before now faults (Err (fault.BadVersions missing)) = ⊥
-Freezes api vs S before now faults (Err fault.ReadFault) = now ≡ before
+-- they weren't read: the store failed, or memory was wanted
+Freezes api vs S before now faults (Err (fault.Versions e)) = (now ≡ before) × Refuses (Ok vs) e
+Freezes api vs S before now faults (Err fault.OutOfMemory) = now ≡ before
 
--- a refusal of versions that can't be read, which changes nothing, and comes before any write
-abbrev pub Unread : FreezeFault → Option Files → Option Files → Result Frozen FreezeFault → Type 0
-Unread r before now (Ok frozen) = ⊥
-Unread r before now (Err e) = (now ≡ before) × Refuses {A = Frozen} (Err r) e × (e ≢ fault.WriteFault)
+-- of versions that can't be read: nothing is changed
+abbrev pub Unread : VersionsFault → Option Files → Option Files → Result Frozen FreezeFault → Type 0
+Unread refused before now (Ok frozen) = ⊥
+Unread refused before now (Err (fault.Versions e)) = (now ≡ before) × Refuses {A = List Version} (Err refused) e
+Unread refused before now (Err (fault.Torn torn)) = ⊥
+Unread refused before now (Err (fault.Unreadable version files cause)) = ⊥
+Unread refused before now (Err (fault.Unchanged version)) = ⊥
+Unread refused before now (Err (fault.Incompatible rows)) = ⊥
+Unread refused before now (Err (fault.Limit l)) = ⊥
+Unread refused before now (Err (fault.Write e)) = ⊥
+Unread refused before now (Err fault.OutOfMemory) = ⊥
 
 -- of what a store tells
-abbrev pub FreezesAt : List ℕ → Result (List Version) FreezeFault → List Decl → Option Files → Option Files → StoreFaults → Result Frozen FreezeFault → Type 0
+abbrev pub FreezesAt : List ℕ → Result (List Version) VersionsFault → List Decl → Option Files → Option Files → StoreFaults → Result Frozen FreezeFault → Type 0
 FreezesAt api (Ok vs) S before now faults r = Freezes api vs S before now faults r
 FreezesAt api (Err refused) S before now faults r = Unread refused before now r
 

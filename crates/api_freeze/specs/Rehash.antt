@@ -1,14 +1,17 @@
 -- Writing hashes again: by recipe two, for each version that has another text (own).
-use Rattle.std.specs.Prelude.{ℕ, not, List, [], map, Result, Ok, Err}
+use Rattle.std.specs.Prelude.{◌≡◌, ℕ, not, List, [], map, Option, Some, None, Result, Ok, Err}
 use Rattle.std.specs.List.{filter}
-use Rattle.aidl_base.specs.Results.{◌>>=◌}
+use Rattle.aidl_outside.specs.Faults.{StoreFaults}
 use Rattle.aidl_outside.specs.Files.{Files}
-use Rattle.api_versions.specs.declared.fault.FreezeFault.{FreezeFault}
-use Rattle.api_versions.specs.declared.fault.FreezeFault.TheVariants as fault
+use Rattle.api_freeze.specs.declared.fault.RehashFault.{RehashFault}
+use Rattle.api_freeze.specs.declared.fault.RehashFault.TheVariants as fault
+use Rattle.api_versions.specs.declared.fault.VersionsFault.{VersionsFault}
+use Rattle.api_versions.specs.declared.fault.VersionsFault.TheVariants as read
 use Rattle.api_versions.specs.declared.version.Version.{Version}
+use Rattle.api_versions.specs.declared.whole.Torn.{Torn}
 use Rattle.api_versions.specs.Versions.{hash_path, versions_at}
-use Rattle.api_versions.specs.Whole.{all_whole, defined, is_current}
-use Rattle.api_versions.specs.Writes.{Write}
+use Rattle.api_versions.specs.Whole.{defined, first_torn, is_current}
+use Rattle.api_versions.specs.Writes.{LeftAt, Write, Wrote}
 
 -- the versions whose `.hash` hasn't the text of the second recipe
 abbrev pub stale : List Version → List Version
@@ -26,40 +29,62 @@ hash_writes api vs = map (hash_write api) (stale vs)
 abbrev pub stale_numbers : List Version → List ℕ
 stale_numbers vs = map (λ (v : Version). v.number) (stale vs)
 
--- the numbers that are answered for some versions, where each is whole
-abbrev pub rehash_of : List Version → Result (List ℕ) FreezeFault
-rehash_of vs = do
-  _ ← all_whole vs
-  Ok (stale_numbers vs)
+-- the numbers that are answered for versions of which the first, if any, isn't whole
+abbrev pub numbers_or : Option Torn → List ℕ → Result (List ℕ) RehashFault
+numbers_or None numbers = Ok numbers
+numbers_or (Some torn) numbers = Err (fault.Torn torn)
+
+-- for some versions, where each is whole
+abbrev pub rehash_of : List Version → Result (List ℕ) RehashFault
+rehash_of vs = numbers_or (first_torn vs) (stale_numbers vs)
+
+-- for versions that are read
+abbrev pub rehash_by : Result (List Version) VersionsFault → Result (List ℕ) RehashFault
+rehash_by (Ok vs) = rehash_of vs
+rehash_by (Err e) = Err (fault.Versions e)
 
 -- of what a store tells: the versions, else their refusal; `Torn`; the numbers
-abbrev pub rehash_at : Files → List ℕ → Result (List ℕ) FreezeFault
-rehash_at files api = do
-  vs ← versions_at files api
-  rehash_of vs
+abbrev pub rehash_at : Files → List ℕ → Result (List ℕ) RehashFault
+rehash_at files api = rehash_by (versions_at files api)
 
--- the writes where nothing refuses
-abbrev pub writes_of : {A : Type 0} → (A → List Write) → Result A FreezeFault → List Write
-writes_of writes (Ok x) = writes x
-writes_of writes (Err e) = []
+-- the writes where none isn't whole
+abbrev pub writes_or : Option Torn → List Write → List Write
+writes_or None writes = writes
+writes_or (Some torn) writes = []
 
--- for versions that are read: those for the stale ones, where each is whole
+-- those for the stale ones of some versions, where each is whole
 abbrev pub whole_writes : List ℕ → List Version → List Write
-whole_writes api vs = writes_of (λ whole. hash_writes api vs) (all_whole vs)
+whole_writes api vs = writes_or (first_torn vs) (hash_writes api vs)
+
+-- for versions that are read
+abbrev pub writes_by : List ℕ → Result (List Version) VersionsFault → List Write
+writes_by api (Ok vs) = whole_writes api vs
+writes_by api (Err e) = []
 
 -- of what a store tells
 abbrev pub rehash_writes : Files → List ℕ → List Write
-rehash_writes files api = writes_of (whole_writes api) (versions_at files api)
+rehash_writes files api = writes_by api (versions_at files api)
 
--- The refusals that there are: the versions aren't read, one isn't whole, a write failed, or memory was wanted. The latest version isn't
--- compared with anything, so none speaks of that.
-abbrev pub IsRehashFault : FreezeFault → Type 0
-IsRehashFault (fault.BadVersions missing) = Unit {0}
-IsRehashFault (fault.Torn version kept text) = Unit {0}
-IsRehashFault (fault.Unreadable version files cause) = ⊥
-IsRehashFault (fault.Unchanged version) = ⊥
-IsRehashFault (fault.Incompatible rows) = ⊥
-IsRehashFault (fault.Limit limit) = Unit {0}
-IsRehashFault fault.ReadFault = Unit {0}
-IsRehashFault fault.WriteFault = Unit {0}
-IsRehashFault fault.OutOfMemory = Unit {0}
+-- the refusal is the defined one, unless the store failed or memory was wanted
+abbrev pub RefusesNumbers : Result (List ℕ) RehashFault → RehashFault → Type 0
+RefusesNumbers defined (fault.Versions (read.BadVersions missing)) = defined ≡ Err (fault.Versions (read.BadVersions missing))
+RefusesNumbers defined (fault.Versions (read.Limit limit)) = defined ≡ Err (fault.Versions (read.Limit limit))
+RefusesNumbers defined (fault.Versions read.ReadFault) = Unit {0}
+RefusesNumbers defined (fault.Versions read.OutOfMemory) = Unit {0}
+RefusesNumbers defined (fault.Torn torn) = defined ≡ Err (fault.Torn torn)
+RefusesNumbers defined (fault.Write e) = Unit {0}
+RefusesNumbers defined fault.OutOfMemory = Unit {0}
+
+-- the answer is the defined one, unless the store failed or memory was wanted
+abbrev pub GivesNumbers : Result (List ℕ) RehashFault → Result (List ℕ) RehashFault → Type 0
+GivesNumbers defined (Ok numbers) = defined ≡ Ok numbers
+GivesNumbers defined (Err e) = RefusesNumbers defined e
+
+-- By what was answered, and the store's faults then: all writes; those before one that gave nothing; and after every refusal that comes before
+-- the writes none.
+abbrev pub Left : List Write → Option Files → Option Files → StoreFaults → Result (List ℕ) RehashFault → Type 0
+Left ws before now faults (Ok numbers) = Wrote ws before now
+Left ws before now faults (Err (fault.Versions e)) = now ≡ before
+Left ws before now faults (Err (fault.Torn torn)) = now ≡ before
+Left ws before now faults (Err (fault.Write e)) = LeftAt ws before now faults e
+Left ws before now faults (Err fault.OutOfMemory) = now ≡ before

@@ -1,5 +1,5 @@
 //! Whether a schema may follow the versions of an API, and the next version that it makes.
-ghost use Rattle.std.specs.Prelude.{◌≡◌, List, Some, Ok, IfErr, OnOk};
+ghost use Rattle.std.specs.Prelude.{◌≡◌, List, Some, None, IfErr, OnOk};
 ghost use Rattle.aidl_schema.specs.declared.schema.Decl.{Decl};
 ghost use Rattle.api_freeze.specs.Chains.{FollowsEach};
 ghost use Rattle.api_freeze.specs.Freeze.{Forbids, IsDump, IsRead};
@@ -7,12 +7,12 @@ ghost use Rattle.api_freeze.specs.steps.Following.{Compares, Fits, Follows, Foll
 ghost use Rattle.api_freeze.specs.steps.Following as step;
 ghost use Rattle.api_versions.specs.Whole as whole;
 ghost use Rattle.type_check.specs.Refusals.{IsRefusal};
-ghost use Rattle.api_versions.specs.Early.{IsEarly};
 
-use aidl_base::{LimitName, OutOfMemory, Row, SourceFile};
+use crate::fault::FreezeFault;
+use aidl_base::{Limit, LimitName, Row, SourceFile};
 use aidl_schema::Schema;
 use api_dump::dump;
-use api_versions::{FreezeFault, Version, all_whole, limit_passed};
+use api_versions::{Version, first_torn};
 use compat_judge::judge;
 use dump_reading::{law_dump_back, law_dump_parses};
 use std::alloc::Global;
@@ -20,7 +20,7 @@ use tree_files::{FilesFault, parse_files};
 use type_check::{CheckFault, check, law_one_schema};
 
 /// The next version: its number, and the files of the dump.
-#[derive(Debug, Drop)]
+#[derive(Drop)]
 pub struct Next {
     pub number: u32,
     pub files: Row<SourceFile>,
@@ -29,12 +29,12 @@ pub struct Next {
 /// What is to be written as the next version of a schema, or the first refusal.
 pub fn prepare(alloc: Global, schema: &Schema, versions: Row<Version>) -> Result<Next, FreezeFault>
     ensures answer { Prepares versions schema.now.decls result }
-    ensures early { IfErr result IsEarly }
     ensures read { IfErr result IsRead }
 {
-    match all_whole(alloc, versions.as_slice()) {
-        Ok(()) => prepare_whole(alloc, schema, versions),
-        Err(fault) => Err(fault),
+    let torn = first_torn(alloc, versions.as_slice())?;
+    match torn {
+        None => prepare_whole(alloc, schema, versions),
+        Some(torn) => Err(FreezeFault::Torn(torn)),
     }
 }
 
@@ -44,9 +44,8 @@ fn prepare_whole(
     schema: &Schema,
     versions: Row<Version>,
 ) -> Result<Next, FreezeFault>
-    requires { whole.all_whole versions ≡ Ok tt }
+    requires { whole.first_torn versions ≡ None }
     ensures answer { Prepares versions schema.now.decls result }
-    ensures early { IfErr result IsEarly }
     ensures read { IfErr result IsRead }
 {
     let count = versions.len();
@@ -66,11 +65,12 @@ fn numbered(
 ) -> Result<Next, FreezeFault>
     requires { IsDump schema.now.decls files }
     ensures answer { Numbers schema.now.decls count files result }
-    ensures early { IfErr result IsEarly }
     ensures read { IfErr result IsRead }
 {
     if count >= LimitName::Versions.number() as usize {
-        return Err(limit_passed(LimitName::Versions));
+        return Err(FreezeFault::Limit(Limit {
+            which: LimitName::Versions,
+        }));
     }
     match fit(alloc, schema, files.as_slice()) {
         Ok(()) => Ok(Next {
@@ -114,7 +114,6 @@ fn follow(
     requires { IsDump schema.now.decls files.now }
     ensures answer { FollowsAll versions schema.now.decls result }
     ensures each { OnOk result (FollowsEach versions schema.now.decls) }
-    ensures early { IfErr result IsEarly }
     ensures read { IfErr result IsRead }
 {
     let mut versions = versions.into_vec();
@@ -134,7 +133,6 @@ fn follow_latest(
     requires { IsDump schema.now.decls files.now }
     ensures answer { Follows latest schema.now.decls result }
     ensures one { OnOk result (FollowsOne latest schema.now.decls) }
-    ensures early { IfErr result IsEarly }
     ensures read { IfErr result IsRead }
 {
     match check(alloc, latest.files.as_slice()) {
@@ -150,7 +148,6 @@ fn follow_latest(
 fn unread(latest: Version, fault: CheckFault) -> FreezeFault
     requires { IsRefusal latest.files fault }
     ensures answer { (S : List Decl) → Forbids (Some latest) S result }
-    ensures early { IsEarly result }
     ensures read { IsRead result }
 {
     let version = latest.number;

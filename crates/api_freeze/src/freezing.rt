@@ -4,36 +4,36 @@ ghost use Rattle.aidl_outside.specs.Told.{Tells};
 ghost use Rattle.api_freeze.specs.Chains.{FollowsEachAt};
 ghost use Rattle.api_freeze.specs.Freeze.{Freezes, FreezesAt, IsRead, hash_digits, version_writes};
 ghost use Rattle.api_freeze.specs.Freeze as meant;
-ghost use Rattle.aidl_outside.specs.Asks.{AsksNothing};
-ghost use Rattle.api_versions.specs.Asks.{AsksVersions, FailedCall};
-ghost use Rattle.api_versions.specs.Causes.{Cause};
+ghost use Rattle.aidl_outside.specs.Asks.{AsksNothing, IsWrite};
+ghost use Rattle.aidl_outside.specs.Causes.{StoreCause};
+ghost use Rattle.aidl_outside.specs.Faults.{FailedIn, IfStoreFailed};
+ghost use Rattle.api_freeze.specs.Causes.{Cause, FailedCall};
+ghost use Rattle.api_versions.specs.Asks.{AsksVersions};
 ghost use Rattle.api_versions.specs.Versions.{versions_at};
 ghost use Rattle.api_versions.specs.Writes.{Left};
-ghost use Rattle.api_versions.specs.Early.{IsLate};
 ghost use Rattle.api_versions.specs.Seen.{write_seen};
 
+use crate::fault::FreezeFault;
 use crate::following::{Next, prepare};
 use aidl_base::{OutOfMemory, Row, SourceFile, Text};
-use aidl_outside::{Store, path_below};
+use aidl_outside::{Store, StoreFault, path_below};
 use aidl_schema::Schema;
 use api_hash::{Recipe, hash_text};
-use api_versions::{
-    FreezeFault, Version, Write, hash_path, text_of, version_folder, versions, write_all,
-};
+use api_versions::{Version, Write, hash_path, text_of, version_folder, versions, write_all};
 use std::alloc::Global;
 
 /// A version that was frozen: its number, and the 40 digits of its `.hash`.
-#[derive(Debug, Drop)]
+#[derive(Drop)]
 pub struct Frozen {
     pub version: u32,
     pub hash: Text,
 }
 
 /// Writes the dump of a schema as the next version of an API (own): the files in path order, then `.hash`, by the second recipe for the
-/// new number. It refuses as `versions` does; then `Torn` for the least version that isn't whole; what the check answers for the latest
-/// version's files, a limit as `Limit` and any other fault as `Unreadable`; `Unchanged`; `Incompatible`; the limit `versions` for a new
-/// number 10,000; and the limit that the check answers for the dump. All these come before any write, and leave the store as it was.
-/// `WriteFault` comes after the writes before the one that failed, which changes its path at most; a want of memory may come after any.
+/// new number. It refuses as `versions` does, by `Versions`; then `Torn` for the least version that isn't whole; what the check answers for
+/// the latest version's files, a limit as `Limit` and any other fault as `Unreadable`; `Unchanged`; `Incompatible`; the limit `versions` for
+/// a new number 10,000; and the limit that the check answers for the dump. All these come before any write, and leave the store as it was.
+/// `Write` comes after the writes before the one that failed, which changes its path at most, or after any where memory was wanted.
 /// On Ok what is written is a checked tree with this schema, and no evolution rule is broken from the latest version to it; nor is one from
 /// any earlier version from which on none is broken from each version to the next one (`FollowsEach`).
 pub fn freeze<S: Store>(
@@ -55,7 +55,7 @@ pub fn freeze<S: Store>(
 {
     match versions(alloc, store, api) {
         Ok(versions) => freeze_next(alloc, schema, store, api, versions),
-        Err(fault) => Err(fault),
+        Err(fault) => Err(FreezeFault::Versions(fault)),
     }
 }
 
@@ -73,9 +73,10 @@ fn freeze_next<S: Store>(
     ensures cause { Cause (S.fault_record store.old) (S.fault_record store.new) result }
     ensures failed { FailedCall (AsksNothing None) (S.fault_record store.new) result }
 {
-    match prepare(alloc, schema, versions) {
-        Ok(next) => write_next(alloc, api, next, store),
-        Err(fault) => Err(fault),
+    let next = prepare(alloc, schema, versions)?;
+    match write_next(alloc, api, next, store) {
+        Ok(frozen) => Ok(frozen),
+        Err(fault) => Err(FreezeFault::Write(fault)),
     }
 }
 
@@ -85,17 +86,16 @@ fn write_next<S: Store>(
     api: &str,
     next: Next,
     store: &mut S,
-) -> Result<Frozen, FreezeFault>
+) -> Result<Frozen, StoreFault>
     ensures version { IfOk result (λ frozen. frozen.version ≡ next.number) }
     ensures hash { IfOk result (λ frozen. frozen.hash ≡ hash_digits next.files next.number) }
-    ensures late { IfErr result IsLate }
     ensures wrote { Left (version_writes api.now next.number next.files)
         (S.kept store.old) (S.kept store.new) (S.fault_record store.new) result }
-    ensures cause { Cause (S.fault_record store.old) (S.fault_record store.new) result }
-    ensures failed { FailedCall (AsksNothing None) (S.fault_record store.new) result }
+    ensures cause { StoreCause (S.fault_record store.old) (S.fault_record store.new) result }
+    ensures failed { IfStoreFailed result (FailedIn (S.fault_record store.new) IsWrite) }
 {
     let Ok(due) = due_of(alloc, api, next) else {
-        return Err(FreezeFault::OutOfMemory);
+        return Err(StoreFault::OutOfMemory);
     };
     match write_all(alloc, due.writes.as_slice(), store) {
         Ok(()) => Ok(due.frozen),
@@ -104,7 +104,7 @@ fn write_next<S: Store>(
 }
 
 // What is to be answered, and the writes before it.
-#[derive(Debug, Drop)]
+#[derive(Drop)]
 struct Due {
     frozen: Frozen,
     writes: Vec<Write>,

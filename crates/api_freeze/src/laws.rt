@@ -1,7 +1,11 @@
-//! A law of dumps: schemas with the same dump are the same.
-ghost use Rattle.std.specs.Prelude.{◌≡◌};
+//! Laws of freezing: schemas with the same dump are the same, and a schema is frozen or refused.
+ghost use Rattle.std.specs.Prelude.{◌≡◌, ◌≢◌, ◌⊎◌, List};
+ghost use Rattle.aidl_base.specs.declared.source_file.SourceFile.{SourceFile as File};
 ghost use Rattle.api_dump.specs.Dump.{dump_text};
-ghost use Rattle.api_freeze.specs.Freeze.{IsDump};
+ghost use Rattle.api_freeze.specs.declared.fault.FreezeFault.{FreezeFault};
+ghost use Rattle.api_freeze.specs.declared.fault.FreezeFault.TheVariants as fault;
+ghost use Rattle.api_freeze.specs.Freeze.{IsDump, Ready, RefusedAs};
+ghost use Rattle.api_versions.specs.declared.version.Version.{Version};
 ghost use Rattle.tree_files.specs.Parsed.{AreParsed};
 
 use aidl_base::SourceFile;
@@ -22,3 +26,11 @@ pub fn law_same_dump(first: &Schema, second: &Schema, files: &[SourceFile], pars
     law_dump_back(second);
     law_one_schema(files);
 }
+
+/// A law of the definitions: after any versions a schema is ready to be frozen as the next one, or it is refused for a reason that is no want
+/// of memory.
+pub fn law_ready_or_refused(schema: &Schema)
+    ensures { (versions : List Version) → ((files : List File) × Ready versions schema.now.decls files)
+        ⊎ ((refusal : FreezeFault) × (refusal ≢ fault.OutOfMemory)
+        × RefusedAs versions schema.now.decls refusal) }
+{}

@@ -1,63 +1,59 @@
 //! Rehashing: the text of the second recipe for each version whose `.hash` has another.
-ghost use Rattle.std.specs.Prelude.{◌≡◌, ◌++◌, [], ◌∷◌, map, IfErr, IfOk, OnOk, Some, None, string_bytes};
+ghost use Rattle.std.specs.Prelude.{◌≡◌, ◌++◌, [], ◌∷◌, map, IfOk, OnOk, Some, None, string_bytes};
 ghost use Rattle.aidl_outside.specs.Told.{Tells};
 ghost use Rattle.aidl_outside.specs.Asks.{AsksNothing};
-ghost use Rattle.api_versions.specs.Asks.{AsksVersions, FailedCall};
-ghost use Rattle.api_versions.specs.Answers.{Gives};
-ghost use Rattle.api_versions.specs.Causes.{Cause};
+ghost use Rattle.api_freeze.specs.Causes.{RehashCause, RehashFailed};
 ghost use Rattle.api_freeze.specs.Rehash as meant;
-ghost use Rattle.api_versions.specs.Writes.{Left};
-ghost use Rattle.api_versions.specs.Early.{IsLate};
+ghost use Rattle.api_freeze.specs.Rehash.{GivesNumbers, Left};
+ghost use Rattle.api_versions.specs.Asks.{AsksVersions};
+ghost use Rattle.api_versions.specs.Whole as whole;
 ghost use Rattle.api_versions.specs.Seen.{write_seen};
 
+use crate::fault::RehashFault;
 use aidl_base::{OutOfMemory, Row};
 use aidl_outside::Store;
 use api_versions::{
-    FreezeFault, Version, Write, all_whole, defined_text, hash_path, is_current, versions,
-    write_all,
+    Version, Write, defined_text, first_torn, hash_path, is_current, versions, write_all,
 };
 use std::alloc::Global;
 
 /// Writes the text of the second recipe into the `.hash` of each version that has another, in order of versions, and answers the numbers
 /// of these versions, ascending (own). It refuses as `versions` does, then `Torn` for the least version that isn't whole, each before any
-/// write, and `WriteFault`.
-#[tactic(auto, using(crate::proofs::Untold::untold_left))]
-pub fn rehash<S: Store>(alloc: Global, store: &mut S, api: &str) -> Result<Row<u32>, FreezeFault>
+/// write, and `Write`.
+pub fn rehash<S: Store>(alloc: Global, store: &mut S, api: &str) -> Result<Row<u32>, RehashFault>
     ensures told { Tells (S.kept store.old) (λ files.
-        Gives (meant.rehash_at files api.now) result) }
+        GivesNumbers (meant.rehash_at files api.now) result) }
     ensures wrote { Tells (S.kept store.old) (λ files.
         Left (meant.rehash_writes files api.now)
         (Some files) (S.kept store.new) (S.fault_record store.new) result) }
     ensures untold { S.kept store.old ≡ None → S.kept store.new ≡ None }
-    ensures refusal { IfErr result meant.IsRehashFault }
-    ensures cause { Cause (S.fault_record store.old) (S.fault_record store.new) result }
-    ensures failed { FailedCall (AsksVersions api.now (S.kept store.old))
+    ensures cause { RehashCause (S.fault_record store.old) (S.fault_record store.new) result }
+    ensures failed { RehashFailed (AsksVersions api.now (S.kept store.old))
         (S.fault_record store.new) result }
 {
     match versions(alloc, store, api) {
         Ok(versions) => rehash_all(alloc, api, versions.as_slice(), store),
-        Err(fault) => Err(fault),
+        Err(fault) => Err(RehashFault::Versions(fault)),
     }
 }
 
 // The same for versions that are read.
-#[tactic(auto, using(crate::proofs::Untold::left_whole, crate::proofs::RehashFaults::of_torn, crate::proofs::RehashFaults::of_late))]
 fn rehash_all<S: Store>(
     alloc: Global,
     api: &str,
     versions: &[Version],
     store: &mut S,
-) -> Result<Row<u32>, FreezeFault>
-    ensures defined { Gives (meant.rehash_of versions.now) result }
-    ensures refusal { IfErr result meant.IsRehashFault }
+) -> Result<Row<u32>, RehashFault>
+    ensures defined { GivesNumbers (meant.rehash_of versions.now) result }
     ensures wrote { Left (meant.whole_writes api.now versions.now)
         (S.kept store.old) (S.kept store.new) (S.fault_record store.new) result }
-    ensures cause { Cause (S.fault_record store.old) (S.fault_record store.new) result }
-    ensures failed { FailedCall (AsksNothing None) (S.fault_record store.new) result }
+    ensures cause { RehashCause (S.fault_record store.old) (S.fault_record store.new) result }
+    ensures failed { RehashFailed (AsksNothing None) (S.fault_record store.new) result }
 {
-    match all_whole(alloc, versions) {
-        Ok(()) => rehash_whole(alloc, api, versions, store),
-        Err(fault) => Err(fault),
+    let torn = first_torn(alloc, versions)?;
+    match torn {
+        None => rehash_whole(alloc, api, versions, store),
+        Some(torn) => Err(RehashFault::Torn(torn)),
     }
 }
 
@@ -67,25 +63,23 @@ fn rehash_whole<S: Store>(
     api: &str,
     versions: &[Version],
     store: &mut S,
-) -> Result<Row<u32>, FreezeFault>
-    ensures numbers { IfOk result (λ numbers. numbers ≡ meant.stale_numbers versions.now) }
-    ensures late { IfErr result IsLate }
-    ensures wrote { Left (meant.hash_writes api.now versions.now)
+) -> Result<Row<u32>, RehashFault>
+    requires { whole.first_torn versions.now ≡ None }
+    ensures defined { GivesNumbers (meant.rehash_of versions.now) result }
+    ensures wrote { Left (meant.whole_writes api.now versions.now)
         (S.kept store.old) (S.kept store.new) (S.fault_record store.new) result }
-    ensures cause { Cause (S.fault_record store.old) (S.fault_record store.new) result }
-    ensures failed { FailedCall (AsksNothing None) (S.fault_record store.new) result }
+    ensures cause { RehashCause (S.fault_record store.old) (S.fault_record store.new) result }
+    ensures failed { RehashFailed (AsksNothing None) (S.fault_record store.new) result }
 {
-    let Ok(stale) = stale_of(alloc, api, versions) else {
-        return Err(FreezeFault::OutOfMemory);
-    };
+    let stale = stale_of(alloc, api, versions)?;
     match write_all(alloc, stale.writes.as_slice(), store) {
         Ok(()) => Ok(stale.numbers),
-        Err(fault) => Err(fault),
+        Err(fault) => Err(RehashFault::Write(fault)),
     }
 }
 
 // The versions that have another text: their numbers, and the writes that are due.
-#[derive(Debug, Drop)]
+#[derive(Drop)]
 struct Stale {
     numbers: Row<u32>,
     writes: Vec<Write>,

@@ -10,7 +10,7 @@ use std::alloc::Global;
 use std::fmt::Write;
 
 /// How the hash of a version's files is made (own).
-#[derive(Clone, Copy, Debug, PartialEq, Eq)]
+#[derive(Clone, Copy, PartialEq, Eq)]
 pub enum Recipe {
     /// from the files alone
     One,

@@ -16,7 +16,7 @@ use Rattle.std.proofs.lemmas.Str.Parse.{numerals_by_value, tells_digits}
 use Rattle.aidl_outside.specs.Files.{is_ascending}
 use Rattle.api_versions.specs.Folders.{Folder, folder, highest, is_source, paths_in}
 use Rattle.api_versions.specs.Places.{Place, is_number, number_of, place_of, places}
-use Rattle.api_versions.specs.declared.fault.FreezeFault.{FreezeFault}
+use Rattle.api_versions.specs.declared.fault.VersionsFault.{VersionsFault}
 use Rattle.api_versions.specs.declared.version.Version.{Version}
 use Rattle.api_versions.specs.Versions.{complete, folders_in, present}
 use Rattle.api_versions.proofs.Gathered.{folders_found}
@@ -149,6 +149,6 @@ present_all p (f ∷ fs) h =
     kept_by f.is_there p f (present fs) (and_from (p f) (list_all p (present fs)) both.0 rest) rest
 
 -- of versions, where no number is missing
-pub complete_keeps : (P : List Version → Type 0) (m : Option ℕ) (vs : List Version) (r : Result (List Version) FreezeFault) → r ≡ complete m vs → P vs → IfOk r P
+pub complete_keeps : (P : List Version → Type 0) (m : Option ℕ) (vs : List Version) (r : Result (List Version) VersionsFault) → r ≡ complete m vs → P vs → IfOk r P
 complete_keeps P None vs r is p = subst (λ x. IfOk x P) (sym is) p
 complete_keeps P (Some n) vs r is p = subst (λ x. IfOk x P) (sym is) tt

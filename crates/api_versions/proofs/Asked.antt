@@ -9,25 +9,20 @@ use Rattle.aidl_outside.specs.Told.{Tells}
 use Rattle.api_versions.specs.Asks.{AsksFolder, AsksFolders, AsksVersions, FailedCall, FaultCall, IsListed}
 use Rattle.api_versions.specs.Folders.{Folder}
 use Rattle.api_versions.specs.Versions.{folders_in, present, version_folder}
-use Rattle.api_versions.specs.declared.fault.FreezeFault.{FreezeFault}
-use Rattle.api_versions.specs.declared.fault.FreezeFault.TheVariants as fault
+use Rattle.api_versions.specs.declared.fault.VersionsFault.{VersionsFault}
+use Rattle.api_versions.specs.declared.fault.VersionsFault.TheVariants as fault
 use Rattle.aidl_outside.proofs.lemmas.Failing.{failed_as}
 use Rattle.aidl_outside.proofs.lemmas.Telling.{tells}
 
 -- of a refusal that is passed on
-pub refusal_as : (P Q : StoreCall → Type 0) (faults : StoreFaults) (e : FreezeFault) → ((call : StoreCall) → P call → Q call) → FaultCall P faults e → FaultCall Q faults e
+pub refusal_as : (P Q : StoreCall → Type 0) (faults : StoreFaults) (e : VersionsFault) → ((call : StoreCall) → P call → Q call) → FaultCall P faults e → FaultCall Q faults e
 refusal_as P Q faults (fault.BadVersions missing) wider h = tt
-refusal_as P Q faults (fault.Torn version kept text) wider h = tt
-refusal_as P Q faults (fault.Unreadable version files cause) wider h = tt
-refusal_as P Q faults (fault.Unchanged version) wider h = tt
-refusal_as P Q faults (fault.Incompatible rows) wider h = tt
 refusal_as P Q faults (fault.Limit limit) wider h = tt
 refusal_as P Q faults fault.ReadFault wider h = failed_as faults P Q wider h
-refusal_as P Q faults fault.WriteFault wider h = h
 refusal_as P Q faults fault.OutOfMemory wider h = tt
 
 -- of a result
-pub answer_as : {A : Type 0} (P Q : StoreCall → Type 0) (faults : StoreFaults) (r : Result A FreezeFault) → ((call : StoreCall) → P call → Q call) → FailedCall P faults r → FailedCall Q faults r
+pub answer_as : {A : Type 0} (P Q : StoreCall → Type 0) (faults : StoreFaults) (r : Result A VersionsFault) → ((call : StoreCall) → P call → Q call) → FailedCall P faults r → FailedCall Q faults r
 answer_as P Q faults (Ok x) wider h = tt
 answer_as P Q faults (Err e) wider h = refusal_as P Q faults e wider h
 

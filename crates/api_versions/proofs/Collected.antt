@@ -11,13 +11,13 @@ use Rattle.aidl_base.specs.Results.{◌>>=◌}
 use Rattle.aidl_outside.specs.Entries.{path_of}
 use Rattle.aidl_outside.specs.Files.{Files, is_ascending, path_below}
 use Rattle.aidl_outside.specs.Told.{Tells}
-use Rattle.api_versions.specs.declared.fault.FreezeFault.{FreezeFault}
+use Rattle.api_versions.specs.declared.fault.VersionsFault.{VersionsFault}
 use Rattle.api_versions.specs.Versions.{file_at, source, sources_at}
 use Rattle.api_versions.specs.steps.Onto.{onto}
 use Rattle.aidl_outside.proofs.lemmas.Telling.{tells, tells_both}
 
 -- the first were added, and the others are still to come
-pub onto_first : {A : Type 0} (before now first : List A) (others : Result (List A) FreezeFault) → now ≡ before ++ first
+pub onto_first : {A : Type 0} (before now first : List A) (others : Result (List A) VersionsFault) → now ≡ before ++ first
     → onto before (others >>= λ more. Ok (first ++ more)) ≡ onto now others
 onto_first before now first (Ok more) e = ap Ok (sym (append_assoc before first more) ∙ ap (λ l. l ++ more) (sym e))
 onto_first before now first (Err fault) e = refl

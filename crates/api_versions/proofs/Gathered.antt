@@ -9,7 +9,7 @@ use Rattle.aidl_base.specs.Results.{◌>>=◌}
 use Rattle.aidl_outside.specs.Entries.{path_of}
 use Rattle.aidl_outside.specs.Files.{Files, is_ascending}
 use Rattle.aidl_outside.specs.Told.{Tells}
-use Rattle.api_versions.specs.declared.fault.FreezeFault.{FreezeFault}
+use Rattle.api_versions.specs.declared.fault.VersionsFault.{VersionsFault}
 use Rattle.api_versions.specs.declared.version.Version.{Version}
 use Rattle.api_versions.specs.declared.folder.Folder.{Folder as HeldFolder}
 use Rattle.api_versions.specs.Folders.{Folder, folder, folders, highest}
@@ -88,7 +88,7 @@ none_missing (f ∷ fs) h =
     let both = first_there f.is_there f (missing fs) h in
     kept_there f.is_there f (present fs) both.0 ∙ ap (λ l. f ∷ l) (none_missing fs both.1)
 
-pub numbered_versions : (fs : List Folder) (vs : List Version) (count : ℕ) (r : Result (List Version) FreezeFault) → r ≡ complete (missing fs) vs
+pub numbered_versions : (fs : List Folder) (vs : List Version) (count : ℕ) (r : Result (List Version) VersionsFault) → r ≡ complete (missing fs) vs
     → map (λ (v : Version). v.number) vs ≡ map (λ (f : Folder). f.number) (present fs) → map (λ (f : Folder). f.number) fs ≡ range_with_len 1 count → IfOk r AreNumbered
 numbered_versions fs vs count r is same numbers = by_missing (missing fs) refl where
   by_missing : (m : Option ℕ) → missing fs ≡ m → IfOk r AreNumbered
@@ -103,11 +103,11 @@ numbers_of : (ps : List Place) (ns : List ℕ) → map (λ (f : Folder). f.numbe
 numbers_of ps [] = refl
 numbers_of ps (n ∷ ns) = ap (λ l. n ∷ l) (numbers_of ps ns)
 
-by_large : (large : Bool) (d : FreezeFault) (fs gs : List Folder) → cond large (Err d) (Ok fs) ≡ Ok gs → gs ≡ fs
+by_large : (large : Bool) (d : VersionsFault) (fs gs : List Folder) → cond large (Err d) (Ok fs) ≡ Ok gs → gs ≡ fs
 by_large true d fs gs h = absurd (cc)
 by_large false d fs gs h = cc
 
-by_limits : (a : Bool) (e d : FreezeFault) (fs gs : List Folder) → (cond a (Err e) (Ok fs) >>= λ all. cond (list_any is_large all) (Err d) (Ok all)) ≡ Ok gs → (a ≡ false) × (gs ≡ fs)
+by_limits : (a : Bool) (e d : VersionsFault) (fs gs : List Folder) → (cond a (Err e) (Ok fs) >>= λ all. cond (list_any is_large all) (Err d) (Ok all)) ≡ Ok gs → (a ≡ false) × (gs ≡ fs)
 by_limits true e d fs gs h = absurd (cc)
 by_limits false e d fs gs h = (refl, by_large (list_any is_large fs) d fs gs h)
 

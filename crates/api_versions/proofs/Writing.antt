@@ -1,14 +1,18 @@
 -- Writes, one after another; and bytes as characters.
-use Rattle.std.proofs.Common.{◌≡◌, ℕ, suc, ◌+◌, ◌<◌, true, List, [], ◌∷◌, ◌++◌, length, map, take, drop, drop-cons, add-one, get_or, Option, Some, None, refl, ap, sym, subst, ◌∙◌, arith}
+use Rattle.std.proofs.Common.{◌≡◌, ℕ, suc, ◌+◌, ◌<◌, true, List, [], ◌∷◌, ◌++◌, length, map, take, drop, drop-cons, add-one, get_or, Option, Some, None, Err, refl, ap, sym, subst, ◌∙◌, arith}
 use Rattle.std.specs.FinMap.{insert}
 use Rattle.std.specs.Str.{all_scalars, chars, encode_utf8_all}
 use Rattle.std.proofs.lemmas.Bool.{lt-ltb}
 use Rattle.std.proofs.lemmas.List.{map-append, take_more, take-append-drop}
 use Rattle.std.proofs.lemmas.Str.{chars-encodes}
 use Rattle.aidl_outside.specs.Files.{Files}
-use Rattle.aidl_outside.specs.Writes.{Sets}
+use Rattle.aidl_outside.specs.Writes.{Sets, Writes}
+use Rattle.aidl_outside.specs.Faults.{FailedIn, IfStoreFailed, StoreFaults, writing}
+use Rattle.aidl_outside.specs.declared.store.StoreFault.{StoreFault}
+use Rattle.aidl_outside.specs.declared.store.StoreFault.TheVariants as store
+use Rattle.aidl_outside.proofs.lemmas.Failing.{failed_as}
 use Rattle.api_versions.specs.declared.writes.Write.{Write as HeldWrite}
-use Rattle.api_versions.specs.Writes.{Write, Wrote, WroteSome, written}
+use Rattle.api_versions.specs.Writes.{FailedAt, LeftAt, Write, Wrote, written}
 use Rattle.api_versions.specs.Seen.{write_seen}
 
 written_more : (ws : List Write) (w : Write) (files : Files) → written (ws ++ w ∷ []) files ≡ insert (written ws files) w.path w.bytes
@@ -32,13 +36,12 @@ module _ (ws : List HeldWrite) (i : ℕ) (d : HeldWrite) (lt : i < length ws) wh
       let e : drop i ws ≡ get_or ws i d ∷ drop (i + 1) ws = rw add-one (drop-cons ws i d lt) in
       sym (ap (map write_seen) (take-append-drop i ws)) ∙ map-append write_seen (take i ws) (drop i ws) ∙ ap (λ l. map write_seen (take i ws) ++ map write_seen l) e
 
-pub wrote_some : (ws : List HeldWrite) (i : ℕ) (before middle now : Option Files) → Wrote (map write_seen (take i ws)) before middle → now ≡ middle → WroteSome (map write_seen ws) before now
-wrote_some ws i before middle now made same = (
-  map write_seen (take i ws),
-  map write_seen (drop i ws),
-  sym (ap (map write_seen) (take-append-drop i ws)) ∙ map-append write_seen (take i ws) (drop i ws),
-  subst (Wrote (map write_seen (take i ws)) before) (sym same) made,
-)
+-- a write gave nothing
+pub left_at : (ws made rest : List Write) (w : Write) (before middle now : Option Files) (faults : StoreFaults) (e : StoreFault) → ws ≡ made ++ w ∷ rest → Wrote made before middle
+    → Writes {T = Unit {0}} middle now w.path w.bytes (Err e) → IfStoreFailed {T = Unit {0}} (Err e) (FailedIn faults (λ call. call ≡ writing w.path)) → LeftAt ws before now faults e
+left_at ws made rest w before middle now faults store.Failed split wrote changes failed =
+    failed_as faults (λ call. call ≡ writing w.path) (FailedAt ws before now) (λ call is. (made, rest, w, middle, split, wrote, changes, is)) failed
+left_at ws made rest w before middle now faults store.OutOfMemory split wrote same failed = (made, w ∷ rest, split, subst (Wrote made before) (sym same) wrote)
 
 -- a byte is a character
 byte_scalars : (bs : List ℕ) → ((i : ℕ) → get_or bs i 0 < 256) → all_scalars bs ≡ true

@@ -1,11 +1,11 @@
 -- Which call of a store failed, of those that versions take (own).
 use Rattle.std.specs.Prelude.{◌≡◌, ℕ, ◌⊎◌, List, ◌∷◌, Result, Ok, Err, Contains, codes}
-use Rattle.aidl_outside.specs.Asks.{Asks, AsksThese, IsWrite}
+use Rattle.aidl_outside.specs.Asks.{Asks, AsksThese}
 use Rattle.aidl_outside.specs.Faults.{FailedIn, StoreCall, StoreFaults, listing as lists}
 use Rattle.aidl_outside.specs.Files.{Files, listing}
 use Rattle.aidl_outside.specs.Told.{Tells}
-use Rattle.api_versions.specs.declared.fault.FreezeFault.{FreezeFault}
-use Rattle.api_versions.specs.declared.fault.FreezeFault.TheVariants as fault
+use Rattle.api_versions.specs.declared.fault.VersionsFault.{VersionsFault}
+use Rattle.api_versions.specs.declared.fault.VersionsFault.TheVariants as fault
 use Rattle.api_versions.specs.Folders.{Folder}
 use Rattle.api_versions.specs.Versions.{folders_in, present, version_folder}
 
@@ -25,18 +25,13 @@ IsListed api files f = (fs : List Folder) × (folders_in (listing api files) ≡
 abbrev pub AsksVersions : List ℕ → Asks
 AsksVersions api kept call = (call ≡ lists api) ⊎ ((f : Folder) × AsksFolder api f call × Tells kept (λ files. IsListed api files f))
 
--- by what was refused: one of these calls, or a write
-abbrev pub FaultCall : (StoreCall → Type 0) → StoreFaults → FreezeFault → Type 0
+-- where the store failed: one of these calls
+abbrev pub FaultCall : (StoreCall → Type 0) → StoreFaults → VersionsFault → Type 0
 FaultCall Asked faults (fault.BadVersions missing) = Unit {0}
-FaultCall Asked faults (fault.Torn version kept text) = Unit {0}
-FaultCall Asked faults (fault.Unchanged version) = Unit {0}
-FaultCall Asked faults (fault.Unreadable version files cause) = Unit {0}
-FaultCall Asked faults (fault.Incompatible rows) = Unit {0}
 FaultCall Asked faults (fault.Limit limit) = Unit {0}
 FaultCall Asked faults fault.ReadFault = FailedIn faults Asked
-FaultCall Asked faults fault.WriteFault = FailedIn faults IsWrite
 FaultCall Asked faults fault.OutOfMemory = Unit {0}
 
-abbrev pub FailedCall : {A : Type 0} → (StoreCall → Type 0) → StoreFaults → Result A FreezeFault → Type 0
+abbrev pub FailedCall : {A : Type 0} → (StoreCall → Type 0) → StoreFaults → Result A VersionsFault → Type 0
 FailedCall Asked faults (Ok x) = Unit {0}
 FailedCall Asked faults (Err e) = FaultCall Asked faults e

@@ -1,6 +1,5 @@
 pub mod Answers
 pub mod Asks
-pub mod Causes
 pub mod Folders
 pub mod Places
 pub mod Versions
@@ -8,4 +7,3 @@ pub mod Whole
 pub mod Writes
 pub mod steps
 pub mod Seen
-pub mod Early

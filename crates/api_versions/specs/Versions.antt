@@ -11,13 +11,13 @@ use Rattle.aidl_base.specs.Limits.{limit_number}
 use Rattle.aidl_base.specs.Results.{◌>>=◌}
 use Rattle.aidl_outside.specs.Entries.{path_of}
 use Rattle.aidl_outside.specs.Files.{Files, is_ascending, listing, path_below}
-use Rattle.api_versions.specs.declared.fault.FreezeFault.{FreezeFault}
-use Rattle.api_versions.specs.declared.fault.FreezeFault.TheVariants as fault
+use Rattle.api_versions.specs.declared.fault.VersionsFault.{VersionsFault}
+use Rattle.api_versions.specs.declared.fault.VersionsFault.TheVariants as fault
 use Rattle.api_versions.specs.declared.version.Version.{Version}
 use Rattle.api_versions.specs.Folders.{Folder, folders, highest}
 use Rattle.api_versions.specs.Places.{Place, places}
 
-abbrev pub passed : LimitName → FreezeFault
+abbrev pub passed : LimitName → VersionsFault
 passed which = fault.Limit (record { which = which })
 
 -- the folder of a version has its number in decimal as its name
@@ -28,12 +28,12 @@ abbrev pub hash_path : List ℕ → ℕ → List ℕ
 hash_path api number = path_below (version_folder api number) (codes ".hash")
 
 -- a file, if any, that doesn't pass the limit `file-bytes`
-abbrev pub within : Option (List ℕ) → Result (Option (List ℕ)) FreezeFault
+abbrev pub within : Option (List ℕ) → Result (Option (List ℕ)) VersionsFault
 within None = Ok None
 within (Some bytes) = if nat_lt (limit_number limit.FileBytes) (length bytes) then Err (passed limit.FileBytes) else Ok (Some bytes)
 
 -- the file at a path of a store, if any
-abbrev pub file_at : Files → List ℕ → Result (Option (List ℕ)) FreezeFault
+abbrev pub file_at : Files → List ℕ → Result (Option (List ℕ)) VersionsFault
 file_at files path = within (get files path)
 
 -- A source with its path relative to the folder. What a store lists is there, so none is left out of what it tells.
@@ -42,7 +42,7 @@ source path None = []
 source path (Some bytes) = record { path = chars path; bytes = bytes } ∷ []
 
 -- the files at some paths below a folder
-abbrev pub sources_at : Files → List ℕ → List (List ℕ) → Result (List SourceFile) FreezeFault
+abbrev pub sources_at : Files → List ℕ → List (List ℕ) → Result (List SourceFile) VersionsFault
 sources_at files folder [] = Ok []
 sources_at files folder (path ∷ paths) = do
   file ← file_at files (path_below folder path)
@@ -50,14 +50,14 @@ sources_at files folder (path ∷ paths) = do
   Ok (source path file ++ others)
 
 -- the version in a folder: its `.aidl` files, and what its `.hash` keeps
-abbrev pub version_at : Files → List ℕ → Folder → Result Version FreezeFault
+abbrev pub version_at : Files → List ℕ → Folder → Result Version VersionsFault
 version_at files api f = do
   sources ← sources_at files (version_folder api f.number) f.sources
   kept ← file_at files (hash_path api f.number)
   Ok (record { number = f.number; files = sources; kept = kept })
 
 -- those of some folders, in order
-abbrev pub versions_in : Files → List ℕ → List Folder → Result (List Version) FreezeFault
+abbrev pub versions_in : Files → List ℕ → List Folder → Result (List Version) VersionsFault
 versions_in files api [] = Ok []
 versions_in files api (f ∷ fs) = do
   version ← version_at files api f
@@ -65,7 +65,7 @@ versions_in files api (f ∷ fs) = do
   Ok (version ∷ others)
 
 -- no number above 9,999
-abbrev pub numbered : List Place → Result (List Folder) FreezeFault
+abbrev pub numbered : List Place → Result (List Folder) VersionsFault
 numbered places = if nat_lt (limit_number limit.Versions) (highest places) then Err (passed limit.Versions) else Ok (folders places)
 
 -- more `.aidl` files than the limit `files`
@@ -73,7 +73,7 @@ abbrev pub is_large : Folder → Bool
 is_large f = nat_lt (limit_number limit.Files) (length f.sources)
 
 -- no folder is too large
-abbrev pub few : List Folder → Result (List Folder) FreezeFault
+abbrev pub few : List Folder → Result (List Folder) VersionsFault
 few fs = if list_any is_large fs then Err (passed limit.Files) else Ok fs
 
 -- the least number, if any, of a folder that isn't there
@@ -86,24 +86,24 @@ abbrev pub present : List Folder → List Folder
 present fs = filter (λ f. f.is_there) fs
 
 -- the versions, where no number is missing
-abbrev pub complete : Option ℕ → List Version → Result (List Version) FreezeFault
+abbrev pub complete : Option ℕ → List Version → Result (List Version) VersionsFault
 complete None versions = Ok versions
 complete (Some number) versions = Err (fault.BadVersions number)
 
 -- the folders, or the limit that is passed: `versions`, then `files`
-abbrev pub folders_in : List (List ℕ) → Result (List Folder) FreezeFault
+abbrev pub folders_in : List (List ℕ) → Result (List Folder) VersionsFault
 folders_in paths = do
   all ← numbered (places paths)
   few all
 
 -- the versions in these folders; else the limit `file-bytes`, and then the least number that is missing
-abbrev pub all_in : Files → List ℕ → List Folder → Result (List Version) FreezeFault
+abbrev pub all_in : Files → List ℕ → List Folder → Result (List Version) VersionsFault
 all_in files api fs = do
   versions ← versions_in files api (present fs)
   complete (missing fs) versions
 
 -- The versions. The limits come before a missing number: `versions`, `files`, `file-bytes`, each over all versions.
-abbrev pub versions_at : Files → List ℕ → Result (List Version) FreezeFault
+abbrev pub versions_at : Files → List ℕ → Result (List Version) VersionsFault
 versions_at files api = do
   fs ← folders_in (listing api files)
   all_in files api fs

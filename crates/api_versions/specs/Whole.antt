@@ -1,10 +1,9 @@
 -- Which versions are whole: those whose `.hash` says what their files are, by either recipe (own).
-use Rattle.std.specs.Prelude.{ℕ, ◌||◌, Bool, false, if◌then◌else◌, List, [], ◌∷◌, Option, Some, None, Result, Ok, Err, bytes_eq}
+use Rattle.std.specs.Prelude.{ℕ, ◌||◌, Bool, false, if◌then◌else◌, List, [], ◌∷◌, Option, Some, None, bytes_eq}
 use Rattle.api_hash.specs.declared.hashing.Recipe.TheVariants.{One, Two}
 use Rattle.api_hash.specs.HashText.{hash_text}
-use Rattle.api_versions.specs.declared.fault.FreezeFault.{FreezeFault}
-use Rattle.api_versions.specs.declared.fault.FreezeFault.TheVariants as fault
 use Rattle.api_versions.specs.declared.version.Version.{Version}
+use Rattle.api_versions.specs.declared.whole.Torn.{Torn}
 
 -- the text that `.hash` is to have: that of the second recipe, which ties it to the version's number
 abbrev pub defined : Version → List ℕ
@@ -23,11 +22,11 @@ is_current v = is_kept v.kept (defined v)
 abbrev pub is_whole : Version → Bool
 is_whole v = is_kept v.kept (hash_text v.files One) || is_current v
 
--- what is answered for a version that isn't whole: what is kept, and the whole defined text
-abbrev pub torn : Version → FreezeFault
-torn v = fault.Torn v.number v.kept (defined v)
+-- of a version that isn't whole: what is kept, and the whole defined text
+abbrev pub torn_of : Version → Torn
+torn_of v = record { version = v.number; kept = v.kept; text = defined v }
 
--- nothing, where each version is whole; else the refusal for the least that isn't
-abbrev pub all_whole : List Version → Result (Unit {0}) FreezeFault
-all_whole [] = Ok tt
-all_whole (v ∷ vs) = if is_whole v then all_whole vs else Err (torn v)
+-- the least version that isn't whole, if any
+abbrev pub first_torn : List Version → Option Torn
+first_torn [] = None
+first_torn (v ∷ vs) = if is_whole v then first_torn vs else Some (torn_of v)

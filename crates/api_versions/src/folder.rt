@@ -8,7 +8,7 @@ use aidl_base::OutOfMemory;
 use std::alloc::Global;
 
 /// What stands below the folder of a version.
-#[derive(Debug, Drop)]
+#[derive(Drop)]
 pub struct Folder {
     pub number: u32,
     /// whether any file stands there

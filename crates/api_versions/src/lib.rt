@@ -15,10 +15,10 @@ mod whole;
 mod whole_folders;
 mod writes;
 
-pub use fault::{FreezeFault, limit_passed};
+pub use fault::VersionsFault;
 pub use paths::{hash_path, version_folder};
 pub use reading::versions;
 pub use text::text_of;
 pub use version::Version;
-pub use whole::{all_whole, defined_text, is_current, is_whole};
+pub use whole::{Torn, defined_text, first_torn, is_current, is_whole};
 pub use writes::{Write, write_all};

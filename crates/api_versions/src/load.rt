@@ -8,7 +8,7 @@ ghost use Rattle.api_versions.specs.Asks.{FailedCall};
 ghost use Rattle.api_versions.specs.Answers.{Gives, ReadCause};
 ghost use Rattle.api_versions.specs.Versions.{file_at, within};
 
-use crate::fault::{FreezeFault, limit_passed, read_fault};
+use crate::fault::{VersionsFault, limit_passed, read_fault};
 use aidl_base::{LimitName, Row};
 use aidl_outside::{Store, path_below};
 use std::alloc::Global;
@@ -19,7 +19,7 @@ pub fn load_below<S: Store>(
     folder: &str,
     path: &str,
     store: &mut S,
-) -> Result<Option<Row<u8>>, FreezeFault>
+) -> Result<Option<Row<u8>>, VersionsFault>
     ensures told { Tells (S.kept store.old)
         (λ files. Gives (file_at files (path_below folder.now path.now)) result) }
     ensures unchanged { S.kept store.new ≡ S.kept store.old }
@@ -29,12 +29,16 @@ pub fn load_below<S: Store>(
 {
     match path_below(alloc, folder, path) {
         Ok(whole) => load(alloc, whole.as_str(), store),
-        Err(_) => Err(FreezeFault::OutOfMemory),
+        Err(_) => Err(VersionsFault::OutOfMemory),
     }
 }
 
 // The file at a path.
-fn load<S: Store>(alloc: Global, path: &str, store: &mut S) -> Result<Option<Row<u8>>, FreezeFault>
+fn load<S: Store>(
+    alloc: Global,
+    path: &str,
+    store: &mut S,
+) -> Result<Option<Row<u8>>, VersionsFault>
     ensures told { Tells (S.kept store.old) (λ files. Gives (file_at files path.now) result) }
     ensures unchanged { S.kept store.new ≡ S.kept store.old }
     ensures cause { ReadCause (S.fault_record store.old) (S.fault_record store.new) result }
@@ -48,7 +52,7 @@ fn load<S: Store>(alloc: Global, path: &str, store: &mut S) -> Result<Option<Row
 }
 
 // What was read, where it isn't too long.
-fn held(file: Option<Vec<u8>>) -> Result<Option<Row<u8>>, FreezeFault>
+fn held(file: Option<Vec<u8>>) -> Result<Option<Row<u8>>, VersionsFault>
     ensures { result ≡ within (option_map {U = List ℕ} (λ bytes. bytes.items) file) }
 {
     let Some(bytes) = file else {

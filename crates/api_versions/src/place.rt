@@ -9,7 +9,7 @@ ghost use Rattle.api_versions.specs.Seen.{place_seen};
 
 /// Where a file below an API stands: the number of its version, and its path relative to that version's folder. Numbers
 /// above 9,999 are 10,000 here.
-#[derive(Clone, Copy, Debug)]
+#[derive(Clone, Copy)]
 pub struct Place<'a> {
     pub number: u32,
     pub path: &'a str,

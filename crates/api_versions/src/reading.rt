@@ -11,7 +11,7 @@ ghost use Rattle.api_versions.specs.Versions as meant;
 ghost use Rattle.api_versions.specs.Versions.{AreNumbered, are_ascending};
 ghost use Rattle.api_versions.specs.Seen.{folder_seen};
 
-use crate::fault::{FreezeFault, read_fault};
+use crate::fault::{VersionsFault, read_fault};
 use crate::folder::Folder;
 use crate::load::load_below;
 use crate::paths::version_folder;
@@ -30,7 +30,7 @@ pub fn versions<S: Store>(
     alloc: Global,
     store: &mut S,
     api: &str,
-) -> Result<Row<Version>, FreezeFault>
+) -> Result<Row<Version>, VersionsFault>
     ensures told { Tells (S.kept store.old)
         (λ files. Gives (meant.versions_at files api.now) result) }
     ensures numbered { IfOk result AreNumbered }
@@ -48,7 +48,7 @@ pub fn versions<S: Store>(
 }
 
 // The paths of all files below an API.
-fn listed<S: Store>(alloc: Global, api: &str, store: &mut S) -> Result<Vec<String>, FreezeFault>
+fn listed<S: Store>(alloc: Global, api: &str, store: &mut S) -> Result<Vec<String>, VersionsFault>
     ensures told { Tells (S.kept store.old) (λ files.
         GivesAs (λ paths. map string_bytes paths.items) (Ok (listing api.now files)) result) }
     ensures ascending { IfOk result (λ paths. is_ascending (map string_bytes paths.items) ≡ true) }
@@ -68,7 +68,7 @@ fn load_all<S: Store>(
     api: &str,
     folders: Vec<Folder>,
     store: &mut S,
-) -> Result<Row<Version>, FreezeFault>
+) -> Result<Row<Version>, VersionsFault>
     ensures told { Tells (S.kept store.old)
         (λ files. Gives (meant.all_in files api.now (map folder_seen folders.items)) result) }
     ensures numbered { map (λ f. f.number) (map folder_seen folders.items)
@@ -94,7 +94,7 @@ fn load_versions<S: Store>(
     api: &str,
     folders: Vec<Folder>,
     store: &mut S,
-) -> Result<Row<Version>, FreezeFault>
+) -> Result<Row<Version>, VersionsFault>
     ensures told { Tells (S.kept store.old)
         (λ files. Gives (meant.versions_in files api.now (map folder_seen folders.items)) result) }
     ensures numbers { IfOk result (λ versions.
@@ -121,7 +121,7 @@ fn load_version<S: Store>(
     api: &str,
     folder: Folder,
     store: &mut S,
-) -> Result<Version, FreezeFault>
+) -> Result<Version, VersionsFault>
     ensures told { Tells (S.kept store.old)
         (λ files. Gives (meant.version_at files api.now (folder_seen folder)) result) }
     ensures number { IfOk result (λ version. version.number ≡ folder.number) }
@@ -143,11 +143,11 @@ fn load_version<S: Store>(
 }
 
 // The versions, where no number is missing.
-fn complete(missing: Option<u32>, versions: Row<Version>) -> Result<Row<Version>, FreezeFault>
+fn complete(missing: Option<u32>, versions: Row<Version>) -> Result<Row<Version>, VersionsFault>
     ensures { result ≡ meant.complete missing versions }
 {
     match missing {
         None => Ok(versions),
-        Some(missing) => Err(FreezeFault::BadVersions { missing }),
+        Some(missing) => Err(VersionsFault::BadVersions { missing }),
     }
 }

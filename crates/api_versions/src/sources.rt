@@ -8,7 +8,7 @@ ghost use Rattle.api_versions.specs.Asks.{FailedCall};
 ghost use Rattle.api_versions.specs.Answers.{Gives, ReadCause};
 ghost use Rattle.api_versions.specs.Versions as meant;
 
-use crate::fault::FreezeFault;
+use crate::fault::VersionsFault;
 use crate::load::load_below;
 use aidl_base::{OutOfMemory, Row, SourceFile, Text};
 use aidl_outside::Store;
@@ -20,7 +20,7 @@ pub fn load_sources<S: Store>(
     folder: &str,
     paths: Vec<String>,
     store: &mut S,
-) -> Result<Row<SourceFile>, FreezeFault>
+) -> Result<Row<SourceFile>, VersionsFault>
     ensures told { Tells (S.kept store.old)
         (λ files. Gives (meant.sources_at files folder.now (map string_bytes paths.items)) result) }
     ensures ascending { is_ascending (map string_bytes paths.items) ≡ true

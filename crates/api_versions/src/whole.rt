@@ -1,13 +1,10 @@
 //! Whether versions are whole: the `.hash` that each keeps, against what the recipes give.
-ghost use Rattle.std.specs.Prelude.{◌≡◌, IfErr, IfOk};
-ghost use Rattle.api_versions.specs.Answers.{Gives};
+ghost use Rattle.std.specs.Prelude.{◌≡◌, IfOk};
 ghost use Rattle.api_versions.specs.Whole as meant;
-ghost use Rattle.api_versions.specs.Early.{IsEarly, IsTorn};
 
-use crate::fault::FreezeFault;
 use crate::text::text_of;
 use crate::version::Version;
-use aidl_base::{OutOfMemory, Row};
+use aidl_base::{OutOfMemory, Row, Text};
 use api_hash::{Recipe, hash_text};
 use std::alloc::Global;
 
@@ -46,29 +43,34 @@ fn is_kept(kept: &Option<Row<u8>>, text: &[u8]) -> bool
     }
 }
 
-/// Nothing, where each version is whole; else `Torn` for the least that isn't.
-pub fn all_whole(alloc: Global, versions: &[Version]) -> Result<(), FreezeFault>
-    ensures defined { Gives (meant.all_whole versions.now) result }
-    ensures early { IfErr result IsEarly }
-    ensures torn { IfErr result IsTorn }
+/// A version that isn't whole: its number, what its `.hash` keeps, and the text of the second recipe for it.
+#[derive(Drop)]
+pub struct Torn {
+    pub version: u32,
+    pub kept: Option<Row<u8>>,
+    pub text: Text,
+}
+
+/// The least version that isn't whole, if any.
+pub fn first_torn(alloc: Global, versions: &[Version]) -> Result<Option<Torn>, OutOfMemory>
+    ensures { IfOk result (λ torn. torn ≡ meant.first_torn versions.now) }
 {
     for version in versions {
         if !is_whole(alloc, version)? {
-            return Err(torn(alloc, version)?);
+            return Ok(Some(torn_of(alloc, version)?));
         }
     }
-    Ok(())
+    Ok(None)
 }
 
-// The refusal of a version that isn't whole.
-fn torn(alloc: Global, version: &Version) -> Result<FreezeFault, OutOfMemory>
-    ensures { IfOk result (λ fault. fault ≡ meant.torn version.now) }
+fn torn_of(alloc: Global, version: &Version) -> Result<Torn, OutOfMemory>
+    ensures { IfOk result (λ torn. torn ≡ meant.torn_of version.now) }
 {
     let defined = defined_text(alloc, version)?;
-    Ok(FreezeFault::Torn {
+    Ok(Torn {
         version: version.number,
         kept: copy_of(alloc, &version.kept)?,
-        defined: text_of(alloc, defined.as_slice())?,
+        text: text_of(alloc, defined.as_slice())?,
     })
 }
 

@@ -8,7 +8,7 @@ ghost use Rattle.api_versions.specs.Answers.{GivesAs, ReadCause};
 ghost use Rattle.api_versions.specs.Versions as meant;
 ghost use Rattle.api_versions.specs.Seen.{folder_seen};
 
-use crate::fault::{FreezeFault, limit_passed};
+use crate::fault::{VersionsFault, limit_passed};
 use crate::folder::Folder;
 use crate::folders::{folders, highest};
 use aidl_base::LimitName;
@@ -16,7 +16,7 @@ use std::alloc::Global;
 
 /// The folders of all versions by the paths below an API. Refused are numbers above 9,999, and then more than 4,096 `.aidl` files of
 /// a version.
-pub fn folders_in(alloc: Global, paths: &[String]) -> Result<Vec<Folder>, FreezeFault>
+pub fn folders_in(alloc: Global, paths: &[String]) -> Result<Vec<Folder>, VersionsFault>
     ensures defined { GivesAs (λ folders. map folder_seen folders.items)
         (meant.folders_in (map string_bytes paths.now)) result }
     ensures cause { (faults : StoreFaults) → ReadCause faults faults result }

@@ -3,7 +3,7 @@ use Rattle.std.specs.Prelude.{ℕ, ◌++◌, List, [], Option, Some, None, Ok, E
 use Rattle.std.specs.Str.{encode_utf8_all}
 use Rattle.aidl_schema.specs.declared.schema.Decl.{Decl}
 use Rattle.aidl_schema.specs.declared.schema.Method.{Method}
-use Rattle.call_scripts.specs.Names.{interface_named}
+use Rattle.aidl_schema.specs.Find.{interface_named}
 use Rattle.meta_calls.specs.Reserved.{reserved_method}
 use Rattle.tool_frame.specs.Answer.{Answer, Found, negative}
 use Rattle.wire_model.specs.Calls.{descriptor, method_at}

@@ -6,8 +6,7 @@ ghost use Rattle.ask_output.specs.Interfaces as step;
 ghost use Rattle.tool_frame.specs.Results.{EndsAs, Finds};
 
 use aidl_base::OutOfMemory;
-use aidl_schema::{Schema, methods_at};
-use call_scripts::interface_named;
+use aidl_schema::{Schema, interface_named, methods_at};
 use meta_calls::reserved_method;
 use std::alloc::Global;
 use stub_dispatch::descriptor_of;

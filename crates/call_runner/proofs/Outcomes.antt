@@ -8,7 +8,7 @@ use Rattle.aidl_schema.specs.declared.schema.Decl.{Decl}
 use Rattle.aidl_schema.specs.declared.schema.Kind.{Kind}
 use Rattle.aidl_schema.specs.declared.schema.Kind.TheVariants.{Interface, Parcelable, Union, Enum}
 use Rattle.aidl_schema.specs.declared.schema.Method.{Method}
-use Rattle.aidl_schema.specs.Find.{methods_at, methods_of_decl, number_of_name}
+use Rattle.aidl_schema.specs.Find.{interface_named, is_interface, is_interface_kind, methods_at, methods_of_decl, number_of_name}
 use Rattle.aidl_schema.specs.Names.{methods_of}
 use Rattle.aidl_values.specs.Data.{Items}
 use Rattle.stub_dispatch.specs.Sent.{sent_reply}
@@ -16,7 +16,6 @@ use Rattle.call_runner.specs.Lines.{call_code, line_of, received_at, reply_at, r
 use Rattle.call_runner.specs.Lines as lines
 use Rattle.call_runner.specs.Runs.{IsReplied, NamesOf, answer_by, methods_by, projected, seen_line, within_one}
 use Rattle.call_scripts.specs.Calls.{CallData, CallFits, TargetData, TargetFits, method_of_server}
-use Rattle.call_scripts.specs.Names.{interface_named, is_interface, is_interface_kind}
 use Rattle.wire_model.specs.Calls.{AnswerData, descriptor, is_oneway, method_at}
 use Rattle.wire_model.specs.Outcome.{Done, declared_as, method_like, outcome, outcome_within, received_call, seen_call}
 use Rattle.wire_model.specs.Outcome as calls

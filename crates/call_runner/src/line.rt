@@ -29,7 +29,7 @@ pub enum LineOut {
 
 /// The methods by whose types the values of a line are: the client's, by the number of its interface and its position there, and that
 /// of the server whose code the request has.
-#[derive(Clone, Copy, Debug)]
+#[derive(Clone, Copy)]
 pub struct Methods {
     pub interface: u32,
     pub method: u32,
@@ -47,7 +47,7 @@ pub struct LineRun {
 }
 
 /// Why a line has no answer.
-#[derive(Clone, Copy, Debug, PartialEq, Eq)]
+#[derive(Clone, Copy, PartialEq, Eq)]
 pub enum RunFault {
     /// A call of the link failed.
     LinkFault,

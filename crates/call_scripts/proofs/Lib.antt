@@ -1,6 +1,8 @@
 mod AnswerExamples
 mod Members
 mod Outs
+mod Fitting
+mod LineFits
 mod Passed
 mod ThrownFits
 mod Entries

@@ -5,15 +5,14 @@ use Rattle.std.proofs.lemmas.Slice.Eq.{bytes_eq-Decides}
 use Rattle.aidl_schema.specs.declared.schema.Decl.{Decl}
 use Rattle.aidl_schema.specs.declared.schema.Method.{Method}
 use Rattle.aidl_schema.specs.Broken.{same_method}
-use Rattle.aidl_schema.specs.Find.{methods_at}
-use Rattle.aidl_schema.specs.Names.{name_of}
+use Rattle.aidl_schema.specs.Find.{interface_named, methods_at}
+use Rattle.aidl_schema.specs.Names.{bytes_of, name_of}
 use Rattle.aidl_schema.specs.Same.{same_text}
-use Rattle.json_writing.specs.Named.{bytes_of}
 use Rattle.wire_model.specs.Calls.{descriptor, name_of_decl}
 use Rattle.wire_model.specs.Outcome.{declared_as, method_like}
 use Rattle.wire_model.proofs.lemmas.NamedTexts.{by_bytes, number_declared, same_position}
 use Rattle.call_scripts.specs.Calls.{IsServer, method_of_server}
-use Rattle.call_scripts.specs.Names.{interface_named, method_named, position_named, target_named}
+use Rattle.call_scripts.specs.Names.{method_named, position_named, target_named}
 use Rattle.call_scripts.specs.steps.Named.{IsWithin}
 use Rattle.aidl_base.proofs.lemmas.Lists.{position_within}
 use Rattle.call_scripts.proofs.lemmas.Methods.{found, number-named}

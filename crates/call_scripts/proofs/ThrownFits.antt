@@ -18,7 +18,7 @@ code_fits : (code : ℤ) → is_between (negsuc 7) (negsuc 0) code ≡ true → 
 code_fits (pos n) e = cc
 code_fits (negsuc n) e = let le : n ≤ 7 = grind (arith, nat_tests) in omega (arith, ints)
 
-error_fits : (error : ℤ) → is_between (negsuc 2147483647) (pos 2147483647) error ≡ true → FitsSigned w32 error
+pub error_fits : (error : ℤ) → is_between (negsuc 2147483647) (pos 2147483647) error ≡ true → FitsSigned w32 error
 error_fits (pos n) e = let le : n ≤ 2147483647 = grind (arith, nat_tests) in omega (arith, ints)
 error_fits (negsuc n) e = let le : n ≤ 2147483647 = grind (arith, nat_tests) in omega (arith, ints)
 

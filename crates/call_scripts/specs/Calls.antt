@@ -2,7 +2,7 @@
 use Rattle.std.specs.Prelude.{◌≡◌, ℕ, ◌<◌, ◌≤◌, List, length, Option, Some, None, option_and_then, option_map, Ok, Err}
 use Rattle.std.specs.Str.{encode_utf8_all}
 use Rattle.aidl_schema.specs.declared.schema.Decl.{Decl}
-use Rattle.aidl_schema.specs.Find.{methods_at}
+use Rattle.aidl_schema.specs.Find.{interface_named, methods_at}
 use Rattle.aidl_values.specs.Data.{Items}
 use Rattle.aidl_values.specs.View.{views}
 use Rattle.wire_model.specs.Calls.{AnswerData, answer_of, descriptor, method_at}
@@ -13,7 +13,6 @@ use Rattle.call_scripts.specs.declared.script.Script.{Script}
 use Rattle.call_scripts.specs.declared.script.Script.TheVariants as script
 use Rattle.call_scripts.specs.declared.script.Target.{Target}
 use Rattle.call_scripts.specs.declared.refused.Refused.{Refused}
-use Rattle.call_scripts.specs.Names.{interface_named}
 use Rattle.call_scripts.specs.Refusal.{Judged, Refusal}
 
 -- SERVER's method of the call's names, and its answer

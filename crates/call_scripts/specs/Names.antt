@@ -5,21 +5,10 @@ use Rattle.aidl_schema.specs.declared.schema.Decl.{Decl}
 use Rattle.aidl_schema.specs.declared.schema.Kind.{Kind}
 use Rattle.aidl_schema.specs.declared.schema.Kind.TheVariants.{Interface}
 use Rattle.aidl_schema.specs.declared.schema.Method.{Method}
-use Rattle.aidl_schema.specs.Find.{methods_at, number_of_name}
+use Rattle.aidl_schema.specs.Find.{interface_named, methods_at}
 use Rattle.aidl_schema.specs.Same.{same_text}
-use Rattle.json_writing.specs.Named.{bytes_of}
+use Rattle.aidl_schema.specs.Names.{bytes_of}
 pub use Rattle.wire_model.specs.Dots.{at_last_dot}
-
-abbrev pub is_interface_kind : Kind → Bool
-is_interface_kind (Interface ms) = true
-is_interface_kind _ = false
-
-abbrev pub is_interface : List Decl → ℕ → Bool
-is_interface S n = elim (slice_get S n) [ None ↦ false | Some d ↦ is_interface_kind d.kind ]
-
--- the number of the interface of this canonical name
-abbrev pub interface_named : List Decl → List ℕ → Option ℕ
-interface_named S name = option_and_then (λ n. if is_interface S n then Some n else None) (number_of_name S name)
 
 -- the position of the method of this name
 abbrev pub position_named : List Method → List ℕ → Option ℕ

@@ -1,5 +1,5 @@
 -- *Script*: what a line of a calls file means between CLIENT's declarations A and SERVER's B, or its first refusal (own).
-use Rattle.std.specs.Prelude.{ℕ, nat_le, List, [], ◌∷◌, length, Option, Some, None, Ok, codes}
+use Rattle.std.specs.Prelude.{◌≡◌, ℕ, nat_le, List, [], ◌∷◌, length, Option, Some, None, Ok, codes}
 use Rattle.serde_json.specs.Data as json
 use Rattle.serde_json.specs.Find.{get_member}
 use Rattle.aidl_schema.specs.declared.schema.Decl.{Decl}
@@ -11,7 +11,7 @@ use Rattle.call_scripts.specs.declared.refused.RefusedName.{RefusedName}
 use Rattle.call_scripts.specs.declared.refused.RefusedName.TheVariants.{NotJson, WrongShape, UnknownMethod, TooLarge}
 use Rattle.call_scripts.specs.Answers.{all_known, answer_from, unknown_in}
 use Rattle.call_scripts.specs.Arguments.{args_from}
-use Rattle.call_scripts.specs.Calls.{CallData, TargetData}
+use Rattle.call_scripts.specs.Calls.{CallData, CallFits, TargetData}
 use Rattle.call_scripts.specs.Names.{Named, method_meant}
 use Rattle.call_scripts.specs.Refusal.{Judged, ◌>>=◌, refuse, unless, at_call, at_args, at_answer}
 
@@ -76,3 +76,7 @@ script A B line = do
   j ← or_refuse NotJson [] (parsed_json line)  -- no JSON value
   ms ← members_of j  -- no object
   call_from A B ms
+
+-- each line that is a call is one that fits (`law_script_fits`)
+abbrev pub ScriptsFit : List Decl → List Decl → Type 0
+ScriptsFit A B = (line : List ℕ) (c : CallData) → script A B line ≡ Ok c → CallFits A B c

@@ -5,7 +5,7 @@ ghost use Rattle.call_scripts.specs.Names as meant;
 ghost use Rattle.call_scripts.specs.steps.Named.{IsNamed};
 ghost use Rattle.call_scripts.specs.steps.Seen.{named_data};
 
-use aidl_schema::{Kind, Method, Schema, find, law_valid, methods_at};
+use aidl_schema::{Method, Schema, interface_named, law_valid, methods_at};
 
 // The numbers of a call's interface and method, of the server's interface of that name and of its method of that name.
 #[derive(Clone, Copy)]
@@ -56,25 +56,6 @@ fn target_named(server: &Schema, interface: Option<u32>, method: &str) -> Option
     match interface {
         Some(number) => method_named(server, number, method),
         None => None,
-    }
-}
-
-/// The number of the interface of a canonical name, None where no declaration has it or it is none of an interface. It takes no memory.
-pub fn interface_named(schema: &Schema, name: &str) -> Option<u32>
-    ensures { result ≡ meant.interface_named schema.now.decls name.now }
-{
-    match find(schema, name) {
-        Some(number) if is_interface(schema, number) => Some(number),
-        _ => None,
-    }
-}
-
-fn is_interface(schema: &Schema, number: u32) -> bool
-    ensures { result ≡ meant.is_interface schema.now.decls number }
-{
-    match schema.decls.as_slice().get(number as usize) {
-        Some(decl) => matches!(decl.kind, Kind::Interface(_)),
-        None => false,
     }
 }
 

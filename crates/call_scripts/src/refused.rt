@@ -10,7 +10,7 @@ use json_values::{Fault, JsonFault};
 use std::alloc::{AllocError, Global};
 
 /// Why a line of a calls file is refused.
-#[derive(Clone, Copy, Debug, PartialEq, Eq)]
+#[derive(Clone, Copy, PartialEq, Eq)]
 pub enum RefusedName {
     /// It isn't UTF-8, or `serde_json` reads no value of it.
     NotJson,
@@ -50,7 +50,7 @@ impl RefusedName {
 }
 
 /// A refusal. `at` is a JSON pointer from the whole line, in which a key's `~` is written `~0` and its `/` is written `~1`.
-#[derive(Debug, Drop)]
+#[derive(Drop)]
 pub struct Refused {
     pub name: RefusedName,
     pub at: Text,

@@ -30,7 +30,7 @@ use std::alloc::Global;
 use stub_dispatch::{Callee, Side, reply_length, request_length};
 
 /// A method of the server, by its position in the interface, and what its handler answers.
-#[derive(Debug, Drop)]
+#[derive(Drop)]
 pub struct Target {
     pub method: u32,
     pub answer: Answer,
@@ -39,7 +39,7 @@ pub struct Target {
 /// A call. `interface` is the number of an interface of the client's schema and `method` the position of its method. `args` has a
 /// value for each `in` and `inout` argument, and for an `out` one the length of its array or null. `server` is the number of the
 /// server's interface of the same name, and `target` its method of the same name, where it has them.
-#[derive(Debug, Drop)]
+#[derive(Drop)]
 pub struct Call {
     pub interface: u32,
     pub method: u32,
@@ -49,7 +49,7 @@ pub struct Call {
 }
 
 /// What a line of a calls file means: its first refusal, or a call.
-#[derive(Debug, Drop)]
+#[derive(Drop)]
 pub enum Script {
     Refused(Refused),
     Call(Call),
@@ -166,19 +166,21 @@ fn sent_from(
     let callee = Callee::new(side, named.interface, named.method);
     let declared = callee.declared();
     let args = args_from(alloc, callee.schema(), declared.args.as_slice(), json)?;
-    let length = request_length(&callee, args.as_slice());
-    if is_small(length) {
+    if is_small(request_length(&callee, args.as_slice(), SENT_BYTES + 1)) {
         Ok(args)
     } else {
         Err(refusal(alloc, RefusedName::TooLarge, Place::Args))
     }
 }
 
-// Whether so many bytes, or `usize::MAX` where they are more, may be sent.
+// A parcel that is sent has at most so many bytes.
+const SENT_BYTES: usize = 1_048_576;
+
+// Whether so many bytes may be sent.
 fn is_small(length: usize) -> bool
     ensures { result ≡ nat_le length 1048576 }
 {
-    length <= 1_048_576
+    length <= SENT_BYTES
 }
 
 // The server's method and its answer. Where it lacks the method `json` isn't looked at.
@@ -216,7 +218,7 @@ fn answered(
         callee.now.decls callee.now.interface callee.now.method t) }
 {
     let answer = answer_from(alloc, callee, json)?;
-    if is_small(reply_length(callee, &answer)) {
+    if is_small(reply_length(callee, &answer, SENT_BYTES + 1)) {
         let method = callee.method();
         Ok(Target { method, answer })
     } else {

@@ -9,9 +9,10 @@ ghost use Rattle.aidl_schema.specs.Containment.{is_composite};
 ghost use Rattle.aidl_schema.specs.Seen.{seen};
 ghost use Rattle.aidl_schema.specs.Types.{form_of};
 
-use crate::alike::{same_flag, same_text};
 use aidl_base::{Const, Row, Text};
-use aidl_schema::{AidlType, Base, Enumerator, Field, Form, Kind, Schema, Shape, form_in};
+use aidl_schema::{
+    AidlType, Base, Enumerator, Field, Form, Kind, Schema, Shape, form_in, same_flag, same_text,
+};
 use std::alloc::Global;
 
 /// Whether two constants are the same.

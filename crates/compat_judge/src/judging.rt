@@ -15,10 +15,16 @@ use std::alloc::Global;
 
 /// A broken evolution rule: its number, from 1 for C1 to 19 for C19, and the place: a canonical name, or one with a
 /// member or an argument behind it.
-#[derive(Debug, Drop)]
+#[derive(Debug)]
 pub struct Broken {
     pub rule: u8,
     pub place: Text,
+}
+
+impl Drop for Broken {
+    fn drop(self) {
+        let Broken { rule: _, place: _ } = self;
+    }
 }
 
 /// Which evolution rules a new schema breaks (own; what may change at all: AOSP, "Stable AIDL"), sorted by the bytes of
@@ -44,7 +50,7 @@ fn judge_decl(
         ≡ found.old ++ breaks_of old.now.decls new.now.decls decl.now) }
 {
     let name = name_place(found.alloc(), &decl.name)?;
-    match find_decl(new, decl, &name) {
+    match find_decl(new, &name) {
         // C1: it is in old and not in new.
         None => found.name_if(1, &name, true),
         Some(after) => {

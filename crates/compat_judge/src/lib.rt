@@ -3,6 +3,7 @@
 
 mod alike;
 mod consts;
+mod differences;
 mod fields;
 mod findings;
 mod judging;
@@ -13,10 +14,8 @@ mod places;
 mod rules;
 mod shapes;
 mod sides;
-mod tests;
 
 pub use aidl_schema::law_chain;
-pub use alike::{same_text, same_type};
+pub use differences::{ArgumentTest, FieldTest, MethodTest};
 pub use judging::{Broken, judge};
 pub use laws::law_broken_in_order;
-pub use tests::{ArgumentTest, FieldTest, MethodTest};

@@ -4,7 +4,8 @@ ghost use Rattle.std.specs.List.{find, position_from};
 ghost use Rattle.std.specs.Option.{option_copied};
 ghost use Rattle.std.specs.Str.{bytes_eq, encode_utf8_all};
 ghost use Rattle.indexmap.specs.IndexMap.{get_by};
-ghost use Rattle.aidl_schema.specs.Broken.{same_name, whole};
+ghost use Rattle.aidl_schema.specs.Broken.{whole};
+ghost use Rattle.aidl_schema.specs.Same.{same_text};
 ghost use Rattle.compat_judge.specs.steps.Steps.{item_at, names_of, place_of};
 
 use aidl_base::{Ident, OutOfMemory, Text};
@@ -13,9 +14,8 @@ use indexmap::IndexMap;
 use std::alloc::Global;
 
 /// The declaration of this canonical name.
-pub fn find_decl<'a>(new: &'a Schema, decl: &Decl, name: &Text) -> Option<&'a Decl>
-    requires { name.now ≡ whole decl.now }
-    ensures { option_copied result ≡ find (λ e. same_name decl.now e) new.now.decls }
+pub fn find_decl<'a>(new: &'a Schema, name: &Text) -> Option<&'a Decl>
+    ensures { option_copied result ≡ find (λ e. same_text name.now (whole e)) new.now.decls }
 {
     law_valid(new);
     match find(new, name.as_str()) {

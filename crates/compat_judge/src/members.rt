@@ -8,13 +8,12 @@ ghost use Rattle.compat_judge.specs.steps.Shapes.{in_lost_constants, in_lost_enu
 ghost use Rattle.compat_judge.specs.steps.Steps.{both_of, breaks_at, names_of, places_among};
 ghost use Rattle.compat_judge.specs.steps.Tests.{keeps_constant};
 
-use crate::alike::same_base_code;
 use crate::consts::same_const;
 use crate::findings::Findings;
 use crate::lookup::{at_place, places_of};
 use crate::sides::{Common, Pair};
 use aidl_base::{Ident, OutOfMemory};
-use aidl_schema::{Constant, Enumerator, Kind, Method, methods_of};
+use aidl_schema::{Constant, Enumerator, Kind, Method, methods_of, same_base_code};
 use std::alloc::Global;
 
 /// The enumerators of an enum; none of what is no enum.

@@ -5,7 +5,8 @@ ghost use Rattle.compat_judge.specs.steps.Steps.{AreCommon, breaks_at, breaks_in
 ghost use Rattle.compat_judge.specs.steps.Steps.{data_rules, interface_rules, other_rules, parcelable_rules};
 ghost use Rattle.compat_judge.specs.steps.Tests.{fixed_breaks};
 
-use crate::alike::{same_flag, same_kind};
+use crate::alike::same_kind;
+use crate::differences::{ArgumentTest, FieldTest, MethodTest};
 use crate::fields::{
     fields_with_default, has_fields, parcelable_fields, same_backing, union_fields,
 };
@@ -13,9 +14,8 @@ use crate::findings::Findings;
 use crate::members::{c3, c17, c18, common_methods, method_places};
 use crate::shapes::{at_additions, at_arguments, at_fields, at_methods};
 use crate::sides::{Common, Pair};
-use crate::tests::{ArgumentTest, FieldTest, MethodTest};
 use aidl_base::OutOfMemory;
-use aidl_schema::{Decl, Field, fields_of, methods_of};
+use aidl_schema::{Decl, Field, fields_of, methods_of, same_flag};
 
 /// C2 to C19: what a declaration of old and that of its name in new break.
 pub fn broken_by(pair: &Pair<'_>, found: &mut Findings) -> Result<(), OutOfMemory>

@@ -6,11 +6,11 @@ ghost use Rattle.compat_judge.specs.steps.Shapes.{in_additions, in_arguments, in
 ghost use Rattle.compat_judge.specs.steps.Steps.{both_of};
 
 use crate::consts::is_refused_addition;
-use crate::findings::Findings;
-use crate::sides::{Common, Pair};
-use crate::tests::{
+use crate::differences::{
     ArgumentTest, FieldTest, MethodTest, argument_breaks, field_breaks, method_breaks,
 };
+use crate::findings::Findings;
+use crate::sides::{Common, Pair};
 use aidl_base::OutOfMemory;
 use aidl_schema::{Field, Method};
 

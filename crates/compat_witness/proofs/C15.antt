@@ -34,7 +34,7 @@ use Rattle.compat_witness.specs.Candidates.{Candidate, AreSmall, Shows}
 use Rattle.compat_witness.specs.Candidates as candidate
 use Rattle.compat_witness.specs.Places.{at_last_dot}
 use Rattle.compat_witness.specs.Reaching.{methods_reaching, asks, is_plain, are_plain, plain_value}
-use Rattle.compat_witness.specs.Rows.{is_empty, decl_at, candidates_if, differ_at, alternatives_of_decl, alternatives_in, low_alternative, ask_C15, row_C15}
+use Rattle.compat_witness.specs.Rows.{is_empty, decl_at, candidates_if, differ_at, alternatives_of_decl, alternatives_in, low_alternative, ask_named, ask_C15, row_C15}
 use Rattle.compat_witness.proofs.C16.{given_is}
 use Rattle.compat_witness.proofs.Low.{is_bad, low_bytes, low_spelled, low_fine, no_view, not_same}
 use Rattle.compat_witness.proofs.Numbers.{read_one}
@@ -228,17 +228,17 @@ module _ (old new : List Decl) (holds_old : AllHold old) (holds_new : AllHold ne
   -- One candidate of an entry of C15 at a field that counts differs.
   pub c15 : row_C15 old new p ≡ Some cs → Shows old new cs
   c15 row =
-      let by_decls : List ℕ × List ℕ → Option (List Candidate) = λ q. decl_at old q.0 (λ k. decl_at new q.0 (λ l. ask_C15 old k new q.1 (alternatives_in old k) (alternatives_in new l))) in
+      let by_decls : List ℕ × List ℕ → Option (List Candidate) = λ q. decl_at old q.0 (λ k. decl_at new q.0 (λ l. ask_named ask_C15 old k new l q.1 (alternatives_in old k) (alternatives_in new l))) in
       let y = and_then_is by_decls (at_last_dot p) cs row in
-      let z = and_then_is (λ k. decl_at new y.0.0 (λ l. ask_C15 old k new y.0.1 (alternatives_in old k) (alternatives_in new l))) (declared_as old y.0.0) cs y.2 in
-      let w = and_then_is (λ l. ask_C15 old z.0 new y.0.1 (alternatives_in old z.0) (alternatives_in new l)) (declared_as new y.0.0) cs z.2 in
+      let z = and_then_is (λ k. decl_at new y.0.0 (λ l. ask_named ask_C15 old k new l y.0.1 (alternatives_in old k) (alternatives_in new l))) (declared_as old y.0.0) cs y.2 in
+      let w = and_then_is (λ l. ask_named ask_C15 old z.0 new l y.0.1 (alternatives_in old z.0) (alternatives_in new l)) (declared_as new y.0.0) cs z.2 in
       let d = position_passes (λ (q : Decl). same_text y.0.0 (name_of q)) old z.0 z.1 in
       let e = position_passes (λ (q : Decl). same_text y.0.0 (name_of q)) new w.0 w.1 in
       let names : name_of d.0 ≡ name_of e.0 = sym (same_text_is y.0.0 (name_of d.0) d.2) ∙ same_text_is y.0.0 (name_of e.0) e.2 in
       let fs = union_fields d.0.kind in
       let gs = union_fields e.0.kind in
-      let asked' : ask_C15 old z.0 new y.0.1 fs gs ≡ Some cs =
-      subst (λ xs. ask_C15 old z.0 new y.0.1 fs xs ≡ Some cs) (ap alternatives_of_decl e.1) (subst (λ xs. ask_C15 old z.0 new y.0.1 xs (alternatives_in new w.0) ≡ Some cs) (ap alternatives_of_decl d.1) w.2) in
+      let asked' : ask_named ask_C15 old z.0 new w.0 y.0.1 fs gs ≡ Some cs =
+      subst (λ xs. ask_named ask_C15 old z.0 new w.0 y.0.1 fs xs ≡ Some cs) (ap alternatives_of_decl e.1) (subst (λ xs. ask_named ask_C15 old z.0 new w.0 y.0.1 xs (alternatives_in new w.0) ≡ Some cs) (ap alternatives_of_decl d.1) w.2) in
       let test = λ (k : ℕ). not (is_empty (methods_reaching old z.0 new)) && ((are_plain fs && are_plain gs) && differ_at old new (slice_get fs k) (slice_get gs k)) in
       let value = λ (k : ℕ). low_alternative k fs in
       let u = and_then_is (λ k. candidates_if (test k) (asks false (methods_reaching old z.0 new) (value k ∷ []))) (position (λ (q : Field). same_text q.name.0 y.0.1) fs) cs asked' in

@@ -96,11 +96,13 @@ module _ (A : List Decl) (i m : ℕ) (v : Method) (B : List Decl) (j n : ℕ) (w
   abbrev answer : Option AnswerData
   answer = Some (returned r none)
 
+  two_way_there : is_oneway B j n ≡ false
+  two_way_there = ap is_oneway_of at_w ∙ two_way
+
   read_is : at_method no_reply (λ j n. read_reply A i m B j n (answer_bytes B j n answer)) (counterpart A i m B) ≡ client (of_result (result_at Strict A v.result sent))
   read_is =
-      let one : is_oneway B j n ≡ false = ap is_oneway_of at_w ∙ two_way in
       ap (at_method no_reply (λ j n. read_reply A i m B j n (answer_bytes B j n answer))) found
-      ∙ ap (λ b. cond b no_reply (client (receiver.client Strict A i m (wire.reply B j n (returned r none))))) one ∙ ap client client_is
+      ∙ ap (λ b. cond b no_reply (client (receiver.client Strict A i m (wire.reply B j n (returned r none))))) two_way_there ∙ ap client client_is
 
   abbrev then_outs : Option (Option Data) → Option Items → Side
   then_outs o os = client (or_status bad_value o >>= λ r. or_status bad_value os >>= λ vs. Ok (returned r vs))
@@ -123,7 +125,7 @@ module _ (A : List Decl) (i m : ℕ) (v : Method) (B : List Decl) (j n : ℕ) (w
   pub result_fits : ResultFits B w.result r → IsAnswerAt B (counterpart A i m B) answer
   result_fits fits =
       let each : EachFits B (out_types B j n) none = subst (λ ts. EachFits B ts none) (sym outs_b) tt in
-      subst (λ q. IsAnswerAt B q answer) (sym found) (subst (λ t. ResultFits B t r) (sym result_b) fits, each)
+      subst (λ q. IsAnswerAt B q answer) (sym found) (two_way_there, (subst (λ t. ResultFits B t r) (sym result_b) fits, each))
 
 -- what is and isn't plain
 result_plain : (t : AidlType) → is_plain_result (Some t) ≡ true → IsPlain t

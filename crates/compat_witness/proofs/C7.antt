@@ -103,11 +103,13 @@ module _ (A : List Decl) (i m : ℕ) (v : Method) (B : List Decl) (j n : ℕ) (w
       ∙ ap (λ t. then_result t (out_types A i m)) result_a ∙ ap (λ ts. then_result None ts) outs_a
       ∙ whole_left (returned None none) sent (not_empty sent (spell_whole B b.ty z))
 
+  two_way_there : is_oneway B j n ≡ false
+  two_way_there = ap is_oneway_of at_w ∙ two_way
+
   read_is : at_method no_reply (λ j n. read_reply A i m B j n (answer_bytes B j n answer)) (counterpart A i m B) ≡ client (Err bad_value)
   read_is =
-      let one : is_oneway B j n ≡ false = ap is_oneway_of at_w ∙ two_way in
       ap (at_method no_reply (λ j n. read_reply A i m B j n (answer_bytes B j n answer))) found
-      ∙ ap (λ b. cond b no_reply (client (receiver.client Strict A i m (wire.reply B j n (returned None (item z none)))))) one ∙ ap client client_is
+      ∙ ap (λ b. cond b no_reply (client (receiver.client Strict A i m (wire.reply B j n (returned None (item z none)))))) two_way_there ∙ ap client client_is
 
   abbrev then_outs : Option (Option Data) → Option Items → Side
   then_outs o os = client (or_status bad_value o >>= λ r. or_status bad_value os >>= λ vs. Ok (returned r vs))
@@ -129,7 +131,7 @@ module _ (A : List Decl) (i m : ℕ) (v : Method) (B : List Decl) (j n : ℕ) (w
 
   pub unasked_fits : Fits B b.ty z → IsAnswerAt B (counterpart A i m B) answer
   unasked_fits fits = subst (λ q. IsAnswerAt B q answer) (sym found)
-      (subst (λ t. ResultFits B t None) (sym result_b) tt, subst (λ ts. EachFits B ts (item z none)) (sym outs_b) (fits, tt))
+      (two_way_there, (subst (λ t. ResultFits B t None) (sym result_b) tt, subst (λ ts. EachFits B ts (item z none)) (sym outs_b) (fits, tt)))
 
 -- what stands after the length of an array of one
 abbrev after_one : List Decl → AidlType → Data → List ℕ

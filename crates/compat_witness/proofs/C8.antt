@@ -22,8 +22,8 @@ use Rattle.compat_witness.proofs.Pairs.{named, like_back, pair_is, in_both_is}
 
 -- A reply of a oneway method to a client that waits for one.
 module _ (A : List Decl) (i m : ℕ) (B : List Decl) (j n : ℕ) (found : counterpart A i m B ≡ Some (j, n)) where
-  pub nothing_fits : IsAnswerAt B (counterpart A i m B) None
-  nothing_fits = subst (λ q. IsAnswerAt B q None) (sym found) tt
+  pub nothing_fits : is_oneway B j n ≡ true → IsAnswerAt B (counterpart A i m B) None
+  nothing_fits one = subst (λ q. IsAnswerAt B q None) (sym found) one
 
   pub nothing_small : length (at_method [] (λ j n. answer_bytes B j n None) (counterpart A i m B)) ≤ 1048576
   nothing_small = subst (λ q. length (at_method [] (λ j n. answer_bytes B j n None) q) ≤ 1048576) (sym found) (omega arith)
@@ -76,7 +76,7 @@ module _ (old new : List Decl) (holds_old : AllHold old) (holds_new : AllHold ne
           let there : Has cs c = subst (λ ds. Has ds c) (subst (λ b. cond b (candidate.reply true t.interface t.position None) (candidate.reply false s.interface s.position None) ∷ [] ≡ cs) one is) (0, refl) in (
             c,
             there,
-            record { fits = nothing_fits new t.interface t.position old s.interface s.position back; small = nothing_small new t.interface t.position old s.interface s.position back },
+            record { fits = nothing_fits new t.interface t.position old s.interface s.position back (oneway_s ∙ one); small = nothing_small new t.interface t.position old s.interface s.position back },
             nothing_differs new t.interface t.position old s.interface s.position back (oneway_s ∙ one),
           )
       by s t false one alone oneway_s oneway_t forth back is =
@@ -85,6 +85,6 @@ module _ (old new : List Decl) (holds_old : AllHold old) (holds_new : AllHold ne
           let two : t.method.oneway ≡ true = one_alone s.method.oneway t.method.oneway alone one in (
             c,
             there,
-            record { fits = nothing_fits old s.interface s.position new t.interface t.position forth; small = nothing_small old s.interface s.position new t.interface t.position forth },
+            record { fits = nothing_fits old s.interface s.position new t.interface t.position forth (oneway_t ∙ two); small = nothing_small old s.interface s.position new t.interface t.position forth },
             nothing_differs old s.interface s.position new t.interface t.position forth (oneway_t ∙ two),
           )

@@ -15,6 +15,7 @@ mod Lists
 mod Low
 mod Needs
 mod Numbers
+mod OneValue
 mod Pairs
 mod Plain
 mod Reached

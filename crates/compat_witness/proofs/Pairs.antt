@@ -1,6 +1,6 @@
 -- The two methods of a place, in old and in new; and a method that is like another is so the other way round.
 use Rattle.std.proofs.Common.{◌≡◌, ℕ, zero, suc, Bool, true, false, ◌==◌, cond, List, [], ◌∷◌, Option, Some, None, slice_get, find, refl, sym, ap, ◌∙◌, subst}
-use Rattle.std.specs.Prelude.{option_and_then}
+use Rattle.std.specs.Prelude.{option_and_then, option_map}
 use Rattle.aidl_schema.proofs.lemmas.Sames.{same_text_is, same_text_refl, same_text_sym}
 use Rattle.aidl_schema.specs.declared.schema.Arg.{Arg}
 use Rattle.aidl_schema.specs.declared.schema.Decl.{Decl}
@@ -17,10 +17,10 @@ use Rattle.wire_model.proofs.lemmas.Lookups.{found_is, same_place, position_is, 
 use Rattle.compat_witness.specs.Candidates.{Candidate, counterpart}
 use Rattle.compat_witness.specs.Places.{Spot, spot_of, spot_like}
 use Rattle.compat_witness.specs.Reaching.{only}
-use Rattle.compat_witness.specs.Rows.{in_both, of_arguments, with_one}
+use Rattle.compat_witness.specs.Rows.{both_only, in_both, of_only, with_one}
 use Rattle.compat_witness.proofs.C16.{found_decl}
 use Rattle.compat_witness.proofs.Reached.{eq_is, only_is}
-use Rattle.compat_witness.proofs.Spots.{and_then_is, IsSpotOf, spot_is, IsLike, like_is}
+use Rattle.compat_witness.proofs.Spots.{and_then_is, map_is, IsSpotOf, spot_is, IsLike, like_is}
 
 -- the method m of the interface i of A, like the spot s of B
 module _ (A B : List Decl) (holdsA : AllHold A) (apartA : AreApart name_of A) (i m : ℕ) (d : Decl) (v : Method) (here : slice_get A i ≡ Some d) (at : slice_get (methods_of d.kind) m ≡ Some v)
@@ -124,17 +124,17 @@ pub record IsWithOne (old new : List Decl) (p : List ℕ) (F : Spot → Spot →
   pub only_b : t.method.args ≡ b ∷ []
   pub given : F s t a b ≡ Some cs
 
-when_true : (b : Bool) (o : Option (List Candidate)) (cs : List Candidate) → cond b o None ≡ Some cs → (b ≡ true) × (o ≡ Some cs)
-when_true true o cs e = (refl, e)
-when_true false o cs e = cc
+when_true : {X : Type 0} (b : Bool) (o : Option X) (x : X) → cond b o None ≡ Some x → (b ≡ true) × (o ≡ Some x)
+when_true true o x e = (refl, e)
+when_true false o x e = cc
 
 pub with_one_is : (old new : List Decl) (p : List ℕ) (F : Spot → Spot → Arg → Arg → Option (List Candidate)) (cs : List Candidate) → with_one old new p F ≡ Some cs → IsWithOne old new p F cs
 with_one_is old new p F cs e =
-    let asks : Spot → Spot → Option (List Candidate) = λ s w. cond (s.method.id == w.method.id) (of_arguments (only s.method.args) (only w.method.args) (F s w)) None in
-    let x = in_both_is old new p asks cs e in
-    let y = when_true (x.s.method.id == x.t.method.id) (of_arguments (only x.s.method.args) (only x.t.method.args) (F x.s x.t)) cs x.given in
-    let a = and_then_is (λ a. option_and_then (F x.s x.t a) (only x.t.method.args)) (only x.s.method.args) cs y.1 in
-    let b = and_then_is (F x.s x.t a.0) (only x.t.method.args) cs a.2 in
+    let x = in_both_is old new p (of_only F) cs e in
+    let q = and_then_is (λ (q : Arg × Arg). F x.s x.t q.0 q.1) (both_only x.s x.t) cs x.given in
+    let y = when_true (x.s.method.id == x.t.method.id) (option_and_then (λ a. option_map {U = Arg × Arg} (λ b. (a, b)) (only x.t.method.args)) (only x.s.method.args)) q.0 q.1 in
+    let a = and_then_is (λ a. option_map {U = Arg × Arg} (λ b. (a, b)) (only x.t.method.args)) (only x.s.method.args) q.0 y.1 in
+    let b = map_is (λ b. let r : Arg × Arg = (a.0, b) in r) (only x.t.method.args) q.0 a.2 in
     record {
       s = x.s;
       t = x.t;
@@ -145,7 +145,7 @@ with_one_is old new p F cs e =
       id = eq_is x.s.method.id x.t.method.id y.0;
       only_a = only_is x.s.method.args a.0 a.1;
       only_b = only_is x.t.method.args b.0 b.1;
-      given = b.2;
+      given = subst (λ (r : Arg × Arg). F x.s x.t r.0 r.1 ≡ Some cs) (sym b.2) q.2;
     }
 
 -- the one argument stands at each position

@@ -1,5 +1,6 @@
 -- What it means that a method reaches a declaration, and that it then does so the other way round.
 use Rattle.std.proofs.Common.{◌≡◌, ℕ, ◌+◌, Bool, true, false, not, ◌&&◌, ◌==◌, List, [], ◌∷◌, map, Option, Some, None, slice_get, refl, sym, ap, ◌∙◌, subst, arith}
+use Rattle.std.specs.Prelude.{if◌then◌else◌, option_and_then}
 use Rattle.std.specs.List.{filter, enumerate_from}
 use Rattle.std.proofs.lemmas.Bool.Decides.{nat_tests}
 use Rattle.aidl_base.proofs.lemmas.Tests.{both}
@@ -27,9 +28,9 @@ use Rattle.wire_model.specs.Outcome.{declared_as, method_like}
 use Rattle.wire_model.proofs.lemmas.Lookups.{position_is, position_passes}
 use Rattle.compat_witness.specs.Candidates.{request}
 use Rattle.compat_witness.specs.Places.{Spot, spot_like}
-use Rattle.compat_witness.specs.Reaching.{only, is_number, takes, both_take, reaches, reaching_in, methods_reaching, asks}
+use Rattle.compat_witness.specs.Reaching.{only, number_of, are_alike, has_argument, declaration_reached, is_at, reaches, reaching_in, methods_reaching, asks}
 use Rattle.compat_witness.proofs.Lists.{in_flat, flat_has, in_map, map_has, in_filter, filter_has, in_numbered, numbered_has}
-use Rattle.compat_witness.proofs.Spots.{IsLike, like_is}
+use Rattle.compat_witness.proofs.Spots.{and_then_is, IsLike, like_is}
 
 -- The method v at (i, m) of A, and that of its names in B, reach the declaration k of A.
 pub record Reached (A : List Decl) (k : ℕ) (B : List Decl) (i m : ℕ) : Type 0 where
@@ -46,7 +47,7 @@ pub record Reached (A : List Decl) (k : ℕ) (B : List Decl) (i m : ℕ) : Type 
   pub only_b : other.method.args ≡ b ∷ []
   pub in_a : is_in_way a.way ≡ true
   pub in_b : is_in_way b.way ≡ true
-  pub number : is_number k a.ty.base ≡ true
+  pub number : a.ty.base ≡ base.Named k
   pub one : is_one_value a.ty ≡ true
   pub same_type : same A a.ty B b.ty ≡ true
 
@@ -62,33 +63,53 @@ there_and test (Some x) e = (x, refl, e)
 pub eq_is : (m n : ℕ) → (m == n) ≡ true → m ≡ n
 eq_is m n e = grind (arith, nat_tests)
 
+if_some : {X : Type 0} (b : Bool) (x y : X) → (if b then Some x else None) ≡ Some y → (b ≡ true) × (x ≡ y)
+if_some true x y e = let is : x ≡ y = cc in (refl, is)
+if_some false x y e = cc
+
+named_by : (b : Base) (n : ℕ) → number_of b ≡ Some n → b ≡ base.Named n
+named_by base.Boolean n e = cc
+named_by base.Byte n e = cc
+named_by base.Char n e = cc
+named_by base.Int n e = cc
+named_by base.Long n e = cc
+named_by base.Text n e = cc
+named_by (base.Named m) n e = let is : m ≡ n = cc in ap base.Named is
+
+at_some : (k : ℕ) (o : Option ℕ) → is_at k o ≡ true → o ≡ Some k
+at_some k None e = cc
+at_some k (Some n) e = ap (λ m. let o : Option ℕ = Some m in o) (eq_is n k e)
+
 module _ (A : List Decl) (k : ℕ) (B : List Decl) where
-  of_args : (i m : ℕ) (d : Decl) (v : Method) (s : Spot) → slice_get A i ≡ Some d → slice_get (methods_of d.kind) m ≡ Some v → IsLike A i v B s → v.id ≡ s.method.id
-      → (x y : Option Arg) → only v.args ≡ x → only s.method.args ≡ y → both_take A k B x y ≡ true → Reached A k B i m
-  of_args i m d v s here at like id None y p q h = cc
-  of_args i m d v s here at like id (Some a) None p q h = cc
-  of_args i m d v s here at like id (Some a) (Some b) p q h =
-      let one = both (is_in_way a.way && is_in_way b.way) (is_number k a.ty.base && (is_one_value a.ty && same A a.ty B b.ty)) h in
-      let ways = both (is_in_way a.way) (is_in_way b.way) one.0 in
-      let two = both (is_number k a.ty.base) (is_one_value a.ty && same A a.ty B b.ty) one.1 in
-      let three = both (is_one_value a.ty) (same A a.ty B b.ty) two.1 in
+  of_parts : (i m : ℕ) (d : Decl) (v : Method) → slice_get A i ≡ Some d → slice_get (methods_of d.kind) m ≡ Some v → reaches A k B i v ≡ true → Reached A k B i m
+  of_parts i m d v here at h =
+      let x = and_then_is (λ (a : Arg). option_and_then (λ n. if has_argument A B i v a then Some n else None) (number_of a.ty.base)) (only v.args) k (at_some k (declaration_reached A B i v) h) in
+      let a = x.0 in
+      let y = and_then_is (λ n. if has_argument A B i v a then Some n else None) (number_of a.ty.base) k x.2 in
+      let z = if_some (has_argument A B i v a) y.0 k y.2 in
+      let s = there_and (λ (s : Spot). (v.id == s.method.id) && is_there_and (are_alike A B a) (only s.method.args)) (spot_like A i v B) z.0 in
+      let t = both (v.id == s.0.method.id) (is_there_and (are_alike A B a) (only s.0.method.args)) s.2 in
+      let b = there_and (are_alike A B a) (only s.0.method.args) t.1 in
+      let one = both (is_in_way a.way && is_in_way b.0.way) (is_one_value a.ty && same A a.ty B b.0.ty) b.2 in
+      let ways = both (is_in_way a.way) (is_in_way b.0.way) one.0 in
+      let types = both (is_one_value a.ty) (same A a.ty B b.0.ty) one.1 in
       record {
         decl = d;
         method = v;
-        other = s;
+        other = s.0;
         a = a;
-        b = b;
+        b = b.0;
         here = here;
         at = at;
-        like = like;
-        id = id;
-        only_a = only_is v.args a p;
-        only_b = only_is s.method.args b q;
+        like = like_is A i v B s.0 s.1;
+        id = eq_is v.id s.0.method.id t.0;
+        only_a = only_is v.args a x.1;
+        only_b = only_is s.0.method.args b.0 b.1;
         in_a = ways.0;
         in_b = ways.1;
-        number = two.0;
-        one = three.0;
-        same_type = three.1;
+        number = named_by a.ty.base y.0 y.1 ∙ ap base.Named z.1;
+        one = types.0;
+        same_type = types.1;
       }
 
   pub reached : (i m : ℕ) → Has (methods_reaching A k B) (i, m) → Reached A k B i m
@@ -103,11 +124,8 @@ module _ (A : List Decl) (k : ℕ) (B : List Decl) where
       let is_m : y.0.0 ≡ m = ap (λ (q : ℕ × ℕ). q.1) y.2 in
       let at_i : d.0 ≡ i = omega (arith, d.1, is_i) in
       let at_m : v.0 ≡ m = omega (arith, v.1, is_m) in
-      let s = there_and (λ (s : Spot). (y.0.1.id == s.method.id) && both_take A k B (only y.0.1.args) (only s.method.args)) (spot_like A i y.0.1 B)
-      (subst (λ n. reaches A k B n y.0.1 ≡ true) is_i z.1) in
-      let t = both (y.0.1.id == s.0.method.id) (both_take A k B (only y.0.1.args) (only s.0.method.args)) s.2 in
-      of_args i m x.0.1 y.0.1 s.0 (subst (λ n. slice_get A n ≡ Some x.0.1) at_i d.2) (subst (λ n. slice_get (methods_of x.0.1.kind) n ≡ Some y.0.1) at_m v.2)
-      (like_is A i y.0.1 B s.0 s.1) (eq_is y.0.1.id s.0.method.id t.0) (only y.0.1.args) (only s.0.method.args) refl refl t.1
+      of_parts i m x.0.1 y.0.1 (subst (λ n. slice_get A n ≡ Some x.0.1) at_i d.2) (subst (λ n. slice_get (methods_of x.0.1.kind) n ≡ Some y.0.1) at_m v.2)
+      (subst (λ n. reaches A k B n y.0.1 ≡ true) is_i z.1)
 
   -- one that reaches it is among those that do
   pub has_reaching : (i m : ℕ) (d : Decl) (v : Method) → slice_get A i ≡ Some d → slice_get (methods_of d.kind) m ≡ Some v → reaches A k B i v ≡ true → Has (methods_reaching A k B) (i, m)
@@ -131,15 +149,6 @@ pub asked : (back : Bool) (ims : List (ℕ × ℕ)) (vs : List Data) (i m : ℕ)
 asked back ims vs i m v h at =
     let im : ℕ × ℕ = (i, m) in
     flat_has (λ (im : ℕ × ℕ). map (λ v. request back im.0 im.1 (item v none)) vs) ims im (request back i m (item v none)) h (map_has (λ v. request back i m (item v none)) vs v at)
-
-named_number : (k : ℕ) (b : Base) → is_number k b ≡ true → b ≡ base.Named k
-named_number k base.Boolean e = cc
-named_number k base.Byte e = cc
-named_number k base.Char e = cc
-named_number k base.Int e = cc
-named_number k base.Long e = cc
-named_number k base.Text e = cc
-named_number k (base.Named n) e = ap base.Named (eq_is n k e)
 
 -- the declarations that a type of A and the same type of B name, where A's is the declaration k
 pub record BaseOf (A : List Decl) (k : ℕ) (B : List Decl) (t u : AidlType) : Type 0 where
@@ -174,7 +183,7 @@ decls_of None r e = cc
 decls_of (Some d) None e = cc
 decls_of (Some d) (Some c) e = (d, c, refl, refl, ap dotted (same_idents_is d.name.0 c.name.0 e))
 
-module _ (A : List Decl) (k : ℕ) (B : List Decl) (t u : AidlType) (number : is_number k t.base ≡ true) (one : is_one_value t ≡ true) (is : same A t B u ≡ true) where
+module _ (A : List Decl) (k : ℕ) (B : List Decl) (t u : AidlType) (number : t.base ≡ base.Named k) (one : is_one_value t ≡ true) (is : same A t B u ≡ true) where
   by_base : (b : Base) → u.base ≡ b → same_base A (base.Named k) B b ≡ true → is_one_value u ≡ true → BaseOf A k B t u
   by_base base.Boolean e h one_u = cc
   by_base base.Byte e h one_u = cc
@@ -184,19 +193,17 @@ module _ (A : List Decl) (k : ℕ) (B : List Decl) (t u : AidlType) (number : is
   by_base base.Text e h one_u = cc
   by_base (base.Named n) e h one_u =
       let x = decls_of (slice_get A k) (slice_get B n) h in
-      record { mine = x.0; his = x.1; number = n; base_a = named_number k t.base number; base_b = e; here = x.2; there = x.3; names = x.4; one_a = one; one_b = one_u }
+      record { mine = x.0; his = x.1; number = n; base_a = number; base_b = e; here = x.2; there = x.3; names = x.4; one_a = one; one_b = one_u }
 
   pub base_of : BaseOf A k B t u
   base_of =
       let two = both (same_base A t.base B u.base) ((shape_code t.shape == shape_code u.shape) && same_bool t.nullable u.nullable) is in
       let three = both (shape_code t.shape == shape_code u.shape) (same_bool t.nullable u.nullable) two.1 in
       let values = both (is_one t.shape) (not t.nullable) one in
-      by_base u.base refl (subst (λ b. same_base A b B u.base ≡ true) (named_number k t.base number) two.0)
+      by_base u.base refl (subst (λ b. same_base A b B u.base ≡ true) number two.0)
       (both_true (is_one u.shape) (not u.nullable) (one_too t.shape u.shape values.0 three.0) (null_too t.nullable u.nullable values.1 three.1))
 
 -- what reaches a declaration reaches, the other way round, the one of that name
-is_it : (n : ℕ) → is_number n (base.Named n) ≡ true
-is_it n = eq_refl n
 
 module _ (A B : List Decl) (k l : ℕ) (holdsA : AllHold A) (apartA : AreApart name_of A) (apartB : AreApart name_of B) (f : Decl) (g : Decl)
     (mine : slice_get A k ≡ Some f) (his : slice_get B l ≡ Some g) (names : name_of f ≡ name_of g) (i m : ℕ) (r : Reached A k B i m) where
@@ -245,12 +252,16 @@ module _ (A B : List Decl) (k l : ℕ) (holdsA : AllHold A) (apartA : AreApart n
   pub back_reaches : reaches B l A r.other.interface r.other.method ≡ true
   back_reaches =
       let id : (r.other.method.id == r.method.id) ≡ true = subst (λ n. (n == r.method.id) ≡ true) r.id (eq_refl r.method.id) in
-      let base_b : is_number l r.b.ty.base ≡ true = subst (λ b. is_number l b ≡ true) (sym reached_base.base_b) (subst (λ n. is_number l (base.Named n) ≡ true) (sym number_is) (is_it l)) in
+      let base_b : number_of r.b.ty.base ≡ Some l = ap number_of (reached_base.base_b ∙ ap base.Named number_is) in
       let type : same B r.b.ty A r.a.ty ≡ true = same_sym A r.a.ty B r.b.ty r.same_type in
-      let taken : takes B l A r.b r.a ≡ true = rw (r.in_b, r.in_a, base_b, reached_base.one_b, type) refl in
-      let takes_both : both_take B l A (only r.other.method.args) (only r.method.args) ≡ true =
-      subst (λ xs. both_take B l A (only xs) (only r.method.args) ≡ true) (sym r.only_b) (subst (λ xs. both_take B l A (Some r.b) (only xs) ≡ true) (sym r.only_a) taken) in
-      rw (back_spot, id) takes_both
+      let alike : are_alike B A r.b r.a ≡ true = rw (r.in_b, r.in_a, reached_base.one_b, type) refl in
+      let arguments : is_there_and (are_alike B A r.b) (only r.method.args) ≡ true = subst (λ xs. is_there_and (are_alike B A r.b) (only xs) ≡ true) (sym r.only_a) alike in
+      let has : has_argument B A r.other.interface r.other.method r.b ≡ true = rw (back_spot, id) arguments in
+      let number : declaration_reached B A r.other.interface r.other.method ≡ Some l =
+      ap (λ xs. option_and_then (λ (a : Arg). option_and_then (λ n. if has_argument B A r.other.interface r.other.method a then Some n else None) (number_of a.ty.base)) (only xs)) r.only_b
+      ∙ ap (λ o. option_and_then (λ n. if has_argument B A r.other.interface r.other.method r.b then Some n else None) o) base_b
+      ∙ ap (λ t. if t then Some l else None) has in
+      ap (is_at l) number ∙ eq_refl l
 
   pub back_has : Has (methods_reaching B l A) (r.other.interface, r.other.position)
   back_has = has_reaching B l A r.other.interface r.other.position r.like.spot.decl r.other.method r.like.spot.here r.like.spot.at back_reaches

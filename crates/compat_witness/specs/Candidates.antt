@@ -1,11 +1,11 @@
 -- Calls that may show a broken rule: their bytes, their two sides, and when they count (own). `old` and `new` are the declarations of the two
 -- schemas.
-use Rattle.std.specs.Prelude.{◌≡◌, ℕ, ◌≤◌, Bool, if◌then◌else◌, List, [], length, Option, Some, None, option_map, option_and_then}
+use Rattle.std.specs.Prelude.{◌≡◌, ℕ, ◌≤◌, Bool, true, false, if◌then◌else◌, List, [], length, Option, Some, None, option_map, option_and_then}
 use Rattle.aidl_schema.specs.declared.schema.Decl.{Decl}
 use Rattle.aidl_schema.specs.Find.{methods_at}
 use Rattle.aidl_schema.specs.Unbroken.{Has}
 use Rattle.aidl_values.specs.Data.{Items}
-use Rattle.wire_model.specs.Calls.{AnswerData, descriptor, method_at}
+use Rattle.wire_model.specs.Calls.{AnswerData, descriptor, is_oneway, method_at}
 use Rattle.wire_model.specs.Outcome.{declared_as, method_like}
 use Rattle.wire_model.specs.Requests.{ArgsFit, IsAnswer}
 use Rattle.wire_model.specs.Requests as wire
@@ -46,10 +46,10 @@ bytes_of old new (reply back i m answer) = at_method []
     (λ j n. answer_bytes (server_of back old new) j n answer)
     (counterpart (client_of back old new) i m (server_of back old new))
 
--- it is an answer of the server's method; no answer is one of any method
+-- It is an answer of the server's two-way method; there is none exactly where that one is oneway.
 abbrev pub IsAnswerOf : List Decl → ℕ → ℕ → Option AnswerData → Type 0
-IsAnswerOf B j n None = Unit {0}
-IsAnswerOf B j n (Some a) = IsAnswer B j n a
+IsAnswerOf B j n None = is_oneway B j n ≡ true
+IsAnswerOf B j n (Some a) = (is_oneway B j n ≡ false) × IsAnswer B j n a
 
 -- the same, where the server has the method
 abbrev pub IsAnswerAt : List Decl → Option (ℕ × ℕ) → Option AnswerData → Type 0

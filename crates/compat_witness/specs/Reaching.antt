@@ -1,6 +1,6 @@
 -- Which methods reach a declaration, and the values that are sent to it (own). A is the client's declarations, B the server's, k the number of the
 -- declaration in A.
-use Rattle.std.specs.Prelude.{ℕ, zero, suc, pos, Bool, true, false, not, ◌&&◌, ◌==◌, if◌then◌else◌, List, [], ◌∷◌, map, Option, Some, None}
+use Rattle.std.specs.Prelude.{ℕ, zero, suc, pos, Bool, true, false, not, ◌&&◌, ◌==◌, if◌then◌else◌, List, [], ◌∷◌, map, Option, Some, None, option_and_then}
 use Rattle.std.specs.List.{filter, flat_map, list_all, enumerate_from}
 use Rattle.aidl_schema.specs.declared.schema.AidlType.{AidlType}
 use Rattle.aidl_schema.specs.declared.schema.Arg.{Arg}
@@ -26,24 +26,31 @@ only [] = None
 only (a ∷ []) = Some a
 only (a ∷ b ∷ xs) = None
 
--- the base names the declaration of this number
-abbrev pub is_number : ℕ → Base → Bool
-is_number k (base.Named n) = n == k
-is_number k _ = false
+-- the declaration that a base names
+abbrev pub number_of : Base → Option ℕ
+number_of (base.Named n) = Some n
+number_of _ = None
 
--- Both arguments are `in` and one value of the declaration, never null.
-abbrev pub takes : List Decl → ℕ → List Decl → Arg → Arg → Bool
-takes A k B a b = (is_in_way a.way && is_in_way b.way) && (is_number k a.ty.base && (is_one_value a.ty && same A a.ty B b.ty))
+-- Both arguments are `in` and one value of one type, never null.
+abbrev pub are_alike : List Decl → List Decl → Arg → Arg → Bool
+are_alike A B a b = (is_in_way a.way && is_in_way b.way) && (is_one_value a.ty && same A a.ty B b.ty)
 
--- the same, where each method has such an argument
-abbrev pub both_take : List Decl → ℕ → List Decl → Option Arg → Option Arg → Bool
-both_take A k B None b = false
-both_take A k B (Some a) None = false
-both_take A k B (Some a) (Some b) = takes A k B a b
+-- The other schema has the method by its names with the same id, and it has this one argument there too.
+abbrev pub has_argument : List Decl → List Decl → ℕ → Method → Arg → Bool
+has_argument A B i v a = is_there_and (λ s. (v.id == s.method.id) && is_there_and (are_alike A B a) (only s.method.args)) (spot_like A i v B)
 
--- The method reaches the declaration: the other schema has it by names with the same id, and it has this one argument in both.
+-- the declaration that a method reaches: the one that its only argument is of, which it has in both
+abbrev pub declaration_reached : List Decl → List Decl → ℕ → Method → Option ℕ
+declaration_reached A B i v = option_and_then (λ a. option_and_then (λ n. if has_argument A B i v a then Some n else None) (number_of a.ty.base)) (only v.args)
+
+-- a number is this one
+abbrev pub is_at : ℕ → Option ℕ → Bool
+is_at k None = false
+is_at k (Some n) = n == k
+
+-- The method reaches the declaration k.
 abbrev pub reaches : List Decl → ℕ → List Decl → ℕ → Method → Bool
-reaches A k B i v = is_there_and (λ s. (v.id == s.method.id) && both_take A k B (only v.args) (only s.method.args)) (spot_like A i v B)
+reaches A k B i v = is_at k (declaration_reached A B i v)
 
 -- the methods of one interface that reach it, each with the number of its interface
 abbrev pub reaching_in : List Decl → ℕ → List Decl → ℕ × Decl → List (ℕ × ℕ)

@@ -1,7 +1,9 @@
-//! The laws of witnesses, one for each row of the table: where the row's condition is met, one of its candidates shows the broken rule.
+//! The laws of witnesses, one for each row of the table: where the row's condition is met, one of its candidates shows the broken rule; and the
+//! law by which one method stands for all that reach a declaration.
 ghost use Rattle.std.specs.Prelude.{◌≡◌, ℕ, List, Some, None};
 ghost use Rattle.aidl_schema.specs.Broken.{broken};
 ghost use Rattle.aidl_schema.specs.Unbroken.{Has};
+ghost use Rattle.compat_witness.specs.Alike.{AreAlike};
 ghost use Rattle.compat_witness.specs.Candidates.{AreSmall, Candidate, Shows};
 ghost use Rattle.compat_witness.specs.Places.{at_slash};
 ghost use Rattle.compat_witness.specs.Rows.{row_C2, row_C3, row_C4, row_C5, row_C6, row_C6_at, row_C7_at, row_C8, row_C10, row_C11, row_C15, row_C16};
@@ -142,4 +144,12 @@ pub fn law_c16(old: &Schema, new: &Schema, place: &Text)
 {
     law_valid(old);
     law_valid(new);
+}
+
+/// The law of one value: of the methods that reach a declaration, where the request of one with a value counts and differs, so does that of each
+/// other one which has at most 1,048,576 bytes.
+pub fn law_alike(client: &Schema, server: &Schema)
+    ensures { AreAlike client.now.decls server.now.decls }
+{
+    law_valid(server);
 }

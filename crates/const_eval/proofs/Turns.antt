@@ -81,7 +81,7 @@ module _ (files : List Source) (rows : List (List ℕ)) (same : AreNext files ro
   before_small x first = All-nil Small
   before_small x (after place) = option_small (number_at (items files) x.file place) [] (at_small x.file place) (All-nil Small)
 
-  next_small : (o : Option Item) → All Small (next_of files o)
+  pub next_small : (o : Option Item) → All Small (next_of files o)
   next_small None = All-nil Small
   next_small (Some x) = All-append Small (filter_map (λ d. number_of files (target files x d)) (names_in x.value)) (number_before files x x.value)
       (map_small (λ d. number_of files (target files x d)) (λ d. among_small (target files x d)) (names_in x.value)) (before_small x x.value)

@@ -1,10 +1,10 @@
-//! Laws of the definitions of outcomes: no item has two, and their breaches are in order.
-ghost use Rattle.std.specs.Prelude.{◌≡◌, ℕ, map};
+//! Laws of the definitions of outcomes: each item has one and no two, and their breaches are in order.
+ghost use Rattle.std.specs.Prelude.{◌≡◌, ℕ, List, map};
 ghost use Rattle.aidl_names.specs.Breaches.{in_order};
-ghost use Rattle.aidl_syntax.specs.Sources.{source_of};
+ghost use Rattle.aidl_syntax.specs.Sources.{Source, source_of};
 ghost use Rattle.const_eval.specs.Breaches.{breaches};
 ghost use Rattle.const_items.specs.Items.{items};
-ghost use Rattle.const_eval.specs.Outcomes.{HasOutcome};
+ghost use Rattle.const_eval.specs.Outcomes.{AreOutcomes, HasOutcome};
 ghost use Rattle.const_eval.specs.declared.outcome.Outcome.{Outcome};
 
 use aidl_names::Names;
@@ -15,6 +15,11 @@ use const_items::law_places;
 pub fn law_one_outcome(files: &[ParsedFile])
     ensures { (n : ℕ) (first second : Outcome) → HasOutcome (map source_of files.now) n first
         → HasOutcome (map source_of files.now) n second → first ≡ second }
+{}
+
+/// A law of the definitions: the items of any files have outcomes, one for each.
+pub fn law_some_outcomes()
+    ensures { (files : List Source) → (outcomes : List Outcome) × AreOutcomes files outcomes }
 {}
 
 /// A law of the definitions: the breaches of the items of a tree, whatever their outcomes, are sorted by file, offset and rule, each

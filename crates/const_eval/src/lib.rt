@@ -16,7 +16,8 @@ mod stepping;
 mod tree;
 
 pub use breach_rows::breaches;
+pub use const_values::ConstFault;
 pub use eval::eval_all;
-pub use laws::{law_breaches_in_order, law_one_outcome};
+pub use laws::{law_breaches_in_order, law_one_outcome, law_some_outcomes};
 pub use outcome::Outcome;
 pub use settled::{InitId, Settled};

@@ -4,7 +4,7 @@ use aidl_base::Const;
 use const_values::ConstFault;
 
 /// What comes of an item.
-#[derive(Debug, Drop)]
+#[derive(Drop)]
 pub enum Outcome {
     /// its value
     Given(Const),

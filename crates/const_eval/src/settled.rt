@@ -10,7 +10,7 @@ use crate::outcome::Outcome;
 use const_items::{ItemRef, Items};
 
 /// The 0-based number of an item, in the order of files and places.
-#[derive(Clone, Copy, Debug, PartialEq, Eq)]
+#[derive(Clone, Copy, PartialEq, Eq)]
 pub struct InitId(pub u32);
 
 /// The items of a tree and the outcome of each.

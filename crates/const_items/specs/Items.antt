@@ -14,7 +14,7 @@ use Rattle.declared_names.specs.Declarations.{Entry, declarations}
 use Rattle.declared_names.specs.Numbered.{in_each}
 use Rattle.const_values.specs.declared.wanted.Wanted.{Wanted}
 use Rattle.type_shapes.specs.declared.shape.Shape.{Shape}
-use Rattle.type_shapes.specs.Types.{meaning_in, shaped, wanted_one, wanted_element}
+use Rattle.type_shapes.specs.Types.{shape_in, wanted_one, wanted_element}
 use Rattle.type_shapes.specs.Backing.{backing_of}
 use Rattle.type_shapes.specs.Initializers.{is_unjudged}
 
@@ -48,10 +48,6 @@ of_init entries file scope t unjudged (braces offset es) = map (of_expression fi
 -- of an initializer of a type, of a field that may be one after the first of a union
 abbrev pub of_typed : List Entry → ℕ → ℕ → Bool → Shape → Init → List Item
 of_typed entries file scope later t init = of_init entries file scope t (is_unjudged entries later t init) init
-
--- what a type is, below a declaration
-abbrev pub shape_in : List Source → ℕ → ℕ → TypeTree → Shape
-shape_in files file scope ty = shaped (declarations files) (meaning_in files file scope) ty
 
 abbrev pub of_initial : List Source → ℕ → ℕ → Bool → TypeTree → Option Init → List Item
 of_initial files file scope later ty None = []

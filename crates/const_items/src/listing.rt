@@ -12,7 +12,7 @@ ghost use Rattle.const_items.specs.ItemViews.{item_of, written_of};
 
 use crate::item::{ItemRef, Scope, WrittenRef};
 use aidl_base::OutOfMemory;
-use aidl_names::Names;
+use aidl_names::{Names, law_accepted};
 use aidl_syntax::{
     BodyTree, ConstantTree, EnumeratorTree, ExprTree, FieldTree, InitTree, MemberTree,
 };
@@ -26,7 +26,7 @@ pub fn declared<'a>(alloc: Global, names: &Names<'a>) -> Result<Vec<ItemRef<'a>>
     ensures { IfOk result (λ all. map item_of all.items
         ≡ meant.declared (map source_of names.now)) }
 {
-    let _files = names.files();
+    law_accepted(names);
     let mut all = Vec::new(alloc);
     add_all(names, names.decls(), &mut all)?;
     Ok(all)

@@ -6,7 +6,7 @@ ghost use Rattle.const_values.specs.Widths.{bit_count, is_within, wider};
 use aidl_base::Range;
 
 /// The width of a number, in bits of two's complement.
-#[derive(Clone, Copy, Debug, PartialEq, Eq)]
+#[derive(Clone, Copy, PartialEq, Eq)]
 pub enum Width {
     /// 32
     Narrow,

@@ -8,11 +8,20 @@ use std::alloc::Global;
 use std::marker::Model;
 
 /// Where marks stand in a list: the first place of each, and from each place the next with the same mark.
-#[derive(Drop)]
 pub struct Table {
     marks: Vec<u64>,
     heads: IndexMap<u64, usize>,
     nexts: Vec<Option<usize>>,
+}
+
+impl Drop for Table {
+    fn drop(self) {
+        let Table {
+            marks: _,
+            heads: _,
+            nexts: _,
+        } = self;
+    }
 }
 
 impl Model for Table {

@@ -10,7 +10,7 @@ ghost use Rattle.declared_names.specs.Walks.{IsFull};
 use crate::canonical::{copied, extended};
 use crate::found::Found;
 use crate::walk_fault::WalkFault;
-use aidl_base::{DottedName, Ident, Parts, Row};
+use aidl_base::{DottedName, Ident, LimitName, Parts, Row};
 use aidl_syntax::{BodyTree, DeclTree, FileTree, MemberTree, ParsedFile};
 use std::alloc::Global;
 
@@ -71,7 +71,7 @@ fn add_decl<'a>(
         (with_decl file outer name.now (decl_of tree.now) (map entry_of found.old.items))) }
 {
     let number = found.len();
-    if number >= 16_384 {
+    if number >= LimitName::Declarations.number() as usize {
         return Err(WalkFault::Full);
     }
     let copy = copied(alloc, name)?;

@@ -7,3 +7,4 @@ mod settled
 mod valued
 mod ruled
 mod drafted
+pub mod lemmas

@@ -57,9 +57,7 @@ pub fn law_dump_tokens(schema: &Schema)
 /// declaration (`file_tree`).
 pub fn law_dump_tree(schema: &Schema)
     ensures { HaveTrees schema.now.decls }
-{
-    law_valid(schema);
-}
+{}
 
 /// What stands for a canonical dump breaks neither E1 nor E3, and E2 by no import.
 pub fn law_dump_imports(schema: &Schema)
@@ -150,9 +148,7 @@ pub fn law_dump_parses(schema: &Schema)
         → (rows : List LexBreach) → IsRefusal files (fault.Lex rows) → ⊥ }
     ensures trees { (files : List SourceFile) → AreDumped schema.now.decls files
         → (rows : List ℕ) → IsRefusal files (fault.Syntax rows) → ⊥ }
-{
-    law_dump_tree(schema);
-}
+{}
 
 /// The canonical dump reads back: where files with its paths and bytes are parsed, so that no limit on files or tokens is passed, their
 /// schema is the one that was dumped, and they are refused for nothing: for no limit and no breach.
@@ -163,8 +159,4 @@ pub fn law_dump_back(schema: &Schema)
     ensures unrefused { (files : List SourceFile) (trees : List ParsedFile)
         → AreDumped schema.now.decls files → AreParsed files trees
         → (refusal : CheckFault) → refusal ≢ fault.OutOfMemory → IsRefusal files refusal → ⊥ }
-{
-    law_valid(schema);
-    law_dump_tree(schema);
-    law_dump_names(schema);
-}
+{}

@@ -4,7 +4,7 @@ use aidl_base::{Limit, OutOfMemory};
 use std::alloc::{AllocError, AllocFailed};
 
 /// Why tokens have no tree.
-#[derive(Clone, Copy, Debug, PartialEq, Eq)]
+#[derive(Clone, Copy, PartialEq, Eq)]
 pub enum ParseFault {
     /// 1: the tokens pass a limit
     Limit(Limit),

@@ -16,11 +16,20 @@ pub struct Components {
 
 // The edges that lead to each node, as chains: a node has its last edge's number, counted from 1, an edge its source and the
 // number of the edge before, 0 for none.
-#[derive(Drop)]
 struct Incoming {
     last: Vec<usize>,
     source: Vec<usize>,
     before: Vec<usize>,
+}
+
+impl Drop for Incoming {
+    fn drop(self) {
+        let Incoming {
+            last: _,
+            source: _,
+            before: _,
+        } = self;
+    }
 }
 
 /// The components, by the order in which a depth-first search left the nodes (Kosaraju and Sharir): the edges are gone
@@ -31,23 +40,34 @@ pub fn grouped(
     left: &[usize],
 ) -> Result<Components, OutOfMemory> {
     let incoming = incoming_of(alloc, edges)?;
-    let mut found = Components {
-        roots: Vec::from_elem(alloc, 0usize, edges.len())?,
-        ranks: Vec::from_elem(alloc, 0usize, edges.len())?,
-        order: Vec::new(alloc),
-        seen: no_flags(alloc, edges.len())?,
-    };
-    let mut rank = edges.len();
-    for root in left.iter().rev() {
-        let first = found.order.len();
-        found.join(*root, *root, rank)?;
-        found.fill(&incoming, *root, rank, first)?;
-        rank = rank.saturating_sub(1);
-    }
+    let mut found = Components::of_none(alloc, edges.len())?;
+    found.fill_all(&incoming, left)?;
     Ok(found)
 }
 
 impl Components {
+    // So many nodes, none of which is in a component.
+    fn of_none(alloc: Global, nodes: usize) -> Result<Components, OutOfMemory> {
+        Ok(Components {
+            roots: Vec::from_elem(alloc, 0usize, nodes)?,
+            ranks: Vec::from_elem(alloc, 0usize, nodes)?,
+            order: Vec::new(alloc),
+            seen: no_flags(alloc, nodes)?,
+        })
+    }
+
+    // Makes a component of each of these nodes that is in none, from the last on.
+    fn fill_all(&mut self, incoming: &Incoming, left: &[usize]) -> Result<(), OutOfMemory> {
+        let mut rank = self.ranks.len();
+        for root in left.iter().rev() {
+            let first = self.order.len();
+            self.join(*root, *root, rank)?;
+            self.fill(incoming, *root, rank, first)?;
+            rank = rank.saturating_sub(1);
+        }
+        Ok(())
+    }
+
     // Puts a node into a component, where it is in none.
     fn join(&mut self, node: usize, root: usize, rank: usize) -> Result<(), OutOfMemory> {
         if !is_set(&self.seen, node) {

@@ -70,7 +70,7 @@ fn marks_on(
     let after = marks_after(alloc, edges, roots, entered)?;
     let before = marks_before(alloc, edges, roots, order)?;
     let mut on = no_flags(alloc, edges.len())?;
-    mark_both(edges, roots, &after, &before, &mut on);
+    mark_both(edges, &after, &before, &mut on);
     Ok(on)
 }
 

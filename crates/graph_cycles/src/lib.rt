@@ -6,8 +6,10 @@ mod certificate;
 mod components;
 mod cycles;
 mod depth_first;
+mod laws;
 mod marking;
 mod marks;
 mod slow;
 
 pub use cycles::{Cycles, find_cycles};
+pub use laws::law_some_cycles;

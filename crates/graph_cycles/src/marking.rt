@@ -1,7 +1,7 @@
 //! Marks on the nodes that are led to from their root, or lead to it.
 ghost use Rattle.std.specs.Prelude.{◌≡◌, length, slice_index, IsTrue};
 ghost use Rattle.graph_cycles.specs.Paths.{Leads, targets};
-ghost use Rattle.graph_cycles.specs.steps.Marks.{OnCycles, AfterRoots, BeforeRoots, IsOrLeads};
+ghost use Rattle.graph_cycles.specs.steps.Marks.{OnCycles, AfterRoots, BeforeRoots, HaveRoots, IsOrLeads};
 
 use crate::marks::{is_set, number_at, set, targets_of};
 use aidl_base::Row;
@@ -62,16 +62,9 @@ pub fn mark_before(edges: &[Row<u32>], roots: &[usize], node: usize, before: &mu
     }
 }
 
-/// Marks the nodes that both lead to their root and are led to from it.
-pub fn mark_both(
-    edges: &[Row<u32>],
-    roots: &[usize],
-    after: &[bool],
-    before: &[bool],
-    on: &mut [bool],
-)
-    requires after { AfterRoots (targets edges.now) roots.now after.now }
-    requires before { BeforeRoots (targets edges.now) roots.now before.now }
+/// Marks the nodes that both lead to their root and are led to from it, whichever the roots are.
+pub fn mark_both(edges: &[Row<u32>], after: &[bool], before: &[bool], on: &mut [bool])
+    requires roots { HaveRoots (targets edges.now) after.now before.now }
     requires on { OnCycles (targets edges.now) on.old }
     ensures on { OnCycles (targets edges.now) on.new }
     ensures len { length on.new ≡ length on.old }

@@ -57,7 +57,7 @@ abbrev AreWithin : Form → Option (List Enumerator) → Type 0
 AreWithin f None = Unit {0}
 AreWithin f (Some es) = list_all (λ e. in_range f e.value) es ≡ true
 
-abbrev OptionHasTexts : Option json.Data → Type 0
+abbrev pub OptionHasTexts : Option json.Data → Type 0
 OptionHasTexts None = Unit {0}
 OptionHasTexts (Some j) = HasTexts j
 
@@ -66,7 +66,7 @@ found_either Less a b x y = x
 found_either Equal a b x y = y
 found_either Greater a b x y = x
 
-found_texts : (key : List ℕ) (ms : json.Members) → MembersHaveTexts ms → OptionHasTexts (get_member key ms)
+pub found_texts : (key : List ℕ) (ms : json.Members) → MembersHaveTexts ms → OptionHasTexts (get_member key ms)
 found_texts key json.no_members texts = tt
 found_texts key (json.member l j ms) texts = found_either (slice_cmp nat_cmp key l) (get_member key ms) (Some j) (found_texts key ms texts.1) texts.0
 

@@ -1,13 +1,16 @@
 pub mod lemmas
 mod Back
+mod Behind
+mod Contents
 mod Counted
-mod Fits
+pub mod Fits
 mod JsonTexts
 mod Loops
 mod Members
 mod Missing
 mod Names
+pub mod ParsedTexts
 mod Parts
 mod Plain
 mod SideBySide
-mod Texts
+pub mod Texts

@@ -1,8 +1,9 @@
 //! The defaults of the fields that objects leave out, made once for all objects of a JSON value.
-ghost use Rattle.std.specs.Prelude.{◌≡◌, ◌≤◌, map, IfOk, option_map};
+ghost use Rattle.std.specs.Prelude.{◌≡◌, ◌≤◌, nat_le, drop, map, IfOk, option_map};
 ghost use Rattle.aidl_schema.specs.declared.schema.Base.TheVariants as base;
 ghost use Rattle.aidl_values.specs.Sound.{initial_in};
-ghost use Rattle.aidl_values.specs.View.{view};
+ghost use Rattle.aidl_values.specs.Data.{depth_of, rec};
+ghost use Rattle.aidl_values.specs.View.{items_of, view, views};
 ghost use Rattle.json_values.specs.steps.Defaults.{AreDefaults, defaults_in, defaults_within, levels_of, within_levels};
 
 use aidl_base::{OutOfMemory, Row};
@@ -22,19 +23,45 @@ struct Defaults {
 }
 
 impl Defaults {
-    // The row, if a record of it has at most so many levels.
-    fn within(&self, levels: usize) -> Result<Option<Rc<Row<Value>>>, OutOfMemory>
+    // The row, if a record of the values from a position on has at most so many levels.
+    fn within(&self, given: usize, levels: usize) -> Result<Option<Rc<Row<Value>>>, OutOfMemory>
         requires { levels ≤ 64 }
         ensures { IfOk result (λ row. self.now.levels ≡ levels_of (map view self.now.row.value)
             → option_map (λ row. map view row.value) row
-            ≡ within_levels levels (map view self.now.row.value)) }
+            ≡ within_levels given levels (map view self.now.row.value)) }
     {
-        if self.levels <= levels {
+        if self.are_within(given, levels) {
             Ok(Some(self.row.clone()?))
         } else {
             Ok(None)
         }
     }
+
+    // Whether a record of the values from a position on has at most so many levels, as one of all of them mostly has.
+    #[tactic(auto, using(crate::proofs::Behind::behind_no_deeper, crate::proofs::Behind::behind_seen))]
+    fn are_within(&self, given: usize, levels: usize) -> bool
+        requires { levels ≤ 64 }
+        ensures { self.now.levels ≡ levels_of (map view self.now.row.value) → result
+            ≡ nat_le (depth_of (rec (items_of (drop given (map view self.now.row.value))))) levels }
+    {
+        if self.levels <= levels {
+            return true;
+        }
+        rest_within(self.row.as_ref().as_slice(), given, levels)
+    }
+}
+
+// Whether a record of the values from a position on has at most so many levels.
+fn rest_within(values: &[Value], given: usize, levels: usize) -> bool
+    requires { levels ≤ 64 }
+    ensures { result ≡ nat_le (depth_of (rec (views (drop given values.now)))) levels }
+{
+    for i in given..values.len() {
+        if depth(&values[i]) >= levels {
+            return false;
+        }
+    }
+    0 < levels
 }
 
 // The defaults of parcelables' fields, each made when the first object leaves some out. Contracts see it as the declarations.
@@ -73,20 +100,21 @@ impl<'a> DefaultRows<'a> {
         }
     }
 
-    // The defaults of a parcelable's fields, if a record of them has at most so many levels.
+    // The defaults of a parcelable's fields, if a record of those from a position on has at most so many levels.
     pub fn within(
         &mut self,
         alloc: Global,
         base: Base,
+        given: usize,
         levels: usize,
     ) -> Result<Option<Rc<Row<Value>>>, OutOfMemory>
         requires { levels ≤ 64 }
         ensures same { self.new ≡ self.old }
         ensures row { IfOk result (λ row. option_map (λ row. map view row.value) row
-            ≡ defaults_within self.old base levels) }
+            ≡ defaults_within self.old base given levels) }
     {
         match base {
-            Base::Named(decl) => self.declared_within(alloc, decl, levels),
+            Base::Named(decl) => self.declared_within(alloc, decl, given, levels),
             _ => Ok(None),
         }
     }
@@ -95,18 +123,19 @@ impl<'a> DefaultRows<'a> {
         &mut self,
         alloc: Global,
         decl: u32,
+        given: usize,
         levels: usize,
     ) -> Result<Option<Rc<Row<Value>>>, OutOfMemory>
         requires { levels ≤ 64 }
         ensures same { self.new ≡ self.old }
         ensures row { IfOk result (λ row. option_map (λ row. map view row.value) row
-            ≡ within_levels levels (defaults_in self.old decl)) }
+            ≡ within_levels given levels (defaults_in self.old decl)) }
     {
         if let Some(defaults) = self.rows.get(&decl) {
-            return defaults.within(levels);
+            return defaults.within(given, levels);
         }
         let defaults = defaults_of(alloc, self.schema, decl)?;
-        let row = defaults.within(levels)?;
+        let row = defaults.within(given, levels)?;
         self.rows.insert(decl, defaults)?;
         Ok(row)
     }
@@ -120,8 +149,15 @@ fn defaults_of(alloc: Global, schema: &Schema, decl: u32) -> Result<Defaults, Ou
         alloc,
         initials_of(alloc, schema, fields_of(schema, Base::Named(decl)))?,
     )?;
-    let levels = depth(&Value::Short(Row::new(alloc), row.clone()?));
+    let levels = record_levels(alloc, &row)?;
     Ok(Defaults { row, levels })
+}
+
+// How many levels a record of these values has.
+fn record_levels(alloc: Global, row: &Rc<Row<Value>>) -> Result<usize, OutOfMemory>
+    ensures { IfOk result (λ levels. levels ≡ levels_of (map view row.now.value)) }
+{
+    Ok(depth(&Value::Short(Row::new(alloc), row.clone()?)))
 }
 
 fn initials_of(alloc: Global, schema: &Schema, fields: &[Field]) -> Result<Row<Value>, OutOfMemory>

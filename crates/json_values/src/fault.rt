@@ -11,7 +11,7 @@ use std::alloc::{AllocError, AllocFailed, Global};
 
 /// Why a JSON value is no value of a type. `at` is the JSON pointer of the place, in which a key's `~` is written `~0`
 /// and its `/` is written `~1`.
-#[derive(Debug, Drop)]
+#[derive(Drop)]
 pub enum JsonFault {
     /// The JSON value is of another kind than the type's, or null where the type isn't nullable, a number that isn't
     /// whole, or a union's object that hasn't exactly one key.

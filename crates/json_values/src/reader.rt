@@ -15,8 +15,17 @@ pub struct Reader<'a> {
 }
 
 // What is kept while one JSON value is read: where members stand by their names, and the defaults that objects have left out.
-#[derive(Drop)]
 pub struct Kept<'a> {
     pub hints: Hints<'a>,
     pub defaults: DefaultRows<'a>,
+}
+
+// By hand, so that one who drops it meets one call and not each table.
+impl Drop for Kept<'_> {
+    fn drop(self) {
+        let Kept {
+            hints: _,
+            defaults: _,
+        } = self;
+    }
 }

@@ -98,7 +98,10 @@ fn read_fields<'a>(
     let mut values = Vec::with_capacity(reader.alloc, given)?;
     for (i, field) in fields.iter().enumerate() {
         if i == given {
-            if let Some(row) = kept.defaults.within(reader.alloc, base, reader.levels)? {
+            if let Some(row) = kept
+                .defaults
+                .within(reader.alloc, base, given, reader.levels)?
+            {
                 return Ok(Value::Short(Row::from_vec(values), row));
             }
         }

@@ -1,21 +1,16 @@
 -- What a JSON value calls by name (own): the fields of a parcelable or union, and the enumerators of an enum. JSON's texts
 -- are in UTF-8.
 use Rattle.std.specs.Prelude.{ℕ, List, [], Option, Some, None}
-use Rattle.std.specs.Str.{encode_utf8_all}
-use Rattle.aidl_base.specs.declared.name.Ident.{Ident}
 use Rattle.aidl_schema.specs.declared.schema.Decl.{Decl}
 use Rattle.aidl_schema.specs.declared.schema.Enumerator.{Enumerator}
 use Rattle.aidl_schema.specs.declared.schema.Field.{Field}
 use Rattle.aidl_schema.specs.declared.schema.Kind.{Kind}
 use Rattle.aidl_schema.specs.declared.schema.Kind.TheVariants.{Enum}
 use Rattle.aidl_schema.specs.declared.schema.Base.{Base}
+pub use Rattle.aidl_schema.specs.Names.{bytes_of}
 use Rattle.aidl_schema.specs.Same.{decl_of}
 use Rattle.aidl_schema.specs.Types.{Form}
 use Rattle.aidl_schema.specs.Types as form
-
--- a name's bytes
-abbrev pub bytes_of : Ident → List ℕ
-bytes_of i = encode_utf8_all i.0
 
 -- of a parcelable or union
 abbrev pub fields_in : Form → List Field

@@ -20,12 +20,23 @@ use std::marker::Model;
 use std::rc::Rc;
 
 // What is kept while one value is printed. Contracts see it as the declarations.
-#[derive(Drop)]
 pub struct Printer<'a> {
     schema: &'a Schema,
     names: ValueNames<'a>,
     rows: MemberRows<'a>,
     digits: Buffer,
+}
+
+// By hand, so that one who drops it meets one call and not each table.
+impl Drop for Printer<'_> {
+    fn drop(self) {
+        let Printer {
+            schema: _,
+            names: _,
+            rows: _,
+            digits: _,
+        } = self;
+    }
 }
 
 impl<'a> Model for Printer<'a> {

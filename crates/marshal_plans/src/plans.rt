@@ -3,12 +3,11 @@
 use aidl_base::{Const, Row};
 
 /// The number of an item. It stands for the type of that item.
-#[derive(Clone, Copy, Debug, PartialEq, Eq)]
+#[derive(Clone, Copy, PartialEq, Eq)]
 pub struct PlanId(pub usize);
 
 /// The plans of a schema and of some types beside it. `fields` has the fields of each declaration once, so a type that reaches
 /// itself ends. `starts` has where the arguments and results of methods begin, `extras` one id for each type beside the schema.
-#[derive(Debug, Drop)]
 pub struct Plans {
     pub items: Row<PlanItem>,
     pub fields: Row<PlanField>,
@@ -16,9 +15,20 @@ pub struct Plans {
     pub extras: Row<PlanId>,
 }
 
+impl Drop for Plans {
+    fn drop(self) {
+        let Plans {
+            items: _,
+            fields: _,
+            starts: _,
+            extras: _,
+        } = self;
+    }
+}
+
 /// How the values of one type stand in bytes. `nullable` is the type's flag. `first` and `count` are where in `fields` the fields
 /// of the declaration begin, and how many they are.
-#[derive(Clone, Copy, Debug)]
+#[derive(Clone, Copy)]
 pub enum PlanItem {
     Word {
         kind: WordKind,
@@ -51,7 +61,7 @@ pub enum PlanItem {
 }
 
 /// What a word of four bytes says.
-#[derive(Clone, Copy, Debug, PartialEq, Eq)]
+#[derive(Clone, Copy, PartialEq, Eq)]
 pub enum WordKind {
     Truth,
     Byte,
@@ -60,14 +70,14 @@ pub enum WordKind {
 }
 
 /// A field of a parcelable or union: the item of its type, and its initializer where it has one.
-#[derive(Debug, Drop)]
+#[derive(Drop)]
 pub struct PlanField {
     pub item: PlanId,
     pub initial: Option<Const>,
 }
 
 /// Where an argument of a method begins, with its position as `place`, or where the method's result does, with None.
-#[derive(Clone, Copy, Debug)]
+#[derive(Clone, Copy)]
 pub struct PlanStart {
     pub interface: u32,
     pub method: u32,

@@ -11,7 +11,7 @@ pub enum BuiltinName {
 }
 
 /// What a name means.
-#[derive(Clone, Copy, Debug, PartialEq, Eq)]
+#[derive(Clone, Copy, PartialEq, Eq)]
 pub enum Resolved {
     /// a built-in type
     Builtin(BuiltinName),

@@ -19,11 +19,20 @@ use std::marker::Model;
 
 /// The files of a tree with their declarations, and for each file the imports that are kept. Contracts see it as the files
 /// and these imports.
-#[derive(Drop)]
 pub struct Resolver<'a> {
     files: &'a [ParsedFile],
     declarations: Declarations<'a>,
     imports: Vec<Imports<'a>>,
+}
+
+impl Drop for Resolver<'_> {
+    fn drop(self) {
+        let Resolver {
+            files: _,
+            declarations: _,
+            imports: _,
+        } = self;
+    }
 }
 
 impl<'a> Model for Resolver<'a> {

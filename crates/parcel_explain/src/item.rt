@@ -2,7 +2,7 @@
 use aidl_base::Text;
 
 /// What a part of a parcel's bytes is (own; the parts are those that docs/BYTES.md spells). docs/EXPLAIN.md says where each stands.
-#[derive(Clone, Copy, Debug, PartialEq, Eq)]
+#[derive(Clone, Copy, PartialEq, Eq)]
 pub enum ItemKind {
     /// The bytes of a value without parts that is no String: a word, or the two words of a long.
     Value,
@@ -27,7 +27,7 @@ pub enum ItemKind {
 }
 
 /// A part of a parcel's bytes: where it stands and how long it is, both in bytes, and what it is.
-#[derive(Debug, Drop)]
+#[derive(Drop)]
 pub struct Item {
     /// The bytes of the parcel before it.
     pub offset: u32,

@@ -8,7 +8,7 @@ use parcel_words::ReadFault;
 use std::alloc::Global;
 
 /// Why no further items are noted.
-#[derive(Debug, Drop)]
+#[derive(Drop)]
 pub enum Stopped {
     /// An item is wrong: the path of the value that it is of, and the status that reading it answers.
     Wrong { path: Text, status: i32 },

@@ -116,9 +116,10 @@ fn parcel_of(
         (within LimitName.ParcelBytes (spelled schema.now.decls types.now values.now)) }
 {
     let plans = compile(alloc, schema, types)?;
-    let length = length_of(schema, types, &plans, values);
     let which = LimitName::ParcelBytes;
-    if length > which.number() as usize {
+    let most = which.number() as usize;
+    let length = length_of(schema, types, &plans, values, most + 1);
+    if length > most {
         return Err(limit_passed(alloc, Limit { which }));
     }
     let mut to = WordWriter::with_room(alloc, length)?;
@@ -126,18 +127,27 @@ fn parcel_of(
     Ok(to.finish())
 }
 
-// The number of bytes that spell the values, or `usize::MAX` where they are more. The schema and the types are those for which the
-// plans stand.
+// The number of bytes that spell the values, or `most` where they are more: counting stops there. The schema and the types are those
+// for which the plans stand.
 #[tactic(auto, using(crate::proofs::WriteValues::same_count))]
-fn length_of(_schema: &Schema, _types: &[AidlType], plans: &Plans, values: &[Value]) -> usize
+fn length_of(
+    _schema: &Schema,
+    _types: &[AidlType],
+    plans: &Plans,
+    values: &[Value],
+    most: usize,
+) -> usize
     requires planned { ArePlanned plans.now _schema.now.decls _types.now }
     requires typed { AreTyped _schema.now.decls _types.now (map view values.now) }
-    ensures { result ≡ min (length (spelled _schema.now.decls _types.now values.now)) usize.MAX }
+    ensures { result ≡ min (length (spelled _schema.now.decls _types.now values.now)) most }
 {
     let ids = plans.extras.as_slice();
     let mut length: usize = 0;
     for i in 0..values.len() {
-        length = length.saturating_add(spelled_length(plans, ids[i], &values[i]));
+        if length == most {
+            return most;
+        }
+        length += spelled_length(plans, ids[i], &values[i], most - length);
     }
     length
 }

@@ -15,7 +15,7 @@ use serde_json::Value as Json;
 use std::alloc::{AllocError, AllocFailed, Global};
 
 /// Why a JSON value gives no values of some types.
-#[derive(Debug, Drop)]
+#[derive(Drop)]
 pub enum Unread {
     /// It is no array of as many elements as there are types.
     Shape,

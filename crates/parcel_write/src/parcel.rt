@@ -58,8 +58,9 @@ fn write_by_item(
     ensures too_large { IsErrOf result TooLarge
         ↔ 1048576 < length (plan_spell plans.now id (view value.now)) }
 {
-    let length = length_of(plans, id, value);
-    if length > LimitName::ParcelBytes.number() as usize {
+    let most = LimitName::ParcelBytes.number() as usize;
+    let length = length_of(plans, id, value, most + 1);
+    if length > most {
         return Err(WriteFault::TooLarge);
     }
     let mut to = WordWriter::with_room(alloc, length)?;

@@ -2,6 +2,6 @@ mod Bools
 mod Examples
 mod Tables
 mod Tokens
-mod Viability
+pub mod Viability
 mod productions
 mod runs

@@ -3,7 +3,7 @@ use Rattle.std.specs.Prelude.{ℕ, ◌+◌, ℤ, List, [], ◌∷◌, ◌++◌, 
 use Rattle.std.specs.Fmt.{decimal, signed_decimal}
 use Rattle.aidl_base.specs.declared.profile.Profile.TheVariants.{Strict}
 use Rattle.aidl_schema.specs.declared.schema.Decl.{Decl}
-use Rattle.call_scripts.specs.Names.{interface_named}
+use Rattle.aidl_schema.specs.Find.{interface_named}
 use Rattle.parcel_replay.specs.Traced.{Traced, other, not_trace, too_large, request, traced}
 use Rattle.run_output.specs.CallLines.{lines_of}
 use Rattle.run_output.specs.LineText.{called_text, values_text}

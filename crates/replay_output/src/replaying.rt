@@ -6,8 +6,7 @@ ghost use Rattle.tool_frame.specs.Results.{Gives};
 
 use crate::lines::push_line;
 use aidl_base::OutOfMemory;
-use aidl_schema::Schema;
-use call_scripts::interface_named;
+use aidl_schema::{Schema, interface_named};
 use marshal_plans::compile;
 use run_output::cut;
 use std::alloc::Global;

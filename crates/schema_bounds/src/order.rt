@@ -11,26 +11,49 @@ use std::alloc::Global;
 
 /// The numbers of the declarations, each behind those whose defaults are in its own, and which have a default that holds
 /// itself. Nobody has to believe it: sizes that are found in this order are looked at again.
-#[derive(Drop)]
 pub struct Order {
     numbers: Vec<usize>,
     endless: Vec<bool>,
 }
 
+impl Drop for Order {
+    fn drop(self) {
+        let Order {
+            numbers: _,
+            endless: _,
+        } = self;
+    }
+}
+
 /// The order of the declarations.
 pub fn default_order(alloc: Global, decls: &[Decl]) -> Result<Order, OutOfMemory> {
-    let mut rows = Vec::with_capacity(alloc, decls.len())?;
-    for decl in decls {
-        rows.push(needed_by(alloc, decls, starting_fields(&decl.kind))?)?;
-    }
+    let rows = needs_of(alloc, decls)?;
     let found = find_cycles(alloc, &rows)?;
-    let ranks = found.ranks.as_slice();
-    let mut numbers: Vec<usize> = (0..decls.len()).collect(alloc)?;
-    numbers.sort_by_key(|number| number_at(ranks, *number, 0))?;
+    let numbers = numbers_by_rank(alloc, decls.len(), found.ranks.as_slice())?;
     Ok(Order {
         numbers,
         endless: found.on,
     })
+}
+
+// For each declaration those whose defaults are in its own.
+fn needs_of(alloc: Global, decls: &[Decl]) -> Result<Vec<Row<u32>>, OutOfMemory> {
+    let mut rows = Vec::with_capacity(alloc, decls.len())?;
+    for decl in decls {
+        rows.push(needed_by(alloc, decls, starting_fields(&decl.kind))?)?;
+    }
+    Ok(rows)
+}
+
+// The numbers of so many declarations, in the order of their ranks.
+fn numbers_by_rank(
+    alloc: Global,
+    count: usize,
+    ranks: &[usize],
+) -> Result<Vec<usize>, OutOfMemory> {
+    let mut numbers: Vec<usize> = (0..count).collect(alloc)?;
+    numbers.sort_by_key(|number| number_at(ranks, *number, 0))?;
+    Ok(numbers)
 }
 
 // The fields that a default has: all of a parcelable, the first of a union.

@@ -1,7 +1,7 @@
 -- A value so many times.
-use Rattle.std.proofs.Common.{◌≡◌, ℕ, suc, ◌+◌, ◌-◌, ◌<◌, ◌≤◌, List, [], ◌∷◌, ◌++◌, sym, ap, ◌∙◌, arith}
-use Rattle.aidl_values.specs.Data.{Data, Items, none, item}
-use Rattle.aidl_values.specs.View.{view, views}
+use Rattle.std.proofs.Common.{◌≡◌, ℕ, zero, suc, ◌+◌, ◌-◌, ◌<◌, ◌≤◌, ℤ, Bool, List, [], ◌∷◌, ◌++◌, map, replicate, refl, sym, ap, ◌∙◌, arith}
+use Rattle.aidl_values.specs.Data.{Data, Items, none, item, number, truth}
+use Rattle.aidl_values.specs.View.{items_of, view, views}
 use Rattle.aidl_values.specs.declared.value.Value.{Value}
 use Rattle.wire_model.specs.Receiver.{repeated}
 use Rattle.stub_dispatch.specs.steps.Fronts.{joined}
@@ -19,3 +19,11 @@ pub repeated_all : (vs : List Value) (d : Data) (count i : ℕ) (total : Items) 
 repeated_all vs d count i total le h =
     let k : 0 ≡ count - i = omega arith in
     sym (joined_none (views vs)) ∙ ap (λ n. joined (views vs) (repeated n d)) k ∙ h
+
+pub truths_repeated : (b : Bool) (count : ℕ) → items_of (map truth (replicate count b)) ≡ repeated count (truth b)
+truths_repeated b zero = refl
+truths_repeated b (suc n) = ap (λ vs. item (truth b) vs) (truths_repeated b n)
+
+pub numbers_repeated : (n : ℤ) (count : ℕ) → items_of (map number (replicate count n)) ≡ repeated count (number n)
+numbers_repeated n zero = refl
+numbers_repeated n (suc many) = ap (λ vs. item (number n) vs) (numbers_repeated n many)

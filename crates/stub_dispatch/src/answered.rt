@@ -4,6 +4,8 @@ ghost use Rattle.aidl_values.specs.View.{views};
 ghost use Rattle.stub_dispatch.specs.Answers.{AnswersCall};
 ghost use Rattle.stub_dispatch.specs.Handlers.{AnswersFit, MayBeCalled};
 ghost use Rattle.stub_dispatch.specs.Sent.{sent_reply, unread};
+ghost use Rattle.wire_model.specs.Calls.{answer_of};
+ghost use Rattle.wire_model.specs.Requests.{AnswerFits};
 ghost use Rattle.wire_model.specs.Typed.{AreArguments};
 
 use crate::callee::Callee;
@@ -59,10 +61,23 @@ pub fn answer_call<F: Fn(u32, &[Value]) -> Result<Answer, OutOfMemory>>(
 {
     let method = callee.method();
     let answer = handler(method, saw.as_slice())?;
-    let reply = answer_reply(alloc, callee, &answer)?;
+    let reply = reply_of(alloc, callee, answer)?;
     Ok(Answered {
         transport: 0,
         saw: Some(saw),
         reply,
     })
+}
+
+// The bytes of the reply with an answer, which is let go.
+fn reply_of(
+    alloc: Global,
+    callee: &Callee<'_>,
+    answer: Answer,
+) -> Result<Option<Row<u8>>, OutOfMemory>
+    requires { AnswerFits callee.now.decls callee.now.interface callee.now.method (answer_of answer) }
+    ensures { IfOk result (λ reply. reply
+        ≡ sent_reply callee.now.decls callee.now.interface callee.now.method (answer_of answer)) }
+{
+    answer_reply(alloc, callee, &answer)
 }

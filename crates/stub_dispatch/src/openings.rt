@@ -1,6 +1,7 @@
 //! What `out` arguments start as.
 ghost use Rattle.std.specs.Prelude.{◌≡◌, ◌+◌, ◌≤◌, true, IfOk};
 ghost use Rattle.aidl_schema.specs.Types.{elem, is_type};
+ghost use Rattle.aidl_values.specs.Data.{number, seq, truth};
 ghost use Rattle.aidl_values.specs.View.{view, views};
 ghost use Rattle.stub_dispatch.specs.steps.Fronts.{Fronts};
 ghost use Rattle.wire_model.specs.Receiver.{array_opening, array_opening_at, length_at, opening, opening_at, repeated};
@@ -8,7 +9,7 @@ ghost use Rattle.wire_model.specs.Receiver.{array_opening, array_opening_at, len
 use crate::fronts::count_front;
 use aidl_base::{OutOfMemory, Row};
 use aidl_schema::{AidlType, Schema, element, is_array, law_valid};
-use aidl_values::{Value, default_of};
+use aidl_values::{Numbers, Value, default_of};
 use parcel_words::ReadFault;
 use std::alloc::Global;
 
@@ -106,13 +107,40 @@ fn array_opening(
         None => Ok(Value::Null),
         Some(n) => {
             let value = default_of(alloc, schema, &element(schema, ty))?;
-            Ok(Value::Seq(repeated(alloc, &value, n)?))
+            repeated(alloc, &value, n)
         }
     }
 }
 
-// A value so many times.
-fn repeated(alloc: Global, value: &Value, count: usize) -> Result<Row<Value>, OutOfMemory>
+// The sequence of a value so many times: truth values and numbers side by side, and of others copies, which share what a default
+// shares.
+fn repeated(alloc: Global, value: &Value, count: usize) -> Result<Value, OutOfMemory>
+    ensures { IfOk result (λ v. view v ≡ seq (repeated count (view value.now))) }
+{
+    match value {
+        Value::Truth(b) => truths(alloc, *b, count),
+        Value::Number(n) => numbers(alloc, *n, count),
+        _ => Ok(Value::Seq(copies(alloc, value, count)?)),
+    }
+}
+
+#[tactic(auto, using(crate::proofs::Repeats::truths_repeated, aidl_values::proofs::lemmas::Views::view_of_truths))]
+fn truths(alloc: Global, b: bool, count: usize) -> Result<Value, OutOfMemory>
+    ensures { IfOk result (λ v. view v ≡ seq (repeated count (truth b))) }
+{
+    let row = Vec::from_elem(alloc, b, count)?;
+    Ok(Value::Truths(Row::from_vec(row)))
+}
+
+#[tactic(auto, using(crate::proofs::Repeats::numbers_repeated, aidl_values::proofs::lemmas::Views::view_of_numbers))]
+fn numbers(alloc: Global, n: i64, count: usize) -> Result<Value, OutOfMemory>
+    ensures { IfOk result (λ v. view v ≡ seq (repeated count (number n))) }
+{
+    let row = Vec::from_elem(alloc, n, count)?;
+    Ok(Value::Numbers(Numbers::from_longs(row)))
+}
+
+fn copies(alloc: Global, value: &Value, count: usize) -> Result<Row<Value>, OutOfMemory>
     ensures { IfOk result (λ vs. views vs ≡ repeated count (view value.now)) }
 {
     let mut items = Vec::with_capacity(alloc, count)?;

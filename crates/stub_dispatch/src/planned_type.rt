@@ -58,13 +58,13 @@ impl<'a> PlannedType<'a> {
         }
     }
 
-    /// The number of bytes that spell a value, or `usize::MAX` where they are more. It takes no memory.
-    pub fn length(&self, value: &Value) -> usize
+    /// The number of bytes that spell a value, or `most` where they are more. It takes no memory.
+    pub fn length(&self, value: &Value, most: usize) -> usize
         requires { Fits self.now.decls self.now.ty (view value.now) }
         ensures { result ≡ min
-            (length (spell self.now.decls self.now.ty (view value.now))) usize.MAX }
+            (length (spell self.now.decls self.now.ty (view value.now))) most }
     {
-        spelled_length(self.plans, self.id, value)
+        spelled_length(self.plans, self.id, value, most)
     }
 
     /// Appends the bytes that spell a value. It takes no memory.

@@ -18,7 +18,6 @@ use std::alloc::Global;
 
 /// What a client makes of a reply. `code` is any exception word but those that are refused, `error` is 0 unless it is -8, and
 /// `status` is that of the first wrong item.
-#[derive(Debug, Drop)]
 pub enum Got {
     Returned {
         result: Option<Value>,
@@ -32,6 +31,21 @@ pub enum Got {
     Failed {
         status: i32,
     },
+}
+
+// By hand, so that one who drops it meets one call and not each form.
+impl Drop for Got {
+    fn drop(self) {
+        match self {
+            Got::Returned { result: _, outs: _ } => {}
+            Got::Exception {
+                code: _,
+                message: _,
+                error: _,
+            } => {}
+            Got::Failed { status: _ } => {}
+        }
+    }
 }
 
 /// What a client makes of the bytes of a reply, by a profile: the answer that they are exactly, or else the status of the first wrong

@@ -13,74 +13,77 @@ use aidl_base::Text;
 use aidl_values::{Answer, Value};
 use parcel_words::Wire;
 
-/// The number of bytes of a reply, or `usize::MAX` where they are more. It takes no memory.
-pub fn reply_length(callee: &Callee<'_>, answer: &Answer) -> usize
+/// The number of bytes of a reply, or `most` where they are more: counting stops there. It takes no memory.
+pub fn reply_length(callee: &Callee<'_>, answer: &Answer, most: usize) -> usize
     requires { IsAnswer callee.now.decls callee.now.interface callee.now.method
         (answer_of answer.now) }
     ensures { result ≡ min (length (reply callee.now.decls callee.now.interface callee.now.method
-        (answer_of answer.now))) usize.MAX }
+        (answer_of answer.now))) most }
 {
     match answer {
-        Answer::Returned { result, outs } => returned_length(callee, result, outs.as_slice()),
+        Answer::Returned { result, outs } => returned_length(callee, result, outs.as_slice(), most),
         Answer::Exception {
             code,
             message,
             error,
-        } => exception_length(*code, message, *error),
+        } => exception_length(*code, message, *error).min(most),
     }
 }
 
 /// The same of a result and outs.
 #[tactic(auto, using(crate::proofs::lemmas::Parts::returned_count))]
-pub fn returned_length(callee: &Callee<'_>, value: &Option<Value>, outs: &[Value]) -> usize
+pub fn returned_length(
+    callee: &Callee<'_>,
+    value: &Option<Value>,
+    outs: &[Value],
+    most: usize,
+) -> usize
     requires value { ResultFits callee.now.decls (result_type
         callee.now.decls callee.now.interface callee.now.method) (optional_view value.now) }
     requires outs { EachFits callee.now.decls
         (out_types callee.now.decls callee.now.interface callee.now.method) (views outs.now) }
     ensures { result ≡ min (length (reply callee.now.decls callee.now.interface callee.now.method
-        (returned (optional_view value.now) (views outs.now)))) usize.MAX }
+        (returned (optional_view value.now) (views outs.now)))) most }
 {
-    let rest = outs_length(&callee.arguments(), outs);
-    result_length(callee, value)
-        .saturating_add(rest)
-        .saturating_add(4)
+    let len = result_length(callee, value, most);
+    let rest = outs_length(&callee.arguments(), outs, most - len);
+    (len + rest).saturating_add(4).min(most)
 }
 
-// The number of bytes of a result, or `usize::MAX` where they are more; 0 of a void method. It takes no memory.
-fn result_length(callee: &Callee<'_>, value: &Option<Value>) -> usize
+// The number of bytes of a result, or `most` where they are more; 0 of a void method. It takes no memory.
+fn result_length(callee: &Callee<'_>, value: &Option<Value>, most: usize) -> usize
     requires { ResultFits callee.now.decls (result_type
         callee.now.decls callee.now.interface callee.now.method) (optional_view value.now) }
     ensures { result ≡ min (length (spell_result callee.now.decls (result_type callee.now.decls
-        callee.now.interface callee.now.method) (optional_view value.now))) usize.MAX }
+        callee.now.interface callee.now.method) (optional_view value.now))) most }
 {
     match value {
         Some(value) => match callee.result() {
-            Some(ty) => ty.length(value),
+            Some(ty) => ty.length(value, most),
             None => 0,
         },
         None => 0,
     }
 }
 
-// The number of bytes of the outs of the arguments from one on, or `usize::MAX` where they are more. It takes no
-// memory.
+// The number of bytes of the outs of the arguments from one on, or `most` where they are more. It takes no memory.
 #[tactic(auto, using(crate::proofs::lemmas::Parts::each_count))]
-fn outs_length(args: &PlannedArguments<'_>, values: &[Value]) -> usize
+fn outs_length(args: &PlannedArguments<'_>, values: &[Value], most: usize) -> usize
     requires { EachFits args.now.decls (outs_of args.now.args) (views values.now) }
     ensures { result ≡ min
-        (length (spell_each args.now.decls (outs_of args.now.args) (views values.now))) usize.MAX }
+        (length (spell_each args.now.decls (outs_of args.now.args) (views values.now))) most }
 {
     match args.first() {
         None => 0,
         Some((arg, others)) => {
             if !comes_back(arg.declared().way) {
-                return outs_length(&others, values);
+                return outs_length(&others, values, most);
             }
             match values {
                 [] => 0,
                 [value, values @ ..] => {
-                    let rest = outs_length(&others, values);
-                    arg.ty().length(value).saturating_add(rest)
+                    let len = arg.ty().length(value, most);
+                    len + outs_length(&others, values, most - len)
                 }
             }
         }

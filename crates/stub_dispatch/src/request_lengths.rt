@@ -10,45 +10,53 @@ use crate::token::token_length;
 use aidl_schema::{Direction, is_array};
 use aidl_values::Value;
 
-/// The number of bytes of a request, or `usize::MAX` where they are more. It takes no memory.
-pub fn request_length(callee: &Callee<'_>, args: &[Value]) -> usize
+/// The number of bytes of a request, or `most` where they are more: counting stops there. It takes no memory.
+pub fn request_length(callee: &Callee<'_>, args: &[Value], most: usize) -> usize
     requires { ArgumentsFit callee.now.decls
         (arguments callee.now.decls callee.now.interface callee.now.method) (views args.now) }
     ensures { result ≡ min (length (request callee.now.decls callee.now.interface callee.now.method
-        (views args.now))) usize.MAX }
+        (views args.now))) most }
 {
-    let parts = parts_length(&callee.arguments(), args);
-    token_length(callee.schema(), callee.interface()).saturating_add(parts)
+    let parts = parts_length(&callee.arguments(), args, most);
+    token_length(callee.schema(), callee.interface())
+        .saturating_add(parts)
+        .min(most)
 }
 
 // Of the arguments' parts from one on.
 #[tactic(auto, using(crate::proofs::lemmas::Parts::parts_count))]
-fn parts_length(args: &PlannedArguments<'_>, values: &[Value]) -> usize
+fn parts_length(args: &PlannedArguments<'_>, values: &[Value], most: usize) -> usize
     requires { ArgumentsFit args.now.decls args.now.args (views values.now) }
     ensures { result ≡ min
-        (length (argument_parts args.now.decls args.now.args (views values.now))) usize.MAX }
+        (length (argument_parts args.now.decls args.now.args (views values.now))) most }
 {
     match args.first() {
         None => 0,
         Some((arg, others)) => match values {
             [] => 0,
             [value, values @ ..] => {
-                let rest = parts_length(&others, values);
-                part_length(&arg, value).saturating_add(rest)
+                let len = part_length(&arg, value, most);
+                len + parts_length(&others, values, most - len)
             }
         },
     }
 }
 
 // Of an argument's part: its spelling, the length of an `out` array, or nothing.
-fn part_length(of: &PlannedArgument<'_>, value: &Value) -> usize
+fn part_length(of: &PlannedArgument<'_>, value: &Value, most: usize) -> usize
     requires { ArgumentFits of.now.decls of.now.arg (view value.now) }
     ensures { result ≡ min
-        (length (argument_part of.now.decls of.now.arg (view value.now))) usize.MAX }
+        (length (argument_part of.now.decls of.now.arg (view value.now))) most }
 {
     let arg = of.declared();
     match arg.way {
-        Direction::In | Direction::InOut => of.ty().length(value),
-        Direction::Out => { if is_array(arg.ty.shape) { 4 } else { 0 } }
+        Direction::In | Direction::InOut => of.ty().length(value, most),
+        Direction::Out => {
+            if is_array(arg.ty.shape) {
+                most.min(4)
+            } else {
+                0
+            }
+        }
     }
 }

@@ -27,8 +27,9 @@ pub fn request(alloc: Global, callee: &Callee<'_>, args: &[Value]) -> Result<Vec
     ensures too_large { IsErrOf result TooLarge ↔ 1048576 < length
         (request callee.now.decls callee.now.interface callee.now.method (views args.now)) }
 {
-    let length = request_length(callee, args);
-    if length > LimitName::ParcelBytes.number() as usize {
+    let most = LimitName::ParcelBytes.number() as usize;
+    let length = request_length(callee, args, most + 1);
+    if length > most {
         return Err(WriteFault::TooLarge);
     }
     let name = descriptor_of(alloc, callee.schema(), callee.interface())?;

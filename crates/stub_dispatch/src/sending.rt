@@ -122,7 +122,7 @@ fn returned_bytes(
     ensures { IfOk result (λ bytes. bytes.items ≡ reply callee.now.decls callee.now.interface
         callee.now.method (returned (optional_view value.now) (views outs.now))) }
 {
-    let length = returned_length(callee, value, outs);
+    let length = returned_length(callee, value, outs, usize::MAX);
     let mut to = WordWriter::with_room(alloc, length)?;
     to.word(0);
     put_result(callee, value, &mut to);

@@ -1,5 +1,5 @@
 -- What a put comes to: an answer that is printed, and words that are refused.
-use Rattle.std.proofs.Common.{◌≡◌, ◌==◌, ℕ, Bool, false, List, [], ◌++◌, length, Option, refl, sym, subst, arith, inl, inr, append-nil}
+use Rattle.std.proofs.Common.{◌≡◌, ◌==◌, ℕ, Bool, false, List, [], length, Option, refl, sym, subst, arith, inl, inr, append-nil}
 use Rattle.std.specs.Prelude.{◌≢◌, ◌⊎◌, Err}
 use Rattle.aidl_outside.specs.declared.sink.SinkFault.{SinkFault}
 use Rattle.aidl_outside.specs.declared.sink.SinkFault.TheVariants.{Failed, OutOfMemory}

@@ -1,5 +1,6 @@
 pub mod Acts
 pub mod Answer
+pub mod Asks
 pub mod Course
 pub mod Ended
 pub mod Exit

@@ -3,7 +3,7 @@ ghost use Rattle.std.specs.Prelude.{◌≡◌};
 ghost use Rattle.tool_frame.specs.Exit.{number_of};
 
 /// How a run of the program ends.
-#[derive(Clone, Copy, Debug)]
+#[derive(Clone, Copy)]
 pub enum Exit {
     /// exit 0: done
     Done = 0,

@@ -10,14 +10,14 @@ use std::alloc::Global;
 use std::fmt::Write;
 
 /// A text to print, and the verdict that goes with it.
-#[derive(Debug, Drop)]
+#[derive(Drop)]
 pub struct Printed {
     pub text: String,
     pub verdict: Verdict,
 }
 
 /// Why a command ends before its last step.
-#[derive(Debug, Drop)]
+#[derive(Drop)]
 pub enum Early {
     /// A refusal, with what is printed.
     Answered(Printed),

@@ -1,12 +1,13 @@
 //! Loading the `.aidl` files of a tree from a store, within the limits on their number and their bytes.
-ghost use Rattle.std.specs.Prelude.{◌≡◌, ◌++◌, ◌∷◌, [], IfOk, OnOk, map, string_bytes};
+ghost use Rattle.std.specs.Prelude.{◌≡◌, ◌++◌, ◌∷◌, [], All, IfOk, OnOk, map, string_bytes, true};
 ghost use Rattle.std.specs.List.{filter};
 ghost use Rattle.aidl_base.specs.declared.limit.LimitName.TheVariants.{FileBytes};
-ghost use Rattle.aidl_outside.specs.Asks.{AsksBelow, AsksFile, AsksThese};
+ghost use Rattle.aidl_outside.specs.Asks.{AsksFile};
 ghost use Rattle.aidl_outside.specs.Causes.{StoreCause};
 ghost use Rattle.aidl_outside.specs.Faults.{FailedIn, IfStoreFailed, listing as lists};
 ghost use Rattle.aidl_outside.specs.Files.{path_below};
 ghost use Rattle.aidl_outside.specs.Told.{Tells};
+ghost use Rattle.tool_frame.specs.Asks.{AsksInOrder, AsksTree};
 ghost use Rattle.tool_frame.specs.Refusals.{file_at};
 ghost use Rattle.tool_frame.specs.Trees.{AreShort, file_found, file_seen, files_at, is_source, sources_below, tree_at, tree_seen};
 ghost use Rattle.tool_frame.specs.Results.{IsShort, loaded};
@@ -31,7 +32,7 @@ pub fn load_tree<S: Store>(
     ensures unchanged { S.kept store.new ≡ S.kept store.old }
     ensures cause { StoreCause (S.fault_record store.old) (S.fault_record store.new) result }
     ensures failed { IfStoreFailed result
-        (FailedIn (S.fault_record store.new) (AsksBelow root.now (S.kept store.old))) }
+        (FailedIn (S.fault_record store.new) (AsksTree root.now (S.kept store.old))) }
 {
     let paths = source_paths(alloc, root, store)?;
     let which = LimitName::Files;
@@ -49,6 +50,8 @@ fn source_paths<S: Store>(
 ) -> Result<Vec<String>, StoreFault>
     ensures paths { IfOk result (λ paths. Tells (S.kept store.old)
         (λ files. map string_bytes paths.items ≡ sources_below root.now files)) }
+    ensures sources { IfOk result (λ paths. All (λ path. is_source path ≡ true)
+        (map string_bytes paths.items)) }
     ensures unchanged { S.kept store.new ≡ S.kept store.old }
     ensures cause { StoreCause (S.fault_record store.old) (S.fault_record store.new) result }
     ensures failed { IfStoreFailed result (FailedIn (S.fault_record store.new) (λ call. call
@@ -85,8 +88,8 @@ fn load_files<S: Store>(
     ensures short { IfOk result (λ tree. IfOk tree AreShort) }
     ensures unchanged { S.kept store.new ≡ S.kept store.old }
     ensures cause { StoreCause (S.fault_record store.old) (S.fault_record store.new) result }
-    ensures failed { IfStoreFailed result
-        (FailedIn (S.fault_record store.new) (AsksThese root.now (map string_bytes paths.items))) }
+    ensures failed { IfStoreFailed result (FailedIn (S.fault_record store.new)
+        (AsksInOrder root.now (map string_bytes paths.items) (S.kept store.old))) }
 {
     let mut files = Row::new(alloc);
     for path in paths {

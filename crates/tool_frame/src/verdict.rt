@@ -5,7 +5,7 @@ ghost use Rattle.tool_frame.specs.Verdict.{as_exit};
 use crate::exit::Exit;
 
 /// How a command ends that met no fault.
-#[derive(Clone, Copy, Debug)]
+#[derive(Clone, Copy)]
 pub enum Verdict {
     /// done
     Done,

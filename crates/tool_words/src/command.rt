@@ -2,7 +2,7 @@
 
 /// A command and its words, one variant for each row of the table of commands. Paths are neither empty nor do they start
 /// with `--`; TYPES is one to 255 well-formed entries.
-#[derive(Clone, Copy, Debug)]
+#[derive(Clone, Copy)]
 pub enum Command<'a> {
     /// `decode [--lenient] [--tree TREE] TYPES FILE`
     Decode {

@@ -6,7 +6,7 @@ ghost use Rattle.tool_words.specs.Entries.{ends_with, entries_of, entry_of, shap
 ghost use Rattle.tool_words.specs.Seen.{entry_seen};
 
 /// What stands around the name of an entry.
-#[derive(Clone, Copy, Debug, PartialEq, Eq)]
+#[derive(Clone, Copy, PartialEq, Eq)]
 pub enum Form {
     /// `N`
     One,
@@ -17,7 +17,7 @@ pub enum Form {
 }
 
 /// An entry of TYPES: `N`, `N[]` or `List<N>`, with an optional `?` at its end for nullable.
-#[derive(Clone, Copy, Debug)]
+#[derive(Clone, Copy)]
 pub struct Entry<'a> {
     pub name: &'a [u8],
     pub form: Form,

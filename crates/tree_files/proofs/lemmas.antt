@@ -1,3 +1,5 @@
 -- Laws of this crate's definitions that crates above cite.
 pub mod OfBytes
 pub mod OneAnswer
+pub mod Built
+pub mod SomeAnswer

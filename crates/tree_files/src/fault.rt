@@ -4,7 +4,7 @@ use aidl_base::{Limit, OutOfMemory, Row};
 use aidl_lexer::LexFault;
 
 /// A file without tokens: its 0-based number, and the fault with its place in bytes from the start of the file.
-#[derive(Clone, Copy, Debug, PartialEq, Eq)]
+#[derive(Clone, Copy, PartialEq, Eq)]
 pub struct LexBreach {
     pub file: u32,
     pub fault: LexFault,
@@ -12,7 +12,7 @@ pub struct LexBreach {
 
 /// Why the files of a tree aren't parsed, in the order in which it is looked for (own): the limits `files` and
 /// `file-bytes`, files without tokens, the limits on tokens, files without a tree.
-#[derive(Debug, Drop)]
+#[derive(Drop)]
 pub enum FilesFault {
     /// a limit is passed: `files` or `file-bytes`; or `nesting` or `run-length`, by the first file that passes one
     Limit(Limit),

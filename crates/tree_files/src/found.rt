@@ -18,7 +18,7 @@ use std::alloc::Global;
 
 /// What is found of the first files of a tree. Once a file has no tokens only `faults` counts; once a limit on tokens
 /// is passed, `treeless` and `parsed` no longer do.
-#[derive(Debug, Drop)]
+#[derive(Drop)]
 pub struct Found {
     pub faults: Row<LexBreach>,
     pub limit: Option<LimitName>,

@@ -1,7 +1,8 @@
-//! Laws of parsed files: files have at most one answer, and parsed ones are within the limit on their number.
-ghost use Rattle.std.specs.Prelude.{◌≡◌, ◌≢◌, List, map};
+//! Laws of parsed files: files have one answer and no two, and parsed ones are within the limit on their number.
+ghost use Rattle.std.specs.Prelude.{◌≡◌, ◌≢◌, ◌⊎◌, List, map};
 ghost use Rattle.aidl_syntax.specs.declared.tree.ParsedFile.{ParsedFile};
 ghost use Rattle.aidl_syntax.specs.Sources.{AreOfBytes, source_of};
+ghost use Rattle.aidl_base.specs.declared.source_file.SourceFile.{SourceFile as File};
 ghost use Rattle.tree_files.specs.declared.fault.FilesFault.{FilesFault};
 ghost use Rattle.tree_files.specs.declared.fault.FilesFault.TheVariants as fault;
 ghost use Rattle.tree_files.specs.Parsed.{AreParsed};
@@ -18,6 +19,12 @@ pub fn law_one_answer(files: &[SourceFile])
         → IsRefusal files.now first → IsRefusal files.now second → first ≡ second }
     ensures never_both { (parsed : List ParsedFile) (refusal : FilesFault) → refusal
         ≢ fault.OutOfMemory → AreParsed files.now parsed → IsRefusal files.now refusal → ⊥ }
+{}
+
+/// A law of the definitions: files are parsed, or have a refusal that is no want of memory.
+pub fn law_parsed_or_refused()
+    ensures { (files : List File) → ((parsed : List ParsedFile) × AreParsed files parsed)
+        ⊎ ((refusal : FilesFault) × (refusal ≢ fault.OutOfMemory) × IsRefusal files refusal) }
 {}
 
 /// A law of the definitions: files as they are parsed are at most 4,096, each of some bytes.

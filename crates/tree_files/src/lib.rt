@@ -8,5 +8,5 @@ mod parsing;
 mod sizes;
 
 pub use fault::{FilesFault, LexBreach};
-pub use laws::{law_of_bytes, law_one_answer};
+pub use laws::{law_of_bytes, law_one_answer, law_parsed_or_refused};
 pub use parsing::parse_files;

@@ -11,7 +11,7 @@ pub fn oversized(files: &[SourceFile]) -> Option<LimitName>
     ensures few { IfNone result (length files.now ≤ 4096) }
     ensures short { IfNone result (All (λ f. length f.bytes ≤ 262144) files.now) }
 {
-    if files.len() > 4096 {
+    if files.len() > LimitName::Files.number() as usize {
         Some(LimitName::Files)
     } else if any_long(files) {
         Some(LimitName::FileBytes)
@@ -23,5 +23,5 @@ pub fn oversized(files: &[SourceFile]) -> Option<LimitName>
 fn any_long(files: &[SourceFile]) -> bool
     ensures { result ≡ list_any is_long files.now }
 {
-    files.iter().any(|file| file.bytes.len() > 262_144)
+    files.iter().any(|file| file.bytes.len() > LimitName::FileBytes.number() as usize)
 }

@@ -9,7 +9,7 @@ use std::alloc::Global;
 
 /// The text of a calls file from a newer tree to an older one, and the files of both trees, each with its path relative to the root of
 /// its tree, in byte order of their paths.
-#[derive(Debug, Drop)]
+#[derive(Drop)]
 pub struct Made {
     pub calls: Row<u8>,
     pub new: Row<SourceFile>,

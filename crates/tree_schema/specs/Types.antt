@@ -10,7 +10,7 @@ use Rattle.declared_names.specs.Declarations.{Entry, declarations}
 use Rattle.aidl_syntax.specs.Sources.{Source}
 use Rattle.type_shapes.specs.declared.shape.Shape as tree
 use Rattle.type_shapes.specs.declared.shape.Shape.TheVariants.{One, Array, List as ListOf, Refused}
-use Rattle.const_items.specs.Items.{shape_in}
+use Rattle.type_shapes.specs.Types.{shape_in}
 use Rattle.aidl_schema.specs.declared.schema.Base.{Base}
 use Rattle.aidl_schema.specs.declared.schema.Base.TheVariants as base
 use Rattle.aidl_schema.specs.declared.schema.Shape.{Shape}

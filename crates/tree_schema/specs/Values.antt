@@ -10,7 +10,8 @@ use Rattle.aidl_syntax.specs.Sources.{Source}
 use Rattle.const_eval.specs.declared.outcome.Outcome.{Outcome}
 use Rattle.const_eval.specs.declared.outcome.Outcome.TheVariants.{Given, Fault, Unjudged}
 use Rattle.type_shapes.specs.Initializers.{is_unjudged}
-use Rattle.const_items.specs.Items.{items, number_at, place_of, shape_in}
+use Rattle.type_shapes.specs.Types.{shape_in}
+use Rattle.const_items.specs.Items.{items, number_at, place_of}
 
 -- the outcome of each item, by its number
 abbrev pub Outcomes : Type 0

@@ -17,7 +17,7 @@ use crate::numbers::numbers_of;
 use crate::order::in_schema_order;
 use crate::tree::{Placed, Scope, Tree};
 use aidl_base::{DottedName, OutOfMemory, Row};
-use aidl_names::Names;
+use aidl_names::{Names, law_accepted};
 use aidl_schema::Decl;
 use const_eval::Settled;
 use std::alloc::Global;
@@ -34,7 +34,7 @@ pub fn draft(
     ensures { IfOk result (λ decls. decls
         ≡ meant.schema_of (map source_of names.now) (outcome_at settled.now.outcomes.items)) }
 {
-    let _files = names.files();
+    law_accepted(names);
     let order = in_schema_order(alloc, names.decls())?;
     let numbers = numbers_of(alloc, order.as_slice())?;
     let tree = Tree {

@@ -1,3 +1,4 @@
 -- Laws of this crate's definitions that crates above cite.
 pub mod OneAnswer
 pub mod ValidOf
+pub mod SomeAnswer

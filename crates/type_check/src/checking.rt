@@ -6,13 +6,13 @@ ghost use Rattle.const_items.specs.ItemViews.{item_of};
 ghost use Rattle.const_eval.specs.Outcomes.{AreOutcomes};
 ghost use Rattle.type_check.specs.Checked.{IsSchemaOf, IsSchemaOfTrees};
 ghost use Rattle.type_check.specs.Refusals.{IsRefusal, IsRefusalOfTrees};
-ghost use Rattle.type_check.specs.Stages.{constants_broken, schema_by, types_broken};
+ghost use Rattle.type_check.specs.Stages.{constants_broken};
 
 use crate::fault::CheckFault;
 use crate::refused::{of_files, of_names};
 use crate::stages::types_broken;
 use aidl_base::{Row, SourceFile};
-use aidl_names::{Names, gather};
+use aidl_names::{Names, gather, law_accepted};
 use aidl_schema::{Decl, Schema};
 use aidl_syntax::ParsedFile;
 use const_eval::{Settled, breaches, eval_all};
@@ -53,7 +53,7 @@ fn of_gathered(alloc: Global, names: &Names<'_>) -> Result<Schema, CheckFault>
     ensures ok { IfOk result (λ schema. IsSchemaOfTrees (map source_of names.now) schema.decls) }
     ensures err { IfErr result (IsRefusalOfTrees (map source_of names.now)) }
 {
-    let _files = names.files();
+    law_accepted(names);
     let settled = eval_all(alloc, names)?;
     let faults = breaches(alloc, &settled)?;
     if faults.len() > 0 {
@@ -72,23 +72,19 @@ fn of_settled(alloc: Global, names: &Names<'_>, settled: &Settled<'_>) -> Result
     ensures err { IfErr result (IsRefusalOfTrees (map source_of names.now)) }
 {
     law_named(names);
-    let _files = names.files();
+    law_accepted(names);
     let decls = draft(alloc, names, settled)?;
     let broken = types_broken(alloc, names, decls.as_slice())?;
     if broken.len() > 0 {
         return Err(CheckFault::Breaches(broken));
     }
-    Ok(schema(names, settled, decls))
+    Ok(schema(names, decls))
 }
 
 // The schema with these declarations, which are those of a tree that breaks no rule.
-fn schema(names: &Names<'_>, settled: &Settled<'_>, decls: Row<Decl>) -> Schema
-    requires outcomes { AreOutcomes (map source_of names.now) settled.now.outcomes.items }
-    requires constants { constants_broken (map source_of names.now) settled.now.outcomes.items
-        ≡ [] }
-    requires types { types_broken (map source_of names.now) decls ≡ [] }
-    requires exact { decls ≡ schema_by (map source_of names.now) settled.now.outcomes.items }
-    ensures { result.decls ≡ decls }
+fn schema(names: &Names<'_>, decls: Row<Decl>) -> Schema
+    requires { IsSchemaOfTrees (map source_of names.now) decls }
+    ensures { IsSchemaOfTrees (map source_of names.now) result.decls }
 {
     law_unbroken(names.files());
     law_within(decls.as_slice());

@@ -5,7 +5,7 @@ use tree_files::LexBreach;
 
 /// Why a tree is refused, in the order in which it is looked for (own): the limits `files` and `file-bytes`, files without tokens, the
 /// limits on tokens, files without a tree, the limits on declarations, the check rules.
-#[derive(Debug, Drop)]
+#[derive(Drop)]
 pub enum CheckFault {
     /// a limit is passed
     Limit(Limit),

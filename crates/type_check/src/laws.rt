@@ -1,5 +1,6 @@
-//! Laws of the check: files have at most one answer, which is a schema or a refusal.
-ghost use Rattle.std.specs.Prelude.{◌≡◌, ◌≢◌, List};
+//! Laws of the check: files have one answer and no two, which is a schema or a refusal.
+ghost use Rattle.std.specs.Prelude.{◌≡◌, ◌≢◌, ◌⊎◌, List};
+ghost use Rattle.aidl_base.specs.declared.source_file.SourceFile.{SourceFile as File};
 ghost use Rattle.aidl_schema.specs.declared.schema.Decl.{Decl};
 ghost use Rattle.type_check.specs.declared.fault.CheckFault.{CheckFault};
 ghost use Rattle.type_check.specs.declared.fault.CheckFault.TheVariants as fault;
@@ -32,3 +33,9 @@ pub fn law_never_both(files: &[SourceFile])
 {
     law_one_answer(files);
 }
+
+/// A law of the definitions: files have a schema, or a refusal that is no want of memory.
+pub fn law_checked_or_refused()
+    ensures { (files : List File) → ((schema : List Decl) × IsSchemaOf files schema)
+        ⊎ ((refusal : CheckFault) × (refusal ≢ fault.OutOfMemory) × IsRefusal files refusal) }
+{}

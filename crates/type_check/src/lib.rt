@@ -10,4 +10,5 @@ mod stages;
 
 pub use checking::check;
 pub use fault::CheckFault;
-pub use laws::{law_never_both, law_one_refusal, law_one_schema};
+pub use laws::{law_checked_or_refused, law_never_both, law_one_refusal, law_one_schema};
+pub use tree_files::LexBreach;

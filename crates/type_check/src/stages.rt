@@ -7,7 +7,7 @@ ghost use Rattle.type_check.specs.Stages as meant;
 
 use crate::bounds::add_broken;
 use aidl_base::{Breach, OutOfMemory, Row};
-use aidl_names::{Names, in_order};
+use aidl_names::{Names, in_order, law_accepted};
 use aidl_schema::Decl;
 use schema_bounds::bounds;
 use std::alloc::Global;
@@ -24,7 +24,7 @@ pub fn types_broken(
     requires same { length (sorted (declarations (map source_of names.now))) ≡ length decls.now }
     ensures { IfOk result (λ rows. rows ≡ meant.types_broken (map source_of names.now) decls.now) }
 {
-    let _files = names.files();
+    law_accepted(names);
     let bounds = bounds(alloc, decls)?;
     let order = in_schema_order(alloc, names.decls())?;
     let mut rows = breaches_unsorted(alloc, names)?;

@@ -18,7 +18,7 @@ use crate::ids::add_bad_ids;
 use crate::nullable::add_bad_nullables;
 use crate::use_rules::{UseRule, add_where};
 use aidl_base::{Breach, OutOfMemory, Row};
-use aidl_names::{Names, in_order};
+use aidl_names::{Names, in_order, law_accepted};
 use aidl_syntax::{BodyTree, DeclTree};
 use declared_names::Found;
 use std::alloc::Global;
@@ -36,7 +36,7 @@ pub fn breaches(alloc: Global, names: &Names<'_>) -> Result<Row<Breach>, OutOfMe
 pub fn breaches_unsorted(alloc: Global, names: &Names<'_>) -> Result<Vec<Breach>, OutOfMemory>
     ensures { IfOk result (λ rows. rows.items ≡ meant.unsorted (map source_of names.now)) }
 {
-    let _files = names.files();
+    law_accepted(names);
     let mut rows = Vec::new(alloc);
     add_all(alloc, names, names.decls(), &mut rows)?;
     Ok(rows)

@@ -11,7 +11,7 @@ use Rattle.name_resolution.specs.declared.meaning.BuiltinName.TheVariants as bui
 use Rattle.name_resolution.specs.declared.meaning.Resolved.{Resolved}
 use Rattle.name_resolution.specs.declared.meaning.Resolved.TheVariants.{Builtin, ListWord, Declared}
 use Rattle.aidl_syntax.specs.Sources.{Source}
-use Rattle.declared_names.specs.Declarations.{Entry}
+use Rattle.declared_names.specs.Declarations.{Entry, declarations}
 use Rattle.name_resolution.specs.Resolution.{resolved}
 use Rattle.const_values.specs.declared.wanted.Wanted.{Wanted}
 use Rattle.const_values.specs.declared.wanted.Wanted.TheVariants as wanted
@@ -105,3 +105,7 @@ abbrev pub wanted_element : List Entry → Shape → Wanted
 wanted_element entries (shape.Array r) = wanted_of entries r
 wanted_element entries (shape.List r) = wanted_of entries r
 wanted_element entries _ = wanted.Nothing
+
+-- what a type is, below a declaration
+abbrev pub shape_in : List Source → ℕ → ℕ → TypeTree → Shape
+shape_in files file scope ty = shaped (declarations files) (meaning_in files file scope) ty

@@ -4,7 +4,7 @@ ghost use Rattle.aidl_syntax.specs.Trees.{Members, arg_of, body_of, map_option, 
 ghost use Rattle.aidl_syntax.specs.Members.{listed, members};
 ghost use Rattle.aidl_names.specs.Refusals.{IsScope};
 ghost use Rattle.aidl_syntax.specs.Sources.{source_of};
-ghost use Rattle.const_items.specs.Items.{shape_in};
+ghost use Rattle.type_shapes.specs.Types.{shape_in};
 ghost use Rattle.type_uses.specs.TypeUses as meant;
 ghost use Rattle.type_uses.specs.TypeUseViews.{seen_use};
 

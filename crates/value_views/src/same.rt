@@ -7,8 +7,8 @@ ghost use Rattle.value_views.specs.steps.Same.{same_data, same_items};
 use crate::rows::{
     are_numbers, are_truths, are_truths_numbers, same_numbers, same_truth, same_truths,
 };
+use aidl_schema::same_text;
 use aidl_values::{FieldValues, Value};
-use compat_judge::same_text;
 
 /// Whether two values are the same data: equal truth values, numbers and texts, and parts that are the same one
 /// by one, in whichever form a sequence is kept. It needs no type and takes no memory (own).

@@ -14,9 +14,8 @@ ghost use Rattle.wire_model.specs.View as meant;
 use crate::named_fields::NamedFields;
 use crate::places::{parcelable_fields, place_in_union, place_sent, union_fields};
 use aidl_base::{OutOfMemory, Row};
-use aidl_schema::{AidlType, Base, Decl, Field, Kind, element};
+use aidl_schema::{AidlType, Base, Decl, Field, Kind, element, same_type};
 use aidl_values::{FieldValues, Numbers, Value, initial_of};
-use compat_judge::same_type;
 use std::alloc::Global;
 
 /// What a value that a sender spells by its type `t` is to a receiver that reads it by its type `u`, exactly

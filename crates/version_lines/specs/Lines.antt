@@ -1,10 +1,12 @@
 -- What is printed of frozen versions (own).
-use Rattle.std.specs.Prelude.{ℕ, ◌++◌, List, [], take, if◌then◌else◌, Option, Some, None, codes}
+use Rattle.std.specs.Prelude.{◌≡◌, ℕ, ◌++◌, List, [], take, if◌then◌else◌, Option, Some, None, codes}
 use Rattle.std.specs.Fmt.{decimal}
 use Rattle.std.specs.Str.{encode_utf8_all}
+use Rattle.api_versions.specs.declared.fault.VersionsFault.{VersionsFault}
+use Rattle.api_versions.specs.declared.fault.VersionsFault.TheVariants as fault
 use Rattle.api_versions.specs.declared.version.Version.{Version}
 use Rattle.api_versions.specs.Whole.{defined, is_whole}
-use Rattle.tool_frame.specs.Answer.{Answer, line, negative}
+use Rattle.tool_frame.specs.Answer.{Answer, limit_passed, line, negative}
 use Rattle.tool_frame.specs.Shown.{shown}
 
 -- the 40 digits of the text of a `.hash`
@@ -35,6 +37,13 @@ version_line v = line (decimal v.number ++ (codes " " ++ version_words v))
 -- `bad versions missing N`, N the least number that is missing
 abbrev pub bad_versions : ℕ → Answer
 bad_versions missing = negative (codes "bad versions missing " ++ decimal missing)
+
+-- what is printed where versions aren't read; where the store failed or memory was wanted, nothing is
+abbrev pub IsUnread : VersionsFault → Answer → Type 0
+IsUnread (fault.BadVersions missing) answer = answer ≡ bad_versions missing
+IsUnread (fault.Limit limit) answer = answer ≡ limit_passed limit.which
+IsUnread fault.ReadFault answer = ⊥
+IsUnread fault.OutOfMemory answer = ⊥
 
 -- `torn N missing HASH` or `torn N kept BYTES HASH`, by the text that its `.hash` is to have
 abbrev pub torn : ℕ → Option (List ℕ) → List ℕ → Answer

@@ -6,8 +6,9 @@ use Rattle.std.specs.Str.{encode_utf8_all}
 use Rattle.aidl_base.specs.declared.source_file.SourceFile.{SourceFile}
 use Rattle.aidl_schema.specs.declared.schema.Decl.{Decl}
 use Rattle.api_freeze.specs.Freeze.{Ready, RefusedAs, hash_digits, next, version_writes}
-use Rattle.api_versions.specs.declared.fault.FreezeFault.{FreezeFault}
-use Rattle.api_versions.specs.declared.fault.FreezeFault.TheVariants as fault
+use Rattle.api_freeze.specs.declared.fault.FreezeFault.{FreezeFault}
+use Rattle.api_freeze.specs.declared.fault.FreezeFault.TheVariants as fault
+use Rattle.api_versions.specs.declared.fault.VersionsFault.{VersionsFault}
 use Rattle.api_versions.specs.declared.version.Version.{Version}
 use Rattle.api_versions.specs.Versions.{version_folder}
 use Rattle.compat_judge.specs.Seen.{seen as break_of}
@@ -15,7 +16,7 @@ use Rattle.tool_frame.specs.Acts.{Acts, Only}
 use Rattle.tool_frame.specs.Answer.{Answer, after_text, done, limit_passed, line, negative}
 use Rattle.tree_output.specs.Faults.{IsFaultAnswer, refused}
 use Rattle.tree_output.specs.Judged.{break_line}
-use Rattle.version_lines.specs.Lines.{bad_versions, torn}
+use Rattle.version_lines.specs.Lines.{IsUnread, torn}
 
 -- `frozen N HASH`
 abbrev pub frozen : ℕ → List ℕ → Answer
@@ -28,15 +29,14 @@ IsUnreadable api version files answer = (faults : Answer) × IsFaultAnswer (vers
 
 -- what is printed of each refusal to freeze
 abbrev pub IsUnfrozen : List ℕ → FreezeFault → Answer → Type 0
-IsUnfrozen api (fault.BadVersions missing) answer = answer ≡ bad_versions missing
-IsUnfrozen api (fault.Torn version kept text) answer = answer ≡ torn version kept text
+IsUnfrozen api (fault.Versions e) answer = IsUnread e answer
+IsUnfrozen api (fault.Torn stale) answer = answer ≡ torn stale.version stale.kept stale.text
 IsUnfrozen api (fault.Unreadable version files cause) answer = IsUnreadable api version files answer
 IsUnfrozen api (fault.Unchanged version) answer = answer ≡ negative (codes "unchanged " ++ decimal version)
 IsUnfrozen api (fault.Incompatible rows) answer = answer ≡ refused (flat_map break_line (map break_of rows))
 IsUnfrozen api (fault.Limit limit) answer = answer ≡ limit_passed limit.which
 -- where a call of the store failed or memory was wanted, nothing is
-IsUnfrozen api fault.ReadFault answer = ⊥
-IsUnfrozen api fault.WriteFault answer = ⊥
+IsUnfrozen api (fault.Write e) answer = ⊥
 IsUnfrozen api fault.OutOfMemory answer = ⊥
 
 -- the next version is written, and its number and hash are printed
@@ -50,6 +50,6 @@ abbrev pub RefusesNext : List ℕ → List Version → List Decl → Answer → 
 RefusesNext api vs S answer = (e : FreezeFault) × RefusedAs vs S e × IsUnfrozen api e answer
 
 -- of the versions, or of what refuses these
-abbrev pub Freezes : List ℕ → Result (List Version) FreezeFault → List Decl → Acts
+abbrev pub Freezes : List ℕ → Result (List Version) VersionsFault → List Decl → Acts
 Freezes api (Ok vs) S made answer = FreezesNext api vs S made answer ⊎ Only (RefusesNext api vs S) made answer
-Freezes api (Err e) S made answer = Only (IsUnfrozen api e) made answer
+Freezes api (Err e) S made answer = Only (IsUnread e) made answer

@@ -18,7 +18,7 @@ use std::fmt::Write as _;
 use tool_frame::{Printed, Verdict};
 
 /// What is to be written, and what is printed once it is.
-#[derive(Debug, Drop)]
+#[derive(Drop)]
 pub struct Due {
     pub writes: Vec<Write>,
     pub printed: Printed,

@@ -5,6 +5,7 @@ mod dumping;
 mod freezing;
 mod refusing;
 mod rehashing;
+mod unread;
 mod verifying;
 
 pub use dumping::{Due, dump_answer};

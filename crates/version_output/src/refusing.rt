@@ -12,8 +12,9 @@ ghost use Rattle.tree_output.specs.Faults.{refused};
 ghost use Rattle.tree_output.specs.Judged.{break_line};
 ghost use Rattle.tree_output.specs.Results as tree;
 ghost use Rattle.type_check.specs.Refusals.{IsRefusal};
-ghost use Rattle.version_output.specs.Ends.{EndsBy};
+ghost use Rattle.version_output.specs.Ends.{FreezeEnds};
 
+use crate::unread::versions_refusal;
 use aidl_base::{OutOfMemory, Row, SourceFile};
 use aidl_outside::StoreFault;
 use api_freeze::FreezeFault;
@@ -24,22 +25,18 @@ use std::fmt::Write;
 use tool_frame::{Early, Printed, Verdict, limit_passed};
 use tree_output::{fault_answer, judge_lines};
 use type_check::CheckFault;
-use version_lines::{bad_versions, torn_answer};
+use version_lines::torn_answer;
 
 /// What `freeze` prints where it refuses: `bad versions missing N`; `torn N missing HASH` or `torn N kept BYTES HASH`; `unreadable N`
 /// and the lines of the version's faults; `unchanged N`; the judge's lines; or a limit. Of a call of the store that failed, or
 /// where memory was wanted, it is that fault.
 pub fn freeze_refusal(alloc: Global, api: &str, fault: FreezeFault) -> Result<Early, StoreFault>
     requires { IsRead fault }
-    ensures { EndsBy (meant.IsUnfrozen api.now) fault result }
+    ensures { FreezeEnds (meant.IsUnfrozen api.now) fault result }
 {
     match fault {
-        FreezeFault::BadVersions { missing } => Ok(bad_versions(alloc, missing)),
-        FreezeFault::Torn {
-            version,
-            kept,
-            defined,
-        } => Ok(torn_answer(alloc, version, &kept, &defined)),
+        FreezeFault::Versions(fault) => versions_refusal(alloc, fault),
+        FreezeFault::Torn(torn) => Ok(torn_answer(alloc, torn.version, &torn.kept, &torn.text)),
         FreezeFault::Unreadable {
             version,
             files,
@@ -48,8 +45,7 @@ pub fn freeze_refusal(alloc: Global, api: &str, fault: FreezeFault) -> Result<Ea
         FreezeFault::Unchanged { version } => Ok(unchanged(alloc, version)),
         FreezeFault::Incompatible(rows) => Ok(incompatible(alloc, rows)),
         FreezeFault::Limit(limit) => Ok(limit_passed(alloc, limit)),
-        FreezeFault::ReadFault => Err(StoreFault::Failed),
-        FreezeFault::WriteFault => Err(StoreFault::Failed),
+        FreezeFault::Write(fault) => Err(fault),
         FreezeFault::OutOfMemory => Err(StoreFault::OutOfMemory),
     }
 }

@@ -1,18 +1,18 @@
 //! What `rehash` prints: how many hashes were written, or why none was.
 ghost use Rattle.std.specs.Prelude.{◌≡◌, ◌++◌, codes, decimal, IfOk, string_bytes};
-ghost use Rattle.api_freeze.specs.Rehash.{IsRehashFault};
 ghost use Rattle.tool_frame.specs.Answer.{line};
 ghost use Rattle.tool_frame.specs.Results.{Gives};
-ghost use Rattle.version_output.specs.Ends.{EndsBy};
+ghost use Rattle.version_output.specs.Ends.{RehashEnds};
 ghost use Rattle.version_output.specs.Rehashed as meant;
 
+use crate::unread::versions_refusal;
 use aidl_base::OutOfMemory;
 use aidl_outside::StoreFault;
-use api_versions::FreezeFault;
+use api_freeze::RehashFault;
 use std::alloc::Global;
 use std::fmt::Write;
-use tool_frame::{Early, Printed, Verdict, limit_passed};
-use version_lines::{bad_versions, torn_answer};
+use tool_frame::{Early, Printed, Verdict};
+use version_lines::torn_answer;
 
 /// What `rehash` prints of so many hashes that were written.
 pub fn rehash_answer(alloc: Global, count: usize) -> Result<Printed, Early>
@@ -35,23 +35,13 @@ fn count_line(alloc: Global, count: usize) -> Result<String, OutOfMemory>
 
 /// What `rehash` prints of a refusal: `bad versions missing N`; `torn N missing HASH` or `torn N kept BYTES HASH`; or a limit. Of a call of
 /// the store that failed, or where memory was wanted, it is that fault.
-pub fn rehash_refusal(alloc: Global, fault: FreezeFault) -> Result<Early, StoreFault>
-    requires { IsRehashFault fault }
-    ensures { EndsBy meant.IsUnhashed fault result }
+pub fn rehash_refusal(alloc: Global, fault: RehashFault) -> Result<Early, StoreFault>
+    ensures { RehashEnds meant.IsUnhashed fault result }
 {
     match fault {
-        FreezeFault::BadVersions { missing } => Ok(bad_versions(alloc, missing)),
-        FreezeFault::Torn {
-            version,
-            kept,
-            defined,
-        } => Ok(torn_answer(alloc, version, &kept, &defined)),
-        FreezeFault::Limit(limit) => Ok(limit_passed(alloc, limit)),
-        FreezeFault::ReadFault => Err(StoreFault::Failed),
-        FreezeFault::WriteFault => Err(StoreFault::Failed),
-        FreezeFault::OutOfMemory => Err(StoreFault::OutOfMemory),
-        FreezeFault::Unreadable { .. } => unreachable!(),
-        FreezeFault::Unchanged { .. } => unreachable!(),
-        FreezeFault::Incompatible(_) => unreachable!(),
+        RehashFault::Versions(fault) => versions_refusal(alloc, fault),
+        RehashFault::Torn(torn) => Ok(torn_answer(alloc, torn.version, &torn.kept, &torn.text)),
+        RehashFault::Write(fault) => Err(fault),
+        RehashFault::OutOfMemory => Err(StoreFault::OutOfMemory),
     }
 }

@@ -122,7 +122,7 @@ abbrev pub or_status : {A : Type 0} → ℤ → Option A → Result A ℤ
 or_status s None = Err s
 or_status s (Some x) = Ok x
 
--- *Stub*: what is received, or the transport status of the refusal that comes first
+-- *Stub*: what is received, or the transport status of the first refusal (own: a generated stub replies to UNEXPECTED_NULL by exception -4)
 unfoldable pub stub : Profile → List Decl → ℕ → ℕ → List ℕ → Result Received ℤ
 stub p S i code b = do
   m ← or_status unknown_transaction (position_of_code (methods_at S i) code)  -- UNKNOWN_TRANSACTION: no method has the code

@@ -59,7 +59,7 @@ abbrev mutual
   spell S t (rec vs) = word (pos 1) ++ body (spell_fields S (parcelable_fields (form_of S t.base)) vs)
   spell S t (alt k v) = word (pos 1) ++ word (pos k) ++ spell S (type_of_field (slice_get (union_fields (form_of S t.base)) k)) v
 
-  -- the elements of a sequence, in order (Parcel.h: `writeData` of a vector)
+  -- the elements of a sequence, in order (Parcel.h: `unsafeWriteTypedVector`)
   pub spell_items : List Decl → AidlType → Items → List ℕ
   spell_items S t none = []
   spell_items S t (item v vs) = spell S t v ++ spell_items S t vs

@@ -1,5 +1,5 @@
 -- What a call shows, by its two sides.
-use Rattle.std.proofs.Common.{◌≡◌, ℕ, ◌<◌, zero, suc, Bool, true, false, List, [], ◌∷◌, length, Option, Some, None, slice_get, refl, sym, ap, ◌∙◌, subst, arith}
+use Rattle.std.proofs.Common.{◌≡◌, ℕ, ◌<◌, zero, suc, Bool, true, false, not, List, [], ◌∷◌, length, Option, Some, None, slice_get, refl, sym, ap, ◌∙◌, subst, arith}
 use Rattle.std.specs.Prelude.{ℤ, if◌then◌else◌, Result, Err}
 use Rattle.aidl_base.specs.declared.profile.Profile.TheVariants.{Strict}
 use Rattle.aidl_schema.specs.declared.schema.Decl.{Decl}
@@ -12,17 +12,20 @@ use Rattle.wire_model.specs.Outcome.{declared_as, method_like}
 use Rattle.wire_model.specs.Receiver.{Received}
 unfoldable use Rattle.wire_model.specs.Receiver.{stub}
 use Rattle.wire_model.specs.Status.{unknown_transaction}
+use Rattle.compat_witness.specs.Alike.{IsShort}
 use Rattle.compat_witness.specs.Candidates.{Candidate, request, reply, ValuesFit, IsAnswerAt, IsAnswerOf, answer_bytes, at_method, bytes_of, client_of, server_of, counterpart, read_side, projected_side}
 use Rattle.compat_witness.specs.Sides.{Side, transport, no_reply, read_request, read_reply, received_by, projected_request, projected_reply, side_of}
 unfoldable use Rattle.compat_witness.specs.Sides.{projected_call}
 use Rattle.witness_calls.specs.declared.sides.Compared.{Compared}
 use Rattle.witness_calls.specs.declared.showing.Showing.{Showing}
+use Rattle.witness_calls.specs.declared.showing.Tried.{Tried}
 use Rattle.witness_calls.specs.Comparing.{AreCompared, NamesMethod}
-use Rattle.witness_calls.specs.Showing.{Tries}
+use Rattle.witness_calls.specs.Showing.{IsTried, Tries}
 use Rattle.witness_calls.specs.Counted.{AreCounted, NoneCount, IsCounted, IsWeighed, IsWeighedBy}
 use Rattle.witness_calls.specs.steps.Projected.{callee_at}
 use Rattle.witness_calls.specs.steps.Shown.{shown_of}
 use Rattle.witness_calls.proofs.NoCode.{no_code}
+use Rattle.witness_calls.proofs.Tests.{back_way}
 
 -- Bytes and sides
 
@@ -80,17 +83,22 @@ tried old new call bytes c n k = by_test c.differ refl
     by_test false e = λ s. let both : false ≡ true = sym e ∙ k.differ.1 s.differs in cc
 
 -- the same of what is weighed
-pub weighed_tried : (old new : List Decl) (call : Candidate) (o : Option (List ℕ × Compared)) (bytes : List ℕ) (c : Compared) (t : Option Showing)
-    → IsWeighed old new call o → o ≡ Some (bytes, c) → t ≡ shown_of bytes c → Tries old new call t
+pub weighed_tried : (old new : List Decl) (call : Candidate) (o : Option (List ℕ × Compared)) (bytes : List ℕ) (c : Compared) (t : Tried)
+    → IsWeighed old new call o → o ≡ Some (bytes, c) → t ≡ record { showing = shown_of bytes c; short = true } → IsTried old new call t
 weighed_tried old new call o bytes c t w is shown =
     let h : IsWeighed old new call (Some (bytes, c)) = subst (λ z. IsWeighed old new call z) is w in
-    subst (λ z. Tries old new call z) (sym shown) (tried old new call bytes c h.0 h.1)
+    subst (λ z. IsTried old new call z) (sym shown) (record { tries = tried old new call bytes c h.0 h.1; short = λ e fits. h.0.small })
+
+-- what shows nothing
+unknown : (old new : List Decl) (call : Candidate) (t : Tried) (short : Bool) → Tries old new call None → (short ≡ true → IsShort old new call) → t ≡ record { showing = None; short = short } → IsTried old new call t
+unknown old new call t short none few is = subst (λ z. IsTried old new call z) (sym is) (record { tries = none; short = few })
 
 -- what doesn't count shows nothing
-pub none_tried : (old new : List Decl) (call : Candidate) (o : Option (List ℕ × Compared)) → IsWeighed old new call o → o ≡ None → Tries old new call None
-none_tried old new call o w is =
+pub none_tried : (old new : List Decl) (call : Candidate) (o : Option (List ℕ × Compared)) (t : Tried) (fits : Bool) → IsWeighed old new call o → o ≡ None → (fits ≡ false → ValuesFit old new call → ⊥)
+    → t ≡ record { showing = None; short = not fits } → IsTried old new call t
+none_tried old new call o t fits w is misfit nothing =
     let n : IsWeighed old new call None = subst (λ z. IsWeighed old new call z) is w in
-    λ s. n.nothing s.counts.fits s.counts.small
+    unknown old new call t (not fits) (λ s. n.nothing s.counts.fits s.counts.small) (λ e h. absurd (misfit (back_way fits e) h)) nothing
 
 -- Without a method
 
@@ -150,7 +158,10 @@ no_counterpart A i m B h = by_declared (declared_as B (descriptor A i)) refl
     by_declared (Some j) at = let none = no_like (method_at A i m) (methods_at B j) (none_there (methods_at A i) m h) in rw (at, none) refl
 
 -- what names no method shows nothing
-pub nothing_named : (old new : List Decl) (call : Candidate) → (NamesMethod old new call → ⊥) → Tries old new call None
-nothing_named old new (request back i m args) h = λ s. s.differs (no_method (client_of back old new) i m (server_of back old new) args _ h)
-nothing_named old new (reply back i m answer) h = λ s.
+nameless : (old new : List Decl) (call : Candidate) → (NamesMethod old new call → ⊥) → Tries old new call None
+nameless old new (request back i m args) h = λ s. s.differs (no_method (client_of back old new) i m (server_of back old new) args _ h)
+nameless old new (reply back i m answer) h = λ s.
     subst (λ o. IsAnswerAt (server_of back old new) o answer) (no_counterpart (client_of back old new) i m (server_of back old new) h) s.counts.fits
+
+pub nothing_named : (old new : List Decl) (call : Candidate) (t : Tried) → (NamesMethod old new call → ⊥) → t ≡ record { showing = None; short = false } → IsTried old new call t
+nothing_named old new call t h is = unknown old new call t false (nameless old new call h) (λ e. cc) is

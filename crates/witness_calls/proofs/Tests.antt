@@ -29,3 +29,8 @@ turned false d = (λ h p. fails false d refl p, λ f. refl)
 pub back_way : (b : Bool) → not b ≡ true → b ≡ false
 back_way true e = cc
 back_way false e = refl
+
+-- what isn't so is false
+pub is_not : (a b : Bool) → b ≡ a → IsTrue (not a) ↔ (b ≡ false)
+is_not true b e = (λ h. cc, λ f. let both : true ≡ false = sym e ∙ f in cc)
+is_not false b e = (λ h. e, λ f. refl)

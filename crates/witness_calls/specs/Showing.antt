@@ -1,8 +1,10 @@
 -- When a call shows a broken rule, and what it shows (own).
-use Rattle.std.specs.Prelude.{◌≡◌, List, Option, Some, None}
+use Rattle.std.specs.Prelude.{◌≡◌, true, List, Option, Some, None}
 use Rattle.aidl_schema.specs.declared.schema.Decl.{Decl}
+use Rattle.compat_witness.specs.Alike.{IsShort}
 use Rattle.compat_witness.specs.Candidates.{Candidate, Counts, Differs, bytes_of, read_side, projected_side}
 use Rattle.witness_calls.specs.declared.showing.Showing.{Showing}
+use Rattle.witness_calls.specs.declared.showing.Tried.{Tried}
 use Rattle.witness_calls.specs.Seen.{reading_seen}
 
 -- A candidate shows a broken rule where it counts and its two sides differ.
@@ -21,3 +23,8 @@ pub record ShowsIt (old new : List Decl) (c : Candidate) (s : Showing) : Type 0 
 abbrev pub Tries : List Decl → List Decl → Candidate → Option Showing → Type 0
 Tries old new c None = IsShown old new c → ⊥
 Tries old new c (Some s) = ShowsIt old new c s
+
+-- the same of a call that was tried; and where it is said to be short, it has at most 1,048,576 bytes, if its values fit
+pub record IsTried (old new : List Decl) (c : Candidate) (t : Tried) : Type 0 where
+  pub tries : Tries old new c t.showing
+  pub short : t.short ≡ true → IsShort old new c

@@ -13,9 +13,8 @@ ghost use Rattle.witness_calls.specs.steps.Positions.{argument_seen};
 
 use crate::ends::Ends;
 use aidl_base::{OutOfMemory, Row};
-use aidl_schema::{AidlType, Arg, Direction};
+use aidl_schema::{AidlType, Arg, Direction, same_type};
 use aidl_values::{Value, default_of};
-use compat_judge::same_type;
 use std::alloc::Global;
 use stub_dispatch::opening;
 use value_views::{NamedFields, view_value};

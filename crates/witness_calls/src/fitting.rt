@@ -1,9 +1,9 @@
 //! Whether arguments fit a method, and whether an answer is one of a method.
-ghost use Rattle.std.specs.Prelude.{◌≡◌, ◌↔◌, min, IsTrue};
+ghost use Rattle.std.specs.Prelude.{◌≡◌, ◌↔◌, false, min, IsTrue};
 ghost use Rattle.aidl_values.specs.Data.{null};
 ghost use Rattle.aidl_values.specs.Fits.{Fits};
 ghost use Rattle.aidl_values.specs.View.{view, views};
-ghost use Rattle.wire_model.specs.Calls.{answer_of, optional_view, outs_of};
+ghost use Rattle.wire_model.specs.Calls.{answer_of, is_oneway, optional_view, outs_of};
 ghost use Rattle.wire_model.specs.Requests.{ArgsFit, ArgumentFits, ArgumentsFit, EachFits, ExceptionFits, IsAnswer, IsLength, ResultFits, asked_length, sum_of_lengths};
 
 use crate::arguments::is_out;
@@ -138,9 +138,31 @@ fn asked_length(arg: &Arg, value: &Value) -> usize
     }
 }
 
-/// Whether an answer is one of a method. It takes no memory.
+/// Whether an answer is one of a two-way method. It takes no memory.
 #[tactic(auto, using(crate::proofs::Tests::first_fails, crate::proofs::Tests::second))]
-pub fn is_answer(server: &VersionMethod<'_, '_>, answer: &Answer) -> bool
+pub fn is_two_way_answer(server: &VersionMethod<'_, '_>, answer: &Answer) -> bool
+    ensures { IsTrue result
+        ↔ ((is_oneway server.now.decls server.now.interface server.now.method ≡ false)
+        × IsAnswer server.now.decls server.now.interface server.now.method (answer_of answer.now)) }
+{
+    if !is_two_way(server) {
+        return false;
+    }
+    is_answer(server, answer)
+}
+
+// Whether a method is two-way.
+#[tactic(auto, using(crate::proofs::Tests::is_not))]
+fn is_two_way(server: &VersionMethod<'_, '_>) -> bool
+    ensures { IsTrue result
+        ↔ (is_oneway server.now.decls server.now.interface server.now.method ≡ false) }
+{
+    !server.declared().oneway
+}
+
+// Whether an answer has the result and the outs of a method, or is an exception.
+#[tactic(auto, using(crate::proofs::Tests::first_fails, crate::proofs::Tests::second))]
+fn is_answer(server: &VersionMethod<'_, '_>, answer: &Answer) -> bool
     ensures { IsTrue result
         ↔ IsAnswer server.now.decls server.now.interface server.now.method (answer_of answer.now) }
 {

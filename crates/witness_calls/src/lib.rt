@@ -18,9 +18,8 @@ mod version;
 mod version_method;
 mod weighing;
 
+pub use arguments::is_out;
 pub use call::Call;
 pub use reading::Reading;
-pub use showing::{Showing, try_call};
-pub use sides::Compared;
+pub use showing::{Showing, Tried, try_call};
 pub use version::Version;
-pub use weighing::weigh as compare;

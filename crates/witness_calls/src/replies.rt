@@ -1,20 +1,20 @@
 //! A reply between two versions: its bytes where it counts, what is read of them, and what its values are projected to.
-ghost use Rattle.std.specs.Prelude.{◌≡◌, option_map, IfOk, None, Some};
+ghost use Rattle.std.specs.Prelude.{◌≡◌, [], false, option_map, true, IfOk, None, Some};
 ghost use Rattle.aidl_values.specs.Data.{none};
 ghost use Rattle.aidl_values.specs.View.{views};
 ghost use Rattle.compat_witness.specs.Candidates.{IsAnswerOf, answer_bytes};
 ghost use Rattle.compat_witness.specs.Sides.{projected_answer, projected_reply, read_reply};
 ghost use Rattle.stub_dispatch.specs.Got.{got_of};
-ghost use Rattle.wire_model.specs.Calls.{answer_of, optional_view};
+ghost use Rattle.wire_model.specs.Calls.{answer_of, is_oneway, optional_view};
 ghost use Rattle.wire_model.specs.Calls as calls;
 ghost use Rattle.wire_model.specs.Requests.{IsAnswer, reply};
 ghost use Rattle.witness_calls.specs.Comparing.{AreCompared};
 ghost use Rattle.witness_calls.specs.Seen.{reading_seen};
 ghost use Rattle.witness_calls.specs.Counted.{IsCounted};
-ghost use Rattle.witness_calls.specs.steps.Projected.{returned_with};
+ghost use Rattle.witness_calls.specs.steps.Projected.{returned_with, sent_seen};
 
 use crate::ends::Ends;
-use crate::fitting::is_answer;
+use crate::fitting::is_two_way_answer;
 use crate::names::law_method;
 use crate::outs::{project_outs, project_result};
 use crate::reading::Reading;
@@ -22,11 +22,12 @@ use crate::requests::BAD_VALUE;
 use crate::sides::{Compared, beside};
 use crate::version_method::VersionMethod;
 use aidl_base::{LimitName, OutOfMemory, Profile, Row};
+use aidl_schema::{AidlType, Arg};
 use aidl_values::{Answer, Value};
 use std::alloc::Global;
 use stub_dispatch::{Got, answer_bytes, read_answer, reply_length};
 
-/// The bytes of a reply that counts, None of any other. Without an answer there are none.
+/// The bytes of a reply that counts, None of any other. A oneway method has no answer, and no bytes.
 pub fn counted_reply(
     alloc: Global,
     server: &VersionMethod<'_, '_>,
@@ -40,7 +41,19 @@ pub fn counted_reply(
 {
     match answer {
         Some(answer) => counted_answer(alloc, server, answer),
-        None => Ok(Some(Row::new(alloc))),
+        None => Ok(counted_nothing(alloc, server)),
+    }
+}
+
+// The same without an answer.
+fn counted_nothing(alloc: Global, server: &VersionMethod<'_, '_>) -> Option<Row<u8>>
+    ensures { IsCounted
+        (is_oneway server.now.decls server.now.interface server.now.method ≡ true) [] result }
+{
+    if server.declared().oneway {
+        Some(Row::new(alloc))
+    } else {
+        None
     }
 }
 
@@ -51,13 +64,15 @@ fn counted_answer(
     answer: &Answer,
 ) -> Result<Option<Row<u8>>, OutOfMemory>
     ensures { IfOk result (λ o. IsCounted
-        (IsAnswer server.now.decls server.now.interface server.now.method (answer_of answer.now))
+        ((is_oneway server.now.decls server.now.interface server.now.method ≡ false)
+        × IsAnswer server.now.decls server.now.interface server.now.method (answer_of answer.now))
         (reply server.now.decls server.now.interface server.now.method (answer_of answer.now)) o) }
 {
-    if !is_answer(server, answer) {
+    if !is_two_way_answer(server, answer) {
         return Ok(None);
     }
-    if reply_length(server.callee(), answer) > LimitName::ParcelBytes.number() as usize {
+    let most = LimitName::ParcelBytes.number() as usize;
+    if reply_length(server.callee(), answer, most + 1) > most {
         return Ok(None);
     }
     let bytes = answer_bytes(alloc, server.callee(), answer)?;
@@ -164,26 +179,14 @@ fn project_values(
         server.now.method client.now.decls client.now.interface client.now.method
         (Some (calls.returned (optional_view value.now) (views outs.now)))) }
 {
-    let ends = Ends {
-        sender: server.fields(),
-        receiver: client.fields(),
+    let method = server.declared();
+    let sent = Sent {
+        ty: method.result,
+        args: method.args.as_slice(),
+        value,
+        outs,
     };
-    let (sent, wanted) = (server.declared(), client.declared());
-    law_method(client.schema(), client.interface(), client.method(), wanted);
-    let seen = project_result(alloc, &ends, sent.result, wanted.result, value)?;
-    match seen {
-        Some(seen) => {
-            let outs = project_outs(
-                alloc,
-                &ends,
-                sent.args.as_slice(),
-                wanted.args.as_slice(),
-                outs,
-            )?;
-            Ok(returned(seen, outs))
-        }
-        None => Ok(Got::Failed { status: BAD_VALUE }),
-    }
+    project_sent(alloc, server, client, &sent)
 }
 
 // What a client has without an answer.
@@ -197,16 +200,46 @@ fn project_nothing(
         ≡ projected_answer server.now.decls server.now.interface server.now.method
         client.now.decls client.now.interface client.now.method None) }
 {
+    let sent = Sent {
+        ty: None,
+        args: &[],
+        value: &None,
+        outs: &[],
+    };
+    project_sent(alloc, server, client, &sent)
+}
+
+// What is sent back: the type of the result and the arguments of the method, with their values.
+#[derive(Clone, Copy)]
+struct Sent<'s> {
+    ty: Option<AidlType>,
+    args: &'s [Arg],
+    value: &'s Option<Value>,
+    outs: &'s [Value],
+}
+
+// What that is to the client's method.
+fn project_sent(
+    alloc: Global,
+    server: &VersionMethod<'_, '_>,
+    client: &VersionMethod<'_, '_>,
+    sent: &Sent<'_>,
+) -> Result<Got, OutOfMemory>
+    ensures { IfOk result (λ got. got_of got
+        ≡ sent_seen server.now.decls sent.now.ty sent.now.args.now
+        client.now.decls client.now.interface client.now.method
+        (optional_view sent.now.value.now) (views sent.now.outs.now)) }
+{
     let ends = Ends {
         sender: server.fields(),
         receiver: client.fields(),
     };
     let wanted = client.declared();
     law_method(client.schema(), client.interface(), client.method(), wanted);
-    let seen = project_result(alloc, &ends, None, wanted.result, &None)?;
+    let seen = project_result(alloc, &ends, sent.ty, wanted.result, sent.value)?;
     match seen {
         Some(seen) => {
-            let outs = project_outs(alloc, &ends, &[], wanted.args.as_slice(), &[])?;
+            let outs = project_outs(alloc, &ends, sent.args, wanted.args.as_slice(), sent.outs)?;
             Ok(returned(seen, outs))
         }
         None => Ok(Got::Failed { status: BAD_VALUE }),

@@ -9,8 +9,8 @@ ghost use Rattle.witness_calls.specs.Seen.{reading_seen};
 
 use crate::reading::Reading;
 use aidl_base::Text;
+use aidl_schema::same_text;
 use aidl_values::Value;
-use compat_judge::same_text;
 use stub_dispatch::Got;
 use value_views::same_value;
 

@@ -2,7 +2,7 @@
 ghost use Rattle.std.specs.Prelude.{◌≡◌, ◌<◌, ◌↔◌, false, length, option_map, IfOk, IsTrue};
 ghost use Rattle.aidl_schema.specs.Find.{methods_at};
 ghost use Rattle.aidl_values.specs.View.{views};
-ghost use Rattle.compat_witness.specs.Candidates.{IsAnswerOf, answer_bytes};
+ghost use Rattle.compat_witness.specs.Candidates.{IsAnswerOf, ValuesFit, answer_bytes};
 ghost use Rattle.compat_witness.specs.Candidates as candidate;
 ghost use Rattle.compat_witness.specs.Sides.{projected_reply, projected_request, read_reply, read_request};
 ghost use Rattle.wire_model.specs.Calls.{answer_of};
@@ -12,6 +12,7 @@ ghost use Rattle.witness_calls.specs.Seen.{call_seen};
 ghost use Rattle.witness_calls.specs.Counted.{IsWeighed, IsWeighedBy};
 
 use crate::call::Call;
+use crate::fitting::args_fit;
 use crate::names::counterpart;
 use crate::replies::{compare_reply, counted_reply};
 use crate::requests::{compare_request, counted_request};
@@ -90,6 +91,29 @@ pub fn names_method(old: &Version<'_>, new: &Version<'_>, call: &Call) -> bool
                 has_method(old, *interface, *method)
             }
         }
+    }
+}
+
+/// Whether the values of a call may fit: of a request whether they do. It takes no memory.
+#[tactic(auto, using(crate::proofs::Tests::fails))]
+pub fn may_fit(old: &Version<'_>, new: &Version<'_>, call: &Call) -> bool
+    requires { NamesMethod old.now new.now (call_seen call.now) }
+    ensures { result ≡ false → ValuesFit old.now new.now (call_seen call.now) → ⊥ }
+{
+    match call {
+        Call::Request {
+            back,
+            interface,
+            method,
+            args,
+        } => {
+            if *back {
+                args_fit(&new.callee(*interface, *method), args.as_slice())
+            } else {
+                args_fit(&old.callee(*interface, *method), args.as_slice())
+            }
+        }
+        Call::Reply { .. } => true,
     }
 }
 

@@ -17,6 +17,7 @@ use std::alloc::Global;
 use tool_frame::{Early, Printed, Verdict};
 use tree_output::check_tree;
 use witness_calls::Version;
+use witness_search::Pair;
 
 /// What `witness` prints of the files of two trees with their roots: what is printed of the first where it isn't checked, and else
 /// of the second; `yes`; or with exit 1 the lines of each broken evolution rule, in the judge's order (own). Memory may be wanted.
@@ -106,7 +107,8 @@ fn lines_between(
     let new_plans = plans_of(alloc, new)?;
     let before = Version::new(alloc, old, &old_plans)?;
     let after = Version::new(alloc, new, &new_plans)?;
-    entry_lines(alloc, &before, &after, rows)
+    let pair = Pair::new(alloc, before, after)?;
+    entry_lines(alloc, &pair, rows)
 }
 
 fn plans_of(alloc: Global, schema: &Schema) -> Result<Plans, OutOfMemory>

@@ -10,9 +10,10 @@ ghost use Rattle.witness_output.specs.SideText.{name_of_method};
 
 use crate::heading::{Heading, heading_of, push_way, push_word};
 use crate::sides::{method_name, push_side};
-use aidl_base::{OutOfMemory, Text, joined_by_dots};
+use aidl_base::{OutOfMemory, Text};
 use aidl_schema::{Schema, find};
 use std::alloc::Global;
+use stub_dispatch::descriptor_of;
 use tool_frame::push_shown;
 use witness_calls::{Call, Reading, Showing};
 
@@ -51,7 +52,7 @@ fn push_between(
         ++ lines_between client.now.decls server.now.decls heading showing.now.bytes
         (reading_seen showing.now.read) (reading_seen showing.now.projected)) }
 {
-    let name = interface_name(alloc, client, heading.interface)?;
+    let name = descriptor_of(alloc, client, heading.interface)?;
     push_first(
         alloc,
         client,
@@ -68,16 +69,6 @@ fn push_between(
         &showing.projected,
         text,
     )
-}
-
-// The canonical name of an interface.
-fn interface_name(alloc: Global, schema: &Schema, interface: u32) -> Result<Text, OutOfMemory>
-    ensures { IfOk result (λ name. name ≡ descriptor schema.now.decls interface) }
-{
-    match schema.decls.as_slice().get(interface as usize) {
-        Some(decl) => joined_by_dots(alloc, decl.name.0.as_slice()),
-        None => Ok(Text::empty()),
-    }
 }
 
 // Adds the line of the call and its bytes.

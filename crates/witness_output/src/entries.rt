@@ -5,7 +5,6 @@ ghost use Rattle.aidl_schema.specs.Unbroken.{Has};
 ghost use Rattle.compat_judge.specs.Seen.{seen};
 ghost use Rattle.witness_calls.specs.Seen.{call_seen};
 ghost use Rattle.witness_calls.specs.Showing.{ShowsIt};
-ghost use Rattle.witness_search.specs.ReachTables.{AreReachTables};
 ghost use Rattle.witness_output.specs.CallLines.{call_lines};
 ghost use Rattle.witness_output.specs.Entries.{AreEntries, reason_text, shown_lines};
 ghost use Rattle.witness_output.specs.steps.Adding.{AddsEntry};
@@ -17,26 +16,23 @@ use aidl_base::OutOfMemory;
 use compat_judge::Broken;
 use std::alloc::Global;
 use tree_output::push_break;
-use witness_calls::Version;
-use witness_search::{NoCall, ReachTables, Shown, Witness, witness};
+use witness_search::{NoCall, Pair, Shown, Witness, witness};
 
 /// The lines of the broken evolution rules between two versions, in their order: each the judge's line, and then either
 /// `none outside the wire` or `none no candidate`, or the three lines of a call that shows it (own). Memory may be wanted.
 pub fn entry_lines(
     alloc: Global,
-    old: &Version<'_>,
-    new: &Version<'_>,
+    pair: &Pair<'_, '_>,
     rows: &[Broken],
 ) -> Result<String, OutOfMemory>
     // They are the judge's.
-    requires { map seen rows.now ≡ broken old.now new.now }
+    requires { map seen rows.now ≡ broken pair.now.old pair.now.new }
     ensures { IfOk result (λ text.
-        AreEntries old.now new.now (map seen rows.now) (string_bytes text)) }
+        AreEntries pair.now.old pair.now.new (map seen rows.now) (string_bytes text)) }
 {
-    let tables = ReachTables::new(alloc, old, new)?;
     let mut text = String::new(alloc);
     for row in rows {
-        push_entry(alloc, old, new, &tables, row, &mut text)?;
+        push_entry(alloc, pair, row, &mut text)?;
     }
     Ok(text)
 }
@@ -44,36 +40,32 @@ pub fn entry_lines(
 // Adds the lines of one.
 fn push_entry(
     alloc: Global,
-    old: &Version<'_>,
-    new: &Version<'_>,
-    tables: &ReachTables,
+    pair: &Pair<'_, '_>,
     row: &Broken,
     text: &mut String,
 ) -> Result<(), OutOfMemory>
-    requires tables { AreReachTables old.now new.now tables.now }
-    requires among { Has (broken old.now new.now) (seen row.now) }
+    requires among { Has (broken pair.now.old pair.now.new) (seen row.now) }
     ensures { OnOk result
-        (AddsEntry old.now new.now (seen row.now) (string_bytes text.old) (string_bytes text.new)) }
+        (AddsEntry pair.now.old pair.now.new (seen row.now) (string_bytes text.old) (string_bytes text.new)) }
 {
-    let shown = witness(alloc, old, new, tables, row)?;
+    let shown = witness(alloc, pair, row)?;
     push_break(row, text)?;
-    push_shown_lines(alloc, old, new, &shown, text)
+    push_shown_lines(alloc, pair, &shown, text)
 }
 
 // Adds the lines of a call, or that of a reason.
 fn push_shown_lines(
     alloc: Global,
-    old: &Version<'_>,
-    new: &Version<'_>,
+    pair: &Pair<'_, '_>,
     shown: &Shown,
     text: &mut String,
 ) -> Result<(), OutOfMemory>
-    requires { ShowsAny old.now new.now shown.now }
+    requires { ShowsAny pair.now.old pair.now.new shown.now }
     ensures { OnOk result (string_bytes text.new
-        ≡ string_bytes text.old ++ shown_lines old.now new.now shown.now) }
+        ≡ string_bytes text.old ++ shown_lines pair.now.old pair.now.new shown.now) }
 {
     match shown {
-        Shown::Found(found) => push_found(alloc, old, new, found, text),
+        Shown::Found(found) => push_found(alloc, pair, found, text),
         Shown::Reason(why) => push_reason(*why, text),
     }
 }
@@ -81,17 +73,16 @@ fn push_shown_lines(
 // Adds the lines of a call that is shown.
 fn push_found(
     alloc: Global,
-    old: &Version<'_>,
-    new: &Version<'_>,
+    pair: &Pair<'_, '_>,
     found: &Witness,
     text: &mut String,
 ) -> Result<(), OutOfMemory>
-    requires { ShowsIt old.now new.now (call_seen found.now.call) found.now.showing }
+    requires { ShowsIt pair.now.old pair.now.new (call_seen found.now.call) found.now.showing }
     ensures { OnOk result (string_bytes text.new
-        ≡ string_bytes text.old ++ call_lines old.now new.now (call_seen found.now.call)) }
+        ≡ string_bytes text.old ++ call_lines pair.now.old pair.now.new (call_seen found.now.call)) }
 {
-    let before = old.schema();
-    let after = new.schema();
+    let before = pair.old.schema();
+    let after = pair.new.schema();
     push_call(alloc, before, after, &found.call, &found.showing, text)
 }
 

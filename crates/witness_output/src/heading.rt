@@ -8,7 +8,7 @@ use witness_calls::Call;
 
 /// What a shown call is called by: whether it is a reply or a request, whether the client is the new version, and the numbers of
 /// interface and method in the client's schema (own).
-#[derive(Clone, Copy, Debug)]
+#[derive(Clone, Copy)]
 pub struct Heading {
     pub reply: bool,
     pub back: bool,

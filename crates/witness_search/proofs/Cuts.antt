@@ -1,9 +1,8 @@
 -- Each row is what its code asks, cut at the look-ups.
-use Rattle.std.proofs.Common.{◌≡◌, ℕ, ◌==◌, Bool, true, false, List, Option, Some, None, refl, ap, ◌∙◌}
-use Rattle.std.specs.Prelude.{if◌then◌else◌, option_and_then, option_map}
+use Rattle.std.proofs.Common.{◌≡◌, ℕ, List, Option, Some, None, refl, ap, ◌∙◌}
+use Rattle.std.specs.Prelude.{option_and_then}
 use Rattle.std.specs.List.{position}
 use Rattle.std.specs.Str.{encode_utf8_all}
-use Rattle.aidl_schema.specs.declared.schema.Arg.{Arg}
 use Rattle.aidl_schema.specs.declared.schema.Decl.{Decl}
 use Rattle.aidl_schema.specs.declared.schema.Field.{Field}
 use Rattle.aidl_schema.specs.Find.{number_of_name}
@@ -11,56 +10,27 @@ use Rattle.aidl_schema.specs.Same.{same_text}
 use Rattle.wire_model.specs.Outcome.{declared_as}
 use Rattle.compat_witness.specs.Candidates.{Candidate}
 use Rattle.compat_witness.specs.Places.{Spot, at_last_dot, spot_of, spot_like}
-use Rattle.compat_witness.specs.Reaching.{only}
-use Rattle.compat_witness.specs.Rows.{of_arguments}
 use Rattle.witness_search.specs.declared.methods.MethodRow.{MethodRow}
 use Rattle.witness_search.specs.declared.methods.MethodRow.TheVariants.{C4, C5, C6, C6At, C7, C8}
 use Rattle.witness_search.specs.declared.records.FieldRow.{FieldRow}
 use Rattle.witness_search.specs.declared.records.FieldRow.TheVariants as field
 use Rattle.witness_search.specs.steps.Asks as calls
-use Rattle.witness_search.specs.steps.Asks.{ArgumentAsk, MethodAsk, asked_C6_at, asked_C7, method_row, of_only}
+use Rattle.witness_search.specs.steps.Asks.{method_row}
 use Rattle.witness_search.specs.steps.Named.{field_named}
-use Rattle.witness_search.specs.steps.Rows.{FieldAsk, asked, field_row, field_row_named, fields_at}
+use Rattle.witness_search.specs.steps.Rows.{asked, field_row, field_row_named, fields_at}
 use Rattle.witness_search.proofs.NamedTexts.{field_by_bytes}
 use Rattle.wire_model.proofs.lemmas.NamedTexts.{number_declared}
 use Rattle.witness_search.proofs.PlaceBytes.{halves, dots_by_bytes}
 
 -- methods
 
-by_arguments : (F : ArgumentAsk) (s w : Spot) → (if s.method.id == w.method.id then of_arguments (only s.method.args) (only w.method.args) (F s w) else None) ≡ of_only F s w
-by_arguments F s w = by (s.method.id == w.method.id) (only s.method.args) (only w.method.args)
-  where
-    by : (same : Bool) (a b : Option Arg) → (if same then of_arguments a b (F s w) else None)
-        ≡ option_and_then (λ q. F s w q.0 q.1) (if same then option_and_then (λ x. option_map {U = Arg × Arg} (λ y. (x, y)) b) a else None)
-    by false a b = refl
-    by true None b = refl
-    by true (Some x) None = refl
-    by true (Some x) (Some y) = refl
-
--- a row of both methods of a place
-abbrev of_both : MethodAsk → List Decl → List Decl → List ℕ → Option (List Candidate)
-of_both F old new p = option_and_then (λ s. option_and_then (λ w. F s w) (spot_like old s.interface s.method new)) (spot_of old p)
-
-same_asks : (F G : MethodAsk) → ((s w : Spot) → F s w ≡ G s w) → (old new : List Decl) (p : List ℕ) → of_both F old new p ≡ of_both G old new p
-same_asks F G same old new p = by (spot_of old p)
-  where
-    after : (s : Spot) (o : Option Spot) → option_and_then (λ w. F s w) o ≡ option_and_then (λ w. G s w) o
-    after s None = refl
-    after s (Some w) = same s w
-
-    by : (o : Option Spot) → option_and_then (λ s. option_and_then (λ w. F s w) (spot_like old s.interface s.method new)) o ≡ option_and_then (λ s. option_and_then (λ w. G s w) (spot_like old s.interface s.method new)) o
-    by None = refl
-    by (Some s) = after s (spot_like old s.interface s.method new)
-
 pub method_cut : (row : MethodRow) (old new : List Decl) (p : List ℕ)
     → method_row row old new p ≡ option_and_then (λ s. option_and_then (λ w. calls.asked row old new s w) (spot_like old s.interface s.method new)) (spot_of old p)
 method_cut C4 old new p = refl
 method_cut C5 old new p = refl
 method_cut C6 old new p = refl
-method_cut C6At old new p =
-    same_asks (λ s w. if s.method.id == w.method.id then of_arguments (only s.method.args) (only w.method.args) (asked_C6_at s w) else None) (of_only asked_C6_at) (by_arguments asked_C6_at) old new p
-method_cut C7 old new p =
-    same_asks (λ s w. if s.method.id == w.method.id then of_arguments (only s.method.args) (only w.method.args) (asked_C7 old new s w) else None) (of_only (asked_C7 old new)) (by_arguments (asked_C7 old new)) old new p
+method_cut C6At old new p = refl
+method_cut C7 old new p = refl
 method_cut C8 old new p = refl
 
 -- where both have the method, and where one lacks it
@@ -83,7 +53,7 @@ old_lacks row old new p before =
 
 -- fields
 
-module _ (A : FieldAsk) (G : List Decl → ℕ → List Field) (old new : List Decl) where
+module _ (A : List Decl → ℕ → List Decl → ℕ → ℕ → Option (List Candidate)) (G : List Decl → ℕ → List Field) (old new : List Decl) where
   by_names : (name : List ℕ) (ok ol : Option ℕ)
       → option_and_then (λ k. option_and_then (λ l. option_and_then (λ x. A old k new l x) (field_named (G old k) (encode_utf8_all name))) ol) ok
       ≡ option_and_then (λ k. option_and_then (λ l. option_and_then (λ x. A old k new l x) (position (λ f. same_text f.name.0 name) (G old k))) ol) ok

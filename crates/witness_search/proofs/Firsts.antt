@@ -5,8 +5,8 @@ use Rattle.aidl_schema.specs.declared.schema.Decl.{Decl}
 use Rattle.aidl_values.specs.Data.{none, item}
 use Rattle.aidl_values.specs.View.{view}
 use Rattle.aidl_values.specs.declared.value.Value.{Value}
-use Rattle.compat_witness.specs.Candidates.{Candidate, Shows, request}
-use Rattle.compat_witness.specs.Reaching.{asks}
+use Rattle.compat_witness.specs.Candidates.{Candidate, Shows, client_of, request, server_of}
+use Rattle.compat_witness.specs.Reaching.{asks, methods_reaching}
 use Rattle.witness_calls.specs.Showing.{IsShown}
 use Rattle.witness_search.specs.First.{IsFirst}
 use Rattle.witness_search.specs.Asked.{group_seen, group_with, groups_seen, method_seen}
@@ -91,20 +91,22 @@ of_methods back vs [] = refl
 of_methods back vs (r ∷ rs) = ap (λ cs. cs ++ flat_map (requests_of back vs) rs) (of_values back r vs)
     ∙ ap (λ cs. map (λ d. request back r.interface r.method (item d none)) (map view vs) ++ cs) (of_methods back vs rs)
 
-pub of_group : (g : Group) (vs : List Value) → vs ≡ g.values → flat_map (requests_of g.back vs) g.methods.now ≡ group_seen g
-of_group g vs e = ap (λ ws. flat_map (requests_of g.back ws) g.methods.now) e ∙ of_methods g.back g.values g.methods.now
+pub of_group : (old new : List Decl) (g : Group) (vs : List Value) (rs : List Reach) → vs ≡ g.values
+    → map method_seen rs ≡ methods_reaching (client_of g.back old new) g.number (server_of g.back old new) → flat_map (requests_of g.back vs) rs ≡ group_seen old new g
+of_group old new g vs rs e are =
+    ap (λ ws. flat_map (requests_of g.back ws) rs) e ∙ of_methods g.back g.values rs ∙ ap (λ ms. asks g.back ms (map view g.values)) are
 
 -- one or two groups
 module _ (old new : List Decl) where
-  pub groups_found : (g : Groups) (w : Witness) → IsFirst old new (group_seen g.first) (Some w) → IsFirst old new (groups_seen g) (Some w)
+  pub groups_found : (g : Groups) (w : Witness) → IsFirst old new (group_seen old new g.first) (Some w) → IsFirst old new (groups_seen old new g) (Some w)
   groups_found g w h = by g.second
     where
-      by : (o : Option Group) → IsFirst old new (group_with g.first o) (Some w)
+      by : (o : Option Group) → IsFirst old new (group_with old new g.first o) (Some w)
       by None = h
-      by (Some k) = sooner old new (group_seen g.first) (group_seen k) w h
+      by (Some k) = sooner old new (group_seen old new g.first) (group_seen old new k) w h
 
-  pub groups_later : (g : Groups) (k : Group) → g.second ≡ Some k → IsFirst old new (group_seen g.first) None → (r : Option Witness) → IsFirst old new (group_seen k) r → IsFirst old new (groups_seen g) r
-  groups_later g k is h r q = subst (λ o. IsFirst old new (group_with g.first o) r) (sym is) (later old new (group_seen g.first) (group_seen k) h r q)
+  pub groups_later : (g : Groups) (k : Group) → g.second ≡ Some k → IsFirst old new (group_seen old new g.first) None → (r : Option Witness) → IsFirst old new (group_seen old new k) r → IsFirst old new (groups_seen old new g) r
+  groups_later g k is h r q = subst (λ o. IsFirst old new (group_with old new g.first o) r) (sym is) (later old new (group_seen old new g.first) (group_seen old new k) h r q)
 
-  pub groups_alone : (g : Groups) → g.second ≡ None → IsFirst old new (group_seen g.first) None → IsFirst old new (groups_seen g) None
-  groups_alone g is h = subst (λ o. IsFirst old new (group_with g.first o) None) (sym is) h
+  pub groups_alone : (g : Groups) → g.second ≡ None → IsFirst old new (group_seen old new g.first) None → IsFirst old new (groups_seen old new g) None
+  groups_alone g is h = subst (λ o. IsFirst old new (group_with old new g.first o) None) (sym is) h

@@ -10,3 +10,4 @@ mod Reaches
 mod RecordParts
 mod SentBack
 mod Spots
+mod Trials

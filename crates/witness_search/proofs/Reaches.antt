@@ -1,6 +1,6 @@
 -- The methods that reach a declaration, interface by interface and method by method, and the table of them.
-use Rattle.std.proofs.Common.{◌≡◌, ℕ, zero, suc, ◌+◌, ◌<◌, ◌≤◌, ◌≢◌, Bool, true, false, List, [], ◌∷◌, ◌++◌, length, take, drop, get_or, map, filter, Option, Some, None, slice_get, slice_set, refl, sym, ap, ◌∙◌, subst, arith, append-nil, append_assoc}
-use Rattle.std.specs.Prelude.{if◌then◌else◌, ◌&&◌, ◌==◌}
+use Rattle.std.proofs.Common.{◌≡◌, ℕ, zero, suc, ◌+◌, ◌<◌, ◌≤◌, ◌≢◌, Bool, true, false, not, ◌⊎◌, inl, inr, List, [], ◌∷◌, ◌++◌, length, take, drop, get_or, map, filter, Option, Some, None, slice_get, slice_set, refl, sym, ap, ◌∙◌, arith, append-nil, append_assoc}
+use Rattle.std.specs.Prelude.{if◌then◌else◌, ◌&&◌, ◌==◌, option_and_then}
 use Rattle.std.proofs.lemmas.Bool.Decides.{nat_tests}
 use Rattle.std.proofs.Math.Seq.{take-append_seam}
 use Rattle.std.specs.List.{enumerate_from, flat_map}
@@ -14,15 +14,18 @@ use Rattle.aidl_schema.specs.declared.schema.Base.{Base}
 use Rattle.aidl_schema.specs.declared.schema.Base.TheVariants as base
 use Rattle.aidl_schema.specs.Broken.{is_one_value}
 use Rattle.aidl_schema.specs.Methods.{is_in_way}
-use Rattle.aidl_schema.specs.Same.{same}
+use Rattle.aidl_schema.specs.Same.{base_code, decl_of, same, same_base, same_bool, same_decl, shape_code}
+use Rattle.compat_witness.specs.Candidates.{client_of, server_of}
 use Rattle.compat_witness.specs.Places.{Spot, spot_like}
-use Rattle.compat_witness.specs.Reaching.{both_take, is_number, methods_reaching, only, reaches, reaching_in}
+use Rattle.compat_witness.specs.Reaching.{are_alike, has_argument, is_at, methods_reaching, number_of, only, reaches, reaching_in}
+use Rattle.compat_witness.specs.Rows.{is_empty}
 use Rattle.witness_search.specs.Asked.{method_seen}
-use Rattle.witness_search.specs.ReachTables.{AreReachTables, row_at}
+use Rattle.witness_search.specs.ReachTables.{AreReachTables, row_at, row_of, table_of}
 use Rattle.witness_search.specs.declared.both.Both.{Both}
 use Rattle.witness_search.specs.declared.candidates.Reach.{Reach}
-use Rattle.witness_search.specs.declared.reach_tables.ReachTables.{ReachTables}
-use Rattle.witness_search.specs.steps.Reached.{AreReached, is_at, number_of, number_taken, one_at, reached_from, reached_in}
+use Rattle.witness_search.specs.declared.pair.ReachTables.{ReachTables}
+use Rattle.witness_search.specs.steps.Reached.{IsReached, one_at, reached_from, reached_in}
+use Rattle.witness_search.proofs.Firsts.{drop_all}
 
 -- what stands at a position, and what is left there
 pub there : {X : Type 0} (xs : List X) (i : ℕ) → i < length xs → (x : X) × (slice_get xs i ≡ Some x) × (drop i xs ≡ x ∷ drop (suc i) xs)
@@ -46,27 +49,6 @@ module _ (A : List Decl) (k : ℕ) (B : List Decl) where
       passing (λ v. reaches A k B i v) i 0 (methods_of d.kind)
       ∙ ap (λ o. reached_from 0 (λ v. reaches A k B i v) i (methods_of_decl o)) (sym at)
 
-  -- a method whose argument is of another declaration, or that has another number of arguments
-  no_take : (a b : Option Arg) → is_there_and (λ x. is_number k x.ty.base) a ≡ false → both_take A k B a b ≡ false
-  no_take None b e = refl
-  no_take (Some x) None e = refl
-  no_take (Some x) (Some y) e = by (is_in_way x.way && is_in_way y.way)
-    where
-      by : (c : Bool) → (c && (is_number k x.ty.base && (is_one_value x.ty && same A x.ty B y.ty))) ≡ false
-      by true = rw e refl
-      by false = refl
-
-  not_both : (c d : Bool) → d ≡ false → (c && d) ≡ false
-  not_both true d e = e
-  not_both false d e = refl
-
-  pub of_another : (i : ℕ) (v : Method) → is_there_and (λ x. is_number k x.ty.base) (only v.args) ≡ false → false ≡ reaches A k B i v
-  of_another i v e = by (spot_like A i v B)
-    where
-      by : (o : Option Spot) → false ≡ is_there_and (λ s. (v.id == s.method.id) && both_take A k B (only v.args) (only s.method.args)) o
-      by None = refl
-      by (Some s) = sym (not_both (v.id == s.method.id) (both_take A k B (only v.args) (only s.method.args)) (no_take (only v.args) (only s.method.args) e))
-
   -- from the interface of a number on
   abbrev pub later_ones : ℕ → List (ℕ × ℕ)
   later_ones i = flat_map (λ x. reaching_in A k B x) (enumerate_from i (drop i A))
@@ -82,12 +64,6 @@ module _ (A : List Decl) (k : ℕ) (B : List Decl) where
 
   pub no_more : (i : ℕ) → length A ≤ i → later_ones i ≡ []
   no_more i le = ap (λ ds. flat_map (λ x. reaching_in A k B x) (enumerate_from i ds)) (drop_all A i le)
-    where
-      drop_all : {X : Type 0} (xs : List X) (j : ℕ) → length xs ≤ j → drop j xs ≡ []
-      drop_all [] zero h = refl
-      drop_all [] (suc j) h = refl
-      drop_all (x ∷ xs) zero h = absurd (omega arith)
-      drop_all (x ∷ xs) (suc j) h = drop_all xs j (omega arith)
 
 -- one method more
 pub next_method : (test : Method → Bool) (i m : ℕ) (vs : List Method) (v : Method) (found : List (ℕ × ℕ)) → drop m vs ≡ v ∷ drop (m + 1) vs
@@ -95,59 +71,6 @@ pub next_method : (test : Method → Bool) (i m : ℕ) (vs : List Method) (v : M
 next_method test i m vs v found left =
     append_assoc found (if test v then (i, m) ∷ [] else []) (reached_from (m + 1) test i (drop (m + 1) vs))
     ∙ ap (λ xs. found ++ xs) (ap (λ ws. reached_from m test i ws) (sym left))
-
--- The declaration that a method reaches
-
-no_number : (k : ℕ) (b : Base) → None ≡ number_of b → is_number k b ≡ false
-no_number k (base.Named n) e = cc
-no_number k base.Boolean e = refl
-no_number k base.Byte e = refl
-no_number k base.Char e = refl
-no_number k base.Int e = refl
-no_number k base.Long e = refl
-no_number k base.Text e = refl
-
-no_declaration : (k : ℕ) (o : Option Arg) → None ≡ number_taken o → is_there_and (λ x. is_number k x.ty.base) o ≡ false
-no_declaration k None e = refl
-no_declaration k (Some a) e = no_number k a.ty.base e
-
-another_number : (k n : ℕ) (b : Base) → Some n ≡ number_of b → (n == k) ≡ false → is_number k b ≡ false
-another_number k n (base.Named m) e test = let same : n ≡ m = cc in subst (λ z. (z == k) ≡ false) same test
-another_number k n base.Boolean e test = refl
-another_number k n base.Byte e test = refl
-another_number k n base.Char e test = refl
-another_number k n base.Int e test = refl
-another_number k n base.Long e test = refl
-another_number k n base.Text e test = refl
-
-another_declaration : (k n : ℕ) (o : Option Arg) → Some n ≡ number_taken o → (n == k) ≡ false → is_there_and (λ x. is_number k x.ty.base) o ≡ false
-another_declaration k n None e test = refl
-another_declaration k n (Some a) e test = another_number k n a.ty.base e test
-
-at_if : (k n : ℕ) (b : Bool) → is_at k (if b then Some n else None) ≡ (b && (n == k))
-at_if k n true = refl
-at_if k n false = refl
-
-and_true : (b : Bool) → (b && true) ≡ b
-and_true true = refl
-and_true false = refl
-
-and_false : (b : Bool) → (b && false) ≡ false
-and_false true = refl
-and_false false = refl
-
-pub reaches_none : (A B : List Decl) (i : ℕ) (v : Method) → None ≡ number_taken (only v.args) → (k : ℕ) → is_at k None ≡ reaches A k B i v
-reaches_none A B i v e k = of_another A k B i v (no_declaration k (only v.args) e)
-
-pub reaches_one : (A B : List Decl) (i : ℕ) (v : Method) (n : ℕ) (b : Bool) → Some n ≡ number_taken (only v.args) → b ≡ reaches A n B i v
-    → (k : ℕ) → is_at k (if b then Some n else None) ≡ reaches A k B i v
-reaches_one A B i v n b e same k = at_if k n b ∙ by (n == k) refl
-  where
-    by : (t : Bool) → (n == k) ≡ t → (b && (n == k)) ≡ reaches A k B i v
-    by true test =
-        let one : n ≡ k = grind (arith, nat_tests) in
-        ap (λ t. b && t) test ∙ and_true b ∙ same ∙ ap (λ m. reaches A m B i v) one
-    by false test = ap (λ t. b && t) test ∙ and_false b ∙ of_another A k B i v (another_declaration k n (only v.args) e test)
 
 -- One method more in the rows
 
@@ -201,12 +124,108 @@ table_row A B items slice new rest n k same count empty added =
     ap (λ rows. map method_seen (row_at rows k)) (ap (λ m. take m (new ++ rest)) count ∙ take-append_seam new rest)
     ∙ added ∙ ap (λ row. map method_seen row ++ methods_reaching A k B) (ap (λ rows. row_at rows k) same ∙ empty k)
 
+-- What there is no declaration of, no method reaches
+
+nothing_at : {X : Type 0} (xs : List X) (k : ℕ) → length xs ≤ k → slice_get xs k ≡ None
+nothing_at [] k le = refl
+nothing_at (x ∷ xs) zero le = absurd (omega arith)
+nothing_at (x ∷ xs) (suc k) le = nothing_at xs k (omega arith)
+
+not_both : (c d : Bool) → d ≡ false → (c && d) ≡ false
+not_both true d e = e
+not_both false d e = refl
+
+module _ (A : List Decl) (k : ℕ) (B : List Decl) (none : slice_get A k ≡ None) where
+  not_alike : (a b : Arg) → a.ty.base ≡ base.Named k → are_alike A B a b ≡ false
+  not_alike a b e =
+      let named : same_base A (base.Named k) B b.ty.base ≡ false = not_both (base_code (base.Named k) == base_code b.ty.base) (same_decl (slice_get A k) (decl_of B b.ty.base)) (ap (λ o. same_decl o (decl_of B b.ty.base)) none) in
+      let differ : same A a.ty B b.ty ≡ false =
+      ap (λ z. same_base A z B b.ty.base && ((shape_code a.ty.shape == shape_code b.ty.shape) && same_bool a.ty.nullable b.ty.nullable)) e
+      ∙ ap (λ z. z && ((shape_code a.ty.shape == shape_code b.ty.shape) && same_bool a.ty.nullable b.ty.nullable)) named in
+      not_both (is_in_way a.way && is_in_way b.way) (is_one_value a.ty && same A a.ty B b.ty) (not_both (is_one_value a.ty) (same A a.ty B b.ty) differ)
+
+  no_argument : (i : ℕ) (v : Method) (a : Arg) → a.ty.base ≡ base.Named k → has_argument A B i v a ≡ false
+  no_argument i v a e = by (spot_like A i v B)
+    where
+      by_only : (o : Option Arg) → is_there_and (are_alike A B a) o ≡ false
+      by_only None = refl
+      by_only (Some b) = not_alike a b e
+
+      by : (o : Option Spot) → is_there_and (λ s. (v.id == s.method.id) && is_there_and (are_alike A B a) (only s.method.args)) o ≡ false
+      by None = refl
+      by (Some s) = not_both (v.id == s.method.id) (is_there_and (are_alike A B a) (only s.method.args)) (by_only (only s.method.args))
+
+  none_reaches : (i : ℕ) (v : Method) → reaches A k B i v ≡ false
+  none_reaches i v = by (only v.args)
+    where
+      by_test : (a : Arg) (n : ℕ) (t : Bool) → (n == k) ≡ t → a.ty.base ≡ base.Named n → is_at k (if has_argument A B i v a then Some n else None) ≡ false
+      by_test a n true test e =
+          let one : n ≡ k = grind (arith, nat_tests) in
+          ap (λ t. is_at k (if t then Some n else None)) (no_argument i v a (e ∙ ap base.Named one))
+      by_test a n false test e = either (has_argument A B i v a)
+        where
+          either : (t : Bool) → is_at k (if t then Some n else None) ≡ false
+          either true = test
+          either false = refl
+
+      by_base : (a : Arg) (c : Base) → a.ty.base ≡ c → is_at k (option_and_then (λ n. if has_argument A B i v a then Some n else None) (number_of c)) ≡ false
+      by_base a (base.Named n) e = by_test a n (n == k) refl e
+      by_base a base.Boolean e = refl
+      by_base a base.Byte e = refl
+      by_base a base.Char e = refl
+      by_base a base.Int e = refl
+      by_base a base.Long e = refl
+      by_base a base.Text e = refl
+
+      by : (o : Option Arg) → is_at k (option_and_then (λ a. option_and_then (λ n. if has_argument A B i v a then Some n else None) (number_of a.ty.base)) o) ≡ false
+      by None = refl
+      by (Some a) = by_base a a.ty.base refl
+
+  none_in : (i m : ℕ) (vs : List Method) → filter (λ y. reaches A k B i y.1) (enumerate_from m vs) ≡ []
+  none_in i m [] = refl
+  none_in i m (v ∷ vs) = rw (none_reaches i v) (none_in i (m + 1) vs)
+
+  none_from : (i : ℕ) (ds : List Decl) → flat_map (λ x. reaching_in A k B x) (enumerate_from i ds) ≡ []
+  none_from i [] = refl
+  none_from i (d ∷ ds) =
+      ap (λ ys. map (λ y. (i, y.0)) ys ++ flat_map (λ x. reaching_in A k B x) (enumerate_from (i + 1) ds)) (none_in i 0 (methods_of d.kind)) ∙ none_from (i + 1) ds
+
+beyond : (A : List Decl) (k : ℕ) (B : List Decl) → length A ≤ k → methods_reaching A k B ≡ []
+beyond A k B le = none_from A k B (nothing_at A k le) 0 A
+
+no_row : (rows : List (List Reach)) (k : ℕ) → length rows ≤ k → row_at rows k ≡ []
+no_row rows k le = ap row_of (nothing_at rows k le)
+
+below : (k n : ℕ) → (k < n) ⊎ (n ≤ k)
+below zero zero = inr (omega arith)
+below zero (suc n) = inl (omega arith)
+below (suc k) zero = inr (omega arith)
+below (suc k) (suc n) = by (below k n)
+  where
+    by : (k < n) ⊎ (n ≤ k) → (suc k < suc n) ⊎ (suc n ≤ suc k)
+    by (inl lt) = inl (omega arith)
+    by (inr le) = inr (omega arith)
+
+-- the rows of all numbers
+pub table_rows : (A B : List Decl) (items slice new rest : List (List Reach)) (n k : ℕ) → slice ≡ items → n ≡ length new → length new ≡ length A → ((j : ℕ) → row_at items j ≡ [])
+    → (k < length A → map method_seen (row_at new k) ≡ map method_seen (row_at slice k) ++ methods_reaching A k B) → map method_seen (row_at (take n (new ++ rest)) k) ≡ methods_reaching A k B
+table_rows A B items slice new rest n k same count whole empty added = by (below k (length A))
+  where
+    by : (k < length A) ⊎ (length A ≤ k) → map method_seen (row_at (take n (new ++ rest)) k) ≡ methods_reaching A k B
+    by (inl lt) = table_row A B items slice new rest n k same count empty (added lt)
+    by (inr le) =
+        ap (λ rows. map method_seen (row_at rows k)) (ap (λ m. take m (new ++ rest)) count ∙ take-append_seam new rest)
+        ∙ ap (map method_seen) (no_row new k (omega arith)) ∙ sym (beyond A k B le)
+
 -- Of two versions
 
--- the methods of a declaration of both are those of the tables
-pub both_reached : (b : Both) (t : ReachTables) → AreReachTables b.old.now.decls b.new.now.decls t → b.k < length b.old.now.decls → b.l < length b.new.now.decls
-    → b.forth.now ≡ row_at t.forth.items b.k → b.back.now ≡ row_at t.back.items b.l → AreReached b
-both_reached b t tables k l f g = record { forth = ap (map method_seen) f ∙ tables.forth b.k k; back = ap (map method_seen) g ∙ tables.back b.l l }
+-- whether a method of old reaches a declaration of both, by their schemas
+pub reached_as : (b : Both) (old new : List Decl) → b.old.now.decls ≡ old → b.new.now.decls ≡ new → b.reached ≡ not (is_empty (methods_reaching old b.k new)) → IsReached b
+reached_as b old new e f r =
+    r ∙ ap (λ A. not (is_empty (methods_reaching A b.k new))) (sym e) ∙ ap (λ B. not (is_empty (methods_reaching b.old.now.decls b.k B))) (sym f)
 
-pub same_tables : (old new A B : List Decl) (t : ReachTables) → A ≡ old → B ≡ new → AreReachTables old new t → AreReachTables A B t
-same_tables old new A B t e f tables = subst (λ D. AreReachTables D B t) (sym e) (subst (λ D. AreReachTables old D t) (sym f) tables)
+-- the methods of a group
+pub group_reached : (old new : List Decl) (t : ReachTables) (back : Bool) (k : ℕ) → AreReachTables old new t
+    → map method_seen (row_at (table_of back t) k) ≡ methods_reaching (client_of back old new) k (server_of back old new)
+group_reached old new t false k tables = tables.forth k
+group_reached old new t true k tables = tables.back k

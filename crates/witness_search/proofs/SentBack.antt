@@ -14,8 +14,7 @@ use Rattle.aidl_schema.specs.Types.{Form, form_of, is_array, is_meant, is_one, i
 use Rattle.aidl_schema.specs.Types as form
 use Rattle.compat_witness.specs.Reaching.{is_parcelable}
 use Rattle.compat_witness.specs.Places.{Spot}
-use Rattle.compat_witness.specs.Rows.{is_sent_back}
-use Rattle.witness_search.specs.steps.Asks.{is_met_C7}
+use Rattle.compat_witness.specs.Rows.{is_met_C7, is_sent_back}
 
 both : (a b : Bool) → (a && b) ≡ true → (a ≡ true) × (b ≡ true)
 both true b e = (refl, e)

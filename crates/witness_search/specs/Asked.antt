@@ -1,8 +1,9 @@
 -- The candidates that the code's calls and groups of requests stand for.
 use Rattle.std.specs.Prelude.{ℕ, List, [], ◌∷◌, ◌++◌, map, Option, Some, None}
+use Rattle.aidl_schema.specs.declared.schema.Decl.{Decl}
 use Rattle.aidl_values.specs.View.{view}
-use Rattle.compat_witness.specs.Candidates.{Candidate}
-use Rattle.compat_witness.specs.Reaching.{asks}
+use Rattle.compat_witness.specs.Candidates.{Candidate, client_of, server_of}
+use Rattle.compat_witness.specs.Reaching.{asks, methods_reaching}
 use Rattle.witness_calls.specs.declared.call.Call.{Call}
 use Rattle.witness_calls.specs.Seen.{call_seen}
 use Rattle.witness_search.specs.declared.candidates.Calls.{Calls}
@@ -22,14 +23,14 @@ calls_seen c = call_with c.first c.second
 abbrev pub method_seen : Reach → ℕ × ℕ
 method_seen r = (r.interface, r.method)
 
--- requests of each method with each value
-abbrev pub group_seen : Group → List Candidate
-group_seen g = asks g.back (map method_seen g.methods.now) (map view g.values)
+-- requests of each method that reaches the declaration with each value
+abbrev pub group_seen : List Decl → List Decl → Group → List Candidate
+group_seen old new g = asks g.back (methods_reaching (client_of g.back old new) g.number (server_of g.back old new)) (map view g.values)
 
 -- a group, and the other one where there is one
-abbrev pub group_with : Group → Option Group → List Candidate
-group_with g None = group_seen g
-group_with g (Some h) = group_seen g ++ group_seen h
+abbrev pub group_with : List Decl → List Decl → Group → Option Group → List Candidate
+group_with old new g None = group_seen old new g
+group_with old new g (Some h) = group_seen old new g ++ group_seen old new h
 
-abbrev pub groups_seen : Groups → List Candidate
-groups_seen g = group_with g.first g.second
+abbrev pub groups_seen : List Decl → List Decl → Groups → List Candidate
+groups_seen old new g = group_with old new g.first g.second

@@ -1,4 +1,5 @@
 -- What no contract of an exported function cites.
+pub mod Answered
 pub mod Asks
 pub mod Named
 pub mod Reached
@@ -6,4 +7,4 @@ pub mod Records
 pub mod Requests
 pub mod Rows
 pub mod Seen
-pub mod Table
+pub mod Trials

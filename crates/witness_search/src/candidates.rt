@@ -1,40 +1,41 @@
 //! The calls that a row of the table gives at a place, in their order.
-ghost use Rattle.std.specs.Prelude.{◌≡◌, ◌∷◌, []};
+ghost use Rattle.std.specs.Prelude.{◌≡◌, ◌∷◌, [], IfOk};
 ghost use Rattle.witness_calls.specs.Seen.{call_seen};
 ghost use Rattle.witness_search.specs.Asked.{calls_seen};
 
-use aidl_base::Row;
+use aidl_base::{OutOfMemory, Row};
 use aidl_values::Value;
+use std::alloc::Global;
 use witness_calls::Call;
 
 /// One call, or two in their order (own).
-#[derive(Debug, Drop)]
+#[derive(Drop)]
 pub struct Calls {
     pub first: Call,
     pub second: Option<Call>,
 }
 
 /// A method of the client, by the number of its interface and its position there (own).
-#[derive(Debug, Clone, Copy)]
+#[derive(Clone, Copy)]
 pub struct Reach {
     pub interface: u32,
     pub method: u32,
 }
 
-/// Requests of methods of one argument with each of some values, method by method. The client is the old version, or the new one
-/// where `back` (own).
-#[derive(Debug, Drop)]
-pub struct Group<'a> {
+/// Requests of the methods that reach a declaration with each of some values, method by method. The client is the old version, or
+/// the new one where `back`; the number is that of the declaration in its schema (own).
+#[derive(Drop)]
+pub struct Group {
     pub back: bool,
-    pub methods: &'a [Reach],
+    pub number: u32,
     pub values: Row<Value>,
 }
 
 /// One group of requests, or two in their order (own).
-#[derive(Debug, Drop)]
-pub struct Groups<'a> {
-    pub first: Group<'a>,
-    pub second: Option<Group<'a>>,
+#[derive(Drop)]
+pub struct Groups {
+    pub first: Group,
+    pub second: Option<Group>,
 }
 
 /// The one call. It takes no memory.
@@ -45,4 +46,23 @@ pub fn one_call(call: Call) -> Calls
         first: call,
         second: None,
     }
+}
+
+/// The row of one value.
+pub fn one_value(alloc: Global, value: Value) -> Result<Row<Value>, OutOfMemory>
+    ensures { IfOk result (λ values. values ≡ value ∷ []) }
+{
+    let mut values = Row::new(alloc);
+    values.push(value)?;
+    Ok(values)
+}
+
+/// The row of two values.
+pub fn two_values(alloc: Global, first: Value, second: Value) -> Result<Row<Value>, OutOfMemory>
+    ensures { IfOk result (λ values. values ≡ first ∷ second ∷ []) }
+{
+    let mut values = Row::new(alloc);
+    values.push(first)?;
+    values.push(second)?;
+    Ok(values)
 }

@@ -1,22 +1,19 @@
 //! The rows of C6, a method whose arguments differ in number, or an argument whose type differs.
-ghost use Rattle.std.specs.Prelude.{◌≡◌, ◌∷◌, [], IfOk, false, option_map};
+ghost use Rattle.std.specs.Prelude.{◌≡◌, IfOk, false, option_map};
 ghost use Rattle.aidl_values.specs.Data.{item, none};
 ghost use Rattle.aidl_values.specs.View.{views};
 ghost use Rattle.compat_witness.specs.Candidates.{request};
-ghost use Rattle.compat_witness.specs.Reaching.{only, plain_value};
-ghost use Rattle.compat_witness.specs.Rows.{low_arguments};
+ghost use Rattle.compat_witness.specs.Reaching.{plain_value};
+ghost use Rattle.compat_witness.specs.Rows.{ask_C6, ask_C6_at, is_met_C6, low_arguments, of_only};
 ghost use Rattle.witness_calls.specs.Seen.{call_seen};
 ghost use Rattle.witness_search.specs.Asked.{calls_seen};
-ghost use Rattle.witness_search.specs.steps.Asks.{asked_C6, asked_C6_at, both_only, is_met_C6, of_only};
 ghost use Rattle.witness_search.specs.steps.Seen.{spot_seen};
-ghost use Rattle.std.specs.Option.{option_copied};
 ghost use Rattle.std.specs.List.{list_all};
 ghost use Rattle.compat_witness.specs.Rows as rows;
 
-use crate::candidates::{Calls, one_call};
+use crate::candidates::{Calls, one_call, one_value};
 use crate::plain::{is_plain_in, low_value};
-use crate::spot::Spot;
-use crate::unanswered::is_empty;
+use crate::spot::{Spot, both_only, is_empty};
 use aidl_base::{OutOfMemory, Row};
 use aidl_schema::Arg;
 use aidl_values::Value;
@@ -30,7 +27,7 @@ pub fn asked_c6(
     after: &Spot<'_>,
 ) -> Result<Option<Calls>, OutOfMemory>
     ensures { IfOk result (λ calls. option_map calls_seen calls
-        ≡ asked_C6 (spot_seen before.now) (spot_seen after.now)) }
+        ≡ ask_C6 (spot_seen before.now) (spot_seen after.now)) }
 {
     let args = before.method.args.as_slice();
     if !is_met(args, after.method.args.as_slice()) {
@@ -71,7 +68,7 @@ pub fn asked_c6_at(
     after: &Spot<'_>,
 ) -> Result<Option<Calls>, OutOfMemory>
     ensures { IfOk result (λ calls. option_map calls_seen calls
-        ≡ of_only asked_C6_at (spot_seen before.now) (spot_seen after.now)) }
+        ≡ of_only ask_C6_at (spot_seen before.now) (spot_seen after.now)) }
 {
     match both_only(before, after) {
         Some((a, b)) if is_plain_in(a) && is_plain_in(b) => {
@@ -80,38 +77,6 @@ pub fn asked_c6_at(
         }
         _ => Ok(None),
     }
-}
-
-/// The one argument of each, where their ids are the same. It takes no memory.
-pub fn both_only<'a>(before: &Spot<'a>, after: &Spot<'a>) -> Option<(&'a Arg, &'a Arg)>
-    ensures { option_map (λ q. (q.0.now, q.1.now)) result
-        ≡ both_only (spot_seen before.now) (spot_seen after.now) }
-{
-    if before.method.id != after.method.id {
-        return None;
-    }
-    let a = only(before.method.args.as_slice())?;
-    let b = only(after.method.args.as_slice())?;
-    Some((a, b))
-}
-
-/// The argument of a method that has no other. It takes no memory.
-pub fn only(args: &[Arg]) -> Option<&Arg>
-    ensures { option_copied result ≡ only args.now }
-{
-    match args {
-        [arg] => Some(arg),
-        _ => None,
-    }
-}
-
-/// The row of one value.
-pub fn one_value(alloc: Global, value: Value) -> Result<Row<Value>, OutOfMemory>
-    ensures { IfOk result (λ values. values ≡ value ∷ []) }
-{
-    let mut values = Row::new(alloc);
-    values.push(value)?;
-    Ok(values)
 }
 
 /// A request from the old version. It takes no memory.

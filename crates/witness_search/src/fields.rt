@@ -9,9 +9,8 @@ ghost use Rattle.witness_search.specs.steps.Records.{part};
 
 use crate::plain::plain_value;
 use aidl_base::{OutOfMemory, Row};
-use aidl_schema::{Field, Kind, Schema};
+use aidl_schema::{Field, Kind, Schema, same_text, same_type};
 use aidl_values::{Value, initial_of};
-use compat_judge::{same_text, same_type};
 use std::alloc::Global;
 
 /// The fields of the parcelable of a number; none of another kind. It takes no memory.

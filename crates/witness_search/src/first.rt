@@ -1,50 +1,75 @@
 //! The first call that is shown, among calls and among groups of requests.
-ghost use Rattle.std.specs.Prelude.{◌≡◌, ◌∷◌, [], IfOk};
+ghost use Rattle.std.specs.Prelude.{◌≡◌, ◌∷◌, ◌&&◌, [], IfOk, Some, false, map};
 ghost use Rattle.std.specs.List.{flat_map};
+ghost use Rattle.compat_witness.specs.Candidates.{client_of, server_of};
+ghost use Rattle.compat_witness.specs.Reaching.{methods_reaching};
 ghost use Rattle.witness_calls.specs.Seen.{call_seen};
-ghost use Rattle.witness_search.specs.Asked.{calls_seen, group_seen, groups_seen};
+ghost use Rattle.witness_search.specs.Asked.{calls_seen, group_seen, groups_seen, method_seen};
 ghost use Rattle.witness_search.specs.First.{IsFirst};
 ghost use Rattle.witness_search.specs.steps.Requests.{request_of, requests_of};
+ghost use Rattle.witness_search.specs.steps.Trials.{AreShownAlike, IsFirstTrial};
 
-use crate::candidates::{Calls, Group, Groups, Reach};
-use crate::counts::one_value;
+use crate::candidates::{Calls, Group, Groups, Reach, one_value};
+use crate::pair::Pair;
 use crate::shown::Witness;
 use aidl_base::OutOfMemory;
 use aidl_values::Value;
+use compat_witness::law_alike;
 use std::alloc::Global;
-use witness_calls::{Call, Version, try_call};
+use witness_calls::{Call, Tried, try_call};
 
 /// The first of these calls that is shown, None where none is.
 pub fn first_call(
     alloc: Global,
-    old: &Version<'_>,
-    new: &Version<'_>,
+    pair: &Pair<'_, '_>,
     calls: Calls,
 ) -> Result<Option<Witness>, OutOfMemory>
-    ensures { IfOk result (λ found. IsFirst old.now new.now (calls_seen calls) found) }
+    ensures { IfOk result (λ found. IsFirst pair.now.old pair.now.new (calls_seen calls) found) }
 {
     let Calls { first, second } = calls;
-    match try_one(alloc, old, new, first)? {
+    match found_by(alloc, pair, first)? {
         Some(found) => Ok(Some(found)),
         None => match second {
-            Some(call) => try_one(alloc, old, new, call),
+            Some(call) => found_by(alloc, pair, call),
             None => Ok(None),
         },
     }
 }
 
 // The call where it is shown.
-fn try_one(
-    alloc: Global,
-    old: &Version<'_>,
-    new: &Version<'_>,
-    call: Call,
-) -> Result<Option<Witness>, OutOfMemory>
-    ensures { IfOk result (λ found. IsFirst old.now new.now (call_seen call ∷ []) found) }
+fn found_by(alloc: Global, pair: &Pair<'_, '_>, call: Call) -> Result<Option<Witness>, OutOfMemory>
+    ensures { IfOk result (λ found. IsFirst pair.now.old pair.now.new (call_seen call ∷ []) found) }
 {
-    match try_call(alloc, old, new, &call)? {
-        Some(showing) => Ok(Some(Witness { call, showing })),
-        None => Ok(None),
+    let Trial { found, short: _ } = try_one(alloc, pair, call)?;
+    Ok(found)
+}
+
+/// What trials of calls came to: the first that is shown, and where none is, whether it is known that none is too long.
+#[derive(Drop)]
+pub struct Trial {
+    pub found: Option<Witness>,
+    pub short: bool,
+}
+
+// The trial of one call.
+#[tactic(auto, using(crate::proofs::Trials::one_found, crate::proofs::Trials::one_tried))]
+fn try_one(alloc: Global, pair: &Pair<'_, '_>, call: Call) -> Result<Trial, OutOfMemory>
+    ensures { IfOk result (λ trial. IsFirstTrial pair.now.old pair.now.new (call_seen call ∷ []) trial) }
+{
+    let Tried { showing, short } = try_call(alloc, &pair.old, &pair.new, &call)?;
+    match showing {
+        Some(showing) => Ok(found_one(Witness { call, showing })),
+        None => Ok(Trial { found: None, short }),
+    }
+}
+
+// A call that is shown.
+fn found_one(witness: Witness) -> Trial
+    ensures { result ≡ record { found = Some witness; short = false } }
+{
+    Trial {
+        found: Some(witness),
+        short: false,
     }
 }
 
@@ -52,17 +77,17 @@ fn try_one(
 #[tactic(auto, using(crate::proofs::Firsts::groups_found, crate::proofs::Firsts::groups_later, crate::proofs::Firsts::groups_alone))]
 pub fn first_request(
     alloc: Global,
-    old: &Version<'_>,
-    new: &Version<'_>,
-    groups: &Groups<'_>,
+    pair: &Pair<'_, '_>,
+    groups: &Groups,
 ) -> Result<Option<Witness>, OutOfMemory>
-    ensures { IfOk result (λ found. IsFirst old.now new.now (groups_seen groups.now) found) }
+    ensures { IfOk result (λ found.
+        IsFirst pair.now.old pair.now.new (groups_seen pair.now.old pair.now.new groups.now) found) }
 {
-    match first_of_group(alloc, old, new, &groups.first)? {
+    match first_of_group(alloc, pair, &groups.first)? {
         Some(found) => Ok(Some(found)),
         None => match &groups.second {
             Some(group) => {
-                let found = first_of_group(alloc, old, new, group)?;
+                let found = first_of_group(alloc, pair, group)?;
                 Ok(found)
             }
             None => Ok(None),
@@ -73,75 +98,99 @@ pub fn first_request(
 // The first request of a group that is shown.
 fn first_of_group(
     alloc: Global,
-    old: &Version<'_>,
-    new: &Version<'_>,
-    group: &Group<'_>,
+    pair: &Pair<'_, '_>,
+    group: &Group,
 ) -> Result<Option<Witness>, OutOfMemory>
-    ensures { IfOk result (λ found. IsFirst old.now new.now (group_seen group.now) found) }
+    ensures { IfOk result (λ found.
+        IsFirst pair.now.old pair.now.new (group_seen pair.now.old pair.now.new group.now) found) }
 {
-    first_of_methods(
-        alloc,
-        old,
-        new,
-        group.back,
-        group.methods,
-        group.values.as_slice(),
-    )
+    let methods = reaching_methods(pair, group);
+    let values = group.values.as_slice();
+    first_of_methods(alloc, pair, group.back, methods, values)
 }
 
+// The methods that reach the declaration of a group. By one value they show all or none.
+fn reaching_methods<'t>(pair: &'t Pair<'_, '_>, group: &Group) -> &'t [Reach]
+    ensures are { map method_seen result.now
+        ≡ methods_reaching (client_of group.now.back pair.now.old pair.now.new) group.now.number
+        (server_of group.now.back pair.now.old pair.now.new) }
+    ensures alike { AreShownAlike pair.now.old pair.now.new group.now.back result.now }
+{
+    let before = pair.old.schema();
+    let after = pair.new.schema();
+    law_alike(before, after);
+    law_alike(after, before);
+    pair.reaching(group.back, group.number)
+}
+
+// The first request of these methods that is shown. After one of whose requests none is too long no other one is tried.
 fn first_of_methods(
     alloc: Global,
-    old: &Version<'_>,
-    new: &Version<'_>,
+    pair: &Pair<'_, '_>,
     back: bool,
     methods: &[Reach],
     values: &[Value],
 ) -> Result<Option<Witness>, OutOfMemory>
+    requires { AreShownAlike pair.now.old pair.now.new back methods.now }
     ensures { IfOk result (λ found.
-        IsFirst old.now new.now (flat_map (requests_of back values.now) methods.now) found) }
+        IsFirst pair.now.old pair.now.new (flat_map (requests_of back values.now) methods.now) found) }
 {
     for reach in methods {
-        if let Some(found) = first_of_method(alloc, old, new, back, reach, values)? {
+        let Trial { found, short } = try_method(alloc, pair, back, reach, values)?;
+        if let Some(found) = found {
             return Ok(Some(found));
+        }
+        if short {
+            return Ok(None);
         }
     }
     Ok(None)
 }
 
-// The first request of a method that is shown.
-fn first_of_method(
+// The trial of a method's requests.
+fn try_method(
     alloc: Global,
-    old: &Version<'_>,
-    new: &Version<'_>,
+    pair: &Pair<'_, '_>,
     back: bool,
     reach: &Reach,
     values: &[Value],
-) -> Result<Option<Witness>, OutOfMemory>
-    ensures { IfOk result (λ found.
-        IsFirst old.now new.now (requests_of back values.now reach.now) found) }
+) -> Result<Trial, OutOfMemory>
+    ensures { IfOk result (λ trial.
+        IsFirstTrial pair.now.old pair.now.new (requests_of back values.now reach.now) trial) }
 {
+    let mut all_short = true;
     for value in values {
-        if let Some(found) = try_request(alloc, old, new, back, reach, value)? {
-            return Ok(Some(found));
+        let Trial { found, short } = try_request(alloc, pair, back, reach, value)?;
+        if let Some(found) = found {
+            return Ok(found_one(found));
         }
+        all_short = are_both(all_short, short);
     }
-    Ok(None)
+    Ok(Trial {
+        found: None,
+        short: all_short,
+    })
 }
 
-// The request of a method with one value, where it is shown.
+fn are_both(first: bool, second: bool) -> bool
+    ensures { result ≡ (first && second) }
+{
+    first && second
+}
+
+// The trial of a method's request with one value.
 fn try_request(
     alloc: Global,
-    old: &Version<'_>,
-    new: &Version<'_>,
+    pair: &Pair<'_, '_>,
     back: bool,
     reach: &Reach,
     value: &Value,
-) -> Result<Option<Witness>, OutOfMemory>
-    ensures { IfOk result (λ found.
-        IsFirst old.now new.now (request_of back reach.now value.now ∷ []) found) }
+) -> Result<Trial, OutOfMemory>
+    ensures { IfOk result (λ trial.
+        IsFirstTrial pair.now.old pair.now.new (request_of back reach.now value.now ∷ []) trial) }
 {
     let call = request_of(alloc, back, reach, value)?;
-    try_one(alloc, old, new, call)
+    try_one(alloc, pair, call)
 }
 
 fn request_of(alloc: Global, back: bool, reach: &Reach, value: &Value) -> Result<Call, OutOfMemory>

@@ -1,4 +1,8 @@
 //! Witnesses: of each broken rule the first call that shows it, among those that the rule's row in the table gives at its place.
+//!
+//! C2 and C16 stand in `declarations`, C3, C4 and C8 in `unanswered`, C5 in `results`, C6 in `counts`, C7 in `ways`, C10, C11 and C15 in `records`. `search`
+//! asks the row of an entry's rule, and `first` tries its calls; `pair` has the two versions, and `reaching` finds the methods that reach each
+//! declaration.
 #![tactic(auto)]
 
 mod both;
@@ -10,21 +14,20 @@ mod first;
 mod laws;
 mod methods;
 mod names;
+mod pair;
 mod places;
 mod plain;
-mod reach_tables;
 mod reaching;
 mod records;
 mod results;
 mod search;
 mod shown;
 mod spot;
-mod table;
 mod unanswered;
 mod unions;
 mod ways;
 
 pub use laws::law_shown;
-pub use reach_tables::ReachTables;
+pub use pair::Pair;
 pub use search::witness_of as witness;
 pub use shown::{NoCall, Shown, Witness};

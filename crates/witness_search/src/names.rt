@@ -4,9 +4,10 @@ ghost use Rattle.aidl_schema.specs.Find.{number_of_name};
 ghost use Rattle.wire_model.specs.Calls.{descriptor};
 ghost use Rattle.wire_model.specs.Outcome.{declared_as};
 
-use aidl_base::{OutOfMemory, Text, joined_by_dots};
+use aidl_base::{OutOfMemory, Text};
 use aidl_schema::{Schema, find};
 use std::alloc::Global;
+use stub_dispatch::descriptor_of;
 use witness_calls::Version;
 
 /// The number of the server's declaration of the name that a declaration of the client has.
@@ -20,15 +21,6 @@ pub fn declared_like(
 {
     let name = descriptor_of(alloc, client.schema(), number)?;
     Ok(declared(server.schema(), &name))
-}
-
-fn descriptor_of(alloc: Global, schema: &Schema, number: u32) -> Result<Text, OutOfMemory>
-    ensures { IfOk result (λ text. text ≡ descriptor schema.now.decls number) }
-{
-    match schema.decls.as_slice().get(number as usize) {
-        Some(decl) => joined_by_dots(alloc, decl.name.0.as_slice()),
-        None => Ok(Text::empty()),
-    }
 }
 
 /// The number of the declaration of a name. It takes no memory.

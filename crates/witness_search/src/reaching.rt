@@ -1,23 +1,20 @@
 //! The table of the methods that reach each declaration.
 ghost use Rattle.std.specs.Prelude.{◌≡◌, ◌==◌, ◌&&◌, ◌≤◌, ℕ, [], length, if◌then◌else◌, IfOk, None, OnOk, Some, option_map};
 ghost use Rattle.std.specs.Option.{option_copied};
+ghost use Rattle.aidl_schema.specs.Broken.{is_there_and};
 ghost use Rattle.aidl_schema.specs.Find.{methods_at};
-ghost use Rattle.aidl_schema.specs.Same.{same};
 ghost use Rattle.compat_witness.specs.Places.{spot_like};
-ghost use Rattle.compat_witness.specs.Reaching.{only};
 ghost use Rattle.compat_witness.specs.Reaching as meant;
 ghost use Rattle.witness_search.specs.ReachTables.{IsReachTable, row_at};
-ghost use Rattle.witness_search.specs.steps.Reached.{AreAdded, IsAdded, IsNamed, is_at, number_taken, reached_from, reached_in};
+ghost use Rattle.witness_search.specs.steps.Reached.{AreAdded, IsAdded, IsNamed, reached_from, reached_in};
 ghost use Rattle.witness_search.specs.steps.Seen.{spot_seen};
 
 use crate::candidates::Reach;
-use crate::counts::only;
 use crate::names::declared_like;
 use crate::plain::{is_in_way, is_one_value};
-use crate::spot::{Spot, spot_in};
+use crate::spot::{Spot, only, spot_in};
 use aidl_base::{OutOfMemory, Row};
-use aidl_schema::{AidlType, Arg, Base, Method, law_valid};
-use compat_judge::same_type;
+use aidl_schema::{Arg, Base, Method, law_valid, same_type};
 use std::alloc::Global;
 use witness_calls::Version;
 
@@ -101,7 +98,7 @@ fn add_methods(
         rows.old rows.new) }
 {
     for i in 0..methods.len() {
-        let number = number_reached(ends, &methods[i]);
+        let number = declaration_reached(ends, &methods[i]);
         let reach = Reach {
             interface: ends.interface,
             method: i as u32,
@@ -142,44 +139,41 @@ fn add(rows: &mut [Row<Reach>], number: Option<u32>, reach: Reach) -> Result<(),
     Ok(())
 }
 
-// The declaration that a method reaches: the one that its only argument is of, or none.
-#[tactic(auto, using(crate::proofs::Reaches::reaches_none, crate::proofs::Reaches::reaches_one))]
-fn number_reached(ends: &Ends<'_>, method: &Method) -> Option<u32>
+// The declaration that a method reaches: the one that its only argument is of, which it has in both versions.
+fn declaration_reached(ends: &Ends<'_>, method: &Method) -> Option<u32>
     requires { IsNamed ends.now }
-    ensures { (k : ℕ) → is_at k result
-        ≡ meant.reaches ends.now.client.now k ends.now.server.now ends.now.interface method.now }
+    ensures { result ≡ meant.declaration_reached
+        ends.now.client.now ends.now.server.now ends.now.interface method.now }
 {
-    let Some(number) = number_taken(only(method.args.as_slice())) else {
-        return None;
-    };
-    number_if(reaches(ends, number, method), number)
+    let arg = only(method.args.as_slice())?;
+    let number = number_of(arg.ty.base)?;
+    if has_argument(ends, method, arg) {
+        Some(number)
+    } else {
+        None
+    }
 }
 
-// The declaration that an argument is of.
-fn number_taken(arg: Option<&Arg>) -> Option<u32>
-    ensures { result ≡ number_taken (option_copied arg.entry) }
+// The declaration that a base names.
+fn number_of(base: Base) -> Option<u32>
+    ensures { result ≡ meant.number_of base }
 {
-    match arg?.ty.base {
+    match base {
         Base::Named(number) => Some(number),
         Base::Boolean | Base::Byte | Base::Char | Base::Int | Base::Long | Base::Text => None,
     }
 }
 
-// A number, under a condition.
-fn number_if(is_met: bool, number: u32) -> Option<u32>
-    ensures { result ≡ (if is_met then Some number else None) }
-{
-    if is_met { Some(number) } else { None }
-}
-
-// Whether a method reaches the declaration: the server has it by names with the same id, and it has this one argument in both.
-fn reaches(ends: &Ends<'_>, number: u32, method: &Method) -> bool
+// Whether the server has a method by its names with the same id and this one argument.
+fn has_argument(ends: &Ends<'_>, method: &Method, arg: &Arg) -> bool
     requires { IsNamed ends.now }
-    ensures { result ≡ meant.reaches ends.now.client.now number
-        ends.now.server.now ends.now.interface method.now }
+    ensures { result ≡ meant.has_argument ends.now.client.now
+        ends.now.server.now ends.now.interface method.now arg.now }
 {
     match spot_there(ends, method) {
-        Some(spot) => is_same(ends, number, method, spot.method),
+        Some(spot) => {
+            method.id == spot.method.id && is_alike(ends, arg, only(spot.method.args.as_slice()))
+        }
         None => false,
     }
 }
@@ -196,54 +190,18 @@ fn spot_there<'a>(ends: &Ends<'a>, method: &Method) -> Option<Spot<'a>>
     }
 }
 
-// The same id, and this one argument in both.
-fn is_same(ends: &Ends<'_>, number: u32, v: &Method, w: &Method) -> bool
-    ensures { result ≡ ((v.now.id == w.now.id)
-        && meant.both_take ends.now.client.now number ends.now.server.now
-        (only v.now.args) (only w.now.args)) }
+// Whether both arguments are `in` and one value of one type, never null.
+fn is_alike(ends: &Ends<'_>, a: &Arg, b: Option<&Arg>) -> bool
+    ensures { result ≡ is_there_and
+        (meant.are_alike ends.now.client.now ends.now.server.now a.now)
+        (option_copied b.entry) }
 {
-    v.id == w.id
-        && both_take(
-            ends,
-            number,
-            only(v.args.as_slice()),
-            only(w.args.as_slice()),
-        )
-}
-
-fn both_take(ends: &Ends<'_>, number: u32, a: Option<&Arg>, b: Option<&Arg>) -> bool
-    ensures { result ≡ meant.both_take ends.now.client.now number ends.now.server.now
-        (option_copied a.entry) (option_copied b.entry) }
-{
-    match a {
-        Some(a) => match b {
-            Some(b) => takes(ends, number, a, b),
-            None => false,
-        },
+    match b {
+        Some(b) => {
+            (is_in_way(a.way) && is_in_way(b.way))
+                && (is_one_value(a.ty)
+                    && same_type(ends.client.schema(), a.ty, ends.server.schema(), b.ty))
+        }
         None => false,
-    }
-}
-
-// Whether both arguments are `in` and one value of the declaration, never null.
-fn takes(ends: &Ends<'_>, number: u32, a: &Arg, b: &Arg) -> bool
-    ensures { result ≡ meant.takes ends.now.client.now number ends.now.server.now a.now b.now }
-{
-    (is_in_way(a.way) && is_in_way(b.way))
-        && (is_number(number, a.ty.base) && (is_one_value(a.ty) && is_same_type(ends, a.ty, b.ty)))
-}
-
-// Whether a type of the client and one of the server are the same.
-fn is_same_type(ends: &Ends<'_>, a: AidlType, b: AidlType) -> bool
-    ensures { result ≡ same ends.now.client.now a ends.now.server.now b }
-{
-    same_type(ends.client.schema(), a, ends.server.schema(), b)
-}
-
-fn is_number(number: u32, base: Base) -> bool
-    ensures { result ≡ meant.is_number number base }
-{
-    match base {
-        Base::Named(n) => n == number,
-        Base::Boolean | Base::Byte | Base::Char | Base::Int | Base::Long | Base::Text => false,
     }
 }

@@ -7,24 +7,20 @@ ghost use Rattle.aidl_values.specs.View.{view};
 ghost use Rattle.compat_witness.specs.Reaching.{are_plain, with_value};
 ghost use Rattle.compat_witness.specs.Rows as rows;
 ghost use Rattle.witness_search.specs.Asked.{groups_seen};
-ghost use Rattle.witness_search.specs.ReachTables.{AreReachTables};
-ghost use Rattle.witness_search.specs.steps.Reached.{AreReached};
+ghost use Rattle.witness_search.specs.steps.Reached.{IsReached};
 ghost use Rattle.witness_search.specs.steps.Named.{field_named};
 ghost use Rattle.witness_search.specs.steps.Rows as steps;
 
-use crate::both::Both;
-use crate::candidates::{Group, Groups};
-use crate::counts::one_value;
-use crate::declarations::{is_none_of, one_group, two_values};
+use crate::both::{Both, one_group};
+use crate::candidates::{Group, Groups, one_value, two_values};
 use crate::fields::{alternatives_in, fields_in, names_agree, types_agree, with_value};
 use crate::names::named;
+use crate::pair::Pair;
 use crate::places::at_last_dot;
 use crate::plain::{are_plain, low_value};
-use crate::reach_tables::ReachTables;
 use aidl_base::{OutOfMemory, Row, Text};
-use aidl_schema::{Base, Field, Schema, law_valid};
+use aidl_schema::{Base, Field, Schema, law_valid, same_text, same_type};
 use aidl_values::Value;
-use compat_judge::{same_text, same_type};
 use std::alloc::Global;
 use witness_calls::Version;
 
@@ -37,47 +33,41 @@ pub enum FieldRow {
 }
 
 /// The requests of a row at a place that names a field; None where its condition isn't met.
-pub fn field_groups<'a>(
+pub fn field_groups(
     alloc: Global,
     row: FieldRow,
-    old: &Version<'_>,
-    new: &Version<'_>,
-    tables: &'a ReachTables,
+    pair: &Pair<'_, '_>,
     place: &Text,
-) -> Result<Option<Groups<'a>>, OutOfMemory>
-    requires { AreReachTables old.now new.now tables.now }
-    ensures { IfOk result (λ groups. option_map groups_seen groups
-        ≡ steps.field_row row old.now new.now place.now) }
+) -> Result<Option<Groups>, OutOfMemory>
+    ensures { IfOk result (λ groups. option_map (groups_seen pair.now.old pair.now.new) groups
+        ≡ steps.field_row row pair.now.old pair.now.new place.now) }
 {
-    groups_named(alloc, row, old, new, tables, place.as_str())
+    groups_named(alloc, row, pair, place.as_str())
 }
 
 // The same by the bytes of the place.
-#[tactic(auto, using(crate::proofs::Reaches::both_reached, crate::proofs::PlainUnions::both_plain))]
-fn groups_named<'a>(
+#[tactic(auto, using(crate::proofs::Reaches::reached_as, crate::proofs::PlainUnions::plain_as))]
+fn groups_named(
     alloc: Global,
     row: FieldRow,
-    old: &Version<'_>,
-    new: &Version<'_>,
-    tables: &'a ReachTables,
+    pair: &Pair<'_, '_>,
     place: &str,
-) -> Result<Option<Groups<'a>>, OutOfMemory>
-    requires { AreReachTables old.now new.now tables.now }
-    ensures { IfOk result (λ groups. option_map groups_seen groups
-        ≡ steps.field_row_named row old.now new.now place.now) }
+) -> Result<Option<Groups>, OutOfMemory>
+    ensures { IfOk result (λ groups. option_map (groups_seen pair.now.old pair.now.new) groups
+        ≡ steps.field_row_named row pair.now.old pair.now.new place.now) }
 {
     let Some((name, field)) = at_last_dot(place) else {
         return Ok(None);
     };
-    let before = old.schema();
-    let after = new.schema();
+    let before = pair.old.schema();
+    let after = pair.new.schema();
     let Some(k) = named(before, name) else {
         return Ok(None);
     };
     let Some(l) = named(after, name) else {
         return Ok(None);
     };
-    let Some(position) = field_at(row, old, k, field) else {
+    let Some(position) = field_at(row, &pair.old, k, field) else {
         return Ok(None);
     };
     let both = Both {
@@ -85,13 +75,12 @@ fn groups_named<'a>(
         k,
         new: after,
         l,
-        forth: tables.forth_of(k),
-        back: tables.back_of(l),
+        reached: pair.is_reached(k),
     };
     match row {
         FieldRow::C10 => asked_c10(alloc, &both, position),
         FieldRow::C11 => asked_c11(alloc, &both, position),
-        FieldRow::C15 => asked_c15(alloc, &both, tables.are_plain(k, l), position),
+        FieldRow::C15 => asked_c15(alloc, &both, pair.are_plain(k, l), position),
     }
 }
 
@@ -117,26 +106,28 @@ fn fields_at(row: FieldRow, schema: &Schema, number: u32) -> &[Field]
 }
 
 // C10: requests with z0, then z1, in that field and defaults elsewhere.
-fn asked_c10<'a>(
+fn asked_c10(
     alloc: Global,
-    both: &Both<'_, '_, 'a>,
+    both: &Both<'_, '_>,
     position: usize,
-) -> Result<Option<Groups<'a>>, OutOfMemory>
-    requires { AreReached both.now }
-    ensures { IfOk result (λ groups. option_map groups_seen groups
-        ≡ steps.asked_C10 both.now.old.now.decls both.now.k
-        both.now.new.now.decls both.now.l position) }
+) -> Result<Option<Groups>, OutOfMemory>
+    requires { IsReached both.now }
+    ensures { IfOk result (λ groups.
+        option_map (groups_seen both.now.old.now.decls both.now.new.now.decls) groups
+        ≡ rows.ask_C10 both.now.old.now.decls both.now.k both.now.new.now.decls both.now.l
+        (rows.fields_in both.now.old.now.decls both.now.k)
+        (rows.fields_in both.now.new.now.decls both.now.l) position) }
 {
     let olds = fields_in(both.old, both.k);
     let news = fields_in(both.new, both.l);
-    if is_none_of(both.forth) || !is_met_c10(both, olds, news) {
+    if !both.reached || !is_met_c10(both, olds, news) {
         return Ok(None);
     }
     let low = with_value(alloc, both.old, false, position, olds)?;
     let high = with_value(alloc, both.old, true, position, olds)?;
     let first = Group {
         back: false,
-        methods: both.forth,
+        number: both.k,
         values: two_values(alloc, Value::Rec(low), Value::Rec(high))?,
     };
     Ok(Some(Groups {
@@ -146,7 +137,7 @@ fn asked_c10<'a>(
 }
 
 // All fields are plain in both, and types agree at each position below both counts.
-fn is_met_c10(both: &Both<'_, '_, '_>, olds: &[Field], news: &[Field]) -> bool
+fn is_met_c10(both: &Both<'_, '_>, olds: &[Field], news: &[Field]) -> bool
     ensures { result ≡ ((are_plain olds.now && are_plain news.now)
         && rows.types_agree both.now.old.now.decls olds.now both.now.new.now.decls news.now) }
 {
@@ -154,30 +145,32 @@ fn is_met_c10(both: &Both<'_, '_, '_>, olds: &[Field], news: &[Field]) -> bool
 }
 
 // C11: requests with z0 in that field and defaults elsewhere, either way.
-fn asked_c11<'a>(
+fn asked_c11(
     alloc: Global,
-    both: &Both<'_, '_, 'a>,
+    both: &Both<'_, '_>,
     position: usize,
-) -> Result<Option<Groups<'a>>, OutOfMemory>
-    requires reached { AreReached both.now }
+) -> Result<Option<Groups>, OutOfMemory>
+    requires reached { IsReached both.now }
     requires there { position < length (rows.fields_in both.now.old.now.decls both.now.k) }
-    ensures { IfOk result (λ groups. option_map groups_seen groups
-        ≡ steps.asked_C11 both.now.old.now.decls both.now.k
-        both.now.new.now.decls both.now.l position) }
+    ensures { IfOk result (λ groups.
+        option_map (groups_seen both.now.old.now.decls both.now.new.now.decls) groups
+        ≡ rows.ask_C11 both.now.old.now.decls both.now.k both.now.new.now.decls both.now.l
+        (rows.fields_in both.now.old.now.decls both.now.k)
+        (rows.fields_in both.now.new.now.decls both.now.l) position) }
 {
     let olds = fields_in(both.old, both.k);
     let news = fields_in(both.new, both.l);
-    if is_none_of(both.forth) || !is_met_c11(both, position, olds, news) {
+    if !both.reached || !is_met_c11(both, position, olds, news) {
         return Ok(None);
     }
     let first = Group {
         back: false,
-        methods: both.forth,
+        number: both.k,
         values: low_record(alloc, both.old, position, olds)?,
     };
     let second = Group {
         back: true,
-        methods: both.back,
+        number: both.l,
         values: low_record(alloc, both.new, position, news)?,
     };
     Ok(Some(Groups {
@@ -188,7 +181,7 @@ fn asked_c11<'a>(
 
 // All fields are plain in both, have the same names, and but for the last the same types.
 #[tactic(auto, using(crate::proofs::RecordParts::not_last, crate::proofs::RecordParts::at_last))]
-fn is_met_c11(both: &Both<'_, '_, '_>, position: usize, olds: &[Field], news: &[Field]) -> bool
+fn is_met_c11(both: &Both<'_, '_>, position: usize, olds: &[Field], news: &[Field]) -> bool
     requires { position < length olds.now }
     ensures { result ≡ ((are_plain olds.now && are_plain news.now)
         && (rows.names_agree olds.now news.now
@@ -218,25 +211,27 @@ fn low_record(
 }
 
 // C15: a request with that tag and z0. It is known whether all alternatives of both are plain.
-fn asked_c15<'a>(
+fn asked_c15(
     alloc: Global,
-    both: &Both<'_, '_, 'a>,
+    both: &Both<'_, '_>,
     plain: bool,
     position: usize,
-) -> Result<Option<Groups<'a>>, OutOfMemory>
-    requires reached { AreReached both.now }
+) -> Result<Option<Groups>, OutOfMemory>
+    requires reached { IsReached both.now }
     requires plain { plain ≡ (are_plain (rows.alternatives_in both.now.old.now.decls both.now.k)
         && are_plain (rows.alternatives_in both.now.new.now.decls both.now.l)) }
     requires there { position < length (rows.alternatives_in both.now.old.now.decls both.now.k) }
-    ensures { IfOk result (λ groups. option_map groups_seen groups
-        ≡ steps.asked_C15 both.now.old.now.decls both.now.k
-        both.now.new.now.decls both.now.l position) }
+    ensures { IfOk result (λ groups.
+        option_map (groups_seen both.now.old.now.decls both.now.new.now.decls) groups
+        ≡ rows.ask_C15 both.now.old.now.decls both.now.k both.now.new.now.decls both.now.l
+        (rows.alternatives_in both.now.old.now.decls both.now.k)
+        (rows.alternatives_in both.now.new.now.decls both.now.l) position) }
 {
-    if is_none_of(both.forth) || !(plain && differ_there(both, position)) {
+    if !both.reached || !(plain && differ_there(both, position)) {
         return Ok(None);
     }
     let value = low_alternative(alloc, both.old, both.k, position)?;
-    one_group(alloc, false, both.forth, value)
+    one_group(alloc, both, false, value)
 }
 
 // z0 in the alternative at a position.
@@ -267,7 +262,7 @@ fn base_at(fields: &[Field], position: usize) -> Base
 }
 
 // Whether names or types differ at the position, which both have.
-fn differ_there(both: &Both<'_, '_, '_>, position: usize) -> bool
+fn differ_there(both: &Both<'_, '_>, position: usize) -> bool
     ensures { result ≡ rows.differ_at both.now.old.now.decls both.now.new.now.decls
         (slice_get (rows.alternatives_in both.now.old.now.decls both.now.k) position)
         (slice_get (rows.alternatives_in both.now.new.now.decls both.now.l) position) }
@@ -277,7 +272,7 @@ fn differ_there(both: &Both<'_, '_, '_>, position: usize) -> bool
     differ_at(both, olds.get(position), news.get(position))
 }
 
-fn differ_at(both: &Both<'_, '_, '_>, before: Option<&Field>, after: Option<&Field>) -> bool
+fn differ_at(both: &Both<'_, '_>, before: Option<&Field>, after: Option<&Field>) -> bool
     ensures { result ≡ rows.differ_at both.now.old.now.decls both.now.new.now.decls
         (option_copied before.entry) (option_copied after.entry) }
 {

@@ -2,15 +2,13 @@
 ghost use Rattle.std.specs.Prelude.{◌≡◌, option_map};
 ghost use Rattle.aidl_values.specs.Data.{none};
 ghost use Rattle.wire_model.specs.Calls.{answer_of, returned};
-ghost use Rattle.compat_witness.specs.Rows.{low_result};
+ghost use Rattle.compat_witness.specs.Rows.{ask_C5, is_met_C5, low_result};
 ghost use Rattle.witness_search.specs.Asked.{calls_seen};
-ghost use Rattle.witness_search.specs.steps.Asks.{asked_C5, is_met_C5};
 ghost use Rattle.witness_search.specs.steps.Seen.{spot_seen};
 
 use crate::candidates::Calls;
 use crate::plain::{is_plain_result, low_value};
-use crate::spot::Spot;
-use crate::unanswered::are_empty;
+use crate::spot::{Spot, are_empty};
 use aidl_base::Row;
 use aidl_schema::AidlType;
 use aidl_values::Answer;
@@ -19,7 +17,7 @@ use witness_calls::Call;
 
 /// C5: a reply with z0, or with nothing for void, either way. It takes no memory.
 pub fn asked_c5(alloc: Global, before: &Spot<'_>, after: &Spot<'_>) -> Option<Calls>
-    ensures { option_map calls_seen result ≡ asked_C5 (spot_seen before.now) (spot_seen after.now) }
+    ensures { option_map calls_seen result ≡ ask_C5 (spot_seen before.now) (spot_seen after.now) }
 {
     if !is_met(before, after) {
         return None;

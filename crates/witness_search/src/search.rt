@@ -6,132 +6,137 @@ ghost use Rattle.compat_judge.specs.Seen.{seen};
 ghost use Rattle.compat_witness.specs.Candidates.{AreSmall, Candidate, Shows};
 ghost use Rattle.compat_witness.specs.Rows.{Row};
 ghost use Rattle.witness_search.specs.Asked.{calls_seen, groups_seen};
-ghost use Rattle.witness_search.specs.ReachTables.{AreReachTables};
 ghost use Rattle.witness_search.specs.IsWitness.{IsAllowed, IsOfRow, IsWitness, those_of};
 ghost use Rattle.witness_search.specs.RowsByRule.{row_of};
-ghost use Rattle.witness_search.specs.steps.Table.{shown_or_none, table_row};
+ghost use Rattle.witness_search.specs.steps.Asks.{method_row};
+ghost use Rattle.witness_search.specs.steps.Rows.{declaration_row, field_row};
+ghost use Rattle.witness_search.specs.steps.Answered.{shown_or_none};
 
 use crate::candidates::{Calls, Groups};
-use crate::declarations::declaration_groups;
+use crate::declarations::{DeclarationRow, declaration_groups};
 use crate::first::{first_call, first_request};
 use crate::laws::law_shown;
-use crate::methods::calls_at;
-use crate::reach_tables::ReachTables;
-use crate::records::field_groups;
+use crate::methods::{MethodRow, c6_calls, c7_calls, method_calls};
+use crate::pair::Pair;
+use crate::records::{FieldRow, field_groups};
 use crate::shown::{NoCall, Shown, Witness};
-use crate::table::{TableRow, row_of};
+use crate::unanswered::c3_calls;
 use aidl_base::{OutOfMemory, Text};
 use compat_judge::Broken;
 use std::alloc::Global;
-use witness_calls::Version;
 
 /// The witness of an entry of the judge's list: of the calls that the row of its rule gives at its place, the first that counts and whose
 /// two sides differ. Where there is none it is the reason: `OutsideWire` of a rule without a row, and `NoCandidate` of the others (own).
-/// The tables are made once for all entries. `OutOfMemory` is the one refusal.
-pub fn witness_of(
-    alloc: Global,
-    old: &Version<'_>,
-    new: &Version<'_>,
-    tables: &ReachTables,
-    entry: &Broken,
-) -> Result<Shown, OutOfMemory>
-    // They are those of the two versions.
-    requires tables { AreReachTables old.now new.now tables.now }
-    requires among { Has (broken old.now new.now) (seen entry.now) }
-    ensures exact { IfOk result (λ shown. IsWitness old.now new.now (seen entry.now) shown) }
+/// `OutOfMemory` is the one refusal.
+pub fn witness_of(alloc: Global, pair: &Pair<'_, '_>, entry: &Broken) -> Result<Shown, OutOfMemory>
+    requires among { Has (broken pair.now.old pair.now.new) (seen entry.now) }
+    ensures exact { IfOk result (λ shown. IsWitness pair.now.old pair.now.new (seen entry.now) shown) }
     // Of a rule with a row a reason comes only where the row's condition isn't met, or where a call whose values fit is too long.
-    ensures allowed { IfOk result (λ shown. IsAllowed old.now new.now (seen entry.now) shown) }
+    ensures allowed { IfOk result (λ shown. IsAllowed pair.now.old pair.now.new (seen entry.now) shown) }
 {
-    law_of_sides(old, new, entry);
-    search(alloc, old, new, tables, entry)
+    law_of_sides(pair, entry);
+    search(alloc, pair, entry)
 }
 
 // The law of witnesses for the schemas of two sides.
-fn law_of_sides(old: &Version<'_>, new: &Version<'_>, entry: &Broken)
-    requires among { Has (broken old.now new.now) (seen entry.now) }
+fn law_of_sides(pair: &Pair<'_, '_>, entry: &Broken)
+    requires among { Has (broken pair.now.old pair.now.new) (seen entry.now) }
     ensures { (row : Row) → row_of entry.now.rule ≡ Some row
-        → (cs : List Candidate) → row old.now new.now entry.now.place ≡ Some cs
-        → AreSmall old.now new.now cs → Shows old.now new.now cs }
+        → (cs : List Candidate) → row pair.now.old pair.now.new entry.now.place ≡ Some cs
+        → AreSmall pair.now.old pair.now.new cs → Shows pair.now.old pair.now.new cs }
 {
-    let before = old.schema();
-    let after = new.schema();
+    let before = pair.old.schema();
+    let after = pair.new.schema();
     law_shown(before, after, entry);
 }
 
-// The same by the row of the entry's rule.
-fn search(
-    alloc: Global,
-    old: &Version<'_>,
-    new: &Version<'_>,
-    tables: &ReachTables,
-    entry: &Broken,
-) -> Result<Shown, OutOfMemory>
-    requires { AreReachTables old.now new.now tables.now }
-    ensures { IfOk result (λ shown. IsWitness old.now new.now (seen entry.now) shown) }
+// The same by the entry's rule, each with its row of the table.
+fn search(alloc: Global, pair: &Pair<'_, '_>, entry: &Broken) -> Result<Shown, OutOfMemory>
+    ensures { IfOk result (λ shown. IsWitness pair.now.old pair.now.new (seen entry.now) shown) }
 {
-    match row_of(entry.rule) {
-        Some(row) => of_row(alloc, old, new, tables, row, &entry.place),
-        None => Ok(Shown::Reason(NoCall::OutsideWire)),
+    let place = &entry.place;
+    match entry.rule {
+        2 => of_declaration(alloc, pair, DeclarationRow::C2, place),
+        3 => among_calls(alloc, pair, c3_calls(alloc, pair, place)?),
+        4 => of_method(alloc, pair, MethodRow::C4, place),
+        5 => of_method(alloc, pair, MethodRow::C5, place),
+        6 => among_calls(alloc, pair, c6_calls(alloc, pair, place)?),
+        7 => among_calls(alloc, pair, c7_calls(alloc, pair, place)?),
+        8 => of_method(alloc, pair, MethodRow::C8, place),
+        10 => of_field(alloc, pair, FieldRow::C10, place),
+        11 => of_field(alloc, pair, FieldRow::C11, place),
+        15 => of_field(alloc, pair, FieldRow::C15, place),
+        16 => of_declaration(alloc, pair, DeclarationRow::C16, place),
+        _ => Ok(Shown::Reason(NoCall::OutsideWire)),
     }
 }
 
-// The first call of a row that is shown.
-fn of_row(
+// The first call that is shown of a row of a declaration.
+fn of_declaration(
     alloc: Global,
-    old: &Version<'_>,
-    new: &Version<'_>,
-    tables: &ReachTables,
-    row: TableRow,
+    pair: &Pair<'_, '_>,
+    row: DeclarationRow,
     place: &Text,
 ) -> Result<Shown, OutOfMemory>
-    requires { AreReachTables old.now new.now tables.now }
-    ensures { IfOk result (λ shown.
-        IsOfRow old.now new.now (those_of (table_row row old.now new.now place.now)) shown) }
+    ensures { IfOk result (λ shown. IsOfRow pair.now.old pair.now.new
+        (those_of (declaration_row row pair.now.old pair.now.new place.now)) shown) }
 {
-    match row {
-        TableRow::Declaration(row) => {
-            let before = old.schema();
-            let after = new.schema();
-            let groups = declaration_groups(alloc, row, before, after, tables, place)?;
-            among_requests(alloc, old, new, groups)
-        }
-        TableRow::Field(row) => {
-            let groups = field_groups(alloc, row, old, new, tables, place)?;
-            among_requests(alloc, old, new, groups)
-        }
-        TableRow::Method(row) => {
-            let calls = calls_at(alloc, row, old, new, place)?;
-            among_calls(alloc, old, new, calls)
-        }
-    }
+    let groups = declaration_groups(alloc, row, pair, place)?;
+    among_requests(alloc, pair, groups)
+}
+
+// The same of a field.
+fn of_field(
+    alloc: Global,
+    pair: &Pair<'_, '_>,
+    row: FieldRow,
+    place: &Text,
+) -> Result<Shown, OutOfMemory>
+    ensures { IfOk result (λ shown. IsOfRow pair.now.old pair.now.new
+        (those_of (field_row row pair.now.old pair.now.new place.now)) shown) }
+{
+    let groups = field_groups(alloc, row, pair, place)?;
+    among_requests(alloc, pair, groups)
+}
+
+// The same of a method that both versions have.
+fn of_method(
+    alloc: Global,
+    pair: &Pair<'_, '_>,
+    row: MethodRow,
+    place: &Text,
+) -> Result<Shown, OutOfMemory>
+    ensures { IfOk result (λ shown. IsOfRow pair.now.old pair.now.new
+        (those_of (method_row row pair.now.old pair.now.new place.now)) shown) }
+{
+    let calls = method_calls(alloc, row, pair, place.as_str())?;
+    among_calls(alloc, pair, calls)
 }
 
 fn among_requests(
     alloc: Global,
-    old: &Version<'_>,
-    new: &Version<'_>,
-    groups: Option<Groups<'_>>,
+    pair: &Pair<'_, '_>,
+    groups: Option<Groups>,
 ) -> Result<Shown, OutOfMemory>
     ensures { IfOk result (λ shown.
-        IsOfRow old.now new.now (those_of (option_map groups_seen groups.entry)) shown) }
+        IsOfRow pair.now.old pair.now.new (those_of (option_map (groups_seen pair.now.old pair.now.new) groups)) shown) }
 {
     match groups {
-        Some(groups) => Ok(or_reason(first_request(alloc, old, new, &groups)?)),
+        Some(groups) => Ok(or_reason(first_request(alloc, pair, &groups)?)),
         None => Ok(Shown::Reason(NoCall::NoCandidate)),
     }
 }
 
 fn among_calls(
     alloc: Global,
-    old: &Version<'_>,
-    new: &Version<'_>,
+    pair: &Pair<'_, '_>,
     calls: Option<Calls>,
 ) -> Result<Shown, OutOfMemory>
     ensures { IfOk result (λ shown.
-        IsOfRow old.now new.now (those_of (option_map calls_seen calls)) shown) }
+        IsOfRow pair.now.old pair.now.new (those_of (option_map calls_seen calls)) shown) }
 {
     match calls {
-        Some(calls) => Ok(or_reason(first_call(alloc, old, new, calls)?)),
+        Some(calls) => Ok(or_reason(first_call(alloc, pair, calls)?)),
         None => Ok(Shown::Reason(NoCall::NoCandidate)),
     }
 }

@@ -1,16 +1,19 @@
-//! The methods of a place, in both versions.
+//! The methods of a place, in both versions, and their arguments.
 ghost use Rattle.std.specs.Prelude.{◌≡◌, ◌<◌, List, ℕ, IfOk, Some, length, option_map};
+ghost use Rattle.std.specs.Option.{option_copied};
 ghost use Rattle.std.specs.Str.{encode_utf8_all};
-ghost use Rattle.aidl_schema.specs.Find.{methods_at, number_of_name};
+ghost use Rattle.aidl_schema.specs.Find.{methods_at};
 ghost use Rattle.compat_witness.specs.Places.{spot_at, spot_like, spot_of};
+ghost use Rattle.compat_witness.specs.Reaching.{only};
+ghost use Rattle.compat_witness.specs.Rows.{are_empty, both_only, is_empty};
 ghost use Rattle.wire_model.specs.Outcome.{method_like};
 ghost use Rattle.witness_search.specs.steps.Seen.{spot_seen};
 ghost use Rattle.witness_search.specs.steps.Named.{spot_named};
 
-use crate::names::declared_like;
+use crate::names::{declared_like, named};
 use crate::places::at_last_dot;
 use aidl_base::OutOfMemory;
-use aidl_schema::{Method, find, law_valid};
+use aidl_schema::{Arg, Method, law_valid};
 use std::alloc::Global;
 use witness_calls::Version;
 
@@ -35,15 +38,8 @@ fn spot_named<'a>(version: &Version<'a>, place: &str) -> Option<Spot<'a>>
     ensures { option_map spot_seen result ≡ spot_named version.now place.now }
 {
     let (interface, method) = at_last_dot(place)?;
-    let number = number_of(version, interface)?;
+    let number = named(version.schema(), interface)?;
     spot_at(version, number, version.method_named(number, method))
-}
-
-// The number of the declaration of a name, which is in UTF-8.
-fn number_of(version: &Version<'_>, name: &str) -> Option<u32>
-    ensures { result ≡ number_of_name version.now name.now }
-{
-    find(version.schema(), name)
 }
 
 /// The server's method that has the names of a method of the client's interface.
@@ -90,4 +86,44 @@ fn small_position(version: &Version<'_>, interface: u32, position: usize) -> u32
 {
     law_valid(version.schema());
     position as u32
+}
+
+/// The one argument of each, where their ids are the same. It takes no memory.
+pub fn both_only<'a>(before: &Spot<'a>, after: &Spot<'a>) -> Option<(&'a Arg, &'a Arg)>
+    ensures { option_map (λ q. (q.0.now, q.1.now)) result
+        ≡ both_only (spot_seen before.now) (spot_seen after.now) }
+{
+    if before.method.id != after.method.id {
+        return None;
+    }
+    let a = only(before.method.args.as_slice())?;
+    let b = only(after.method.args.as_slice())?;
+    Some((a, b))
+}
+
+/// The argument of a method that has no other. It takes no memory.
+pub fn only(args: &[Arg]) -> Option<&Arg>
+    ensures { option_copied result ≡ only args.now }
+{
+    match args {
+        [arg] => Some(arg),
+        _ => None,
+    }
+}
+
+/// Whether the method has no arguments in both versions. It takes no memory.
+pub fn are_empty(before: &Spot<'_>, after: &Spot<'_>) -> bool
+    ensures { result ≡ are_empty (spot_seen before.now) (spot_seen after.now) }
+{
+    is_empty(before.method.args.as_slice()) && is_empty(after.method.args.as_slice())
+}
+
+/// Whether there are no arguments. It takes no memory.
+pub fn is_empty(args: &[Arg]) -> bool
+    ensures { result ≡ is_empty args.now }
+{
+    match args {
+        [] => true,
+        _ => false,
+    }
 }

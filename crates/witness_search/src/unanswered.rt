@@ -1,46 +1,43 @@
 //! The rows of methods without arguments: C3, a method that new lacks, C4, one whose id differs, and C8, one that is oneway in one
 //! version alone.
-ghost use Rattle.std.specs.Prelude.{◌≡◌, ◌+◌, List, ℕ, IfOk, None, false, if◌then◌else◌, is_none, not, option_map, true};
-ghost use Rattle.std.specs.Str.{encode_utf8_all};
+ghost use Rattle.std.specs.Prelude.{◌≡◌, ◌+◌, IfOk, None, false, if◌then◌else◌, is_none, not, option_map, true};
 ghost use Rattle.aidl_schema.specs.Find.{methods_at, position_of_code};
 ghost use Rattle.aidl_values.specs.Data.{none};
 ghost use Rattle.compat_witness.specs.Candidates.{reply, request};
-ghost use Rattle.compat_witness.specs.Rows.{is_empty, row_C3};
+ghost use Rattle.compat_witness.specs.Rows.{ask_C3, ask_C4, ask_C8, row_C3};
 ghost use Rattle.witness_calls.specs.Seen.{call_seen};
 ghost use Rattle.witness_search.specs.Asked.{calls_seen};
-ghost use Rattle.witness_search.specs.steps.Asks.{are_empty, asked_C3, asked_C4, asked_C8};
 ghost use Rattle.witness_search.specs.steps.Seen.{spot_seen};
 
 use crate::candidates::{Calls, one_call};
 use crate::names::declared_like;
-use crate::spot::{Spot, spot_of};
-use aidl_base::{OutOfMemory, Row};
-use aidl_schema::Arg;
+use crate::pair::Pair;
+use crate::spot::{Spot, are_empty, is_empty, spot_of};
+use aidl_base::{OutOfMemory, Row, Text};
 use std::alloc::Global;
 use witness_calls::{Call, Version};
 
 /// C3: a request from the old version; None where the method has arguments or new has no method of its id.
 pub fn c3_calls(
     alloc: Global,
-    old: &Version<'_>,
-    new: &Version<'_>,
-    place: &str,
+    pair: &Pair<'_, '_>,
+    place: &Text,
 ) -> Result<Option<Calls>, OutOfMemory>
-    ensures { (p : List ℕ) → place.now ≡ encode_utf8_all p
-        → IfOk result (λ calls. option_map calls_seen calls ≡ row_C3 old.now new.now p) }
+    ensures { IfOk result (λ calls.
+        option_map calls_seen calls ≡ row_C3 pair.now.old pair.now.new place.now) }
 {
-    let Some(spot) = spot_of(old, place) else {
+    let Some(spot) = spot_of(&pair.old, place.as_str()) else {
         return Ok(None);
     };
-    match declared_like(alloc, old, spot.interface, new)? {
-        Some(number) => Ok(asked_c3(alloc, &spot, new, number)),
+    match declared_like(alloc, &pair.old, spot.interface, &pair.new)? {
+        Some(number) => Ok(asked_c3(alloc, &spot, &pair.new, number)),
         None => Ok(None),
     }
 }
 
 fn asked_c3(alloc: Global, spot: &Spot<'_>, new: &Version<'_>, interface: u32) -> Option<Calls>
     ensures { option_map calls_seen result
-        ≡ asked_C3 (spot_seen spot.now) (methods_at new.now interface) }
+        ≡ ask_C3 (spot_seen spot.now) (methods_at new.now interface) }
 {
     if is_empty(spot.method.args.as_slice()) && has_id(new, interface, spot.method.id) {
         Some(one_call(bare_request(alloc, spot)))
@@ -62,7 +59,7 @@ fn has_id(version: &Version<'_>, interface: u32, id: u32) -> bool
 
 /// C4: a request from the old version. It takes no memory.
 pub fn asked_c4(alloc: Global, before: &Spot<'_>, after: &Spot<'_>) -> Option<Calls>
-    ensures { option_map calls_seen result ≡ asked_C4 (spot_seen before.now) (spot_seen after.now) }
+    ensures { option_map calls_seen result ≡ ask_C4 (spot_seen before.now) (spot_seen after.now) }
 {
     if are_empty(before, after) {
         Some(one_call(bare_request(alloc, before)))
@@ -73,29 +70,12 @@ pub fn asked_c4(alloc: Global, before: &Spot<'_>, after: &Spot<'_>) -> Option<Ca
 
 /// C8: a reply to the two-way client. It takes no memory.
 pub fn asked_c8(before: &Spot<'_>, after: &Spot<'_>) -> Option<Calls>
-    ensures { option_map calls_seen result ≡ asked_C8 (spot_seen before.now) (spot_seen after.now) }
+    ensures { option_map calls_seen result ≡ ask_C8 (spot_seen before.now) (spot_seen after.now) }
 {
     if are_empty(before, after) {
         Some(one_call(two_way_reply(before, after)))
     } else {
         None
-    }
-}
-
-/// Whether the method has no arguments in both versions. It takes no memory.
-pub fn are_empty(before: &Spot<'_>, after: &Spot<'_>) -> bool
-    ensures { result ≡ are_empty (spot_seen before.now) (spot_seen after.now) }
-{
-    is_empty(before.method.args.as_slice()) && is_empty(after.method.args.as_slice())
-}
-
-/// Whether there are no arguments. It takes no memory.
-pub fn is_empty(args: &[Arg]) -> bool
-    ensures { result ≡ is_empty args.now }
-{
-    match args {
-        [] => true,
-        _ => false,
     }
 }
 

@@ -5,18 +5,11 @@ ghost use Rattle.witness_search.specs.ReachTables.{plain_unions};
 use crate::fields::union_fields;
 use crate::plain::are_plain;
 use aidl_base::OutOfMemory;
-use aidl_schema::{Decl, Schema};
+use aidl_schema::Decl;
 use std::alloc::Global;
 
-/// For each declaration whether all alternatives are plain, if it is a union.
-pub fn plain_unions(alloc: Global, schema: &Schema) -> Result<Vec<bool>, OutOfMemory>
-    ensures { IfOk result (λ plain. plain.items ≡ plain_unions schema.now.decls) }
-{
-    plain_of(alloc, schema.decls.as_slice())
-}
-
-// The same of these declarations.
-fn plain_of(alloc: Global, decls: &[Decl]) -> Result<Vec<bool>, OutOfMemory>
+/// For each of some declarations whether all alternatives are plain, if it is a union.
+pub fn plain_unions(alloc: Global, decls: &[Decl]) -> Result<Vec<bool>, OutOfMemory>
     ensures { IfOk result (λ plain. plain.items ≡ plain_unions decls.now) }
 {
     let mut plain = Vec::with_capacity(alloc, decls.len())?;

@@ -3,26 +3,23 @@ ghost use Rattle.std.specs.Prelude.{◌≡◌, ◌∷◌, [], IfOk, None, Some, 
 ghost use Rattle.aidl_schema.specs.Types.{form_of, is_type};
 ghost use Rattle.aidl_values.specs.Data.{item, none};
 ghost use Rattle.aidl_values.specs.View.{view};
-ghost use Rattle.wire_model.specs.Calls.{is_out, returned};
+ghost use Rattle.wire_model.specs.Calls.{returned};
 ghost use Rattle.wire_model.specs.Receiver.{zero_in};
 ghost use Rattle.compat_witness.specs.Candidates.{reply, request};
 ghost use Rattle.compat_witness.specs.Reaching.{is_parcelable};
-ghost use Rattle.compat_witness.specs.Rows.{ask_C7, is_sent_back, sent_in_out};
+ghost use Rattle.compat_witness.specs.Rows.{ask_C7, asked_C7, is_met_C7, is_sent_back, of_only, sent_in_out};
 ghost use Rattle.witness_calls.specs.Seen.{call_seen};
 ghost use Rattle.witness_search.specs.Asked.{calls_seen};
-ghost use Rattle.witness_search.specs.steps.Asks.{asked_C7, is_met_C7, of_only};
 ghost use Rattle.witness_search.specs.steps.Seen.{spot_seen};
 
-use crate::candidates::{Calls, one_call};
-use crate::counts::{both_only, one_value};
+use crate::candidates::{Calls, one_call, one_value};
 use crate::plain::{is_in_way, is_named, low_value};
-use crate::spot::Spot;
+use crate::spot::{Spot, both_only};
 use aidl_base::OutOfMemory;
-use aidl_schema::{AidlType, Arg, Base, Direction, Form, Schema, Shape, form_in};
+use aidl_schema::{AidlType, Arg, Base, Form, Schema, Shape, form_in, same_type};
 use aidl_values::{Answer, Value, default_of};
-use compat_judge::same_type;
 use std::alloc::Global;
-use witness_calls::Call;
+use witness_calls::{Call, is_out};
 
 /// C7: where one direction is `in`, a reply to that client with the default of the out; else a request from the version that has
 /// `inout`, with the default, or with an array of one z0.
@@ -118,12 +115,6 @@ fn law_types(old: &Schema, new: &Schema, before: &Spot<'_>, after: &Spot<'_>, ar
     ensures before { is_type old.now.decls args.entry.0.now.ty ≡ true }
     ensures after { is_type new.now.decls args.entry.1.now.ty ≡ true }
 {}
-
-fn is_out(way: Direction) -> bool
-    ensures { result ≡ is_out way }
-{
-    matches!(way, Direction::Out)
-}
 
 // A reply with the default of an out.
 fn default_reply(

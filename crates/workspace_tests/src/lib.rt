@@ -9,6 +9,8 @@ mod cycles;
 #[cfg(test)]
 mod folders;
 #[cfg(test)]
+mod forms;
+#[cfg(test)]
 mod outside;
 #[cfg(test)]
 mod records;

@@ -44,7 +44,7 @@ const FOUR: Wanted = Wanted {
     bytes: b"\x01\0\0\0\x10\0\0\0\x04\0\0\0\x01\0\0\0x\0\0\0",
 };
 
-fn one(base: Base) -> AidlType
+pub fn one(base: Base) -> AidlType
     ensures { result ≡ record {
       base = base;
       shape = Shape.One;
@@ -96,7 +96,7 @@ fn decls(alloc: Global) -> Result<Row<Decl>, OutOfMemory>
     Ok(decls)
 }
 
-fn schema(alloc: Global) -> Result<Schema, OutOfMemory> {
+pub fn schema(alloc: Global) -> Result<Schema, OutOfMemory> {
     let decls = decls(alloc)?;
     Ok(Schema { decls })
 }

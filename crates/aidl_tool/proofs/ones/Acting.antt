@@ -8,12 +8,13 @@ use Rattle.aidl_tool.specs.Acting.{BySchema, DumpActs, FreezeActs, RehashActs}
 use Rattle.aidl_tool.specs.OneMeaning.{IsOneAct}
 use Rattle.api_freeze.specs.Rehash.{rehash_at, rehash_writes}
 use Rattle.api_versions.specs.Versions.{versions_at}
-use Rattle.api_versions.specs.declared.fault.FreezeFault.{FreezeFault}
-use Rattle.api_versions.specs.declared.fault.FreezeFault.TheVariants as fault
+use Rattle.api_freeze.specs.declared.fault.RehashFault.{RehashFault}
+use Rattle.api_freeze.specs.declared.fault.RehashFault.TheVariants as fault
 use Rattle.tool_frame.specs.Acts.{Acts, Only, Unwritten}
 use Rattle.tool_frame.specs.Answer.{Answer}
 use Rattle.tool_frame.specs.Trees.{tree_at}
 use Rattle.tree_output.proofs.lemmas.OneByTree.{by_tree}
+use Rattle.aidl_tool.proofs.ones.Unread.{one_unread}
 use Rattle.aidl_tool.proofs.ones.Freezing.{freezes_one}
 use Rattle.version_output.specs.Dumped.{Dumps}
 use Rattle.version_output.specs.Frozen.{Freezes}
@@ -41,18 +42,13 @@ by_schema next one root files v w =
 pub one_dump : (tree out : List ℕ) → IsOneAct (DumpActs tree out)
 one_dump tree out files = by_schema (Dumps out) (λ S v w a b h k. (h.0 ∙ sym k.0, h.1 ∙ sym k.1)) tree files
 
-one_unhashed : (e : FreezeFault) (a b : Answer) → IsUnhashed e a → IsUnhashed e b → a ≡ b
-one_unhashed (fault.BadVersions missing) a b h k = h ∙ sym k
-one_unhashed (fault.Torn version kept text) a b h k = h ∙ sym k
-one_unhashed (fault.Limit limit) a b h k = h ∙ sym k
-one_unhashed (fault.Unreadable version files cause) a b h k = absurd h
-one_unhashed (fault.Unchanged version) a b h k = absurd h
-one_unhashed (fault.Incompatible rows) a b h k = absurd h
-one_unhashed fault.ReadFault a b h k = absurd h
-one_unhashed fault.WriteFault a b h k = absurd h
+one_unhashed : (e : RehashFault) (a b : Answer) → IsUnhashed e a → IsUnhashed e b → a ≡ b
+one_unhashed (fault.Versions e) a b h k = one_unread e a b h k
+one_unhashed (fault.Torn torn) a b h k = h ∙ sym k
+one_unhashed (fault.Write e) a b h k = absurd h
 one_unhashed fault.OutOfMemory a b h k = absurd h
 
-rehashes_one : (writes : List Write) (numbers : Result (List ℕ) FreezeFault) → IsOneOf (Rehashes writes numbers)
+rehashes_one : (writes : List Write) (numbers : Result (List ℕ) RehashFault) → IsOneOf (Rehashes writes numbers)
 rehashes_one writes (Ok numbers) v w a b h k = (h.0 ∙ sym k.0, h.1 ∙ sym k.1)
 rehashes_one writes (Err e) v w a b h k = only_one (IsUnhashed e) (one_unhashed e) v w a b h k
 

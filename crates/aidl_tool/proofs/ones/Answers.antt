@@ -2,25 +2,22 @@
 use Rattle.std.proofs.Common.{◌≡◌, ℕ, List, [], Option, Some, None, Ok, Err, sym, ◌∙◌}
 use Rattle.std.specs.Prelude.{Result}
 use Rattle.aidl_base.specs.declared.limit.LimitName.TheVariants.{TextBytes}
-use Rattle.aidl_base.specs.declared.profile.Profile.{Profile}
 use Rattle.aidl_base.specs.declared.source_file.SourceFile.{SourceFile}
 use Rattle.aidl_outside.specs.Files.{Files}
 use Rattle.aidl_schema.specs.Broken.{broken}
 use Rattle.aidl_schema.specs.declared.schema.Decl.{Decl}
 use Rattle.aidl_tool.specs.Asking.{AskAnswers, AsksFile, AsksHash, AsksOver, AsksParcel, AsksVersion, Words}
-use Rattle.aidl_tool.specs.Explaining.{ExplainAnswers, ExplainsFile}
 use Rattle.aidl_tool.specs.InTree.{Checked, InTree}
-use Rattle.aidl_tool.specs.Meant.{CheckAnswers, DecodeAnswers, DecodesFile, EncodeAnswers, EncodesFile, JudgeAnswers, JudgesSecond, VerifyAnswers}
+use Rattle.aidl_tool.specs.Meant.{CheckAnswers, JudgeAnswers, JudgesSecond, VerifyAnswers}
+use Rattle.aidl_tool.specs.Tasks.{TaskAnswers, TaskOver, answer_for, bytes_for}
+use Rattle.aidl_tool.specs.declared.tasks.Task.{Task}
 use Rattle.aidl_tool.specs.Replaying.{ReplayAnswers, ReplaysFile, ReplaysLoaded, trace_within}
 use Rattle.api_versions.specs.Versions.{version_folder, versions_at}
-use Rattle.api_versions.specs.declared.fault.FreezeFault.{FreezeFault}
-use Rattle.api_versions.specs.declared.fault.FreezeFault.TheVariants as fault
+use Rattle.api_versions.specs.declared.fault.VersionsFault.{VersionsFault}
+use Rattle.api_versions.specs.declared.fault.VersionsFault.TheVariants as fault
 use Rattle.api_versions.specs.declared.version.Version.{Version}
 use Rattle.ask_output.specs.Asked.{ask_answer}
 use Rattle.ask_output.specs.Versions.{version_found, whole_found}
-use Rattle.parcel_output.specs.Decode.{decode_answer}
-use Rattle.parcel_output.specs.Encode.{encode_answer}
-use Rattle.parcel_output.specs.Explain.{explain_answer}
 use Rattle.parcel_output.specs.Refusals.{parcel_of}
 use Rattle.replay_output.specs.Replaying.{replay_answer}
 use Rattle.tool_frame.specs.Answer.{Answer, AsAnswer, Found, Then}
@@ -30,7 +27,8 @@ use Rattle.tree_output.specs.Checked.{IsCheckAnswer, accepted}
 use Rattle.tree_output.specs.Judged.{IsJudgeAnswer, IsSecondAnswer, judged}
 use Rattle.tree_output.proofs.lemmas.OneByTree.{by_files, by_found, by_over}
 use Rattle.version_lines.specs.Lines.{bad_versions}
-use Rattle.version_output.specs.Verified.{IsUnread, IsVerified}
+use Rattle.version_output.specs.Verified.{IsVerified}
+use Rattle.aidl_tool.proofs.ones.Unread.{one_unread}
 
 abbrev Same : Answer → Answer → Type 0
 Same a b = a ≡ b
@@ -65,18 +63,11 @@ in_tree_one found by (Some root) files =
     (λ x. checked_one (λ S answer. answer ≡ by x S) (λ S a b h k. h ∙ sym k) root sources) found)
     (tree_at files root)
 
--- `decode [--lenient] [--tree TREE] TYPES FILE`
-pub one_decode : (p : Profile) (tree : Option (List ℕ)) (types path : List ℕ) (files : Files) (a b : Answer)
-    → DecodeAnswers p tree types path files a → DecodeAnswers p tree types path files b → a ≡ b
-one_decode p tree types path files =
-    then_one (DecodesFile p tree types files) (λ file. in_tree_one (parcel_of file) (λ parcel S. decode_answer p S types parcel) tree files)
-    (there path (file_at TextBytes files path))
-
--- `encode [--tree TREE] TYPES FILE`
-pub one_encode : (tree : Option (List ℕ)) (types path : List ℕ) (files : Files) (a b : Answer)
-    → EncodeAnswers tree types path files a → EncodeAnswers tree types path files b → a ≡ b
-one_encode tree types path files =
-    then_one (EncodesFile tree types files) (λ file. in_tree_one file (λ text S. encode_answer S types text) tree files)
+-- `decode`, `encode` and `explain`
+pub one_task : (task : Task) (tree : Option (List ℕ)) (types path : List ℕ) (files : Files) (a b : Answer)
+    → TaskAnswers task tree types path files a → TaskAnswers task tree types path files b → a ≡ b
+one_task task tree types path files =
+    then_one (TaskOver task tree types files) (λ file. in_tree_one (bytes_for task file) (λ bytes S. answer_for task S types bytes) tree files)
     (there path (file_at TextBytes files path))
 
 -- `check TREE`
@@ -93,31 +84,13 @@ one_judge old new files =
     (tree_at files new))
     (tree_at files old)
 
-one_unread : (e : FreezeFault) (a b : Answer) → IsUnread e a → IsUnread e b → a ≡ b
-one_unread (fault.BadVersions missing) a b h k = h ∙ sym k
-one_unread (fault.Limit limit) a b h k = h ∙ sym k
-one_unread (fault.Torn version kept text) a b h k = absurd h
-one_unread (fault.Unreadable version files cause) a b h k = absurd h
-one_unread (fault.Unchanged version) a b h k = absurd h
-one_unread (fault.Incompatible rows) a b h k = absurd h
-one_unread fault.ReadFault a b h k = absurd h
-one_unread fault.WriteFault a b h k = absurd h
-one_unread fault.OutOfMemory a b h k = absurd h
-
-one_verified : (versions : Result (List Version) FreezeFault) (a b : Answer) → IsVerified versions a → IsVerified versions b → a ≡ b
+one_verified : (versions : Result (List Version) VersionsFault) (a b : Answer) → IsVerified versions a → IsVerified versions b → a ≡ b
 one_verified (Ok vs) a b h k = h ∙ sym k
 one_verified (Err e) a b h k = one_unread e a b h k
 
 -- `verify API`
 pub one_verify : (api : List ℕ) (files : Files) (a b : Answer) → VerifyAnswers api files a → VerifyAnswers api files b → a ≡ b
 one_verify api files = one_verified (versions_at files api)
-
--- `explain [--tree TREE] TYPES FILE`
-pub one_explain : (tree : Option (List ℕ)) (types path : List ℕ) (files : Files) (a b : Answer)
-    → ExplainAnswers tree types path files a → ExplainAnswers tree types path files b → a ≡ b
-one_explain tree types path files =
-    then_one (ExplainsFile tree types files) (λ file. in_tree_one (parcel_of file) (λ parcel S. explain_answer S types parcel) tree files)
-    (there path (file_at TextBytes files path))
 
 -- `replay SERVER INTERFACE TRACE`
 pub one_replay : (server interface trace : List ℕ) (files : Files) (a b : Answer)
@@ -145,17 +118,12 @@ module _ (w : Words) where
   one_asked_file file versions =
       then_one (AsksParcel w versions) (λ parcel. then_one (AsksVersion w parcel) (one_asked_version parcel) versions) (parcel_of file)
 
-  one_asked_over : (file : Found (List ℕ)) (versions : Result (List Version) FreezeFault) (a b : Answer)
+  one_asked_over : (file : Found (List ℕ)) (versions : Result (List Version) VersionsFault) (a b : Answer)
       → AsksOver w file versions a → AsksOver w file versions b → a ≡ b
   one_asked_over file (Ok versions) a b h k = one_asked_file file (Ok versions) a b h k
   one_asked_over file (Err (fault.BadVersions missing)) a b h k = one_asked_file file (Err (bad_versions missing)) a b h k
   one_asked_over file (Err (fault.Limit limit)) a b h k = h ∙ sym k
-  one_asked_over file (Err (fault.Torn version kept text)) a b h k = absurd h
-  one_asked_over file (Err (fault.Unreadable version files cause)) a b h k = absurd h
-  one_asked_over file (Err (fault.Unchanged version)) a b h k = absurd h
-  one_asked_over file (Err (fault.Incompatible rows)) a b h k = absurd h
   one_asked_over file (Err fault.ReadFault) a b h k = absurd h
-  one_asked_over file (Err fault.WriteFault) a b h k = absurd h
   one_asked_over file (Err fault.OutOfMemory) a b h k = absurd h
 
   -- `ask API N INTERFACE CODE FILE`

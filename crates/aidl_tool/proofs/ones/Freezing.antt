@@ -8,11 +8,13 @@ use Rattle.aidl_schema.specs.declared.schema.Decl.{Decl}
 use Rattle.aidl_schema.specs.Broken.{broken}
 use Rattle.api_dump.specs.Dump.{File, dump_text, seen}
 use Rattle.api_freeze.specs.Freeze.{Forbids, IsDump, MayFollow, PassesLimit, Ready, RefusedAs, hash_digits, latest, next, version_writes}
-use Rattle.api_versions.specs.declared.fault.FreezeFault.{FreezeFault}
-use Rattle.api_versions.specs.declared.fault.FreezeFault.TheVariants as fault
+use Rattle.api_freeze.specs.declared.fault.FreezeFault.{FreezeFault}
+use Rattle.api_freeze.specs.declared.fault.FreezeFault.TheVariants as fault
+use Rattle.api_versions.specs.declared.fault.VersionsFault.{VersionsFault}
+use Rattle.api_versions.specs.declared.whole.Torn.{Torn}
 use Rattle.api_versions.specs.declared.version.Version.{Version}
 use Rattle.api_versions.specs.Versions.{version_folder}
-use Rattle.api_versions.specs.Whole.{all_whole}
+use Rattle.api_versions.specs.Whole.{first_torn}
 use Rattle.compat_judge.specs.declared.judging.Broken.{Broken}
 use Rattle.compat_judge.specs.Seen.{seen as break_of}
 use Rattle.std.specs.Fmt.{decimal}
@@ -28,6 +30,7 @@ use Rattle.type_check.specs.declared.fault.CheckFault.{CheckFault}
 use Rattle.type_check.specs.declared.fault.CheckFault.TheVariants as check
 use Rattle.type_check.specs.Checked.{IsSchemaOf}
 use Rattle.type_check.specs.Refusals.{IsRefusal}
+use Rattle.aidl_tool.proofs.ones.Unread.{one_unread}
 use Rattle.version_output.specs.Frozen.{Freezes, FreezesNext, IsUnfrozen, RefusesNext, frozen}
 
 -- The dump of a schema is one list of files.
@@ -50,15 +53,14 @@ one_dumped S fs gs d e = same_files fs gs (as_trees fs gs (d ∙ sym e))
 -- What is printed of one refusal is one answer.
 
 one_unfrozen : (api : List ℕ) (e : FreezeFault) (a b : Answer) → IsUnfrozen api e a → IsUnfrozen api e b → a ≡ b
-one_unfrozen api (fault.BadVersions missing) a b h k = h ∙ sym k
-one_unfrozen api (fault.Torn version kept text) a b h k = h ∙ sym k
+one_unfrozen api (fault.Versions e) a b h k = one_unread e a b h k
+one_unfrozen api (fault.Torn torn) a b h k = h ∙ sym k
 one_unfrozen api (fault.Unreadable version files cause) a b h k =
     h.2 ∙ ap (after_text (line (codes "unreadable " ++ decimal version))) (one_fault_answer (version_folder api version) files h.0 k.0 h.1 k.1) ∙ sym k.2
 one_unfrozen api (fault.Unchanged version) a b h k = h ∙ sym k
 one_unfrozen api (fault.Incompatible rows) a b h k = h ∙ sym k
 one_unfrozen api (fault.Limit limit) a b h k = h ∙ sym k
-one_unfrozen api fault.ReadFault a b h k = absurd h
-one_unfrozen api fault.WriteFault a b h k = absurd h
+one_unfrozen api (fault.Write e) a b h k = absurd h
 one_unfrozen api fault.OutOfMemory a b h k = absurd h
 
 -- an answer of equal refusals
@@ -100,10 +102,9 @@ module _ (api : List ℕ) (v : Version) (S : List Decl) where
   forbidden (fault.Unchanged version) a (n, (old, is, same)) k = inr (old, is, inl (ap fault.Unchanged n, same))
   forbidden (fault.Incompatible rows) a (old, is, other, broken, some) k = inr (old, is, inr (rows, refl, other, broken, some))
   forbidden fault.OutOfMemory a h k = absurd k
-  forbidden (fault.BadVersions missing) a h k = absurd h
-  forbidden (fault.Torn version kept text) a h k = absurd h
-  forbidden fault.ReadFault a h k = absurd h
-  forbidden fault.WriteFault a h k = absurd h
+  forbidden (fault.Versions e) a h k = absurd h
+  forbidden (fault.Torn torn) a h k = absurd h
+  forbidden (fault.Write e) a h k = absurd h
 
   -- one schema has one reason not to be followed
   followed_one : (old : List Decl) (e f : FreezeFault) (a b : Answer) → IsFollowed old e → IsFollowed old f → IsUnfrozen api e a → IsUnfrozen api f b → a ≡ b
@@ -152,18 +153,17 @@ module _ (api : List ℕ) (vs : List Version) (S : List Decl) where
   IsLate e = MayFollow (latest vs) S × ((l : Limit) × (e ≡ fault.Limit l) × PassesLimit vs S l)
 
   abbrev IsStep : FreezeFault → Type 0
-  IsStep e = (all_whole vs ≡ Err e) ⊎ ((all_whole vs ≡ Ok tt) × (Forbids (latest vs) S e ⊎ IsLate e))
+  IsStep e = ((torn : Torn) × (first_torn vs ≡ Some torn) × (e ≡ fault.Torn torn)) ⊎ ((first_torn vs ≡ None) × (Forbids (latest vs) S e ⊎ IsLate e))
 
   step_of : (e : FreezeFault) (a : Answer) → RefusedAs vs S e → IsUnfrozen api e a → IsStep e
-  step_of (fault.Torn version kept text) a h k = inl h
+  step_of (fault.Torn torn) a h k = inl (torn, h, refl)
   step_of (fault.Unreadable version files cause) a h k = inr (h.0, inl h.1)
   step_of (fault.Unchanged version) a h k = inr (h.0, inl h.1)
   step_of (fault.Incompatible rows) a h k = inr (h.0, inl h.1)
   step_of (fault.Limit l) a (whole, inl h) k = inr (whole, inl h)
   step_of (fault.Limit l) a (whole, inr h) k = inr (whole, inr (h.0, (l, refl, h.1)))
-  step_of (fault.BadVersions missing) a h k = absurd h
-  step_of fault.ReadFault a h k = absurd h
-  step_of fault.WriteFault a h k = absurd h
+  step_of (fault.Versions e) a h k = absurd h
+  step_of (fault.Write e) a h k = absurd h
   step_of fault.OutOfMemory a h k = absurd k
 
   limit_is : (l m : Limit) → check.Limit l ≡ check.Limit m → l ≡ m
@@ -186,16 +186,16 @@ module _ (api : List ℕ) (vs : List Version) (S : List Decl) where
   late_one e f a b (inr p) (inl q) h k = absurd (never_forbids api (latest vs) S f b p.0 q k)
   late_one e f a b (inr p) (inr q) h k = same_unfrozen api e f a b (p.1.1 ∙ ap fault.Limit (one_limit p.1.0 q.1.0 p.1.2 q.1.2) ∙ sym q.1.1) h k
 
-  err_is : (e f : FreezeFault) → all_whole vs ≡ Err e → all_whole vs ≡ Err f → e ≡ f
-  err_is e f h k = cc
+  torn_is : (t u : Torn) → first_torn vs ≡ Some t → first_torn vs ≡ Some u → t ≡ u
+  torn_is t u h k = cc
 
-  err_or_ok : (e : FreezeFault) → all_whole vs ≡ Err e → all_whole vs ≡ Ok tt → ⊥
-  err_or_ok e h k = cc
+  torn_or_whole : (t : Torn) → first_torn vs ≡ Some t → first_torn vs ≡ None → ⊥
+  torn_or_whole t h k = cc
 
   step_one : (e f : FreezeFault) (a b : Answer) → IsStep e → IsStep f → IsUnfrozen api e a → IsUnfrozen api f b → a ≡ b
-  step_one e f a b (inl p) (inl q) h k = same_unfrozen api e f a b (err_is e f p q) h k
-  step_one e f a b (inl p) (inr q) h k = absurd (err_or_ok e p q.0)
-  step_one e f a b (inr p) (inl q) h k = absurd (err_or_ok f q p.0)
+  step_one e f a b (inl p) (inl q) h k = same_unfrozen api e f a b (p.2 ∙ ap fault.Torn (torn_is p.0 q.0 p.1 q.1) ∙ sym q.2) h k
+  step_one e f a b (inl p) (inr q) h k = absurd (torn_or_whole p.0 p.1 q.0)
+  step_one e f a b (inr p) (inl q) h k = absurd (torn_or_whole q.0 q.1 p.0)
   step_one e f a b (inr p) (inr q) h k = late_one e f a b p.1 q.1 h k
 
   refused_one : (a b : Answer) → RefusesNext api vs S a → RefusesNext api vs S b → a ≡ b
@@ -207,7 +207,7 @@ module _ (api : List ℕ) (vs : List Version) (S : List Decl) where
       never_both files S (check.Limit l) (no_memory l) ready.reads_back (subst (λ (xs : List SourceFile). IsRefusal xs (check.Limit l)) (one_dumped S gs files d ready.dump) r)
 
   never_stopped : (files : List SourceFile) (e : FreezeFault) (a : Answer) → Ready vs S files → IsStep e → IsUnfrozen api e a → ⊥
-  never_stopped files e a ready (inl p) h = err_or_ok e p ready.whole
+  never_stopped files e a ready (inl p) h = torn_or_whole p.0 p.1 ready.whole
   never_stopped files e a ready (inr (whole, inl p)) h = never_forbids api (latest vs) S e a ready.follows p h
   never_stopped files e a ready (inr (whole, inr p)) h = never_passes files p.1.0 ready p.1.2
 
@@ -219,10 +219,10 @@ module _ (api : List ℕ) (vs : List Version) (S : List Decl) where
       let files : fs ≡ gs = one_dumped S fs gs p.dump q.dump in
       (e ∙ ap (version_writes api (next vs)) files ∙ sym d, h ∙ ap (λ xs. frozen (next vs) (hash_digits xs (next vs))) files ∙ sym k)
 
-pub freezes_one : (api : List ℕ) (versions : Result (List Version) FreezeFault) (S : List Decl) (v w : List Write) (a b : Answer)
+pub freezes_one : (api : List ℕ) (versions : Result (List Version) VersionsFault) (S : List Decl) (v w : List Write) (a b : Answer)
     → Freezes api versions S v a → Freezes api versions S w b → (v ≡ w) × (a ≡ b)
 freezes_one api (Ok vs) S v w a b (inl p) (inl q) = frozen_one api vs S v w a b p q
 freezes_one api (Ok vs) S v w a b (inl p) (inr q) = absurd (never_refused api vs S v a b p q.1)
 freezes_one api (Ok vs) S v w a b (inr p) (inl q) = absurd (never_refused api vs S w b a q p.1)
 freezes_one api (Ok vs) S v w a b (inr p) (inr q) = (p.0 ∙ sym q.0, refused_one api vs S a b p.1 q.1)
-freezes_one api (Err e) S v w a b p q = (p.0 ∙ sym q.0, one_unfrozen api e a b p.1 q.1)
+freezes_one api (Err e) S v w a b p q = (p.0 ∙ sym q.0, one_unread e a b p.1 q.1)

@@ -11,8 +11,9 @@ use Rattle.aidl_tool.specs.Meant.{meaning, meant_by}
 use Rattle.aidl_tool.specs.Making.{AreMade, MakeTakes, new_root, old_root}
 use Rattle.aidl_tool.specs.OneMeaning.{IsOne, IsOneAct, MeansOne}
 use Rattle.aidl_tool.specs.Running.{RunTakes, RunsLoaded, TakesChecked, TakesOver, TakesThen, calls_within}
+use Rattle.aidl_tool.specs.declared.tasks.Task.TheVariants.{Decode, Encode, Explain}
 use Rattle.aidl_tool.proofs.ones.Acting.{one_dump, one_freeze, one_rehash}
-use Rattle.aidl_tool.proofs.ones.Answers.{one_ask, one_check, one_decode, one_encode, one_explain, one_judge, one_replay, one_verify}
+use Rattle.aidl_tool.proofs.ones.Answers.{one_ask, one_check, one_judge, one_replay, one_task, one_verify}
 use Rattle.aidl_tool.proofs.ones.Witnessing.{one_witness}
 use Rattle.make_output.specs.Making.{make_course}
 use Rattle.parcel_output.specs.Decode.{profile_of}
@@ -123,8 +124,8 @@ one_make n out c d (news, olds, new, old, h) (others, older, newer, oldest, k) =
     k
 
 one_meaning : (command : Command) → MeansOne (meaning command)
-one_meaning (decode lenient tree types path) = one_reading _ _ (one_decode (profile_of lenient) tree types path)
-one_meaning (encode tree types path) = one_reading _ _ (one_encode tree types path)
+one_meaning (decode lenient tree types path) = one_reading _ _ (one_task (Decode (profile_of lenient)) tree types path)
+one_meaning (encode tree types path) = one_reading _ _ (one_task Encode tree types path)
 one_meaning (check tree) = one_reading _ _ (one_check tree)
 one_meaning (judge old new) = one_reading _ _ (one_judge old new)
 one_meaning (verify api) = one_reading _ _ (one_verify api)
@@ -136,7 +137,7 @@ one_meaning (run trace lenient client server calls) =
 one_meaning (witness old new) = one_reading _ _ (one_witness old new)
 one_meaning (make count out) = one_doing _ _ _ (λ files v w h k. h ∙ sym k) (λ files. one_make count out)
 one_meaning (ask api version interface code file) = one_reading _ _ (one_ask (record { api = api; version = version; interface = interface; code = code }) file)
-one_meaning (explain tree types file) = one_reading _ _ (one_explain tree types file)
+one_meaning (explain tree types file) = one_reading _ _ (one_task Explain tree types file)
 one_meaning (replay server interface trace) = one_reading _ _ (one_replay server interface trace)
 
 pub means_one : (command : Option Command) → MeansOne (meant_by command)

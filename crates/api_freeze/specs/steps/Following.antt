@@ -9,8 +9,8 @@ use Rattle.compat_judge.specs.Seen.{seen as break_of}
 use Rattle.type_check.specs.declared.fault.CheckFault.TheVariants as check
 use Rattle.type_check.specs.Checked.{IsSchemaOf}
 use Rattle.type_check.specs.Refusals.{IsRefusal}
-use Rattle.api_versions.specs.declared.fault.FreezeFault.{FreezeFault}
-use Rattle.api_versions.specs.declared.fault.FreezeFault.TheVariants as fault
+use Rattle.api_freeze.specs.declared.fault.FreezeFault.{FreezeFault}
+use Rattle.api_freeze.specs.declared.fault.FreezeFault.TheVariants as fault
 use Rattle.api_versions.specs.declared.version.Version.{Version}
 use Rattle.api_freeze.specs.declared.following.Next.{Next}
 use Rattle.api_freeze.specs.Freeze.{Forbids, MayFollow, Ready, RefusedAs, latest, next}

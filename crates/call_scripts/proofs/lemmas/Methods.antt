@@ -6,8 +6,7 @@ use Rattle.std.proofs.lemmas.Option.{get_or_from_slice_get}
 use Rattle.std.proofs.lemmas.List.Quantifiers.{position-Some}
 use Rattle.aidl_schema.specs.declared.schema.Decl.{Decl}
 use Rattle.aidl_base.proofs.lemmas.Lists.{position_within}
-use Rattle.aidl_schema.specs.Find.{number_of_name}
-use Rattle.call_scripts.specs.Names.{interface_named, is_interface}
+use Rattle.aidl_schema.specs.Find.{interface_named, is_interface, number_of_name}
 
 there : {X : Type 0} (xs : List X) (i : ℕ) → i < length xs → (x : X) × (slice_get xs i ≡ Some x)
 there [] i lt = absurd (omega arith)

@@ -8,9 +8,9 @@ use Rattle.aidl_schema.specs.declared.schema.Field.{Field}
 use Rattle.aidl_schema.specs.declared.schema.Method.{Method}
 use Rattle.aidl_schema.specs.Broken.{Place, at_arguments_of, is_kept, is_refused_addition, member, places, same_constant, same_enumerator}
 use Rattle.compat_judge.specs.declared.sides.Pair.{Pair}
-use Rattle.compat_judge.specs.declared.tests.ArgumentTest.{ArgumentTest}
-use Rattle.compat_judge.specs.declared.tests.FieldTest.{FieldTest}
-use Rattle.compat_judge.specs.declared.tests.MethodTest.{MethodTest}
+use Rattle.compat_judge.specs.declared.differences.ArgumentTest.{ArgumentTest}
+use Rattle.compat_judge.specs.declared.differences.FieldTest.{FieldTest}
+use Rattle.compat_judge.specs.declared.differences.MethodTest.{MethodTest}
 use Rattle.compat_judge.specs.steps.Tests.{argument_breaks, field_breaks, keeps_constant, method_breaks}
 
 -- of methods, each beside the other

@@ -8,12 +8,12 @@ use Rattle.aidl_schema.specs.declared.schema.Arg.{Arg}
 use Rattle.aidl_schema.specs.Containment.{fields_of}
 use Rattle.aidl_schema.specs.Same.{base_code, same_text, same_bool, same}
 use Rattle.aidl_schema.specs.Broken.{kind_code, way_code, same_const, same_default, default_in, has_composite_default, same_marks, same_result, same_result_marks}
-use Rattle.compat_judge.specs.declared.tests.MethodTest.{MethodTest}
-use Rattle.compat_judge.specs.declared.tests.MethodTest.TheVariants as method
-use Rattle.compat_judge.specs.declared.tests.ArgumentTest.{ArgumentTest}
-use Rattle.compat_judge.specs.declared.tests.ArgumentTest.TheVariants as argument
-use Rattle.compat_judge.specs.declared.tests.FieldTest.{FieldTest}
-use Rattle.compat_judge.specs.declared.tests.FieldTest.TheVariants as field
+use Rattle.compat_judge.specs.declared.differences.MethodTest.{MethodTest}
+use Rattle.compat_judge.specs.declared.differences.MethodTest.TheVariants as method
+use Rattle.compat_judge.specs.declared.differences.ArgumentTest.{ArgumentTest}
+use Rattle.compat_judge.specs.declared.differences.ArgumentTest.TheVariants as argument
+use Rattle.compat_judge.specs.declared.differences.FieldTest.{FieldTest}
+use Rattle.compat_judge.specs.declared.differences.FieldTest.TheVariants as field
 
 abbrev pub method_breaks : MethodTest → List Decl → List Decl → Method → Method → Bool
 method_breaks method.Ids old new m w = not (m.id == w.id)

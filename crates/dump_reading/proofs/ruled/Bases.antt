@@ -15,8 +15,7 @@ use Rattle.declared_names.specs.Declarations.{Entry, declarations}
 use Rattle.name_resolution.specs.Resolution.{meaning_of_word, own_meaning, first_declared, candidates, or_else, meaning_in_file, resolved}
 use Rattle.type_shapes.specs.declared.shape.Shape.TheVariants as typed
 use Rattle.type_shapes.specs.Backing.{annots_of}
-use Rattle.const_items.specs.Items.{shape_in}
-use Rattle.type_shapes.specs.Types.{is_composite}
+use Rattle.type_shapes.specs.Types.{is_composite, shape_in}
 use Rattle.type_uses.specs.Annotations.{is_text}
 use Rattle.type_uses.specs.Bases.{is_scalar, is_fixed_entry, is_fixed_number, is_fixed_base}
 use Rattle.type_rules.specs.TypeRules.{is_constant_type}

@@ -19,8 +19,7 @@ use Rattle.declared_names.specs.Declarations.{Entry, declarations}
 use Rattle.aidl_names.specs.Rules.{breach}
 use Rattle.type_shapes.specs.declared.shape.Shape as types
 use Rattle.type_shapes.specs.Initializers.{is_unjudged, is_some_list}
-use Rattle.const_items.specs.Items.{shape_in}
-use Rattle.type_shapes.specs.Types.{is_composite}
+use Rattle.type_shapes.specs.Types.{is_composite, shape_in}
 use Rattle.type_uses.specs.Bases.{is_refused}
 use Rattle.type_uses.specs.TypeUses.{TypeUse, of_field, of_constant, of_method, of_argument, of_arg, of_members, is_field, name_place}
 use Rattle.type_rules.specs.FieldRules.{is_bad_initial, is_bad_field, bad_fields}

@@ -20,8 +20,7 @@ use Rattle.aidl_names.specs.Breaches.{in_order}
 use Rattle.aidl_names.specs.Rules.{breach}
 use Rattle.type_shapes.specs.Backing.{annots_of, is_backing, is_type}
 use Rattle.type_shapes.specs.declared.shape.Shape as types
-use Rattle.const_items.specs.Items.{shape_in}
-use Rattle.type_shapes.specs.Types.{is_enum_body}
+use Rattle.type_shapes.specs.Types.{is_enum_body, shape_in}
 use Rattle.type_uses.specs.Annotations.{stand_of_body}
 use Rattle.type_uses.specs.Bases.{is_fixed_entry}
 use Rattle.type_uses.specs.Parameters.{literal_of, is_backing_word}

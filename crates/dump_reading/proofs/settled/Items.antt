@@ -34,7 +34,7 @@ use Rattle.const_values.specs.declared.wanted.Wanted.TheVariants as wanted
 use Rattle.type_shapes.specs.Backing.{backing_of, backing_by, backing_of_param, backing_of_init, backing_of_expr, backing_of_token, is_backing, is_type, is_type_name, annots_of}
 use Rattle.const_items.specs.Dependence.{Target, of_enumerator, target, target_by, target_if, member_of}
 use Rattle.const_items.specs.Items as items
-use Rattle.const_items.specs.Items.{Item, written, of_expression, of_init, of_typed, of_initial, of_field, of_constant, of_enumerator as item_of, of_enumerators, of_members, of_body, of_entry, place_of, written_as, shape_in}
+use Rattle.const_items.specs.Items.{Item, written, of_expression, of_init, of_typed, of_initial, of_field, of_constant, of_enumerator as item_of, of_enumerators, of_members, of_body, of_entry, place_of, written_as}
 use Rattle.type_shapes.specs.Types.{wanted_of}
 use Rattle.aidl_schema.specs.declared.schema.Decl.{Decl}
 use Rattle.aidl_schema.specs.declared.schema.Enumerator.{Enumerator}

@@ -24,8 +24,8 @@ use Rattle.type_shapes.specs.declared.shape.Shape as types
 use Rattle.type_shapes.specs.declared.shape.Shape.TheVariants as typed
 use Rattle.type_shapes.specs.Backing.{backing_of}
 use Rattle.type_shapes.specs.Initializers.{is_unjudged, is_some_list}
-use Rattle.const_items.specs.Items.{Item, of_expression, of_typed, of_initial, of_field, of_constant, of_members, of_body, of_entry, shape_in}
-use Rattle.type_shapes.specs.Types.{wanted_of, wanted_one, is_composite}
+use Rattle.const_items.specs.Items.{Item, of_expression, of_typed, of_initial, of_field, of_constant, of_members, of_body, of_entry}
+use Rattle.type_shapes.specs.Types.{wanted_of, wanted_one, is_composite, shape_in}
 use Rattle.aidl_schema.specs.declared.schema.Decl.{Decl}
 use Rattle.aidl_schema.specs.declared.schema.Field.{Field}
 use Rattle.aidl_schema.specs.declared.schema.Constant.{Constant}

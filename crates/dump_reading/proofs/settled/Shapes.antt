@@ -21,8 +21,7 @@ use Rattle.declared_names.specs.Declarations.{Entry, declarations}
 use Rattle.name_resolution.specs.Resolution.{meaning_of_word, own_meaning, first_declared, candidates, or_else, meaning_in_file, resolved}
 use Rattle.type_shapes.specs.declared.shape.Shape as types
 use Rattle.type_shapes.specs.declared.shape.Shape.TheVariants as typed
-use Rattle.const_items.specs.Items.{shape_in}
-use Rattle.type_shapes.specs.Types.{Meaning, list_with, meaning_in, is_composite_body, is_composite_number, is_composite, is_list_element, list_of, plain, shaped_as, wanted_of, is_enum_body, is_enum}
+use Rattle.type_shapes.specs.Types.{Meaning, list_with, meaning_in, is_composite_body, is_composite_number, is_composite, is_list_element, list_of, plain, shaped_as, wanted_of, is_enum_body, is_enum, shape_in}
 use Rattle.aidl_schema.specs.declared.schema.Decl.{Decl}
 use Rattle.aidl_schema.specs.declared.schema.Kind.{Kind}
 use Rattle.aidl_schema.specs.declared.schema.Kind.TheVariants.{Interface, Parcelable, Union, Enum}

@@ -17,7 +17,8 @@ use Rattle.const_eval.specs.declared.outcome.Outcome.TheVariants.{Given}
 use Rattle.const_eval.specs.Outcomes.{HasOutcome}
 use Rattle.type_shapes.specs.declared.shape.Shape as types
 use Rattle.type_shapes.specs.Initializers.{is_unjudged}
-use Rattle.const_items.specs.Items.{Item, items, of_expression, of_init, of_initial, of_field, of_constant, of_enumerators, shape_in, place_of}
+use Rattle.type_shapes.specs.Types.{shape_in}
+use Rattle.const_items.specs.Items.{Item, items, of_expression, of_init, of_initial, of_field, of_constant, of_enumerators, place_of}
 use Rattle.tree_schema.specs.Checked.{AreOutcomes}
 use Rattle.tree_schema.specs.Values.{Outcomes, value_at, value_of, value_of_item, or_zero, whole, constant_value, enumerator_value, initial_value, initial_of}
 use Rattle.tree_schema.proofs.lemmas.walked.Placed.{Each}

@@ -14,6 +14,10 @@ AfterRoots next roots xs = (n : ℕ) → flag xs n ≡ true → Leads next (slic
 abbrev pub BeforeRoots : (ℕ → List ℕ) → List ℕ → List Bool → Type 0
 BeforeRoots next roots xs = (n : ℕ) → flag xs n ≡ true → Leads next n (slice_index roots n)
 
+-- There are roots from which paths lead to the nodes that are marked first, and to which paths lead from those marked second.
+abbrev pub HaveRoots : (ℕ → List ℕ) → List Bool → List Bool → Type 0
+HaveRoots next after before = (roots : List ℕ) × AfterRoots next roots after × BeforeRoots next roots before
+
 -- a path leads from m to each node that is marked
 abbrev pub AfterNode : (ℕ → List ℕ) → ℕ → List Bool → Type 0
 AfterNode next m xs = (n : ℕ) → flag xs n ≡ true → Leads next m n

@@ -1,4 +1,4 @@
-use Rattle.std.proofs.Common.{◌≡◌, ◌≤◌, to_z, of_z, length, zero-add, false, inl, inr, refl, Ok, Some, option_map, List, ◌++◌, ◌∷◌, [], map, sym, subst, ap, ◌∙◌, arith, rules}
+use Rattle.std.proofs.Common.{◌≡◌, ◌≤◌, to_z, of_z, drop, length, zero-add, false, inl, inr, refl, Ok, Some, option_map, List, ◌++◌, ◌∷◌, [], map, sym, subst, ap, ◌∙◌, arith, rules}
 use Rattle.std.specs.Prelude.{IfSome}
 use Rattle.std.specs.Int.{w64}
 use Rattle.std.proofs.lemmas.Grind.{common_steps}
@@ -87,11 +87,11 @@ records::read_fields-returns-in-Some-clause-gives t c =
     let ms = members_view c.args.members.now.entries in
     let row = c.in-Some.row in
     let given : c.args.given ≡ c.loop-i.i = omega arith in
-    let made : Some (map view row.value) ≡ defaults_within S c.args.base d =
-    ap (option_map (λ row. map view row.value)) (sym c.in-Some.is) ∙ c.in_ok-row.ensures.row ∙ ap (λ T. defaults_within T c.args.base d) c.loop-i.invariant.known in
-    let two = subst (λ o. IfSome o (λ ds. (ds ≡ map (initial_in S) (fields_in (form_of S c.args.base))) × (levels_in S (fields_in (form_of S c.args.base)) ≤ d))) (sym made) (fitting S c.args.base d) in
+    let made : Some (map view row.value) ≡ defaults_within S c.args.base c.args.given d =
+    ap (option_map (λ row. map view row.value)) (sym c.in-Some.is) ∙ c.in_ok-row.ensures.row ∙ ap (λ T. defaults_within T c.args.base c.args.given d) c.loop-i.invariant.known in
+    let two = subst (λ o. IfSome o (λ ds. (ds ≡ map (initial_in S) (fields_in (form_of S c.args.base))) × (levels_in S (drop c.args.given (fields_in (form_of S c.args.base))) ≤ d))) (sym made) (fitting S c.args.base c.args.given d) in
     let are = two.0 ∙ ap (map (initial_in S)) (sym c.requires.declared) in
-    let fits = subst (λ gs. levels_in S gs ≤ d) (sym c.requires.declared) two.1 in
+    let fits = subst (λ n. levels_in S (drop n fs) ≤ d) given (subst (λ gs. levels_in S (drop c.args.given gs) ≤ d) (sym c.requires.declared) two.1) in
     let missing = subst (λ n. AreMissing ms n fs) given c.requires.missing in
     shared S d (λ u j. part_from S d u j) ms fs c.loop-i.i c.loop-i.values.items row _ c.loop-i.invariant.many missing c.loop-i.invariant.read are fits
     ∙ ap (λ (vs : List Value). Ok (view (Short vs row))) (sym c.from_vec.ensures)

@@ -1,5 +1,5 @@
 -- The defaults of the fields that an object leaves out.
-use Rattle.std.specs.Prelude.{◌≡◌, ◌-◌, ◌^◌, ℕ, ◌≤◌, nat_le, List, map, min, Option, Some, None, slice_get, Ok, if◌then◌else◌}
+use Rattle.std.specs.Prelude.{◌≡◌, ◌-◌, ◌^◌, ℕ, ◌≤◌, nat_le, List, drop, map, min, Option, Some, None, slice_get, Ok, if◌then◌else◌}
 use Rattle.serde_json.specs.Data as json
 use Rattle.serde_json.specs.Find.{get_member}
 use Rattle.aidl_schema.specs.declared.schema.Base.{Base}
@@ -26,14 +26,14 @@ levels_of vs = min (depth_of (rec (items_of vs))) (2 ^ 64 - 1)
 abbrev pub AreDefaults : List Decl → ℕ → List Value → ℕ → Type 0
 AreDefaults S d vs levels = (map view vs ≡ defaults_in S d) × (levels ≡ levels_of (map view vs))
 
--- the values, if a record of them has at most so many levels
-abbrev pub within_levels : ℕ → List Data → Option (List Data)
-within_levels levels vs = if nat_le (depth_of (rec (items_of vs))) levels then Some vs else None
+-- the values, if a record of those from a position on has at most so many levels
+abbrev pub within_levels : ℕ → ℕ → List Data → Option (List Data)
+within_levels given levels vs = if nat_le (depth_of (rec (items_of (drop given vs)))) levels then Some vs else None
 
--- the defaults of what a base is, if they fit: only a declaration has some
-abbrev pub defaults_within : List Decl → Base → ℕ → Option (List Data)
-defaults_within S (base.Named d) levels = within_levels levels (defaults_in S d)
-defaults_within S b levels = None
+-- the defaults of what a base is, if those from a position on fit: only a declaration has some
+abbrev pub defaults_within : List Decl → Base → ℕ → ℕ → Option (List Data)
+defaults_within S (base.Named d) given levels = within_levels given levels (defaults_in S d)
+defaults_within S b given levels = None
 
 -- no field from this position on has a member
 abbrev pub AreMissing : json.Members → ℕ → List Field → Type 0

@@ -23,7 +23,7 @@ use Rattle.const_values.specs.declared.wanted.Wanted.{Wanted}
 use Rattle.type_shapes.specs.declared.shape.Shape.{Shape}
 use Rattle.type_shapes.specs.declared.shape.Shape.TheVariants as shape
 use Rattle.type_shapes.specs.Backing.{annots_of, backing_of}
-use Rattle.const_items.specs.Items.{shape_in}
+use Rattle.type_shapes.specs.Types.{shape_in}
 use Rattle.type_shapes.specs.Types as types
 use Rattle.type_uses.specs.declared.annotation.Annotation.TheVariants as row
 use Rattle.type_uses.specs.Annotations.{may_stand, stand_of_body, row_of_name}

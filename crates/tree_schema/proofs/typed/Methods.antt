@@ -26,7 +26,7 @@ use Rattle.const_values.specs.declared.wanted.Wanted.{Wanted}
 use Rattle.type_shapes.specs.declared.shape.Shape.{Shape}
 use Rattle.type_shapes.specs.declared.shape.Shape.TheVariants as shape
 use Rattle.type_shapes.specs.Backing.{backing_of}
-use Rattle.const_items.specs.Items.{shape_in}
+use Rattle.type_shapes.specs.Types.{shape_in}
 use Rattle.type_shapes.specs.Types as types
 use Rattle.type_uses.specs.Bases.{is_refused}
 use Rattle.type_uses.specs.Ids.{has_id, id_of}

@@ -16,9 +16,8 @@ use Rattle.declared_names.specs.TypeNames.{names_of_type}
 use Rattle.aidl_syntax.specs.Sources.{Source}
 use Rattle.type_shapes.specs.declared.shape.Shape.{Shape}
 use Rattle.type_shapes.specs.declared.shape.Shape.TheVariants as shape
-use Rattle.const_items.specs.Items.{shape_in}
 use Rattle.type_shapes.specs.Types as types
-use Rattle.type_shapes.specs.Types.{Meaning, is_list_element, shaped, shaped_as, list_with, list_of, plain}
+use Rattle.type_shapes.specs.Types.{Meaning, is_list_element, shaped, shaped_as, list_with, list_of, plain, shape_in}
 use Rattle.tree_schema.proofs.lemmas.walked.Lists.{first-passes}
 
 -- the declaration is there, and no interface

@@ -15,7 +15,7 @@ use Rattle.aidl_names.specs.Rules.{breach, is_left_out, types_in}
 use Rattle.declared_names.specs.TypeNames.{type_names}
 use Rattle.declared_names.specs.Numbered.{in_each, after_earlier}
 use Rattle.aidl_syntax.specs.Sources.{Source}
-use Rattle.const_items.specs.Items.{shape_in}
+use Rattle.type_shapes.specs.Types.{shape_in}
 use Rattle.type_uses.specs.declared.annotation.Annotation.{Annotation}
 use Rattle.type_uses.specs.declared.stand.Stand.{Stand}
 use Rattle.type_uses.specs.Annotations.{row_of_name, may_stand, takes, is_kept}

@@ -22,8 +22,8 @@ use Rattle.const_values.specs.declared.wanted.Wanted.{Wanted}
 use Rattle.type_shapes.specs.declared.shape.Shape.{Shape}
 use Rattle.type_shapes.specs.declared.shape.Shape.TheVariants as shape
 use Rattle.type_shapes.specs.Backing.{backing_of}
-use Rattle.const_items.specs.Items.{shape_in, of_entry, of_body, of_members, of_field, of_constant}
-use Rattle.type_shapes.specs.Types.{wanted_of_builtin, wanted_one}
+use Rattle.const_items.specs.Items.{of_entry, of_body, of_members, of_field, of_constant}
+use Rattle.type_shapes.specs.Types.{wanted_of_builtin, wanted_one, shape_in}
 use Rattle.type_rules.specs.TypeRules.{is_constant_type}
 use Rattle.type_rules.specs.MethodRules.{is_oneway_body}
 use Rattle.type_rules.specs.Unbroken.{AreUnbroken}

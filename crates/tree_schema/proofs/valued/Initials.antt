@@ -34,8 +34,8 @@ use Rattle.type_shapes.specs.declared.shape.Shape.{Shape}
 use Rattle.type_shapes.specs.declared.shape.Shape.TheVariants as shape
 use Rattle.type_shapes.specs.Backing.{backing_of}
 use Rattle.type_shapes.specs.Initializers.{is_unjudged, misfits}
-use Rattle.const_items.specs.Items.{Item, items, shape_in, of_entry, of_body, of_members, of_field, of_initial, of_init, of_expression}
-use Rattle.type_shapes.specs.Types.{wanted_of, is_enum}
+use Rattle.const_items.specs.Items.{Item, items, of_entry, of_body, of_members, of_field, of_initial, of_init, of_expression}
+use Rattle.type_shapes.specs.Types.{wanted_of, is_enum, shape_in}
 use Rattle.type_uses.specs.TypeUses as uses
 use Rattle.type_uses.specs.TypeUses.{TypeUse, of_arg, is_field, type_uses}
 use Rattle.type_rules.specs.FieldRules.{empty_union, bad_fields, is_union_body}

@@ -1,11 +1,13 @@
 -- The steps of what a request and a reply are projected to.
 use Rattle.std.specs.Prelude.{ℕ, ℤ, List, Option, option_map, Result, Ok}
+use Rattle.aidl_schema.specs.declared.schema.AidlType.{AidlType}
+use Rattle.aidl_schema.specs.declared.schema.Arg.{Arg}
 use Rattle.aidl_schema.specs.declared.schema.Decl.{Decl}
 use Rattle.aidl_schema.specs.Find.{methods_at}
 use Rattle.aidl_values.specs.Data.{Data, Items}
-use Rattle.compat_witness.specs.Sides.{projected_arguments}
+use Rattle.compat_witness.specs.Sides.{projected_arguments, projected_outs, projected_result}
 use Rattle.stub_dispatch.specs.Callees.{MethodOf}
-use Rattle.wire_model.specs.Calls.{AnswerData, returned, arguments, method_at}
+use Rattle.wire_model.specs.Calls.{AnswerData, returned, arguments, method_at, result_type}
 use Rattle.wire_model.specs.Outcome.{method_like}
 use Rattle.wire_model.specs.ReadOf.{◌>>=◌}
 use Rattle.wire_model.specs.Receiver.{Received, called, or_status}
@@ -26,3 +28,8 @@ callee_at B o = option_map (λ q. let of : MethodOf = record { decls = B; interf
 -- a result with outs; BAD_VALUE without outs
 abbrev pub returned_with : Option Data → Option Items → Result AnswerData ℤ
 returned_with r outs = or_status bad_value outs >>= λ vs. Ok (returned r vs)
+
+-- what a result and outs of these types are to the client's method
+abbrev pub sent_seen : List Decl → Option AidlType → List Arg → List Decl → ℕ → ℕ → Option Data → Items → Result AnswerData ℤ
+sent_seen B t ys A i m result outs =
+    or_status bad_value (projected_result B t A (result_type A i m) result) >>= λ r. returned_with r (projected_outs B ys A (arguments A i m) outs)

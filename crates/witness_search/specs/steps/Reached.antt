@@ -1,13 +1,13 @@
 -- Which methods reach a declaration, interface by interface, and the table of them. A is the client's declarations, B the server's, k the number of
 -- the declaration in A.
-use Rattle.std.specs.Prelude.{◌≡◌, ℕ, ◌+◌, ◌<◌, ◌==◌, Bool, false, if◌then◌else◌, List, [], ◌∷◌, ◌++◌, length, map, Option, Some, None}
-use Rattle.aidl_schema.specs.declared.schema.Arg.{Arg}
-use Rattle.aidl_schema.specs.declared.schema.Base.{Base}
-use Rattle.aidl_schema.specs.declared.schema.Base.TheVariants as base
+use Rattle.std.specs.Prelude.{◌≡◌, ℕ, ◌+◌, ◌<◌, Bool, true, false, not, if◌then◌else◌, List, [], ◌∷◌, ◌++◌, length, map, Option}
 use Rattle.aidl_schema.specs.declared.schema.Decl.{Decl}
 use Rattle.aidl_schema.specs.declared.schema.Method.{Method}
 use Rattle.aidl_schema.specs.Find.{methods_at}
-use Rattle.compat_witness.specs.Reaching.{methods_reaching, reaches}
+use Rattle.aidl_values.specs.Data.{Data}
+use Rattle.compat_witness.specs.Candidates.{Candidate}
+use Rattle.compat_witness.specs.Reaching.{asks, is_at, methods_reaching, reaches}
+use Rattle.compat_witness.specs.Rows.{is_empty}
 use Rattle.witness_search.specs.Asked.{method_seen}
 use Rattle.witness_search.specs.ReachTables.{row_at}
 use Rattle.witness_search.specs.declared.both.Both.{Both}
@@ -29,21 +29,6 @@ reached_from m test i (v ∷ vs) = (if test v then (i, m) ∷ [] else []) ++ rea
 abbrev pub reached_in : List Decl → ℕ → List Decl → ℕ → List (ℕ × ℕ)
 reached_in A k B i = reached_from 0 (λ v. reaches A k B i v) i (methods_at A i)
 
--- the number of a declared base
-abbrev pub number_of : Base → Option ℕ
-number_of (base.Named n) = Some n
-number_of _ = None
-
--- the declaration that a method's one argument is of
-abbrev pub number_taken : Option Arg → Option ℕ
-number_taken None = None
-number_taken (Some a) = number_of a.ty.base
-
--- the number is this one
-abbrev pub is_at : ℕ → Option ℕ → Bool
-is_at k None = false
-is_at k (Some n) = n == k
-
 -- one method, where it is of this number
 abbrev pub one_at : Reach → Option ℕ → ℕ → List Reach
 one_at r number k = if is_at k number then r ∷ [] else []
@@ -56,7 +41,11 @@ IsAdded r number old new = (k : ℕ) → k < length old → row_at new k ≡ row
 abbrev pub AreAdded : (ℕ → List (ℕ × ℕ)) → List (List Reach) → List (List Reach) → Type 0
 AreAdded more old new = (k : ℕ) → k < length old → map method_seen (row_at new k) ≡ map method_seen (row_at old k) ++ more k
 
--- of a declaration of both schemas the methods that reach it, in old and in new
-pub record AreReached (b : Both) : Type 0 where
-  pub forth : map method_seen b.forth.now ≡ methods_reaching b.old.now.decls b.k b.new.now.decls
-  pub back : map method_seen b.back.now ≡ methods_reaching b.new.now.decls b.l b.old.now.decls
+-- it is known whether a method of old reaches a declaration of both schemas
+abbrev pub IsReached : Both → Type 0
+IsReached b = b.reached ≡ not (is_empty (methods_reaching b.old.now.decls b.k b.new.now.decls))
+
+-- requests with these values of the methods that reach it, of old or of new
+abbrev pub asked_by : Both → Bool → List Data → List Candidate
+asked_by b false values = asks false (methods_reaching b.old.now.decls b.k b.new.now.decls) values
+asked_by b true values = asks true (methods_reaching b.new.now.decls b.l b.old.now.decls) values

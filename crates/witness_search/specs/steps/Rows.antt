@@ -1,12 +1,11 @@
 -- The rows of declarations and of fields, and those of fields cut at the look-ups, with names in UTF-8.
-use Rattle.std.specs.Prelude.{ℕ, not, ◌&&◌, List, ◌∷◌, [], Option, option_and_then, slice_get, false, take}
+use Rattle.std.specs.Prelude.{ℕ, List, Option, option_and_then}
 use Rattle.aidl_schema.specs.declared.schema.Decl.{Decl}
 use Rattle.aidl_schema.specs.declared.schema.Field.{Field}
 use Rattle.aidl_schema.specs.Find.{number_of_name}
 use Rattle.compat_witness.specs.Candidates.{Candidate}
 use Rattle.compat_witness.specs.Places.{at_last_dot}
-use Rattle.compat_witness.specs.Reaching.{methods_reaching, asks, are_plain}
-use Rattle.compat_witness.specs.Rows.{Row, candidates_if, is_empty, fields_in, alternatives_in, types_agree, names_agree, is_last, differ_at, low_then_high, low_either_way, low_alternative, row_C2, row_C16, row_C10, row_C11, row_C15}
+use Rattle.compat_witness.specs.Rows.{Row, FieldAsk, ask_C10, ask_C11, ask_C15, fields_in, alternatives_in, row_C2, row_C16, row_C10, row_C11, row_C15}
 use Rattle.witness_search.specs.declared.declarations.DeclarationRow.{DeclarationRow}
 use Rattle.witness_search.specs.declared.declarations.DeclarationRow.TheVariants as declaration
 use Rattle.witness_search.specs.declared.records.FieldRow.{FieldRow}
@@ -22,39 +21,21 @@ field_row field.C10 = row_C10
 field_row field.C11 = row_C11
 field_row field.C15 = row_C15
 
--- a declaration of both schemas, which has the numbers k and l, and a position of its fields in old
-abbrev pub FieldAsk : Type 0
-FieldAsk = List Decl → ℕ → List Decl → ℕ → ℕ → Option (List Candidate)
-
-abbrev pub asked_C10 : FieldAsk
-asked_C10 old k new l x = candidates_if
-    (not (is_empty (methods_reaching old k new)) && ((are_plain (fields_in old k) && are_plain (fields_in new l)) && types_agree old (fields_in old k) new (fields_in new l)))
-    (asks false (methods_reaching old k new) (low_then_high old x (fields_in old k)))
-
-abbrev pub asked_C11 : FieldAsk
-asked_C11 old k new l x = candidates_if
-    (not (is_empty (methods_reaching old k new))
-    && ((are_plain (fields_in old k) && are_plain (fields_in new l)) && (names_agree (fields_in old k) (fields_in new l)
-    && (is_last x (fields_in old k) && types_agree old (take x (fields_in old k)) new (fields_in new l)))))
-    (low_either_way old k new l x (fields_in old k) (fields_in new l))
-
-abbrev pub asked_C15 : FieldAsk
-asked_C15 old k new l x = candidates_if
-    (not (is_empty (methods_reaching old k new)) && ((are_plain (alternatives_in old k) && are_plain (alternatives_in new l))
-    && differ_at old new (slice_get (alternatives_in old k) x) (slice_get (alternatives_in new l) x)))
-    (asks false (methods_reaching old k new) (low_alternative x (alternatives_in old k) ∷ []))
-
--- what a row asks of a field
-abbrev pub asked : FieldRow → FieldAsk
-asked field.C10 = asked_C10
-asked field.C11 = asked_C11
-asked field.C15 = asked_C15
-
 -- the fields among which a row looks
 abbrev pub fields_at : FieldRow → List Decl → ℕ → List Field
 fields_at field.C10 = fields_in
 fields_at field.C11 = fields_in
 fields_at field.C15 = alternatives_in
+
+-- what a row asks of a field
+abbrev pub ask_of : FieldRow → FieldAsk
+ask_of field.C10 = ask_C10
+ask_of field.C11 = ask_C11
+ask_of field.C15 = ask_C15
+
+-- of a declaration of both schemas, which has the numbers k and l, and a position of its fields in old
+abbrev pub asked : FieldRow → List Decl → ℕ → List Decl → ℕ → ℕ → Option (List Candidate)
+asked row old k new l x = ask_of row old k new l (fields_at row old k) (fields_at row new l) x
 
 -- by a place in UTF-8
 abbrev pub field_row_named : FieldRow → Row

@@ -1,7 +1,8 @@
 use Rattle.std.proofs.Common.{refl}
-use Rattle.aidl_outside.specs.Asks.{AsksBelow, ◌also◌}
+use Rattle.aidl_tool.specs.Due.{AsksTreeThen}
 use Rattle.aidl_tool.specs.Meant.{JudgeAnswers}
 use Rattle.aidl_tool.proofs.schemas.JudgesOne.{answers, judges_told}
+use Rattle.tool_frame.specs.Asks.{AsksTree}
 use Rattle.tool_frame.specs.Seen.{Seen, seen_by}
 use Rattle.tool_frame.proofs.lemmas.Endings.{ended_read}
 use Rattle.tool_frame.specs.Exit.{number_of}
@@ -19,5 +20,5 @@ returns-clause-headline g c =
     seen_by g.S.Store.kept g.S.Store.fault_record g.K.Sink.told g.K.Sink.fault_record g.L.Link.log g.L.Link.is_faithful g.L.Link.fault_record c.args.store.now c.args.sink.now c.args.link.now in
     let now : Seen =
     seen_by g.S.Store.kept g.S.Store.fault_record g.K.Sink.told g.K.Sink.fault_record g.L.Link.log g.L.Link.is_faithful g.L.Link.fault_record c.answered-answered.new.store c.end.new.sink c.args.link.now in
-    judges_told (AsksBelow c.args.old.now also AsksBelow c.args.new.now) c.args.old.now c.args.new.now before now (number_of c.end.result) (λ A B.
-    ended_read _ (answers (AsksBelow c.args.old.now also AsksBelow c.args.new.now) c.args.old.now c.args.new.now before now (number_of c.end.result) A B) before now answered.unchanged refl refl refl (number_of c.end.result) _ answered.cause answered.failed (answered.exact A B) c.end.ensures)
+    judges_told (AsksTreeThen c.args.old.now (AsksTree c.args.new.now)) c.args.old.now c.args.new.now before now (number_of c.end.result) (λ A B.
+    ended_read _ (answers (AsksTreeThen c.args.old.now (AsksTree c.args.new.now)) c.args.old.now c.args.new.now before now (number_of c.end.result) A B) before now answered.unchanged refl refl refl (number_of c.end.result) _ answered.cause answered.failed (answered.exact A B) c.end.ensures)

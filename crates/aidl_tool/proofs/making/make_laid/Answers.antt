@@ -5,9 +5,8 @@ use Rattle.aidl_outside.specs.Causes.{StoreCause}
 use Rattle.aidl_outside.specs.Writes.{Write}
 use Rattle.aidl_tool.specs.Making.{MakeTakes, make_writes}
 use Rattle.aidl_tool.specs.steps.Laying.{TakesLaid, laid_writes}
-use Rattle.aidl_tool.specs.steps.Left.{LeftBy}
 use Rattle.aidl_tool.proofs.Laying.{ended_failed, ended_lost, ended_made, same_writes, takes_made}
-use Rattle.api_versions.specs.Writes.{Wrote}
+use Rattle.api_versions.specs.Writes.{Left, Wrote}
 use Rattle.tool_frame.specs.Exit.{number_of}
 use Rattle.tool_frame.specs.Seen.{Seen, seen_by}
 use Rattle.aidl_tool.proofs.making.make_laid.Goals as goal
@@ -28,8 +27,8 @@ returns-in-Err-Failed g c = λ n out is.
     let now : Seen =
     seen_by g.S.Store.kept g.S.Store.fault_record g.K.Sink.told g.K.Sink.fault_record g.L.Link.log g.L.Link.is_faithful g.L.Link.fault_record c.write_laid.new.store c.args.sink.now c.args.link.now in
     ended_failed (make_writes n out) (MakeTakes n out) before now
-    (subst (λ (ws : List Write). LeftBy {A = Unit {0}} ws before.kept now.kept now.store_faults (Err Failed)) (same_writes n out c.args.laid is)
-    (subst (λ (f : StoreFault). LeftBy {A = Unit {0}} (laid_writes c.args.laid) before.kept now.kept now.store_faults (Err f)) c.in-Err-Failed.field-0-is c.in-Err-Failed.ensures.wrote))
+    (subst (λ (ws : List Write). Left {A = Unit {0}} ws before.kept now.kept now.store_faults (Err Failed)) (same_writes n out c.args.laid is)
+    (subst (λ (f : StoreFault). Left {A = Unit {0}} (laid_writes c.args.laid) before.kept now.kept now.store_faults (Err f)) c.in-Err-Failed.field-0-is c.in-Err-Failed.ensures.wrote))
     (subst (λ (f : StoreFault). StoreCause {T = Unit {0}} before.store_faults now.store_faults (Err f)) c.in-Err-Failed.field-0-is c.in-Err-Failed.ensures.cause) refl
 
 pub returns : goal.returns
@@ -39,6 +38,6 @@ returns g c = λ n out is.
     let now : Seen =
     seen_by g.S.Store.kept g.S.Store.fault_record g.K.Sink.told g.K.Sink.fault_record g.L.Link.log g.L.Link.is_faithful g.L.Link.fault_record c.write_laid.new.store c.args.sink.now c.args.link.now in
     ended_lost (make_writes n out) (MakeTakes n out) before now
-    (subst (λ (ws : List Write). LeftBy {A = Unit {0}} ws before.kept now.kept now.store_faults (Err OutOfMemory)) (same_writes n out c.args.laid is)
-    (subst (λ (f : StoreFault). LeftBy {A = Unit {0}} (laid_writes c.args.laid) before.kept now.kept now.store_faults (Err f)) c.in-Err-OutOfMemory.field-0-is c.in-Err-OutOfMemory.ensures.wrote))
+    (subst (λ (ws : List Write). Left {A = Unit {0}} ws before.kept now.kept now.store_faults (Err OutOfMemory)) (same_writes n out c.args.laid is)
+    (subst (λ (f : StoreFault). Left {A = Unit {0}} (laid_writes c.args.laid) before.kept now.kept now.store_faults (Err f)) c.in-Err-OutOfMemory.field-0-is c.in-Err-OutOfMemory.ensures.wrote))
     (subst (λ (f : StoreFault). StoreCause {T = Unit {0}} before.store_faults now.store_faults (Err f)) c.in-Err-OutOfMemory.field-0-is c.in-Err-OutOfMemory.ensures.cause) refl

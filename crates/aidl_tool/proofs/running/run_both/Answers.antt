@@ -29,4 +29,4 @@ returns-clause-projected g c =
     c.run_trees.ensures.projected in
     λ one faithful verdict.
     let put = projects one faithful verdict in
-    (put.0, put.1, record { sent = c.law_call_none.ensures.sent one; answered = c.law_call_none.ensures.answered one })
+    (put.0, put.1, record { sent = c.law_call_none.ensures.sent one; answered = c.law_call_none.ensures.answered one; fits = c.law_script_fits.ensures })

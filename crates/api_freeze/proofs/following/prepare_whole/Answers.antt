@@ -4,7 +4,7 @@ use Rattle.api_freeze.proofs.Files.{prepared, refused_whole}
 use Rattle.api_freeze.proofs.following.prepare_whole.Goals as goal
 
 pub returns-in-Err-clause-answer : goal.returns-in-Err-clause-answer
-returns-in-Err-clause-answer c = refused_whole c.args.versions c.args.schema.now.decls c.in-Err.fault c.requires c.in-Err.ensures.early c.in-Err.ensures.answer
+returns-in-Err-clause-answer c = refused_whole c.args.versions c.args.schema.now.decls c.in-Err.fault c.requires c.in-Err.ensures.answer
 
 pub returns-in-Ok-clause-answer : goal.returns-in-Ok-clause-answer
 returns-in-Ok-clause-answer c =

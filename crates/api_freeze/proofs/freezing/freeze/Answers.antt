@@ -15,8 +15,8 @@ returns-in-Ok-clause-told g c =
 pub returns-in-Err-clause-told : goal.returns-in-Err-clause-told
 returns-in-Err-clause-told g c =
     let kept = g.S.Store.kept in
-    unread_at c.args.api.now (kept c.args.store.now) (λ files. versions_at files c.args.api.now) c.args.schema.now.decls (kept c.versions.new.store) (g.S.Store.fault_record c.args.store.now) (g.S.Store.fault_record c.versions.new.store) c.in-Err.fault
-    c.in-Err.ensures.unchanged c.in-Err.ensures.cause c.in-Err.ensures.told
+    unread_at c.args.api.now (kept c.args.store.now) (λ files. versions_at files c.args.api.now) c.args.schema.now.decls (kept c.versions.new.store) (g.S.Store.fault_record c.versions.new.store) c.in-Err.fault
+    c.in-Err.ensures.unchanged c.in-Err.ensures.told
 
 pub returns-in-Ok-clause-chains : goal.returns-in-Ok-clause-chains
 returns-in-Ok-clause-chains g c =

@@ -1,5 +1,5 @@
-use Rattle.api_freeze.proofs.Failed.{late_asks}
+use Rattle.api_freeze.proofs.Failed.{write_cause}
 use Rattle.api_freeze.proofs.rehashing.rehash_whole.Goals as goal
 
-pub returns-in-Err-clause-failed : goal.returns-in-Err-clause-failed
-returns-in-Err-clause-failed g c = late_asks _ _ (g.S.Store.fault_record c.write_all.new.store) c.in-Err.fault c.in-Err.ensures.late c.in-Err.ensures.failed
+pub returns-in-Err-clause-cause : goal.returns-in-Err-clause-cause
+returns-in-Err-clause-cause g c = write_cause (Unit {0}) _ _ c.in-Err.fault c.in-Err.ensures.cause

@@ -1,6 +1,6 @@
 use Rattle.std.proofs.Common.{◌≤◌, length, sym, subst, arith}
 use Rattle.aidl_schema.specs.Same.{same_text}
-use Rattle.json_writing.specs.Named.{bytes_of}
+use Rattle.aidl_schema.specs.Names.{bytes_of}
 use Rattle.aidl_base.proofs.lemmas.Lists.{position_within}
 use Rattle.aidl_schema.proofs.lemmas.Counts.{few_methods}
 use Rattle.call_scripts.proofs.names.method_named.Goals as goal

@@ -1,8 +1,8 @@
 use Rattle.std.proofs.Common.{◌≡◌, Some, sym, ◌∙◌}
-use Rattle.aidl_schema.specs.Find.{methods_at}
+use Rattle.aidl_schema.specs.Find.{interface_named, methods_at}
 use Rattle.aidl_schema.specs.Same.{same_text}
-use Rattle.json_writing.specs.Named.{bytes_of}
-use Rattle.call_scripts.specs.Names.{interface_named, method_named}
+use Rattle.aidl_schema.specs.Names.{bytes_of}
+use Rattle.call_scripts.specs.Names.{method_named}
 use Rattle.aidl_base.proofs.lemmas.Lists.{position_within}
 use Rattle.call_scripts.proofs.SameNames.{is_server, is_target, target_within}
 use Rattle.call_scripts.proofs.names.named_by.Goals as goal

@@ -1,12 +1,11 @@
 use Rattle.std.proofs.Common.{slice_get, sym, ap, ◌∙◌}
-use Rattle.std.specs.Str.{encode_utf8_all}
 use Rattle.compat_judge.proofs.Found.{found_decl, found_none}
 use Rattle.compat_judge.proofs.lookup.find_decl.Goals as goal
 
 pub returns-in-Some : goal.returns-in-Some
 returns-in-Some c =
     c.at_place.ensures ∙ ap (λ ds. slice_get ds c.in-Some.n) c.as_slice.ensures
-    ∙ found_decl c.args.new.now.decls c.args.decl.now c.as_str.result.now (c.as_str.ensures.bytes ∙ ap encode_utf8_all c.requires) c.in-Some.n c.in-Some.ensures
+    ∙ found_decl c.args.new.now.decls c.args.name.now c.as_str.result.now c.as_str.ensures.bytes c.in-Some.n c.in-Some.ensures
 
 pub returns-in-None : goal.returns-in-None
-returns-in-None c = sym (found_none c.args.new.now.decls c.args.decl.now c.as_str.result.now (c.as_str.ensures.bytes ∙ ap encode_utf8_all c.requires) c.in-None.ensures)
+returns-in-None c = sym (found_none c.args.new.now.decls c.args.name.now c.as_str.result.now c.as_str.ensures.bytes c.in-None.ensures)

@@ -6,9 +6,9 @@ use Rattle.aidl_schema.specs.declared.schema.Method.{Method}
 use Rattle.aidl_schema.specs.Broken.{Place, at_arguments_of, member, of_rule, place_if, places, whole}
 use Rattle.aidl_schema.specs.Containment.{fields_of}
 use Rattle.aidl_schema.specs.Same.{same_bool}
-use Rattle.compat_judge.specs.declared.tests.MethodTest.TheVariants as method
-use Rattle.compat_judge.specs.declared.tests.ArgumentTest.TheVariants as argument
-use Rattle.compat_judge.specs.declared.tests.FieldTest.TheVariants as field
+use Rattle.compat_judge.specs.declared.differences.MethodTest.TheVariants as method
+use Rattle.compat_judge.specs.declared.differences.ArgumentTest.TheVariants as argument
+use Rattle.compat_judge.specs.declared.differences.FieldTest.TheVariants as field
 use Rattle.compat_judge.specs.steps.Steps.{both_of}
 use Rattle.compat_judge.specs.steps.Tests.{argument_breaks, field_breaks, method_breaks}
 use Rattle.compat_judge.proofs.Chains.{four_steps}

@@ -3,10 +3,10 @@ use Rattle.std.specs.Prelude.{OnOk}
 use Rattle.std.specs.List.{flat_map}
 use Rattle.aidl_schema.specs.declared.schema.Method.{Method}
 use Rattle.aidl_schema.specs.Broken.{Break, Place, at_arguments_of, member, of_rule, places}
-use Rattle.compat_judge.specs.declared.tests.MethodTest.{MethodTest}
-use Rattle.compat_judge.specs.declared.tests.MethodTest.TheVariants as method
-use Rattle.compat_judge.specs.declared.tests.ArgumentTest.{ArgumentTest}
-use Rattle.compat_judge.specs.declared.tests.ArgumentTest.TheVariants as argument
+use Rattle.compat_judge.specs.declared.differences.MethodTest.{MethodTest}
+use Rattle.compat_judge.specs.declared.differences.MethodTest.TheVariants as method
+use Rattle.compat_judge.specs.declared.differences.ArgumentTest.{ArgumentTest}
+use Rattle.compat_judge.specs.declared.differences.ArgumentTest.TheVariants as argument
 use Rattle.compat_judge.specs.steps.Steps.{both_of}
 use Rattle.compat_judge.specs.steps.Tests.{argument_breaks, method_breaks}
 use Rattle.compat_judge.proofs.Chains.{six_steps}

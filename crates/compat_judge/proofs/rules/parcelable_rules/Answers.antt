@@ -3,8 +3,8 @@ use Rattle.std.specs.Prelude.{OnOk}
 use Rattle.std.specs.List.{zip}
 use Rattle.aidl_schema.specs.declared.schema.Field.{Field}
 use Rattle.aidl_schema.specs.Broken.{Break, Place, fields_with_default, is_refused_addition, member, of_rule, parcelable_fields, place_if, places, whole}
-use Rattle.compat_judge.specs.declared.tests.FieldTest.{FieldTest}
-use Rattle.compat_judge.specs.declared.tests.FieldTest.TheVariants as field
+use Rattle.compat_judge.specs.declared.differences.FieldTest.{FieldTest}
+use Rattle.compat_judge.specs.declared.differences.FieldTest.TheVariants as field
 use Rattle.compat_judge.specs.steps.Tests.{field_breaks}
 use Rattle.compat_judge.proofs.Chains.{five_steps}
 use Rattle.compat_judge.proofs.rules.parcelable_rules.Goals as goal

@@ -7,10 +7,11 @@ use Rattle.declared_names.specs.Entries.{entry_of}
 use Rattle.declared_names.proofs.Walks.{decl_grows, added, first_full, nested_full, inside_is}
 use Rattle.declared_names.proofs.walking.+decl.Goals as goal
 
-pub add_decl-returns-then-number-ge16384-clause-err : goal.add_decl-returns-then-number-ge16384-clause-err
-add_decl-returns-then-number-ge16384-clause-err t c =
+pub add_decl-returns-then-number-clause-err : goal.add_decl-returns-then-number-clause-err
+add_decl-returns-then-number-clause-err t c =
     let g = decl_grows c.args.file c.args.outer c.args.name.now (decl_of c.args.tree.now) (map entry_of c.args.found.now.items) in
     let l = length-map c.args.found.now.items entry_of in
+    let limit = c.number.ensures in
     omega (arith, g, l)
 
 -- The declaration is added, and then those inside its body.

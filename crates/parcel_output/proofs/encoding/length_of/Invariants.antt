@@ -1,4 +1,4 @@
-use Rattle.std.proofs.Common.{◌≡◌, ◌+◌, ◌-◌, ◌^◌, ◌≤◌, length, drop, map, min}
+use Rattle.std.proofs.Common.{◌≡◌, ◌+◌, ◌≤◌, length, drop, map, min}
 use Rattle.aidl_values.specs.View.{view}
 use Rattle.parcel_output.specs.Encode.{spell_values}
 use Rattle.parcel_output.specs.JsonFile.{AreTyped}
@@ -7,9 +7,9 @@ use Rattle.parcel_output.proofs.encoding.length_of.Given as goal
 -- with the values that are left, the length is that of all
 abbrev pub invariant-loop-i : goal.invariant-loop-i
 invariant-loop-i l = record {
-  fits : l.length ≤ 2 ^ 64 - 1;
+  fits : l.length ≤ l.fn.most;
   same : length l.fn._types ≡ length l.values;
   typed : AreTyped l.fn._schema.decls (drop l.i l.fn._types) (map view (drop l.i l.values));
-  sum : min (l.length + length (spell_values l.fn._schema.decls (drop l.i l.fn._types) (map view (drop l.i l.values)))) (2 ^ 64 - 1)
-      ≡ min (length (spell_values l.fn._schema.decls l.fn._types (map view l.values))) (2 ^ 64 - 1);
+  sum : min (l.length + length (spell_values l.fn._schema.decls (drop l.i l.fn._types) (map view (drop l.i l.values)))) l.fn.most
+      ≡ min (length (spell_values l.fn._schema.decls l.fn._types (map view l.values))) l.fn.most;
 }

@@ -20,15 +20,15 @@ length_of-returns-then-is_raw t c =
     let n = ap (λ k. k + padding k) c.len.ensures in
     omega (arith, c.saturating_add.ensures, c.padded.ensures, whole, n)
 
-pub items_length-length_of-requires : goal.items_length-length_of-requires
-items_length-length_of-requires t c =
+pub items_length-length_of-len-requires : goal.items_length-length_of-len-requires
+items_length-length_of-len-requires t c =
     let vs = c.args.items.now in
     let i = c.loop-item.item-index in
     let below = item_no_deeper vs i c.item-item.result c.loop-item-test.true c.item-item.is in
     (omega (arith, below, c.decreases), (element_suits c.args.plans.now c.args.element vs i c.item-item.result c.loop-item-test.true c.item-item.is c.loop-item.invariant.suits).0)
 
-pub fields_length-length_of-requires : goal.fields_length-length_of-requires
-fields_length-length_of-requires t c =
+pub fields_length-length_of-len-requires : goal.fields_length-length_of-len-requires
+fields_length-length_of-len-requires t c =
     let vs = c.args.values.now in
     let i = c.loop-i.i in
     let below = no_deeper vs i c.get.result.now c.get.ensures in
@@ -46,8 +46,8 @@ fields_length-loop-i-preserved t c =
     let next = ap length (field_spelled P gs vs i g v inv.same c.get.ensures) in
     let parts = length-append (plan_spell P (get_or gs i g).item (view v)) (plan_spell_entries P (drop (i + 1) gs) (views (drop (i + 1) vs))) in
     record {
-      fits = omega (arith, c.saturating_add-len.ensures);
+      fits = omega (arith, c.length_of-len.ensures, inv.fits);
       same = inv.same;
       suits = (field_suits P gs vs i g v inv.same c.get.ensures inv.suits).1;
-      sum = omega (arith, c.saturating_add-len.ensures, c.length_of.ensures, next, parts, inv.sum, inv.fits);
+      sum = omega (arith, c.length_of-len.ensures, next, parts, inv.sum, inv.fits);
     }

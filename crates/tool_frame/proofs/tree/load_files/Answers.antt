@@ -1,8 +1,7 @@
 use Rattle.std.proofs.Common.{ap, sym, ◌∙◌, [], ◌∷◌, ◌++◌, append_assoc, map, string_bytes}
 use Rattle.std.proofs.lemmas.Result.{err_from_is_err_and}
-use Rattle.aidl_outside.proofs.lemmas.Asked.{asks_next}
 use Rattle.aidl_outside.proofs.lemmas.Failing.{failed_as, fault_as}
-use Rattle.tool_frame.proofs.TreeFiles.{step_more, steps_done}
+use Rattle.tool_frame.proofs.TreeFiles.{asks_in_order, passed_more, step_more, steps_done}
 use Rattle.tool_frame.proofs.tree.load_files.Goals as goal
 
 pub loop-path-preserved : goal.loop-path-preserved
@@ -12,7 +11,12 @@ loop-path-preserved g c =
     record {
       all = step_more c.args.root.now (kept c.loop-path.store) (kept c.args.store.now) (string_bytes c.in-Some.path) _ _ _ c.loop-path.files c.load_next.new.files _ _
           c.loop-path.invariant.unchanged (ap (map string_bytes) c.in-Some.ensures.steps.0) c.in_default.is step.file c.loop-path.invariant.all;
-      left = (c.loop-path.invariant.left.0 ++ string_bytes c.in-Some.path ∷ [], c.loop-path.invariant.left.1 ∙ ap (λ ps. c.loop-path.invariant.left.0 ++ ps) (ap (map string_bytes) c.in-Some.ensures.steps.0) ∙ sym (append_assoc c.loop-path.invariant.left.0 (string_bytes c.in-Some.path ∷ []) _));
+      left = (
+        c.loop-path.invariant.left.0 ++ string_bytes c.in-Some.path ∷ [],
+        c.loop-path.invariant.left.1 ∙ ap (λ ps. c.loop-path.invariant.left.0 ++ ps) (ap (map string_bytes) c.in-Some.ensures.steps.0) ∙ sym (append_assoc c.loop-path.invariant.left.0 (string_bytes c.in-Some.path ∷ []) _),
+        passed_more c.args.root.now (kept c.loop-path.store) (kept c.args.store.now) c.loop-path.invariant.left.0 (string_bytes c.in-Some.path) c.loop-path.files c.load_next.new.files _ _
+            c.loop-path.invariant.unchanged c.in_default.is step.file c.loop-path.invariant.left.2,
+      );
       short = step.short c.loop-path.invariant.short;
       unchanged = step.unchanged ∙ c.loop-path.invariant.unchanged;
       cause = step.cause ∙ c.loop-path.invariant.cause;
@@ -26,5 +30,5 @@ returns-clause-tree g c =
 pub returns-in_err-limit-clause-failed : goal.returns-in_err-limit-clause-failed
 returns-in_err-limit-clause-failed g c =
     let q = err_from_is_err_and c.from_residual.result c.from_residual.ensures.1 in
-    rw (q.1, q.2) (fault_as c.in_err-limit.field-0.0 _ _ (failed_as (g.S.Store.fault_record c.load_next.new.store) _ _ (asks_next c.args.root.now (string_bytes c.in-Some.path) (map string_bytes c.args.paths.items)
-    c.loop-path.invariant.left.0 _ _ (g.S.Store.kept c.loop-path.store) c.loop-path.invariant.left.1 (ap (map string_bytes) c.in-Some.ensures.steps.0))) c.in_err-limit.ensures.failed)
+    rw (q.1, q.2) (fault_as c.in_err-limit.field-0.0 _ _ (failed_as (g.S.Store.fault_record c.load_next.new.store) _ _ (asks_in_order c.args.root.now (string_bytes c.in-Some.path) (map string_bytes c.args.paths.items)
+    c.loop-path.invariant.left.0 _ _ (g.S.Store.kept c.loop-path.store) (g.S.Store.kept c.args.store.now) _ c.loop-path.invariant.left.1 (ap (map string_bytes) c.in-Some.ensures.steps.0) c.loop-path.invariant.left.2)) c.in_err-limit.ensures.failed)

@@ -18,7 +18,8 @@ use Rattle.const_values.specs.declared.wanted.Wanted.{Wanted}
 use Rattle.type_shapes.specs.declared.shape.Shape.{Shape}
 use Rattle.type_shapes.specs.Backing.{backing_of}
 use Rattle.type_shapes.specs.Initializers.{is_unjudged}
-use Rattle.const_items.specs.Items.{Item, items, declared, order, put, shape_in, of_entry, of_body, of_members, of_field, of_initial, of_init, of_expression, of_enumerators, place_of}
+use Rattle.type_shapes.specs.Types.{shape_in}
+use Rattle.const_items.specs.Items.{Item, items, declared, order, put, of_entry, of_body, of_members, of_field, of_initial, of_init, of_expression, of_enumerators, place_of}
 use Rattle.type_uses.specs.Bases.{is_refused}
 use Rattle.type_uses.specs.TypeUses as uses
 use Rattle.type_uses.specs.TypeUses.{TypeUse, of_arg, of_member, is_field, name_place}

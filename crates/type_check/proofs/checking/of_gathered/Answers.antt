@@ -10,7 +10,7 @@ pub returns-then-len-gt0-clause-err : goal.returns-then-len-gt0-clause-err
 unfolding constants_broken
 returns-then-len-gt0-clause-err c =
     let some : 0 < length c.in_ok-faults.faults = let l = c.len.ensures in let p = c.if-len-gt0.true in omega arith in
-    let accepted = c.files-files.ensures.accepted in
+    let accepted = c.law_accepted.ensures.accepted in
     let outcomes = c.in_ok-settled.settled.outcomes.items in (
       accepted.0,
       of_constants accepted.1 outcomes c.in_ok-settled.ensures.outcomes

@@ -17,25 +17,21 @@ pub returns-then-len-gt0-clause-err : goal.returns-then-len-gt0-clause-err
 unfolding schema_by
 returns-then-len-gt0-clause-err c =
     let some : 0 < length c.in_ok-broken.broken = let l = c.len.ensures in let p = c.if-len-gt0.true in omega arith in
-    let accepted = c.files-files.ensures.accepted in (
+    let accepted = c.law_accepted.ensures.accepted in (
       accepted.0,
       of_types accepted.1 c.args.settled.now.outcomes.items c.requires.outcomes c.requires.constants
           (c.in_ok-broken.ensures ∙ ap (types_broken (map source_of c.args.names.now)) (c.as_slice.ensures ∙ c.in_ok-decls.ensures)) (not-empty c.in_ok-broken.broken some),
     )
 
-pub schema-requires-clause-exact : goal.schema-requires-clause-exact
+pub schema-requires : goal.schema-requires
 unfolding schema_by
-schema-requires-clause-exact c = c.in_ok-decls.ensures
-
-pub returns-clause-ok : goal.returns-clause-ok
-unfolding schema_by
-returns-clause-ok c =
+schema-requires c =
     let none : length c.in_ok-broken.broken ≤ 0 = let l = c.len.ensures in let p = c.if-len-gt0.false in omega arith in
     record {
-      names = c.files-files.ensures.accepted;
+      names = c.law_accepted.ensures.accepted;
       outcomes = c.args.settled.now.outcomes.items;
       judged = c.requires.outcomes;
       constants = c.requires.constants;
       types = ap (types_broken (map source_of c.args.names.now)) (sym (c.as_slice.ensures ∙ c.in_ok-decls.ensures)) ∙ sym c.in_ok-broken.ensures ∙ empty c.in_ok-broken.broken none;
-      exact = c.schema.ensures ∙ c.in_ok-decls.ensures;
+      exact = c.in_ok-decls.ensures;
     }

@@ -5,7 +5,7 @@ use Rattle.aidl_syntax.specs.Sources.{source_of}
 use Rattle.declared_names.specs.Declarations.{declarations}
 use Rattle.declared_names.specs.Entries.{entry_of}
 use Rattle.declared_names.proofs.lemmas.Trees.{seen_decl}
-use Rattle.const_items.specs.Items.{shape_in}
+use Rattle.type_shapes.specs.Types.{shape_in}
 use Rattle.type_uses.specs.TypeUses.{of_members}
 use Rattle.type_uses.specs.TypeUseViews.{seen_use}
 use Rattle.type_rules.specs.Breaches.{broken_by, broken_in}

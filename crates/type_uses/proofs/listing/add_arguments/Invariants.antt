@@ -1,7 +1,7 @@
 use Rattle.std.proofs.Common.{◌≡◌, ◌++◌, map, drop}
 use Rattle.aidl_syntax.specs.Trees.{arg_of}
 use Rattle.aidl_syntax.specs.Sources.{source_of}
-use Rattle.const_items.specs.Items.{shape_in}
+use Rattle.type_shapes.specs.Types.{shape_in}
 use Rattle.type_uses.specs.TypeUses.{of_arg}
 use Rattle.type_uses.specs.TypeUseViews.{seen_use}
 use Rattle.type_uses.proofs.listing.add_arguments.Given as goal

@@ -4,7 +4,7 @@ use Rattle.aidl_syntax.specs.declared.tree.BodyTree as body_tree
 use Rattle.aidl_syntax.specs.Trees.{Body, Decl, Members, body_of, enumerator_of, body_step, member_step, decl_step}
 use Rattle.aidl_syntax.specs.Members.{members}
 use Rattle.aidl_syntax.specs.Sources.{source_of}
-use Rattle.const_items.specs.Items.{shape_in}
+use Rattle.type_shapes.specs.Types.{shape_in}
 use Rattle.type_uses.specs.TypeUses.{of_members}
 use Rattle.type_uses.specs.TypeUseViews.{seen_use}
 use Rattle.type_uses.proofs.Enums.{no_uses}

@@ -5,4 +5,4 @@ use Rattle.witness_output.proofs.entries.entry_lines.Given as goal
 
 -- the text has the lines of the first rows
 abbrev pub invariant-loop-row : goal.invariant-loop-row
-invariant-loop-row l = AreEntries l.old l.new (map seen (take l.row-index l.rows)) (string_bytes l.text)
+invariant-loop-row l = AreEntries l.pair.old l.pair.new (map seen (take l.row-index l.rows)) (string_bytes l.text)

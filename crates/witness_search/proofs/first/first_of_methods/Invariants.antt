@@ -7,5 +7,5 @@ use Rattle.witness_search.proofs.first.first_of_methods.Given as goal
 
 -- what is first of those that are left is first of all
 abbrev pub invariant-loop-reach : goal.invariant-loop-reach
-invariant-loop-reach l = (r : Option Witness) → IsFirst l.old l.new (flat_map (requests_of l.back l.values) (drop l.reach-index l.methods)) r
-    → IsFirst l.old l.new (flat_map (requests_of l.back l.values) l.methods) r
+invariant-loop-reach l = (r : Option Witness) → IsFirst l.pair.old l.pair.new (flat_map (requests_of l.back l.values) (drop l.reach-index l.methods)) r
+    → IsFirst l.pair.old l.pair.new (flat_map (requests_of l.back l.values) l.methods) r

@@ -4,9 +4,14 @@ use Rattle.witness_search.proofs.Halves.{C7_none, C7_part, with_slash, without_s
 use Rattle.witness_search.proofs.methods.c7_calls.Goals as goal
 
 pub returns-in-Some : goal.returns-in-Some
-returns-in-Some c = λ p is.
-    let h = with_slash p c.args.place.now _ _ is c.in-Some.ensures in
-    subst (λ o. IfOk c.method_calls.result (λ calls. option_map calls_seen calls ≡ o)) (C7_part c.args.old.now c.args.new.now p h.0 h.1) (c.method_calls.ensures h.0.0 h.2)
+returns-in-Some c =
+    let p = c.args.place.now in
+    let is = c.as_str-text.ensures.bytes in
+    let h = with_slash p c.as_str-text.result.now _ _ is c.in-Some.ensures in
+    subst (λ o. IfOk c.method_calls.result (λ calls. option_map calls_seen calls ≡ o)) (C7_part c.args.pair.now.old c.args.pair.now.new p h.0 h.1) (c.method_calls.ensures h.0.0 h.2)
 
 pub returns-in-None : goal.returns-in-None
-returns-in-None c = λ p is. C7_none c.args.old.now c.args.new.now p (without_slash p c.args.place.now is c.in-None.ensures)
+returns-in-None c =
+    let p = c.args.place.now in
+    let is = c.as_str-text.ensures.bytes in
+    C7_none c.args.pair.now.old c.args.pair.now.new p (without_slash p c.as_str-text.result.now is c.in-None.ensures)

@@ -1,5 +1,5 @@
 use Rattle.std.proofs.Common.{◌<◌, ◌+◌, ◌++◌, length, drop, map, ap, ◌∙◌, arith}
-use Rattle.compat_witness.specs.Reaching.{reaches}
+use Rattle.compat_witness.specs.Reaching.{is_at, reaches}
 use Rattle.aidl_schema.specs.declared.schema.Method.{Method}
 use Rattle.witness_search.specs.Asked.{method_seen}
 use Rattle.witness_search.specs.ReachTables.{row_at}
@@ -19,5 +19,5 @@ loop-i-preserved c = λ k lt.
     let lies : i < length methods = omega arith in
     let within : k < length c.loop-i.rows = omega (arith, c.add.auto.rows, lt) in
     ap (λ xs. xs ++ reached_from (i + 1) test at (drop (i + 1) methods))
-    (put_one row (row_at c.add.new.rows k) _ c.number_reached-number.result k (test v) (c.in_ok-add.ensures k within) (c.number_reached-number.ensures k))
+    (put_one row (row_at c.add.new.rows k) _ c.declaration_reached-number.result k (test v) (c.in_ok-add.ensures k within) (ap (is_at k) c.declaration_reached-number.ensures))
     ∙ next_method test at i methods v (map method_seen row) (drop_at methods i v lies c.index-methods-i.is) ∙ c.loop-i.invariant k within

@@ -6,7 +6,7 @@ use Rattle.witness_search.proofs.records.field_groups.Goals as goal
 
 pub returns : goal.returns
 returns c =
-    let old = c.args.old.now in
-    let new = c.args.new.now in
-    subst (λ o. IfOk c.groups_named.result (λ groups. option_map groups_seen groups ≡ o))
+    let old = c.args.pair.now.old in
+    let new = c.args.pair.now.new in
+    subst (λ o. IfOk c.groups_named.result (λ groups. option_map (groups_seen old new) groups ≡ o))
     (ap (field_row_named c.args.row old new) c.as_str.ensures.bytes ∙ field_cut c.args.row old new c.args.place.now) c.groups_named.ensures

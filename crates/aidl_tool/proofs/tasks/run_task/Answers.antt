@@ -1,0 +1,11 @@
+use Rattle.std.proofs.Common.{refl}
+use Rattle.aidl_tool.specs.Tasks.{TaskAnswers}
+use Rattle.tool_words.specs.Seen.{tree_seen}
+use Rattle.tool_frame.proofs.lemmas.Endings.{ended_read}
+use Rattle.tool_frame.specs.Exit.{number_of}
+use Rattle.aidl_tool.proofs.tasks.run_task.Goals as goal
+
+pub returns : goal.returns
+returns g c =
+    let answered = c.answered-answered.ensures in
+    ended_read _ (TaskAnswers c.args.task (tree_seen c.args.asked.tree) c.args.asked.types.now c.args.asked.path.now) _ _ answered.unchanged refl refl refl (number_of c.end.result) _ answered.cause answered.failed answered.answer c.end.ensures

@@ -1,0 +1,9 @@
+-- Which bytes the step that explains takes.
+use Rattle.std.specs.Prelude.{ℕ, ◌≤◌, List, length}
+use Rattle.aidl_tool.specs.declared.tasks.Task.{Task}
+use Rattle.aidl_tool.specs.declared.tasks.Task.TheVariants.{Decode, Encode, Explain}
+
+abbrev pub IsFit : Task → List ℕ → Type 0
+IsFit (Decode p) bytes = Unit {0}
+IsFit Encode bytes = Unit {0}
+IsFit Explain bytes = length bytes ≤ 1048576

@@ -1,0 +1,2 @@
+-- Laws of this crate's definitions that crates above cite.
+pub mod ReadyOrRefused

@@ -1,0 +1,144 @@
+//! Two versions of a tree, and which methods reach each declaration and which unions have plain alternatives alone, in both.
+ghost use Rattle.std.specs.Prelude.{◌≡◌, ◌&&◌, IfOk, map, not};
+ghost use Rattle.compat_witness.specs.Candidates.{client_of, server_of};
+ghost use Rattle.compat_witness.specs.Reaching.{are_plain, methods_reaching};
+ghost use Rattle.compat_witness.specs.Rows.{alternatives_in, is_empty};
+ghost use Rattle.witness_search.specs.Asked.{method_seen};
+ghost use Rattle.witness_search.specs.ReachTables.{AreReachTables, plain_at, row_at, table_of};
+
+use crate::candidates::Reach;
+use crate::reaching::reach_table;
+use crate::unions::plain_unions;
+use aidl_base::{OutOfMemory, Row};
+use std::alloc::Global;
+use witness_calls::Version;
+
+/// Two versions of a tree. It keeps for each declaration the methods that reach it, of the old one those by which a client of old
+/// sends it and of the new one those of a client of new, and whether all alternatives are plain, if it is a union. They are found once
+/// for all broken rules (own).
+#[derive(Drop)]
+pub struct Pair<'o, 'n> {
+    pub old: Version<'o>,
+    pub new: Version<'n>,
+    tables: ReachTables,
+    ghost are: { AreReachTables old new tables },
+}
+
+impl<'o, 'n> Pair<'o, 'n> {
+    /// The pair of two versions. `OutOfMemory` is the one refusal.
+    pub fn new(
+        alloc: Global,
+        old: Version<'o>,
+        new: Version<'n>,
+    ) -> Result<Pair<'o, 'n>, OutOfMemory>
+        ensures old { IfOk result (λ pair. pair.old ≡ old.entry) }
+        ensures new { IfOk result (λ pair. pair.new ≡ new.entry) }
+    {
+        let tables = tables_of(alloc, &old, &new)?;
+        Ok(Pair { old, new, tables })
+    }
+
+    /// The methods of old, or of new where `back`, that reach the declaration of a number. It takes no memory.
+    #[tactic(auto, using(crate::proofs::Reaches::group_reached))]
+    pub fn reaching(&self, back: bool, number: u32) -> &[Reach]
+        ensures { map method_seen result.now
+            ≡ methods_reaching (client_of back self.now.old self.now.new) number
+            (server_of back self.now.old self.now.new) }
+    {
+        row_by_way(&self.tables, back, number)
+    }
+
+    /// Whether a method of old reaches the declaration of a number. It takes no memory.
+    pub fn is_reached(&self, number: u32) -> bool
+        ensures { result ≡ not (is_empty (methods_reaching self.now.old number self.now.new)) }
+    {
+        is_some(self.reaching(false, number))
+    }
+
+    /// Whether all alternatives of a union of old and of one of new are plain. It takes no memory.
+    #[tactic(auto, using(crate::proofs::PlainUnions::both_plain))]
+    pub fn are_plain(&self, k: u32, l: u32) -> bool
+        ensures { result ≡ (are_plain (alternatives_in self.now.old k)
+            && are_plain (alternatives_in self.now.new l)) }
+    {
+        are_both_plain(&self.tables, k, l)
+    }
+}
+
+/// For each declaration of two versions the methods that reach it, and whether all alternatives are plain, if it is a union.
+#[derive(Drop)]
+pub struct ReachTables {
+    pub forth: Vec<Row<Reach>>,
+    pub back: Vec<Row<Reach>>,
+    pub plain_olds: Vec<bool>,
+    pub plain_news: Vec<bool>,
+}
+
+// The tables of two versions.
+fn tables_of(
+    alloc: Global,
+    old: &Version<'_>,
+    new: &Version<'_>,
+) -> Result<ReachTables, OutOfMemory>
+    ensures { IfOk result (λ tables. AreReachTables old.now new.now tables) }
+{
+    let forth = reach_table(alloc, old, new)?;
+    let back = reach_table(alloc, new, old)?;
+    let plain_olds = plain_unions(alloc, old.schema().decls.as_slice())?;
+    let plain_news = plain_unions(alloc, new.schema().decls.as_slice())?;
+    Ok(ReachTables {
+        forth,
+        back,
+        plain_olds,
+        plain_news,
+    })
+}
+
+// What the tables have for a declaration of old, or of new where `back`.
+fn row_by_way(tables: &ReachTables, back: bool, number: u32) -> &[Reach]
+    ensures { result.now ≡ row_at (table_of back tables.now) number }
+{
+    if back {
+        row_of(tables.back.as_slice(), number)
+    } else {
+        row_of(tables.forth.as_slice(), number)
+    }
+}
+
+// Whether there is a method.
+fn is_some(methods: &[Reach]) -> bool
+    ensures { result ≡ not (is_empty (map method_seen methods.now)) }
+{
+    match methods {
+        [] => false,
+        _ => true,
+    }
+}
+
+// Whether the tables have a union of old and one of new as plain.
+fn are_both_plain(tables: &ReachTables, k: u32, l: u32) -> bool
+    ensures { result
+        ≡ (plain_at tables.now.plain_olds.items k && plain_at tables.now.plain_news.items l) }
+{
+    plain_at(tables.plain_olds.as_slice(), k) && plain_at(tables.plain_news.as_slice(), l)
+}
+
+// What a number has; there is nothing that isn't plain where there is none.
+fn plain_at(plain: &[bool], number: u32) -> bool
+    ensures { result ≡ plain_at plain.now number }
+{
+    match plain.get(number as usize) {
+        None => true,
+        Some(plain) => *plain,
+    }
+}
+
+// The row of a number.
+fn row_of(rows: &[Row<Reach>], number: u32) -> &[Reach]
+    ensures { result.now ≡ row_at rows.now number }
+{
+    match rows.get(number as usize) {
+        None => &[],
+        Some(row) => row.as_slice(),
+    }
+}
