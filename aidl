@@ -32,7 +32,7 @@ is_current() {
     for crate in $(lines_below | cut -d: -f1); do
         set -- "$@" "$top/crates/$crate"
     done
-    newer=$(find "$@" \( -name out -o -name must-fail -o -name wrong \) -prune -o -type f -newer "$program" -print -quit) && [ -z "$newer" ]
+    newer=$(find "$@" \( -name out -o -name must-fail -o -name must-fail-by-hand \) -prune -o -type f -newer "$program" -print -quit) && [ -z "$newer" ]
 }
 
 # Copies the crates of these lines into a folder, without the edits that the proofs have to refuse. `rt ci` takes the folder for the top of a
@@ -43,7 +43,7 @@ copy() {
         mkdir -p "$1/crates/$crate" || return
         for part in "$top/crates/$crate"/*; do
             case ${part##*/} in
-                out | must-fail | wrong) ;;
+                out | must-fail | must-fail-by-hand) ;;
                 *) cp -r "$part" "$1/crates/$crate" || return ;;
             esac
         done
@@ -81,15 +81,15 @@ build() {
     exit
 }
 
-# What the words may be.
+# The commands.
 commands() {
     cat <<'END'
     check TREE                                        the faults of a tree
-    judge OLD NEW                                     which rules of evolution NEW breaks
+    judge OLD NEW                                     the breaking changes from OLD to NEW
     witness OLD NEW                                   the same, each with a call that shows it
     freeze TREE API                                   writes the next version
     verify API                                        whether the versions are as they were frozen
-    rehash API                                        writes the hashes anew
+    rehash API                                        brings older hashes to recipe two
     dump TREE OUT                                     writes the canonical dump
     run [--trace] [--lenient] CLIENT SERVER CALLS     calls between two versions
     decode [--lenient] [--tree TREE] TYPES FILE       the values of a parcel
@@ -104,13 +104,13 @@ END
 # What an exit means, and its usual causes.
 explain_exit() {
     case $1 in
-        2) say "these words are no command; docs/PROGRAM.md says more of these:" && commands >&2 ;;
+        2) say "not a valid command line; docs/PROGRAM.md says more of these commands:" && commands >&2 ;;
         3) say "a call to the file system failed: a folder where a file is wanted, no right to read or write, a link or a fifo below a folder, a file name that isn't UTF-8, a full disk" ;;
         4) say "printing failed: a closed pipe or a full disk; what was printed is cut off" ;;
-        5) say "there was no memory left: a large input, or a bound on memory (ulimit -v, that of a job); what was printed may be cut off" ;;
+        5) say "out of memory: a large input, or a bound on memory (ulimit -v, that of a job); what was printed may be cut off" ;;
         6) say "a parcel couldn't be carried: the program's own link passes every parcel on, so that isn't to be expected" ;;
         7) say "a limit was passed, the one that is printed: split the tree or the file; docs/PROFILE.md has all limits" ;;
-        8) say "the system didn't hand out the words: they have to be UTF-8" ;;
+        8) say "the command line couldn't be read: it has to be UTF-8" ;;
     esac
 }
 
@@ -119,7 +119,7 @@ want_folder() {
     [ -d "$1" ] || say "there is no folder $1; it is read as an empty one, and that is no fault"
 }
 
-# The same of each folder that the words of a command name.
+# The same of each folder that the arguments of a command name.
 want_folders() {
     case $1 in
         check | dump | freeze | verify | rehash | replay | ask) want_folder "$2" ;;

@@ -4,11 +4,11 @@
   (`Places.antt` of `parcel_words`), `crate::name`, a clause behind the word clause, each word with an underscore and each type, which
   have to stand somewhere in the code, in crates.txt or in an example, and the name of a page.
 - A piece of a block fenced as `antt`, between empty lines, that stands nowhere in the code, blanks and comments of the code's own aside.
-- A page's count that isn't what docs/definitions.py prints, and what that script and docs/layers.py refuse.
-- A command or a case that a page shows and of which the program prints something else (docs/page_commands.py). But for the pages of OTHERS
+- A page's count that isn't what tools/check/definitions.py prints, and what that script and tools/check/layers.py refuse.
+- A command or a case that a page shows and of which the program prints something else (tools/check/page_commands.py). But for the pages of OTHERS
   they have no other commands.
 
-python3 docs/check_pages.py [PROGRAM]      PROGRAM is crates/aidl/out/aidl if none is named
+python3 tools/check/pages.py [PROGRAM]      PROGRAM is crates/aidl/out/aidl if none is named
 """
 
 import pathlib
@@ -18,10 +18,10 @@ import sys
 
 import page_commands
 
-TOP = pathlib.Path(__file__).resolve().parent.parent
-PAGES = [TOP / "README.md", *sorted(TOP.glob("docs/*.md")), *sorted(TOP.glob("crates/*/data/README*"))]
+TOP = pathlib.Path(__file__).resolve().parents[2]
+PAGES = [TOP / "README.md", TOP / "examples/README.md", *sorted(TOP.glob("docs/*.md")), *sorted(TOP.glob("crates/*/data/README*"))]
 OTHERS = ["PERFORMANCE.md", "PROVING.md"]
-FILE = r"[\w./-]+\.(?:rt|antt|py|md|rows|edit|txt|calls|hex)|(?:crates|docs|examples|proofs|specs|src)/[\w./-]+"
+FILE = r"[\w./-]+\.(?:rt|antt|py|md|rows|edit|txt|calls|hex)|(?:crates|docs|examples|proofs|specs|src|tools)/[\w./-]+"
 # named, and neither a file that git keeps nor of a crate here
 ELSEWHERE = {"crates/aidl/out/aidl", "state.hex", "decode_utf16", "json_lines", "full"}
 ELSEWHERE |= {"aidl_interface", "aidl_api", "versions_with_info", "cpp_header", "structured_parcelable", "new_api"}
@@ -99,16 +99,15 @@ def wrong_names():
 
 
 def run_script(name):
-    return subprocess.run([sys.executable, TOP / "docs" / name], capture_output=True, text=True, check=False)
+    return subprocess.run([sys.executable, TOP / "tools/check" / name], capture_output=True, text=True, check=False)
 
 
 def wrong_counts():
     counted = run_script("definitions.py")
     yield from counted.stderr.splitlines()
     yield from run_script("layers.py").stderr.splitlines()
-    for page, part in (("PROVED", counted.stdout), ("ARCHITECTURE", "".join(counted.stdout.splitlines()[-1:]))):
-        if part not in (TOP / f"docs/{page}.md").read_text():
-            yield f"docs/{page}.md: its count of lines isn't what docs/definitions.py prints"
+    if "".join(counted.stdout.splitlines()[-1:]) not in (TOP / "docs/ARCHITECTURE.md").read_text():
+        yield "docs/ARCHITECTURE.md: its count of lines isn't what tools/check/definitions.py prints"
 
 
 def wrong_commands(program):

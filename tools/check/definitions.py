@@ -3,15 +3,15 @@ files that crates/aidl_tool/src/top.rt cites in them, those that these cite, and
 speak of. A file counts whole, comments and imports included. It fails where a file in a folder `steps` is needed, and where the contract
 of a function that a crate exports cites one.
 
-python3 docs/definitions.py
-python3 docs/definitions.py --write      puts the table into docs/PROVED.md, and its last line into docs/ARCHITECTURE.md too
+python3 tools/check/definitions.py
+python3 tools/check/definitions.py --write      puts the last line into docs/ARCHITECTURE.md
 """
 
 import pathlib
 import re
 import sys
 
-CRATES = pathlib.Path(__file__).resolve().parent.parent / "crates"
+CRATES = pathlib.Path(__file__).resolve().parents[2] / "crates"
 USE = re.compile(r"^ *(?:ghost |unfoldable |pub )*use (?:Rattle\.)?([\w.:]*\w)(?: as (\w+)|(?:\.|::)\{(.*)\})?;?$", re.M)
 TYPE = re.compile(r"^(?:pub struct|pub enum|pub trait|impl.* Model for) (\w+).*?^\}", re.M | re.S)
 FUNCTION = re.compile(r"^( *)pub fn (\w+)[^;]*?\n((?: *(?:requires|ensures) .*\n|        .*\n)+) *\{", re.M)
@@ -74,11 +74,11 @@ def lines(files):
     return sum(file.read_text().count("\n") for file in files)
 
 
-def put(page, text):
-    """Puts a text into a page, in place of what stands there from its first line to its last one, of which only the words before a number count."""
-    path, lines = CRATES.parent / "docs" / page, text.splitlines()
-    ends = dict.fromkeys(re.escape(re.match(r"\D*", line)[0]) for line in (lines[0], lines[-1]))
-    path.write_text(re.sub(f"(?ms)^{'.*?^'.join(ends)}[^\n]*", lambda _: text, path.read_text(), count=1))
+def put(page, line):
+    """Puts a line into a page, in place of the one that has the same words before its first number."""
+    path = CRATES.parent / "docs" / page
+    front = re.escape(re.match(r"\D*", line)[0])
+    path.write_text(re.sub(f"(?m)^{front}.*", lambda _: line, path.read_text(), count=1))
 
 
 def main():
@@ -95,7 +95,6 @@ def main():
     text += ["", f"The clauses of `aidl` need {len(ours)} files in {sum(row[2] > 0 for row in table[:-1])} crates, {lines(ours):,} lines."]
     print(*text, sep="\n")
     if "--write" in sys.argv:
-        put("PROVED.md", "\n".join(text))
         put("ARCHITECTURE.md", text[-1])
     cite = list(steps_cited())
     print(*(f"{name} is exported and cites a model of steps" for name in cite), sep="\n", end="\n" * bool(cite), file=sys.stderr)

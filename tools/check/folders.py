@@ -1,7 +1,7 @@
 """Tries the program on folders with links, fifos and pipes: below a folder that its words name it writes through no link and reads no link or fifo,
 and what the words name themselves may be one. It prints each case that goes otherwise, and ends with 1 where there is one.
 
-python3 docs/check_folders.py [PROGRAM]      PROGRAM is crates/aidl/out/aidl if none is named
+python3 tools/check/folders.py [PROGRAM]      PROGRAM is crates/aidl/out/aidl if none is named
 """
 
 import os
@@ -11,7 +11,7 @@ import subprocess
 import sys
 import tempfile
 
-TOP = pathlib.Path(__file__).resolve().parent.parent
+TOP = pathlib.Path(__file__).resolve().parents[2]
 OLD, NEW = TOP / "examples/lights/1", TOP / "examples/lights/2"
 PROGRAM = pathlib.Path(sys.argv[1] if len(sys.argv) > 1 else TOP / "crates/aidl/out/aidl").resolve()
 

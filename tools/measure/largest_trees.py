@@ -1,6 +1,6 @@
 """Makes the trees of the table "The largest trees of a kind" of PERFORMANCE.md, whole and half, below the folder that is named:
 
-python3 docs/largest_trees.py /tmp/trees
+python3 tools/measure/largest_trees.py /tmp/trees
 valgrind --tool=callgrind crates/aidl/out/aidl check /tmp/trees/fields
 """
 

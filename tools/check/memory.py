@@ -6,7 +6,7 @@ A run where memory is refused ends as the whole run does, or with exit 5: what i
 files that the whole run writes the first ones are written, in their order, and no other is changed. Where every later allocation is refused
 too, it ends with exit 5.
 
-python3 docs/refused_memory.py [PROGRAM]      PROGRAM is crates/aidl/out/aidl if none is named
+python3 tools/check/memory.py [PROGRAM]      PROGRAM is crates/aidl/out/aidl if none is named
 
 It needs gcc, for a small library that stands between the program and the allocations of glibc.
 """
@@ -19,7 +19,7 @@ import subprocess
 import sys
 import tempfile
 
-TOP = pathlib.Path(__file__).resolve().parent.parent
+TOP = pathlib.Path(__file__).resolve().parents[2]
 
 # Refuses the allocation with the number REFUSED, counted from 0, and every later one where LATER is there; the file COUNTED gets their number.
 LIBRARY = r"""

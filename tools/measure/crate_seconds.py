@@ -2,9 +2,9 @@
 proof of a crate, its tests, its edits with the check that they begin with, and for a program its compilation by both compilers. What
 is kept isn't run, so isn't read.
 
-python3 docs/crate_seconds.py --anew
-python3 docs/crate_seconds.py type_rules
-python3 docs/crate_seconds.py --layers --anew
+python3 tools/measure/crate_seconds.py --anew
+python3 tools/measure/crate_seconds.py type_rules
+python3 tools/measure/crate_seconds.py --layers --anew
 
 With `--layers` first the table goes by the layers of crates.txt, lowest first, each with the number of its crates that were run.
 
@@ -18,6 +18,7 @@ import subprocess
 import sys
 import time
 
+sys.path.append(os.path.join(os.path.dirname(os.path.abspath(__file__)), "../check"))
 import layers
 
 TICKS = os.sysconf("SC_CLK_TCK")

@@ -12,7 +12,7 @@ import shutil
 import subprocess
 import tempfile
 
-TOP = pathlib.Path(__file__).resolve().parent.parent
+TOP = pathlib.Path(__file__).resolve().parents[2]
 MARK = "\x01"
 WAITS = 60  # seconds for the commands of a page
 

@@ -1,6 +1,6 @@
 """Makes an API of many versions with the same files, each with its `.hash` by recipe two, to measure commands on (docs/PERFORMANCE.md).
 
-python3 docs/many_versions.py TREE API COUNT      API is a folder that isn't there yet
+python3 tools/measure/many_versions.py TREE API COUNT      API is a folder that isn't there yet
 """
 
 import hashlib

@@ -1,7 +1,7 @@
 #!/usr/bin/env python3
 """Prints a file of ordinary source, for counting what a byte and a token of it take: the members of one interface, numbered.
 
-usage: ordinary_source.py > FILE
+python3 tools/measure/ordinary_source.py > FILE
 """
 MEMBERS = """
     const int FLAG_WAKE_UP_{n} = 1 << 3;

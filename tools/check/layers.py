@@ -1,7 +1,9 @@
 """Draws the layers of crates.txt: below each heading `# == TITLE` its crates, each with those that it stands on and that none of these stands
-on, the kit's in brackets. Then it says how many crates `aidl` stands on, and by how many paths, which is what `rt` goes down.
+on, the kit's in brackets. Then it says on how many crates `aidl` stands, and prints the picture of the layers that docs/ARCHITECTURE.md has: an
+arrow from each to those that it stands on and that none of these stands on.
 
-python3 docs/layers.py
+python3 tools/check/layers.py
+python3 tools/check/layers.py --write      puts the picture into docs/ARCHITECTURE.md
 
 Exit 1 with a line for each crate that names one of a later layer, or that docs/ARCHITECTURE.md doesn't mention, and where that page has
 another picture.
@@ -12,7 +14,8 @@ import os
 import re
 import sys
 
-TOP = os.path.dirname(os.path.dirname(os.path.abspath(__file__)))
+TOP = os.path.dirname(os.path.dirname(os.path.dirname(os.path.abspath(__file__))))
+PAGE = "docs/ARCHITECTURE.md"
 
 
 def text_of(name):
@@ -44,14 +47,8 @@ def below(crate):
     return frozenset(named).union(*map(below, named))
 
 
-@functools.lru_cache(maxsize=None)
-def paths(crate):
-    """How many paths go down from a crate to another one, and one for the crate itself."""
-    return 1 + sum(paths(it) for it in NAMED[crate] if it in NAMED)
-
-
-def picture():
-    """The layers as lines of text."""
+def crates_drawn():
+    """The layers with their crates as lines of text."""
     width = max(map(len, NAMED))
     for title, crates in LAYERS:
         yield f"== {title}"
@@ -60,7 +57,21 @@ def picture():
             shown = [it if it in NAMED else f"({it})" for it in direct]
             yield f"   {crate:{width}}  {' '.join(shown)}".rstrip()
         yield ""
-    yield f"aidl stands on {len(below('aidl') & NAMED.keys())} of {len(NAMED)} crates, by {paths('aidl') - 1:,} paths."
+    yield f"aidl stands on {len(below('aidl') & NAMED.keys())} of {len(NAMED)} crates."
+
+
+def picture():
+    """The layers as a picture that a git host draws."""
+    place = {crate: number for number, (_, crates) in enumerate(LAYERS) for crate in crates}
+    stands = [{place[it] for crate in crates for it in below(crate) if it in place} - {number} for number, (_, crates) in enumerate(LAYERS)]
+    yield "```mermaid"
+    yield "flowchart BT"
+    for number, (title, crates) in enumerate(LAYERS):
+        yield f'    L{number}["{title} ({len(crates)})"]'
+    for number, lower in enumerate(stands):
+        direct = [it for it in sorted(lower) if not any(it in stands[other] for other in lower)]
+        yield from (f"    L{number} --> L{it}" for it in direct)
+    yield "```"
 
 
 def refusals():
@@ -68,14 +79,23 @@ def refusals():
     place = {crate: number for number, (_, crates) in enumerate(LAYERS) for crate in crates}
     for crate, named in NAMED.items():
         yield from (f"{crate} names {it}, which is of a later layer" for it in named if place.get(it, 0) > place[crate])
-    text = text_of("docs/ARCHITECTURE.md")
-    yield from (f"docs/ARCHITECTURE.md doesn't mention {crate}" for crate in NAMED if not re.search(rf"\b{crate}\b", text))
+    text = text_of(PAGE)
+    yield from (f"{PAGE} doesn't mention {crate}" for crate in NAMED if not re.search(rf"\b{crate}\b", text))
     if "\n".join(picture()) not in text:
-        yield "docs/ARCHITECTURE.md has another picture"
+        yield f"{PAGE} has another picture: python3 tools/check/layers.py --write"
+
+
+def write():
+    """Puts the picture into the page, in place of the one there."""
+    text = re.sub(r"```mermaid\n.*?```", lambda _: "\n".join(picture()), text_of(PAGE), count=1, flags=re.S)
+    with open(f"{TOP}/{PAGE}", "w", encoding="utf-8") as file:
+        file.write(text)
 
 
 def main():
-    print(*picture(), sep="\n")
+    print(*crates_drawn(), "", *picture(), sep="\n")
+    if sys.argv[1:] == ["--write"]:
+        write()
     refused = list(refusals())
     print(*refused, sep="\n", end="\n" * bool(refused), file=sys.stderr)
     sys.exit(1 if refused else 0)

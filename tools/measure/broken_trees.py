@@ -1,6 +1,6 @@
 """Makes pairs of trees that break evolution rules, below the folder that is named, as KIND/N/old and KIND/N/new:
 
-python3 docs/broken_trees.py /tmp/broken
+python3 tools/measure/broken_trees.py /tmp/broken
 valgrind --tool=callgrind crates/aidl/out/aidl witness /tmp/broken/shown/1000/old /tmp/broken/shown/1000/new
 valgrind --tool=callgrind crates/aidl/out/aidl judge /tmp/broken/shown/1000/old /tmp/broken/shown/1000/new
 """
@@ -47,6 +47,11 @@ def onto(side, n, fields):
     interface(side, "I", (f"void f{k}(in R0 r);" for k in range(n)))
 
 
+def last(side, n, base):
+    """One record of 510 fields and a last one, that N methods of one interface take."""
+    onto(side, n, " ".join(f"int a{k};" for k in range(510)) + f" {base} z;")
+
+
 def constants(side, n, value):
     """One record with N constants, and a method that takes it."""
     records(side, 1, "int a; " + " ".join(f"const int C{k} = {value};" for k in range(n)))
@@ -76,7 +81,8 @@ KINDS = {
     "hidden": (apart, "int a; String s;", "String s; int a;"),
     "shown": (apart, "int a; int b;", "int b; int a;"),
     "together": (together, "int a; int b;", "int b; int a;"),
-    "onto": (onto, "int a; String s;", "String s; int a;"),
+    "onto": (onto, "int a; int b;", "int b; int a;"),
+    "last": (last, "int", "long"),
     "constants": (constants, "1", "2"),
     "results": (methods, "int f{}();", "void f{}();"),
     "renamed": (methods, "void f{}();", "void g{}();"),

@@ -1,6 +1,6 @@
 """Makes the values of the tables of `decode` and `encode` in PERFORMANCE.md, and the tree of their records, below the folder that is named:
 
-python3 docs/largest_values.py /tmp/values
+python3 tools/measure/largest_values.py /tmp/values
 valgrind --tool=callgrind crates/aidl/out/aidl encode 'int[]' /tmp/values/ints.json
 valgrind --tool=callgrind crates/aidl/out/aidl encode 'byte[]' /tmp/values/bytes.json
 valgrind --tool=callgrind crates/aidl/out/aidl encode String /tmp/values/text.json
