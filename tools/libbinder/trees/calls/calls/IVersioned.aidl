@@ -1,0 +1,5 @@
+package calls;
+
+interface IVersioned {
+    int number(int a);
+}

@@ -1,0 +1,8 @@
+package calls;
+
+parcelable Sample {
+    int key;
+    String name = "x";
+    @nullable byte[] data;
+    long[] times;
+}

@@ -1,0 +1,3 @@
+package values;
+
+@Backing(type="long") enum LongKind { FIRST = 0, SECOND = 2, LAST = 1099511627776 }
