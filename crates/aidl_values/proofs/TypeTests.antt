@@ -11,22 +11,26 @@ use Rattle.aidl_base.proofs.lemmas.Tests.{and_false, both, flipped}
 use Rattle.aidl_values.specs.Data.{Data, null, truth, number, text, seq, rec, alt, Items, none, item}
 use Rattle.aidl_values.specs.HasType.{HasType, HaveType, FieldsHaveType}
 use Rattle.aidl_values.specs.steps.TypeTest.{is_truth_form, is_text_form, of_parcelable, of_union, of_field, has_type_of, all_have_type, fields_have_type}
-use Rattle.aidl_values.specs.View.{view, views}
-use Rattle.aidl_values.specs.declared.value.Value.{Value}
+use Rattle.aidl_values.specs.View.{items_of}
 use Rattle.aidl_values.proofs.lemmas.Nexts.{next_of_rest}
 
-pub other_count : (S : List Decl) (fs : List Field) (vs : List Value) → (length fs ≡ length vs → ⊥) → false ≡ fields_have_type S fs (views vs)
+pub other_count : (S : List Decl) (fs : List Field) (vs : List Data) → (length fs ≡ length vs → ⊥) → false ≡ fields_have_type S fs (items_of vs)
 other_count S [] [] apart = absurd (apart refl)
 other_count S [] (v ∷ vs) apart = refl
 other_count S (f ∷ fs) [] apart = refl
 other_count S (f ∷ fs) (v ∷ vs) apart = sym (rw (sym (other_count S fs vs (λ e. apart (ap suc e)))) (and_false _))
 
 -- what is left of a record is of its fields' types where its first and the others are
-pub field_first : (S : List Decl) (fs : List Field) (vs : List Value) (i : ℕ) (f : Field) (v : Value) → i < length fs → f ≡ get_or fs i f → slice_get vs i ≡ Some v
-    → fields_have_type S (drop i fs) (views (drop i vs)) ≡ (has_type_of S f.ty (view v) && fields_have_type S (drop (i + 1) fs) (views (drop (i + 1) vs)))
+pub field_first : (S : List Decl) (fs : List Field) (vs : List Data) (i : ℕ) (f : Field) (v : Data) → i < length fs → f ≡ get_or fs i f → slice_get vs i ≡ Some v
+    → fields_have_type S (drop i fs) (items_of (drop i vs)) ≡ (has_type_of S f.ty v && fields_have_type S (drop (i + 1) fs) (items_of (drop (i + 1) vs)))
 field_first S fs vs i f v within is there =
-    ap (λ gs. fields_have_type S gs (views (drop i vs))) (drop_more fs i f within ∙ ap (λ g. g ∷ drop (i + 1) fs) (sym is))
-    ∙ ap (λ ws. fields_have_type S (f ∷ drop (i + 1) fs) (views ws)) (next_of_rest vs i v there)
+    ap (λ gs. fields_have_type S gs (items_of (drop i vs))) (drop_more fs i f within ∙ ap (λ g. g ∷ drop (i + 1) fs) (sym is))
+    ∙ ap (λ ws. fields_have_type S (f ∷ drop (i + 1) fs) (items_of ws)) (next_of_rest vs i v there)
+
+-- what is left of a sequence is of the type where its first and the others are
+pub element_first : (S : List Decl) (t : AidlType) (ds : List Data) (i : ℕ) (d : Data) → slice_get ds i ≡ Some d
+    → all_have_type S t (items_of (drop i ds)) ≡ (has_type_of S t d && all_have_type S t (items_of (drop (i + 1) ds)))
+element_first S t ds i d there = ap (λ es. all_have_type S t (items_of es)) (next_of_rest ds i d there)
 
 truth_is : (f : Form) → is_truth_form f ≡ true → f ≡ form.truth
 truth_is form.truth e = refl

@@ -1,11 +1,11 @@
 pub mod Data
 pub mod Default
 pub mod Ends
-pub mod FieldValues
 pub mod Fits
+pub mod Given
 pub mod HasType
 pub mod Nodes
-pub mod Numbers
+pub mod Shared
 pub mod Sound
 pub mod steps
 pub mod View

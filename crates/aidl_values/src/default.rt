@@ -8,7 +8,7 @@ ghost use Rattle.aidl_values.specs.Sound.{IsFieldOf, initial_in};
 ghost use Rattle.aidl_values.specs.View.{view, views};
 ghost use Rattle.aidl_values.specs.steps.Levels.{zero_parts};
 
-use crate::value::Value;
+use crate::value::{Elements, Fields, Value};
 use aidl_base::{Const, OutOfMemory, Row, Text};
 use aidl_schema::{AidlType, Field, Form, Schema, Shape, form_in, law_valid};
 use std::alloc::Global;
@@ -71,7 +71,7 @@ fn default_by(
     }
     match ty.shape {
         Shape::One => default_of_form(alloc, schema, form_in(schema, ty.base), levels),
-        Shape::Array | Shape::List => Ok(Value::Seq(Row::new(alloc))),
+        Shape::Array | Shape::List => Ok(Value::Seq(Elements::Values(Row::new(alloc)))),
     }
 }
 
@@ -104,7 +104,7 @@ fn shared(alloc: Global, values: Row<Value>) -> Result<Value, OutOfMemory>
     ensures { IfOk result (λ v. view v ≡ rec (views values)) }
 {
     let row = Rc::new(alloc, values)?;
-    Ok(Value::Short(Row::new(alloc), row))
+    Ok(Value::Rec(Fields::first(alloc, Row::new(alloc), row)?))
 }
 
 #[cycle(default)]
@@ -150,7 +150,10 @@ pub fn value_of(alloc: Global, constant: &Const) -> Result<Value, OutOfMemory>
         Const::Truth(b) => Ok(Value::Truth(*b)),
         Const::Number(n) => Ok(Value::Number(*n)),
         Const::Text(text) => Ok(Value::Text(text.try_clone(alloc)?)),
-        Const::Members(members) => Ok(Value::Seq(values_of(alloc, members.as_slice())?)),
+        Const::Members(members) => {
+            let values = values_of(alloc, members.as_slice())?;
+            Ok(Value::Seq(Elements::Values(values)))
+        }
     }
 }
 

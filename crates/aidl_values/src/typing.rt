@@ -1,14 +1,12 @@
 //! Whether a value has a type of a schema.
-ghost use Rattle.std.specs.Prelude.{◌≡◌, ◌↔◌, IsTrue, map, slice_get};
+ghost use Rattle.std.specs.Prelude.{◌≡◌, ◌↔◌, IsTrue, slice_get};
 ghost use Rattle.aidl_schema.specs.Types as types;
-ghost use Rattle.aidl_values.specs.Data.{number, rec, truth};
+ghost use Rattle.aidl_values.specs.Data.{number, truth};
 ghost use Rattle.aidl_values.specs.HasType.{HasType};
 ghost use Rattle.aidl_values.specs.steps.TypeTest.{has_type_of, of_field, all_have_type, fields_have_type};
-ghost use Rattle.aidl_values.specs.View.{items_of, view, views};
+ghost use Rattle.aidl_values.specs.View.{datas, field_datas, items_of, view, view_element};
 
-use crate::field_values::FieldValues;
-use crate::numbers::Numbers;
-use crate::value::Value;
+use crate::value::{Element, Elements, Fields, Value};
 use aidl_schema::{AidlType, Field, Form, Schema, Shape, element, form_in, is_in_range};
 
 /// Whether the value has the type. A number fits the range of its type, an enum's that of the backing, and need be
@@ -33,19 +31,13 @@ fn is_of(schema: &Schema, ty: AidlType, value: &Value) -> bool
             let _text = text.as_str();
             is_one(ty.shape) && matches!(form_in(schema, ty.base), Form::Text)
         }
-        Value::Seq(items) => {
-            !is_one(ty.shape) && are_of(schema, element(schema, ty), items.as_slice())
+        Value::Seq(elements) => {
+            !is_one(ty.shape) && are_of(schema, element(schema, ty), elements)
         }
-        Value::Truths(truths) => {
-            !is_one(ty.shape) && are_truths_of(schema, element(schema, ty), truths.as_slice())
-        }
-        Value::Numbers(numbers) => {
-            !is_one(ty.shape) && are_numbers_of(schema, element(schema, ty), numbers)
-        }
-        Value::Rec(given) => is_record_of(schema, ty, &FieldValues::whole(given)),
-        Value::Short(given, defaults) => {
-            is_record_of(schema, ty, &FieldValues::short(given, defaults))
-        }
+        Value::Rec(values) => match form_in(schema, ty.base) {
+            Form::Parcelable(fields) => is_one(ty.shape) && are_of_fields(schema, fields, values),
+            _ => false,
+        },
         Value::Alt(tag, inner) => match form_in(schema, ty.base) {
             Form::Union(fields) => is_one(ty.shape) && is_of_field(schema, fields, *tag, inner),
             _ => false,
@@ -66,35 +58,11 @@ fn is_truth_of(schema: &Schema, ty: AidlType, _truth: bool) -> bool
     is_one(ty.shape) && matches!(form_in(schema, ty.base), Form::Truth)
 }
 
-fn are_truths_of(schema: &Schema, ty: AidlType, truths: &[bool]) -> bool
-    ensures { result ≡ all_have_type schema.now.decls ty (items_of (map truth truths.now)) }
-{
-    for truth in truths {
-        if !is_truth_of(schema, ty, *truth) {
-            return false;
-        }
-    }
-    true
-}
-
 // Whether a number is of a type.
 fn is_number_of(schema: &Schema, ty: AidlType, n: i64) -> bool
     ensures { result ≡ has_type_of schema.now.decls ty (number n) }
 {
     is_one(ty.shape) && is_in_range(&form_in(schema, ty.base), n)
-}
-
-#[tactic(auto, using(crate::proofs::lemmas::Nexts::next_of_rest))]
-fn are_numbers_of(schema: &Schema, ty: AidlType, numbers: &Numbers) -> bool
-    ensures { result ≡ all_have_type schema.now.decls ty (items_of (map number numbers.now)) }
-{
-    for i in 0..numbers.len() {
-        let n = numbers.get(i);
-        if !is_number_of(schema, ty, n) {
-            return false;
-        }
-    }
-    true
 }
 
 // Whether a union has a field at the position, and the value is of its type.
@@ -109,33 +77,36 @@ fn is_of_field(schema: &Schema, fields: &[Field], tag: u32, value: &Value) -> bo
     }
 }
 
+// Whether each element is of a type.
 #[cycle(typing)]
-fn are_of(schema: &Schema, ty: AidlType, values: &[Value]) -> bool
-    ensures { result ≡ all_have_type schema.now.decls ty (views values.now) }
+fn are_of(schema: &Schema, ty: AidlType, elements: &Elements) -> bool
+    ensures { result ≡ all_have_type schema.now.decls ty (items_of (datas elements.now)) }
 {
-    for value in values {
-        if !is_of(schema, ty, value) {
+    for i in 0..elements.len() {
+        let it = elements.get(i);
+        if !is_element_of(schema, ty, &it) {
             return false;
         }
     }
     true
 }
 
-// Whether the values are a record of a type.
 #[cycle(typing)]
-fn is_record_of(schema: &Schema, ty: AidlType, values: &FieldValues<'_>) -> bool
-    ensures { result ≡ has_type_of schema.now.decls ty (rec (views values.now)) }
+fn is_element_of(schema: &Schema, ty: AidlType, it: &Element<'_>) -> bool
+    ensures { result ≡ has_type_of schema.now.decls ty (view_element it.now) }
 {
-    match form_in(schema, ty.base) {
-        Form::Parcelable(fields) => is_one(ty.shape) && are_of_fields(schema, fields, values),
-        _ => false,
+    match it {
+        Element::Value(value) => is_of(schema, ty, value),
+        Element::Truth(b) => is_truth_of(schema, ty, *b),
+        Element::Number(n) => is_number_of(schema, ty, *n),
     }
 }
 
 // Whether there is one value for each field, of its type.
 #[cycle(typing)]
-fn are_of_fields(schema: &Schema, fields: &[Field], values: &FieldValues<'_>) -> bool
-    ensures { result ≡ fields_have_type schema.now.decls fields.now (views values.now) }
+fn are_of_fields(schema: &Schema, fields: &[Field], values: &Fields) -> bool
+    ensures { result ≡ fields_have_type schema.now.decls fields.now
+        (items_of (field_datas values.now)) }
 {
     if fields.len() != values.len() {
         return false;

@@ -90,7 +90,13 @@ fn asked_length(arg: &Arg, value: &Value) -> u64
 {
     match value {
         Value::Number(n) if is_out(arg.way) && *n >= 0 => *n as u64,
-        _ => 0,
+        Value::Null
+        | Value::Truth(_)
+        | Value::Number(_)
+        | Value::Text(_)
+        | Value::Seq(_)
+        | Value::Rec(_)
+        | Value::Alt(_, _) => 0,
     }
 }
 

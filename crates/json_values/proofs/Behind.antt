@@ -1,52 +1,65 @@
--- The levels of the values from a position on.
-use Rattle.std.proofs.Common.{◌≡◌, ℕ, zero, suc, ◌+◌, ◌<◌, ◌≤◌, max, nat_le, Bool, true, false, List, [], ◌∷◌, drop, get_or, length, map, refl, sym, ap, ◌∙◌, arith}
+-- What a record's fields are read as where some are left out: the first ones, one more, and all.
+use Rattle.std.proofs.Common.{◌≡◌, ℕ, ◌+◌, ◌<◌, ◌≤◌, true, nat_le, List, [], ◌∷◌, ◌++◌, get_or, drop, take, length, map, slice_get, Some, Ok, sym, ap, subst, ◌∙◌, arith}
+use Rattle.std.specs.List.{range_with_len}
 use Rattle.std.proofs.lemmas.Bool.Decides.{nat_tests}
-use Rattle.std.proofs.lemmas.List.{drop_all, drop_more, drop-map}
-use Rattle.aidl_values.specs.Data.{Data, depth_of, greatest, rec}
-use Rattle.aidl_values.specs.View.{items_of, view, views}
+use Rattle.std.proofs.lemmas.List.{length-map, length-take-le, take_all, take_more}
+use Rattle.std.proofs.lemmas.Option.{get_or_from_slice_get}
+use Rattle.serde_json.specs.Data as json
+use Rattle.serde_json.specs.Find.{get_member}
+use Rattle.aidl_schema.specs.declared.schema.AidlType.{AidlType}
+use Rattle.aidl_schema.specs.declared.schema.Field.{Field}
+use Rattle.aidl_values.specs.Data.{Data, Items, rec}
+use Rattle.aidl_values.specs.View.{items_of, view}
 use Rattle.aidl_values.specs.declared.value.Value.{Value}
+use Rattle.aidl_values.proofs.lemmas.Fronts.{with_front}
+use Rattle.json_values.specs.FromJson.{fields_from}
+use Rattle.json_values.specs.Refusal.{Answer}
+use Rattle.json_values.specs.declared.given.Given.{Given}
+use Rattle.json_values.specs.steps.Given.{AreGiven, as_record, filled, named_from}
+use Rattle.json_values.proofs.Overlaid.{AreBelow, first_below, first_many, overlaid_first}
+use Rattle.json_values.proofs.Parts.{fields_more, fields_done}
 
--- so many levels has a record of those from a position on
-abbrev pub behind : List Value → ℕ → ℕ
-behind vs i = depth_of (rec (views (drop i vs)))
+pub le_true : (m n : ℕ) → nat_le m n ≡ true → m ≤ n
+le_true m n is = grind (arith, nat_tests)
 
-pub behind_no_deeper : (ds : List Data) (i : ℕ) → greatest (items_of (drop i ds)) ≤ greatest (items_of ds)
-behind_no_deeper ds zero = omega arith
-behind_no_deeper [] (suc i) = omega arith
-behind_no_deeper (d ∷ ds) (suc i) = omega (arith, behind_no_deeper ds i)
+-- the values of the first fields
+pub begins : (vs : List Value) (g : Given) (ds : List Data) (n : ℕ) (others : ℕ → Answer Items) (whole : Answer Items) → g.places ≡ range_with_len 0 (length vs) → g.values.items ≡ vs → n ≡ length vs → length vs ≤ length ds
+    → with_front (map view vs) (others (length vs)) ≡ whole → (with_front (filled g (take n ds)) (others n) ≡ whole) × AreGiven g n
+begins vs g ds n others whole places values is short read_as =
+    subst (λ k. (with_front (filled g (take k ds)) (others k) ≡ whole) × AreGiven g k) (sym is) (ap (λ es. with_front es (others (length vs))) same ∙ read_as, (below, many))
+  where
+    seen : length (map view vs) ≡ length vs
+    seen = length-map vs view
 
-pub behind_seen : (vs : List Value) (i : ℕ) → behind vs i ≡ depth_of (rec (items_of (drop i (map view vs))))
-behind_seen vs i = ap (λ ds. depth_of (rec (items_of ds))) (sym (drop-map view i vs))
+    here : length (take (length vs) ds) ≡ length (map view vs)
+    here = length-take-le (length vs) ds short ∙ sym seen
 
--- the value there, or one behind it
-pub behind_next : (vs : List Value) (i : ℕ) (v : Value) → i < length vs → v ≡ get_or vs i v → behind vs i ≡ max (suc (depth_of (view v))) (behind vs (i + 1))
-behind_next vs i v lt is =
-    let next : drop i vs ≡ v ∷ drop (i + 1) vs = drop_more vs i v lt ∙ ap (λ w. w ∷ drop (i + 1) vs) (sym is) in
-    let all = ap (λ ws. depth_of (rec (views ws))) next in
-    omega (arith, all)
+    numbers : g.places ≡ range_with_len 0 (length (map view vs))
+    numbers = places ∙ ap (range_with_len 0) (sym seen)
 
-module _ (vs : List Value) (i levels : ℕ) where
-  -- a value that fits leaves those behind it to decide
-  pub fits_next : (v : Value) → i < length vs → v ≡ get_or vs i v → depth_of (view v) < levels → nat_le (behind vs (i + 1)) levels ≡ nat_le (behind vs i) levels
-  fits_next v lt is few = by (nat_le (behind vs (i + 1)) levels) refl
-    where
-      here : behind vs i ≡ max (suc (depth_of (view v))) (behind vs (i + 1))
-      here = behind_next vs i v lt is
+    same : filled g (take (length vs) ds) ≡ map view vs
+    same = rw (numbers, values) (overlaid_first (map view vs) (take (length vs) ds) here)
 
-      by : (b : Bool) → nat_le (behind vs (i + 1)) levels ≡ b → b ≡ nat_le (behind vs i) levels
-      by true e =
-          let le : behind vs (i + 1) ≤ levels = grind (arith, nat_tests) in
-          let all : behind vs i ≤ levels = omega (arith, here, le, few) in
-          let is : nat_le (behind vs i) levels ≡ true = grind (arith, nat_tests) in sym is
-      by false e =
-          let lt : levels < behind vs (i + 1) = grind (arith, nat_tests) in
-          let all : levels < behind vs i = omega (arith, here, lt) in
-          let is : nat_le (behind vs i) levels ≡ false = grind (arith, nat_tests) in sym is
+    below : AreBelow (length vs) g.places
+    below = subst (AreBelow (length vs)) (sym places) (first_below (length vs))
 
-  pub too_deep : (v : Value) → i < length vs → v ≡ get_or vs i v → levels ≤ depth_of (view v) → nat_le (behind vs i) levels ≡ false
-  too_deep v lt is deep =
-      let all : levels < behind vs i = omega (arith, behind_next vs i v lt is, deep) in
-      grind (arith, nat_tests)
+    many : length g.places ≡ length g.values.items
+    many = ap length places ∙ first_many (length vs) ∙ ap length (sym values)
 
-  pub none_left : length vs ≤ i → behind vs i ≡ 1
-  none_left le = ap (λ ws. depth_of (rec (views ws))) (drop_all i vs le)
+module _ (default : Field → Answer Data) (read : AidlType → json.Data → Answer Data) (ms : json.Members) (fs : List Field) where
+  -- one field more
+  pub one_more : (i : ℕ) (f : Field) (g h : Given) (ds : List Data) (d v : Data) (whole : Answer Items) → i < length fs → get_or fs i f ≡ f → slice_get ds i ≡ Some d → i < length ds
+      → named_from default read ms f ≡ Ok v → (length (take i ds) ≡ i → filled h (take i ds ++ d ∷ []) ≡ filled g (take i ds) ++ v ∷ [])
+      → with_front (filled g (take i ds)) (fields_from default read (drop i fs) (λ key. get_member key ms)) ≡ whole
+      → with_front (filled h (take (i + 1) ds)) (fields_from default read (drop (i + 1) fs) (λ key. get_member key ms)) ≡ whole
+  one_more i f g h ds d v whole short at here less first put read_as =
+      let more : take (i + 1) ds ≡ take i ds ++ d ∷ [] = take_more ds i d less ∙ ap (λ e. take i ds ++ e ∷ []) (get_or_from_slice_get ds i d d here) in
+      let now : filled h (take (i + 1) ds) ≡ filled g (take i ds) ++ v ∷ [] = ap (filled h) more ∙ put (length-take-le i ds (omega (arith, less))) in
+      ap (λ es. with_front es (fields_from default read (drop (i + 1) fs) (λ key. get_member key ms))) now
+      ∙ sym (fields_more default read ms fs i f (filled g (take i ds)) v short at first) ∙ read_as
+
+  -- all fields
+  pub all_read : (i : ℕ) (g : Given) (ds : List Data) (whole : Answer Items) → length fs ≤ i → length ds ≡ length fs
+      → with_front (filled g (take i ds)) (fields_from default read (drop i fs) (λ key. get_member key ms)) ≡ whole → as_record whole ≡ Ok (rec (items_of (filled g ds)))
+  all_read i g ds whole all many read_as =
+      ap as_record (sym read_as ∙ fields_done default read ms fs i (filled g (take i ds)) all ∙ ap (λ es. Ok (items_of (filled g es))) (take_all i ds (omega (arith, many, all))))

@@ -1,10 +1,10 @@
 -- Where as many fields are found as there are keys, each key names a field.
-use Rattle.std.proofs.Common.{◌≡◌, ℕ, zero, suc, ◌+◌, ◌≤◌, Bool, true, false, cond, List, [], ◌∷◌, take, length, Option, Some, None, slice_get, is_some, Ordering, Less, Equal, Greater, refl, sym, ap, ◌∙◌, arith, true≢false}
+use Rattle.std.proofs.Common.{◌≡◌, ℕ, zero, suc, ◌+◌, ◌<◌, ◌≤◌, Bool, true, false, cond, List, [], ◌∷◌, take, get_or, length, Option, Some, None, slice_get, is_some, Ordering, Less, Equal, Greater, refl, sym, ap, ◌∙◌, arith, true≢false}
 use Rattle.std.specs.Prelude.{if◌then◌else◌}
 use Rattle.std.specs.Cmp.Lexicographic.{slice_cmp}
 use Rattle.std.specs.List.{count_by, list_any}
 use Rattle.std.specs.Ordering.{is_eq, nat_cmp, match_ordering}
-use Rattle.std.proofs.lemmas.List.Sums.{sum_by-cons}
+use Rattle.std.proofs.lemmas.List.Sums.{count_by_more_no, count_by_more_yes, sum_by-cons}
 use Rattle.std.proofs.lemmas.Map.Text.{is_eq-slice_cmp}
 use Rattle.std.proofs.lemmas.Slice.Eq.{bytes_eq-Decides}
 use Rattle.serde_json.specs.Data as json
@@ -15,16 +15,16 @@ use Rattle.aidl_schema.specs.Holds.{AreApart}
 use Rattle.aidl_base.proofs.lemmas.Tests.{neither}
 use Rattle.json_values.specs.FromJson.{has_name, unknown_in}
 use Rattle.json_writing.specs.Named.{bytes_of}
-use Rattle.json_values.specs.steps.Defaults.{AreMissing}
+use Rattle.json_values.specs.steps.Given.{is_found}
 use Rattle.json_values.proofs.Names.{name_of_field, later_fields, names_differ}
 use Rattle.json_values.proofs.lemmas.Names.{text_apart}
 
 abbrev one_if : Bool → ℕ
 one_if b = cond b 1 0
 
--- a field that is found among the members
-abbrev pub is_found : json.Members → Field → Bool
-is_found ms f = is_some (get_member (bytes_of f.name) ms)
+-- no field from this position on has a member
+abbrev pub AreMissing : json.Members → ℕ → List Field → Type 0
+AreMissing ms given fs = (k : ℕ) (f : Field) → given ≤ k → slice_get fs k ≡ Some f → get_member (bytes_of f.name) ms ≡ None
 
 found-cons : (ms : json.Members) (f : Field) (fs : List Field) → count_by (is_found ms) (f ∷ fs) ≡ cond (is_found ms f) 1 0 + count_by (is_found ms) fs
 found-cons ms f fs = sum_by-cons (λ x. cond (is_found ms x) 1 0) f fs
@@ -110,9 +110,9 @@ found_before ms fs zero = omega arith
 found_before ms [] (suc i) = omega arith
 found_before ms (f ∷ fs) (suc i) = let later = found_before ms fs i in omega (arith, found-cons ms f fs, found-cons ms f (take i fs), later)
 
--- where as many fields are found before a position as there are keys, each key names a field
-pub known_before : (fs : List Field) → AreApart name_of_field fs → (ms : json.Members) (i : ℕ) → members_len ms ≤ count_by (is_found ms) (take i fs) → unknown_in fs ms ≡ None
-known_before fs apart ms i all = let before = found_before ms fs i in all_known fs apart ms (omega arith)
+-- where as many fields are found before a position as there are keys, they are all that are found
+pub all_found : (fs : List Field) → AreApart name_of_field fs → (ms : json.Members) (i : ℕ) → members_len ms ≤ count_by (is_found ms) (take i fs) → count_by (is_found ms) (take i fs) ≡ count_by (is_found ms) fs
+all_found fs apart ms i all = let before = found_before ms fs i in let few = few_found fs apart ms in omega arith
 
 -- and no field from there on is found
 pub missing_behind : (fs : List Field) → AreApart name_of_field fs → (ms : json.Members) (i : ℕ) → members_len ms ≤ count_by (is_found ms) (take i fs) → AreMissing ms i fs
@@ -125,11 +125,7 @@ missing_behind fs apart ms i all k f le at = by (get_member (bytes_of f.name) ms
         let few = few_found fs apart ms in
         absurd (omega arith)
 
--- no field stands behind the last
-pub missing_after : (fs : List Field) (ms : json.Members) → AreMissing ms (length fs) fs
-missing_after fs ms k f le at = absurd (true≢false (sym (ap is_some (sym (outside fs k le) ∙ at))))
-  where
-    outside : (gs : List Field) (n : ℕ) → length gs ≤ n → slice_get gs n ≡ None
-    outside [] n le = refl
-    outside (g ∷ gs) zero le = absurd (omega arith)
-    outside (g ∷ gs) (suc n) le = outside gs n (omega arith)
+-- one field more
+pub found_more : (ms : json.Members) (fs : List Field) (i : ℕ) (f : Field) (b : Bool) → i < length fs → get_or fs i f ≡ f → is_found ms f ≡ b → count_by (is_found ms) (take (i + 1) fs) ≡ count_by (is_found ms) (take i fs) + cond b 1 0
+found_more ms fs i f true lt at is = count_by_more_yes (is_found ms) fs i f lt (ap (is_found ms) at ∙ is)
+found_more ms fs i f false lt at is = let same = count_by_more_no (is_found ms) fs i f lt (ap (is_found ms) at ∙ is) in omega (arith, same)

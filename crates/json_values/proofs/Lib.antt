@@ -9,6 +9,7 @@ mod Loops
 mod Members
 mod Missing
 mod Names
+mod Overlaid
 pub mod ParsedTexts
 mod Parts
 mod Plain

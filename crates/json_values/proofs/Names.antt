@@ -1,5 +1,5 @@
 -- In a valid schema a name finds the field that it names, and what an enumerator is written as is read as its value.
-use Rattle.std.proofs.Common.{◌≡◌, ℕ, zero, suc, ◌+◌, ℤ, Bool, true, false, List, [], ◌∷◌, Option, Some, None, slice_get, Ok, Ordering, Less, Equal, Greater, refl, sym, ap, ◌∙◌, arith}
+use Rattle.std.proofs.Common.{◌≡◌, ℕ, zero, suc, ◌+◌, ◌≤◌, ℤ, Bool, true, false, List, [], ◌∷◌, length, Option, Some, None, slice_get, Ok, Ordering, Less, Equal, Greater, refl, sym, ap, ◌∙◌, subst, arith}
 use Rattle.std.specs.Prelude.{◌||◌, if◌then◌else◌}
 use Rattle.std.specs.List.{list_any}
 use Rattle.std.specs.Cmp.Lexicographic.{slice_cmp}
@@ -18,6 +18,7 @@ use Rattle.aidl_schema.specs.Holds.{AreApart, AllHold}
 use Rattle.aidl_schema.specs.Same.{same_text}
 use Rattle.aidl_schema.specs.Types.{Form, form_of}
 use Rattle.aidl_values.specs.Data.{Data, number, alt}
+use Rattle.aidl_values.specs.Sound.{IsSound}
 use Rattle.json_values.specs.FromJson as from
 use Rattle.json_writing.specs.Json.{json_among}
 use Rattle.json_writing.specs.Named.{bytes_of, fields_in}
@@ -135,3 +136,7 @@ known_put all key j (json.member l i ms) known rest =
 module _ (S : List Decl) (hold : AllHold S) where
   pub fields_apart : (b : Base) → AreApart name_of_field (fields_in (form_of S b))
   fields_apart b = of_base S (λ fs. AreApart name_of_field fs) (λ j k x y p q e. cc) (λ d at. (hold at.0 d at.1).fields) b
+
+-- and few fields
+pub few_in : (S : List Decl) → IsSound S → (b : Base) (f : Form) → form_of S b ≡ f → length (fields_in f) ≤ 4096
+few_in S sound b f is = subst (λ g. length (fields_in g) ≤ 4096) is (of_base S (λ fs. length fs ≤ 4096) (omega arith) sound.few b)

@@ -1,74 +1,65 @@
 //! The defaults of the fields that objects leave out, made once for all objects of a JSON value.
-ghost use Rattle.std.specs.Prelude.{◌≡◌, ◌≤◌, nat_le, drop, map, IfOk, option_map};
-ghost use Rattle.aidl_schema.specs.declared.schema.Base.TheVariants as base;
+ghost use Rattle.std.specs.Prelude.{◌≡◌, ◌<◌, ◌≤◌, nat_le, suc, map, length, IfOk, slice_get, Some};
+ghost use Rattle.aidl_schema.specs.declared.schema.Base.TheVariants.{Named};
+ghost use Rattle.aidl_schema.specs.Types.{form_of};
+ghost use Rattle.aidl_values.specs.Data.{Data, depth_of, rec};
 ghost use Rattle.aidl_values.specs.Sound.{initial_in};
-ghost use Rattle.aidl_values.specs.Data.{depth_of, rec};
-ghost use Rattle.aidl_values.specs.View.{items_of, view, views};
-ghost use Rattle.json_values.specs.steps.Defaults.{AreDefaults, defaults_in, defaults_within, levels_of, within_levels};
+ghost use Rattle.aidl_values.specs.View.{items_of, view};
+ghost use Rattle.json_writing.specs.Named.{fields_in};
+ghost use Rattle.json_values.specs.steps.Defaults.{AreDefaults, datas_of, level_of};
 
 use aidl_base::{OutOfMemory, Row};
 use aidl_schema::{Base, Field, Schema};
-use aidl_values::{Value, depth, initial_of};
+use aidl_values::{Fields, Value, depth, initial_of};
 use indexmap::IndexMap;
 use json_writing::fields_of;
 use std::alloc::Global;
 use std::marker::Model;
 use std::rc::Rc;
 
-// The defaults of a parcelable's fields, and how many levels a record of them has.
+// The defaults of a parcelable's fields, how many levels each has, and how many a record of all.
 #[derive(Drop)]
-struct Defaults {
+pub struct Defaults {
     row: Rc<Row<Value>>,
-    levels: usize,
+    levels: Vec<usize>,
+    whole: usize,
 }
 
 impl Defaults {
-    // The row, if a record of the values from a position on has at most so many levels.
-    fn within(&self, given: usize, levels: usize) -> Result<Option<Rc<Row<Value>>>, OutOfMemory>
-        requires { levels ≤ 64 }
-        ensures { IfOk result (λ row. self.now.levels ≡ levels_of (map view self.now.row.value)
-            → option_map (λ row. map view row.value) row
-            ≡ within_levels given levels (map view self.now.row.value)) }
+    // The values, which are shared.
+    pub fn row(&self) -> Result<Rc<Row<Value>>, OutOfMemory>
+        ensures { IfOk result (λ row. map view row.value ≡ datas_of self.now) }
     {
-        if self.are_within(given, levels) {
-            Ok(Some(self.row.clone()?))
-        } else {
-            Ok(None)
-        }
+        Ok(self.row.clone()?)
     }
 
-    // Whether a record of the values from a position on has at most so many levels, as one of all of them mostly has.
-    #[tactic(auto, using(crate::proofs::Behind::behind_no_deeper, crate::proofs::Behind::behind_seen))]
-    fn are_within(&self, given: usize, levels: usize) -> bool
+    // Whether a record of all has at most so many levels.
+    pub fn fit(&self, levels: usize) -> bool
         requires { levels ≤ 64 }
-        ensures { self.now.levels ≡ levels_of (map view self.now.row.value) → result
-            ≡ nat_le (depth_of (rec (items_of (drop given (map view self.now.row.value))))) levels }
+        ensures { self.now.whole ≡ level_of (rec (items_of (datas_of self.now)))
+            → result ≡ nat_le (depth_of (rec (items_of (datas_of self.now)))) levels }
     {
-        if self.levels <= levels {
-            return true;
-        }
-        rest_within(self.row.as_ref().as_slice(), given, levels)
+        self.whole <= levels
     }
-}
 
-// Whether a record of the values from a position on has at most so many levels.
-fn rest_within(values: &[Value], given: usize, levels: usize) -> bool
-    requires { levels ≤ 64 }
-    ensures { result ≡ nat_le (depth_of (rec (views (drop given values.now)))) levels }
-{
-    for i in given..values.len() {
-        if depth(&values[i]) >= levels {
-            return false;
+    // Whether the default of a field has fewer than so many levels.
+    pub fn fits(&self, i: usize, levels: usize) -> bool
+        requires { levels ≤ 64 }
+        ensures { (v : Data) → slice_get self.now.levels.items i ≡ Some (level_of v)
+            → result ≡ nat_le (suc (depth_of v)) levels }
+    {
+        match self.levels.get(i) {
+            Some(level) => *level < levels,
+            None => false,
         }
     }
-    0 < levels
 }
 
 // The defaults of parcelables' fields, each made when the first object leaves some out. Contracts see it as the declarations.
 #[derive(Drop)]
 pub struct DefaultRows<'a> {
     schema: &'a Schema,
-    rows: IndexMap<u32, Defaults>,
+    rows: IndexMap<u32, Rc<Defaults>>,
 }
 
 impl<'a> Model for DefaultRows<'a> {
@@ -76,7 +67,10 @@ impl<'a> Model for DefaultRows<'a> {
     ghost use Rattle.std.specs.Coded.{codes};
     ghost use Rattle.indexmap.specs.IndexMap.{get};
     ghost use Rattle.aidl_base.specs.contracts.constant.Const as constant;
+    ghost use Rattle.aidl_schema.specs.declared.schema.Base.TheVariants.{Named};
     ghost use Rattle.aidl_schema.specs.declared.schema.Decl.{Decl};
+    ghost use Rattle.aidl_schema.specs.Types.{form_of};
+    ghost use Rattle.json_writing.specs.Named.{fields_in};
     ghost use Rattle.json_values.specs.steps.Defaults.{AreDefaults};
 
     ghost Value = { List Decl };
@@ -86,7 +80,8 @@ impl<'a> Model for DefaultRows<'a> {
     ghost view = { λ rows. rows.schema.now.decls };
 
     ghost invariant = { λ rows. (decl : ℕ) → IfSome (get nat_eq rows.rows decl)
-        (λ defaults. AreDefaults rows.schema.now.decls decl defaults.row.value defaults.levels) };
+        (λ defaults. AreDefaults rows.schema.now.decls
+        (fields_in (form_of rows.schema.now.decls (Named decl))) defaults.value) };
 }
 
 impl<'a> DefaultRows<'a> {
@@ -100,64 +95,42 @@ impl<'a> DefaultRows<'a> {
         }
     }
 
-    // The defaults of a parcelable's fields, if a record of those from a position on has at most so many levels.
-    pub fn within(
-        &mut self,
-        alloc: Global,
-        base: Base,
-        given: usize,
-        levels: usize,
-    ) -> Result<Option<Rc<Row<Value>>>, OutOfMemory>
-        requires { levels ≤ 64 }
+    // The defaults of a parcelable's fields.
+    pub fn of(&mut self, alloc: Global, base: Base) -> Result<Rc<Defaults>, OutOfMemory>
         ensures same { self.new ≡ self.old }
-        ensures row { IfOk result (λ row. option_map (λ row. map view row.value) row
-            ≡ defaults_within self.old base given levels) }
+        ensures row { IfOk result (λ defaults. AreDefaults self.old
+            (fields_in (form_of self.old base)) defaults.value) }
     {
         match base {
-            Base::Named(decl) => self.declared_within(alloc, decl, given, levels),
-            _ => Ok(None),
+            Base::Named(decl) => self.of_decl(alloc, decl),
+            _ => Ok(Rc::new(alloc, defaults_of(alloc, self.schema, base)?)?),
         }
     }
 
-    fn declared_within(
-        &mut self,
-        alloc: Global,
-        decl: u32,
-        given: usize,
-        levels: usize,
-    ) -> Result<Option<Rc<Row<Value>>>, OutOfMemory>
-        requires { levels ≤ 64 }
+    fn of_decl(&mut self, alloc: Global, decl: u32) -> Result<Rc<Defaults>, OutOfMemory>
         ensures same { self.new ≡ self.old }
-        ensures row { IfOk result (λ row. option_map (λ row. map view row.value) row
-            ≡ within_levels given levels (defaults_in self.old decl)) }
+        ensures row { IfOk result (λ defaults. AreDefaults self.old
+            (fields_in (form_of self.old (Named decl))) defaults.value) }
     {
         if let Some(defaults) = self.rows.get(&decl) {
-            return defaults.within(given, levels);
+            return Ok(defaults.clone()?);
         }
-        let defaults = defaults_of(alloc, self.schema, decl)?;
-        let row = defaults.within(given, levels)?;
-        self.rows.insert(decl, defaults)?;
-        Ok(row)
+        let made = Rc::new(alloc, defaults_of(alloc, self.schema, Base::Named(decl))?)?;
+        let defaults = made.clone()?;
+        self.rows.insert(decl, made)?;
+        Ok(defaults)
     }
 }
 
-fn defaults_of(alloc: Global, schema: &Schema, decl: u32) -> Result<Defaults, OutOfMemory>
-    ensures { IfOk result (λ defaults.
-        AreDefaults schema.now.decls decl defaults.row.value defaults.levels) }
+fn defaults_of(alloc: Global, schema: &Schema, base: Base) -> Result<Defaults, OutOfMemory>
+    ensures { IfOk result (λ defaults. AreDefaults schema.now.decls
+        (fields_in (form_of schema.now.decls base)) defaults) }
 {
-    let row = Rc::new(
-        alloc,
-        initials_of(alloc, schema, fields_of(schema, Base::Named(decl)))?,
-    )?;
-    let levels = record_levels(alloc, &row)?;
-    Ok(Defaults { row, levels })
-}
-
-// How many levels a record of these values has.
-fn record_levels(alloc: Global, row: &Rc<Row<Value>>) -> Result<usize, OutOfMemory>
-    ensures { IfOk result (λ levels. levels ≡ levels_of (map view row.now.value)) }
-{
-    Ok(depth(&Value::Short(Row::new(alloc), row.clone()?)))
+    let values = initials_of(alloc, schema, fields_of(schema, base))?;
+    let levels = levels_of(alloc, values.as_slice())?;
+    let row = Rc::new(alloc, values)?;
+    let whole = record_levels(alloc, &row)?;
+    Ok(Defaults { row, levels, whole })
 }
 
 fn initials_of(alloc: Global, schema: &Schema, fields: &[Field]) -> Result<Row<Value>, OutOfMemory>
@@ -168,4 +141,23 @@ fn initials_of(alloc: Global, schema: &Schema, fields: &[Field]) -> Result<Row<V
         values.push(initial_of(alloc, schema, field)?)?;
     }
     Ok(Row::from_vec(values))
+}
+
+// How many levels each value has.
+fn levels_of(alloc: Global, values: &[Value]) -> Result<Vec<usize>, OutOfMemory>
+    ensures { IfOk result (λ levels. levels.items ≡ map level_of (map view values.now)) }
+{
+    let mut levels = Vec::with_capacity(alloc, values.len())?;
+    for value in values {
+        levels.push(depth(value))?;
+    }
+    Ok(levels)
+}
+
+// How many levels a record of these values has.
+fn record_levels(alloc: Global, row: &Rc<Row<Value>>) -> Result<usize, OutOfMemory>
+    ensures { IfOk result (λ levels. levels ≡ level_of (rec (items_of (map view row.now.value)))) }
+{
+    let fields = Fields::first(alloc, Row::new(alloc), row.clone()?)?;
+    Ok(depth(&Value::Rec(fields)))
 }

@@ -1,57 +1,86 @@
 //! The keys of a parcelable's object: which is the least that names no field.
 ghost use Rattle.std.specs.Prelude.{◌≡◌, ◌<◌, option_map, IfOk, Ok, Err};
-ghost use Rattle.std.specs.List.{list_any};
+ghost use Rattle.std.specs.List.{count_by, list_any};
 ghost use Rattle.serde_json.specs.View.{members_view};
 ghost use Rattle.aidl_schema.specs.Holds.{AreApart};
 ghost use Rattle.aidl_schema.specs.Same.{same_text};
 ghost use Rattle.json_values.specs.FromJson as answer;
 ghost use Rattle.json_writing.specs.Named.{bytes_of};
-ghost use Rattle.json_values.specs.steps.Defaults.{AreMissing};
-ghost use Rattle.json_values.specs.steps.Gives.{Gives};
+ghost use Rattle.aidl_values.specs.Data.{Data};
+ghost use Rattle.aidl_values.specs.View.{view};
+ghost use Rattle.json_values.specs.Refusal.{Answer};
+ghost use Rattle.json_values.specs.steps.Given.{after_keys, is_found};
+ghost use Rattle.json_values.specs.steps.Gives.{Fails, Gives};
 
 use crate::fault::{Fault, Reason, refused};
 use crate::hints::Hints;
 use crate::pointer::below_key;
-use crate::records::member_of;
-use aidl_base::{Ident, OutOfMemory};
+use aidl_base::OutOfMemory;
 use aidl_schema::{Base, Field};
+use aidl_values::Value;
 use json_writing::is_called;
 use serde_json::{Map, Value as Json};
 use std::alloc::Global;
 
-// Refuses the least key that names no field; else a position from which on no field has a key. Once as many fields are found as there
-// are keys, each key names one, and no field behind has any: so the keys are looked through only for a refusal.
-pub fn check_keys<'a>(
+// A record that was read, unless some key names no field: where as many fields are found as there are keys, each key names one.
+pub fn known_record<'a>(
     alloc: Global,
     hints: &mut Hints<'a>,
     base: Base,
     fields: &'a [Field],
     members: &Map<String, Json>,
-) -> Result<usize, Fault<Reason>>
-    requires { AreApart (λ f. f.name.0) fields.now }
-    ensures known { Gives (λ _. tt) result
-        (answer.known_from (answer.unknown_in fields.now (members_view members.now.entries))) }
-    ensures missing { IfOk result
-        (λ given. AreMissing (members_view members.now.entries) given fields.now) }
+    read: (Value, usize),
+) -> Result<Value, Fault<Reason>>
+    requires apart { AreApart (λ f. f.name.0) fields.now }
+    requires found { read.1 ≡ count_by (is_found (members_view members.now.entries)) fields.now }
+    ensures { Gives view result
+        (after_keys fields.now (members_view members.now.entries) (Ok (view read.0))) }
 {
-    let mut found: usize = 0;
-    for (i, field) in fields.iter().enumerate() {
-        if found == members.len() {
-            return Ok(i);
-        }
-        if member_of(members, field.name.0.as_str()).is_some() {
-            found += 1;
-        }
-    }
+    let (value, found) = read;
     if found == members.len() {
-        return Ok(fields.len());
+        return Ok(value);
     }
+    match check_keys(alloc, hints, base, fields, members) {
+        Ok(()) => Ok(value),
+        Err(fault) => Err(fault),
+    }
+}
+
+// A fault of a field, unless some key names no field, which is refused first.
+pub fn known_first<'a>(
+    alloc: Global,
+    hints: &mut Hints<'a>,
+    base: Base,
+    fields: &'a [Field],
+    members: &Map<String, Json>,
+    fault: Fault<Reason>,
+) -> Fault<Reason>
+    ensures { (read : Answer Data) → Fails fault read
+        → Fails result (after_keys fields.now (members_view members.now.entries) read) }
+{
+    match check_keys(alloc, hints, base, fields, members) {
+        Ok(()) => fault,
+        Err(first) => first,
+    }
+}
+
+// Refuses the least key that names no field.
+fn check_keys<'a>(
+    alloc: Global,
+    hints: &mut Hints<'a>,
+    base: Base,
+    fields: &'a [Field],
+    members: &Map<String, Json>,
+) -> Result<(), Fault<Reason>>
+    ensures { Gives (λ _. tt) result
+        (answer.known_from (answer.unknown_in fields.now (members_view members.now.entries))) }
+{
     match unknown_key(alloc, hints, base, fields, members)? {
         Some(key) => {
             let fault = refused(alloc, Reason::UnknownKey);
             Err(below_key(alloc, key, fault))
         }
-        None => Ok(fields.len()),
+        None => Ok(()),
     }
 }
 

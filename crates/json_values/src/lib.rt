@@ -4,6 +4,7 @@
 mod default_rows;
 mod enumerators;
 mod fault;
+mod given;
 mod hints;
 mod json_text;
 mod keys;

@@ -1,28 +1,35 @@
 //! JSON objects as parcelables, with the defaults of missing fields.
-ghost use Rattle.std.specs.Prelude.{◌≡◌, ◌<◌, ◌≤◌, option_map, Ok, Err};
+ghost use Rattle.std.specs.Prelude.{◌≡◌, ◌<◌, ◌≤◌, drop, false, is_some, length, map, option_map, take, true, IfOk, Ok, Err};
+ghost use Rattle.std.specs.List.{count_by};
+ghost use Rattle.serde_json.specs.Events.{members_len};
 ghost use Rattle.serde_json.specs.Find.{get_member};
 ghost use Rattle.serde_json.specs.View.{view as json_view, members_view};
 ghost use Rattle.aidl_schema.specs.Holds.{AreApart};
 ghost use Rattle.aidl_schema.specs.Types.{form_of};
-ghost use Rattle.aidl_values.specs.View.{view};
+ghost use Rattle.aidl_values.specs.Data.{depth_of, rec};
+ghost use Rattle.aidl_values.specs.Sound.{initial_in};
+ghost use Rattle.aidl_values.specs.View.{items_of, view};
+ghost use Rattle.aidl_values.proofs.lemmas.Fronts.{with_front};
 ghost use Rattle.json_values.specs.FromJson as answer;
 ghost use Rattle.json_writing.specs.Named.{bytes_of, fields_in};
 ghost use Rattle.json_values.specs.Refusal.{escaped, within};
-ghost use Rattle.json_values.specs.steps.Defaults.{AreMissing, as_record};
+ghost use Rattle.json_values.specs.steps.Defaults.{HasDefaultAt, datas_of, level_of};
+ghost use Rattle.json_values.specs.steps.Given.{GivesMember, as_record, given_or, is_found, named_from};
 ghost use Rattle.json_values.specs.steps.Levels.{part_of, default_in};
 ghost use Rattle.aidl_values.specs.steps.Levels.{is_level_left};
 ghost use Rattle.json_values.specs.steps.Gives.{Gives};
 
+use crate::default_rows::Defaults;
 use crate::fault::{Fault, Reason, refused};
-use crate::keys::check_keys;
+use crate::given::Given;
+use crate::keys::{known_first, known_record};
 use crate::pointer::below_key;
 use crate::reader::{Kept, Reader};
 use crate::reading::read_part;
 use aidl_base::Row;
-use aidl_schema::{Base, Field, Schema};
-use aidl_values::{Value, depth, initial_of};
+use aidl_schema::{Base, Field};
+use aidl_values::{Fields, Value};
 use serde_json::{Map, Value as Json};
-use std::alloc::Global;
 
 // A parcelable.
 #[cycle(reading)]
@@ -35,6 +42,7 @@ pub fn read_record<'a>(
 ) -> Result<Value, Fault<Reason>>
     requires few { reader.now.levels ≤ 64 }
     requires apart { AreApart (λ f. f.name.0) fields.now }
+    requires fields { length fields.now ≤ 4096 }
     requires declared { fields.now ≡ fields_in (form_of reader.now.schema.now.decls base) }
     requires known { kept.old.defaults ≡ reader.now.schema.now.decls }
     ensures gives { Gives view result (answer.record_from
@@ -51,6 +59,8 @@ pub fn read_record<'a>(
     read_object(reader, kept, base, fields, members)
 }
 
+// The fields are read before the keys are looked at: only where fewer are found than there are keys, or a field is refused, some key may
+// name none.
 #[cycle(reading)]
 fn read_object<'a>(
     reader: &Reader<'a>,
@@ -62,6 +72,7 @@ fn read_object<'a>(
     requires left { 0 < reader.now.levels }
     requires few { reader.now.levels ≤ 64 }
     requires apart { AreApart (λ f. f.name.0) fields.now }
+    requires fields { length fields.now ≤ 4096 }
     requires declared { fields.now ≡ fields_in (form_of reader.now.schema.now.decls base) }
     requires known { kept.old.defaults ≡ reader.now.schema.now.decls }
     ensures gives { Gives view result
@@ -69,13 +80,16 @@ fn read_object<'a>(
         (part_of reader.now) fields.now (members_view members.now.entries)) }
     ensures known { kept.new.defaults ≡ reader.now.schema.now.decls }
 {
-    match check_keys(reader.alloc, &mut kept.hints, base, fields, members) {
-        Ok(given) => read_fields(reader, kept, base, fields, members, given),
-        Err(fault) => Err(fault),
+    match read_fields(reader, kept, base, fields, members) {
+        Ok(read) => known_record(reader.alloc, &mut kept.hints, base, fields, members, read),
+        Err(fault) => {
+            let fault = known_first(reader.alloc, &mut kept.hints, base, fields, members, fault);
+            Err(fault)
+        }
     }
 }
 
-// The fields, of which those from a position on have no key: their defaults are shared, where they fit in the levels left.
+// The fields, and how many of them have a member.
 #[cycle(reading)]
 fn read_fields<'a>(
     reader: &Reader<'a>,
@@ -83,97 +97,165 @@ fn read_fields<'a>(
     base: Base,
     fields: &[Field],
     members: &Map<String, Json>,
-    given: usize,
-) -> Result<Value, Fault<Reason>>
+) -> Result<(Value, usize), Fault<Reason>>
     requires left { 0 < reader.now.levels }
     requires few { reader.now.levels ≤ 64 }
+    requires apart { AreApart (λ f. f.name.0) fields.now }
+    requires fields { length fields.now ≤ 4096 }
     requires declared { fields.now ≡ fields_in (form_of reader.now.schema.now.decls base) }
-    requires missing { AreMissing (members_view members.now.entries) given fields.now }
     requires known { kept.old.defaults ≡ reader.now.schema.now.decls }
-    ensures gives { Gives view result (as_record (answer.fields_from
+    ensures gives { Gives (λ read. view read.0) result (as_record (answer.fields_from
         (default_in reader.now) (part_of reader.now) fields.now
         (λ key. get_member key (members_view members.now.entries)))) }
+    ensures found { IfOk result (λ read. read.1
+        ≡ count_by (is_found (members_view members.now.entries)) fields.now) }
     ensures known { kept.new.defaults ≡ reader.now.schema.now.decls }
 {
-    let mut values = Vec::with_capacity(reader.alloc, given)?;
-    for (i, field) in fields.iter().enumerate() {
-        if i == given {
-            if let Some(row) = kept
-                .defaults
-                .within(reader.alloc, base, given, reader.levels)?
-            {
-                return Ok(Value::Short(Row::from_vec(values), row));
-            }
+    let mut values = Vec::with_capacity(reader.alloc, fields.len().min(members.len()))?;
+    for field in fields {
+        match read_given(reader, kept, field, members)? {
+            Some(value) => values.push(value)?,
+            None => return read_behind(reader, kept, base, fields, members, values),
         }
-        values.push(read_member(reader, kept, field, members)?)?;
     }
-    Ok(Value::Rec(Row::from_vec(values)))
+    let found = values.len();
+    let fields = Fields::Whole(Row::from_vec(values));
+    Ok((Value::Rec(fields), found))
 }
 
+// The same, where the first fields have these values, and the next has no member: of those without a member the defaults are shared.
 #[cycle(reading)]
-fn read_member<'a>(
+fn read_behind<'a>(
     reader: &Reader<'a>,
     kept: &mut Kept<'a>,
-    field: &Field,
+    base: Base,
+    fields: &[Field],
     members: &Map<String, Json>,
-) -> Result<Value, Fault<Reason>>
+    values: Vec<Value>,
+) -> Result<(Value, usize), Fault<Reason>>
     requires left { 0 < reader.now.levels }
     requires few { reader.now.levels ≤ 64 }
+    requires apart { AreApart (λ f. f.name.0) fields.now }
+    requires fields { length fields.now ≤ 4096 }
+    requires declared { fields.now ≡ fields_in (form_of reader.now.schema.now.decls base) }
+    requires some { length values.items ≤ length fields.now }
+    requires read { with_front (map view values.items) (answer.fields_from
+        (default_in reader.now) (part_of reader.now) (drop (length values.items) fields.now)
+        (λ key. get_member key (members_view members.now.entries)))
+        ≡ answer.fields_from (default_in reader.now) (part_of reader.now) fields.now
+        (λ key. get_member key (members_view members.now.entries)) }
+    requires found { length values.items ≡ count_by (is_found (members_view members.now.entries))
+        (take (length values.items) fields.now) }
     requires known { kept.old.defaults ≡ reader.now.schema.now.decls }
-    ensures gives { Gives view result (within (escaped (bytes_of field.now.name))
-        (answer.field_from (default_in reader.now) (part_of reader.now)
-        field.now (get_member (bytes_of field.now.name) (members_view members.now.entries)))) }
+    ensures gives { Gives (λ read. view read.0) result (as_record (answer.fields_from
+        (default_in reader.now) (part_of reader.now) fields.now
+        (λ key. get_member key (members_view members.now.entries)))) }
+    ensures found { IfOk result (λ read. read.1
+        ≡ count_by (is_found (members_view members.now.entries)) fields.now) }
     ensures known { kept.new.defaults ≡ reader.now.schema.now.decls }
 {
-    let name = field.name.0.as_str();
-    match read_field(reader, kept, field, member_of(members, name)) {
-        Ok(value) => Ok(value),
-        Err(fault) => Err(below_key(reader.alloc, name, fault)),
+    let first = values.len();
+    let defaults = kept.defaults.of(reader.alloc, base)?;
+    let mut given = Given::first(reader.alloc, values)?;
+    for i in first..fields.len() {
+        if are_done(&given, members, &defaults, reader.levels) {
+            let found = given.len();
+            return Ok((given.into_record(reader.alloc, &defaults)?, found));
+        }
+        let value = read_field(reader, kept, &fields[i], members, i, &defaults)?;
+        given.put(i, value)?;
     }
+    let found = given.len();
+    Ok((given.into_record(reader.alloc, &defaults)?, found))
 }
 
-pub fn member_of<'a>(members: &'a Map<String, Json>, name: &str) -> Option<&'a Json>
-    ensures { option_map (λ j. json_view j.now) result
-        ≡ get_member name.now (members_view members.now.entries) }
+// Whether all members are found, and the defaults of the other fields fit. False says nothing.
+fn are_done(given: &Given, members: &Map<String, Json>, defaults: &Defaults, levels: usize) -> bool
+    requires few { levels ≤ 64 }
+    requires whole { defaults.now.whole ≡ level_of (rec (items_of (datas_of defaults.now))) }
+    ensures { result ≡ true
+        → (members_len (members_view members.now.entries) ≡ length given.now.values.items)
+        × (depth_of (rec (items_of (datas_of defaults.now))) ≤ levels) }
 {
-    members.get(name)
+    given.len() == members.len() && defaults.fit(levels)
 }
 
+// The value of a field's member, or None where it has none, and its default fits.
 #[cycle(reading)]
 fn read_field<'a>(
     reader: &Reader<'a>,
     kept: &mut Kept<'a>,
     field: &Field,
-    json: Option<&Json>,
-) -> Result<Value, Fault<Reason>>
+    members: &Map<String, Json>,
+    i: usize,
+    defaults: &Defaults,
+) -> Result<Option<Value>, Fault<Reason>>
     requires left { 0 < reader.now.levels }
     requires few { reader.now.levels ≤ 64 }
+    requires default { HasDefaultAt reader.now.schema.now.decls field.now defaults.now i }
     requires known { kept.old.defaults ≡ reader.now.schema.now.decls }
-    ensures gives { Gives view result
-        (answer.field_from (default_in reader.now) (part_of reader.now) field.now
-        (option_map (λ j. json_view j.now) json.entry)) }
+    ensures gives { Gives (λ value. given_or value (initial_in reader.now.schema.now.decls field.now))
+        result (named_from (default_in reader.now) (part_of reader.now)
+        (members_view members.now.entries) field.now) }
+    ensures found { IfOk result (λ value. is_some value
+        ≡ is_found (members_view members.now.entries) field.now) }
     ensures known { kept.new.defaults ≡ reader.now.schema.now.decls }
 {
-    match json {
-        Some(json) => read_part(reader, kept, field.ty, json),
-        None => default_within(reader.alloc, reader.schema, field, reader.levels - 1),
+    match read_given(reader, kept, field, members) {
+        Ok(Some(value)) => Ok(Some(value)),
+        Ok(None) => left_out(reader, field, i, defaults),
+        Err(fault) => Err(fault),
     }
 }
 
-// A field's default, where it has at most so many levels.
-fn default_within(
-    alloc: Global,
-    schema: &Schema,
+// Refuses a field that is left out and whose default has too many levels.
+fn left_out(
+    reader: &Reader<'_>,
     field: &Field,
-    levels: usize,
-) -> Result<Value, Fault<Reason>>
-    requires { levels ≤ 64 }
-    ensures { Gives view result (answer.default_from levels schema.now.decls field.now) }
+    i: usize,
+    defaults: &Defaults,
+) -> Result<Option<Value>, Fault<Reason>>
+    requires few { reader.now.levels ≤ 64 }
+    requires default { HasDefaultAt reader.now.schema.now.decls field.now defaults.now i }
+    ensures gives { Gives (λ value. given_or value (initial_in reader.now.schema.now.decls field.now))
+        result (within (escaped (bytes_of field.now.name)) (default_in reader.now field.now)) }
+    ensures none { IfOk result (λ value. is_some value ≡ false) }
 {
-    let value = initial_of(alloc, schema, field)?;
-    if depth(&value) <= levels {
-        Ok(value)
-    } else {
-        Err(refused(alloc, Reason::TooDeep))
+    if defaults.fits(i, reader.levels) {
+        return Ok(None);
     }
+    let fault = refused(reader.alloc, Reason::TooDeep);
+    Err(below_key(reader.alloc, field.name.0.as_str(), fault))
+}
+
+// The value of a field's member, or None where it has none.
+#[cycle(reading)]
+fn read_given<'a>(
+    reader: &Reader<'a>,
+    kept: &mut Kept<'a>,
+    field: &Field,
+    members: &Map<String, Json>,
+) -> Result<Option<Value>, Fault<Reason>>
+    requires left { 0 < reader.now.levels }
+    requires few { reader.now.levels ≤ 64 }
+    requires known { kept.old.defaults ≡ reader.now.schema.now.decls }
+    ensures gives { GivesMember (default_in reader.now) (part_of reader.now)
+        (members_view members.now.entries) field.now result }
+    ensures known { kept.new.defaults ≡ reader.now.schema.now.decls }
+{
+    let name = field.name.0.as_str();
+    let Some(json) = member_of(members, name) else {
+        return Ok(None);
+    };
+    match read_part(reader, kept, field.ty, json) {
+        Ok(value) => Ok(Some(value)),
+        Err(fault) => Err(below_key(reader.alloc, name, fault)),
+    }
+}
+
+fn member_of<'a>(members: &'a Map<String, Json>, name: &str) -> Option<&'a Json>
+    ensures { option_map (λ j. json_view j.now) result
+        ≡ get_member name.now (members_view members.now.entries) }
+{
+    members.get(name)
 }

@@ -15,7 +15,7 @@ use crate::reading::read_part;
 use crate::side_by_side::plain_sequence;
 use aidl_base::Row;
 use aidl_schema::AidlType;
-use aidl_values::Value;
+use aidl_values::{Elements, Value};
 use serde_json::Value as Json;
 
 // An array or a List of a type.
@@ -60,7 +60,7 @@ fn read_elements<'a>(
         return Ok(value);
     }
     match read_items(reader, kept, ty, items) {
-        Ok(values) => Ok(Value::Seq(values)),
+        Ok(values) => Ok(Value::Seq(Elements::Values(values))),
         Err(fault) => Err(fault),
     }
 }

@@ -9,7 +9,7 @@ ghost use Rattle.json_values.specs.steps.Plain.{ArePlain, IsPlain};
 use crate::numbers::plain_number;
 use aidl_base::{OutOfMemory, Row};
 use aidl_schema::{AidlType, Base, Shape};
-use aidl_values::{Numbers, Value};
+use aidl_values::{Elements, Value};
 use serde_json::Value as Json;
 use std::alloc::Global;
 
@@ -82,7 +82,7 @@ impl Element for bool {
     fn sequence(elements: Vec<bool>) -> Value
         ensures { view result ≡ seq (items_of (map truth elements.items)) }
     {
-        Value::Truths(Row::from_vec(elements))
+        Value::Seq(Elements::Truths(Row::from_vec(elements)))
     }
 }
 
@@ -104,7 +104,7 @@ impl Element for u8 {
         ensures { view result
             ≡ seq (items_of (map (λ b. number (cast_signed w8 b)) elements.items)) }
     {
-        Value::Numbers(Numbers::from_bytes(elements))
+        Value::Seq(Elements::Bytes(Row::from_vec(elements)))
     }
 }
 
@@ -125,7 +125,7 @@ impl Element for u16 {
     fn sequence(elements: Vec<u16>) -> Value
         ensures { view result ≡ seq (items_of (map (λ unit. number (pos unit)) elements.items)) }
     {
-        Value::Numbers(Numbers::from_chars(elements))
+        Value::Seq(Elements::Chars(Row::from_vec(elements)))
     }
 }
 
@@ -145,7 +145,7 @@ impl Element for i32 {
     fn sequence(elements: Vec<i32>) -> Value
         ensures { view result ≡ seq (items_of (map number elements.items)) }
     {
-        Value::Numbers(Numbers::from_ints(elements))
+        Value::Seq(Elements::Ints(Row::from_vec(elements)))
     }
 }
 
@@ -162,6 +162,6 @@ impl Element for i64 {
     fn sequence(elements: Vec<i64>) -> Value
         ensures { view result ≡ seq (items_of (map number elements.items)) }
     {
-        Value::Numbers(Numbers::from_longs(elements))
+        Value::Seq(Elements::Longs(Row::from_vec(elements)))
     }
 }

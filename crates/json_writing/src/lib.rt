@@ -1,9 +1,11 @@
 //! Values as JSON: as a value of `serde_json`, and as compact text that is printed piece by piece.
 #![tactic(auto)]
 
+mod byte_texts;
 mod member_rows;
 mod members;
 mod named;
+mod number_text;
 mod object_text;
 mod printer;
 mod quoted;
@@ -15,6 +17,7 @@ mod walks;
 mod writing;
 
 pub use named::{Called, enumerators_in, fields_of, is_called};
+pub use printer::JsonPrinter;
 pub use value_names::ValueNames;
 pub use value_text::push_value_text;
 pub use walks::{WALKS, Walks};

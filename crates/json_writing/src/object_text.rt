@@ -4,7 +4,7 @@ ghost use Rattle.serde_json.specs.Data.{object, member, no_members};
 ghost use Rattle.serde_json.specs.Written.{compact_text};
 ghost use Rattle.aidl_values.specs.Data.{alt, rec};
 ghost use Rattle.aidl_values.specs.HasType.{HasType, FieldsHaveType};
-ghost use Rattle.aidl_values.specs.View.{view, views};
+ghost use Rattle.aidl_values.specs.View.{field_datas, items_of, view};
 ghost use Rattle.json_writing.specs.Json.{json_of};
 ghost use Rattle.json_writing.specs.Named.{bytes_of};
 ghost use Rattle.json_writing.specs.ValueText.{value_text};
@@ -12,27 +12,27 @@ ghost use Rattle.json_writing.specs.steps.Members.{AreWithin, row_text};
 ghost use Rattle.json_writing.specs.steps.Parts.{part_at};
 
 use crate::members::Member;
-use crate::printer::Printer;
+use crate::printer::JsonPrinter;
 use crate::quoted::push_quoted;
 use crate::value_text::{push_null, push_value};
 use aidl_base::OutOfMemory;
 use aidl_schema::{AidlType, Field};
-use aidl_values::{FieldValues, Value};
+use aidl_values::{Fields, Value};
 use std::alloc::Global;
 
 // Adds a parcelable: its fields in the order of their names.
 #[cycle(printing)]
 pub fn push_record(
     alloc: Global,
-    printer: &mut Printer<'_>,
+    printer: &mut JsonPrinter<'_>,
     ty: AidlType,
-    values: &FieldValues<'_>,
+    values: &Fields,
     text: &mut String,
 ) -> Result<(), OutOfMemory>
-    requires { HasType printer.old ty (rec (views values.now)) }
+    requires { HasType printer.old ty (rec (items_of (field_datas values.now))) }
     ensures same { printer.new ≡ printer.old }
     ensures text { OnOk result (string_bytes text.new
-        ≡ string_bytes text.old ++ value_text printer.old ty (rec (views values.now))) }
+        ≡ string_bytes text.old ++ value_text printer.old ty (rec (items_of (field_datas values.now)))) }
 {
     let fields = printer.fields(ty.base);
     let row = printer.row(alloc, ty.base)?;
@@ -45,17 +45,17 @@ pub fn push_record(
 #[cycle(printing)]
 fn push_members(
     alloc: Global,
-    printer: &mut Printer<'_>,
+    printer: &mut JsonPrinter<'_>,
     fields: &[Field],
     row: &[Member],
-    values: &FieldValues<'_>,
+    values: &Fields,
     text: &mut String,
 ) -> Result<(), OutOfMemory>
-    requires typed { FieldsHaveType printer.old fields.now (views values.now) }
+    requires typed { FieldsHaveType printer.old fields.now (items_of (field_datas values.now)) }
     requires within { AreWithin (length fields.now) row.now }
     ensures same { printer.new ≡ printer.old }
     ensures text { OnOk result (string_bytes text.new ≡ string_bytes text.old
-        ++ row_text (λ i. compact_text (part_at printer.old fields.now values.now i)) row.now) }
+        ++ row_text (λ i. compact_text (part_at printer.old fields.now (field_datas values.now) i)) row.now) }
 {
     for member in row {
         push_member(alloc, printer, fields, member, values, text)?;
@@ -66,18 +66,18 @@ fn push_members(
 #[cycle(printing)]
 fn push_member(
     alloc: Global,
-    printer: &mut Printer<'_>,
+    printer: &mut JsonPrinter<'_>,
     fields: &[Field],
     member: &Member,
-    values: &FieldValues<'_>,
+    values: &Fields,
     text: &mut String,
 ) -> Result<(), OutOfMemory>
-    requires typed { FieldsHaveType printer.old fields.now (views values.now) }
+    requires typed { FieldsHaveType printer.old fields.now (items_of (field_datas values.now)) }
     requires within { member.now.place < length fields.now }
     ensures same { printer.new ≡ printer.old }
     ensures text { OnOk result (string_bytes text.new ≡ string_bytes text.old
         ++ (string_bytes member.now.key ++ compact_text
-        (part_at printer.old fields.now values.now member.now.place))) }
+        (part_at printer.old fields.now (field_datas values.now) member.now.place))) }
 {
     text.push_str(member.key.as_str())?;
     let field = &fields[member.place];
@@ -88,7 +88,7 @@ fn push_member(
 #[cycle(printing)]
 pub fn push_alternative(
     alloc: Global,
-    printer: &mut Printer<'_>,
+    printer: &mut JsonPrinter<'_>,
     ty: AidlType,
     tag: u32,
     value: &Value,
@@ -109,7 +109,7 @@ pub fn push_alternative(
 #[cycle(printing)]
 fn push_only(
     alloc: Global,
-    printer: &mut Printer<'_>,
+    printer: &mut JsonPrinter<'_>,
     field: &Field,
     value: &Value,
     text: &mut String,

@@ -7,12 +7,12 @@ ghost use Rattle.aidl_values.specs.View.{view};
 ghost use Rattle.json_writing.specs.ValueText.{value_text};
 
 use crate::object_text::{push_alternative, push_record};
-use crate::printer::Printer;
+use crate::printer::JsonPrinter;
 use crate::quoted::push_quoted;
-use crate::sequence_text::{push_numbers, push_sequence, push_truths};
+use crate::sequence_text::push_sequence;
 use aidl_base::OutOfMemory;
 use aidl_schema::{AidlType, Schema};
-use aidl_values::{FieldValues, Value};
+use aidl_values::Value;
 use std::alloc::Global;
 
 /// Adds a value of a type to a text, as compact JSON. It goes into the text piece by piece, with no JSON value between, but
@@ -28,14 +28,14 @@ pub fn push_value_text(
     ensures { OnOk result (string_bytes text.new
         ≡ string_bytes text.old ++ value_text schema.now.decls ty.now (view value.now)) }
 {
-    let mut printer = Printer::new(alloc, schema);
-    push_value(alloc, &mut printer, *ty, value, text)
+    let mut printer = JsonPrinter::new(alloc, schema);
+    printer.push_value(alloc, ty, value, text)
 }
 
 #[cycle(printing)]
 pub fn push_value(
     alloc: Global,
-    printer: &mut Printer<'_>,
+    printer: &mut JsonPrinter<'_>,
     ty: AidlType,
     value: &Value,
     text: &mut String,
@@ -50,14 +50,8 @@ pub fn push_value(
         Value::Truth(b) => push_truth(*b, text),
         Value::Number(n) => printer.push_number(alloc, ty.base, *n, text),
         Value::Text(string) => push_quoted(alloc, string.as_str(), text),
-        Value::Seq(items) => push_sequence(alloc, printer, ty, items.as_slice(), text),
-        Value::Truths(truths) => push_truths(truths.as_slice(), text),
-        Value::Numbers(numbers) => push_numbers(alloc, printer, ty.base, numbers, text),
-        Value::Rec(given) => push_record(alloc, printer, ty, &FieldValues::whole(given), text),
-        Value::Short(given, defaults) => {
-            let values = FieldValues::short(given, defaults);
-            push_record(alloc, printer, ty, &values, text)
-        }
+        Value::Seq(elements) => push_sequence(alloc, printer, ty, elements, text),
+        Value::Rec(values) => push_record(alloc, printer, ty, values, text),
         Value::Alt(tag, inner) => push_alternative(alloc, printer, ty, *tag, inner, text),
     }
 }

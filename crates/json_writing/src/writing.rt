@@ -1,18 +1,17 @@
 //! The JSON value of a value of a type, part by part.
-ghost use Rattle.std.specs.Prelude.{◌≡◌, IfOk, option_map, slice_get};
+ghost use Rattle.std.specs.Prelude.{◌≡◌, IfOk, slice_get};
 ghost use Rattle.serde_json.specs.Data.{array, object, member, no_members};
 ghost use Rattle.serde_json.specs.View.{view as json_view};
 ghost use Rattle.aidl_values.specs.HasType.{HasType};
-ghost use Rattle.aidl_values.specs.View.{view, views};
+ghost use Rattle.aidl_values.specs.View.{datas, field_datas, items_of, view, view_element};
 ghost use Rattle.json_writing.specs.Json.{json_of, json_items, json_members, json_named, json_number, json_alternative};
 ghost use Rattle.json_writing.specs.Named.{bytes_of, enumerators_of};
-ghost use Rattle.json_writing.specs.steps.Rows.{json_numbers, json_truths};
 
 use crate::named::fields_of;
 use crate::value_names::ValueNames;
 use aidl_base::{Ident, OutOfMemory};
 use aidl_schema::{AidlType, Base, Field, Schema, element};
-use aidl_values::{FieldValues, Numbers, Value};
+use aidl_values::{Element, Elements, Fields, Value};
 use serde_json::{Map, Value as Json, put};
 use std::alloc::Global;
 
@@ -49,23 +48,12 @@ fn write(
         Value::Truth(b) => Ok(Json::Bool(*b)),
         Value::Number(n) => write_number(alloc, names, ty.base, *n),
         Value::Text(text) => Ok(Json::try_from_str(alloc, text.as_str())?),
-        Value::Seq(items) => write_items(
-            alloc,
-            schema,
-            names,
-            element(schema, ty),
-            items.as_slice(),
-        ),
-        Value::Truths(truths) => write_truths(alloc, truths.as_slice()),
-        Value::Numbers(numbers) => write_numbers(alloc, names, ty.base, numbers),
-        Value::Rec(given) => {
-            let fields = fields_of(schema, ty.base);
-            write_fields(alloc, schema, names, fields, &FieldValues::whole(given))
+        Value::Seq(elements) => {
+            write_elements(alloc, schema, names, element(schema, ty), elements)
         }
-        Value::Short(given, defaults) => {
+        Value::Rec(values) => {
             let fields = fields_of(schema, ty.base);
-            let values = FieldValues::short(given, defaults);
-            write_fields(alloc, schema, names, fields, &values)
+            write_fields(alloc, schema, names, fields, values)
         }
         Value::Alt(tag, inner) => {
             let fields = fields_of(schema, ty.base);
@@ -75,52 +63,43 @@ fn write(
 }
 
 #[cycle(writing)]
-fn write_items(
+fn write_elements(
     alloc: Global,
     schema: &Schema,
     names: &mut ValueNames<'_>,
     ty: AidlType,
-    values: &[Value],
+    elements: &Elements,
 ) -> Result<Json, OutOfMemory>
     requires { names.old ≡ schema.now.decls }
     ensures same { names.new ≡ names.old }
     ensures json { IfOk result (λ j. json_view j
-        ≡ array (json_items schema.now.decls ty (views values.now))) }
+        ≡ array (json_items schema.now.decls ty (items_of (datas elements.now)))) }
 {
-    let mut items = Vec::with_capacity(alloc, values.len())?;
-    for value in values {
-        items.push(write(alloc, schema, names, ty, value)?)?;
+    let mut items = Vec::with_capacity(alloc, elements.len())?;
+    for i in 0..elements.len() {
+        items.push(write_element(alloc, schema, names, ty, elements.get(i))?)?;
     }
     Ok(Json::from(items))
 }
 
-// An array of booleans, side by side.
-fn write_truths(alloc: Global, truths: &[bool]) -> Result<Json, OutOfMemory>
-    ensures { IfOk result (λ j. json_view j ≡ array (json_truths truths.now)) }
-{
-    let mut items = Vec::with_capacity(alloc, truths.len())?;
-    for truth in truths {
-        items.push(Json::Bool(*truth))?;
-    }
-    Ok(Json::from(items))
-}
-
-// An array of numbers of a base, side by side.
-fn write_numbers(
+#[cycle(writing)]
+fn write_element(
     alloc: Global,
+    schema: &Schema,
     names: &mut ValueNames<'_>,
-    base: Base,
-    numbers: &Numbers,
+    ty: AidlType,
+    element: Element<'_>,
 ) -> Result<Json, OutOfMemory>
+    requires { names.old ≡ schema.now.decls }
     ensures same { names.new ≡ names.old }
-    ensures json { IfOk result (λ j. json_view j
-        ≡ array (json_numbers (enumerators_of names.old base) numbers.now)) }
+    ensures json { IfOk result
+        (λ j. json_view j ≡ json_of schema.now.decls ty (view_element element.entry)) }
 {
-    let mut items = Vec::with_capacity(alloc, numbers.len())?;
-    for i in 0..numbers.len() {
-        items.push(write_number(alloc, names, base, numbers.get(i))?)?;
+    match element {
+        Element::Value(value) => write(alloc, schema, names, ty, value),
+        Element::Truth(b) => Ok(Json::Bool(b)),
+        Element::Number(n) => write_number(alloc, names, ty.base, n),
     }
-    Ok(Json::from(items))
 }
 
 // The fields that have a value go in from the last to the first.
@@ -130,12 +109,12 @@ fn write_fields(
     schema: &Schema,
     names: &mut ValueNames<'_>,
     fields: &[Field],
-    values: &FieldValues<'_>,
+    values: &Fields,
 ) -> Result<Json, OutOfMemory>
     requires { names.old ≡ schema.now.decls }
     ensures same { names.new ≡ names.old }
     ensures json { IfOk result (λ j. json_view j
-        ≡ object (json_members schema.now.decls fields.now (views values.now))) }
+        ≡ object (json_members schema.now.decls fields.now (items_of (field_datas values.now)))) }
 {
     let mut members = Map::new(alloc);
     let count = fields.len().min(values.len());

@@ -2,6 +2,7 @@ pub mod lemmas
 mod Examples
 mod Exact
 mod Slashes
+mod Stems
 mod Lengths
 mod Levels
 mod Steps

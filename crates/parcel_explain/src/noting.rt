@@ -38,6 +38,19 @@ pub fn push(
     ensures { OnOk result (items.new ≡ items.old ++ unplaced path.now kind length ∷ []) }
 {
     let path = path.try_clone(alloc)?;
+    push_with(path, kind, length, items)
+}
+
+/// The same with a path that becomes the item's.
+pub fn push_with(
+    path: Text,
+    kind: ItemKind,
+    length: usize,
+    items: &mut Row<Item>,
+) -> Result<(), OutOfMemory>
+    requires { length < 2 ^ 32 }
+    ensures { OnOk result (items.new ≡ items.old ++ unplaced path kind length ∷ []) }
+{
     items.push(Item {
         offset: 0,
         length: length as u32,
@@ -51,12 +64,19 @@ pub fn push(
 pub fn stop_at(alloc: Global, path: &Text, fault: ReadFault) -> Stopped
     ensures { IsWrong path.now fault result }
 {
-    let Some(status) = fault.status() else {
-        return Stopped::OutOfMemory;
-    };
     match path.try_clone(alloc) {
-        Ok(path) => Stopped::Wrong { path, status },
+        Ok(path) => stop_with(path, fault),
         Err(_) => Stopped::OutOfMemory,
+    }
+}
+
+/// The same with a path that is handed on.
+pub fn stop_with(path: Text, fault: ReadFault) -> Stopped
+    ensures { IsWrong path fault result }
+{
+    match fault.status() {
+        Some(status) => Stopped::Wrong { path, status },
+        None => Stopped::OutOfMemory,
     }
 }
 

@@ -2,7 +2,7 @@
 //! for want of memory.
 ghost use Rattle.std.specs.Prelude.{◌≡◌, ◌+◌, ◌<◌, ◌≤◌, true, length, Some, OnOk};
 ghost use Rattle.aidl_base.specs.declared.profile.Profile.TheVariants.{Strict};
-ghost use Rattle.aidl_schema.specs.Types.{elem, form_of, is_raw};
+ghost use Rattle.aidl_schema.specs.Types.{elem, form_of, is_one, is_raw};
 ghost use Rattle.aidl_schema.specs.Seen.{seen};
 ghost use Rattle.aidl_values.specs.steps.Levels.{is_level_left};
 ghost use Rattle.parcel_words.specs.Place.{left, is_inside, MovesOn};
@@ -12,10 +12,11 @@ ghost use Rattle.parcel_explain.specs.steps.Notes.{Tells, done, part_items};
 use crate::item::{Item, ItemKind};
 use crate::marks::{elements_count_item, marker_item, tag_item};
 use crate::noting::{Stopped, push, push_some, stop_at};
-use crate::paths::{Spot, below_index, below_name};
-use crate::words::{bytes_item, text_items, word_item};
+use crate::paths::{Spot, below_name, element_path, stem_of};
+use crate::words::{bytes_item, text_items, word_item, words_items};
 use aidl_base::Row;
 use aidl_schema::{AidlType, Field, Form, Shape, element, form_in, is_raw};
+use itoa::Buffer;
 use parcel_words::{ReadFault, WordReader};
 use std::alloc::Global;
 
@@ -135,9 +136,39 @@ fn counted_items(
     elements_items(alloc, element, count, spot, from, items)
 }
 
-// Notes the items of so many elements.
+// Notes the items of so many elements, by what their type means, which is looked up once where they are words or longs.
 #[cycle(note)]
 fn elements_items(
+    alloc: Global,
+    element: AidlType,
+    count: usize,
+    spot: &Spot<'_>,
+    from: &mut WordReader,
+    items: &mut Row<Item>,
+) -> Result<(), Stopped>
+    requires strict { from.old.profile ≡ Strict }
+    requires small { length from.old.bytes ≤ 1048576 }
+    requires some { 0 < spot.now.levels }
+    requires room { length from.old.ends + spot.now.levels ≤ 64 }
+    requires one { is_one element.shape ≡ true }
+    ensures told { Tells done result (meant.elements_items
+        (λ q b. part_items spot.now.schema.now.decls spot.now.levels element q (is_inside from.old)
+        b) spot.now.path.now 0 count (left from.old)) (left from.new) items.old items.new }
+    ensures on { OnOk result (MovesOn from.old from.new) }
+{
+    match form_in(spot.schema, element.base) {
+        Form::Truth => words_items::<bool>(alloc, count, spot.path, from, items),
+        Form::Byte => words_items::<i8>(alloc, count, spot.path, from, items),
+        Form::Char => words_items::<u16>(alloc, count, spot.path, from, items),
+        Form::Int => words_items::<i32>(alloc, count, spot.path, from, items),
+        Form::Long => words_items::<i64>(alloc, count, spot.path, from, items),
+        _ => each_items(alloc, element, count, spot, from, items),
+    }
+}
+
+// Notes the items of so many elements of any type.
+#[cycle(note)]
+fn each_items(
     alloc: Global,
     element: AidlType,
     count: usize,
@@ -154,8 +185,10 @@ fn elements_items(
         b) spot.now.path.now 0 count (left from.old)) (left from.new) items.old items.new }
     ensures on { OnOk result (MovesOn from.old from.new) }
 {
+    let mut digits = Buffer::new();
+    let mut stem = stem_of(alloc, spot.path)?;
     for index in 0..count {
-        let below = below_index(alloc, spot.path, index)?;
+        let below = element_path(alloc, &mut stem, &mut digits, index)?;
         let part = Spot {
             schema: spot.schema,
             path: &below,

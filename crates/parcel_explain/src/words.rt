@@ -1,16 +1,18 @@
-//! Items of words and longs, of texts and of raw bytes. Each call ends where an item is wrong, or for want of memory.
+//! Items of words and longs, one or many, of texts and of raw bytes. Each call ends where an item is wrong, or for want of memory.
 ghost use Rattle.std.specs.Prelude.{◌≡◌, ◌≤◌, ◌^◌, ◌<◌, length, Some, IfOk, IfSome, OnOk};
 ghost use Rattle.aidl_base.specs.declared.profile.Profile.TheVariants.{Strict};
 ghost use Rattle.aidl_base.specs.Readings.{block_at, count_at, raw_at};
 ghost use Rattle.parcel_words.specs.Place.{left, is_inside, MovesOn};
-ghost use Rattle.parcel_explain.specs.Items.{block_item, bytes_item, text_items, value_item};
+ghost use Rattle.parcel_explain.specs.Items.{block_item, bytes_item, elements_items, text_items, value_item};
 ghost use Rattle.parcel_explain.specs.Noted.{item};
 ghost use Rattle.parcel_explain.specs.declared.item.ItemKind.TheVariants as kind;
 ghost use Rattle.parcel_explain.specs.steps.Notes.{Tells, done};
 
 use crate::item::{Item, ItemKind};
-use crate::noting::{Stopped, push, push_some, stop_at};
+use crate::noting::{Stopped, push, push_some, push_with, stop_at, stop_with};
+use crate::paths::{element_path, stem_of};
 use aidl_base::{Row, Text};
+use itoa::Buffer;
 use parcel_words::{Wire, WordReader};
 use std::alloc::Global;
 
@@ -26,11 +28,51 @@ pub fn word_item<W: Wire>(
         (is_inside from.old) c) (left from.old)) (left from.new) items.old items.new }
     ensures on { OnOk result (MovesOn from.old from.new) }
 {
+    let path = path.try_clone(alloc)?;
+    word_with::<W>(alloc, path, from, items)
+}
+
+// The same with a path that becomes the item's.
+fn word_with<W: Wire>(
+    alloc: Global,
+    path: Text,
+    from: &mut WordReader,
+    items: &mut Row<Item>,
+) -> Result<(), Stopped>
+    requires small { length from.old.bytes ≤ 1048576 }
+    ensures told { Tells done result (value_item path (λ c. W.reading from.old.profile
+        (is_inside from.old) c) (left from.old)) (left from.new) items.old items.new }
+    ensures on { OnOk result (MovesOn from.old from.new) }
+{
     let start = from.position();
     match W::take(alloc, from) {
-        Ok(_) => Ok(push(alloc, path, ItemKind::Value, from.position() - start, items)?),
-        Err(fault) => Err(stop_at(alloc, path, fault)),
+        Ok(_) => Ok(push_with(path, ItemKind::Value, from.position() - start, items)?),
+        Err(fault) => Err(stop_with(path, fault)),
     }
+}
+
+/// Notes the items of so many words or longs, the elements of a value at this path.
+pub fn words_items<W: Wire>(
+    alloc: Global,
+    count: usize,
+    path: &Text,
+    from: &mut WordReader,
+    items: &mut Row<Item>,
+) -> Result<(), Stopped>
+    requires strict { from.old.profile ≡ Strict }
+    requires small { length from.old.bytes ≤ 1048576 }
+    ensures told { Tells done result (elements_items (λ q b. value_item q (λ c. W.reading Strict
+        (is_inside from.old) c) b) path.now 0 count (left from.old))
+        (left from.new) items.old items.new }
+    ensures on { OnOk result (MovesOn from.old from.new) }
+{
+    let mut digits = Buffer::new();
+    let mut stem = stem_of(alloc, path)?;
+    for index in 0..count {
+        let below = element_path(alloc, &mut stem, &mut digits, index)?;
+        word_with::<W>(alloc, below, from, items)?;
+    }
+    Ok(())
 }
 
 /// Notes the items of a String: its count, and its block where it isn't null.

@@ -1,6 +1,7 @@
 mod Digits
 mod Endings
 mod Entries
+mod HexDigits
 mod NamedBases
 mod Planned
 mod ReadValues

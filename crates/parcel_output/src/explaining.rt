@@ -1,9 +1,10 @@
 //! What `explain` prints: a line for each item of a parcel.
-ghost use Rattle.std.specs.Prelude.{◌≡◌, ◌≤◌, ◌++◌, IfOk, OnOk, codes, length, string_bytes};
+ghost use Rattle.std.specs.Prelude.{◌≡◌, ◌≤◌, ◌++◌, IfOk, IsAscii, OnOk, codes, length, string_bytes};
 ghost use Rattle.std.specs.List.{flat_map, list_all};
 ghost use Rattle.parcel_output.specs.Explain.{bytes_at, explain_answer, is_right, item_line, items_verdict, kind_text, path_text};
 ghost use Rattle.tool_frame.specs.Answer.{line};
 ghost use Rattle.tool_frame.specs.Results.{Gives};
+ghost use Rattle.tool_frame.specs.Shown.{shown};
 
 use crate::steps::known_types;
 use aidl_base::{OutOfMemory, Text};
@@ -55,10 +56,30 @@ fn push_item(
 {
     text.push_str(digits.format(item.offset))?;
     text.push_str(" ")?;
-    push_shown(alloc, bytes_at(parcel, item), text)?;
+    push_bytes(alloc, bytes_at(parcel, item), text)?;
     text.push_str(" ")?;
     text.push_str(path_text(&item.path))?;
     push_kind(item.kind, text)
+}
+
+// Adds the bytes of an item. Those of a word, as most items are, take no memory of their own.
+fn push_bytes(alloc: Global, bytes: &[u8], text: &mut String) -> Result<(), OutOfMemory>
+    ensures { OnOk result (string_bytes text.new ≡ string_bytes text.old ++ shown bytes.now) }
+{
+    let mut digits = [0; 8];
+    match hex::encode_to_slice(bytes, &mut digits) {
+        Ok(()) => push_digits(&digits, text),
+        Err(_) => push_shown(alloc, bytes, text),
+    }
+}
+
+// Adds ASCII. It is UTF-8, which is proved and not tested.
+fn push_digits(digits: &[u8], text: &mut String) -> Result<(), OutOfMemory>
+    requires { IsAscii digits.now }
+    ensures { OnOk result (string_bytes text.new ≡ string_bytes text.old ++ digits.now) }
+{
+    text.push_str(unsafe { std::str::from_utf8_unchecked(digits) })?;
+    Ok(())
 }
 
 // The bytes of an item.

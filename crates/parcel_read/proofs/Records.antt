@@ -1,8 +1,15 @@
 -- A record's fields are read of the bytes of its body.
-use Rattle.std.proofs.Common.{◌≡◌, ℕ, ℤ, Bool, List, Result, Ok, Err, refl, ap, ◌∙◌}
+use Rattle.std.proofs.Common.{◌≡◌, ℕ, ℤ, ◌≤◌, Bool, List, ◌++◌, length, map, drop, Result, Ok, Err, refl, ap, ◌∙◌, arith}
+use Rattle.std.proofs.lemmas.List.{drop-map, length-map}
 use Rattle.aidl_base.specs.Readings.{Read, ◌>>=◌}
 use Rattle.marshal_plans.specs.declared.plans.PlanField.{PlanField}
 use Rattle.aidl_values.specs.Data.{Data, Items, rec}
+use Rattle.aidl_values.specs.Given.{given_then}
+use Rattle.aidl_values.specs.View.{items_of, view, views}
+use Rattle.aidl_values.specs.declared.value.Value.{Value}
+use Rattle.aidl_values.specs.declared.value.Value.TheVariants as value
+use Rattle.aidl_values.specs.declared.value.Fields.TheVariants as fields
+use Rattle.aidl_values.proofs.lemmas.Views.{view_of_rec, fields_whole}
 use Rattle.parcel_words.specs.Place.{Place, left, closed, size_at, MovesOn, Enters, is_inside}
 use Rattle.parcel_words.specs.Taken.{RefusesIfMemory}
 use Rattle.parcel_words.specs.declared.fault.ReadFault.{ReadFault}
@@ -51,3 +58,16 @@ module _ (initial : PlanField → Data) (read : PlanField → List ℕ → Read 
   unfolding body_value_at
   no_record fs inside b e h =
       fails_as e (size_at inside b) (body_value_at initial read fs inside b) (λ s k. ap (with_fields_of fs) (body_steps inside b ∙ ap cursor.after_size k)) h
+
+-- a record of which all values were read
+pub whole_seen : (vs : List Value) → view (value.Rec (fields.Whole vs)) ≡ rec (views vs)
+whole_seen vs = view_of_rec (fields.Whole vs) ∙ ap (λ ds. rec (items_of ds)) (fields_whole vs)
+
+-- The values that were read, and behind them those of the other fields.
+module _ {F : Type 0} (value_of : F → Data) (fs : List F) (vs row : List Value) (i : ℕ) (many : length vs ≡ i) (are : map view row ≡ map value_of fs) where
+  pub first_seen : given_then (map view vs) (map view row) ≡ map view vs ++ map value_of (drop i fs)
+  first_seen =
+      ap (λ ds. map view vs ++ ds) (ap (λ n. drop n (map view row)) (length-map vs view ∙ many) ∙ ap (drop i) are ∙ drop-map value_of i fs)
+
+  pub first_fit : i ≤ length fs → length vs ≤ length row
+  first_fit le = omega (arith, many, length-map row view, length-map fs value_of, ap length are)

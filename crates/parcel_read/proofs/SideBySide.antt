@@ -1,16 +1,19 @@
 -- Elements that are read as a row of their own type are those that are read as values.
-use Rattle.std.proofs.Common.{◌≡◌, ℕ, zero, suc, ◌<◌, ◌-◌, Bool, Some, slice_get, pos, List, [], ◌∷◌, map, Ok, Err, refl, sym, ap, ◌∙◌}
+use Rattle.std.proofs.Common.{◌≡◌, ℕ, zero, suc, ◌<◌, ◌-◌, Bool, Some, slice_get, pos, List, [], ◌∷◌, map, Result, Ok, Err, refl, sym, ap, ◌∙◌, subst}
 use Rattle.std.specs.Int.{w8, cast_signed}
 use Rattle.aidl_base.specs.Readings.{Read, ◌>>=◌, items_at}
 use Rattle.aidl_base.specs.declared.profile.Profile.{Profile}
 use Rattle.aidl_values.specs.Data.{Data, Items, item, number, seq}
-use Rattle.aidl_values.specs.View.{items_of}
+use Rattle.aidl_values.specs.View.{items_of, view, datas}
+use Rattle.aidl_values.specs.declared.value.Value.{Value}
+use Rattle.aidl_values.specs.declared.value.Elements.TheVariants as elements
+use Rattle.aidl_values.proofs.lemmas.Views.{datas_bytes, datas_chars}
 use Rattle.aidl_values.specs.steps.Levels.{is_level_left}
 use Rattle.marshal_plans.specs.declared.plans.PlanId.{PlanId}
 use Rattle.marshal_plans.specs.declared.plans.PlanItem.{PlanItem}
 use Rattle.marshal_plans.specs.declared.plans.Plans.{Plans}
 use Rattle.parcel_words.specs.declared.fault.ReadFault.{ReadFault}
-use Rattle.parcel_words.specs.Taken.{RefusesIfMemory}
+use Rattle.parcel_words.specs.Taken.{RefusesIfMemory, TakesIfMemory}
 use Rattle.parcel_words.proofs.lemmas.Faults.{fails_as}
 use Rattle.parcel_read.specs.steps.PlanDefault.{initial_by_plan}
 use Rattle.parcel_read.specs.steps.PlanRead.{item_at, plan_parts}
@@ -52,15 +55,21 @@ pub row_refused : {A : Type 0} (seen : A → Data) (read : List ℕ → Read A) 
 row_refused seen read n b fault h =
     fails_as fault (items_at read n b) (row_at (λ c. read_as seen (read c)) n b) (λ s e. row_is seen read n b ∙ ap (λ x. as_items seen x >>= λ vs. Ok (seq vs.0, vs.1)) e) h
 
--- the signed numbers of bytes
-pub raw_is : (bytes : List ℕ) → items_of (map number (map (λ b. cast_signed w8 b) bytes)) ≡ raw_items bytes
+-- bytes as elements
+raw_is : (bytes : List ℕ) → items_of (map number (map (λ b. cast_signed w8 b) bytes)) ≡ raw_items bytes
 raw_is [] = refl
 raw_is (b ∷ bytes) = ap (item (number (cast_signed w8 b))) (raw_is bytes)
 
--- the numbers of code units
-pub chars_are : (units : List ℕ) → items_of (map number (map pos units)) ≡ items_of (map char_data units)
-chars_are [] = refl
-chars_are (u ∷ units) = ap (item (number (pos u))) (chars_are units)
+pub bytes_are : (bytes : List ℕ) → items_of (datas (elements.Bytes bytes)) ≡ raw_items bytes
+bytes_are bytes = ap items_of (datas_bytes bytes) ∙ raw_is bytes
+
+-- code units as elements
+numbers_are : (units : List ℕ) → map number (map pos units) ≡ map char_data units
+numbers_are [] = refl
+numbers_are (u ∷ units) = ap (λ ds. number (pos u) ∷ ds) (numbers_are units)
+
+pub chars_are : (units : List ℕ) → datas (elements.Chars units) ≡ map char_data units
+chars_are units = datas_chars units ∙ numbers_are units
 
 -- Elements that are read alike one by one are read alike together.
 -- the first, and then the others
@@ -80,6 +89,14 @@ row_alike f g alike n b = ap (λ x. x >>= λ vs. Ok (seq vs.0, vs.1)) (each_alik
 
 -- An element of an item is read as the item is.
 module _ (p : Profile) (P : Plans) (levels : ℕ) (id : PlanId) (inside : Bool) (some : 0 < levels) where
-  pub element_is : (i : PlanItem) → slice_get P.items id.0 ≡ Some i → (b : List ℕ)
+  element_is : (i : PlanItem) → slice_get P.items id.0 ≡ Some i → (b : List ℕ)
       → item_at p (is_level_left (levels - 1)) (λ g. initial_by_plan P g) (λ u j c. plan_parts p P (levels - 1) u j c) P.fields i inside b ≡ plan_parts p P levels id inside b
   element_is i at b = plan_read-item p P (levels - 1) id inside b i at ∙ sym (plan_parts-below p P levels id inside b some)
+
+  -- Elements that were read by their item were read as the sequence has them.
+  pub packed : (i : PlanItem) → slice_get P.items id.0 ≡ Some i → (n : ℕ) (b rest : List ℕ) (r : Result Value ReadFault)
+      → TakesIfMemory view r (row_at (λ c. item_at p (is_level_left (levels - 1)) (λ g. initial_by_plan P g) (λ u j d. plan_parts p P (levels - 1) u j d) P.fields i inside c) n b) rest
+      → TakesIfMemory view r (row_at (λ c. plan_parts p P levels id inside c) n b) rest
+  packed i at n b rest r h =
+      subst (λ (x : Read Data). TakesIfMemory view r x rest)
+      (row_alike (λ c. item_at p (is_level_left (levels - 1)) (λ g. initial_by_plan P g) (λ u j d. plan_parts p P (levels - 1) u j d) P.fields i inside c) (λ c. plan_parts p P levels id inside c) (element_is i at) n b) h

@@ -2,16 +2,16 @@
 ghost use Rattle.std.specs.Prelude.{◌≡◌, if◌then◌else◌, map, IfOk};
 ghost use Rattle.aidl_values.specs.Data.{null, seq, rec, none};
 ghost use Rattle.aidl_values.specs.View.{view, views};
-ghost use Rattle.parcel_read.specs.steps.PlanDefault.{entry_default, entry_defaults, first_default, initial_by_plan, item_default, plan_default, plan_default_parts, word_default};
+ghost use Rattle.parcel_read.specs.steps.PlanDefault.{entry_default, first_default, initial_by_plan, item_default, plan_default, plan_default_parts, word_default};
 
 use aidl_base::{OutOfMemory, Row, Text};
-use aidl_values::{Value, value_of};
+use aidl_values::{Elements, Fields, Value, value_of};
 use marshal_plans::{PlanField, PlanId, PlanItem, Plans, WordKind};
 use std::alloc::Global;
 
-// The fuel of a default, of which each level of parts takes one. It never runs out: the defaults of a valid schema have at most 32
-// levels.
-const FUEL: usize = 33;
+// The fuel of the defaults of fields, of which each level of parts takes one. It never runs out: the defaults of a valid schema have
+// at most 32 levels.
+const FUEL: usize = 34;
 
 /// The defaults of fields.
 pub fn initials_of(
@@ -22,21 +22,7 @@ pub fn initials_of(
     ensures { IfOk result (λ values. map view values
         ≡ map (λ g. initial_by_plan plans.now g) fields.now) }
 {
-    let mut values = Vec::with_capacity(alloc, fields.len())?;
-    for field in fields {
-        values.push(initial_of(alloc, plans, field)?)?;
-    }
-    Ok(Row::from_vec(values))
-}
-
-/// The default of a field: its initializer as a value, or else the default of its item.
-fn initial_of(alloc: Global, plans: &Plans, field: &PlanField) -> Result<Value, OutOfMemory>
-    ensures { IfOk result (λ v. view v ≡ initial_by_plan plans.now field.now) }
-{
-    match &field.initial {
-        Some(initializer) => value_of(alloc, initializer),
-        None => default_within(alloc, plans, field.item, FUEL),
-    }
+    initials(alloc, plans, fields, FUEL)
 }
 
 // The default of an item whose parts nest at most `levels` deep.
@@ -77,7 +63,7 @@ fn default_of_item(
                 first,
                 count,
             },
-        ) => record_of(alloc, plans, plans.entries(first, count), levels),
+        ) => Ok(record(initials(alloc, plans, plans.entries(first, count), levels)?)),
         Some(PlanItem::Alt { nullable: true, .. }) => Ok(Value::Null),
         Some(
             PlanItem::Alt {
@@ -104,24 +90,13 @@ fn no_elements(alloc: Global, nullable: bool) -> Value
     if nullable {
         return Value::Null;
     }
-    Value::Seq(Row::new(alloc))
+    Value::Seq(Elements::Values(Row::new(alloc)))
 }
 
-#[cycle(default)]
-fn record_of(
-    alloc: Global,
-    plans: &Plans,
-    fields: &[PlanField],
-    levels: usize,
-) -> Result<Value, OutOfMemory>
-    ensures { IfOk result (λ v. view v
-        ≡ rec (entry_defaults (λ u. plan_default_parts levels plans.now u) fields.now)) }
+fn record(values: Row<Value>) -> Value
+    ensures { view result ≡ rec (views values) }
 {
-    let mut values = Vec::with_capacity(alloc, fields.len())?;
-    for field in fields {
-        values.push(initial(alloc, plans, field, levels)?)?;
-    }
-    Ok(Value::Rec(Row::from_vec(values)))
+    Value::Rec(Fields::Whole(values))
 }
 
 #[cycle(default)]
@@ -144,6 +119,24 @@ fn alternative_of(
     }
 }
 
+#[cycle(default)]
+fn initials(
+    alloc: Global,
+    plans: &Plans,
+    fields: &[PlanField],
+    levels: usize,
+) -> Result<Row<Value>, OutOfMemory>
+    ensures { IfOk result (λ values. map view values
+        ≡ map (λ g. entry_default (λ u. plan_default_parts levels plans.now u) g) fields.now) }
+{
+    let mut values = Vec::with_capacity(alloc, fields.len())?;
+    for field in fields {
+        values.push(initial(alloc, plans, field, levels)?)?;
+    }
+    Ok(Row::from_vec(values))
+}
+
+/// The default of a field: its initializer as a value, or else the default of its item.
 #[cycle(default)]
 fn initial(
     alloc: Global,

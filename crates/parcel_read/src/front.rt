@@ -1,17 +1,18 @@
 //! The front of the bytes as a value.
-ghost use Rattle.std.specs.Prelude.{◌≡◌, ◌*◌, ◌≤◌, ℕ, true, false, length, take, drop, IfOk, IfErr, IfSome, MatchResult, Ok};
+ghost use Rattle.std.specs.Prelude.{◌≡◌, ◌*◌, ◌≤◌, ℕ, [], true, false, length, take, drop, IfOk, IfErr, IfSome, MatchResult, Ok, OnOk};
 ghost use Rattle.aidl_values.specs.Data.{Data};
 ghost use Rattle.aidl_values.specs.HasType.{HasType};
 ghost use Rattle.aidl_values.specs.Nodes.{nodes_of};
 ghost use Rattle.aidl_values.specs.View.{view};
 ghost use Rattle.marshal_plans.specs.Standing.{OfEachType};
-ghost use Rattle.parcel_words.specs.Taken.{RefusesIfMemory, status_of};
+ghost use Rattle.parcel_words.specs.Place.{left, MovesOn};
+ghost use Rattle.parcel_words.specs.Taken.{RefusesIfMemory, TakesIfMemory, status_of};
 ghost use Rattle.parcel_words.specs.declared.fault.ReadFault.TheVariants.{OutOfMemory as NoMemory};
 ghost use Rattle.wire_model.specs.ReadOf.{read_of};
 ghost use Rattle.wire_model.specs.Reads.{Reads};
 ghost use Rattle.wire_model.specs.Stop.{Stop};
 
-use crate::shared_defaults::SharedDefaults;
+use crate::parcel_plans::ParcelPlans;
 use crate::tree::value_from;
 use aidl_base::Profile;
 use aidl_values::Value;
@@ -51,7 +52,23 @@ pub fn read(
         (status_of fault) (λ s. Stop profile S 64 t bytes.now false s))) }
 {
     let mut from = WordReader::new(profile, bytes);
-    let mut defaults = SharedDefaults::new(alloc, plans);
-    let value = value_from(alloc, &mut defaults, id, 64, &mut from)?;
+    let value = read_from(alloc, plans, id, &mut from)?;
     Ok((value, from.position()))
+}
+
+/// Reads a value where a reader stands outside every record, by the reader's profile, as a value of the type that the id stands
+/// for: what reading as a function gives of the bytes that are left, or its refusal.
+pub fn read_from(
+    alloc: Global,
+    plans: &Plans,
+    id: PlanId,
+    from: &mut WordReader,
+) -> Result<Value, ReadFault>
+    requires { from.old.ends ≡ [] }
+    ensures taken { OfEachType plans.now id (λ S t. TakesIfMemory view result
+        (read_of from.old.profile S 64 t false (left from.old)) (left from.new)) }
+    ensures on { OnOk result (MovesOn from.old from.new) }
+{
+    let mut plans = ParcelPlans::new(alloc, plans);
+    value_from(alloc, &mut plans, id, 64, from)
 }

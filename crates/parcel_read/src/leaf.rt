@@ -8,7 +8,6 @@ ghost use Rattle.parcel_words.specs.Taken.{TakesIfMemory};
 ghost use Rattle.parcel_read.specs.steps.PlanRead.{word_by};
 ghost use Rattle.wire_model.specs.ReadOf.{read_as, char_data, text_data};
 
-use aidl_base::Text;
 use aidl_values::Value;
 use marshal_plans::WordKind;
 use parcel_words::{ReadFault, Wire, WordReader};
@@ -86,6 +85,6 @@ pub fn text_from(alloc: Global, nullable: bool, from: &mut WordReader) -> Result
 {
     match from.text(alloc, nullable)? {
         None => Ok(Value::Null),
-        Some(text) => Ok(Value::Text(Text::from_string(text))),
+        Some(text) => Ok(Value::Text(text)),
     }
 }

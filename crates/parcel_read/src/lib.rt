@@ -5,10 +5,10 @@ mod default;
 mod front;
 mod leaf;
 mod marks;
+mod parcel_plans;
 mod raw;
 mod rows;
-mod shared_defaults;
 mod tree;
 
-pub use front::read;
+pub use front::{read, read_from};
 pub use parcel_words::ReadFault;

@@ -1,7 +1,9 @@
 //! Values of all items. A value with parts takes one level, and its parts are read with one less.
-ghost use Rattle.std.specs.Prelude.{◌≡◌, ◌+◌, ◌<◌, ◌≤◌, true, false, length, slice_get, IfOk, OnOk, Ok, Err, MatchResult};
+ghost use Rattle.std.specs.Prelude.{◌≡◌, ◌+◌, ◌<◌, ◌≤◌, true, false, length, map, slice_get, IfOk, OnOk, Ok, Err, MatchResult};
 ghost use Rattle.std.specs.Option.{option_copied};
-ghost use Rattle.aidl_values.specs.View.{view, views};
+ghost use Rattle.aidl_values.specs.Data.{rec};
+ghost use Rattle.aidl_values.specs.Given.{given_then};
+ghost use Rattle.aidl_values.specs.View.{items_of, view, views};
 ghost use Rattle.aidl_values.specs.steps.Levels.{is_level_left};
 ghost use Rattle.marshal_plans.specs.Standing.{entries_of};
 ghost use Rattle.parcel_words.specs.Place.{left, is_inside, MovesOn};
@@ -14,32 +16,33 @@ ghost use Rattle.wire_model.specs.Status.{bad_value};
 
 use crate::leaf::{long_from, text_from, word_from};
 use crate::marks::{marker_from, tag_from};
+use crate::parcel_plans::{ParcelPlans, Span};
 use crate::raw::raw_from;
-use crate::rows::{chars_from, ints_from, longs_from, truths_from};
-use crate::shared_defaults::{SharedDefaults, Span};
+use crate::rows::row_of;
 use aidl_base::{OutOfMemory, Row};
-use aidl_values::Value;
+use aidl_values::{Elements, Fields, Value};
 use marshal_plans::{PlanField, PlanId, PlanItem, WordKind};
 use parcel_words::{ReadFault, WordReader};
 use std::alloc::Global;
+use std::rc::Rc;
 
 /// Reads a value by the item of an id, with so many levels left. At most 64 records are open at once.
 #[cycle(read)]
 pub fn value_from(
     alloc: Global,
-    defaults: &mut SharedDefaults<'_>,
+    plans: &mut ParcelPlans<'_>,
     id: PlanId,
     levels: usize,
     from: &mut WordReader,
 ) -> Result<Value, ReadFault>
     requires { length from.old.ends + levels ≤ 64 }
-    ensures taken { TakesIfMemory view result (plan_read from.old.profile defaults.old levels id
+    ensures taken { TakesIfMemory view result (plan_read from.old.profile plans.old levels id
         (is_inside from.old) (left from.old)) (left from.new) }
     ensures on { OnOk result (MovesOn from.old from.new) }
-    ensures same { defaults.new ≡ defaults.old }
+    ensures same { plans.new ≡ plans.old }
 {
-    match defaults.item(id) {
-        Some(item) => item_from(alloc, defaults, item, levels, from),
+    match plans.item(id) {
+        Some(item) => item_from(alloc, plans, item, levels, from),
         // No id of plans is a number of no item.
         None => Err(ReadFault::BadValue),
     }
@@ -49,18 +52,18 @@ pub fn value_from(
 #[cycle(read)]
 fn item_from(
     alloc: Global,
-    defaults: &mut SharedDefaults<'_>,
+    plans: &mut ParcelPlans<'_>,
     item: PlanItem,
     levels: usize,
     from: &mut WordReader,
 ) -> Result<Value, ReadFault>
     requires { length from.old.ends + levels ≤ 64 }
     ensures taken { TakesIfMemory view result
-        (item_at from.old.profile (is_level_left levels) (λ g. initial_by_plan defaults.old g)
-        (λ u j b. plan_parts from.old.profile defaults.old levels u j b) defaults.old.fields item
+        (item_at from.old.profile (is_level_left levels) (λ g. initial_by_plan plans.old g)
+        (λ u j b. plan_parts from.old.profile plans.old levels u j b) plans.old.fields item
         (is_inside from.old) (left from.old)) (left from.new) }
     ensures on { OnOk result (MovesOn from.old from.new) }
-    ensures same { defaults.new ≡ defaults.old }
+    ensures same { plans.new ≡ plans.old }
 {
     match item {
         PlanItem::Word { kind } => word_from(alloc, kind, from),
@@ -68,7 +71,7 @@ fn item_from(
         PlanItem::Text { nullable } => text_from(alloc, nullable, from),
         PlanItem::Raw { nullable } => bytes_from(alloc, nullable, levels, from),
         PlanItem::Seq { nullable, element } => {
-            sequence_from(alloc, defaults, nullable, element, levels, from)
+            sequence_from(alloc, plans, nullable, element, levels, from)
         }
         PlanItem::Rec {
             nullable,
@@ -76,15 +79,15 @@ fn item_from(
             count,
         } => {
             let span = Span { first, count };
-            record_from(alloc, defaults, nullable, span, levels, from)
+            record_from(alloc, plans, nullable, span, levels, from)
         }
         PlanItem::Alt {
             nullable,
             first,
             count,
         } => {
-            let fields = defaults.entries(Span { first, count });
-            union_from(alloc, defaults, nullable, fields, levels, from)
+            let fields = plans.entries(Span { first, count });
+            union_from(alloc, plans, nullable, fields, levels, from)
         }
     }
 }
@@ -107,8 +110,8 @@ fn bytes_from(
     if levels == 0 {
         return Err(ReadFault::BadValue);
     }
-    let numbers = raw_from(alloc, count, from)?;
-    Ok(Value::Numbers(numbers))
+    let elements = raw_from(alloc, count, from)?;
+    Ok(Value::Seq(elements))
 }
 
 /// Reads any other array or `List`.
@@ -116,7 +119,7 @@ fn bytes_from(
 #[tactic(auto, unfolding(wire_model::specs::ReadOf::array_at))]
 fn sequence_from(
     alloc: Global,
-    defaults: &mut SharedDefaults<'_>,
+    plans: &mut ParcelPlans<'_>,
     nullable: bool,
     element: PlanId,
     levels: usize,
@@ -125,13 +128,13 @@ fn sequence_from(
     requires { length from.old.ends + levels ≤ 64 }
     ensures taken { TakesIfMemory view result
         (array_at from.old.profile (is_level_left levels) false nullable
-        (λ b. plan_parts from.old.profile defaults.old levels element (is_inside from.old) b)
+        (λ b. plan_parts from.old.profile plans.old levels element (is_inside from.old) b)
         (is_inside from.old) (left from.old)) (left from.new) }
     ensures on { OnOk result (MovesOn from.old from.new) }
-    ensures same { defaults.new ≡ defaults.old }
+    ensures same { plans.new ≡ plans.old }
 {
     let count = from.count(nullable)?;
-    elements_from(alloc, defaults, element, levels, count, from)
+    elements_from(alloc, plans, element, levels, count, from)
 }
 
 /// Reads the elements of a sequence, where a count of None is null.
@@ -139,7 +142,7 @@ fn sequence_from(
 #[tactic(auto, unfolding(wire_model::specs::ReadOf::elements_at))]
 fn elements_from(
     alloc: Global,
-    defaults: &mut SharedDefaults<'_>,
+    plans: &mut ParcelPlans<'_>,
     element: PlanId,
     levels: usize,
     count: Option<usize>,
@@ -148,10 +151,10 @@ fn elements_from(
     requires { length from.old.ends + levels ≤ 64 }
     ensures taken { TakesIfMemory view result
         (elements_at from.old.profile (is_level_left levels) false
-        (λ b. plan_parts from.old.profile defaults.old levels element (is_inside from.old) b)
+        (λ b. plan_parts from.old.profile plans.old levels element (is_inside from.old) b)
         (is_inside from.old) count (left from.old)) (left from.new) }
     ensures on { OnOk result (MovesOn from.old from.new) }
-    ensures same { defaults.new ≡ defaults.old }
+    ensures same { plans.new ≡ plans.old }
 {
     let Some(count) = count else {
         return Ok(Value::Null);
@@ -159,14 +162,14 @@ fn elements_from(
     if levels == 0 {
         return Err(ReadFault::BadValue);
     }
-    row_from(alloc, defaults, element, levels, count, from)
+    row_from(alloc, plans, element, levels, count, from)
 }
 
 /// Reads so many elements: numbers and truth values side by side, others as values.
 #[cycle(read)]
 fn row_from(
     alloc: Global,
-    defaults: &mut SharedDefaults<'_>,
+    plans: &mut ParcelPlans<'_>,
     element: PlanId,
     levels: usize,
     count: usize,
@@ -175,31 +178,31 @@ fn row_from(
     requires some { 0 < levels }
     requires room { length from.old.ends + levels ≤ 64 }
     ensures taken { TakesIfMemory view result
-        (row_at (λ b. plan_parts from.old.profile defaults.old levels element
+        (row_at (λ b. plan_parts from.old.profile plans.old levels element
         (is_inside from.old) b) count (left from.old)) (left from.new) }
     ensures on { OnOk result (MovesOn from.old from.new) }
-    ensures same { defaults.new ≡ defaults.old }
+    ensures same { plans.new ≡ plans.old }
 {
-    match defaults.item(element) {
+    match plans.item(element) {
         Some(
             PlanItem::Word {
                 kind: WordKind::Truth,
             },
-        ) => truths_from(alloc, count, from),
+        ) => row_of::<bool>(alloc, count, from),
         Some(
             PlanItem::Word {
                 kind: WordKind::Char,
             },
-        ) => chars_from(alloc, count, from),
+        ) => row_of::<u16>(alloc, count, from),
         Some(
             PlanItem::Word {
                 kind: WordKind::Int,
             },
-        ) => ints_from(alloc, count, from),
-        Some(PlanItem::Long) => longs_from(alloc, count, from),
+        ) => row_of::<i32>(alloc, count, from),
+        Some(PlanItem::Long) => row_of::<i64>(alloc, count, from),
         _ => {
-            let values = items_from(alloc, defaults, element, levels, count, from)?;
-            Ok(Value::Seq(values))
+            let values = items_from(alloc, plans, element, levels, count, from)?;
+            Ok(Value::Seq(Elements::Values(values)))
         }
     }
 }
@@ -208,7 +211,7 @@ fn row_from(
 #[cycle(read)]
 fn items_from(
     alloc: Global,
-    defaults: &mut SharedDefaults<'_>,
+    plans: &mut ParcelPlans<'_>,
     element: PlanId,
     levels: usize,
     count: usize,
@@ -217,13 +220,13 @@ fn items_from(
     requires some { 0 < levels }
     requires room { length from.old.ends + levels ≤ 64 }
     ensures taken { TakesIfMemory views result (each_at (λ b. plan_parts from.old.profile
-        defaults.old levels element (is_inside from.old) b) count (left from.old)) (left from.new) }
+        plans.old levels element (is_inside from.old) b) count (left from.old)) (left from.new) }
     ensures on { OnOk result (MovesOn from.old from.new) }
-    ensures same { defaults.new ≡ defaults.old }
+    ensures same { plans.new ≡ plans.old }
 {
     let mut values = Row::new(alloc);
     for _ in 0..count {
-        let value = value_from(alloc, defaults, element, levels - 1, from)?;
+        let value = value_from(alloc, plans, element, levels - 1, from)?;
         values.push(value)?;
     }
     Ok(values)
@@ -234,7 +237,7 @@ fn items_from(
 #[tactic(auto, unfolding(wire_model::specs::ReadOf::record_at))]
 fn record_from(
     alloc: Global,
-    defaults: &mut SharedDefaults<'_>,
+    plans: &mut ParcelPlans<'_>,
     nullable: bool,
     span: Span,
     levels: usize,
@@ -242,12 +245,12 @@ fn record_from(
 ) -> Result<Value, ReadFault>
     requires { length from.old.ends + levels ≤ 64 }
     ensures taken { TakesIfMemory view result (record_at from.old.profile
-        (is_level_left levels) nullable (λ g. initial_by_plan defaults.old g)
-        (λ g b. plan_parts from.old.profile defaults.old levels g.item true b)
-        (entries_of defaults.old.fields span.first span.count) (is_inside from.old) (left from.old))
+        (is_level_left levels) nullable (λ g. initial_by_plan plans.old g)
+        (λ g b. plan_parts from.old.profile plans.old levels g.item true b)
+        (entries_of plans.old.fields span.first span.count) (is_inside from.old) (left from.old))
         (left from.new) }
     ensures on { OnOk result (MovesOn from.old from.new) }
-    ensures same { defaults.new ≡ defaults.old }
+    ensures same { plans.new ≡ plans.old }
 {
     if !marker_from(alloc, nullable, from)? {
         return Ok(Value::Null);
@@ -255,29 +258,29 @@ fn record_from(
     if levels == 0 {
         return Err(ReadFault::BadValue);
     }
-    body_from(alloc, defaults, span, levels, from)
+    body_from(alloc, plans, span, levels, from)
 }
 
 /// Reads a parcelable after its marker, and goes to the end of its record, whatever stands after its fields.
 #[cycle(read)]
 fn body_from(
     alloc: Global,
-    defaults: &mut SharedDefaults<'_>,
+    plans: &mut ParcelPlans<'_>,
     span: Span,
     levels: usize,
     from: &mut WordReader,
 ) -> Result<Value, ReadFault>
     requires some { 0 < levels }
     requires room { length from.old.ends + levels ≤ 64 }
-    ensures taken { TakesIfMemory view result (body_value_at (λ g. initial_by_plan defaults.old g)
-        (λ g b. plan_parts from.old.profile defaults.old levels g.item true b)
-        (entries_of defaults.old.fields span.first span.count) (is_inside from.old) (left from.old))
+    ensures taken { TakesIfMemory view result (body_value_at (λ g. initial_by_plan plans.old g)
+        (λ g b. plan_parts from.old.profile plans.old levels g.item true b)
+        (entries_of plans.old.fields span.first span.count) (is_inside from.old) (left from.old))
         (left from.new) }
     ensures on { OnOk result (MovesOn from.old from.new) }
-    ensures same { defaults.new ≡ defaults.old }
+    ensures same { plans.new ≡ plans.old }
 {
     from.enter()?;
-    let record = fields_from(alloc, defaults, span, levels, from)?;
+    let record = fields_from(alloc, plans, span, levels, from)?;
     from.leave();
     Ok(record)
 }
@@ -287,7 +290,7 @@ fn body_from(
 #[cycle(read)]
 fn fields_from(
     alloc: Global,
-    defaults: &mut SharedDefaults<'_>,
+    plans: &mut ParcelPlans<'_>,
     span: Span,
     levels: usize,
     from: &mut WordReader,
@@ -296,25 +299,39 @@ fn fields_from(
     requires inside { is_inside from.old ≡ true }
     requires room { length from.old.ends + levels ≤ 65 }
     ensures taken { MatchResult result
-        (λ value. as_record (fields_at (λ g. initial_by_plan defaults.old g)
-        (λ g b. plan_parts from.old.profile defaults.old levels g.item true b)
-        (entries_of defaults.old.fields span.first span.count) (left from.old)) ≡ Ok (view value))
-        (λ fault. RefusesIfMemory fault (fields_at (λ g. initial_by_plan defaults.old g)
-        (λ g b. plan_parts from.old.profile defaults.old levels g.item true b)
-        (entries_of defaults.old.fields span.first span.count) (left from.old))) }
+        (λ value. as_record (fields_at (λ g. initial_by_plan plans.old g)
+        (λ g b. plan_parts from.old.profile plans.old levels g.item true b)
+        (entries_of plans.old.fields span.first span.count) (left from.old)) ≡ Ok (view value))
+        (λ fault. RefusesIfMemory fault (fields_at (λ g. initial_by_plan plans.old g)
+        (λ g b. plan_parts from.old.profile plans.old levels g.item true b)
+        (entries_of plans.old.fields span.first span.count) (left from.old))) }
     ensures on { OnOk result (MovesOn from.old from.new) }
-    ensures same { defaults.new ≡ defaults.old }
+    ensures same { plans.new ≡ plans.old }
 {
     let mut values = Row::new(alloc);
-    for field in defaults.entries(span) {
+    for field in plans.entries(span) {
         if from.at_end() {
-            let row = defaults.row(alloc, span)?;
-            return Ok(Value::Short(values, row));
+            let row = plans.defaults_of(alloc, span)?;
+            let record = first_fields(alloc, values, row)?;
+            return Ok(record);
         }
-        let value = value_from(alloc, defaults, field.item, levels - 1, from)?;
+        let value = value_from(alloc, plans, field.item, levels - 1, from)?;
         values.push(value)?;
     }
-    Ok(Value::Rec(values))
+    Ok(Value::Rec(Fields::Whole(values)))
+}
+
+/// A record of the values of its first fields, and the defaults of those behind them.
+fn first_fields(
+    alloc: Global,
+    values: Row<Value>,
+    defaults: Rc<Row<Value>>,
+) -> Result<Value, OutOfMemory>
+    requires { length values ≤ length defaults.value }
+    ensures { IfOk result (λ v. view v
+        ≡ rec (items_of (given_then (map view values) (map view defaults.value)))) }
+{
+    Ok(Value::Rec(Fields::first(alloc, values, defaults)?))
 }
 
 /// Reads a union.
@@ -322,7 +339,7 @@ fn fields_from(
 #[tactic(auto, unfolding(wire_model::specs::ReadOf::union_at))]
 fn union_from(
     alloc: Global,
-    defaults: &mut SharedDefaults<'_>,
+    plans: &mut ParcelPlans<'_>,
     nullable: bool,
     fields: &[PlanField],
     levels: usize,
@@ -331,10 +348,10 @@ fn union_from(
     requires { length from.old.ends + levels ≤ 64 }
     ensures taken { TakesIfMemory view result
         (union_at from.old.profile (is_level_left levels) nullable
-        (λ g b. plan_parts from.old.profile defaults.old levels g.item (is_inside from.old) b)
+        (λ g b. plan_parts from.old.profile plans.old levels g.item (is_inside from.old) b)
         fields.now (is_inside from.old) (left from.old)) (left from.new) }
     ensures on { OnOk result (MovesOn from.old from.new) }
-    ensures same { defaults.new ≡ defaults.old }
+    ensures same { plans.new ≡ plans.old }
 {
     if !marker_from(alloc, nullable, from)? {
         return Ok(Value::Null);
@@ -342,7 +359,7 @@ fn union_from(
     if levels == 0 {
         return Err(ReadFault::BadValue);
     }
-    tagged_from(alloc, defaults, fields, levels, from)
+    tagged_from(alloc, plans, fields, levels, from)
 }
 
 /// Reads a union after its marker.
@@ -350,7 +367,7 @@ fn union_from(
 #[tactic(auto, unfolding(wire_model::specs::ReadOf::tagged_at))]
 fn tagged_from(
     alloc: Global,
-    defaults: &mut SharedDefaults<'_>,
+    plans: &mut ParcelPlans<'_>,
     fields: &[PlanField],
     levels: usize,
     from: &mut WordReader,
@@ -358,16 +375,16 @@ fn tagged_from(
     requires some { 0 < levels }
     requires room { length from.old.ends + levels ≤ 64 }
     ensures taken { TakesIfMemory view result (tagged_at
-        (λ g b. plan_parts from.old.profile defaults.old levels g.item (is_inside from.old) b)
+        (λ g b. plan_parts from.old.profile plans.old levels g.item (is_inside from.old) b)
         fields.now (is_inside from.old) (left from.old)) (left from.new) }
     ensures on { OnOk result (MovesOn from.old from.new) }
-    ensures same { defaults.new ≡ defaults.old }
+    ensures same { plans.new ≡ plans.old }
 {
     let tag = tag_from(from)?;
     match field_of(fields, tag) {
         None => Err(ReadFault::BadValue),
         Some(field) => {
-            let value = value_from(alloc, defaults, field.item, levels - 1, from)?;
+            let value = value_from(alloc, plans, field.item, levels - 1, from)?;
             Ok(Value::Alt(tag, boxed(alloc, value)?))
         }
     }

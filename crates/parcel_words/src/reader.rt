@@ -1,7 +1,5 @@
 //! The reader of a parcel: words, longs, raw bytes, counts, texts and records off the front of its bytes.
-ghost use Rattle.std.specs.Prelude.{◌≡◌, ℕ, ◌+◌, ◌^◌, ◌<◌, ◌≤◌, [], ◌∷◌, true, IsTrue, ◌↔◌, length, MatchResult, IfOk, IfErr, OnOk, OnErr, IfSome, drop, string_bytes};
-ghost use Rattle.std.specs.Option.{option_map};
-ghost use Rattle.std.specs.Str.{chars};
+ghost use Rattle.std.specs.Prelude.{◌≡◌, ℕ, ◌+◌, ◌^◌, ◌<◌, ◌≤◌, [], ◌∷◌, true, IsTrue, ◌↔◌, length, MatchResult, IfOk, IfErr, OnOk, OnErr, IfSome, drop};
 ghost use Rattle.aidl_base.specs.Profiles.{permits};
 ghost use Rattle.aidl_base.specs.Words.{padding};
 ghost use Rattle.aidl_base.specs.Readings.{bytes_at, word_at, long_at, raw_at, count_of, count_at, block_at, text_at, past, size_of};
@@ -11,7 +9,7 @@ ghost use Rattle.parcel_words.specs.Taken.{Takes, TakesIfMemory, Refuses, status
 use crate::fault::ReadFault;
 use crate::padding::{is_zero, padding_of};
 use crate::units::text_of;
-use aidl_base::Profile;
+use aidl_base::{Profile, Text};
 use std::alloc::Global;
 use std::marker::Model;
 
@@ -157,8 +155,8 @@ impl<'a> WordReader<'a> {
     /// count of -1 unless it may be null; and by `BadValue` another negative count, and a block inside the limit whose
     /// units aren't well-formed UTF-16, whose next unit isn't zero, or whose padding the profile doesn't permit.
     #[tactic(auto, using(crate::proofs::lemmas::Moves::on_and_on), unfolding(aidl_base::specs::Readings::text_at))]
-    pub fn text(&mut self, alloc: Global, nullable: bool) -> Result<Option<String>, ReadFault>
-        ensures taken { TakesIfMemory (option_map (λ x. chars (string_bytes x))) result
+    pub fn text(&mut self, alloc: Global, nullable: bool) -> Result<Option<Text>, ReadFault>
+        ensures taken { TakesIfMemory (λ x. x) result
             (here (text_at self.old.profile nullable) self.old) (left self.new) }
         ensures passed { OnOk result (MovesOn self.old self.new) }
         ensures unchanged { OnErr result (self.new ≡ self.old) }
@@ -208,7 +206,7 @@ impl<'a> WordReader<'a> {
     }
 
     /// Goes back by so many bytes, for a caller that refuses what it has begun. It takes no memory.
-    pub fn go_back(&mut self, count: usize)
+    pub(crate) fn go_back(&mut self, count: usize)
         requires { count ≤ self.old.position }
         ensures { self.new ≡ moved_back self.old count }
     {
@@ -217,9 +215,9 @@ impl<'a> WordReader<'a> {
 
     /// Takes the block of a text of so many units. It refuses as `text` does once its count is read.
     #[tactic(auto, unfolding(aidl_base::specs::Readings::block_at))]
-    pub fn block(&mut self, alloc: Global, units: usize) -> Result<String, ReadFault>
+    pub fn block(&mut self, alloc: Global, units: usize) -> Result<Text, ReadFault>
         requires { units < 2 ^ 31 }
-        ensures taken { TakesIfMemory (λ x. chars (string_bytes x)) result
+        ensures taken { TakesIfMemory (λ x. x) result
             (here (block_at self.old.profile units) self.old) (left self.new) }
         ensures passed { OnOk result (MovesOn self.old self.new) }
         ensures unchanged { OnErr result (self.new ≡ self.old) }
@@ -263,7 +261,7 @@ impl<'a> WordReader<'a> {
     }
 
     /// The next word, which is not passed. It refuses as `word` does, and takes no memory.
-    pub fn next_word(&self) -> Result<i32, ReadFault>
+    pub(crate) fn next_word(&self) -> Result<i32, ReadFault>
         ensures { Takes (λ n. n) result (here word_at self.now) (drop 4 (left self.now)) }
     {
         let item = self.item(4)?;
@@ -289,7 +287,7 @@ impl<'a> WordReader<'a> {
     }
 
     /// Goes on by so many bytes of those that are left. It takes no memory.
-    pub fn pass(&mut self, count: usize)
+    pub(crate) fn pass(&mut self, count: usize)
         requires { count ≤ length (left self.old) }
         ensures passed { self.new ≡ moved self.old count }
         ensures rest { left self.new ≡ drop count (left self.old) }

@@ -1,14 +1,16 @@
 //! The text of a block: UTF-16 units, a zero unit and padding.
-ghost use Rattle.std.specs.Prelude.{◌≡◌, ◌+◌, ◌*◌, ◌≤◌, length, map, IfOk, string_bytes, if◌then◌else◌};
+ghost use Rattle.std.specs.Prelude.{◌≡◌, ◌+◌, ◌*◌, ◌≤◌, length, map, IfOk, IfSome, IsTrue, if◌then◌else◌};
 ghost use Rattle.std.specs.Int.{w16, from_le_bytes};
-ghost use Rattle.std.specs.Option.{option_map};
-ghost use Rattle.std.specs.Str.{chars};
+ghost use Rattle.std.specs.Str.{IsAscii};
 ghost use Rattle.std.specs.Char.Utf16.{has_unpaired_surrogate, utf16_lossy_chars};
 ghost use Rattle.aidl_base.specs.Readings.{units_of, ends_text, text_of};
 
 use crate::padding::is_zero;
-use aidl_base::{OutOfMemory, Profile};
+use aidl_base::{OutOfMemory, Profile, Text};
 use std::alloc::Global;
+
+// The most units of a text that is put together in place.
+const SHORT: usize = 16;
 
 /// The text of a block of so many units. None where the units aren't well-formed UTF-16, the unit after them isn't
 /// zero, or the profile doesn't permit the padding.
@@ -18,14 +20,12 @@ pub fn text_of(
     profile: Profile,
     count: usize,
     block: &[u8],
-) -> Result<Option<String>, OutOfMemory>
+) -> Result<Option<Text>, OutOfMemory>
     requires { 2 * count + 2 ≤ length block.now }
-    ensures { IfOk result (λ text. option_map (λ x. chars (string_bytes x)) text
-        ≡ text_of profile count block.now) }
+    ensures { IfOk result (λ text. text ≡ text_of profile count block.now) }
 {
     let (bytes, tail) = block.split_at(2 * count);
-    let units = units_of(alloc, bytes)?;
-    let text = well_formed(alloc, units.as_slice())?;
+    let text = text_in(alloc, bytes)?;
     if ends_text(profile, tail) {
         Ok(text)
     } else {
@@ -42,13 +42,85 @@ fn ends_text(profile: Profile, tail: &[u8]) -> bool
     is_zero(zero_unit) && profile.permits(is_zero(padding))
 }
 
-/// The text of well-formed units.
-fn well_formed(alloc: Global, units: &[u16]) -> Result<Option<String>, OutOfMemory>
-    ensures { IfOk result (λ text. option_map (λ x. chars (string_bytes x)) text
-        ≡ (if has_unpaired_surrogate units.now then None else Some (utf16_lossy_chars units.now))) }
+/// The text of units, two bytes each. Those of ASCII are taken as they stand.
+fn text_in(alloc: Global, bytes: &[u8]) -> Result<Option<Text>, OutOfMemory>
+    ensures { IfOk result (λ text. text ≡ (if has_unpaired_surrogate (units_of bytes.now)
+        then None else Some (utf16_lossy_chars (units_of bytes.now)))) }
 {
-    let decoded = String::from_utf16(alloc, units)?;
-    Ok(decoded.ok())
+    let (pairs, _) = bytes.as_chunks::<2>();
+    match ascii_text(alloc, pairs)? {
+        Some(text) => Ok(Some(text)),
+        None => well_formed(alloc, units_of(alloc, bytes)?.as_slice()),
+    }
+}
+
+/// The text of units below 128. None where another stands among them.
+fn ascii_text(alloc: Global, pairs: &[[u8; 2]]) -> Result<Option<Text>, OutOfMemory>
+    ensures { IfOk result (λ o. IfSome o
+        (λ text. (text ≡ map (from_le_bytes w16) pairs.now) × IsAscii text)) }
+{
+    if pairs.len() <= SHORT {
+        short_text(alloc, pairs)
+    } else {
+        long_text(alloc, pairs)
+    }
+}
+
+fn short_text(alloc: Global, pairs: &[[u8; 2]]) -> Result<Option<Text>, OutOfMemory>
+    requires { length pairs.now ≤ 16 }
+    ensures { IfOk result (λ o. IfSome o
+        (λ text. (text ≡ map (from_le_bytes w16) pairs.now) × IsAscii text)) }
+{
+    let mut bytes = [0; SHORT];
+    let front = &mut bytes[..pairs.len()];
+    if !is_ascii_put(pairs, front) {
+        return Ok(None);
+    }
+    // They are UTF-8, which is proved and not tested again.
+    let text = unsafe { std::str::from_utf8_unchecked(front) };
+    Ok(Some(Text::from_str(alloc, text)?))
+}
+
+/// Puts units below 128 one byte each, and answers whether all are.
+fn is_ascii_put(pairs: &[[u8; 2]], bytes: &mut [u8]) -> bool
+    requires { length pairs.now ≡ length bytes.old }
+    ensures { IsTrue result
+        → (bytes.new ≡ map (from_le_bytes w16) pairs.now) × IsAscii bytes.new }
+{
+    for i in 0..pairs.len() {
+        let unit = u16::from_le_bytes(pairs[i]);
+        if 128 <= unit {
+            return false;
+        }
+        bytes[i] = unit as u8;
+    }
+    true
+}
+
+fn long_text(alloc: Global, pairs: &[[u8; 2]]) -> Result<Option<Text>, OutOfMemory>
+    ensures { IfOk result (λ o. IfSome o
+        (λ text. (text ≡ map (from_le_bytes w16) pairs.now) × IsAscii text)) }
+{
+    let mut text = String::with_capacity(alloc, pairs.len())?;
+    for pair in pairs {
+        let unit = u16::from_le_bytes(*pair);
+        if 128 <= unit {
+            return Ok(None);
+        }
+        text.push(char::from(unit as u8))?;
+    }
+    Ok(Some(Text::from_string(text)))
+}
+
+/// The text of well-formed units.
+fn well_formed(alloc: Global, units: &[u16]) -> Result<Option<Text>, OutOfMemory>
+    ensures { IfOk result (λ text. text ≡ (if has_unpaired_surrogate units.now
+        then None else Some (utf16_lossy_chars units.now))) }
+{
+    match String::from_utf16(alloc, units)? {
+        Ok(text) => Ok(Some(Text::from_string(text))),
+        Err(_) => Ok(None),
+    }
 }
 
 /// The units of bytes, two each, least first.

@@ -246,7 +246,7 @@ impl Wire for Text {
     #[tactic(auto, unfolding(aidl_base::specs::Readings::present_text_at))]
     fn take(alloc: Global, from: &mut WordReader) -> Result<Text, ReadFault> {
         match from.text(alloc, false)? {
-            Some(text) => Ok(Text::from_string(text)),
+            Some(text) => Ok(text),
             None => unreachable!(),
         }
     }

@@ -107,8 +107,7 @@ module _ (S : List Decl) (t : AidlType) where
   are_bytes none raw h = tt
   are_bytes (item (number n) vs) raw h = (byte_range (form_of S t.base) n (both (is_array t.shape) (is_byte (form_of S t.base)) raw).1 h.0.1, are_bytes vs raw h.1)
   are_bytes (item null vs) raw h = (tt, are_bytes vs raw h.1)
-  are_bytes (item (truth b) vs) raw h =
-      let no : is_byte form.truth ≡ true = subst (λ f. is_byte f ≡ true) h.0.1 (both (is_array t.shape) (is_byte (form_of S t.base)) raw).1 in cc
+  are_bytes (item (truth b) vs) raw h = (tt, are_bytes vs raw h.1)
   are_bytes (item (text x) vs) raw h = (tt, are_bytes vs raw h.1)
   are_bytes (item (seq xs) vs) raw h = (tt, are_bytes vs raw h.1)
   are_bytes (item (rec xs) vs) raw h = (tt, are_bytes vs raw h.1)

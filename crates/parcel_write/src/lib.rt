@@ -11,7 +11,6 @@ mod length;
 mod number;
 mod parcel;
 mod put;
-mod rows;
 
 pub use length::spelled_length;
 pub use parcel::{WriteFault, write};

@@ -2,17 +2,16 @@
 ghost use Rattle.std.specs.Prelude.{◌≡◌, ◌≤◌, ◌<◌, ◌^◌, pos, length};
 ghost use Rattle.aidl_base.specs.Words.{word};
 ghost use Rattle.aidl_values.specs.Data.{rec};
-ghost use Rattle.aidl_values.specs.View.{view, views};
+ghost use Rattle.aidl_values.specs.View.{datas, field_datas, items_of, view, view_element};
 ghost use Rattle.parcel_words.specs.Written.{with_bytes};
 ghost use Rattle.parcel_write.specs.Fitting.{FitsRoom, OfEachFit};
-ghost use Rattle.parcel_write.specs.steps.PlanSpell.{EachSuits, EntriesSuit, Suits, null_word_by, plan_spell, plan_spell_entries, plan_spell_items};
+ghost use Rattle.parcel_write.specs.steps.PlanSpell.{EachSuits, EntriesSuit, Suits, item_of, null_word_by, plan_spell, plan_spell_entries, plan_spell_items};
 ghost use Rattle.wire_model.specs.Spell.{spell};
 
 use crate::bytes::put_raw;
 use crate::items::{alternative_in, element_in, fields_in, is_raw};
 use crate::number::put_number;
-use crate::rows::{put_numbers, put_truths};
-use aidl_values::{FieldValues, Value};
+use aidl_values::{Element, Elements, Fields, Value};
 use marshal_plans::{PlanField, PlanId, PlanItem, Plans};
 use parcel_words::{Wire, WordWriter};
 
@@ -38,21 +37,16 @@ pub(crate) fn put(plans: &Plans, id: PlanId, value: &Value, to: &mut WordWriter)
         Value::Truth(b) => to.word(i32::from(*b)),
         Value::Number(n) => put_number(plans.item(id), *n, to),
         Value::Text(text) => text.put(to),
-        Value::Seq(items) => {
-            to.count(items.len());
+        Value::Seq(elements) => {
+            to.count(elements.len());
             let item = plans.item(id);
             if is_raw(item) {
-                put_raw(items.as_slice(), to);
+                put_raw(elements, to);
             } else {
-                put_items(plans, element_in(item), items.as_slice(), to);
+                put_elements(plans, element_in(item), elements, to);
             }
         }
-        Value::Truths(truths) => put_truths(plans, id, truths.as_slice(), to),
-        Value::Numbers(numbers) => put_numbers(plans, id, numbers, to),
-        Value::Rec(given) => put_record(plans, id, &FieldValues::whole(given), to),
-        Value::Short(given, defaults) => {
-            put_record(plans, id, &FieldValues::short(given, defaults), to);
-        }
+        Value::Rec(values) => put_record(plans, id, values, to),
         Value::Alt(tag, inner) => {
             to.word(PRESENT);
             put_tag(*tag, to);
@@ -92,24 +86,54 @@ fn put_tag(tag: u32, to: &mut WordWriter)
 /// Appends the elements of a sequence.
 #[cycle(put)]
 #[tactic(auto, using(parcel_words::proofs::lemmas::Appends::with_more, parcel_words::proofs::lemmas::Appends::with_none))]
-fn put_items(plans: &Plans, element: PlanId, items: &[Value], to: &mut WordWriter)
-    requires suits { EachSuits plans.now element (views items.now) }
-    requires small { length (plan_spell_items plans.now element (views items.now)) < 2 ^ 31 }
-    requires room { length (plan_spell_items plans.now element (views items.now)) ≤ to.old.room }
-    ensures { to.new ≡ with_bytes to.old (plan_spell_items plans.now element (views items.now)) }
+fn put_elements(plans: &Plans, id: PlanId, elements: &Elements, to: &mut WordWriter)
+    requires suits { EachSuits plans.now id (items_of (datas elements.now)) }
+    requires small { length (plan_spell_items plans.now id (items_of (datas elements.now)))
+        < 2 ^ 31 }
+    requires room { length (plan_spell_items plans.now id (items_of (datas elements.now)))
+        ≤ to.old.room }
+    ensures { to.new
+        ≡ with_bytes to.old (plan_spell_items plans.now id (items_of (datas elements.now))) }
 {
-    for item in items {
-        put(plans, element, item, to);
+    let item = plans.item(id);
+    for i in 0..elements.len() {
+        put_element(plans, id, item, &elements.get(i), to);
+    }
+}
+
+/// Appends an element, whose item was looked up once for all of them.
+#[cycle(put)]
+#[inline(always)]
+fn put_element(
+    plans: &Plans,
+    id: PlanId,
+    item: Option<PlanItem>,
+    element: &Element<'_>,
+    to: &mut WordWriter,
+)
+    requires item { item ≡ item_of plans.now id }
+    requires suits { Suits plans.now id (view_element element.now) }
+    requires small { length (plan_spell plans.now id (view_element element.now)) < 2 ^ 31 }
+    requires room { length (plan_spell plans.now id (view_element element.now)) ≤ to.old.room }
+    ensures { to.new ≡ with_bytes to.old (plan_spell plans.now id (view_element element.now)) }
+{
+    match element {
+        Element::Value(value) => put(plans, id, value, to),
+        Element::Truth(b) => to.word(i32::from(*b)),
+        Element::Number(n) => put_number(item, *n, to),
     }
 }
 
 /// Appends the bytes of a record by its item.
 #[cycle(put)]
-fn put_record(plans: &Plans, id: PlanId, values: &FieldValues<'_>, to: &mut WordWriter)
-    requires suits { Suits plans.now id (rec (views values.now)) }
-    requires small { length (plan_spell plans.now id (rec (views values.now))) < 2 ^ 31 }
-    requires room { length (plan_spell plans.now id (rec (views values.now))) ≤ to.old.room }
-    ensures { to.new ≡ with_bytes to.old (plan_spell plans.now id (rec (views values.now))) }
+fn put_record(plans: &Plans, id: PlanId, values: &Fields, to: &mut WordWriter)
+    requires suits { Suits plans.now id (rec (items_of (field_datas values.now))) }
+    requires small { length (plan_spell plans.now id (rec (items_of (field_datas values.now))))
+        < 2 ^ 31 }
+    requires room { length (plan_spell plans.now id (rec (items_of (field_datas values.now))))
+        ≤ to.old.room }
+    ensures { to.new
+        ≡ with_bytes to.old (plan_spell plans.now id (rec (items_of (field_datas values.now)))) }
 {
     to.word(PRESENT);
     let start = to.open_record();
@@ -120,13 +144,15 @@ fn put_record(plans: &Plans, id: PlanId, values: &FieldValues<'_>, to: &mut Word
 /// Appends the fields of a record.
 #[cycle(put)]
 #[tactic(auto, using(crate::proofs::Typed::same_count))]
-fn put_fields(plans: &Plans, fields: &[PlanField], values: &FieldValues<'_>, to: &mut WordWriter)
-    requires suits { EntriesSuit plans.now fields.now (views values.now) }
-    requires small { length (plan_spell_entries plans.now fields.now (views values.now)) < 2 ^ 31 }
-    requires room { length (plan_spell_entries plans.now fields.now (views values.now))
+fn put_fields(plans: &Plans, fields: &[PlanField], values: &Fields, to: &mut WordWriter)
+    requires suits { EntriesSuit plans.now fields.now (items_of (field_datas values.now)) }
+    requires small { length
+        (plan_spell_entries plans.now fields.now (items_of (field_datas values.now))) < 2 ^ 31 }
+    requires room { length
+        (plan_spell_entries plans.now fields.now (items_of (field_datas values.now)))
         ≤ to.old.room }
-    ensures { to.new
-        ≡ with_bytes to.old (plan_spell_entries plans.now fields.now (views values.now)) }
+    ensures { to.new ≡ with_bytes to.old
+        (plan_spell_entries plans.now fields.now (items_of (field_datas values.now))) }
 {
     for i in 0..values.len() {
         put(plans, fields[i].item, values.get(i), to);

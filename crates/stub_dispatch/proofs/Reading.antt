@@ -8,7 +8,6 @@ use Rattle.aidl_values.specs.declared.value.Value.{Value}
 use Rattle.parcel_words.specs.Taken.{RefusesIfMemory}
 use Rattle.parcel_words.specs.declared.fault.ReadFault.{ReadFault}
 use Rattle.stub_dispatch.specs.steps.Fronts.{after, joined, Continues}
-use Rattle.std.specs.Borrow.{Bor}
 use Rattle.std.specs.Prelude.{Result}
 use Rattle.parcel_words.proofs.lemmas.Faults.{fails_then}
 
@@ -35,12 +34,12 @@ views_more [] v = refl
 views_more (w ∷ vs) v = ap (λ z. item (view w) z) (views_more vs v)
 
 -- a value was read, and what is read behind it goes on
-pub continues : (vs us ws : List Value) (v : Value) (result : Result (Bor (List ℕ)) ReadFault) (rest : List ℕ) (one : Read Data) (more : List ℕ → Read Items)
-    → one ≡ Ok (view v, rest) → us ≡ vs ++ v ∷ [] → Continues (views us) (views ws) result (more rest)
-    → Continues (views vs) (views ws) result (one >>= λ x. more x.1 >>= λ ys. Ok (item x.0 ys.0, ys.1))
-continues vs us ws v (Ok r) rest one more e f h =
+pub continues : {X : Type 0} (vs us ws : List Value) (v : Value) (result : Result X ReadFault) (rest end : List ℕ) (one : Read Data) (more : List ℕ → Read Items)
+    → one ≡ Ok (view v, rest) → us ≡ vs ++ v ∷ [] → Continues (views us) (views ws) result (more rest) end
+    → Continues (views vs) (views ws) result (one >>= λ x. more x.1 >>= λ ys. Ok (item x.0 ys.0, ys.1)) end
+continues vs us ws v (Ok r) rest end one more e f h =
     let step : after (views vs) (more rest >>= λ ys. Ok (item (view v) ys.0, ys.1)) ≡ after (views us) (more rest) =
     after_one (views vs) (view v) (more rest) ∙ ap (λ z. after z (more rest)) (sym (views_more vs v) ∙ ap views (sym f)) in
     ap (λ (x : Read Data). after (views vs) (x >>= λ y. more y.1 >>= λ ys. Ok (item y.0 ys.0, ys.1))) e ∙ step ∙ h
-continues vs us ws v (Err fault) rest one more e f h =
+continues vs us ws v (Err fault) rest end one more e f h =
     subst (λ (x : Read Data). RefusesIfMemory {A = Items × List ℕ} fault (x >>= λ y. more y.1 >>= λ ys. Ok (item y.0 ys.0, ys.1))) (sym e) (fails_then fault (more rest) (λ ys. Ok (item (view v) ys.0, ys.1)) h)

@@ -1,8 +1,11 @@
 -- A value so many times.
-use Rattle.std.proofs.Common.{◌≡◌, ℕ, zero, suc, ◌+◌, ◌-◌, ◌<◌, ◌≤◌, ℤ, Bool, List, [], ◌∷◌, ◌++◌, map, replicate, refl, sym, ap, ◌∙◌, arith}
+use Rattle.std.proofs.Common.{◌≡◌, ℕ, zero, suc, ◌+◌, ◌-◌, ◌<◌, ◌≤◌, ℤ, pos, Bool, List, [], ◌∷◌, ◌++◌, map, replicate, refl, sym, ap, ◌∙◌, arith}
+use Rattle.std.specs.Int.{w8, cast_signed}
 use Rattle.aidl_values.specs.Data.{Data, Items, none, item, number, truth}
-use Rattle.aidl_values.specs.View.{items_of, view, views}
+use Rattle.aidl_values.specs.View.{datas, items_of, view, views}
 use Rattle.aidl_values.specs.declared.value.Value.{Value}
+use Rattle.aidl_values.specs.declared.value.Elements.TheVariants.{Truths, Bytes, Chars, Ints, Longs}
+use Rattle.aidl_values.proofs.lemmas.Views.{datas_truths, datas_bytes, datas_chars, datas_ints, datas_longs}
 use Rattle.wire_model.specs.Receiver.{repeated}
 use Rattle.stub_dispatch.specs.steps.Fronts.{joined}
 use Rattle.stub_dispatch.proofs.Reading.{joined_assoc, joined_none, views_more}
@@ -20,10 +23,27 @@ repeated_all vs d count i total le h =
     let k : 0 ≡ count - i = omega arith in
     sym (joined_none (views vs)) ∙ ap (λ n. joined (views vs) (repeated n d)) k ∙ h
 
-pub truths_repeated : (b : Bool) (count : ℕ) → items_of (map truth (replicate count b)) ≡ repeated count (truth b)
-truths_repeated b zero = refl
-truths_repeated b (suc n) = ap (λ vs. item (truth b) vs) (truths_repeated b n)
+-- what is seen of copies of one thing
+pub seen_repeated : {T : Type 0} (seen : T → Data) (x : T) (count : ℕ) → items_of (map seen (replicate count x)) ≡ repeated count (seen x)
+seen_repeated seen x zero = refl
+seen_repeated seen x (suc n) = ap (λ vs. item (seen x) vs) (seen_repeated seen x n)
 
-pub numbers_repeated : (n : ℤ) (count : ℕ) → items_of (map number (replicate count n)) ≡ repeated count (number n)
-numbers_repeated n zero = refl
-numbers_repeated n (suc many) = ap (λ vs. item (number n) vs) (numbers_repeated n many)
+pub truths_repeated : (b : Bool) (count : ℕ) → items_of (datas (Truths (replicate count b))) ≡ repeated count (truth b)
+truths_repeated b count = ap items_of (datas_truths (replicate count b)) ∙ seen_repeated truth b count
+
+-- zeros side by side, as the numbers that they are
+zeros_seen : (number_of : ℕ → ℤ) (count : ℕ) → items_of (map number (map number_of (replicate count 0))) ≡ repeated count (number (number_of 0))
+zeros_seen number_of zero = refl
+zeros_seen number_of (suc n) = ap (λ vs. item (number (number_of 0)) vs) (zeros_seen number_of n)
+
+pub bytes_repeated : (count : ℕ) → items_of (datas (Bytes (replicate count 0))) ≡ repeated count (number (pos 0))
+bytes_repeated count = ap items_of (datas_bytes (replicate count 0)) ∙ zeros_seen (λ b. cast_signed w8 b) count
+
+pub chars_repeated : (count : ℕ) → items_of (datas (Chars (replicate count 0))) ≡ repeated count (number (pos 0))
+chars_repeated count = ap items_of (datas_chars (replicate count 0)) ∙ zeros_seen pos count
+
+pub ints_repeated : (count : ℕ) → items_of (datas (Ints (replicate count (pos 0)))) ≡ repeated count (number (pos 0))
+ints_repeated count = ap items_of (datas_ints (replicate count (pos 0))) ∙ seen_repeated number (pos 0) count
+
+pub longs_repeated : (count : ℕ) → items_of (datas (Longs (replicate count (pos 0)))) ≡ repeated count (number (pos 0))
+longs_repeated count = ap items_of (datas_longs (replicate count (pos 0))) ∙ seen_repeated number (pos 0) count

@@ -5,3 +5,5 @@ pub mod Fronts
 pub mod Names
 pub mod Calls
 pub mod Replies
+pub mod Unread
+pub mod Begins

@@ -1,11 +1,12 @@
 //! What a stub reads of the arguments of a request.
-ghost use Rattle.std.specs.Prelude.{◌≡◌, ◌+◌, ◌≤◌};
+ghost use Rattle.std.specs.Prelude.{◌≡◌, ◌+◌, ◌≤◌, OnOk};
 ghost use Rattle.aidl_values.specs.View.{view, views};
-ghost use Rattle.stub_dispatch.specs.steps.Fronts.{Continues, Fronts};
+ghost use Rattle.parcel_words.specs.Taken.{TakesIfMemory};
+ghost use Rattle.stub_dispatch.specs.steps.Fronts.{Continues};
 ghost use Rattle.wire_model.specs.Receiver.{argument_at, arguments_at, items_in, opened_length};
 
+use crate::call_reader::CallReader;
 use crate::planned_arguments::{PlannedArgument, PlannedArguments};
-use aidl_base::Profile;
 use aidl_schema::{Arg, Direction};
 use aidl_values::Value;
 use parcel_words::ReadFault;
@@ -13,43 +14,44 @@ use std::alloc::Global;
 
 /// What the handler sees of the arguments from one on, behind those that were read. `sum` is that of the lengths of the `out`
 /// arrays before.
-pub fn arguments_front<'a>(
+pub fn arguments_from(
     alloc: Global,
-    profile: Profile,
     args: &PlannedArguments<'_>,
     sum: usize,
-    bytes: &'a [u8],
+    from: &mut CallReader<'_>,
     saw: &mut Vec<Value>,
-) -> Result<&'a [u8], ReadFault>
+) -> Result<(), ReadFault>
     requires { sum ≤ 65536 }
     ensures { Continues (views saw.old.items) (views saw.new.items) result
-        (arguments_at profile args.now.decls sum args.now.args bytes.now) }
+        (arguments_at from.old.profile args.now.decls sum args.now.args from.old.bytes)
+        from.new.bytes }
 {
     match args.first() {
-        None => Ok(bytes),
+        None => Ok(()),
         Some((arg, others)) => {
-            let (value, rest) = argument_front(alloc, profile, &arg, sum, bytes)?;
+            let value = argument_from(alloc, &arg, sum, from)?;
             let sum = sum_with(sum, arg.declared(), &value);
             saw.push(value)?;
-            arguments_front(alloc, profile, &others, sum, rest, saw)
+            arguments_from(alloc, &others, sum, from, saw)
         }
     }
 }
 
 // What the handler sees of an argument. `sum` is that of the lengths of the `out` arrays before.
-fn argument_front<'a>(
+fn argument_from(
     alloc: Global,
-    profile: Profile,
     arg: &PlannedArgument<'_>,
     sum: usize,
-    bytes: &'a [u8],
-) -> Result<(Value, &'a [u8]), ReadFault>
+    from: &mut CallReader<'_>,
+) -> Result<Value, ReadFault>
     requires { sum ≤ 65536 }
-    ensures { Fronts view result (argument_at profile arg.now.decls sum arg.now.arg bytes.now) }
+    ensures taken { TakesIfMemory view result
+        (argument_at from.old.profile arg.now.decls sum arg.now.arg from.old.bytes) from.new.bytes }
+    ensures same { OnOk result (from.new.profile ≡ from.old.profile) }
 {
     match arg.declared().way {
-        Direction::In | Direction::InOut => arg.ty().front(alloc, profile, bytes),
-        Direction::Out => arg.ty().opening(alloc, sum, bytes),
+        Direction::In | Direction::InOut => arg.ty().value_from(alloc, from),
+        Direction::Out => arg.ty().opening_from(alloc, sum, from),
     }
 }
 
@@ -77,15 +79,12 @@ fn items_in(value: &Value) -> usize
     ensures { result ≡ items_in (view value.now) }
 {
     match value {
-        Value::Seq(items) => items.len(),
-        Value::Truths(truths) => truths.len(),
-        Value::Numbers(numbers) => numbers.len(),
+        Value::Seq(elements) => elements.len(),
         Value::Null
         | Value::Truth(_)
         | Value::Number(_)
         | Value::Text(_)
         | Value::Rec(_)
-        | Value::Short(_, _)
         | Value::Alt(_, _) => 0,
     }
 }

@@ -4,8 +4,8 @@
 mod answered;
 mod arguments;
 mod call;
+mod call_reader;
 mod callee;
-mod fronts;
 mod openings;
 mod planned_arguments;
 mod planned_type;

@@ -1,15 +1,15 @@
 //! What `out` arguments start as.
-ghost use Rattle.std.specs.Prelude.{◌≡◌, ◌+◌, ◌≤◌, true, IfOk};
+ghost use Rattle.std.specs.Prelude.{◌≡◌, ◌+◌, ◌≤◌, pos, true, IfOk, OnOk};
 ghost use Rattle.aidl_schema.specs.Types.{elem, is_type};
 ghost use Rattle.aidl_values.specs.Data.{number, seq, truth};
-ghost use Rattle.aidl_values.specs.View.{view, views};
-ghost use Rattle.stub_dispatch.specs.steps.Fronts.{Fronts};
+ghost use Rattle.aidl_values.specs.View.{datas, items_of, view, views};
+ghost use Rattle.parcel_words.specs.Taken.{TakesIfMemory};
 ghost use Rattle.wire_model.specs.Receiver.{array_opening, array_opening_at, length_at, opening, opening_at, repeated};
 
-use crate::fronts::count_front;
+use crate::call_reader::CallReader;
 use aidl_base::{OutOfMemory, Row};
-use aidl_schema::{AidlType, Schema, element, is_array, law_valid};
-use aidl_values::{Numbers, Value, default_of};
+use aidl_schema::{AidlType, Form, Schema, element, form_in, is_array, law_valid};
+use aidl_values::{Elements, Value, default_of};
 use parcel_words::ReadFault;
 use std::alloc::Global;
 
@@ -34,60 +34,63 @@ pub fn opening(
 }
 
 /// An `out` argument: an array has its length word, any other has nothing. `sum` is that of the lengths before.
-pub fn opening_front<'a>(
+pub fn opening_from(
     alloc: Global,
     schema: &Schema,
     ty: AidlType,
     sum: usize,
-    bytes: &'a [u8],
-) -> Result<(Value, &'a [u8]), ReadFault>
+    from: &mut CallReader<'_>,
+) -> Result<Value, ReadFault>
     requires known { is_type schema.now.decls ty ≡ true }
     requires few { sum ≤ 65536 }
-    ensures { Fronts view result (opening_at schema.now.decls sum ty bytes.now) }
+    ensures taken { TakesIfMemory view result
+        (opening_at schema.now.decls sum ty from.old.bytes) from.new.bytes }
+    ensures same { OnOk result (from.new.profile ≡ from.old.profile) }
 {
     if is_array(ty.shape) {
-        return array_front(alloc, schema, ty, sum, bytes);
+        return array_from(alloc, schema, ty, sum, from);
     }
-    let value = default_of(alloc, schema, &ty)?;
-    Ok((value, bytes))
+    Ok(default_of(alloc, schema, &ty)?)
 }
 
 // The length word of an `out` array, as what the array starts as.
 #[tactic(auto, unfolding(wire_model::specs::Receiver::array_opening_at))]
-fn array_front<'a>(
+fn array_from(
     alloc: Global,
     schema: &Schema,
     ty: AidlType,
     sum: usize,
-    bytes: &'a [u8],
-) -> Result<(Value, &'a [u8]), ReadFault>
+    from: &mut CallReader<'_>,
+) -> Result<Value, ReadFault>
     requires known { is_type schema.now.decls ty ≡ true }
     requires few { sum ≤ 65536 }
-    ensures { Fronts view result (array_opening_at schema.now.decls sum ty bytes.now) }
+    ensures taken { TakesIfMemory view result
+        (array_opening_at schema.now.decls sum ty from.old.bytes) from.new.bytes }
+    ensures same { OnOk result (from.new.profile ≡ from.old.profile) }
 {
-    let (length, rest) = length_front(ty.nullable, sum, bytes)?;
-    let value = array_opening(alloc, schema, ty, length)?;
-    Ok((value, rest))
+    let length = length_from(ty.nullable, sum, from)?;
+    Ok(array_opening(alloc, schema, ty, length)?)
 }
 
 // The length of an `out` array, where None is null.
 #[tactic(auto, unfolding(wire_model::specs::Receiver::length_at))]
-fn length_front(
+fn length_from(
     nullable: bool,
     sum: usize,
-    bytes: &[u8],
-) -> Result<(Option<usize>, &[u8]), ReadFault>
+    from: &mut CallReader<'_>,
+) -> Result<Option<usize>, ReadFault>
     requires { sum ≤ 65536 }
-    ensures { Fronts (λ n. n) result (length_at nullable sum bytes.now) }
+    ensures taken { TakesIfMemory (λ n. n) result
+        (length_at nullable sum from.old.bytes) from.new.bytes }
+    ensures same { OnOk result (from.new.profile ≡ from.old.profile) }
 {
-    let (length, rest) = count_front(nullable, bytes)?;
-    match length {
-        None => Ok((None, rest)),
+    match from.count(nullable)? {
+        None => Ok(None),
         Some(n) => {
             if n > MOST_ITEMS - sum {
                 return Err(ReadFault::BadValue);
             }
-            Ok((Some(n), rest))
+            Ok(Some(n))
         }
     }
 }
@@ -106,38 +109,50 @@ fn array_opening(
     match length {
         None => Ok(Value::Null),
         Some(n) => {
-            let value = default_of(alloc, schema, &element(schema, ty))?;
-            repeated(alloc, &value, n)
+            let one = element(schema, ty);
+            let value = default_of(alloc, schema, &one)?;
+            repeated(alloc, &value, &form_in(schema, one.base), n)
         }
     }
 }
 
-// The sequence of a value so many times: truth values and numbers side by side, and of others copies, which share what a default
-// shares.
-fn repeated(alloc: Global, value: &Value, count: usize) -> Result<Value, OutOfMemory>
+// The sequence of a default of a form so many times: truth values and zeros side by side, and of others copies, which share what a
+// default shares.
+fn repeated(
+    alloc: Global,
+    value: &Value,
+    form: &Form<'_>,
+    count: usize,
+) -> Result<Value, OutOfMemory>
     ensures { IfOk result (λ v. view v ≡ seq (repeated count (view value.now))) }
 {
-    match value {
-        Value::Truth(b) => truths(alloc, *b, count),
-        Value::Number(n) => numbers(alloc, *n, count),
-        _ => Ok(Value::Seq(copies(alloc, value, count)?)),
-    }
+    let elements = match value {
+        Value::Truth(b) => truths(alloc, *b, count)?,
+        Value::Number(0) => zeros(alloc, form, count)?,
+        _ => Elements::Values(copies(alloc, value, count)?),
+    };
+    Ok(Value::Seq(elements))
 }
 
-#[tactic(auto, using(crate::proofs::Repeats::truths_repeated, aidl_values::proofs::lemmas::Views::view_of_truths))]
-fn truths(alloc: Global, b: bool, count: usize) -> Result<Value, OutOfMemory>
-    ensures { IfOk result (λ v. view v ≡ seq (repeated count (truth b))) }
+#[tactic(auto, using(crate::proofs::Repeats::truths_repeated))]
+fn truths(alloc: Global, b: bool, count: usize) -> Result<Elements, OutOfMemory>
+    ensures { IfOk result (λ es. items_of (datas es) ≡ repeated count (truth b)) }
 {
     let row = Vec::from_elem(alloc, b, count)?;
-    Ok(Value::Truths(Row::from_vec(row)))
+    Ok(Elements::Truths(Row::from_vec(row)))
 }
 
-#[tactic(auto, using(crate::proofs::Repeats::numbers_repeated, aidl_values::proofs::lemmas::Views::view_of_numbers))]
-fn numbers(alloc: Global, n: i64, count: usize) -> Result<Value, OutOfMemory>
-    ensures { IfOk result (λ v. view v ≡ seq (repeated count (number n))) }
+// Zeros of the width of a form.
+#[tactic(auto, using(crate::proofs::Repeats::bytes_repeated, crate::proofs::Repeats::chars_repeated, crate::proofs::Repeats::ints_repeated, crate::proofs::Repeats::longs_repeated))]
+fn zeros(alloc: Global, form: &Form<'_>, count: usize) -> Result<Elements, OutOfMemory>
+    ensures { IfOk result (λ es. items_of (datas es) ≡ repeated count (number (pos 0))) }
 {
-    let row = Vec::from_elem(alloc, n, count)?;
-    Ok(Value::Numbers(Numbers::from_longs(row)))
+    match form {
+        Form::Byte => Ok(Elements::Bytes(Row::from_vec(Vec::from_elem(alloc, 0, count)?))),
+        Form::Char => Ok(Elements::Chars(Row::from_vec(Vec::from_elem(alloc, 0, count)?))),
+        Form::Int => Ok(Elements::Ints(Row::from_vec(Vec::from_elem(alloc, 0, count)?))),
+        _ => Ok(Elements::Longs(Row::from_vec(Vec::from_elem(alloc, 0, count)?))),
+    }
 }
 
 fn copies(alloc: Global, value: &Value, count: usize) -> Result<Row<Value>, OutOfMemory>

@@ -1,20 +1,19 @@
 //! A type of a schema, with the plan that stands for it.
-ghost use Rattle.std.specs.Prelude.{◌≡◌, ◌<◌, ◌≤◌, ◌^◌, false, length, min};
+ghost use Rattle.std.specs.Prelude.{◌≡◌, ◌<◌, ◌≤◌, ◌^◌, false, length, min, OnOk};
 ghost use Rattle.aidl_values.specs.Fits.{Fits};
 ghost use Rattle.aidl_values.specs.View.{view};
 ghost use Rattle.marshal_plans.specs.Standing.{IsOf};
+ghost use Rattle.parcel_words.specs.Taken.{TakesIfMemory};
 ghost use Rattle.parcel_words.specs.Written.{with_bytes};
-ghost use Rattle.stub_dispatch.specs.steps.Fronts.{Fronts};
 ghost use Rattle.wire_model.specs.ReadOf.{read_of};
 ghost use Rattle.wire_model.specs.Receiver.{opening_at};
 ghost use Rattle.wire_model.specs.Spell.{spell};
 
-use crate::openings::opening_front;
-use aidl_base::Profile;
+use crate::call_reader::CallReader;
+use crate::openings::opening_from;
 use aidl_schema::{AidlType, Schema};
 use aidl_values::Value;
 use marshal_plans::{PlanId, Plans};
-use parcel_read::read;
 use parcel_words::{ReadFault, WordWriter};
 use parcel_write::{put_value, spelled_length};
 use std::alloc::Global;
@@ -77,31 +76,29 @@ impl<'a> PlannedType<'a> {
         put_value(self.plans, self.id, value, to);
     }
 
-    /// A value at the front of bytes, and the bytes after it.
-    pub fn front<'b>(
-        &self,
-        alloc: Global,
-        profile: Profile,
-        bytes: &'b [u8],
-    ) -> Result<(Value, &'b [u8]), ReadFault>
-        ensures { Fronts view result
-            (read_of profile self.now.decls 64 self.now.ty false bytes.now) }
+    /// A value of the type, by a reader.
+    pub fn value_from(&self, alloc: Global, from: &mut CallReader<'_>) -> Result<Value, ReadFault>
+        ensures taken { TakesIfMemory view result
+            (read_of from.old.profile self.now.decls 64 self.now.ty false from.old.bytes)
+            from.new.bytes }
+        ensures same { OnOk result (from.new.profile ≡ from.old.profile) }
     {
-        let (value, used) = read(alloc, profile, self.plans, self.id, bytes)?;
-        Ok((value, &bytes[used..]))
+        from.value(alloc, self.plans, self.id)
     }
 
     /// What an `out` argument of the type starts as: an array has its length word, any other has nothing. `sum` is that of the
     /// lengths before.
-    pub fn opening<'b>(
+    pub fn opening_from(
         &self,
         alloc: Global,
         sum: usize,
-        bytes: &'b [u8],
-    ) -> Result<(Value, &'b [u8]), ReadFault>
+        from: &mut CallReader<'_>,
+    ) -> Result<Value, ReadFault>
         requires { sum ≤ 65536 }
-        ensures { Fronts view result (opening_at self.now.decls sum self.now.ty bytes.now) }
+        ensures taken { TakesIfMemory view result
+            (opening_at self.now.decls sum self.now.ty from.old.bytes) from.new.bytes }
+        ensures same { OnOk result (from.new.profile ≡ from.old.profile) }
     {
-        opening_front(alloc, self.schema, self.ty, sum, bytes)
+        opening_from(alloc, self.schema, self.ty, sum, from)
     }
 }

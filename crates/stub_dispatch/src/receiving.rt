@@ -5,10 +5,11 @@ ghost use Rattle.stub_dispatch.specs.Receipts.{receipt_of};
 ghost use Rattle.stub_dispatch.specs.steps.Calls.{arguments_received, call_received};
 ghost use Rattle.wire_model.specs.Receiver.{stub};
 
-use crate::arguments::arguments_front;
+use crate::arguments::arguments_from;
+use crate::call_reader::CallReader;
 use crate::callee::Callee;
 use crate::side::Side;
-use crate::token::{after_token, descriptor_of};
+use crate::token::{begins_with, descriptor_of};
 use aidl_base::{OutOfMemory, Profile, Row};
 use aidl_schema::method_of_code;
 use aidl_values::Value;
@@ -80,27 +81,29 @@ fn receive_request(
         ≡ call_received profile callee.now.decls callee.now.interface callee.now.method bytes.now) }
 {
     let name = descriptor_of(alloc, callee.schema(), callee.interface())?;
-    match after_token(alloc, profile, &name, bytes)? {
-        Some(rest) => receive_arguments(alloc, profile, callee, rest),
-        None => Ok(Receipt::Refused { status: BAD_TYPE }),
+    let mut from = CallReader::new(profile, bytes);
+    if begins_with(alloc, &name, &mut from)? {
+        receive_arguments(alloc, callee, &mut from)
+    } else {
+        Ok(Receipt::Refused { status: BAD_TYPE })
     }
 }
 
 // The same after the token.
 fn receive_arguments(
     alloc: Global,
-    profile: Profile,
     callee: &Callee<'_>,
-    bytes: &[u8],
+    from: &mut CallReader<'_>,
 ) -> Result<Receipt, OutOfMemory>
-    ensures { IfOk result (λ receipt. receipt_of receipt ≡ arguments_received
-        profile callee.now.decls callee.now.interface callee.now.method bytes.now) }
+    ensures { IfOk result (λ receipt. receipt_of receipt ≡ arguments_received from.old.profile
+        callee.now.decls callee.now.interface callee.now.method from.old.bytes) }
 {
     let method = callee.method();
     let args = callee.arguments();
     let mut saw = Vec::new(alloc);
-    match arguments_front(alloc, profile, &args, 0, bytes, &mut saw) {
-        Ok(rest) => {
+    match arguments_from(alloc, &args, 0, from, &mut saw) {
+        Ok(()) => {
+            let rest = from.rest();
             if rest.is_empty() {
                 let saw = Row::from_vec(saw);
                 Ok(Receipt::Called { method, saw })

@@ -1,15 +1,16 @@
 //! What a client makes of a reply.
-ghost use Rattle.std.specs.Prelude.{◌≡◌, false, IfOk};
+ghost use Rattle.std.specs.Prelude.{◌≡◌, false, IfOk, OnOk};
 ghost use Rattle.aidl_values.specs.View.{views};
+ghost use Rattle.parcel_words.specs.Taken.{TakesIfMemory};
 ghost use Rattle.stub_dispatch.specs.Got.{got_of};
-ghost use Rattle.stub_dispatch.specs.steps.Fronts.{Continues, Fronts};
+ghost use Rattle.stub_dispatch.specs.steps.Fronts.{Continues};
 ghost use Rattle.stub_dispatch.specs.steps.Replies.{IsAnswer};
 ghost use Rattle.wire_model.specs.Calls.{answer_of, is_oneway, optional_view, out_types, outs_of, result_type};
 ghost use Rattle.wire_model.specs.Receiver.{client, error_at, exception_at, is_refused_status, result_at, returned_at, status_at, values_at};
 
 use crate::call::comes_back;
+use crate::call_reader::CallReader;
 use crate::callee::Callee;
-use crate::fronts::{text_front, word_front};
 use crate::planned_arguments::PlannedArguments;
 use aidl_base::{OutOfMemory, Profile, Row, Text};
 use aidl_values::{Answer, Value};
@@ -106,8 +107,10 @@ fn answer_in(
     ensures { IsAnswer result
         (client profile callee.now.decls callee.now.interface callee.now.method bytes.now) }
 {
-    let (status, rest) = word_front(bytes)?;
-    let (answer, rest) = status_front(alloc, profile, callee, status, rest)?;
+    let mut from = CallReader::new(profile, bytes);
+    let status = from.word()?;
+    let answer = status_from(alloc, callee, status, &mut from)?;
+    let rest = from.rest();
     if rest.is_empty() {
         Ok(answer)
     } else {
@@ -116,24 +119,24 @@ fn answer_in(
 }
 
 // The answer after the status word.
-fn status_front<'a>(
+fn status_from(
     alloc: Global,
-    profile: Profile,
     callee: &Callee<'_>,
     status: i32,
-    bytes: &'a [u8],
-) -> Result<(Answer, &'a [u8]), ReadFault>
-    ensures { Fronts answer_of result (status_at profile callee.now.decls
+    from: &mut CallReader<'_>,
+) -> Result<Answer, ReadFault>
+    ensures { TakesIfMemory answer_of result (status_at from.old.profile callee.now.decls
         (result_type callee.now.decls callee.now.interface callee.now.method)
-        (out_types callee.now.decls callee.now.interface callee.now.method) status bytes.now) }
+        (out_types callee.now.decls callee.now.interface callee.now.method) status
+        from.old.bytes) from.new.bytes }
 {
     if status == 0 {
-        return returned_front(alloc, profile, callee, bytes);
+        return returned_from(alloc, callee, from);
     }
     if is_refused(status) {
         return Err(ReadFault::BadValue);
     }
-    exception_front(alloc, profile, status, bytes)
+    exception_from(alloc, status, from)
 }
 
 // Whether a status word is that of a parcelable exception, of a header or of a failed transaction.
@@ -145,97 +148,90 @@ fn is_refused(status: i32) -> bool
 
 // The rest of an exception.
 #[tactic(auto, unfolding(wire_model::specs::Receiver::exception_at))]
-fn exception_front(
-    alloc: Global,
-    profile: Profile,
-    code: i32,
-    bytes: &[u8],
-) -> Result<(Answer, &[u8]), ReadFault>
-    ensures { Fronts answer_of result (exception_at profile code bytes.now) }
+fn exception_from(alloc: Global, code: i32, from: &mut CallReader<'_>) -> Result<Answer, ReadFault>
+    ensures { TakesIfMemory answer_of result
+        (exception_at from.old.profile code from.old.bytes) from.new.bytes }
 {
-    let (message, rest) = text_front(alloc, profile, bytes)?;
-    let (size, rest) = word_front(rest)?;
+    let message = from.text(alloc)?;
+    let size = from.word()?;
     if size != 0 {
         return Err(ReadFault::BadValue);
     }
-    let (error, rest) = error_front(code, rest)?;
-    let answer = Answer::Exception {
+    let error = error_from(code, from)?;
+    Ok(Answer::Exception {
         code,
         message,
         error,
-    };
-    Ok((answer, rest))
+    })
 }
 
 // The error word of a service's own exception, and 0 of any other.
-fn error_front(code: i32, bytes: &[u8]) -> Result<(i32, &[u8]), ReadFault>
-    ensures { Fronts (λ n. n) result (error_at code bytes.now) }
+fn error_from(code: i32, from: &mut CallReader<'_>) -> Result<i32, ReadFault>
+    ensures { TakesIfMemory (λ n. n) result (error_at code from.old.bytes) from.new.bytes }
 {
     if code == SERVICE_SPECIFIC {
-        word_front(bytes)
+        from.word()
     } else {
-        Ok((0, bytes))
+        Ok(0)
     }
 }
 
 // The result and the outs of a method.
 #[tactic(auto, unfolding(wire_model::specs::Receiver::returned_at))]
-fn returned_front<'a>(
+fn returned_from(
     alloc: Global,
-    profile: Profile,
     callee: &Callee<'_>,
-    bytes: &'a [u8],
-) -> Result<(Answer, &'a [u8]), ReadFault>
-    ensures { Fronts answer_of result (returned_at profile callee.now.decls
+    from: &mut CallReader<'_>,
+) -> Result<Answer, ReadFault>
+    ensures { TakesIfMemory answer_of result (returned_at from.old.profile callee.now.decls
         (result_type callee.now.decls callee.now.interface callee.now.method)
-        (out_types callee.now.decls callee.now.interface callee.now.method) bytes.now) }
+        (out_types callee.now.decls callee.now.interface callee.now.method) from.old.bytes)
+        from.new.bytes }
 {
-    let (result, rest) = result_front(alloc, profile, callee, bytes)?;
+    let result = result_from(alloc, callee, from)?;
     let mut outs = Vec::new(alloc);
-    let rest = outs_front(alloc, profile, &callee.arguments(), rest, &mut outs)?;
+    outs_from(alloc, &callee.arguments(), from, &mut outs)?;
     let outs = Row::from_vec(outs);
-    Ok((Answer::Returned { result, outs }, rest))
+    Ok(Answer::Returned { result, outs })
 }
 
 // A result, where the method has one.
-fn result_front<'a>(
+fn result_from(
     alloc: Global,
-    profile: Profile,
     callee: &Callee<'_>,
-    bytes: &'a [u8],
-) -> Result<(Option<Value>, &'a [u8]), ReadFault>
-    ensures { Fronts optional_view result (result_at profile callee.now.decls
-        (result_type callee.now.decls callee.now.interface callee.now.method) bytes.now) }
+    from: &mut CallReader<'_>,
+) -> Result<Option<Value>, ReadFault>
+    ensures taken { TakesIfMemory optional_view result (result_at from.old.profile callee.now.decls
+        (result_type callee.now.decls callee.now.interface callee.now.method) from.old.bytes)
+        from.new.bytes }
+    ensures same { OnOk result (from.new.profile ≡ from.old.profile) }
 {
     match callee.result() {
-        Some(ty) => {
-            let (value, rest) = ty.front(alloc, profile, bytes)?;
-            Ok((Some(value), rest))
-        }
-        None => Ok((None, bytes)),
+        Some(ty) => Ok(Some(ty.value_from(alloc, from)?)),
+        None => Ok(None),
     }
 }
 
 // The outs of the arguments from one on, behind those that were read.
-fn outs_front<'a>(
+fn outs_from(
     alloc: Global,
-    profile: Profile,
     args: &PlannedArguments<'_>,
-    bytes: &'a [u8],
+    from: &mut CallReader<'_>,
     outs: &mut Vec<Value>,
-) -> Result<&'a [u8], ReadFault>
+) -> Result<(), ReadFault>
     ensures { Continues (views outs.old.items) (views outs.new.items) result
-        (values_at profile args.now.decls (outs_of args.now.args) bytes.now) }
+        (values_at from.old.profile args.now.decls (outs_of args.now.args) from.old.bytes)
+        from.new.bytes }
 {
     match args.first() {
-        None => Ok(bytes),
+        None => Ok(()),
         Some((arg, others)) => {
             if !comes_back(arg.declared().way) {
-                return outs_front(alloc, profile, &others, bytes, outs);
+                return outs_from(alloc, &others, from, outs);
             }
-            let (value, rest) = arg.ty().front(alloc, profile, bytes)?;
+            let value = arg.ty().value_from(alloc, from)?;
             outs.push(value)?;
-            outs_front(alloc, profile, &others, rest, outs)
+            outs_from(alloc, &others, from, outs)
         }
     }
 }

@@ -90,6 +90,12 @@ fn put_length(value: &Value, to: &mut WordWriter)
 {
     match value {
         Value::Number(n) if *n >= 0 => to.word(*n as i32),
-        _ => to.word(-1),
+        Value::Null
+        | Value::Truth(_)
+        | Value::Number(_)
+        | Value::Text(_)
+        | Value::Seq(_)
+        | Value::Rec(_)
+        | Value::Alt(_, _) => to.word(-1),
     }
 }

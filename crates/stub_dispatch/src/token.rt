@@ -1,17 +1,18 @@
 //! The token that begins a request: two words, the header, and the name of the interface.
-ghost use Rattle.std.specs.Prelude.{◌≡◌, ◌∷◌, ◌≤◌, ◌^◌, ◌<◌, IfOk, length, min};
+ghost use Rattle.std.specs.Prelude.{◌≡◌, ◌∷◌, ◌≤◌, ◌^◌, ◌<◌, IfOk, length, min, OnOk};
 ghost use Rattle.aidl_base.specs.Names.{dotted};
 ghost use Rattle.aidl_base.specs.Words.{units};
+ghost use Rattle.parcel_words.specs.Taken.{TakesIfMemory};
 ghost use Rattle.parcel_words.specs.Written.{with_bytes};
 ghost use Rattle.stub_dispatch.specs.steps.Names.{dots};
 ghost use Rattle.stub_dispatch.specs.Tokens.{IsRest};
-ghost use Rattle.stub_dispatch.specs.steps.Fronts.{Fronts};
+ghost use Rattle.stub_dispatch.specs.steps.Begins.{Begins};
 ghost use Rattle.aidl_schema.specs.Same.{same_text};
 ghost use Rattle.wire_model.specs.Calls.{descriptor};
 ghost use Rattle.wire_model.specs.Receiver.{header_at, token_at};
 ghost use Rattle.wire_model.specs.Requests.{token};
 
-use crate::fronts::{text_front, word_front};
+use crate::call_reader::CallReader;
 use aidl_base::{Ident, OutOfMemory, Profile, Text, joined_by_dots};
 use aidl_schema::Schema;
 use parcel_words::{ReadFault, Wire, WordWriter, unit_count};
@@ -57,34 +58,41 @@ pub fn after_token<'a>(
 ) -> Result<Option<&'a [u8]>, OutOfMemory>
     ensures { IfOk result (λ rest. IsRest rest (token_at profile name.now bytes.now)) }
 {
-    match header_front(alloc, profile, bytes) {
-        Ok(((header, text), rest)) => {
-            if header == HEADER && is_same(&text, name) {
-                Ok(Some(rest))
-            } else {
-                Ok(None)
-            }
-        }
+    let mut from = CallReader::new(profile, bytes);
+    if begins_with(alloc, name, &mut from)? {
+        Ok(Some(from.rest()))
+    } else {
+        Ok(None)
+    }
+}
+
+/// Whether the bytes begin with the token of a name, which is then passed.
+pub fn begins_with(
+    alloc: Global,
+    name: &Text,
+    from: &mut CallReader<'_>,
+) -> Result<bool, OutOfMemory>
+    ensures { IfOk result (λ begins. Begins begins
+        (token_at from.old.profile name.now from.old.bytes) from.old from.new) }
+{
+    match header_from(alloc, from) {
+        Ok((header, text)) => Ok(header == HEADER && is_same(&text, name)),
         Err(ReadFault::OutOfMemory) => Err(OutOfMemory),
-        Err(_) => Ok(None),
+        Err(_) => Ok(false),
     }
 }
 
 // What begins a request: eight bytes that nobody looks at, the header word and a name.
 #[tactic(auto, unfolding(wire_model::specs::Receiver::header_at))]
-fn header_front(
-    alloc: Global,
-    profile: Profile,
-    bytes: &[u8],
-) -> Result<((i32, Text), &[u8]), ReadFault>
-    ensures { Fronts (λ x. x) result (header_at profile bytes.now) }
+fn header_from(alloc: Global, from: &mut CallReader<'_>) -> Result<(i32, Text), ReadFault>
+    ensures taken { TakesIfMemory (λ x. x) result
+        (header_at from.old.profile from.old.bytes) from.new.bytes }
+    ensures same { OnOk result (from.new.profile ≡ from.old.profile) }
 {
-    if bytes.len() < 8 {
-        return Err(ReadFault::NotEnough);
-    }
-    let (header, rest) = word_front(&bytes[8..])?;
-    let (name, rest) = text_front(alloc, profile, rest)?;
-    Ok(((header, name), rest))
+    from.pass_eight()?;
+    let header = from.word()?;
+    let name = from.text(alloc)?;
+    Ok((header, name))
 }
 
 // Whether texts are the same.

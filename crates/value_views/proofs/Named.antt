@@ -15,8 +15,7 @@ use Rattle.aidl_schema.specs.Containment.{fields_of}
 use Rattle.aidl_schema.specs.Same.{same_text}
 use Rattle.aidl_schema.specs.Types.{form_of, form_of_decl, form_of_kind}
 use Rattle.aidl_values.specs.Data.{Data}
-use Rattle.aidl_values.specs.View.{view, views}
-use Rattle.aidl_values.specs.declared.value.Value.{Value}
+use Rattle.aidl_values.specs.View.{items_of}
 use Rattle.wire_model.specs.Spell.{parcelable_fields, union_fields}
 use Rattle.wire_model.specs.View as meant
 use Rattle.wire_model.proofs.lemmas.NamedTexts.{by_bytes, same_position, turned}
@@ -117,66 +116,66 @@ module _ (A : List Decl) (B : List Decl) (g : Field) where
   abbrev has_name : Field → Bool
   has_name f = same_text g.name.0 f.name.0
 
-  no_items : (fs : List Field) → meant.view_named A fs B g (views []) ≡ None
+  no_items : (fs : List Field) → meant.view_named A fs B g (items_of []) ≡ None
   no_items [] = refl
   no_items (f ∷ fs) = refl
 
-  passed : (f : Field) (fs : List Field) (v : Value) (vs : List Value) → has_name f ≡ false → meant.view_named A (f ∷ fs) B g (views (v ∷ vs)) ≡ meant.view_named A fs B g (views vs)
-  passed f fs v vs other = let differ : same_text f.name.0 g.name.0 ≡ false = turned g.name.0 f.name.0 ∙ other in rw differ refl
+  passed : (f : Field) (fs : List Field) (d : Data) (ds : List Data) → has_name f ≡ false → meant.view_named A (f ∷ fs) B g (items_of (d ∷ ds)) ≡ meant.view_named A fs B g (items_of ds)
+  passed f fs d ds other = let differ : same_text f.name.0 g.name.0 ≡ false = turned g.name.0 f.name.0 ∙ other in rw differ refl
 
-  met : (f : Field) (fs : List Field) (v : Value) (vs : List Value) → has_name f ≡ true → meant.view_named A (f ∷ fs) B g (views (v ∷ vs)) ≡ Some (meant.view_of A f.ty B g.ty (view v))
-  met f fs v vs same = let is : same_text f.name.0 g.name.0 ≡ true = turned g.name.0 f.name.0 ∙ same in rw is refl
+  met : (f : Field) (fs : List Field) (d : Data) (ds : List Data) → has_name f ≡ true → meant.view_named A (f ∷ fs) B g (items_of (d ∷ ds)) ≡ Some (meant.view_of A f.ty B g.ty d)
+  met f fs d ds same = let is : same_text f.name.0 g.name.0 ≡ true = turned g.name.0 f.name.0 ∙ same in rw is refl
 
-  nowhere_from : (k : ℕ) (fs : List Field) (vs : List Value) → position_from has_name k fs ≡ None → meant.view_named A fs B g (views vs) ≡ None
+  nowhere_from : (k : ℕ) (fs : List Field) (ds : List Data) → position_from has_name k fs ≡ None → meant.view_named A fs B g (items_of ds) ≡ None
   nowhere_from k fs [] e = no_items fs
-  nowhere_from k [] (v ∷ vs) e = refl
-  nowhere_from k (f ∷ fs) (v ∷ vs) e = by (has_name f) refl (nowhere_from (k + 1) fs vs)
+  nowhere_from k [] (d ∷ ds) e = refl
+  nowhere_from k (f ∷ fs) (d ∷ ds) e = by (has_name f) refl (nowhere_from (k + 1) fs ds)
     where
-      by : (b : Bool) → has_name f ≡ b → (position_from has_name (k + 1) fs ≡ None → meant.view_named A fs B g (views vs) ≡ None) → meant.view_named A (f ∷ fs) B g (views (v ∷ vs)) ≡ None
+      by : (b : Bool) → has_name f ≡ b → (position_from has_name (k + 1) fs ≡ None → meant.view_named A fs B g (items_of ds) ≡ None) → meant.view_named A (f ∷ fs) B g (items_of (d ∷ ds)) ≡ None
       by true h next = cc
-      by false h next = passed f fs v vs h ∙ next (sym (ap (λ b. cond b (Some k) (position_from has_name (k + 1) fs)) h) ∙ e)
+      by false h next = passed f fs d ds h ∙ next (sym (ap (λ b. cond b (Some k) (position_from has_name (k + 1) fs)) h) ∙ e)
 
-  beyond_from : (k i j : ℕ) (fs : List Field) (vs : List Value) → position_from has_name k fs ≡ Some j → j ≡ k + i → length vs ≤ i → meant.view_named A fs B g (views vs) ≡ None
+  beyond_from : (k i j : ℕ) (fs : List Field) (ds : List Data) → position_from has_name k fs ≡ Some j → j ≡ k + i → length ds ≤ i → meant.view_named A fs B g (items_of ds) ≡ None
   beyond_from k i j fs [] e at few = no_items fs
-  beyond_from k i j [] (v ∷ vs) e at few = refl
-  beyond_from k zero j (f ∷ fs) (v ∷ vs) e at few = absurd (omega arith)
-  beyond_from k (suc i) j (f ∷ fs) (v ∷ vs) e at few = by (has_name f) refl (beyond_from (k + 1) i j fs vs)
+  beyond_from k i j [] (d ∷ ds) e at few = refl
+  beyond_from k zero j (f ∷ fs) (d ∷ ds) e at few = absurd (omega arith)
+  beyond_from k (suc i) j (f ∷ fs) (d ∷ ds) e at few = by (has_name f) refl (beyond_from (k + 1) i j fs ds)
     where
-      by : (b : Bool) → has_name f ≡ b → (position_from has_name (k + 1) fs ≡ Some j → j ≡ k + 1 + i → length vs ≤ i → meant.view_named A fs B g (views vs) ≡ None) → meant.view_named A (f ∷ fs) B g (views (v ∷ vs)) ≡ None
+      by : (b : Bool) → has_name f ≡ b → (position_from has_name (k + 1) fs ≡ Some j → j ≡ k + 1 + i → length ds ≤ i → meant.view_named A fs B g (items_of ds) ≡ None) → meant.view_named A (f ∷ fs) B g (items_of (d ∷ ds)) ≡ None
       by true h next = let here : k ≡ j = cc in absurd (omega arith)
-      by false h next = passed f fs v vs h ∙ next (sym (ap (λ b. cond b (Some k) (position_from has_name (k + 1) fs)) h) ∙ e) (omega arith) (omega arith)
+      by false h next = passed f fs d ds h ∙ next (sym (ap (λ b. cond b (Some k) (position_from has_name (k + 1) fs)) h) ∙ e) (omega arith) (omega arith)
 
-  there_from : (k i j : ℕ) (fs : List Field) (vs : List Value) (f : Field) (v : Value) → position_from has_name k fs ≡ Some j → j ≡ k + i → slice_get fs i ≡ Some f → slice_get vs i ≡ Some v
-      → meant.view_named A fs B g (views vs) ≡ Some (meant.view_of A f.ty B g.ty (view v))
-  there_from k i j [] vs f v e at is has = cc
-  there_from k i j (f' ∷ fs) [] f v e at is has = cc
-  there_from k zero j (f' ∷ fs) (v' ∷ vs) f v e at is has = by (has_name f') refl
+  there_from : (k i j : ℕ) (fs : List Field) (ds : List Data) (f : Field) (d : Data) → position_from has_name k fs ≡ Some j → j ≡ k + i → slice_get fs i ≡ Some f → slice_get ds i ≡ Some d
+      → meant.view_named A fs B g (items_of ds) ≡ Some (meant.view_of A f.ty B g.ty d)
+  there_from k i j [] ds f d e at is has = cc
+  there_from k i j (f' ∷ fs) [] f d e at is has = cc
+  there_from k zero j (f' ∷ fs) (d' ∷ ds) f d e at is has = by (has_name f') refl
     where
       one : f' ≡ f
       one = cc
 
-      two : v' ≡ v
+      two : d' ≡ d
       two = cc
 
-      by : (b : Bool) → has_name f' ≡ b → meant.view_named A (f' ∷ fs) B g (views (v' ∷ vs)) ≡ Some (meant.view_of A f.ty B g.ty (view v))
-      by true h = met f' fs v' vs h ∙ ap (λ (f : Field). let o : Option (Option Data) = Some (meant.view_of A f.ty B g.ty (view v')) in o) one ∙ ap (λ v. let o : Option (Option Data) = Some (meant.view_of A f.ty B g.ty (view v)) in o) two
+      by : (b : Bool) → has_name f' ≡ b → meant.view_named A (f' ∷ fs) B g (items_of (d' ∷ ds)) ≡ Some (meant.view_of A f.ty B g.ty d)
+      by true h = met f' fs d' ds h ∙ ap (λ (f : Field). let o : Option (Option Data) = Some (meant.view_of A f.ty B g.ty d') in o) one ∙ ap (λ d. let o : Option (Option Data) = Some (meant.view_of A f.ty B g.ty d) in o) two
       by false h = let later = least has_name (k + 1) j fs (sym (ap (λ b. cond b (Some k) (position_from has_name (k + 1) fs)) h) ∙ e) in absurd (omega (arith, later, at))
-  there_from k (suc i) j (f' ∷ fs) (v' ∷ vs) f v e at is has = by (has_name f') refl (there_from (k + 1) i j fs vs f v)
+  there_from k (suc i) j (f' ∷ fs) (d' ∷ ds) f d e at is has = by (has_name f') refl (there_from (k + 1) i j fs ds f d)
     where
-      by : (b : Bool) → has_name f' ≡ b → (position_from has_name (k + 1) fs ≡ Some j → j ≡ k + 1 + i → slice_get fs i ≡ Some f → slice_get vs i ≡ Some v → meant.view_named A fs B g (views vs) ≡ Some (meant.view_of A f.ty B g.ty (view v)))
-          → meant.view_named A (f' ∷ fs) B g (views (v' ∷ vs)) ≡ Some (meant.view_of A f.ty B g.ty (view v))
+      by : (b : Bool) → has_name f' ≡ b → (position_from has_name (k + 1) fs ≡ Some j → j ≡ k + 1 + i → slice_get fs i ≡ Some f → slice_get ds i ≡ Some d → meant.view_named A fs B g (items_of ds) ≡ Some (meant.view_of A f.ty B g.ty d))
+          → meant.view_named A (f' ∷ fs) B g (items_of (d' ∷ ds)) ≡ Some (meant.view_of A f.ty B g.ty d)
       by true h next = let here : k ≡ j = cc in absurd (omega arith)
-      by false h next = passed f' fs v' vs h ∙ next (sym (ap (λ b. cond b (Some k) (position_from has_name (k + 1) fs)) h) ∙ e) (omega arith) is has
+      by false h next = passed f' fs d' ds h ∙ next (sym (ap (λ b. cond b (Some k) (position_from has_name (k + 1) fs)) h) ∙ e) (omega arith) is has
 
-  pub seen_nowhere : (fs : List Field) (vs : List Value) → place_named g.name.0 fs ≡ None → meant.view_named A fs B g (views vs) ≡ None
-  seen_nowhere fs vs e = nowhere_from 0 fs vs (sym (position_from-zero has_name fs) ∙ e)
+  pub seen_nowhere : (fs : List Field) (ds : List Data) → place_named g.name.0 fs ≡ None → meant.view_named A fs B g (items_of ds) ≡ None
+  seen_nowhere fs ds e = nowhere_from 0 fs ds (sym (position_from-zero has_name fs) ∙ e)
 
-  pub seen_beyond : (fs : List Field) (vs : List Value) (i : ℕ) → place_named g.name.0 fs ≡ Some i → length vs ≤ i → meant.view_named A fs B g (views vs) ≡ None
-  seen_beyond fs vs i e few = beyond_from 0 i i fs vs (sym (position_from-zero has_name fs) ∙ e) (omega arith) few
+  pub seen_beyond : (fs : List Field) (ds : List Data) (i : ℕ) → place_named g.name.0 fs ≡ Some i → length ds ≤ i → meant.view_named A fs B g (items_of ds) ≡ None
+  seen_beyond fs ds i e few = beyond_from 0 i i fs ds (sym (position_from-zero has_name fs) ∙ e) (omega arith) few
 
-  pub seen_there : (fs : List Field) (vs : List Value) (i : ℕ) (f : Field) (v : Value) → place_named g.name.0 fs ≡ Some i → slice_get fs i ≡ Some f → slice_get vs i ≡ Some v
-      → meant.view_named A fs B g (views vs) ≡ Some (meant.view_of A f.ty B g.ty (view v))
-  seen_there fs vs i f v e is has = there_from 0 i i fs vs f v (sym (position_from-zero has_name fs) ∙ e) (omega arith) is has
+  pub seen_there : (fs : List Field) (ds : List Data) (i : ℕ) (f : Field) (d : Data) → place_named g.name.0 fs ≡ Some i → slice_get fs i ≡ Some f → slice_get ds i ≡ Some d
+      → meant.view_named A fs B g (items_of ds) ≡ Some (meant.view_of A f.ty B g.ty d)
+  seen_there fs ds i f d e is has = there_from 0 i i fs ds f d (sym (position_from-zero has_name fs) ∙ e) (omega arith) is has
 
 -- The alternative of a name
 

@@ -6,9 +6,11 @@ use Rattle.std.proofs.lemmas.Option.{slice_get_read}
 use Rattle.aidl_schema.specs.declared.schema.AidlType.{AidlType}
 use Rattle.aidl_schema.specs.declared.schema.Decl.{Decl}
 use Rattle.aidl_schema.specs.declared.schema.Field.{Field}
-use Rattle.aidl_values.specs.Data.{Data, Items, none, item, alt, seq, rec}
+use Rattle.aidl_values.specs.Data.{Data, Items, none, item, alt, rec}
 use Rattle.aidl_values.specs.View.{items_of, view, views}
-use Rattle.aidl_values.specs.declared.value.Value.{Value, Seq, Rec, Alt, the_lemmas}
+use Rattle.aidl_values.specs.declared.value.Fields.TheVariants.{Whole}
+use Rattle.aidl_values.specs.declared.value.Value.{Value, Rec}
+use Rattle.aidl_values.proofs.lemmas.Views.{fields_whole, view_of_rec}
 use Rattle.aidl_values.specs.Sound.{initial_in}
 use Rattle.wire_model.specs.View.{item_first, each_field, view_of, view_items, view_named, field_named, in_field, in_place, or_initial}
 use Rattle.value_views.specs.steps.Places.{below, place_named}
@@ -84,17 +86,17 @@ module _ (A B : List Decl) (sent : Option Field) (f : Field) (at : sent ≡ Some
   no_alternative missing = sym (ap alternative_of at ∙ ap placed_at (unnamed f.name.0 fields (sym missing)))
 
 -- the view of a field, by its parts
-module _ (A B : List Decl) (g : Field) (fields : List Field) (vs : List Value) where
-  pub nowhere_seen : (o : Option ℕ) → o ≡ below (length vs) (place_named g.name.0 fields) → o ≡ None → Some (initial_in B g) ≡ field_view A fields B (views vs) g
+module _ (A B : List Decl) (g : Field) (fields : List Field) (ds : List Data) where
+  pub nowhere_seen : (o : Option ℕ) → o ≡ below (length ds) (place_named g.name.0 fields) → o ≡ None → Some (initial_in B g) ≡ field_view A fields B (items_of ds) g
   nowhere_seen o at missing = sym (ap (λ s. or_initial s (initial_in B g)) (by (place_named g.name.0 fields) refl (sym at ∙ missing)))
     where
-      by_test : (i : ℕ) (b : Bool) → nat_lt i (length vs) ≡ b → place_named g.name.0 fields ≡ Some i → (if b then Some i else None) ≡ None → view_named A fields B g (views vs) ≡ None
+      by_test : (i : ℕ) (b : Bool) → nat_lt i (length ds) ≡ b → place_named g.name.0 fields ≡ Some i → (if b then Some i else None) ≡ None → view_named A fields B g (items_of ds) ≡ None
       by_test i true lt is e = cc
-      by_test i false lt is e = seen_beyond A B g fields vs i is (grind (arith, nat_tests))
+      by_test i false lt is e = seen_beyond A B g fields ds i is (grind (arith, nat_tests))
 
-      by : (p : Option ℕ) → place_named g.name.0 fields ≡ p → below (length vs) p ≡ None → view_named A fields B g (views vs) ≡ None
-      by None is e = seen_nowhere A B g fields vs is
-      by (Some i) is e = by_test i (nat_lt i (length vs)) refl is e
+      by : (p : Option ℕ) → place_named g.name.0 fields ≡ p → below (length ds) p ≡ None → view_named A fields B g (items_of ds) ≡ None
+      by None is e = seen_nowhere A B g fields ds is
+      by (Some i) is e = by_test i (nat_lt i (length ds)) refl is e
 
   was_below : (n k : ℕ) (p : Option ℕ) → Some k ≡ below n p → p ≡ Some k
   was_below n k None e = cc
@@ -104,19 +106,13 @@ module _ (A B : List Decl) (g : Field) (fields : List Field) (vs : List Value) w
       by true e = sym e
       by false e = cc
 
-  pub there_seen : (n k : ℕ) (fs : List Field) (f : Field) (v : Value) → Some k ≡ below n (place_named g.name.0 fields) → fs ≡ fields → k < length fields → f ≡ get_or fs k f → slice_get vs k ≡ Some v
-      → view_of A f.ty B g.ty (view v) ≡ field_view A fields B (views vs) g
-  there_seen n k fs f v at are lt is has =
+  pub there_seen : (n k : ℕ) (fs : List Field) (f : Field) (d : Data) → Some k ≡ below n (place_named g.name.0 fields) → fs ≡ fields → k < length fields → f ≡ get_or fs k f → slice_get ds k ≡ Some d
+      → view_of A f.ty B g.ty d ≡ field_view A fields B (items_of ds) g
+  there_seen n k fs f d at are lt is has =
       let read : slice_get fs k ≡ Some f = slice_get_read fs (length fields) k f (sym (ap length are)) lt is in
       let there : slice_get fields k ≡ Some f = ap (λ xs. slice_get xs k) (sym are) ∙ read in
-      sym (ap (λ s. or_initial s (initial_in B g)) (seen_there A B g fields vs k f v (was_below n k (place_named g.name.0 fields) at) there has))
+      sym (ap (λ s. or_initial s (initial_in B g)) (seen_there A B g fields ds k f d (was_below n k (place_named g.name.0 fields) at) there has))
 
 -- the data of one level
-pub seen_seq : (v : Value) (vs : List Value) → v ≡ Seq vs → view v ≡ seq (views vs)
-seen_seq v vs is = let level : view (Seq vs) ≡ seq (views vs) = search (rules, the_lemmas) in ap view is ∙ level
-
-pub seen_rec : (vs : List Value) → view (Rec vs) ≡ rec (views vs)
-seen_rec vs = search (rules, the_lemmas)
-
-pub seen_alt : (k : ℕ) (b : _) → view (Alt k b) ≡ alt k (view b.value)
-seen_alt k b = search (rules, the_lemmas)
+pub seen_rec : (vs : List Value) → view (Rec (Whole vs)) ≡ rec (views vs)
+seen_rec vs = view_of_rec (Whole vs) ∙ ap (λ ds. rec (items_of ds)) (fields_whole vs)

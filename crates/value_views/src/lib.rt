@@ -4,7 +4,6 @@
 mod decl_fields;
 mod named_fields;
 mod places;
-mod rows;
 mod same;
 mod viewing;
 

@@ -1,10 +1,10 @@
 //! What a value is to another version of its type.
-ghost use Rattle.std.specs.Prelude.{◌≡◌, ◌==◌, ◌||◌, true, if◌then◌else◌, map, option_map, slice_get, IfOk, Some};
+ghost use Rattle.std.specs.Prelude.{◌≡◌, ◌==◌, ◌||◌, true, if◌then◌else◌, option_map, slice_get, IfOk, Some};
 ghost use Rattle.std.specs.Option.{option_copied};
-ghost use Rattle.aidl_values.specs.Data.{alt, number, rec, seq, truth};
+ghost use Rattle.aidl_values.specs.Data.{alt, rec, seq};
 ghost use Rattle.aidl_values.specs.Sound.{initial_in};
-ghost use Rattle.aidl_values.specs.View.{items_of, view, views};
-ghost use Rattle.value_views.specs.steps.Seen.{field_view};
+ghost use Rattle.aidl_values.specs.View.{datas, field_datas, items_of, view, views};
+ghost use Rattle.value_views.specs.steps.Seen.{AreThemselves, field_view};
 ghost use Rattle.wire_model.specs.Spell.{parcelable_fields, union_fields};
 ghost use Rattle.aidl_schema.specs.Broken.{kind_code};
 ghost use Rattle.aidl_schema.specs.Types.{elem, form_of};
@@ -15,7 +15,7 @@ use crate::named_fields::NamedFields;
 use crate::places::{parcelable_fields, place_in_union, place_sent, union_fields};
 use aidl_base::{OutOfMemory, Row};
 use aidl_schema::{AidlType, Base, Decl, Field, Kind, element, same_type};
-use aidl_values::{FieldValues, Numbers, Value, initial_of};
+use aidl_values::{Elements, Fields, Value, initial_of};
 use std::alloc::Global;
 
 /// What a value that a sender spells by its type `t` is to a receiver that reads it by its type `u`, exactly
@@ -43,22 +43,8 @@ pub fn view_value(
         Value::Truth(x) => Ok(Some(Value::Truth(*x))),
         Value::Number(n) => Ok(Some(Value::Number(*n))),
         Value::Text(text) => Ok(Some(Value::Text(text.try_clone(alloc)?))),
-        Value::Seq(items) => {
-            let sent = element(sender.schema(), t);
-            let wanted = element(receiver.schema(), u);
-            let seen = view_items(alloc, sender, sent, receiver, wanted, items.as_slice())?;
-            Ok(as_sequence(seen))
-        }
-        Value::Truths(truths) => view_truths(alloc, sender, t, receiver, u, truths.as_slice()),
-        Value::Numbers(numbers) => view_numbers(alloc, sender, t, receiver, u, numbers),
-        Value::Rec(given) => {
-            let values = FieldValues::whole(given);
-            view_record(alloc, sender, t.base, receiver, u.base, &values)
-        }
-        Value::Short(given, defaults) => {
-            let values = FieldValues::short(given, defaults);
-            view_record(alloc, sender, t.base, receiver, u.base, &values)
-        }
+        Value::Seq(elements) => view_sequence(alloc, sender, t, receiver, u, elements),
+        Value::Rec(values) => view_record(alloc, sender, t.base, receiver, u.base, values),
         Value::Alt(tag, inner) => {
             let sent = field_at(union_fields(sender, t.base), *tag);
             view_alternative(alloc, sender, sent, receiver, u.base, inner)
@@ -66,11 +52,40 @@ pub fn view_value(
     }
 }
 
+// The view of a sequence: the views of its elements.
+#[cycle(viewing)]
+fn view_sequence(
+    alloc: Global,
+    sender: &NamedFields<'_>,
+    t: AidlType,
+    receiver: &NamedFields<'_>,
+    u: AidlType,
+    elements: &Elements,
+) -> Result<Option<Value>, OutOfMemory>
+    ensures { IfOk result (λ o. option_map view o ≡ option_map seq (meant.view_items
+        sender.now (elem sender.now t) receiver.now
+        (elem receiver.now u) (items_of (datas elements.now)))) }
+{
+    let sent = element(sender.schema(), t);
+    let wanted = element(receiver.schema(), u);
+    match elements {
+        Elements::Values(values) => {
+            let seen = view_items(alloc, sender, sent, receiver, wanted, values.as_slice())?;
+            Ok(as_sequence(seen))
+        }
+        Elements::Truths(_)
+        | Elements::Bytes(_)
+        | Elements::Chars(_)
+        | Elements::Ints(_)
+        | Elements::Longs(_) => view_row(alloc, sender, sent, receiver, wanted, elements),
+    }
+}
+
 fn as_sequence(items: Option<Row<Value>>) -> Option<Value>
     ensures { option_map view result ≡ option_map seq (option_map views items) }
 {
     match items {
-        Some(items) => Some(Value::Seq(items)),
+        Some(items) => Some(Value::Seq(Elements::Values(items))),
         None => None,
     }
 }
@@ -98,60 +113,25 @@ fn view_items(
     Ok(Some(Row::from_vec(seen)))
 }
 
-// The view of a sequence of truth values by its types.
-fn view_truths(
+// The view of truth values or numbers that are kept side by side: they are themselves where the types of the elements agree,
+// and so are none of them.
+fn view_row(
     alloc: Global,
     sender: &NamedFields<'_>,
     t: AidlType,
     receiver: &NamedFields<'_>,
     u: AidlType,
-    truths: &[bool],
+    elements: &Elements,
 ) -> Result<Option<Value>, OutOfMemory>
-    ensures { IfOk result (λ o. option_map view o ≡ option_map seq (meant.view_items
-        sender.now (elem sender.now t) receiver.now
-        (elem receiver.now u) (items_of (map truth truths.now)))) }
+    requires { AreThemselves (datas elements.now) }
+    ensures { IfOk result (λ o. option_map view o ≡ option_map seq
+        (meant.view_items sender.now t receiver.now u (items_of (datas elements.now)))) }
 {
-    if !stay(sender, t, receiver, u, truths.len()) {
+    if elements.len() != 0 && !agree(sender, t, receiver, u) {
         return Ok(None);
     }
-    let copied = truths.to_vec(alloc)?;
-    Ok(Some(Value::Truths(Row::from_vec(copied))))
-}
-
-// The view of a sequence of numbers by its types.
-fn view_numbers(
-    alloc: Global,
-    sender: &NamedFields<'_>,
-    t: AidlType,
-    receiver: &NamedFields<'_>,
-    u: AidlType,
-    numbers: &Numbers,
-) -> Result<Option<Value>, OutOfMemory>
-    ensures { IfOk result (λ o. option_map view o ≡ option_map seq (meant.view_items
-        sender.now (elem sender.now t) receiver.now
-        (elem receiver.now u) (items_of (map number numbers.now)))) }
-{
-    if !stay(sender, t, receiver, u, numbers.len()) {
-        return Ok(None);
-    }
-    let copied = numbers.try_clone(alloc)?;
-    Ok(Some(Value::Numbers(copied)))
-}
-
-// Whether so many truth values or numbers are all themselves: there are none, or the types of the elements agree.
-fn stay(
-    sender: &NamedFields<'_>,
-    t: AidlType,
-    receiver: &NamedFields<'_>,
-    u: AidlType,
-    count: usize,
-) -> bool
-    ensures { result ≡ ((count == 0)
-        || meant.agree sender.now (elem sender.now t) receiver.now (elem receiver.now u)) }
-{
-    let sent = element(sender.schema(), t);
-    let wanted = element(receiver.schema(), u);
-    count == 0 || agree(sender, sent, receiver, wanted)
+    let copied = elements.try_clone(alloc)?;
+    Ok(Some(Value::Seq(copied)))
 }
 
 // The view of a record: the views of the receiver's fields.
@@ -162,11 +142,11 @@ fn view_record(
     base: Base,
     receiver: &NamedFields<'_>,
     other: Base,
-    values: &FieldValues<'_>,
+    values: &Fields,
 ) -> Result<Option<Value>, OutOfMemory>
     ensures { IfOk result (λ o. option_map view o ≡ option_map rec (meant.each_field
         (λ g. field_view sender.now (parcelable_fields (form_of sender.now base)) receiver.now
-        (views values.now) g)
+        (items_of (field_datas values.now)) g)
         (parcelable_fields (form_of receiver.now other)))) }
 {
     let fields = parcelable_fields(receiver, other);
@@ -177,7 +157,7 @@ fn view_record(
             None => return Ok(None),
         }
     }
-    Ok(Some(Value::Rec(Row::from_vec(seen))))
+    Ok(Some(Value::Rec(Fields::Whole(Row::from_vec(seen)))))
 }
 
 // What a field of the receiver is seen as: the view of the sender's field of its name, or its default where there
@@ -189,11 +169,11 @@ fn view_field(
     base: Base,
     receiver: &NamedFields<'_>,
     field: &Field,
-    values: &FieldValues<'_>,
+    values: &Fields,
 ) -> Result<Option<Value>, OutOfMemory>
     ensures { IfOk result (λ o. option_map view o
         ≡ field_view sender.now (parcelable_fields (form_of sender.now base)) receiver.now
-        (views values.now) field.now) }
+        (items_of (field_datas values.now)) field.now) }
 {
     match place_sent(sender, base, &field.name.0, values.len()) {
         Some(place) => {

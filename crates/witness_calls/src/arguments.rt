@@ -141,6 +141,12 @@ fn sent_length(value: &Value) -> Option<usize>
 {
     match value {
         Value::Number(n) if *n >= 0 => Some(*n as usize),
-        _ => None,
+        Value::Null
+        | Value::Truth(_)
+        | Value::Number(_)
+        | Value::Text(_)
+        | Value::Seq(_)
+        | Value::Rec(_)
+        | Value::Alt(_, _) => None,
     }
 }

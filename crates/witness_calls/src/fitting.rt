@@ -77,10 +77,7 @@ fn is_length(ty: AidlType, value: &Value) -> bool
         Value::Truth(_) => false,
         Value::Text(_) => false,
         Value::Seq(_) => false,
-        Value::Truths(_) => false,
-        Value::Numbers(_) => false,
         Value::Rec(_) => false,
-        Value::Short(_, _) => false,
         Value::Alt(_, _) => false,
     }
 }
@@ -94,10 +91,7 @@ fn is_null(value: &Value) -> bool
         Value::Truth(_) => false,
         Value::Text(_) => false,
         Value::Seq(_) => false,
-        Value::Truths(_) => false,
-        Value::Numbers(_) => false,
         Value::Rec(_) => false,
-        Value::Short(_, _) => false,
         Value::Alt(_, _) => false,
     }
 }
@@ -134,7 +128,13 @@ fn asked_length(arg: &Arg, value: &Value) -> usize
 {
     match value {
         Value::Number(n) if is_out(arg.way) && *n >= 0 => *n as usize,
-        _ => 0,
+        Value::Null
+        | Value::Truth(_)
+        | Value::Number(_)
+        | Value::Text(_)
+        | Value::Seq(_)
+        | Value::Rec(_)
+        | Value::Alt(_, _) => 0,
     }
 }
 

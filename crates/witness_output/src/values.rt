@@ -1,14 +1,14 @@
 //! Values as they stand in a side: by their parts, without their types.
-ghost use Rattle.std.specs.Prelude.{◌≡◌, ◌++◌, false, codes, map, OnOk, string_bytes};
+ghost use Rattle.std.specs.Prelude.{◌≡◌, ◌++◌, codes, OnOk, string_bytes};
 ghost use Rattle.std.specs.Fmt.{decimal, signed_decimal};
 ghost use Rattle.std.specs.Str.{encode_utf8_all};
 ghost use Rattle.serde_json.specs.Written.{comma_if};
-ghost use Rattle.aidl_values.specs.Data.{alt, number, seq, rec, truth};
-ghost use Rattle.aidl_values.specs.View.{items_of, view, views};
-ghost use Rattle.witness_output.specs.Texts.{parts_text, quoted, value_text, values_text};
+ghost use Rattle.aidl_values.specs.Data.{alt, rec, seq, truth};
+ghost use Rattle.aidl_values.specs.View.{datas, field_datas, items_of, view, view_element, views};
+ghost use Rattle.witness_output.specs.Texts.{quoted, value_text, values_text};
 
 use aidl_base::OutOfMemory;
-use aidl_values::{FieldValues, Numbers, Value};
+use aidl_values::{Element, Elements, Fields, Value};
 use serde_json::Value as Json;
 use std::alloc::Global;
 use std::fmt::Write;
@@ -18,7 +18,15 @@ pub fn push_values(alloc: Global, values: &[Value], text: &mut String) -> Result
     ensures { OnOk result (string_bytes text.new
         ≡ string_bytes text.old ++ values_text (views values.now)) }
 {
-    push_sequence(alloc, values, text)
+    text.push_str("[")?;
+    let mut later = false;
+    for value in values {
+        push_comma_if(later, text)?;
+        push_value(alloc, value, text)?;
+        later = true;
+    }
+    text.push_str("]")?;
+    Ok(())
 }
 
 /// Adds a value: null, truth values, numbers and texts as in compact JSON, a sequence in `[` and `]`, a record by position in `{` and
@@ -33,13 +41,8 @@ pub fn push_value(alloc: Global, value: &Value, text: &mut String) -> Result<(),
         Value::Truth(b) => push_truth(*b, text),
         Value::Number(n) => push_number(n, text),
         Value::Text(string) => push_quoted(alloc, string.as_str(), text),
-        Value::Seq(items) => push_sequence(alloc, items.as_slice(), text),
-        Value::Truths(truths) => push_truths(truths.as_slice(), text),
-        Value::Numbers(numbers) => push_numbers(numbers, text),
-        Value::Rec(given) => push_record(alloc, &FieldValues::whole(given), text),
-        Value::Short(given, defaults) => {
-            push_record(alloc, &FieldValues::short(given, defaults), text)
-        }
+        Value::Seq(elements) => push_sequence(alloc, elements, text),
+        Value::Rec(fields) => push_record(alloc, fields, text),
         Value::Alt(tag, inner) => push_alternative(alloc, *tag, inner, text),
     }
 }
@@ -76,54 +79,45 @@ fn push_quoted(alloc: Global, string: &str, text: &mut String) -> Result<(), Out
     Ok(())
 }
 
-// Adds values as a sequence.
 #[cycle(showing)]
-fn push_sequence(alloc: Global, values: &[Value], text: &mut String) -> Result<(), OutOfMemory>
+fn push_sequence(alloc: Global, elements: &Elements, text: &mut String) -> Result<(), OutOfMemory>
     ensures { OnOk result (string_bytes text.new
-        ≡ string_bytes text.old ++ value_text (seq (views values.now))) }
+        ≡ string_bytes text.old ++ value_text (seq (items_of (datas elements.now)))) }
 {
     text.push_str("[")?;
-    push_parts(alloc, values, text)?;
-    text.push_str("]")?;
-    Ok(())
-}
-
-// The same of truth values.
-fn push_truths(truths: &[bool], text: &mut String) -> Result<(), OutOfMemory>
-    ensures { OnOk result (string_bytes text.new
-        ≡ string_bytes text.old ++ value_text (seq (items_of (map truth truths.now)))) }
-{
-    text.push_str("[")?;
-    push_truth_parts(truths, text)?;
-    text.push_str("]")?;
-    Ok(())
-}
-
-// The same of numbers.
-fn push_numbers(numbers: &Numbers, text: &mut String) -> Result<(), OutOfMemory>
-    ensures { OnOk result (string_bytes text.new
-        ≡ string_bytes text.old ++ value_text (seq (items_of (map number numbers.now)))) }
-{
-    text.push_str("[")?;
-    push_number_parts(numbers, text)?;
+    let mut later = false;
+    for i in 0..elements.len() {
+        let element = elements.get(i);
+        push_comma_if(later, text)?;
+        push_element(alloc, &element, text)?;
+        later = true;
+    }
     text.push_str("]")?;
     Ok(())
 }
 
 #[cycle(showing)]
-fn push_record(
-    alloc: Global,
-    values: &FieldValues<'_>,
-    text: &mut String,
-) -> Result<(), OutOfMemory>
+fn push_element(alloc: Global, element: &Element<'_>, text: &mut String) -> Result<(), OutOfMemory>
     ensures { OnOk result (string_bytes text.new
-        ≡ string_bytes text.old ++ value_text (rec (views values.now))) }
+        ≡ string_bytes text.old ++ value_text (view_element element.now)) }
+{
+    match element {
+        Element::Value(value) => push_value(alloc, value, text),
+        Element::Truth(b) => push_truth(*b, text),
+        Element::Number(n) => push_number(n, text),
+    }
+}
+
+#[cycle(showing)]
+fn push_record(alloc: Global, fields: &Fields, text: &mut String) -> Result<(), OutOfMemory>
+    ensures { OnOk result (string_bytes text.new
+        ≡ string_bytes text.old ++ value_text (rec (items_of (field_datas fields.now)))) }
 {
     text.push_str("{")?;
     let mut later = false;
-    for i in 0..values.len() {
+    for i in 0..fields.len() {
         push_comma_if(later, text)?;
-        push_value(alloc, values.get(i), text)?;
+        push_value(alloc, fields.get(i), text)?;
         later = true;
     }
     text.push_str("}")?;
@@ -151,50 +145,6 @@ fn push_tag(tag: u32, text: &mut String) -> Result<(), OutOfMemory>
         ≡ string_bytes text.old ++ (codes "<" ++ decimal tag ++ codes ":")) }
 {
     write!(text, "<{tag}:")?;
-    Ok(())
-}
-
-// Adds values, joined by commas.
-#[cycle(showing)]
-fn push_parts(alloc: Global, values: &[Value], text: &mut String) -> Result<(), OutOfMemory>
-    ensures { OnOk result (string_bytes text.new
-        ≡ string_bytes text.old ++ parts_text false (views values.now)) }
-{
-    let mut later = false;
-    for value in values {
-        push_comma_if(later, text)?;
-        push_value(alloc, value, text)?;
-        later = true;
-    }
-    Ok(())
-}
-
-// The same of truth values.
-fn push_truth_parts(truths: &[bool], text: &mut String) -> Result<(), OutOfMemory>
-    ensures { OnOk result (string_bytes text.new
-        ≡ string_bytes text.old ++ parts_text false (items_of (map truth truths.now))) }
-{
-    let mut later = false;
-    for b in truths {
-        push_comma_if(later, text)?;
-        push_truth(*b, text)?;
-        later = true;
-    }
-    Ok(())
-}
-
-// The same of numbers.
-fn push_number_parts(numbers: &Numbers, text: &mut String) -> Result<(), OutOfMemory>
-    ensures { OnOk result (string_bytes text.new
-        ≡ string_bytes text.old ++ parts_text false (items_of (map number numbers.now))) }
-{
-    let mut later = false;
-    for i in 0..numbers.len() {
-        let n = numbers.get(i);
-        push_comma_if(later, text)?;
-        push_number(&n, text)?;
-        later = true;
-    }
     Ok(())
 }
 

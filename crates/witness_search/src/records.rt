@@ -3,7 +3,7 @@ ghost use Rattle.std.specs.Option.{option_copied};
 ghost use Rattle.std.specs.Prelude.{◌≡◌, ◌&&◌, ◌<◌, ◌∷◌, [], IfOk, false, length, map, option_map, slice_get, take};
 ghost use Rattle.aidl_values.specs.Data.{rec};
 ghost use Rattle.aidl_schema.specs.Types.{type_of_field};
-ghost use Rattle.aidl_values.specs.View.{view};
+ghost use Rattle.aidl_values.specs.View.{view, views};
 ghost use Rattle.compat_witness.specs.Reaching.{are_plain, with_value};
 ghost use Rattle.compat_witness.specs.Rows as rows;
 ghost use Rattle.witness_search.specs.Asked.{groups_seen};
@@ -20,7 +20,7 @@ use crate::places::at_last_dot;
 use crate::plain::{are_plain, low_value};
 use aidl_base::{OutOfMemory, Row, Text};
 use aidl_schema::{Base, Field, Schema, law_valid, same_text, same_type};
-use aidl_values::Value;
+use aidl_values::{Fields, Value};
 use std::alloc::Global;
 use witness_calls::Version;
 
@@ -128,7 +128,7 @@ fn asked_c10(
     let first = Group {
         back: false,
         number: both.k,
-        values: two_values(alloc, Value::Rec(low), Value::Rec(high))?,
+        values: two_values(alloc, record_of(low), record_of(high))?,
     };
     Ok(Some(Groups {
         first,
@@ -207,7 +207,14 @@ fn low_record(
         ≡ rec (with_value schema.now.decls false position fields.now) ∷ []) }
 {
     let record = with_value(alloc, schema, false, position, fields)?;
-    one_value(alloc, Value::Rec(record))
+    one_value(alloc, record_of(record))
+}
+
+// The record of the values of all fields.
+fn record_of(values: Row<Value>) -> Value
+    ensures { view result ≡ rec (views values) }
+{
+    Value::Rec(Fields::Whole(values))
 }
 
 // C15: a request with that tag and z0. It is known whether all alternatives of both are plain.

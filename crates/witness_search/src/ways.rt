@@ -17,7 +17,7 @@ use crate::plain::{is_in_way, is_named, low_value};
 use crate::spot::{Spot, both_only};
 use aidl_base::OutOfMemory;
 use aidl_schema::{AidlType, Arg, Base, Form, Schema, Shape, form_in, same_type};
-use aidl_values::{Answer, Value, default_of};
+use aidl_values::{Answer, Elements, Value, default_of};
 use std::alloc::Global;
 use witness_calls::{Call, is_out};
 
@@ -169,7 +169,7 @@ fn sent_in_out(alloc: Global, schema: &Schema, ty: AidlType) -> Result<Value, Ou
         Shape::One => default_of(alloc, schema, &ty),
         Shape::Array | Shape::List => {
             let values = one_value(alloc, low_value(ty.base))?;
-            Ok(Value::Seq(values))
+            Ok(Value::Seq(Elements::Values(values)))
         }
     }
 }

@@ -3,15 +3,17 @@
 
 use crate::same::same;
 use crate::values::{one, schema};
-use aidl_base::Profile;
+use aidl_base::{Profile, Row, SourceFile, Text};
 use aidl_schema::{AidlType, Base, Schema, Shape, is_type};
-use aidl_values::{Value, default_of};
+use aidl_values::{Elements, Fields, Value, default_of};
 use json_values::{from_json, parse_json};
 use marshal_plans::compile;
 use parcel_read::read;
+use std::fmt::Write;
 use std::process::Abort;
 use std::rc::Rc;
 use std::test::Fail;
+use type_check::check;
 
 fn array(base: Base) -> AidlType {
     let mut ty = one(base);
@@ -43,18 +45,12 @@ fn from_bytes<R: Abort + AllocGlobal>(
     value
 }
 
-// Whether numbers stand side by side, and whether as bytes; None of anything else.
-fn side_by_side(value: &Value) -> Option<bool> {
-    match value {
-        Value::Numbers(numbers) => Some(numbers.as_bytes().is_some()),
-        _ => None,
-    }
-}
-
 // Whether two records have the same row of defaults.
 fn share(one: &Value, other: &Value) -> bool {
     match (one, other) {
-        (Value::Short(_, one), Value::Short(_, other)) => Rc::ptr_eq(one, other),
+        (Value::Rec(Fields::Short(one)), Value::Rec(Fields::Short(other))) => {
+            Rc::ptr_eq(one.defaults(), other.defaults())
+        }
         _ => false,
     }
 }
@@ -62,7 +58,7 @@ fn share(one: &Value, other: &Value) -> bool {
 // Whether a sequence is two records that share their defaults.
 fn both_share(value: &Value) -> bool {
     match value {
-        Value::Seq(items) => match items.as_slice() {
+        Value::Seq(Elements::Values(items)) => match items.as_slice() {
             [one, other] => share(one, other),
             _ => false,
         },
@@ -70,22 +66,30 @@ fn both_share(value: &Value) -> bool {
     }
 }
 
+// How many values of a record that has defaults were given.
+fn given(value: &Value) -> Option<usize> {
+    match value {
+        Value::Rec(Fields::Short(short)) => Some(short.given().len()),
+        _ => None,
+    }
+}
+
 #[test]
 fn numbers_stand_side_by_side(rt: HostRuntime) -> Result<(), Fail> {
     let schema = schema(rt.alloc())?;
     let ints = from_text(&rt, &schema, array(Base::Int), "[1,2]");
-    same(&rt, side_by_side(&ints), Some(false));
+    same(&rt, matches!(ints, Value::Seq(Elements::Ints(_))), true);
     let bytes = from_text(&rt, &schema, array(Base::Byte), "[1,2]");
-    same(&rt, side_by_side(&bytes), Some(true));
+    same(&rt, matches!(bytes, Value::Seq(Elements::Bytes(_))), true);
     let ints = from_bytes(
         &rt,
         &schema,
         array(Base::Int),
         b"\x02\0\0\0\x01\0\0\0\x02\0\0\0",
     );
-    same(&rt, side_by_side(&ints), Some(false));
+    same(&rt, matches!(ints, Value::Seq(Elements::Ints(_))), true);
     let bytes = from_bytes(&rt, &schema, array(Base::Byte), b"\x02\0\0\0\x01\x02\0\0");
-    same(&rt, side_by_side(&bytes), Some(true));
+    same(&rt, matches!(bytes, Value::Seq(Elements::Bytes(_))), true);
     Ok(())
 }
 
@@ -93,9 +97,9 @@ fn numbers_stand_side_by_side(rt: HostRuntime) -> Result<(), Fail> {
 fn truth_values_stand_side_by_side(rt: HostRuntime) -> Result<(), Fail> {
     let schema = schema(rt.alloc())?;
     let truths = from_text(&rt, &schema, array(Base::Boolean), "[true]");
-    same(&rt, matches!(truths, Value::Truths(_)), true);
+    same(&rt, matches!(truths, Value::Seq(Elements::Truths(_))), true);
     let truths = from_bytes(&rt, &schema, array(Base::Boolean), b"\x01\0\0\0\x01\0\0\0");
-    same(&rt, matches!(truths, Value::Truths(_)), true);
+    same(&rt, matches!(truths, Value::Seq(Elements::Truths(_))), true);
     Ok(())
 }
 
@@ -120,5 +124,33 @@ fn copies_of_a_default_share_its_fields(rt: HostRuntime) -> Result<(), Fail> {
     let value = default_of(rt.alloc(), &schema, &ty)?;
     let copy = value.try_clone(rt.alloc())?;
     same(&rt, share(&value, &copy), true);
+    Ok(())
+}
+
+// parcelable W { int f0; int f1; .. int f510; }, or no declaration where it is refused.
+fn wide<R: Abort + AllocGlobal>(rt: &R) -> Schema {
+    let alloc = rt.alloc();
+    let mut source = String::new(alloc);
+    source.push_str("parcelable W {").expect(rt, "memory");
+    for k in 0..511 {
+        write!(source, "int f{k};").expect(rt, "memory");
+    }
+    source.push_str("}").expect(rt, "memory");
+    let bytes = source.as_bytes().to_vec(alloc).expect(rt, "memory");
+    let file = SourceFile {
+        path: Text::from_str(alloc, "W.aidl").expect(rt, "memory"),
+        bytes: Row::from_vec(bytes),
+    };
+    match check(alloc, &[file]) {
+        Ok(schema) => schema,
+        Err(_) => Schema::empty(alloc),
+    }
+}
+
+#[test]
+fn a_field_behind_those_left_out_is_given_alone(rt: HostRuntime) -> Result<(), Fail> {
+    let schema = wide(&rt);
+    let last = from_text(&rt, &schema, one(Base::Named(0)), r#"{"f510":4}"#);
+    same(&rt, given(&last), Some(1));
     Ok(())
 }

@@ -109,7 +109,7 @@ fn each_kind_of_item_is_put_and_taken(rt: HostRuntime) -> Result<(), Fail> {
     same(&rt, u16::take(alloc, &mut reader), Ok(0xffff));
     same(&rt, i32::take(alloc, &mut reader), Ok(5));
     same(&rt, i64::take(alloc, &mut reader), Ok(-1));
-    same(&rt, reader.text(alloc, true)?, None);
+    same(&rt, reader.text(alloc, true)?.is_none(), true);
     same(&rt, reader.raw(usize::MAX), Err(ReadFault::NotEnough));
     same(&rt, reader.raw(3), Ok(b"\x01\x02\x03".as_slice()));
     same(&rt, reader.position(), 32);

@@ -1,7 +1,8 @@
-//! Values: the default of a parcelable with an initializer, records that share their last values, their JSON and their bytes, and
-//! the copy and the depth of values. Schemas: look-ups, and what the judge says of a declaration that goes.
+//! Values: the default of a parcelable with an initializer, records that share values, their JSON and their bytes, and the
+//! copy and the depth of values. Schemas: look-ups, and what the judge says of a declaration that goes.
 
-ghost use Rattle.std.specs.Prelude.{◌≡◌, false, true, IfOk};
+ghost use Rattle.std.specs.Prelude.{◌≡◌, false, length, true, IfOk};
+ghost use Rattle.std.specs.Rc.{rc_value};
 ghost use Rattle.std.specs.Str.{chars};
 ghost use Rattle.aidl_schema.specs.Types.{is_type};
 ghost use Rattle.aidl_schema.specs.Valid.{IsValid};
@@ -14,7 +15,8 @@ use aidl_schema::{
     AidlType, Base, Decl, Field, Kind, Schema, Shape, find, is_type, method_of_code,
 };
 use aidl_values::{
-    FieldValues, Value, default_of, depth, has_type, initial_of, law_one_default, law_sound,
+    Elements, Fields, Places, Value, default_of, depth, has_type, initial_of, law_one_default,
+    law_sound,
 };
 use compat_judge::judge;
 use json_values::to_json;
@@ -25,23 +27,33 @@ use std::process::Abort;
 use std::rc::Rc;
 use std::test::Fail;
 
-// What is wanted of a record of P: its number, its JSON and its bytes.
+// What is wanted of a record of P: its number and its text, its JSON and its bytes.
 struct Wanted {
     number: i64,
+    text: &'static str,
     json: &'static str,
     bytes: &'static [u8],
 }
 
 const DEFAULT: Wanted = Wanted {
     number: 0,
+    text: "x",
     json: r#"{"a":0,"s":"x"}"#,
     bytes: b"\x01\0\0\0\x10\0\0\0\0\0\0\0\x01\0\0\0x\0\0\0",
 };
 
 const FOUR: Wanted = Wanted {
     number: 4,
+    text: "x",
     json: r#"{"a":4,"s":"x"}"#,
     bytes: b"\x01\0\0\0\x10\0\0\0\x04\0\0\0\x01\0\0\0x\0\0\0",
+};
+
+const BEHIND: Wanted = Wanted {
+    number: 0,
+    text: "y",
+    json: r#"{"a":0,"s":"y"}"#,
+    bytes: b"\x01\0\0\0\x10\0\0\0\0\0\0\0\x01\0\0\0y\0\0\0",
 };
 
 pub fn one(base: Base) -> AidlType
@@ -106,7 +118,7 @@ fn nested(alloc: Global, levels: usize, mut value: Value) -> Result<Value, OutOf
     for _ in 0..levels {
         let mut items = Row::new(alloc);
         items.push(value)?;
-        value = Value::Seq(items);
+        value = Value::Seq(Elements::Values(items));
     }
     Ok(value)
 }
@@ -122,7 +134,7 @@ fn is_record<R: Abort + AllocGlobal>(rt: &R, schema: &Schema, value: &Value, wan
     same(rt, json.as_str(), wanted.json);
     let bytes = bytes_of(rt, schema, ty, value);
     same(rt, bytes.as_slice(), wanted.bytes);
-    same(rt, fields_of(value), Some((wanted.number, "x")));
+    same(rt, fields_of(value), Some((wanted.number, wanted.text)));
 }
 
 // The bytes of a value.
@@ -138,18 +150,17 @@ fn bytes_of<R: Abort + AllocGlobal>(rt: &R, schema: &Schema, ty: AidlType, value
 // A number and a text, where the value is a record of these two.
 fn fields_of(value: &Value) -> Option<(i64, &str)> {
     match value {
-        Value::Rec(given) => number_and_text(&FieldValues::whole(given)),
-        Value::Short(given, defaults) => number_and_text(&FieldValues::short(given, defaults)),
+        Value::Rec(fields) => number_and_text(fields),
         _ => None,
     }
 }
 
 // A number and a text, where the values of fields are these two.
-fn number_and_text<'a>(values: &FieldValues<'a>) -> Option<(i64, &'a str)> {
-    if values.len() != 2 {
+fn number_and_text(fields: &Fields) -> Option<(i64, &str)> {
+    if fields.len() != 2 {
         return None;
     }
-    match (values.get(0), values.get(1)) {
+    match (fields.get(0), fields.get(1)) {
         (Value::Number(a), Value::Text(s)) => Some((*a, s.as_str())),
         _ => None,
     }
@@ -173,7 +184,9 @@ fn the_default_has_the_initializer(rt: HostRuntime) -> Result<(), Fail> {
 }
 
 // The defaults of the fields of P.
-fn defaults(alloc: Global) -> Result<Rc<Row<Value>>, OutOfMemory> {
+fn defaults(alloc: Global) -> Result<Rc<Row<Value>>, OutOfMemory>
+    ensures { IfOk result (λ values. length (rc_value values) ≡ 2) }
+{
     let mut values = Row::new(alloc);
     values.push(Value::Number(0))?;
     values.push(Value::Text(text(alloc, "x")?))?;
@@ -181,21 +194,37 @@ fn defaults(alloc: Global) -> Result<Rc<Row<Value>>, OutOfMemory> {
 }
 
 // A record of P of which the number 4 is given, and the text is shared.
-fn four(alloc: Global, defaults: &Rc<Row<Value>>) -> Result<Value, OutOfMemory> {
+fn four(alloc: Global, defaults: &Rc<Row<Value>>) -> Result<Value, OutOfMemory>
+    requires { length (rc_value defaults.now) ≡ 2 }
+{
     let mut given = Row::new(alloc);
     given.push(Value::Number(4))?;
-    Ok(Value::Short(given, defaults.clone()?))
+    Ok(Value::Rec(Fields::first(alloc, given, defaults.clone()?)?))
+}
+
+// A record of P of which the number is shared, and the text "y" is given.
+fn behind(alloc: Global, defaults: &Rc<Row<Value>>) -> Result<Value, OutOfMemory> {
+    let mut places = Places::new(alloc);
+    places.push(1)?;
+    let mut given = Row::new(alloc);
+    given.push(Value::Text(text(alloc, "y")?))?;
+    Ok(Value::Rec(Fields::over(alloc, places, given, defaults.clone()?)?))
 }
 
 #[test]
-fn records_share_their_last_values(rt: HostRuntime) -> Result<(), Fail> {
+fn records_share_the_values_left_out(rt: HostRuntime) -> Result<(), Fail> {
     let schema = schema(rt.alloc())?;
     let defaults = defaults(rt.alloc())?;
     let four = four(rt.alloc(), &defaults)?;
     is_record(&rt, &schema, &four, &FOUR);
     let copy = four.try_clone(rt.alloc())?;
     is_record(&rt, &schema, &copy, &FOUR);
-    let all_shared = Value::Short(Row::new(rt.alloc()), defaults);
+    let behind = behind(rt.alloc(), &defaults)?;
+    is_record(&rt, &schema, &behind, &BEHIND);
+    let copy = behind.try_clone(rt.alloc())?;
+    is_record(&rt, &schema, &copy, &BEHIND);
+    let given = Row::new(rt.alloc());
+    let all_shared = Value::Rec(Fields::first(rt.alloc(), given, defaults)?);
     is_record(&rt, &schema, &all_shared, &DEFAULT);
     Ok(())
 }
@@ -229,7 +258,7 @@ fn wide(alloc: Global, count: usize) -> Result<Value, OutOfMemory> {
     for _ in 0..count {
         items.push(Value::Null)?;
     }
-    Ok(Value::Rec(items))
+    Ok(Value::Rec(Fields::Whole(items)))
 }
 
 #[test]

@@ -1,49 +1,53 @@
--- What is seen of a sequence that is kept side by side, and of a record some of whose values are shared.
-use Rattle.std.proofs.Common.{◌≡◌, ℕ, ℤ, Bool, List, [], ◌∷◌, ◌++◌, drop, length, map, rc_value, refl, sym, ap, ◌∙◌}
-use Rattle.std.proofs.lemmas.List.{drop-map, map-append, length-map}
-use Rattle.aidl_values.specs.Data.{Data, truth, number, seq, rec, Items, none, item}
-use Rattle.aidl_values.specs.FieldValues.{given_then}
-use Rattle.aidl_values.specs.View.{items_of, view, views, view_step}
-use Rattle.aidl_values.specs.declared.value.Value.{Value, fold-roll-Value}
-use Rattle.aidl_values.specs.declared.value.Value.TheOpen.{Value-F}
+-- What is seen of a sequence and of a record, in each of their forms.
+use Rattle.std.proofs.Common.{◌≡◌, ℕ, ℤ, pos, Bool, List, map, rc_value}
+use Rattle.std.specs.Int.{w8, cast_signed}
+use Rattle.aidl_values.specs.Data.{Data, truth, number, seq, rec}
+use Rattle.aidl_values.specs.Given.{overlaid}
+use Rattle.aidl_values.specs.View.{items_of, view, datas, field_datas, short_datas, elements_step, fields_step, value_step, short_step}
+use Rattle.aidl_values.specs.declared.value.Value.{Value, Value-F, fold-roll-Value}
+use Rattle.aidl_values.specs.declared.value.Elements.{Elements, Elements-F, fold-roll-Elements}
+use Rattle.aidl_values.specs.declared.value.Fields.{Fields, Fields-F, fold-roll-Fields}
+use Rattle.aidl_values.specs.declared.value.ShortFields.{ShortFields, out-ShortFields, fold_out-ShortFields}
 use Rattle.aidl_values.specs.declared.value.Value.TheVariants as value
+use Rattle.aidl_values.specs.declared.value.Elements.TheVariants as elements
+use Rattle.aidl_values.specs.declared.value.Fields.TheVariants as fields
 
-pub view_of_truths : (bs : List Bool) → view (value.Truths bs) ≡ seq (items_of (map truth bs))
-unfolding Rattle.aidl_values.specs.declared.value.Value.TheViews.roll-Value denote.Hole.Carrier.roll
-view_of_truths bs = fold-roll-Value Data view_step (Value-F.Truths bs)
+pub view_of_seq : (es : Elements) → view (value.Seq es) ≡ seq (items_of (datas es))
+unfolding Rattle.aidl_values.specs.declared.value.Elements.TheViews.roll-Value denote.Hole.Carrier.roll
+view_of_seq es = fold-roll-Value (List Data) (List Data) Data (List Data) elements_step fields_step value_step short_step (Value-F.Seq es)
 
-pub view_of_numbers : (ns : List ℤ) → view (value.Numbers ns) ≡ seq (items_of (map number ns))
-unfolding Rattle.aidl_values.specs.declared.value.Value.TheViews.roll-Value denote.Hole.Carrier.roll
-view_of_numbers ns = fold-roll-Value Data view_step (Value-F.Numbers ns)
+pub view_of_rec : (fs : Fields) → view (value.Rec fs) ≡ rec (items_of (field_datas fs))
+unfolding Rattle.aidl_values.specs.declared.value.Elements.TheViews.roll-Value denote.Hole.Carrier.roll
+view_of_rec fs = fold-roll-Value (List Data) (List Data) Data (List Data) elements_step fields_step value_step short_step (Value-F.Rec fs)
 
--- what is seen of values and of those behind them is seen of each
-pub given_seen : (vs ds : List Value) → given_then (map view vs) (map view ds) ≡ map view (given_then vs ds)
-given_seen vs ds =
-    ap (λ n. map view vs ++ drop n (map view ds)) (length-map vs view) ∙ ap (λ ds. map view vs ++ ds) (drop-map view (length vs) ds) ∙ sym (map-append view vs (drop (length vs) ds))
+pub datas_values : (vs : List Value) → datas (elements.Values vs) ≡ map view vs
+unfolding Rattle.aidl_values.specs.declared.value.Elements.TheViews.roll-Elements denote.Hole.Carrier.roll
+datas_values vs = fold-roll-Elements (List Data) (List Data) Data (List Data) elements_step fields_step value_step short_step (Elements-F.Values vs)
 
-abbrev list_of : Items → List Data
-list_of none = []
-list_of (item d ds) = d ∷ list_of ds
+pub datas_truths : (bs : List Bool) → datas (elements.Truths bs) ≡ map truth bs
+unfolding Rattle.aidl_values.specs.declared.value.Elements.TheViews.roll-Elements denote.Hole.Carrier.roll
+datas_truths bs = fold-roll-Elements (List Data) (List Data) Data (List Data) elements_step fields_step value_step short_step (Elements-F.Truths bs)
 
-list_of_items : (ds : List Data) → list_of (items_of ds) ≡ ds
-list_of_items [] = refl
-list_of_items (d ∷ ds) = ap (λ es. d ∷ es) (list_of_items ds)
+pub datas_bytes : (bs : List ℕ) → datas (elements.Bytes bs) ≡ map number (map (λ b. cast_signed w8 b) bs)
+unfolding Rattle.aidl_values.specs.declared.value.Elements.TheViews.roll-Elements denote.Hole.Carrier.roll
+datas_bytes bs = fold-roll-Elements (List Data) (List Data) Data (List Data) elements_step fields_step value_step short_step (Elements-F.Bytes bs)
 
--- values that are seen as the same are so in front of others
-pub views_then : (vs ws ds : List Value) → views vs ≡ views ws → views (given_then vs ds) ≡ views (given_then ws ds)
-views_then vs ws ds same =
-    let alike : map view vs ≡ map view ws = sym (list_of_items (map view vs)) ∙ ap list_of same ∙ list_of_items (map view ws) in
-    ap items_of (sym (given_seen vs ds) ∙ ap (λ es. given_then es (map view ds)) alike ∙ given_seen ws ds)
+pub datas_chars : (us : List ℕ) → datas (elements.Chars us) ≡ map number (map pos us)
+unfolding Rattle.aidl_values.specs.declared.value.Elements.TheViews.roll-Elements denote.Hole.Carrier.roll
+datas_chars us = fold-roll-Elements (List Data) (List Data) Data (List Data) elements_step fields_step value_step short_step (Elements-F.Chars us)
 
--- a record some of whose values are shared
-pub view_of_short : (vs : List Value) (ds : _) → view (value.Short vs ds) ≡ rec (views (given_then vs (rc_value ds)))
-unfolding Rattle.aidl_values.specs.declared.value.Value.TheViews.roll-Value denote.Hole.Carrier.roll
-view_of_short vs ds = fold-roll-Value Data view_step (Value-F.Short vs ds) ∙ ap (λ ws. rec (items_of ws)) (given_seen vs (rc_value ds))
+pub datas_ints : (ns : List ℤ) → datas (elements.Ints ns) ≡ map number ns
+unfolding Rattle.aidl_values.specs.declared.value.Elements.TheViews.roll-Elements denote.Hole.Carrier.roll
+datas_ints ns = fold-roll-Elements (List Data) (List Data) Data (List Data) elements_step fields_step value_step short_step (Elements-F.Ints ns)
 
--- It has the values that were read, and behind them those of the other fields.
-pub short_seen : {F : Type 0} (value_of : F → Data) (fs : List F) (vs : List Value) (i : ℕ) (row : _) → length vs ≡ i → map view (rc_value row) ≡ map value_of fs
-    → view (value.Short vs row) ≡ rec (items_of (map view vs ++ map value_of (drop i fs)))
-short_seen value_of fs vs i row many are =
-    let others : drop (length (map view vs)) (map view (rc_value row)) ≡ map value_of (drop i fs) =
-    ap (λ n. drop n (map view (rc_value row))) (length-map vs view ∙ many) ∙ ap (λ ds. drop i ds) are ∙ drop-map value_of i fs in
-    view_of_short vs row ∙ ap (λ ds. rec (items_of ds)) (sym (given_seen vs (rc_value row))) ∙ ap (λ ds. rec (items_of (map view vs ++ ds))) others
+pub datas_longs : (ns : List ℤ) → datas (elements.Longs ns) ≡ map number ns
+unfolding Rattle.aidl_values.specs.declared.value.Elements.TheViews.roll-Elements denote.Hole.Carrier.roll
+datas_longs ns = fold-roll-Elements (List Data) (List Data) Data (List Data) elements_step fields_step value_step short_step (Elements-F.Longs ns)
+
+pub fields_whole : (vs : List Value) → field_datas (fields.Whole vs) ≡ map view vs
+unfolding Rattle.aidl_values.specs.declared.value.Elements.TheViews.roll-Fields denote.Hole.Carrier.roll
+fields_whole vs = fold-roll-Fields (List Data) (List Data) Data (List Data) elements_step fields_step value_step short_step (Fields-F.Whole vs)
+
+-- values given at places, over the defaults
+pub fields_over : (s : ShortFields) → short_datas s ≡ overlaid (out-ShortFields s).places (map view (out-ShortFields s).given) 0 (map view (rc_value (out-ShortFields s).defaults))
+fields_over s = fold_out-ShortFields (List Data) (List Data) Data (List Data) elements_step fields_step value_step short_step s

@@ -1,28 +1,37 @@
-use Rattle.std.proofs.Common.{◌≡◌, ◌≤◌, to_z, of_z, drop, length, zero-add, false, inl, inr, refl, Ok, Some, option_map, List, ◌++◌, ◌∷◌, [], map, sym, subst, ap, ◌∙◌, arith, rules}
+use Rattle.std.proofs.Common.{◌≡◌, ◌+◌, ◌≤◌, to_z, of_z, cond, drop, is_some, length, take, true, zero-add, false, inl, inr, refl, Ok, ◌++◌, ◌∷◌, [], map, sym, subst, ap, ◌∙◌, arith, rules}
 use Rattle.std.specs.Prelude.{IfSome}
 use Rattle.std.specs.Int.{w64}
+use Rattle.std.specs.List.{count_by, range_with_len}
+use Rattle.std.proofs.lemmas.List.{length-map}
 use Rattle.std.proofs.lemmas.Grind.{common_steps}
 use Rattle.std.proofs.lemmas.Option.{slice_get_read}
 use Rattle.serde_json.specs.Data as json
+use Rattle.serde_json.specs.Events.{members_len}
+use Rattle.serde_json.specs.Find.{get_member}
 use Rattle.serde_json.specs.View.{view as json_view, items_view, members_view}
 use Rattle.serde_json.proofs.Views.{view-Array}
 use Rattle.aidl_schema.specs.Seen.{seen}
-use Rattle.aidl_schema.specs.Types.{form_of, is_one}
-use Rattle.aidl_values.specs.View.{view, views}
-use Rattle.json_values.specs.FromJson.{elements_from, sequence_from}
+use Rattle.aidl_schema.specs.Types.{is_one, parcelable}
+use Rattle.aidl_values.specs.View.{items_of, view, views}
+use Rattle.json_values.specs.FromJson.{elements_from, fields_from, sequence_from}
 use Rattle.json_values.proofs.Parts.{from_json_of-by, from_by-sequence, sequence_from-some, items_more, items_done, fields_more, fields_done}
 use Rattle.json_writing.proofs.lemmas.Whole.{few_fields}
-use Rattle.json_values.proofs.Names.{name_of_field, fields_apart, alternative_at}
+use Rattle.json_values.proofs.Names.{name_of_field, fields_apart, few_in, alternative_at}
 use Rattle.aidl_schema.specs.declared.schema.AidlType.{AidlType}
-use Rattle.aidl_values.specs.Data.{Data, number, rec}
+use Rattle.aidl_values.specs.Data.{Data, number, rec, depth_of}
 use Rattle.aidl_values.specs.Sound.{initial_in}
-use Rattle.aidl_values.specs.declared.value.Value.{Value, Rec, Short, the_lemmas}
+use Rattle.aidl_values.specs.declared.value.Fields.TheVariants.{Whole}
+use Rattle.aidl_values.proofs.lemmas.Views.{view_of_rec, fields_whole}
 use Rattle.json_values.specs.Refusal.{Answer}
 use Rattle.json_writing.specs.Named.{fields_in}
 use Rattle.aidl_schema.specs.Holds.{AreApart}
 use Rattle.json_values.proofs.+reading.Goals as goal
-use Rattle.json_values.proofs.Missing.{fitting, levels_in, shared}
-use Rattle.json_values.specs.steps.Defaults.{AreMissing, as_record, defaults_within}
+use Rattle.json_values.proofs.Behind.{all_read, begins, one_more}
+use Rattle.json_values.proofs.Counted.{all_found, found_more, missing_behind}
+use Rattle.json_values.proofs.Missing.{are_of, default_at, shared}
+use Rattle.json_values.specs.steps.Defaults.{AreDefaults, HasDefaultAt, datas_of}
+use Rattle.json_values.specs.declared.default_rows.Defaults.{Defaults}
+use Rattle.json_values.specs.steps.Given.{GivesMember, as_record, filled, given_or, is_found}
 use Rattle.json_values.specs.steps.Levels.{part_from, default_of, chosen_from}
 use Rattle.json_values.specs.steps.Plain.{ArePlain, IsPlain}
 use Rattle.aidl_values.specs.steps.Levels.{is_level_left}
@@ -60,47 +69,143 @@ sequences::read_items-returns-clause-gives t c =
     sym c.loop-i.invariant.read ∙ items_done (λ j. part_from c.args.reader.now.schema.now.decls c.args.reader.now.levels c.args.ty j) c.args.items.now c.loop-i.i (map view c.loop-i.values.items) (omega arith)
     ∙ ap (λ vs. Ok (views vs)) (sym c.from_vec.ensures)
 
-pub records::read_fields-loop-i-preserved : goal.records::read_fields-loop-i-preserved
-records::read_fields-loop-i-preserved t c =
-    let ds = map view c.loop-i.values.items in
-    let more : map view c.push.new.self.items ≡ ds ++ view c.in_ok-read_member.field-0 ∷ [] = grind (arith, common_steps) in
-    record {
-      read = rw more (sym (fields_more (λ f. default_of c.args.reader.now.schema.now.decls c.args.reader.now.levels f) (λ u j. part_from c.args.reader.now.schema.now.decls c.args.reader.now.levels u j) (members_view c.args.members.now.entries) c.args.fields.now
-          c.loop-i.i c.index-fields-i.result ds (view c.in_ok-read_member.field-0) (omega arith) (search rules) c.in_ok-read_member.ensures.gives) ∙ c.loop-i.invariant.read);
-      many = grind (arith, common_steps);
-      known = c.read_member.ensures.known;
-    }
-
-pub records::read_fields-returns-clause-gives : goal.records::read_fields-returns-clause-gives
-records::read_fields-returns-clause-gives t c =
-    let vs = c.from_vec-2.result in
-    let whole : view (Rec vs) ≡ rec (views vs) = search (rules, the_lemmas) in
-    ap as_record (sym c.loop-i.invariant.read ∙ fields_done (λ f. default_of c.args.reader.now.schema.now.decls c.args.reader.now.levels f) (λ u j. part_from c.args.reader.now.schema.now.decls c.args.reader.now.levels u j) (members_view c.args.members.now.entries) c.args.fields.now
-    c.loop-i.i (map view c.loop-i.values.items) (omega arith)
-    ∙ ap (λ vs. Ok (views vs)) (sym c.from_vec-2.ensures)) ∙ ap Ok (sym whole)
-
-pub records::read_fields-returns-in-Some-clause-gives : goal.records::read_fields-returns-in-Some-clause-gives
-records::read_fields-returns-in-Some-clause-gives t c =
+pub records::read_fields-loop-field-preserved : goal.records::read_fields-loop-field-preserved
+records::read_fields-loop-field-preserved t c =
     let S = c.args.reader.now.schema.now.decls in
     let d = c.args.reader.now.levels in
     let fs = c.args.fields.now in
     let ms = members_view c.args.members.now.entries in
-    let row = c.in-Some.row in
-    let given : c.args.given ≡ c.loop-i.i = omega arith in
-    let made : Some (map view row.value) ≡ defaults_within S c.args.base c.args.given d =
-    ap (option_map (λ row. map view row.value)) (sym c.in-Some.is) ∙ c.in_ok-row.ensures.row ∙ ap (λ T. defaults_within T c.args.base c.args.given d) c.loop-i.invariant.known in
-    let two = subst (λ o. IfSome o (λ ds. (ds ≡ map (initial_in S) (fields_in (form_of S c.args.base))) × (levels_in S (drop c.args.given (fields_in (form_of S c.args.base))) ≤ d))) (sym made) (fitting S c.args.base c.args.given d) in
-    let are = two.0 ∙ ap (map (initial_in S)) (sym c.requires.declared) in
-    let fits = subst (λ n. levels_in S (drop n fs) ≤ d) given (subst (λ gs. levels_in S (drop c.args.given gs) ≤ d) (sym c.requires.declared) two.1) in
-    let missing = subst (λ n. AreMissing ms n fs) given c.requires.missing in
-    shared S d (λ u j. part_from S d u j) ms fs c.loop-i.i c.loop-i.values.items row _ c.loop-i.invariant.many missing c.loop-i.invariant.read are fits
-    ∙ ap (λ (vs : List Value). Ok (view (Short vs row))) (sym c.from_vec.ensures)
+    let i = c.loop-field.field-index in
+    let f = c.field-item.result in
+    let ds = map view c.loop-field.values.items in
+    let v = view c.in-Some.value in
+    let member = subst (λ o. GivesMember (λ f. default_of S d f) (λ u j. part_from S d u j) ms f (Ok o)) c.in-Some.is c.in_ok-value.ensures.gives in
+    let more : map view c.push.new.self.items ≡ ds ++ v ∷ [] = grind (arith, common_steps) in
+    record {
+      read = rw more (sym (fields_more (λ f. default_of S d f) (λ u j. part_from S d u j) ms fs i f ds v (omega arith) (sym c.field-item.is) member.1) ∙ c.loop-field.invariant.read);
+      many = grind (arith, common_steps);
+      found = ap (λ n. n + 1) c.loop-field.invariant.found ∙ sym (found_more ms fs i f true (omega arith) (sym c.field-item.is) member.0);
+      known = c.read_given.ensures.known;
+    }
+
+pub records::read_fields-returns-clause-gives : goal.records::read_fields-returns-clause-gives
+records::read_fields-returns-clause-gives t c =
+    let S = c.args.reader.now.schema.now.decls in
+    let d = c.args.reader.now.levels in
+    let fs = c.args.fields.now in
+    let ms = members_view c.args.members.now.entries in
+    let vs = c.from_vec.result in
+    let whole = view_of_rec (Whole vs) ∙ ap (λ ds. rec (items_of ds)) (fields_whole vs) in
+    ap as_record (sym c.loop-field.invariant.read ∙ fields_done (λ f. default_of S d f) (λ u j. part_from S d u j) ms fs c.loop-field.field-index (map view c.loop-field.values.items) (omega arith)
+    ∙ ap (λ vs. Ok (views vs)) (sym c.from_vec.ensures)) ∙ ap Ok (sym whole)
+
+pub records::read_behind-loop-i-init : goal.records::read_behind-loop-i-init
+records::read_behind-loop-i-init t c =
+    let S = c.args.reader.now.schema.now.decls in
+    let d = c.args.reader.now.levels in
+    let fs = c.args.fields.now in
+    let ms = members_view c.args.members.now.entries in
+    let defaults = c.in_ok-defaults.defaults.value in
+    let ds = datas_of defaults in
+    let are : AreDefaults S fs defaults = are_of S c.args.base fs defaults c.requires.known c.requires.declared c.in_ok-defaults.ensures.row in
+    let many : length ds ≡ length fs = ap length are.0 ∙ length-map fs (initial_in S) in
+    let vs = c.args.values.items in
+    let is : c.len-first.result ≡ length vs = omega (arith, c.len-first.ensures) in
+    let given = c.in_ok-given.given in
+    let made : (given.places ≡ range_with_len 0 (length vs)) × (given.values.items ≡ vs) = c.in_ok-given.ensures in
+    let start = begins vs given ds c.len-first.result (λ k. fields_from (λ f. default_of S d f) (λ u j. part_from S d u j) (drop k fs) (λ key. get_member key ms)) (fields_from (λ f. default_of S d f) (λ u j. part_from S d u j) fs (λ key. get_member key ms))
+    made.0 made.1 is (omega (arith, many, c.requires.some)) c.requires.read in
+    record {
+      read = start.0;
+      given = start.1;
+      found = ap length made.1 ∙ c.requires.found ∙ ap (λ k. count_by (is_found ms) (take k fs)) (sym is);
+      known = c.of.ensures.same ∙ c.requires.known;
+    }
+
+pub records::read_behind-returns-then-are_done-clause-gives : goal.records::read_behind-returns-then-are_done-clause-gives
+records::read_behind-returns-then-are_done-clause-gives t c =
+    let S = c.args.reader.now.schema.now.decls in
+    let d = c.args.reader.now.levels in
+    let fs = c.args.fields.now in
+    let ms = members_view c.args.members.now.entries in
+    let defaults = c.in_ok-defaults.defaults.value in
+    let ds = datas_of defaults in
+    let are : AreDefaults S fs defaults = are_of S c.args.base fs defaults c.requires.known c.requires.declared c.in_ok-defaults.ensures.row in
+    let done = c.are_done.ensures c.if-are_done.true in
+    let i = c.loop-i.i in
+    let all : members_len ms ≤ count_by (is_found ms) (take i fs) = omega (arith, done.0, c.loop-i.invariant.found) in
+    let seen_over : view c.in_ok-into_record.field-0 ≡ rec (items_of (filled c.loop-i.given (datas_of c.deref-then-are_done.result.now))) = c.in_ok-into_record.ensures in
+    shared S d (λ u j. part_from S d u j) ms fs i c.loop-i.given ds (fields_from (λ f. default_of S d f) (λ u j. part_from S d u j) fs (λ key. get_member key ms)) c.loop-i.invariant.given (omega arith) are.0
+    (missing_behind fs c.requires.apart ms i all) (subst (λ (x : Defaults). depth_of (rec (items_of (datas_of x))) ≤ d) c.deref.ensures done.1) c.loop-i.invariant.read
+    ∙ ap Ok (sym (seen_over ∙ ap (λ (x : Defaults). rec (items_of (filled c.loop-i.given (datas_of x)))) c.deref-then-are_done.ensures))
+
+pub records::read_behind-returns-then-are_done-clause-found : goal.records::read_behind-returns-then-are_done-clause-found
+records::read_behind-returns-then-are_done-clause-found t c =
+    let S = c.args.reader.now.schema.now.decls in
+    let d = c.args.reader.now.levels in
+    let fs = c.args.fields.now in
+    let ms = members_view c.args.members.now.entries in
+    let done = c.are_done.ensures c.if-are_done.true in
+    let i = c.loop-i.i in
+    let all : members_len ms ≤ count_by (is_found ms) (take i fs) = omega (arith, done.0, c.loop-i.invariant.found) in
+    c.len-found.ensures ∙ c.loop-i.invariant.found ∙ all_found fs c.requires.apart ms i all
+
+pub records::read_behind-read_field-requires : goal.records::read_behind-read_field-requires
+records::read_behind-read_field-requires t c =
+    let S = c.args.reader.now.schema.now.decls in
+    let d = c.args.reader.now.levels in
+    let fs = c.args.fields.now in
+    let ms = members_view c.args.members.now.entries in
+    let defaults = c.in_ok-defaults.defaults.value in
+    let ds = datas_of defaults in
+    let are : AreDefaults S fs defaults = are_of S c.args.base fs defaults c.requires.known c.requires.declared c.in_ok-defaults.ensures.row in
+    let f = c.index-fields-i.result in
+    let at = slice_get_read fs (length fs) c.loop-i.i f refl (omega arith) c.index-fields-i.is in
+    (search rules, (c.requires.left, (c.requires.few, (subst (λ (x : Defaults). HasDefaultAt S f x c.loop-i.i) (sym c.deref-in-loop-i.ensures) (default_at S fs defaults c.loop-i.i f are at), c.loop-i.invariant.known))))
+
+pub records::read_behind-loop-i-preserved : goal.records::read_behind-loop-i-preserved
+records::read_behind-loop-i-preserved t c =
+    let S = c.args.reader.now.schema.now.decls in
+    let d = c.args.reader.now.levels in
+    let fs = c.args.fields.now in
+    let ms = members_view c.args.members.now.entries in
+    let defaults = c.in_ok-defaults.defaults.value in
+    let ds = datas_of defaults in
+    let are : AreDefaults S fs defaults = are_of S c.args.base fs defaults c.requires.known c.requires.declared c.in_ok-defaults.ensures.row in
+    let many : length ds ≡ length fs = ap length are.0 ∙ length-map fs (initial_in S) in
+    let i = c.loop-i.i in
+    let f = c.index-fields-i.result in
+    let at = slice_get_read fs (length fs) i f refl (omega arith) c.index-fields-i.is in
+    let here = default_at S fs defaults i f are at in
+    let value = c.in_ok-value.value in
+    record {
+      read = one_more (λ f. default_of S d f) (λ u j. part_from S d u j) ms fs i f c.loop-i.given c.put.new.self ds (initial_in S f) (given_or value (initial_in S f)) (fields_from (λ f. default_of S d f) (λ u j. part_from S d u j) fs (λ key. get_member key ms))
+          (omega arith) (sym c.index-fields-i.is) here.0 (omega (arith, many)) c.in_ok-value.ensures.gives (λ n. c.in_ok-put.ensures.filled (take i ds) (initial_in S f) n) c.loop-i.invariant.read;
+      given = c.in_ok-put.ensures.given;
+      found = c.in_ok-put.ensures.count ∙ ap (λ n. n + cond (is_some value) 1 0) c.loop-i.invariant.found ∙ sym (found_more ms fs i f (is_some value) (omega arith) (sym c.index-fields-i.is) (sym c.in_ok-value.ensures.found));
+      known = c.read_field.ensures.known;
+    }
+
+pub records::read_behind-returns-clause-gives : goal.records::read_behind-returns-clause-gives
+records::read_behind-returns-clause-gives t c =
+    let S = c.args.reader.now.schema.now.decls in
+    let d = c.args.reader.now.levels in
+    let fs = c.args.fields.now in
+    let ms = members_view c.args.members.now.entries in
+    let defaults = c.in_ok-defaults.defaults.value in
+    let ds = datas_of defaults in
+    let are : AreDefaults S fs defaults = are_of S c.args.base fs defaults c.requires.known c.requires.declared c.in_ok-defaults.ensures.row in
+    let many : length ds ≡ length fs = ap length are.0 ∙ length-map fs (initial_in S) in
+    let seen_over : view c.in_ok-into_record-2.field-0 ≡ rec (items_of (filled c.loop-i.given (datas_of c.deref-2.result.now))) = c.in_ok-into_record-2.ensures in
+    all_read (λ f. default_of S d f) (λ u j. part_from S d u j) ms fs c.loop-i.i c.loop-i.given ds (fields_from (λ f. default_of S d f) (λ u j. part_from S d u j) fs (λ key. get_member key ms)) (omega arith) many c.loop-i.invariant.read
+    ∙ ap Ok (sym (seen_over ∙ ap (λ (x : Defaults). rec (items_of (filled c.loop-i.given (datas_of x)))) c.deref-2.ensures))
 
 pub reading::read_one-read_record-requires : goal.reading::read_one-read_record-requires
 reading::read_one-read_record-requires t c =
     let form = sym c.form_in-form.ensures ∙ ap seen c.in-Parcelable.is in
     let apart = subst (λ f. AreApart name_of_field (fields_in f)) form (fields_apart c.args.reader.now.schema.now.decls c.law_valid.ensures.declarations c.args.base) in
-    (search rules, (c.requires.few, (apart, (sym (ap fields_in form), c.requires.known))))
+    let few = few_in c.args.reader.now.schema.now.decls c.law_sound.ensures c.args.base (parcelable c.in-Parcelable.fields.now) form in
+    (search rules, (c.requires.few, (apart, (few, (sym (ap fields_in form), c.requires.known)))))
 
 pub reading::read_one-read_union-requires : goal.reading::read_one-read_union-requires
 reading::read_one-read_union-requires t c =

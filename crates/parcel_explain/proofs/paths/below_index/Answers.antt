@@ -1,6 +1,4 @@
 use Rattle.std.proofs.Common.{◌≡◌, IfOk, ◌∙◌, subst}
-use Rattle.std.specs.Fmt.{decimal}
-use Rattle.std.specs.Str.{chars}
 use Rattle.std.proofs.lemmas.Str.{chars-IsAscii}
 use Rattle.parcel_explain.specs.Items.{below}
 use Rattle.parcel_explain.proofs.paths.below_index.Goals as goal

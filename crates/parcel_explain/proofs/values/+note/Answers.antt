@@ -1,6 +1,8 @@
 use Rattle.std.proofs.Common.{length, ◌≡◌, ◌-◌, ℕ, Bool, true, false, Option, Some, Ok, Err, sym, ap, ◌∙◌, subst}
 use Rattle.std.proofs.lemmas.Result.{err_from_is_err_and}
+use Rattle.aidl_schema.specs.Seen.{seen}
 use Rattle.aidl_schema.specs.Types.{Form, elem, is_one, is_raw}
+use Rattle.aidl_schema.specs.Types as form
 use Rattle.aidl_values.specs.steps.Levels.{is_level_left}
 use Rattle.parcel_words.specs.Place.{left, is_inside}
 use Rattle.parcel_explain.specs.declared.item.ItemKind.TheVariants as kind
@@ -10,11 +12,14 @@ use Rattle.parcel_explain.specs.Marks.{elements_count_at, value_marker_at}
 use Rattle.parcel_explain.specs.Noted.{Noted, Notes, item}
 use Rattle.parcel_explain.specs.steps.Notes.{Tells, done, part_items}
 use Rattle.std.specs.Fmt.{decimal}
+use Rattle.std.specs.Prelude.{string_bytes}
+use Rattle.std.specs.Str.{chars}
 use Rattle.parcel_words.specs.Place.{Place, closed, limit}
 use Rattle.parcel_words.proofs.lemmas.Moves.{on_and_on}
 use Rattle.parcel_explain.proofs.Bodies.{body_ends, body_told, left_long, no_body, some_left}
-use Rattle.parcel_explain.proofs.Levels.{element_here, of_many, of_one}
+use Rattle.parcel_explain.proofs.Levels.{element_here, elements_as, of_many, of_one}
 use Rattle.parcel_words.proofs.lemmas.Records.{stays}
+use Rattle.parcel_explain.proofs.Stems.{stem_below}
 use Rattle.parcel_explain.proofs.Steps.{counted_told, elements_end, elements_next, field_end, field_next, there_told}
 use Rattle.parcel_explain.proofs.values.+note.Goals as goal
 
@@ -83,8 +88,38 @@ union_items-returns-clause-told t c =
     (subst (λ j. Tells done c.chosen_items.result (chosen_items (λ u r b. part_items S c.args.spot.now.levels u r j b) c.args.spot.now.path.now c.args.fields.now j (left q)) (left c.chosen_items.new.from)
     c.marker_item.new.items c.chosen_items.new.items) inside c.chosen_items.ensures.told)
 
-pub elements_items-returns-in_err-value_items-clause-told : goal.elements_items-returns-in_err-value_items-clause-told
-elements_items-returns-in_err-value_items-clause-told t c =
+pub elements_items-returns-in-Truth-clause-told : goal.elements_items-returns-in-Truth-clause-told
+elements_items-returns-in-Truth-clause-told t c =
+    let p = c.args.from.now in
+    subst (λ (x : Notes). Tells done c.words_items.result x (left c.words_items.new.from) c.args.items.now c.words_items.new.items)
+    (elements_as c.args.spot.now.schema.now.decls c.args.spot.now.levels c.args.element (is_inside p) c.requires.some c.requires.one form.truth (sym c.form_in.ensures ∙ ap seen c.in-Truth.is) c.args.spot.now.path.now c.args.count (left p)) c.words_items.ensures.told
+
+pub elements_items-returns-in-Byte-clause-told : goal.elements_items-returns-in-Byte-clause-told
+elements_items-returns-in-Byte-clause-told t c =
+    let p = c.args.from.now in
+    subst (λ (x : Notes). Tells done c.words_items-in-Byte.result x (left c.words_items-in-Byte.new.from) c.args.items.now c.words_items-in-Byte.new.items)
+    (elements_as c.args.spot.now.schema.now.decls c.args.spot.now.levels c.args.element (is_inside p) c.requires.some c.requires.one form.byte (sym c.form_in.ensures ∙ ap seen c.in-Byte.is) c.args.spot.now.path.now c.args.count (left p)) c.words_items-in-Byte.ensures.told
+
+pub elements_items-returns-in-Char-clause-told : goal.elements_items-returns-in-Char-clause-told
+elements_items-returns-in-Char-clause-told t c =
+    let p = c.args.from.now in
+    subst (λ (x : Notes). Tells done c.words_items-in-Char.result x (left c.words_items-in-Char.new.from) c.args.items.now c.words_items-in-Char.new.items)
+    (elements_as c.args.spot.now.schema.now.decls c.args.spot.now.levels c.args.element (is_inside p) c.requires.some c.requires.one form.char (sym c.form_in.ensures ∙ ap seen c.in-Char.is) c.args.spot.now.path.now c.args.count (left p)) c.words_items-in-Char.ensures.told
+
+pub elements_items-returns-in-Int-clause-told : goal.elements_items-returns-in-Int-clause-told
+elements_items-returns-in-Int-clause-told t c =
+    let p = c.args.from.now in
+    subst (λ (x : Notes). Tells done c.words_items-in-Int.result x (left c.words_items-in-Int.new.from) c.args.items.now c.words_items-in-Int.new.items)
+    (elements_as c.args.spot.now.schema.now.decls c.args.spot.now.levels c.args.element (is_inside p) c.requires.some c.requires.one form.int (sym c.form_in.ensures ∙ ap seen c.in-Int.is) c.args.spot.now.path.now c.args.count (left p)) c.words_items-in-Int.ensures.told
+
+pub elements_items-returns-in-Long-clause-told : goal.elements_items-returns-in-Long-clause-told
+elements_items-returns-in-Long-clause-told t c =
+    let p = c.args.from.now in
+    subst (λ (x : Notes). Tells done c.words_items-in-Long.result x (left c.words_items-in-Long.new.from) c.args.items.now c.words_items-in-Long.new.items)
+    (elements_as c.args.spot.now.schema.now.decls c.args.spot.now.levels c.args.element (is_inside p) c.requires.some c.requires.one form.long (sym c.form_in.ensures ∙ ap seen c.in-Long.is) c.args.spot.now.path.now c.args.count (left p)) c.words_items-in-Long.ensures.told
+
+pub each_items-returns-in_err-value_items-clause-told : goal.each_items-returns-in_err-value_items-clause-told
+each_items-returns-in_err-value_items-clause-told t c =
     let S = c.args.spot.now.schema.now.decls in
     let p = c.args.from.now in
     let l = c.loop-index in
@@ -92,24 +127,27 @@ elements_items-returns-in_err-value_items-clause-told t c =
     let q = err_from_is_err_and c.from_residual-in_err-value_items.result c.from_residual-in_err-value_items.ensures.1 in
     let stop = c.in_err-value_items.field-0.0 in
     let end = left c.value_items.new.from in
+    let path = stem_below c.args.spot.now.path.now (string_bytes l.stem) (decimal l.index) c.in_ok-below.below l.invariant.stem c.in_ok-below.ensures.made in
     let told = subst (λ x. Tells {T = Unit {0}} done (Err stop) x end l.items c.value_items.new.items)
-    (element_here S c.args.spot.now.levels c.args.element c.in_ok-below.below (below c.args.spot.now.path.now (decimal l.index)) (is_inside l.from) (is_inside p) (left l.from) c.in_ok-below.ensures inside c.requires.some) c.in_err-value_items.ensures.told in
+    (element_here S c.args.spot.now.levels c.args.element c.in_ok-below.below (below c.args.spot.now.path.now (decimal l.index)) (is_inside l.from) (is_inside p) (left l.from) path inside c.requires.some) c.in_err-value_items.ensures.told in
     rw (q.1, q.2) (elements_end (λ r b. part_items S c.args.spot.now.levels c.args.element r (is_inside p) b) c.args.spot.now.path.now _ l.invariant.told.0 l.index c.args.count (left l.from) l.invariant.told.1
     c.loop-index-test.true c.args.items.now l.items l.invariant.told.2 stop end c.value_items.new.items told)
 
-pub elements_items-loop-index-preserved : goal.elements_items-loop-index-preserved
-elements_items-loop-index-preserved t c =
+pub each_items-loop-index-preserved : goal.each_items-loop-index-preserved
+each_items-loop-index-preserved t c =
     let S = c.args.spot.now.schema.now.decls in
     let p = c.args.from.now in
     let l = c.loop-index in
     let inside : is_inside l.from ≡ is_inside p = ap is_inside l.invariant.on in
     let end = left c.value_items.new.from in
+    let path = stem_below c.args.spot.now.path.now (string_bytes l.stem) (decimal l.index) c.in_ok-below.below l.invariant.stem c.in_ok-below.ensures.made in
     let told = subst (λ x. Tells done (Ok tt) x end l.items c.value_items.new.items)
-    (element_here S c.args.spot.now.levels c.args.element c.in_ok-below.below (below c.args.spot.now.path.now (decimal l.index)) (is_inside l.from) (is_inside p) (left l.from) c.in_ok-below.ensures inside c.requires.some) c.in_ok-value_items.ensures.told in
+    (element_here S c.args.spot.now.levels c.args.element c.in_ok-below.below (below c.args.spot.now.path.now (decimal l.index)) (is_inside l.from) (is_inside p) (left l.from) path inside c.requires.some) c.in_ok-value_items.ensures.told in
     record {
       told = elements_next (λ r b. part_items S c.args.spot.now.levels c.args.element r (is_inside p) b) c.args.spot.now.path.now _ l.invariant.told.0 l.index c.args.count (left l.from) l.invariant.told.1
           c.loop-index-test.true c.args.items.now l.items l.invariant.told.2 end c.value_items.new.items told;
       on = on_and_on p l.from c.value_items.new.from l.invariant.on c.in_ok-value_items.ensures.on;
+      stem = ap chars c.in_ok-below.ensures.same ∙ l.invariant.stem;
     }
 
 pub fields_items-returns-in_err-value_items-clause-told : goal.fields_items-returns-in_err-value_items-clause-told

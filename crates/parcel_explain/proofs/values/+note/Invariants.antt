@@ -1,8 +1,10 @@
 use Rattle.std.proofs.Common.{◌≡◌, ◌+◌, ◌-◌, ◌*◌, ◌++◌, true, List, drop}
+use Rattle.std.specs.Prelude.{string_bytes}
 use Rattle.parcel_words.specs.Place.{left, is_inside, MovesOn}
 use Rattle.parcel_explain.specs.Items.{elements_items, fields_items}
 use Rattle.parcel_explain.specs.Noted.{Part, behind}
 use Rattle.parcel_explain.specs.steps.Notes.{part_items}
+use Rattle.parcel_explain.specs.steps.Stems.{IsStem}
 use Rattle.parcel_explain.proofs.Steps.{of_parts}
 use Rattle.parcel_explain.proofs.values.+note.Given as goal
 
@@ -19,7 +21,10 @@ abbrev pub decreases-counted_items : goal.decreases-counted_items
 decreases-counted_items l = 8 * l.spot.now.levels + 3
 
 abbrev pub decreases-elements_items : goal.decreases-elements_items
-decreases-elements_items l = 8 * l.spot.now.levels
+decreases-elements_items l = 8 * l.spot.now.levels + 1
+
+abbrev pub decreases-each_items : goal.decreases-each_items
+decreases-each_items l = 8 * l.spot.now.levels
 
 abbrev pub decreases-record_items : goal.decreases-record_items
 decreases-record_items l = 8 * l.spot.now.levels + 5
@@ -37,13 +42,14 @@ abbrev pub decreases-chosen_items : goal.decreases-chosen_items
 decreases-chosen_items l = 8 * l.spot.now.levels + 4
 
 -- the parts so far, and those that are still noted, are all; and the reader stands between them
-abbrev pub invariant-elements_items-loop-index : goal.invariant-elements_items-loop-index
-invariant-elements_items-loop-index l = record {
+abbrev pub invariant-each_items-loop-index : goal.invariant-each_items-loop-index
+invariant-each_items-loop-index l = record {
   told : (ps : List Part)
       × (behind ps (elements_items (λ q b. part_items l.spot.schema.now.decls l.spot.levels l.element q (is_inside l.initial.from) b) l.spot.path.now l.index (l.count - l.index) (left l.from))
       ≡ elements_items (λ q b. part_items l.spot.schema.now.decls l.spot.levels l.element q (is_inside l.initial.from) b) l.spot.path.now 0 l.count (left l.initial.from))
       × (l.items ≡ l.initial.items ++ of_parts ps);
   on : MovesOn l.initial.from l.from;
+  stem : IsStem l.spot.path.now (string_bytes l.stem);
 }
 
 abbrev pub invariant-fields_items-loop-field : goal.invariant-fields_items-loop-field

@@ -1,12 +1,10 @@
-use Rattle.std.proofs.Common.{◌≡◌, ◌++◌, ◌∷◌, [], ◌+◌, ◌-◌, ℕ, List, Ok, true, refl, sym, ap, ◌∙◌, subst, rules, length, map}
+use Rattle.std.proofs.Common.{◌≡◌, ◌++◌, ◌∷◌, [], ◌+◌, ◌-◌, ℕ, List, Ok, true, refl, sym, ap, ◌∙◌, subst, rules, arith, length, map}
 use Rattle.std.proofs.lemmas.Result.{err_from_is_err_and}
 use Rattle.std.proofs.lemmas.List.{length_push, map_push}
-use Rattle.aidl_base.specs.Readings.{truth_at, char_at, word_at, long_at}
 use Rattle.marshal_plans.specs.declared.plans.PlanItem.TheVariants.{Word, Long}
 use Rattle.marshal_plans.specs.declared.plans.WordKind.TheVariants.{Truth, Char, Int}
-use Rattle.aidl_values.specs.Data.{Data, number, rec, truth}
-use Rattle.aidl_values.specs.View.{view, views}
-use Rattle.aidl_values.specs.declared.value.Value.{Rec, the_lemmas}
+use Rattle.aidl_values.specs.Data.{Data, rec}
+use Rattle.aidl_values.specs.View.{items_of, view}
 use Rattle.marshal_plans.specs.declared.plans.PlanField.{PlanField}
 use Rattle.marshal_plans.specs.Standing.{entries_of}
 use Rattle.marshal_plans.specs.declared.plans.Plans.{Plans}
@@ -16,12 +14,11 @@ use Rattle.parcel_words.proofs.lemmas.Moves.{on_and_on}
 use Rattle.parcel_words.proofs.lemmas.Faults.{refused_if_memory}
 use Rattle.parcel_words.proofs.lemmas.Records.{stays, leaves}
 use Rattle.parcel_read.proofs.Loop.{goes_on, ends, is_done, field_ends, field_on, field_there, fields_done, fields_left}
-use Rattle.aidl_values.proofs.lemmas.Views.{short_seen}
-use Rattle.parcel_read.proofs.SideBySide.{element_is, row_alike}
-use Rattle.parcel_read.proofs.Records.{body_is, record_is, record_fails, no_record}
+use Rattle.parcel_read.proofs.SideBySide.{packed}
+use Rattle.parcel_read.proofs.Records.{body_is, record_is, record_fails, no_record, whole_seen, first_seen, first_fit}
 use Rattle.parcel_read.proofs.tree.+read.Goals as goal
 use Rattle.parcel_read.specs.steps.PlanDefault.{initial_by_plan}
-use Rattle.wire_model.specs.ReadOf.{char_data, fields_at, read_as}
+use Rattle.wire_model.specs.ReadOf.{fields_at}
 use Rattle.parcel_read.specs.steps.PlanRead.{plan_read, plan_parts}
 use Rattle.parcel_read.specs.steps.Rows.{as_record}
 use Rattle.parcel_read.proofs.Levels.{plan_read-item, plan_read-none, plan_parts-below}
@@ -30,44 +27,36 @@ pub value_from-returns-in-Some-clause-taken : goal.value_from-returns-in-Some-cl
 value_from-returns-in-Some-clause-taken t c =
     let p = c.args.from.now in
     subst (λ r. TakesIfMemory view c.item_from.result r (left c.item_from.new.from))
-    (plan_read-item p.profile c.args.defaults.now c.args.levels c.args.id (is_inside p) (left p) c.in-Some.item (sym c.item.ensures ∙ c.in-Some.is)) c.item_from.ensures.taken
+    (plan_read-item p.profile c.args.plans.now c.args.levels c.args.id (is_inside p) (left p) c.in-Some.item (sym c.item.ensures ∙ c.in-Some.is)) c.item_from.ensures.taken
 
 pub value_from-returns-in-None-clause-taken : goal.value_from-returns-in-None-clause-taken
 value_from-returns-in-None-clause-taken t c =
     let p = c.args.from.now in
-    plan_read-none p.profile c.args.defaults.now c.args.levels c.args.id (is_inside p) (left p) (sym c.item.ensures ∙ c.in-None.is)
+    plan_read-none p.profile c.args.plans.now c.args.levels c.args.id (is_inside p) (left p) (sym c.item.ensures ∙ c.in-None.is)
 
 pub row_from-returns-in-Some-Word-Truth-clause-taken : goal.row_from-returns-in-Some-Word-Truth-clause-taken
 row_from-returns-in-Some-Word-Truth-clause-taken t c =
     let p = c.args.from.now in
-    subst (λ r. TakesIfMemory view c.truths_from.result r (left c.truths_from.new.from))
-    (row_alike (λ b. read_as truth (truth_at p.profile (is_inside p) b)) (λ b. plan_parts p.profile c.args.defaults.now c.args.levels c.args.element (is_inside p) b)
-    (element_is p.profile c.args.defaults.now c.args.levels c.args.element (is_inside p) c.requires.some (Word Truth) (sym c.item.ensures ∙ search rules)) c.args.count (left p)) c.truths_from.ensures.taken
+    packed p.profile c.args.plans.now c.args.levels c.args.element (is_inside p) c.requires.some (Word Truth) (sym c.item.ensures ∙ search rules) c.args.count (left p) (left c.row_of.new.from) c.row_of.result c.row_of.ensures.taken
 
 pub row_from-returns-in-Some-Word-Char-clause-taken : goal.row_from-returns-in-Some-Word-Char-clause-taken
 row_from-returns-in-Some-Word-Char-clause-taken t c =
     let p = c.args.from.now in
-    subst (λ r. TakesIfMemory view c.chars_from.result r (left c.chars_from.new.from))
-    (row_alike (λ b. read_as char_data (char_at p.profile (is_inside p) b)) (λ b. plan_parts p.profile c.args.defaults.now c.args.levels c.args.element (is_inside p) b)
-    (element_is p.profile c.args.defaults.now c.args.levels c.args.element (is_inside p) c.requires.some (Word Char) (sym c.item.ensures ∙ search rules)) c.args.count (left p)) c.chars_from.ensures.taken
+    packed p.profile c.args.plans.now c.args.levels c.args.element (is_inside p) c.requires.some (Word Char) (sym c.item.ensures ∙ search rules) c.args.count (left p) (left c.row_of-in-Some-Word-Char.new.from) c.row_of-in-Some-Word-Char.result c.row_of-in-Some-Word-Char.ensures.taken
 
 pub row_from-returns-in-Some-Word-Int-clause-taken : goal.row_from-returns-in-Some-Word-Int-clause-taken
 row_from-returns-in-Some-Word-Int-clause-taken t c =
     let p = c.args.from.now in
-    subst (λ r. TakesIfMemory view c.ints_from.result r (left c.ints_from.new.from))
-    (row_alike (λ b. read_as number (word_at (is_inside p) b)) (λ b. plan_parts p.profile c.args.defaults.now c.args.levels c.args.element (is_inside p) b)
-    (element_is p.profile c.args.defaults.now c.args.levels c.args.element (is_inside p) c.requires.some (Word Int) (sym c.item.ensures ∙ search rules)) c.args.count (left p)) c.ints_from.ensures.taken
+    packed p.profile c.args.plans.now c.args.levels c.args.element (is_inside p) c.requires.some (Word Int) (sym c.item.ensures ∙ search rules) c.args.count (left p) (left c.row_of-in-Some-Word-Int.new.from) c.row_of-in-Some-Word-Int.result c.row_of-in-Some-Word-Int.ensures.taken
 
 pub row_from-returns-in-Some-Long-clause-taken : goal.row_from-returns-in-Some-Long-clause-taken
 row_from-returns-in-Some-Long-clause-taken t c =
     let p = c.args.from.now in
-    subst (λ r. TakesIfMemory view c.longs_from.result r (left c.longs_from.new.from))
-    (row_alike (λ b. read_as number (long_at (is_inside p) b)) (λ b. plan_parts p.profile c.args.defaults.now c.args.levels c.args.element (is_inside p) b)
-    (element_is p.profile c.args.defaults.now c.args.levels c.args.element (is_inside p) c.requires.some Long (sym c.item.ensures ∙ search rules)) c.args.count (left p)) c.longs_from.ensures.taken
+    packed p.profile c.args.plans.now c.args.levels c.args.element (is_inside p) c.requires.some Long (sym c.item.ensures ∙ search rules) c.args.count (left p) (left c.row_of-in-Some-Long.new.from) c.row_of-in-Some-Long.result c.row_of-in-Some-Long.ensures.taken
 
 pub items_from-returns-in_err-value-clause-taken : goal.items_from-returns-in_err-value-clause-taken
 items_from-returns-in_err-value-clause-taken t c =
-    let P = c.args.defaults.now in
+    let P = c.args.plans.now in
     let p = c.args.from.now in
     let inside : is_inside c.loop.from ≡ is_inside p = ap is_inside c.loop.invariant.on in
     let q = err_from_is_err_and c.from_residual.result c.from_residual.ensures.1 in
@@ -81,7 +70,7 @@ items_from-returns-in_err-value-clause-taken t c =
 
 pub items_from-loop-preserved : goal.items_from-loop-preserved
 items_from-loop-preserved t c =
-    let P = c.args.defaults.now in
+    let P = c.args.plans.now in
     let p = c.args.from.now in
     let inside : is_inside c.loop.from ≡ is_inside p = ap is_inside c.loop.invariant.on in
     let v = c.in_ok-value.value in
@@ -99,11 +88,11 @@ items_from-loop-preserved t c =
 
 pub items_from-returns-clause-taken : goal.items_from-returns-clause-taken
 items_from-returns-clause-taken t c =
-    is_done (λ b. plan_parts c.args.from.now.profile c.args.defaults.now c.args.levels c.args.element (is_inside c.args.from.now) b) (map view c.loop.values) c.args.count c.loop.counter (left c.loop.from) _ c.loop.invariant.read c.loop-test.false
+    is_done (λ b. plan_parts c.args.from.now.profile c.args.plans.now c.args.levels c.args.element (is_inside c.args.from.now) b) (map view c.loop.values) c.args.count c.loop.counter (left c.loop.from) _ c.loop.invariant.read c.loop-test.false
 
 pub fields_from-returns-in_err-value-clause-taken : goal.fields_from-returns-in_err-value-clause-taken
 fields_from-returns-in_err-value-clause-taken t c =
-    let P = c.args.defaults.now in
+    let P = c.args.plans.now in
     let p = c.args.from.now in
     let gs = c.entries-field-items.result.now in
     let g = c.field-item.result in
@@ -123,7 +112,7 @@ fields_from-returns-in_err-value-clause-taken t c =
 
 pub fields_from-loop-field-preserved : goal.fields_from-loop-field-preserved
 fields_from-loop-field-preserved t c =
-    let P = c.args.defaults.now in
+    let P = c.args.plans.now in
     let p = c.args.from.now in
     let g = c.field-item.result in
     let v = c.in_ok-value.value in
@@ -147,35 +136,40 @@ fields_from-loop-field-preserved t c =
       same = c.value_from.ensures.same ∙ c.loop-field.invariant.same;
     }
 
+pub fields_from-first_fields-requires : goal.fields_from-first_fields-requires
+fields_from-first_fields-requires t c =
+    let P = c.args.plans.now in
+    let made = subst (λ (Q : Plans). map view c.in_ok-row.row.value ≡ map (λ g. initial_by_plan Q g) (entries_of Q.fields c.args.span.first c.args.span.count)) c.loop-field.invariant.same c.in_ok-row.ensures.row in
+    first_fit (λ g. initial_by_plan P g) c.entries-field-items.result.now c.loop-field.values c.in_ok-row.row.value c.loop-field.field-index c.loop-field.invariant.many
+    (made ∙ ap (λ fs. map (λ g. initial_by_plan P g) fs) (sym c.entries-field-items.ensures)) (omega (arith, c.loop-field-test.true))
+
 pub fields_from-returns-then-at_end-clause-taken : goal.fields_from-returns-then-at_end-clause-taken
 fields_from-returns-then-at_end-clause-taken t c =
-    let P = c.args.defaults.now in
+    let P = c.args.plans.now in
     let p = c.args.from.now in
     let gs = c.entries-field-items.result.now in
     let i = c.loop-field.field-index in
     let vs = c.loop-field.values in
     let row = c.in_ok-row.row in
     let made = subst (λ (Q : Plans). map view row.value ≡ map (λ g. initial_by_plan Q g) (entries_of Q.fields c.args.span.first c.args.span.count)) c.loop-field.invariant.same c.in_ok-row.ensures.row in
-    let short = short_seen (λ g. initial_by_plan P g) gs vs i row c.loop-field.invariant.many
-    (made ∙ ap (λ fs. map (λ g. initial_by_plan P g) fs) (sym c.entries-field-items.ensures)) in
+    let short = c.in_ok-record.ensures ∙ ap (λ ds. rec (items_of ds)) (first_seen (λ g. initial_by_plan P g) gs vs row.value i c.loop-field.invariant.many
+    (made ∙ ap (λ fs. map (λ g. initial_by_plan P g) fs) (sym c.entries-field-items.ensures))) in
     let read = fields_left (λ g. initial_by_plan P g) (λ g b. plan_parts p.profile P c.args.levels g.item true b) (map view c.loop-field.values) gs i (left c.loop-field.from) _ c.loop-field.invariant.read (c.if-at_end.ensures.none_left.0 refl) in
     ap (λ (fs : List PlanField). as_record (fields_at (λ g. initial_by_plan P g) (λ g b. plan_parts p.profile P c.args.levels g.item true b) fs (left p))) (sym c.entries-field-items.ensures)
     ∙ ap as_record read ∙ ap (λ (d : Data). Ok d) (sym short)
 
 pub fields_from-returns-clause-taken : goal.fields_from-returns-clause-taken
 fields_from-returns-clause-taken t c =
-    let P = c.args.defaults.now in
+    let P = c.args.plans.now in
     let p = c.args.from.now in
-    let vs = c.loop-field.values in
-    let whole : view (Rec vs) ≡ rec (views vs) = search (rules, the_lemmas) in
     let read = fields_done (λ g. initial_by_plan P g) (λ g b. plan_parts p.profile P c.args.levels g.item true b) (map view c.loop-field.values) c.entries-field-items.result.now c.loop-field.field-index (left c.loop-field.from) _
     c.loop-field.invariant.read c.loop-field-test.false in
     ap (λ (fs : List PlanField). as_record (fields_at (λ g. initial_by_plan P g) (λ g b. plan_parts p.profile P c.args.levels g.item true b) fs (left p))) (sym c.entries-field-items.ensures)
-    ∙ ap as_record read ∙ ap (λ (d : Data). Ok d) (sym whole)
+    ∙ ap as_record read ∙ ap (λ (d : Data). Ok d) (sym (whole_seen c.loop-field.values))
 
 pub body_from-returns-in_err-enter-clause-taken : goal.body_from-returns-in_err-enter-clause-taken
 body_from-returns-in_err-enter-clause-taken t c =
-    let P = c.args.defaults.now in
+    let P = c.args.plans.now in
     let p = c.args.from.now in
     let fs = entries_of P.fields c.args.span.first c.args.span.count in
     let q = err_from_is_err_and c.from_residual.result c.from_residual.ensures.1 in
@@ -183,7 +177,7 @@ body_from-returns-in_err-enter-clause-taken t c =
 
 pub body_from-returns-in_err-record-clause-taken : goal.body_from-returns-in_err-record-clause-taken
 body_from-returns-in_err-record-clause-taken t c =
-    let P = c.args.defaults.now in
+    let P = c.args.plans.now in
     let p = c.args.from.now in
     let fs = entries_of P.fields c.args.span.first c.args.span.count in
     let q = err_from_is_err_and c.from_residual-in_err-record.result c.from_residual-in_err-record.ensures.1 in
@@ -196,7 +190,7 @@ body_from-returns-in_err-record-clause-taken t c =
 
 pub body_from-returns-clause-taken : goal.body_from-returns-clause-taken
 body_from-returns-clause-taken t c =
-    let P = c.args.defaults.now in
+    let P = c.args.plans.now in
     let p = c.args.from.now in
     let fs = entries_of P.fields c.args.span.first c.args.span.count in
     let inner = c.enter.new.self in

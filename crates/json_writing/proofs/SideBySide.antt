@@ -1,0 +1,80 @@
+-- Numbers that lie side by side, one by one.
+use Rattle.std.proofs.Common.{◌≡◌, ℕ, zero, suc, ◌+◌, ◌<◌, ℤ, pos, negsuc, Bool, false, true, List, [], ◌∷◌, ◌++◌, None, length, get_or, drop, map, refl, sym, ap, ◌∙◌, append_assoc, add-zero, arith}
+use Rattle.std.proofs.lemmas.List.{drop_more}
+use Rattle.std.specs.Fmt.{decimal, signed_decimal}
+use Rattle.std.specs.Int.{w8, cast_signed}
+use Rattle.arrayvec.specs.ArrayString.{ArrayString}
+use Rattle.serde_json.specs.Written.{comma_if, compact_text, items_text}
+use Rattle.aidl_schema.specs.declared.schema.Decl.{Decl}
+use Rattle.aidl_schema.specs.declared.schema.AidlType.{AidlType}
+use Rattle.aidl_values.specs.Data.{number}
+use Rattle.aidl_values.specs.View.{datas, items_of}
+use Rattle.aidl_values.specs.declared.value.Elements.{Elements}
+use Rattle.aidl_values.specs.declared.value.Elements.TheVariants.{Bytes, Chars, Ints, Longs}
+use Rattle.aidl_values.proofs.lemmas.Views.{datas_bytes, datas_chars, datas_ints, datas_longs}
+use Rattle.json_writing.specs.Json.{json_items, json_number}
+use Rattle.json_writing.specs.Named.{enumerators_of}
+use Rattle.json_writing.specs.steps.Numbers.{AreByteTexts, row_of_texts, text_of_byte}
+
+-- one number more
+pub text_more : {X : Type 0} (f : X → List ℕ) (xs : List X) (i : ℕ) (x other : X) (later : Bool) (start old divided new : List ℕ) → i < length xs → x ≡ get_or xs i other → divided ≡ old ++ comma_if later
+    → new ≡ divided ++ f x → old ++ row_of_texts later (map f (drop i xs)) ≡ start → new ++ row_of_texts true (map f (drop (i + 1) xs)) ≡ start
+text_more f xs i x other later start old divided new lies is comma part so_far =
+    let rest = row_of_texts true (map f (drop (i + 1) xs)) in
+    let joined : new ++ rest ≡ old ++ (comma_if later ++ (f x ++ rest)) = rw (part, comma) (simp append_assoc refl) in
+    joined ∙ sym (ap (λ ys. old ++ row_of_texts later (map f ys)) (drop_more xs i other lies ∙ ap (λ y. y ∷ drop (i + 1) xs) (sym is))) ∙ so_far
+
+-- a number that no enumerator names stands in decimal digits
+in_digits : (n : ℤ) → signed_decimal n ≡ compact_text (json_number None n)
+in_digits (pos n) = refl
+in_digits (negsuc n) = refl
+
+units_signed : (us : List ℕ) → map signed_decimal (map pos us) ≡ map decimal us
+units_signed [] = refl
+units_signed (u ∷ us) = ap (λ xs. decimal u ∷ xs) (units_signed us)
+
+bytes_signed : (bs : List ℕ) → map signed_decimal (map (λ b. cast_signed w8 b) bs) ≡ map text_of_byte bs
+bytes_signed [] = refl
+bytes_signed (b ∷ bs) = ap (λ xs. text_of_byte b ∷ xs) (bytes_signed bs)
+
+module _ (S : List Decl) (t : AidlType) (unnamed : enumerators_of S t.base ≡ None) where
+  numbers_text : (later : Bool) (ns : List ℤ) → items_text later (json_items S t (items_of (map number ns))) ≡ row_of_texts later (map signed_decimal ns)
+  numbers_text later [] = refl
+  numbers_text later (n ∷ ns) =
+      ap (λ es. comma_if later ++ (compact_text (json_number es n) ++ items_text true (json_items S t (items_of (map number ns))))) unnamed
+      ∙ ap (λ (x : List ℕ). comma_if later ++ (x ++ items_text true (json_items S t (items_of (map number ns))))) (sym (in_digits n))
+      ∙ ap (λ (x : List ℕ). comma_if later ++ (signed_decimal n ++ x)) (numbers_text true ns)
+
+  as_text : (es : Elements) (ns : List ℤ) → datas es ≡ map number ns → row_of_texts false (map signed_decimal ns) ≡ items_text false (json_items S t (items_of (datas es)))
+  as_text es ns is = sym (ap (λ ds. items_text false (json_items S t (items_of ds))) is ∙ numbers_text false ns)
+
+  pub bytes_text : (es : Elements) (bs : List ℕ) → es ≡ Bytes bs → row_of_texts false (map text_of_byte bs) ≡ items_text false (json_items S t (items_of (datas es)))
+  bytes_text es bs is = ap (λ xs. row_of_texts false xs) (sym (bytes_signed bs)) ∙ as_text es (map (λ b. cast_signed w8 b) bs) (ap datas is ∙ datas_bytes bs)
+
+  pub chars_text : (es : Elements) (us : List ℕ) → es ≡ Chars us → row_of_texts false (map decimal us) ≡ items_text false (json_items S t (items_of (datas es)))
+  chars_text es us is = ap (λ xs. row_of_texts false xs) (sym (units_signed us)) ∙ as_text es (map pos us) (ap datas is ∙ datas_chars us)
+
+  pub ints_text : (es : Elements) (ns : List ℤ) → es ≡ Ints ns → row_of_texts false (map signed_decimal ns) ≡ items_text false (json_items S t (items_of (datas es)))
+  ints_text es ns is = as_text es ns (ap datas is ∙ datas_ints ns)
+
+  pub longs_text : (es : Elements) (ns : List ℤ) → es ≡ Longs ns → row_of_texts false (map signed_decimal ns) ≡ items_text false (json_items S t (items_of (datas es)))
+  longs_text es ns is = as_text es ns (ap datas is ∙ datas_longs ns)
+
+-- the text of one byte more
+pub texts_more : (b n : ℕ) (ts : List ArrayString) (t : ArrayString) → b + length ts ≡ n → AreByteTexts b ts → t.bytes ≡ 44 ∷ text_of_byte n → AreByteTexts b (ts ++ t ∷ [])
+texts_more b n [] t at all is = (is ∙ ap (λ k. 44 ∷ text_of_byte k) (sym at ∙ add-zero b), tt)
+texts_more b n (s ∷ ts) t at all is = (all.0, texts_more (suc b) n ts t (omega (arith, at)) all.1 is)
+
+text_from : (b : ℕ) (ts : List ArrayString) (i : ℕ) (t : ArrayString) → AreByteTexts b ts → i < length ts → (get_or ts i t).bytes ≡ 44 ∷ text_of_byte (b + i)
+text_from b [] i t all lies = absurd (omega (arith, lies))
+text_from b (s ∷ ts) zero t all lies = all.0 ∙ ap (λ k. 44 ∷ text_of_byte k) (sym (add-zero b))
+text_from b (s ∷ ts) (suc i) t all lies = text_from (suc b) ts i t all.1 (omega (arith, lies)) ∙ ap (λ k. 44 ∷ text_of_byte k) (omega arith)
+
+-- the text of a byte
+pub text_at : (ts : List ArrayString) (i : ℕ) (t : ArrayString) → AreByteTexts 0 ts → i < length ts → t ≡ get_or ts i t → t.bytes ≡ 44 ∷ text_of_byte i
+text_at ts i t all lies is = ap (λ (s : ArrayString). s.bytes) is ∙ text_from 0 ts i t all lies ∙ ap (λ k. 44 ∷ text_of_byte k) (omega arith)
+
+-- the first byte, and those behind it
+pub first_text : (bs old mid : List ℕ) → 0 < length bs → mid ≡ old ++ text_of_byte (get_or bs 0 0) → mid ++ row_of_texts true (map text_of_byte (drop 1 bs)) ≡ old ++ row_of_texts false (map text_of_byte bs)
+first_text [] old mid lies first = absurd (omega (arith, lies))
+first_text (b ∷ bs) old mid lies first = ap (λ (x : List ℕ). x ++ row_of_texts true (map text_of_byte bs)) first ∙ append_assoc old (text_of_byte b) (row_of_texts true (map text_of_byte bs))

@@ -1,0 +1,5 @@
+use Rattle.std.proofs.Common.{length}
+use Rattle.stub_dispatch.proofs.arguments.+arguments_from.Given as goal
+
+abbrev pub decreases-arguments_from : goal.decreases-arguments_from
+decreases-arguments_from l = length l.args.now.args

@@ -1,4 +1,0 @@
-use Rattle.stub_dispatch.proofs.planned_type.PlannedType.opening.Goals as goal
-
-pub opening_front-requires-clause-known : goal.opening_front-requires-clause-known
-opening_front-requires-clause-known c = let is = c.self.invariant in is.2.of_schema c.self.inside.id.0 c.self.inside.ty is.3
