@@ -15,6 +15,7 @@ And objects that leave them out, the parcel of which would be too long:
 
 /usr/bin/time -f %M crates/aidl/out/aidl encode --tree /tmp/values/wide 'm.W[]' /tmp/values/none.json
 /usr/bin/time -f %M crates/aidl/out/aidl encode --tree /tmp/values/wide 'm.W[]' /tmp/values/first.json
+/usr/bin/time -f %M crates/aidl/out/aidl encode --tree /tmp/values/wide 'm.W[]' /tmp/values/last.json
 """
 
 import json
@@ -46,7 +47,7 @@ def short_records(folder):
     for name, body, count in (("few", b"", 16_383), ("none", b"", 131_071), ("first", struct.pack("<i", 7), 87_381)):
         record = struct.pack("<ii", 1, 4 + len(body)) + body
         put(f"{folder}/{name}.hex", struct.pack("<i", count).hex() + record.hex() * count)
-    for name, text, count in (("none", "{}", 131_000), ("first", '{"f0":1}', 40_000)):
+    for name, text, count in (("none", "{}", 131_000), ("first", '{"f0":1}', 40_000), ("last", '{"f510":1}', 40_000)):
         put(f"{folder}/{name}.json", f"[[{','.join([text] * count)}]]")
 
 
