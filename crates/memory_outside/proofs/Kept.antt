@@ -138,14 +138,19 @@ module _ (r : Result (Unit {0}) OutOfMemory) (before after : List SourceFile) (f
       by_result (Ok u) e same = sorted_by (is_some (file_at (path_of f) (entries before))) e
       by_result (Err x) e same = ap (λ fs. is_sorted by_path (entries fs)) same ∙ sorted
 
--- a write to the front of what is asked, or nothing, changes that path alone
+-- a write of a front of what is asked changes that path alone
 other_path : (b : Bool) (path other : List ℕ) → is_eq (slice_cmp nat_cmp other path) ≡ b → other ≢ path → b ≡ false
 other_path true path other e apart = absurd (apart (same_path other path e))
 other_path false path other e apart = refl
 
-pub changes_only : (r : Result (Unit {0}) OutOfMemory) (before now : Files) (path bytes : List ℕ) → OnOk r (now ≡ insert before path bytes) → OnErr r (now ≡ before) → ChangesOnly (Some before) (Some now) path
-changes_only (Ok u) before now path bytes ok err = (now, refl, λ other apart. ap (λ m. get m other) ok ∙ get-insert nat_list_cmp_total before path bytes other ∙ ap (λ b. cond b (Some bytes) (get before other)) (other_path _ path other refl apart))
-changes_only (Err e) before now path bytes ok err = (now, refl, λ other apart. ap (λ m. get m other) err)
+pub changes_only : (before now : Files) (path bytes : List ℕ) → now ≡ insert before path bytes → ChangesOnly (Some before) (Some now) path
+changes_only before now path bytes set = (
+  now,
+  refl,
+  λ other apart.
+      ap (λ m. get m other) set ∙ get-insert nat_list_cmp_total before path bytes other
+      ∙ ap (λ b. cond b (Some bytes) (get before other)) (other_path _ path other refl apart),
+)
 
 module _ (r : Result (Unit {0}) OutOfMemory) (before after : List SourceFile) (f : SourceFile) (sorted : IsSorted (entries before)) where
   pub insert_after : OnOk r (entries after ≡ put (slice_cmp nat_cmp) (path_of f) f.bytes (entries before)) → OnOk r (sorted_files after ≡ insert (sorted_files before) (path_of f) f.bytes)

@@ -4,7 +4,8 @@ use Rattle.memory_outside.specs.declared.edits.Edit.{Edit}
 use Rattle.memory_outside.specs.declared.edits.EditKind.{EditKind}
 use Rattle.memory_outside.specs.declared.edits.EditKind.TheVariants.{Cut, Set, Append}
 
--- the bytes after one edit: at most the first so many; with one byte set, where its place is there; with more at the end
+-- the bytes after one edit: at most the first so many; with one byte set, where its place is there; with more at
+-- the end
 abbrev pub edited : EditKind → List ℕ → List ℕ
 edited (Cut most) bytes = take most bytes
 edited (Set at byte) bytes = slice_set bytes at byte

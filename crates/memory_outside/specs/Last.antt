@@ -1,5 +1,5 @@
 -- The call that failed last, as the definitions of the outside have it.
-use Rattle.std.specs.Prelude.{ℕ, List, Option, option_map, string_bytes}
+use Rattle.std.specs.Prelude.{option_map, string_bytes}
 use Rattle.aidl_outside.specs.Faults.{Faults, LinkFaults, SinkFaults, StoreFaults}
 use Rattle.aidl_outside.specs.Faults as outside
 use Rattle.aidl_outside.specs.Parcel as outside_parcel
@@ -19,7 +19,7 @@ call_seen (Writing path) = outside.writing (string_bytes path)
 abbrev pub parcel_seen : FailedParcel → outside_parcel.Parcel
 parcel_seen p = outside_parcel.parcel p.way p.code p.sent
 
--- the faults so far: how many, and the last, where it was kept
+-- the faults so far: how many, and which call failed last
 abbrev pub store_faults : MemStore → StoreFaults
 store_faults store = record { count = store.failures.faults; last = option_map call_seen store.last }
 

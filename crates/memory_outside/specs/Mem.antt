@@ -1,5 +1,5 @@
 -- What the objects in memory tell.
-use Rattle.std.specs.Prelude.{ℕ, List, vec_capacity}
+use Rattle.std.specs.Prelude.{ℕ, List}
 use Rattle.memory_outside.specs.declared.failures.Failures.{Failures}
 use Rattle.memory_outside.specs.declared.mem_sink.MemSink.{MemSink}
 use Rattle.memory_outside.specs.declared.mem_store.MemStore.{MemStore}
@@ -13,10 +13,6 @@ use Rattle.aidl_outside.specs.Files.{Files}
 -- the bytes that were put
 abbrev pub sink_bytes : MemSink → List ℕ
 sink_bytes sink = sink.bytes.items
-
--- how many bytes in all the sink holds without asking for memory
-abbrev pub sink_room : MemSink → ℕ
-sink_room sink = vec_capacity sink.bytes
 
 -- the sink's failing calls, with the calls and faults so far
 abbrev pub sink_failures : MemSink → Failures

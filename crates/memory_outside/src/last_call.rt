@@ -1,10 +1,10 @@
-//! The call of an object in memory that failed last, as far as memory is there to keep it.
-ghost use Rattle.std.specs.Prelude.{◌≡◌, IfSome};
+//! The call of an object in memory that failed last.
+ghost use Rattle.std.specs.Prelude.{◌≡◌, IfOk};
 ghost use Rattle.aidl_outside.specs.Faults.{listing as lists, reading, writing};
 ghost use Rattle.aidl_outside.specs.Parcel.{parcel};
 ghost use Rattle.memory_outside.specs.Last.{call_seen, parcel_seen};
 
-use aidl_base::Row;
+use aidl_base::{OutOfMemory, Row};
 use aidl_outside::Way;
 use std::alloc::Global;
 
@@ -24,56 +24,38 @@ pub struct FailedParcel {
     pub sent: Row<u8>,
 }
 
-/// A listing of a root; None where memory is wanted.
-pub fn listing(alloc: Global, root: &str) -> Option<FailedCall>
-    ensures { IfSome result (λ call. call_seen call ≡ lists root.now) }
+/// A listing of a root.
+pub fn listing(alloc: Global, root: &str) -> Result<FailedCall, OutOfMemory>
+    ensures { IfOk result (λ call. call_seen call ≡ lists root.now) }
 {
-    match String::from_str(alloc, root) {
-        Ok(root) => Some(FailedCall::Listing(root)),
-        Err(_) => None,
-    }
+    Ok(FailedCall::Listing(String::from_str(alloc, root)?))
 }
 
-/// A reading of a path; None where memory is wanted.
-pub fn reading(alloc: Global, path: &str) -> Option<FailedCall>
-    ensures { IfSome result (λ call. call_seen call ≡ reading path.now) }
+/// A reading of a path.
+pub fn reading(alloc: Global, path: &str) -> Result<FailedCall, OutOfMemory>
+    ensures { IfOk result (λ call. call_seen call ≡ reading path.now) }
 {
-    match String::from_str(alloc, path) {
-        Ok(path) => Some(FailedCall::Reading(path)),
-        Err(_) => None,
-    }
+    Ok(FailedCall::Reading(String::from_str(alloc, path)?))
 }
 
-/// A writing of a path; None where memory is wanted.
-pub fn writing(alloc: Global, path: &str) -> Option<FailedCall>
-    ensures { IfSome result (λ call. call_seen call ≡ writing path.now) }
+/// A writing of a path.
+pub fn writing(alloc: Global, path: &str) -> Result<FailedCall, OutOfMemory>
+    ensures { IfOk result (λ call. call_seen call ≡ writing path.now) }
 {
-    match String::from_str(alloc, path) {
-        Ok(path) => Some(FailedCall::Writing(path)),
-        Err(_) => None,
-    }
+    Ok(FailedCall::Writing(String::from_str(alloc, path)?))
 }
 
-/// The bytes of a put; None where memory is wanted.
-pub fn piece(alloc: Global, bytes: &[u8]) -> Option<Row<u8>>
-    ensures { IfSome result (λ piece. piece ≡ bytes.now) }
+/// The bytes of a put.
+pub fn piece(alloc: Global, bytes: &[u8]) -> Result<Row<u8>, OutOfMemory>
+    ensures { IfOk result (λ piece. piece ≡ bytes.now) }
 {
-    match Vec::from_slice(alloc, bytes) {
-        Ok(piece) => Some(Row::from_vec(piece)),
-        Err(_) => None,
-    }
+    Ok(Row::from_vec(Vec::from_slice(alloc, bytes)?))
 }
 
-/// A parcel by its parts; None where memory is wanted.
-pub fn sent(alloc: Global, way: Way, code: u32, bytes: &[u8]) -> Option<FailedParcel>
-    ensures { IfSome result (λ failed. parcel_seen failed ≡ parcel way code bytes.now) }
+/// A parcel by its parts.
+pub fn sent(alloc: Global, way: Way, code: u32, bytes: &[u8]) -> Result<FailedParcel, OutOfMemory>
+    ensures { IfOk result (λ failed. parcel_seen failed ≡ parcel way code bytes.now) }
 {
-    match Vec::from_slice(alloc, bytes) {
-        Ok(sent) => Some(FailedParcel {
-            way,
-            code,
-            sent: Row::from_vec(sent),
-        }),
-        Err(_) => None,
-    }
+    let sent = piece(alloc, bytes)?;
+    Ok(FailedParcel { way, code, sent })
 }

@@ -1,8 +1,8 @@
 //! The sink in memory: it keeps the bytes that are put, and fails at given calls.
-ghost use Rattle.std.specs.Prelude.{◌≡◌, ◌≤◌, Some, [], IfOk, IsOk, IsTrue, vec_capacity};
+ghost use Rattle.std.specs.Prelude.{◌≡◌, ◌≤◌, ◌++◌, Some, [], IfErr, IfOk, IsOk};
 ghost use Rattle.aidl_outside.specs.Causes.{SinkCause};
 ghost use Rattle.aidl_outside.specs.Faults.{FailedIn, IfSinkFailed};
-ghost use Rattle.memory_outside.specs.Failing.{AddsHalf, uncounted, counted, fails_next, sink_failed};
+ghost use Rattle.memory_outside.specs.Failing.{SinkFails, counted, fails_next, half_of, sink_failed, uncounted};
 ghost use Rattle.aidl_outside.specs.Told.{Puts};
 ghost use Rattle.memory_outside.specs.declared.failures.Failing.TheVariants.{Numbers};
 
@@ -12,8 +12,8 @@ use aidl_base::{OutOfMemory, Row};
 use aidl_outside::{Sink, SinkFault};
 use std::alloc::Global;
 
-/// A sink in memory, which tells its bytes. A failing call adds the first half of its bytes, rounded down, or nothing where memory
-/// is wanted for them.
+/// A sink in memory, which tells its bytes and which piece failed last. A failing call adds the first half of its bytes, rounded down.
+/// Where memory is wanted to keep these or the piece, it isn't a fault: that is answered, and all is as it was.
 #[derive(Drop)]
 pub struct MemSink {
     bytes: Vec<u8>,
@@ -24,8 +24,7 @@ pub struct MemSink {
 impl MemSink {
     ghost use Rattle.memory_outside.specs.Mem.{sink_bytes, sink_failures};
 
-    /// The empty sink, whose calls with the 0-based numbers in `failing` fail. With none its count never rises. It
-    /// takes no memory.
+    /// The empty sink, whose calls with the 0-based numbers in `failing` fail. With none its count never rises.
     pub fn new(alloc: Global, failing: Row<u64>) -> Result<MemSink, OutOfMemory>
         ensures made { IsOk result }
         ensures bytes { IfOk result (λ sink. sink_bytes sink ≡ []) }
@@ -38,7 +37,7 @@ impl MemSink {
         })
     }
 
-    /// The bytes so far. It takes no memory.
+    /// The bytes so far.
     pub fn bytes(&self) -> &[u8]
         ensures { result.now ≡ sink_bytes self.now }
     {
@@ -48,7 +47,7 @@ impl MemSink {
 
 impl Sink for MemSink {
     ghost use Rattle.memory_outside.specs.Last.{sink_faults};
-    ghost use Rattle.memory_outside.specs.Mem.{sink_bytes, sink_failures, sink_room};
+    ghost use Rattle.memory_outside.specs.Mem.{sink_bytes, sink_failures};
 
     ghost told = { λ sink. Some (sink_bytes sink) };
 
@@ -61,15 +60,22 @@ impl Sink for MemSink {
         ensures failed_call { IfSinkFailed result
             (FailedIn (sink_faults self.new) (λ piece. piece ≡ bytes.now)) }
         ensures never_falls { (sink_failures self.old).faults ≤ (sink_failures self.new).faults }
-        ensures failed { sink_failed result ≡ fails_next (sink_failures self.old) }
-        ensures counts { sink_failures self.new ≡ counted (sink_failures self.old) }
-        ensures half { IsTrue (sink_failed result)
-            → AddsHalf (sink_room self.old) (sink_bytes self.old) (sink_bytes self.new) bytes.now }
+        ensures told { IfSinkFailed result ((sink_faults self.new).last ≡ Some bytes.now) }
+        ensures failed { SinkFails (fails_next (sink_failures self.old)) result }
+        ensures counts { sink_failures self.new
+            ≡ counted (sink_failed result) (sink_failures self.old) }
+        ensures half { IfSinkFailed result
+            (sink_bytes self.new ≡ sink_bytes self.old ++ half_of bytes.now) }
     {
         if self.failures.fails_now() {
-            self.last = piece(alloc, bytes);
-            add_half(&mut self.bytes, bytes);
-            return Err(SinkFault::Failed);
+            return match self.add_half(alloc, bytes) {
+                Ok(piece) => {
+                    self.failures.add_fault();
+                    self.last = Some(piece);
+                    Err(SinkFault::Failed)
+                }
+                Err(_) => Err(SinkFault::OutOfMemory),
+            };
         }
         match self.bytes.extend_from_slice(bytes) {
             Ok(()) => Ok(()),
@@ -82,10 +88,22 @@ impl Sink for MemSink {
     }
 }
 
-// Adds the first half of the piece, rounded down, where memory is there, and else nothing.
-fn add_half(bytes: &mut Vec<u8>, piece: &[u8])
-    ensures { AddsHalf (vec_capacity bytes.old) bytes.old.items bytes.new.items piece.now }
-{
-    let (half, _) = piece.split_at(piece.len() / 2);
-    let _added = bytes.extend_from_slice(half);
+impl MemSink {
+    ghost use Rattle.memory_outside.specs.Last.{sink_faults};
+    ghost use Rattle.memory_outside.specs.Mem.{sink_bytes, sink_failures};
+
+    // Adds the first half of a piece, rounded down, and answers the piece. On a refusal the sink is as it was.
+    fn add_half(&mut self, alloc: Global, bytes: &[u8]) -> Result<Row<u8>, OutOfMemory>
+        ensures piece { IfOk result (λ piece. piece ≡ bytes.now) }
+        ensures half { IfOk result
+            (λ _. sink_bytes self.new ≡ sink_bytes self.old ++ half_of bytes.now) }
+        ensures err { IfErr result (λ _. sink_bytes self.new ≡ sink_bytes self.old) }
+        ensures failures { sink_failures self.new ≡ sink_failures self.old }
+        ensures faults { sink_faults self.new ≡ sink_faults self.old }
+    {
+        let piece = piece(alloc, bytes)?;
+        let (half, _) = bytes.split_at(bytes.len() / 2);
+        self.bytes.extend_from_slice(half)?;
+        Ok(piece)
+    }
 }

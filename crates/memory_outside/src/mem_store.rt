@@ -1,5 +1,5 @@
 //! The store in memory: listing, reading and writing files that are kept sorted by path, with given calls that fail.
-ghost use Rattle.std.specs.Prelude.{◌≡◌, ◌<◌, ◌≤◌, ◌+◌, ◌++◌, true, Some, IfOk, OnErr, OnOk, IsTrue, length, map, string_bytes};
+ghost use Rattle.std.specs.Prelude.{◌≡◌, ◌<◌, ◌≤◌, ◌+◌, ◌++◌, true, Some, IfErr, IfOk, OnErr, OnOk, IsTrue, length, map, string_bytes};
 ghost use Rattle.std.specs.Option.{option_map, option_to_list};
 ghost use Rattle.std.specs.List.{filter_map};
 ghost use Rattle.std.specs.Ordering.{nat_cmp};
@@ -8,7 +8,7 @@ ghost use Rattle.std.specs.FinMap.Entries.{is_sorted, put};
 ghost use Rattle.aidl_outside.specs.Causes.{StoreCause};
 ghost use Rattle.aidl_outside.specs.Faults.{FailedIn, IfStoreFailed, listing as lists, reading, writing};
 ghost use Rattle.aidl_outside.specs.Entries.{entries, file_at, files_of, sorted_files, place_in, put_new, with_new, IsPlaceWithin, path_of};
-ghost use Rattle.memory_outside.specs.Failing.{SetsHalf, uncounted, counted, fails_next, store_failed};
+ghost use Rattle.memory_outside.specs.Failing.{StoreFails, counted, fails_next, half_of, store_failed, uncounted};
 ghost use Rattle.aidl_outside.specs.Files.{IsRead, IsWithin, below, front_of, is_ascending, listing};
 ghost use Rattle.aidl_outside.specs.Writes.{Writes};
 ghost use Rattle.memory_outside.specs.declared.failures.Failing.TheVariants.{Numbers, From};
@@ -20,8 +20,8 @@ use aidl_outside::{Store, StoreFault};
 use std::alloc::{AllocError, Global};
 use std::cmp::Ordering;
 
-/// A store in memory, which tells its files. A failing write keeps the first half of the bytes, rounded down, or leaves all as it was
-/// where memory is wanted for them.
+/// A store in memory, which tells its files and which call failed last. A failing write keeps the first half of the bytes, rounded down.
+/// Where memory is wanted to keep them or the call, it isn't a fault: that is answered, and all is as it was.
 ///
 /// The files lie sorted by path and are found by halving; they are sorted once, when the store is made. A write of a new
 /// path moves the files after it, so to write many costs little where they come in their order.
@@ -79,7 +79,7 @@ impl MemStore {
         Ok(store)
     }
 
-    /// The files, sorted by path. It takes no memory.
+    /// The files, sorted by path.
     pub fn files(&self) -> &[SourceFile]
         ensures files { sorted_files result.now ≡ store_files self.now }
         ensures sorted { is_sorted (slice_cmp nat_cmp) (entries result.now) ≡ true }
@@ -87,7 +87,7 @@ impl MemStore {
         self.files.as_slice()
     }
 
-    /// The files, sorted by path. It takes no memory.
+    /// The files, sorted by path.
     pub fn into_files(self) -> Row<SourceFile>
         ensures files { sorted_files result ≡ store_files self }
         ensures sorted { is_sorted (slice_cmp nat_cmp) (entries result) ≡ true }
@@ -123,13 +123,22 @@ impl Store for MemStore {
         ensures cause { StoreCause (store_faults self.old) (store_faults self.new) result }
         ensures failed_call { IfStoreFailed result
             (FailedIn (store_faults self.new) (λ call. call ≡ lists root.now)) }
+        ensures told { IfStoreFailed result
+            ((store_faults self.new).last ≡ Some (lists root.now)) }
         ensures never_falls { faults_of self.old ≤ faults_of self.new }
-        ensures failed { store_failed result ≡ fails_next (store_failures self.old) }
-        ensures counts { store_failures self.new ≡ counted (store_failures self.old) }
+        ensures failed { StoreFails (fails_next (store_failures self.old)) result }
+        ensures counts { store_failures self.new
+            ≡ counted (store_failed result) (store_failures self.old) }
     {
         if self.failures.fails_now() {
-            self.last = listing(alloc, root);
-            return Err(StoreFault::Failed);
+            return match listing(alloc, root) {
+                Ok(call) => {
+                    self.failures.add_fault();
+                    self.last = Some(call);
+                    Err(StoreFault::Failed)
+                }
+                Err(_) => Err(StoreFault::OutOfMemory),
+            };
         }
         match paths_below(alloc, self.files.as_slice(), root) {
             Ok(paths) => Ok(paths),
@@ -151,13 +160,22 @@ impl Store for MemStore {
         ensures cause { StoreCause (store_faults self.old) (store_faults self.new) result }
         ensures failed_call { IfStoreFailed result
             (FailedIn (store_faults self.new) (λ call. call ≡ reading path.now)) }
+        ensures told { IfStoreFailed result
+            ((store_faults self.new).last ≡ Some (reading path.now)) }
         ensures never_falls { faults_of self.old ≤ faults_of self.new }
-        ensures failed { store_failed result ≡ fails_next (store_failures self.old) }
-        ensures counts { store_failures self.new ≡ counted (store_failures self.old) }
+        ensures failed { StoreFails (fails_next (store_failures self.old)) result }
+        ensures counts { store_failures self.new
+            ≡ counted (store_failed result) (store_failures self.old) }
     {
         if self.failures.fails_now() {
-            self.last = reading(alloc, path);
-            return Err(StoreFault::Failed);
+            return match reading(alloc, path) {
+                Ok(call) => {
+                    self.failures.add_fault();
+                    self.last = Some(call);
+                    Err(StoreFault::Failed)
+                }
+                Err(_) => Err(StoreFault::OutOfMemory),
+            };
         }
         match front_at(alloc, self.files.as_slice(), path, most) {
             Ok(file) => Ok(file),
@@ -171,17 +189,24 @@ impl Store for MemStore {
         ensures cause { StoreCause (store_faults self.old) (store_faults self.new) result }
         ensures failed_call { IfStoreFailed result
             (FailedIn (store_faults self.new) (λ call. call ≡ writing path.now)) }
+        ensures told { IfStoreFailed result
+            ((store_faults self.new).last ≡ Some (writing path.now)) }
         ensures never_falls { faults_of self.old ≤ faults_of self.new }
-        ensures failed { store_failed result ≡ fails_next (store_failures self.old) }
-        ensures counts { store_failures self.new ≡ counted (store_failures self.old) }
-        ensures half { IsTrue (store_failed result)
-            → SetsHalf (store_files self.old) (store_files self.new) path.now bytes.now }
+        ensures failed { StoreFails (fails_next (store_failures self.old)) result }
+        ensures counts { store_failures self.new
+            ≡ counted (store_failed result) (store_failures self.old) }
+        ensures half { IfStoreFailed result (store_files self.new
+            ≡ files_map.insert (store_files self.old) path.now (half_of bytes.now)) }
     {
         if self.failures.fails_now() {
-            self.last = writing(alloc, path);
-            let (half, _) = bytes.split_at(bytes.len() / 2);
-            let _kept = self.set_bytes(alloc, path, half);
-            return Err(StoreFault::Failed);
+            return match self.write_half(alloc, path, bytes) {
+                Ok(call) => {
+                    self.failures.add_fault();
+                    self.last = Some(call);
+                    Err(StoreFault::Failed)
+                }
+                Err(_) => Err(StoreFault::OutOfMemory),
+            };
         }
         match self.set_bytes(alloc, path, bytes) {
             Ok(()) => Ok(()),
@@ -346,9 +371,29 @@ fn relative<'a>(root: &str, path: &'a str) -> Option<&'a str>
 }
 
 impl MemStore {
-    ghost use Rattle.memory_outside.specs.Last.{store_faults};
+    ghost use Rattle.memory_outside.specs.Last.{call_seen, store_faults};
     ghost use Rattle.memory_outside.specs.Mem.{store_files, store_failures};
     ghost use Rattle.std.specs.FinMap as files_map;
+
+    // Sets the first half of the bytes at a path, and answers which call it was. On a refusal the store is as it was.
+    fn write_half(
+        &mut self,
+        alloc: Global,
+        path: &str,
+        bytes: &[u8],
+    ) -> Result<FailedCall, OutOfMemory>
+        ensures call { IfOk result (λ call. call_seen call ≡ writing path.now) }
+        ensures half { IfOk result (λ _. store_files self.new
+            ≡ files_map.insert (store_files self.old) path.now (half_of bytes.now)) }
+        ensures err { IfErr result (λ _. store_files self.new ≡ store_files self.old) }
+        ensures failures { store_failures self.new ≡ store_failures self.old }
+        ensures faults { store_faults self.new ≡ store_faults self.old }
+    {
+        let call = writing(alloc, path)?;
+        let (half, _) = bytes.split_at(bytes.len() / 2);
+        self.set_bytes(alloc, path, half)?;
+        Ok(call)
+    }
 
     // Sets the bytes at a path. On a refusal the store is as it was.
     fn set_bytes(&mut self, alloc: Global, path: &str, bytes: &[u8]) -> Result<(), OutOfMemory>

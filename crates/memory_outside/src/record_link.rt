@@ -4,7 +4,7 @@ ghost use Rattle.aidl_outside.specs.Carries.{Carries, entry};
 ghost use Rattle.aidl_outside.specs.Causes.{CarryCause};
 ghost use Rattle.aidl_outside.specs.Faults.{FailedIn, IfCarryFailed};
 ghost use Rattle.aidl_outside.specs.Parcel.{parcel};
-ghost use Rattle.memory_outside.specs.Failing.{uncounted, counted, fails_next, carry_failed};
+ghost use Rattle.memory_outside.specs.Failing.{CarryFails, carry_failed, counted, fails_next, uncounted};
 ghost use Rattle.memory_outside.specs.Last.{record_faults};
 ghost use Rattle.memory_outside.specs.Mem.{recorded, record_failures};
 ghost use Rattle.memory_outside.specs.declared.failures.Failing.TheVariants.{Numbers};
@@ -16,7 +16,8 @@ use aidl_base::{OutOfMemory, Row};
 use aidl_outside::{Carried, CarryFault, Link, Way};
 use std::alloc::Global;
 
-/// A faithful link in memory, which tells its log.
+/// A faithful link in memory, which tells its log and which parcel failed last. Where memory is wanted to keep that, it isn't a fault:
+/// want of memory is answered.
 #[derive(Drop)]
 pub struct RecordLink {
     log: Vec<Carried>,
@@ -26,7 +27,7 @@ pub struct RecordLink {
 
 impl RecordLink {
     /// The link with an empty log, whose calls with the 0-based numbers in `failing` fail. With none its count never
-    /// rises. It takes no memory.
+    /// rises.
     pub fn new(alloc: Global, failing: Row<u64>) -> Result<RecordLink, OutOfMemory>
         ensures made { IsOk result }
         ensures log { IfOk result (λ link. recorded link ≡ []) }
@@ -40,7 +41,7 @@ impl RecordLink {
         })
     }
 
-    /// The parcels so far, in order. It takes no memory.
+    /// The parcels so far, in order.
     pub fn log(&self) -> &[Carried]
         ensures { result.now ≡ recorded self.now }
     {
@@ -70,12 +71,21 @@ impl Link for RecordLink {
             (FailedIn (record_faults self.new) (λ sent. sent ≡ parcel way code bytes.now)) }
         ensures never_falls { (record_failures self.old).faults
             ≤ (record_failures self.new).faults }
-        ensures failed { carry_failed result ≡ fails_next (record_failures self.old) }
-        ensures counts { record_failures self.new ≡ counted (record_failures self.old) }
+        ensures told { IfCarryFailed result
+            ((record_faults self.new).last ≡ Some (parcel way code bytes.now)) }
+        ensures failed { CarryFails (fails_next (record_failures self.old)) result }
+        ensures counts { record_failures self.new
+            ≡ counted (carry_failed result) (record_failures self.old) }
     {
         if self.failures.fails_now() {
-            self.last = sent(alloc, way, code, bytes);
-            return Err(CarryFault::Failed);
+            return match sent(alloc, way, code, bytes) {
+                Ok(parcel) => {
+                    self.failures.add_fault();
+                    self.last = Some(parcel);
+                    Err(CarryFault::Failed)
+                }
+                Err(_) => Err(CarryFault::OutOfMemory),
+            };
         }
         match self.deliver(alloc, way, code, bytes) {
             Ok(delivered) => Ok(delivered),

@@ -5,7 +5,7 @@ ghost use Rattle.aidl_outside.specs.Causes.{CarryCause};
 ghost use Rattle.aidl_outside.specs.Faults.{FailedIn, IfCarryFailed};
 ghost use Rattle.aidl_outside.specs.Parcel.{parcel};
 ghost use Rattle.memory_outside.specs.Edits.{delivered};
-ghost use Rattle.memory_outside.specs.Failing.{uncounted, counted, fails_next, carry_failed};
+ghost use Rattle.memory_outside.specs.Failing.{CarryFails, carry_failed, counted, fails_next, uncounted};
 ghost use Rattle.memory_outside.specs.Last.{tamper_faults};
 ghost use Rattle.memory_outside.specs.Mem.{tampered, tamper_edits, tamper_failures};
 ghost use Rattle.memory_outside.specs.declared.failures.Failing.TheVariants.{Numbers};
@@ -18,7 +18,8 @@ use aidl_base::{OutOfMemory, Row};
 use aidl_outside::{Carried, CarryFault, Link, Way};
 use std::alloc::Global;
 
-/// A link in memory that edits what it carries and tells its log. It isn't faithful.
+/// A link in memory that edits what it carries, and tells its log and which parcel failed last. It isn't faithful. Where memory is
+/// wanted to keep what failed, it isn't a fault: want of memory is answered.
 #[derive(Drop)]
 pub struct TamperLink {
     log: Vec<Carried>,
@@ -29,7 +30,7 @@ pub struct TamperLink {
 
 impl TamperLink {
     /// The link with an empty log, which applies the edits of each carry in their order, and whose calls with the
-    /// 0-based numbers in `failing` fail. A carry has the number of its call. It takes no memory.
+    /// 0-based numbers in `failing` fail. A carry has the number of its call.
     pub fn new(
         alloc: Global,
         edits: Row<Edit>,
@@ -49,7 +50,7 @@ impl TamperLink {
         })
     }
 
-    /// The parcels so far, in order. It takes no memory.
+    /// The parcels so far, in order.
     pub fn log(&self) -> &[Carried]
         ensures { result.now ≡ tampered self.now }
     {
@@ -81,13 +82,22 @@ impl Link for TamperLink {
             (FailedIn (tamper_faults self.new) (λ sent. sent ≡ parcel way code bytes.now)) }
         ensures never_falls { (tamper_failures self.old).faults
             ≤ (tamper_failures self.new).faults }
-        ensures failed { carry_failed result ≡ fails_next (tamper_failures self.old) }
-        ensures counts { tamper_failures self.new ≡ counted (tamper_failures self.old) }
+        ensures told { IfCarryFailed result
+            ((tamper_faults self.new).last ≡ Some (parcel way code bytes.now)) }
+        ensures failed { CarryFails (fails_next (tamper_failures self.old)) result }
+        ensures counts { tamper_failures self.new
+            ≡ counted (carry_failed result) (tamper_failures self.old) }
     {
         let carry = self.failures.calls;
         if self.failures.fails_now() {
-            self.last = sent(alloc, way, code, bytes);
-            return Err(CarryFault::Failed);
+            return match sent(alloc, way, code, bytes) {
+                Ok(parcel) => {
+                    self.failures.add_fault();
+                    self.last = Some(parcel);
+                    Err(CarryFault::Failed)
+                }
+                Err(_) => Err(CarryFault::OutOfMemory),
+            };
         }
         match self.deliver(alloc, carry, way, code, bytes) {
             Ok(delivered) => Ok(delivered),

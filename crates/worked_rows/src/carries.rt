@@ -4,7 +4,8 @@ use crate::case::word_of;
 use crate::texts::plain;
 use aidl_base::{OutOfMemory, Row};
 use aidl_outside::{Carried, Way};
-use memory_outside::{Edit, EditKind, TamperLink};
+use aidl_tool::aidl;
+use memory_outside::{Edit, EditKind, MemSink, MemStore, RecordLink, TamperLink};
 use std::alloc::Global;
 
 /// The link of a run: the edits of its carries and the carries that fail; and the log that is wanted.
@@ -78,19 +79,29 @@ impl Carries {
         Ok(true)
     }
 
-    /// The link.
-    pub fn link(self, alloc: Global) -> Result<TamperLink, OutOfMemory> {
-        TamperLink::new(alloc, self.edits, self.fails)
+    /// Runs the program over the link, which is the faithful one where no carry is edited: its exit, and the lines of what was carried,
+    /// where the log is looked at.
+    pub fn run(
+        self,
+        alloc: Global,
+        words: &[String],
+        store: &mut MemStore,
+        sink: &mut MemSink,
+    ) -> Result<(u8, String), OutOfMemory> {
+        let is_seen = !self.is_unseen;
+        if self.edits.as_slice().is_empty() {
+            let mut link = RecordLink::new(alloc, self.fails)?;
+            let exit = aidl(alloc, words, store, sink, &mut link);
+            return Ok((exit, shown_log(alloc, is_seen, link.log())?));
+        }
+        let mut link = TamperLink::new(alloc, self.edits, self.fails)?;
+        let exit = aidl(alloc, words, store, sink, &mut link);
+        Ok((exit, shown_log(alloc, is_seen, link.log())?))
     }
 
     /// The lines of the log that is wanted.
     pub fn wanted(&self) -> &str {
         self.log.as_str()
-    }
-
-    /// Whether the log is looked at.
-    pub fn is_seen(&self) -> bool {
-        !self.is_unseen
     }
 }
 
@@ -103,9 +114,12 @@ fn set_of(text: &str) -> Option<EditKind> {
     })
 }
 
-/// A log as lines.
-pub fn shown_log(alloc: Global, log: &[Carried]) -> Result<String, OutOfMemory> {
+// A log as lines, and no line where it isn't looked at.
+fn shown_log(alloc: Global, is_seen: bool, log: &[Carried]) -> Result<String, OutOfMemory> {
     let mut text = String::new(alloc);
+    if !is_seen {
+        return Ok(text);
+    }
     for entry in log {
         let way = match entry.way {
             Way::Request => "request",

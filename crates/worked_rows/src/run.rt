@@ -1,12 +1,11 @@
 //! A run as the lines of a row describe it, how it is tried, and how it ended as text.
 
 use crate::again::lines_of;
-use crate::carries::{Carries, shown_log};
+use crate::carries::Carries;
 use crate::case::word_of;
 use crate::texts::{plain, text_of};
 use crate::tried::Tried;
 use aidl_base::{OutOfMemory, Row, SourceFile, Text};
-use aidl_tool::aidl;
 use memory_outside::{MemSink, MemStore};
 use std::alloc::Global;
 
@@ -168,23 +167,18 @@ impl Run {
     /// Runs the program over objects in memory, and counts how the run came out.
     pub fn try_as(self, alloc: Global, row: &str, tried: &mut Tried) -> Result<(), OutOfMemory> {
         let wanted = self.wanted(alloc)?;
-        let mut store = MemStore::new(
-            alloc,
-            rows_of(alloc, self.files.as_slice())?,
-            Row::from_vec(self.store_fails),
-        )?;
-        let mut sink = MemSink::new(alloc, Row::from_vec(self.sink_fails))?;
-        let is_seen = self.carries.is_seen();
-        let mut link = self.carries.link(alloc)?;
-        let exit = aidl(
-            alloc,
-            self.words.as_slice(),
-            &mut store,
-            &mut sink,
-            &mut link,
-        );
-        let carried = if is_seen { link.log() } else { &[] };
-        let log = shown_log(alloc, carried)?;
+        let Run {
+            words,
+            files,
+            store_fails,
+            sink_fails,
+            carries,
+            ..
+        } = self;
+        let files = rows_of(alloc, files.as_slice())?;
+        let mut store = MemStore::new(alloc, files, Row::from_vec(store_fails))?;
+        let mut sink = MemSink::new(alloc, Row::from_vec(sink_fails))?;
+        let (exit, log) = carries.run(alloc, words.as_slice(), &mut store, &mut sink)?;
         let came = ended(alloc, Some(exit), sink.bytes(), log.as_str(), store.files())?;
         tried.row(row, wanted.as_slice(), came.as_slice())
     }

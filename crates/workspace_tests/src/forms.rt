@@ -22,7 +22,12 @@ fn array(base: Base) -> AidlType {
 }
 
 // What is read of the type from JSON, null where it is refused.
-fn from_text<R: Abort + AllocGlobal>(rt: &R, schema: &Schema, ty: AidlType, json: &str) -> Value {
+pub fn from_text<R: Abort + AllocGlobal>(
+    rt: &R,
+    schema: &Schema,
+    ty: AidlType,
+    json: &str,
+) -> Value {
     let json = parse_json(rt.alloc(), json.as_bytes()).expect(rt, "memory");
     let json = json.expect(rt, "JSON");
     match from_json(rt.alloc(), schema, &ty, &json) {
@@ -127,18 +132,12 @@ fn copies_of_a_default_share_its_fields(rt: HostRuntime) -> Result<(), Fail> {
     Ok(())
 }
 
-// parcelable W { int f0; int f1; .. int f510; }, or no declaration where it is refused.
-fn wide<R: Abort + AllocGlobal>(rt: &R) -> Schema {
+// The schema of one file, or no declaration where it is refused.
+pub fn checked<R: Abort + AllocGlobal>(rt: &R, path: &str, source: &str) -> Schema {
     let alloc = rt.alloc();
-    let mut source = String::new(alloc);
-    source.push_str("parcelable W {").expect(rt, "memory");
-    for k in 0..511 {
-        write!(source, "int f{k};").expect(rt, "memory");
-    }
-    source.push_str("}").expect(rt, "memory");
     let bytes = source.as_bytes().to_vec(alloc).expect(rt, "memory");
     let file = SourceFile {
-        path: Text::from_str(alloc, "W.aidl").expect(rt, "memory"),
+        path: Text::from_str(alloc, path).expect(rt, "memory"),
         bytes: Row::from_vec(bytes),
     };
     match check(alloc, &[file]) {
@@ -147,9 +146,20 @@ fn wide<R: Abort + AllocGlobal>(rt: &R) -> Schema {
     }
 }
 
+// parcelable W { int f0; int f1; .. int f510; }
+fn wide<R: Abort + AllocGlobal>(rt: &R) -> String {
+    let mut source = String::new(rt.alloc());
+    source.push_str("parcelable W {").expect(rt, "memory");
+    for k in 0..511 {
+        write!(source, "int f{k};").expect(rt, "memory");
+    }
+    source.push_str("}").expect(rt, "memory");
+    source
+}
+
 #[test]
 fn a_field_behind_those_left_out_is_given_alone(rt: HostRuntime) -> Result<(), Fail> {
-    let schema = wide(&rt);
+    let schema = checked(&rt, "W.aidl", wide(&rt).as_str());
     let last = from_text(&rt, &schema, one(Base::Named(0)), r#"{"f510":4}"#);
     same(&rt, given(&last), Some(1));
     Ok(())

@@ -11,6 +11,8 @@ mod folders;
 #[cfg(test)]
 mod forms;
 #[cfg(test)]
+mod kinds;
+#[cfg(test)]
 mod outside;
 #[cfg(test)]
 mod records;
