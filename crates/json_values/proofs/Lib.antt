@@ -12,6 +12,7 @@ mod Names
 mod Overlaid
 pub mod ParsedTexts
 mod Parts
+mod Places
 mod Plain
 mod SideBySide
 pub mod Texts

@@ -4,6 +4,7 @@ use Rattle.serde_json.specs.Data as json
 use Rattle.serde_json.specs.View.{view as json_view, members_view}
 use Rattle.serde_json.specs.declared.value.Value.{Value as Json}
 use Rattle.std.specs.List.{list_any}
+use Rattle.aidl_schema.specs.declared.schema.Decl.{Decl}
 use Rattle.aidl_schema.specs.declared.schema.Field.{Field}
 use Rattle.json_values.specs.FromJson.{only_member, unknown_in, has_name}
 
@@ -24,6 +25,11 @@ pub seen_first : (es : List Entry) (r : Option (Bor (String Global) × Bor Json)
     → option_map {U = List ℕ × json.Data} (λ p. (string_bytes p.0.now, json_view p.1.now)) r ≡ only_member (members_view es)
 seen_first es None one some first = absurd (true≢false (sym (some.1 (omega arith))))
 seen_first es (Some p) one some first = only_member-one es (p.0.now, p.1.now) one first
+
+-- the declarations are the same, and the members that are left decide
+pub record IsLeft (S now : List Decl) (fs : List Field) (all rest : List Entry) : Type 0 where
+  pub same : now ≡ S
+  pub left : unknown_in fs (members_view rest) ≡ unknown_in fs (members_view all)
 
 -- the first key is one of a field, and is not
 pub unknown_in-known : (fs : List Field) (es rest : List Entry) (e : Entry) → es ≡ e ∷ rest → list_any (λ f. has_name (string_bytes e.0) f) fs ≡ true

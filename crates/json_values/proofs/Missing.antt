@@ -45,8 +45,8 @@ default_at S fs d i f are at =
     (here, ap (λ ns. slice_get ns i) are.1 ∙ item_mapped level_of (datas_of d) i (initial_in S f) here)
 
 -- those of what a base means are those of the fields
-pub are_of : {T : List Decl} (S : List Decl) (b : Base) (fs : List Field) (d : Defaults) → T ≡ S → fs ≡ fields_in (form_of S b) → AreDefaults T (fields_in (form_of T b)) d → AreDefaults S fs d
-are_of S b fs d known declared are = subst (λ gs. AreDefaults S gs d) (sym declared) (subst (λ T. AreDefaults T (fields_in (form_of T b)) d) known are)
+pub are_of : (S : List Decl) (b : Base) (fs : List Field) (d : Defaults) → fs ≡ fields_in (form_of S b) → AreDefaults S (fields_in (form_of S b)) d → AreDefaults S fs d
+are_of S b fs d declared are = subst (λ gs. AreDefaults S gs d) (sym declared) are
 
 module _ (S : List Decl) (d : ℕ) where
   -- the default of one field

@@ -23,10 +23,9 @@ use Rattle.json_values.specs.FromJson as from
 use Rattle.json_writing.specs.Json.{json_among}
 use Rattle.json_writing.specs.Named.{bytes_of, fields_in}
 use Rattle.json_values.specs.Refusal.{Answer}
-use Rattle.json_values.specs.steps.Levels.{chosen_from}
 use Rattle.json_writing.proofs.lemmas.Whole.{of_base}
 use Rattle.json_values.specs.Scalars.{whole_from, number_from}
-use Rattle.json_values.proofs.lemmas.Names.{text_itself, text_is, text_apart, later_apart, first_apart, name_of_enumerator}
+use Rattle.json_values.proofs.lemmas.Names.{text_itself, text_apart, later_apart, first_apart, name_of_enumerator}
 
 -- enumerators
 among_later : (f : Form) (n : ℤ) (e : Enumerator) (es rest : List Enumerator) → ((k : ℕ) (x : Enumerator) → slice_get rest k ≡ Some x → same_text (bytes_of e.name) (bytes_of x.name) ≡ false)
@@ -86,20 +85,6 @@ alternative_back read j v n (suc k) (g ∷ fs) f at apart is =
     let other : from.has_name (bytes_of f.name) g ≡ false = text_apart (bytes_of g.name) (bytes_of f.name) (λ same. names_differ g fs apart k f at (sym same)) in
     let at_n : suc n + k ≡ n + suc k = omega arith in
     rw other (alternative_back read j v (suc n) k fs f at (later_fields g fs apart) is ∙ ap (λ m. Ok (alt m v)) at_n)
-
--- a key is the name of one field alone
-pub alternative_at : (read : AidlType → json.Data → Answer Data) (j : json.Data) (key : List ℕ) (n k : ℕ) (fs : List Field) (f : Field) → slice_get fs k ≡ Some f → from.has_name key f ≡ true → AreApart name_of_field fs
-    → chosen_from read (n + k) f key j ≡ from.alternative_from read n fs key j
-alternative_at read j key n k [] f at is apart = cc
-alternative_at read j key n zero (g ∷ fs) f at is apart =
-    let same : g ≡ f = cc in
-    let here : from.has_name key g ≡ true = ap (λ h. from.has_name key h) same ∙ is in
-    let at_n : n + zero ≡ n = omega arith in
-    rw here (ap (λ m. chosen_from read m f key j) at_n ∙ ap (λ h. chosen_from read n h key j) (sym same))
-alternative_at read j key n (suc k) (g ∷ fs) f at is apart =
-    let other : from.has_name key g ≡ false = text_apart (bytes_of g.name) key (λ same. names_differ g fs apart k f at (text_is (bytes_of f.name) key is ∙ sym same)) in
-    let at_n : n + suc k ≡ suc n + k = omega arith in
-    rw other (ap (λ m. chosen_from read m f key j) at_n ∙ alternative_at read j key (suc n) k fs f at is (later_fields g fs apart))
 
 -- a field of these is one of the keys' names
 pub among_fields : (fs : List Field) (k : ℕ) (f : Field) → slice_get fs k ≡ Some f → list_any (λ g. from.has_name (bytes_of f.name) g) fs ≡ true

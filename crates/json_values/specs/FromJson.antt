@@ -1,7 +1,8 @@
--- The value that a JSON value stands for, or the first refusal (own). S is the schema's declarations, d the levels left, t
--- the type. The order is: the kind of the value; its depth; the least unknown key; the elements in order, or the fields in
--- the order of the declaration. `left` says that a level is left, `read` reads a part of a type.
-use Rattle.std.specs.Prelude.{ℕ, zero, suc, ⊤, nat_le, Bool, true, false, ◌&&◌, if◌then◌else◌, List, [], ◌∷◌, Option, Some, None, decimal, Ok}
+-- The value that a JSON value stands for, or the first refusal (own). S is the schema's declarations, d the levels
+-- left, t the type. The order is: the kind of the value; its depth; the least unknown key; the elements in order,
+-- or the fields in the order of the declaration. `left` says that a level is left, `read` reads a part of a type.
+use Rattle.std.specs.Prelude.{ℕ, zero, suc, ⊤, nat_le, Bool, true, false, ◌&&◌, if◌then◌else◌, List, [], ◌∷◌}
+use Rattle.std.specs.Prelude.{Option, Some, None, decimal, Ok}
 use Rattle.std.specs.List.{list_any}
 use Rattle.serde_json.specs.Data.{null, array, object, no_items, item, no_members, member}
 use Rattle.serde_json.specs.Data as json
@@ -52,12 +53,14 @@ known_from None = Ok tt
 known_from (Some key) = within (escaped key) (refuse unknown_key)
 
 -- a field's member, or else its default
-abbrev pub field_from : (Field → Answer value.Data) → (AidlType → json.Data → Answer value.Data) → Field → Option json.Data → Answer value.Data
+abbrev pub field_from : (Field → Answer value.Data) → (AidlType → json.Data → Answer value.Data) → Field
+    → Option json.Data → Answer value.Data
 field_from default read f None = default f
 field_from default read f (Some j) = read f.ty j
 
 -- the fields in the order of the declaration, each under its name
-abbrev pub fields_from : (Field → Answer value.Data) → (AidlType → json.Data → Answer value.Data) → List Field → (List ℕ → Option json.Data) → Answer value.Items
+abbrev pub fields_from : (Field → Answer value.Data) → (AidlType → json.Data → Answer value.Data) → List Field
+    → (List ℕ → Option json.Data) → Answer value.Items
 fields_from default read [] found = Ok value.none
 fields_from default read (f ∷ fs) found = do
   first ← within (escaped (bytes_of f.name)) (field_from default read f (found (bytes_of f.name)))
@@ -65,18 +68,21 @@ fields_from default read (f ∷ fs) found = do
   Ok (value.item first others)
 
 -- parcelable: an object
-abbrev pub object_from : (Field → Answer value.Data) → (AidlType → json.Data → Answer value.Data) → List Field → json.Members → Answer value.Data
+abbrev pub object_from : (Field → Answer value.Data) → (AidlType → json.Data → Answer value.Data) → List Field
+    → json.Members → Answer value.Data
 object_from default read fs ms = do
   known ← known_from (unknown_in fs ms)
   vs ← fields_from default read fs (λ key. get_member key ms)
   Ok (value.rec vs)
 
-abbrev pub record_from : Bool → (Field → Answer value.Data) → (AidlType → json.Data → Answer value.Data) → List Field → json.Data → Answer value.Data
+abbrev pub record_from : Bool → (Field → Answer value.Data) → (AidlType → json.Data → Answer value.Data)
+    → List Field → json.Data → Answer value.Data
 record_from left default read fs (object ms) = if left then object_from default read fs ms else refuse too_deep
 record_from left default read fs _ = refuse wrong_shape
 
 -- the one member of a union's object, among these fields, the first of which is at this position
-abbrev pub alternative_from : (AidlType → json.Data → Answer value.Data) → ℕ → List Field → List ℕ → json.Data → Answer value.Data
+abbrev pub alternative_from : (AidlType → json.Data → Answer value.Data) → ℕ → List Field → List ℕ
+    → json.Data → Answer value.Data
 alternative_from read k [] key j = within (escaped key) (refuse unknown_key)
 alternative_from read k (f ∷ fs) key j = if has_name key f then within (escaped key) (do
   v ← read f.ty j
@@ -88,7 +94,8 @@ only_member (member key j no_members) = Some (key, j)
 only_member _ = None
 
 -- union: an object with one key, the field's name
-abbrev pub union_of : Bool → (AidlType → json.Data → Answer value.Data) → List Field → Option (List ℕ × json.Data) → Answer value.Data
+abbrev pub union_of : Bool → (AidlType → json.Data → Answer value.Data) → List Field
+    → Option (List ℕ × json.Data) → Answer value.Data
 union_of left read fs None = refuse wrong_shape
 union_of left read fs (Some m) = if left then alternative_from read 0 fs m.0 m.1 else refuse too_deep
 
@@ -97,7 +104,8 @@ union_from left read fs (object ms) = union_of left read fs (only_member ms)
 union_from left read fs _ = refuse wrong_shape
 
 -- one value that is no sequence, by what its base means
-abbrev pub one_from : Bool → (Field → Answer value.Data) → (AidlType → json.Data → Answer value.Data) → Option (List Enumerator) → Form → json.Data → Answer value.Data
+abbrev pub one_from : Bool → (Field → Answer value.Data) → (AidlType → json.Data → Answer value.Data)
+    → Option (List Enumerator) → Form → json.Data → Answer value.Data
 one_from left default read es form.truth j = truth_from j
 one_from left default read es form.text j = text_from j
 one_from left default read es (form.parcelable fs) j = record_from left default read fs j
@@ -110,9 +118,11 @@ is_null null = true
 is_null _ = false
 
 -- null where the type may be null; else one value or a sequence
-abbrev pub from_by : List Decl → Bool → (Field → Answer value.Data) → (AidlType → json.Data → Answer value.Data) → AidlType → json.Data → Answer value.Data
+abbrev pub from_by : List Decl → Bool → (Field → Answer value.Data) → (AidlType → json.Data → Answer value.Data)
+    → AidlType → json.Data → Answer value.Data
 from_by S left default read t j = if t.nullable && is_null j then Ok value.null
-    else (if is_one t.shape then one_from left default read (enumerators_of S t.base) (form_of S t.base) j else sequence_from left (read (elem S t)) j)
+    else (if is_one t.shape then one_from left default read (enumerators_of S t.base) (form_of S t.base) j
+    else sequence_from left (read (elem S t)) j)
 
 -- a field's default, where it fits in the levels left
 abbrev pub default_from : ℕ → List Decl → Field → Answer value.Data

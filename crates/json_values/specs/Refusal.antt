@@ -1,5 +1,5 @@
--- Refusals of JSON values, each with its place (own). A place is a JSON pointer (RFC 6901) in UTF-8: a slash and a key or an
--- index for each step down.
+-- Refusals of JSON values, each with its place (own). A place is a JSON pointer (RFC 6901) in UTF-8: a slash and a
+-- key or an index for each step down.
 use Rattle.std.specs.Prelude.{ℕ, List, [], ◌∷◌, ◌++◌, ◌==◌, if◌then◌else◌, Result, Ok, Err}
 use Rattle.std.specs.List.{flat_map}
 use Rattle.std.specs.Str.{chars, encode_utf8_all}

@@ -1,5 +1,5 @@
--- The value that a JSON value without parts stands for, or why it stands for none (own): true or false, a whole number, a text,
--- the name of an enumerator. A refusal is one of the value itself, so its place is empty.
+-- The value that a JSON value without parts stands for, or why it stands for none (own): true or false, a whole
+-- number, a text, the name of an enumerator. A refusal is one of the value itself, so its place is empty.
 use Rattle.std.specs.Prelude.{ℕ, ℤ, if◌then◌else◌, List, [], ◌∷◌, Option, Some, None, Ok}
 use Rattle.std.specs.Str.{chars}
 use Rattle.serde_json.specs.Data.{boolean, number, string}

@@ -4,3 +4,4 @@ pub mod Given
 pub mod Gives
 pub mod Levels
 pub mod Plain
+pub mod Tables

@@ -1,6 +1,5 @@
 //! The defaults of the fields that objects leave out, made once for all objects of a JSON value.
 ghost use Rattle.std.specs.Prelude.{◌≡◌, ◌<◌, ◌≤◌, nat_le, suc, map, length, IfOk, slice_get, Some};
-ghost use Rattle.aidl_schema.specs.declared.schema.Base.TheVariants.{Named};
 ghost use Rattle.aidl_schema.specs.Types.{form_of};
 ghost use Rattle.aidl_values.specs.Data.{Data, depth_of, rec};
 ghost use Rattle.aidl_values.specs.Sound.{initial_in};
@@ -11,10 +10,8 @@ ghost use Rattle.json_values.specs.steps.Defaults.{AreDefaults, datas_of, level_
 use aidl_base::{OutOfMemory, Row};
 use aidl_schema::{Base, Field, Schema};
 use aidl_values::{Fields, Value, depth, initial_of};
-use indexmap::IndexMap;
-use json_writing::fields_of;
+use json_writing::{RowMaker, fields_of};
 use std::alloc::Global;
-use std::marker::Model;
 use std::rc::Rc;
 
 // The defaults of a parcelable's fields, how many levels each has, and how many a record of all.
@@ -55,74 +52,30 @@ impl Defaults {
     }
 }
 
-// The defaults of parcelables' fields, each made when the first object leaves some out. Contracts see it as the declarations.
+// Makes the defaults of a parcelable's fields.
 #[derive(Drop)]
-pub struct DefaultRows<'a> {
-    schema: &'a Schema,
-    rows: IndexMap<u32, Rc<Defaults>>,
+pub struct DefaultsMaker<'a> {
+    pub schema: &'a Schema,
 }
 
-impl<'a> Model for DefaultRows<'a> {
-    ghost use Rattle.std.specs.Prelude.{List, ℕ, nat_eq, IfSome};
-    ghost use Rattle.std.specs.Coded.{codes};
-    ghost use Rattle.indexmap.specs.IndexMap.{get};
-    ghost use Rattle.aidl_base.specs.contracts.constant.Const as constant;
+impl<'a> RowMaker for DefaultsMaker<'a> {
     ghost use Rattle.aidl_schema.specs.declared.schema.Base.TheVariants.{Named};
-    ghost use Rattle.aidl_schema.specs.declared.schema.Decl.{Decl};
     ghost use Rattle.aidl_schema.specs.Types.{form_of};
     ghost use Rattle.json_writing.specs.Named.{fields_in};
     ghost use Rattle.json_values.specs.steps.Defaults.{AreDefaults};
 
-    ghost Value = { List Decl };
+    type Row = Defaults;
 
-    ghost coded = { Prim.hlevel (codes, constant.the_row.coded) };
+    ghost is_row = { λ maker decl defaults. AreDefaults maker.schema.now.decls
+        (fields_in (form_of maker.schema.now.decls (Named decl))) defaults };
 
-    ghost view = { λ rows. rows.schema.now.decls };
-
-    ghost invariant = { λ rows. (decl : ℕ) → IfSome (get nat_eq rows.rows decl)
-        (λ defaults. AreDefaults rows.schema.now.decls
-        (fields_in (form_of rows.schema.now.decls (Named decl))) defaults.value) };
-}
-
-impl<'a> DefaultRows<'a> {
-    // Without a row. It takes no memory.
-    pub fn new(alloc: Global, schema: &'a Schema) -> DefaultRows<'a>
-        ensures { result ≡ schema.now.decls }
-    {
-        DefaultRows {
-            schema,
-            rows: IndexMap::new(alloc),
-        }
-    }
-
-    // The defaults of a parcelable's fields.
-    pub fn of(&mut self, alloc: Global, base: Base) -> Result<Rc<Defaults>, OutOfMemory>
-        ensures same { self.new ≡ self.old }
-        ensures row { IfOk result (λ defaults. AreDefaults self.old
-            (fields_in (form_of self.old base)) defaults.value) }
-    {
-        match base {
-            Base::Named(decl) => self.of_decl(alloc, decl),
-            _ => Ok(Rc::new(alloc, defaults_of(alloc, self.schema, base)?)?),
-        }
-    }
-
-    fn of_decl(&mut self, alloc: Global, decl: u32) -> Result<Rc<Defaults>, OutOfMemory>
-        ensures same { self.new ≡ self.old }
-        ensures row { IfOk result (λ defaults. AreDefaults self.old
-            (fields_in (form_of self.old (Named decl))) defaults.value) }
-    {
-        if let Some(defaults) = self.rows.get(&decl) {
-            return Ok(defaults.clone()?);
-        }
-        let made = Rc::new(alloc, defaults_of(alloc, self.schema, Base::Named(decl))?)?;
-        let defaults = made.clone()?;
-        self.rows.insert(decl, made)?;
-        Ok(defaults)
+    fn make_row(&self, alloc: Global, decl: u32) -> Result<Defaults, OutOfMemory> {
+        defaults_of(alloc, self.schema, Base::Named(decl))
     }
 }
 
-fn defaults_of(alloc: Global, schema: &Schema, base: Base) -> Result<Defaults, OutOfMemory>
+// The defaults of the fields of what a base is.
+pub fn defaults_of(alloc: Global, schema: &Schema, base: Base) -> Result<Defaults, OutOfMemory>
     ensures { IfOk result (λ defaults. AreDefaults schema.now.decls
         (fields_in (form_of schema.now.decls base)) defaults) }
 {

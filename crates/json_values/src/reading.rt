@@ -12,17 +12,15 @@ ghost use Rattle.json_values.specs.steps.Levels.{part_of, default_in};
 ghost use Rattle.aidl_values.specs.steps.Levels.{is_level_left};
 ghost use Rattle.json_values.specs.steps.Gives.{Gives};
 
-use crate::default_rows::DefaultRows;
 use crate::fault::{Fault, JsonFault, Reason, refused, reported};
-use crate::hints::Hints;
 use crate::numbers::{number_value, plain_number};
-use crate::reader::{Kept, Reader};
+use crate::reader::Reader;
 use crate::records::read_record;
 use crate::scalars::{read_number, read_text, read_truth};
 use crate::sequences::read_sequence;
 use crate::unions::read_union;
 use aidl_base::Text;
-use aidl_schema::{AidlType, Base, Form, Schema, Shape, element, form_in, law_valid};
+use aidl_schema::{AidlType, Base, Form, Schema, Shape, law_valid};
 use aidl_values::{Value, law_sound};
 use serde_json::Value as Json;
 use std::alloc::Global;
@@ -65,82 +63,67 @@ fn read_fitting(
 {
     law_valid(schema);
     law_sound(schema);
-    let mut kept = Kept {
-        hints: Hints::new(alloc),
-        defaults: DefaultRows::new(alloc, schema),
-    };
-    let reader = Reader {
-        alloc,
-        schema,
-        levels: LEVELS,
-    };
-    read_within(&reader, &mut kept, ty, json)
+    let mut reader = Reader::new(alloc, schema);
+    read_within(&mut reader, LEVELS, ty, json)
 }
 
 // A part, which has one level fewer.
 #[cycle(reading)]
-pub fn read_part<'a>(
-    reader: &Reader<'a>,
-    kept: &mut Kept<'a>,
+pub fn read_part(
+    reader: &mut Reader<'_>,
+    levels: usize,
     ty: AidlType,
     json: &Json,
 ) -> Result<Value, Fault<Reason>>
-    requires left { 0 < reader.now.levels }
-    requires few { reader.now.levels ≤ 64 }
-    requires known { kept.old.defaults ≡ reader.now.schema.now.decls }
-    ensures gives { Gives view result (part_of reader.now ty (json_view json.now)) }
-    ensures known { kept.new.defaults ≡ reader.now.schema.now.decls }
+    requires left { 0 < levels }
+    requires few { levels ≤ 64 }
+    ensures same { reader.new ≡ reader.old }
+    ensures gives { Gives view result (part_of reader.old levels ty (json_view json.now)) }
 {
-    let below = Reader {
-        alloc: reader.alloc,
-        schema: reader.schema,
-        levels: reader.levels - 1,
-    };
-    read_within(&below, kept, ty, json)
+    read_within(reader, levels - 1, ty, json)
 }
 
 // Numbers, of which there may be many, are answered without a look at the schema.
 #[cycle(reading)]
 #[inline(always)]
-fn read_within<'a>(
-    reader: &Reader<'a>,
-    kept: &mut Kept<'a>,
+fn read_within(
+    reader: &mut Reader<'_>,
+    levels: usize,
     ty: AidlType,
     json: &Json,
 ) -> Result<Value, Fault<Reason>>
-    requires few { reader.now.levels ≤ 64 }
-    requires known { kept.old.defaults ≡ reader.now.schema.now.decls }
+    requires few { levels ≤ 64 }
+    ensures same { reader.new ≡ reader.old }
     ensures gives { Gives view result
-        (from_json_of reader.now.schema.now.decls reader.now.levels ty (json_view json.now)) }
-    ensures known { kept.new.defaults ≡ reader.now.schema.now.decls }
+        (from_json_of reader.old levels ty (json_view json.now)) }
 {
     match plain_number(ty, json) {
         Some(n) => Ok(number_value(n)),
-        None => read(reader, kept, ty, json),
+        None => read(reader, levels, ty, json),
     }
 }
 
 #[cycle(reading)]
-fn read<'a>(
-    reader: &Reader<'a>,
-    kept: &mut Kept<'a>,
+fn read(
+    reader: &mut Reader<'_>,
+    levels: usize,
     ty: AidlType,
     json: &Json,
 ) -> Result<Value, Fault<Reason>>
-    requires few { reader.now.levels ≤ 64 }
-    requires known { kept.old.defaults ≡ reader.now.schema.now.decls }
+    requires few { levels ≤ 64 }
+    ensures same { reader.new ≡ reader.old }
     ensures gives { Gives view result
-        (from_by reader.now.schema.now.decls (is_level_left reader.now.levels)
-        (default_in reader.now) (part_of reader.now) ty (json_view json.now)) }
-    ensures known { kept.new.defaults ≡ reader.now.schema.now.decls }
+        (from_by reader.old (is_level_left levels)
+        (default_in reader.old levels) (part_of reader.old levels) ty (json_view json.now)) }
 {
     if is_absent(ty.nullable, json) {
         return Ok(Value::Null);
     }
     match ty.shape {
-        Shape::One => read_one(reader, kept, ty.base, json),
+        Shape::One => read_one(reader, levels, ty.base, json),
         Shape::Array | Shape::List => {
-            read_sequence(reader, kept, element(reader.schema, ty), json)
+            let element = reader.element(ty);
+            read_sequence(reader, levels, element, json)
         }
     }
 }
@@ -154,38 +137,29 @@ fn is_absent(nullable: bool, json: &Json) -> bool
 
 // One value that is no sequence.
 #[cycle(reading)]
-fn read_one<'a>(
-    reader: &Reader<'a>,
-    kept: &mut Kept<'a>,
+fn read_one(
+    reader: &mut Reader<'_>,
+    levels: usize,
     base: Base,
     json: &Json,
 ) -> Result<Value, Fault<Reason>>
-    requires few { reader.now.levels ≤ 64 }
-    requires known { kept.old.defaults ≡ reader.now.schema.now.decls }
+    requires few { levels ≤ 64 }
+    ensures same { reader.new ≡ reader.old }
     ensures gives { Gives view result (answer.one_from
-        (is_level_left reader.now.levels) (default_in reader.now) (part_of reader.now)
-        (enumerators_of reader.now.schema.now.decls base)
-        (form_of reader.now.schema.now.decls base) (json_view json.now)) }
-    ensures known { kept.new.defaults ≡ reader.now.schema.now.decls }
+        (is_level_left levels) (default_in reader.old levels) (part_of reader.old levels)
+        (enumerators_of reader.old base)
+        (form_of reader.old base) (json_view json.now)) }
 {
-    law_valid(reader.schema);
-    law_sound(reader.schema);
-    let form = form_in(reader.schema, base);
+    reader.law_schema();
+    let form = reader.form(base);
     match form {
-        Form::Truth => read_truth(reader.alloc, json),
-        Form::Text => read_text(reader.alloc, json),
-        Form::Parcelable(fields) => read_record(reader, kept, base, fields, json),
-        Form::Union(fields) => read_union(reader, kept, base, fields, json),
-        Form::Nothing => Err(refused(reader.alloc, Reason::WrongShape)),
+        Form::Truth => read_truth(reader.alloc(), json),
+        Form::Text => read_text(reader.alloc(), json),
+        Form::Parcelable(fields) => read_record(reader, levels, base, fields, json),
+        Form::Union(fields) => read_union(reader, levels, base, fields, json),
+        Form::Nothing => Err(refused(reader.alloc(), Reason::WrongShape)),
         Form::Byte | Form::Char | Form::Int | Form::Long => {
-            read_number(
-                reader.alloc,
-                reader.schema,
-                &mut kept.hints,
-                base,
-                &form,
-                json,
-            )
+            read_number(reader, base, &form, json)
         }
     }
 }

@@ -24,7 +24,7 @@ use crate::fault::{Fault, Reason, refused};
 use crate::given::Given;
 use crate::keys::{known_first, known_record};
 use crate::pointer::below_key;
-use crate::reader::{Kept, Reader};
+use crate::reader::Reader;
 use crate::reading::read_part;
 use aidl_base::Row;
 use aidl_schema::{Base, Field};
@@ -33,89 +33,83 @@ use serde_json::{Map, Value as Json};
 
 // A parcelable.
 #[cycle(reading)]
-pub fn read_record<'a>(
-    reader: &Reader<'a>,
-    kept: &mut Kept<'a>,
+pub fn read_record(
+    reader: &mut Reader<'_>,
+    levels: usize,
     base: Base,
-    fields: &'a [Field],
+    fields: &[Field],
     json: &Json,
 ) -> Result<Value, Fault<Reason>>
-    requires few { reader.now.levels ≤ 64 }
+    requires few { levels ≤ 64 }
     requires apart { AreApart (λ f. f.name.0) fields.now }
     requires fields { length fields.now ≤ 4096 }
-    requires declared { fields.now ≡ fields_in (form_of reader.now.schema.now.decls base) }
-    requires known { kept.old.defaults ≡ reader.now.schema.now.decls }
+    requires declared { fields.now ≡ fields_in (form_of reader.old base) }
+    ensures same { reader.new ≡ reader.old }
     ensures gives { Gives view result (answer.record_from
-        (is_level_left reader.now.levels) (default_in reader.now) (part_of reader.now)
+        (is_level_left levels) (default_in reader.old levels) (part_of reader.old levels)
         fields.now (json_view json.now)) }
-    ensures known { kept.new.defaults ≡ reader.now.schema.now.decls }
 {
     let Json::Object(members) = json else {
-        return Err(refused(reader.alloc, Reason::WrongShape));
+        return Err(refused(reader.alloc(), Reason::WrongShape));
     };
-    if reader.levels == 0 {
-        return Err(refused(reader.alloc, Reason::TooDeep));
+    if levels == 0 {
+        return Err(refused(reader.alloc(), Reason::TooDeep));
     }
-    read_object(reader, kept, base, fields, members)
+    read_object(reader, levels, base, fields, members)
 }
 
 // The fields are read before the keys are looked at: only where fewer are found than there are keys, or a field is refused, some key may
 // name none.
 #[cycle(reading)]
-fn read_object<'a>(
-    reader: &Reader<'a>,
-    kept: &mut Kept<'a>,
+fn read_object(
+    reader: &mut Reader<'_>,
+    levels: usize,
     base: Base,
-    fields: &'a [Field],
+    fields: &[Field],
     members: &Map<String, Json>,
 ) -> Result<Value, Fault<Reason>>
-    requires left { 0 < reader.now.levels }
-    requires few { reader.now.levels ≤ 64 }
+    requires left { 0 < levels }
+    requires few { levels ≤ 64 }
     requires apart { AreApart (λ f. f.name.0) fields.now }
     requires fields { length fields.now ≤ 4096 }
-    requires declared { fields.now ≡ fields_in (form_of reader.now.schema.now.decls base) }
-    requires known { kept.old.defaults ≡ reader.now.schema.now.decls }
+    requires declared { fields.now ≡ fields_in (form_of reader.old base) }
+    ensures same { reader.new ≡ reader.old }
     ensures gives { Gives view result
-        (answer.object_from (default_in reader.now)
-        (part_of reader.now) fields.now (members_view members.now.entries)) }
-    ensures known { kept.new.defaults ≡ reader.now.schema.now.decls }
+        (answer.object_from (default_in reader.old levels)
+        (part_of reader.old levels) fields.now (members_view members.now.entries)) }
 {
-    match read_fields(reader, kept, base, fields, members) {
-        Ok(read) => known_record(reader.alloc, &mut kept.hints, base, fields, members, read),
-        Err(fault) => {
-            let fault = known_first(reader.alloc, &mut kept.hints, base, fields, members, fault);
-            Err(fault)
-        }
+    match read_fields(reader, levels, base, fields, members) {
+        Ok(read) => known_record(reader, base, fields, members, read),
+        Err(fault) => Err(known_first(reader, base, fields, members, fault)),
     }
 }
 
 // The fields, and how many of them have a member.
 #[cycle(reading)]
-fn read_fields<'a>(
-    reader: &Reader<'a>,
-    kept: &mut Kept<'a>,
+fn read_fields(
+    reader: &mut Reader<'_>,
+    levels: usize,
     base: Base,
     fields: &[Field],
     members: &Map<String, Json>,
 ) -> Result<(Value, usize), Fault<Reason>>
-    requires left { 0 < reader.now.levels }
-    requires few { reader.now.levels ≤ 64 }
+    requires left { 0 < levels }
+    requires few { levels ≤ 64 }
     requires apart { AreApart (λ f. f.name.0) fields.now }
     requires fields { length fields.now ≤ 4096 }
-    requires declared { fields.now ≡ fields_in (form_of reader.now.schema.now.decls base) }
-    requires known { kept.old.defaults ≡ reader.now.schema.now.decls }
+    requires declared { fields.now ≡ fields_in (form_of reader.old base) }
+    ensures same { reader.new ≡ reader.old }
     ensures gives { Gives (λ read. view read.0) result (as_record (answer.fields_from
-        (default_in reader.now) (part_of reader.now) fields.now
+        (default_in reader.old levels) (part_of reader.old levels) fields.now
         (λ key. get_member key (members_view members.now.entries)))) }
     ensures found { IfOk result (λ read. read.1
         ≡ count_by (is_found (members_view members.now.entries)) fields.now) }
-    ensures known { kept.new.defaults ≡ reader.now.schema.now.decls }
 {
-    let mut values = Vec::with_capacity(reader.alloc, fields.len().min(members.len()))?;
+    let mut values = Vec::with_capacity(reader.alloc(), fields.len().min(members.len()))?;
     for field in fields {
-        match read_given(reader, kept, field, members)? {
+        match read_given(reader, levels, field, members)? {
             Some(value) => values.push(value)?,
-            None => return read_behind(reader, kept, base, fields, members, values),
+            None => return read_behind(reader, levels, base, fields, members, values),
         }
     }
     let found = values.len();
@@ -125,48 +119,48 @@ fn read_fields<'a>(
 
 // The same, where the first fields have these values, and the next has no member: of those without a member the defaults are shared.
 #[cycle(reading)]
-fn read_behind<'a>(
-    reader: &Reader<'a>,
-    kept: &mut Kept<'a>,
+fn read_behind(
+    reader: &mut Reader<'_>,
+    levels: usize,
     base: Base,
     fields: &[Field],
     members: &Map<String, Json>,
     values: Vec<Value>,
 ) -> Result<(Value, usize), Fault<Reason>>
-    requires left { 0 < reader.now.levels }
-    requires few { reader.now.levels ≤ 64 }
+    requires left { 0 < levels }
+    requires few { levels ≤ 64 }
     requires apart { AreApart (λ f. f.name.0) fields.now }
     requires fields { length fields.now ≤ 4096 }
-    requires declared { fields.now ≡ fields_in (form_of reader.now.schema.now.decls base) }
+    requires declared { fields.now ≡ fields_in (form_of reader.old base) }
     requires some { length values.items ≤ length fields.now }
     requires read { with_front (map view values.items) (answer.fields_from
-        (default_in reader.now) (part_of reader.now) (drop (length values.items) fields.now)
+        (default_in reader.old levels) (part_of reader.old levels)
+        (drop (length values.items) fields.now)
         (λ key. get_member key (members_view members.now.entries)))
-        ≡ answer.fields_from (default_in reader.now) (part_of reader.now) fields.now
+        ≡ answer.fields_from (default_in reader.old levels) (part_of reader.old levels) fields.now
         (λ key. get_member key (members_view members.now.entries)) }
     requires found { length values.items ≡ count_by (is_found (members_view members.now.entries))
         (take (length values.items) fields.now) }
-    requires known { kept.old.defaults ≡ reader.now.schema.now.decls }
+    ensures same { reader.new ≡ reader.old }
     ensures gives { Gives (λ read. view read.0) result (as_record (answer.fields_from
-        (default_in reader.now) (part_of reader.now) fields.now
+        (default_in reader.old levels) (part_of reader.old levels) fields.now
         (λ key. get_member key (members_view members.now.entries)))) }
     ensures found { IfOk result (λ read. read.1
         ≡ count_by (is_found (members_view members.now.entries)) fields.now) }
-    ensures known { kept.new.defaults ≡ reader.now.schema.now.decls }
 {
     let first = values.len();
-    let defaults = kept.defaults.of(reader.alloc, base)?;
-    let mut given = Given::first(reader.alloc, values)?;
+    let defaults = reader.default_values(base)?;
+    let mut given = Given::first(reader.alloc(), values)?;
     for i in first..fields.len() {
-        if are_done(&given, members, &defaults, reader.levels) {
+        if are_done(&given, members, &defaults, levels) {
             let found = given.len();
-            return Ok((given.into_record(reader.alloc, &defaults)?, found));
+            return Ok((given.into_record(reader.alloc(), &defaults)?, found));
         }
-        let value = read_field(reader, kept, &fields[i], members, i, &defaults)?;
+        let value = read_field(reader, levels, &fields[i], members, i, &defaults)?;
         given.put(i, value)?;
     }
     let found = given.len();
-    Ok((given.into_record(reader.alloc, &defaults)?, found))
+    Ok((given.into_record(reader.alloc(), &defaults)?, found))
 }
 
 // Whether all members are found, and the defaults of the other fields fit. False says nothing.
@@ -182,28 +176,27 @@ fn are_done(given: &Given, members: &Map<String, Json>, defaults: &Defaults, lev
 
 // The value of a field's member, or None where it has none, and its default fits.
 #[cycle(reading)]
-fn read_field<'a>(
-    reader: &Reader<'a>,
-    kept: &mut Kept<'a>,
+fn read_field(
+    reader: &mut Reader<'_>,
+    levels: usize,
     field: &Field,
     members: &Map<String, Json>,
     i: usize,
     defaults: &Defaults,
 ) -> Result<Option<Value>, Fault<Reason>>
-    requires left { 0 < reader.now.levels }
-    requires few { reader.now.levels ≤ 64 }
-    requires default { HasDefaultAt reader.now.schema.now.decls field.now defaults.now i }
-    requires known { kept.old.defaults ≡ reader.now.schema.now.decls }
-    ensures gives { Gives (λ value. given_or value (initial_in reader.now.schema.now.decls field.now))
-        result (named_from (default_in reader.now) (part_of reader.now)
+    requires left { 0 < levels }
+    requires few { levels ≤ 64 }
+    requires default { HasDefaultAt reader.old field.now defaults.now i }
+    ensures same { reader.new ≡ reader.old }
+    ensures gives { Gives (λ value. given_or value (initial_in reader.old field.now))
+        result (named_from (default_in reader.old levels) (part_of reader.old levels)
         (members_view members.now.entries) field.now) }
     ensures found { IfOk result (λ value. is_some value
         ≡ is_found (members_view members.now.entries) field.now) }
-    ensures known { kept.new.defaults ≡ reader.now.schema.now.decls }
 {
-    match read_given(reader, kept, field, members) {
+    match read_given(reader, levels, field, members) {
         Ok(Some(value)) => Ok(Some(value)),
-        Ok(None) => left_out(reader, field, i, defaults),
+        Ok(None) => left_out(reader, levels, field, i, defaults),
         Err(fault) => Err(fault),
     }
 }
@@ -211,45 +204,45 @@ fn read_field<'a>(
 // Refuses a field that is left out and whose default has too many levels.
 fn left_out(
     reader: &Reader<'_>,
+    levels: usize,
     field: &Field,
     i: usize,
     defaults: &Defaults,
 ) -> Result<Option<Value>, Fault<Reason>>
-    requires few { reader.now.levels ≤ 64 }
-    requires default { HasDefaultAt reader.now.schema.now.decls field.now defaults.now i }
-    ensures gives { Gives (λ value. given_or value (initial_in reader.now.schema.now.decls field.now))
-        result (within (escaped (bytes_of field.now.name)) (default_in reader.now field.now)) }
+    requires few { levels ≤ 64 }
+    requires default { HasDefaultAt reader.now field.now defaults.now i }
+    ensures gives { Gives (λ value. given_or value (initial_in reader.now field.now)) result
+        (within (escaped (bytes_of field.now.name)) (default_in reader.now levels field.now)) }
     ensures none { IfOk result (λ value. is_some value ≡ false) }
 {
-    if defaults.fits(i, reader.levels) {
+    if defaults.fits(i, levels) {
         return Ok(None);
     }
-    let fault = refused(reader.alloc, Reason::TooDeep);
-    Err(below_key(reader.alloc, field.name.0.as_str(), fault))
+    let fault = refused(reader.alloc(), Reason::TooDeep);
+    Err(below_key(reader.alloc(), field.name.0.as_str(), fault))
 }
 
 // The value of a field's member, or None where it has none.
 #[cycle(reading)]
-fn read_given<'a>(
-    reader: &Reader<'a>,
-    kept: &mut Kept<'a>,
+fn read_given(
+    reader: &mut Reader<'_>,
+    levels: usize,
     field: &Field,
     members: &Map<String, Json>,
 ) -> Result<Option<Value>, Fault<Reason>>
-    requires left { 0 < reader.now.levels }
-    requires few { reader.now.levels ≤ 64 }
-    requires known { kept.old.defaults ≡ reader.now.schema.now.decls }
-    ensures gives { GivesMember (default_in reader.now) (part_of reader.now)
+    requires left { 0 < levels }
+    requires few { levels ≤ 64 }
+    ensures same { reader.new ≡ reader.old }
+    ensures gives { GivesMember (default_in reader.old levels) (part_of reader.old levels)
         (members_view members.now.entries) field.now result }
-    ensures known { kept.new.defaults ≡ reader.now.schema.now.decls }
 {
     let name = field.name.0.as_str();
     let Some(json) = member_of(members, name) else {
         return Ok(None);
     };
-    match read_part(reader, kept, field.ty, json) {
+    match read_part(reader, levels, field.ty, json) {
         Ok(value) => Ok(Some(value)),
-        Err(fault) => Err(below_key(reader.alloc, name, fault)),
+        Err(fault) => Err(below_key(reader.alloc(), name, fault)),
     }
 }
 

@@ -10,9 +10,9 @@ ghost use Rattle.json_values.specs.steps.Gives.{Gives};
 
 use crate::enumerators::read_name;
 use crate::fault::{Fault, Reason, refused};
-use crate::hints::Hints;
+use crate::reader::Reader;
 use aidl_base::Text;
-use aidl_schema::{Base, Form, Schema, is_in_range};
+use aidl_schema::{Base, Form, is_in_range};
 use aidl_values::Value;
 use serde_json::{Number, Value as Json};
 use std::alloc::Global;
@@ -40,21 +40,20 @@ pub fn read_text(alloc: Global, json: &Json) -> Result<Value, Fault<Reason>>
 /// The value of a byte, char, int, long or enum: a whole number in the range of the type, or of the enum's backing type; of
 /// an enum also the name of an enumerator. A whole number outside is refused as out of range, a name of none as an unknown
 /// enumerator, and as of a wrong shape a number that isn't whole, a string where the type is no enum, and what is neither.
-pub fn read_number<'a>(
-    alloc: Global,
-    schema: &'a Schema,
-    hints: &mut Hints<'a>,
+pub fn read_number(
+    reader: &mut Reader<'_>,
     base: Base,
     form: &Form<'_>,
     json: &Json,
 ) -> Result<Value, Fault<Reason>>
-    ensures { Gives view result (answer.number_from
-        (enumerators_of schema.now.decls base) (seen form.now) (json_view json.now)) }
+    ensures same { reader.new ≡ reader.old }
+    ensures gives { Gives view result (answer.number_from
+        (enumerators_of reader.old base) (seen form.now) (json_view json.now)) }
 {
     match json {
-        Json::Number(number) => read_whole(alloc, form, number),
-        Json::String(name) => read_name(alloc, schema, hints, base, name.as_str()),
-        _ => Err(refused(alloc, Reason::WrongShape)),
+        Json::Number(number) => read_whole(reader.alloc(), form, number),
+        Json::String(name) => read_name(reader, base, name.as_str()),
+        _ => Err(refused(reader.alloc(), Reason::WrongShape)),
     }
 }
 

@@ -10,7 +10,7 @@ ghost use Rattle.json_values.specs.steps.Gives.{Gives};
 
 use crate::fault::{Fault, Reason, refused};
 use crate::pointer::below_index;
-use crate::reader::{Kept, Reader};
+use crate::reader::Reader;
 use crate::reading::read_part;
 use crate::side_by_side::plain_sequence;
 use aidl_base::Row;
@@ -20,89 +20,85 @@ use serde_json::Value as Json;
 
 // An array or a List of a type.
 #[cycle(reading)]
-pub fn read_sequence<'a>(
-    reader: &Reader<'a>,
-    kept: &mut Kept<'a>,
+pub fn read_sequence(
+    reader: &mut Reader<'_>,
+    levels: usize,
     ty: AidlType,
     json: &Json,
 ) -> Result<Value, Fault<Reason>>
-    requires few { reader.now.levels ≤ 64 }
-    requires known { kept.old.defaults ≡ reader.now.schema.now.decls }
+    requires few { levels ≤ 64 }
+    ensures same { reader.new ≡ reader.old }
     ensures gives { Gives view result (answer.sequence_from
-        (is_level_left reader.now.levels) (part_of reader.now ty) (json_view json.now)) }
-    ensures known { kept.new.defaults ≡ reader.now.schema.now.decls }
+        (is_level_left levels) (part_of reader.old levels ty) (json_view json.now)) }
 {
     let Json::Array(items) = json else {
-        return Err(refused(reader.alloc, Reason::WrongShape));
+        return Err(refused(reader.alloc(), Reason::WrongShape));
     };
-    if reader.levels == 0 {
-        return Err(refused(reader.alloc, Reason::TooDeep));
+    if levels == 0 {
+        return Err(refused(reader.alloc(), Reason::TooDeep));
     }
-    read_elements(reader, kept, ty, items.as_slice())
+    read_elements(reader, levels, ty, items.as_slice())
 }
 
 // Numbers and truth values, of which there may be many, are read side by side.
 #[cycle(reading)]
-fn read_elements<'a>(
-    reader: &Reader<'a>,
-    kept: &mut Kept<'a>,
+fn read_elements(
+    reader: &mut Reader<'_>,
+    levels: usize,
     ty: AidlType,
     items: &[Json],
 ) -> Result<Value, Fault<Reason>>
-    requires left { 0 < reader.now.levels }
-    requires few { reader.now.levels ≤ 64 }
-    requires known { kept.old.defaults ≡ reader.now.schema.now.decls }
+    requires left { 0 < levels }
+    requires few { levels ≤ 64 }
+    ensures same { reader.new ≡ reader.old }
     ensures gives { Gives view result
-        (answer.elements_from (part_of reader.now ty) (items_view items.now)) }
-    ensures known { kept.new.defaults ≡ reader.now.schema.now.decls }
+        (answer.elements_from (part_of reader.old levels ty) (items_view items.now)) }
 {
-    if let Some(value) = plain_sequence(reader.alloc, ty, items)? {
+    if let Some(value) = plain_sequence(reader.alloc(), ty, items)? {
         return Ok(value);
     }
-    match read_items(reader, kept, ty, items) {
+    match read_items(reader, levels, ty, items) {
         Ok(values) => Ok(Value::Seq(Elements::Values(values))),
         Err(fault) => Err(fault),
     }
 }
 
 #[cycle(reading)]
-fn read_items<'a>(
-    reader: &Reader<'a>,
-    kept: &mut Kept<'a>,
+fn read_items(
+    reader: &mut Reader<'_>,
+    levels: usize,
     ty: AidlType,
     items: &[Json],
 ) -> Result<Row<Value>, Fault<Reason>>
-    requires left { 0 < reader.now.levels }
-    requires few { reader.now.levels ≤ 64 }
-    requires known { kept.old.defaults ≡ reader.now.schema.now.decls }
+    requires left { 0 < levels }
+    requires few { levels ≤ 64 }
+    ensures same { reader.new ≡ reader.old }
     ensures gives { Gives views result
-        (answer.items_from (part_of reader.now ty) 0 (items_view items.now)) }
-    ensures known { kept.new.defaults ≡ reader.now.schema.now.decls }
+        (answer.items_from (part_of reader.old levels ty) 0 (items_view items.now)) }
 {
-    let mut values = Vec::with_capacity(reader.alloc, items.len())?;
+    let mut values = Vec::with_capacity(reader.alloc(), items.len())?;
     for (i, item) in items.iter().enumerate() {
-        values.push(read_item(reader, kept, ty, i, item)?)?;
+        values.push(read_item(reader, levels, ty, i, item)?)?;
     }
     Ok(Row::from_vec(values))
 }
 
 #[cycle(reading)]
-fn read_item<'a>(
-    reader: &Reader<'a>,
-    kept: &mut Kept<'a>,
+fn read_item(
+    reader: &mut Reader<'_>,
+    levels: usize,
     ty: AidlType,
     index: usize,
     json: &Json,
 ) -> Result<Value, Fault<Reason>>
-    requires left { 0 < reader.now.levels }
-    requires few { reader.now.levels ≤ 64 }
-    requires known { kept.old.defaults ≡ reader.now.schema.now.decls }
+    requires left { 0 < levels }
+    requires few { levels ≤ 64 }
+    ensures same { reader.new ≡ reader.old }
     ensures gives { Gives view result
-        (within (decimal index) (part_of reader.now ty (json_view json.now))) }
-    ensures known { kept.new.defaults ≡ reader.now.schema.now.decls }
+        (within (decimal index) (part_of reader.old levels ty (json_view json.now))) }
 {
-    match read_part(reader, kept, ty, json) {
+    match read_part(reader, levels, ty, json) {
         Ok(value) => Ok(value),
-        Err(fault) => Err(below_index(reader.alloc, index, fault)),
+        Err(fault) => Err(below_index(reader.alloc(), index, fault)),
     }
 }

@@ -1,5 +1,5 @@
--- What a JSON value calls by name (own): the fields of a parcelable or union, and the enumerators of an enum. JSON's texts
--- are in UTF-8.
+-- What a JSON value calls by name (own): the fields of a parcelable or union, and the enumerators of an enum.
+-- JSON's texts are in UTF-8.
 use Rattle.std.specs.Prelude.{List, [], Option, Some, None}
 use Rattle.aidl_schema.specs.declared.schema.Decl.{Decl}
 use Rattle.aidl_schema.specs.declared.schema.Enumerator.{Enumerator}

@@ -2,6 +2,7 @@
 #![tactic(auto)]
 
 mod byte_texts;
+mod decl_rows;
 mod member_rows;
 mod members;
 mod named;
@@ -16,9 +17,10 @@ mod value_text;
 mod walks;
 mod writing;
 
-pub use named::{Called, enumerators_in, fields_of, is_called};
+pub use decl_rows::{DeclRows, RowMaker};
+pub use named::{enumerators_in, fields_of};
 pub use printer::JsonPrinter;
 pub use value_names::ValueNames;
 pub use value_text::push_value_text;
-pub use walks::{WALKS, Walks};
+pub use walks::WALKS;
 pub use writing::to_json;

@@ -10,7 +10,8 @@ ghost use Rattle.json_writing.specs.Named.{enumerators_of, fields_in};
 ghost use Rattle.json_writing.specs.ValueText.{value_text};
 ghost use Rattle.json_writing.specs.steps.Members.{IsRow};
 
-use crate::member_rows::MemberRows;
+use crate::decl_rows::DeclRows;
+use crate::member_rows::MemberRowMaker;
 use crate::members::Member;
 use crate::named::{enumerators_in, fields_of};
 use crate::quoted::push_quoted;
@@ -29,7 +30,7 @@ use std::rc::Rc;
 pub struct JsonPrinter<'a> {
     schema: &'a Schema,
     names: ValueNames<'a>,
-    rows: MemberRows<'a>,
+    rows: DeclRows<MemberRowMaker<'a>>,
     digits: Buffer,
 }
 
@@ -59,19 +60,19 @@ impl<'a> Model for JsonPrinter<'a> {
 
     ghost invariant = { λ printer. record {
       names : printer.names ≡ printer.schema.now.decls;
-      rows : printer.rows ≡ printer.schema.now.decls;
+      rows : printer.rows.schema.now.decls ≡ printer.schema.now.decls;
     } };
 }
 
 impl<'a> JsonPrinter<'a> {
-    /// Of values of this schema. It takes no memory.
+    /// Of values of this schema.
     pub fn new(alloc: Global, schema: &'a Schema) -> JsonPrinter<'a>
         ensures { result ≡ schema.now.decls }
     {
         JsonPrinter {
             schema,
             names: ValueNames::new(alloc, schema),
-            rows: MemberRows::new(alloc, schema),
+            rows: DeclRows::new(alloc, MemberRowMaker { schema }),
             digits: Buffer::new(),
         }
     }
@@ -120,7 +121,10 @@ impl<'a> JsonPrinter<'a> {
         ensures row { IfOk result (λ row. IsRow
             (fields_in (form_of self.old base)) row.value.items) }
     {
-        self.rows.row(alloc, base)
+        match base {
+            Base::Named(decl) => self.rows.row(alloc, decl),
+            _ => Ok(Rc::new(alloc, Vec::new(alloc))?),
+        }
     }
 
     // Adds a number, by the name of the first enumerator of the base that has it.
@@ -136,6 +140,9 @@ impl<'a> JsonPrinter<'a> {
             (string_bytes text.new ≡ string_bytes text.old ++ compact_text
             (json_number (enumerators_of self.old base) n)) }
     {
+        if !matches!(base, Base::Named(_)) {
+            return push_digits(n, &mut self.digits, text);
+        }
         match self.names.name(alloc, base, n)? {
             Some(name) => push_quoted(alloc, name.0.as_str(), text),
             None => push_digits(n, &mut self.digits, text),

@@ -4,12 +4,12 @@ ghost use Rattle.aidl_schema.specs.declared.schema.Base.TheVariants as base;
 ghost use Rattle.json_writing.specs.Json.{json_among, json_named, json_number};
 ghost use Rattle.json_writing.specs.Named.{enumerators_of};
 
+use crate::decl_rows::DeclRows;
 use crate::named::enumerators_in;
-use crate::value_table::ValueTable;
-use crate::walks::{WALKS, Walks};
+use crate::value_table::ValueTableMaker;
+use crate::walks::WALKS;
 use aidl_base::{Ident, OutOfMemory};
 use aidl_schema::{Base, Enumerator, Schema};
-use indexmap::IndexMap;
 use std::alloc::Global;
 use std::marker::Model;
 
@@ -18,18 +18,14 @@ use std::marker::Model;
 #[derive(Drop)]
 pub struct ValueNames<'a> {
     schema: &'a Schema,
-    walks: Walks,
-    tables: IndexMap<u32, ValueTable<'a>>,
+    tables: DeclRows<ValueTableMaker<'a>>,
 }
 
 impl<'a> Model for ValueNames<'a> {
-    ghost use Rattle.std.specs.Prelude.{List, ℕ, ◌≡◌, nat_eq, Some, IfSome};
+    ghost use Rattle.std.specs.Prelude.{List, ◌≡◌};
     ghost use Rattle.std.specs.Coded.{codes};
-    ghost use Rattle.indexmap.specs.IndexMap.{get};
     ghost use Rattle.aidl_base.specs.contracts.constant.Const as constant;
     ghost use Rattle.aidl_schema.specs.declared.schema.Decl.{Decl};
-    ghost use Rattle.aidl_schema.specs.declared.schema.Base.TheVariants as base;
-    ghost use Rattle.json_writing.specs.Named.{enumerators_of};
 
     ghost Value = { List Decl };
 
@@ -37,19 +33,17 @@ impl<'a> Model for ValueNames<'a> {
 
     ghost view = { λ names. names.schema.now.decls };
 
-    ghost invariant = { λ names. (decl : ℕ) → IfSome (get nat_eq names.tables decl)
-        (λ es. enumerators_of names.schema.now.decls (base.Named decl) ≡ Some es) };
+    ghost invariant = { λ names. names.tables.schema.now.decls ≡ names.schema.now.decls };
 }
 
 impl<'a> ValueNames<'a> {
-    /// Without a table. It takes no memory.
+    /// Without a table.
     pub fn new(alloc: Global, schema: &'a Schema) -> ValueNames<'a>
         ensures { result ≡ schema.now.decls }
     {
         ValueNames {
             schema,
-            walks: Walks::new(alloc),
-            tables: IndexMap::new(alloc),
+            tables: DeclRows::new(alloc, ValueTableMaker { schema }),
         }
     }
 
@@ -104,16 +98,10 @@ impl<'a> ValueNames<'a> {
         ensures name { IfOk result (λ name. json_named (option_map (λ i. i.now) name) n
             ≡ json_among enumerators.now n) }
     {
-        if let Some(table) = self.tables.get(&decl) {
-            return Ok(table.name(n));
+        match self.tables.row_after_walks(alloc, decl)? {
+            Some(table) => Ok(table.name(n)),
+            None => Ok(first_name(enumerators, n)),
         }
-        if self.walks.is_walk(decl)? {
-            return Ok(first_name(enumerators, n));
-        }
-        let table = ValueTable::new(alloc, enumerators)?;
-        let name = table.name(n);
-        self.tables.insert(decl, table)?;
-        Ok(name)
     }
 }
 

@@ -2,8 +2,10 @@
 ghost use Rattle.std.specs.Prelude.{◌≡◌, option_map, IfOk};
 ghost use Rattle.json_writing.specs.Json.{json_among, json_named};
 
+use crate::decl_rows::RowMaker;
+use crate::named::enumerators_in;
 use aidl_base::{Ident, OutOfMemory};
-use aidl_schema::Enumerator;
+use aidl_schema::{Base, Enumerator, Schema};
 use indexmap::IndexMap;
 use std::alloc::Global;
 use std::marker::Model;
@@ -49,5 +51,29 @@ impl<'a> ValueTable<'a> {
         ensures { json_named (option_map (λ name. name.now) result) n ≡ json_among self.now n }
     {
         self.names.get(&n).copied()
+    }
+}
+
+// Makes the table of an enum.
+#[derive(Drop)]
+pub struct ValueTableMaker<'a> {
+    pub schema: &'a Schema,
+}
+
+impl<'a> RowMaker for ValueTableMaker<'a> {
+    ghost use Rattle.std.specs.Prelude.{◌≡◌, IfSome};
+    ghost use Rattle.aidl_schema.specs.declared.schema.Base.TheVariants.{Named};
+    ghost use Rattle.json_writing.specs.Named.{enumerators_of};
+
+    type Row = ValueTable<'a>;
+
+    ghost is_row = { λ maker decl table. IfSome
+        (enumerators_of maker.schema.now.decls (Named decl)) (λ es. table ≡ es) };
+
+    fn make_row(&self, alloc: Global, decl: u32) -> Result<ValueTable<'a>, OutOfMemory> {
+        match enumerators_in(self.schema, Base::Named(decl)) {
+            Some(enumerators) => ValueTable::new(alloc, enumerators),
+            None => ValueTable::new(alloc, &[]),
+        }
     }
 }

@@ -16,7 +16,7 @@ pub struct Walks {
 }
 
 impl Walks {
-    /// Of no declaration yet. It takes no memory.
+    /// Of no declaration yet.
     pub fn new(alloc: Global) -> Walks {
         Walks {
             counts: IndexMap::new(alloc),

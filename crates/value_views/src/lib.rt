@@ -1,7 +1,6 @@
 //! What values are to another version of their type, and whether two values are the same data.
 #![tactic(auto)]
 
-mod decl_fields;
 mod named_fields;
 mod places;
 mod same;

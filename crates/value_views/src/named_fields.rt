@@ -1,11 +1,12 @@
 //! A schema with tables that find the fields of its declarations.
-ghost use Rattle.std.specs.Prelude.{◌≡◌, IfOk, slice_get};
+ghost use Rattle.std.specs.Prelude.{◌≡◌, IfOk};
 ghost use Rattle.std.specs.Option.{option_copied};
 ghost use Rattle.value_views.specs.Named.{field_named, fields_at};
+ghost use Rattle.value_views.specs.steps.Tables.{field_lists, fields_or_none};
 
-use crate::decl_fields::DeclFields;
 use aidl_base::OutOfMemory;
-use aidl_schema::{Decl, Schema};
+use aidl_schema::{Decl, Field, Schema, fields_of};
+use name_tables::NameTable;
 use std::alloc::Global;
 use std::marker::Model;
 
@@ -14,7 +15,7 @@ use std::marker::Model;
 #[derive(Drop)]
 pub struct NamedFields<'a> {
     schema: &'a Schema,
-    tables: Vec<DeclFields<'a>>,
+    tables: Vec<NameTable<'a, Field>>,
 }
 
 impl<'a> Model for NamedFields<'a> {
@@ -22,6 +23,7 @@ impl<'a> Model for NamedFields<'a> {
     ghost use Rattle.std.specs.Coded.{coded_list};
     ghost use Rattle.aidl_schema.specs.contracts.schema.Decl as decl;
     ghost use Rattle.aidl_schema.specs.declared.schema.Decl.{Decl};
+    ghost use Rattle.value_views.specs.steps.Tables.{field_lists};
 
     ghost Value = { List Decl };
 
@@ -29,7 +31,7 @@ impl<'a> Model for NamedFields<'a> {
 
     ghost view = { λ named. named.schema.now.decls };
 
-    ghost invariant = { λ named. named.tables.items ≡ named.schema.now.decls };
+    ghost invariant = { λ named. named.tables.items ≡ field_lists named.schema.now.decls };
 }
 
 impl<'a> NamedFields<'a> {
@@ -41,39 +43,38 @@ impl<'a> NamedFields<'a> {
         Ok(NamedFields { schema, tables })
     }
 
-    /// The schema. It takes no memory.
+    /// The schema.
     pub fn schema(&self) -> &'a Schema
         ensures { result.now.decls ≡ self.now }
     {
         self.schema
     }
 
-    // The declaration of a number, with its table.
-    fn decl(&self, number: u32) -> Option<&DeclFields<'a>>
-        ensures { option_copied result ≡ slice_get self.now number }
+    // The table of the fields of a number's declaration.
+    fn table(&self, number: u32) -> Option<&NameTable<'a, Field>>
+        ensures { fields_or_none (option_copied result) ≡ fields_at self.now number }
     {
         self.tables.as_slice().get(number as usize)
     }
 
-    /// The position of the field of a name, which is in UTF-8, in the parcelable or union of a number. It takes
-    /// no memory.
+    /// The position of the field of a name, which is in UTF-8, in the parcelable or union of a number.
     pub fn field_named(&self, number: u32, name: &str) -> Option<usize>
         ensures { result ≡ field_named (fields_at self.now number) name.now }
     {
-        match self.decl(number) {
-            Some(decl) => decl.field_named(name),
+        match self.table(number) {
+            Some(table) => table.place(name),
             None => None,
         }
     }
 }
 
-// Each declaration with its table.
-fn tables_of<'a>(alloc: Global, decls: &'a [Decl]) -> Result<Vec<DeclFields<'a>>, OutOfMemory>
-    ensures { IfOk result (λ tables. tables.items ≡ decls.now) }
+// A table of the fields of each declaration.
+fn tables_of<'a>(alloc: Global, decls: &'a [Decl]) -> Result<Vec<NameTable<'a, Field>>, OutOfMemory>
+    ensures { IfOk result (λ tables. tables.items ≡ field_lists decls.now) }
 {
     let mut tables = Vec::with_capacity(alloc, decls.len())?;
     for decl in decls {
-        tables.push(DeclFields::new(alloc, decl)?)?;
+        tables.push(NameTable::new(alloc, fields_of(&decl.kind))?)?;
     }
     Ok(tables)
 }

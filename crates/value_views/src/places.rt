@@ -9,7 +9,7 @@ use aidl_base::Text;
 use aidl_schema::{Base, Field, Form, form_in};
 use aidl_values::law_sound;
 
-/// The fields of the parcelable that a base names, and none of another base. It takes no memory.
+/// The fields of the parcelable that a base names, and none of another base.
 pub fn parcelable_fields<'a>(named: &NamedFields<'a>, base: Base) -> &'a [Field]
     ensures { result.now ≡ parcelable_fields (form_of named.now base) }
 {
@@ -33,7 +33,7 @@ pub fn union_fields<'a>(named: &NamedFields<'a>, base: Base) -> &'a [Field]
 }
 
 /// The position of the field of a name in the parcelable that a base names, where it is one of the first
-/// `count`: where a record with so many values has a value of it. It takes no memory.
+/// `count`: where a record with so many values has a value of it.
 pub fn place_sent(named: &NamedFields<'_>, base: Base, name: &Text, count: usize) -> Option<usize>
     ensures place { result ≡ below count
         (place_named name.now (parcelable_fields (form_of named.now base))) }
@@ -58,7 +58,7 @@ fn place_in_parcelable(named: &NamedFields<'_>, base: Base, name: &Text) -> Opti
     place_of(named, base, name)
 }
 
-/// The position of the field of a name in the union that a base names. It takes no memory.
+/// The position of the field of a name in the union that a base names.
 #[tactic(auto, using(crate::proofs::Named::no_union, crate::proofs::Named::in_union, crate::proofs::Named::within))]
 pub fn place_in_union(named: &NamedFields<'_>, base: Base, name: &Text) -> Option<usize>
     ensures place { result ≡ place_named name.now (union_fields (form_of named.now base)) }

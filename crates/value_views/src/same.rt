@@ -9,7 +9,7 @@ use aidl_schema::same_text;
 use aidl_values::{Element, Elements, Fields, Value};
 
 /// Whether two values are the same data: equal truth values, numbers and texts, and parts that are the same one
-/// by one, in whichever form a sequence is kept. It needs no type and takes no memory (own).
+/// by one, in whichever form a sequence is kept. It needs no type (own).
 pub fn same_value(a: &Value, b: &Value) -> bool
     ensures { IsTrue result ↔ (view a.now ≡ view b.now) }
 {

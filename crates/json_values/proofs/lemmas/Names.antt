@@ -1,9 +1,8 @@
 -- In a valid schema a name finds the enumerator that it names.
-use Rattle.std.proofs.Common.{◌≡◌, ℕ, zero, suc, Bool, true, false, List, [], ◌∷◌, Option, Some, None, slice_get, Ok, refl, sym, ap, ◌∙◌, subst, arith}
+use Rattle.std.proofs.Common.{◌≡◌, ℕ, zero, suc, Bool, true, false, List, [], ◌∷◌, Option, Some, None, slice_get, refl, subst, arith}
 use Rattle.std.specs.Prelude.{◌==◌}
 use Rattle.std.proofs.lemmas.Bool.Decides.{nat_tests}
 use Rattle.std.proofs.lemmas.Slice.Eq.{bytes_eq-Decides}
-use Rattle.std.proofs.lemmas.Str.{encodes_same}
 use Rattle.aidl_schema.specs.declared.schema.Decl.{Decl}
 use Rattle.aidl_schema.specs.declared.schema.Enumerator.{Enumerator}
 use Rattle.aidl_schema.specs.declared.schema.Kind.{Kind}
@@ -13,9 +12,7 @@ use Rattle.aidl_schema.specs.declared.schema.Base.TheVariants as base
 use Rattle.aidl_schema.specs.Holds.{AreApart, AllHold}
 use Rattle.aidl_schema.specs.Names.{enumerators_of as those_of}
 use Rattle.aidl_schema.specs.Same.{same_text}
-use Rattle.aidl_values.specs.Data.{number}
-use Rattle.json_writing.specs.Named.{bytes_of, enumerators_of, enumerators_of_decl, enumerators_of_kind}
-use Rattle.json_values.specs.Scalars.{enumerator_from}
+use Rattle.json_writing.specs.Named.{enumerators_of, enumerators_of_decl, enumerators_of_kind}
 
 -- texts
 nat_itself : (n : ℕ) → (n == n) ≡ true
@@ -45,19 +42,6 @@ first_apart key x xs apart k y at e = let same : suc k ≡ zero = apart (suc k) 
 -- enumerators
 abbrev pub name_of_enumerator : Enumerator → List ℕ
 name_of_enumerator e = e.name.0
-
--- a name is that of one enumerator alone
-pub enumerator_at : (k : ℕ) (es : List Enumerator) (e : Enumerator) (s : List ℕ) → slice_get es k ≡ Some e → same_text (bytes_of e.name) s ≡ true → AreApart name_of_enumerator es
-    → enumerator_from es s ≡ Ok (number e.value)
-enumerator_at k [] e s at is apart = cc
-enumerator_at zero (g ∷ es) e s at is apart =
-    let same : g ≡ e = cc in
-    let here : same_text (bytes_of g.name) s ≡ true = ap (λ h. same_text (bytes_of h.name) s) same ∙ is in
-    rw here (ap (λ h. Ok (number h.value)) same)
-enumerator_at (suc k) (g ∷ es) e s at is apart =
-    let other : same_text (bytes_of g.name) s ≡ false =
-    text_apart (bytes_of g.name) s (λ same. first_apart name_of_enumerator g es apart k e at (encodes_same e.name.0 g.name.0 (text_is (bytes_of e.name) s is ∙ sym same))) in
-    rw other (enumerator_at k es e s at is (later_apart name_of_enumerator g es apart))
 
 -- what the base of a type is has names that differ
 module _ (S : List Decl) (hold : AllHold S) where

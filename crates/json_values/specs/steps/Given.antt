@@ -22,11 +22,14 @@ abbrev pub is_found : json.Members → Field → Bool
 is_found ms f = is_some (get_member (bytes_of f.name) ms)
 
 -- a field under its name
-abbrev pub named_from : (Field → Answer Data) → (AidlType → json.Data → Answer Data) → json.Members → Field → Answer Data
-named_from default read ms f = within (escaped (bytes_of f.name)) (field_from default read f (get_member (bytes_of f.name) ms))
+abbrev pub named_from : (Field → Answer Data) → (AidlType → json.Data → Answer Data) → json.Members
+    → Field → Answer Data
+named_from default read ms f =
+    within (escaped (bytes_of f.name)) (field_from default read f (get_member (bytes_of f.name) ms))
 
 -- the value of a field's member, or the refusal of one; None is a field without a member
-abbrev pub GivesMember : (Field → Answer Data) → (AidlType → json.Data → Answer Data) → json.Members → Field → Result (Option Value) (Fault code.Reason) → Type 0
+abbrev pub GivesMember : (Field → Answer Data) → (AidlType → json.Data → Answer Data) → json.Members → Field
+    → Result (Option Value) (Fault code.Reason) → Type 0
 GivesMember default read ms f (Ok (Some v)) = (is_found ms f ≡ true) × (named_from default read ms f ≡ Ok (view v))
 GivesMember default read ms f (Ok None) = get_member (bytes_of f.name) ms ≡ None
 GivesMember default read ms f (Err e) = Fails e (named_from default read ms f)

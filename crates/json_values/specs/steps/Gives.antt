@@ -4,7 +4,8 @@ use Rattle.json_values.specs.declared.fault.Reason as code
 use Rattle.json_values.specs.declared.fault.Reason.TheVariants as code_reason
 use Rattle.json_values.specs.declared.fault.Fault.{Fault}
 use Rattle.json_values.specs.declared.fault.Fault.TheVariants.{Refused, OutOfMemory}
-use Rattle.json_values.specs.Refusal.{Reason, wrong_shape, out_of_range, unknown_key, unknown_enumerator, too_deep, Refusal, Answer}
+use Rattle.json_values.specs.Refusal.{Reason, wrong_shape, out_of_range, unknown_key, unknown_enumerator, too_deep}
+use Rattle.json_values.specs.Refusal.{Refusal, Answer}
 
 -- what the code's reason stands for
 abbrev pub seen_reason : code.Reason → Reason

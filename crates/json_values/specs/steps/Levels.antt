@@ -7,7 +7,6 @@ use Rattle.aidl_schema.specs.declared.schema.AidlType.{AidlType}
 use Rattle.aidl_values.specs.Data as value
 use Rattle.json_values.specs.FromJson.{default_from, from_json_of}
 use Rattle.json_values.specs.Refusal.{Answer, ◌>>=◌, refuse, too_deep, escaped, within}
-use Rattle.json_values.specs.declared.reader.Reader.{Reader}
 
 -- a part of what has d levels
 abbrev pub part_from : List Decl → ℕ → AidlType → json.Data → Answer value.Data
@@ -19,13 +18,12 @@ abbrev pub default_of : List Decl → ℕ → Field → Answer value.Data
 default_of S zero f = refuse too_deep
 default_of S (suc d) f = default_from d S f
 
--- a part of what a reader reads
-abbrev pub part_of : Reader → AidlType → json.Data → Answer value.Data
-part_of r = λ u j. part_from r.schema.now.decls r.levels u j
+-- the same as functions
+abbrev pub part_of : List Decl → ℕ → AidlType → json.Data → Answer value.Data
+part_of S d = λ u j. part_from S d u j
 
--- the default of a field of what a reader reads
-abbrev pub default_in : Reader → Field → Answer value.Data
-default_in r = λ f. default_of r.schema.now.decls r.levels f
+abbrev pub default_in : List Decl → ℕ → Field → Answer value.Data
+default_in S d = λ f. default_of S d f
 
 -- what an object of a union is, by the field that its key names and the field's position
 abbrev pub chosen_from : (AidlType → json.Data → Answer value.Data) → ℕ → Field → List ℕ → json.Data → Answer value.Data

@@ -25,7 +25,8 @@ is_in_base (base.Named d) n = false
 
 -- whatever the declarations and the levels are, the JSON value is read as this
 abbrev pub IsPlain : AidlType → json.Data → value.Data → Type 0
-IsPlain t j v = (S : List Decl) → (left : Bool) → (default : Field → Answer value.Data) → (read : AidlType → json.Data → Answer value.Data) → from_by S left default read t j ≡ Ok v
+IsPlain t j v = (S : List Decl) → (left : Bool) → (default : Field → Answer value.Data)
+    → (read : AidlType → json.Data → Answer value.Data) → from_by S left default read t j ≡ Ok v
 
 -- whatever the declarations are, and however many levels are left, the elements are read as this
 abbrev pub ArePlain : AidlType → json.Items → value.Data → Type 0

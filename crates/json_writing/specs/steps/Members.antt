@@ -1,4 +1,5 @@
--- The members of a record's object in the order of their keys, each with the text of its key and the place of its field.
+-- The members of a record's object in the order of their keys, each with the text of its key and the place of its
+-- field.
 use Rattle.std.specs.Prelude.{◌≡◌, ◌<◌, ℕ, suc, false, List, [], ◌∷◌, ◌++◌, length, string_bytes}
 use Rattle.serde_json.specs.Data.{Data, Members, no_members, put}
 use Rattle.serde_json.specs.Written.{compact_text, members_text}
@@ -18,7 +19,8 @@ members_from part i (f ∷ fs) = put (bytes_of f.name) (part i) (members_from pa
 
 -- The row prints the object's members, whatever the parts are written as.
 abbrev pub PrintsMembers : List Field → List Member → Type 0
-PrintsMembers fs row = (part : ℕ → Data) → row_text (λ i. compact_text (part i)) row ++ 125 ∷ [] ≡ members_text false (members_from part 0 fs)
+PrintsMembers fs row = (part : ℕ → Data)
+    → row_text (λ i. compact_text (part i)) row ++ 125 ∷ [] ≡ members_text false (members_from part 0 fs)
 
 -- each place is one of so many
 abbrev pub AreWithin : ℕ → List Member → Type 0

@@ -1,9 +1,14 @@
--- What the table of a declaration's fields has: the first position of a name, where the list begins at a position.
-use Rattle.std.specs.Prelude.{ℕ, List, Option}
-use Rattle.std.specs.List.{position_from}
-use Rattle.std.specs.Str.{encode_utf8_all}
+-- What the tables of the declarations' fields are over.
+use Rattle.std.specs.Prelude.{List, [], Option, Some, None, map}
+use Rattle.aidl_schema.specs.declared.schema.Decl.{Decl}
 use Rattle.aidl_schema.specs.declared.schema.Field.{Field}
-use Rattle.aidl_schema.specs.Same.{same_text}
+use Rattle.aidl_schema.specs.Containment.{fields_of}
 
-abbrev pub field_from : List ℕ → ℕ → List Field → Option ℕ
-field_from name i fs = position_from (λ f. same_text (encode_utf8_all f.name.0) name) i fs
+-- the fields of each declaration
+abbrev pub field_lists : List Decl → List (List Field)
+field_lists S = map (λ (d : Decl). fields_of d.kind) S
+
+-- the fields that are found, and none where nothing is
+abbrev pub fields_or_none : Option (List Field) → List Field
+fields_or_none None = []
+fields_or_none (Some fs) = fs

@@ -1,12 +1,24 @@
-use Rattle.std.proofs.Common.{◌≡◌, length, Ok, refl, sym, ap, ◌∙◌}
+use Rattle.std.proofs.Common.{◌≡◌, Ok, Some, None, length, refl, sym, ap, subst, ◌∙◌, rules}
 use Rattle.std.proofs.lemmas.Option.{slice_get_read}
-use Rattle.aidl_values.specs.Data.{number}
-use Rattle.json_values.specs.Scalars.{enumerator_from}
-use Rattle.json_values.proofs.lemmas.Names.{enumerator_at}
+use Rattle.aidl_values.specs.Data.{Data}
+use Rattle.json_values.specs.Refusal.{Answer}
+use Rattle.json_values.specs.steps.Gives.{Fails}
+use Rattle.json_values.specs.steps.Tables.{enumerator_place}
+use Rattle.json_values.proofs.Places.{enumerator_lies, enumerator_missing, enumerator_placed}
 use Rattle.json_values.proofs.enumerators.read_enumerator.Goals as goal
 
-pub returns-in-Some : goal.returns-in-Some
-returns-in-Some c =
-    let found : enumerator_from c.args.enumerators.now c.args.name.now ≡ Ok (number c.in-Some.enumerator.now.value) =
-    enumerator_at c.args.place c.args.enumerators.now c.in-Some.enumerator.now c.args.name.now (slice_get_read c.args.enumerators.now (length c.args.enumerators.now) c.args.place c.in-Some.enumerator.now refl c.in-Some.ensures.lookup.3.0 c.in-Some.ensures.lookup.1) (sym c.is_called.ensures ∙ c.if-is_called.true) c.requires in
-    found ∙ ap Ok (sym c.value_of.ensures)
+pub returns-in-Some-clause-gives : goal.returns-in-Some-clause-gives
+returns-in-Some-clause-gives c =
+    let es = c.args.enumerators.now in
+    let s = c.args.name.now in
+    let i = c.in-Some.place in
+    let e = c.index-enumerators-place.result in
+    let placed : Some i ≡ enumerator_place s es = sym c.in-Some.is ∙ c.in_ok-place.ensures.place in
+    enumerator_placed s es i e placed (slice_get_read es (length es) i e refl (enumerator_lies s es i placed) c.index-enumerators-place.is) ∙ ap Ok (sym c.value_of.ensures)
+
+pub returns-in-None-clause-gives : goal.returns-in-None-clause-gives
+returns-in-None-clause-gives c =
+    let es = c.args.enumerators.now in
+    let s = c.args.name.now in
+    let none : None ≡ enumerator_place s es = sym c.in-None.is ∙ c.in_ok-place.ensures.place in
+    subst (λ (a : Answer Data). Fails c.refused.result a) (sym (enumerator_missing s es none)) (search rules)

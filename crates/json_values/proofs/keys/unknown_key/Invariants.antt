@@ -1,10 +1,7 @@
-use Rattle.std.proofs.Common.{◌≡◌}
-use Rattle.serde_json.specs.View.{members_view}
-use Rattle.json_values.specs.FromJson.{unknown_in}
+use Rattle.json_values.proofs.Members.{IsLeft}
 use Rattle.json_values.proofs.keys.unknown_key.Given as goal
 
 -- what is left decides
 abbrev pub invariant-loop-key : goal.invariant-loop-key
 invariant-loop-key l =
-    (goal.iterator-loop-key).can_next l.key-iterator ×
-    (goal.iterator-loop-key).is_finite l.key-iterator × (unknown_in l.fields (members_view l.key-iterator) ≡ unknown_in l.fields (members_view l.members.entries))
+    (goal.iterator-loop-key).can_next l.key-iterator × (goal.iterator-loop-key).is_finite l.key-iterator × IsLeft l.fn.reader l.reader l.fields l.members.entries l.key-iterator
