@@ -1,5 +1,5 @@
--- What `ask` prints of a request to one version of an interface (own). S is the declarations of the version, i the number of an interface, b
--- the bytes of the request.
+-- What `ask` prints of a request to one version of an interface (own). S is the declarations of the version, i the
+-- number of an interface, b the bytes of the request.
 use Rattle.std.specs.Prelude.{ℕ, ℤ, pos, List, [], ◌++◌, Option, Some, None, Result, Ok, Err, codes}
 use Rattle.std.specs.Fmt.{signed_decimal}
 use Rattle.aidl_schema.specs.declared.schema.Decl.{Decl}
@@ -22,14 +22,17 @@ reply_text (Some bytes) = shown bytes
 
 -- `transport STATUS`, `saw SAW` and `reply HEX`
 abbrev pub lines : ℤ → List ℕ → Option (List ℕ) → List ℕ
-lines transport saw reply = codes "transport " ++ signed_decimal transport ++ codes "\nsaw " ++ saw ++ codes "\nreply " ++ reply_text reply ++ codes "\n"
+lines transport saw reply = codes "transport " ++ signed_decimal transport ++ codes "\nsaw " ++ saw
+    ++ codes "\nreply " ++ reply_text reply ++ codes "\n"
 
 -- of what a stub received: the handler sees nothing, or the values of its arguments, and answers `not scripted`
 abbrev pub received_text : List Decl → ℕ → Received → List ℕ
 received_text S i (left m) = lines (pos 0) (codes "null") (sent_reply S i m unread)
-received_text S i (called m saw) = lines (pos 0) (values_text S (types_of (arguments S i m)) saw) (sent_reply S i m not_scripted)
+received_text S i (called m saw) =
+    lines (pos 0) (values_text S (types_of (arguments S i m)) saw) (sent_reply S i m not_scripted)
 
--- of what a service received that answers for the version and the hash too: of a refusal the status alone, of a reply of its own no handler's arguments
+-- of what a service received that answers for the version and the hash too: of a refusal the status alone, of a
+-- reply of its own no handler's arguments
 abbrev pub meta_text : List Decl → ℕ → Result MetaReceived ℤ → List ℕ
 meta_text S i (Err status) = lines status (codes "null") None
 meta_text S i (Ok (own sent)) = lines (pos 0) (codes "null") (Some sent)

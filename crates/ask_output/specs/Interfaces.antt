@@ -1,4 +1,5 @@
--- The interface that `ask` asks (own). S is a schema's declarations, i the number of an interface, m the position of its method.
+-- The interface that `ask` asks (own). S is a schema's declarations, i the number of an interface, m the position
+-- of its method.
 use Rattle.std.specs.Prelude.{ℕ, ◌++◌, List, [], Option, Some, None, Ok, Err, codes}
 use Rattle.std.specs.Str.{encode_utf8_all}
 use Rattle.aidl_schema.specs.declared.schema.Decl.{Decl}

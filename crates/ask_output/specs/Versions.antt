@@ -1,5 +1,6 @@
 -- The version that `ask` asks, and the hash that it keeps (own).
-use Rattle.std.specs.Prelude.{ℕ, ◌==◌, ◌&&◌, nat_le, ◌++◌, if◌then◌else◌, List, [], take, find, Option, Some, None, Ok, Err, codes}
+use Rattle.std.specs.Prelude.{ℕ, ◌==◌, ◌&&◌, nat_le, ◌++◌, if◌then◌else◌, List, [], take, find, Option, Some, None}
+use Rattle.std.specs.Prelude.{Ok, Err, codes}
 use Rattle.std.specs.Fmt.{decimal}
 use Rattle.api_versions.specs.declared.version.Version.{Version}
 use Rattle.api_versions.specs.Whole.{defined, is_whole}

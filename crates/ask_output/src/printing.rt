@@ -9,7 +9,7 @@ use aidl_base::{OutOfMemory, Row};
 use aidl_schema::{Schema, method_of_code};
 use aidl_values::Value;
 use call_runner::Methods;
-use run_output::push_saw;
+use run_output::{SidePrinter, push_saw};
 use std::alloc::Global;
 use std::fmt::Write;
 use stub_dispatch::Answered;
@@ -61,7 +61,8 @@ fn push_seen(
                 server: interface,
                 called,
             };
-            push_saw(alloc, schema, methods, saw, text)
+            let mut printer = SidePrinter::new(alloc, schema);
+            push_saw(alloc, &mut printer, methods, saw, text)
         }
         None => push_null(text),
     }

@@ -1,5 +1,6 @@
--- What comes of a call that a line of a calls file means: what is carried of it, and what is made of that (own). p is the profile of reading, A
--- is CLIENT's declarations and B SERVER's, c the call, b the bytes of the request and r those of the reply as they were delivered.
+-- What comes of a call that a line of a calls file means: what is carried of it, and what is made of that (own). p
+-- is the profile of reading, A is CLIENT's declarations and B SERVER's, c the call, b the bytes of the request and
+-- r those of the reply as they were delivered.
 use Rattle.std.specs.Prelude.{ℕ, ◌==◌, ℤ, if◌then◌else◌, List, [], ◌∷◌, Option, Some, None, Result, Ok, Err}
 use Rattle.aidl_base.specs.declared.profile.Profile.{Profile}
 use Rattle.aidl_outside.specs.declared.link.Carried.{Carried}
@@ -56,8 +57,8 @@ request_entry A c b = entry Request (call_code A c) (request A c.interface c.met
 abbrev pub entries : Profile → List Decl → List Decl → CallData → List ℕ → List ℕ → List Carried
 entries p A B c b r = request_entry A c b ∷ reply_entries (call_code A c) (reply_sent p A B c b) r
 
--- What a line comes to: it is refused; the transport status of a request that the server refuses; what the handler saw of a oneway call,
--- if it was called; or that and what the client makes of the reply, the answer or a status.
+-- What a line comes to: it is refused; the transport status of a request that the server refuses; what the handler
+-- saw of a oneway call, if it was called; or that and what the client makes of the reply, the answer or a status.
 pub data LineData : Type 0 where
   refused : (why : Refusal) → LineData
   transport : (status : ℤ) → LineData

@@ -1,6 +1,7 @@
--- What `run_line` answers: by the script of its line and what the link delivered (own). p is the profile of reading, A is CLIENT's
--- declarations and B SERVER's.
-use Rattle.std.specs.Prelude.{◌≡◌, ℕ, ◌<◌, ℤ, Bool, true, List, [], ◌∷◌, ◌++◌, length, All, Option, Some, None, option_map, Result, Ok, Err}
+-- What `run_line` answers: by the script of its line and what the link delivered (own). p is the profile of
+-- reading, A is CLIENT's declarations and B SERVER's.
+use Rattle.std.specs.Prelude.{◌≡◌, ℕ, ◌<◌, ℤ, Bool, true, List, [], ◌∷◌, ◌++◌, length, All, Option, Some, None}
+use Rattle.std.specs.Prelude.{option_map, Result, Ok, Err}
 use Rattle.aidl_base.specs.declared.profile.Profile.{Profile}
 use Rattle.aidl_outside.specs.declared.link.Carried.{Carried}
 use Rattle.aidl_outside.specs.Causes.{Rose}
@@ -39,13 +40,17 @@ line_data (out.Done saw got) = done (option_map views saw) (got_of got)
 abbrev pub methods_by : CallData → Option ℕ → Result Received ℤ → Option Methods
 methods_by c None r = None
 methods_by c (Some j) (Err status) = None
-methods_by c (Some j) (Ok (left n)) = Some (record { interface = c.interface; method = c.method; server = j; called = n })
-methods_by c (Some j) (Ok (called n saw)) = Some (record { interface = c.interface; method = c.method; server = j; called = n })
+methods_by c (Some j) (Ok (left n)) =
+    Some (record { interface = c.interface; method = c.method; server = j; called = n })
+methods_by c (Some j) (Ok (called n saw)) =
+    Some (record { interface = c.interface; method = c.method; server = j; called = n })
 
--- A line that is refused carries nothing. Of any other one the entries are what is carried, and it comes to what is reported.
+-- A line that is refused carries nothing. Of any other one the entries are what is carried, and it comes to what is
+-- reported.
 abbrev pub LineRuns : Profile → List Decl → List Decl → Judged CallData → LineRun → Type 0
 LineRuns p A B (Err why) run = (run.carried ≡ []) × (line_data run.out ≡ refused why) × (run.methods ≡ None)
-LineRuns p A B (Ok c) run = (b r : List ℕ) × (run.carried ≡ entries p A B c b r) × (line_data run.out ≡ line_of p A B c b r)
+LineRuns p A B (Ok c) run = (b r : List ℕ) × (run.carried ≡ entries p A B c b r)
+    × (line_data run.out ≡ line_of p A B c b r)
     × (run.methods ≡ methods_by c c.server (received p A B c b))
 
 -- each parcel was delivered as it was sent
@@ -57,10 +62,13 @@ abbrev pub IsFirst : List Carried → Parcel → Type 0
 IsFirst [] parcel = ⊥
 IsFirst (entry ∷ entries) parcel = parcel ≡ parcel_of entry
 
--- What the log gained where no answer came: the carries that succeeded. After a fault of the link it is the next parcel that failed.
-abbrev pub Stops : Profile → List Decl → List Decl → Judged CallData → Bool → Option (List Carried) → Option (List Carried) → LinkFaults → RunFault → Type 0
+-- What the log gained where no answer came: the carries that succeeded. After a fault of the link it is the next
+-- parcel that failed.
+abbrev pub Stops : Profile → List Decl → List Decl → Judged CallData → Bool → Option (List Carried)
+    → Option (List Carried) → LinkFaults → RunFault → Type 0
 Stops p A B (Err why) faithful before now faults fault = Adds before now [] × (fault ≡ OutOfMemory)
-Stops p A B (Ok c) faithful before now faults fault = (b r : List ℕ) × (made rest : List Carried) × (entries p A B c b r ≡ made ++ rest)
+Stops p A B (Ok c) faithful before now faults fault = (b r : List ℕ) × (made rest : List Carried)
+    × (entries p A B c b r ≡ made ++ rest)
     × Adds before now made × (faithful ≡ true → AreFaithful made) × (fault ≡ LinkFault → FailedIn faults (IsFirst rest))
 
 -- the count of the link's faults rises with a fault of it, and with nothing else
@@ -83,8 +91,10 @@ IsGotBy A m (Ok answer) = (m.method < length (methods_at A m.interface)) × IsGo
 abbrev pub IsTyped : List Decl → List Decl → Option Methods → LineOut → Type 0
 IsTyped A B methods (out.Refused why) = Unit {0}
 IsTyped A B methods (out.Transport status) = Unit {0}
-IsTyped A B methods (out.OnewayDone saw) = (m : Methods) × (methods ≡ Some m) × (m.called < length (methods_at B m.server)) × AreSeen B m saw
-IsTyped A B methods (out.Done saw got) = (m : Methods) × (methods ≡ Some m) × (m.called < length (methods_at B m.server)) × AreSeen B m saw × IsGotBy A m (got_of got)
+IsTyped A B methods (out.OnewayDone saw) = (m : Methods) × (methods ≡ Some m)
+    × (m.called < length (methods_at B m.server)) × AreSeen B m saw
+IsTyped A B methods (out.Done saw got) = (m : Methods) × (methods ≡ Some m)
+    × (m.called < length (methods_at B m.server)) × AreSeen B m saw × IsGotBy A m (got_of got)
 
 -- what SERVER's method answers; where it has none, nothing is made of it
 abbrev pub answer_by : Option TargetData → AnswerData
@@ -97,8 +107,8 @@ seen_line (Err status) = transport status
 seen_line (Ok (calls.oneway saw)) = oneway (Some saw)
 seen_line (Ok (calls.done saw got)) = done (Some saw) got
 
--- *A line prints its outcome*: what a line comes to between two schemas of which one is a legal evolution of the other, over a link that
--- delivers what was sent: its refusal, or the *Outcome* of its call
+-- *A line prints its outcome*: what a line comes to between two schemas of which one is a legal evolution of the
+-- other, over a link that delivers what was sent: its refusal, or the *Outcome* of its call
 abbrev pub projected : List Decl → List Decl → Judged CallData → LineData
 projected A B (Err why) = refused why
 projected A B (Ok c) = seen_line (outcome A c.interface c.method B c.args (answer_by c.target))
@@ -116,7 +126,8 @@ IsReplied (Some sent) delivered = delivered ≡ sent
 -- where a line has values, its methods are those of the call's names
 abbrev pub NamesOf : CallData → Option Methods → Type 0
 NamesOf c None = Unit {0}
-NamesOf c (Some m) = (m.interface ≡ c.interface) × (m.method ≡ c.method) × (c.server ≡ Some m.server) × (option_map (λ t. t.method) c.target ≡ Some m.called)
+NamesOf c (Some m) = (m.interface ≡ c.interface) × (m.method ≡ c.method) × (c.server ≡ Some m.server)
+    × (option_map (λ t. t.method) c.target ≡ Some m.called)
 
 abbrev pub AreNamed : Judged CallData → Option Methods → Type 0
 AreNamed (Err why) methods = Unit {0}

@@ -1,5 +1,6 @@
 -- What SERVER's handler answers by a line of a calls file (own). S is SERVER's declarations.
-use Rattle.std.specs.Prelude.{ℕ, suc, ◌==◌, ⊤, ℤ, pos, negsuc, Bool, not, ◌&&◌, ◌||◌, if◌then◌else◌, List, [], ◌∷◌, ◌++◌, length, map, Option, Some, None, is_some, option_and_then, Ok, codes}
+use Rattle.std.specs.Prelude.{ℕ, suc, ◌==◌, ⊤, ℤ, pos, negsuc, Bool, not, ◌&&◌, ◌||◌, if◌then◌else◌, List, [], ◌∷◌}
+use Rattle.std.specs.Prelude.{◌++◌, length, map, Option, Some, None, is_some, option_and_then, Ok, codes}
 use Rattle.std.specs.List.{list_any}
 use Rattle.std.specs.Ordering.{int_eq}
 use Rattle.std.specs.Str.{chars}
@@ -20,7 +21,8 @@ use Rattle.json_values.specs.Refusal.{escaped}
 use Rattle.wire_model.specs.Calls.{AnswerData, returned, exception, is_oneway, out_types, result_type}
 use Rattle.wire_model.specs.Requests.{service_specific}
 use Rattle.call_scripts.specs.declared.refused.RefusedName.TheVariants.{WrongShape, OutOfRange, UnknownKey}
-use Rattle.call_scripts.specs.Refusal.{Judged, ◌>>=◌, refuse, unless, placed, at_answer, at_exception, at_return, at_out, at_value}
+use Rattle.call_scripts.specs.Refusal.{Judged, ◌>>=◌, refuse, unless, placed, at_answer, at_exception, at_return}
+use Rattle.call_scripts.specs.Refusal.{at_out, at_value}
 
 -- the least key that is none of these: an object has its keys in byte order
 abbrev pub unknown_in : List (List ℕ) → json.Members → Option (List ℕ)
@@ -46,9 +48,11 @@ whole _ = None
 -- an array of a whole number and a string, followed by a second whole number exactly where the first is -8
 abbrev pub thrown_of : json.Data → Option Thrown
 thrown_of (json.array (json.item code (json.item (json.string message) json.no_items))) =
-    option_and_then (λ c. if int_eq c service_specific then None else Some (record { code = c; message = chars message; error = pos 0 })) (whole code)
+    option_and_then (λ c. if int_eq c service_specific then None
+    else Some (record { code = c; message = chars message; error = pos 0 })) (whole code)
 thrown_of (json.array (json.item code (json.item (json.string message) (json.item error json.no_items)))) =
-    option_and_then (λ c. option_and_then (λ e. if int_eq c service_specific then Some (record { code = c; message = chars message; error = e }) else None) (whole error)) (whole code)
+    option_and_then (λ c. option_and_then (λ e. if int_eq c service_specific
+    then Some (record { code = c; message = chars message; error = e }) else None) (whole error)) (whole code)
 thrown_of _ = None
 
 -- a code from -8 to -1, and an error number in the range of int
@@ -56,7 +60,8 @@ abbrev pub are_in_range : ℤ → ℤ → Bool
 are_in_range code error = is_between (negsuc 7) (negsuc 0) code && is_in Int error
 
 abbrev pub in_ranges : Thrown → Judged AnswerData
-in_ranges x = if are_in_range x.code x.error then Ok (exception x.code x.message x.error) else refuse OutOfRange at_exception
+in_ranges x = if are_in_range x.code x.error then Ok (exception x.code x.message x.error)
+    else refuse OutOfRange at_exception
 
 abbrev pub exception_from : Option Thrown → Judged AnswerData
 exception_from None = refuse WrongShape at_exception
@@ -87,18 +92,21 @@ default_outs S ts = items_of (map (λ t. zero_within 33 S t) ts)
 -- an array of as many values as there are outs, or their defaults
 abbrev pub outs_from : List Decl → List AidlType → Option json.Data → Judged Items
 outs_from S ts None = Ok (default_outs S ts)
-outs_from S ts (Some (json.array js)) = if items_len js == length ts then values_from S 0 ts js else refuse WrongShape at_out
+outs_from S ts (Some (json.array js)) = if items_len js == length ts then values_from S 0 ts js
+    else refuse WrongShape at_out
 outs_from S ts (Some _) = refuse WrongShape at_out
 
 -- a result and outs, of a method that has this result and these types of outs
-abbrev pub returned_from : List Decl → Option AidlType → List AidlType → Option json.Data → Option json.Data → Judged AnswerData
+abbrev pub returned_from : List Decl → Option AidlType → List AidlType → Option json.Data
+    → Option json.Data → Judged AnswerData
 returned_from S t ts result outs = do
   r ← result_from S t result
   vs ← outs_from S ts outs
   Ok (returned r vs)
 
 -- an exception, or a result and outs
-abbrev pub thrown_or_returned : List Decl → Option AidlType → List AidlType → Option json.Data → json.Members → Judged AnswerData
+abbrev pub thrown_or_returned : List Decl → Option AidlType → List AidlType → Option json.Data
+    → json.Members → Judged AnswerData
 thrown_or_returned S t ts (Some x) ms = exception_from (thrown_of x)
 thrown_or_returned S t ts None ms = returned_from S t ts (get_member (codes "return") ms) (get_member (codes "out") ms)
 

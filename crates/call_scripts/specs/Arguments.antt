@@ -1,5 +1,7 @@
--- The arguments of a line of a calls file: the entries of `args`, one for each argument, in order (own). S is CLIENT's declarations.
-use Rattle.std.specs.Prelude.{ℕ, suc, ◌+◌, ◌==◌, nat_le, ℤ, pos, negsuc, Bool, if◌then◌else◌, List, [], ◌∷◌, length, Option, Some, None, Ok}
+-- The arguments of a line of a calls file: the entries of `args`, one for each argument, in order (own). S is
+-- CLIENT's declarations.
+use Rattle.std.specs.Prelude.{ℕ, suc, ◌+◌, ◌==◌, nat_le, ℤ, pos, negsuc, Bool, if◌then◌else◌, List, [], ◌∷◌, length}
+use Rattle.std.specs.Prelude.{Option, Some, None, Ok}
 use Rattle.serde_json.specs.Data as json
 use Rattle.serde_json.specs.Events.{items_len}
 use Rattle.serde_json.specs.Find.{as_integer}
@@ -33,7 +35,8 @@ null_from at _ = refuse WrongShape at
 abbrev pub out_from : Arg → ℕ → List ℕ → json.Data → Judged Data
 out_from a sum at j = if is_array a.ty.shape then array_from a.ty.nullable sum at j else null_from at j
 
--- the entry of an argument: of an `out` one a length or null, as above, and of an `in` or `inout` one a value of its type
+-- the entry of an argument: of an `out` one a length or null, as above, and of an `in` or `inout` one a value of
+-- its type
 abbrev pub entry_from : List Decl → ℕ → List ℕ → Arg → json.Data → Judged Data
 entry_from S sum at a j = if is_out a.way then out_from a sum at j else placed at (from_json_of S 64 a.ty j)
 

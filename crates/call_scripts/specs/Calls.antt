@@ -32,7 +32,13 @@ abbrev pub target_of : Target → TargetData
 target_of t = record { method = t.method; answer = answer_of t.answer }
 
 abbrev pub call_of : Call → CallData
-call_of c = record { interface = c.interface; method = c.method; args = views c.args; server = c.server; target = option_map target_of c.target }
+call_of c = record {
+  interface = c.interface;
+  method = c.method;
+  args = views c.args;
+  server = c.server;
+  target = option_map target_of c.target;
+}
 
 abbrev pub refusal_of : Refused → Refusal
 refusal_of r = record { name = r.name; at = encode_utf8_all r.at }

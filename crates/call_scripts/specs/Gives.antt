@@ -6,7 +6,8 @@ use Rattle.json_values.specs.declared.fault.Fault.TheVariants.{Refused, OutOfMem
 use Rattle.call_scripts.specs.declared.refused.Place.{Place}
 use Rattle.call_scripts.specs.declared.refused.Place.TheVariants as place
 use Rattle.call_scripts.specs.declared.refused.RefusedName.{RefusedName}
-use Rattle.call_scripts.specs.Refusal.{Judged, name_of_reason, at_call, at_args, at_answer, at_exception, at_return, at_out, at_entry, at_value}
+use Rattle.call_scripts.specs.Refusal.{Judged, name_of_reason, at_call, at_args, at_answer, at_exception, at_return}
+use Rattle.call_scripts.specs.Refusal.{at_out, at_entry, at_value}
 
 -- unless memory ran out, this is the refusal
 abbrev pub Fails : {Y : Type 0} → Fault RefusedName → Judged Y → Type 0

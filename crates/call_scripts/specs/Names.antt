@@ -1,5 +1,6 @@
 -- Which method a text means, and which methods two schemas have under it (own). A text is in UTF-8.
-use Rattle.std.specs.Prelude.{ℕ, Bool, true, false, if◌then◌else◌, List, Option, Some, None, option_map, option_and_then, slice_get}
+use Rattle.std.specs.Prelude.{ℕ, Bool, true, false, if◌then◌else◌, List, Option, Some, None, option_map}
+use Rattle.std.specs.Prelude.{option_and_then, slice_get}
 use Rattle.std.specs.List.{position}
 use Rattle.aidl_schema.specs.declared.schema.Decl.{Decl}
 use Rattle.aidl_schema.specs.declared.schema.Kind.{Kind}
@@ -32,7 +33,12 @@ target_named B server name = option_and_then (λ j. method_named B j name) serve
 -- what the name of an interface and the name of a method mean to CLIENT's schema A and SERVER's B
 abbrev pub named_by : List Decl → List Decl → List ℕ → List ℕ → Option Named
 named_by A B before behind_it = option_and_then (λ i. option_map
-    (λ m. record { interface = i; method = m; server = interface_named B before; target = target_named B (interface_named B before) behind_it })
+    (λ m. record {
+      interface = i;
+      method = m;
+      server = interface_named B before;
+      target = target_named B (interface_named B before) behind_it;
+    })
     (method_named A i behind_it)) (interface_named A before)
 
 -- the canonical name of an interface, a dot and the name of a method

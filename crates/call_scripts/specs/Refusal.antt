@@ -1,7 +1,10 @@
--- Refusals of a line of a calls file, each with its place (own). A place is a JSON pointer (RFC 6901) from the whole line, in UTF-8.
+-- Refusals of a line of a calls file, each with its place (own). A place is a JSON pointer (RFC 6901) from the
+-- whole line, in UTF-8.
 use Rattle.std.specs.Prelude.{ℕ, ⊤, Bool, true, false, List, ◌++◌, Result, Ok, Err, codes, decimal}
 use Rattle.call_scripts.specs.declared.refused.RefusedName.{RefusedName}
-use Rattle.call_scripts.specs.declared.refused.RefusedName.TheVariants.{NotJson, WrongShape, UnknownKey, UnknownMethod, OutOfRange, UnknownEnumerator, TooDeep, TooLarge}
+use Rattle.call_scripts.specs.declared.refused.RefusedName.TheVariants.{NotJson, WrongShape, UnknownKey}
+use Rattle.call_scripts.specs.declared.refused.RefusedName.TheVariants.{UnknownMethod, OutOfRange}
+use Rattle.call_scripts.specs.declared.refused.RefusedName.TheVariants.{UnknownEnumerator, TooDeep, TooLarge}
 use Rattle.json_values.specs.Refusal as json
 pub use Rattle.aidl_base.specs.Results.{◌>>=◌}
 

@@ -1,4 +1,5 @@
--- *Script*: what a line of a calls file means between CLIENT's declarations A and SERVER's B, or its first refusal (own).
+-- *Script*: what a line of a calls file means between CLIENT's declarations A and SERVER's B, or its first refusal
+-- (own).
 use Rattle.std.specs.Prelude.{◌≡◌, ℕ, nat_le, List, [], ◌∷◌, length, Option, Some, None, Ok, codes}
 use Rattle.serde_json.specs.Data as json
 use Rattle.serde_json.specs.Find.{get_member}

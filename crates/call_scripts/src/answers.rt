@@ -164,7 +164,7 @@ fn outs_from(
 fn out_types(alloc: Global, args: &[Arg]) -> Result<Vec<AidlType>, OutOfMemory>
     ensures { IfOk result (λ types. types.items ≡ outs_of args.now) }
 {
-    let mut types = Vec::with_capacity(alloc, args.len())?;
+    let mut types = Vec::new(alloc);
     for arg in args {
         if comes_back(arg.way) {
             types.push(arg.ty)?;

@@ -1,5 +1,6 @@
--- What `make` does over its two trees, once they are checked: the judge from the older to the newer one, and then the calls from the newer one
--- to the older one, which are counted (own). A is the older tree's declarations and B the newer one's.
+-- What `make` does over its two trees, once they are checked: the judge from the older to the newer one, and then
+-- the calls from the newer one to the older one, which are counted (own). A is the older tree's declarations and B
+-- the newer one's.
 use Rattle.std.specs.Prelude.{ℕ, List, [], ◌∷◌, ◌++◌, length, codes}
 use Rattle.std.specs.Fmt.{decimal}
 use Rattle.aidl_base.specs.declared.profile.Profile.TheVariants.{Strict}
@@ -25,7 +26,8 @@ broken_line count = line (codes "broken " ++ decimal count)
 -- `lines L done D transport T refused R`
 abbrev pub counts_line : ℕ → ℕ → ℕ → ℕ → List ℕ
 counts_line lines done transport refused =
-    line (codes "lines " ++ decimal lines ++ codes " done " ++ decimal done ++ codes " transport " ++ decimal transport ++ codes " refused " ++ decimal refused)
+    line (codes "lines " ++ decimal lines ++ codes " done " ++ decimal done ++ codes " transport "
+    ++ decimal transport ++ codes " refused " ++ decimal refused)
 
 abbrev pub lines_line : Counts → List ℕ
 lines_line c = counts_line c.lines c.done c.transport c.refused
@@ -36,13 +38,19 @@ sent_line c = line (codes "sent " ++ decimal c.sent)
 
 -- the four lines
 abbrev pub made : List Decl → List Decl → Counts → Answer
-made A B c = record { text = types_line (length A) (length B) ++ broken_line (length (broken A B)) ++ lines_line c ++ sent_line c; verdict = Done }
+made A B c = record {
+  text = types_line (length A) (length B) ++ broken_line (length (broken A B)) ++ lines_line c
+      ++ sent_line c;
+  verdict = Done;
+}
 
--- Lines of calls in order between CLIENT and SERVER, each counted at its end and nothing printed; after the last what comes of the counts.
+-- Lines of calls in order between CLIENT and SERVER, each counted at its end and nothing printed; after the last
+-- what comes of the counts.
 abbrev pub counted_course : List Decl → List Decl → (Counts → Course) → Counts → List (List ℕ) → Course
 counted_course client server last c [] = last c
 counted_course client server last c (call ∷ calls) =
-    line_course Strict client server (λ carried methods out. counted_course client server last (counted c carried out) calls) (script client server call)
+    line_course Strict client server (λ carried methods out. counted_course client server last
+    (counted c carried out) calls) (script client server call)
 
 -- the judge's lines are printed at once, and else the calls are run
 abbrev pub by_breaks : List Break → Course → Course

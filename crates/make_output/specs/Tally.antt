@@ -4,8 +4,8 @@ use Rattle.std.specs.List.{sum_by}
 use Rattle.aidl_outside.specs.declared.link.Carried.{Carried}
 use Rattle.call_runner.specs.Lines.{LineData, refused, transport, oneway, done}
 
--- The lines; those whose call came to its end, oneway or not; those whose request the server refused; those that are no call; and the bytes
--- that were sent in requests and replies.
+-- The lines; those whose call came to its end, oneway or not; those whose request the server refused; those that
+-- are no call; and the bytes that were sent in requests and replies.
 pub record Counts : Type 0 where
   pub lines : ℕ
   pub done : ℕ

@@ -8,7 +8,8 @@ use Rattle.aidl_schema.specs.declared.schema.AidlType.{AidlType}
 use Rattle.aidl_values.specs.Data.{Data}
 use Rattle.json_values.specs.JsonText.{parsed_json}
 use Rattle.json_values.specs.Refusal as refusal
-use Rattle.json_values.specs.Refusal.{Reason, Refusal, wrong_shape, out_of_range, unknown_key, unknown_enumerator, too_deep}
+use Rattle.json_values.specs.Refusal.{Reason, Refusal, wrong_shape, out_of_range, unknown_key, unknown_enumerator}
+use Rattle.json_values.specs.Refusal.{too_deep}
 use Rattle.wire_model.specs.Spell.{spell}
 use Rattle.tool_frame.specs.Answer.{Answer, Found, ◌>>=◌, done, negative}
 use Rattle.parcel_output.specs.JsonFile.{values_of}

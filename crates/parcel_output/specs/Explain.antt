@@ -44,7 +44,8 @@ bytes_at parcel i = take i.length (drop i.offset parcel)
 
 -- `OFFSET HEX PATH KIND`
 abbrev pub item_line : List ℕ → Item → List ℕ
-item_line parcel i = line (decimal i.offset ++ codes " " ++ shown (bytes_at parcel i) ++ codes " " ++ path_text i.path ++ codes " " ++ kind_text i.kind)
+item_line parcel i = line (decimal i.offset ++ codes " " ++ shown (bytes_at parcel i) ++ codes " "
+    ++ path_text i.path ++ codes " " ++ kind_text i.kind)
 
 -- an item of a value
 abbrev pub is_right : Item → Bool

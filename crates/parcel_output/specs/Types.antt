@@ -1,5 +1,6 @@
 -- The types that entries of TYPES name (own).
-use Rattle.std.specs.Prelude.{ℕ, false, if◌then◌else◌, List, [], ◌∷◌, Option, Some, None, Result, Ok, Err, codes, bytes_eq}
+use Rattle.std.specs.Prelude.{ℕ, false, if◌then◌else◌, List, [], ◌∷◌, Option, Some, None, Result, Ok, Err, codes}
+use Rattle.std.specs.Prelude.{bytes_eq}
 use Rattle.std.specs.Option.{option_map}
 use Rattle.std.specs.Str.{is_utf8}
 use Rattle.aidl_schema.specs.declared.schema.AidlType.{AidlType}
@@ -41,7 +42,8 @@ known_type S ty = if is_type S ty then Some ty else None
 
 abbrev pub entry_type : List Decl → Entry → Option Base → Option AidlType
 entry_type S entry None = None
-entry_type S entry (Some b) = known_type S (record { base = b; shape = shape_of entry.form; nullable = entry.nullable; heap = false; utf8 = false })
+entry_type S entry (Some b) = known_type S
+    (record { base = b; shape = shape_of entry.form; nullable = entry.nullable; heap = false; utf8 = false })
 
 -- the type that an entry names
 abbrev pub type_of : List Decl → List ℕ → Option AidlType

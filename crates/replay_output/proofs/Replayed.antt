@@ -1,5 +1,5 @@
 -- What a service answers again, and the methods by whose types it is printed.
-use Rattle.std.proofs.Common.{◌≡◌, ℕ, ◌+◌, ◌==◌, ◌<◌, ℤ, pos, Bool, true, false, cond, List, length, Option, Some, None, option_map, Result, Ok, Err, refl, sym, ap, ◌∙◌, subst}
+use Rattle.std.proofs.Common.{◌≡◌, ℕ, ◌+◌, ◌==◌, ◌<◌, ℤ, pos, Bool, true, false, cond, List, length, Option, Some, None, Result, Ok, Err, refl, sym, ap, ◌∙◌, subst}
 use Rattle.std.specs.Prelude.{◌≢◌}
 use Rattle.std.specs.Option.{unwrap_or}
 use Rattle.std.specs.Ordering.{int_eq}
@@ -23,7 +23,7 @@ use Rattle.wire_model.specs.Calls.{arguments}
 use Rattle.wire_model.specs.Receiver.{Received, left, called, stub}
 use Rattle.wire_model.specs.Typed.{AreArguments, types_of}
 use Rattle.run_output.specs.LineText.{saw_text, values_text}
-use Rattle.replay_output.specs.Replaying.{received_line, replayed_line, transport_line, called_line}
+use Rattle.replay_output.specs.Replaying.{received_line, replayed_line, called_line}
 use Rattle.replay_output.specs.steps.Answered.{answered_line, AreOfCode, IsSeenBy}
 
 -- a method that a code finds is there

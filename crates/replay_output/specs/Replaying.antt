@@ -1,4 +1,5 @@
--- What `replay` prints (own). S is the declarations of SERVER's tree, i the number of its interface, k the number of a line, from 1 on.
+-- What `replay` prints (own). S is the declarations of SERVER's tree, i the number of its interface, k the number
+-- of a line, from 1 on.
 use Rattle.std.specs.Prelude.{ℕ, ◌+◌, ℤ, List, [], ◌∷◌, ◌++◌, Option, Some, None, Result, Ok, Err, codes}
 use Rattle.std.specs.Fmt.{decimal, signed_decimal}
 use Rattle.aidl_base.specs.declared.profile.Profile.TheVariants.{Strict}
@@ -19,7 +20,8 @@ refused_line k name = line (codes "{\"line\":" ++ decimal k ++ codes ",\"refused
 
 -- a request that the stub refuses with a status
 abbrev pub transport_line : ℕ → ℤ → List ℕ
-transport_line k status = line (codes "{\"line\":" ++ decimal k ++ codes ",\"transport\":" ++ signed_decimal status ++ codes "}")
+transport_line k status =
+    line (codes "{\"line\":" ++ decimal k ++ codes ",\"transport\":" ++ signed_decimal status ++ codes "}")
 
 -- any other one, with what the handler saw
 abbrev pub called_line : ℕ → List ℕ → List ℕ
@@ -50,4 +52,5 @@ interface_found name (Some i) = Ok i
 
 -- `replay` over a checked tree and the text of a trace
 abbrev pub replay_answer : List Decl → List ℕ → List ℕ → Answer
-replay_answer S name trace = interface_found name (interface_named S name) >>= λ i. record { text = replayed_text S i 1 (lines_of trace); verdict = Done }
+replay_answer S name trace = interface_found name (interface_named S name) >>=
+    λ i. record { text = replayed_text S i 1 (lines_of trace); verdict = Done }

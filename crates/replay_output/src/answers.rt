@@ -6,10 +6,9 @@ ghost use Rattle.replay_output.specs.steps.Answered.{answered_line, AreThere, Is
 ghost use Rattle.run_output.specs.LineText.{saw_text};
 
 use aidl_base::{OutOfMemory, Row};
-use aidl_schema::Schema;
 use aidl_values::Value;
 use call_runner::Methods;
-use run_output::push_saw;
+use run_output::{SidePrinter, push_saw};
 use std::alloc::Global;
 use std::fmt::Write;
 use stub_dispatch::Answered;
@@ -29,19 +28,20 @@ pub fn push_refused(number: usize, name: &str, out: &mut String) -> Result<(), O
 /// of the methods.
 pub fn push_answered(
     alloc: Global,
-    schema: &Schema,
+    printer: &mut SidePrinter<'_>,
     methods: Option<Methods>,
     number: usize,
     answered: &Answered,
     out: &mut String,
 ) -> Result<(), OutOfMemory>
-    requires there { AreThere schema.now.decls methods }
-    requires typed { IsSeenBy schema.now.decls methods answered.now.saw }
-    ensures { OnOk result (string_bytes out.new
-        ≡ string_bytes out.old ++ answered_line schema.now.decls methods number answered.now) }
+    requires there { AreThere printer.old methods }
+    requires typed { IsSeenBy printer.old methods answered.now.saw }
+    ensures same { printer.new ≡ printer.old }
+    ensures text { OnOk result (string_bytes out.new
+        ≡ string_bytes out.old ++ answered_line printer.old methods number answered.now) }
 {
     if answered.transport == 0 {
-        push_called(alloc, schema, methods, number, &answered.saw, out)
+        push_called(alloc, printer, methods, number, &answered.saw, out)
     } else {
         push_transport(number, answered.transport, out)
     }
@@ -59,21 +59,22 @@ fn push_transport(number: usize, status: i32, out: &mut String) -> Result<(), Ou
 
 fn push_called(
     alloc: Global,
-    schema: &Schema,
+    printer: &mut SidePrinter<'_>,
     methods: Option<Methods>,
     number: usize,
     saw: &Option<Row<Value>>,
     out: &mut String,
 ) -> Result<(), OutOfMemory>
-    requires there { AreThere schema.now.decls methods }
-    requires typed { IsSeenBy schema.now.decls methods saw.now }
-    ensures { OnOk result (string_bytes out.new
+    requires there { AreThere printer.old methods }
+    requires typed { IsSeenBy printer.old methods saw.now }
+    ensures same { printer.new ≡ printer.old }
+    ensures text { OnOk result (string_bytes out.new
         ≡ string_bytes out.old ++ called_line number
-        (saw_text schema.now.decls methods (option_map views saw.now))) }
+        (saw_text printer.old methods (option_map views saw.now))) }
 {
     out.push_str("{\"line\":")?;
     write!(out, "{number},\"saw\":")?;
-    push_seen(alloc, schema, methods, saw, out)?;
+    push_seen(alloc, printer, methods, saw, out)?;
     out.push_str(",\"transport\":0}\n")?;
     Ok(())
 }
@@ -81,18 +82,19 @@ fn push_called(
 // Adds what the handler saw, null where it wasn't called.
 fn push_seen(
     alloc: Global,
-    schema: &Schema,
+    printer: &mut SidePrinter<'_>,
     methods: Option<Methods>,
     saw: &Option<Row<Value>>,
     out: &mut String,
 ) -> Result<(), OutOfMemory>
-    requires there { AreThere schema.now.decls methods }
-    requires typed { IsSeenBy schema.now.decls methods saw.now }
-    ensures { OnOk result (string_bytes out.new
-        ≡ string_bytes out.old ++ saw_text schema.now.decls methods (option_map views saw.now)) }
+    requires there { AreThere printer.old methods }
+    requires typed { IsSeenBy printer.old methods saw.now }
+    ensures same { printer.new ≡ printer.old }
+    ensures text { OnOk result (string_bytes out.new
+        ≡ string_bytes out.old ++ saw_text printer.old methods (option_map views saw.now)) }
 {
     match methods {
-        Some(methods) => push_saw(alloc, schema, methods, saw, out),
+        Some(methods) => push_saw(alloc, printer, methods, saw, out),
         None => push_unseen(saw, out),
     }
 }

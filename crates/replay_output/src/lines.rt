@@ -9,30 +9,34 @@ use aidl_base::OutOfMemory;
 use aidl_schema::{Schema, method_of_code};
 use call_runner::Methods;
 use parcel_replay::{Replayed, recorded_code, replay_line};
+use run_output::{Line, SidePrinter};
 use std::alloc::Global;
 use stub_dispatch::Side;
 
-/// Adds what is printed of the line with a number: nothing of a line that is no request's.
+/// Adds what is printed of a line: nothing of a line that is no request's.
 #[tactic(auto, using(crate::proofs::Replayed::got_line, crate::proofs::Replayed::got_seen))]
 pub fn push_line(
     alloc: Global,
     side: &Side<'_>,
+    printer: &mut SidePrinter<'_>,
     interface: u32,
-    number: usize,
-    line: &[u8],
+    line: &Line<'_>,
     out: &mut String,
 ) -> Result<(), OutOfMemory>
-    ensures { OnOk result (string_bytes out.new
-        ≡ string_bytes out.old ++ replayed_line side.now interface number (traced line.now)) }
+    requires { printer.old ≡ side.now }
+    ensures same { printer.new ≡ printer.old }
+    ensures text { OnOk result (string_bytes out.new ≡ string_bytes out.old
+        ++ replayed_line side.now interface line.now.number (traced line.now.bytes.now)) }
 {
     let schema = side.schema();
-    match replay_line(alloc, schema, side.plans(), interface, line)? {
+    let number = line.number;
+    match replay_line(alloc, schema, side.plans(), interface, line.bytes)? {
         Replayed::Other => Ok(()),
         Replayed::NotTrace => push_refused(number, "NotTrace", out),
         Replayed::TooLarge => push_refused(number, "TooLarge", out),
         Replayed::Got(answered) => {
-            let methods = recorded_methods(schema, interface, line);
-            push_answered(alloc, schema, methods, number, &answered, out)
+            let methods = recorded_methods(schema, interface, line.bytes);
+            push_answered(alloc, printer, methods, number, &answered, out)
         }
     }
 }

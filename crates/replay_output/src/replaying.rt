@@ -8,7 +8,7 @@ use crate::lines::push_line;
 use aidl_base::OutOfMemory;
 use aidl_schema::{Schema, interface_named};
 use marshal_plans::compile;
-use run_output::cut;
+use run_output::{Line, SidePrinter, cut};
 use std::alloc::Global;
 use stub_dispatch::Side;
 use tool_frame::{Early, Printed, Verdict, refusal};
@@ -47,7 +47,7 @@ fn replayed_text(
     Ok(text)
 }
 
-// Adds what is printed of each line, in order.
+// Adds what is printed of each line, in order. The printer is made once.
 fn push_lines(
     alloc: Global,
     side: &Side<'_>,
@@ -58,11 +58,13 @@ fn push_lines(
     ensures { OnOk result (string_bytes out.new
         ≡ string_bytes out.old ++ replayed_text side.now interface 1 (lines_of trace.now)) }
 {
+    let mut printer = SidePrinter::new(alloc, side.schema());
     let mut rest = trace;
     let mut number = 1;
     while !rest.is_empty() {
-        let (line, after) = cut(rest);
-        push_line(alloc, side, interface, number, line, out)?;
+        let (bytes, after) = cut(rest);
+        let line = Line { number, bytes };
+        push_line(alloc, side, &mut printer, interface, &line, out)?;
         rest = after;
         number += 1;
     }

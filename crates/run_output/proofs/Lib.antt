@@ -1,3 +1,4 @@
 mod Cuts
+mod Newlines
 mod Projecting
 pub mod lemmas

@@ -16,4 +16,5 @@ lines_of (b ∷ bytes) = if b == 10 then [] ∷ lines_of bytes else onto_first b
 
 -- a text of so many lines that it passes no limit
 abbrev pub within_lines : List ℕ → Found (List ℕ)
-within_lines bytes = if nat_lt (limit_number Lines) (length (lines_of bytes)) then Err (limit_passed Lines) else Ok bytes
+within_lines bytes = if nat_lt (limit_number Lines) (length (lines_of bytes))
+    then Err (limit_passed Lines) else Ok bytes

@@ -1,5 +1,5 @@
--- The line that is printed of what a line of a calls file comes to: compact JSON with its keys in byte order (own). A is CLIENT's declarations
--- and B SERVER's, `ms` the methods by whose types the values are, k the number of the line.
+-- The line that is printed of what a line of a calls file comes to: compact JSON with its keys in byte order (own).
+-- A is CLIENT's declarations and B SERVER's, `ms` the methods by whose types the values are, k the number of the line.
 use Rattle.std.specs.Prelude.{ℕ, ℤ, List, [], ◌∷◌, ◌++◌, Option, Some, None, Result, Ok, Err, if◌then◌else◌, codes}
 use Rattle.std.specs.Fmt.{decimal, signed_decimal}
 use Rattle.std.specs.Ordering.{int_eq}
@@ -76,7 +76,8 @@ code_text code = opening_text ++ signed_decimal code ++ codes ","
 -- CLIENT: the status of a reply that is none, or the answer
 abbrev pub client_text : List Decl → Option Methods → Result AnswerData ℤ → List ℕ
 client_text A ms (Err status) = codes "{\"status\":" ++ signed_decimal status ++ codes "}"
-client_text A ms (Ok (returned r outs)) = codes "{\"out\":" ++ values_text A (out_types A ms) outs ++ codes ",\"return\":" ++ result_text A (result_type A ms) r ++ codes "}"
+client_text A ms (Ok (returned r outs)) = codes "{\"out\":" ++ values_text A (out_types A ms) outs
+    ++ codes ",\"return\":" ++ result_text A (result_type A ms) r ++ codes "}"
 client_text A ms (Ok (exception code message error)) =
     code_text code ++ quoted (encode_utf8_all message) ++ error_text code error ++ codes "]}"
 
@@ -95,9 +96,11 @@ called_text k saw = codes "\"line\":" ++ decimal k ++ codes ",\"saw\":" ++ saw +
 -- the object of a line
 abbrev pub object_text : List Decl → List Decl → Option Methods → ℕ → LineData → List ℕ
 object_text A B ms k (refused why) = refused_text k why
-object_text A B ms k (transport status) = codes "{\"line\":" ++ decimal k ++ codes ",\"transport\":" ++ signed_decimal status ++ codes "}"
+object_text A B ms k (transport status) = codes "{\"line\":" ++ decimal k ++ codes ",\"transport\":"
+    ++ signed_decimal status ++ codes "}"
 object_text A B ms k (oneway saw) = codes "{" ++ called_text k (saw_text B ms saw)
-object_text A B ms k (done saw client) = codes "{\"client\":" ++ client_text A ms client ++ codes "," ++ called_text k (saw_text B ms saw)
+object_text A B ms k (done saw client) = codes "{\"client\":" ++ client_text A ms client ++ codes ","
+    ++ called_text k (saw_text B ms saw)
 
 abbrev pub line_text : List Decl → List Decl → Option Methods → ℕ → LineData → List ℕ
 line_text A B ms k out = line (object_text A B ms k out)

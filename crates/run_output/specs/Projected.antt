@@ -1,5 +1,5 @@
--- What is put over a link that delivers what was sent, between two trees of which one may follow the other (own). p is the profile of reading, A is
--- CLIENT's declarations and B SERVER's; k is the number of a line.
+-- What is put over a link that delivers what was sent, between two trees of which one may follow the other (own). p
+-- is the profile of reading, A is CLIENT's declarations and B SERVER's; k is the number of a line.
 use Rattle.std.specs.Prelude.{◌≡◌, ℕ, ◌+◌, Bool, true, List, [], ◌∷◌, ◌++◌, Option, Some, None, Ok, Err}
 use Rattle.aidl_base.specs.declared.profile.Profile.{Profile}
 use Rattle.aidl_outside.specs.declared.link.Carried.{Carried}
@@ -22,7 +22,8 @@ use Rattle.wire_model.specs.Requests.{request}
 
 -- the methods of a call's names
 abbrev pub methods_of : CallData → Option ℕ → Option TargetData → Option Methods
-methods_of c (Some j) (Some t) = Some (record { interface = c.interface; method = c.method; server = j; called = t.method })
+methods_of c (Some j) (Some t) =
+    Some (record { interface = c.interface; method = c.method; server = j; called = t.method })
 methods_of c (Some j) None = None
 methods_of c None target = None
 
@@ -55,8 +56,11 @@ projected_piece p A B trace k meant = trace_text trace (line_carried p A B meant
 -- of all lines; without a trace it is their own lines alone
 abbrev pub projected_text : Profile → List Decl → List Decl → Bool → ℕ → List (List ℕ) → List ℕ
 projected_text p A B trace k [] = []
-projected_text p A B trace k (line ∷ lines) = projected_piece p A B trace k (script A B line) ++ projected_text p A B trace (k + 1) lines
+projected_text p A B trace k (line ∷ lines) = projected_piece p A B trace k (script A B line)
+    ++ projected_text p A B trace (k + 1) lines
 
--- Where one of two trees may follow the other, and the link delivers what was sent, a run that ends with a verdict is done and has put this text.
+-- Where one of two trees may follow the other, and the link delivers what was sent, a run that ends with a verdict
+-- is done and has put this text.
 abbrev pub Projects : List Decl → List Decl → List ℕ → Seen → Seen → ℕ → Type 0
-Projects A B text before now exit = OneFollows A B → before.is_faithful ≡ true → IsVerdict exit → (exit ≡ number_of Done) × Adds before.told now.told text
+Projects A B text before now exit = OneFollows A B → before.is_faithful ≡ true → IsVerdict exit
+    → (exit ≡ number_of Done) × Adds before.told now.told text

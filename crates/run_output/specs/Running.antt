@@ -1,5 +1,5 @@
--- What `run` does over two trees: the judge on both orders, and then the lines of a calls file (own). p is the profile of reading, A is CLIENT's
--- declarations and B SERVER's; k is the number of a line, from 1 on.
+-- What `run` does over two trees: the judge on both orders, and then the lines of a calls file (own). p is the
+-- profile of reading, A is CLIENT's declarations and B SERVER's; k is the number of a line, from 1 on.
 use Rattle.std.specs.Prelude.{ℕ, ◌+◌, Bool, List, [], ◌∷◌, ◌++◌, Option, Some, None, Ok, Err, codes}
 use Rattle.std.specs.List.{flat_map}
 use Rattle.aidl_base.specs.declared.profile.Profile.{Profile}
@@ -32,7 +32,8 @@ After = List Carried → Option Methods → LineData → Course
 
 -- of a call, by the bytes that were delivered
 abbrev pub call_after : Profile → List Decl → List Decl → After → CallData → List ℕ → List ℕ → Course
-call_after p A B after c b r = after (entries p A B c b r) (methods_by c c.server (received p A B c b)) (line_of p A B c b r)
+call_after p A B after c b r =
+    after (entries p A B c b r) (methods_by c c.server (received p A B c b)) (line_of p A B c b r)
 
 -- the reply, where SERVER sends one
 abbrev pub reply_parcel : List Decl → CallData → List ℕ → Parcel
@@ -46,7 +47,8 @@ reply_course p A B after c b (Some sent) = sends (reply_parcel A c sent) (λ r. 
 -- a line that is refused is at its end at once; of a call the request is sent first
 abbrev pub line_course : Profile → List Decl → List Decl → After → Judged CallData → Course
 line_course p A B after (Err why) = after [] None (refused why)
-line_course p A B after (Ok c) = sends (parcel_of (request_entry A c [])) (λ b. reply_course p A B after c b (reply_sent p A B c b))
+line_course p A B after (Ok c) =
+    sends (parcel_of (request_entry A c [])) (λ b. reply_course p A B after c b (reply_sent p A B c b))
 
 -- a line's text is put, and then the next one is run
 abbrev pub puts : List Decl → List Decl → Bool → ℕ → Course → After
@@ -55,7 +57,8 @@ puts A B trace k next carried ms out = prints (piece A B trace k carried ms out)
 -- the lines in order
 abbrev pub lines_course : Profile → List Decl → List Decl → Bool → ℕ → List (List ℕ) → Course
 lines_course p A B trace k [] = ends Done
-lines_course p A B trace k (line ∷ lines) = line_course p A B (puts A B trace k (lines_course p A B trace (k + 1) lines)) (script A B line)
+lines_course p A B trace k (line ∷ lines) =
+    line_course p A B (puts A B trace k (lines_course p A B trace (k + 1) lines)) (script A B line)
 
 -- the lines of the judge, each behind a mark
 abbrev pub marked : List ℕ → List Break → List ℕ

@@ -14,7 +14,8 @@ way_text Reply = codes "reply"
 
 -- `request CODE SENT DELIVERED`
 abbrev pub trace_line : Carried → List ℕ
-trace_line entry = line (way_text entry.way ++ codes " " ++ decimal entry.code ++ codes " " ++ shown entry.sent ++ codes " " ++ shown entry.delivered)
+trace_line entry = line (way_text entry.way ++ codes " " ++ decimal entry.code ++ codes " " ++ shown entry.sent
+    ++ codes " " ++ shown entry.delivered)
 
 -- where it is asked for
 abbrev pub trace_text : Bool → List Carried → List ℕ

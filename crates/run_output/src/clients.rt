@@ -10,32 +10,33 @@ ghost use Rattle.run_output.specs.LineText.{client_text, code_text, error_text, 
 ghost use Rattle.wire_model.specs.Calls.{optional_view, returned};
 
 use crate::methods::{outs_of, types_of};
+use crate::printers::SidePrinter;
 use crate::values::{push_null, push_quoted, push_result, push_values};
 use aidl_base::{OutOfMemory, Row, Text};
-use aidl_schema::Schema;
 use aidl_values::Value;
 use call_runner::{Got, Methods};
 use std::alloc::Global;
 use std::fmt::Write;
-use stub_dispatch::{SERVICE_SPECIFIC, method_of};
+use stub_dispatch::SERVICE_SPECIFIC;
 
 /// Adds SAW: the array of what the handler of the server's method saw, or null where it wasn't called.
 pub fn push_saw(
     alloc: Global,
-    server: &Schema,
+    server: &mut SidePrinter<'_>,
     methods: Methods,
     saw: &Option<Row<Value>>,
     out: &mut String,
 ) -> Result<(), OutOfMemory>
-    requires there { methods.called < length (methods_at server.now.decls methods.server) }
-    requires typed { AreSeen server.now.decls methods saw.now }
-    ensures { OnOk result (string_bytes out.new ≡ string_bytes out.old
-        ++ saw_text server.now.decls (Some methods) (option_map views saw.now)) }
+    requires there { methods.called < length (methods_at server.old methods.server) }
+    requires typed { AreSeen server.old methods saw.now }
+    ensures same { server.new ≡ server.old }
+    ensures text { OnOk result (string_bytes out.new ≡ string_bytes out.old
+        ++ saw_text server.old (Some methods) (option_map views saw.now)) }
 {
     match saw {
         None => push_null(out),
         Some(values) => {
-            let method = method_of(server, methods.server, methods.called);
+            let method = server.method(methods.server, methods.called);
             let types = types_of(alloc, method.args.as_slice())?;
             push_values(alloc, server, types.as_slice(), values.as_slice(), out)
         }
@@ -45,14 +46,15 @@ pub fn push_saw(
 /// Adds CLIENT: what the client made of the reply, by the types of its method.
 pub fn push_client(
     alloc: Global,
-    client: &Schema,
+    client: &mut SidePrinter<'_>,
     methods: Methods,
     got: &Got,
     out: &mut String,
 ) -> Result<(), OutOfMemory>
-    requires { IsGotBy client.now.decls methods (got_of got.now) }
-    ensures { OnOk result (string_bytes out.new
-        ≡ string_bytes out.old ++ client_text client.now.decls (Some methods) (got_of got.now)) }
+    requires { IsGotBy client.old methods (got_of got.now) }
+    ensures same { client.new ≡ client.old }
+    ensures text { OnOk result (string_bytes out.new
+        ≡ string_bytes out.old ++ client_text client.old (Some methods) (got_of got.now)) }
 {
     match got {
         Got::Returned { result, outs } => {
@@ -80,19 +82,20 @@ fn push_failed(status: i32, out: &mut String) -> Result<(), OutOfMemory>
 // The result and the outs.
 fn push_returned(
     alloc: Global,
-    client: &Schema,
+    client: &mut SidePrinter<'_>,
     methods: Methods,
     value: &Option<Value>,
     outs: &[Value],
     out: &mut String,
 ) -> Result<(), OutOfMemory>
-    requires { IsGotBy client.now.decls methods
+    requires { IsGotBy client.old methods
         (Ok (returned (optional_view value.now) (views outs.now))) }
-    ensures { OnOk result (string_bytes out.new ≡ string_bytes out.old
-        ++ client_text client.now.decls (Some methods)
+    ensures same { client.new ≡ client.old }
+    ensures text { OnOk result (string_bytes out.new ≡ string_bytes out.old
+        ++ client_text client.old (Some methods)
         (Ok (returned (optional_view value.now) (views outs.now)))) }
 {
-    let method = method_of(client, methods.interface, methods.method);
+    let method = client.method(methods.interface, methods.method);
     let types = outs_of(alloc, method.args.as_slice())?;
     out.push_str("{\"out\":")?;
     push_values(alloc, client, types.as_slice(), outs, out)?;

@@ -5,8 +5,16 @@ ghost use Rattle.run_output.specs.CallLines as lines;
 ghost use Rattle.tool_frame.specs.Results.{Finds};
 
 use aidl_base::{Limit, LimitName};
+use memchr::memchr;
 use std::alloc::Global;
 use tool_frame::{Early, limit_passed};
+
+/// A line of a calls file or of a trace: its number, from 1 on, and its bytes without the newline.
+#[derive(Clone, Copy)]
+pub struct Line<'a> {
+    pub number: usize,
+    pub bytes: &'a [u8],
+}
 
 /// The first line of a text that isn't empty, without its newline, and what stands behind it.
 pub fn cut(text: &[u8]) -> (&[u8], &[u8])
@@ -25,7 +33,7 @@ fn newline_at(text: &[u8]) -> Option<usize>
     ensures first { result ≡ position (λ b. b == 10) text.now }
     ensures within { IfSome result (λ end. end < length text.now) }
 {
-    text.iter().position(|b| *b == 10)
+    memchr(b'\n', text)
 }
 
 /// A text of at most 65,536 lines; else the line of the limit `lines`.

@@ -7,11 +7,13 @@ mod judging;
 mod methods;
 mod objects;
 mod pieces;
+mod printers;
 mod running;
 mod session;
 mod values;
 
 pub use clients::push_saw;
-pub use cutting::{cut, lines_within};
+pub use cutting::{Line, cut, lines_within};
+pub use printers::SidePrinter;
 pub use running::{both_plans, run_trees};
 pub use session::Session;

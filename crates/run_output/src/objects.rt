@@ -10,30 +10,31 @@ ghost use Rattle.call_scripts.specs.Calls.{refusal_of};
 ghost use Rattle.run_output.specs.LineText.{called_text, client_text, line_text, named_text, object_text, refused_text, saw_text};
 
 use crate::clients::{push_client, push_saw};
+use crate::printers::{Printers, SidePrinter};
 use crate::values::push_quoted;
 use aidl_base::{OutOfMemory, Row};
-use aidl_schema::Schema;
 use aidl_values::Value;
 use call_runner::{Got, LineOut, LineRun, Methods, Refused};
+use itoa::Buffer;
 use std::alloc::Global;
 use std::fmt::Write;
 
-/// Adds the line of what the line with a number comes to between a client's schema and a server's. Memory may be wanted.
+/// Adds the line of what the line with a number comes to between a client and a server. Memory may be wanted.
 pub fn push_line(
     alloc: Global,
-    client: &Schema,
-    server: &Schema,
+    printers: &mut Printers<'_>,
     number: usize,
     run: &LineRun,
     out: &mut String,
 ) -> Result<(), OutOfMemory>
     // Its values have the types of its methods.
-    requires { IsTyped client.now.decls server.now.decls run.now.methods run.now.out }
-    ensures { OnOk result (string_bytes out.new ≡ string_bytes out.old
-        ++ line_text client.now.decls server.now.decls run.now.methods number
+    requires { IsTyped printers.old.client printers.old.server run.now.methods run.now.out }
+    ensures same { printers.new ≡ printers.old }
+    ensures text { OnOk result (string_bytes out.new ≡ string_bytes out.old
+        ++ line_text printers.old.client printers.old.server run.now.methods number
         (line_data run.now.out)) }
 {
-    push_object(alloc, client, server, number, run, out)?;
+    push_object(alloc, printers, number, run, out)?;
     out.push_str("\n")?;
     Ok(())
 }
@@ -41,16 +42,16 @@ pub fn push_line(
 /// Adds the object that the line with a number comes to, without a newline. Memory may be wanted.
 pub fn push_object(
     alloc: Global,
-    client: &Schema,
-    server: &Schema,
+    printers: &mut Printers<'_>,
     number: usize,
     run: &LineRun,
     out: &mut String,
 ) -> Result<(), OutOfMemory>
     // Its values have the types of its methods.
-    requires { IsTyped client.now.decls server.now.decls run.now.methods run.now.out }
-    ensures { OnOk result (string_bytes out.new ≡ string_bytes out.old
-        ++ object_text client.now.decls server.now.decls run.now.methods number
+    requires { IsTyped printers.old.client printers.old.server run.now.methods run.now.out }
+    ensures same { printers.new ≡ printers.old }
+    ensures text { OnOk result (string_bytes out.new ≡ string_bytes out.old
+        ++ object_text printers.old.client printers.old.server run.now.methods number
         (line_data run.now.out)) }
 {
     match &run.out {
@@ -63,7 +64,7 @@ pub fn push_object(
                 methods,
                 saw,
             };
-            push_oneway(alloc, server, &call, out)
+            push_oneway(alloc, &mut printers.server, &call, out)
         }
         LineOut::Done { saw, client: got } => {
             let methods = known(run.methods);
@@ -72,7 +73,7 @@ pub fn push_object(
                 methods,
                 saw,
             };
-            push_done(alloc, client, server, &call, got, out)
+            push_done(alloc, printers, &call, got, out)
         }
     }
 }
@@ -132,14 +133,15 @@ struct Received<'a> {
 
 fn push_oneway(
     alloc: Global,
-    server: &Schema,
+    server: &mut SidePrinter<'_>,
     call: &Received<'_>,
     out: &mut String,
 ) -> Result<(), OutOfMemory>
     requires there { call.now.methods.called
-        < length (methods_at server.now.decls call.now.methods.server) }
-    requires typed { AreSeen server.now.decls call.now.methods call.now.saw.now }
-    ensures { let saw = saw_text server.now.decls (Some call.now.methods)
+        < length (methods_at server.old call.now.methods.server) }
+    requires typed { AreSeen server.old call.now.methods call.now.saw.now }
+    ensures same { server.new ≡ server.old }
+    ensures text { let saw = saw_text server.old (Some call.now.methods)
         (option_map views call.now.saw.now) in
         OnOk result (string_bytes out.new
         ≡ string_bytes out.old ++ (codes "{" ++ called_text call.now.number saw)) }
@@ -150,46 +152,56 @@ fn push_oneway(
 
 fn push_done(
     alloc: Global,
-    client: &Schema,
-    server: &Schema,
+    printers: &mut Printers<'_>,
     call: &Received<'_>,
     got: &Got,
     out: &mut String,
 ) -> Result<(), OutOfMemory>
     requires there { call.now.methods.called
-        < length (methods_at server.now.decls call.now.methods.server) }
-    requires typed { AreSeen server.now.decls call.now.methods call.now.saw.now }
-    requires got { IsGotBy client.now.decls call.now.methods (got_of got.now) }
-    ensures { let saw = saw_text server.now.decls (Some call.now.methods)
+        < length (methods_at printers.old.server call.now.methods.server) }
+    requires typed { AreSeen printers.old.server call.now.methods call.now.saw.now }
+    requires got { IsGotBy printers.old.client call.now.methods (got_of got.now) }
+    ensures same { printers.new ≡ printers.old }
+    ensures text { let saw = saw_text printers.old.server (Some call.now.methods)
         (option_map views call.now.saw.now) in
         OnOk result (string_bytes out.new ≡ string_bytes out.old ++ (codes "{\"client\":"
-        ++ client_text client.now.decls (Some call.now.methods) (got_of got.now)
+        ++ client_text printers.old.client (Some call.now.methods) (got_of got.now)
         ++ codes "," ++ called_text call.now.number saw)) }
 {
     out.push_str("{\"client\":")?;
-    push_client(alloc, client, call.methods, got, out)?;
+    push_client(alloc, &mut printers.client, call.methods, got, out)?;
     out.push_str(",")?;
-    push_called(alloc, server, call, out)
+    push_called(alloc, &mut printers.server, call, out)
 }
 
 // What stands last in the line of a call that the server received.
 fn push_called(
     alloc: Global,
-    server: &Schema,
+    server: &mut SidePrinter<'_>,
     call: &Received<'_>,
     out: &mut String,
 ) -> Result<(), OutOfMemory>
     requires there { call.now.methods.called
-        < length (methods_at server.now.decls call.now.methods.server) }
-    requires typed { AreSeen server.now.decls call.now.methods call.now.saw.now }
-    ensures { let saw = saw_text server.now.decls (Some call.now.methods)
+        < length (methods_at server.old call.now.methods.server) }
+    requires typed { AreSeen server.old call.now.methods call.now.saw.now }
+    ensures same { server.new ≡ server.old }
+    ensures text { let saw = saw_text server.old (Some call.now.methods)
         (option_map views call.now.saw.now) in
         OnOk result
         (string_bytes out.new ≡ string_bytes out.old ++ called_text call.now.number saw) }
 {
-    let number = call.number;
-    write!(out, "\"line\":{number},\"saw\":")?;
+    out.push_str("\"line\":")?;
+    push_number(call.number, out)?;
+    out.push_str(",\"saw\":")?;
     push_saw(alloc, server, call.methods, call.saw, out)?;
     out.push_str(",\"transport\":0}")?;
+    Ok(())
+}
+
+fn push_number(number: usize, out: &mut String) -> Result<(), OutOfMemory>
+    ensures { OnOk result (string_bytes out.new ≡ string_bytes out.old ++ decimal number) }
+{
+    let mut digits = Buffer::new();
+    out.push_str(digits.format(number))?;
     Ok(())
 }

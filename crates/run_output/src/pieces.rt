@@ -7,9 +7,9 @@ ghost use Rattle.run_output.specs.Running.{piece};
 ghost use Rattle.run_output.specs.Trace.{trace_line, trace_text, way_text};
 
 use crate::objects::push_line;
+use crate::printers::Printers;
 use aidl_base::OutOfMemory;
 use aidl_outside::{Carried, Way};
-use aidl_schema::Schema;
 use call_runner::LineRun;
 use std::alloc::Global;
 use std::fmt::Write;
@@ -18,21 +18,24 @@ use tool_frame::push_shown;
 /// What is put of a line: the trace lines of what was carried, where they are asked for, and then its own.
 pub fn line_piece(
     alloc: Global,
-    client: &Schema,
-    server: &Schema,
+    printers: &mut Printers<'_>,
     trace: bool,
     number: usize,
     run: &LineRun,
 ) -> Result<String, OutOfMemory>
-    requires { IsTyped client.now.decls server.now.decls run.now.methods run.now.out }
-    ensures { IfOk result (λ text. string_bytes text
-        ≡ piece client.now.decls server.now.decls trace number
+    requires { IsTyped printers.old.client printers.old.server run.now.methods run.now.out }
+    ensures same { printers.new ≡ printers.old }
+    ensures text { IfOk result (λ text. string_bytes text
+        ≡ piece printers.old.client printers.old.server trace number
         run.now.carried run.now.methods (line_data run.now.out)) }
 {
     let mut text = traced(alloc, trace, run.carried.as_slice())?;
-    push_line(alloc, client, server, number, run, &mut text)?;
+    push_line(alloc, printers, number, run, &mut text)?;
     Ok(text)
 }
+
+// Room that is taken at once for the text of a line: most are shorter.
+const LINE_ROOM: usize = 256;
 
 fn traced(alloc: Global, trace: bool, carried: &[Carried]) -> Result<String, OutOfMemory>
     ensures { IfOk result (λ text. string_bytes text ≡ trace_text trace carried.now) }
@@ -40,7 +43,7 @@ fn traced(alloc: Global, trace: bool, carried: &[Carried]) -> Result<String, Out
     if trace {
         trace_lines(alloc, carried)
     } else {
-        Ok(String::new(alloc))
+        Ok(String::with_capacity(alloc, LINE_ROOM)?)
     }
 }
 

@@ -15,9 +15,10 @@ ghost use Rattle.tool_frame.specs.Courses.{RanCourse, seen_alone};
 ghost use Rattle.tool_frame.specs.Prints.{PutsText};
 ghost use Rattle.wire_model.specs.Outcome.{OneFollows, SameWays};
 
-use crate::cutting::cut;
+use crate::cutting::{Line, cut};
 use crate::judging::judge_both;
 use crate::pieces::line_piece;
+use crate::printers::{Printers, SidePrinter};
 use crate::session::Session;
 use aidl_base::OutOfMemory;
 use aidl_outside::{Link, Sink};
@@ -136,11 +137,13 @@ pub fn run_lines<K: Sink, L: Link>(
         (projected_text session.now.profile A B session.now.trace 1 (lines_of calls.now))
         (seen sink.old link.old) (seen sink.new link.new) (number_of result) }
 {
+    let mut printers = printers_of(alloc, session);
     let mut rest = calls;
     let mut number = 1;
     while !rest.is_empty() {
-        let (line, after) = cut(rest);
-        if let Err(exit) = run_next(alloc, session, number, line, sink, link) {
+        let (bytes, after) = cut(rest);
+        let line = Line { number, bytes };
+        if let Err(exit) = run_next(alloc, session, &mut printers, &line, sink, link) {
             return exit;
         }
         if after.is_empty() {
@@ -152,38 +155,54 @@ pub fn run_lines<K: Sink, L: Link>(
     Exit::Done
 }
 
-// Runs the line with a number. Where that fails, the answer is the exit with which the run ends.
+// The printers of both sides.
+fn printers_of<'a>(alloc: Global, session: &Session<Side<'a>>) -> Printers<'a>
+    ensures client { result.client ≡ session.now.client }
+    ensures server { result.server ≡ session.now.server }
+{
+    Printers {
+        client: SidePrinter::new(alloc, session.client.schema()),
+        server: SidePrinter::new(alloc, session.server.schema()),
+    }
+}
+
+// Runs a line. Where that fails, the answer is the exit with which the run ends.
 fn run_next<K: Sink, L: Link>(
     alloc: Global,
     session: &Session<Side<'_>>,
-    number: usize,
-    line: &[u8],
+    printers: &mut Printers<'_>,
+    line: &Line<'_>,
     sink: &mut K,
     link: &mut L,
 ) -> Result<(), Exit>
-    requires { SameWays session.now.client session.now.server }
+    requires ways { SameWays session.now.client session.now.server }
+    requires client { printers.old.client ≡ session.now.client }
+    requires server { printers.old.server ≡ session.now.server }
+    ensures same { printers.new ≡ printers.old }
     ensures steps { let seen = seen_alone K.told K.fault_record
         L.log L.is_faithful L.fault_record in
         let p = session.now.profile in let A = session.now.client in let B = session.now.server in
         (next : Course) → Steps
-        (line_course p A B (puts A B session.now.trace number next) (script A B line.now)) next
+        (line_course p A B (puts A B session.now.trace line.now.number next)
+        (script A B line.now.bytes.now)) next
         (seen sink.old link.old) (seen sink.new link.new) result }
     ensures exits { IfErr result (λ exit. IsVerdict (number_of exit) → ⊥) }
     ensures projected { let p = session.now.profile in
         let A = session.now.client in let B = session.now.server in
         OneFollows A B → L.is_faithful link.old ≡ true
         → IfOk result (λ u. Adds (K.told sink.old) (K.told sink.new)
-        (projected_piece p A B session.now.trace number (script A B line.now))) }
+        (projected_piece p A B session.now.trace line.now.number
+        (script A B line.now.bytes.now))) }
 {
     match run_line(
         alloc,
         session.profile,
         &session.client,
         &session.server,
-        line,
+        line.bytes,
         link,
     ) {
-        Ok(run) => put_line(alloc, session, number, &run, sink),
+        Ok(run) => put_line(alloc, session, printers, line.number, &run, sink),
         Err(RunFault::LinkFault) => Err(Exit::LinkFailed),
         Err(RunFault::OutOfMemory) => Err(Exit::OutOfMemory),
     }
@@ -193,20 +212,22 @@ fn run_next<K: Sink, L: Link>(
 fn put_line<K: Sink>(
     alloc: Global,
     session: &Session<Side<'_>>,
+    printers: &mut Printers<'_>,
     number: usize,
     run: &LineRun,
     sink: &mut K,
 ) -> Result<(), Exit>
-    requires { IsTyped session.now.client session.now.server run.now.methods run.now.out }
-    ensures { let A = session.now.client in let B = session.now.server in
+    requires client { printers.old.client ≡ session.now.client }
+    requires server { printers.old.server ≡ session.now.server }
+    requires typed { IsTyped session.now.client session.now.server run.now.methods run.now.out }
+    ensures same { printers.new ≡ printers.old }
+    ensures put { let A = session.now.client in let B = session.now.server in
         PutsText
         (piece A B session.now.trace number run.now.carried run.now.methods (line_data run.now.out))
         (K.told sink.old) (K.told sink.new)
         (K.fault_record sink.old) (K.fault_record sink.new) result }
 {
-    let client = session.client.schema();
-    let server = session.server.schema();
-    match line_piece(alloc, client, server, session.trace, number, run) {
+    match line_piece(alloc, printers, session.trace, number, run) {
         Ok(text) => put(alloc, text.as_str(), sink),
         Err(_) => Err(Exit::OutOfMemory),
     }

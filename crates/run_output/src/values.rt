@@ -7,10 +7,10 @@ ghost use Rattle.run_output.specs.LineText.{others_text, quoted, result_text, va
 ghost use Rattle.wire_model.specs.Calls.{optional_view};
 ghost use Rattle.wire_model.specs.Typed.{EachHasType, IsResult};
 
+use crate::printers::SidePrinter;
 use aidl_base::OutOfMemory;
-use aidl_schema::{AidlType, Schema};
+use aidl_schema::AidlType;
 use aidl_values::Value;
-use json_writing::push_value_text;
 use serde_json::Value as Json;
 use std::alloc::Global;
 
@@ -28,22 +28,23 @@ pub fn push_quoted(alloc: Global, text: &str, out: &mut String) -> Result<(), Ou
 /// Adds an array of values by their types.
 pub fn push_values(
     alloc: Global,
-    schema: &Schema,
+    printer: &mut SidePrinter<'_>,
     types: &[AidlType],
     values: &[Value],
     out: &mut String,
 ) -> Result<(), OutOfMemory>
-    requires { EachHasType schema.now.decls types.now (views values.now) }
-    ensures { OnOk result (string_bytes out.new
-        ≡ string_bytes out.old ++ values_text schema.now.decls types.now (views values.now)) }
+    requires { EachHasType printer.old types.now (views values.now) }
+    ensures same { printer.new ≡ printer.old }
+    ensures text { OnOk result (string_bytes out.new
+        ≡ string_bytes out.old ++ values_text printer.old types.now (views values.now)) }
 {
     match types {
         [] => push_empty(out),
         [ty, types @ ..] => match values {
             [] => push_empty(out),
             [value, values @ ..] => {
-                push_behind(alloc, "[", schema, ty, value, out)?;
-                push_others(alloc, schema, types, values, out)?;
+                push_behind(alloc, "[", printer, ty, value, out)?;
+                push_others(alloc, printer, types, values, out)?;
                 out.push_str("]")?;
                 Ok(())
             }
@@ -61,22 +62,23 @@ fn push_empty(out: &mut String) -> Result<(), OutOfMemory>
 // Adds values by their types, each behind a comma.
 fn push_others(
     alloc: Global,
-    schema: &Schema,
+    printer: &mut SidePrinter<'_>,
     types: &[AidlType],
     values: &[Value],
     out: &mut String,
 ) -> Result<(), OutOfMemory>
-    requires { EachHasType schema.now.decls types.now (views values.now) }
-    ensures { OnOk result (string_bytes out.new
-        ≡ string_bytes out.old ++ others_text schema.now.decls types.now (views values.now)) }
+    requires { EachHasType printer.old types.now (views values.now) }
+    ensures same { printer.new ≡ printer.old }
+    ensures text { OnOk result (string_bytes out.new
+        ≡ string_bytes out.old ++ others_text printer.old types.now (views values.now)) }
 {
     match types {
         [] => Ok(()),
         [ty, types @ ..] => match values {
             [] => Ok(()),
             [value, values @ ..] => {
-                push_behind(alloc, ",", schema, ty, value, out)?;
-                push_others(alloc, schema, types, values, out)
+                push_behind(alloc, ",", printer, ty, value, out)?;
+                push_others(alloc, printer, types, values, out)
             }
         },
     }
@@ -86,34 +88,36 @@ fn push_others(
 fn push_behind(
     alloc: Global,
     mark: &str,
-    schema: &Schema,
+    printer: &mut SidePrinter<'_>,
     ty: &AidlType,
     value: &Value,
     out: &mut String,
 ) -> Result<(), OutOfMemory>
-    requires { HasType schema.now.decls ty.now (view value.now) }
-    ensures { OnOk result (string_bytes out.new ≡ string_bytes out.old
-        ++ (mark.now ++ value_text schema.now.decls ty.now (view value.now))) }
+    requires { HasType printer.old ty.now (view value.now) }
+    ensures same { printer.new ≡ printer.old }
+    ensures text { OnOk result (string_bytes out.new ≡ string_bytes out.old
+        ++ (mark.now ++ value_text printer.old ty.now (view value.now))) }
 {
     out.push_str(mark)?;
-    push_value_text(alloc, schema, ty, value, out)
+    printer.push_value(alloc, ty, value, out)
 }
 
 /// Adds the result of a method, null for a void one.
 pub fn push_result(
     alloc: Global,
-    schema: &Schema,
+    printer: &mut SidePrinter<'_>,
     ty: Option<AidlType>,
     value: &Option<Value>,
     out: &mut String,
 ) -> Result<(), OutOfMemory>
-    requires { IsResult schema.now.decls ty (optional_view value.now) }
-    ensures { OnOk result (string_bytes out.new
-        ≡ string_bytes out.old ++ result_text schema.now.decls ty (optional_view value.now)) }
+    requires { IsResult printer.old ty (optional_view value.now) }
+    ensures same { printer.new ≡ printer.old }
+    ensures text { OnOk result (string_bytes out.new
+        ≡ string_bytes out.old ++ result_text printer.old ty (optional_view value.now)) }
 {
     match ty {
         Some(ty) => match value {
-            Some(value) => push_value_text(alloc, schema, &ty, value, out),
+            Some(value) => printer.push_value(alloc, &ty, value, out),
             None => push_null(out),
         },
         None => push_null(out),

@@ -1,4 +1,5 @@
--- Two trees and calls between them (own): for each number below n two files of a newer tree, two of an older one, and two calls.
+-- Two trees and calls between them (own): for each number below n two files of a newer tree, two of an older one,
+-- and two calls.
 use Rattle.std.specs.Prelude.{ℕ, ◌==◌, if◌then◌else◌, List, [], ◌∷◌, ◌++◌, map, codes}
 use Rattle.std.specs.Fmt.{decimal}
 use Rattle.std.specs.List.{flat_map, fold, range_with_len}
@@ -57,8 +58,8 @@ put (j ∷ js) k = match_ordering (slice_cmp nat_cmp (decimal k) (decimal j)) (k
 abbrev pub in_order : ℕ → List ℕ
 in_order n = fold put [] (range_with_len 0 n)
 
--- Files in byte order of their paths: all interfaces, and then all parcelables. A path goes on with `.` behind its number, which
--- comes before each digit, so the paths of either have the order of their decimals.
+-- Files in byte order of their paths: all interfaces, and then all parcelables. A path goes on with `.` behind its
+-- number, which comes before each digit, so the paths of either have the order of their decimals.
 abbrev pub files_of : Part → Part → ℕ → List File
 files_of interface record_part n = map (file_of interface) (in_order n) ++ map (file_of record_part) (in_order n)
 

@@ -1,4 +1,5 @@
--- What a service answered, whose handler answers `not scripted`. S is a schema's declarations, i the number of an interface.
+-- What a service answered, whose handler answers `not scripted`. S is a schema's declarations, i the number of an
+-- interface.
 use Rattle.std.specs.Prelude.{◌≡◌, ℕ, ℤ, pos, List, Option, Some, None, option_map, Result, Ok, Err, codes}
 use Rattle.aidl_schema.specs.declared.schema.Decl.{Decl}
 use Rattle.aidl_schema.specs.Find.{methods_at, position_of_code}
@@ -30,7 +31,8 @@ IsAnswered S i (Ok (inner received)) a = AnswersReceived S i received a
 -- where a handler saw values, they are of the types of the method of the code
 abbrev pub IsSeenBy : List Decl → ℕ → ℕ → Option (List Value) → Type 0
 IsSeenBy S i code None = Unit {0}
-IsSeenBy S i code (Some values) = (m : ℕ) × (position_of_code (methods_at S i) code ≡ Some m) × AreArguments S i m (views values)
+IsSeenBy S i code (Some values) = (m : ℕ) × (position_of_code (methods_at S i) code ≡ Some m)
+    × AreArguments S i m (views values)
 
 -- what the handler saw, by the types of a method
 abbrev pub saw_of : List Decl → ℕ → Option ℕ → Option Items → List ℕ
@@ -40,4 +42,5 @@ saw_of S i (Some m) (Some saw) = values_text S (types_of (arguments S i m)) saw
 
 -- the lines of an answer
 abbrev pub answered_text : List Decl → ℕ → ℕ → Answered → List ℕ
-answered_text S i code a = lines a.transport (saw_of S i (position_of_code (methods_at S i) code) (option_map views a.saw)) a.reply
+answered_text S i code a =
+    lines a.transport (saw_of S i (position_of_code (methods_at S i) code) (option_map views a.saw)) a.reply

@@ -46,7 +46,8 @@ pub record IsExchange (p : Profile) (A B : List Decl) (c : CallData) (x : Exchan
   pub request : x.request ≡ request_entry A c x.request.delivered
   pub transport : x.transport ≡ transport_of (received p A B c x.request.delivered)
   pub saw : option_map views x.saw ≡ saw_at (received p A B c x.request.delivered)
-  pub reply : listed x.reply ≡ reply_entries (call_code A c) (reply_sent p A B c x.request.delivered) (delivered_of x.reply)
+  pub reply : listed x.reply
+      ≡ reply_entries (call_code A c) (reply_sent p A B c x.request.delivered) (delivered_of x.reply)
 
 -- what is said where a call of the link failed
 abbrev pub WhereLinkFailed : RunFault → Type 0 → Type 0

@@ -20,7 +20,8 @@ saw_at (Err status) = None
 saw_at (Ok r) = saw_of r
 
 -- the answer of a server
-pub record IsServed (B : List Decl) (server : Option ℕ) (target : Option TargetData) (r : Result Received ℤ) (a : Answered) : Type 0 where
+pub record IsServed (B : List Decl) (server : Option ℕ) (target : Option TargetData) (r : Result Received ℤ)
+    (a : Answered) : Type 0 where
   pub transport : a.transport ≡ transport_of r
   pub saw : option_map views a.saw ≡ saw_at r
   pub reply : a.reply ≡ reply_at B server target r

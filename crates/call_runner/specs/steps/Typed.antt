@@ -22,5 +22,7 @@ SeenBy B m (Some saw) = AreArguments B m.server m.called saw
 abbrev pub IsTypedLine : List Decl → List Decl → Option Methods → LineData → Type 0
 IsTypedLine A B methods (refused why) = Unit {0}
 IsTypedLine A B methods (transport status) = Unit {0}
-IsTypedLine A B methods (oneway saw) = (m : Methods) × (methods ≡ Some m) × (m.called < length (methods_at B m.server)) × SeenBy B m saw
-IsTypedLine A B methods (done saw got) = (m : Methods) × (methods ≡ Some m) × (m.called < length (methods_at B m.server)) × SeenBy B m saw × IsGotBy A m got
+IsTypedLine A B methods (oneway saw) = (m : Methods) × (methods ≡ Some m)
+    × (m.called < length (methods_at B m.server)) × SeenBy B m saw
+IsTypedLine A B methods (done saw got) = (m : Methods) × (methods ≡ Some m)
+    × (m.called < length (methods_at B m.server)) × SeenBy B m saw × IsGotBy A m got

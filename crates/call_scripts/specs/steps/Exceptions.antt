@@ -22,15 +22,18 @@ IsException (Exception code message error) = ExceptionFits code message error
 
 -- with two entries the code isn't -8
 abbrev pub thrown_by_two : ℤ → List ℕ → Option Thrown
-thrown_by_two code message = if int_eq code service_specific then None else Some (record { code = code; message = chars message; error = pos 0 })
+thrown_by_two code message = if int_eq code service_specific then None
+    else Some (record { code = code; message = chars message; error = pos 0 })
 
 -- with three it is
 abbrev pub thrown_by_three : ℤ → List ℕ → ℤ → Option Thrown
-thrown_by_three code message error = if int_eq code service_specific then Some (record { code = code; message = chars message; error = error }) else None
+thrown_by_three code message error = if int_eq code service_specific
+    then Some (record { code = code; message = chars message; error = error }) else None
 
 -- a third entry, and no more
 abbrev pub thrown_by_error : Option ℤ → List ℕ → Option ℤ → json.Items → Option Thrown
-thrown_by_error code message error json.no_items = option_and_then (λ c. option_and_then (λ e. thrown_by_three c message e) error) code
+thrown_by_error code message error json.no_items =
+    option_and_then (λ c. option_and_then (λ e. thrown_by_three c message e) error) code
 thrown_by_error code message error (json.item other rest) = None
 
 -- what follows the code and the message

@@ -18,7 +18,8 @@ CountsTo course next before now (Err exit) = RanCourse course before now (number
 
 -- what is seen of a link, beside what is seen of all else
 abbrev pub with_link : {L : Type 0} → (L → Option (List Carried)) → (L → Bool) → (L → LinkFaults) → Seen → L → Seen
-with_link log is_faithful link_faults others link = record others { log = log link; is_faithful = is_faithful link; link_faults = link_faults link }
+with_link log is_faithful link_faults others link =
+    record others { log = log link; is_faithful = is_faithful link; link_faults = link_faults link }
 
 -- what is printed at once, or else the calls
 abbrev pub course_by : Option Printed → Course → Course

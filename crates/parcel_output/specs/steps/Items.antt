@@ -10,4 +10,5 @@ use Rattle.parcel_output.specs.Decode.{value_line}
 -- the item's line was added to a text, and these bytes are left after an item that was read
 abbrev pub PrintsItem : List Decl → AidlType → Result (Data × List ℕ) ℤ → List ℕ → List ℕ → Option (List ℕ) → Type 0
 PrintsItem S t (Ok item) before now left = (now ≡ before ++ value_line S t item.0) × (left ≡ Some item.1)
-PrintsItem S t (Err status) before now left = (now ≡ before ++ line (codes "status " ++ signed_decimal status)) × (left ≡ None)
+PrintsItem S t (Err status) before now left =
+    (now ≡ before ++ line (codes "status " ++ signed_decimal status)) × (left ≡ None)

@@ -12,7 +12,8 @@ use Rattle.stub_dispatch.specs.declared.answered.Answered.{Answered}
 use Rattle.replay_output.specs.Replaying.{called_line, transport_line}
 
 abbrev pub answered_line : List Decl → Option Methods → ℕ → Answered → List ℕ
-answered_line S ms k a = if int_eq a.transport (pos 0) then called_line k (saw_text S ms (option_map views a.saw)) else transport_line k a.transport
+answered_line S ms k a = if int_eq a.transport (pos 0) then called_line k (saw_text S ms (option_map views a.saw))
+    else transport_line k a.transport
 
 -- what a handler saw has the types of the methods' server
 abbrev pub IsSeenBy : List Decl → Option Methods → Option (List Value) → Type 0

@@ -7,6 +7,7 @@ use Rattle.replay_output.proofs.replaying.push_lines.Given as goal
 abbrev pub invariant-loop-rest : goal.invariant-loop-rest
 invariant-loop-rest l = record {
   all : string_bytes l.out ++ replayed_text l.side l.interface l.number (lines_of l.rest) ≡ string_bytes l.fn.out ++ replayed_text l.side l.interface 1 (lines_of l.fn.trace);
+  same : l.printer ≡ l.side;
   few : l.number + length l.rest ≤ length l.fn.trace + 1;
 }
 

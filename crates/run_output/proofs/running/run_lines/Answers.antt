@@ -1,8 +1,9 @@
-use Rattle.std.proofs.Common.{◌≡◌, ℕ, ◌+◌, ◌==◌, true, false, List, length, refl, sym, ◌∙◌, subst, arith}
+use Rattle.std.proofs.Common.{◌≡◌, ℕ, ◌+◌, ◌==◌, true, false, List, length, refl, sym, ap, ◌∙◌, subst, arith}
 use Rattle.aidl_schema.specs.declared.schema.Decl.{Decl}
 use Rattle.run_output.specs.CallLines.{lines_of}
 use Rattle.run_output.specs.Projected.{projected_text}
 use Rattle.run_output.specs.Running.{lines_course}
+use Rattle.run_output.specs.declared.printers.Printers.{Printers}
 use Rattle.tool_frame.specs.Course.{Course}
 use Rattle.tool_frame.specs.Exit.{number_of}
 use Rattle.tool_frame.specs.Seen.{Seen}
@@ -19,7 +20,11 @@ cut-requires g c = λ e.
     cc
 
 pub run_next-requires : goal.run_next-requires
-run_next-requires g c = c.requires
+run_next-requires g c = record {
+  ways = c.requires;
+  client = c.loop-rest.invariant.client;
+  server = c.loop-rest.invariant.server;
+}
 
 pub loop-rest-smaller : goal.loop-rest-smaller
 loop-rest-smaller g c = omega arith
@@ -34,6 +39,8 @@ loop-rest-init g c =
     record {
       went = went_none whole start;
       completes = λ one faithful later more. more;
+      client = c.printers_of-printers.ensures.client;
+      server = c.printers_of-printers.ensures.server;
       few = omega arith;
     }
 
@@ -97,6 +104,8 @@ loop-rest-preserved g c =
           (next_added s.profile A B s.trace c.loop-rest.number c.loop-rest.rest.now c.cut.result.0.now c.cut.result.1.now (projected_text s.profile A B s.trace 1 (lines_of c.args.calls.now)) (g.K.Sink.told c.args.sink.now)
           (g.K.Sink.told c.loop-rest.sink) c.cut.ensures.lines (c.loop-rest.invariant.completes one faithful) (g.K.Sink.told c.run_next.new.sink)
           (c.in_default.ensures.projected one (still_faithful (g.L.Link.is_faithful c.args.link.now) (g.L.Link.is_faithful c.loop-rest.link) c.loop-rest.invariant.went.link_nature faithful)));
+      client = ap (λ (p : Printers). p.client) c.run_next.ensures.same ∙ c.loop-rest.invariant.client;
+      server = ap (λ (p : Printers). p.server) c.run_next.ensures.same ∙ c.loop-rest.invariant.server;
       few = omega arith;
     }
 
