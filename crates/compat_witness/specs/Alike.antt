@@ -1,5 +1,5 @@
--- A value that is sent to the methods that reach a declaration: what its two sides are doesn't depend on the method (own). A is the client's
--- declarations, B the server's, k the number of the declaration in A.
+-- A value that is sent to the methods that reach a declaration: what its two sides are doesn't depend on the method
+-- (own). A is the client's declarations, B the server's, k the number of the declaration in A.
 use Rattle.std.specs.Prelude.{ℕ, ◌≤◌, false, List, length}
 use Rattle.aidl_schema.specs.declared.schema.Decl.{Decl}
 use Rattle.aidl_schema.specs.Unbroken.{Has}
@@ -18,4 +18,5 @@ IsShort old new c = ValuesFit old new c → length (bytes_of old new c) ≤ 1048
 -- Where the request of one method counts and differs, that of another does, unless it is too long.
 abbrev pub AreAlike : List Decl → List Decl → Type 0
 AreAlike A B = (k : ℕ) → (r s : ℕ × ℕ) → Has (methods_reaching A k B) r → Has (methods_reaching A k B) s
-    → (x : Data) → IsShort A B (asking r x) → Counts A B (asking s x) → Differs A B (asking s x) → Counts A B (asking r x) × Differs A B (asking r x)
+    → (x : Data) → IsShort A B (asking r x) → Counts A B (asking s x) → Differs A B (asking s x)
+    → Counts A B (asking r x) × Differs A B (asking r x)

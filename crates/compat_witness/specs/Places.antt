@@ -33,4 +33,5 @@ spot_of S p = option_and_then (λ q. option_and_then (λ i.
 
 -- the method of B that has the names of a method v of the interface i of A
 abbrev pub spot_like : List Decl → ℕ → Method → List Decl → Option Spot
-spot_like A i v B = option_and_then (λ j. spot_at B j (method_like (Some v) (methods_at B j))) (declared_as B (descriptor A i))
+spot_like A i v B =
+    option_and_then (λ j. spot_at B j (method_like (Some v) (methods_at B j))) (declared_as B (descriptor A i))

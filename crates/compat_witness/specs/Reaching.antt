@@ -1,6 +1,7 @@
--- Which methods reach a declaration, and the values that are sent to it (own). A is the client's declarations, B the server's, k the number of the
--- declaration in A.
-use Rattle.std.specs.Prelude.{ℕ, zero, suc, pos, Bool, true, false, not, ◌&&◌, ◌==◌, if◌then◌else◌, List, [], ◌∷◌, map, Option, Some, None, option_and_then}
+-- Which methods reach a declaration, and the values that are sent to it (own). A is the client's declarations, B
+-- the server's, k the number of the declaration in A.
+use Rattle.std.specs.Prelude.{ℕ, zero, suc, pos, Bool, true, false, not, ◌&&◌, ◌==◌, if◌then◌else◌, List, [], ◌∷◌}
+use Rattle.std.specs.Prelude.{map, Option, Some, None, option_and_then}
 use Rattle.std.specs.List.{filter, flat_map, list_all, enumerate_from}
 use Rattle.aidl_schema.specs.declared.schema.AidlType.{AidlType}
 use Rattle.aidl_schema.specs.declared.schema.Arg.{Arg}
@@ -37,11 +38,13 @@ are_alike A B a b = (is_in_way a.way && is_in_way b.way) && (is_one_value a.ty &
 
 -- The other schema has the method by its names with the same id, and it has this one argument there too.
 abbrev pub has_argument : List Decl → List Decl → ℕ → Method → Arg → Bool
-has_argument A B i v a = is_there_and (λ s. (v.id == s.method.id) && is_there_and (are_alike A B a) (only s.method.args)) (spot_like A i v B)
+has_argument A B i v a = is_there_and
+    (λ s. (v.id == s.method.id) && is_there_and (are_alike A B a) (only s.method.args)) (spot_like A i v B)
 
 -- the declaration that a method reaches: the one that its only argument is of, which it has in both
 abbrev pub declaration_reached : List Decl → List Decl → ℕ → Method → Option ℕ
-declaration_reached A B i v = option_and_then (λ a. option_and_then (λ n. if has_argument A B i v a then Some n else None) (number_of a.ty.base)) (only v.args)
+declaration_reached A B i v = option_and_then (λ a. option_and_then (λ n. if has_argument A B i v a then Some n
+    else None) (number_of a.ty.base)) (only v.args)
 
 -- a number is this one
 abbrev pub is_at : ℕ → Option ℕ → Bool
@@ -54,7 +57,8 @@ reaches A k B i v = is_at k (declaration_reached A B i v)
 
 -- the methods of one interface that reach it, each with the number of its interface
 abbrev pub reaching_in : List Decl → ℕ → List Decl → ℕ × Decl → List (ℕ × ℕ)
-reaching_in A k B x = map (λ y. (x.0, y.0)) (filter (λ y. reaches A k B x.0 y.1) (enumerate_from 0 (methods_of x.1.kind)))
+reaching_in A k B x =
+    map (λ y. (x.0, y.0)) (filter (λ y. reaches A k B x.0 y.1) (enumerate_from 0 (methods_of x.1.kind)))
 
 -- interface by interface and method by method
 abbrev pub methods_reaching : List Decl → ℕ → List Decl → List (ℕ × ℕ)

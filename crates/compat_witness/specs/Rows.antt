@@ -1,6 +1,8 @@
--- *Wire breaches*: by which calls a broken rule is shown, rule by rule (own). A row gives the candidates of a place in their order, and None where
--- its condition isn't met.
-use Rattle.std.specs.Prelude.{ℕ, ◌+◌, pos, Bool, true, false, not, ◌&&◌, ◌||◌, ◌==◌, if◌then◌else◌, List, [], ◌∷◌, ◌++◌, length, take, Option, Some, None, is_none, slice_get, option_map, option_and_then}
+-- *Wire breaches*: by which calls a broken rule is shown, rule by rule (own). A row gives the candidates of a place
+-- in their order, and None where its condition isn't met.
+use Rattle.std.specs.Prelude.{ℕ, ◌+◌, pos, Bool, true, false, not, ◌&&◌, ◌||◌, ◌==◌, if◌then◌else◌, List, [], ◌∷◌}
+use Rattle.std.specs.Prelude.{◌++◌, length, take, Option, Some, None, is_none, slice_get, option_map}
+use Rattle.std.specs.Prelude.{option_and_then}
 use Rattle.std.specs.List.{list_all, position, zip}
 use Rattle.aidl_schema.specs.declared.schema.AidlType.{AidlType}
 use Rattle.aidl_schema.specs.declared.schema.Arg.{Arg}
@@ -18,7 +20,8 @@ use Rattle.wire_model.specs.Outcome.{declared_as}
 use Rattle.wire_model.specs.Receiver.{zero_in}
 use Rattle.compat_witness.specs.Candidates.{Candidate, request, reply}
 use Rattle.compat_witness.specs.Places.{at_last_dot, at_slash, Spot, spot_of, spot_like}
-use Rattle.compat_witness.specs.Reaching.{only, methods_reaching, asks, is_plain, are_plain, is_parcelable, plain_value, with_value}
+use Rattle.compat_witness.specs.Reaching.{only, methods_reaching, asks, is_plain, are_plain, is_parcelable}
+use Rattle.compat_witness.specs.Reaching.{plain_value, with_value}
 
 abbrev pub Row : Type 0
 Row = List Decl → List Decl → Place → Option (List Candidate)
@@ -39,7 +42,8 @@ decl_at S name F = option_and_then F (declared_as S name)
 
 -- both methods of a place, in old and in new
 abbrev pub in_both : List Decl → List Decl → Place → (Spot → Spot → Option (List Candidate)) → Option (List Candidate)
-in_both old new p F = option_and_then (λ s. option_and_then (F s) (spot_like old s.interface s.method new)) (spot_of old p)
+in_both old new p F =
+    option_and_then (λ s. option_and_then (F s) (spot_like old s.interface s.method new)) (spot_of old p)
 
 -- the one argument of each method, where their ids are the same
 abbrev pub both_only : Spot → Spot → Option (Arg × Arg)
@@ -52,7 +56,8 @@ abbrev pub of_only : (Spot → Spot → Arg → Arg → Option (List Candidate))
 of_only F s w = option_and_then (λ q. F s w q.0 q.1) (both_only s w)
 
 -- both methods of a place, where their ids are the same and each has one argument
-abbrev pub with_one : List Decl → List Decl → Place → (Spot → Spot → Arg → Arg → Option (List Candidate)) → Option (List Candidate)
+abbrev pub with_one : List Decl → List Decl → Place → (Spot → Spot → Arg → Arg → Option (List Candidate))
+    → Option (List Candidate)
 with_one old new p F = in_both old new p (of_only F)
 
 -- the method has no arguments in both
@@ -83,7 +88,8 @@ types_agree old fs new gs = list_all (λ x. same old x.0.ty new x.1.ty) (zip fs 
 
 -- Row by row
 
--- C2: n is an enum in one schema and a parcelable or union in the other, and is reached: a request from the enum's schema with 0.
+-- C2: n is an enum in one schema and a parcelable or union in the other, and is reached: a request from the enum's
+-- schema with 0.
 
 -- the number of a kind, and 0 where there is no declaration
 abbrev pub kind_of_decl : Option Decl → ℕ
@@ -99,21 +105,25 @@ is_record_kind n = (n == 1) || (n == 2)
 
 abbrev pub ask_C2 : List Decl → ℕ → List Decl → ℕ → Option (List Candidate)
 ask_C2 old k new l = if not (is_empty (methods_reaching old k new))
-    then (if (kind_at old k == 3) && is_record_kind (kind_at new l) then Some (asks false (methods_reaching old k new) (number (pos 0) ∷ []))
-    else (if (kind_at new l == 3) && is_record_kind (kind_at old k) then Some (asks true (methods_reaching new l old) (number (pos 0) ∷ []))
+    then (if (kind_at old k == 3) && is_record_kind (kind_at new l)
+    then Some (asks false (methods_reaching old k new) (number (pos 0) ∷ []))
+    else (if (kind_at new l == 3) && is_record_kind (kind_at old k)
+    then Some (asks true (methods_reaching new l old) (number (pos 0) ∷ []))
     else None))
     else None
 
 abbrev pub row_C2 : Row
 row_C2 old new p = decl_at old p (λ k. decl_at new p (λ l. ask_C2 old k new l))
 
--- C3: the method has no arguments, and new's interface of that name has a method with its id: a request from old. `ws` are the methods of that
--- interface.
+-- C3: the method has no arguments, and new's interface of that name has a method with its id: a request from old.
+-- `ws` are the methods of that interface.
 abbrev pub ask_C3 : Spot → List Method → Option (List Candidate)
-ask_C3 s ws = candidates_if (is_empty s.method.args && not (is_none (position_of_code ws (s.method.id + 1)))) (request false s.interface s.position none ∷ [])
+ask_C3 s ws = candidates_if (is_empty s.method.args && not (is_none (position_of_code ws (s.method.id + 1))))
+    (request false s.interface s.position none ∷ [])
 
 abbrev pub row_C3 : Row
-row_C3 old new p = option_and_then (λ s. decl_at new (descriptor old s.interface) (λ j. ask_C3 s (methods_at new j))) (spot_of old p)
+row_C3 old new p = option_and_then
+    (λ s. decl_at new (descriptor old s.interface) (λ j. ask_C3 s (methods_at new j))) (spot_of old p)
 
 -- C4: no arguments in both: a request from old.
 abbrev pub ask_C4 : Spot → Spot → Option (List Candidate)
@@ -142,7 +152,8 @@ low_replies s w =
     ∷ []
 
 abbrev pub is_met_C5 : Spot → Spot → Bool
-is_met_C5 s w = are_empty s w && (not (s.method.oneway || w.method.oneway) && (is_plain_result s.method.result && is_plain_result w.method.result))
+is_met_C5 s w = are_empty s w && (not (s.method.oneway || w.method.oneway)
+    && (is_plain_result s.method.result && is_plain_result w.method.result))
 
 abbrev pub ask_C5 : Spot → Spot → Option (List Candidate)
 ask_C5 s w = candidates_if (is_met_C5 s w) (low_replies s w)
@@ -150,7 +161,8 @@ ask_C5 s w = candidates_if (is_met_C5 s w) (low_replies s w)
 abbrev pub row_C5 : Row
 row_C5 old new p = in_both old new p ask_C5
 
--- C6 at n.method: one schema has no arguments; the other has only plain `in` ones: a request from old with z0 everywhere.
+-- C6 at n.method: one schema has no arguments; the other has only plain `in` ones: a request from old with z0
+-- everywhere.
 
 -- `in` and plain
 abbrev pub is_plain_in : Arg → Bool
@@ -165,22 +177,25 @@ abbrev pub is_met_C6 : List Arg → List Arg → Bool
 is_met_C6 xs ys = (is_empty xs && list_all is_plain_in ys) || (is_empty ys && list_all is_plain_in xs)
 
 abbrev pub ask_C6 : Spot → Spot → Option (List Candidate)
-ask_C6 s w = candidates_if (is_met_C6 s.method.args w.method.args) (request false s.interface s.position (low_arguments s.method.args) ∷ [])
+ask_C6 s w = candidates_if (is_met_C6 s.method.args w.method.args)
+    (request false s.interface s.position (low_arguments s.method.args) ∷ [])
 
 abbrev pub row_C6 : Row
 row_C6 old new p = in_both old new p ask_C6
 
 -- C6 at n.method/k: exactly one argument in both, `in` and plain; the ids are the same: a request from old with z0.
 abbrev pub ask_C6_at : Spot → Spot → Arg → Arg → Option (List Candidate)
-ask_C6_at s w a b = candidates_if (is_plain_in a && is_plain_in b) (request false s.interface s.position (item (plain_value false a.ty.base) none) ∷ [])
+ask_C6_at s w a b = candidates_if (is_plain_in a && is_plain_in b)
+    (request false s.interface s.position (item (plain_value false a.ty.base) none) ∷ [])
 
 -- the place is `n.method`
 abbrev pub row_C6_at : Row
 row_C6_at old new p = with_one old new p ask_C6_at
 
--- C7: exactly one argument in both, of the same type; the ids are the same; two-way and void in both; the type isn't nullable and is a parcelable
--- of shape one in both or an array of a built-in base. By the directions of old and new: where one is `in`, a reply to that client with the default
--- of the out; else a request from the `inout` schema with the default, or with an array of one z0.
+-- C7: exactly one argument in both, of the same type; the ids are the same; two-way and void in both; the type
+-- isn't nullable and is a parcelable of shape one in both or an array of a built-in base. By the directions of old
+-- and new: where one is `in`, a reply to that client with the default of the out; else a request from the `inout`
+-- schema with the default, or with an array of one z0.
 
 -- never null, and a parcelable in both or an array of a built-in base
 abbrev pub is_sent_back : List Decl → AidlType → List Decl → AidlType → Bool
@@ -194,8 +209,10 @@ sent_in_out S t = if is_one t.shape then zero_in S t else seq (item (plain_value
 
 abbrev pub ask_C7 : List Decl → List Decl → Spot → Spot → Arg → Arg → List Candidate
 ask_C7 old new s w a b =
-    if is_in_way a.way then reply false s.interface s.position (Some (returned None (item (zero_in new b.ty) none))) ∷ []
-    else (if is_in_way b.way then reply true w.interface w.position (Some (returned None (item (zero_in old a.ty) none))) ∷ []
+    if is_in_way a.way
+    then reply false s.interface s.position (Some (returned None (item (zero_in new b.ty) none))) ∷ []
+    else (if is_in_way b.way
+    then reply true w.interface w.position (Some (returned None (item (zero_in old a.ty) none))) ∷ []
     else (if is_out a.way then request true w.interface w.position (item (sent_in_out new b.ty) none) ∷ []
     else request false s.interface s.position (item (sent_in_out old a.ty) none) ∷ []))
 
@@ -216,13 +233,14 @@ row_C7_at old new p = option_and_then (λ q. row_C7 old new q.0) (at_slash p)
 
 -- C8: no arguments in both: a reply to the two-way client.
 abbrev pub ask_C8 : Spot → Spot → Option (List Candidate)
-ask_C8 s w = candidates_if (are_empty s w) ((if s.method.oneway then reply true w.interface w.position None else reply false s.interface s.position None) ∷ [])
+ask_C8 s w = candidates_if (are_empty s w) ((if s.method.oneway then reply true w.interface w.position None
+    else reply false s.interface s.position None) ∷ [])
 
 abbrev pub row_C8 : Row
 row_C8 old new p = in_both old new p ask_C8
 
--- C10: n is reached, all its fields are plain in both, and types agree at each position below both counts: a request from old with z0, then z1, in
--- that field and defaults elsewhere.
+-- C10: n is reached, all its fields are plain in both, and types agree at each position below both counts: a
+-- request from old with z0, then z1, in that field and defaults elsewhere.
 
 -- z0 in the field at a position, then z1
 abbrev pub low_then_high : List Decl → ℕ → List Field → List Data
@@ -233,7 +251,8 @@ abbrev pub FieldAsk : Type 0
 FieldAsk = List Decl → ℕ → List Decl → ℕ → List Field → List Field → ℕ → Option (List Candidate)
 
 -- the same at a name among the fields
-abbrev pub ask_named : FieldAsk → List Decl → ℕ → List Decl → ℕ → List ℕ → List Field → List Field → Option (List Candidate)
+abbrev pub ask_named : FieldAsk → List Decl → ℕ → List Decl → ℕ → List ℕ → List Field → List Field
+    → Option (List Candidate)
 ask_named F old k new l name fs gs = option_and_then (F old k new l fs gs) (position (λ f. same_text f.name.0 name) fs)
 
 abbrev pub ask_C10 : FieldAsk
@@ -245,8 +264,9 @@ abbrev pub row_C10 : Row
 row_C10 old new p = option_and_then (λ q. decl_at old q.0 (λ k. decl_at new q.0 (λ l.
     ask_named ask_C10 old k new l q.1 (fields_in old k) (fields_in new l)))) (at_last_dot p)
 
--- C11: n is reached, all its fields are plain in both and have the same names at each position; the counts are equal; the place is the last field and
--- the other types agree: a request with z0 there and defaults elsewhere, either way.
+-- C11: n is reached, all its fields are plain in both and have the same names at each position; the counts are
+-- equal; the place is the last field and the other types agree: a request with z0 there and defaults elsewhere,
+-- either way.
 
 -- the same names at each position, and as many
 abbrev pub names_agree : List Field → List Field → Bool
@@ -275,8 +295,8 @@ abbrev pub row_C11 : Row
 row_C11 old new p = option_and_then (λ q. decl_at old q.0 (λ k. decl_at new q.0 (λ l.
     ask_named ask_C11 old k new l q.1 (fields_in old k) (fields_in new l)))) (at_last_dot p)
 
--- C15 at n.oldname: the union n has that field in old at a position below both counts at which names or types differ; n is reached and all its fields
--- are plain in both: a request from old with that tag and z0.
+-- C15 at n.oldname: the union n has that field in old at a position below both counts at which names or types
+-- differ; n is reached and all its fields are plain in both: a request from old with that tag and z0.
 
 -- both are there, and names or types differ
 abbrev pub differ_at : List Decl → List Decl → Option Field → Option Field → Bool
@@ -290,7 +310,8 @@ low_alternative x fs = alt x (plain_value false (type_of_field (slice_get fs x))
 
 abbrev pub ask_C15 : FieldAsk
 ask_C15 old k new l fs gs x = candidates_if
-    (not (is_empty (methods_reaching old k new)) && ((are_plain fs && are_plain gs) && differ_at old new (slice_get fs x) (slice_get gs x)))
+    (not (is_empty (methods_reaching old k new))
+    && ((are_plain fs && are_plain gs) && differ_at old new (slice_get fs x) (slice_get gs x)))
     (asks false (methods_reaching old k new) (low_alternative x fs ∷ []))
 
 abbrev pub row_C15 : Row

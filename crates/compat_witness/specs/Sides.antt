@@ -1,5 +1,6 @@
--- *Compared sides*: what is read of a shown call, and what the call is projected to (own). A is the client's declarations, i and m its interface
--- and method, B the server's declarations, j and n the interface and the method there. All reading is strict.
+-- *Compared sides*: what is read of a shown call, and what the call is projected to (own). A is the client's
+-- declarations, i and m its interface and method, B the server's declarations, j and n the interface and the method
+-- there. All reading is strict.
 use Rattle.std.specs.Prelude.{ℕ, ℤ, ◌&&◌, if◌then◌else◌, List, [], ◌∷◌, Option, Some, None, option_map, Result, Ok, Err}
 use Rattle.aidl_base.specs.declared.profile.Profile.TheVariants.{Strict}
 use Rattle.aidl_schema.specs.declared.schema.AidlType.{AidlType}
@@ -9,7 +10,8 @@ use Rattle.aidl_schema.specs.Find.{methods_at}
 use Rattle.aidl_schema.specs.Methods.{is_in_way}
 use Rattle.aidl_schema.specs.Same.{same}
 use Rattle.aidl_values.specs.Data.{Data, Items, none, item}
-use Rattle.wire_model.specs.Calls.{AnswerData, returned, exception, descriptor, method_at, arguments, result_type, code_at, is_oneway, is_out}
+use Rattle.wire_model.specs.Calls.{AnswerData, returned, exception, descriptor, method_at, arguments, result_type}
+use Rattle.wire_model.specs.Calls.{code_at, is_oneway, is_out}
 use Rattle.wire_model.specs.Outcome.{declared_as, method_like}
 use Rattle.wire_model.specs.ReadOf.{◌>>=◌}
 use Rattle.wire_model.specs.Receiver.{Received, zero_in, opening, or_status, stub}
@@ -18,8 +20,8 @@ use Rattle.wire_model.specs.Requests.{sent_length}
 use Rattle.wire_model.specs.Status.{bad_value, unknown_transaction}
 use Rattle.wire_model.specs.View.{view_of, item_first}
 
--- One side: of a request the status that refuses it, the method for which bytes are left over, or the method that is called with what it sees; of
--- a reply what the client has, an answer or a status, or that there is none.
+-- One side: of a request the status that refuses it, the method for which bytes are left over, or the method that
+-- is called with what it sees; of a reply what the client has, an answer or a status, or that there is none.
 pub data Side : Type 0 where
   transport : (status : ℤ) → Side
   left : (method : ℕ) → Side
@@ -50,8 +52,8 @@ read_reply A i m B j n b = if is_oneway B j n then no_reply else client (receive
 
 -- What a request is projected to
 
--- What the server's method sees of an argument at a position that both methods have: the view of an `in` or `inout` one of both; the opening of an
--- `out` one of both, where the types are the same; and else the default.
+-- What the server's method sees of an argument at a position that both methods have: the view of an `in` or `inout`
+-- one of both; the opening of an `out` one of both, where the types are the same; and else the default.
 abbrev pub projected_argument : List Decl → Arg → List Decl → Arg → Data → Option Data
 projected_argument A a B b v = if is_out b.way
     then Some (if is_out a.way && same A a.ty B b.ty then opening B b.ty (sent_length v) else zero_in B b.ty)
@@ -62,14 +64,17 @@ abbrev pub projected_arguments : List Decl → List Arg → List Decl → List A
 projected_arguments A xs B [] vs = Some none
 projected_arguments A [] B (b ∷ ys) vs = item_first (Some (zero_in B b.ty)) (projected_arguments A [] B ys vs)
 projected_arguments A (a ∷ xs) B (b ∷ ys) none = item_first (Some (zero_in B b.ty)) (projected_arguments A xs B ys none)
-projected_arguments A (a ∷ xs) B (b ∷ ys) (item v vs) = item_first (projected_argument A a B b v) (projected_arguments A xs B ys vs)
+projected_arguments A (a ∷ xs) B (b ∷ ys) (item v vs) =
+    item_first (projected_argument A a B b v) (projected_arguments A xs B ys vs)
 
 -- by the names of interface and method
 unfoldable pub projected_call : List Decl → ℕ → ℕ → List Decl → Items → Result Received ℤ
 projected_call A i m B args = do
-  j ← or_status unknown_transaction (declared_as B (descriptor A i))  -- UNKNOWN_TRANSACTION: the server lacks the interface,
+  -- UNKNOWN_TRANSACTION: the server lacks the interface,
+  j ← or_status unknown_transaction (declared_as B (descriptor A i))
   n ← or_status unknown_transaction (method_like (method_at A i m) (methods_at B j))  -- or the method
-  saw ← or_status bad_value (projected_arguments A (arguments A i m) B (arguments B j n) args)  -- BAD_VALUE: an argument has no view
+  -- BAD_VALUE: an argument has no view
+  saw ← or_status bad_value (projected_arguments A (arguments A i m) B (arguments B j n) args)
   Ok (receiver.called n saw)
 
 abbrev pub projected_request : List Decl → ℕ → ℕ → List Decl → Items → Side
@@ -78,7 +83,8 @@ projected_request A i m B args = side_of (projected_call A i m B args)
 -- What a reply is projected to
 
 -- the view of a result, where both methods return one; where the client's alone does, the default
-abbrev pub projected_result : List Decl → Option AidlType → List Decl → Option AidlType → Option Data → Option (Option Data)
+abbrev pub projected_result : List Decl → Option AidlType → List Decl → Option AidlType → Option Data
+    → Option (Option Data)
 projected_result B t A None r = Some None
 projected_result B None A (Some u) r = Some (Some (zero_in A u))
 projected_result B (Some t) A (Some u) None = Some (Some (zero_in A u))
@@ -115,7 +121,8 @@ projected_outs B (b ∷ ys) A (a ∷ xs) vs = if is_in_way b.way
 unfoldable pub projected_answer : List Decl → ℕ → ℕ → List Decl → ℕ → ℕ → Option AnswerData → Result AnswerData ℤ
 projected_answer B j n A i m (Some (exception code message error)) = Ok (exception code message error)
 projected_answer B j n A i m (Some (returned result outs)) = do
-  r ← or_status bad_value (projected_result B (result_type B j n) A (result_type A i m) result)  -- BAD_VALUE: the result,
+  -- BAD_VALUE: the result,
+  r ← or_status bad_value (projected_result B (result_type B j n) A (result_type A i m) result)
   vs ← or_status bad_value (projected_outs B (arguments B j n) A (arguments A i m) outs)  -- or an out has no view
   Ok (returned r vs)
 projected_answer B j n A i m None = do

@@ -1,5 +1,5 @@
 -- Values that are collected, and what a loop leaves.
-use Rattle.std.proofs.Common.{◌≡◌, ℕ, zero, suc, ◌+◌, ◌<◌, ◌≤◌, true, false, List, [], ◌∷◌, ◌++◌, map, length, drop, get_or, Option, Some, None, slice_get, refl, ap, sym, ◌∙◌, arith}
+use Rattle.std.proofs.Common.{◌≡◌, ℕ, zero, suc, ◌+◌, true, false, List, [], ◌∷◌, ◌++◌, map, drop, Option, Some, None, slice_get, refl, ap, sym, ◌∙◌, arith}
 use Rattle.aidl_schema.specs.declared.schema.Arg.{Arg}
 use Rattle.aidl_schema.specs.Methods.{is_in_way}
 use Rattle.aidl_values.specs.Data.{Data, Items, none, item}
@@ -62,20 +62,6 @@ pub puts_stop : (seen : List Value) (a : Arg) (o : Option Data) → is_in_way a.
 puts_stop seen a o e is others = ap (with_seen seen) (out_back a o others e ∙ ap (λ d. item_first d others) is)
 
 -- what a loop leaves
-
-dropped : {X : Type 0} (xs : List X) (j : ℕ) (x : X) → j < length xs → x ≡ get_or xs j x → drop j xs ≡ x ∷ drop (suc j) xs
-dropped [] j x lt e = absurd (omega arith)
-dropped (y ∷ xs) zero x lt e = ap (λ z. z ∷ xs) (sym e)
-dropped (y ∷ xs) (suc j) x lt e = dropped xs j x (omega arith) e
-
-pub drop_at : {X : Type 0} (xs : List X) (j : ℕ) (x : X) → j < length xs → x ≡ get_or xs j x → drop j xs ≡ x ∷ drop (j + 1) xs
-drop_at xs j x lt e = let one : suc j ≡ j + 1 = omega arith in dropped xs j x lt e ∙ ap (λ k. x ∷ drop k xs) one
-
-pub drop_all : {X : Type 0} (xs : List X) (j : ℕ) → length xs ≤ j → drop j xs ≡ []
-drop_all [] zero h = refl
-drop_all [] (suc j) h = refl
-drop_all (x ∷ xs) zero h = absurd (omega arith)
-drop_all (x ∷ xs) (suc j) h = drop_all xs j (omega arith)
 
 -- an item, where there is one, and others
 abbrev pub front : {X : Type 0} → Option X → List X → List X

@@ -5,3 +5,4 @@ mod Shown
 mod Tables
 mod Tests
 mod Types
+pub mod lemmas

@@ -12,7 +12,8 @@ use Rattle.wire_model.specs.Receiver.{zero_in}
 use Rattle.wire_model.specs.View.{item_first}
 use Rattle.witness_calls.specs.steps.Collected.{Puts, with_seen}
 use Rattle.witness_calls.specs.steps.Positions.{argument_seen, out_seen, left_after}
-use Rattle.witness_calls.proofs.Collected.{drop_at, front, split, none_behind}
+use Rattle.witness_calls.proofs.Collected.{front, split, none_behind}
+use Rattle.witness_calls.proofs.lemmas.Drops.{drop_at}
 
 -- Arguments
 

@@ -1,6 +1,6 @@
 -- What a call shows, by its two sides.
 use Rattle.std.proofs.Common.{◌≡◌, ℕ, ◌<◌, zero, suc, Bool, true, false, not, List, [], ◌∷◌, length, Option, Some, None, slice_get, refl, sym, ap, ◌∙◌, subst, arith}
-use Rattle.std.specs.Prelude.{ℤ, if◌then◌else◌, Result, Err}
+use Rattle.std.specs.Prelude.{ℤ, ◌↔◌, IsTrue, Result, Err}
 use Rattle.aidl_base.specs.declared.profile.Profile.TheVariants.{Strict}
 use Rattle.aidl_schema.specs.declared.schema.Decl.{Decl}
 use Rattle.aidl_schema.specs.declared.schema.Method.{Method}
@@ -13,27 +13,29 @@ use Rattle.wire_model.specs.Receiver.{Received}
 unfoldable use Rattle.wire_model.specs.Receiver.{stub}
 use Rattle.wire_model.specs.Status.{unknown_transaction}
 use Rattle.compat_witness.specs.Alike.{IsShort}
-use Rattle.compat_witness.specs.Candidates.{Candidate, request, reply, ValuesFit, IsAnswerAt, IsAnswerOf, answer_bytes, at_method, bytes_of, client_of, server_of, counterpart, read_side, projected_side}
+use Rattle.compat_witness.specs.Candidates.{Candidate, Values, arguments, answered, ValuesFit, IsAnswerAt, IsAnswerOf, answer_bytes, at_method, bytes_of, client_of, server_of, counterpart, read_side, projected_side}
 use Rattle.compat_witness.specs.Sides.{Side, transport, no_reply, read_request, read_reply, received_by, projected_request, projected_reply, side_of}
 unfoldable use Rattle.compat_witness.specs.Sides.{projected_call}
-use Rattle.witness_calls.specs.declared.sides.Compared.{Compared}
 use Rattle.witness_calls.specs.declared.showing.Showing.{Showing}
 use Rattle.witness_calls.specs.declared.showing.Tried.{Tried}
-use Rattle.witness_calls.specs.Comparing.{AreCompared, NamesMethod}
-use Rattle.witness_calls.specs.Showing.{IsTried, Tries}
-use Rattle.witness_calls.specs.Counted.{AreCounted, NoneCount, IsCounted, IsWeighed, IsWeighedBy}
+use Rattle.witness_calls.specs.declared.reading.Reading.{Reading}
+use Rattle.witness_calls.specs.Comparing.{NamesMethod}
+use Rattle.witness_calls.specs.Seen.{reading_seen}
+use Rattle.witness_calls.specs.Showing.{IsTried, ShowsIt, Tries}
+use Rattle.witness_calls.specs.Counted.{AreCounted, AreWeighed, NoneCount, IsCounted, IsWeighed, IsWeighedBetween, IsWeighedBy}
 use Rattle.witness_calls.specs.steps.Projected.{callee_at}
-use Rattle.witness_calls.specs.steps.Shown.{shown_of}
+use Rattle.witness_calls.specs.steps.Shown.{IsShownBy, ShowsBy}
 use Rattle.witness_calls.proofs.NoCode.{no_code}
-use Rattle.witness_calls.proofs.Tests.{back_way}
+use Rattle.witness_calls.proofs.Tests.{back_way, fails}
 
 -- Bytes and sides
 
-pub weighed : (Fits : Type 0) (bytes : List ℕ) (o : Option (List ℕ)) (spelled sent : List ℕ) (R : List ℕ → Side) (p : Side) (c : Compared)
-    → IsCounted Fits bytes o → o ≡ Some spelled → sent ≡ spelled → AreCompared (R sent) p c → AreCounted Fits bytes spelled × AreCompared (R bytes) p c
-weighed Fits bytes o spelled sent R p c counted is same k =
+pub weighed : (Fits : Type 0) (bytes : List ℕ) (o : Option (List ℕ)) (spelled sent : List ℕ) (R : List ℕ → Side) (p : Side) (r q : Reading)
+    → IsCounted Fits bytes o → o ≡ Some spelled → sent ≡ spelled → reading_seen r ≡ R sent → reading_seen q ≡ p
+    → AreWeighed Fits bytes (R bytes) p (record { bytes = spelled; read = r; projected = q })
+weighed Fits bytes o spelled sent R p r q counted is same e f =
     let n : AreCounted Fits bytes spelled = subst (λ z. IsCounted Fits bytes z) is counted in
-    (n, subst (λ b. AreCompared (R b) p c) (same ∙ n.are) k)
+    record { bytes = n; read = e ∙ ap R (same ∙ n.are); projected = f }
 
 pub uncounted : (Fits : Type 0) (bytes : List ℕ) (o : Option (List ℕ)) → IsCounted Fits bytes o → o ≡ None → NoneCount Fits bytes
 uncounted Fits bytes o counted is = subst (λ z. IsCounted Fits bytes z) is counted
@@ -45,11 +47,11 @@ found B (Some q) s e =
     (ap (λ z. let o : Option (ℕ × ℕ) = Some (z.interface, z.method) in o) same, sym (ap (λ z. z.decls) same))
 
 -- a reply by the server's method
-pub reply_weighed : (A : List Decl) (i m : ℕ) (B : List Decl) (answer : Option AnswerData) (to : Option MethodOf) (s : MethodOf) (o : Option (List ℕ × Compared))
+pub reply_weighed : (A : List Decl) (i m : ℕ) (B : List Decl) (answer : Option AnswerData) (to : Option MethodOf) (s : MethodOf) (o : Option Showing)
     → to ≡ callee_at B (counterpart A i m B) → to ≡ Some s
     → IsWeighedBy (IsAnswerOf s.decls s.interface s.method answer) (answer_bytes s.decls s.interface s.method answer)
     (read_reply A i m s.decls s.interface s.method (answer_bytes s.decls s.interface s.method answer)) (projected_reply s.decls s.interface s.method A i m answer) o
-    → IsWeighed A B (reply false i m answer) o
+    → IsWeighedBetween A B i m (answered answer) o
 reply_weighed A i m B answer to s o is at h =
     let f = found B (counterpart A i m B) s (sym is ∙ at) in
     let here = subst (λ D. IsWeighedBy (IsAnswerOf D s.interface s.method answer) (answer_bytes D s.interface s.method answer)
@@ -63,38 +65,42 @@ unnamed B (Some q) e = cc
 
 -- a reply that the server lacks the method for
 pub reply_nowhere : (A : List Decl) (i m : ℕ) (B : List Decl) (answer : Option AnswerData) (to : Option MethodOf)
-    → to ≡ callee_at B (counterpart A i m B) → to ≡ None → IsWeighed A B (reply false i m answer) None
+    → to ≡ callee_at B (counterpart A i m B) → to ≡ None → IsWeighedBetween A B i m (answered answer) None
 reply_nowhere A i m B answer to is at =
     let none = unnamed B (counterpart A i m B) (sym is ∙ at) in
     record { nothing = λ fits small. subst (λ q. IsAnswerAt B q answer) none fits }
 
 -- what counts shows what its sides show
-pub tried : (old new : List Decl) (call : Candidate) (bytes : List ℕ) (c : Compared) → AreCounted (ValuesFit old new call) (bytes_of old new call) bytes
-    → AreCompared (read_side old new call) (projected_side old new call) c → Tries old new call (shown_of bytes c)
-tried old new call bytes c n k = by_test c.differ refl
+shown_tried : (old new : List Decl) (call : Candidate) (s : Showing) (t : Tried)
+    → AreWeighed (ValuesFit old new call) (bytes_of old new call) (read_side old new call) (projected_side old new call) s → IsShownBy s t → IsTried old new call t
+shown_tried old new call s t w h = record { tries = by t.showing h.shows; short = λ e fits. w.bytes.small }
   where
-    by_test : (b : Bool) → c.differ ≡ b → Tries old new call (if b then Some (let s : Showing = record { bytes = bytes; read = c.read; projected = c.projected } in s) else None)
-    by_test true e = record {
-      is_shown = record { counts = record { fits = n.fits; small = n.small }; differs = k.differ.0 e };
-      bytes = n.are;
-      read = k.read;
-      projected = k.projected;
-    }
-    by_test false e = λ s. let both : false ≡ true = sym e ∙ k.differ.1 s.differs in cc
+    by : (o : Option Showing) → ShowsBy s o → Tries old new call o
+    by None e = λ x. x.differs (sym w.read ∙ e ∙ w.projected)
+    by (Some z) h = subst (λ y. ShowsIt old new call y) (sym h.0) (record {
+      is_shown = record { counts = record { fits = w.bytes.fits; small = w.bytes.small }; differs = λ e. h.1 (w.read ∙ e ∙ sym w.projected) };
+      bytes = w.bytes.are;
+      read = w.read;
+      projected = w.projected;
+    })
 
 -- the same of what is weighed
-pub weighed_tried : (old new : List Decl) (call : Candidate) (o : Option (List ℕ × Compared)) (bytes : List ℕ) (c : Compared) (t : Tried)
-    → IsWeighed old new call o → o ≡ Some (bytes, c) → t ≡ record { showing = shown_of bytes c; short = true } → IsTried old new call t
-weighed_tried old new call o bytes c t w is shown =
-    let h : IsWeighed old new call (Some (bytes, c)) = subst (λ z. IsWeighed old new call z) is w in
-    subst (λ z. IsTried old new call z) (sym shown) (record { tries = tried old new call bytes c h.0 h.1; short = λ e fits. h.0.small })
+pub weighed_tried : (old new : List Decl) (call : Candidate) (o : Option Showing) (s : Showing) (t : Tried) → IsWeighed old new call o → o ≡ Some s → IsShownBy s t → IsTried old new call t
+weighed_tried old new call o s t w is h = shown_tried old new call s t (subst (λ z. IsWeighed old new call z) is w) h
+
+-- two sides that are the same, and two that aren't
+pub same_shown : (s : Showing) (t : Tried) (b : Bool) → (IsTrue b ↔ (reading_seen s.read ≡ reading_seen s.projected)) → b ≡ true → t ≡ record { showing = None; short = true } → IsShownBy s t
+same_shown s t b d e is = subst (λ z. IsShownBy s z) (sym is) (record { shows = d.0 e; short = refl })
+
+pub other_shown : (s : Showing) (b : Bool) → (IsTrue b ↔ (reading_seen s.read ≡ reading_seen s.projected)) → b ≡ false → IsShownBy s (record { showing = Some s; short = true })
+other_shown s b d e = record { shows = (refl, fails b d e); short = refl }
 
 -- what shows nothing
 unknown : (old new : List Decl) (call : Candidate) (t : Tried) (short : Bool) → Tries old new call None → (short ≡ true → IsShort old new call) → t ≡ record { showing = None; short = short } → IsTried old new call t
 unknown old new call t short none few is = subst (λ z. IsTried old new call z) (sym is) (record { tries = none; short = few })
 
 -- what doesn't count shows nothing
-pub none_tried : (old new : List Decl) (call : Candidate) (o : Option (List ℕ × Compared)) (t : Tried) (fits : Bool) → IsWeighed old new call o → o ≡ None → (fits ≡ false → ValuesFit old new call → ⊥)
+pub none_tried : (old new : List Decl) (call : Candidate) (o : Option Showing) (t : Tried) (fits : Bool) → IsWeighed old new call o → o ≡ None → (fits ≡ false → ValuesFit old new call → ⊥)
     → t ≡ record { showing = None; short = not fits } → IsTried old new call t
 none_tried old new call o t fits w is misfit nothing =
     let n : IsWeighed old new call None = subst (λ z. IsWeighed old new call z) is w in
@@ -158,10 +164,11 @@ no_counterpart A i m B h = by_declared (declared_as B (descriptor A i)) refl
     by_declared (Some j) at = let none = no_like (method_at A i m) (methods_at B j) (none_there (methods_at A i) m h) in rw (at, none) refl
 
 -- what names no method shows nothing
-nameless : (old new : List Decl) (call : Candidate) → (NamesMethod old new call → ⊥) → Tries old new call None
-nameless old new (request back i m args) h = λ s. s.differs (no_method (client_of back old new) i m (server_of back old new) args _ h)
-nameless old new (reply back i m answer) h = λ s.
+nameless : (old new : List Decl) (back : Bool) (i m : ℕ) (v : Values) → (m < length (methods_at (client_of back old new) i) → ⊥)
+    → Tries old new (record { back = back; interface = i; method = m; values = v }) None
+nameless old new back i m (arguments args) h = λ s. s.differs (no_method (client_of back old new) i m (server_of back old new) args _ h)
+nameless old new back i m (answered answer) h = λ s.
     subst (λ o. IsAnswerAt (server_of back old new) o answer) (no_counterpart (client_of back old new) i m (server_of back old new) h) s.counts.fits
 
 pub nothing_named : (old new : List Decl) (call : Candidate) (t : Tried) → (NamesMethod old new call → ⊥) → t ≡ record { showing = None; short = false } → IsTried old new call t
-nothing_named old new call t h is = unknown old new call t false (nameless old new call h) (λ e. cc) is
+nothing_named old new call t h is = unknown old new call t false (nameless old new call.back call.interface call.method call.values h) (λ e. cc) is

@@ -1,10 +1,11 @@
 -- What counts of a call between two versions: its bytes, with its two sides (own).
 use Rattle.std.specs.Prelude.{◌≡◌, ℕ, ◌≤◌, List, length, Option, Some, None}
 use Rattle.aidl_schema.specs.declared.schema.Decl.{Decl}
-use Rattle.compat_witness.specs.Candidates.{Candidate, ValuesFit, bytes_of, read_side, projected_side}
+use Rattle.compat_witness.specs.Candidates.{Candidate, Values, client_of, server_of, fit_between, bytes_between}
+use Rattle.compat_witness.specs.Candidates.{read_between, projected_between}
 use Rattle.compat_witness.specs.Sides.{Side}
-use Rattle.witness_calls.specs.declared.sides.Compared.{Compared}
-use Rattle.witness_calls.specs.Comparing.{AreCompared}
+use Rattle.witness_calls.specs.declared.showing.Showing.{Showing}
+use Rattle.witness_calls.specs.Seen.{reading_seen}
 
 -- what counts: the values fit, and these are the bytes, which aren't too many
 pub record AreCounted (Fits : Type 0) (bytes spelled : List ℕ) : Type 0 where
@@ -21,11 +22,23 @@ abbrev pub IsCounted : Type 0 → List ℕ → Option (List ℕ) → Type 0
 IsCounted Fits bytes None = NoneCount Fits bytes
 IsCounted Fits bytes (Some spelled) = AreCounted Fits bytes spelled
 
--- bytes that count with the two sides of their call, or none
-abbrev pub IsWeighedBy : Type 0 → List ℕ → Side → Side → Option (List ℕ × Compared) → Type 0
+-- bytes that count, with the two sides of their call
+pub record AreWeighed (Fits : Type 0) (of_bytes : List ℕ) (of_read of_values : Side) (s : Showing) : Type 0 where
+  pub bytes : AreCounted Fits of_bytes s.bytes
+  pub read : reading_seen s.read ≡ of_read
+  pub projected : reading_seen s.projected ≡ of_values
+
+-- these, or none
+abbrev pub IsWeighedBy : Type 0 → List ℕ → Side → Side → Option Showing → Type 0
 IsWeighedBy Fits bytes read projected None = NoneCount Fits bytes
-IsWeighedBy Fits bytes read projected (Some w) = AreCounted Fits bytes w.0 × AreCompared read projected w.1
+IsWeighedBy Fits bytes read projected (Some s) = AreWeighed Fits bytes read projected s
+
+-- the same of what is sent between a client A and a server B
+abbrev pub IsWeighedBetween : List Decl → List Decl → ℕ → ℕ → Values → Option Showing → Type 0
+IsWeighedBetween A B i m values o = IsWeighedBy (fit_between A B i m values) (bytes_between A B i m values)
+    (read_between A B i m values) (projected_between A B i m values) o
 
 -- the same of a call
-abbrev pub IsWeighed : List Decl → List Decl → Candidate → Option (List ℕ × Compared) → Type 0
-IsWeighed old new call o = IsWeighedBy (ValuesFit old new call) (bytes_of old new call) (read_side old new call) (projected_side old new call) o
+abbrev pub IsWeighed : List Decl → List Decl → Candidate → Option Showing → Type 0
+IsWeighed old new c o =
+    IsWeighedBetween (client_of c.back old new) (server_of c.back old new) c.interface c.method c.values o

@@ -6,14 +6,19 @@ use Rattle.stub_dispatch.specs.Got.{got_of}
 use Rattle.compat_witness.specs.Candidates as candidate
 use Rattle.compat_witness.specs.Sides as side
 use Rattle.witness_calls.specs.declared.call.Call.{Call}
-use Rattle.witness_calls.specs.declared.call.Call.TheVariants.{Request, Reply}
+use Rattle.witness_calls.specs.declared.call.Values.{Values}
+use Rattle.witness_calls.specs.declared.call.Values.TheVariants.{Arguments, Answer}
 use Rattle.witness_calls.specs.declared.reading.Reading.{Reading}
 use Rattle.witness_calls.specs.declared.reading.Reading.TheVariants.{Transport, Left, Called, Client, NoReply}
 
+-- what is sent
+abbrev pub values_seen : Values → candidate.Values
+values_seen (Arguments args) = candidate.arguments (views args)
+values_seen (Answer answer) = candidate.answered (option_map answer_of answer)
+
 -- a call is a candidate
 abbrev pub call_seen : Call → candidate.Candidate
-call_seen (Request back interface method args) = candidate.request back interface method (views args)
-call_seen (Reply back interface method answer) = candidate.reply back interface method (option_map answer_of answer)
+call_seen c = record { back = c.back; interface = c.interface; method = c.method; values = values_seen c.values }
 
 -- a reading is a side
 abbrev pub reading_seen : Reading → side.Side

@@ -24,7 +24,8 @@ abbrev pub Tries : List Decl → List Decl → Candidate → Option Showing → 
 Tries old new c None = IsShown old new c → ⊥
 Tries old new c (Some s) = ShowsIt old new c s
 
--- the same of a call that was tried; and where it is said to be short, it has at most 1,048,576 bytes, if its values fit
+-- the same of a call that was tried; and where it is said to be short, it has at most 1,048,576 bytes, if its
+-- values fit
 pub record IsTried (old new : List Decl) (c : Candidate) (t : Tried) : Type 0 where
   pub tries : Tries old new c t.showing
   pub short : t.short ≡ true → IsShort old new c

@@ -45,7 +45,7 @@ pub fn project_arguments(
     Ok(Some(Row::from_vec(seen)))
 }
 
-/// The argument at a position. It takes no memory.
+/// The argument at a position.
 pub fn argument_at(args: &[Arg], k: usize) -> Option<&Arg>
     ensures { option_copied result ≡ slice_get args.now k }
 {
@@ -128,7 +128,7 @@ pub fn some_default(
     Ok(Some(value))
 }
 
-/// Whether no value of an argument of a way is sent. It takes no memory.
+/// Whether no value of an argument of a way is sent.
 pub fn is_out(way: Direction) -> bool
     ensures { result ≡ calls.is_out way }
 {

@@ -19,7 +19,7 @@ const MOST_ITEMS: usize = 65_536;
 // The greatest depth of a value.
 const MOST_LEVELS: usize = 64;
 
-/// Whether arguments fit a method. It takes no memory.
+/// Whether arguments fit a method.
 pub fn args_fit(client: &VersionMethod<'_, '_>, values: &[Value]) -> bool
     ensures { IsTrue result
         ↔ ArgsFit client.now.decls client.now.interface client.now.method (views values.now) }
@@ -138,7 +138,7 @@ fn asked_length(arg: &Arg, value: &Value) -> usize
     }
 }
 
-/// Whether an answer is one of a two-way method. It takes no memory.
+/// Whether an answer is one of a two-way method.
 #[tactic(auto, using(crate::proofs::Tests::first_fails, crate::proofs::Tests::second))]
 pub fn is_two_way_answer(server: &VersionMethod<'_, '_>, answer: &Answer) -> bool
     ensures { IsTrue result

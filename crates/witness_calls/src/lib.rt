@@ -13,13 +13,13 @@ mod replies;
 mod requests;
 mod same;
 mod showing;
-mod sides;
 mod version;
 mod version_method;
 mod weighing;
 
 pub use arguments::is_out;
-pub use call::Call;
+pub use call::{Call, Values};
+pub use names::{declared, declared_like};
 pub use reading::Reading;
 pub use showing::{Showing, Tried, try_call};
 pub use version::Version;

@@ -60,7 +60,7 @@ impl<'a> NamedDecl<'a> {
     pub fn method_named(&self, name: &str) -> Option<usize>
         ensures { result ≡ method_named (methods_of self.now.kind) name.now }
     {
-        place_of(&self.methods, name)
+        self.methods.get(name).copied()
     }
 
     // The position of the method of an id.
@@ -68,20 +68,8 @@ impl<'a> NamedDecl<'a> {
     pub fn method_of_id(&self, id: u32) -> Option<usize>
         ensures { result ≡ position_of_code (methods_of self.now.kind) (id + 1) }
     {
-        place_of_id(&self.ids, id)
+        self.ids.get(&id).copied()
     }
-}
-
-fn place_of(table: &IndexMap<&str, usize>, name: &str) -> Option<usize>
-    ensures { result ≡ get_by (λ k. bytes_eq name.now k.now) table.now }
-{
-    table.get(name).copied()
-}
-
-fn place_of_id(table: &IndexMap<u32, usize>, id: u32) -> Option<usize>
-    ensures { result ≡ get nat_eq table.now id }
-{
-    table.get(&id).copied()
 }
 
 // The first position of each name, from the last method on.

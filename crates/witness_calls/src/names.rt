@@ -10,26 +10,33 @@ ghost use Rattle.witness_calls.specs.steps.Projected.{callee_at};
 
 use crate::version::Version;
 use crate::version_method::VersionMethod;
-use aidl_base::OutOfMemory;
+use aidl_base::{OutOfMemory, Text};
 use aidl_schema::{Method, Schema, find, law_valid};
 use std::alloc::Global;
 use stub_dispatch::descriptor_of;
 
-/// The number of the server's declaration that has the name of a client's interface.
-#[tactic(auto, using(wire_model::proofs::lemmas::NamedTexts::number_declared))]
-pub fn declared_as(
-    alloc: Global,
-    client: &VersionMethod<'_, '_>,
-    server: &Schema,
-) -> Result<Option<u32>, OutOfMemory>
-    ensures { IfOk result (λ j. j
-        ≡ meant.declared_as server.now.decls (descriptor client.now.decls client.now.interface)) }
+/// The number of the declaration of a name.
+pub fn declared(schema: &Schema, name: &Text) -> Option<u32>
+    ensures { result ≡ meant.declared_as schema.now.decls name.now }
 {
-    let name = descriptor_of(alloc, client.schema(), client.interface())?;
-    Ok(find(server, name.as_str()))
+    find(schema, name.as_str())
 }
 
-/// The position of the method of an interface of the server that has the name of a client's method. It takes no memory.
+/// The number of the server's declaration of the name that a declaration of the client has.
+pub fn declared_like(
+    alloc: Global,
+    client: &Schema,
+    number: u32,
+    server: &Schema,
+) -> Result<Option<u32>, OutOfMemory>
+    ensures { IfOk result (λ found. found
+        ≡ meant.declared_as server.now.decls (descriptor client.now.decls number)) }
+{
+    let name = descriptor_of(alloc, client, number)?;
+    Ok(declared(server, &name))
+}
+
+/// The position of the method of an interface of the server that has the name of a client's method.
 pub fn method_like(
     client: &VersionMethod<'_, '_>,
     server: &Version<'_>,
@@ -47,8 +54,7 @@ pub fn method_like(
     }
 }
 
-/// The position of the method of an interface of the server that has the transaction code of a client's method. It
-/// takes no memory.
+/// The position of the method of an interface of the server that has the transaction code of a client's method.
 pub fn method_called(
     client: &VersionMethod<'_, '_>,
     server: &Version<'_>,
@@ -74,7 +80,13 @@ pub fn counterpart<'v, 'a>(
     ensures { IfOk result (λ o. o ≡ callee_at server.now
         (counterpart client.now.decls client.now.interface client.now.method server.now)) }
 {
-    let Some(interface) = declared_as(alloc, client, server.schema())? else {
+    let Some(interface) = declared_like(
+        alloc,
+        client.schema(),
+        client.interface(),
+        server.schema(),
+    )?
+    else {
         return Ok(None);
     };
     match method_like(client, server, interface) {

@@ -5,7 +5,7 @@ ghost use Rattle.std.specs.Option.{option_copied};
 ghost use Rattle.aidl_schema.specs.Methods.{is_passed_type, is_result_type};
 ghost use Rattle.aidl_schema.specs.Types.{is_type};
 ghost use Rattle.aidl_values.specs.View.{view, views};
-ghost use Rattle.compat_witness.specs.Sides.{first_of, others_of, out_first, projected_out, projected_outs, projected_result};
+ghost use Rattle.compat_witness.specs.Sides.{first_of, out_first, projected_outs, projected_result};
 ghost use Rattle.wire_model.specs.Calls.{optional_view};
 ghost use Rattle.witness_calls.specs.steps.Collected.{Puts};
 ghost use Rattle.witness_calls.specs.steps.Positions.{left_after, out_seen};
@@ -33,10 +33,10 @@ pub fn project_result(
         (optional_view value.now)) }
 {
     match wanted {
-        Some(wanted) => {
-            let seen = project_returned(alloc, ends, sent, wanted, value)?;
-            Ok(as_result(seen))
-        }
+        Some(wanted) => match project_returned(alloc, ends, sent, wanted, value)? {
+            Some(seen) => Ok(Some(Some(seen))),
+            None => Ok(None),
+        },
         None => Ok(Some(None)),
     }
 }
@@ -60,15 +60,6 @@ fn project_returned(
     match value {
         Some(value) => view_value(alloc, ends.sender, sent, ends.receiver, wanted, value),
         None => some_default(alloc, ends.receiver, wanted),
-    }
-}
-
-fn as_result(value: Option<Value>) -> Option<Option<Value>>
-    ensures { option_map optional_view result ≡ option_map Some (option_map view value) }
-{
-    match value {
-        Some(value) => Some(Some(value)),
-        None => None,
     }
 }
 
@@ -142,26 +133,9 @@ fn project_out(
     let Some(sent) = sent else {
         return some_default(alloc, ends.receiver, wanted.ty);
     };
-    if comes_back(sent.way) {
-        project_sent_out(alloc, ends, sent, wanted, values)
-    } else {
-        some_default(alloc, ends.receiver, wanted.ty)
+    if !comes_back(sent.way) {
+        return some_default(alloc, ends.receiver, wanted.ty);
     }
-}
-
-// What the client has of an out that both methods have, whose value comes first.
-fn project_sent_out(
-    alloc: Global,
-    ends: &Ends<'_, '_, '_>,
-    sent: &Arg,
-    wanted: &Arg,
-    values: &[Value],
-) -> Result<Option<Value>, OutOfMemory>
-    requires { is_type ends.now.receiver.now wanted.now.ty ≡ true }
-    ensures { IfOk result (λ o. option_map view o
-        ≡ projected_out ends.now.sender.now sent.now ends.now.receiver.now wanted.now
-        (first_of (views values.now))) }
-{
     match values {
         [] => some_default(alloc, ends.receiver, wanted.ty),
         [value, _others @ ..] => view_value(
@@ -180,23 +154,11 @@ fn values_after<'v>(sent: Option<&Arg>, values: &'v [Value]) -> &'v [Value]
     ensures { views result.now ≡ left_after (option_copied sent.entry) (views values.now) }
 {
     match sent {
-        Some(sent) => {
-            if comes_back(sent.way) {
-                behind_first(values)
-            } else {
-                values
-            }
-        }
+        Some(sent) if comes_back(sent.way) => match values {
+            [] => values,
+            [_value, others @ ..] => others,
+        },
+        Some(_) => values,
         None => values,
-    }
-}
-
-// The values behind the first.
-fn behind_first(values: &[Value]) -> &[Value]
-    ensures { views result.now ≡ others_of (views values.now) }
-{
-    match values {
-        [] => values,
-        [_value, others @ ..] => others,
     }
 }

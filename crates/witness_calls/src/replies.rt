@@ -1,25 +1,24 @@
 //! A reply between two versions: its bytes where it counts, what is read of them, and what its values are projected to.
-ghost use Rattle.std.specs.Prelude.{◌≡◌, [], false, option_map, true, IfOk, None, Some};
+ghost use Rattle.std.specs.Prelude.{◌≡◌, false, option_map, IfOk, None, Some};
 ghost use Rattle.aidl_values.specs.Data.{none};
 ghost use Rattle.aidl_values.specs.View.{views};
-ghost use Rattle.compat_witness.specs.Candidates.{IsAnswerOf, answer_bytes};
+ghost use Rattle.compat_witness.specs.Candidates.{IsAnswerOf, answer_bytes, answered};
 ghost use Rattle.compat_witness.specs.Sides.{projected_answer, projected_reply, read_reply};
 ghost use Rattle.stub_dispatch.specs.Got.{got_of};
 ghost use Rattle.wire_model.specs.Calls.{answer_of, is_oneway, optional_view};
-ghost use Rattle.wire_model.specs.Calls as calls;
 ghost use Rattle.wire_model.specs.Requests.{IsAnswer, reply};
-ghost use Rattle.witness_calls.specs.Comparing.{AreCompared};
 ghost use Rattle.witness_calls.specs.Seen.{reading_seen};
-ghost use Rattle.witness_calls.specs.Counted.{IsCounted};
-ghost use Rattle.witness_calls.specs.steps.Projected.{returned_with, sent_seen};
+ghost use Rattle.witness_calls.specs.Counted.{IsCounted, IsWeighedBetween, IsWeighedBy};
+ghost use Rattle.witness_calls.specs.steps.Projected.{sent_seen};
 
 use crate::ends::Ends;
 use crate::fitting::is_two_way_answer;
-use crate::names::law_method;
+use crate::names::{counterpart, law_method};
 use crate::outs::{project_outs, project_result};
 use crate::reading::Reading;
 use crate::requests::BAD_VALUE;
-use crate::sides::{Compared, beside};
+use crate::showing::Showing;
+use crate::version::Version;
 use crate::version_method::VersionMethod;
 use aidl_base::{LimitName, OutOfMemory, Profile, Row};
 use aidl_schema::{AidlType, Arg};
@@ -27,8 +26,59 @@ use aidl_values::{Answer, Value};
 use std::alloc::Global;
 use stub_dispatch::{Got, answer_bytes, read_answer, reply_length};
 
-/// The bytes of a reply that counts, None of any other. A oneway method has no answer, and no bytes.
-pub fn counted_reply(
+/// The bytes of a reply that counts, with its two sides; None of any other.
+pub fn weigh_reply(
+    alloc: Global,
+    client: &VersionMethod<'_, '_>,
+    server: &Version<'_>,
+    answer: &Option<Answer>,
+) -> Result<Option<Showing>, OutOfMemory>
+    ensures { IfOk result (λ o. IsWeighedBetween client.now.decls server.now client.now.interface client.now.method
+        (answered (option_map answer_of answer.now)) o) }
+{
+    match counterpart(alloc, client, server)? {
+        Some(target) => {
+            let weighed = weigh_answer(alloc, client, &target, answer)?;
+            Ok(weighed)
+        }
+        None => Ok(None),
+    }
+}
+
+// The same by both methods.
+fn weigh_answer(
+    alloc: Global,
+    client: &VersionMethod<'_, '_>,
+    server: &VersionMethod<'_, '_>,
+    answer: &Option<Answer>,
+) -> Result<Option<Showing>, OutOfMemory>
+    ensures { IfOk result (λ o. IsWeighedBy
+        (IsAnswerOf server.now.decls server.now.interface server.now.method
+        (option_map answer_of answer.now))
+        (answer_bytes server.now.decls server.now.interface server.now.method
+        (option_map answer_of answer.now))
+        (read_reply client.now.decls client.now.interface
+        client.now.method server.now.decls server.now.interface server.now.method
+        (answer_bytes server.now.decls server.now.interface server.now.method
+        (option_map answer_of answer.now)))
+        (projected_reply server.now.decls server.now.interface server.now.method
+        client.now.decls client.now.interface client.now.method
+        (option_map answer_of answer.now)) o) }
+{
+    let Some(bytes) = counted_reply(alloc, server, answer)? else {
+        return Ok(None);
+    };
+    let read = read_reply(alloc, client, server, bytes.as_slice())?;
+    let got = project_answer(alloc, server, client, answer)?;
+    Ok(Some(Showing {
+        bytes,
+        read,
+        projected: Reading::Client(got),
+    }))
+}
+
+// The bytes of a reply that counts, None of any other. A oneway method has no answer, and no bytes.
+fn counted_reply(
     alloc: Global,
     server: &VersionMethod<'_, '_>,
     answer: &Option<Answer>,
@@ -41,19 +91,8 @@ pub fn counted_reply(
 {
     match answer {
         Some(answer) => counted_answer(alloc, server, answer),
-        None => Ok(counted_nothing(alloc, server)),
-    }
-}
-
-// The same without an answer.
-fn counted_nothing(alloc: Global, server: &VersionMethod<'_, '_>) -> Option<Row<u8>>
-    ensures { IsCounted
-        (is_oneway server.now.decls server.now.interface server.now.method ≡ true) [] result }
-{
-    if server.declared().oneway {
-        Some(Row::new(alloc))
-    } else {
-        None
+        None if server.declared().oneway => Ok(Some(Row::new(alloc))),
+        None => Ok(None),
     }
 }
 
@@ -79,26 +118,6 @@ fn counted_answer(
     Ok(Some(Row::from_vec(bytes)))
 }
 
-/// The two sides of a reply of these bytes, and whether they differ.
-pub fn compare_reply(
-    alloc: Global,
-    client: &VersionMethod<'_, '_>,
-    server: &VersionMethod<'_, '_>,
-    answer: &Option<Answer>,
-    bytes: &[u8],
-) -> Result<Compared, OutOfMemory>
-    ensures { IfOk result (λ c. AreCompared
-        (read_reply client.now.decls client.now.interface client.now.method
-        server.now.decls server.now.interface server.now.method bytes.now)
-        (projected_reply server.now.decls server.now.interface server.now.method
-        client.now.decls client.now.interface client.now.method
-        (option_map answer_of answer.now)) c) }
-{
-    let read = read_reply(alloc, client, server, bytes)?;
-    let got = project_answer(alloc, server, client, answer)?;
-    Ok(beside(read, Reading::Client(got)))
-}
-
 // What the client makes of the bytes; a oneway method of the server has no reply.
 fn read_reply(
     alloc: Global,
@@ -117,7 +136,8 @@ fn read_reply(
     Ok(Reading::Client(got))
 }
 
-// What an answer is to the client's method.
+// What an answer is to the client's method. An exception is itself.
+#[tactic(auto, unfolding(compat_witness::specs::Sides::projected_answer))]
 fn project_answer(
     alloc: Global,
     server: &VersionMethod<'_, '_>,
@@ -129,32 +149,23 @@ fn project_answer(
         client.now.decls client.now.interface client.now.method (option_map answer_of answer.now)) }
 {
     match answer {
-        Some(answer) => project_given(alloc, server, client, answer),
-        None => project_nothing(alloc, server, client),
-    }
-}
-
-// The same of an answer that is there. An exception is itself.
-#[tactic(auto, unfolding(compat_witness::specs::Sides::projected_answer))]
-fn project_given(
-    alloc: Global,
-    server: &VersionMethod<'_, '_>,
-    client: &VersionMethod<'_, '_>,
-    answer: &Answer,
-) -> Result<Got, OutOfMemory>
-    ensures { IfOk result (λ got. got_of got
-        ≡ projected_answer server.now.decls server.now.interface server.now.method
-        client.now.decls client.now.interface client.now.method (Some (answer_of answer.now))) }
-{
-    match answer {
-        Answer::Returned { result, outs } => {
-            project_values(alloc, server, client, result, outs.as_slice())
+        Some(Answer::Returned { result, outs }) => {
+            let method = server.declared();
+            let sent = Sent {
+                ty: method.result,
+                args: method.args.as_slice(),
+                value: result,
+                outs: outs.as_slice(),
+            };
+            project_sent(alloc, server, client, &sent)
         }
-        Answer::Exception {
-            code,
-            message,
-            error,
-        } => {
+        Some(
+            Answer::Exception {
+                code,
+                message,
+                error,
+            },
+        ) => {
             let message = message.try_clone(alloc)?;
             Ok(Got::Exception {
                 code: *code,
@@ -162,31 +173,8 @@ fn project_given(
                 error: *error,
             })
         }
+        None => project_nothing(alloc, server, client),
     }
-}
-
-// The same of a result and outs.
-#[tactic(auto, unfolding(compat_witness::specs::Sides::projected_answer))]
-fn project_values(
-    alloc: Global,
-    server: &VersionMethod<'_, '_>,
-    client: &VersionMethod<'_, '_>,
-    value: &Option<Value>,
-    outs: &[Value],
-) -> Result<Got, OutOfMemory>
-    ensures { IfOk result (λ got. got_of got
-        ≡ projected_answer server.now.decls server.now.interface
-        server.now.method client.now.decls client.now.interface client.now.method
-        (Some (calls.returned (optional_view value.now) (views outs.now)))) }
-{
-    let method = server.declared();
-    let sent = Sent {
-        ty: method.result,
-        args: method.args.as_slice(),
-        value,
-        outs,
-    };
-    project_sent(alloc, server, client, &sent)
 }
 
 // What a client has without an answer.
@@ -238,23 +226,12 @@ fn project_sent(
     law_method(client.schema(), client.interface(), client.method(), wanted);
     let seen = project_result(alloc, &ends, sent.ty, wanted.result, sent.value)?;
     match seen {
-        Some(seen) => {
-            let outs = project_outs(alloc, &ends, sent.args, wanted.args.as_slice(), sent.outs)?;
-            Ok(returned(seen, outs))
+        Some(result) => {
+            match project_outs(alloc, &ends, sent.args, wanted.args.as_slice(), sent.outs)? {
+                Some(outs) => Ok(Got::Returned { result, outs }),
+                None => Ok(Got::Failed { status: BAD_VALUE }),
+            }
         }
         None => Ok(Got::Failed { status: BAD_VALUE }),
-    }
-}
-
-// A result with outs; BAD_VALUE where an out has no view.
-fn returned(value: Option<Value>, outs: Option<Row<Value>>) -> Got
-    ensures { got_of result ≡ returned_with (optional_view value) (option_map views outs) }
-{
-    match outs {
-        Some(outs) => Got::Returned {
-            result: value,
-            outs,
-        },
-        None => Got::Failed { status: BAD_VALUE },
     }
 }

@@ -1,22 +1,22 @@
 //! A request between two versions: its bytes where it counts, what is read of them, and what its values are projected to.
 ghost use Rattle.std.specs.Prelude.{◌≡◌, length, IfOk};
 ghost use Rattle.aidl_values.specs.View.{views};
+ghost use Rattle.compat_witness.specs.Candidates.{arguments};
 ghost use Rattle.compat_witness.specs.Sides.{projected_request, read_request, side_of};
 ghost use Rattle.stub_dispatch.specs.Receipts.{receipt_of};
 ghost use Rattle.wire_model.specs.Calls.{code_at};
 ghost use Rattle.wire_model.specs.Receiver.{stub};
 ghost use Rattle.wire_model.specs.Requests.{ArgsFit, request};
-ghost use Rattle.witness_calls.specs.Comparing.{AreCompared};
 ghost use Rattle.witness_calls.specs.Seen.{reading_seen};
-ghost use Rattle.witness_calls.specs.Counted.{IsCounted};
+ghost use Rattle.witness_calls.specs.Counted.{IsCounted, IsWeighedBetween};
 ghost use Rattle.witness_calls.specs.steps.Projected.{called_at, called_in};
 
 use crate::arguments::project_arguments;
 use crate::ends::Ends;
 use crate::fitting::args_fit;
-use crate::names::{declared_as, law_method, method_called, method_like};
+use crate::names::{declared_like, law_method, method_called, method_like};
 use crate::reading::Reading;
-use crate::sides::{Compared, beside};
+use crate::showing::Showing;
 use crate::version::Version;
 use crate::version_method::VersionMethod;
 use aidl_base::{OutOfMemory, Profile, Row};
@@ -30,8 +30,30 @@ const UNKNOWN_TRANSACTION: i32 = -74;
 /// BAD_VALUE: a value has no view.
 pub const BAD_VALUE: i32 = -22;
 
-/// The bytes of a request that counts, None of any other.
-pub fn counted_request(
+/// The bytes of a request that counts, with its two sides; None of any other.
+pub fn weigh_request(
+    alloc: Global,
+    client: &VersionMethod<'_, '_>,
+    server: &Version<'_>,
+    args: &[Value],
+) -> Result<Option<Showing>, OutOfMemory>
+    ensures { IfOk result (λ o. IsWeighedBetween client.now.decls server.now client.now.interface client.now.method
+        (arguments (views args.now)) o) }
+{
+    let Some(bytes) = counted_request(alloc, client, args)? else {
+        return Ok(None);
+    };
+    let read = read_request(alloc, client, server, bytes.as_slice())?;
+    let projected = project_request(alloc, client, server, args)?;
+    Ok(Some(Showing {
+        bytes,
+        read,
+        projected,
+    }))
+}
+
+// The bytes of a request that counts, None of any other.
+fn counted_request(
     alloc: Global,
     client: &VersionMethod<'_, '_>,
     args: &[Value],
@@ -50,24 +72,6 @@ pub fn counted_request(
     }
 }
 
-/// The two sides of a request of these bytes, and whether they differ.
-pub fn compare_request(
-    alloc: Global,
-    client: &VersionMethod<'_, '_>,
-    server: &Version<'_>,
-    args: &[Value],
-    bytes: &[u8],
-) -> Result<Compared, OutOfMemory>
-    ensures { IfOk result (λ c. AreCompared
-        (read_request client.now.decls client.now.interface client.now.method server.now bytes.now)
-        (projected_request client.now.decls client.now.interface client.now.method server.now
-        (views args.now)) c) }
-{
-    let read = read_request(alloc, client, server, bytes)?;
-    let projected = project_request(alloc, client, server, args)?;
-    Ok(beside(read, projected))
-}
-
 // What the server's interface of that name makes of the bytes.
 fn read_request(
     alloc: Global,
@@ -79,7 +83,7 @@ fn read_request(
         ≡ read_request client.now.decls client.now.interface
         client.now.method server.now bytes.now) }
 {
-    match declared_as(alloc, client, server.schema())? {
+    match declared_like(alloc, client.schema(), client.interface(), server.schema())? {
         Some(interface) => read_in(alloc, client, server, interface, bytes),
         None => Ok(Reading::Transport(UNKNOWN_TRANSACTION)),
     }
@@ -129,7 +133,7 @@ fn project_request(
         ≡ projected_request client.now.decls client.now.interface client.now.method server.now
         (views args.now)) }
 {
-    match declared_as(alloc, client, server.schema())? {
+    match declared_like(alloc, client.schema(), client.interface(), server.schema())? {
         Some(interface) => project_in(alloc, client, server, interface, args),
         None => Ok(Reading::Transport(UNKNOWN_TRANSACTION)),
     }

@@ -1,10 +1,10 @@
 //! Whether two sides of a call are the same.
 ghost use Rattle.std.specs.Prelude.{◌≡◌, ◌↔◌, IsTrue};
 ghost use Rattle.aidl_values.specs.View.{views};
-ghost use Rattle.compat_witness.specs.Sides.{called, client, left, no_reply, transport};
+ghost use Rattle.compat_witness.specs.Sides.{called};
 ghost use Rattle.stub_dispatch.specs.Got.{got_of};
 ghost use Rattle.wire_model.specs.Calls.{exception, optional_view, returned};
-ghost use Rattle.std.specs.Prelude.{Err, Ok};
+ghost use Rattle.std.specs.Prelude.{Ok};
 ghost use Rattle.witness_calls.specs.Seen.{reading_seen};
 
 use crate::reading::Reading;
@@ -14,40 +14,40 @@ use aidl_values::Value;
 use stub_dispatch::Got;
 use value_views::same_value;
 
-/// Whether two sides are the same: one kind, with equal numbers and texts and the same data. It takes no memory.
+/// Whether two sides are the same: one kind, with equal numbers and texts and the same data.
 pub fn same_reading(a: &Reading, b: &Reading) -> bool
     ensures { IsTrue result ↔ (reading_seen a.now ≡ reading_seen b.now) }
 {
     match a {
-        Reading::Transport(status) => is_transport(b, *status),
-        Reading::Left(method) => is_left(b, *method),
+        Reading::Transport(status) => match b {
+            Reading::Transport(other) => *status == *other,
+            Reading::Left(_) => false,
+            Reading::Called { .. } => false,
+            Reading::Client(_) => false,
+            Reading::NoReply => false,
+        },
+        Reading::Left(method) => match b {
+            Reading::Transport(_) => false,
+            Reading::Left(other) => *method == *other,
+            Reading::Called { .. } => false,
+            Reading::Client(_) => false,
+            Reading::NoReply => false,
+        },
         Reading::Called { method, saw } => is_called(b, *method, saw.as_slice()),
-        Reading::Client(got) => is_client(b, got),
-        Reading::NoReply => is_no_reply(b),
-    }
-}
-
-fn is_transport(reading: &Reading, status: i32) -> bool
-    ensures { IsTrue result ↔ (transport status ≡ reading_seen reading.now) }
-{
-    match reading {
-        Reading::Transport(other) => status == *other,
-        Reading::Left(_) => false,
-        Reading::Called { .. } => false,
-        Reading::Client(_) => false,
-        Reading::NoReply => false,
-    }
-}
-
-fn is_left(reading: &Reading, method: u32) -> bool
-    ensures { IsTrue result ↔ (left method ≡ reading_seen reading.now) }
-{
-    match reading {
-        Reading::Left(other) => method == *other,
-        Reading::Transport(_) => false,
-        Reading::Called { .. } => false,
-        Reading::Client(_) => false,
-        Reading::NoReply => false,
+        Reading::Client(got) => match b {
+            Reading::Transport(_) => false,
+            Reading::Left(_) => false,
+            Reading::Called { .. } => false,
+            Reading::Client(other) => same_got(got, other),
+            Reading::NoReply => false,
+        },
+        Reading::NoReply => match b {
+            Reading::Transport(_) => false,
+            Reading::Left(_) => false,
+            Reading::Called { .. } => false,
+            Reading::Client(_) => false,
+            Reading::NoReply => true,
+        },
     }
 }
 
@@ -55,40 +55,11 @@ fn is_called(reading: &Reading, number: u32, values: &[Value]) -> bool
     ensures { IsTrue result ↔ (called number (views values.now) ≡ reading_seen reading.now) }
 {
     match reading {
-        Reading::Called { method, saw } => {
-            if number != *method {
-                return false;
-            }
-            same_values(values, saw.as_slice())
-        }
         Reading::Transport(_) => false,
         Reading::Left(_) => false,
+        Reading::Called { method, saw } => number == *method && same_values(values, saw.as_slice()),
         Reading::Client(_) => false,
         Reading::NoReply => false,
-    }
-}
-
-fn is_client(reading: &Reading, got: &Got) -> bool
-    ensures { IsTrue result ↔ (client (got_of got.now) ≡ reading_seen reading.now) }
-{
-    match reading {
-        Reading::Client(other) => same_got(got, other),
-        Reading::Transport(_) => false,
-        Reading::Left(_) => false,
-        Reading::Called { .. } => false,
-        Reading::NoReply => false,
-    }
-}
-
-fn is_no_reply(reading: &Reading) -> bool
-    ensures { IsTrue result ↔ (no_reply ≡ reading_seen reading.now) }
-{
-    match reading {
-        Reading::NoReply => true,
-        Reading::Transport(_) => false,
-        Reading::Left(_) => false,
-        Reading::Called { .. } => false,
-        Reading::Client(_) => false,
     }
 }
 
@@ -103,7 +74,11 @@ fn same_got(a: &Got, b: &Got) -> bool
             message,
             error,
         } => is_exception(b, *code, message, *error),
-        Got::Failed { status } => is_failed(b, *status),
+        Got::Failed { status } => match b {
+            Got::Returned { .. } => false,
+            Got::Exception { .. } => false,
+            Got::Failed { status: other } => *status == *other,
+        },
     }
 }
 
@@ -131,24 +106,9 @@ fn is_exception(got: &Got, number: i32, text: &Text, extra: i32) -> bool
             code,
             message,
             error,
-        } => {
-            if number != *code || extra != *error {
-                return false;
-            }
-            same_text(text, message)
-        }
+        } => number == *code && extra == *error && same_text(text, message),
         Got::Returned { .. } => false,
         Got::Failed { .. } => false,
-    }
-}
-
-fn is_failed(got: &Got, number: i32) -> bool
-    ensures { IsTrue result ↔ (Err number ≡ got_of got.now) }
-{
-    match got {
-        Got::Failed { status } => number == *status,
-        Got::Returned { .. } => false,
-        Got::Exception { .. } => false,
     }
 }
 

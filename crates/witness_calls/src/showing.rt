@@ -2,17 +2,18 @@
 ghost use Rattle.std.specs.Prelude.{◌≡◌, None, true, IfOk};
 ghost use Rattle.witness_calls.specs.Showing.{IsTried};
 ghost use Rattle.witness_calls.specs.Seen.{call_seen};
-ghost use Rattle.witness_calls.specs.steps.Shown.{shown_of};
+ghost use Rattle.witness_calls.specs.steps.Shown.{IsShownBy};
 
 use crate::call::Call;
 use crate::reading::Reading;
-use crate::sides::Compared;
+use crate::same::same_reading;
 use crate::version::Version;
 use crate::weighing::{may_fit, names_method, weigh};
 use aidl_base::{OutOfMemory, Row};
 use std::alloc::Global;
 
-/// What a call shows: its bytes, what is read of them, and what its values are projected to. The two differ.
+/// What a call that counts comes to: its bytes, what is read of them, and what its values are projected to. It shows a broken rule where the
+/// two differ.
 #[derive(Drop)]
 pub struct Showing {
     pub bytes: Row<u8>,
@@ -43,7 +44,7 @@ pub fn try_call(
         return Ok(shows_nothing(false));
     }
     match weigh(alloc, old, new, call)? {
-        Some((bytes, sides)) => Ok(shown(bytes, sides)),
+        Some(showing) => Ok(shown(showing)),
         None => Ok(shows_nothing(!may_fit(old, new, call))),
     }
 }
@@ -58,22 +59,16 @@ fn shows_nothing(short: bool) -> Tried
     }
 }
 
-// What two sides of a call that counts show where they differ.
-fn shown(bytes: Row<u8>, sides: Compared) -> Tried
-    ensures { result ≡ record { showing = shown_of bytes sides; short = true } }
+// What a call that counts shows: something where its sides differ.
+#[tactic(auto, using(crate::proofs::Shown::same_shown, crate::proofs::Shown::other_shown))]
+fn shown(showing: Showing) -> Tried
+    ensures { IsShownBy showing result }
 {
-    if !sides.differ {
-        return Tried {
-            showing: None,
-            short: true,
-        };
+    if same_reading(&showing.read, &showing.projected) {
+        return shows_nothing(true);
     }
     Tried {
-        showing: Some(Showing {
-            bytes,
-            read: sides.read,
-            projected: sides.projected,
-        }),
+        showing: Some(showing),
         short: true,
     }
 }

@@ -64,30 +64,23 @@ impl<'a> Version<'a> {
         })
     }
 
-    /// Its schema. It takes no memory.
+    /// Its schema.
     pub fn schema(&self) -> &'a Schema
         ensures { result.now.decls ≡ self.now }
     {
         self.side.schema()
     }
 
-    // The tables of the fields of its declarations.
-    fn fields(&self) -> &NamedFields<'a>
-        ensures { result.now ≡ self.now }
-    {
-        &self.fields
-    }
-
-    /// The method at a position of an interface. It takes no memory.
+    /// The method at a position of an interface.
     pub(crate) fn callee(&self, interface: u32, method: u32) -> VersionMethod<'_, 'a>
         requires { method < length (methods_at self.now interface) }
         ensures { result ≡ record { decls = self.now; interface = interface; method = method } }
     {
         let callee = Callee::new(&self.side, interface, method);
-        VersionMethod::new(callee, self.fields())
+        VersionMethod::new(callee, &self.fields)
     }
 
-    /// The methods of an interface; none where the number is of no interface. It takes no memory.
+    /// The methods of an interface; none where the number is of no interface.
     pub fn methods(&self, interface: u32) -> &'a [Method]
         ensures { result.now ≡ methods_at self.now interface }
     {
@@ -101,7 +94,7 @@ impl<'a> Version<'a> {
         self.named.as_slice().get(number as usize)
     }
 
-    /// The position of the method of a name, which is in UTF-8. It takes no memory.
+    /// The position of the method of a name, which is in UTF-8.
     pub fn method_named(&self, interface: u32, name: &str) -> Option<usize>
         ensures { result ≡ method_named (methods_at self.now interface) name.now }
     {
@@ -111,7 +104,7 @@ impl<'a> Version<'a> {
         }
     }
 
-    /// The position of the method that has the name of another one. It takes no memory.
+    /// The position of the method that has the name of another one.
     pub fn method_like(&self, interface: u32, method: &Method) -> Option<usize>
         ensures { result ≡ position (λ w. same_method method.now w)
             (methods_at self.now interface) }
@@ -119,7 +112,7 @@ impl<'a> Version<'a> {
         self.method_named(interface, method.name.0.as_str())
     }
 
-    /// The position of the method of an id. It takes no memory.
+    /// The position of the method of an id.
     pub fn method_of_id(&self, interface: u32, id: u32) -> Option<usize>
         ensures { result ≡ position_of_code (methods_at self.now interface) (id + 1) }
     {
@@ -129,11 +122,11 @@ impl<'a> Version<'a> {
         }
     }
 
-    /// The position of the field of a name, which is in UTF-8, in a parcelable or union. It takes no memory.
+    /// The position of the field of a name, which is in UTF-8, in a parcelable or union.
     pub fn field_named(&self, number: u32, name: &str) -> Option<usize>
         ensures { result ≡ field_named (fields_at self.now number) name.now }
     {
-        self.fields().field_named(number, name)
+        self.fields.field_named(number, name)
     }
 }
 

@@ -1,4 +1,5 @@
--- The lines of a broken evolution rule: the judge's line, and a call that shows it or the reason why none is shown (own).
+-- The lines of a broken evolution rule: the judge's line, and a call that shows it or the reason why none is shown
+-- (own).
 use Rattle.std.specs.Prelude.{◌≡◌, ℕ, List, [], ◌∷◌, ◌++◌, codes}
 use Rattle.aidl_schema.specs.Broken.{Break}
 use Rattle.aidl_schema.specs.declared.schema.Decl.{Decl}
@@ -24,9 +25,11 @@ shown_lines old new (Reason why) = line (reason_text why)
 
 -- The lines of one entry. A reason is printed only where one is allowed.
 abbrev pub IsEntry : List Decl → List Decl → Break → List ℕ → Type 0
-IsEntry old new b text = (shown : Shown) × IsWitness old new b shown × IsAllowed old new b shown × (text ≡ break_line b ++ shown_lines old new shown)
+IsEntry old new b text = (shown : Shown) × IsWitness old new b shown × IsAllowed old new b shown
+    × (text ≡ break_line b ++ shown_lines old new shown)
 
 -- of several, one after another
 abbrev pub AreEntries : List Decl → List Decl → List Break → List ℕ → Type 0
 AreEntries old new [] text = text ≡ []
-AreEntries old new (b ∷ bs) text = (first rest : List ℕ) × IsEntry old new b first × AreEntries old new bs rest × (text ≡ first ++ rest)
+AreEntries old new (b ∷ bs) text = (first rest : List ℕ) × IsEntry old new b first × AreEntries old new bs rest
+    × (text ≡ first ++ rest)

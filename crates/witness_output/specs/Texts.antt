@@ -11,8 +11,8 @@ unfoldable pub quoted : List ℕ → List ℕ
 quoted bytes = compact_text (string bytes)
 
 abbrev mutual
-  -- null, truth values, numbers and texts as in compact JSON, a sequence in `[` and `]`, a record by position in `{` and `}`, an alternative
-  -- as `<TAG:VALUE>`
+  -- null, truth values, numbers and texts as in compact JSON, a sequence in `[` and `]`, a record by position in
+  -- `{` and `}`, an alternative as `<TAG:VALUE>`
   pub value_text : Data → List ℕ
   value_text null = codes "null"
   value_text (truth b) = if b then codes "true" else codes "false"

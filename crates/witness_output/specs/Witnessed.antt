@@ -1,4 +1,5 @@
--- What `witness` prints of the files of two trees with their roots (own). The order of what refuses it is that of `judge`.
+-- What `witness` prints of the files of two trees with their roots (own). The order of what refuses it is that of
+-- `judge`.
 use Rattle.std.specs.Prelude.{◌≡◌, ℕ, List, [], ◌∷◌, codes}
 use Rattle.aidl_base.specs.declared.source_file.SourceFile.{SourceFile}
 use Rattle.aidl_schema.specs.Broken.{Break, broken}
@@ -19,8 +20,10 @@ IsWitnessed old new (b ∷ bs) answer = IsListed old new (b ∷ bs) answer
 
 -- once the first tree has this schema, by that of the second
 abbrev pub IsSecondAnswer : List Decl → List ℕ → List SourceFile → Answer → Type 0
-IsSecondAnswer old new_root new_files answer = ByFiles AsAnswer new_root new_files (λ new. IsWitnessed old new (broken old new)) answer
+IsSecondAnswer old new_root new_files answer =
+    ByFiles AsAnswer new_root new_files (λ new. IsWitnessed old new (broken old new)) answer
 
 -- The first tree is judged whole before the second.
 abbrev pub IsWitnessAnswer : List ℕ → List SourceFile → List ℕ → List SourceFile → Answer → Type 0
-IsWitnessAnswer old_root old_files new_root new_files answer = ByFiles AsAnswer old_root old_files (λ old. IsSecondAnswer old new_root new_files) answer
+IsWitnessAnswer old_root old_files new_root new_files answer =
+    ByFiles AsAnswer old_root old_files (λ old. IsSecondAnswer old new_root new_files) answer

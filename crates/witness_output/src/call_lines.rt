@@ -2,20 +2,18 @@
 ghost use Rattle.std.specs.Prelude.{◌≡◌, ◌++◌, codes, IfOk, OnOk, string_bytes};
 ghost use Rattle.std.specs.Str.{encode_utf8_all};
 ghost use Rattle.wire_model.specs.Calls.{descriptor, method_at};
-ghost use Rattle.wire_model.specs.Outcome.{declared_as};
-ghost use Rattle.witness_calls.specs.Seen.{call_seen, reading_seen};
+ghost use Rattle.witness_calls.specs.Seen.{call_seen, reading_seen, values_seen};
 ghost use Rattle.witness_calls.specs.Showing.{ShowsIt};
-ghost use Rattle.witness_output.specs.CallLines.{call_line, call_lines, full_name, heading_text, lines_between, side_line, side_lines};
+ghost use Rattle.witness_output.specs.CallLines.{call_line, call_lines, full_name, heading_text, lines_between, side_line, side_lines, way_text, word_text};
 ghost use Rattle.witness_output.specs.SideText.{name_of_method};
 
-use crate::heading::{Heading, heading_of, push_way, push_word};
 use crate::sides::{method_name, push_side};
 use aidl_base::{OutOfMemory, Text};
-use aidl_schema::{Schema, find};
+use aidl_schema::Schema;
 use std::alloc::Global;
 use stub_dispatch::descriptor_of;
 use tool_frame::push_shown;
-use witness_calls::{Call, Reading, Showing};
+use witness_calls::{Call, Reading, Showing, Values, declared};
 
 /// Adds the three lines of a call between two versions with what it shows: `call > INTERFACE.METHOD HEX`, or `reply` for a reply, with
 /// `<` where the new version is the client, and HEX `-` for no bytes; `read SIDE`; `projected SIDE` (own). Memory may be wanted.
@@ -31,11 +29,10 @@ pub fn push_call(
     ensures { OnOk result (string_bytes text.new
         ≡ string_bytes text.old ++ call_lines old.now.decls new.now.decls (call_seen call.now)) }
 {
-    let heading = heading_of(call);
-    if heading.back {
-        push_between(alloc, new, old, heading, showing, text)
+    if call.back {
+        push_between(alloc, new, old, call, showing, text)
     } else {
-        push_between(alloc, old, new, heading, showing, text)
+        push_between(alloc, old, new, call, showing, text)
     }
 }
 
@@ -44,23 +41,16 @@ fn push_between(
     alloc: Global,
     client: &Schema,
     server: &Schema,
-    heading: Heading,
+    call: &Call,
     showing: &Showing,
     text: &mut String,
 ) -> Result<(), OutOfMemory>
     ensures { OnOk result (string_bytes text.new ≡ string_bytes text.old
-        ++ lines_between client.now.decls server.now.decls heading showing.now.bytes
+        ++ lines_between client.now.decls server.now.decls (call_seen call.now) showing.now.bytes
         (reading_seen showing.now.read) (reading_seen showing.now.projected)) }
 {
-    let name = descriptor_of(alloc, client, heading.interface)?;
-    push_first(
-        alloc,
-        client,
-        &name,
-        heading,
-        showing.bytes.as_slice(),
-        text,
-    )?;
+    let name = descriptor_of(alloc, client, call.interface)?;
+    push_first(alloc, client, &name, call, showing.bytes.as_slice(), text)?;
     push_sides(
         alloc,
         server,
@@ -76,14 +66,14 @@ fn push_first(
     alloc: Global,
     client: &Schema,
     name: &Text,
-    heading: Heading,
+    call: &Call,
     bytes: &[u8],
     text: &mut String,
 ) -> Result<(), OutOfMemory>
     ensures { OnOk result (string_bytes text.new
-        ≡ string_bytes text.old ++ call_line name.now client.now.decls heading bytes.now) }
+        ≡ string_bytes text.old ++ call_line name.now client.now.decls (call_seen call.now) bytes.now) }
 {
-    push_heading(client, name, heading, text)?;
+    push_heading(client, name, call, text)?;
     text.push_str(" ")?;
     push_shown(alloc, bytes, text)?;
     text.push_str("\n")?;
@@ -94,15 +84,35 @@ fn push_first(
 fn push_heading(
     client: &Schema,
     name: &Text,
-    heading: Heading,
+    call: &Call,
     text: &mut String,
 ) -> Result<(), OutOfMemory>
     ensures { OnOk result (string_bytes text.new
-        ≡ string_bytes text.old ++ heading_text name.now client.now.decls heading) }
+        ≡ string_bytes text.old ++ heading_text name.now client.now.decls (call_seen call.now)) }
 {
-    push_word(heading.reply, text)?;
-    push_way(heading.back, text)?;
-    push_full_name(client, name, heading.interface, heading.method, text)
+    push_word(&call.values, text)?;
+    push_way(call.back, text)?;
+    push_full_name(client, name, call.interface, call.method, text)
+}
+
+// Adds `call` or `reply`.
+fn push_word(values: &Values, text: &mut String) -> Result<(), OutOfMemory>
+    ensures { OnOk result (string_bytes text.new
+        ≡ string_bytes text.old ++ word_text (values_seen values.now)) }
+{
+    match values {
+        Values::Arguments(_) => text.push_str("call")?,
+        Values::Answer(_) => text.push_str("reply")?,
+    }
+    Ok(())
+}
+
+// Adds the way, between blanks.
+fn push_way(back: bool, text: &mut String) -> Result<(), OutOfMemory>
+    ensures { OnOk result (string_bytes text.new ≡ string_bytes text.old ++ way_text back) }
+{
+    text.push_str(if back { " < " } else { " > " })?;
+    Ok(())
 }
 
 // Adds the name of an interface and that of its method.
@@ -155,7 +165,7 @@ fn push_sides(
         ++ side_lines name.now server.now.decls
         (reading_seen read.now) (reading_seen projected.now)) }
 {
-    let interface = interface_like(server, name);
+    let interface = declared(server, name);
     push_both(alloc, server, interface, read, projected, text)
 }
 
@@ -174,13 +184,6 @@ fn push_both(
 {
     push_line(alloc, "read ", server, interface, read, text)?;
     push_line(alloc, "projected ", server, interface, projected, text)
-}
-
-// The number of the declaration of a name.
-fn interface_like(schema: &Schema, name: &Text) -> Option<u32>
-    ensures { result ≡ declared_as schema.now.decls name.now }
-{
-    find(schema, name.as_str())
 }
 
 // Adds the line of a side, behind a word.

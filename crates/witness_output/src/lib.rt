@@ -4,10 +4,8 @@
 mod answering;
 mod call_lines;
 mod entries;
-mod heading;
 mod sides;
 mod values;
 
 pub use answering::witness_answer;
-pub use heading::Heading;
 pub use values::{push_value, push_values};

@@ -142,7 +142,7 @@ fn name_at(schema: &Schema, interface: Option<u32>, method: u32) -> &str
     }
 }
 
-/// The simple name of the method at a position of an interface, and nothing where there is none. It takes no memory.
+/// The simple name of the method at a position of an interface, and nothing where there is none.
 pub fn method_name(schema: &Schema, interface: u32, method: u32) -> &str
     ensures { result.now ≡ name_of_method (method_at schema.now.decls interface method) }
 {

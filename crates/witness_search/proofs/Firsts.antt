@@ -1,6 +1,7 @@
--- The first of two lists, one after the other; and what a loop leaves.
+-- The first of two lists, one after the other.
 use Rattle.std.proofs.Common.{◌≡◌, ℕ, zero, suc, ◌+◌, ◌<◌, ◌≤◌, List, [], ◌∷◌, ◌++◌, length, get_or, drop, map, Bool, Option, Some, None, inl, inr, refl, sym, ap, ◌∙◌, subst, arith}
 use Rattle.std.specs.List.{flat_map}
+use Rattle.std.proofs.lemmas.List.{drop_all}
 use Rattle.aidl_schema.specs.declared.schema.Decl.{Decl}
 use Rattle.aidl_values.specs.Data.{none, item}
 use Rattle.aidl_values.specs.View.{view}
@@ -8,6 +9,7 @@ use Rattle.aidl_values.specs.declared.value.Value.{Value}
 use Rattle.compat_witness.specs.Candidates.{Candidate, Shows, client_of, request, server_of}
 use Rattle.compat_witness.specs.Reaching.{asks, methods_reaching}
 use Rattle.witness_calls.specs.Showing.{IsShown}
+use Rattle.witness_calls.proofs.lemmas.Drops.{drop_at}
 use Rattle.witness_search.specs.First.{IsFirst}
 use Rattle.witness_search.specs.Asked.{group_seen, group_with, groups_seen, method_seen}
 use Rattle.witness_search.specs.declared.candidates.Group.{Group}
@@ -15,20 +17,6 @@ use Rattle.witness_search.specs.declared.candidates.Groups.{Groups}
 use Rattle.witness_search.specs.declared.candidates.Reach.{Reach}
 use Rattle.witness_search.specs.declared.shown.Witness.{Witness}
 use Rattle.witness_search.specs.steps.Requests.{request_of, requests_of}
-
-dropped : {X : Type 0} (xs : List X) (j : ℕ) (x : X) → j < length xs → x ≡ get_or xs j x → drop j xs ≡ x ∷ drop (suc j) xs
-dropped [] j x lt e = absurd (omega arith)
-dropped (y ∷ xs) zero x lt e = ap (λ z. z ∷ xs) (sym e)
-dropped (y ∷ xs) (suc j) x lt e = dropped xs j x (omega arith) e
-
-pub drop_at : {X : Type 0} (xs : List X) (j : ℕ) (x : X) → j < length xs → x ≡ get_or xs j x → drop j xs ≡ x ∷ drop (j + 1) xs
-drop_at xs j x lt e = let one : suc j ≡ j + 1 = omega arith in dropped xs j x lt e ∙ ap (λ k. x ∷ drop k xs) one
-
-pub drop_all : {X : Type 0} (xs : List X) (j : ℕ) → length xs ≤ j → drop j xs ≡ []
-drop_all [] zero h = refl
-drop_all [] (suc j) h = refl
-drop_all (x ∷ xs) zero h = absurd (omega arith)
-drop_all (x ∷ xs) (suc j) h = drop_all xs j (omega arith)
 
 module _ (old new : List Decl) where
   pub later : (cs ds : List Candidate) → IsFirst old new cs None → (r : Option Witness) → IsFirst old new ds r → IsFirst old new (cs ++ ds) r
@@ -59,7 +47,7 @@ module _ (old new : List Decl) where
     not_there h r q = subst (λ ys. IsFirst old new (flat_map F ys) r) (sym (drop_at xs j x lt is)) (later (F x) (flat_map F (drop (j + 1) xs)) h r q)
 
   pub nothing_left : {X : Type 0} (F : X → List Candidate) (xs : List X) (j : ℕ) → length xs ≤ j → IsFirst old new (flat_map F (drop j xs)) None
-  nothing_left F xs j h = subst (λ ys. IsFirst old new (flat_map F ys) None) (sym (drop_all xs j h)) refl
+  nothing_left F xs j h = subst (λ ys. IsFirst old new (flat_map F ys) None) (sym (drop_all j xs h)) refl
 
   -- the same of an item that is read by its index
   got : {X : Type 0} (xs : List X) (j : ℕ) (d : X) → j < length xs → get_or xs j d ≡ get_or xs j (get_or xs j d)

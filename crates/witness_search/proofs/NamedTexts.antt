@@ -1,13 +1,9 @@
 -- What a name in UTF-8 finds is what the name finds.
-use Rattle.std.proofs.Common.{◌≡◌, ℕ, ◌<◌, List, length, Option, Some, None, IfSome, sym, ◌∙◌}
+use Rattle.std.proofs.Common.{◌≡◌, ℕ, List, ◌∙◌}
 use Rattle.std.specs.List.{position}
 use Rattle.std.specs.Str.{encode_utf8_all}
-use Rattle.aidl_base.proofs.lemmas.Lists.{position_within}
-use Rattle.aidl_schema.specs.declared.schema.Decl.{Decl}
 use Rattle.aidl_schema.specs.declared.schema.Field.{Field}
 use Rattle.aidl_schema.specs.declared.schema.Method.{Method}
-use Rattle.aidl_schema.specs.Find.{number_of_name}
-use Rattle.aidl_schema.specs.Names.{name_of}
 use Rattle.aidl_schema.specs.Same.{same_text}
 use Rattle.wire_model.proofs.lemmas.NamedTexts.{by_bytes, same_position, turned}
 use Rattle.witness_search.specs.steps.Named.{field_named, method_named}
@@ -17,8 +13,3 @@ method_by_bytes ms x = same_position (λ m. same_text (encode_utf8_all m.name.0)
 
 pub field_by_bytes : (fs : List Field) (x : List ℕ) → field_named fs (encode_utf8_all x) ≡ position (λ f. same_text f.name.0 x) fs
 field_by_bytes fs x = same_position (λ f. same_text (encode_utf8_all f.name.0) (encode_utf8_all x)) (λ f. same_text f.name.0 x) (λ f. by_bytes x f.name.0 ∙ turned f.name.0 x) fs
-
--- the number of a name is one of a declaration
-pub number_within : (S : List Decl) (x : List ℕ) (o : Option ℕ) → o ≡ number_of_name S x → IfSome o (λ k. k < length S)
-number_within S x None e = tt
-number_within S x (Some k) e = position_within (λ d. same_text (encode_utf8_all (name_of d)) x) S k (sym e)

@@ -3,6 +3,7 @@ use Rattle.std.proofs.Common.{◌≡◌, ℕ, zero, suc, ◌+◌, ◌<◌, ◌�
 use Rattle.std.specs.Prelude.{if◌then◌else◌, ◌&&◌, ◌==◌, option_and_then}
 use Rattle.std.proofs.lemmas.Bool.Decides.{nat_tests}
 use Rattle.std.proofs.Math.Seq.{take-append_seam}
+use Rattle.std.proofs.lemmas.List.{drop_all}
 use Rattle.std.specs.List.{enumerate_from, flat_map}
 use Rattle.aidl_schema.specs.declared.schema.Decl.{Decl}
 use Rattle.aidl_schema.specs.declared.schema.Method.{Method}
@@ -20,12 +21,11 @@ use Rattle.compat_witness.specs.Places.{Spot, spot_like}
 use Rattle.compat_witness.specs.Reaching.{are_alike, has_argument, is_at, methods_reaching, number_of, only, reaches, reaching_in}
 use Rattle.compat_witness.specs.Rows.{is_empty}
 use Rattle.witness_search.specs.Asked.{method_seen}
-use Rattle.witness_search.specs.ReachTables.{AreReachTables, row_at, row_of, table_of}
+use Rattle.witness_search.specs.ReachTables.{AreReachTables, row_at, row_of}
 use Rattle.witness_search.specs.declared.both.Both.{Both}
 use Rattle.witness_search.specs.declared.candidates.Reach.{Reach}
 use Rattle.witness_search.specs.declared.pair.ReachTables.{ReachTables}
 use Rattle.witness_search.specs.steps.Reached.{IsReached, one_at, reached_from, reached_in}
-use Rattle.witness_search.proofs.Firsts.{drop_all}
 
 -- what stands at a position, and what is left there
 pub there : {X : Type 0} (xs : List X) (i : ℕ) → i < length xs → (x : X) × (slice_get xs i ≡ Some x) × (drop i xs ≡ x ∷ drop (suc i) xs)
@@ -63,7 +63,7 @@ module _ (A : List Decl) (k : ℕ) (B : List Decl) where
       ∙ ap (λ ds. flat_map (λ x. reaching_in A k B x) (enumerate_from i ds)) (sym left))
 
   pub no_more : (i : ℕ) → length A ≤ i → later_ones i ≡ []
-  no_more i le = ap (λ ds. flat_map (λ x. reaching_in A k B x) (enumerate_from i ds)) (drop_all A i le)
+  no_more i le = ap (λ ds. flat_map (λ x. reaching_in A k B x) (enumerate_from i ds)) (drop_all i A le)
 
 -- one method more
 pub next_method : (test : Method → Bool) (i m : ℕ) (vs : List Method) (v : Method) (found : List (ℕ × ℕ)) → drop m vs ≡ v ∷ drop (m + 1) vs
@@ -224,8 +224,13 @@ pub reached_as : (b : Both) (old new : List Decl) → b.old.now.decls ≡ old �
 reached_as b old new e f r =
     r ∙ ap (λ A. not (is_empty (methods_reaching A b.k new))) (sym e) ∙ ap (λ B. not (is_empty (methods_reaching b.old.now.decls b.k B))) (sym f)
 
--- the methods of a group
-pub group_reached : (old new : List Decl) (t : ReachTables) (back : Bool) (k : ℕ) → AreReachTables old new t
-    → map method_seen (row_at (table_of back t) k) ≡ methods_reaching (client_of back old new) k (server_of back old new)
-group_reached old new t false k tables = tables.forth k
-group_reached old new t true k tables = tables.back k
+-- the methods that the tables have, of new and of old
+pub reached_back : (old new : List Decl) (t : ReachTables) (back : Bool) (k : ℕ) (row : List Reach) → AreReachTables old new t → back ≡ true → row ≡ row_at t.back.items k
+    → map method_seen row ≡ methods_reaching (client_of back old new) k (server_of back old new)
+reached_back old new t true k row tables e is = ap (map method_seen) is ∙ tables.back k
+reached_back old new t false k row tables e is = cc
+
+pub reached_forth : (old new : List Decl) (t : ReachTables) (back : Bool) (k : ℕ) (row : List Reach) → AreReachTables old new t → back ≡ false → row ≡ row_at t.forth.items k
+    → map method_seen row ≡ methods_reaching (client_of back old new) k (server_of back old new)
+reached_forth old new t false k row tables e is = ap (map method_seen) is ∙ tables.forth k
+reached_forth old new t true k row tables e is = cc

@@ -1,5 +1,6 @@
 -- The values of a record as a list, field by field.
 use Rattle.std.proofs.Common.{◌≡◌, ℕ, zero, suc, ◌+◌, ◌<◌, ◌==◌, Bool, true, false, List, [], ◌∷◌, ◌++◌, length, get_or, take, drop, min, leb, map, slice_get, Option, Some, None, ◌&&◌, ◌≢◌, ◌≤◌, ◌⊎◌, inl, inr, refl, sym, ap, ◌∙◌, arith}
+use Rattle.std.proofs.lemmas.List.{drop_all}
 use Rattle.std.proofs.lemmas.Bool.{ne_eqb}
 use Rattle.std.proofs.lemmas.Bool.Decides.{nat_tests}
 use Rattle.aidl_schema.specs.declared.schema.Decl.{Decl}
@@ -84,12 +85,6 @@ uneven (f ∷ fs) (g ∷ gs) h = by (same_text f.name.0 g.name.0) (uneven fs gs 
     by true e = e
     by false e = refl
 
-pub take_whole : {X : Type 0} (xs : List X) (j : ℕ) → length xs ≤ j → take j xs ≡ xs
-take_whole [] zero le = refl
-take_whole [] (suc j) le = refl
-take_whole (x ∷ xs) zero le = absurd (omega arith)
-take_whole (x ∷ xs) (suc j) le = ap (λ ys. x ∷ ys) (take_whole xs j (omega arith))
-
 -- z0 for each argument
 pub low_are : (xs : List Arg) → items_of (map (λ a. plain_value false a.ty.base) xs) ≡ low_arguments xs
 low_are [] = refl
@@ -110,12 +105,6 @@ few_alternatives S hold k = by (slice_get S k) refl
     by (Some d) e = few_of_kind d.kind (hold k d e).few_fields
 
 -- where nothing is left of one, all types agree
-no_left : {X : Type 0} (xs : List X) (j : ℕ) → length xs ≤ j → drop j xs ≡ []
-no_left [] zero h = refl
-no_left [] (suc j) h = refl
-no_left (x ∷ xs) zero h = absurd (omega arith)
-no_left (x ∷ xs) (suc j) h = no_left xs j (omega arith)
-
 pub agree_end : (old new : List Decl) (fs gs : List Field) (i : ℕ) → min (length fs) (length gs) ≤ i
     → types_agree old (drop i fs) new (drop i gs) ≡ types_agree old fs new gs → true ≡ types_agree old fs new gs
 agree_end old new fs gs i le e = by (leb (length fs) i) refl
@@ -125,8 +114,8 @@ agree_end old new fs gs i le e = by (leb (length fs) i) refl
     second (x ∷ xs) = refl
 
     by : (b : Bool) → leb (length fs) i ≡ b → true ≡ types_agree old fs new gs
-    by true is = sym (ap (λ xs. types_agree old xs new (drop i gs)) (no_left fs i (grind (arith, nat_tests)))) ∙ e
-    by false is = sym (ap (λ ys. types_agree old (drop i fs) new ys) (no_left gs i (grind (arith, nat_tests))) ∙ second (drop i fs)) ∙ e
+    by true is = sym (ap (λ xs. types_agree old xs new (drop i gs)) (drop_all i fs (grind (arith, nat_tests)))) ∙ e
+    by false is = sym (ap (λ ys. types_agree old (drop i fs) new ys) (drop_all i gs (grind (arith, nat_tests))) ∙ second (drop i fs)) ∙ e
 
 -- the fields among which a row looks are all of the declaration's, or none
 

@@ -126,8 +126,14 @@ module _ (old : List Decl) (t : AidlType) (new : List Decl) (u : AidlType) (alik
           )
 
 -- where the condition of C7 is met
-pub met : (old new : List Decl) (s w : Spot) (a b : Arg) → is_met_C7 old new s w a b ≡ true → (is_type old a.ty ≡ true) × (is_type new b.ty ≡ true)
+met : (old new : List Decl) (s w : Spot) (a b : Arg) → is_met_C7 old new s w a b ≡ true → (is_type old a.ty ≡ true) × (is_type new b.ty ≡ true)
 met old new s w a b e =
     let one = both (same old a.ty new b.ty && is_sent_back old a.ty new b.ty) _ e in
     let two = both (same old a.ty new b.ty) (is_sent_back old a.ty new b.ty) one.0 in
     types old a.ty new b.ty two.0 two.1
+
+pub old_type : (old new : List Decl) (s w : Spot) (a b : Arg) → is_met_C7 old new s w a b ≡ true → is_type old a.ty ≡ true
+old_type old new s w a b e = (met old new s w a b e).0
+
+pub new_type : (old new : List Decl) (s w : Spot) (a b : Arg) → is_met_C7 old new s w a b ≡ true → is_type new b.ty ≡ true
+new_type old new s w a b e = (met old new s w a b e).1

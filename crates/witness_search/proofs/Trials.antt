@@ -1,6 +1,7 @@
 -- Trials of calls one after the other, and when one method's trials are enough.
 use Rattle.std.proofs.Common.{◌≡◌, ℕ, zero, suc, ◌+◌, ◌<◌, ◌≤◌, Bool, true, false, ◌&&◌, List, [], ◌∷◌, ◌++◌, length, get_or, drop, map, slice_get, Option, Some, None, inl, inr, refl, sym, ap, subst, arith}
 use Rattle.std.specs.List.{flat_map}
+use Rattle.std.proofs.lemmas.List.{drop_all}
 use Rattle.aidl_schema.specs.declared.schema.Decl.{Decl}
 use Rattle.aidl_schema.specs.Unbroken.{Has}
 use Rattle.aidl_values.specs.View.{view}
@@ -19,7 +20,8 @@ use Rattle.witness_search.specs.declared.candidates.Reach.{Reach}
 use Rattle.witness_search.specs.declared.first.Trial.{Trial}
 use Rattle.witness_search.specs.steps.Requests.{requests_of}
 use Rattle.witness_search.specs.steps.Trials.{AllShort, AreShownAlike, IsFirstTrial}
-use Rattle.witness_search.proofs.Firsts.{drop_at, drop_all, later}
+use Rattle.witness_calls.proofs.lemmas.Drops.{drop_at}
+use Rattle.witness_search.proofs.Firsts.{later}
 
 -- One call
 
@@ -45,7 +47,7 @@ module _ (old new : List Decl) where
     short_there h k = subst (λ ys. AllShort old new (flat_map F ys)) (sym (drop_at xs j x lt is)) (all_there (F x) (flat_map F (drop (j + 1) xs)) h k)
 
   pub all_short : {X : Type 0} (F : X → List Candidate) (xs : List X) (j : ℕ) → length xs ≤ j → AllShort old new (flat_map F (drop j xs))
-  all_short F xs j h = subst (λ ys. AllShort old new (flat_map F ys)) (sym (drop_all xs j h)) tt
+  all_short F xs j h = subst (λ ys. AllShort old new (flat_map F ys)) (sym (drop_all j xs h)) tt
 
 pub both_are : (a b : Bool) → (a && b) ≡ true → (a ≡ true) × (b ≡ true)
 both_are true b e = (refl, e)

@@ -25,7 +25,8 @@ method_seen r = (r.interface, r.method)
 
 -- requests of each method that reaches the declaration with each value
 abbrev pub group_seen : List Decl → List Decl → Group → List Candidate
-group_seen old new g = asks g.back (methods_reaching (client_of g.back old new) g.number (server_of g.back old new)) (map view g.values)
+group_seen old new g = asks g.back
+    (methods_reaching (client_of g.back old new) g.number (server_of g.back old new)) (map view g.values)
 
 -- a group, and the other one where there is one
 abbrev pub group_with : List Decl → List Decl → Group → Option Group → List Candidate

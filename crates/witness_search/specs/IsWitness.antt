@@ -1,4 +1,5 @@
--- *Witnesses are exact*: of an entry of the judge's list, the first candidate of its row that is shown, or the reason why there is none (own).
+-- *Witnesses are exact*: of an entry of the judge's list, the first candidate of its row that is shown, or the
+-- reason why there is none (own).
 use Rattle.std.specs.Prelude.{◌≡◌, List, [], Option, Some, None}
 use Rattle.aidl_schema.specs.declared.schema.Decl.{Decl}
 use Rattle.aidl_schema.specs.Broken.{Break, Place}
@@ -29,7 +30,9 @@ IsOf old new p (Some row) shown = IsOfRow old new (those_of (row old new p)) sho
 abbrev pub IsWitness : List Decl → List Decl → Break → Shown → Type 0
 IsWitness old new b shown = IsOf old new b.1 (row_of b.0) shown
 
--- *Shown breaches*: of a rule with a row, where there is a reason, the row's condition isn't met, or of its candidates whose values fit not all have at most 1,048,576 bytes.
+-- *Shown breaches*: of a rule with a row, where there is a reason, the row's condition isn't met, or of its
+-- candidates whose values fit not all have at most 1,048,576 bytes.
 abbrev pub IsAllowed : List Decl → List Decl → Break → Shown → Type 0
 IsAllowed old new b (Found w) = Unit {0}
-IsAllowed old new b (Reason r) = (row : Row) → row_of b.0 ≡ Some row → (cs : List Candidate) → row old new b.1 ≡ Some cs → AreSmall old new cs → ⊥
+IsAllowed old new b (Reason r) = (row : Row) → row_of b.0 ≡ Some row → (cs : List Candidate)
+    → row old new b.1 ≡ Some cs → AreSmall old new cs → ⊥

@@ -1,6 +1,6 @@
--- Tables of the methods that reach each declaration, and of the unions whose alternatives are all plain (own). A is the client's declarations, B the
--- server's.
-use Rattle.std.specs.Prelude.{◌≡◌, ℕ, Bool, true, if◌then◌else◌, List, [], map, Option, Some, None, slice_get}
+-- Tables of the methods that reach each declaration, and of the unions whose alternatives are all plain (own). A is
+-- the client's declarations, B the server's.
+use Rattle.std.specs.Prelude.{◌≡◌, ℕ, Bool, true, List, [], map, Option, Some, None, slice_get}
 use Rattle.aidl_schema.specs.declared.schema.Decl.{Decl}
 use Rattle.aidl_schema.specs.Broken.{union_fields}
 use Rattle.compat_witness.specs.Reaching.{are_plain, methods_reaching}
@@ -20,10 +20,6 @@ row_at rows k = row_of (slice_get rows k)
 -- A table has for each declaration the methods that reach it; what there is no declaration of, none reaches.
 abbrev pub IsReachTable : List Decl → List Decl → List (List Reach) → Type 0
 IsReachTable A B rows = (k : ℕ) → map method_seen (row_at rows k) ≡ methods_reaching A k B
-
--- the table of new's methods, or of old's
-abbrev pub table_of : Bool → ReachTables → List (List Reach)
-table_of back t = if back then t.back.items else t.forth.items
 
 -- for each declaration whether all alternatives are plain, which it has where it is a union
 abbrev pub plain_unions : List Decl → List Bool

@@ -2,7 +2,8 @@
 use Rattle.std.specs.Prelude.{◌==◌, ℕ, List, [], ◌∷◌, Option, Some, None, option_map}
 use Rattle.std.specs.List.{find}
 use Rattle.compat_witness.specs.Places.{at_slash}
-use Rattle.compat_witness.specs.Rows.{Row, row_C2, row_C3, row_C4, row_C5, row_C6, row_C6_at, row_C7_at, row_C8, row_C10, row_C11, row_C15, row_C16}
+use Rattle.compat_witness.specs.Rows.{Row, row_C2, row_C3, row_C4, row_C5, row_C6, row_C6_at, row_C7_at, row_C8}
+use Rattle.compat_witness.specs.Rows.{row_C10, row_C11, row_C15, row_C16}
 
 -- C6 at n.method, and at n.method/k by what stands before the slash
 abbrev pub row_C6_by : Option (List ℕ × List ℕ) → Row

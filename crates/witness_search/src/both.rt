@@ -1,14 +1,13 @@
-//! A declaration of both versions, and requests of it with one value.
-ghost use Rattle.std.specs.Prelude.{◌≡◌, ◌∷◌, [], IfOk, Some, option_map};
+//! A declaration of both versions, and requests of the methods that reach it.
+ghost use Rattle.std.specs.Prelude.{◌≡◌, map};
 ghost use Rattle.aidl_values.specs.View.{view};
-ghost use Rattle.witness_search.specs.Asked.{groups_seen};
+ghost use Rattle.witness_search.specs.Asked.{group_seen, groups_seen};
 ghost use Rattle.witness_search.specs.steps.Reached.{asked_by};
 
-use crate::candidates::{Group, Groups, one_value};
-use aidl_base::OutOfMemory;
+use crate::candidates::{Group, Groups};
+use aidl_base::Row;
 use aidl_schema::Schema;
 use aidl_values::Value;
-use std::alloc::Global;
 
 /// A declaration of both versions, by its numbers, and whether a method of old reaches it.
 #[derive(Clone, Copy)]
@@ -20,24 +19,26 @@ pub struct Both<'o, 'n> {
     pub reached: bool,
 }
 
-/// The requests of the methods that reach the declaration with one value, of old or, where `back`, of new.
-pub fn one_group(
-    alloc: Global,
-    both: &Both<'_, '_>,
-    back: bool,
-    value: Value,
-) -> Result<Option<Groups>, OutOfMemory>
-    ensures { IfOk result (λ groups.
-        option_map (groups_seen both.now.old.now.decls both.now.new.now.decls) groups
-        ≡ Some (asked_by both.now back (view value ∷ []))) }
+/// The requests of the methods that reach the declaration with these values, of old or, where `back`, of new.
+pub fn group_of(both: &Both<'_, '_>, back: bool, values: Row<Value>) -> Group
+    ensures { group_seen both.now.old.now.decls both.now.new.now.decls result
+        ≡ asked_by both.now back (map view values) }
 {
-    let first = Group {
+    let number = if back { both.l } else { both.k };
+    Group {
         back,
-        number: if back { both.l } else { both.k },
-        values: one_value(alloc, value)?,
-    };
-    Ok(Some(Groups {
-        first,
+        number,
+        values,
+    }
+}
+
+/// These requests alone.
+pub fn one_group(both: &Both<'_, '_>, back: bool, values: Row<Value>) -> Groups
+    ensures { groups_seen both.now.old.now.decls both.now.new.now.decls result
+        ≡ asked_by both.now back (map view values) }
+{
+    Groups {
+        first: group_of(both, back, values),
         second: None,
-    }))
+    }
 }

@@ -1,12 +1,16 @@
 //! The calls that a row of the table gives at a place, in their order.
-ghost use Rattle.std.specs.Prelude.{◌≡◌, ◌∷◌, [], IfOk};
+ghost use Rattle.std.specs.Prelude.{◌≡◌, ◌∷◌, [], IfOk, option_map};
+ghost use Rattle.aidl_values.specs.View.{views};
+ghost use Rattle.compat_witness.specs.Candidates.{reply, request};
+ghost use Rattle.wire_model.specs.Calls.{answer_of};
 ghost use Rattle.witness_calls.specs.Seen.{call_seen};
 ghost use Rattle.witness_search.specs.Asked.{calls_seen};
 
+use crate::spot::Spot;
 use aidl_base::{OutOfMemory, Row};
-use aidl_values::Value;
+use aidl_values::{Answer, Value};
 use std::alloc::Global;
-use witness_calls::Call;
+use witness_calls::{Call, Values};
 
 /// One call, or two in their order (own).
 #[derive(Drop)]
@@ -38,7 +42,33 @@ pub struct Groups {
     pub second: Option<Group>,
 }
 
-/// The one call. It takes no memory.
+/// A request of a client's method.
+pub fn request_by(back: bool, client: &Spot<'_>, args: Row<Value>) -> Call
+    ensures { call_seen result
+        ≡ request back client.now.interface client.now.position (views args) }
+{
+    Call {
+        back,
+        interface: client.interface,
+        method: client.position,
+        values: Values::Arguments(args),
+    }
+}
+
+/// A reply to a client's method.
+pub fn reply_by(back: bool, client: &Spot<'_>, answer: Option<Answer>) -> Call
+    ensures { call_seen result
+        ≡ reply back client.now.interface client.now.position (option_map answer_of answer) }
+{
+    Call {
+        back,
+        interface: client.interface,
+        method: client.position,
+        values: Values::Answer(answer),
+    }
+}
+
+/// The one call.
 pub fn one_call(call: Call) -> Calls
     ensures { calls_seen result ≡ call_seen call ∷ [] }
 {

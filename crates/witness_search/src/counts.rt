@@ -1,24 +1,19 @@
 //! The rows of C6, a method whose arguments differ in number, or an argument whose type differs.
-ghost use Rattle.std.specs.Prelude.{◌≡◌, IfOk, false, option_map};
-ghost use Rattle.aidl_values.specs.Data.{item, none};
+ghost use Rattle.std.specs.Prelude.{◌≡◌, IfOk, option_map};
 ghost use Rattle.aidl_values.specs.View.{views};
-ghost use Rattle.compat_witness.specs.Candidates.{request};
-ghost use Rattle.compat_witness.specs.Reaching.{plain_value};
 ghost use Rattle.compat_witness.specs.Rows.{ask_C6, ask_C6_at, is_met_C6, low_arguments, of_only};
-ghost use Rattle.witness_calls.specs.Seen.{call_seen};
 ghost use Rattle.witness_search.specs.Asked.{calls_seen};
 ghost use Rattle.witness_search.specs.steps.Seen.{spot_seen};
 ghost use Rattle.std.specs.List.{list_all};
 ghost use Rattle.compat_witness.specs.Rows as rows;
 
-use crate::candidates::{Calls, one_call, one_value};
+use crate::candidates::{Calls, one_call, one_value, request_by};
 use crate::plain::{is_plain_in, low_value};
 use crate::spot::{Spot, both_only, is_empty};
 use aidl_base::{OutOfMemory, Row};
 use aidl_schema::Arg;
 use aidl_values::Value;
 use std::alloc::Global;
-use witness_calls::Call;
 
 /// C6 at a method: a request from the old version with z0 for each argument.
 pub fn asked_c6(
@@ -34,7 +29,7 @@ pub fn asked_c6(
         return Ok(None);
     }
     let values = low_arguments(alloc, args)?;
-    Ok(Some(one_call(request_with(before, values))))
+    Ok(Some(one_call(request_by(false, before, values))))
 }
 
 // One has no arguments; the other has only plain `in` ones.
@@ -73,21 +68,8 @@ pub fn asked_c6_at(
     match both_only(before, after) {
         Some((a, b)) if is_plain_in(a) && is_plain_in(b) => {
             let values = one_value(alloc, low_value(a.ty.base))?;
-            Ok(Some(one_call(request_with(before, values))))
+            Ok(Some(one_call(request_by(false, before, values))))
         }
         _ => Ok(None),
-    }
-}
-
-/// A request from the old version. It takes no memory.
-pub fn request_with(client: &Spot<'_>, args: Row<Value>) -> Call
-    ensures { call_seen result
-        ≡ request false client.now.interface client.now.position (views args) }
-{
-    Call::Request {
-        back: false,
-        interface: client.interface,
-        method: client.position,
-        args,
     }
 }

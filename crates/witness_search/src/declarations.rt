@@ -1,19 +1,18 @@
 //! The rows of a declaration: C2, one whose kind differs, and C16, an enum whose backing differs.
-ghost use Rattle.std.specs.Prelude.{◌≡◌, ◌==◌, IfOk, map, option_map};
-ghost use Rattle.aidl_values.specs.View.{view};
+ghost use Rattle.std.specs.Prelude.{◌≡◌, ◌==◌, IfOk, option_map};
 ghost use Rattle.compat_witness.specs.Rows as rows;
 ghost use Rattle.witness_search.specs.Asked.{groups_seen};
 ghost use Rattle.witness_search.specs.steps.Reached.{IsReached};
 ghost use Rattle.witness_search.specs.steps.Rows.{declaration_row};
 
-use crate::both::{Both, one_group};
-use crate::candidates::{Group, Groups, two_values};
-use crate::names::declared;
+use crate::both::{Both, group_of, one_group};
+use crate::candidates::{Groups, one_value, two_values};
 use crate::pair::Pair;
-use aidl_base::{OutOfMemory, Row, Text};
+use aidl_base::{OutOfMemory, Text};
 use aidl_schema::{Kind, Schema};
 use aidl_values::Value;
 use std::alloc::Global;
+use witness_calls::declared;
 
 /// A row of a declaration.
 #[derive(Clone, Copy)]
@@ -64,10 +63,12 @@ fn asked_c2(alloc: Global, both: &Both<'_, '_>) -> Result<Option<Groups>, OutOfM
         return Ok(None);
     }
     if is_enum(both.old, both.k) && is_record(both.new, both.l) {
-        return one_group(alloc, both, false, Value::Number(0));
+        let zero = one_value(alloc, Value::Number(0))?;
+        return Ok(Some(one_group(both, false, zero)));
     }
     if is_enum(both.new, both.l) && is_record(both.old, both.k) {
-        return one_group(alloc, both, true, Value::Number(0));
+        let zero = one_value(alloc, Value::Number(0))?;
+        return Ok(Some(one_group(both, true, zero)));
     }
     Ok(None)
 }
@@ -102,24 +103,10 @@ fn asked_c16(alloc: Global, both: &Both<'_, '_>) -> Result<Option<Groups>, OutOf
     if !both.reached {
         return Ok(None);
     }
-    let first = Group {
-        back: false,
-        number: both.k,
-        values: zero_and_200(alloc)?,
-    };
-    let second = Group {
-        back: true,
-        number: both.l,
-        values: zero_and_200(alloc)?,
-    };
+    let forth = two_values(alloc, Value::Number(0), Value::Number(200))?;
+    let back = two_values(alloc, Value::Number(0), Value::Number(200))?;
     Ok(Some(Groups {
-        first,
-        second: Some(second),
+        first: group_of(both, false, forth),
+        second: Some(group_of(both, true, back)),
     }))
-}
-
-fn zero_and_200(alloc: Global) -> Result<Row<Value>, OutOfMemory>
-    ensures { IfOk result (λ values. map view values ≡ rows.zero_and_200) }
-{
-    two_values(alloc, Value::Number(0), Value::Number(200))
 }

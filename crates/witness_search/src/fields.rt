@@ -1,38 +1,33 @@
 //! The fields of a place in both versions, and records of values for them.
 ghost use Rattle.std.specs.Prelude.{◌≡◌, ◌<◌, length, IfOk, if◌then◌else◌};
 ghost use Rattle.aidl_values.specs.Sound.{initial_in};
+ghost use Rattle.aidl_values.specs.Data.{rec};
 ghost use Rattle.aidl_values.specs.View.{view, views};
 ghost use Rattle.compat_witness.specs.Reaching as reaching;
 ghost use Rattle.compat_witness.specs.Rows as rows;
-ghost use Rattle.aidl_schema.specs.Broken.{parcelable_fields, union_fields};
+ghost use Rattle.aidl_schema.specs.Broken.{union_fields};
 ghost use Rattle.witness_search.specs.steps.Records.{part};
 
 use crate::plain::plain_value;
 use aidl_base::{OutOfMemory, Row};
 use aidl_schema::{Field, Kind, Schema, same_text, same_type};
-use aidl_values::{Value, initial_of};
+use aidl_values::{Fields, Value, initial_of};
 use std::alloc::Global;
 
-/// The fields of the parcelable of a number; none of another kind. It takes no memory.
+/// The fields of the parcelable of a number; none of another kind.
 pub fn fields_in(schema: &Schema, number: u32) -> &[Field]
     ensures { result.now ≡ rows.fields_in schema.now.decls number }
 {
     match schema.decls.as_slice().get(number as usize) {
-        Some(decl) => parcelable_fields(&decl.kind),
+        Some(decl) => match &decl.kind {
+            Kind::Parcelable(fields) => fields.as_slice(),
+            _ => &[],
+        },
         None => &[],
     }
 }
 
-fn parcelable_fields(kind: &Kind) -> &[Field]
-    ensures { result.now ≡ parcelable_fields kind.now }
-{
-    match kind {
-        Kind::Parcelable(fields) => fields.as_slice(),
-        _ => &[],
-    }
-}
-
-/// The fields of the union of a number; none of another kind. It takes no memory.
+/// The fields of the union of a number; none of another kind.
 pub fn alternatives_in(schema: &Schema, number: u32) -> &[Field]
     ensures { result.now ≡ rows.alternatives_in schema.now.decls number }
 {
@@ -42,7 +37,7 @@ pub fn alternatives_in(schema: &Schema, number: u32) -> &[Field]
     }
 }
 
-/// The alternatives of a union; none of another kind. It takes no memory.
+/// The alternatives of a union; none of another kind.
 pub fn union_fields(kind: &Kind) -> &[Field]
     ensures { result.now ≡ union_fields kind.now }
 {
@@ -52,7 +47,7 @@ pub fn union_fields(kind: &Kind) -> &[Field]
     }
 }
 
-/// Whether the types at each position below both counts are the same. It takes no memory.
+/// Whether the types at each position below both counts are the same.
 pub fn types_agree(old: &Schema, olds: &[Field], new: &Schema, news: &[Field]) -> bool
     ensures { result ≡ rows.types_agree old.now.decls olds.now new.now.decls news.now }
 {
@@ -64,7 +59,7 @@ pub fn types_agree(old: &Schema, olds: &[Field], new: &Schema, news: &[Field]) -
     true
 }
 
-/// Whether there are as many fields, with the same names at each position. It takes no memory.
+/// Whether there are as many fields, with the same names at each position.
 #[tactic(auto, using(crate::proofs::RecordParts::uneven))]
 pub fn names_agree(olds: &[Field], news: &[Field]) -> bool
     ensures { result ≡ rows.names_agree olds.now news.now }
@@ -80,7 +75,7 @@ pub fn names_agree(olds: &[Field], news: &[Field]) -> bool
     true
 }
 
-/// The values of a record: z0 at a position, or z1 where `high`, and defaults elsewhere.
+/// A record: z0 at a position, or z1 where `high`, and defaults elsewhere.
 #[tactic(auto, using(crate::proofs::RecordParts::one_more))]
 pub fn with_value(
     alloc: Global,
@@ -88,16 +83,23 @@ pub fn with_value(
     high: bool,
     position: usize,
     fields: &[Field],
-) -> Result<Row<Value>, OutOfMemory>
-    ensures { IfOk result (λ values. views values
-        ≡ reaching.with_value schema.now.decls high position fields.now) }
+) -> Result<Value, OutOfMemory>
+    ensures { IfOk result (λ value. view value
+        ≡ rec (reaching.with_value schema.now.decls high position fields.now)) }
 {
     let mut values = Vec::with_capacity(alloc, fields.len())?;
     for i in 0..fields.len() {
         let value = value_at(alloc, schema, high, i == position, &fields[i])?;
         values.push(value)?;
     }
-    Ok(Row::from_vec(values))
+    Ok(record_of(Row::from_vec(values)))
+}
+
+// The record of the values of all fields.
+fn record_of(values: Row<Value>) -> Value
+    ensures { view result ≡ rec (views values) }
+{
+    Value::Rec(Fields::Whole(values))
 }
 
 // z0 or z1 of a field where it is meant, and its default elsewhere.

@@ -16,7 +16,7 @@ use aidl_base::OutOfMemory;
 use aidl_values::Value;
 use compat_witness::law_alike;
 use std::alloc::Global;
-use witness_calls::{Call, Tried, try_call};
+use witness_calls::{Call, Tried, Values, try_call};
 
 /// The first of these calls that is shown, None where none is.
 pub fn first_call(
@@ -198,10 +198,10 @@ fn request_of(alloc: Global, back: bool, reach: &Reach, value: &Value) -> Result
 {
     let copy = value.try_clone(alloc)?;
     let args = one_value(alloc, copy)?;
-    Ok(Call::Request {
+    Ok(Call {
         back,
         interface: reach.interface,
         method: reach.method,
-        args,
+        values: Values::Arguments(args),
     })
 }

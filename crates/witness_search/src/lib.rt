@@ -13,7 +13,6 @@ mod fields;
 mod first;
 mod laws;
 mod methods;
-mod names;
 mod pair;
 mod places;
 mod plain;

@@ -4,7 +4,7 @@ ghost use Rattle.compat_witness.specs.Candidates.{client_of, server_of};
 ghost use Rattle.compat_witness.specs.Reaching.{are_plain, methods_reaching};
 ghost use Rattle.compat_witness.specs.Rows.{alternatives_in, is_empty};
 ghost use Rattle.witness_search.specs.Asked.{method_seen};
-ghost use Rattle.witness_search.specs.ReachTables.{AreReachTables, plain_at, row_at, table_of};
+ghost use Rattle.witness_search.specs.ReachTables.{AreReachTables, plain_at, row_at};
 
 use crate::candidates::Reach;
 use crate::reaching::reach_table;
@@ -38,30 +38,38 @@ impl<'o, 'n> Pair<'o, 'n> {
         Ok(Pair { old, new, tables })
     }
 
-    /// The methods of old, or of new where `back`, that reach the declaration of a number. It takes no memory.
-    #[tactic(auto, using(crate::proofs::Reaches::group_reached))]
+    /// The methods of old, or of new where `back`, that reach the declaration of a number.
+    #[tactic(auto, using(crate::proofs::Reaches::reached_back, crate::proofs::Reaches::reached_forth))]
     pub fn reaching(&self, back: bool, number: u32) -> &[Reach]
         ensures { map method_seen result.now
             ≡ methods_reaching (client_of back self.now.old self.now.new) number
             (server_of back self.now.old self.now.new) }
     {
-        row_by_way(&self.tables, back, number)
+        if back {
+            row_of(self.tables.back.as_slice(), number)
+        } else {
+            row_of(self.tables.forth.as_slice(), number)
+        }
     }
 
-    /// Whether a method of old reaches the declaration of a number. It takes no memory.
+    /// Whether a method of old reaches the declaration of a number.
     pub fn is_reached(&self, number: u32) -> bool
         ensures { result ≡ not (is_empty (methods_reaching self.now.old number self.now.new)) }
     {
-        is_some(self.reaching(false, number))
+        match self.reaching(false, number) {
+            [] => false,
+            _ => true,
+        }
     }
 
-    /// Whether all alternatives of a union of old and of one of new are plain. It takes no memory.
+    /// Whether all alternatives of a union of old and of one of new are plain.
     #[tactic(auto, using(crate::proofs::PlainUnions::both_plain))]
     pub fn are_plain(&self, k: u32, l: u32) -> bool
         ensures { result ≡ (are_plain (alternatives_in self.now.old k)
             && are_plain (alternatives_in self.now.new l)) }
     {
-        are_both_plain(&self.tables, k, l)
+        plain_at(self.tables.plain_olds.as_slice(), k)
+            && plain_at(self.tables.plain_news.as_slice(), l)
     }
 }
 
@@ -92,35 +100,6 @@ fn tables_of(
         plain_olds,
         plain_news,
     })
-}
-
-// What the tables have for a declaration of old, or of new where `back`.
-fn row_by_way(tables: &ReachTables, back: bool, number: u32) -> &[Reach]
-    ensures { result.now ≡ row_at (table_of back tables.now) number }
-{
-    if back {
-        row_of(tables.back.as_slice(), number)
-    } else {
-        row_of(tables.forth.as_slice(), number)
-    }
-}
-
-// Whether there is a method.
-fn is_some(methods: &[Reach]) -> bool
-    ensures { result ≡ not (is_empty (map method_seen methods.now)) }
-{
-    match methods {
-        [] => false,
-        _ => true,
-    }
-}
-
-// Whether the tables have a union of old and one of new as plain.
-fn are_both_plain(tables: &ReachTables, k: u32, l: u32) -> bool
-    ensures { result
-        ≡ (plain_at tables.now.plain_olds.items k && plain_at tables.now.plain_news.items l) }
-{
-    plain_at(tables.plain_olds.as_slice(), k) && plain_at(tables.plain_news.as_slice(), l)
 }
 
 // What a number has; there is nothing that isn't plain where there is none.

@@ -1,22 +1,19 @@
 //! The table of the methods that reach each declaration.
-ghost use Rattle.std.specs.Prelude.{◌≡◌, ◌==◌, ◌&&◌, ◌≤◌, ℕ, [], length, if◌then◌else◌, IfOk, None, OnOk, Some, option_map};
+ghost use Rattle.std.specs.Prelude.{◌≡◌, ◌==◌, ◌&&◌, ◌≤◌, ℕ, [], length, if◌then◌else◌, IfOk, None, OnOk, Some};
 ghost use Rattle.std.specs.Option.{option_copied};
 ghost use Rattle.aidl_schema.specs.Broken.{is_there_and};
 ghost use Rattle.aidl_schema.specs.Find.{methods_at};
-ghost use Rattle.compat_witness.specs.Places.{spot_like};
 ghost use Rattle.compat_witness.specs.Reaching as meant;
 ghost use Rattle.witness_search.specs.ReachTables.{IsReachTable, row_at};
 ghost use Rattle.witness_search.specs.steps.Reached.{AreAdded, IsAdded, IsNamed, reached_from, reached_in};
-ghost use Rattle.witness_search.specs.steps.Seen.{spot_seen};
 
 use crate::candidates::Reach;
-use crate::names::declared_like;
 use crate::plain::{is_in_way, is_one_value};
-use crate::spot::{Spot, only, spot_in};
+use crate::spot::{only, spot_in};
 use aidl_base::{OutOfMemory, Row};
 use aidl_schema::{Arg, Base, Method, law_valid, same_type};
 use std::alloc::Global;
-use witness_calls::Version;
+use witness_calls::{Version, declared_like};
 
 /// For each declaration of the client its methods that reach it: each has the same id in both versions and this one argument, which is
 /// `in`, one value of the declaration and never null. They are in the order of interfaces and methods.
@@ -78,7 +75,7 @@ fn add_reaching(
         client,
         server,
         interface,
-        named: declared_like(alloc, client, interface, server)?,
+        named: declared_like(alloc, client.schema(), interface, server.schema())?,
     };
     add_methods(&ends, few_methods(client, interface), rows)
 }
@@ -146,20 +143,14 @@ fn declaration_reached(ends: &Ends<'_>, method: &Method) -> Option<u32>
         ends.now.client.now ends.now.server.now ends.now.interface method.now }
 {
     let arg = only(method.args.as_slice())?;
-    let number = number_of(arg.ty.base)?;
-    if has_argument(ends, method, arg) {
-        Some(number)
-    } else {
-        None
-    }
-}
-
-// The declaration that a base names.
-fn number_of(base: Base) -> Option<u32>
-    ensures { result ≡ meant.number_of base }
-{
-    match base {
-        Base::Named(number) => Some(number),
+    match arg.ty.base {
+        Base::Named(number) => {
+            if has_argument(ends, method, arg) {
+                Some(number)
+            } else {
+                None
+            }
+        }
         Base::Boolean | Base::Byte | Base::Char | Base::Int | Base::Long | Base::Text => None,
     }
 }
@@ -170,23 +161,14 @@ fn has_argument(ends: &Ends<'_>, method: &Method, arg: &Arg) -> bool
     ensures { result ≡ meant.has_argument ends.now.client.now
         ends.now.server.now ends.now.interface method.now arg.now }
 {
-    match spot_there(ends, method) {
+    let Some(number) = ends.named else {
+        return false;
+    };
+    match spot_in(ends.server, number, method) {
         Some(spot) => {
             method.id == spot.method.id && is_alike(ends, arg, only(spot.method.args.as_slice()))
         }
         None => false,
-    }
-}
-
-// The server's method of the same names.
-fn spot_there<'a>(ends: &Ends<'a>, method: &Method) -> Option<Spot<'a>>
-    requires { IsNamed ends.now }
-    ensures { option_map spot_seen result
-        ≡ spot_like ends.now.client.now ends.now.interface method.now ends.now.server.now }
-{
-    match ends.named {
-        Some(number) => spot_in(ends.server, number, method),
-        None => None,
     }
 }
 

@@ -1,26 +1,25 @@
 //! The rows of a field: C10, one of a parcelable whose name differs, C11, one whose type differs, and C15, one of a union.
 ghost use Rattle.std.specs.Option.{option_copied};
-ghost use Rattle.std.specs.Prelude.{◌≡◌, ◌&&◌, ◌<◌, ◌∷◌, [], IfOk, false, length, map, option_map, slice_get, take};
-ghost use Rattle.aidl_values.specs.Data.{rec};
+ghost use Rattle.std.specs.Prelude.{◌≡◌, ◌&&◌, ◌<◌, IfOk, false, length, option_map, take};
+ghost use Rattle.aidl_values.specs.Data.{alt};
 ghost use Rattle.aidl_schema.specs.Types.{type_of_field};
-ghost use Rattle.aidl_values.specs.View.{view, views};
-ghost use Rattle.compat_witness.specs.Reaching.{are_plain, with_value};
+ghost use Rattle.aidl_values.specs.View.{view};
+ghost use Rattle.compat_witness.specs.Reaching.{are_plain, plain_value};
 ghost use Rattle.compat_witness.specs.Rows as rows;
 ghost use Rattle.witness_search.specs.Asked.{groups_seen};
 ghost use Rattle.witness_search.specs.steps.Reached.{IsReached};
 ghost use Rattle.witness_search.specs.steps.Named.{field_named};
 ghost use Rattle.witness_search.specs.steps.Rows as steps;
 
-use crate::both::{Both, one_group};
-use crate::candidates::{Group, Groups, one_value, two_values};
+use crate::both::{Both, group_of, one_group};
+use crate::candidates::{Groups, one_value, two_values};
 use crate::fields::{alternatives_in, fields_in, names_agree, types_agree, with_value};
-use crate::names::named;
 use crate::pair::Pair;
 use crate::places::at_last_dot;
 use crate::plain::{are_plain, low_value};
-use aidl_base::{OutOfMemory, Row, Text};
-use aidl_schema::{Base, Field, Schema, law_valid, same_text, same_type};
-use aidl_values::{Fields, Value};
+use aidl_base::{OutOfMemory, Text};
+use aidl_schema::{Base, Field, Schema, find, law_valid, same_text, same_type};
+use aidl_values::Value;
 use std::alloc::Global;
 use witness_calls::Version;
 
@@ -61,10 +60,10 @@ fn groups_named(
     };
     let before = pair.old.schema();
     let after = pair.new.schema();
-    let Some(k) = named(before, name) else {
+    let Some(k) = find(before, name) else {
         return Ok(None);
     };
-    let Some(l) = named(after, name) else {
+    let Some(l) = find(after, name) else {
         return Ok(None);
     };
     let Some(position) = field_at(row, &pair.old, k, field) else {
@@ -125,15 +124,8 @@ fn asked_c10(
     }
     let low = with_value(alloc, both.old, false, position, olds)?;
     let high = with_value(alloc, both.old, true, position, olds)?;
-    let first = Group {
-        back: false,
-        number: both.k,
-        values: two_values(alloc, record_of(low), record_of(high))?,
-    };
-    Ok(Some(Groups {
-        first,
-        second: None,
-    }))
+    let values = two_values(alloc, low, high)?;
+    Ok(Some(one_group(both, false, values)))
 }
 
 // All fields are plain in both, and types agree at each position below both counts.
@@ -163,19 +155,11 @@ fn asked_c11(
     if !both.reached || !is_met_c11(both, position, olds, news) {
         return Ok(None);
     }
-    let first = Group {
-        back: false,
-        number: both.k,
-        values: low_record(alloc, both.old, position, olds)?,
-    };
-    let second = Group {
-        back: true,
-        number: both.l,
-        values: low_record(alloc, both.new, position, news)?,
-    };
+    let forth = with_value(alloc, both.old, false, position, olds)?;
+    let back = with_value(alloc, both.new, false, position, news)?;
     Ok(Some(Groups {
-        first,
-        second: Some(second),
+        first: group_of(both, false, one_value(alloc, forth)?),
+        second: Some(group_of(both, true, one_value(alloc, back)?)),
     }))
 }
 
@@ -196,27 +180,6 @@ fn is_met_c11(both: &Both<'_, '_>, position: usize, olds: &[Field], news: &[Fiel
         && (names_agree(olds, news) && types_agree(both.old, &olds[..position], both.new, news))
 }
 
-// The record with z0 in that field and defaults elsewhere.
-fn low_record(
-    alloc: Global,
-    schema: &Schema,
-    position: usize,
-    fields: &[Field],
-) -> Result<Row<Value>, OutOfMemory>
-    ensures { IfOk result (λ values. map view values
-        ≡ rec (with_value schema.now.decls false position fields.now) ∷ []) }
-{
-    let record = with_value(alloc, schema, false, position, fields)?;
-    one_value(alloc, record_of(record))
-}
-
-// The record of the values of all fields.
-fn record_of(values: Row<Value>) -> Value
-    ensures { view result ≡ rec (views values) }
-{
-    Value::Rec(Fields::Whole(values))
-}
-
 // C15: a request with that tag and z0. It is known whether all alternatives of both are plain.
 fn asked_c15(
     alloc: Global,
@@ -234,51 +197,32 @@ fn asked_c15(
         (rows.alternatives_in both.now.old.now.decls both.now.k)
         (rows.alternatives_in both.now.new.now.decls both.now.l) position) }
 {
-    if !both.reached || !(plain && differ_there(both, position)) {
+    let olds = alternatives_in(both.old, both.k);
+    let news = alternatives_in(both.new, both.l);
+    let before = olds.get(position);
+    if !both.reached || !(plain && differ_at(both, before, news.get(position))) {
         return Ok(None);
     }
-    let value = low_alternative(alloc, both.old, both.k, position)?;
-    one_group(alloc, both, false, value)
+    let tag = small_position(both.old, both.k, position);
+    let value = low_alternative(alloc, tag, before)?;
+    let values = one_value(alloc, value)?;
+    Ok(Some(one_group(both, false, values)))
 }
 
-// z0 in the alternative at a position.
-fn low_alternative(
-    alloc: Global,
-    schema: &Schema,
-    number: u32,
-    position: usize,
-) -> Result<Value, OutOfMemory>
-    requires { position < length (rows.alternatives_in schema.now.decls number) }
+// z0 in the alternative of a tag.
+fn low_alternative(alloc: Global, tag: u32, field: Option<&Field>) -> Result<Value, OutOfMemory>
     ensures { IfOk result (λ value. view value
-        ≡ rows.low_alternative position (rows.alternatives_in schema.now.decls number)) }
+        ≡ alt tag (plain_value false (type_of_field (option_copied field.entry)).base)) }
 {
-    let tag = small_position(schema, number, position);
-    let base = base_at(alternatives_in(schema, number), position);
+    let base = match field {
+        Some(field) => field.ty.base,
+        None => Base::Boolean,
+    };
     let inner = Box::new(alloc, low_value(base))?;
     Ok(Value::Alt(tag, inner))
 }
 
-// The base of the field at a position.
-fn base_at(fields: &[Field], position: usize) -> Base
-    ensures { result ≡ (type_of_field (slice_get fields.now position)).base }
-{
-    match fields.get(position) {
-        Some(field) => field.ty.base,
-        None => Base::Boolean,
-    }
-}
-
-// Whether names or types differ at the position, which both have.
-fn differ_there(both: &Both<'_, '_>, position: usize) -> bool
-    ensures { result ≡ rows.differ_at both.now.old.now.decls both.now.new.now.decls
-        (slice_get (rows.alternatives_in both.now.old.now.decls both.now.k) position)
-        (slice_get (rows.alternatives_in both.now.new.now.decls both.now.l) position) }
-{
-    let olds = alternatives_in(both.old, both.k);
-    let news = alternatives_in(both.new, both.l);
-    differ_at(both, olds.get(position), news.get(position))
-}
-
+// Whether names or types differ, where both are there.
 fn differ_at(both: &Both<'_, '_>, before: Option<&Field>, after: Option<&Field>) -> bool
     ensures { result ≡ rows.differ_at both.now.old.now.decls both.now.new.now.decls
         (option_copied before.entry) (option_copied after.entry) }

@@ -6,35 +6,26 @@ ghost use Rattle.compat_witness.specs.Rows.{ask_C5, is_met_C5, low_result};
 ghost use Rattle.witness_search.specs.Asked.{calls_seen};
 ghost use Rattle.witness_search.specs.steps.Seen.{spot_seen};
 
-use crate::candidates::Calls;
+use crate::candidates::{Calls, reply_by};
 use crate::plain::{is_plain_result, low_value};
 use crate::spot::{Spot, are_empty};
 use aidl_base::Row;
 use aidl_schema::AidlType;
 use aidl_values::Answer;
 use std::alloc::Global;
-use witness_calls::Call;
 
-/// C5: a reply with z0, or with nothing for void, either way. It takes no memory.
+/// C5: a reply with z0, or with nothing for void, either way.
 pub fn asked_c5(alloc: Global, before: &Spot<'_>, after: &Spot<'_>) -> Option<Calls>
     ensures { option_map calls_seen result ≡ ask_C5 (spot_seen before.now) (spot_seen after.now) }
 {
     if !is_met(before, after) {
         return None;
     }
+    let forth = low_answer(alloc, after.method.result);
+    let back = low_answer(alloc, before.method.result);
     Some(Calls {
-        first: Call::Reply {
-            back: false,
-            interface: before.interface,
-            method: before.position,
-            answer: Some(low_answer(alloc, after.method.result)),
-        },
-        second: Some(Call::Reply {
-            back: true,
-            interface: after.interface,
-            method: after.position,
-            answer: Some(low_answer(alloc, before.method.result)),
-        }),
+        first: reply_by(false, before, Some(forth)),
+        second: Some(reply_by(true, after, Some(back))),
     })
 }
 

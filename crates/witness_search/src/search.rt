@@ -21,7 +21,7 @@ use crate::pair::Pair;
 use crate::records::{FieldRow, field_groups};
 use crate::shown::{NoCall, Shown, Witness};
 use crate::unanswered::c3_calls;
-use aidl_base::{OutOfMemory, Text};
+use aidl_base::OutOfMemory;
 use compat_judge::Broken;
 use std::alloc::Global;
 
@@ -55,64 +55,44 @@ fn search(alloc: Global, pair: &Pair<'_, '_>, entry: &Broken) -> Result<Shown, O
     ensures { IfOk result (λ shown. IsWitness pair.now.old pair.now.new (seen entry.now) shown) }
 {
     let place = &entry.place;
+    let text = place.as_str();
     match entry.rule {
-        2 => of_declaration(alloc, pair, DeclarationRow::C2, place),
+        2 => among_requests(
+            alloc,
+            pair,
+            declaration_groups(alloc, DeclarationRow::C2, pair, place)?,
+        ),
         3 => among_calls(alloc, pair, c3_calls(alloc, pair, place)?),
-        4 => of_method(alloc, pair, MethodRow::C4, place),
-        5 => of_method(alloc, pair, MethodRow::C5, place),
+        4 => among_calls(alloc, pair, method_calls(alloc, MethodRow::C4, pair, text)?),
+        5 => among_calls(alloc, pair, method_calls(alloc, MethodRow::C5, pair, text)?),
         6 => among_calls(alloc, pair, c6_calls(alloc, pair, place)?),
         7 => among_calls(alloc, pair, c7_calls(alloc, pair, place)?),
-        8 => of_method(alloc, pair, MethodRow::C8, place),
-        10 => of_field(alloc, pair, FieldRow::C10, place),
-        11 => of_field(alloc, pair, FieldRow::C11, place),
-        15 => of_field(alloc, pair, FieldRow::C15, place),
-        16 => of_declaration(alloc, pair, DeclarationRow::C16, place),
+        8 => among_calls(alloc, pair, method_calls(alloc, MethodRow::C8, pair, text)?),
+        10 => among_requests(
+            alloc,
+            pair,
+            field_groups(alloc, FieldRow::C10, pair, place)?,
+        ),
+        11 => among_requests(
+            alloc,
+            pair,
+            field_groups(alloc, FieldRow::C11, pair, place)?,
+        ),
+        15 => among_requests(
+            alloc,
+            pair,
+            field_groups(alloc, FieldRow::C15, pair, place)?,
+        ),
+        16 => among_requests(
+            alloc,
+            pair,
+            declaration_groups(alloc, DeclarationRow::C16, pair, place)?,
+        ),
         _ => Ok(Shown::Reason(NoCall::OutsideWire)),
     }
 }
 
-// The first call that is shown of a row of a declaration.
-fn of_declaration(
-    alloc: Global,
-    pair: &Pair<'_, '_>,
-    row: DeclarationRow,
-    place: &Text,
-) -> Result<Shown, OutOfMemory>
-    ensures { IfOk result (λ shown. IsOfRow pair.now.old pair.now.new
-        (those_of (declaration_row row pair.now.old pair.now.new place.now)) shown) }
-{
-    let groups = declaration_groups(alloc, row, pair, place)?;
-    among_requests(alloc, pair, groups)
-}
-
-// The same of a field.
-fn of_field(
-    alloc: Global,
-    pair: &Pair<'_, '_>,
-    row: FieldRow,
-    place: &Text,
-) -> Result<Shown, OutOfMemory>
-    ensures { IfOk result (λ shown. IsOfRow pair.now.old pair.now.new
-        (those_of (field_row row pair.now.old pair.now.new place.now)) shown) }
-{
-    let groups = field_groups(alloc, row, pair, place)?;
-    among_requests(alloc, pair, groups)
-}
-
-// The same of a method that both versions have.
-fn of_method(
-    alloc: Global,
-    pair: &Pair<'_, '_>,
-    row: MethodRow,
-    place: &Text,
-) -> Result<Shown, OutOfMemory>
-    ensures { IfOk result (λ shown. IsOfRow pair.now.old pair.now.new
-        (those_of (method_row row pair.now.old pair.now.new place.now)) shown) }
-{
-    let calls = method_calls(alloc, row, pair, place.as_str())?;
-    among_calls(alloc, pair, calls)
-}
-
+// The first request of a row that is shown, or that none is.
 fn among_requests(
     alloc: Global,
     pair: &Pair<'_, '_>,
@@ -127,6 +107,7 @@ fn among_requests(
     }
 }
 
+// The same of calls.
 fn among_calls(
     alloc: Global,
     pair: &Pair<'_, '_>,

@@ -10,12 +10,11 @@ ghost use Rattle.wire_model.specs.Outcome.{method_like};
 ghost use Rattle.witness_search.specs.steps.Seen.{spot_seen};
 ghost use Rattle.witness_search.specs.steps.Named.{spot_named};
 
-use crate::names::{declared_like, named};
 use crate::places::at_last_dot;
 use aidl_base::OutOfMemory;
-use aidl_schema::{Arg, Method, law_valid};
+use aidl_schema::{Arg, Method, find, law_valid};
 use std::alloc::Global;
-use witness_calls::Version;
+use witness_calls::{Version, declared_like};
 
 /// A method, the number of its interface, and its position there.
 #[derive(Clone, Copy)]
@@ -25,7 +24,7 @@ pub struct Spot<'a> {
     pub method: &'a Method,
 }
 
-/// The method that a place names. It takes no memory.
+/// The method that a place names.
 pub fn spot_of<'a>(version: &Version<'a>, place: &str) -> Option<Spot<'a>>
     ensures { (p : List ℕ) → place.now ≡ encode_utf8_all p
         → option_map spot_seen result ≡ spot_of version.now p }
@@ -38,7 +37,7 @@ fn spot_named<'a>(version: &Version<'a>, place: &str) -> Option<Spot<'a>>
     ensures { option_map spot_seen result ≡ spot_named version.now place.now }
 {
     let (interface, method) = at_last_dot(place)?;
-    let number = named(version.schema(), interface)?;
+    let number = find(version.schema(), interface)?;
     spot_at(version, number, version.method_named(number, method))
 }
 
@@ -53,13 +52,13 @@ pub fn spot_like<'a>(
     ensures { IfOk result (λ spot. option_map spot_seen spot
         ≡ spot_like client.now interface method.now server.now) }
 {
-    match declared_like(alloc, client, interface, server)? {
+    match declared_like(alloc, client.schema(), interface, server.schema())? {
         Some(number) => Ok(spot_in(server, number, method)),
         None => Ok(None),
     }
 }
 
-/// The method of an interface that has the name of another one. It takes no memory.
+/// The method of an interface that has the name of another one.
 pub fn spot_in<'a>(server: &Version<'a>, number: u32, method: &Method) -> Option<Spot<'a>>
     ensures { option_map spot_seen result
         ≡ spot_at server.now number (method_like (Some method.now) (methods_at server.now number)) }
@@ -88,7 +87,7 @@ fn small_position(version: &Version<'_>, interface: u32, position: usize) -> u32
     position as u32
 }
 
-/// The one argument of each, where their ids are the same. It takes no memory.
+/// The one argument of each, where their ids are the same.
 pub fn both_only<'a>(before: &Spot<'a>, after: &Spot<'a>) -> Option<(&'a Arg, &'a Arg)>
     ensures { option_map (λ q. (q.0.now, q.1.now)) result
         ≡ both_only (spot_seen before.now) (spot_seen after.now) }
@@ -101,7 +100,7 @@ pub fn both_only<'a>(before: &Spot<'a>, after: &Spot<'a>) -> Option<(&'a Arg, &'
     Some((a, b))
 }
 
-/// The argument of a method that has no other. It takes no memory.
+/// The argument of a method that has no other.
 pub fn only(args: &[Arg]) -> Option<&Arg>
     ensures { option_copied result ≡ only args.now }
 {
@@ -111,14 +110,14 @@ pub fn only(args: &[Arg]) -> Option<&Arg>
     }
 }
 
-/// Whether the method has no arguments in both versions. It takes no memory.
+/// Whether the method has no arguments in both versions.
 pub fn are_empty(before: &Spot<'_>, after: &Spot<'_>) -> bool
     ensures { result ≡ are_empty (spot_seen before.now) (spot_seen after.now) }
 {
     is_empty(before.method.args.as_slice()) && is_empty(after.method.args.as_slice())
 }
 
-/// Whether there are no arguments. It takes no memory.
+/// Whether there are no arguments.
 pub fn is_empty(args: &[Arg]) -> bool
     ensures { result ≡ is_empty args.now }
 {

@@ -12,7 +12,7 @@ ghost use Rattle.witness_calls.specs.Seen.{call_seen};
 ghost use Rattle.witness_search.specs.Asked.{calls_seen};
 ghost use Rattle.witness_search.specs.steps.Seen.{spot_seen};
 
-use crate::candidates::{Calls, one_call, one_value};
+use crate::candidates::{Calls, one_call, one_value, reply_by, request_by};
 use crate::plain::{is_in_way, is_named, low_value};
 use crate::spot::{Spot, both_only};
 use aidl_base::OutOfMemory;
@@ -80,7 +80,8 @@ fn is_parcelable(schema: &Schema, base: Base) -> bool
     matches!(form_in(schema, base), Form::Parcelable(_))
 }
 
-// The call of the row.
+// The call of the row. What can be sent back is a type of both schemas.
+#[tactic(auto, using(crate::proofs::SentBack::old_type, crate::proofs::SentBack::new_type))]
 fn ask(
     alloc: Global,
     old: &Schema,
@@ -95,7 +96,6 @@ fn ask(
         ≡ ask_C7 old.now.decls new.now.decls (spot_seen before.now) (spot_seen after.now)
         args.entry.0.now args.entry.1.now) }
 {
-    law_types(old, new, before, after, args);
     if is_in_way(args.0.way) {
         return default_reply(alloc, false, before, new, args.1.ty);
     }
@@ -107,14 +107,6 @@ fn ask(
     }
     default_request(alloc, false, before, old, args.0.ty)
 }
-
-// What can be sent back is a type of both schemas.
-fn law_types(old: &Schema, new: &Schema, before: &Spot<'_>, after: &Spot<'_>, args: (&Arg, &Arg))
-    requires { is_met_C7 old.now.decls new.now.decls (spot_seen before.now) (spot_seen after.now)
-        args.0.now args.1.now ≡ true }
-    ensures before { is_type old.now.decls args.entry.0.now.ty ≡ true }
-    ensures after { is_type new.now.decls args.entry.1.now.ty ≡ true }
-{}
 
 // A reply with the default of an out.
 fn default_reply(
@@ -131,12 +123,8 @@ fn default_reply(
 {
     let value = default_of(alloc, server, &ty)?;
     let outs = one_value(alloc, value)?;
-    Ok(Call::Reply {
-        back,
-        interface: client.interface,
-        method: client.position,
-        answer: Some(Answer::Returned { result: None, outs }),
-    })
+    let answer = Answer::Returned { result: None, outs };
+    Ok(reply_by(back, client, Some(answer)))
 }
 
 // A request with the default, or with an array of one z0.
@@ -153,12 +141,7 @@ fn default_request(
         (item (sent_in_out schema.now.decls ty) none)) }
 {
     let value = sent_in_out(alloc, schema, ty)?;
-    Ok(Call::Request {
-        back,
-        interface: client.interface,
-        method: client.position,
-        args: one_value(alloc, value)?,
-    })
+    Ok(request_by(back, client, one_value(alloc, value)?))
 }
 
 fn sent_in_out(alloc: Global, schema: &Schema, ty: AidlType) -> Result<Value, OutOfMemory>

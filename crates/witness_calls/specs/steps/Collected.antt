@@ -15,4 +15,5 @@ with_seen vs others = option_map (onto (map view vs)) others
 
 -- A step puts what `front` sets before all that follows, or it stops, as `front` is then None.
 abbrev pub Puts : List Value → List Value → Bool → (Option Items → Option Items) → Type 0
-Puts old new going front = (others : Option Items) → with_seen old (front others) ≡ (if going then with_seen new others else None)
+Puts old new going front = (others : Option Items)
+    → with_seen old (front others) ≡ (if going then with_seen new others else None)

@@ -15,11 +15,13 @@ use Rattle.wire_model.specs.Status.{bad_value, unknown_transaction}
 
 -- by the server's method
 abbrev pub called_at : List Decl → ℕ → ℕ → List Decl → ℕ → ℕ → Items → Result Received ℤ
-called_at A i m B j n args = or_status bad_value (projected_arguments A (arguments A i m) B (arguments B j n) args) >>= λ saw. Ok (called n saw)
+called_at A i m B j n args = or_status bad_value (projected_arguments A (arguments A i m) B (arguments B j n) args)
+    >>= λ saw. Ok (called n saw)
 
 -- by the server's interface
 abbrev pub called_in : List Decl → ℕ → ℕ → List Decl → ℕ → Items → Result Received ℤ
-called_in A i m B j args = or_status unknown_transaction (method_like (method_at A i m) (methods_at B j)) >>= λ n. called_at A i m B j n args
+called_in A i m B j args = or_status unknown_transaction (method_like (method_at A i m) (methods_at B j)) >>=
+    λ n. called_at A i m B j n args
 
 -- a method by its numbers
 abbrev pub callee_at : List Decl → Option (ℕ × ℕ) → Option MethodOf
@@ -30,6 +32,8 @@ abbrev pub returned_with : Option Data → Option Items → Result AnswerData �
 returned_with r outs = or_status bad_value outs >>= λ vs. Ok (returned r vs)
 
 -- what a result and outs of these types are to the client's method
-abbrev pub sent_seen : List Decl → Option AidlType → List Arg → List Decl → ℕ → ℕ → Option Data → Items → Result AnswerData ℤ
+abbrev pub sent_seen : List Decl → Option AidlType → List Arg → List Decl → ℕ → ℕ → Option Data → Items
+    → Result AnswerData ℤ
 sent_seen B t ys A i m result outs =
-    or_status bad_value (projected_result B t A (result_type A i m) result) >>= λ r. returned_with r (projected_outs B ys A (arguments A i m) outs)
+    or_status bad_value (projected_result B t A (result_type A i m) result) >>=
+    λ r. returned_with r (projected_outs B ys A (arguments A i m) outs)

@@ -1,4 +1,5 @@
--- What the tables of an interface's methods have: the first position of a name or of an id, where the list begins at a position.
+-- What the tables of an interface's methods have: the first position of a name or of an id, where the list begins
+-- at a position.
 use Rattle.std.specs.Prelude.{ℕ, ◌+◌, ◌==◌, List, Option}
 use Rattle.std.specs.List.{position_from}
 use Rattle.std.specs.Str.{encode_utf8_all}

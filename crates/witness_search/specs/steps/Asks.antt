@@ -3,7 +3,8 @@ use Rattle.std.specs.Prelude.{List, Option}
 use Rattle.aidl_schema.specs.declared.schema.Decl.{Decl}
 use Rattle.compat_witness.specs.Candidates.{Candidate}
 use Rattle.compat_witness.specs.Places.{Spot}
-use Rattle.compat_witness.specs.Rows.{Row, of_only, ask_C4, ask_C5, ask_C6, ask_C6_at, asked_C7, ask_C8, row_C4, row_C5, row_C6, row_C6_at, row_C7, row_C8}
+use Rattle.compat_witness.specs.Rows.{Row, of_only, ask_C4, ask_C5, ask_C6, ask_C6_at, asked_C7, ask_C8, row_C4}
+use Rattle.compat_witness.specs.Rows.{row_C5, row_C6, row_C6_at, row_C7, row_C8}
 use Rattle.witness_search.specs.declared.methods.MethodRow.{MethodRow}
 use Rattle.witness_search.specs.declared.methods.MethodRow.TheVariants.{C4, C5, C6, C6At, C7, C8}
 

@@ -1,6 +1,7 @@
--- Which methods reach a declaration, interface by interface, and the table of them. A is the client's declarations, B the server's, k the number of
--- the declaration in A.
-use Rattle.std.specs.Prelude.{◌≡◌, ℕ, ◌+◌, ◌<◌, Bool, true, false, not, if◌then◌else◌, List, [], ◌∷◌, ◌++◌, length, map, Option}
+-- Which methods reach a declaration, interface by interface, and the table of them. A is the client's declarations,
+-- B the server's, k the number of the declaration in A.
+use Rattle.std.specs.Prelude.{◌≡◌, ℕ, ◌+◌, ◌<◌, Bool, true, false, not, if◌then◌else◌, List, [], ◌∷◌, ◌++◌, length}
+use Rattle.std.specs.Prelude.{map, Option}
 use Rattle.aidl_schema.specs.declared.schema.Decl.{Decl}
 use Rattle.aidl_schema.specs.declared.schema.Method.{Method}
 use Rattle.aidl_schema.specs.Find.{methods_at}
@@ -39,7 +40,8 @@ IsAdded r number old new = (k : ℕ) → k < length old → row_at new k ≡ row
 
 -- Methods are added to each row.
 abbrev pub AreAdded : (ℕ → List (ℕ × ℕ)) → List (List Reach) → List (List Reach) → Type 0
-AreAdded more old new = (k : ℕ) → k < length old → map method_seen (row_at new k) ≡ map method_seen (row_at old k) ++ more k
+AreAdded more old new = (k : ℕ) → k < length old
+    → map method_seen (row_at new k) ≡ map method_seen (row_at old k) ++ more k
 
 -- it is known whether a method of old reaches a declaration of both schemas
 abbrev pub IsReached : Both → Type 0

@@ -5,7 +5,8 @@ use Rattle.aidl_schema.specs.declared.schema.Field.{Field}
 use Rattle.aidl_schema.specs.Find.{number_of_name}
 use Rattle.compat_witness.specs.Candidates.{Candidate}
 use Rattle.compat_witness.specs.Places.{at_last_dot}
-use Rattle.compat_witness.specs.Rows.{Row, FieldAsk, ask_C10, ask_C11, ask_C15, fields_in, alternatives_in, row_C2, row_C16, row_C10, row_C11, row_C15}
+use Rattle.compat_witness.specs.Rows.{Row, FieldAsk, ask_C10, ask_C11, ask_C15, fields_in, alternatives_in, row_C2}
+use Rattle.compat_witness.specs.Rows.{row_C16, row_C10, row_C11, row_C15}
 use Rattle.witness_search.specs.declared.declarations.DeclarationRow.{DeclarationRow}
 use Rattle.witness_search.specs.declared.declarations.DeclarationRow.TheVariants as declaration
 use Rattle.witness_search.specs.declared.records.FieldRow.{FieldRow}

@@ -23,5 +23,6 @@ pub record IsFirstTrial (old new : List Decl) (cs : List Candidate) (t : Trial) 
 -- What one of these methods shows by a value, each shows whose request isn't too long.
 abbrev pub AreShownAlike : List Decl → List Decl → Bool → List Reach → Type 0
 AreShownAlike old new back methods = (r s : Reach) → Has methods r → Has methods s → (x : Data)
-    → IsShort old new (request back r.interface r.method (item x none)) → IsShown old new (request back s.interface s.method (item x none))
+    → IsShort old new (request back r.interface r.method (item x none))
+    → IsShown old new (request back s.interface s.method (item x none))
     → IsShown old new (request back r.interface r.method (item x none))

@@ -1,11 +1,12 @@
 use Rattle.std.proofs.Common.{◌≡◌, Some, None, drop, slice_get, sym, ap, ◌∙◌}
 use Rattle.std.specs.Prelude.{option_map}
+use Rattle.std.proofs.lemmas.List.{drop_all}
 use Rattle.std.specs.Option.{option_copied}
 use Rattle.aidl_values.specs.View.{view, views}
 use Rattle.compat_witness.specs.Sides.{projected_arguments}
 use Rattle.witness_calls.specs.steps.Collected.{with_seen}
 use Rattle.witness_calls.specs.steps.Positions.{argument_seen}
-use Rattle.witness_calls.proofs.Collected.{collected, complete, drop_all, stopped}
+use Rattle.witness_calls.proofs.Collected.{collected, complete, stopped}
 use Rattle.witness_calls.proofs.Positions.{next_argument}
 use Rattle.witness_calls.proofs.arguments.project_arguments.Goals as goal
 
@@ -40,6 +41,6 @@ returns c =
     let A = c.args.ends.now.sender.now in
     let B = c.args.ends.now.receiver.now in
     let k = c.loop-k.k in
-    let done = drop_all c.args.wanted.now k c.loop-k-test.false in
+    let done = drop_all k c.args.wanted.now c.loop-k-test.false in
     complete c.loop-k.seen.items c.from_vec.result _ c.from_vec.ensures
     (ap (λ ys. with_seen c.loop-k.seen.items (projected_arguments A (drop k c.args.sent.now) B ys (views (drop k c.args.values.now)))) (sym done) ∙ c.loop-k.invariant)

@@ -1,9 +1,10 @@
 use Rattle.std.proofs.Common.{drop, sym, ap, ◌∙◌}
 use Rattle.std.specs.Option.{option_copied}
+use Rattle.std.proofs.lemmas.List.{drop_all}
 use Rattle.aidl_values.specs.View.{views}
 use Rattle.compat_witness.specs.Sides.{projected_outs}
 use Rattle.witness_calls.specs.steps.Collected.{with_seen}
-use Rattle.witness_calls.proofs.Collected.{complete, drop_all}
+use Rattle.witness_calls.proofs.Collected.{complete}
 use Rattle.witness_calls.proofs.Positions.{outs_on, outs_stop}
 use Rattle.witness_calls.proofs.outs.project_outs.Goals as goal
 
@@ -23,6 +24,6 @@ pub returns : goal.returns
 returns c =
     let A = c.args.ends.now.sender.now in
     let B = c.args.ends.now.receiver.now in
-    let done = drop_all c.args.wanted.now c.loop-k.k c.loop-k-test.false in
+    let done = drop_all c.loop-k.k c.args.wanted.now c.loop-k-test.false in
     complete c.loop-k.seen.items c.from_vec.result _ c.from_vec.ensures
     (ap (λ xs. with_seen c.loop-k.seen.items (projected_outs A (drop c.loop-k.k c.args.sent.now) B xs (views c.loop-k.left.now))) (sym done) ∙ c.loop-k.invariant)

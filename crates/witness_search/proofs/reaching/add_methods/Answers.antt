@@ -4,7 +4,7 @@ use Rattle.aidl_schema.specs.declared.schema.Method.{Method}
 use Rattle.witness_search.specs.Asked.{method_seen}
 use Rattle.witness_search.specs.ReachTables.{row_at}
 use Rattle.witness_search.specs.steps.Reached.{reached_from}
-use Rattle.witness_search.proofs.Firsts.{drop_at}
+use Rattle.witness_calls.proofs.lemmas.Drops.{drop_at}
 use Rattle.witness_search.proofs.Reaches.{next_method, put_one}
 use Rattle.witness_search.proofs.reaching.add_methods.Goals as goal
 

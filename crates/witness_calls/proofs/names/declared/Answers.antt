@@ -1,7 +1,7 @@
 use Rattle.std.proofs.Common.{ap, ◌∙◌}
 use Rattle.aidl_schema.specs.Find.{number_of_name}
 use Rattle.wire_model.proofs.lemmas.NamedTexts.{number_declared}
-use Rattle.witness_output.proofs.call_lines.interface_like.Goals as goal
+use Rattle.witness_calls.proofs.names.declared.Goals as goal
 
 pub returns : goal.returns
 returns c =

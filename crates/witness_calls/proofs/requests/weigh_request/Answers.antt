@@ -2,14 +2,14 @@ use Rattle.aidl_values.specs.View.{views}
 use Rattle.compat_witness.specs.Sides.{projected_request, read_request}
 use Rattle.wire_model.specs.Requests.{ArgsFit, request}
 use Rattle.witness_calls.proofs.Shown.{weighed}
-use Rattle.witness_calls.proofs.weighing.weigh_call.Goals as goal
+use Rattle.witness_calls.proofs.requests.weigh_request.Goals as goal
 
-pub returns-in_ok-sides-in-Some : goal.returns-in_ok-sides-in-Some
-returns-in_ok-sides-in-Some c =
+pub returns : goal.returns
+returns c =
     let A = c.args.client.now.decls in
     let i = c.args.client.now.interface in
     let m = c.args.client.now.method in
     let B = c.args.server.now in
     let vs = views c.args.args.now in
     weighed (ArgsFit A i m vs) (request A i m vs) c.in_ok-bytes.field-0 c.in-Some.bytes c.as_slice.result.now (λ b. read_request A i m B b) (projected_request A i m B vs)
-    c.in_ok-sides-in-Some.sides c.in_ok-bytes.ensures c.in-Some.is c.as_slice.ensures c.in_ok-sides-in-Some.ensures
+    c.in_ok-read.read c.in_ok-projected.projected c.in_ok-bytes.ensures c.in-Some.is c.as_slice.ensures c.in_ok-read.ensures c.in_ok-projected.ensures
