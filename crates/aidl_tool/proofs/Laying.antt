@@ -14,7 +14,7 @@ use Rattle.aidl_tool.specs.declared.making.Laid.{Laid}
 use Rattle.aidl_tool.specs.Making.{MakeTakes, file_write, make_writes, new_root, old_root}
 use Rattle.aidl_tool.specs.Running.{Takes, TakesChecked}
 use Rattle.aidl_tool.specs.steps.Laying.{IsLaid, TakesLaid, laid_writes}
-use Rattle.aidl_tool.specs.steps.Loading.{RanSome, TakesEarly}
+use Rattle.aidl_tool.specs.steps.Running.{RanSome, TakesEarly}
 use Rattle.aidl_tool.proofs.CourseEnds.{alone}
 use Rattle.aidl_tool.proofs.Takes.{early_checked}
 use Rattle.api_versions.specs.Writes.{Left, Wrote}

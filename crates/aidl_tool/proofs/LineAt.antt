@@ -1,10 +1,9 @@
 -- The line that a call of a calls file prints stands behind the text of the lines before it.
-use Rattle.std.proofs.Common.{◌≡◌, ℕ, zero, suc, ◌+◌, Bool, List, [], ◌∷◌, ◌++◌, Option, Some, None, Ok, slice_get, take, refl, sym, ap, ◌∙◌, subst, arith, append_assoc}
+use Rattle.std.proofs.Common.{◌≡◌, ℕ, zero, suc, ◌+◌, Bool, List, [], ◌∷◌, ◌++◌, Some, Ok, slice_get, take, refl, sym, ap, ◌∙◌, subst, arith, append_assoc}
 use Rattle.aidl_base.specs.declared.profile.Profile.{Profile}
 use Rattle.aidl_outside.specs.Told.{Adds}
 use Rattle.aidl_schema.specs.declared.schema.Decl.{Decl}
 use Rattle.aidl_tool.specs.Between.{IsCallAt, PutsAt, text_before}
-use Rattle.call_runner.specs.Lines.{LineData}
 use Rattle.call_runner.specs.Runs.{projected}
 use Rattle.call_scripts.specs.Calls.{CallData}
 use Rattle.call_scripts.specs.Script.{script}

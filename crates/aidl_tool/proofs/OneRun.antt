@@ -1,5 +1,5 @@
 -- Two runs of a command that means one thing at the most leave the same.
-use Rattle.std.proofs.Common.{◌≡◌, ℕ, ◌⊎◌, List, [], ◌∷◌, ◌++◌, append_assoc, append-nil, map, All, Option, Some, None, true, refl, sym, ap, subst, ◌∙◌, inl, inr}
+use Rattle.std.proofs.Common.{◌≡◌, ℕ, List, [], ◌∷◌, ◌++◌, append_assoc, append-nil, map, All, Option, Some, None, refl, sym, ap, subst, ◌∙◌, inl, inr}
 use Rattle.std.proofs.lemmas.List.{append_cancel_left}
 use Rattle.std.proofs.lemmas.List.Elements.{All-head, All-tail}
 use Rattle.aidl_outside.specs.declared.link.Carried.{Carried}
@@ -9,7 +9,7 @@ use Rattle.aidl_outside.specs.Parcel.{Parcel, parcel_of}
 use Rattle.aidl_outside.specs.Told.{Adds, Tells}
 use Rattle.aidl_outside.specs.Writes.{written}
 use Rattle.aidl_tool.specs.OneMeaning.{IsOne, MeansOne}
-use Rattle.aidl_tool.specs.OneRun.{Agree, DeliverAlike, DeliveredAlike, EndedOver, Run, RunsAgree}
+use Rattle.aidl_tool.specs.OneRun.{Agree, DeliverAlike, EndedOver, Run, RunsAgree}
 use Rattle.tool_frame.specs.Answer.{Answer}
 use Rattle.tool_frame.specs.Ended.{CarriedThese, EndsAsMeant, WroteAll}
 use Rattle.tool_frame.specs.Meaning.{AreDue, Meaning, Meant}

@@ -1,9 +1,8 @@
 -- The phrases of the headline, of one call of a run that has put what its lines are projected to.
-use Rattle.std.proofs.Common.{◌≡◌, ℕ, Bool, true, false, List, Option, Some, None, Ok, Err, option_map, refl, sym, ap, ◌∙◌, subst}
+use Rattle.std.proofs.Common.{◌≡◌, ℕ, Bool, List, Option, Some, Ok, Err, option_map, sym, ap, ◌∙◌, subst}
 use Rattle.aidl_base.specs.declared.profile.Profile.{Profile}
 use Rattle.aidl_outside.specs.Told.{Adds}
 use Rattle.aidl_schema.specs.declared.schema.Decl.{Decl}
-use Rattle.aidl_schema.specs.Find.{methods_at}
 use Rattle.aidl_values.specs.Data.{Data, Items}
 use Rattle.aidl_tool.proofs.Lacking.{both_there, has_seen, known_answered, nothing, one_missing, something, unknown_answered, unknown_method, unviewed}
 use Rattle.aidl_tool.proofs.LineAt.{puts_at}
@@ -16,9 +15,9 @@ use Rattle.run_output.specs.CallLines.{lines_of}
 use Rattle.run_output.specs.Projected.{projected_text}
 use Rattle.tool_frame.specs.Seen.{Seen}
 use Rattle.wire_model.proofs.lemmas.Seen.{arguments_seen_as, outs_seen_as, result_seen_as}
-use Rattle.wire_model.specs.Calls.{returned, arguments, method_at, out_types, result_type}
-use Rattle.wire_model.specs.Outcome.{Reaches, method_like, view_arguments, view_result, view_values}
-use Rattle.wire_model.specs.Requests.{AnswerFits, IsAnswer}
+use Rattle.wire_model.specs.Calls.{returned, arguments, out_types, result_type}
+use Rattle.wire_model.specs.Outcome.{Reaches, view_arguments, view_result, view_values}
+use Rattle.wire_model.specs.Requests.{IsAnswer}
 use Rattle.wire_model.specs.Status.{bad_value, unknown_transaction}
 
 module _ (p : Profile) (trace : Bool) (A B : List Decl) (text : List ℕ) (k : ℕ) (c : CallData) (call : IsCallAt A B text k c) (before now : Seen)

@@ -1,6 +1,3 @@
--- A tree has one schema at the most, and what is answered by it.
-pub mod Checks
+-- What follows of the schemas that trees have.
 pub mod JudgesOne
-pub mod OneTree
-pub mod Opened
 pub mod RunsOne

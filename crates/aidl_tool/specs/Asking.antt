@@ -23,11 +23,13 @@ pub record Words : Type 0 where
 
 -- of a version of this hash: the faults of its tree, and then what is asked of its schema
 abbrev pub AsksHash : Words → List ℕ → Version → List ℕ → Answer → Type 0
-AsksHash w parcel v hash = Checked (version_folder w.api w.version) v.files (λ S answer. answer ≡ ask_answer S w.version hash w.interface w.code parcel)
+AsksHash w parcel v hash = Checked (version_folder w.api w.version) v.files
+    (λ S answer. answer ≡ ask_answer S w.version hash w.interface w.code parcel)
 
 -- of the versions: `no version N`, `torn`, and then all else of version N alone
 abbrev pub AsksVersion : Words → List ℕ → List Version → Answer → Type 0
-AsksVersion w parcel versions = Then (version_found w.version versions) (λ v. Then (whole_found v) (AsksHash w parcel v))
+AsksVersion w parcel versions =
+    Then (version_found w.version versions) (λ v. Then (whole_found v) (AsksHash w parcel v))
 
 -- once the parcel is known: `bad versions`, and then all else
 abbrev pub AsksParcel : Words → Found (List Version) → List ℕ → Answer → Type 0
@@ -45,6 +47,8 @@ AsksOver w file (Err (fault.Limit limit)) answer = answer ≡ limit_passed limit
 AsksOver w file (Err fault.ReadFault) answer = ⊥
 AsksOver w file (Err fault.OutOfMemory) answer = ⊥
 
--- `ask API N INTERFACE CODE FILE`: `no file`; the limits of API; those of FILE, with `not hexadecimal` between them; and then the rest
+-- `ask API N INTERFACE CODE FILE`: `no file`; the limits of API; those of FILE, with `not hexadecimal` between
+-- them; and then the rest
 abbrev pub AskAnswers : Words → List ℕ → Files → Answer → Type 0
-AskAnswers w path files = Then (there path (file_at TextBytes files path)) (λ file. AsksOver w file (versions_at files w.api))
+AskAnswers w path files =
+    Then (there path (file_at TextBytes files path)) (λ file. AsksOver w file (versions_at files w.api))

@@ -1,5 +1,6 @@
 -- A run between two checked trees: its premises, its calls, and the line that each of them prints (own).
--- A is the schema of CLIENT, B that of SERVER; lines are counted from 0, and the line of a calls file at k prints the number k + 1.
+-- A is the schema of CLIENT, B that of SERVER; lines are counted from 0, and the line of a calls file at k prints
+-- the number k + 1.
 use Rattle.std.specs.Prelude.{◌≡◌, ℕ, ◌+◌, Bool, true, false, ◌⊎◌, List, ◌++◌, Option, Some, None, Ok, slice_get, take}
 use Rattle.aidl_base.specs.declared.limit.LimitName.TheVariants.{TextBytes}
 use Rattle.aidl_base.specs.declared.profile.Profile.{Profile}
@@ -35,9 +36,10 @@ IsChecked files root S = HasSchema (tree_at files root) S
 abbrev pub IsCallsText : Files → List ℕ → List ℕ → Type 0
 IsCallsText files calls text = (file_at TextBytes files calls ≡ Some (Ok text)) × (within_lines text ≡ Ok text)
 
--- The words are those of `run` over two checked trees, of which one may follow the other, and a calls file; the link delivers what was sent; and the
--- run came to a verdict.
-pub record RunsBetween (words : Option Command) (before : Seen) (exit : ℕ) (files : Files) (trace lenient : Bool) (A B : List Decl) (text : List ℕ) : Type 0 where
+-- The words are those of `run` over two checked trees, of which one may follow the other, and a calls file; the
+-- link delivers what was sent; and the run came to a verdict.
+pub record RunsBetween (words : Option Command) (before : Seen) (exit : ℕ) (files : Files) (trace lenient : Bool)
+    (A B : List Decl) (text : List ℕ) : Type 0 where
   pub client : List ℕ
   pub server : List ℕ
   pub calls : List ℕ
@@ -67,18 +69,23 @@ pub record CallRun (words : Option Command) (before : Seen) (exit : ℕ) (files 
   pub between : RunsBetween words before exit files trace lenient client server text
   pub at : IsCallAt client server text k call
 
--- what is put before the line that the call at k prints: all of the lines before it, and the trace lines of what it carries
+-- what is put before the line that the call at k prints: all of the lines before it, and the trace lines of what it
+-- carries
 abbrev pub text_before : Profile → Bool → List Decl → List Decl → List ℕ → ℕ → CallData → List ℕ
-text_before p trace A B text k c = projected_text p A B trace 1 (take k (lines_of text)) ++ trace_text trace (line_carried p A B (Ok c))
+text_before p trace A B text k c = projected_text p A B trace 1 (take k (lines_of text))
+    ++ trace_text trace (line_carried p A B (Ok c))
 
 -- The line of `out` is put behind that, and then the rest.
 abbrev pub PutsAt : Profile → Bool → List Decl → List Decl → List ℕ → ℕ → CallData → Seen → Seen → LineData → Type 0
 PutsAt p trace A B text k c before now out =
-    (rest : List ℕ) × Adds before.told now.told (text_before p trace A B text k c ++ (line_text A B (named_methods (Ok c)) (k + 1) out ++ rest))
+    (rest : List ℕ) × Adds before.told now.told (text_before p trace A B text k c
+    ++ (line_text A B (named_methods (Ok c)) (k + 1) out ++ rest))
 
 -- the call prints the line of `out`
-abbrev pub Prints : {words : Option Command} {before : Seen} {exit : ℕ} {files : Files} → CallRun words before exit files → Seen → LineData → Type 0
-Prints {before = before} x now out = PutsAt (profile_of x.lenient) x.trace x.client x.server x.text x.k x.call before now out
+abbrev pub Prints : {words : Option Command} {before : Seen} {exit : ℕ} {files : Files}
+    → CallRun words before exit files → Seen → LineData → Type 0
+Prints {before = before} x now out =
+    PutsAt (profile_of x.lenient) x.trace x.client x.server x.text x.k x.call before now out
 
 -- a line on which the handler saw these values
 abbrev pub HasSeen : LineData → Items → Type 0
@@ -91,9 +98,11 @@ HasSeen (done seen client) saw = seen ≡ Some saw
 abbrev pub LacksMethod : List Decl → List Decl → CallData → Type 0
 LacksMethod A B c =
     (declared_as B (descriptor A c.interface) ≡ None)
-    ⊎ ((j : ℕ) × (declared_as B (descriptor A c.interface) ≡ Some j) × (method_like (method_at A c.interface c.method) (methods_at B j) ≡ None))
+    ⊎ ((j : ℕ) × (declared_as B (descriptor A c.interface) ≡ Some j)
+    × (method_like (method_at A c.interface c.method) (methods_at B j) ≡ None))
 
--- Outside dropped fields a union tag in an argument is unknown to SERVER, whose method is n of its interface j; or none is.
+-- Outside dropped fields a union tag in an argument is unknown to SERVER, whose method is n of its interface j; or
+-- none is.
 abbrev pub IsUnknownSent : List Decl → List Decl → CallData → ℕ → ℕ → Type 0
 IsUnknownSent A B c j n = is_unknown_sent A c.interface c.method B j n c.args ≡ true
 
@@ -118,5 +127,6 @@ abbrev pub ArgumentsSeen : List Decl → List Decl → CallData → ℕ → ℕ 
 ArgumentsSeen A B c j n saw = ArgumentsSeenAs A (arguments A c.interface c.method) B (arguments B j n) c.args saw
 
 abbrev pub AnswerSeen : List Decl → List Decl → CallData → ℕ → ℕ → Option Data → Items → Option Data → Items → Type 0
-AnswerSeen A B c j n result outs r vs = ResultSeenAs B (result_type B j n) A (result_type A c.interface c.method) result r
+AnswerSeen A B c j n result outs r vs =
+    ResultSeenAs B (result_type B j n) A (result_type A c.interface c.method) result r
     × OutsSeenAs B (out_types B j n) A (out_types A c.interface c.method) outs vs

@@ -15,7 +15,8 @@ BySchema = List Decl → Answer → Type 0
 abbrev pub Checked : List ℕ → List SourceFile → BySchema → Answer → Type 0
 Checked root files next answer = ByFiles AsAnswer root files next answer
 
--- With a tree: the limits of its files, and what is answered where its schema is taken; without one it's the empty schema.
+-- With a tree: the limits of its files, and what is answered where its schema is taken; without one it's the empty
+-- schema.
 abbrev pub InTree : Option (List ℕ) → Files → ((BySchema → Answer → Type 0) → Answer → Type 0) → Answer → Type 0
 InTree None files next answer = next (λ by_schema. by_schema []) answer
 InTree (Some root) files next answer = OverTree (tree_at files root) (λ sources. next (Checked root sources)) answer

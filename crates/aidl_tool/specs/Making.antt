@@ -1,5 +1,5 @@
--- What `make N OUT` does, whatever stood below OUT before: it writes a calls file and two trees, checks the newer tree and then the older one,
--- judges them, and runs the calls (own).
+-- What `make N OUT` does, whatever stood below OUT before: it writes a calls file and two trees, checks the newer
+-- tree and then the older one, judges them, and runs the calls (own).
 use Rattle.std.specs.Prelude.{◌≡◌, ℕ, List, ◌∷◌, ◌++◌, map, codes}
 use Rattle.aidl_base.specs.declared.source_file.SourceFile.{SourceFile}
 use Rattle.aidl_outside.specs.Asks.{AsksNothing}
@@ -24,7 +24,8 @@ file_write root f = record { path = path_below root f.path; bytes = f.bytes }
 -- the calls file first, and then the files of the newer tree, and those of the older one
 abbrev pub make_writes : ℕ → List ℕ → List Write
 make_writes n out =
-    record { path = path_below out (codes "calls"); bytes = calls_text n } ∷ (map (file_write (new_root out)) (new_files n) ++ map (file_write (old_root out)) (old_files n))
+    record { path = path_below out (codes "calls"); bytes = calls_text n }
+    ∷ (map (file_write (new_root out)) (new_files n) ++ map (file_write (old_root out)) (old_files n))
 
 -- files with these paths and bytes
 abbrev pub AreMade : List SourceFile → List File → Type 0
@@ -33,7 +34,8 @@ AreMade sources files = map file_seen sources ≡ files
 -- by the schemas of the files that were written; where a tree isn't checked, that is printed at once
 abbrev pub MakeTakes : ℕ → List ℕ → Takes
 MakeTakes n out course = (news olds : List SourceFile) × AreMade news (new_files n) × AreMade olds (old_files n)
-    × TakesChecked (new_root out) news (λ B. TakesChecked (old_root out) olds (λ A c. c ≡ make_course A B (calls_text n))) course
+    × TakesChecked (new_root out) news
+    (λ B. TakesChecked (old_root out) olds (λ A c. c ≡ make_course A B (calls_text n))) course
 
 -- `make N OUT`
 abbrev pub makes : ℕ → List ℕ → Meaning

@@ -2,7 +2,8 @@
 use Rattle.std.specs.Prelude.{ℕ, List, Option, Some, None}
 use Rattle.aidl_base.specs.declared.source_file.SourceFile.{SourceFile}
 use Rattle.aidl_outside.specs.Files.{Files}
-use Rattle.tool_words.specs.Command.{Command, decode, encode, check, dump, explain, freeze, judge, rehash, run, verify, replay, ask, make, witness}
+use Rattle.tool_words.specs.Command.{Command, decode, encode, check, dump, explain, freeze, judge, rehash, run}
+use Rattle.tool_words.specs.Command.{verify, replay, ask, make, witness}
 use Rattle.tool_words.specs.Rows.{command_of}
 use Rattle.api_versions.specs.Asks.{AsksVersions}
 use Rattle.parcel_output.specs.Decode.{profile_of}
@@ -44,8 +45,10 @@ VerifyAnswers api files = IsVerified (versions_at files api)
 
 -- the meaning of a command
 abbrev pub meaning : Command → Meant
-meaning (decode lenient tree types path) = means (reads_by (AsksFileThen path (AsksOptional tree)) (TaskAnswers (Decode (profile_of lenient)) tree types path))
-meaning (encode tree types path) = means (reads_by (AsksFileThen path (AsksOptional tree)) (TaskAnswers Encode tree types path))
+meaning (decode lenient tree types path) = means
+    (reads_by (AsksFileThen path (AsksOptional tree)) (TaskAnswers (Decode (profile_of lenient)) tree types path))
+meaning (encode tree types path) =
+    means (reads_by (AsksFileThen path (AsksOptional tree)) (TaskAnswers Encode tree types path))
 meaning (check tree) = means (reads_by (AsksTree tree) (CheckAnswers tree))
 meaning (judge old new) = means (reads_by (AsksTreeThen old (AsksTree new)) (JudgeAnswers old new))
 meaning (witness old new) = means (reads_by (AsksTreeThen old (AsksTree new)) (WitnessAnswers old new))
@@ -53,10 +56,14 @@ meaning (verify api) = means (reads_by (AsksVersions api) (VerifyAnswers api))
 meaning (dump tree out) = means (acts_by (AsksTree tree) (DumpActs tree out))
 meaning (freeze tree api) = means (acts_by (AsksCheckedThen tree (AsksVersions api)) (FreezeActs tree api))
 meaning (rehash api) = means (acts_by (AsksVersions api) (RehashActs api))
-meaning (run trace lenient client server calls) = means (carries_by (AsksFileThen calls (AsksTreeThen client (AsksTree server))) (RunTakes (profile_of lenient) trace client server calls))
-meaning (explain tree types path) = means (reads_by (AsksFileThen path (AsksOptional tree)) (TaskAnswers Explain tree types path))
-meaning (replay server interface trace) = means (reads_by (AsksFileThen trace (AsksTree server)) (ReplayAnswers server interface trace))
-meaning (ask api version interface code path) = means (reads_by (AsksFileThen path (AsksVersions api)) (AskAnswers (record { api = api; version = version; interface = interface; code = code }) path))
+meaning (run trace lenient client server calls) = means (carries_by (AsksFileThen calls
+    (AsksTreeThen client (AsksTree server))) (RunTakes (profile_of lenient) trace client server calls))
+meaning (explain tree types path) =
+    means (reads_by (AsksFileThen path (AsksOptional tree)) (TaskAnswers Explain tree types path))
+meaning (replay server interface trace) =
+    means (reads_by (AsksFileThen trace (AsksTree server)) (ReplayAnswers server interface trace))
+meaning (ask api version interface code path) = means (reads_by (AsksFileThen path (AsksVersions api))
+    (AskAnswers (record { api = api; version = version; interface = interface; code = code }) path))
 meaning (make count out) = means (makes count out)
 
 -- the meaning of the command that words are, if any

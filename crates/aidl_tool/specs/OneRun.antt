@@ -31,7 +31,8 @@ pub record DeliveredAlike (a b : Run) : Type 0 where
   pub first_now : a.now.log ≡ Some (first ++ first_gained)
   pub second_before : b.before.log ≡ Some second
   pub second_now : b.now.log ≡ Some (second ++ second_gained)
-  pub alike : map (λ (entry : Carried). entry.delivered) first_gained ≡ map (λ (entry : Carried). entry.delivered) second_gained
+  pub alike : map (λ (entry : Carried). entry.delivered) first_gained
+      ≡ map (λ (entry : Carried). entry.delivered) second_gained
 
 -- both links are faithful, or they delivered the same
 abbrev pub DeliverAlike : Run → Run → Type 0
@@ -47,4 +48,5 @@ pub record Agree (a b : Run) : Type 0 where
 -- two such runs agree
 abbrev pub RunsAgree : Meant → Type 0
 RunsAgree unknown = Unit {0}
-RunsAgree (means m) = (files : Files) (a b : Run) → EndedOver m files a → EndedOver m files b → DeliverAlike a b → Agree a b
+RunsAgree (means m) = (files : Files) (a b : Run) → EndedOver m files a → EndedOver m files b
+    → DeliverAlike a b → Agree a b

@@ -26,4 +26,5 @@ ReplaysFile server interface files held = OverTree (tree_at files server) (Repla
 
 -- `replay SERVER INTERFACE TRACE`
 abbrev pub ReplayAnswers : List ℕ → List ℕ → List ℕ → Files → Answer → Type 0
-ReplayAnswers server interface trace files = Then (there trace (file_at TextBytes files trace)) (ReplaysFile server interface files)
+ReplayAnswers server interface trace files =
+    Then (there trace (file_at TextBytes files trace)) (ReplaysFile server interface files)

@@ -37,9 +37,11 @@ calls_within held = held >>= within_lines
 -- once all is loaded: the limits of CALLS; all else of CLIENT, and of SERVER; then the judge and the lines
 abbrev pub RunsLoaded : Profile → Bool → List ℕ → List SourceFile → List ℕ → List SourceFile → Found (List ℕ) → Takes
 RunsLoaded p trace client olds server news held =
-    TakesThen (calls_within held) (λ text. TakesChecked client olds (λ A. TakesChecked server news (λ B course. course ≡ run_course p A B trace text)))
+    TakesThen (calls_within held) (λ text. TakesChecked client olds
+    (λ A. TakesChecked server news (λ B course. course ≡ run_course p A B trace text)))
 
--- `run [--trace] [--lenient] CLIENT SERVER CALLS`: `no file`; the limits of CLIENT's files, and of SERVER's; then all else
+-- `run [--trace] [--lenient] CLIENT SERVER CALLS`: `no file`; the limits of CLIENT's files, and of SERVER's; then
+-- all else
 abbrev pub RunTakes : Profile → Bool → List ℕ → List ℕ → List ℕ → Files → Takes
 RunTakes p trace client server calls files =
     TakesThen (there calls (file_at TextBytes files calls)) (λ held.

@@ -24,8 +24,10 @@ HaveTexts files = (root : List ℕ) → All IsText (sources_below root files)
 -- A list of writes; and after any parcels one that is due next, or none, and an answer.
 pub record IsSome (m : Meaning) : Type 0 where
   pub writes : (files : Files) → HaveTexts files → (list : List Write) × m.writes files list
-  pub due : (files : Files) → HaveTexts files → (entries : List Carried) → (parcel : Option Parcel) × m.due files entries parcel
-  pub answers : (files : Files) → HaveTexts files → (entries : List Carried) → (answer : Answer) × m.answers files entries answer
+  pub due : (files : Files) → HaveTexts files → (entries : List Carried)
+      → (parcel : Option Parcel) × m.due files entries parcel
+  pub answers : (files : Files) → HaveTexts files → (entries : List Carried)
+      → (answer : Answer) × m.answers files entries answer
 
 -- words that mean nothing have no answer
 abbrev pub MeansSome : Meant → Type 0

@@ -27,8 +27,10 @@ answer_for Explain S types bytes = explain_answer S types bytes
 
 -- of a file that is there: the limits of the tree's files; what refuses the bytes; all else of the tree; and the answer
 abbrev pub TaskOver : Task → Option (List ℕ) → List ℕ → Files → Found (List ℕ) → Answer → Type 0
-TaskOver task tree types files file = InTree tree files (λ schema. Then (bytes_for task file) (λ bytes. schema (λ S answer. answer ≡ answer_for task S types bytes)))
+TaskOver task tree types files file = InTree tree files
+    (λ schema. Then (bytes_for task file) (λ bytes. schema (λ S answer. answer ≡ answer_for task S types bytes)))
 
 -- `decode [--lenient] [--tree TREE] TYPES FILE`, `encode [--tree TREE] TYPES FILE`, `explain [--tree TREE] TYPES FILE`
 abbrev pub TaskAnswers : Task → Option (List ℕ) → List ℕ → List ℕ → Files → Answer → Type 0
-TaskAnswers task tree types path files = Then (there path (file_at TextBytes files path)) (TaskOver task tree types files)
+TaskAnswers task tree types path files =
+    Then (there path (file_at TextBytes files path)) (TaskOver task tree types files)

@@ -1,10 +1,11 @@
 -- What the code's steps do, for inner contracts: no contract of a function that the crate exports cites it.
-pub mod Answered
 pub mod Asking
+pub mod Both
 pub mod Carried
 pub mod Laying
-pub mod Loading
 pub mod Opens
 pub mod Preparing
+pub mod Running
 pub mod Tags
 pub mod Tasks
+pub mod Verifying

@@ -7,6 +7,7 @@ mod dumping;
 mod freezing;
 mod judging;
 mod laws;
+mod loading;
 mod making;
 mod opening;
 mod rehashing;

@@ -8,18 +8,18 @@ ghost use Rattle.aidl_tool.specs.steps.Carried.{carried_of};
 ghost use Rattle.aidl_tool.specs.Making.{file_write, makes};
 ghost use Rattle.aidl_tool.specs.steps.Laying.{IsLaid, TakesLaid, TakesMade, laid_writes, tree_writes};
 ghost use Rattle.api_versions.specs.Writes.{Left};
-ghost use Rattle.aidl_tool.specs.steps.Loading.{RanSome};
+ghost use Rattle.aidl_tool.specs.steps.Running.{RanSome, TakesEarly};
 ghost use Rattle.tool_frame.specs.Course.{Course};
 ghost use Rattle.tool_frame.specs.Ended.{Ended};
 ghost use Rattle.tool_frame.specs.Exit.{number_of};
 ghost use Rattle.tree_make.specs.Made.{file_seen};
 
-use crate::running::{Prepared, print_early};
+use crate::running::Prepared;
 use aidl_base::{OutOfMemory, Row, SourceFile};
 use aidl_outside::{Link, Sink, Store, StoreFault, path_below};
 use make_output::run_made;
 use std::alloc::Global;
-use tool_frame::{Early, Exit};
+use tool_frame::{Early, Exit, print};
 use tree_output::check_tree;
 
 /// Runs `make N OUT`: writes two trees of N parcelables and N interfaces each and a calls file, checks both trees, judges the newer one
@@ -176,6 +176,16 @@ fn run_laid<K: Sink, L: Link>(alloc: Global, laid: Laid, sink: &mut K, link: &mu
         }
         Err(early) => print_early(alloc, early, sink, link),
     }
+}
+
+// Prints how the run ends early.
+#[tactic(auto, using(crate::proofs::Takes::printed_early))]
+fn print_early<K: Sink, L: Link>(alloc: Global, early: Early, sink: &mut K, link: &L) -> Exit
+    ensures { let seen = carried_of K.Sink L.Link in
+        RanSome (TakesEarly early)
+        (seen sink.old link.now) (seen sink.new link.now) (number_of result) }
+{
+    print(alloc, Err(early), sink)
 }
 
 // The schemas of both trees, or what is printed of the first that isn't checked: the newer one comes first.

@@ -6,25 +6,22 @@ ghost use Rattle.tool_words.specs.Seen.{command_seen};
 ghost use Rattle.aidl_tool.specs.Outside.{seen_of};
 ghost use Rattle.aidl_tool.specs.Headline.{Headline};
 ghost use Rattle.aidl_tool.specs.Meant.{meaning, meant};
-ghost use Rattle.parcel_output.specs.Decode.{profile_of};
 ghost use Rattle.tool_frame.specs.Ended.{Ran};
 ghost use Rattle.tool_frame.specs.Exit.{number_of};
 
-use crate::asking::{Question, ask};
+use crate::asking::ask;
 use crate::checking::check;
 use crate::dumping::dump;
 use crate::freezing::freeze;
 use crate::judging::judge;
 use crate::making::make;
 use crate::rehashing::rehash;
-use crate::replaying::{Asked as AskedReplay, replay};
-use crate::running::{Asked as AskedRun, run};
-use crate::tasks::{Task, TypedFile, run_task};
+use crate::replaying::replay;
+use crate::running::run;
+use crate::tasks::{Task, run_task};
 use crate::verifying::verify;
 use crate::witnessing::witness;
-use aidl_base::Profile;
 use aidl_outside::{Link, Sink, Store};
-use ask_output::Asked;
 use std::alloc::Global;
 use tool_frame::{Exit, refuse};
 use tool_words::{Command, command_of};
@@ -90,101 +87,26 @@ fn carry_out<S: Store, K: Sink, L: Link>(
         (seen store.old sink.old link.old) (seen store.new sink.new link.new) (number_of result)) }
 {
     match command {
-        Command::Decode {
-            lenient,
-            tree,
-            types,
+        Command::Decode { profile, file } => run_task(
+            alloc,
+            Task::Decode(profile),
             file,
-        } => {
-            let task = Task::Decode(profile_of(lenient));
-            let asked = TypedFile {
-                tree,
-                types,
-                path: file,
-            };
-            run_task(alloc, task, asked, store, sink, link)
-        }
-        Command::Encode { tree, types, file } => {
-            let asked = TypedFile {
-                tree,
-                types,
-                path: file,
-            };
-            run_task(alloc, Task::Encode, asked, store, sink, link)
-        }
+            store,
+            sink,
+            link,
+        ),
+        Command::Encode { file } => run_task(alloc, Task::Encode, file, store, sink, link),
         Command::Check { tree } => check(alloc, tree, store, sink, link),
         Command::Dump { tree, out } => dump(alloc, tree, out, store, sink, link),
         Command::Freeze { tree, api } => freeze(alloc, tree, api, store, sink, link),
         Command::Judge { old, new } => judge(alloc, old, new, store, sink, link),
-        Command::Run {
-            trace,
-            lenient,
-            client,
-            server,
-            calls,
-        } => {
-            let asked = AskedRun {
-                profile: profile_of(lenient),
-                trace,
-                client,
-                server,
-                calls,
-            };
-            run(alloc, asked, store, sink, link)
-        }
+        Command::Run { words } => run(alloc, words, store, sink, link),
         Command::Witness { old, new } => witness(alloc, old, new, store, sink, link),
         Command::Verify { api } => verify(alloc, api, store, sink, link),
-        Command::Ask {
-            api,
-            version,
-            interface,
-            code,
-            file,
-        } => {
-            let asked = Asked {
-                version,
-                interface,
-                code,
-            };
-            let question = Question {
-                api,
-                asked,
-                path: file,
-            };
-            ask(alloc, question, store, sink, link)
-        }
+        Command::Ask { words } => ask(alloc, words, store, sink, link),
         Command::Rehash { api } => rehash(alloc, api, store, sink, link),
-        Command::Explain { tree, types, file } => {
-            let asked = TypedFile {
-                tree,
-                types,
-                path: file,
-            };
-            run_task(alloc, Task::Explain, asked, store, sink, link)
-        }
-        Command::Replay {
-            server,
-            interface,
-            trace,
-        } => {
-            let asked = AskedReplay {
-                server,
-                interface,
-                trace,
-            };
-            replay(alloc, asked, store, sink, link)
-        }
+        Command::Explain { file } => run_task(alloc, Task::Explain, file, store, sink, link),
+        Command::Replay { words } => replay(alloc, words, store, sink, link),
         Command::Make { count, out } => make(alloc, count, out, store, sink, link),
-    }
-}
-
-// The profile by which is read.
-fn profile_of(lenient: bool) -> Profile
-    ensures { result ≡ profile_of lenient }
-{
-    if lenient {
-        Profile::Lenient
-    } else {
-        Profile::Strict
     }
 }

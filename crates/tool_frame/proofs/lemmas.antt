@@ -2,4 +2,5 @@
 pub mod Courses
 pub mod EarlyEnds
 pub mod Endings
+pub mod Halts
 pub mod Writings

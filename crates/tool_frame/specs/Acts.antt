@@ -1,4 +1,5 @@
--- What a command that writes does over the files that a store told before: which files it writes, and what it answers with them.
+-- What a command that writes does over the files that a store told before: which files it writes, and what it
+-- answers with them.
 use Rattle.std.specs.Prelude.{◌≡◌, List, []}
 use Rattle.aidl_outside.specs.Asks.{Asks}
 use Rattle.aidl_outside.specs.Files.{Files}

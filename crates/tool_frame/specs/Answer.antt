@@ -1,4 +1,5 @@
--- What a command answers: the text that it prints, and a verdict. It is found step by step, up to the first refusal (own).
+-- What a command answers: the text that it prints, and a verdict. It is found step by step, up to the first refusal
+-- (own).
 use Rattle.std.specs.Prelude.{◌≡◌, ℕ, List, [], ◌∷◌, ◌++◌, Result, Ok, Err, codes}
 use Rattle.std.specs.Fmt.{decimal}
 use Rattle.aidl_base.specs.declared.limit.LimitName.{LimitName}
@@ -23,7 +24,11 @@ negative text = record { text = line text; verdict = Negative }
 
 -- a limit was passed: its name and its number
 abbrev pub limit_passed : LimitName → Answer
-limit_passed which = record { text = line (codes "limit " ++ limit_name which ++ codes " " ++ decimal (limit_number which)); verdict = LimitPassed }
+limit_passed which = record {
+  text = line (codes "limit " ++ limit_name which ++ codes " "
+      ++ decimal (limit_number which));
+  verdict = LimitPassed;
+}
 
 -- text in front of an answer
 abbrev pub after_text : List ℕ → Answer → Answer

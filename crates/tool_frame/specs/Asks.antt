@@ -1,5 +1,5 @@
--- Which calls are made of a store for a tree: its root is listed, and then its sources are read in the order of their paths, one only where
--- there aren't too many of them and none before it is too long (own).
+-- Which calls are made of a store for a tree: its root is listed, and then its sources are read in the order of
+-- their paths, one only where there aren't too many of them and none before it is too long (own).
 use Rattle.std.specs.Prelude.{◌≡◌, ℕ, ◌⊎◌, true, List, ◌∷◌, ◌++◌, Option, Some, None, Ok}
 use Rattle.aidl_outside.specs.Asks.{Asks, AsksNothing}
 use Rattle.aidl_outside.specs.Faults.{listing as lists, reading}
@@ -19,12 +19,14 @@ AsksInOrder root paths kept call = (before after : List (List ℕ)) × (path : L
 
 -- the path is that of a source below a root, of which there aren't too many, and none before it is too long
 abbrev pub IsNextSource : List ℕ → List ℕ → Files → Type 0
-IsNextSource root path files = (before after : List (List ℕ)) × (few (sources_below root files) ≡ Ok (before ++ path ∷ after)) × AreNoneLong root before files
+IsNextSource root path files = (before after : List (List ℕ))
+    × (few (sources_below root files) ≡ Ok (before ++ path ∷ after)) × AreNoneLong root before files
 
 -- a root is listed, and a source below it is read
 abbrev pub AsksTree : List ℕ → Asks
 AsksTree root kept call = (call ≡ lists root)
-    ⊎ ((path : List ℕ) × (call ≡ reading (path_below root path)) × (is_source path ≡ true) × Tells kept (IsNextSource root path))
+    ⊎ ((path : List ℕ) × (call ≡ reading (path_below root path)) × (is_source path ≡ true)
+    × Tells kept (IsNextSource root path))
 
 -- the same of a root that may be given
 abbrev pub AsksOptional : Option (List ℕ) → Asks

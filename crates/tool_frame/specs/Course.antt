@@ -26,7 +26,8 @@ due_after (prints text next) entries = due_after next entries
 due_after (sends parcel next) [] = Some parcel
 due_after (sends parcel next) (entry ∷ entries) = due_after (next entry.delivered) entries
 
--- what was printed up to there, and the verdict; while a parcel is due, it is what is printed before that one is carried
+-- what was printed up to there, and the verdict; while a parcel is due, it is what is printed before that one is
+-- carried
 abbrev pub answer_after : Course → List Carried → Answer
 answer_after (ends verdict) entries = record { text = []; verdict = verdict }
 answer_after (prints text next) entries = after_text text (answer_after next entries)

@@ -22,7 +22,8 @@ due_in course entries parcel = parcel ≡ due_after course entries
 abbrev pub AreFaithful : List Carried → Type 0
 AreFaithful entries = All (λ (entry : Carried). entry.delivered ≡ entry.sent) entries
 
--- The parcels that were carried: those that the log gained, each the one that was due, and delivered as it was sent by a faithful link.
+-- The parcels that were carried: those that the log gained, each the one that was due, and delivered as it was sent
+-- by a faithful link.
 pub record CarriedBy (course : Course) (before now : Seen) (entries : List Carried) : Type 0 where
   pub log : Adds before.log now.log entries
   pub are_due : AreDue (due_in course) [] entries
@@ -53,7 +54,8 @@ StopsCourse course before now parcel = (entries : List Carried) × CarriedBy cou
 
 -- the exits of a course, each with its cause; the store wasn't touched
 pub record RanCourse (course : Course) (before now : Seen) (exit : ℕ) : Type 0 where
-  pub exits : IsVerdict exit ⊎ ((exit ≡ number_of SinkFailed) ⊎ ((exit ≡ number_of OutOfMemory) ⊎ (exit ≡ number_of LinkFailed)))
+  pub exits : IsVerdict exit
+      ⊎ ((exit ≡ number_of SinkFailed) ⊎ ((exit ≡ number_of OutOfMemory) ⊎ (exit ≡ number_of LinkFailed)))
   pub kept : now.kept ≡ before.kept
   pub store_good : now.store_faults ≡ before.store_faults
   pub sink_fault : exit ≡ number_of SinkFailed → Rose before.sink_faults now.sink_faults
@@ -87,7 +89,8 @@ pub record Went (course rest : Course) (before now : Seen) : Type 0 where
   pub link_nature : now.is_faithful ≡ before.is_faithful
 
 -- what is seen of a sink and a link alone
-abbrev pub seen_alone : {K L : Type 0} → (K → Option (List ℕ)) → (K → SinkFaults) → (L → Option (List Carried)) → (L → Bool) → (L → LinkFaults) → K → L → Seen
+abbrev pub seen_alone : {K L : Type 0} → (K → Option (List ℕ)) → (K → SinkFaults) → (L → Option (List Carried))
+    → (L → Bool) → (L → LinkFaults) → K → L → Seen
 seen_alone told sink_faults log is_faithful link_faults sink link = record {
   kept = None;
   store_faults = untold 0;

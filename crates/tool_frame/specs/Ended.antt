@@ -7,7 +7,8 @@ use Rattle.aidl_outside.specs.Faults.{FailedIn, StoreCall, writing}
 use Rattle.aidl_outside.specs.Files.{Files}
 use Rattle.aidl_outside.specs.Told.{Tells, Adds, AddsFront}
 use Rattle.aidl_outside.specs.Writes.{ChangesOnly, Write, written}
-use Rattle.tool_frame.specs.declared.exit.Exit.TheVariants.{RefusedWords, StoreFailed, SinkFailed, OutOfMemory, LinkFailed}
+use Rattle.tool_frame.specs.declared.exit.Exit.TheVariants.{RefusedWords, StoreFailed, SinkFailed, OutOfMemory}
+use Rattle.tool_frame.specs.declared.exit.Exit.TheVariants.{LinkFailed}
 use Rattle.tool_frame.specs.Answer.{Answer, line}
 use Rattle.tool_frame.specs.Exit.{number_of}
 use Rattle.tool_frame.specs.Meaning.{Meaning, AreDue, CarriesNothing, Meant}
@@ -32,19 +33,21 @@ WroteSome are_meant None now = now ≡ None
 WroteSome are_meant (Some files) now = (now ≡ Some files)
     ⊎ ((made rest : List Write) × are_meant files (made ++ rest) × (now ≡ Some (written made files)))
 
--- The first of them were made, maybe none, and the call is that of the next one, which changed at most its path; of a store that doesn't tell
--- its files, the call is a write.
+-- The first of them were made, maybe none, and the call is that of the next one, which changed at most its path; of
+-- a store that doesn't tell its files, the call is a write.
 abbrev pub FailedAt : Writes → Option Files → Option Files → StoreCall → Type 0
 FailedAt are_meant None now call = IsWrite call × (now ≡ None)
 FailedAt are_meant (Some files) now call =
-    (made rest : List Write) × (w : Write) × are_meant files (made ++ w ∷ rest) × ChangesOnly (Some (written made files)) now w.path × (call ≡ writing w.path)
+    (made rest : List Write) × (w : Write) × are_meant files (made ++ w ∷ rest)
+    × ChangesOnly (Some (written made files)) now w.path × (call ≡ writing w.path)
 
--- The call of the store that failed is one that the command makes: one that it asks, before any write, or the next write.
+-- The call of the store that failed is one that the command makes: one that it asks, before any write, or the next
+-- write.
 abbrev pub StopsAtStore : Meaning → Option Files → Option Files → StoreCall → Type 0
 StopsAtStore m before now call = (m.asks before call × (now ≡ before)) ⊎ FailedAt m.writes before now call
 
--- The parcels that were carried: those that the log gained, each the one that was due, and delivered as it was sent by a
--- faithful link.
+-- The parcels that were carried: those that the log gained, each the one that was due, and delivered as it was sent
+-- by a faithful link.
 abbrev pub CarriedThese : Meaning → Files → Seen → Seen → List Carried → Type 0
 CarriedThese m files before now entries = Adds before.log now.log entries
     × AreDue (m.due files) [] entries
@@ -61,7 +64,8 @@ EndsAsMeant m before now exit files = (entries : List Carried) × CarriedThese m
 -- nothing was put, or a front of the text of an answer that is meant
 abbrev pub PutsFront : Meaning → Seen → Seen → Files → Type 0
 PutsFront m before now files = (entries : List Carried) × CarriedThese m files before now entries
-    × ((now.told ≡ before.told) ⊎ ((answer : Answer) × m.answers files entries answer × AddsFront before.told now.told answer.text))
+    × ((now.told ≡ before.told)
+    ⊎ ((answer : Answer) × m.answers files entries answer × AddsFront before.told now.told answer.text))
 
 -- a piece of the text of an answer that is meant was due
 abbrev pub CutsAnswer : Meaning → Seen → Seen → List ℕ → Files → Type 0
@@ -76,9 +80,11 @@ StopsAtCarry m before now parcel files = (entries : List Carried) × CarriedThes
     × Adds before.told now.told answer.text
 
 pub record Ended (m : Meaning) (before now : Seen) (exit : ℕ) : Type 0 where
-  -- the exits; that of the store, the sink or the link comes only where its count of faults rose, and after any other exit its faults are as they were;
-  -- that of the link never comes where nothing is carried; and the link is as faithful as before
-  pub exits : IsVerdict exit ⊎ ((exit ≡ number_of StoreFailed) ⊎ ((exit ≡ number_of SinkFailed) ⊎ ((exit ≡ number_of OutOfMemory) ⊎ (exit ≡ number_of LinkFailed))))
+  -- the exits; that of the store, the sink or the link comes only where its count of faults rose, and after any
+  -- other exit its faults are as they were; that of the link never comes where nothing is carried; and the link is
+  -- as faithful as before
+  pub exits : IsVerdict exit ⊎ ((exit ≡ number_of StoreFailed)
+      ⊎ ((exit ≡ number_of SinkFailed) ⊎ ((exit ≡ number_of OutOfMemory) ⊎ (exit ≡ number_of LinkFailed))))
   pub store_fault : exit ≡ number_of StoreFailed → Rose before.store_faults now.store_faults
   pub store_good : exit ≢ number_of StoreFailed → now.store_faults ≡ before.store_faults
   pub sink_fault : exit ≡ number_of SinkFailed → Rose before.sink_faults now.sink_faults
@@ -87,22 +93,28 @@ pub record Ended (m : Meaning) (before now : Seen) (exit : ℕ) : Type 0 where
   pub link_good : exit ≢ number_of LinkFailed → now.link_faults ≡ before.link_faults
   pub link_nature : now.is_faithful ≡ before.is_faithful
   pub no_link_fault : CarriesNothing m → exit ≢ number_of LinkFailed
-  -- what failed: a call of the store that the command makes, a piece of its text, which isn't empty, or the parcel that was due
+  -- what failed: a call of the store that the command makes, a piece of its text, which isn't empty, or the parcel
+  -- that was due
   pub store_due : exit ≡ number_of StoreFailed → FailedIn now.store_faults (StopsAtStore m before.kept now.kept)
-  pub sink_due : exit ≡ number_of SinkFailed → FailedIn now.sink_faults (λ piece. (piece ≢ []) × Tells before.kept (CutsAnswer m before now piece))
-  pub link_due : exit ≡ number_of LinkFailed → FailedIn now.link_faults (λ parcel. Tells before.kept (StopsAtCarry m before now parcel))
+  pub sink_due : exit ≡ number_of SinkFailed
+      → FailedIn now.sink_faults (λ piece. (piece ≢ []) × Tells before.kept (CutsAnswer m before now piece))
+  pub link_due : exit ≡ number_of LinkFailed
+      → FailedIn now.link_faults (λ parcel. Tells before.kept (StopsAtCarry m before now parcel))
   -- what was written: all; after a want of memory some; `store_due` says it after a fault of the store
-  pub wrote : IsVerdict exit ⊎ ((exit ≡ number_of SinkFailed) ⊎ (exit ≡ number_of LinkFailed)) → WroteAll m.writes before.kept now.kept
+  pub wrote : IsVerdict exit ⊎ ((exit ≡ number_of SinkFailed) ⊎ (exit ≡ number_of LinkFailed))
+      → WroteAll m.writes before.kept now.kept
   pub wrote_some : exit ≡ number_of OutOfMemory → WroteSome m.writes before.kept now.kept
   -- what was carried, where nothing ever is, and after a fault of the store
   pub carries_nothing : CarriesNothing m ⊎ (exit ≡ number_of StoreFailed) → now.log ≡ before.log
-  -- what was printed: after a verdict the text of an answer that is meant, nothing after a fault of the store, and a front after one of the sink or a
-  -- want of memory
+  -- what was printed: after a verdict the text of an answer that is meant, nothing after a fault of the store, and
+  -- a front after one of the sink or a want of memory
   pub answer : IsVerdict exit → Tells before.kept (EndsAsMeant m before now exit)
   pub silent : exit ≡ number_of StoreFailed → now.told ≡ before.told
-  pub front : (exit ≡ number_of SinkFailed) ⊎ (exit ≡ number_of OutOfMemory) → Tells before.kept (PutsFront m before now)
+  pub front : (exit ≡ number_of SinkFailed) ⊎ (exit ≡ number_of OutOfMemory)
+      → Tells before.kept (PutsFront m before now)
   -- where no count rose, it ends as is meant, or memory was wanted
-  pub complete : (Rose before.store_faults now.store_faults → ⊥) → (Rose before.sink_faults now.sink_faults → ⊥) → (Rose before.link_faults now.link_faults → ⊥)
+  pub complete : (Rose before.store_faults now.store_faults → ⊥) → (Rose before.sink_faults now.sink_faults → ⊥)
+      → (Rose before.link_faults now.link_faults → ⊥)
       → (exit ≡ number_of OutOfMemory) ⊎ (IsVerdict exit × Tells before.kept (EndsAsMeant m before now exit))
 
 abbrev pub refused_words : List ℕ

@@ -1,7 +1,8 @@
 -- The exits of the program, and their numbers (own).
 use Rattle.std.specs.Prelude.{ℕ}
 use Rattle.tool_frame.specs.declared.exit.Exit.{Exit}
-use Rattle.tool_frame.specs.declared.exit.Exit.TheVariants.{Done, Negative, RefusedWords, StoreFailed, SinkFailed, OutOfMemory, LinkFailed, LimitPassed, NoWords}
+use Rattle.tool_frame.specs.declared.exit.Exit.TheVariants.{Done, Negative, RefusedWords, StoreFailed, SinkFailed}
+use Rattle.tool_frame.specs.declared.exit.Exit.TheVariants.{OutOfMemory, LinkFailed, LimitPassed, NoWords}
 
 -- the exit status
 abbrev pub number_of : Exit → ℕ

@@ -4,6 +4,7 @@ pub mod Asks
 pub mod Course
 pub mod Ended
 pub mod Exit
+pub mod Halts
 pub mod Meaning
 pub mod Refusals
 pub mod Seen

@@ -8,9 +8,10 @@ use Rattle.tool_frame.specs.Answer.{Answer}
 use Rattle.tool_frame.specs.Course.{Course, answer_after, due_after}
 use Rattle.aidl_outside.specs.Parcel.{Parcel, parcel_of}
 
--- The calls that it makes to read from the store. The files that it writes, in order, one list of them or none. The parcel that is due after
--- those that were carried, by what was delivered; None where no more is. And its answers, one or none: while a parcel is due, the text of an
--- answer is what is printed before that one is carried. A command either never carries, whatever the files are, or may.
+-- The calls that it makes to read from the store. The files that it writes, in order, one list of them or none. The
+-- parcel that is due after those that were carried, by what was delivered; None where no more is. And its answers,
+-- one or none: while a parcel is due, the text of an answer is what is printed before that one is carried. A
+-- command either never carries, whatever the files are, or may.
 pub record Meaning : Type 1 where
   pub may_carry : Bool
   pub asks : Asks
@@ -20,14 +21,20 @@ pub record Meaning : Type 1 where
 
 -- a command that doesn't carry, by what it asks the store, what it writes, and what its answers are over the files
 abbrev pub writes_by : Asks → (Files → List Write → Type 0) → (Files → Answer → Type 0) → Meaning
-writes_by asks writes answers = record { may_carry = false; asks = asks; writes = writes; due = λ files entries parcel. parcel ≡ None; answers = λ files entries answer. answers files answer }
+writes_by asks writes answers = record {
+  may_carry = false;
+  asks = asks;
+  writes = writes;
+  due = λ files entries parcel. parcel ≡ None;
+  answers = λ files entries answer. answers files answer;
+}
 
 -- a command that neither writes nor carries, by what it asks the store, and what its answers are over the files
 abbrev pub reads_by : Asks → (Files → Answer → Type 0) → Meaning
 reads_by asks answers = writes_by asks (λ files made. made ≡ []) answers
 
--- A command that first writes and then carries, by what it asks the store, what it writes, and the courses that it may take: one of them, or
--- none. The last two go by the files that the store told before.
+-- A command that first writes and then carries, by what it asks the store, what it writes, and the courses that it
+-- may take: one of them, or none. The last two go by the files that the store told before.
 abbrev pub does_by : Asks → (Files → List Write → Type 0) → (Files → Course → Type 0) → Meaning
 does_by asks writes takes = record {
   may_carry = true;

@@ -1,5 +1,6 @@
 -- The files of a tree: those below its root whose paths end in `.aidl`, in the order of their paths (own).
-use Rattle.std.specs.Prelude.{◌≡◌, ℕ, ◌≤◌, nat_lt, Bool, if◌then◌else◌, List, [], ◌∷◌, ◌++◌, length, map, All, Option, Some, None, Result, Ok, Err, codes}
+use Rattle.std.specs.Prelude.{◌≡◌, ℕ, ◌≤◌, nat_lt, Bool, if◌then◌else◌, List, [], ◌∷◌, ◌++◌, length, map, All}
+use Rattle.std.specs.Prelude.{Option, Some, None, Result, Ok, Err, codes}
 use Rattle.std.specs.List.{filter}
 use Rattle.aidl_base.specs.declared.limit.Limit.{Limit}
 use Rattle.aidl_base.specs.declared.limit.LimitName.TheVariants as limit
@@ -29,8 +30,8 @@ sources_below root files = filter is_source (listing root files)
 abbrev pub few : List (List ℕ) → Found (List (List ℕ))
 few paths = if nat_lt (limit_number limit.Files) (length paths) then Err (limit_passed limit.Files) else Ok paths
 
--- The file at a listed path, or the limit that it passes. Where nothing stands there, it is left out; of what a store tells
--- that is never so, since it lists what it holds.
+-- The file at a listed path, or the limit that it passes. Where nothing stands there, it is left out; of what a
+-- store tells that is never so, since it lists what it holds.
 abbrev pub file_found : List ℕ → Option (Found (List ℕ)) → Found (List TreeFile)
 file_found path None = Ok []
 file_found path (Some (Ok bytes)) = Ok (record { path = path; bytes = bytes } ∷ [])
@@ -69,7 +70,8 @@ AreFiles sources tree = map file_seen sources ≡ tree
 
 -- what comes of the tree below a root: of the limit that its files pass, or of these
 abbrev pub Over : {A : Type 0} → Refusing A → Found (List TreeFile) → (List SourceFile → A → Type 0) → A → Type 0
-Over Refuses tree next x = FoundThen Refuses tree (λ found y. (sources : List SourceFile) × AreFiles sources found × next sources y) x
+Over Refuses tree next x =
+    FoundThen Refuses tree (λ found y. (sources : List SourceFile) × AreFiles sources found × next sources y) x
 
 -- what is answered over it
 abbrev pub OverTree : Found (List TreeFile) → (List SourceFile → Answer → Type 0) → Answer → Type 0

@@ -3,22 +3,26 @@
 
 mod ending;
 mod exit;
+mod halt;
 mod loading;
 mod printed;
 mod putting;
 mod refusing;
 mod shown;
+mod sources;
 mod steps;
 mod tree;
 mod verdict;
 
 pub use ending::end;
 pub use exit::Exit;
-pub use loading::load;
+pub use halt::Halt;
+pub use loading::load_existing;
 pub use printed::{Early, Printed, limit_passed, refusal};
 pub use putting::{print, put};
 pub use refusing::refuse;
 pub use shown::push_shown;
-pub use steps::{bytes_within, existing_file, files_of, text_of};
+pub use sources::load_sources;
+pub use steps::{bytes_within, text_of};
 pub use tree::load_tree;
 pub use verdict::Verdict;

@@ -6,12 +6,32 @@ ghost use Rattle.aidl_outside.specs.Asks.{AsksFile};
 ghost use Rattle.aidl_outside.specs.Causes.{StoreCause};
 ghost use Rattle.aidl_outside.specs.Faults.{FailedIn, IfStoreFailed};
 ghost use Rattle.aidl_outside.specs.Told.{Tells};
-ghost use Rattle.tool_frame.specs.Refusals.{file_at, within};
+ghost use Rattle.tool_frame.specs.Halts.{Loads};
+ghost use Rattle.tool_frame.specs.Refusals.{file_at, there, within};
 ghost use Rattle.tool_frame.specs.Results.{IsShort, held, loaded};
+ghost use Rattle.tool_frame.specs.Seen.{store_seen};
 
+use crate::halt::Halt;
+use crate::steps::existing_file;
 use aidl_base::{Limit, LimitName};
 use aidl_outside::{Store, StoreFault};
 use std::alloc::Global;
+
+/// The file at a path, or the limit that its bytes pass, which is refused later; else the line `no file PATH`.
+pub fn load_existing<S: Store>(
+    alloc: Global,
+    which: LimitName,
+    path: &str,
+    store: &mut S,
+) -> Result<Result<Vec<u8>, Limit>, Halt>
+    ensures { let seen = store_seen S.Store in
+        Loads (AsksFile path.now) held (λ files. there path.now (file_at which files path.now))
+        (seen store.old) (seen store.new) result }
+{
+    let file = load(alloc, which, path, store)?;
+    let found = existing_file(alloc, path, file)?;
+    Ok(found)
+}
 
 /// The file at a path, or the limit that its bytes pass; None where nothing stands there. A `StoreFault` where the call failed or memory was
 /// wanted.

@@ -38,9 +38,9 @@ pub fn print<K: Sink>(alloc: Global, answered: Result<Printed, Early>, sink: &mu
     }
 }
 
-// Prints an answer.
+/// Prints an answer.
 #[tactic(auto, using(crate::proofs::Puts::prints_whole, crate::proofs::Puts::prints_front))]
-fn print_whole<K: Sink>(alloc: Global, answer: &Printed, sink: &mut K) -> Exit
+pub fn print_whole<K: Sink>(alloc: Global, answer: &Printed, sink: &mut K) -> Exit
     ensures { Prints (printed answer.now) (K.told sink.old)
         (K.told sink.new) (K.fault_record sink.old) (K.fault_record sink.new) (number_of result) }
 {

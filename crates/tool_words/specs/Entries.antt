@@ -1,5 +1,6 @@
 -- TYPES and its entries (own).
-use Rattle.std.specs.Prelude.{ℕ, ◌-◌, Bool, true, false, ◌&&◌, nat_le, if◌then◌else◌, List, [], ◌∷◌, length, take, drop, Option, Some, None, codes, bytes_eq}
+use Rattle.std.specs.Prelude.{ℕ, ◌-◌, Bool, true, false, ◌&&◌, nat_le, if◌then◌else◌, List, [], ◌∷◌, length, take}
+use Rattle.std.specs.Prelude.{drop, Option, Some, None, codes, bytes_eq}
 use Rattle.std.specs.List.{list_all}
 use Rattle.aidl_base.specs.Identifiers.{is_identifier}
 use Rattle.tool_words.specs.declared.entry.Form.{Form}
@@ -24,7 +25,8 @@ ends_with text end = bytes_eq (drop (length text - length end) text) end
 abbrev pub shaped : List ℕ → Bool → Entry
 shaped text nullable =
     if ends_with text (codes "[]") then record { name = without_last 2 text; form = form.Array; nullable = nullable }
-    else if bytes_eq (take 5 text) (codes "List<") && ends_with text (codes ">") then record { name = drop 5 (without_last 1 text); form = form.List; nullable = nullable }
+    else if bytes_eq (take 5 text) (codes "List<") && ends_with text (codes ">")
+    then record { name = drop 5 (without_last 1 text); form = form.List; nullable = nullable }
     else record { name = text; form = form.One; nullable = nullable }
 
 -- with an optional `?` at its end

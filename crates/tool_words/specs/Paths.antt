@@ -1,5 +1,6 @@
 -- Paths among the words (own).
-use Rattle.std.specs.Prelude.{ℕ, Bool, not, ◌&&◌, ◌==◌, if◌then◌else◌, List, [], ◌∷◌, length, take, Option, Some, None, codes, bytes_eq}
+use Rattle.std.specs.Prelude.{ℕ, Bool, not, ◌&&◌, ◌==◌, if◌then◌else◌, List, [], ◌∷◌, length, take, Option, Some}
+use Rattle.std.specs.Prelude.{None, codes, bytes_eq}
 
 -- neither empty nor does it start with `--`
 unfoldable pub is_path : List ℕ → Bool

@@ -1,8 +1,10 @@
 -- The table of commands: which command the words are (own).
-use Rattle.std.specs.Prelude.{ℕ, Bool, ◌&&◌, option_and_then, if◌then◌else◌, List, [], ◌∷◌, Option, Some, None, codes, bytes_eq}
+use Rattle.std.specs.Prelude.{ℕ, Bool, ◌&&◌, option_and_then, if◌then◌else◌, List, [], ◌∷◌, Option, Some, None}
+use Rattle.std.specs.Prelude.{codes, bytes_eq}
 use Rattle.std.specs.Option.{option_map}
 use Rattle.decimal_words.specs.Decimals.{number_within}
-use Rattle.tool_words.specs.Command.{Command, decode, encode, check, dump, freeze, verify, rehash, judge, witness, run, make, ask, explain, replay}
+use Rattle.tool_words.specs.Command.{Command, decode, encode, check, dump, freeze, verify, rehash, judge, witness}
+use Rattle.tool_words.specs.Command.{run, make, ask, explain, replay}
 use Rattle.tool_words.specs.Entries.{types_and_file}
 use Rattle.tool_words.specs.Options.{has_flag, after_flag, tree_of, after_tree}
 use Rattle.tool_words.specs.Paths.{is_path, one_path, two_paths, three_paths}
@@ -48,7 +50,8 @@ witness_row words = option_map (λ w. witness w.0 w.1) (two_paths words)
 
 -- `run [--trace] [--lenient] CLIENT SERVER CALLS`
 abbrev pub run_of : Bool → List (List ℕ) → Option Command
-run_of trace words = option_map (λ w. run trace (has_flag (codes "--lenient") words) w.0 w.1 w.2) (three_paths (after_flag (codes "--lenient") words))
+run_of trace words = option_map (λ w. run trace (has_flag (codes "--lenient") words) w.0 w.1 w.2)
+    (three_paths (after_flag (codes "--lenient") words))
 
 unfoldable pub run_row : List (List ℕ) → Option Command
 run_row words = run_of (has_flag (codes "--trace") words) (after_flag (codes "--trace") words)
@@ -64,10 +67,12 @@ make_row _ = None
 -- `ask API N INTERFACE CODE FILE`, N from 1 to 9,999 and CODE from 0 to 4,294,967,295
 abbrev pub ask_of : List ℕ → List ℕ → List ℕ → List ℕ → List ℕ → Option Command
 ask_of api version interface code file =
-    option_and_then (λ n. option_map (λ c. ask api n interface c file) (number_within 0 4294967295 code)) (number_within 1 9999 version)
+    option_and_then (λ n. option_map (λ c. ask api n interface c file) (number_within 0 4294967295 code))
+    (number_within 1 9999 version)
 
 unfoldable pub ask_row : List (List ℕ) → Option Command
-ask_row (api ∷ version ∷ interface ∷ code ∷ file ∷ []) = if is_path api && is_path file then ask_of api version interface code file else None
+ask_row (api ∷ version ∷ interface ∷ code ∷ file ∷ []) = if is_path api && is_path file
+    then ask_of api version interface code file else None
 ask_row _ = None
 
 -- `explain [--tree TREE] TYPES FILE`
@@ -76,7 +81,8 @@ explain_row words = option_map (λ w. explain (tree_of words) w.0 w.1) (types_an
 
 -- `replay SERVER INTERFACE TRACE`
 abbrev pub replay_of : List ℕ → List ℕ → List ℕ → Option Command
-replay_of server interface trace = if is_path server && is_path trace then Some (replay server interface trace) else None
+replay_of server interface trace = if is_path server && is_path trace
+    then Some (replay server interface trace) else None
 
 unfoldable pub replay_row : List (List ℕ) → Option Command
 replay_row (server ∷ interface ∷ trace ∷ []) = replay_of server interface trace

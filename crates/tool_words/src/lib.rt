@@ -9,6 +9,6 @@ mod paths;
 mod rows;
 mod type_words;
 
-pub use command::Command;
+pub use command::{AskWords, Command, ReplayWords, RunWords, TypedFile};
 pub use entry::{Entry, Form, entry_of, first_entry};
 pub use rows::command_of;

@@ -2,16 +2,17 @@
 ghost use Rattle.std.specs.Prelude.{◌≡◌, map, string_bytes};
 ghost use Rattle.std.specs.Option.{option_map};
 ghost use Rattle.tool_words.specs.Rows as table;
-ghost use Rattle.tool_words.specs.Seen.{command_seen};
+ghost use Rattle.tool_words.specs.Seen.{command_seen, is_lenient};
 
-use crate::command::Command;
+use crate::command::{AskWords, Command, ReplayWords, RunWords, TypedFile};
 use crate::options::{after_flag, after_tree, has_flag, tree_of};
 use crate::paths::{is_path, one_path, three_paths, two_paths};
 use crate::type_words::types_and_file;
+use aidl_base::Profile;
 use decimal_words::number_within;
 
 /// The command that the words are, those after the program's own name. None where they are in no row of the table of
-/// commands. It takes no memory.
+/// commands.
 pub fn command_of(words: &[String]) -> Option<Command<'_>>
     ensures { option_map command_seen result ≡ table.command_of (map string_bytes words.now) }
 {
@@ -47,16 +48,23 @@ fn in_row<'a>(name: &str, words: &'a [String]) -> Option<Command<'a>>
 fn decode(words: &[String]) -> Option<Command<'_>>
     ensures { option_map command_seen result ≡ table.decode_row (map string_bytes words.now) }
 {
-    let lenient = has_flag(words, "--lenient");
+    let profile = profile_of(has_flag(words, "--lenient"));
     let words = after_flag(words, "--lenient");
     let tree = tree_of(words);
-    let (types, file) = types_and_file(after_tree(words))?;
-    Some(Command::Decode {
-        lenient,
-        tree,
-        types,
-        file,
-    })
+    let (types, path) = types_and_file(after_tree(words))?;
+    let file = TypedFile { tree, types, path };
+    Some(Command::Decode { profile, file })
+}
+
+// The profile by which is read.
+fn profile_of(lenient: bool) -> Profile
+    ensures { is_lenient result ≡ lenient }
+{
+    if lenient {
+        Profile::Lenient
+    } else {
+        Profile::Strict
+    }
 }
 
 #[tactic(auto, unfolding(crate::specs::Rows::encode_row))]
@@ -64,8 +72,9 @@ fn encode(words: &[String]) -> Option<Command<'_>>
     ensures { option_map command_seen result ≡ table.encode_row (map string_bytes words.now) }
 {
     let tree = tree_of(words);
-    let (types, file) = types_and_file(after_tree(words))?;
-    Some(Command::Encode { tree, types, file })
+    let (types, path) = types_and_file(after_tree(words))?;
+    let file = TypedFile { tree, types, path };
+    Some(Command::Encode { file })
 }
 
 #[tactic(auto, unfolding(crate::specs::Rows::explain_row))]
@@ -73,8 +82,9 @@ fn explain(words: &[String]) -> Option<Command<'_>>
     ensures { option_map command_seen result ≡ table.explain_row (map string_bytes words.now) }
 {
     let tree = tree_of(words);
-    let (types, file) = types_and_file(after_tree(words))?;
-    Some(Command::Explain { tree, types, file })
+    let (types, path) = types_and_file(after_tree(words))?;
+    let file = TypedFile { tree, types, path };
+    Some(Command::Explain { file })
 }
 
 #[tactic(auto, unfolding(crate::specs::Rows::check_row))]
@@ -139,15 +149,16 @@ fn run(words: &[String]) -> Option<Command<'_>>
 {
     let trace = has_flag(words, "--trace");
     let words = after_flag(words, "--trace");
-    let lenient = has_flag(words, "--lenient");
+    let profile = profile_of(has_flag(words, "--lenient"));
     let (client, server, calls) = three_paths(after_flag(words, "--lenient"))?;
-    Some(Command::Run {
+    let words = RunWords {
+        profile,
         trace,
-        lenient,
         client,
         server,
         calls,
-    })
+    };
+    Some(Command::Run { words })
 }
 
 #[tactic(auto, unfolding(crate::specs::Rows::make_row))]
@@ -189,20 +200,21 @@ fn ask_of<'a>(
     version: &str,
     interface: &'a str,
     code: &str,
-    file: &'a str,
+    path: &'a str,
 ) -> Option<Command<'a>>
     ensures { option_map command_seen result
-        ≡ table.ask_of api.now version.now interface.now code.now file.now }
+        ≡ table.ask_of api.now version.now interface.now code.now path.now }
 {
     let version = number_within(1, 9999, version.as_bytes())?;
     let code = number_within(0, 4294967295, code.as_bytes())?;
-    Some(Command::Ask {
+    let words = AskWords {
         api,
         version,
         interface,
         code,
-        file,
-    })
+        path,
+    };
+    Some(Command::Ask { words })
 }
 
 #[tactic(auto, unfolding(crate::specs::Rows::replay_row))]
@@ -223,11 +235,12 @@ fn replay_of<'a>(server: &'a str, interface: &'a str, trace: &'a str) -> Option<
     ensures { option_map command_seen result ≡ table.replay_of server.now interface.now trace.now }
 {
     if is_path(server) && is_path(trace) {
-        Some(Command::Replay {
+        let words = ReplayWords {
             server,
             interface,
             trace,
-        })
+        };
+        Some(Command::Replay { words })
     } else {
         None
     }

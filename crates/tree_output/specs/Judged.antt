@@ -21,8 +21,10 @@ judged (b ∷ bs) = refused (flat_map break_line (b ∷ bs))
 
 -- once the first tree has this schema, the judge's answer by that of the second
 abbrev pub IsSecondAnswer : List Decl → List ℕ → List SourceFile → Answer → Type 0
-IsSecondAnswer old new_root new_files answer = ByFiles AsAnswer new_root new_files (λ new a. a ≡ judged (broken old new)) answer
+IsSecondAnswer old new_root new_files answer =
+    ByFiles AsAnswer new_root new_files (λ new a. a ≡ judged (broken old new)) answer
 
 -- The first tree is judged whole before the second.
 abbrev pub IsJudgeAnswer : List ℕ → List SourceFile → List ℕ → List SourceFile → Answer → Type 0
-IsJudgeAnswer old_root old_files new_root new_files answer = ByFiles AsAnswer old_root old_files (λ old. IsSecondAnswer old new_root new_files) answer
+IsJudgeAnswer old_root old_files new_root new_files answer =
+    ByFiles AsAnswer old_root old_files (λ old. IsSecondAnswer old new_root new_files) answer

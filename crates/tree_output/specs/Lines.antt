@@ -11,9 +11,11 @@ use Rattle.tree_files.specs.declared.fault.LexBreach.{LexBreach}
 use Rattle.tool_frame.specs.Answer.{line}
 use Rattle.tree_output.specs.RuleNames.{rule_name}
 
--- `PATH:OFFSET: ` and what is wrong there, PATH being the root, `/` and the file's path, OFFSET bytes from the file's start
+-- `PATH:OFFSET: ` and what is wrong there, PATH being the root, `/` and the file's path, OFFSET bytes from the
+-- file's start
 abbrev pub line_at : List ℕ → SourceFile → ℕ → List ℕ → List ℕ
-line_at root file offset what = line (root ++ codes "/" ++ encode_utf8_all file.path ++ codes ":" ++ decimal offset ++ codes ": " ++ what)
+line_at root file offset what =
+    line (root ++ codes "/" ++ encode_utf8_all file.path ++ codes ":" ++ decimal offset ++ codes ": " ++ what)
 
 -- what is said of the file with a number; nothing where no file has it
 abbrev pub of_file : (SourceFile → List ℕ) → Option SourceFile → List ℕ
@@ -22,12 +24,14 @@ of_file say (Some file) = say file
 
 -- `lex NUMBER NAME`; nothing of a want of memory
 abbrev pub lex_words : List ℕ → SourceFile → Option ℕ → Option ℕ → Option (List ℕ) → List ℕ
-lex_words root file (Some offset) (Some number) (Some name) = line_at root file offset (codes "lex " ++ decimal number ++ codes " " ++ name)
+lex_words root file (Some offset) (Some number) (Some name) =
+    line_at root file offset (codes "lex " ++ decimal number ++ codes " " ++ name)
 lex_words root file _ _ _ = []
 
 -- of a file without tokens
 abbrev pub lex_line : List ℕ → List SourceFile → LexBreach → List ℕ
-lex_line root files b = of_file (λ file. lex_words root file (offset_of b.fault) (number_of b.fault) (name_of b.fault)) (slice_get files b.file)
+lex_line root files b = of_file
+    (λ file. lex_words root file (offset_of b.fault) (number_of b.fault) (name_of b.fault)) (slice_get files b.file)
 
 -- of a broken check rule: `E4 UnknownType`
 abbrev pub rule_line : List ℕ → SourceFile → ℕ → ℕ → List ℕ

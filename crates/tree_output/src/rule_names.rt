@@ -2,7 +2,7 @@
 ghost use Rattle.std.specs.Prelude.{◌≡◌};
 ghost use Rattle.tree_output.specs.RuleNames as meant;
 
-/// The printed name of a check rule, by its number from 1 for E1 to 24 for E24. It takes no memory.
+/// The printed name of a check rule, by its number from 1 for E1 to 24 for E24.
 pub fn rule_name(rule: u8) -> &'static str
     ensures { result.now ≡ meant.rule_name rule }
 {

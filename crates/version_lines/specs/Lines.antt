@@ -47,4 +47,5 @@ IsUnread fault.OutOfMemory answer = ⊥
 
 -- `torn N missing HASH` or `torn N kept BYTES HASH`, by the text that its `.hash` is to have
 abbrev pub torn : ℕ → Option (List ℕ) → List ℕ → Answer
-torn version kept text = negative (codes "torn " ++ (decimal version ++ (codes " " ++ torn_words kept (encode_utf8_all text))))
+torn version kept text =
+    negative (codes "torn " ++ (decimal version ++ (codes " " ++ torn_words kept (encode_utf8_all text))))

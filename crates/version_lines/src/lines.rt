@@ -97,7 +97,7 @@ fn push_digits(alloc: Global, hash: &[u8], text: &mut String) -> Result<(), OutO
     Ok(())
 }
 
-/// The first 40 bytes: of a `.hash` that is whole, its digits. It takes no memory.
+/// The first 40 bytes: of a `.hash` that is whole, its digits.
 #[tactic(auto, using(crate::proofs::Forty::all_of_few))]
 pub fn first_forty(bytes: &[u8]) -> &[u8]
     ensures { result.now ≡ take 40 bytes.now }

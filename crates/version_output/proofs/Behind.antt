@@ -1,5 +1,5 @@
 -- The faults of a version's files behind its line.
-use Rattle.std.proofs.Common.{◌≡◌, ◌++◌, ℕ, List, codes, sym, subst}
+use Rattle.std.proofs.Common.{◌++◌, ℕ, List, codes, sym, subst}
 use Rattle.std.specs.Fmt.{decimal}
 use Rattle.aidl_base.specs.declared.source_file.SourceFile.{SourceFile}
 use Rattle.api_versions.specs.Versions.{version_folder}

@@ -29,7 +29,8 @@ wrote count = done (codes "wrote " ++ decimal count ++ codes " files")
 abbrev pub Dumps : List ℕ → List Decl → Acts
 Dumps out S made answer = (made ≡ dump_writes out S) × (answer ≡ wrote (length (dump_text S)))
 
--- Files whose writes below OUT these are read back: where they are parsed, so that no limit on files or tokens is passed, their schema is S.
+-- Files whose writes below OUT these are read back: where they are parsed, so that no limit on files or tokens is
+-- passed, their schema is S.
 abbrev pub ReadBack : List ℕ → List Decl → List Write → Type 0
 ReadBack out S writes = (files : List SourceFile) (trees : List ParsedFile)
     → map (λ f. file_write out (file_pair f)) files ≡ writes → AreParsed files trees → IsSchemaOf files S

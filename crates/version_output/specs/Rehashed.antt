@@ -1,5 +1,5 @@
 -- What `rehash` writes and prints of the versions of an API (own).
-use Rattle.std.specs.Prelude.{◌≡◌, ℕ, ◌++◌, List, [], length, Result, Ok, Err, codes}
+use Rattle.std.specs.Prelude.{◌≡◌, ℕ, ◌++◌, List, length, Result, Ok, Err, codes}
 use Rattle.std.specs.Fmt.{decimal}
 use Rattle.api_freeze.specs.declared.fault.RehashFault.{RehashFault}
 use Rattle.api_freeze.specs.declared.fault.RehashFault.TheVariants as fault

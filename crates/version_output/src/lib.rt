@@ -12,4 +12,5 @@ pub use dumping::{Due, dump_answer};
 pub use freezing::freeze_answer;
 pub use refusing::freeze_refusal;
 pub use rehashing::{rehash_answer, rehash_refusal};
+pub use unread::versions_refusal;
 pub use verifying::verify_answer;

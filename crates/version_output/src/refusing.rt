@@ -16,37 +16,40 @@ ghost use Rattle.version_output.specs.Ends.{FreezeEnds};
 
 use crate::unread::versions_refusal;
 use aidl_base::{OutOfMemory, Row, SourceFile};
-use aidl_outside::StoreFault;
 use api_freeze::FreezeFault;
 use api_versions::version_folder;
 use compat_judge::Broken;
 use std::alloc::Global;
 use std::fmt::Write;
-use tool_frame::{Early, Printed, Verdict, limit_passed};
+use tool_frame::{Early, Halt, Printed, Verdict, limit_passed};
 use tree_output::{fault_answer, judge_lines};
 use type_check::CheckFault;
 use version_lines::torn_answer;
 
-/// What `freeze` prints where it refuses: `bad versions missing N`; `torn N missing HASH` or `torn N kept BYTES HASH`; `unreadable N`
-/// and the lines of the version's faults; `unchanged N`; the judge's lines; or a limit. Of a call of the store that failed, or
-/// where memory was wanted, it is that fault.
-pub fn freeze_refusal(alloc: Global, api: &str, fault: FreezeFault) -> Result<Early, StoreFault>
+/// How `freeze` ends where it refuses: with `bad versions missing N`; `torn N missing HASH` or `torn N kept BYTES HASH`; `unreadable N`
+/// and the lines of the version's faults; `unchanged N`; the judge's lines; or a limit. Or a call of the store failed, or memory was wanted.
+pub fn freeze_refusal(alloc: Global, api: &str, fault: FreezeFault) -> Halt
     requires { IsRead fault }
     ensures { FreezeEnds (meant.IsUnfrozen api.now) fault result }
 {
     match fault {
         FreezeFault::Versions(fault) => versions_refusal(alloc, fault),
-        FreezeFault::Torn(torn) => Ok(torn_answer(alloc, torn.version, &torn.kept, &torn.text)),
+        FreezeFault::Torn(torn) => Halt::from(torn_answer(
+            alloc,
+            torn.version,
+            &torn.kept,
+            &torn.text,
+        )),
         FreezeFault::Unreadable {
             version,
             files,
             fault,
-        } => Ok(unreadable(alloc, api, version, files, fault)),
-        FreezeFault::Unchanged { version } => Ok(unchanged(alloc, version)),
-        FreezeFault::Incompatible(rows) => Ok(incompatible(alloc, rows)),
-        FreezeFault::Limit(limit) => Ok(limit_passed(alloc, limit)),
-        FreezeFault::Write(fault) => Err(fault),
-        FreezeFault::OutOfMemory => Err(StoreFault::OutOfMemory),
+        } => Halt::from(unreadable(alloc, api, version, files, fault)),
+        FreezeFault::Unchanged { version } => Halt::from(unchanged(alloc, version)),
+        FreezeFault::Incompatible(rows) => Halt::from(incompatible(alloc, rows)),
+        FreezeFault::Limit(limit) => Halt::from(limit_passed(alloc, limit)),
+        FreezeFault::Write(fault) => Halt::from(fault),
+        FreezeFault::OutOfMemory => Halt::OutOfMemory,
     }
 }
 

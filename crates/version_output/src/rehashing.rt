@@ -7,11 +7,10 @@ ghost use Rattle.version_output.specs.Rehashed as meant;
 
 use crate::unread::versions_refusal;
 use aidl_base::OutOfMemory;
-use aidl_outside::StoreFault;
 use api_freeze::RehashFault;
 use std::alloc::Global;
 use std::fmt::Write;
-use tool_frame::{Early, Printed, Verdict};
+use tool_frame::{Early, Halt, Printed, Verdict};
 use version_lines::torn_answer;
 
 /// What `rehash` prints of so many hashes that were written.
@@ -33,15 +32,20 @@ fn count_line(alloc: Global, count: usize) -> Result<String, OutOfMemory>
     Ok(text)
 }
 
-/// What `rehash` prints of a refusal: `bad versions missing N`; `torn N missing HASH` or `torn N kept BYTES HASH`; or a limit. Of a call of
-/// the store that failed, or where memory was wanted, it is that fault.
-pub fn rehash_refusal(alloc: Global, fault: RehashFault) -> Result<Early, StoreFault>
+/// How `rehash` ends where it refuses: with `bad versions missing N`; `torn N missing HASH` or `torn N kept BYTES HASH`; or a limit. Or a call of
+/// the store failed, or memory was wanted.
+pub fn rehash_refusal(alloc: Global, fault: RehashFault) -> Halt
     ensures { RehashEnds meant.IsUnhashed fault result }
 {
     match fault {
         RehashFault::Versions(fault) => versions_refusal(alloc, fault),
-        RehashFault::Torn(torn) => Ok(torn_answer(alloc, torn.version, &torn.kept, &torn.text)),
-        RehashFault::Write(fault) => Err(fault),
-        RehashFault::OutOfMemory => Err(StoreFault::OutOfMemory),
+        RehashFault::Torn(torn) => Halt::from(torn_answer(
+            alloc,
+            torn.version,
+            &torn.kept,
+            &torn.text,
+        )),
+        RehashFault::Write(fault) => Halt::from(fault),
+        RehashFault::OutOfMemory => Halt::OutOfMemory,
     }
 }

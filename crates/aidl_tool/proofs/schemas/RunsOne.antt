@@ -1,78 +1,186 @@
 -- `run` runs the one course of the schemas that both trees have.
-use Rattle.std.proofs.Common.{◌≡◌, ℕ, Bool, List, [], ◌∷◌, Option, Some, None, Ok, Err, refl, sym, ap, ◌∙◌, subst, arith, inl, inr}
-use Rattle.std.specs.Prelude.{◌≢◌, ◌≤◌, Result}
+use Rattle.std.proofs.Common.{◌≡◌, ℕ, Bool, List, [], ◌∷◌, map, Option, Some, None, Ok, Err, refl, sym, ap, ◌∙◌, subst, arith, inl, inr}
+use Rattle.std.specs.Prelude.{◌≢◌, ◌≤◌}
 use Rattle.std.proofs.lemmas.List.{append-nil}
 use Rattle.aidl_base.specs.declared.limit.LimitName.TheVariants.{TextBytes}
 use Rattle.aidl_base.specs.declared.profile.Profile.{Profile}
-use Rattle.aidl_base.specs.Results.{◌>>=◌}
+use Rattle.aidl_base.specs.declared.source_file.SourceFile.{SourceFile}
 use Rattle.aidl_outside.specs.Files.{Files}
-use Rattle.aidl_outside.specs.Told.{Adds}
+use Rattle.aidl_outside.specs.Asks.{Asks}
+use Rattle.aidl_outside.specs.Faults.{StoreFaults}
+use Rattle.aidl_outside.specs.Told.{Adds, Tells}
+use Rattle.aidl_outside.proofs.lemmas.Telling.{tells}
 use Rattle.aidl_schema.specs.Broken.{Break, broken}
 use Rattle.aidl_schema.specs.declared.schema.Decl.{Decl}
 use Rattle.aidl_tool.specs.Acting.{HasSchema}
-use Rattle.aidl_tool.specs.Headline.{IsCallsText, IsChecked}
-use Rattle.aidl_tool.specs.Running.{calls_within}
-use Rattle.aidl_tool.specs.declared.running.Loaded.{Loaded}
+use Rattle.aidl_tool.specs.Between.{IsCallsText, IsChecked}
+use Rattle.aidl_tool.specs.Running.{RunTakes, RunsLoaded, Takes, TakesChecked, TakesOver, TakesThen, calls_within}
 use Rattle.aidl_tool.specs.declared.running.Prepared.{Prepared}
-use Rattle.aidl_tool.specs.steps.Loading.{HeldFiles, RanSome, RunsAs, RunsGivenAs, TakesEarly, TakesLoaded, all_held, loaded_seen}
-use Rattle.aidl_tool.specs.steps.Preparing.{IsPreparedAs, PreparesGiven, ProjectsPrepared, TakesPrepared}
+use Rattle.aidl_tool.specs.steps.Both.{AreBoth, PassesOne}
+use Rattle.aidl_tool.specs.steps.Preparing.{IsPrepared, IsUnprepared}
+use Rattle.aidl_tool.specs.steps.Running.{RanSome}
+use Rattle.aidl_tool.specs.steps.Tags.{EndsProjected}
 use Rattle.aidl_tool.proofs.CourseEnds.{alone}
-use Rattle.aidl_tool.proofs.Kept.{RunKeeps}
-use Rattle.aidl_tool.proofs.schemas.OneTree.{one_tree}
+use Rattle.aidl_tool.proofs.Reading.{has_schema}
+use Rattle.aidl_tool.proofs.Kept.{RunKeeps, tells_any}
 use Rattle.run_output.specs.CallLines.{lines_of, within_lines}
+use Rattle.run_output.specs.Projected.{projected_text}
 use Rattle.run_output.specs.Running.{judged_course, lines_course, neither, run_course}
-use Rattle.tool_frame.specs.declared.printed.Early.{Early}
-use Rattle.tool_frame.specs.declared.printed.Early.TheVariants.{Answered, OutOfMemory}
-use Rattle.tool_frame.specs.Answer.{Found}
-use Rattle.tool_frame.specs.Course.{Course}
-use Rattle.tool_frame.specs.Refusals.{file_at, there}
-use Rattle.tool_frame.specs.Seen.{Seen}
-use Rattle.tool_frame.specs.Trees.{TreeFile, tree_at}
-use Rattle.tool_frame.specs.Verdict.{IsVerdict}
+use Rattle.tool_frame.specs.declared.halt.Halt.{Halt}
+use Rattle.tool_frame.specs.declared.halt.Halt.TheVariants.{Answered, StoreFailed, OutOfMemory}
+use Rattle.tool_frame.specs.Answer.{Answer, Found}
+use Rattle.tool_frame.specs.Ends.{EndsRead}
+use Rattle.tool_frame.specs.Halts.{Gets}
+use Rattle.tool_frame.specs.Results.{printed}
+use Rattle.tool_frame.specs.Course.{Course, at_once}
 use Rattle.tool_frame.specs.Courses.{EndsCourse}
-use Rattle.tool_frame.specs.Results.{Finds}
+use Rattle.tool_frame.specs.Refusals.{file_at, there}
+use Rattle.tool_frame.specs.Seen.{Seen, StoreSeen}
+use Rattle.tool_frame.specs.Trees.{OverTree, TreeFile, file_seen, tree_at}
+use Rattle.tool_frame.specs.Verdict.{IsVerdict}
 use Rattle.tool_frame.proofs.lemmas.Endings.{not_verdict}
+use Rattle.tree_output.specs.Faults.{IsFaultAnswer}
+use Rattle.tree_output.proofs.lemmas.OneAnswer.{never_faulty, one_schema}
+use Rattle.tree_output.proofs.lemmas.OneByTree.{same_files}
+use Rattle.type_check.specs.Checked.{IsSchemaOf}
 
-module _ (p : Profile) (trace : Bool) (A B : List Decl) (text : List ℕ) (before now : Seen) (exit : ℕ) where
-  -- memory was wanted before any course
-  wanted_as : RanSome (TakesEarly OutOfMemory) before now exit → RunsAs p trace A B text before now exit
-  wanted_as (inl ran) = absurd ran.1
-  wanted_as (inr wanted) = (inr wanted, λ one faithful verdict. absurd (not_verdict exit (let five : exit ≡ 5 = wanted.0 in omega arith) (let five : exit ≡ 5 = wanted.0 in omega arith) verdict))
+-- a schema of a tree is one of the files that were loaded of it
+schema_of : (tree : Found (List TreeFile)) (files : List SourceFile) (S : List Decl) → tree ≡ Ok (map file_seen files) → HasSchema tree S → IsSchemaOf files S
+schema_of (Err passed) files S e h = absurd h
+schema_of (Ok seen) files S e h = let same : seen ≡ map file_seen files = cc in subst (λ fs. IsSchemaOf fs S) (same_files h.0 files (h.1 ∙ same)) h.2
 
-  -- what was prepared are these schemas and this text
-  prepared_as : (given : Result Prepared Early) → IsPreparedAs A B text given → RanSome (TakesPrepared p trace given) before now exit → ProjectsPrepared p trace given before now exit
-      → RunsAs p trace A B text before now exit
-  prepared_as (Ok r) (client, server, calls) ran projects =
-      subst (λ (S : List Decl). RunsAs p trace S B text before now exit) client
-      (subst (λ (S : List Decl). RunsAs p trace r.client.decls S text before now exit) server
-      (subst (λ (t : List ℕ). RunsAs p trace r.client.decls r.server.decls t before now exit) calls (ran, projects)))
-  prepared_as (Err (Answered a)) never ran projects = absurd never
-  prepared_as (Err OutOfMemory) wanting ran projects = wanted_as ran
+one_checked : (tree : Found (List TreeFile)) (S T : List Decl) → HasSchema tree S → HasSchema tree T → S ≡ T
+one_checked (Ok tree) S T (files, are, s) (others, have, t) = one_schema files S T s (subst (λ fs. IsSchemaOf fs T) (same_files others files (have ∙ sym are)) t)
+one_checked (Err passed) S T s t = absurd s
 
-  -- by what was loaded of a store's files
-  as_loaded : (calls : List ℕ) (file : Option (Found (List ℕ))) (olds news : Found (List TreeFile)) (given : Result Loaded Early)
-      → Finds loaded_seen given (there calls file >>= λ t. olds >>= λ os. news >>= λ ns. Ok (let h : HeldFiles = record { text = t; client = os; server = ns } in h))
-      → HasSchema olds A → HasSchema news B → file ≡ Some (Ok text) → within_lines text ≡ Ok text
-      → RanSome (TakesLoaded p trace given) before now exit → RunsGivenAs p trace given before now exit → RunsAs p trace A B text before now exit
-  as_loaded calls file (Err passed) news given found a b is within ran exact = absurd a
-  as_loaded calls file (Ok os) (Err passed) given found a b is within ran exact = absurd b
-  as_loaded calls None (Ok os) (Ok ns) given found a b is within ran exact = cc
-  as_loaded calls (Some t) (Ok os) (Ok ns) (Err (Answered answer)) found a b is within ran exact = let never : ⊥ = cc in absurd never
-  as_loaded calls (Some t) (Ok os) (Ok ns) (Err OutOfMemory) found a b is within ran exact = wanted_as ran
-  as_loaded calls (Some t) (Ok os) (Ok ns) (Ok l) found a b is within ran exact =
-      let same : ◌≡◌ {A = HeldFiles} (record { text = t; client = os; server = ns }) (loaded_seen l) = cc in
-      let here : t ≡ Ok text = cc in
-      exact A B text
-      (one_tree (Ok os) l.client.files A (ap (λ (h : HeldFiles). let f : Found (List TreeFile) = Ok h.client in f) same) a)
-      (one_tree (Ok ns) l.server.files B (ap (λ (h : HeldFiles). let f : Found (List TreeFile) = Ok h.server in f) same) b)
-      (ap calls_within (sym (ap (λ (h : HeldFiles). h.text) same) ∙ here) ∙ within)
+one_text : (file : Option (Found (List ℕ))) (t u : List ℕ) → file ≡ Some (Ok t) → file ≡ Some (Ok u) → t ≡ u
+one_text file t u h k = let same : ◌≡◌ {A = Option (Found (List ℕ))} (Some (Ok t)) (Some (Ok u)) = sym h ∙ k in cc
 
--- what was prepared is run as what was loaded is to be
-pub given_as : (p : Profile) (trace : Bool) (before now : Seen) (exit : ℕ) (given : Result Loaded Early) (prepared : Result Prepared Early) → PreparesGiven given prepared
-    → RanSome (TakesPrepared p trace prepared) before now exit → ProjectsPrepared p trace prepared before now exit → RunsGivenAs p trace given before now exit
-given_as p trace before now exit (Ok l) prepared prepares ran projects =
-    λ A B text client server within. prepared_as p trace A B text before now exit prepared (prepares A B text client server within) ran projects
-given_as p trace before now exit (Err early) prepared prepares ran projects = tt
+held_there : (path : List ℕ) (file : Option (Found (List ℕ))) (held : Found (List ℕ)) → there path file ≡ Ok held → file ≡ Some held
+held_there path None held e = absurd cc
+held_there path (Some x) held e = let same : x ≡ held = cc in ap Some same
+
+-- a text of lines that passes no limit is the file's
+text_held : (held : Found (List ℕ)) (text : List ℕ) → calls_within held ≡ Ok text → held ≡ Ok text
+text_held (Ok bytes) text e = let same : bytes ≡ text = grind arith in ap (λ t. let h : Found (List ℕ) = Ok t in h) same
+text_held (Err passed) text e = absurd cc
+
+-- The course of a run, by the file of its calls and by two trees.
+module _ (p : Profile) (trace : Bool) (client server calls : List ℕ) where
+  abbrev RunsOver : Found (List TreeFile) → Found (List TreeFile) → Found (List ℕ) → Takes
+  RunsOver first second held = TakesOver first (λ olds. TakesOver second (λ news. RunsLoaded p trace client olds server news held))
+
+  abbrev Runs : Option (Found (List ℕ)) → Found (List TreeFile) → Found (List TreeFile) → Takes
+  Runs file first second = TakesThen (there calls file) (RunsOver first second)
+
+  unread : (file : Option (Found (List ℕ))) (first second : Found (List TreeFile)) (a : Answer) → there calls file ≡ Err a → Runs file first second (at_once a)
+  unread file first second a e = subst (λ f. TakesThen f (RunsOver first second) (at_once a)) (sym e) refl
+
+  read : (file : Option (Found (List ℕ))) (first second : Found (List TreeFile)) (held : Found (List ℕ)) (course : Course) → there calls file ≡ Ok held → RunsOver first second held course → Runs file first second course
+  read file first second held course e h = subst (λ f. TakesThen f (RunsOver first second) course) (sym e) h
+
+  passes : (first second : Found (List TreeFile)) (held : Found (List ℕ)) (a : Answer) → OverTree first (λ olds passed. second ≡ Err passed) a → RunsOver first second held (at_once a)
+  passes (Ok tree) second held a (olds, are, e) = (olds, are, subst (λ t. TakesOver t (λ news. RunsLoaded p trace client olds server news held) (at_once a)) (sym e) refl)
+  passes (Err passed) second held a e = ap at_once e
+
+  loaded : (first second : Found (List TreeFile)) (held : Found (List ℕ)) (olds news : List SourceFile) (course : Course) → first ≡ Ok (map file_seen olds) → second ≡ Ok (map file_seen news)
+      → RunsLoaded p trace client olds server news held course → RunsOver first second held course
+  loaded first second held olds news course e f h =
+      subst (λ t. RunsOver t second held course) (sym e) (olds, refl, subst (λ t. TakesOver t (λ files. RunsLoaded p trace client olds server files held) course) (sym f) (news, refl, h))
+
+  module _ (olds news : List SourceFile) (held : Found (List ℕ)) where
+    abbrev Checks : List ℕ → Takes
+    Checks text = TakesChecked client olds (λ A. TakesChecked server news (λ B course. course ≡ run_course p A B trace text))
+
+    long : (a : Answer) → calls_within held ≡ Err a → RunsLoaded p trace client olds server news held (at_once a)
+    long a e = subst (λ t. TakesThen t Checks (at_once a)) (sym e) refl
+
+    short : (text : List ℕ) (course : Course) → calls_within held ≡ Ok text → Checks text course → RunsLoaded p trace client olds server news held course
+    short text course e h = subst (λ t. TakesThen t Checks course) (sym e) h
+
+  -- where both trees are checked and the text is there
+  takes_by : (file : Option (Found (List ℕ))) (first second : Found (List TreeFile)) (A B : List Decl) (text : List ℕ) → HasSchema first A → HasSchema second B → file ≡ Some (Ok text) → within_lines text ≡ Ok text
+      → Runs file first second (run_course p A B trace text)
+  takes_by file (Ok tree) (Ok other) A B text (olds, are, a) (news, have, b) e within =
+      read file (Ok tree) (Ok other) (Ok text) (run_course p A B trace text) (ap (there calls) e)
+      (olds, are, (news, have, short olds news (Ok text) text (run_course p A B trace text) within (inr (A, a, inr (B, b, refl)))))
+  takes_by file (Ok tree) (Err passed) A B text a b e within = absurd b
+  takes_by file (Err passed) second A B text a b e within = absurd a
+
+pub prepared_takes : (p : Profile) (trace : Bool) (client server calls : List ℕ) (files : Files) (r : Prepared) → IsPrepared client server calls files r
+    → (course : Course) → course ≡ run_course p r.client.decls r.server.decls trace r.text.items → RunTakes p trace client server calls files course
+prepared_takes p trace client server calls files r (a, b, t) course e =
+    subst (RunTakes p trace client server calls files) (sym e)
+    (takes_by p trace client server calls (file_at TextBytes files calls) (tree_at files client) (tree_at files server) r.client.decls r.server.decls r.text.items a b t.0 t.1)
+
+-- Why nothing is prepared.
+module _ (client server calls : List ℕ) (files : Files) (a : Answer) where
+  -- no file is there
+  pub no_calls : there calls (file_at TextBytes files calls) ≡ Err a → IsUnprepared client server calls files a
+  no_calls e = (
+    λ p trace. unread p trace client server calls (file_at TextBytes files calls) (tree_at files client) (tree_at files server) a e,
+    λ A B text is_a is_b t. let found : ◌≡◌ {A = Found (Found (List ℕ))} (there calls (Some (Ok text))) (Err a) = subst (λ f. there calls f ≡ Err a) t.0 e in absurd (cc),
+  )
+
+  module _ (held : Found (List ℕ)) (is_there : there calls (file_at TextBytes files calls) ≡ Ok held) where
+    -- a tree passes a limit
+    pub no_trees : PassesOne client server files a → IsUnprepared client server calls files a
+    no_trees h = (
+      λ p trace. read p trace client server calls (file_at TextBytes files calls) (tree_at files client) (tree_at files server) held (at_once a) is_there
+          (passes p trace client server calls (tree_at files client) (tree_at files server) held a h),
+      λ A B text is_a is_b t. never (tree_at files client) (tree_at files server) A B h is_a is_b,
+    )
+      where
+        never : (first second : Found (List TreeFile)) (A B : List Decl) → OverTree first (λ olds passed. second ≡ Err passed) a → HasSchema first A → HasSchema second B → ⊥
+        never (Ok tree) second A B (olds, are, e) is_a is_b = subst (λ t. HasSchema t B) e is_b
+        never (Err passed) second A B e is_a is_b = is_a
+
+    module _ (olds news : List SourceFile) (both : AreBoth client server files (olds, news)) where
+      taken : (p : Profile) (trace : Bool) (course : Course) → RunsLoaded p trace client olds server news held course → RunTakes p trace client server calls files course
+      taken p trace course h =
+          read p trace client server calls (file_at TextBytes files calls) (tree_at files client) (tree_at files server) held course is_there
+          (loaded p trace client server calls (tree_at files client) (tree_at files server) held olds news course both.0 both.1 h)
+
+      -- the text passes a limit
+      pub no_text : calls_within held ≡ Err a → IsUnprepared client server calls files a
+      no_text e = (
+        λ p trace. taken p trace (at_once a) (long p trace client server calls olds news held a e),
+        λ A B text is_a is_b t.
+            let same : held ≡ Ok text = held_as text t.0 in
+            let within : within_lines text ≡ Ok text = t.1 in
+            let found : within_lines text ≡ Err a = subst (λ h. calls_within h ≡ Err a) same e in
+            let never : ◌≡◌ {A = Found (List ℕ)} (Ok text) (Err a) = sym within ∙ found in absurd (cc),
+      )
+        where
+          held_as : (text : List ℕ) → file_at TextBytes files calls ≡ Some (Ok text) → held ≡ Ok text
+          held_as text is =
+              let same : ◌≡◌ {A = Option (Found (List ℕ))} (Some held) (Some (Ok text)) = sym (held_there calls (file_at TextBytes files calls) held is_there) ∙ is in cc
+
+      module _ (text : List ℕ) (within : calls_within held ≡ Ok text) where
+        -- the client's tree isn't checked
+        pub no_client : IsFaultAnswer client olds a → IsUnprepared client server calls files a
+        no_client is = (
+          λ p trace. taken p trace (at_once a) (short p trace client server calls olds news held text (at_once a) within (inl (a, is, refl))),
+          λ A B t is_a is_b given. never_faulty client olds A a (schema_of (tree_at files client) olds A both.0 is_a) is,
+        )
+
+        module _ (S : List Decl) (is_client : IsSchemaOf olds S) where
+          -- the server's isn't
+          pub no_server : IsFaultAnswer server news a → IsUnprepared client server calls files a
+          no_server is = (
+            λ p trace. taken p trace (at_once a) (short p trace client server calls olds news held text (at_once a) within (inr (S, is_client, inl (a, is, refl)))),
+            λ A B t is_a is_b given. never_faulty server news B a (schema_of (tree_at files server) news B both.1 is_b) is,
+          )
+
+-- all is prepared
+pub all_prepared : (client server calls : List ℕ) (files : Files) (r : Prepared) (held : Found (List ℕ)) (olds news : List SourceFile) → there calls (file_at TextBytes files calls) ≡ Ok held
+    → AreBoth client server files (olds, news) → calls_within held ≡ Ok r.text.items → IsSchemaOf olds r.client.decls → IsSchemaOf news r.server.decls → IsPrepared client server calls files r
+all_prepared client server calls files r held olds news is_there both within a b =
+    let same : held ≡ Ok r.text.items = text_held held r.text.items within in (
+      has_schema (tree_at files client) olds r.client.decls both.0 a,
+      has_schema (tree_at files server) news r.server.decls both.1 b,
+      (held_there calls (file_at TextBytes files calls) held is_there ∙ ap Some same, subst (λ h. calls_within h ≡ Ok r.text.items) same within),
+    )
 
 -- neither tree may follow the other
 refused_both : (there back : List Break) (lines course : Course) (before now : Seen) (exit : ℕ) → course ≡ judged_course there back lines → there ≢ [] → back ≢ []
@@ -91,22 +199,47 @@ module _ (p : Profile) (trace : Bool) (client server calls : List ℕ) (before n
     refuses_both = λ text A B a b t some others verdict. absurd (not_verdict exit low high verdict);
   }
 
-  module _ (exit : ℕ) (given : Result Loaded Early) (ran : RanSome (TakesLoaded p trace given) (alone before) (alone now) exit)
-      (exact : RunsGivenAs p trace given (alone before) (alone now) exit) where
-    as_run : (files : Files) → Finds loaded_seen given (all_held files client server calls) → (A B : List Decl) (text : List ℕ)
-        → IsChecked files client A → IsChecked files server B → IsCallsText files calls text → RunsAs p trace A B text (alone before) (alone now) exit
-    as_run files found A B text a b t =
-        as_loaded p trace A B text (alone before) (alone now) exit calls (file_at TextBytes files calls) (tree_at files client) (tree_at files server) given found a b t.0 t.1 ran exact
+  -- one for which nothing was prepared
+  pub unprepared : (exit : ℕ) (files : Files) (a : Answer) → IsUnprepared client server calls files a → RunKeeps before now exit files p trace client server calls
+  unprepared exit files a never = record {
+    prints = λ text A B is_a is_b t faithful one verdict. absurd (never.1 A B text is_a is_b t);
+    refuses_both = λ text A B is_a is_b t some others verdict. absurd (never.1 A B text is_a is_b t);
+  }
 
-    refused_run : (A B : List Decl) (text : List ℕ) → broken A B ≢ [] → broken B A ≢ [] → IsVerdict exit
-        → RanSome (λ course. course ≡ run_course p A B trace text) (alone before) (alone now) exit → (exit ≡ 1) × Adds before.told now.told (neither (broken A B) (broken B A)).text
-    refused_run A B text some others verdict (inl one) =
+  -- and one of what was prepared
+  module _ (exit : ℕ) (files : Files) (r : Prepared) (is : IsPrepared client server calls files r)
+      (ran : RanSome (λ course. course ≡ run_course p r.client.decls r.server.decls trace r.text.items) (alone before) (alone now) exit)
+      (projects : EndsProjected r.client.decls r.server.decls (projected_text p r.client.decls r.server.decls trace 1 (lines_of r.text.items)) (alone before) (alone now) exit) where
+    -- said by the schemas that both trees have
+    said_by : (Said : List Decl → List Decl → List ℕ → Type 0) → Said r.client.decls r.server.decls r.text.items → (text : List ℕ) (A B : List Decl)
+        → IsChecked files client A → IsChecked files server B → IsCallsText files calls text → Said A B text
+    said_by Said h text A B a b t =
+        subst (λ (S : List Decl). Said S B text) (one_checked (tree_at files client) r.client.decls A is.0 a)
+        (subst (λ (S : List Decl). Said r.client.decls S text) (one_checked (tree_at files server) r.server.decls B is.1 b)
+        (subst (λ (u : List ℕ). Said r.client.decls r.server.decls u) (one_text (file_at TextBytes files calls) r.text.items text is.2.0 t.0) h))
+
+    refused : (A B : List Decl) (text : List ℕ) → RanSome (λ course. course ≡ run_course p A B trace text) (alone before) (alone now) exit → broken A B ≢ [] → broken B A ≢ [] → IsVerdict exit
+        → (exit ≡ 1) × Adds before.told now.told (neither (broken A B) (broken B A)).text
+    refused A B text (inl one) some others verdict =
         refused_both (broken A B) (broken B A) (lines_course p A B trace 1 (lines_of text)) one.0 (alone before) (alone now) exit one.1 some others (one.2.answer verdict)
-    refused_run A B text some others verdict (inr wanted) =
+    refused A B text (inr wanted) some others verdict =
         absurd (not_verdict exit (let five : exit ≡ 5 = wanted.0 in omega arith) (let five : exit ≡ 5 = wanted.0 in omega arith) verdict)
 
-    pub kept_run : (files : Files) → Finds loaded_seen given (all_held files client server calls) → RunKeeps before now exit files p trace client server calls
-    kept_run files found = record {
-      prints = λ text A B a b t faithful one verdict. (as_run files found A B text a b t).1 one faithful verdict;
-      refuses_both = λ text A B a b t some others verdict. refused_run A B text some others verdict (as_run files found A B text a b t).0;
+    pub prepared_keeps : RunKeeps before now exit files p trace client server calls
+    prepared_keeps = record {
+      prints = λ text A B a b t faithful one.
+          said_by (λ A B text. EndsProjected A B (projected_text p A B trace 1 (lines_of text)) (alone before) (alone now) exit) projects text A B a b t one faithful;
+      refuses_both = λ text A B a b t some others verdict.
+          refused A B text (said_by (λ A B text. RanSome (λ course. course ≡ run_course p A B trace text) (alone before) (alone now) exit) ran text A B a b t) some others verdict;
     }
+
+-- one that halted
+pub halted_keeps : (p : Profile) (trace : Bool) (client server calls : List ℕ) (before now : Seen) (asks : Asks) (store : StoreSeen) (faults : StoreFaults) (exit : ℕ) (halt : Halt)
+    → Gets {T = Prepared} asks (IsPrepared client server calls) (IsUnprepared client server calls) (record { kept = before.kept; faults = faults }) store (Err halt)
+    → EndsRead (Err halt) before.told now.told before.sink_faults now.sink_faults exit → Tells before.kept (λ files. RunKeeps before now exit files p trace client server calls)
+halted_keeps p trace client server calls before now asks store faults exit (Answered a) gets ends =
+    tells before.kept _ _ (λ files said. unprepared p trace client server calls before now exit files (printed a) said) gets.said
+halted_keeps p trace client server calls before now asks store faults exit StoreFailed gets ends =
+    let three : exit ≡ 3 = ends.exits in tells_any before.kept _ (λ files. stopped p trace client server calls before now exit (omega arith) (omega arith) files)
+halted_keeps p trace client server calls before now asks store faults exit OutOfMemory gets ends =
+    let five : exit ≡ 5 = ends.exits in tells_any before.kept _ (λ files. stopped p trace client server calls before now exit (omega arith) (omega arith) files)

@@ -1,7 +1,30 @@
--- What is asked, as the words of the command.
-use Rattle.std.specs.Prelude.{ℕ, List}
+-- What the steps of `ask` give.
+use Rattle.std.specs.Prelude.{◌≡◌, ℕ, List, Result, Ok, Err}
+use Rattle.aidl_base.specs.declared.limit.Limit.{Limit}
+use Rattle.aidl_outside.specs.Files.{Files}
 use Rattle.aidl_tool.specs.Asking.{Words}
-use Rattle.ask_output.specs.declared.asking.Asked.{Asked}
+use Rattle.api_versions.specs.declared.fault.VersionsFault.TheVariants as fault
+use Rattle.api_versions.specs.declared.version.Version.{Version}
+use Rattle.api_versions.specs.Versions.{versions_at}
+use Rattle.tool_frame.specs.Answer.{Answer, Found, limit_passed}
+use Rattle.tool_words.specs.declared.command.AskWords.{AskWords}
+use Rattle.version_lines.specs.Lines.{bad_versions}
 
-abbrev pub words_seen : List ℕ → Asked → Words
-words_seen api asked = record { api = api; version = asked.version; interface = asked.interface.now; code = asked.code }
+-- what is asked, as the words of the command
+abbrev pub words_seen : AskWords → Words
+words_seen w = record { api = w.api.now; version = w.version; interface = w.interface.now; code = w.code }
+
+-- versions, or the refusal of a number that is missing among them
+abbrev pub all_of : Result (List Version) ℕ → Found (List Version)
+all_of (Ok vs) = Ok vs
+all_of (Err missing) = Err (bad_versions missing)
+
+-- they are those of API, or their least number that is missing
+abbrev pub AreAsked : List ℕ → Files → Result (List Version) ℕ → Type 0
+AreAsked api files (Ok vs) = versions_at files api ≡ Ok vs
+AreAsked api files (Err missing) = versions_at files api ≡ Err (fault.BadVersions missing)
+
+-- the limit that API passes
+abbrev pub IsUnasked : List ℕ → Files → Answer → Type 0
+IsUnasked api files answer = (limit : Limit) × (versions_at files api ≡ Err (fault.Limit limit))
+    × (answer ≡ limit_passed limit.which)

@@ -6,7 +6,7 @@ use Rattle.aidl_tool.specs.declared.making.Laid.{Laid}
 use Rattle.aidl_tool.specs.declared.running.Prepared.{Prepared}
 use Rattle.aidl_tool.specs.Making.{AreMade, file_write, new_root, old_root}
 use Rattle.aidl_tool.specs.Running.{Takes, TakesChecked}
-use Rattle.aidl_tool.specs.steps.Loading.{TakesEarly}
+use Rattle.aidl_tool.specs.steps.Running.{TakesEarly}
 use Rattle.make_output.specs.Making.{make_course}
 use Rattle.tool_frame.specs.declared.printed.Early.{Early}
 use Rattle.tree_make.specs.Made.{calls_text, file_seen, new_files, old_files}
@@ -22,14 +22,16 @@ pub record IsLaid (n : ℕ) (out : List ℕ) (l : Laid) : Type 0 where
 
 -- the writes that lay out both trees, and those of all
 abbrev pub tree_writes : Laid → List Write
-tree_writes l = map (file_write (string_bytes l.new_root)) (map file_seen l.news) ++ map (file_write (string_bytes l.old_root)) (map file_seen l.olds)
+tree_writes l = map (file_write (string_bytes l.new_root)) (map file_seen l.news)
+    ++ map (file_write (string_bytes l.old_root)) (map file_seen l.olds)
 
 abbrev pub laid_writes : Laid → List Write
 laid_writes l = record { path = string_bytes l.calls_path; bytes = l.calls } ∷ tree_writes l
 
 -- by what is laid out
 abbrev pub TakesLaid : Laid → Takes
-TakesLaid l = TakesChecked (string_bytes l.new_root) l.news (λ B. TakesChecked (string_bytes l.old_root) l.olds (λ A c. c ≡ make_course A B l.calls))
+TakesLaid l = TakesChecked (string_bytes l.new_root) l.news
+    (λ B. TakesChecked (string_bytes l.old_root) l.olds (λ A c. c ≡ make_course A B l.calls))
 
 -- by the schemas of both trees: the newer one is the client's
 abbrev pub TakesMade : Result Prepared Early → Takes

@@ -1,11 +1,9 @@
 -- What the step to the schema of a tree gives.
-use Rattle.std.specs.Prelude.{ℕ, List, Result, Ok, Err}
+use Rattle.std.specs.Prelude.{ℕ, List}
+use Rattle.aidl_outside.specs.Files.{Files}
 use Rattle.aidl_schema.specs.declared.schema.Schema.{Schema}
-use Rattle.tool_frame.specs.declared.printed.Early.{Early}
-use Rattle.tool_frame.specs.declared.printed.Early.TheVariants.{Answered, OutOfMemory}
 use Rattle.tool_frame.specs.Answer.{Answer, Found}
-use Rattle.tool_frame.specs.Results.{printed}
-use Rattle.tool_frame.specs.Trees.{OverTree, TreeFile}
+use Rattle.tool_frame.specs.Trees.{OverTree, TreeFile, tree_at}
 use Rattle.tree_output.specs.Faults.{IsFaultAnswer}
 use Rattle.aidl_tool.specs.Acting.{HasSchema}
 
@@ -13,8 +11,10 @@ use Rattle.aidl_tool.specs.Acting.{HasSchema}
 abbrev pub Unchecked : List ℕ → Found (List TreeFile) → Answer → Type 0
 Unchecked root tree = OverTree tree (IsFaultAnswer root)
 
--- its schema, or why it isn't checked, or memory was wanted
-abbrev pub Opens : List ℕ → Found (List TreeFile) → Result Schema Early → Type 0
-Opens root tree (Ok schema) = HasSchema tree schema.decls
-Opens root tree (Err (Answered p)) = Unchecked root tree (printed p)
-Opens root tree (Err OutOfMemory) = Unit {0}
+-- its schema
+abbrev pub IsOpened : List ℕ → Files → Schema → Type 0
+IsOpened root files schema = HasSchema (tree_at files root) schema.decls
+
+-- or why it isn't checked
+abbrev pub IsUnchecked : List ℕ → Files → Answer → Type 0
+IsUnchecked root files answer = Unchecked root (tree_at files root) answer

@@ -13,16 +13,19 @@ use Rattle.wire_model.specs.Outcome.{OneFollows, Reaches, view_arguments, view_r
 use Rattle.wire_model.specs.Requests.{ArgumentsFit, IsAnswer}
 use Rattle.wire_model.specs.Unknown.{is_unknown_answered, is_unknown_sent}
 
--- Values of a call have no view exactly where a tag in them is unknown (`law_call_none` of `wire_model`); what lines mean as calls fits
--- (`law_script_fits` of `call_scripts`).
+-- Values of a call have no view exactly where a tag in them is unknown (`law_call_none` of `wire_model`); what
+-- lines mean as calls fits (`law_script_fits` of `call_scripts`).
 pub record SchemasGive (A B : List Decl) : Type 0 where
   pub sent : (i m j n : ℕ) (args : Items) → Reaches A i m B j n → ArgumentsFit A (arguments A i m) args
       → is_none (view_arguments A (arguments A i m) B (arguments B j n) args) ≡ is_unknown_sent A i m B j n args
-  pub answered : (i m j n : ℕ) (result : Option Data) (outs : Items) → Reaches A i m B j n → IsAnswer B j n (returned result outs)
-      → (is_none (view_result B (result_type B j n) A (result_type A i m) result) || is_none (view_values B (out_types B j n) A (out_types A i m) outs)) ≡ is_unknown_answered A i m B j n result outs
+  pub answered : (i m j n : ℕ) (result : Option Data) (outs : Items) → Reaches A i m B j n
+      → IsAnswer B j n (returned result outs)
+      → (is_none (view_result B (result_type B j n) A (result_type A i m) result) || is_none
+      (view_values B (out_types B j n) A (out_types A i m) outs)) ≡ is_unknown_answered A i m B j n result outs
   pub fits : ScriptsFit A B
 
--- Where one of two trees may follow the other, and the link delivers what was sent, a run that ends with a verdict is done, has put this text, and
--- gives the above.
+-- Where one of two trees may follow the other, and the link delivers what was sent, a run that ends with a verdict
+-- is done, has put this text, and gives the above.
 abbrev pub EndsProjected : List Decl → List Decl → List ℕ → Seen → Seen → ℕ → Type 0
-EndsProjected A B text before now exit = OneFollows A B → before.is_faithful ≡ true → IsVerdict exit → (exit ≡ number_of Done) × Adds before.told now.told text × SchemasGive A B
+EndsProjected A B text before now exit = OneFollows A B → before.is_faithful ≡ true → IsVerdict exit
+    → (exit ≡ number_of Done) × Adds before.told now.told text × SchemasGive A B

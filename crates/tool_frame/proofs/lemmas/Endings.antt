@@ -1,13 +1,11 @@
 -- How a run of a command ends that neither writes nor carries.
 use Rattle.std.proofs.Common.{◌≡◌, ℕ, ◌≤◌, List, [], Option, Some, None, refl, sym, ap, subst, arith, inl, inr}
-use Rattle.std.specs.Prelude.{◌≢◌, ◌⊎◌, IfOk, Result, Ok, Err}
+use Rattle.std.specs.Prelude.{◌≢◌, ◌⊎◌, Result, Ok, Err}
 use Rattle.std.proofs.lemmas.List.{append-nil}
 use Rattle.aidl_outside.specs.declared.link.Carried.{Carried}
-use Rattle.aidl_outside.specs.declared.store.StoreFault.{StoreFault}
-use Rattle.aidl_outside.specs.declared.store.StoreFault.TheVariants.{Failed, OutOfMemory as StoreMemory}
 use Rattle.aidl_outside.specs.Asks.{Asks}
-use Rattle.aidl_outside.specs.Causes.{Rose, StoreCause}
-use Rattle.aidl_outside.specs.Faults.{FailedIn, IfStoreFailed}
+use Rattle.aidl_outside.specs.Causes.{Rose}
+use Rattle.aidl_outside.specs.Faults.{FailedIn}
 use Rattle.aidl_outside.specs.Files.{Files}
 use Rattle.aidl_outside.specs.Told.{Tells, Adds, AddsFront}
 use Rattle.tool_frame.specs.declared.verdict.Verdict.{Verdict}
@@ -17,12 +15,13 @@ use Rattle.tool_frame.specs.Ended.{Ended, Writes, WroteAll, WroteSome, CarriedTh
 use Rattle.tool_frame.specs.Meaning.{reads_by}
 use Rattle.tool_frame.specs.Seen.{Seen}
 use Rattle.tool_frame.specs.Verdict.{exit_of, IsVerdict}
-use Rattle.tool_frame.specs.declared.printed.Early.{Early}
-use Rattle.tool_frame.specs.declared.printed.Early.TheVariants.{Answered, OutOfMemory}
+use Rattle.tool_frame.specs.declared.halt.Halt.{Halt}
+use Rattle.tool_frame.specs.declared.halt.Halt.TheVariants.{Answered, StoreFailed, OutOfMemory}
+use Rattle.tool_frame.specs.Halts.{FailsAsking, HaltCause, IsSaid}
 use Rattle.tool_frame.specs.declared.printed.Printed.{Printed}
 use Rattle.tool_frame.specs.Ends.{EndsRead}
 use Rattle.tool_frame.specs.Prints.{CutAt, Prints}
-use Rattle.tool_frame.specs.Results.{Gives, GivesOne, printed}
+use Rattle.tool_frame.specs.Results.{printed}
 use Rattle.aidl_outside.proofs.lemmas.Failing.{failed_as}
 use Rattle.aidl_outside.proofs.lemmas.Telling.{tells}
 
@@ -199,17 +198,10 @@ module _ (asks : Asks) (answers : Files → Answer → Type 0) (before now : See
       (λ ends. tells before.kept _ _ (λ files meant. inr (a, meant, prints.front)) is)
 
   -- what was answered of the files that were read
-  pub ended_read : (exit : ℕ) (answered : Result (Result Printed Early) StoreFault) → StoreCause before.store_faults now.store_faults answered
-      → IfStoreFailed answered (FailedIn now.store_faults (asks before.kept)) → IfOk answered (λ given. Tells before.kept (λ files. GivesOne given (answers files)))
+  pub ended_read : (exit : ℕ) (answered : Result Printed Halt) → HaltCause before.store_faults now.store_faults answered
+      → FailsAsking before.kept now.store_faults answered asks → Tells before.kept (λ files. IsSaid (λ p. answers files (printed p)) (answers files) answered)
       → EndsRead answered before.told now.told before.sink_faults now.sink_faults exit → Ended (reads_by asks answers) before now exit
-  ended_read exit (Ok (Ok p)) cause due given ends = ended_by_print (printed p) exit given cause ends
-  ended_read exit (Ok (Err (Answered p))) cause due given ends = ended_by_print (printed p) exit given cause ends
-  ended_read exit (Ok (Err OutOfMemory)) cause due given ends = subst (Ended (reads_by asks answers) before now) (sym ends.exits) (ended_by_memory cause ends.silent ends.good)
-  ended_read exit (Err Failed) cause due given ends = subst (Ended (reads_by asks answers) before now) (sym ends.exits) (ended_by_store cause due ends.silent ends.good)
-  ended_read exit (Err StoreMemory) cause due given ends = subst (Ended (reads_by asks answers) before now) (sym ends.exits) (ended_by_memory cause ends.silent ends.good)
-
--- an answer that is the only one
-pub gives_one : (given : Result Printed Early) (answer : Answer) → Gives given answer → GivesOne given (λ a. a ≡ answer)
-gives_one (Ok p) answer h = h
-gives_one (Err (Answered p)) answer h = h
-gives_one (Err OutOfMemory) answer h = tt
+  ended_read exit (Ok p) cause due given ends = ended_by_print (printed p) exit given cause ends
+  ended_read exit (Err (Answered p)) cause due given ends = ended_by_print (printed p) exit given cause ends
+  ended_read exit (Err StoreFailed) cause due given ends = subst (Ended (reads_by asks answers) before now) (sym ends.exits) (ended_by_store cause due ends.silent ends.good)
+  ended_read exit (Err OutOfMemory) cause due given ends = subst (Ended (reads_by asks answers) before now) (sym ends.exits) (ended_by_memory cause ends.silent ends.good)

@@ -2,11 +2,9 @@
 use Rattle.std.proofs.Common.{◌≡◌, ℕ, ◌≤◌, List, [], Option, Some, None, refl, sym, subst, arith, inl, inr}
 use Rattle.std.specs.Prelude.{◌≢◌, ◌⊎◌, Result, Ok, Err}
 use Rattle.std.proofs.lemmas.List.{append-nil}
-use Rattle.aidl_outside.specs.declared.store.StoreFault.{StoreFault}
-use Rattle.aidl_outside.specs.declared.store.StoreFault.TheVariants.{Failed, OutOfMemory as StoreMemory}
 use Rattle.aidl_outside.specs.Asks.{Asks}
-use Rattle.aidl_outside.specs.Causes.{Rose, StoreCause}
-use Rattle.aidl_outside.specs.Faults.{FailedIn, StoreCall, StoreFaults, WhereStoreFailed}
+use Rattle.aidl_outside.specs.Causes.{Rose}
+use Rattle.aidl_outside.specs.Faults.{FailedIn, StoreCall, StoreFaults}
 use Rattle.aidl_outside.specs.Files.{Files}
 use Rattle.aidl_outside.specs.Told.{Tells, Adds, AddsFront}
 use Rattle.aidl_outside.specs.Writes.{Write}
@@ -15,8 +13,9 @@ use Rattle.tool_frame.specs.Answer.{Answer}
 use Rattle.tool_frame.specs.Ended.{Ended, WroteAll, WroteSome, FailedAt, CarriedThese, CutsAnswer, EndsAsMeant, PutsFront, StopsAtStore}
 use Rattle.tool_frame.specs.Seen.{Seen}
 use Rattle.tool_frame.specs.Verdict.{exit_of, IsVerdict}
-use Rattle.tool_frame.specs.declared.printed.Early.{Early}
-use Rattle.tool_frame.specs.declared.printed.Early.TheVariants.{Answered, OutOfMemory}
+use Rattle.tool_frame.specs.declared.halt.Halt.{Halt}
+use Rattle.tool_frame.specs.declared.halt.Halt.TheVariants.{Answered, StoreFailed, OutOfMemory}
+use Rattle.tool_frame.specs.Halts.{HaltCause}
 use Rattle.tool_frame.specs.declared.printed.Printed.{Printed}
 use Rattle.tool_frame.specs.steps.Acts.{Acted, ActsAs}
 use Rattle.tool_frame.specs.Ends.{EndsRead}
@@ -158,39 +157,34 @@ module _ (asks : Asks) (acts : Files → Acts) (before now : Seen)
       (λ ends. tells before.kept _ _ (λ files meant. inr (a, meant, prints.front)) is)
 
   -- what was answered, by what was left of the store
-  pub ended_wrote : (exit : ℕ) (answered : Result (Result Printed Early) StoreFault) → StoreCause before.store_faults now.store_faults answered
+  pub ended_wrote : (exit : ℕ) (answered : Result Printed Halt) → HaltCause before.store_faults now.store_faults answered
       → ActsAs asks acts before.kept now.kept now.store_faults answered
       → EndsRead answered before.told now.told before.sink_faults now.sink_faults exit → Ended (acts_by asks acts) before now exit
-  ended_wrote exit (Ok (Ok p)) cause acted ends = ended_by_print (printed p) exit acted cause ends
-  ended_wrote exit (Ok (Err (Answered p))) cause acted ends = ended_by_print (printed p) exit acted cause ends
-  ended_wrote exit (Ok (Err OutOfMemory)) cause some ends = subst (Ended (acts_by asks acts) before now) (sym ends.exits) (ended_by_memory some cause ends.silent ends.good)
-  ended_wrote exit (Err Failed) cause failed ends = subst (Ended (acts_by asks acts) before now) (sym ends.exits) (ended_by_store failed cause ends.silent ends.good)
-  ended_wrote exit (Err StoreMemory) cause some ends = subst (Ended (acts_by asks acts) before now) (sym ends.exits) (ended_by_memory some cause ends.silent ends.good)
+  ended_wrote exit (Ok p) cause acted ends = ended_by_print (printed p) exit acted cause ends
+  ended_wrote exit (Err (Answered p)) cause acted ends = ended_by_print (printed p) exit acted cause ends
+  ended_wrote exit (Err StoreFailed) cause failed ends = subst (Ended (acts_by asks acts) before now) (sym ends.exits) (ended_by_store failed cause ends.silent ends.good)
+  ended_wrote exit (Err OutOfMemory) cause some ends = subst (Ended (acts_by asks acts) before now) (sym ends.exits) (ended_by_memory some cause ends.silent ends.good)
 
 -- nothing was written yet
 none_yet : (acts : Files → Acts) (before now : Option Files) → now ≡ before → WroteSome (writes_of acts) before now
 none_yet acts None now same = same
 none_yet acts (Some files) now same = inl same
 
--- a call of the store failed before any write
-pub fails_unwritten : (asks : Asks) (acts : Files → Acts) (before now : Option Files) (faults : StoreFaults) (e : StoreFault) → now ≡ before
-    → WhereStoreFailed e (FailedIn faults (asks before)) → ActsAs asks acts before now faults (Err e)
-fails_unwritten asks acts before now faults Failed same failed = failed_as faults _ _ (λ call is. inl (is, same)) failed
-fails_unwritten asks acts before now faults StoreMemory same failed = none_yet acts before now same
-
 -- an answer with nothing written
 acted_unwritten : (acts : Files → Acts) (before now : Option Files) (a : Answer) → now ≡ before → Tells before (λ files. acts files [] a) → Acted acts before now a
 acted_unwritten acts None now a same is = same
 acted_unwritten acts (Some files) now a same is = ([], is, same)
 
--- an end before any write, with an answer that may be given so
-abbrev pub MayEnd : (Files → Acts) → Option Files → Early → Type 0
-MayEnd acts before (Answered p) = Tells before (λ files. acts files [] (printed p))
-MayEnd acts before OutOfMemory = Unit {0}
+-- an end before any write, with an answer that may be given so, or a call that failed
+abbrev pub MayEnd : Asks → (Files → Acts) → Option Files → StoreFaults → Halt → Type 0
+MayEnd asks acts before faults (Answered p) = Tells before (λ files. acts files [] (printed p))
+MayEnd asks acts before faults StoreFailed = FailedIn faults (asks before)
+MayEnd asks acts before faults OutOfMemory = Unit {0}
 
-pub ends_unwritten : (asks : Asks) (acts : Files → Acts) (before now : Option Files) (faults : StoreFaults) (early : Early) → now ≡ before → MayEnd acts before early
-    → ActsAs asks acts before now faults (Ok (Err early))
+pub ends_unwritten : (asks : Asks) (acts : Files → Acts) (before now : Option Files) (faults : StoreFaults) (halt : Halt) → now ≡ before → MayEnd asks acts before faults halt
+    → ActsAs asks acts before now faults (Err halt)
 ends_unwritten asks acts before now faults (Answered p) same may = acted_unwritten acts before now (printed p) same may
+ends_unwritten asks acts before now faults StoreFailed same failed = failed_as faults _ _ (λ call is. inl (is, same)) failed
 ends_unwritten asks acts before now faults OutOfMemory same may = none_yet acts before now same
 
 -- what implies it
@@ -207,28 +201,26 @@ module _ (less more : Files → Acts) (files : Files) (wider : (made : List Writ
   stops_more asks wide now call also (inl (is, same)) = inl (also is, same)
   stops_more asks wide now call also (inr failed) = inr (failed_more now call failed)
 
-  told_more : (asks wide : Asks) (now : Option Files) (faults : StoreFaults) (answered : Result (Result Printed Early) StoreFault)
+  told_more : (asks wide : Asks) (now : Option Files) (faults : StoreFaults) (answered : Result Printed Halt)
       → ((call : StoreCall) → asks (Some files) call → wide (Some files) call) → ActsAs asks less (Some files) now faults answered → ActsAs wide more (Some files) now faults answered
-  told_more asks wide now faults (Ok (Ok p)) also (made, is, e) = (made, wider _ _ is, e)
-  told_more asks wide now faults (Ok (Err (Answered p))) also (made, is, e) = (made, wider _ _ is, e)
-  told_more asks wide now faults (Ok (Err OutOfMemory)) also some = some_more now some
-  told_more asks wide now faults (Err Failed) also failed = failed_as faults _ _ (λ call. stops_more asks wide now call (also call)) failed
-  told_more asks wide now faults (Err StoreMemory) also some = some_more now some
+  told_more asks wide now faults (Ok p) also (made, is, e) = (made, wider _ _ is, e)
+  told_more asks wide now faults (Err (Answered p)) also (made, is, e) = (made, wider _ _ is, e)
+  told_more asks wide now faults (Err OutOfMemory) also some = some_more now some
+  told_more asks wide now faults (Err StoreFailed) also failed = failed_as faults _ _ (λ call. stops_more asks wide now call (also call)) failed
 
 stops_untold : (asks wide : Asks) (less more : Files → Acts) (now : Option Files) (call : StoreCall) → (asks None call → wide None call)
     → StopsAtStore (acts_by asks less) None now call → StopsAtStore (acts_by wide more) None now call
 stops_untold asks wide less more now call also (inl (is, same)) = inl (also is, same)
 stops_untold asks wide less more now call also (inr failed) = inr failed
 
-same_untold : (asks wide : Asks) (less more : Files → Acts) (now : Option Files) (faults : StoreFaults) (answered : Result (Result Printed Early) StoreFault)
+same_untold : (asks wide : Asks) (less more : Files → Acts) (now : Option Files) (faults : StoreFaults) (answered : Result Printed Halt)
     → ((call : StoreCall) → asks None call → wide None call) → ActsAs asks less None now faults answered → ActsAs wide more None now faults answered
-same_untold asks wide less more now faults (Ok (Ok p)) also h = h
-same_untold asks wide less more now faults (Ok (Err (Answered p))) also h = h
-same_untold asks wide less more now faults (Ok (Err OutOfMemory)) also h = h
-same_untold asks wide less more now faults (Err Failed) also h = failed_as faults _ _ (λ call. stops_untold asks wide less more now call (also call)) h
-same_untold asks wide less more now faults (Err StoreMemory) also h = h
+same_untold asks wide less more now faults (Ok p) also h = h
+same_untold asks wide less more now faults (Err (Answered p)) also h = h
+same_untold asks wide less more now faults (Err OutOfMemory) also h = h
+same_untold asks wide less more now faults (Err StoreFailed) also h = failed_as faults _ _ (λ call. stops_untold asks wide less more now call (also call)) h
 
-pub acts_more : (asks wide : Asks) (less more : Files → Acts) (before now : Option Files) (faults : StoreFaults) (answered : Result (Result Printed Early) StoreFault)
+pub acts_more : (asks wide : Asks) (less more : Files → Acts) (before now : Option Files) (faults : StoreFaults) (answered : Result Printed Halt)
     → ((call : StoreCall) → asks before call → wide before call) → Tells before (λ files. (made : List Write) (a : Answer) → less files made a → more files made a)
     → ActsAs asks less before now faults answered → ActsAs wide more before now faults answered
 acts_more asks wide less more None now faults answered also wider h = same_untold asks wide less more now faults answered also h

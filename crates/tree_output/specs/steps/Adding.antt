@@ -9,4 +9,5 @@ Adds Is old new = (more : List ℕ) × Is more × (new ≡ old ++ more)
 
 -- the line of the file with a number, behind the lines of any before it
 abbrev pub AddsLine : List ℕ → List SourceFile → ℕ → List ℕ → List ℕ → Type 0
-AddsLine root files n old new = (before : List ℕ) → AreSyntaxLines root files before old → AreSyntaxLines root files (before ++ n ∷ []) new
+AddsLine root files n old new = (before : List ℕ) → AreSyntaxLines root files before old
+    → AreSyntaxLines root files (before ++ n ∷ []) new

@@ -7,5 +7,5 @@ use Rattle.aidl_tool.proofs.asking.ask.Goals as goal
 
 pub returns : goal.returns
 returns g c =
-    let answered = c.answered-answered.ensures in
-    ended_read _ (AskAnswers (words_seen c.args.question.api.now c.args.question.asked) c.args.question.path.now) _ _ answered.unchanged refl refl refl (number_of c.end.result) _ answered.cause answered.failed answered.answer c.end.ensures
+    let gets = c.ask_api-answered.ensures in
+    ended_read _ (AskAnswers (words_seen c.args.asked) c.args.asked.path.now) _ _ gets.unchanged refl refl refl (number_of c.end.result) _ gets.cause gets.failed gets.said c.end.ensures

@@ -6,5 +6,5 @@ use Rattle.aidl_tool.proofs.checking.check.Goals as goal
 
 pub returns : goal.returns
 returns g c =
-    let answered = c.answered-answered.ensures in
-    ended_read _ (CheckAnswers c.args.root.now) _ _ answered.unchanged refl refl refl (number_of c.end.result) _ answered.cause answered.failed answered.answer c.end.ensures
+    let gets = c.check_root-answered.ensures in
+    ended_read _ (CheckAnswers c.args.root.now) _ _ gets.unchanged refl refl refl (number_of c.end.result) _ gets.cause gets.failed gets.said c.end.ensures

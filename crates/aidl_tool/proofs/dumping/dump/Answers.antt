@@ -6,5 +6,5 @@ use Rattle.aidl_tool.proofs.dumping.dump.Goals as goal
 
 pub returns : goal.returns
 returns g c =
-    let answered = c.answered-answered.ensures in
+    let answered = c.dump_root-answered.ensures in
     ended_wrote _ (DumpActs c.args.tree.now c.args.out.now) _ _ refl refl refl (number_of c.end.result) _ answered.cause answered.acts c.end.ensures

@@ -6,5 +6,5 @@ use Rattle.aidl_tool.proofs.freezing.freeze.Goals as goal
 
 pub returns : goal.returns
 returns g c =
-    let answered = c.answered-answered.ensures in
+    let answered = c.freeze_root-answered.ensures in
     ended_wrote _ (FreezeActs c.args.tree.now c.args.api.now) _ _ refl refl refl (number_of c.end.result) _ answered.cause answered.acts c.end.ensures

@@ -1,6 +1,6 @@
 use Rattle.std.proofs.Common.{ℕ, List, refl, subst, inl}
 use Rattle.aidl_tool.specs.steps.Laying.{TakesLaid}
-use Rattle.aidl_tool.specs.steps.Loading.{TakesEarly}
+use Rattle.aidl_tool.specs.steps.Running.{TakesEarly}
 use Rattle.aidl_tool.proofs.Takes.{ran_also}
 use Rattle.make_output.specs.Making.{make_course}
 use Rattle.tool_frame.specs.Courses.{RanCourse, seen_alone}

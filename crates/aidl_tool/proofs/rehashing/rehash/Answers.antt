@@ -6,5 +6,5 @@ use Rattle.aidl_tool.proofs.rehashing.rehash.Goals as goal
 
 pub returns : goal.returns
 returns g c =
-    let answered = c.answered-answered.ensures in
+    let answered = c.rehash_versions-answered.ensures in
     ended_wrote _ (RehashActs c.args.api.now) _ _ refl refl refl (number_of c.end.result) _ answered.cause answered.acts c.end.ensures

@@ -1,14 +1,12 @@
-use Rattle.std.proofs.Common.{Some, refl, arith}
+use Rattle.std.proofs.Common.{◌≡◌, Some}
 use Rattle.aidl_tool.specs.Headline.{Headline}
 use Rattle.aidl_tool.specs.Running.{RunTakes}
-use Rattle.aidl_tool.specs.steps.Loading.{LoadsFor, TakesLoaded, all_held, loaded_seen}
-use Rattle.aidl_tool.specs.steps.Preparing.{TakesPrepared}
-use Rattle.aidl_tool.proofs.CourseEnds.{alone, ended_lost, ended_some, lost_cause}
-use Rattle.aidl_tool.proofs.Kept.{run_headline, tells_any}
-use Rattle.aidl_tool.proofs.schemas.RunsOne.{given_as, kept_run, stopped}
-use Rattle.aidl_tool.proofs.Takes.{ran_also}
+use Rattle.aidl_tool.specs.steps.Preparing.{IsPrepared, IsUnprepared}
+use Rattle.aidl_tool.proofs.CourseEnds.{ended_halted, ended_some}
+use Rattle.aidl_tool.proofs.Kept.{RunKeeps, run_headline}
+use Rattle.aidl_tool.proofs.schemas.RunsOne.{halted_keeps, prepared_keeps, prepared_takes}
+use Rattle.run_output.specs.Running.{run_course}
 use Rattle.tool_frame.specs.Seen.{Seen, seen_by}
-use Rattle.tool_frame.specs.Results.{Finds}
 use Rattle.aidl_outside.proofs.lemmas.Telling.{tells}
 use Rattle.tool_words.specs.Command.{run}
 use Rattle.tool_frame.specs.Exit.{number_of}
@@ -16,40 +14,38 @@ use Rattle.aidl_tool.proofs.running.run.Goals as goal
 
 pub returns-in-Ok-clause-ends : goal.returns-in-Ok-clause-ends
 returns-in-Ok-clause-ends g c =
-    ended_some _ (RunTakes c.args.asked.profile c.args.asked.trace c.args.asked.client.now c.args.asked.server.now c.args.asked.calls.now) _ _ c.in-Ok.ensures.unchanged
-    (TakesLoaded c.args.asked.profile c.args.asked.trace c.in-Ok.given) (number_of c.run_prepared.result) c.in-Ok.ensures.cause
-    (tells _ (λ files. LoadsFor c.in-Ok.given (λ p trace. RunTakes p trace c.args.asked.client.now c.args.asked.server.now c.args.asked.calls.now files)) _
-    (λ files loads. loads c.args.asked.profile c.args.asked.trace) c.in-Ok.ensures.loads)
-    (ran_also (TakesPrepared c.args.asked.profile c.args.asked.trace c.prepare.result) (TakesLoaded c.args.asked.profile c.args.asked.trace c.in-Ok.given) _ _ (number_of c.run_prepared.result)
-    (c.prepare.ensures.prepares c.args.asked.profile c.args.asked.trace) c.run_prepared.ensures.ran)
+    let asked = c.args.asked in
+    let r = c.in-Ok.run' in
+    ended_some _ (RunTakes asked.profile asked.trace asked.client.now asked.server.now asked.calls.now) _ _ c.in-Ok.ensures.unchanged
+    (λ course. course ≡ run_course asked.profile r.client.decls r.server.decls asked.trace r.text.items) (number_of c.run_both.result) c.in-Ok.ensures.cause
+    (tells _ (λ files. IsPrepared asked.client.now asked.server.now asked.calls.now files r) _
+    (λ files is. prepared_takes asked.profile asked.trace asked.client.now asked.server.now asked.calls.now files r is) c.in-Ok.ensures.said)
+    c.run_both.ensures.ran
 
 pub returns-in-Ok-clause-headline : goal.returns-in-Ok-clause-headline
 returns-in-Ok-clause-headline g c = λ lenient same.
-    let before : Seen =
-    seen_by g.S.Store.kept g.S.Store.fault_record g.K.Sink.told g.K.Sink.fault_record g.L.Link.log g.L.Link.is_faithful g.L.Link.fault_record c.args.store.now c.args.sink.now c.args.link.now in
-    let now : Seen =
-    seen_by g.S.Store.kept g.S.Store.fault_record g.K.Sink.told g.K.Sink.fault_record g.L.Link.log g.L.Link.is_faithful g.L.Link.fault_record c.load_calls.new.store c.run_prepared.new.sink c.run_prepared.new.link in
-    tells (g.S.Store.kept c.args.store.now) (λ files. Finds loaded_seen c.in-Ok.given (all_held files c.args.asked.client.now c.args.asked.server.now c.args.asked.calls.now))
-    (Headline (Some (run c.args.asked.trace lenient c.args.asked.client.now c.args.asked.server.now c.args.asked.calls.now)) before now (number_of c.run_prepared.result))
-    (λ files found. run_headline before now (number_of c.run_prepared.result) files c.args.asked.profile c.args.asked.trace c.args.asked.client.now c.args.asked.server.now c.args.asked.calls.now
-    (kept_run c.args.asked.profile c.args.asked.trace c.args.asked.client.now c.args.asked.server.now c.args.asked.calls.now before now (number_of c.run_prepared.result) c.in-Ok.given
-    (ran_also (TakesPrepared c.args.asked.profile c.args.asked.trace c.prepare.result) (TakesLoaded c.args.asked.profile c.args.asked.trace c.in-Ok.given) (alone before) (alone now)
-    (number_of c.run_prepared.result) (c.prepare.ensures.prepares c.args.asked.profile c.args.asked.trace) c.run_prepared.ensures.ran)
-    (given_as c.args.asked.profile c.args.asked.trace (alone before) (alone now) (number_of c.run_prepared.result) c.in-Ok.given c.prepare.result c.prepare.ensures.exact
-    c.run_prepared.ensures.ran c.run_prepared.ensures.projected)
-    files found) lenient same) c.in-Ok.ensures.found
+    let asked = c.args.asked in
+    let r = c.in-Ok.run' in
+    let before : Seen = seen_by g.S.Store.kept g.S.Store.fault_record g.K.Sink.told g.K.Sink.fault_record g.L.Link.log g.L.Link.is_faithful g.L.Link.fault_record c.args.store.now c.args.sink.now c.args.link.now in
+    let now : Seen = seen_by g.S.Store.kept g.S.Store.fault_record g.K.Sink.told g.K.Sink.fault_record g.L.Link.log g.L.Link.is_faithful g.L.Link.fault_record c.prepare.new.store c.run_both.new.sink c.run_both.new.link in
+    tells (g.S.Store.kept c.args.store.now) _ (Headline (Some (run asked.trace lenient asked.client.now asked.server.now asked.calls.now)) before now (number_of c.run_both.result))
+    (λ files is. run_headline before now (number_of c.run_both.result) files asked.profile asked.trace asked.client.now asked.server.now asked.calls.now
+    (prepared_keeps asked.profile asked.trace asked.client.now asked.server.now asked.calls.now before now (number_of c.run_both.result) files r is c.run_both.ensures.ran c.run_both.ensures.projected) lenient same)
+    c.in-Ok.ensures.said
 
-pub returns-in-Err-Failed-clause-headline : goal.returns-in-Err-Failed-clause-headline
-returns-in-Err-Failed-clause-headline g c = λ lenient same.
-    tells_any _ _ (λ files. run_headline _ _ 3 files c.args.asked.profile c.args.asked.trace c.args.asked.client.now c.args.asked.server.now c.args.asked.calls.now
-    (stopped c.args.asked.profile c.args.asked.trace c.args.asked.client.now c.args.asked.server.now c.args.asked.calls.now _ _ 3 (omega arith) (omega arith) files) lenient same)
+pub returns-in-Err-clause-ends : goal.returns-in-Err-clause-ends
+returns-in-Err-clause-ends g c =
+    let asked = c.args.asked in
+    let before : Seen = seen_by g.S.Store.kept g.S.Store.fault_record g.K.Sink.told g.K.Sink.fault_record g.L.Link.log g.L.Link.is_faithful g.L.Link.fault_record c.args.store.now c.args.sink.now c.args.link.now in
+    ended_halted _ (RunTakes asked.profile asked.trace asked.client.now asked.server.now asked.calls.now) before _ _ _ _ (IsPrepared asked.client.now asked.server.now asked.calls.now)
+    (IsUnprepared asked.client.now asked.server.now asked.calls.now) (number_of c.end.result) c.in-Err.halt c.in-Err.ensures (λ files a said. said.0 asked.profile asked.trace) c.end.ensures
 
-pub returns-in-Err-OutOfMemory-clause-ends : goal.returns-in-Err-OutOfMemory-clause-ends
-returns-in-Err-OutOfMemory-clause-ends g c =
-    ended_lost _ (RunTakes c.args.asked.profile c.args.asked.trace c.args.asked.client.now c.args.asked.server.now c.args.asked.calls.now) _ _ c.in-Err-OutOfMemory.ensures.unchanged
-    (lost_cause _ _ c.in-Err-OutOfMemory.field-0 c.in-Err-OutOfMemory.field-0-is c.in-Err-OutOfMemory.ensures.cause) refl
-
-pub returns-in-Err-OutOfMemory-clause-headline : goal.returns-in-Err-OutOfMemory-clause-headline
-returns-in-Err-OutOfMemory-clause-headline g c = λ lenient same.
-    tells_any _ _ (λ files. run_headline _ _ 5 files c.args.asked.profile c.args.asked.trace c.args.asked.client.now c.args.asked.server.now c.args.asked.calls.now
-    (stopped c.args.asked.profile c.args.asked.trace c.args.asked.client.now c.args.asked.server.now c.args.asked.calls.now _ _ 5 (omega arith) (omega arith) files) lenient same)
+pub returns-in-Err-clause-headline : goal.returns-in-Err-clause-headline
+returns-in-Err-clause-headline g c = λ lenient same.
+    let asked = c.args.asked in
+    let before : Seen = seen_by g.S.Store.kept g.S.Store.fault_record g.K.Sink.told g.K.Sink.fault_record g.L.Link.log g.L.Link.is_faithful g.L.Link.fault_record c.args.store.now c.args.sink.now c.args.link.now in
+    let now : Seen = seen_by g.S.Store.kept g.S.Store.fault_record g.K.Sink.told g.K.Sink.fault_record g.L.Link.log g.L.Link.is_faithful g.L.Link.fault_record c.prepare.new.store c.end.new.sink c.args.link.now in
+    tells (g.S.Store.kept c.args.store.now) (λ files. RunKeeps before now (number_of c.end.result) files asked.profile asked.trace asked.client.now asked.server.now asked.calls.now)
+    (Headline (Some (run asked.trace lenient asked.client.now asked.server.now asked.calls.now)) before now (number_of c.end.result))
+    (λ files keeps. run_headline before now (number_of c.end.result) files asked.profile asked.trace asked.client.now asked.server.now asked.calls.now keeps lenient same)
+    (halted_keeps asked.profile asked.trace asked.client.now asked.server.now asked.calls.now before now _ _ _ (number_of c.end.result) c.in-Err.halt c.in-Err.ensures c.end.ensures)

@@ -6,7 +6,7 @@ use Rattle.run_output.specs.Running.{run_course}
 use Rattle.tool_frame.specs.Exit.{number_of}
 use Rattle.tool_frame.specs.Seen.{Seen}
 use Rattle.tool_frame.specs.Courses.{seen_alone}
-use Rattle.aidl_tool.specs.steps.Loading.{RanSome}
+use Rattle.aidl_tool.specs.steps.Running.{RanSome}
 use Rattle.aidl_tool.proofs.running.run_both.Goals as goal
 
 pub returns-clause-ran : goal.returns-clause-ran

@@ -7,5 +7,5 @@ use Rattle.aidl_tool.proofs.tasks.run_task.Goals as goal
 
 pub returns : goal.returns
 returns g c =
-    let answered = c.answered-answered.ensures in
-    ended_read _ (TaskAnswers c.args.task (tree_seen c.args.asked.tree) c.args.asked.types.now c.args.asked.path.now) _ _ answered.unchanged refl refl refl (number_of c.end.result) _ answered.cause answered.failed answered.answer c.end.ensures
+    let gets = c.answer_task-answered.ensures in
+    ended_read _ (TaskAnswers c.args.task (tree_seen c.args.asked.tree) c.args.asked.types.now c.args.asked.path.now) _ _ gets.unchanged refl refl refl (number_of c.end.result) _ gets.cause gets.failed gets.said c.end.ensures

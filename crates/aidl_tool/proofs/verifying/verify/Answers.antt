@@ -6,5 +6,5 @@ use Rattle.aidl_tool.proofs.verifying.verify.Goals as goal
 
 pub returns : goal.returns
 returns g c =
-    let answered = c.answered-answered.ensures in
-    ended_read _ (VerifyAnswers c.args.api.now) _ _ answered.unchanged refl refl refl (number_of c.end.result) _ answered.cause answered.failed answered.answer c.end.ensures
+    let gets = c.verify_versions-answered.ensures in
+    ended_read _ (VerifyAnswers c.args.api.now) _ _ gets.unchanged refl refl refl (number_of c.end.result) _ gets.cause gets.failed gets.said c.end.ensures

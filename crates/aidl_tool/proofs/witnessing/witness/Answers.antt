@@ -6,5 +6,5 @@ use Rattle.aidl_tool.proofs.witnessing.witness.Goals as goal
 
 pub returns : goal.returns
 returns g c =
-    let answered = c.answered-answered.ensures in
-    ended_read _ (WitnessAnswers c.args.old.now c.args.new.now) _ _ answered.unchanged refl refl refl (number_of c.end.result) _ answered.cause answered.failed answered.answer c.end.ensures
+    let gets = c.witness_roots-answered.ensures in
+    ended_read _ (WitnessAnswers c.args.old.now c.args.new.now) _ _ gets.unchanged refl refl refl (number_of c.end.result) _ gets.cause gets.failed gets.said c.end.ensures

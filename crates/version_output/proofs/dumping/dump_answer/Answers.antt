@@ -1,7 +1,7 @@
 use Rattle.std.proofs.Common.{map, ap, ◌∙◌}
 use Rattle.std.proofs.lemmas.Result.{IfOk-weaker}
 use Rattle.api_versions.specs.Seen.{write_seen}
-use Rattle.version_output.specs.Dumped.{ReadBack, dump_writes, file_write}
+use Rattle.version_output.specs.Dumped.{ReadBack, file_write}
 use Rattle.version_output.specs.declared.dumping.Due.{Due}
 use Rattle.version_output.proofs.ReadBack.{are_dumped}
 use Rattle.version_output.proofs.dumping.dump_answer.Goals as goal

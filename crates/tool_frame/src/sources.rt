@@ -1,0 +1,28 @@
+//! Loading the sources of a tree, or refusing the limit that they pass.
+ghost use Rattle.std.specs.Prelude.{map};
+ghost use Rattle.tool_frame.specs.Asks.{AsksTree};
+ghost use Rattle.tool_frame.specs.Halts.{Loads};
+ghost use Rattle.tool_frame.specs.Seen.{store_seen};
+ghost use Rattle.tool_frame.specs.Trees.{file_seen, tree_at};
+
+use crate::halt::Halt;
+use crate::steps::files_of;
+use crate::tree::load_tree;
+use aidl_base::{Row, SourceFile};
+use aidl_outside::Store;
+use std::alloc::Global;
+
+/// The files below a root that end in `.aidl`, as `load_tree` loads them; else the line of the limit that they pass.
+pub fn load_sources<S: Store>(
+    alloc: Global,
+    root: &str,
+    store: &mut S,
+) -> Result<Row<SourceFile>, Halt>
+    ensures { let seen = store_seen S.Store in
+        Loads (AsksTree root.now) (map file_seen) (λ files. tree_at files root.now)
+        (seen store.old) (seen store.new) result }
+{
+    let tree = load_tree(alloc, root, store)?;
+    let files = files_of(alloc, tree)?;
+    Ok(files)
+}
