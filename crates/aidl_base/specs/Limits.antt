@@ -1,7 +1,9 @@
 -- The limits (own): the name that is printed for each, and its number.
 use Rattle.std.specs.Prelude.{ℕ, List, codes}
 use Rattle.aidl_base.specs.declared.limit.LimitName.{LimitName}
-use Rattle.aidl_base.specs.declared.limit.LimitName.TheVariants.{Files, FileBytes, Declarations, Members, Arguments, Nesting, RunLength, ParcelBytes, TextBytes, Lines, Versions}
+use Rattle.aidl_base.specs.declared.limit.LimitName.TheVariants.{Files, FileBytes, Declarations, Members, Arguments}
+use Rattle.aidl_base.specs.declared.limit.LimitName.TheVariants.{Nesting, RunLength, ParcelBytes, TextBytes, Lines}
+use Rattle.aidl_base.specs.declared.limit.LimitName.TheVariants.{Versions}
 
 abbrev pub limit_name : LimitName → List ℕ
 limit_name Files = codes "files"

@@ -1,5 +1,5 @@
--- What each profile of reading permits (own; the lenient one after the way libbinder's Parcel.cpp reads). What a word means is the same
--- by both, and so is what is written.
+-- What each profile of reading permits (own; the lenient one after the way libbinder's Parcel.cpp reads). What a
+-- word means is the same by both, and so is what is written.
 use Rattle.std.specs.Prelude.{◌≡◌, ℕ, zero, ◌%◌, ◌^◌, ℤ, pos, Bool, true, false, ◌==◌, List, ◌∷◌, [], ◌++◌, length}
 use Rattle.std.specs.List.{list_all}
 use Rattle.std.specs.Int.{w8, w32, cast_unsigned, cast_signed}
@@ -53,7 +53,8 @@ IsWord may means b x = (length b ≡ 4) × (may (word_of b) ≡ true) × (means 
 
 -- The bytes b are these bytes and their padding.
 abbrev pub IsPadded : Profile → List ℕ → List ℕ → Type 0
-IsPadded p bytes b = (tail : List ℕ) × (b ≡ bytes ++ tail) × (length tail ≡ padding (length bytes)) × (is_padding p tail ≡ true)
+IsPadded p bytes b = (tail : List ℕ) × (b ≡ bytes ++ tail) × (length tail ≡ padding (length bytes))
+    × (is_padding p tail ≡ true)
 
 -- The bytes b are the block of a text: its units, one zero unit, and padding.
 abbrev pub IsTextBlock : Profile → List ℕ → List ℕ → Type 0

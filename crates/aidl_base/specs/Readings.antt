@@ -1,10 +1,14 @@
--- Reading values of built-in types off the front of bytes: the value and the bytes after it, or the status of the first wrong item.
--- The bytes are those up to the reader's limit, and `inside` says that the limit is the end of a record (statuses: libutils, Errors.h; rules: own).
-use Rattle.std.specs.Prelude.{ℕ, zero, suc, ◌+◌, ◌*◌, ◌%◌, ℤ, pos, negsuc, Bool, true, false, ◌&&◌, List, [], ◌∷◌, length, take, drop, Option, Some, None, Result, Ok, Err, nat_lt, nat_le, ◌==◌, if◌then◌else◌}
+-- Reading values of built-in types off the front of bytes: the value and the bytes after it, or the status of the
+-- first wrong item. The bytes are those up to the reader's limit, and `inside` says that the limit is the end of a
+-- record (statuses: libutils, Errors.h; rules: own).
+use Rattle.std.specs.Prelude.{ℕ, zero, suc, ◌+◌, ◌*◌, ◌%◌, ℤ, pos, negsuc, Bool, true, false, ◌&&◌, List, [], ◌∷◌}
+use Rattle.std.specs.Prelude.{length, take, drop, Option, Some, None, Result, Ok, Err, nat_lt, nat_le, ◌==◌}
+use Rattle.std.specs.Prelude.{if◌then◌else◌}
 use Rattle.std.specs.Int.{w16, from_le_bytes}
 use Rattle.std.specs.Char.Utf16.{has_unpaired_surrogate, utf16_lossy_chars}
 use Rattle.aidl_base.specs.declared.profile.Profile.{Profile}
-use Rattle.aidl_base.specs.Profiles.{is_truth_word, truth_of, is_byte_word, byte_of, is_char_word, char_of, all_zero, is_padding}
+use Rattle.aidl_base.specs.Profiles.{is_truth_word, truth_of, is_byte_word, byte_of, is_char_word, char_of}
+use Rattle.aidl_base.specs.Profiles.{all_zero, is_padding}
 pub use Rattle.aidl_base.specs.Results.{◌>>=◌}
 use Rattle.aidl_base.specs.Words.{word_of, long_of, padding}
 
@@ -88,7 +92,8 @@ ends_text p tail = all_zero (take 2 tail) && is_padding p (drop 2 tail)
 -- the text of a block of n units, if they are well-formed UTF-16 and the block ends as it has to
 unfoldable pub text_of : Profile → ℕ → List ℕ → Option (List ℕ)
 text_of p n bytes = let us = units_of (take (2 * n) bytes) in
-    if has_unpaired_surrogate us then None else (if ends_text p (drop (2 * n) bytes) then Some (utf16_lossy_chars us) else None)
+    if has_unpaired_surrogate us then None
+    else (if ends_text p (drop (2 * n) bytes) then Some (utf16_lossy_chars us) else None)
 
 abbrev pub ok_or_bad_value : {A : Type 0} → Option A → Result A ℤ
 ok_or_bad_value None = Err bad_value

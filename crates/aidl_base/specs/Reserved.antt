@@ -2,7 +2,9 @@
 use Rattle.std.specs.Prelude.{ℕ, if◌then◌else◌, List, [], ◌∷◌, Option, Some, None, codes}
 use Rattle.std.specs.Str.{bytes_eq}
 use Rattle.aidl_base.specs.declared.reserved.Reserved.{Reserved}
-use Rattle.aidl_base.specs.declared.reserved.Reserved.TheVariants.{Package, Import, Interface, Parcelable, Union, Enum, Const, Oneway, In, Out, InOut, True, False, Void}
+use Rattle.aidl_base.specs.declared.reserved.Reserved.TheVariants.{Package, Import, Interface, Parcelable, Union}
+use Rattle.aidl_base.specs.declared.reserved.Reserved.TheVariants.{Enum, Const, Oneway, In, Out, InOut, True, False}
+use Rattle.aidl_base.specs.declared.reserved.Reserved.TheVariants.{Void}
 
 -- how each is written
 abbrev pub word_of : Reserved → List ℕ
@@ -22,7 +24,8 @@ word_of False = codes "false"
 word_of Void = codes "void"
 
 abbrev pub all_reserved : List Reserved
-all_reserved = Package ∷ Import ∷ Interface ∷ Parcelable ∷ Union ∷ Enum ∷ Const ∷ Oneway ∷ In ∷ Out ∷ InOut ∷ True ∷ False ∷ Void ∷ []
+all_reserved = Package ∷ Import ∷ Interface ∷ Parcelable ∷ Union ∷ Enum ∷ Const ∷ Oneway ∷ In ∷ Out ∷ InOut
+    ∷ True ∷ False ∷ Void ∷ []
 
 -- the first of some words that is written so
 abbrev pub word_in : List Reserved → List ℕ → Option Reserved

@@ -1,4 +1,5 @@
--- The bytes that spell one value of a built-in type (libbinder, Parcel.cpp: `writeBool`, `writeInt32`, `writeInt64`, `writeString16`).
+-- The bytes that spell one value of a built-in type (libbinder, Parcel.cpp: `writeBool`, `writeInt32`,
+-- `writeInt64`, `writeString16`).
 use Rattle.std.specs.Prelude.{ℕ, pos, negsuc, Bool, if◌then◌else◌, List, ◌++◌, length, Option, Some, None}
 use Rattle.std.specs.List.{flat_map}
 use Rattle.aidl_base.specs.Words.{word, units, block}

@@ -1,4 +1,5 @@
--- Words, padding and text blocks, as lists of bytes (libbinder, Parcel.cpp: `writeAligned`, `pad_size`, `writeString16`).
+-- Words, padding and text blocks, as lists of bytes (libbinder, Parcel.cpp: `writeAligned`, `pad_size`,
+-- `writeString16`).
 use Rattle.std.specs.Prelude.{ℕ, ◌-◌, ◌%◌, ℤ, List, [], ◌∷◌, ◌++◌, length, replicate}
 use Rattle.std.specs.Int.{w16, w32, w64, to_le_bytes, from_le_bytes, cast_unsigned, cast_signed}
 use Rattle.std.specs.List.{flat_map}

@@ -6,7 +6,7 @@ ghost use Rattle.aidl_base.specs.Identifiers as identifiers;
 use crate::reserved::reserved_of;
 
 /// Whether these bytes are an identifier: a letter or `_`, then letters, digits and `_`, and no reserved word (AOSP,
-/// "AIDL language"). It takes no memory.
+/// "AIDL language").
 pub fn is_identifier(word: &[u8]) -> bool
     ensures { result ≡ identifiers.is_identifier word.now }
 {

@@ -36,7 +36,7 @@ impl Drop for Parts {
 }
 
 impl Parts {
-    /// The one part of a name. It takes no memory.
+    /// The one part of a name.
     pub fn one(part: Ident) -> Parts
         ensures { result ≡ part ∷ [] }
     {
@@ -45,7 +45,7 @@ impl Parts {
         }
     }
 
-    /// The parts of a row. It takes no memory.
+    /// The parts of a row.
     pub fn from_row(parts: Row<Ident>) -> Parts
         ensures { result ≡ parts }
     {
@@ -54,7 +54,7 @@ impl Parts {
         }
     }
 
-    /// The parts as a slice. It takes no memory.
+    /// The parts as a slice.
     pub fn as_slice(&self) -> &[Ident]
         ensures { result.now ≡ self.now }
     {

@@ -12,7 +12,7 @@ pub enum Profile {
 }
 
 impl Profile {
-    /// Whether an item is taken, by whether it is as it would be written. It takes no memory.
+    /// Whether an item is taken, by whether it is as it would be written.
     pub fn permits(self, as_written: bool) -> bool
         ensures { result ≡ permits self as_written }
     {

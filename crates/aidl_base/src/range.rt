@@ -16,7 +16,7 @@ pub enum Range {
 }
 
 impl Range {
-    /// Whether the number is in the range. It takes no memory.
+    /// Whether the number is in the range.
     pub fn has(self, n: i64) -> bool
         ensures { result ≡ is_in self n }
     {

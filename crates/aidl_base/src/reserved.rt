@@ -46,8 +46,7 @@ impl Reserved {
     }
 }
 
-/// The reserved word that these bytes are. The length and the first byte leave one word at most to compare with. It
-/// takes no memory.
+/// The reserved word that these bytes are. The length and the first byte leave one word at most to compare with.
 #[tactic(auto, using(crate::proofs::Keys::found, crate::proofs::Keys::nothing))]
 pub fn reserved_of(text: &[u8]) -> Option<Reserved>
     ensures { result ≡ reserved_of text.now }

@@ -23,7 +23,7 @@ impl<T> Model for Row<T> {
 }
 
 impl<T> Row<T> {
-    /// The empty row. It takes no memory.
+    /// The empty row.
     pub fn new(alloc: Global) -> Row<T>
         ensures { result ≡ [] }
     {
@@ -32,28 +32,28 @@ impl<T> Row<T> {
         }
     }
 
-    /// The row of a vector's items. It takes no memory.
+    /// The row of a vector's items.
     pub fn from_vec(items: Vec<T>) -> Row<T>
         ensures { result ≡ items.items }
     {
         Row { items }
     }
 
-    /// The vector of the row's items. It takes no memory.
+    /// The vector of the row's items.
     pub fn into_vec(self) -> Vec<T>
         ensures { result.items ≡ self }
     {
         self.items
     }
 
-    /// The items as a slice. It takes no memory.
+    /// The items as a slice.
     pub fn as_slice(&self) -> &[T]
         ensures { result.now ≡ self.now }
     {
         self.items.as_slice()
     }
 
-    /// The number of items. It takes no memory.
+    /// The number of items.
     pub fn len(&self) -> usize
         ensures { result ≡ length self.now }
     {

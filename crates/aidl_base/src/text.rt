@@ -32,7 +32,7 @@ impl Model for Text {
 }
 
 impl Text {
-    /// The text of a string. It takes no memory.
+    /// The text of a string.
     pub fn from_string(text: String) -> Text
         ensures { result ≡ chars (string_bytes text) }
     {
@@ -51,7 +51,7 @@ impl Text {
         Ok(Text { kept })
     }
 
-    /// The text in UTF-8. It takes no memory.
+    /// The text in UTF-8.
     pub fn as_str(&self) -> &str
         ensures value { self.now ≡ chars result.now }
         ensures scalars { all_scalars self.now ≡ true }
@@ -60,7 +60,7 @@ impl Text {
         self.kept.as_str()
     }
 
-    /// The empty text. It takes no memory.
+    /// The empty text.
     pub fn empty() -> Text
         ensures { result ≡ [] }
     {

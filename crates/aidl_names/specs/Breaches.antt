@@ -22,4 +22,5 @@ in_order bs = fold put [] bs
 
 -- the breaches of E1 to E5
 abbrev pub breaches : List Source → List Breach
-breaches files = in_order (WrongFile files ++ Duplicate files ++ UnknownImport files ++ UnknownType files ++ LeftOutType files)
+breaches files =
+    in_order (WrongFile files ++ Duplicate files ++ UnknownImport files ++ UnknownType files ++ LeftOutType files)

@@ -25,4 +25,5 @@ has_long_method e = list_any is_long_method (members (body e.tree))
 -- the first limit that the declarations of a tree pass
 abbrev pub passed : List Entry → Option LimitName
 passed entries = if nat_lt 16384 (length entries) then Some limit.Declarations
-    else (if list_any has_many_members entries then Some limit.Members else (if list_any has_long_method entries then Some limit.Arguments else None))
+    else (if list_any has_many_members entries then Some limit.Members
+    else (if list_any has_long_method entries then Some limit.Arguments else None))

@@ -1,5 +1,6 @@
 -- The check rules of the names stage, each as the list of its breaches (own in number and wording).
-use Rattle.std.specs.Prelude.{ℕ, Bool, true, false, not, ◌&&◌, ◌||◌, List, [], ◌∷◌, ◌++◌, map, codes, Option, Some, None, is_some, is_none, if◌then◌else◌}
+use Rattle.std.specs.Prelude.{ℕ, Bool, true, false, not, ◌&&◌, ◌||◌, List, [], ◌∷◌, ◌++◌, map, codes, Option, Some}
+use Rattle.std.specs.Prelude.{None, is_some, is_none, if◌then◌else◌}
 use Rattle.std.specs.List.{filter, flat_map, list_any, slice_get}
 use Rattle.std.specs.Str.{bytes_eq, encode_utf8_all}
 use Rattle.aidl_base.specs.declared.breach.Breach.{Breach}
@@ -30,7 +31,8 @@ abbrev pub path_of : List Ident → Ident → List ℕ
 path_of «package» name = flat_map (λ part. text part ++ codes "/") «package» ++ text name ++ codes ".aidl"
 
 abbrev pub is_wrong_file : Source → Bool
-is_wrong_file s = not (bytes_eq (encode_utf8_all s.path) (path_of (parts_of s.tree.«package») (declared_name s.tree.declared).name))
+is_wrong_file s = not
+    (bytes_eq (encode_utf8_all s.path) (path_of (parts_of s.tree.«package») (declared_name s.tree.declared).name))
 
 abbrev pub wrong_file : ℕ → Source → List Breach
 wrong_file file s = if is_wrong_file s then breach 1 file 0 ∷ [] else []
@@ -56,11 +58,14 @@ argument_names (enumerator e) = []
 argument_names (nested d) = []
 
 abbrev pub repeated_inside : Entry → List Breach
-repeated_inside e = repeated e.file (map member_name (members (body e.tree))) ++ flat_map (λ m. repeated e.file (argument_names m)) (members (body e.tree))
+repeated_inside e = repeated e.file (map member_name (members (body e.tree)))
+    ++ flat_map (λ m. repeated e.file (argument_names m)) (members (body e.tree))
 
--- a declaration has the canonical name of an earlier one, or the name of a built-in type, the list word or a left-out name
+-- a declaration has the canonical name of an earlier one, or the name of a built-in type, the list word or a
+-- left-out name
 abbrev pub is_taken : List Entry → Entry → Bool
-is_taken before e = list_any (λ d. same d.name e.name) before || is_some (meaning_of_word (text (declared_name e.tree).name))
+is_taken before e =
+    list_any (λ d. same d.name e.name) before || is_some (meaning_of_word (text (declared_name e.tree).name))
 
 abbrev pub taken : List Entry → List Breach
 taken entries = map (λ e. breach 2 e.file (declared_name e.tree).offset) (after_earlier is_taken [] entries)
@@ -73,12 +78,14 @@ abbrev pub other_imports : ℕ → Source → List Breach
 other_imports file s = map (λ i. breach 2 file i.offset) (after_earlier is_other_import [] s.tree.imports)
 
 abbrev pub Duplicate : List Source → List Breach
-Duplicate files = flat_map repeated_inside (declarations files) ++ taken (declarations files) ++ in_each other_imports 0 files
+Duplicate files = flat_map repeated_inside (declarations files) ++ taken (declarations files)
+    ++ in_each other_imports 0 files
 
 -- E3 UnknownImport: an import is no declared canonical name.
 
 abbrev pub unknown_imports : List Entry → ℕ → Source → List Breach
-unknown_imports entries file s = map (λ i. breach 3 file i.offset) (filter (λ i. is_none (number_of entries i.name.0)) s.tree.imports)
+unknown_imports entries file s =
+    map (λ i. breach 3 file i.offset) (filter (λ i. is_none (number_of entries i.name.0)) s.tree.imports)
 
 abbrev pub UnknownImport : List Source → List Breach
 UnknownImport files = in_each (unknown_imports (declarations files)) 0 files
@@ -87,7 +94,8 @@ UnknownImport files = in_each (unknown_imports (declarations files)) 0 files
 
 -- the names of types in a tree that pass a test of the file, the innermost declaration around and the name
 abbrev pub types_in : (ℕ → ℕ → List Ident → Bool) → ℕ → ℕ → Entry → List Breach
-types_in test rule number e = map (λ d. breach rule e.file d.offset) (filter (λ d. test e.file number d.name.0) (flat_map type_names (members (body e.tree))))
+types_in test rule number e = map (λ d. breach rule e.file d.offset)
+    (filter (λ d. test e.file number d.name.0) (flat_map type_names (members (body e.tree))))
 
 abbrev pub types_where : (ℕ → ℕ → List Ident → Bool) → ℕ → List Source → List Breach
 types_where test rule files = in_each (types_in test rule) 0 (declarations files)
@@ -109,7 +117,8 @@ is_interface_body (enum es) = false
 is_interface_body (interface oneway ms) = true
 
 abbrev pub is_interface : List Entry → ℕ → Bool
-is_interface entries number = elim (slice_get entries number) [ None ↦ false | Some e ↦ is_interface_body (body e.tree) ]
+is_interface entries number =
+    elim (slice_get entries number) [ None ↦ false | Some e ↦ is_interface_body (body e.tree) ]
 
 abbrev pub is_left_out : List Entry → Option Resolved → Bool
 is_left_out entries None = false
@@ -119,4 +128,5 @@ is_left_out entries (Some LeftOut) = true
 is_left_out entries (Some (Declared number)) = is_interface entries number
 
 abbrev pub LeftOutType : List Source → List Breach
-LeftOutType files = types_where (λ file scope name. is_left_out (declarations files) (resolved files file scope name)) 5 files
+LeftOutType files =
+    types_where (λ file scope name. is_left_out (declarations files) (resolved files file scope name)) 5 files

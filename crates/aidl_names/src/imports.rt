@@ -103,7 +103,7 @@ fn last_marks(alloc: Global, imports: &[DottedTree]) -> Result<Vec<u64>, OutOfMe
     Ok(marks)
 }
 
-// The place of the first import that has the last part of the one at a place. It takes no memory.
+// The place of the first import that has the last part of the one at a place.
 fn first_place(imports: &[DottedTree], table: &Table, i: usize, import: &DottedTree) -> usize
     requires table { table.now ≡ map mark_of_last imports.now }
     requires lies { i < length imports.now }
@@ -114,7 +114,7 @@ fn first_place(imports: &[DottedTree], table: &Table, i: usize, import: &DottedT
     first_alike(imports, table, import.name.0.as_slice()).unwrap_or(i)
 }
 
-// The place of the first import that has the last part of a name. It takes no memory.
+// The place of the first import that has the last part of a name.
 fn first_alike(imports: &[DottedTree], table: &Table, name: &[Ident]) -> Option<usize>
     requires table { table.now ≡ map mark_of_last imports.now }
     ensures { result ≡ position_from (is_alike name.now) 0 imports.now }

@@ -66,7 +66,7 @@ impl<'a> Model for Names<'a> {
 }
 
 impl<'a> Names<'a> {
-    /// The files, which keep the condition of `gather`. It takes no memory.
+    /// The files, which keep the condition of `gather`.
     pub fn files(&self) -> &'a [ParsedFile]
         ensures files { result.now ≡ self.now }
         ensures of_bytes { AreOfBytes self.now }
@@ -75,7 +75,7 @@ impl<'a> Names<'a> {
         self.resolver.files()
     }
 
-    /// The declarations in the order of their numbers. It takes no memory.
+    /// The declarations in the order of their numbers.
     pub fn decls(&self) -> &[Found<'a>]
         ensures { map entry_of result.now ≡ declarations (map source_of self.now) }
     {
@@ -83,7 +83,7 @@ impl<'a> Names<'a> {
     }
 
     /// What a name means in a file, below the declaration with the number `scope`: the innermost one around the name.
-    /// It takes no memory.
+    ///
     pub fn resolve(&self, file: u32, scope: u32, name: &[Ident]) -> Option<Resolved>
         requires { IsScope (map source_of self.now) file scope }
         ensures { result ≡ resolved (map source_of self.now) file scope name.now }
@@ -91,7 +91,7 @@ impl<'a> Names<'a> {
         self.resolver.resolve(file, scope, name)
     }
 
-    /// The first member with a name of the declaration with a number, and None where there is none. It takes no memory.
+    /// The first member with a name of the declaration with a number, and None where there is none.
     pub fn member(&self, number: u32, name: &Ident) -> Option<MemberRef<'a>>
         ensures { map_option seen_member result
             ≡ called_at (declarations (map source_of self.now)) number name.now }

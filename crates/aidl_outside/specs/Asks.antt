@@ -21,7 +21,8 @@ AsksThese folder paths call = (path : List ℕ) × (call ≡ reading (path_below
 -- a root is listed, and a file that is listed below it is read
 abbrev pub AsksBelow : List ℕ → Asks
 AsksBelow root kept call = (call ≡ lists root)
-    ⊎ ((path : List ℕ) × (call ≡ reading (path_below root path)) × Tells kept (λ files. Contains (listing root files) path))
+    ⊎ ((path : List ℕ) × (call ≡ reading (path_below root path))
+    × Tells kept (λ files. Contains (listing root files) path))
 
 -- the same below a root that may be given
 abbrev pub AsksOptional : Option (List ℕ) → Asks

@@ -11,6 +11,7 @@ abbrev pub entry : Way → ℕ → List ℕ → List ℕ → Carried
 entry way code sent delivered = record { way = way; code = code; sent = sent; delivered = delivered }
 
 -- one entry with what was sent and delivered; on a fault the log is as it was
-abbrev pub Carries : Option (List Carried) → Option (List Carried) → Way → ℕ → List ℕ → Result (Vec ℕ Global) CarryFault → Type 0
+abbrev pub Carries : Option (List Carried) → Option (List Carried) → Way → ℕ → List ℕ
+    → Result (Vec ℕ Global) CarryFault → Type 0
 Carries before now way code sent (Ok delivered) = Adds before now (entry way code sent delivered.items ∷ [])
 Carries before now way code sent (Err fault) = now ≡ before

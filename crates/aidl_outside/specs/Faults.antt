@@ -1,4 +1,5 @@
--- What is seen of the faults of an object outside: how many there were, and which call failed last, where it tells that (own).
+-- What is seen of the faults of an object outside: how many there were, and which call failed last, where it tells
+-- that (own).
 use Rattle.std.specs.Prelude.{◌≡◌, ℕ, List, Option, None, Result, Ok, Err}
 use Rattle.aidl_outside.specs.declared.link.CarryFault.{CarryFault}
 use Rattle.aidl_outside.specs.declared.link.CarryFault.TheVariants as link

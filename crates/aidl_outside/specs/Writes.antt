@@ -23,7 +23,8 @@ Sets (Some before) now path bytes = now ≡ Some (insert before path bytes)
 -- every other path has what it had
 abbrev pub ChangesOnly : Option Files → Option Files → List ℕ → Type 0
 ChangesOnly None now path = now ≡ None
-ChangesOnly (Some before) now path = (after : Files) × (now ≡ Some after) × ((other : List ℕ) → other ≢ path → get after other ≡ get before other)
+ChangesOnly (Some before) now path = (after : Files) × (now ≡ Some after)
+    × ((other : List ℕ) → other ≢ path → get after other ≡ get before other)
 
 abbrev pub Writes : {T : Type 0} → Option Files → Option Files → List ℕ → List ℕ → Result T StoreFault → Type 0
 Writes before now path bytes (Ok x) = Sets before now path bytes

@@ -7,4 +7,5 @@ use Rattle.aidl_syntax.specs.Measures.{nesting, run_length}
 
 -- the limit that the tokens pass
 abbrev pub passed : List Token → Option LimitName
-passed ts = if nat_lt 16 (nesting ts) then Some limit.Nesting else (if nat_lt 256 (run_length ts) then Some limit.RunLength else None)
+passed ts = if nat_lt 16 (nesting ts) then Some limit.Nesting
+    else (if nat_lt 256 (run_length ts) then Some limit.RunLength else None)

@@ -1,6 +1,7 @@
 -- *Broken*: which evolution rules a new schema breaks, and where (own; what may change at all: AOSP, "Stable AIDL").
 -- Each of C1 to C19 is the sentence of its rule: the places at which it is broken.
-use Rattle.std.specs.Prelude.{ℕ, pos, Bool, true, false, not, ◌&&◌, ◌||◌, ◌==◌, nat_lt, if◌then◌else◌, List, [], ◌∷◌, ◌++◌, map, length, take, drop, Option, Some, None, is_none}
+use Rattle.std.specs.Prelude.{ℕ, pos, Bool, true, false, not, ◌&&◌, ◌||◌, ◌==◌, nat_lt, if◌then◌else◌, List, []}
+use Rattle.std.specs.Prelude.{◌∷◌, ◌++◌, map, length, take, drop, Option, Some, None, is_none}
 use Rattle.std.specs.List.{filter, find, flat_map, zip, enumerate_from}
 use Rattle.std.specs.Ordering.{int_eq, nat_cmp, then_cmp, on}
 use Rattle.std.specs.declared.cmp.Ordering.{Ordering}
@@ -140,19 +141,23 @@ way_code InOut = 2
 
 -- common methods that break a rule
 abbrev pub at_methods : (Method → Method → Bool) → Decl → Decl → List Place
-at_methods breaks d e = places (λ p. member d p.0.name) (λ p. breaks p.0 p.1) (in_both same_method (methods_of d.kind) (methods_of e.kind))
+at_methods breaks d e = places (λ p. member d p.0.name) (λ p. breaks p.0 p.1)
+    (in_both same_method (methods_of d.kind) (methods_of e.kind))
 
 -- the arguments of two methods at the positions below both counts
 abbrev pub at_arguments_of : (Arg → Arg → Bool) → Decl → Method → Method → List Place
-at_arguments_of breaks d m w = places (λ p. argument d m.name p.0) (λ p. breaks p.1.0 p.1.1) (enumerate_from 0 (zip m.args w.args))
+at_arguments_of breaks d m w =
+    places (λ p. argument d m.name p.0) (λ p. breaks p.1.0 p.1.1) (enumerate_from 0 (zip m.args w.args))
 
 -- those of each common method
 abbrev pub at_arguments : (Arg → Arg → Bool) → Decl → Decl → List Place
-at_arguments breaks d e = flat_map (λ p. at_arguments_of breaks d p.0 p.1) (in_both same_method (methods_of d.kind) (methods_of e.kind))
+at_arguments breaks d e =
+    flat_map (λ p. at_arguments_of breaks d p.0 p.1) (in_both same_method (methods_of d.kind) (methods_of e.kind))
 
 -- fields at the positions below both counts
 abbrev pub at_fields : (Field → Field → Bool) → (Kind → List Field) → Decl → Decl → List Place
-at_fields breaks fields d e = places (λ p. member d p.0.name) (λ p. breaks p.0 p.1) (zip (fields d.kind) (fields e.kind))
+at_fields breaks fields d e =
+    places (λ p. member d p.0.name) (λ p. breaks p.0 p.1) (zip (fields d.kind) (fields e.kind))
 
 -- Values
 
@@ -187,7 +192,8 @@ zero_of _ = None
 
 -- a type's default: None is null, and also that of a single parcelable or union, which C12 doesn't compare
 abbrev pub zero_in : List Decl → AidlType → Option Const
-zero_in S t = if t.nullable then None else (if is_one t.shape then zero_of (form_of S t.base) else Some (roll-Const (Const-F.Members [])))
+zero_in S t = if t.nullable then None
+    else (if is_one t.shape then zero_of (form_of S t.base) else Some (roll-Const (Const-F.Members [])))
 
 -- its initializer, or else its type's default
 abbrev pub default_by : Option Const → Option Const → Option Const
@@ -213,7 +219,8 @@ has_composite_default S t = is_one_value t && is_composite (form_of S t.base)
 
 -- an enum that has no enumerator of value 0
 abbrev pub is_enum_without_zero : List Decl → Base → Bool
-is_enum_without_zero S b = is_there_and (λ d. is_enum d.kind) (decl_of S b) && not (is_enumerator_of (decl_of S b) (pos 0))
+is_enum_without_zero S b =
+    is_there_and (λ d. is_enum d.kind) (decl_of S b) && not (is_enumerator_of (decl_of S b) (pos 0))
 
 -- what C19 compares of two types
 abbrev pub same_marks : AidlType → AidlType → Bool
@@ -234,8 +241,8 @@ same_result_marks (Some t) None = true
 
 -- The nineteen rules
 
--- the places at which a rule is broken by the declaration d of old and that of its name, e of new; C3 to C19 are asked only
--- where their kinds are the same
+-- the places at which a rule is broken by the declaration d of old and that of its name, e of new; C3 to C19 are
+-- asked only where their kinds are the same
 abbrev pub Rule : Type 0
 Rule = List Decl → Decl → List Decl → Decl → List Place
 
@@ -249,7 +256,8 @@ C2 old d new e = place_if (whole d) (not (kind_code d.kind == kind_code e.kind))
 
 -- C3: a method of old isn't in new.
 abbrev pub C3 : Rule
-C3 old d new e = places (λ m. member d m.name) (λ m. not (is_kept same_method (λ x y. true) (methods_of e.kind) m)) (methods_of d.kind)
+C3 old d new e = places (λ m. member d m.name)
+    (λ m. not (is_kept same_method (λ x y. true) (methods_of e.kind) m)) (methods_of d.kind)
 
 -- C4: a common method's ids differ.
 abbrev pub C4 : Rule
@@ -261,7 +269,8 @@ C5 old d new e = at_methods (λ m w. not (same_result old m.result new w.result)
 
 -- C6: a common method's argument counts differ; or the types at a position below both counts differ.
 abbrev pub C6 : Rule
-C6 old d new e = at_methods (λ m w. not (length m.args == length w.args)) d e ++ at_arguments (λ a b. not (same old a.ty new b.ty)) d e
+C6 old d new e = at_methods (λ m w. not (length m.args == length w.args)) d e
+    ++ at_arguments (λ a b. not (same old a.ty new b.ty)) d e
 
 -- C7: the directions at a position below both counts differ.
 abbrev pub C7 : Rule
@@ -287,23 +296,27 @@ C11 old d new e = at_fields (λ f g. not (same old f.ty new g.ty)) parcelable_fi
 -- unless the default is a record or an alternative in old or in new.
 abbrev pub is_default_changed : List Decl → Field → List Decl → Field → Bool
 is_default_changed old f new g = same old f.ty new g.ty
-    && (not (has_composite_default old f.ty || has_composite_default new g.ty) && not (same_default (default_in old f) (default_in new g)))
+    && (not (has_composite_default old f.ty || has_composite_default new g.ty)
+    && not (same_default (default_in old f) (default_in new g)))
 
 abbrev pub C12 : Rule
 C12 old d new e = at_fields (λ f g. is_default_changed old f new g) fields_with_default d e
 
--- C13: a parcelable's field at a position not below old's count has as its default a record, an alternative, or the 0 of
--- an enum that has no enumerator of value 0.
+-- C13: a parcelable's field at a position not below old's count has as its default a record, an alternative, or the
+-- 0 of an enum that has no enumerator of value 0.
 abbrev pub is_refused_addition : List Decl → Field → Bool
-is_refused_addition S g = is_one_value g.ty && (is_composite (form_of S g.ty.base) || (is_enum_without_zero S g.ty.base && is_none g.initial))
+is_refused_addition S g = is_one_value g.ty
+    && (is_composite (form_of S g.ty.base) || (is_enum_without_zero S g.ty.base && is_none g.initial))
 
 abbrev pub C13 : Rule
-C13 old d new e = places (λ g. member d g.name) (λ g. is_refused_addition new g) (drop (length (parcelable_fields d.kind)) (parcelable_fields e.kind))
+C13 old d new e = places (λ g. member d g.name) (λ g. is_refused_addition new g)
+    (drop (length (parcelable_fields d.kind)) (parcelable_fields e.kind))
 
 -- C14: a parcelable or union has `@FixedSize` in one schema alone; or in both, and new has more fields.
 abbrev pub C14 : Rule
 C14 old d new e = place_if (whole d) ((is_parcelable d.kind || is_union d.kind)
-    && (not (same_bool d.fixed e.fixed) || ((d.fixed && e.fixed) && nat_lt (length (fields_of d.kind)) (length (fields_of e.kind)))))
+    && (not (same_bool d.fixed e.fixed)
+    || ((d.fixed && e.fixed) && nat_lt (length (fields_of d.kind)) (length (fields_of e.kind)))))
 
 -- C15: a union of new has fewer fields; or names or types at a position below both counts differ.
 abbrev pub C15 : Rule
@@ -316,15 +329,17 @@ C16 old d new e = place_if (whole d) (not (backing_code d.kind == backing_code e
 
 -- C17: an enumerator of old isn't in new, or its value differs.
 abbrev pub C17 : Rule
-C17 old d new e = places (λ x. member d x.name) (λ x. not (is_kept same_enumerator (λ x y. int_eq x.value y.value) (enumerators_of e.kind) x)) (enumerators_of d.kind)
+C17 old d new e = places (λ x. member d x.name) (λ x. not
+    (is_kept same_enumerator (λ x y. int_eq x.value y.value) (enumerators_of e.kind) x)) (enumerators_of d.kind)
 
 -- C18: a constant of old isn't in new, or its type or value differs. No constant is of a declared type.
 abbrev pub C18 : Rule
 C18 old d new e = places (λ c. member d c.name)
-    (λ c. not (is_kept same_constant (λ c k. (base_code c.ty == base_code k.ty) && same_const c.value k.value) e.constants c)) d.constants
+    (λ c. not (is_kept same_constant (λ c k. (base_code c.ty == base_code k.ty) && same_const c.value k.value)
+    e.constants c)) d.constants
 
--- C19: `@VintfStability` differs; or `@utf8InCpp` or `heap` differs at a field position below both counts, at an argument
--- position below both counts, or on a common method's return type where both return a value.
+-- C19: `@VintfStability` differs; or `@utf8InCpp` or `heap` differs at a field position below both counts, at an
+-- argument position below both counts, or on a common method's return type where both return a value.
 abbrev pub C19 : Rule
 C19 old d new e = place_if (whole d) (not (same_bool d.vintf e.vintf))
     ++ (at_fields (λ f g. not (same_marks f.ty g.ty)) fields_of d e
@@ -341,7 +356,8 @@ of_rule number ps = map (λ p. (number, p)) ps
 
 -- those that speak of an n whose kind is the same in both
 abbrev pub rules : List (ℕ × Rule)
-rules = (3, C3) ∷ (4, C4) ∷ (5, C5) ∷ (6, C6) ∷ (7, C7) ∷ (8, C8) ∷ (9, C9) ∷ (10, C10) ∷ (11, C11) ∷ (12, C12) ∷ (13, C13) ∷ (14, C14)
+rules = (3, C3) ∷ (4, C4) ∷ (5, C5) ∷ (6, C6) ∷ (7, C7) ∷ (8, C8) ∷ (9, C9) ∷ (10, C10) ∷ (11, C11) ∷ (12, C12)
+    ∷ (13, C13) ∷ (14, C14)
     ∷ (15, C15) ∷ (16, C16) ∷ (17, C17) ∷ (18, C18) ∷ (19, C19) ∷ []
 
 -- what a declaration of old and that of its name in new break
@@ -356,7 +372,8 @@ if_found F (Some x) = F x
 
 -- what is broken, declaration by declaration of old and rule by rule
 abbrev pub breaks : List Decl → List Decl → List Break
-breaks old new = flat_map (λ d. of_rule 1 (C1 d new) ++ if_found (λ e. broken_by old d new e) (find (λ e. same_name d e) new)) old
+breaks old new = flat_map
+    (λ d. of_rule 1 (C1 d new) ++ if_found (λ e. broken_by old d new e) (find (λ e. same_name d e) new)) old
 
 -- by the bytes of the place, which are of ASCII, then by rule
 abbrev pub break_order : Break → Break → Ordering

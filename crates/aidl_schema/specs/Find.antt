@@ -1,5 +1,6 @@
 -- Looking up declarations by their names, and methods by their transaction codes (own).
-use Rattle.std.specs.Prelude.{ℕ, Bool, true, false, ◌+◌, ◌==◌, if◌then◌else◌, List, [], Option, Some, None, option_and_then, slice_get}
+use Rattle.std.specs.Prelude.{ℕ, Bool, true, false, ◌+◌, ◌==◌, if◌then◌else◌, List, [], Option, Some, None}
+use Rattle.std.specs.Prelude.{option_and_then, slice_get}
 use Rattle.std.specs.List.{position}
 use Rattle.std.specs.Str.{encode_utf8_all}
 use Rattle.aidl_schema.specs.declared.schema.Decl.{Decl}

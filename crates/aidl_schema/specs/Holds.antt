@@ -5,14 +5,16 @@ use Rattle.aidl_schema.specs.declared.schema.Decl.{Decl}
 use Rattle.aidl_schema.specs.declared.schema.AidlType.{AidlType}
 use Rattle.aidl_schema.specs.Containment.{fields_of, holds_itself}
 use Rattle.aidl_schema.specs.Methods.{is_field_type, has_method_types, has_way, is_in_way, last_id}
-use Rattle.aidl_schema.specs.Names.{is_name, is_outer, are_ascending, are_identifiers, methods_of, enumerators_of, field_names, method_names, enumerator_names, constant_names, argument_names}
+use Rattle.aidl_schema.specs.Names.{is_name, is_outer, are_ascending, are_identifiers, methods_of, enumerators_of}
+use Rattle.aidl_schema.specs.Names.{field_names, method_names, enumerator_names, constant_names, argument_names}
 use Rattle.aidl_schema.specs.Sizes.{default_depth, default_nodes}
 use Rattle.aidl_schema.specs.Types.{elem, is_type}
 use Rattle.aidl_schema.specs.Valid.{one_of, has_value, has_initializer_of, is_union_whole, is_enum_whole, may_be_fixed}
 
 -- items at different places have different keys
 abbrev pub AreApart : {X K : Type 0} → (X → K) → List X → Type 0
-AreApart {X} {K} key xs = (j k : ℕ) (x y : X) → slice_get xs j ≡ Some x → slice_get xs k ≡ Some y → key x ≡ key y → j ≡ k
+AreApart {X} {K} key xs = (j k : ℕ) (x y : X) → slice_get xs j ≡ Some x → slice_get xs k ≡ Some y
+    → key x ≡ key y → j ≡ k
 
 -- it holds of each of these
 abbrev pub OfEach : {X : Type 0} → List X → (X → Type 0) → Type 0
@@ -42,7 +44,8 @@ pub record Holds (S : List Decl) (n : ℕ) (d : Decl) : Type 0 where
   pub ids : AreApart (λ m. m.id) (methods_of d.kind)
   pub small_ids : OfEach (methods_of d.kind) (λ m. m.id ≤ last_id)
   pub ways : OfEach (methods_of d.kind) (λ m. IsTrue (list_all (λ a. has_way S a) m.args))
-  pub oneway : OfEach (methods_of d.kind) (λ m. m.oneway ≡ true → (m.result ≡ None) × IsTrue (list_all (λ a. is_in_way a.way) m.args))
+  pub oneway : OfEach (methods_of d.kind) (λ m. m.oneway ≡ true
+      → (m.result ≡ None) × IsTrue (list_all (λ a. is_in_way a.way) m.args))
   -- constants, initializers and enumerators
   pub values : IsTrue (list_all (λ c. has_value S c) d.constants)
   pub initializers : IsTrue (list_all (λ f. has_initializer_of S f.ty f.initial) (fields_of d.kind))

@@ -1,5 +1,6 @@
 -- Which types stand where in a declaration, and what a method may be: rules 3 and 4 of a valid schema (own).
-use Rattle.std.specs.Prelude.{ℕ, nat_eq, nat_le, Bool, true, false, not, ◌&&◌, ◌||◌, List, map, Option, Some, None, is_none}
+use Rattle.std.specs.Prelude.{ℕ, nat_eq, nat_le, Bool, true, false, not, ◌&&◌, ◌||◌, List, map, Option, Some, None}
+use Rattle.std.specs.Prelude.{is_none}
 use Rattle.std.specs.List.{list_all}
 use Rattle.aidl_schema.specs.declared.schema.Arg.{Arg}
 use Rattle.aidl_schema.specs.declared.schema.Decl.{Decl}
@@ -40,7 +41,8 @@ has_method_types S m = is_result_type S m.result && list_all (λ a. is_passed_ty
 
 -- the fields and the methods of a declaration
 abbrev pub has_decl_types : List Decl → Decl → Bool
-has_decl_types S d = list_all (λ f. is_field_type S f) (fields_of d.kind) && list_all (λ m. has_method_types S m) (methods_of d.kind)
+has_decl_types S d =
+    list_all (λ f. is_field_type S f) (fields_of d.kind) && list_all (λ m. has_method_types S m) (methods_of d.kind)
 
 -- Rule 3. Each type in a declaration is one of the schema.
 unfoldable pub has_types : List Decl → Bool
@@ -66,7 +68,8 @@ last_id = 16777114
 
 -- The ids of an interface are distinct and at most the last one (E19), and no method breaks E17 or E18.
 abbrev pub has_decl_methods : List Decl → Decl → Bool
-has_decl_methods S d = list_all (λ m. list_all (λ a. has_way S a) m.args && (is_oneway_well m && nat_le m.id last_id)) (methods_of d.kind)
+has_decl_methods S d = list_all
+    (λ m. list_all (λ a. has_way S a) m.args && (is_oneway_well m && nat_le m.id last_id)) (methods_of d.kind)
     && are_distinct nat_eq (map (λ m. m.id) (methods_of d.kind))
 
 -- Rule 4. The methods of each interface.

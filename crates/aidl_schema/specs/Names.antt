@@ -1,6 +1,7 @@
 -- Names of declarations and of their members: the first two rules of a valid schema (own; identifiers: AOSP, "AIDL
 -- language").
-use Rattle.std.specs.Prelude.{ℕ, Bool, true, false, not, ◌&&◌, ◌==◌, List, [], ◌∷◌, ◌++◌, map, codes, Option, Some, None, slice_get}
+use Rattle.std.specs.Prelude.{ℕ, Bool, true, false, not, ◌&&◌, ◌==◌, List, [], ◌∷◌, ◌++◌, map, codes, Option, Some}
+use Rattle.std.specs.Prelude.{None, slice_get}
 use Rattle.std.specs.Cmp.Lexicographic.{slice_cmp}
 use Rattle.std.specs.List.{filter, list_all, list_any, enumerate_from}
 use Rattle.std.specs.Ordering.{is_lt, nat_cmp}
@@ -128,7 +129,8 @@ argument_names m = map (λ a. a.name.0) m.args
 
 -- the names of the members: of fields, methods, enumerators, constants and nested declarations
 abbrev pub member_names : List Decl → ℕ → Decl → List (List ℕ)
-member_names S n d = field_names d.kind ++ (method_names d.kind ++ (enumerator_names d.kind ++ (constant_names d ++ map (λ e. last_part e.name.0) (nested_in S n))))
+member_names S n d = field_names d.kind ++ (method_names d.kind
+    ++ (enumerator_names d.kind ++ (constant_names d ++ map (λ e. last_part e.name.0) (nested_in S n))))
 
 -- distinct identifiers
 abbrev pub are_names : List (List ℕ) → Bool
@@ -141,7 +143,8 @@ each_numbered test S = list_all (λ x. test x.0 x.1) (enumerate_from 0 S)
 -- The members of a declaration have distinct identifiers as names, and so have the arguments of a method (E2). The
 -- constants are sorted by name.
 abbrev pub has_member_names : List Decl → ℕ → Decl → Bool
-has_member_names S n d = are_names (member_names S n d) && (list_all (λ m. are_names (argument_names m)) (methods_of d.kind) && are_ascending (constant_names d))
+has_member_names S n d = are_names (member_names S n d)
+    && (list_all (λ m. are_names (argument_names m)) (methods_of d.kind) && are_ascending (constant_names d))
 
 -- Rule 2. The names inside each declaration.
 unfoldable pub has_members : List Decl → Bool

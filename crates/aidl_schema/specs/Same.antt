@@ -1,5 +1,6 @@
 -- *Same*: when a type of one schema and a type of another are the same (own).
-use Rattle.std.specs.Prelude.{ℕ, Bool, true, false, ◌&&◌, ◌==◌, nat_eq, if◌then◌else◌, List, Option, Some, None, slice_get}
+use Rattle.std.specs.Prelude.{ℕ, Bool, true, false, ◌&&◌, ◌==◌, nat_eq, if◌then◌else◌, List, Option, Some, None}
+use Rattle.std.specs.Prelude.{slice_get}
 use Rattle.std.specs.Cmp.Lexicographic.{pointwise}
 use Rattle.aidl_base.specs.declared.name.Ident.{Ident}
 use Rattle.aidl_schema.specs.declared.schema.Decl.{Decl}
@@ -60,4 +61,5 @@ same_bool false false = true
 
 -- the same base, shape and nullable flag; the flags heap and utf8 don't count
 abbrev pub same : List Decl → AidlType → List Decl → AidlType → Bool
-same A t B u = same_base A t.base B u.base && ((shape_code t.shape == shape_code u.shape) && same_bool t.nullable u.nullable)
+same A t B u =
+    same_base A t.base B u.base && ((shape_code t.shape == shape_code u.shape) && same_bool t.nullable u.nullable)

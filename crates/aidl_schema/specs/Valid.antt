@@ -1,6 +1,7 @@
--- *Valid schema*: when declarations are those of a checked tree (own). Each rule is a test of its own name, with the check
--- rules that refuse what breaks it; the first four stand in Names.antt and Methods.antt.
-use Rattle.std.specs.Prelude.{ℕ, nat_le, Bool, true, false, not, ◌&&◌, ◌||◌, List, [], ◌∷◌, length, Option, Some, None, is_none, IsTrue}
+-- *Valid schema*: when declarations are those of a checked tree (own). Each rule is a test of its own name, with
+-- the check rules that refuse what breaks it; the first four stand in Names.antt and Methods.antt.
+use Rattle.std.specs.Prelude.{ℕ, nat_le, Bool, true, false, not, ◌&&◌, ◌||◌, List, [], ◌∷◌, length, Option, Some}
+use Rattle.std.specs.Prelude.{None, is_none, IsTrue}
 use Rattle.std.specs.List.{list_all}
 use Rattle.aidl_base.specs.declared.constant.Const.{Const}
 use Rattle.aidl_schema.specs.declared.schema.Decl.{Decl}
@@ -46,7 +47,8 @@ is_union_whole _ = true
 
 -- Each initializer is of its field's type (E9, E12, E21), and no union breaks E21.
 abbrev pub has_decl_initializers : List Decl → Decl → Bool
-has_decl_initializers S d = list_all (λ f. has_initializer_of S f.ty f.initial) (fields_of d.kind) && is_union_whole d.kind
+has_decl_initializers S d =
+    list_all (λ f. has_initializer_of S f.ty f.initial) (fields_of d.kind) && is_union_whole d.kind
 
 -- Rule 6. The initializers of each declaration.
 unfoldable pub has_initializers : List Decl → Bool
@@ -86,21 +88,22 @@ abbrev pub is_fixed : Option Decl → Bool
 is_fixed None = false
 is_fixed (Some d) = d.fixed
 
--- The type has a fixed size: it is of shape one, isn't nullable, and its base is a primitive, an enum, or a parcelable or
--- union with `fixed`.
+-- The type has a fixed size: it is of shape one, isn't nullable, and its base is a primitive, an enum, or a
+-- parcelable or union with `fixed`.
 abbrev pub has_fixed_size : List Decl → AidlType → Bool
 has_fixed_size S t = is_one t.shape && (not t.nullable && (is_scalar (form_of S t.base) || is_fixed (decl_of S t.base)))
 
 -- `fixed` stands only on a parcelable or union (E13), all of whose fields have a fixed size (E24).
 abbrev pub may_be_fixed : List Decl → Decl → Bool
-may_be_fixed S d = not d.fixed || (is_parcelable_or_union d.kind && list_all (λ f. has_fixed_size S f.ty) (fields_of d.kind))
+may_be_fixed S d =
+    not d.fixed || (is_parcelable_or_union d.kind && list_all (λ f. has_fixed_size S f.ty) (fields_of d.kind))
 
 -- the type of one value of a declaration, not null
 abbrev pub one_of : ℕ → AidlType
 one_of n = record { base = base.Named n; shape = shape.One; nullable = false; heap = false; utf8 = false }
 
--- No declaration holds itself (E22). The default of a parcelable or union has a depth of at most 32 and at most 512 nodes
--- (E23); that of another declaration has a depth of 0 and one node.
+-- No declaration holds itself (E22). The default of a parcelable or union has a depth of at most 32 and at most 512
+-- nodes (E23); that of another declaration has a depth of 0 and one node.
 abbrev pub is_bounded : List Decl → ℕ → Bool
 is_bounded S n = not (holds_itself S n) && has_small_default S (one_of n)
 
@@ -110,7 +113,8 @@ has_bounds S = each_numbered (λ n d. may_be_fixed S d && is_bounded S n) S
 
 -- at most 4,096 members (the limit `members`), and at most 255 arguments of a method (the limit `arguments`)
 abbrev pub has_few : List Decl → ℕ → Decl → Bool
-has_few S n d = nat_le (length (member_names S n d)) 4096 && list_all (λ m. nat_le (length m.args) 255) (methods_of d.kind)
+has_few S n d =
+    nat_le (length (member_names S n d)) 4096 && list_all (λ m. nat_le (length m.args) 255) (methods_of d.kind)
 
 -- Rule 9. There are at most 16,384 declarations (the limit `declarations`), each with few members and arguments.
 unfoldable pub is_within_limits : List Decl → Bool

@@ -13,7 +13,7 @@ use crate::schema::{Kind, Method, Schema};
 use aidl_base::Ident;
 use std::cmp::Ordering;
 
-/// The number of the declaration that has a canonical name, found by halving. It takes no memory; its stack is as deep as
+/// The number of the declaration that has a canonical name, found by halving. Its stack is as deep as
 /// the name has parts.
 pub fn find(schema: &Schema, name: &str) -> Option<u32>
     ensures { result ≡ find.number_of_name schema.now.decls name.now }
@@ -104,7 +104,7 @@ fn is_interface(schema: &Schema, number: u32) -> bool
     }
 }
 
-/// The position of the interface's method that has a transaction code. It takes no memory.
+/// The position of the interface's method that has a transaction code.
 pub fn method_of_code(schema: &Schema, interface: u32, code: u32) -> Option<u32>
     ensures { result ≡ find.position_of_code (find.methods_at schema.now.decls interface) code }
 {

@@ -6,7 +6,7 @@ ghost use Rattle.aidl_schema.specs.Names.{methods_of};
 
 use crate::schema::{Field, Kind, Method, Schema};
 
-/// The fields of a parcelable or a union; none of another kind. It takes no memory.
+/// The fields of a parcelable or a union; none of another kind.
 pub fn fields_of(kind: &Kind) -> &[Field]
     ensures { result.now ≡ fields_of kind.now }
 {
@@ -18,7 +18,7 @@ pub fn fields_of(kind: &Kind) -> &[Field]
     }
 }
 
-/// The methods of an interface; none of another kind. It takes no memory.
+/// The methods of an interface; none of another kind.
 pub fn methods_of(kind: &Kind) -> &[Method]
     ensures { result.now ≡ methods_of kind.now }
 {
@@ -28,7 +28,7 @@ pub fn methods_of(kind: &Kind) -> &[Method]
     }
 }
 
-/// The methods of the interface with a number; none where it is no interface or there is no such declaration. It takes no memory.
+/// The methods of the interface with a number; none where it is no interface or there is no such declaration.
 pub fn methods_at(schema: &Schema, interface: u32) -> &[Method]
     ensures { result.now ≡ methods_at schema.now.decls interface }
 {

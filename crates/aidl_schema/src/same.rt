@@ -6,7 +6,7 @@ ghost use Rattle.std.specs.Option.{option_copied};
 use crate::schema::{AidlType, Base, Decl, Schema, Shape};
 use aidl_base::{Ident, Text};
 
-/// Whether two texts are the meant.
+/// Whether two texts are the same.
 pub fn same_text(a: &Text, b: &Text) -> bool
     ensures { result ≡ meant.same_text a.now b.now }
 {

@@ -33,7 +33,8 @@ OpenString bytes = (begins (λ b. b == 34) bytes ≡ true)
 -- a run that starts with a digit and isn't a number
 abbrev pub BadNumber : List ℕ → Type 0
 BadNumber bytes = (begins is_ascii_digit bytes ≡ true)
-    × ((bits : ℕ) (hexadecimal long : Bool) (piece rest : List ℕ) → bytes ≡ piece ++ rest → IsNumber bits hexadecimal long piece rest → ⊥)
+    × ((bits : ℕ) (hexadecimal long : Bool) (piece rest : List ℕ) → bytes ≡ piece ++ rest
+    → IsNumber bits hexadecimal long piece rest → ⊥)
 
 -- a byte that begins none of all these
 abbrev pub BadByte : List ℕ → Type 0
@@ -50,4 +51,5 @@ pub data FaultAt : ℕ → List ℕ → Type 0 where
 
 -- The bytes before the offset are gaps and tokens, and the fault stands there.
 abbrev pub LexFault : List ℕ → ℕ → ℕ → Type 0
-LexFault bytes number offset = (tokens : List Token) × (rest : List ℕ) × Cut 0 bytes tokens offset rest × FaultAt number rest
+LexFault bytes number offset = (tokens : List Token) × (rest : List ℕ) × Cut 0 bytes tokens offset rest
+    × FaultAt number rest

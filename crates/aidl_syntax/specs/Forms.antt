@@ -17,13 +17,16 @@ use Rattle.aidl_syntax.specs.Numbers.{IsNumeral}
 pub data IsGap (piece rest : List ℕ) : Type 0 where
   blank : (b : ℕ) → is_blank b ≡ true → piece ≡ b ∷ [] → IsGap piece rest
   -- `//` up to the first newline after it or the end of the file
-  line : (text : List ℕ) → list_all is_no_newline text ≡ true → begins is_no_newline rest ≡ false → piece ≡ 47 ∷ 47 ∷ text → IsGap piece rest
+  line : (text : List ℕ) → list_all is_no_newline text ≡ true → begins is_no_newline rest ≡ false
+      → piece ≡ 47 ∷ 47 ∷ text → IsGap piece rest
   -- `/*` up to the first `*/` after it: none stands in the text, nor across its end
-  block : (text : List ℕ) → has_close (text ++ 42 ∷ []) ≡ false → piece ≡ 47 ∷ 42 ∷ text ++ 42 ∷ 47 ∷ [] → IsGap piece rest
+  block : (text : List ℕ) → has_close (text ++ 42 ∷ []) ≡ false
+      → piece ≡ 47 ∷ 42 ∷ text ++ 42 ∷ 47 ∷ [] → IsGap piece rest
 
 -- a letter or `_`, then letters, digits and `_`, as many as there are
 abbrev pub IsWord : List ℕ → List ℕ → Type 0
-IsWord piece rest = (begins is_letter piece ≡ true) × (list_all is_word_byte piece ≡ true) × (begins is_word_byte rest ≡ false)
+IsWord piece rest = (begins is_letter piece ≡ true) × (list_all is_word_byte piece ≡ true)
+    × (begins is_word_byte rest ≡ false)
 
 -- an identifier: a word that isn't reserved
 abbrev pub IsName : List ℕ → List ℕ → List ℕ → Type 0
@@ -35,7 +38,8 @@ IsReserved word piece rest = IsWord piece rest × (reserved_of piece ≡ Some wo
 
 -- the letters, digits and `_` from a digit on, as many as there are
 abbrev pub IsDigitRun : List ℕ → List ℕ → Type 0
-IsDigitRun piece rest = (begins is_ascii_digit piece ≡ true) × (list_all is_word_byte piece ≡ true) × (begins is_word_byte rest ≡ false)
+IsDigitRun piece rest = (begins is_ascii_digit piece ≡ true) × (list_all is_word_byte piece ≡ true)
+    × (begins is_word_byte rest ≡ false)
 
 -- a number: such a run, of one of the forms
 abbrev pub IsNumber : ℕ → Bool → Bool → List ℕ → List ℕ → Type 0
@@ -52,7 +56,8 @@ IsString text piece = (list_all (is_inside 34) text ≡ true) × (piece ≡ 34 �
 -- a symbol: of two bytes, or else of one where no comment begins
 pub data IsSymbol (symbol : Symbol) (piece rest : List ℕ) : Type 0 where
   of_two : (a b : ℕ) → double a b ≡ Some symbol → piece ≡ a ∷ b ∷ [] → IsSymbol symbol piece rest
-  of_one : (a : ℕ) → single a ≡ Some symbol → double_at (a ∷ rest) ≡ None → is_comment (a ∷ rest) ≡ false → piece ≡ a ∷ [] → IsSymbol symbol piece rest
+  of_one : (a : ℕ) → single a ≡ Some symbol → double_at (a ∷ rest) ≡ None → is_comment (a ∷ rest) ≡ false
+      → piece ≡ a ∷ [] → IsSymbol symbol piece rest
 
 -- a token of the kind
 abbrev pub IsToken : TokenKind → List ℕ → List ℕ → Type 0

@@ -4,7 +4,8 @@ use Rattle.aidl_syntax.specs.declared.tree.NameTree.{NameTree}
 use Rattle.aidl_syntax.specs.Trees.{Field, Constant, Enumerator, Method, Decl, Body, Members}
 use Rattle.aidl_syntax.specs.Trees.Decl.{decl}
 use Rattle.aidl_syntax.specs.Trees.Body.{parcelable, union, enum, interface}
-use Rattle.aidl_syntax.specs.Trees.Members.{none, field as with_field, constant as with_constant, method as with_method, nested as with_nested}
+use Rattle.aidl_syntax.specs.Trees.Members.{none, field as with_field, constant as with_constant}
+use Rattle.aidl_syntax.specs.Trees.Members.{method as with_method, nested as with_nested}
 
 -- fields, constants, methods, enumerators and nested declarations
 pub data Member : Type 0 where

@@ -1,5 +1,6 @@
 -- The forms of a number, and what they mean (own; the ranges are those of 64 bits).
-use Rattle.std.specs.Prelude.{◌≡◌, ◌≤◌, ◌+◌, ◌-◌, ◌*◌, ℕ, Bool, true, false, not, ◌&&◌, ◌||◌, if◌then◌else◌, ◌==◌, nat_le, List, [], ◌∷◌, ◌++◌, ◌⊎◌}
+use Rattle.std.specs.Prelude.{◌≡◌, ◌≤◌, ◌+◌, ◌-◌, ◌*◌, ℕ, Bool, true, false, not, ◌&&◌, ◌||◌, if◌then◌else◌, ◌==◌}
+use Rattle.std.specs.Prelude.{nat_le, List, [], ◌∷◌, ◌++◌, ◌⊎◌}
 use Rattle.std.specs.Char.{is_ascii_digit, is_ascii_hexdigit}
 use Rattle.std.specs.List.{list_all}
 use Rattle.aidl_base.specs.Identifiers.{begins}
@@ -16,12 +17,14 @@ value_from base n (b ∷ bytes) = value_from base (n * base + digit_value b) byt
 -- `0`, or a digit 1 to 9 with further digits; at most 9223372036854775807
 abbrev pub IsDecimal : List ℕ → ℕ → Type 0
 IsDecimal body bits = (list_all is_ascii_digit body ≡ true) × (begins is_ascii_digit body ≡ true)
-    × ((body ≡ 48 ∷ []) ⊎ (begins (λ b. b == 48) body ≡ false)) × (bits ≡ value_from 10 0 body) × (bits ≤ 9223372036854775807)
+    × ((body ≡ 48 ∷ []) ⊎ (begins (λ b. b == 48) body ≡ false)) × (bits ≡ value_from 10 0 body)
+    × (bits ≤ 9223372036854775807)
 
 -- `0x` or `0X` with hexadecimal digits; at most 0xffffffffffffffff
 abbrev pub IsHexadecimal : List ℕ → ℕ → Type 0
 IsHexadecimal body bits = (x : ℕ) × (digits : List ℕ) × (body ≡ 48 ∷ x ∷ digits) × ((x == 120 || x == 88) ≡ true)
-    × (list_all is_ascii_hexdigit digits ≡ true) × (begins is_ascii_hexdigit digits ≡ true) × (bits ≡ value_from 16 0 digits) × (bits ≤ 18446744073709551615)
+    × (list_all is_ascii_hexdigit digits ≡ true) × (begins is_ascii_hexdigit digits ≡ true)
+    × (bits ≡ value_from 16 0 digits) × (bits ≤ 18446744073709551615)
 
 -- nothing, or one `L` or `l`
 abbrev pub is_suffix : List ℕ → Bool → Bool
@@ -35,4 +38,5 @@ IsBody true body bits = IsHexadecimal body bits
 
 -- a body of one of the two forms and the suffix
 abbrev pub IsNumeral : List ℕ → ℕ → Bool → Bool → Type 0
-IsNumeral text bits hexadecimal long = (body suffix : List ℕ) × (text ≡ body ++ suffix) × (is_suffix suffix long ≡ true) × IsBody hexadecimal body bits
+IsNumeral text bits hexadecimal long = (body suffix : List ℕ) × (text ≡ body ++ suffix)
+    × (is_suffix suffix long ≡ true) × IsBody hexadecimal body bits

@@ -1,4 +1,5 @@
--- The productions, each under its own name, as what tokens stand for (AOSP, "AIDL language", as far as the profile goes).
+-- The productions, each under its own name, as what tokens stand for (AOSP, "AIDL language", as far as the profile
+-- goes).
 use Rattle.std.specs.Prelude.{◌≡◌, ◌≤◌, ◌<◌, ◌+◌, ℕ, Bool, true, false, List, [], ◌∷◌, ◌++◌, Option, Some, None}
 use Rattle.aidl_base.specs.declared.name.Ident.{Ident}
 use Rattle.aidl_base.specs.declared.reserved.Reserved.{Reserved}
@@ -14,8 +15,10 @@ use Rattle.aidl_syntax.specs.declared.tree.TypeTree.{TypeTree}
 use Rattle.aidl_syntax.specs.declared.tree.WayTree.{WayTree}
 use Rattle.aidl_syntax.specs.declared.tree.WayTree.TheVariants as way
 use Rattle.aidl_syntax.specs.declared.tree.FileTree.{FileTree}
-use Rattle.aidl_syntax.specs.Parts.{Form, Then, Maybe, Many, Quoted, Worded, Behind, Before, MaybeListed, Trailing, MaybeTrailing, first}
-use Rattle.aidl_syntax.specs.Trees.{Expr, offset_of, Init, Param, Annot, Field, Constant, Enumerator, Arg, Method, Decl, Body, Members, File, file_of}
+use Rattle.aidl_syntax.specs.Parts.{Form, Then, Maybe, Many, Quoted, Worded, Behind, Before, MaybeListed, Trailing}
+use Rattle.aidl_syntax.specs.Parts.{MaybeTrailing, first}
+use Rattle.aidl_syntax.specs.Trees.{Expr, offset_of, Init, Param, Annot, Field, Constant, Enumerator, Arg, Method}
+use Rattle.aidl_syntax.specs.Trees.{Decl, Body, Members, File, file_of}
 use Rattle.aidl_syntax.specs.Trees.Expr.{literal, name, group, unary, binary}
 use Rattle.aidl_syntax.specs.Trees.Init.{single, braces}
 use Rattle.aidl_syntax.specs.Trees.Decl.{decl}
@@ -29,7 +32,8 @@ IsIdent ts n = (t : Token) × (ts ≡ t ∷ []) × (t.kind ≡ kind.Name n.name.
 abbrev pub AreNames : List Token → List Ident → Type 0
 AreNames ts [] = ⊥
 AreNames ts (i ∷ []) = (t : Token) × (ts ≡ t ∷ []) × (t.kind ≡ kind.Name i.0)
-AreNames ts (i ∷ j ∷ is) = (t dot : Token) × (rest : List Token) × (ts ≡ t ∷ dot ∷ rest) × (t.kind ≡ kind.Name i.0) × (dot.kind ≡ kind.Mark mark.Dot) × AreNames rest (j ∷ is)
+AreNames ts (i ∷ j ∷ is) = (t dot : Token) × (rest : List Token) × (ts ≡ t ∷ dot ∷ rest) × (t.kind ≡ kind.Name i.0)
+    × (dot.kind ≡ kind.Mark mark.Dot) × AreNames rest (j ∷ is)
 
 -- dotted = ident {"." ident}
 abbrev pub IsDotted : Form DottedTree
@@ -78,15 +82,19 @@ level mark.Slash = 10
 level mark.Percent = 10
 level _ = 0
 
--- The production of a number: `least` is that of the least operator that may stand outside parentheses, and 11 is unary.
--- A tree with an operator groups from the left: its left part is of the operator's production, its right part of the next.
+-- The production of a number: `least` is that of the least operator that may stand outside parentheses, and 11 is
+-- unary. A tree with an operator groups from the left: its left part is of the operator's production, its right
+-- part of the next.
 abbrev pub IsOf : ℕ → List Token → Expr → Type 0
 IsOf least ts (literal o t) = (ts ≡ t ∷ []) × (is_literal t.kind ≡ true) × (o ≡ t.offset)
 IsOf least ts (name o d) = IsDotted ts d × (o ≡ first ts)
 IsOf least ts (group o a) = (begin close : Token) × (inner : List Token) × (ts ≡ begin ∷ (inner ++ close ∷ []))
-    × (begin.kind ≡ kind.Mark mark.OpenParen) × (close.kind ≡ kind.Mark mark.CloseParen) × (o ≡ begin.offset) × IsOf 1 inner a
-IsOf least ts (unary o op a) = (sign : Token) × (inner : List Token) × (ts ≡ sign ∷ inner) × (sign.kind ≡ kind.Mark op) × (is_sign op ≡ true) × (o ≡ sign.offset) × IsOf 11 inner a
-IsOf least ts (binary o op a b) = (0 < level op) × (least ≤ level op) × (left right : List Token) × (sign : Token) × (ts ≡ left ++ sign ∷ right) × (sign.kind ≡ kind.Mark op)
+    × (begin.kind ≡ kind.Mark mark.OpenParen) × (close.kind ≡ kind.Mark mark.CloseParen)
+    × (o ≡ begin.offset) × IsOf 1 inner a
+IsOf least ts (unary o op a) = (sign : Token) × (inner : List Token) × (ts ≡ sign ∷ inner)
+    × (sign.kind ≡ kind.Mark op) × (is_sign op ≡ true) × (o ≡ sign.offset) × IsOf 11 inner a
+IsOf least ts (binary o op a b) = (0 < level op) × (least ≤ level op) × (left right : List Token) × (sign : Token)
+    × (ts ≡ left ++ sign ∷ right) × (sign.kind ≡ kind.Mark op)
     × (o ≡ offset_of a) × IsOf (level op) left a × IsOf (level op + 1) right b
 
 -- expr = or
@@ -102,7 +110,8 @@ IsArray ts true = Then (Quoted mark.OpenBracket) (Quoted mark.CloseBracket) ts (
 
 -- type = dotted ["<" dotted ">"] ["[" "]"]
 abbrev pub IsType : Form TypeTree
-IsType ts t = Then IsDotted (Then (Maybe (Behind mark.Less (Before IsDotted mark.Greater))) IsArray) ts (t.name, (t.element, t.array)) × (t.offset ≡ first ts)
+IsType ts t = Then IsDotted (Then (Maybe (Behind mark.Less (Before IsDotted mark.Greater))) IsArray) ts
+    (t.name, (t.element, t.array)) × (t.offset ≡ first ts)
 
 -- init = expr | "{" [expr {"," expr} [","]] "}"
 abbrev pub IsInit : Form Init
@@ -125,7 +134,8 @@ listed (Some xs) = xs
 
 -- "@" ident ["(" [param {"," param}] ")"]
 abbrev pub IsAnnot : Form Annot
-IsAnnot ts a = (params : Option (List Param)) × Behind mark.At (Then IsIdent (Maybe AreParams)) ts (a.name, params) × (a.params ≡ listed params) × (a.offset ≡ first ts)
+IsAnnot ts a = (params : Option (List Param)) × Behind mark.At (Then IsIdent (Maybe AreParams)) ts (a.name, params)
+    × (a.params ≡ listed params) × (a.offset ≡ first ts)
 
 -- annots = {"@" ident ["(" [param {"," param}] ")"]}
 abbrev pub AreAnnots : Form (List Annot)
@@ -135,11 +145,15 @@ AreAnnots = Many IsAnnot
 
 -- field = annots type ident ["=" init] ";"
 abbrev pub IsField : Form Field
-IsField ts f = Then AreAnnots (Then IsType (Then IsIdent (Before (Maybe (Behind mark.Equal IsInit)) mark.Semicolon))) ts (f.annots, (f.ty, (f.name, f.initial))) × (f.offset ≡ first ts)
+IsField ts f =
+    Then AreAnnots (Then IsType (Then IsIdent (Before (Maybe (Behind mark.Equal IsInit)) mark.Semicolon))) ts
+    (f.annots, (f.ty, (f.name, f.initial))) × (f.offset ≡ first ts)
 
 -- constant = annots "const" type ident "=" expr ";"
 abbrev pub IsConstant : Form Constant
-IsConstant ts c = Then AreAnnots (Then (Worded word.Const) (Then IsType (Then IsIdent (Behind mark.Equal (Before IsExpr mark.Semicolon))))) ts (c.annots, (tt, (c.ty, (c.name, c.value)))) × (c.offset ≡ first ts)
+IsConstant ts c = Then AreAnnots
+    (Then (Worded word.Const) (Then IsType (Then IsIdent (Behind mark.Equal (Before IsExpr mark.Semicolon))))) ts
+    (c.annots, (tt, (c.ty, (c.name, c.value)))) × (c.offset ≡ first ts)
 
 -- enumerator = ident ["=" expr]
 abbrev pub IsEnumerator : Form Enumerator
@@ -154,7 +168,8 @@ IsWay ts way.InOut = Worded word.InOut ts tt
 -- arg = annots ["in" | "out" | "inout"] annots type ident; the two lists of annotations count as one
 abbrev pub IsArg : Form Arg
 IsArg ts a = (before after : List Annot) × (a.annots ≡ before ++ after)
-    × Then AreAnnots (Then (Maybe IsWay) (Then AreAnnots (Then IsType IsIdent))) ts (before, (a.way, (after, (a.ty, a.name)))) × (a.offset ≡ first ts)
+    × Then AreAnnots (Then (Maybe IsWay) (Then AreAnnots (Then IsType IsIdent))) ts
+    (before, (a.way, (after, (a.ty, a.name)))) × (a.offset ≡ first ts)
 
 -- type | "void"
 abbrev pub IsReturned : Form (Option TypeTree)
@@ -168,12 +183,14 @@ IsOneway ts true = Worded word.Oneway ts tt
 
 -- number
 abbrev pub IsNumberToken : Form Token
-IsNumberToken ts t = (ts ≡ t ∷ []) × (bits : ℕ) × (hexadecimal long : Bool) × (t.kind ≡ kind.Number bits hexadecimal long)
+IsNumberToken ts t = (ts ≡ t ∷ []) × (bits : ℕ) × (hexadecimal long : Bool)
+    × (t.kind ≡ kind.Number bits hexadecimal long)
 
 -- method = annots ["oneway"] (type | "void") ident "(" [arg {"," arg}] ")" ["=" number] ";"
 abbrev pub IsMethod : Form Method
 IsMethod ts m = Then AreAnnots (Then IsOneway (Then IsReturned (Then IsIdent
-    (Then (Behind mark.OpenParen (Before (MaybeListed IsArg) mark.CloseParen)) (Before (Maybe (Behind mark.Equal IsNumberToken)) mark.Semicolon))))) ts
+    (Then (Behind mark.OpenParen (Before (MaybeListed IsArg) mark.CloseParen))
+    (Before (Maybe (Behind mark.Equal IsNumberToken)) mark.Semicolon))))) ts
     (m.annots, (m.oneway, (m.returned, (m.name, (m.args, m.id))))) × (m.offset ≡ first ts)
 
 -- Declarations.
@@ -185,7 +202,8 @@ Opens P = Before P mark.OpenBrace
 abbrev mutual
   -- decl = annots (parcelable | union | enum | interface)
   pub IsDecl : List Token → Decl → Type 0
-  IsDecl ts (decl o annots n body) = (front back : List Token) × (ts ≡ front ++ back) × AreAnnots front annots × IsBody back n body × (o ≡ first ts)
+  IsDecl ts (decl o annots n body) = (front back : List Token) × (ts ≡ front ++ back) × AreAnnots front annots
+      × IsBody back n body × (o ≡ first ts)
 
   -- parcelable = "parcelable" ident "{" {member} "}"
   -- union = "union" ident "{" {member} "}"
@@ -193,18 +211,22 @@ abbrev mutual
   -- interface = ["oneway"] "interface" ident "{" {imember} "}"
   pub IsBody : List Token → NameTree → Body → Type 0
   IsBody ts n (parcelable ms) = (head inner tail : List Token) × (ts ≡ head ++ inner ++ tail)
-      × Then (Worded word.Parcelable) (Opens IsIdent) head (tt, n) × AreMembers inner ms × Quoted mark.CloseBrace tail tt
+      × Then (Worded word.Parcelable) (Opens IsIdent) head (tt, n) × AreMembers inner ms
+      × Quoted mark.CloseBrace tail tt
   IsBody ts n (union ms) = (head inner tail : List Token) × (ts ≡ head ++ inner ++ tail)
       × Then (Worded word.Union) (Opens IsIdent) head (tt, n) × AreMembers inner ms × Quoted mark.CloseBrace tail tt
-  IsBody ts n (enum es) = Then (Then (Worded word.Enum) (Opens IsIdent)) (Before (Trailing IsEnumerator) mark.CloseBrace) ts ((tt, n), es)
+  IsBody ts n (enum es) = Then (Then (Worded word.Enum) (Opens IsIdent))
+      (Before (Trailing IsEnumerator) mark.CloseBrace) ts ((tt, n), es)
   IsBody ts n (interface oneway ms) = (head inner tail : List Token) × (ts ≡ head ++ inner ++ tail)
-      × Then IsOneway (Then (Worded word.Interface) (Opens IsIdent)) head (oneway, (tt, n)) × AreInterfaceMembers inner ms × Quoted mark.CloseBrace tail tt
+      × Then IsOneway (Then (Worded word.Interface) (Opens IsIdent)) head (oneway, (tt, n))
+      × AreInterfaceMembers inner ms × Quoted mark.CloseBrace tail tt
 
   -- {member}, where member = field | constant | decl
   pub AreMembers : List Token → Members → Type 0
   AreMembers ts none = ts ≡ []
   AreMembers ts (field f ms) = (front back : List Token) × (ts ≡ front ++ back) × IsField front f × AreMembers back ms
-  AreMembers ts (constant c ms) = (front back : List Token) × (ts ≡ front ++ back) × IsConstant front c × AreMembers back ms
+  AreMembers ts (constant c ms) = (front back : List Token) × (ts ≡ front ++ back) × IsConstant front c
+      × AreMembers back ms
   AreMembers ts (method m ms) = ⊥
   AreMembers ts (nested d ms) = (front back : List Token) × (ts ≡ front ++ back) × IsDecl front d × AreMembers back ms
 
@@ -212,9 +234,12 @@ abbrev mutual
   pub AreInterfaceMembers : List Token → Members → Type 0
   AreInterfaceMembers ts none = ts ≡ []
   AreInterfaceMembers ts (field f ms) = ⊥
-  AreInterfaceMembers ts (constant c ms) = (front back : List Token) × (ts ≡ front ++ back) × IsConstant front c × AreInterfaceMembers back ms
-  AreInterfaceMembers ts (method m ms) = (front back : List Token) × (ts ≡ front ++ back) × IsMethod front m × AreInterfaceMembers back ms
-  AreInterfaceMembers ts (nested d ms) = (front back : List Token) × (ts ≡ front ++ back) × IsDecl front d × AreInterfaceMembers back ms
+  AreInterfaceMembers ts (constant c ms) = (front back : List Token) × (ts ≡ front ++ back) × IsConstant front c
+      × AreInterfaceMembers back ms
+  AreInterfaceMembers ts (method m ms) = (front back : List Token) × (ts ≡ front ++ back) × IsMethod front m
+      × AreInterfaceMembers back ms
+  AreInterfaceMembers ts (nested d ms) = (front back : List Token) × (ts ≡ front ++ back) × IsDecl front d
+      × AreInterfaceMembers back ms
 
 -- a word, a dotted name and ";"
 abbrev pub Named : Reserved → Form DottedTree
@@ -222,7 +247,8 @@ Named r ts d = Then (Worded r) (Before IsDotted mark.Semicolon) ts (tt, d)
 
 -- file = ["package" dotted ";"] {"import" dotted ";"} decl
 abbrev pub IsFile : Form File
-IsFile ts f = Then (Maybe (Named word.Package)) (Then (Many (Named word.Import)) IsDecl) ts (f.package, (f.imports, f.declared)) × (f.offset ≡ first ts)
+IsFile ts f = Then (Maybe (Named word.Package)) (Then (Many (Named word.Import)) IsDecl) ts
+    (f.package, (f.imports, f.declared)) × (f.offset ≡ first ts)
 
 -- The tree that tokens stand for.
 abbrev pub Tree : List Token → FileTree → Type 0

@@ -17,7 +17,8 @@ source_of f = record { path = f.path; tree = file_of f.tree }
 
 -- the tree stands for the tokens of some bytes, at most 262,144 of them
 abbrev pub IsOfBytes : ParsedFile → Type 0
-IsOfBytes f = (bytes : List ℕ) × (tokens : List Token) × (length bytes ≤ 262144) × Tokens bytes tokens × Tree tokens f.tree
+IsOfBytes f = (bytes : List ℕ) × (tokens : List Token) × (length bytes ≤ 262144) × Tokens bytes tokens
+    × Tree tokens f.tree
 
 -- the files of a tree: at most 4,096, each of some bytes
 pub record AreOfBytes (files : List ParsedFile) : Type 0 where

@@ -145,10 +145,17 @@ abbrev pub annots_of : List AnnotTree → List Annot
 annots_of annots = map annot_of annots
 
 abbrev pub field_of : FieldTree → Field
-field_of f = record { offset = f.offset; annots = annots_of f.annots; ty = f.ty; name = f.name; initial = map_option init_of f.initial }
+field_of f = record {
+  offset = f.offset;
+  annots = annots_of f.annots;
+  ty = f.ty;
+  name = f.name;
+  initial = map_option init_of f.initial;
+}
 
 abbrev pub constant_of : ConstantTree → Constant
-constant_of c = record { offset = c.offset; annots = annots_of c.annots; ty = c.ty; name = c.name; value = expr_of c.value }
+constant_of c =
+    record { offset = c.offset; annots = annots_of c.annots; ty = c.ty; name = c.name; value = expr_of c.value }
 
 abbrev pub enumerator_of : EnumeratorTree → Enumerator
 enumerator_of e = record { offset = e.offset; name = e.name; value = map_option expr_of e.value }
@@ -157,7 +164,15 @@ abbrev pub arg_of : ArgTree → Arg
 arg_of a = record { offset = a.offset; annots = annots_of a.annots; way = a.way; ty = a.ty; name = a.name }
 
 abbrev pub method_of : MethodTree → Method
-method_of m = record { offset = m.offset; annots = annots_of m.annots; oneway = m.oneway; returned = m.result; name = m.name; args = map arg_of m.args; id = m.id }
+method_of m = record {
+  offset = m.offset;
+  annots = annots_of m.annots;
+  oneway = m.oneway;
+  returned = m.result;
+  name = m.name;
+  args = map arg_of m.args;
+  id = m.id;
+}
 
 -- a member, before other members
 abbrev pub member_step : MemberTree-F Body (Members → Members) Decl → Members → Members

@@ -5,7 +5,8 @@ use Rattle.aidl_syntax.specs.declared.token.Token.{Token}
 use Rattle.aidl_syntax.specs.declared.tree.NameTree.{NameTree}
 use Rattle.aidl_syntax.specs.declared.tree.DottedTree.{DottedTree}
 use Rattle.aidl_syntax.specs.declared.tree.TypeTree.{TypeTree}
-use Rattle.aidl_syntax.specs.Trees.{Expr, offset_of, Init, Param, Annot, Field, Constant, Enumerator, Arg, Method, Decl, Body, Members, File}
+use Rattle.aidl_syntax.specs.Trees.{Expr, offset_of, Init, Param, Annot, Field, Constant, Enumerator, Arg, Method}
+use Rattle.aidl_syntax.specs.Trees.{Decl, Body, Members, File}
 use Rattle.aidl_syntax.specs.Trees.Expr.{literal, name, group, unary, binary}
 use Rattle.aidl_syntax.specs.Trees.Init.{single, braces}
 use Rattle.aidl_syntax.specs.Trees.Decl.{decl}
@@ -58,7 +59,8 @@ abbrev pub in_arg : {A : Type 0} → Walk A → Arg → List A
 in_arg w a = in_annots w a.annots ++ (in_type w a.ty ++ w.named a.name)
 
 abbrev pub in_method : {A : Type 0} → Walk A → Method → List A
-in_method w m = in_annots w m.annots ++ (of_option (in_type w) m.returned ++ (w.named m.name ++ (of_each (in_arg w) m.args ++ of_option w.numbered m.id)))
+in_method w m = in_annots w m.annots ++ (of_option (in_type w) m.returned
+    ++ (w.named m.name ++ (of_each (in_arg w) m.args ++ of_option w.numbered m.id)))
 
 abbrev mutual
   pub in_decl : {A : Type 0} → Walk A → Decl → List A
@@ -93,19 +95,43 @@ in_expr value dotted (binary o op a b) = in_expr value dotted a ++ in_expr value
 -- the places: of each name, of each dotted name, of each expression that stands in no other, of the number of a method,
 -- and of each annotation and brace list
 abbrev pub placing : Walk ℕ
-placing = record { named = λ n. n.offset ∷ []; dotted = λ d. d.offset ∷ []; valued = λ e. offset_of e ∷ []; numbered = λ t. t.offset ∷ []; marked = λ o. o ∷ [] }
+placing = record {
+  named = λ n. n.offset ∷ [];
+  dotted = λ d. d.offset ∷ [];
+  valued = λ e. offset_of e ∷ [];
+  numbered = λ t. t.offset ∷ [];
+  marked = λ o. o ∷ [];
+}
 
 -- the identifiers, with each part of each dotted name
 abbrev pub naming : Walk Ident
-naming = record { named = λ n. n.name ∷ []; dotted = λ d. d.name.0; valued = in_expr (λ t. []) (λ d. d.name.0); numbered = λ t. []; marked = λ o. [] }
+naming = record {
+  named = λ n. n.name ∷ [];
+  dotted = λ d. d.name.0;
+  valued = in_expr (λ t. []) (λ d. d.name.0);
+  numbered = λ t. [];
+  marked = λ o. [];
+}
 
 -- the dotted names
 abbrev pub joining : Walk DottedTree
-joining = record { named = λ n. []; dotted = λ d. d ∷ []; valued = in_expr (λ t. []) (λ d. d ∷ []); numbered = λ t. []; marked = λ o. [] }
+joining = record {
+  named = λ n. [];
+  dotted = λ d. d ∷ [];
+  valued = in_expr (λ t. []) (λ d. d ∷ []);
+  numbered = λ t. [];
+  marked = λ o. [];
+}
 
 -- the literals, and the numbers of methods
 abbrev pub counting : Walk Token
-counting = record { named = λ n. []; dotted = λ d. []; valued = in_expr (λ t. t ∷ []) (λ d. []); numbered = λ t. t ∷ []; marked = λ o. [] }
+counting = record {
+  named = λ n. [];
+  dotted = λ d. [];
+  valued = in_expr (λ t. t ∷ []) (λ d. []);
+  numbered = λ t. t ∷ [];
+  marked = λ o. [];
+}
 
 unfoldable pub places_of : File → List ℕ
 places_of = in_file placing

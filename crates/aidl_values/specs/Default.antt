@@ -1,5 +1,6 @@
 -- *Defaults*: the native value-initialized profile (own). E22 and E23 make them end: a type that holds itself has none.
-use Rattle.std.specs.Prelude.{◌≡◌, ℕ, zero, suc, pos, false, if◌then◌else◌, List, [], ◌∷◌, Option, Some, None, map, IsTrue, MatchOption}
+use Rattle.std.specs.Prelude.{◌≡◌, ℕ, zero, suc, pos, false, if◌then◌else◌, List, [], ◌∷◌, Option, Some, None, map}
+use Rattle.std.specs.Prelude.{IsTrue, MatchOption}
 use Rattle.aidl_base.specs.declared.constant.Const.{Const, fold-Const}
 use Rattle.aidl_base.specs.declared.constant.Const.TheOpen.{Const-F}
 use Rattle.aidl_schema.specs.declared.schema.Decl.{Decl}
@@ -33,16 +34,21 @@ simple_zero _ = None
 
 -- What a value is the default of, by cases on the value.
 abbrev mutual
-  -- *Zero*: null for a nullable type, the empty sequence, false, 0, the empty text, the record of the fields' Initial, or
-  -- alternative 0 with the Initial of the first field
+  -- *Zero*: null for a nullable type, the empty sequence, false, 0, the empty text, the record of the fields'
+  -- Initial, or alternative 0 with the Initial of the first field
   pub IsZero : List Decl → AidlType → Data → Type 0
   IsZero S t null = IsTrue t.nullable
-  IsZero S t (truth b) = (t.nullable ≡ false) × IsTrue (is_one t.shape) × (simple_zero (form_of S t.base) ≡ Some (truth b))
-  IsZero S t (number n) = (t.nullable ≡ false) × IsTrue (is_one t.shape) × (simple_zero (form_of S t.base) ≡ Some (number n))
-  IsZero S t (text x) = (t.nullable ≡ false) × IsTrue (is_one t.shape) × (simple_zero (form_of S t.base) ≡ Some (text x))
+  IsZero S t (truth b) = (t.nullable ≡ false) × IsTrue (is_one t.shape)
+      × (simple_zero (form_of S t.base) ≡ Some (truth b))
+  IsZero S t (number n) = (t.nullable ≡ false) × IsTrue (is_one t.shape)
+      × (simple_zero (form_of S t.base) ≡ Some (number n))
+  IsZero S t (text x) = (t.nullable ≡ false) × IsTrue (is_one t.shape)
+      × (simple_zero (form_of S t.base) ≡ Some (text x))
   IsZero S t (seq vs) = (t.nullable ≡ false) × (is_one t.shape ≡ false) × (vs ≡ none)
-  IsZero S t (rec vs) = (t.nullable ≡ false) × IsTrue (is_one t.shape) × (fs : List Field) × (form_of S t.base ≡ form.parcelable fs) × AreInitial S fs vs
-  IsZero S t (alt k v) = (t.nullable ≡ false) × IsTrue (is_one t.shape) × (f : Field) × (fs : List Field) × (form_of S t.base ≡ form.union (f ∷ fs))
+  IsZero S t (rec vs) = (t.nullable ≡ false) × IsTrue (is_one t.shape) × (fs : List Field)
+      × (form_of S t.base ≡ form.parcelable fs) × AreInitial S fs vs
+  IsZero S t (alt k v) = (t.nullable ≡ false) × IsTrue (is_one t.shape) × (f : Field) × (fs : List Field)
+      × (form_of S t.base ≡ form.union (f ∷ fs))
       × (k ≡ 0) × MatchOption f.initial (IsZero S f.ty v) (λ c. v ≡ const_value c)
 
   -- the Initial of each field
@@ -50,14 +56,15 @@ abbrev mutual
   AreInitial S [] none = Unit {0}
   AreInitial S [] (item v vs) = ⊥
   AreInitial S (f ∷ fs) none = ⊥
-  AreInitial S (f ∷ fs) (item v vs) = MatchOption f.initial (IsZero S f.ty v) (λ c. v ≡ const_value c) × AreInitial S fs vs
+  AreInitial S (f ∷ fs) (item v vs) = MatchOption f.initial (IsZero S f.ty v) (λ c. v ≡ const_value c)
+      × AreInitial S fs vs
 
 -- *Initial*: a field's initializer as a value, or else the Zero of its type
 abbrev pub IsInitial : List Decl → Field → Data → Type 0
 IsInitial S f v = MatchOption f.initial (IsZero S f.ty v) (λ c. v ≡ const_value c)
 
--- The same as a function, by fuel, of which each level of parts takes one. With 33 it never runs out, since the defaults of
--- a valid schema have at most 32 levels, and the function gives each type's Zero: `law_one_default`.
+-- The same as a function, by fuel, of which each level of parts takes one. With 33 it never runs out, since the
+-- defaults of a valid schema have at most 32 levels, and the function gives each type's Zero: `law_one_default`.
 abbrev pub initial_or : Option Const → Data → Data
 initial_or (Some c) v = const_value c
 initial_or None v = v
@@ -79,7 +86,8 @@ zero_of_form zero_value _ = number (pos 0)
 
 -- of a type, from those of its parts
 abbrev pub zero_by : List Decl → (AidlType → Data) → AidlType → Data
-zero_by S zero_value t = if t.nullable then null else (if is_one t.shape then zero_of_form zero_value (form_of S t.base) else seq none)
+zero_by S zero_value t = if t.nullable then null
+    else (if is_one t.shape then zero_of_form zero_value (form_of S t.base) else seq none)
 
 unfoldable pub zero_within : ℕ → List Decl → AidlType → Data
 zero_within zero S t = zero_by S (λ u. null) t

@@ -24,4 +24,5 @@ ReachesNoCycle S n = (m : ℕ) → (n ≡ m) ⊎ Reaches S n m → holds_itself 
 
 -- Each field of a declaration has a type of the schema (no rule on types is broken), and a union has a field (E21).
 abbrev pub HaveFieldTypes : List Decl → Type 0
-HaveFieldTypes S = (n : ℕ) (d : Decl) → slice_get S n ≡ Some d → IsTrue (list_all (λ f. is_field_type S f) (fields_of d.kind)) × IsTrue (has_first d.kind)
+HaveFieldTypes S = (n : ℕ) (d : Decl) → slice_get S n ≡ Some d
+    → IsTrue (list_all (λ f. is_field_type S f) (fields_of d.kind)) × IsTrue (has_first d.kind)

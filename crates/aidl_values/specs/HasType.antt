@@ -10,14 +10,16 @@ use Rattle.aidl_schema.specs.Types as form
 use Rattle.aidl_values.specs.Data.{Data, null, truth, number, text, seq, rec, alt, Items, none, item}
 
 abbrev mutual
-  -- A null needs a nullable type, a sequence an array or `List`; every other value needs a single type of its kind; a number one of its range.
+  -- A null needs a nullable type, a sequence an array or `List`; every other value needs a single type of its kind;
+  -- a number one of its range.
   pub HasType : List Decl → AidlType → Data → Type 0
   HasType S t null = IsTrue t.nullable
   HasType S t (truth b) = IsTrue (is_one t.shape) × (form_of S t.base ≡ form.truth)
   HasType S t (number n) = IsTrue (is_one t.shape) × IsTrue (in_range (form_of S t.base) n)
   HasType S t (text x) = IsTrue (is_one t.shape) × (form_of S t.base ≡ form.text) × IsTrue (all_scalars x)
   HasType S t (seq vs) = (is_one t.shape ≡ false) × HaveType S (elem S t) vs
-  HasType S t (rec vs) = IsTrue (is_one t.shape) × (fs : List Field) × (form_of S t.base ≡ form.parcelable fs) × FieldsHaveType S fs vs
+  HasType S t (rec vs) = IsTrue (is_one t.shape) × (fs : List Field) × (form_of S t.base ≡ form.parcelable fs)
+      × FieldsHaveType S fs vs
   HasType S t (alt k v) = IsTrue (is_one t.shape) × (fs : List Field) × (form_of S t.base ≡ form.union fs)
       × (f : Field) × (slice_get fs k ≡ Some f) × HasType S f.ty v
 

@@ -6,7 +6,7 @@ ghost use Rattle.aidl_values.specs.View.{datas, field_datas, items_of, view, vie
 use crate::value::{Element, Elements, Fields, Value};
 
 /// The composite depth of a value, in levels: 0 of null, a truth value, a number or a text, and one more than the
-/// greatest depth inside for a sequence, a record or an alternative. It is at most `usize::MAX`, and takes no memory.
+/// greatest depth inside for a sequence, a record or an alternative. It is at most `usize::MAX`.
 #[cycle(depth)]
 pub fn depth(value: &Value) -> usize
     ensures { result ≡ min (depth_of (view value.now)) usize.MAX }

@@ -9,7 +9,7 @@ use aidl_base::OutOfMemory;
 use std::alloc::Global;
 
 impl Elements {
-    /// How many elements there are. It takes no memory.
+    /// How many elements there are.
     pub fn len(&self) -> usize
         ensures { result ≡ length (datas self.now) }
     {
@@ -23,7 +23,7 @@ impl Elements {
         }
     }
 
-    /// The element at a position. It takes no memory.
+    /// The element at a position.
     #[inline(always)]
     pub fn get(&self, i: usize) -> Element<'_>
         requires { i < length (datas self.now) }

@@ -44,7 +44,7 @@ impl Fields {
         Fields::over(alloc, places, given, defaults)
     }
 
-    /// How many fields there are. It takes no memory.
+    /// How many fields there are.
     pub fn len(&self) -> usize
         ensures { result ≡ length (field_datas self.now) }
     {
@@ -54,7 +54,7 @@ impl Fields {
         }
     }
 
-    /// The value of a field. It takes no memory.
+    /// The value of a field.
     #[inline(always)]
     pub fn get(&self, i: usize) -> &Value
         requires { i < length (field_datas self.now) }
@@ -68,14 +68,14 @@ impl Fields {
 }
 
 impl ShortFields {
-    /// The values that were given. It takes no memory.
+    /// The values that were given.
     pub fn given(&self) -> &[Value]
         ensures { result.now ≡ given_of self.now }
     {
         self.given.as_slice()
     }
 
-    /// The defaults of all fields. It takes no memory.
+    /// The defaults of all fields.
     pub fn defaults(&self) -> &Rc<Row<Value>>
         ensures { rc_value result.now ≡ defaults_of self.now }
     {

@@ -26,7 +26,7 @@ impl Model for Places {
 }
 
 impl Places {
-    /// No places. It takes no memory.
+    /// No places.
     pub fn new(alloc: Global) -> Places
         ensures { result ≡ [] }
     {

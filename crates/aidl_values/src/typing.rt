@@ -11,7 +11,7 @@ use aidl_schema::{AidlType, Field, Form, Schema, Shape, element, form_in, is_in_
 
 /// Whether the value has the type. A number fits the range of its type, an enum's that of the backing, and need be
 /// no enumerator. A sequence has elements of the element type, a record one value for each field, and an alternative
-/// a value of the field at its position. Null is of each nullable type. It takes no memory.
+/// a value of the field at its position. Null is of each nullable type.
 pub fn has_type(schema: &Schema, ty: &AidlType, value: &Value) -> bool
     ensures { IsTrue result ↔ HasType schema.now.decls ty.now (view value.now) }
 {

@@ -28,7 +28,8 @@ backing_text backing.Long = codes "long"
 
 -- `@Backing(type="B") `
 abbrev pub backed : Backing → List Piece
-backed b = sign mark.At ∷ name (ident (codes "Backing")) ∷ sign mark.OpenParen ∷ name (ident (codes "type")) ∷ sign mark.Equal ∷ token (kind.Str (backing_text b)) ∷ sign mark.CloseParen ∷ space ∷ []
+backed b = sign mark.At ∷ name (ident (codes "Backing")) ∷ sign mark.OpenParen ∷ name (ident (codes "type"))
+    ∷ sign mark.Equal ∷ token (kind.Str (backing_text b)) ∷ sign mark.CloseParen ∷ space ∷ []
 
 -- An enum always has its backing.
 abbrev pub backing_mark : Kind → List Piece
@@ -47,7 +48,8 @@ kind_word (Enum b es) = word.Enum
 
 -- `KIND NAME {`
 abbrev pub heading : Decl → List Piece
-heading d = (reserved (kind_word d.kind) ∷ space ∷ []) ++ ((name (ident (last_part d.name.0)) ∷ []) ++ (space ∷ sign mark.OpenBrace ∷ newline ∷ []))
+heading d = (reserved (kind_word d.kind) ∷ space ∷ [])
+    ++ ((name (ident (last_part d.name.0)) ∷ []) ++ (space ∷ sign mark.OpenBrace ∷ newline ∷ []))
 
 -- `}`
 abbrev pub closing : ℕ → List Piece
@@ -83,7 +85,8 @@ inside S n = map (λ x. x.0) (filter (λ x. is_inside n x.1.outer) (enumerate_fr
 -- The declarations inside one, with so many levels of further ones in them.
 abbrev pub nested_lines : List Decl → ℕ → ℕ → ℕ → List Piece
 nested_lines S zero depth n = []
-nested_lines S (suc levels) depth n = flat_map (λ m. wrapped_at S depth (slice_get S m) (nested_lines S levels (suc depth) m)) (inside S n)
+nested_lines S (suc levels) depth n =
+    flat_map (λ m. wrapped_at S depth (slice_get S m) (nested_lines S levels (suc depth) m)) (inside S n)
 
 -- the declaration of a number, with so many levels of others inside it
 abbrev pub declaration : List Decl → ℕ → ℕ → ℕ → List Piece

@@ -35,10 +35,11 @@ path_of parts = slashed parts ++ codes ".aidl"
 -- `package NAME;`, where there is a package
 abbrev pub package_line : List Ident → List Piece
 package_line [] = []
-package_line (i ∷ is) = (reserved word.Package ∷ space ∷ []) ++ (dotted (i ∷ is) ++ (sign mark.Semicolon ∷ newline ∷ []))
+package_line (i ∷ is) = (reserved word.Package ∷ space ∷ [])
+    ++ (dotted (i ∷ is) ++ (sign mark.Semicolon ∷ newline ∷ []))
 
--- The file of a top-level declaration, with its number. No more levels of declarations can stand inside one another than
--- there are declarations.
+-- The file of a top-level declaration, with its number. No more levels of declarations can stand inside one another
+-- than there are declarations.
 abbrev pub file_pieces : List Decl → ℕ × Decl → List Piece
 file_pieces S x = package_line (without_last x.1.name.0) ++ declaration S (length S) 0 x.0
 

@@ -21,11 +21,13 @@ use Rattle.api_dump.specs.Values.{of_backing, value, initial}
 
 -- TYPE NAME = VALUE;
 abbrev pub field : List Decl → Field → List Piece
-field S f = marks f.ty ++ (plain_type S f.ty ++ ((space ∷ name f.name ∷ []) ++ (initial S f.ty f.initial ++ (sign mark.Semicolon ∷ newline ∷ []))))
+field S f = marks f.ty ++ (plain_type S f.ty
+    ++ ((space ∷ name f.name ∷ []) ++ (initial S f.ty f.initial ++ (sign mark.Semicolon ∷ newline ∷ []))))
 
 -- const TYPE NAME = VALUE;
 abbrev pub constant : List Decl → Constant → List Piece
-constant S c = (reserved word.Const ∷ space ∷ []) ++ (dotted (base_name S c.ty) ++ ((space ∷ name c.name ∷ []) ++ ((space ∷ sign mark.Equal ∷ space ∷ []) ++ (value S c.ty c.value ++ (sign mark.Semicolon ∷ newline ∷ [])))))
+constant S c = (reserved word.Const ∷ space ∷ []) ++ (dotted (base_name S c.ty) ++ ((space ∷ name c.name ∷ [])
+    ++ ((space ∷ sign mark.Equal ∷ space ∷ []) ++ (value S c.ty c.value ++ (sign mark.Semicolon ∷ newline ∷ [])))))
 
 abbrev pub way : Direction → Reserved
 way direction.In = word.In
@@ -56,12 +58,15 @@ arguments S args = (sign mark.OpenParen ∷ []) ++ (joined (λ a. argument S a) 
 
 -- ` = ID;`
 abbrev pub identity : ℕ → List Piece
-identity id = (space ∷ sign mark.Equal ∷ space ∷ token (kind.Number id false false) ∷ []) ++ (sign mark.Semicolon ∷ newline ∷ [])
+identity id = (space ∷ sign mark.Equal ∷ space ∷ token (kind.Number id false false) ∷ [])
+    ++ (sign mark.Semicolon ∷ newline ∷ [])
 
 -- oneway TYPE NAME(ARGUMENT, ARGUMENT) = ID;
 abbrev pub method : List Decl → Method → List Piece
-method S m = oneway m.oneway ++ (returned S m.result ++ ((space ∷ name m.name ∷ []) ++ (arguments S m.args ++ identity m.id)))
+method S m = oneway m.oneway
+    ++ (returned S m.result ++ ((space ∷ name m.name ∷ []) ++ (arguments S m.args ++ identity m.id)))
 
 -- NAME = VALUE,
 abbrev pub enumerator : Backing → Enumerator → List Piece
-enumerator b e = (name e.name ∷ []) ++ ((space ∷ sign mark.Equal ∷ space ∷ []) ++ (of_backing b e.value ++ (sign mark.Comma ∷ newline ∷ [])))
+enumerator b e = (name e.name ∷ [])
+    ++ ((space ∷ sign mark.Equal ∷ space ∷ []) ++ (of_backing b e.value ++ (sign mark.Comma ∷ newline ∷ [])))

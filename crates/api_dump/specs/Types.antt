@@ -37,7 +37,8 @@ shaped shape.List ps = name (ident (codes "List")) ∷ sign mark.Less ∷ (ps ++
 abbrev pub nullable : Bool → Bool → List Piece
 nullable false heap = []
 nullable true false = sign mark.At ∷ name (ident (codes "nullable")) ∷ space ∷ []
-nullable true true = sign mark.At ∷ name (ident (codes "nullable")) ∷ sign mark.OpenParen ∷ name (ident (codes "heap")) ∷ sign mark.Equal ∷ reserved word.True ∷ sign mark.CloseParen ∷ space ∷ []
+nullable true true = sign mark.At ∷ name (ident (codes "nullable")) ∷ sign mark.OpenParen
+    ∷ name (ident (codes "heap")) ∷ sign mark.Equal ∷ reserved word.True ∷ sign mark.CloseParen ∷ space ∷ []
 
 -- `@NAME `, where it applies
 abbrev pub flag : List ℕ → Bool → List Piece

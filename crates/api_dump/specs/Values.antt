@@ -1,5 +1,6 @@
 -- How values are written, by their types (own: the canonical dump).
-use Rattle.std.specs.Prelude.{ℕ, suc, ℤ, pos, negsuc, Bool, true, false, nat_lt, if◌then◌else◌, List, [], ◌∷◌, ◌++◌, Option, Some, None, slice_get}
+use Rattle.std.specs.Prelude.{ℕ, suc, ℤ, pos, negsuc, Bool, true, false, nat_lt, if◌then◌else◌, List, [], ◌∷◌, ◌++◌}
+use Rattle.std.specs.Prelude.{Option, Some, None, slice_get}
 use Rattle.std.specs.List.{find}
 use Rattle.std.specs.Ordering.{int_eq}
 use Rattle.aidl_base.specs.declared.constant.Const.{Const, out-Const}
@@ -27,7 +28,8 @@ decimal_of long (negsuc n) = sign mark.Minus ∷ token (kind.Number (suc n) fals
 
 -- The least long has no decimal: it is `0x8000000000000000`.
 abbrev pub long_of : ℤ → List Piece
-long_of n = if int_eq n (negsuc 9223372036854775807) then token (kind.Number 9223372036854775808 true false) ∷ [] else decimal_of true n
+long_of n = if int_eq n (negsuc 9223372036854775807) then token (kind.Number 9223372036854775808 true false) ∷ []
+    else decimal_of true n
 
 -- an enumerator's value, by the backing of its enum
 abbrev pub of_backing : Backing → ℤ → List Piece

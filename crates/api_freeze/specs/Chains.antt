@@ -1,5 +1,6 @@
--- *Chains*: along a run of versions up to the latest in which each is followed by the next one, a new version follows every one of them (own). A schema is followed by
--- another where no evolution rule is broken from it to the other.
+-- *Chains*: along a run of versions up to the latest in which each is followed by the next one, a new version
+-- follows every one of them (own). A schema is followed by another where no evolution rule is broken from it to the
+-- other.
 use Rattle.std.specs.Prelude.{◌≡◌, List, [], ◌∷◌, ◌++◌, Result, Ok, Err}
 use Rattle.std.specs.List.{All, AllZip}
 use Rattle.aidl_schema.specs.declared.schema.Decl.{Decl}

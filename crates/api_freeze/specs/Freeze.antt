@@ -1,5 +1,6 @@
 -- Freezing: the dump of a schema as the next version of an API (own).
-use Rattle.std.specs.Prelude.{◌≡◌, ◌≢◌, ℕ, ◌+◌, ◌≤◌, ◌<◌, ◌⊎◌, List, [], ◌∷◌, ◌++◌, length, map, Option, Some, None, Result, Ok, Err}
+use Rattle.std.specs.Prelude.{◌≡◌, ◌≢◌, ℕ, ◌+◌, ◌≤◌, ◌<◌, ◌⊎◌, List, [], ◌∷◌, ◌++◌, length, map, Option, Some, None}
+use Rattle.std.specs.Prelude.{Result, Ok, Err}
 use Rattle.aidl_base.specs.declared.limit.Limit.{Limit}
 use Rattle.aidl_base.specs.declared.limit.LimitName.TheVariants as limit
 use Rattle.aidl_base.specs.declared.source_file.SourceFile.{SourceFile}
@@ -44,8 +45,8 @@ IsDump S files = map seen files ≡ dump_text S
 abbrev pub hash_digits : List SourceFile → ℕ → List ℕ
 hash_digits files number = digits (flat_map line (in_order files) ++ ending (Two number))
 
--- The latest version is no reason against freezing: there is none; or it is checked, its dump differs, and no evolution rule is broken
--- from it to the schema.
+-- The latest version is no reason against freezing: there is none; or it is checked, its dump differs, and no
+-- evolution rule is broken from it to the schema.
 abbrev pub MayFollow : Option Version → List Decl → Type 0
 MayFollow None S = Unit {0}
 MayFollow (Some v) S = (old : List Decl) × IsSchemaOf v.files old × (dump_text old ≢ dump_text S) × (broken old S ≡ [])
@@ -58,18 +59,22 @@ Forbids (Some v) S (fault.Limit l) = IsRefusal v.files (check.Limit l)
 -- another fault of its files
 Forbids (Some v) S (fault.Unreadable version files (check.Limit l)) = ⊥
 Forbids (Some v) S (fault.Unreadable version files check.OutOfMemory) = ⊥
-Forbids (Some v) S (fault.Unreadable version files cause) = (version ≡ v.number) × (files ≡ v.files) × IsRefusal v.files cause
+Forbids (Some v) S (fault.Unreadable version files cause) = (version ≡ v.number) × (files ≡ v.files)
+    × IsRefusal v.files cause
 -- the same dump
-Forbids (Some v) S (fault.Unchanged version) = (version ≡ v.number) × ((old : List Decl) × IsSchemaOf v.files old × (dump_text old ≡ dump_text S))
+Forbids (Some v) S (fault.Unchanged version) = (version ≡ v.number)
+    × ((old : List Decl) × IsSchemaOf v.files old × (dump_text old ≡ dump_text S))
 -- another dump, and broken rules
-Forbids (Some v) S (fault.Incompatible rows) = (old : List Decl) × IsSchemaOf v.files old × (dump_text old ≢ dump_text S) × (map break_of rows ≡ broken old S) × (rows ≢ [])
+Forbids (Some v) S (fault.Incompatible rows) = (old : List Decl) × IsSchemaOf v.files old
+    × (dump_text old ≢ dump_text S) × (map break_of rows ≡ broken old S) × (rows ≢ [])
 Forbids (Some v) S fault.OutOfMemory = Unit {0}
 Forbids (Some v) S (fault.Versions e) = ⊥
 Forbids (Some v) S (fault.Torn torn) = ⊥
 Forbids (Some v) S (fault.Write e) = ⊥
 
--- What holds before anything is written: each version is whole; the latest is no reason against it, so along a chain of versions up to the latest
--- the schema follows each of them; the new number is at most 9,999; and the files are the schema's dump, and a checked tree with this schema.
+-- What holds before anything is written: each version is whole; the latest is no reason against it, so along a
+-- chain of versions up to the latest the schema follows each of them; the new number is at most 9,999; and the
+-- files are the schema's dump, and a checked tree with this schema.
 pub record Ready (vs : List Version) (S : List Decl) (files : List SourceFile) : Type 0 where
   pub whole : first_torn vs ≡ None
   pub follows : MayFollow (latest vs) S
@@ -86,10 +91,12 @@ PassesLimit vs S l = ((9999 < next vs) × (l ≡ record { which = limit.Versions
 -- why it isn't frozen, of versions that are read: `Torn`; what forbids it; or a limit
 abbrev pub RefusedAs : List Version → List Decl → FreezeFault → Type 0
 RefusedAs vs S (fault.Torn torn) = first_torn vs ≡ Some torn
-RefusedAs vs S (fault.Unreadable version files cause) = (first_torn vs ≡ None) × Forbids (latest vs) S (fault.Unreadable version files cause)
+RefusedAs vs S (fault.Unreadable version files cause) = (first_torn vs ≡ None)
+    × Forbids (latest vs) S (fault.Unreadable version files cause)
 RefusedAs vs S (fault.Unchanged version) = (first_torn vs ≡ None) × Forbids (latest vs) S (fault.Unchanged version)
 RefusedAs vs S (fault.Incompatible rows) = (first_torn vs ≡ None) × Forbids (latest vs) S (fault.Incompatible rows)
-RefusedAs vs S (fault.Limit l) = (first_torn vs ≡ None) × (Forbids (latest vs) S (fault.Limit l) ⊎ (MayFollow (latest vs) S × PassesLimit vs S l))
+RefusedAs vs S (fault.Limit l) = (first_torn vs ≡ None)
+    × (Forbids (latest vs) S (fault.Limit l) ⊎ (MayFollow (latest vs) S × PassesLimit vs S l))
 RefusedAs vs S (fault.Versions e) = ⊥
 RefusedAs vs S (fault.Write e) = ⊥
 RefusedAs vs S fault.OutOfMemory = Unit {0}
@@ -100,16 +107,24 @@ file_write folder f = record { path = path_below folder (seen f).0; bytes = f.by
 
 -- the files in path order, and `.hash` last
 abbrev pub version_writes : List ℕ → ℕ → List SourceFile → List Write
-version_writes api number files = map (file_write (version_folder api number)) files ++ record { path = hash_path api number; bytes = hash_text files (Two number) } ∷ []
+version_writes api number files = map (file_write (version_folder api number)) files
+    ++ record { path = hash_path api number; bytes = hash_text files (Two number) } ∷ []
 
 -- what is answered, what a store holds before and now, and its faults now, of versions that are read
-abbrev pub Freezes : List ℕ → List Version → List Decl → Option Files → Option Files → StoreFaults → Result Frozen FreezeFault → Type 0
-Freezes api vs S before now faults (Ok frozen) = (files : List SourceFile) × Ready vs S files × (frozen.version ≡ next vs) × (frozen.hash ≡ hash_digits files (next vs)) × Wrote (version_writes api (next vs) files) before now
-Freezes api vs S before now faults (Err (fault.Write e)) = (files : List SourceFile) × Ready vs S files × LeftAt (version_writes api (next vs) files) before now faults e
+abbrev pub Freezes : List ℕ → List Version → List Decl → Option Files → Option Files → StoreFaults
+    → Result Frozen FreezeFault → Type 0
+Freezes api vs S before now faults (Ok frozen) = (files : List SourceFile) × Ready vs S files
+    × (frozen.version ≡ next vs) × (frozen.hash ≡ hash_digits files (next vs))
+    × Wrote (version_writes api (next vs) files) before now
+Freezes api vs S before now faults (Err (fault.Write e)) = (files : List SourceFile) × Ready vs S files
+    × LeftAt (version_writes api (next vs) files) before now faults e
 Freezes api vs S before now faults (Err (fault.Torn torn)) = (now ≡ before) × RefusedAs vs S (fault.Torn torn)
-Freezes api vs S before now faults (Err (fault.Unreadable version files cause)) = (now ≡ before) × RefusedAs vs S (fault.Unreadable version files cause)
-Freezes api vs S before now faults (Err (fault.Unchanged version)) = (now ≡ before) × RefusedAs vs S (fault.Unchanged version)
-Freezes api vs S before now faults (Err (fault.Incompatible rows)) = (now ≡ before) × RefusedAs vs S (fault.Incompatible rows)
+Freezes api vs S before now faults (Err (fault.Unreadable version files cause)) = (now ≡ before)
+    × RefusedAs vs S (fault.Unreadable version files cause)
+Freezes api vs S before now faults (Err (fault.Unchanged version)) = (now ≡ before)
+    × RefusedAs vs S (fault.Unchanged version)
+Freezes api vs S before now faults (Err (fault.Incompatible rows)) = (now ≡ before)
+    × RefusedAs vs S (fault.Incompatible rows)
 Freezes api vs S before now faults (Err (fault.Limit l)) = (now ≡ before) × RefusedAs vs S (fault.Limit l)
 -- they weren't read: the store failed, or memory was wanted
 Freezes api vs S before now faults (Err (fault.Versions e)) = (now ≡ before) × Refuses (Ok vs) e
@@ -128,7 +143,8 @@ Unread refused before now (Err (fault.Write e)) = ⊥
 Unread refused before now (Err fault.OutOfMemory) = ⊥
 
 -- of what a store tells
-abbrev pub FreezesAt : List ℕ → Result (List Version) VersionsFault → List Decl → Option Files → Option Files → StoreFaults → Result Frozen FreezeFault → Type 0
+abbrev pub FreezesAt : List ℕ → Result (List Version) VersionsFault → List Decl → Option Files → Option Files
+    → StoreFaults → Result Frozen FreezeFault → Type 0
 FreezesAt api (Ok vs) S before now faults r = Freezes api vs S before now faults r
 FreezesAt api (Err refused) S before now faults r = Unread refused before now r
 

@@ -67,7 +67,8 @@ rehash_writes files api = writes_by api (versions_at files api)
 
 -- the refusal is the defined one, unless the store failed or memory was wanted
 abbrev pub RefusesNumbers : Result (List ℕ) RehashFault → RehashFault → Type 0
-RefusesNumbers defined (fault.Versions (read.BadVersions missing)) = defined ≡ Err (fault.Versions (read.BadVersions missing))
+RefusesNumbers defined (fault.Versions (read.BadVersions missing)) =
+    defined ≡ Err (fault.Versions (read.BadVersions missing))
 RefusesNumbers defined (fault.Versions (read.Limit limit)) = defined ≡ Err (fault.Versions (read.Limit limit))
 RefusesNumbers defined (fault.Versions read.ReadFault) = Unit {0}
 RefusesNumbers defined (fault.Versions read.OutOfMemory) = Unit {0}
@@ -80,8 +81,8 @@ abbrev pub GivesNumbers : Result (List ℕ) RehashFault → Result (List ℕ) Re
 GivesNumbers defined (Ok numbers) = defined ≡ Ok numbers
 GivesNumbers defined (Err e) = RefusesNumbers defined e
 
--- By what was answered, and the store's faults then: all writes; those before one that gave nothing; and after every refusal that comes before
--- the writes none.
+-- By what was answered, and the store's faults then: all writes; those before one that gave nothing; and after
+-- every refusal that comes before the writes none.
 abbrev pub Left : List Write → Option Files → Option Files → StoreFaults → Result (List ℕ) RehashFault → Type 0
 Left ws before now faults (Ok numbers) = Wrote ws before now
 Left ws before now faults (Err (fault.Versions e)) = now ≡ before

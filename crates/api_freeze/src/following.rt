@@ -144,7 +144,7 @@ fn follow_latest(
     }
 }
 
-// What is answered where the files of a version aren't a checked tree. It takes no memory.
+// What is answered where the files of a version aren't a checked tree.
 fn unread(latest: Version, fault: CheckFault) -> FreezeFault
     requires { IsRefusal latest.files fault }
     ensures answer { (S : List Decl) → Forbids (Some latest) S result }

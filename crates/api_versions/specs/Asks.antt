@@ -23,7 +23,8 @@ IsListed api files f = (fs : List Folder) × (folders_in (listing api files) ≡
 
 -- what is below a path is listed, and a source, or the `.hash`, of a version that is listed is read
 abbrev pub AsksVersions : List ℕ → Asks
-AsksVersions api kept call = (call ≡ lists api) ⊎ ((f : Folder) × AsksFolder api f call × Tells kept (λ files. IsListed api files f))
+AsksVersions api kept call = (call ≡ lists api)
+    ⊎ ((f : Folder) × AsksFolder api f call × Tells kept (λ files. IsListed api files f))
 
 -- where the store failed: one of these calls
 abbrev pub FaultCall : (StoreCall → Type 0) → StoreFaults → VersionsFault → Type 0

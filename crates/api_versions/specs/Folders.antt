@@ -1,5 +1,6 @@
 -- The folders of an API's versions, by the paths of all files below it (own).
-use Rattle.std.specs.Prelude.{ℕ, ◌-◌, ◌==◌, max, Bool, if◌then◌else◌, List, [], ◌∷◌, length, drop, map, Some, None, codes, bytes_eq}
+use Rattle.std.specs.Prelude.{ℕ, ◌-◌, ◌==◌, max, Bool, if◌then◌else◌, List, [], ◌∷◌, length, drop, map, Some, None}
+use Rattle.std.specs.Prelude.{codes, bytes_eq}
 use Rattle.std.specs.List.{filter, filter_map, list_any, range_with_len}
 use Rattle.api_versions.specs.Places.{Place}
 
@@ -22,7 +23,11 @@ paths_in n places = filter_map (λ p. if p.number == n then Some p.path else Non
 
 -- the folder of a version: it is there where any file belongs to it, whatever its name
 abbrev pub folder : List Place → ℕ → Folder
-folder places n = record { number = n; is_there = list_any (λ p. p.number == n) places; sources = filter is_source (paths_in n places) }
+folder places n = record {
+  number = n;
+  is_there = list_any (λ p. p.number == n) places;
+  sources = filter is_source (paths_in n places);
+}
 
 -- the highest version number, and 0 where there is no version
 abbrev pub highest : List Place → ℕ

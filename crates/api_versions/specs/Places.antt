@@ -1,5 +1,7 @@
--- Which version a file below an API belongs to (own): a file's first path part is the version's number, and isn't its whole path.
-use Rattle.std.specs.Prelude.{ℕ, ◌==◌, ◌&&◌, min, nat_lt, Bool, false, not, if◌then◌else◌, List, [], ◌∷◌, length, Option, Some, None}
+-- Which version a file below an API belongs to (own): a file's first path part is the version's number, and isn't
+-- its whole path.
+use Rattle.std.specs.Prelude.{ℕ, ◌==◌, ◌&&◌, min, nat_lt, Bool, false, not, if◌then◌else◌, List, [], ◌∷◌, length}
+use Rattle.std.specs.Prelude.{Option, Some, None}
 use Rattle.std.specs.Char.{is_ascii_digit}
 use Rattle.std.specs.List.{list_all, filter_map, position_or_len, before_first, after_first}
 use Rattle.std.specs.Option.{option_map}
@@ -23,7 +25,8 @@ pub record Place : Type 0 where
 abbrev pub place_of : List ℕ → Option Place
 place_of path =
     if nat_lt (position_or_len (λ b. b == 47) path) (length path)
-    then option_map (λ n. record { number = n; path = after_first (λ b. b == 47) path }) (number_of (before_first (λ b. b == 47) path))
+    then option_map (λ n. record { number = n; path = after_first (λ b. b == 47) path })
+    (number_of (before_first (λ b. b == 47) path))
     else None
 
 -- the files that belong to versions; all others are left out

@@ -1,5 +1,6 @@
 -- The versions of an API as a store tells them: exactly its version folders, or the first refusal (own).
-use Rattle.std.specs.Prelude.{◌≡◌, ℕ, nat_lt, Bool, map, if◌then◌else◌, List, [], ◌∷◌, ◌++◌, length, Option, Some, None, Result, Ok, Err, codes}
+use Rattle.std.specs.Prelude.{◌≡◌, ℕ, nat_lt, Bool, map, if◌then◌else◌, List, [], ◌∷◌, ◌++◌, length, Option, Some}
+use Rattle.std.specs.Prelude.{None, Result, Ok, Err, codes}
 use Rattle.std.specs.Fmt.{decimal}
 use Rattle.std.specs.FinMap.{get}
 use Rattle.std.specs.List.{filter, list_all, list_any, range_with_len}
@@ -30,7 +31,8 @@ hash_path api number = path_below (version_folder api number) (codes ".hash")
 -- a file, if any, that doesn't pass the limit `file-bytes`
 abbrev pub within : Option (List ℕ) → Result (Option (List ℕ)) VersionsFault
 within None = Ok None
-within (Some bytes) = if nat_lt (limit_number limit.FileBytes) (length bytes) then Err (passed limit.FileBytes) else Ok (Some bytes)
+within (Some bytes) = if nat_lt (limit_number limit.FileBytes) (length bytes) then Err (passed limit.FileBytes)
+    else Ok (Some bytes)
 
 -- the file at a path of a store, if any
 abbrev pub file_at : Files → List ℕ → Result (Option (List ℕ)) VersionsFault
@@ -66,7 +68,8 @@ versions_in files api (f ∷ fs) = do
 
 -- no number above 9,999
 abbrev pub numbered : List Place → Result (List Folder) VersionsFault
-numbered places = if nat_lt (limit_number limit.Versions) (highest places) then Err (passed limit.Versions) else Ok (folders places)
+numbered places = if nat_lt (limit_number limit.Versions) (highest places) then Err (passed limit.Versions)
+    else Ok (folders places)
 
 -- more `.aidl` files than the limit `files`
 abbrev pub is_large : Folder → Bool

@@ -18,10 +18,12 @@ WroteSome ws before now = (made rest : List Write) × (ws ≡ made ++ rest) × W
 
 -- the first of them were made, and the call is that of the next one, which changed at most its path
 abbrev pub FailedAt : List Write → Option Files → Option Files → StoreCall → Type 0
-FailedAt ws before now call = (made rest : List Write) × (w : Write) × (middle : Option Files) × (ws ≡ made ++ w ∷ rest) × Wrote made before middle × ChangesOnly middle now w.path
+FailedAt ws before now call = (made rest : List Write) × (w : Write) × (middle : Option Files)
+    × (ws ≡ made ++ w ∷ rest) × Wrote made before middle × ChangesOnly middle now w.path
     × (call ≡ writing w.path)
 
--- by what a write that gave nothing answered, and the store's faults then: those before it, and it is the call that failed; the first ones
+-- by what a write that gave nothing answered, and the store's faults then: those before it, and it is the call that
+-- failed; the first ones
 abbrev pub LeftAt : List Write → Option Files → Option Files → StoreFaults → StoreFault → Type 0
 LeftAt ws before now faults Failed = FailedIn faults (FailedAt ws before now)
 LeftAt ws before now faults OutOfMemory = WroteSome ws before now

@@ -18,7 +18,7 @@ pub struct Folder {
 }
 
 impl Folder {
-    /// A folder in which no file is known yet. It takes no memory.
+    /// A folder in which no file is known yet.
     pub fn empty(alloc: Global, number: u32) -> Folder
         ensures { folder_seen result ≡ record { number = number; is_there = false; sources = [] } }
     {

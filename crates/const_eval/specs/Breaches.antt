@@ -1,4 +1,5 @@
--- The breaches of the constants stage (E6 to E12): one for each item whose outcome is a fault, at the place of the item (own).
+-- The breaches of the constants stage (E6 to E12): one for each item whose outcome is a fault, at the place of the
+-- item (own).
 use Rattle.std.specs.Prelude.{ℕ, ◌+◌, List, [], ◌∷◌, Option, Some, None}
 use Rattle.std.specs.List.{cons_option}
 use Rattle.aidl_base.specs.declared.breach.Breach.{Breach}

@@ -21,7 +21,8 @@ abbrev pub is_held_level : Wanted → Const-F Const → Bool
 is_held_level w (Const-F.Number z) = is_held_number w z
 is_held_level w _ = true
 
--- a number that is wanted as a byte or an int lies in 32 bits, and one that is wanted as a char is a code; nothing else is asked
+-- a number that is wanted as a byte or an int lies in 32 bits, and one that is wanted as a char is a code; nothing
+-- else is asked
 abbrev pub is_held : Wanted → Const → Bool
 is_held w c = is_held_level w (out-Const c)
 

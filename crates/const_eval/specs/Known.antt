@@ -1,5 +1,6 @@
 -- Words for the way to the outcomes: what is known of them, and what names in an expression mean by what is known.
-use Rattle.std.specs.Prelude.{◌≡◌, ◌<◌, ℕ, IsTrue, Bool, true, false, List, [], length, map, slice_index, slice_index_or, Option, Some, None, Result, Err, Contains}
+use Rattle.std.specs.Prelude.{◌≡◌, ◌<◌, ℕ, IsTrue, Bool, true, false, List, [], length, map, slice_index}
+use Rattle.std.specs.Prelude.{slice_index_or, Option, Some, None, Result, Err, Contains}
 use Rattle.std.specs.List.{list_all, slice_get}
 use Rattle.aidl_base.specs.declared.constant.Const.{Const}
 use Rattle.aidl_base.specs.declared.constant.Const.TheVariants as value
@@ -77,11 +78,12 @@ AreNext files rows = (n : ℕ) → targets rows n ≡ next files n
 
 -- what an item of the order that is on no cycle depends on stands before it
 abbrev pub IsInTurn : List Source → List Bool → List ℕ → Type 0
-IsInTurn files on order = (k m : ℕ) → k < length order → flag on (slice_index order k) ≡ false → Contains (next files (slice_index order k)) m
+IsInTurn files on order = (k m : ℕ) → k < length order → flag on (slice_index order k) ≡ false
+    → Contains (next files (slice_index order k)) m
     → (j : ℕ) × (j < k) × (slice_index order j ≡ m)
 
--- The outcome of an item that is left unjudged for its form, that has an unknown name, that depends on itself, or that depends on
--- what has no value, in this order; none where it is to be judged by values.
+-- The outcome of an item that is left unjudged for its form, that has an unknown name, that depends on itself, or
+-- that depends on what has no value, in this order; none where it is to be judged by values.
 abbrev pub without_value : Bool → Bool → Bool → Bool → Option Outcome
 without_value true unknown cyclic given = Some Unjudged
 without_value false true cyclic given = Some (Fault UnknownName)

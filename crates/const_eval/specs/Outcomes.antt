@@ -1,5 +1,7 @@
--- The outcome of each item: the first that applies of the cases of `HasOutcome` (own, after AOSP, "AIDL language", "Constants").
-use Rattle.std.specs.Prelude.{◌≡◌, ◌<◌, ℕ, ℤ, pos, negsuc, ◌+ℤ◌, Bool, true, false, List, length, Option, Some, None, Result, Ok, Err, Contains}
+-- The outcome of each item: the first that applies of the cases of `HasOutcome` (own, after AOSP, "AIDL language",
+-- "Constants").
+use Rattle.std.specs.Prelude.{◌≡◌, ◌<◌, ℕ, ℤ, pos, negsuc, ◌+ℤ◌, Bool, true, false, List, length, Option, Some}
+use Rattle.std.specs.Prelude.{None, Result, Ok, Err, Contains}
 use Rattle.std.specs.List.{slice_get, slice_index_or}
 use Rattle.aidl_base.specs.Results.{◌>>=◌}
 use Rattle.aidl_base.specs.declared.constant.Const.{Const, out-Const}
@@ -42,7 +44,8 @@ of_level w (Const-F.Number z) = of_number w z
 of_level w (Const-F.Text x) = Ok (text x)
 of_level w (Const-F.Members cs) = Err Mismatch
 
--- a constant of byte or int has width 32, one of long 64; one of another type than those and char, boolean and String is no operand
+-- a constant of byte or int has width 32, one of long 64; one of another type than those and char, boolean and
+-- String is no operand
 abbrev pub operand_of : Wanted → Const → Result Operand ConstFault
 operand_of w c = of_level w (out-Const c)
 
@@ -111,18 +114,24 @@ outcome_at outcomes n = slice_index_or outcomes n Unjudged
 abbrev pub IsCyclic : List Source → ℕ → Type 0
 IsCyclic files n = Leads (next files) n n
 
--- The outcome of the item with a number. In this order: it is left unjudged for the form of its initializer; a name in it has no
--- meaning; it depends on itself; something on which it depends has no value; else what is written is judged by the values of all
--- on which it depends.
+-- The outcome of the item with a number. In this order: it is left unjudged for the form of its initializer; a name
+-- in it has no meaning; it depends on itself; something on which it depends has no value; else what is written is
+-- judged by the values of all on which it depends.
 pub data HasOutcome (files : List Source) : ℕ → Outcome → Type 0 where
   unformed : (n : ℕ) (x : Item) → slice_get (items files) n ≡ Some x → x.unjudged ≡ true → HasOutcome files n Unjudged
-  unknown : (n : ℕ) (x : Item) → slice_get (items files) n ≡ Some x → x.unjudged ≡ false → has_unknown_name files x ≡ true → HasOutcome files n (Fault UnknownName)
-  cyclic : (n : ℕ) (x : Item) → slice_get (items files) n ≡ Some x → x.unjudged ≡ false → has_unknown_name files x ≡ false → IsCyclic files n
+  unknown : (n : ℕ) (x : Item) → slice_get (items files) n ≡ Some x → x.unjudged ≡ false
+      → has_unknown_name files x ≡ true → HasOutcome files n (Fault UnknownName)
+  cyclic : (n : ℕ) (x : Item) → slice_get (items files) n ≡ Some x → x.unjudged ≡ false
+      → has_unknown_name files x ≡ false → IsCyclic files n
       → HasOutcome files n (Fault Cycle)
-  behind : (n : ℕ) (x : Item) → slice_get (items files) n ≡ Some x → x.unjudged ≡ false → has_unknown_name files x ≡ false → (IsCyclic files n → ⊥)
-      → (m : ℕ) (o : Outcome) → Contains (next files n) m → HasOutcome files m o → is_given o ≡ false → HasOutcome files n Unjudged
-  judged : (n : ℕ) (x : Item) → slice_get (items files) n ≡ Some x → x.unjudged ≡ false → has_unknown_name files x ≡ false → (IsCyclic files n → ⊥)
-      → (values : Values) → ((m : ℕ) → Contains (next files n) m → HasOutcome files m (Given (values m))) → HasOutcome files n (outcome_of (judgement_of files values x x.value))
+  behind : (n : ℕ) (x : Item) → slice_get (items files) n ≡ Some x → x.unjudged ≡ false
+      → has_unknown_name files x ≡ false → (IsCyclic files n → ⊥)
+      → (m : ℕ) (o : Outcome) → Contains (next files n) m → HasOutcome files m o → is_given o ≡ false
+      → HasOutcome files n Unjudged
+  judged : (n : ℕ) (x : Item) → slice_get (items files) n ≡ Some x → x.unjudged ≡ false
+      → has_unknown_name files x ≡ false → (IsCyclic files n → ⊥)
+      → (values : Values) → ((m : ℕ) → Contains (next files n) m → HasOutcome files m (Given (values m)))
+      → HasOutcome files n (outcome_of (judgement_of files values x x.value))
 
 -- an outcome for each item, in the order of their numbers
 pub record AreOutcomes (files : List Source) (outcomes : List Outcome) : Type 0 where

@@ -20,7 +20,7 @@ pub fn none_known(alloc: Global, count: usize) -> Result<Vec<Outcome>, OutOfMemo
     Ok(outcomes)
 }
 
-/// Whether each of some items has a value. It takes no memory.
+/// Whether each of some items has a value.
 pub fn are_given(outcomes: &[Outcome], numbers: &[u32]) -> bool
     ensures { result ≡ are_given outcomes.now numbers.now }
 {

@@ -49,7 +49,7 @@ impl<'a> Model for KnownValues<'a> {
 }
 
 impl<'a> KnownValues<'a> {
-    /// For the item with a number. It takes no memory.
+    /// For the item with a number.
     pub fn new(tree: &TreeItems<'a>, number: usize, outcomes: &'a [Outcome]) -> KnownValues<'a>
         requires all { HasItems tree.now }
         requires within { number < length tree.now.items.now.list.items }

@@ -10,8 +10,7 @@ ghost use Rattle.const_values.specs.declared.wanted.Wanted.TheVariants as wanted
 use aidl_base::Const;
 use const_values::{ConstFault, Operand, Wanted, Width, Words};
 
-/// What the value of a constant or enumerator is in an expression, by the value that was wanted of it. A text is borrowed. It
-/// takes no memory.
+/// What the value of a constant or enumerator is in an expression, by the value that was wanted of it. A text is borrowed.
 pub fn operand_of(wanted: Wanted, value: &Const) -> Result<Operand<'_>, ConstFault>
     requires { IsTrue (is_held wanted value.now) }
     ensures value { answer result ≡ meant.operand_of wanted value.now }

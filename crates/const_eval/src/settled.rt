@@ -33,14 +33,14 @@ impl<'a> Settled<'a> {
         Settled { items, outcomes }
     }
 
-    /// The items in the order of their numbers. It takes no memory.
+    /// The items in the order of their numbers.
     pub fn items(&self) -> &[ItemRef<'a>]
         ensures { result.now ≡ self.now.items.list.items }
     {
         self.items.list()
     }
 
-    /// The item with a place in a file, and None where there is none. It takes no memory.
+    /// The item with a place in a file, and None where there is none.
     pub fn init_at(&self, file: u32, offset: u32) -> Option<InitId>
         ensures exact { result ≡ option_map numbered
             (meant.number_at (map item_of self.now.items.list.items) file offset) }
@@ -52,7 +52,7 @@ impl<'a> Settled<'a> {
         }
     }
 
-    /// The outcome of an item. It takes no memory.
+    /// The outcome of an item.
     pub fn outcome(&self, init: InitId) -> &Outcome
         requires { init.0 < length self.now.items.list.items }
         ensures { result.now ≡ outcome_at self.now.outcomes.items init.0 }

@@ -1,6 +1,7 @@
 -- What an item depends on: the items that its names mean, and for an enumerator without an expression the one before it
 -- (own, after AOSP, "AIDL language", "Constants").
-use Rattle.std.specs.Prelude.{ℕ, zero, suc, Bool, true, false, if◌then◌else◌, List, [], ◌∷◌, ◌++◌, length, Option, Some, None, is_none}
+use Rattle.std.specs.Prelude.{ℕ, zero, suc, Bool, true, false, if◌then◌else◌, List, [], ◌∷◌, ◌++◌, length, Option}
+use Rattle.std.specs.Prelude.{Some, None, is_none}
 use Rattle.std.specs.List.{cons_option, filter_map, list_any, slice_get}
 use Rattle.aidl_base.specs.declared.name.Ident.{Ident}
 use Rattle.aidl_syntax.specs.declared.tree.DottedTree.{DottedTree}
@@ -33,7 +34,8 @@ target_if file number (Some m) = target_of file number m
 
 -- the constant or enumerator of that name in the declaration with that number
 abbrev pub member_at : List Entry → ℕ → Ident → Option Target
-member_at entries number name = elim (slice_get entries number) [ None ↦ None | Some e ↦ target_if e.file number (called e name) ]
+member_at entries number name =
+    elim (slice_get entries number) [ None ↦ None | Some e ↦ target_if e.file number (called e name) ]
 
 abbrev pub is_enumerator : Option Target → Bool
 is_enumerator (Some (of_enumerator file number x)) = true
@@ -45,7 +47,8 @@ only_enumerators t = if is_enumerator t then t else None
 abbrev pub only_constants : Option Target → Option Target
 only_constants t = if is_enumerator t then None else t
 
--- the constant of that name of the innermost declaration, from one on outwards, that has one; over at most so many levels
+-- the constant of that name of the innermost declaration, from one on outwards, that has one; over at most so many
+-- levels
 abbrev pub constant_around : List Entry → ℕ → Ident → Option ℕ → Option Target
 constant_around entries zero name scope = None
 constant_around entries (suc levels) name None = None
@@ -60,7 +63,8 @@ enumerator_beside entries x name = if x.enumerates then only_enumerators (member
 
 -- a name of one part: in an enumerator's expression an enumerator of the same enum, else a constant around
 abbrev pub target_of_part : List Entry → Item → Ident → Option Target
-target_of_part entries x name = or_else (enumerator_beside entries x name) (constant_around entries (length entries) name (Some x.scope))
+target_of_part entries x name =
+    or_else (enumerator_beside entries x name) (constant_around entries (length entries) name (Some x.scope))
 
 -- a constant or enumerator of a declared type
 abbrev pub member_of : List Entry → Ident → Option Resolved → Option Target

@@ -12,7 +12,15 @@ written_of part.First = first
 written_of (part.After place) = after place
 
 abbrev pub item_of : ItemRef → Item
-item_of x = record { file = x.file; scope = x.scope; place = x.place; enumerates = x.enumerates; wanted = x.wanted; unjudged = x.unjudged; value = written_of x.value }
+item_of x = record {
+  file = x.file;
+  scope = x.scope;
+  place = x.place;
+  enumerates = x.enumerates;
+  wanted = x.wanted;
+  unjudged = x.unjudged;
+  value = written_of x.value;
+}
 
 -- two places are the same: the file and the offset
 abbrev pub same_place : ℕ × ℕ → ℕ × ℕ → Bool

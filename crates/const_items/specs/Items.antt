@@ -24,8 +24,8 @@ pub data Written : Type 0 where
   first : Written
   after : ℕ → Written
 
--- An item: its file, the declaration that it stands in, its place, whether it is an enumerator, the value that is wanted of it,
--- whether it is left unjudged for the form of its initializer, and what is written.
+-- An item: its file, the declaration that it stands in, its place, whether it is an enumerator, the value that is
+-- wanted of it, whether it is left unjudged for the form of its initializer, and what is written.
 pub record Item : Type 0 where
   pub file : ℕ
   pub scope : ℕ
@@ -38,12 +38,21 @@ pub record Item : Type 0 where
 -- an expression of which a value is wanted
 abbrev pub of_expression : ℕ → ℕ → Wanted → Bool → Expr → Item
 of_expression file scope wanted unjudged e =
-    record { file = file; scope = scope; place = offset_of e; enumerates = false; wanted = wanted; unjudged = unjudged; value = written e }
+    record {
+      file = file;
+      scope = scope;
+      place = offset_of e;
+      enumerates = false;
+      wanted = wanted;
+      unjudged = unjudged;
+      value = written e;
+    }
 
 -- the items of an initializer: the expression, or each member of the brace list
 abbrev pub of_init : List Entry → ℕ → ℕ → Shape → Bool → Init → List Item
 of_init entries file scope t unjudged (single e) = of_expression file scope (wanted_one entries t) unjudged e ∷ []
-of_init entries file scope t unjudged (braces offset es) = map (of_expression file scope (wanted_element entries t) unjudged) es
+of_init entries file scope t unjudged (braces offset es) =
+    map (of_expression file scope (wanted_element entries t) unjudged) es
 
 -- of an initializer of a type, of a field that may be one after the first of a union
 abbrev pub of_typed : List Entry → ℕ → ℕ → Bool → Shape → Init → List Item
@@ -51,14 +60,16 @@ of_typed entries file scope later t init = of_init entries file scope t (is_unju
 
 abbrev pub of_initial : List Source → ℕ → ℕ → Bool → TypeTree → Option Init → List Item
 of_initial files file scope later ty None = []
-of_initial files file scope later ty (Some init) = of_typed (declarations files) file scope later (shape_in files file scope ty) init
+of_initial files file scope later ty (Some init) =
+    of_typed (declarations files) file scope later (shape_in files file scope ty) init
 
 -- of a field, which may be one after the first of a union
 abbrev pub of_field : List Source → ℕ → ℕ → Bool → Field → List Item
 of_field files file scope later f = of_initial files file scope later f.ty f.initial
 
 abbrev pub of_constant : List Source → ℕ → ℕ → Constant → Item
-of_constant files file scope c = of_expression file scope (wanted_one (declarations files) (shape_in files file scope c.ty)) false c.value
+of_constant files file scope c =
+    of_expression file scope (wanted_one (declarations files) (shape_in files file scope c.ty)) false c.value
 
 abbrev pub place_by : ℕ → Option Expr → ℕ
 place_by named None = named
@@ -79,19 +90,30 @@ written_as before (Some e) = written e
 
 abbrev pub of_enumerator : ℕ → ℕ → Wanted → Option ℕ → Enumerator → Item
 of_enumerator file scope backing before e =
-    record { file = file; scope = scope; place = place_of e; enumerates = true; wanted = backing; unjudged = false; value = written_as before e.value }
+    record {
+      file = file;
+      scope = scope;
+      place = place_of e;
+      enumerates = true;
+      wanted = backing;
+      unjudged = false;
+      value = written_as before e.value;
+    }
 
 -- enumerators, behind the one at a place or behind none
 abbrev pub of_enumerators : ℕ → ℕ → Wanted → Option ℕ → List Enumerator → List Item
 of_enumerators file scope backing before [] = []
-of_enumerators file scope backing before (e ∷ es) = of_enumerator file scope backing before e ∷ of_enumerators file scope backing (Some (place_of e)) es
+of_enumerators file scope backing before (e ∷ es) =
+    of_enumerator file scope backing before e ∷ of_enumerators file scope backing (Some (place_of e)) es
 
--- The items of the members of a declaration that is no enum; `later` says that a field of a union stands before them. Nested
--- declarations have a number of their own.
+-- The items of the members of a declaration that is no enum; `later` says that a field of a union stands before
+-- them. Nested declarations have a number of their own.
 abbrev pub of_members : List Source → ℕ → ℕ → Bool → Bool → List Member → List Item
 of_members files file scope in_union later [] = []
-of_members files file scope in_union later (field f ∷ ms) = of_field files file scope later f ++ of_members files file scope in_union (later || in_union) ms
-of_members files file scope in_union later (constant c ∷ ms) = of_constant files file scope c ∷ of_members files file scope in_union later ms
+of_members files file scope in_union later (field f ∷ ms) = of_field files file scope later f
+    ++ of_members files file scope in_union (later || in_union) ms
+of_members files file scope in_union later (constant c ∷ ms) =
+    of_constant files file scope c ∷ of_members files file scope in_union later ms
 of_members files file scope in_union later (method m ∷ ms) = of_members files file scope in_union later ms
 of_members files file scope in_union later (enumerator e ∷ ms) = of_members files file scope in_union later ms
 of_members files file scope in_union later (nested d ∷ ms) = of_members files file scope in_union later ms
@@ -114,7 +136,8 @@ declared files = in_each (of_entry files) 0 (declarations files)
 abbrev pub order : Item → Item → Ordering
 order x y = ordering_then (nat_cmp x.file y.file) (nat_cmp x.place y.place)
 
--- An item at its place among others; it would stand for another with that place. (Of tokens each begins at a place of its own.)
+-- An item at its place among others; it would stand for another with that place. (Of tokens each begins at a place
+-- of its own.)
 abbrev pub put : List Item → Item → List Item
 put [] x = x ∷ []
 put (y ∷ more) x = match_ordering (order x y) (x ∷ y ∷ more) (x ∷ more) (y ∷ put more x)

@@ -276,7 +276,7 @@ fn of_enumerator(
     }
 }
 
-/// Where an enumerator's expression begins, or else its name. It takes no memory.
+/// Where an enumerator's expression begins, or else its name.
 pub fn place_by(named: u32, value: &Option<ExprTree>) -> u32
     ensures { result ≡ meant.place_by named (map_option expr_of value.now) }
 {

@@ -31,14 +31,14 @@ pub fn number_items<'a>(alloc: Global, names: &Names<'a>) -> Result<Items<'a>, O
 }
 
 impl<'a> Items<'a> {
-    /// The items in the order of their numbers. It takes no memory.
+    /// The items in the order of their numbers.
     pub fn list(&self) -> &[ItemRef<'a>]
         ensures { result.now ≡ self.now.list.items }
     {
         self.list.as_slice()
     }
 
-    /// The number of the item with a place in a file. It takes no memory.
+    /// The number of the item with a place in a file.
     pub fn number_at(&self, file: u32, place: u32) -> Option<usize>
         ensures { result ≡ meant.number_at (map item_of self.now.list.items) file place }
     {

@@ -36,7 +36,7 @@ pub enum Target<'a> {
 
 /// What a name in the expression of an item means (AOSP, "AIDL language", "Constants"; the order: own): with one part, in an
 /// enumerator's expression an enumerator of the same enum, else a constant of the innermost declaration around that has one of
-/// that name; with more, a constant or an enumerator of what the parts before the last mean as a type. It takes no memory.
+/// that name; with more, a constant or an enumerator of what the parts before the last mean as a type.
 pub fn target_of<'a>(names: &Names<'a>, item: &ItemRef<'_>, name: &DottedTree) -> Option<Target<'a>>
     requires { IsScope (map source_of names.now) item.now.file item.now.scope }
     ensures { seen_targets result
@@ -172,7 +172,7 @@ fn target_of_member(file: u32, number: u32, member: MemberRef<'_>) -> Option<Tar
     }
 }
 
-/// The number among items of that which a name means, where it means something. It takes no memory.
+/// The number among items of that which a name means, where it means something.
 pub fn number_of(items: &Items<'_>, target: Option<Target<'_>>) -> Option<usize>
     ensures { result ≡ meant.number_among (map item_of items.now.list.items)
         (seen_targets target.entry) }

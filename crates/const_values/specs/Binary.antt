@@ -9,7 +9,8 @@ use Rattle.const_values.specs.Operands.{Operand}
 use Rattle.const_values.specs.Operands as operand
 use Rattle.const_values.specs.declared.operator.Arithmetic.TheVariants.{Add}
 use Rattle.const_values.specs.declared.operator.BinaryOperator.{BinaryOperator}
-use Rattle.const_values.specs.declared.operator.BinaryOperator.TheVariants.{Arithmetic, Bitwise, Shift, Order, Equality, Connective}
+use Rattle.const_values.specs.declared.operator.BinaryOperator.TheVariants.{Arithmetic, Bitwise, Shift, Order}
+use Rattle.const_values.specs.declared.operator.BinaryOperator.TheVariants.{Equality, Connective}
 use Rattle.const_values.specs.Arithmetic.{arithmetic_of}
 use Rattle.const_values.specs.Bitwise.{bitwise_of}
 use Rattle.const_values.specs.Comparisons.{order_of, equality_of, connective_of}

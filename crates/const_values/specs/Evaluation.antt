@@ -32,11 +32,12 @@ between (Some operator) a b = two.value_of operator a b
 abbrev pub then_right : Option BinaryOperator → Result Operand ConstFault → Operand → Result Operand ConstFault
 then_right operator right a = right >>= (λ b. between operator a b)
 
--- What an expression is: the left operand before the right one, and the operands before the operator, so both sides of `&&`
--- and `||`. The first fault in this order is that of the whole.
+-- What an expression is: the left operand before the right one, and the operands before the operator, so both sides
+-- of `&&` and `||`. The first fault in this order is that of the whole.
 abbrev pub evaluated : (DottedTree → Result Operand ConstFault) → Expr → Result Operand ConstFault
 evaluated meaning (literal offset token) = or_mismatch (literal_of token.kind)
 evaluated meaning (name offset dotted) = meaning dotted
 evaluated meaning (group offset a) = evaluated meaning a
 evaluated meaning (unary offset symbol a) = evaluated meaning a >>= before (unary_operator symbol)
-evaluated meaning (binary offset symbol a b) = evaluated meaning a >>= then_right (binary_operator symbol) (evaluated meaning b)
+evaluated meaning (binary offset symbol a b) =
+    evaluated meaning a >>= then_right (binary_operator symbol) (evaluated meaning b)

@@ -44,8 +44,8 @@ abbrev pub text_for : Wanted → List ℕ → Result Const ConstFault
 text_for wanted.Text text = Ok (value.Text text)
 text_for _ text = Err Mismatch
 
--- The value of the wanted type. `named` is the enum of whose enumerator the expression is the name, without parentheses,
--- where it is one.
+-- The value of the wanted type. `named` is the enum of whose enumerator the expression is the name, without
+-- parentheses, where it is one.
 abbrev pub fitted : Wanted → Option ℕ → Operand → Result Const ConstFault
 fitted w named (operand.truth b) = truth_for w b
 fitted w named (operand.number width z) = number_for w named z

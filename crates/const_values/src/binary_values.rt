@@ -45,7 +45,7 @@ pub fn binary<'a>(
     }
 }
 
-// Of two numbers. It takes no memory.
+// Of two numbers.
 fn of_numbers<'a>(
     operator: BinaryOperator,
     left: Width,
@@ -69,7 +69,7 @@ fn of_numbers<'a>(
     }
 }
 
-// Of two truth values. It takes no memory.
+// Of two truth values.
 fn of_truths<'a>(operator: BinaryOperator, a: bool, b: bool) -> Result<Operand<'a>, ConstFault>
     ensures value { answer result ≡ meant.of_truths operator a b }
     ensures within { IfOk result (λ value. IsWithin (seen value)) }

@@ -23,7 +23,7 @@ pub trait Meanings {
     /// the operand that a name means, or its fault
     ghost meaning: { Self → DottedTree → Result operand.Operand ConstFault };
 
-    /// The operand that a name means, or its fault, as `Mismatch` where it means a constant that is none. It takes no memory.
+    /// The operand that a name means, or its fault, as `Mismatch` where it means a constant that is none.
     fn meaning(&self, name: &DottedTree) -> Result<Operand<'_>, ConstFault>
         ensures value { answer result ≡ meaning self.now name.now }
         ensures within { IfOk result (λ value. IsWithin (seen value)) };

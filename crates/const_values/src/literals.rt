@@ -10,7 +10,7 @@ use crate::operand::{Operand, Words};
 use crate::width::Width;
 use aidl_syntax::{Reserved, TokenKind};
 
-/// What a token is as an operand, and None where it is no literal (own). A string is borrowed. It takes no memory.
+/// What a token is as an operand, and None where it is no literal (own). A string is borrowed.
 pub fn literal(token: &TokenKind) -> Option<Operand<'_>>
     ensures value { option_map seen result ≡ literal_of token.now }
     ensures within { IfSome result (λ value. IsWithin (seen value)) }

@@ -23,7 +23,7 @@ pub enum Words<'a> {
 }
 
 impl<'a> Words<'a> {
-    /// The text. It takes no memory.
+    /// The text.
     pub fn as_text(&self) -> &Text
         ensures { result.now ≡ words_of self.now }
     {

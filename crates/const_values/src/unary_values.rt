@@ -12,7 +12,7 @@ use crate::operand::Operand;
 use crate::operator::UnaryOperator;
 use crate::width::Width;
 
-/// What an operator makes of the operand after it (own). It takes no memory.
+/// What an operator makes of the operand after it (own).
 pub fn unary<'a>(operator: UnaryOperator, operand: &Operand<'_>) -> Result<Operand<'a>, ConstFault>
     requires { IsWithin (seen operand.now) }
     ensures value { answer result ≡ meant.value_of operator (seen operand.now) }

@@ -5,7 +5,7 @@ ghost use Rattle.std.specs.List.{list_all};
 ghost use Rattle.std.specs.Str.Parse.{digits_value};
 ghost use Rattle.decimal_words.specs.Decimals as decimal;
 
-/// The number that a word spells in decimal without a leading zero, where it lies between the two (own). It takes no memory.
+/// The number that a word spells in decimal without a leading zero, where it lies between the two (own).
 #[tactic(auto, unfolding(crate::specs::Decimals::number_within))]
 pub fn number_within(low: u32, high: u32, word: &[u8]) -> Option<u32>
     ensures { result ≡ decimal.number_within low high word.now }

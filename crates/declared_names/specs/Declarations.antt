@@ -1,4 +1,5 @@
--- The declarations of a tree of files in the order of their numbers: file by file, and in a file by the place of their names.
+-- The declarations of a tree of files in the order of their numbers: file by file, and in a file by the place of
+-- their names.
 use Rattle.std.specs.Prelude.{ℕ, ◌+◌, List, [], ◌∷◌, ◌++◌, length, Option, Some, None}
 use Rattle.aidl_base.specs.declared.name.Ident.{Ident}
 use Rattle.aidl_syntax.specs.Trees.{Decl, Body, Members}
@@ -9,7 +10,8 @@ use Rattle.aidl_syntax.specs.Members.{declared_name}
 use Rattle.declared_names.specs.Names.{parts_of}
 use Rattle.aidl_syntax.specs.Sources.{Source}
 
--- a declaration: its canonical name, the number of its file, the number of the declaration that encloses it, and its tree
+-- a declaration: its canonical name, the number of its file, the number of the declaration that encloses it, and
+-- its tree
 pub record Entry : Type 0 where
   pub name : List Ident
   pub file : ℕ
@@ -24,7 +26,8 @@ name_inside around d = around ++ (declared_name d).name ∷ []
 abbrev mutual
   pub with_decl : ℕ → Option ℕ → List Ident → Decl → List Entry → List Entry
   with_decl file outer name (decl offset annots n body) before =
-      with_body file (length before) name body (before ++ record { name = name; file = file; outer = outer; tree = decl offset annots n body } ∷ [])
+      with_body file (length before) name body (before
+      ++ record { name = name; file = file; outer = outer; tree = decl offset annots n body } ∷ [])
 
   -- those inside the body of the declaration with this number and this name
   pub with_body : ℕ → ℕ → List Ident → Body → List Entry → List Entry
@@ -38,11 +41,13 @@ abbrev mutual
   with_members file number name (field f ms) before = with_members file number name ms before
   with_members file number name (constant c ms) before = with_members file number name ms before
   with_members file number name (method m ms) before = with_members file number name ms before
-  with_members file number name (nested d ms) before = with_members file number name ms (with_decl file (Some number) (name_inside name d) d before)
+  with_members file number name (nested d ms) before =
+      with_members file number name ms (with_decl file (Some number) (name_inside name d) d before)
 
 -- the declarations of a file
 abbrev pub with_file : ℕ → Source → List Entry → List Entry
-with_file file s before = with_decl file None (name_inside (parts_of s.tree.«package») s.tree.declared) s.tree.declared before
+with_file file s before =
+    with_decl file None (name_inside (parts_of s.tree.«package») s.tree.declared) s.tree.declared before
 
 -- those of files that have the numbers from one on
 abbrev pub with_files : ℕ → List Source → List Entry → List Entry

@@ -9,4 +9,5 @@ in_each find number (x ∷ more) = find number x ++ in_each find (number + 1) mo
 -- the things, each behind those before it, that pass a test of both
 abbrev pub after_earlier : {A : Type 0} → (List A → A → Bool) → List A → List A → List A
 after_earlier test before [] = []
-after_earlier test before (x ∷ more) = (if test before x then x ∷ [] else []) ++ after_earlier test (before ++ x ∷ []) more
+after_earlier test before (x ∷ more) = (if test before x then x ∷ [] else [])
+    ++ after_earlier test (before ++ x ∷ []) more

@@ -48,7 +48,7 @@ impl<'a> Declarations<'a> {
         Ok(Declarations { found, table })
     }
 
-    /// The declarations in the order of their numbers. It takes no memory.
+    /// The declarations in the order of their numbers.
     pub fn as_slice(&self) -> &[Found<'a>]
         ensures same { result.now ≡ self.now }
         ensures count { length self.now ≤ 16384 }
@@ -56,7 +56,7 @@ impl<'a> Declarations<'a> {
         self.found.as_slice()
     }
 
-    /// The mark of the name of the declaration with a number. It takes no memory.
+    /// The mark of the name of the declaration with a number.
     pub fn mark(&self, number: usize) -> u64
         requires { number < length self.now }
         ensures { result ≡ get_or (map mark_of_entry (map entry_of self.now)) number 0 }
@@ -64,7 +64,7 @@ impl<'a> Declarations<'a> {
         self.table.mark(number)
     }
 
-    /// The number of the first declaration whose name has a mark. It takes no memory.
+    /// The number of the first declaration whose name has a mark.
     pub fn first(&self, mark: u64) -> Option<usize>
         ensures { result ≡ position_from (nat_eq mark) 0
             (map mark_of_entry (map entry_of self.now)) }
@@ -72,7 +72,7 @@ impl<'a> Declarations<'a> {
         self.table.first(mark)
     }
 
-    /// The next one whose name has the mark that the name of the declaration with a number has. It takes no memory.
+    /// The next one whose name has the mark that the name of the declaration with a number has.
     pub fn next(&self, number: usize) -> Option<usize>
         requires { number < length self.now }
         ensures { result ≡ position_from

@@ -36,14 +36,14 @@ impl Model for Ends {
 }
 
 impl Ends {
-    /// The table of their marks. It takes no memory.
+    /// The table of their marks.
     pub fn table(&self) -> &Table
         ensures { result.now ≡ map (λ e. e.mark) self.now }
     {
         &self.table
     }
 
-    /// The ends. It takes no memory.
+    /// The ends.
     pub fn listed(&self) -> &[End]
         ensures { result.now ≡ self.now }
     {
@@ -75,7 +75,7 @@ fn add_ends(owner: usize, name: &[Ident], listed: &mut Vec<End>) -> Result<(), O
     Ok(())
 }
 
-/// The mark of a name from its back. It takes no memory.
+/// The mark of a name from its back.
 pub fn mark_back(name: &[Ident]) -> u64
     ensures { result ≡ mark_back name.now }
 {

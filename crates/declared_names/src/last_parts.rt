@@ -8,7 +8,7 @@ use crate::sameness::same_part;
 use aidl_base::Ident;
 use aidl_syntax::DottedTree;
 
-/// Whether the last part of a name is this one. It takes no memory.
+/// Whether the last part of a name is this one.
 pub fn ends_in(name: &[Ident], part: &Ident) -> bool
     ensures { result ≡ same (last name.now) (part.now ∷ []) }
 {
@@ -18,7 +18,7 @@ pub fn ends_in(name: &[Ident], part: &Ident) -> bool
     }
 }
 
-/// The last part of a name, alone. It takes no memory.
+/// The last part of a name, alone.
 pub fn last(name: &[Ident]) -> &[Ident]
     ensures { result.now ≡ last name.now }
 {
@@ -29,7 +29,7 @@ pub fn last(name: &[Ident]) -> &[Ident]
     end
 }
 
-/// The mark of the last part of an import. It takes no memory.
+/// The mark of the last part of an import.
 pub fn last_mark(import: &DottedTree) -> u64
     ensures { result ≡ mark_of_last import.now }
 {

@@ -15,7 +15,7 @@ fn with_byte(mark: u64, byte: u8) -> u64
     (mark % 36_028_797_018_963_913 * 257 + u64::from(byte)) % 36_028_797_018_963_913
 }
 
-/// The mark of a name with one more part, from that of the name. It takes no memory.
+/// The mark of a name with one more part, from that of the name.
 pub fn with_part(mark: u64, part: &Ident) -> u64
     ensures { result ≡ with_part mark part.now }
 {
@@ -26,7 +26,7 @@ pub fn with_part(mark: u64, part: &Ident) -> u64
     with_byte(all, b'.')
 }
 
-/// The mark of a name with more parts behind it, from that of the name. It takes no memory.
+/// The mark of a name with more parts behind it, from that of the name.
 pub fn with_parts(mark: u64, parts: &[Ident]) -> u64
     ensures { result ≡ fold with_part mark parts.now }
 {

@@ -77,7 +77,7 @@ fn counted<'a>(
     Ok(all)
 }
 
-/// The name of a member. It takes no memory.
+/// The name of a member.
 pub fn name_of(member: MemberRef<'_>) -> &NameTree
     ensures { result.now ≡ member_name (seen_member member.entry) }
 {

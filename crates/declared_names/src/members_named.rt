@@ -60,7 +60,7 @@ fn by_name<'a>(
     Ok(table)
 }
 
-/// What a table has for a name. It takes no memory.
+/// What a table has for a name.
 pub fn called<'a>(table: &IndexMap<&str, MemberRef<'a>>, name: &Ident) -> Option<MemberRef<'a>>
     ensures { map_option seen_member result ≡ seen_table table.now name.now }
 {

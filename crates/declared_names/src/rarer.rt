@@ -5,7 +5,7 @@ ghost use Rattle.declared_names.specs.Times.{is_rarer};
 use crate::table::Table;
 
 /// Whether a mark stands at fewer places of a table than another one at those of another. Both are gone through only as
-/// far as the shorter one goes. It takes no memory.
+/// far as the shorter one goes.
 pub fn is_rarer(marks: &Table, mark: u64, others: &Table, other: u64) -> bool
     ensures { result ≡ is_rarer mark marks.now other others.now }
 {

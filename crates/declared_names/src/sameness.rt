@@ -5,14 +5,14 @@ ghost use Rattle.declared_names.specs.Names.{text, same};
 
 use aidl_base::Ident;
 
-/// Whether two parts are the same. It takes no memory.
+/// Whether two parts are the same.
 pub fn same_part(a: &Ident, b: &Ident) -> bool
     ensures { result ≡ bytes_eq (text a.now) (text b.now) }
 {
     a.0.as_str() == b.0.as_str()
 }
 
-/// Whether two names are the same part by part. It takes no memory.
+/// Whether two names are the same part by part.
 pub fn same(a: &[Ident], b: &[Ident]) -> bool
     ensures { result ≡ same a.now b.now }
 {
@@ -34,7 +34,7 @@ fn same_parts(a: &[Ident], b: &[Ident]) -> bool
     true
 }
 
-/// Whether a name is another one with more parts behind it. It takes no memory.
+/// Whether a name is another one with more parts behind it.
 pub fn is_joined(name: &[Ident], front: &[Ident], back: &[Ident]) -> bool
     ensures { result ≡ same name.now (front.now ++ back.now) }
 {

@@ -61,7 +61,7 @@ impl Table {
         })
     }
 
-    /// The mark at a place. It takes no memory.
+    /// The mark at a place.
     pub fn mark(&self, place: usize) -> u64
         requires { place < length self.now }
         ensures { result ≡ get_or self.now place 0 }
@@ -69,14 +69,14 @@ impl Table {
         self.marks[place]
     }
 
-    /// The first place of a mark. It takes no memory.
+    /// The first place of a mark.
     pub fn first(&self, mark: u64) -> Option<usize>
         ensures { result ≡ position_from (nat_eq mark) 0 self.now }
     {
         self.heads.get(&mark).copied()
     }
 
-    /// The next place with the mark that a place has. It takes no memory.
+    /// The next place with the mark that a place has.
     pub fn next(&self, place: usize) -> Option<usize>
         requires { place < length self.now }
         ensures { result ≡ position_from (nat_eq (get_or self.now place 0))

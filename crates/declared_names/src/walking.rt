@@ -45,7 +45,7 @@ fn add_file<'a>(
     add_decl(alloc, number, None, name.as_slice(), tree, found)
 }
 
-/// The parts of a file's package, of which there are none where it has no package. It takes no memory.
+/// The parts of a file's package, of which there are none where it has no package.
 pub fn package(file: &FileTree) -> &[Ident]
     ensures { result.now ≡ parts_of file.now.package }
 {

@@ -4,7 +4,8 @@ use Rattle.aidl_syntax.specs.declared.token.Token.{Token}
 use Rattle.aidl_syntax.specs.declared.tree.NameTree.{NameTree}
 use Rattle.aidl_syntax.specs.declared.tree.DottedTree.{DottedTree}
 use Rattle.aidl_syntax.specs.declared.tree.TypeTree.{TypeTree}
-use Rattle.aidl_syntax.specs.Trees.{Expr, Init, Param, Annot, Field, Constant, Enumerator, Arg, Method, Decl, Body, Members, File, map_option}
+use Rattle.aidl_syntax.specs.Trees.{Expr, Init, Param, Annot, Field, Constant, Enumerator, Arg, Method, Decl, Body}
+use Rattle.aidl_syntax.specs.Trees.{Members, File, map_option}
 use Rattle.aidl_syntax.specs.Trees.Expr.{literal, group, unary, binary, name}
 use Rattle.aidl_syntax.specs.Trees.Init.{single, braces}
 use Rattle.aidl_syntax.specs.Trees.Decl.{decl}
@@ -21,7 +22,8 @@ abbrev pub bare_dotted : DottedTree → DottedTree
 bare_dotted d = record { offset = 0; name = d.name }
 
 abbrev pub bare_type : TypeTree → TypeTree
-bare_type t = record { offset = 0; name = bare_dotted t.name; element = map_option bare_dotted t.element; array = t.array }
+bare_type t =
+    record { offset = 0; name = bare_dotted t.name; element = map_option bare_dotted t.element; array = t.array }
 
 abbrev pub bare_expr : Expr → Expr
 bare_expr (literal o t) = literal 0 (bare_token t)
@@ -44,19 +46,41 @@ abbrev pub bare_annots : List Annot → List Annot
 bare_annots annots = map bare_annot annots
 
 abbrev pub bare_field : Field → Field
-bare_field f = record { offset = 0; annots = bare_annots f.annots; ty = bare_type f.ty; name = bare_name f.name; initial = map_option bare_init f.initial }
+bare_field f = record {
+  offset = 0;
+  annots = bare_annots f.annots;
+  ty = bare_type f.ty;
+  name = bare_name f.name;
+  initial = map_option bare_init f.initial;
+}
 
 abbrev pub bare_constant : Constant → Constant
-bare_constant c = record { offset = 0; annots = bare_annots c.annots; ty = bare_type c.ty; name = bare_name c.name; value = bare_expr c.value }
+bare_constant c = record {
+  offset = 0;
+  annots = bare_annots c.annots;
+  ty = bare_type c.ty;
+  name = bare_name c.name;
+  value = bare_expr c.value;
+}
 
 abbrev pub bare_enumerator : Enumerator → Enumerator
 bare_enumerator e = record { offset = 0; name = bare_name e.name; value = map_option bare_expr e.value }
 
 abbrev pub bare_arg : Arg → Arg
-bare_arg a = record { offset = 0; annots = bare_annots a.annots; way = a.way; ty = bare_type a.ty; name = bare_name a.name }
+bare_arg a =
+    record { offset = 0; annots = bare_annots a.annots; way = a.way; ty = bare_type a.ty; name = bare_name a.name }
 
 abbrev pub bare_method : Method → Method
-bare_method m = record { offset = 0; annots = bare_annots m.annots; oneway = m.oneway; returned = map_option bare_type m.returned; name = bare_name m.name; args = map bare_arg m.args; id = map_option bare_token m.id }
+bare_method m = record {
+  offset = 0;
+  annots = bare_annots m.annots;
+  oneway = m.oneway;
+  returned = map_option
+      bare_type m.returned;
+  name = bare_name m.name;
+  args = map bare_arg m.args;
+  id = map_option bare_token m.id;
+}
 
 abbrev mutual
   pub bare_decl : Decl → Decl
@@ -76,4 +100,9 @@ abbrev mutual
   bare_members (nested d ms) = nested (bare_decl d) (bare_members ms)
 
 abbrev pub bare_file : File → File
-bare_file f = record { offset = 0; «package» = map_option bare_dotted f.«package»; imports = map bare_dotted f.imports; declared = bare_decl f.declared }
+bare_file f = record {
+  offset = 0;
+  «package» = map_option bare_dotted f.«package»;
+  imports = map bare_dotted f.imports;
+  declared = bare_decl f.declared;
+}

@@ -1,5 +1,5 @@
--- When the declarations of trees are those of a schema, each once (own). Their numbers are others: trees go file by file, and
--- in a file by nesting.
+-- When the declarations of trees are those of a schema, each once (own). Their numbers are others: trees go file by
+-- file, and in a file by nesting.
 use Rattle.std.specs.Prelude.{◌≡◌, ℕ, List, length, Option, Some, None, slice_get}
 use Rattle.aidl_base.specs.declared.name.Ident.{Ident}
 use Rattle.aidl_syntax.specs.Trees.{map_option}
@@ -15,8 +15,8 @@ abbrev pub name_at : {X : Type 0} → (X → List Ident) → List X → Option �
 name_at name xs None = None
 name_at name xs (Some number) = map_option name (slice_get xs number)
 
--- A declaration of trees is the declaration of a schema with the number n: it has its name, stands inside the same one, and is
--- written, offsets aside, as that is.
+-- A declaration of trees is the declaration of a schema with the number n: it has its name, stands inside the same
+-- one, and is written, offsets aside, as that is.
 pub record IsDeclaration (S : List Decl) (files : List Source) (n : ℕ) (e : Entry) : Type 0 where
   pub declared : Decl
   pub at : slice_get S n ≡ Some declared
@@ -28,5 +28,6 @@ pub record IsDeclaration (S : List Decl) (files : List Source) (n : ℕ) (e : En
 pub record AreDeclared (S : List Decl) (files : List Source) : Type 0 where
   pub count : length (declarations files) ≡ length S
   pub each : (j : ℕ) (e : Entry) → slice_get (declarations files) j ≡ Some e → (n : ℕ) × IsDeclaration S files n e
-  pub whole : (n : ℕ) (d : Decl) → slice_get S n ≡ Some d → (j : ℕ) × (e : Entry) × (slice_get (declarations files) j ≡ Some e) × IsDeclaration S files n e
+  pub whole : (n : ℕ) (d : Decl) → slice_get S n ≡ Some d
+      → (j : ℕ) × (e : Entry) × (slice_get (declarations files) j ≡ Some e) × IsDeclaration S files n e
   pub apart : AreApart (λ e. e.name) (declarations files)

@@ -1,5 +1,6 @@
 -- What the files of a dump stand for: the tree of each declaration of a schema, its offsets 0 (own).
-use Rattle.std.specs.Prelude.{ℕ, zero, suc, ℤ, pos, negsuc, Bool, true, false, if◌then◌else◌, List, [], ◌∷◌, ◌++◌, length, map, Option, Some, None, codes, slice_get}
+use Rattle.std.specs.Prelude.{ℕ, zero, suc, ℤ, pos, negsuc, Bool, true, false, if◌then◌else◌, List, [], ◌∷◌, ◌++◌}
+use Rattle.std.specs.Prelude.{length, map, Option, Some, None, codes, slice_get}
 use Rattle.std.specs.List.{find}
 use Rattle.std.specs.Ordering.{int_eq}
 use Rattle.aidl_base.specs.declared.name.Ident.{Ident}
@@ -55,7 +56,12 @@ dotted_tree is = record { offset = 0; name = record { 0 = is } }
 abbrev pub type_tree : Shape → List Ident → TypeTree
 type_tree shape.One is = record { offset = 0; name = dotted_tree is; element = None; array = false }
 type_tree shape.Array is = record { offset = 0; name = dotted_tree is; element = None; array = true }
-type_tree shape.List is = record { offset = 0; name = dotted_tree (ident (codes "List") ∷ []); element = Some (dotted_tree is); array = false }
+type_tree shape.List is = record {
+  offset = 0;
+  name = dotted_tree (ident (codes "List") ∷ []);
+  element = Some (dotted_tree is);
+  array = false;
+}
 
 -- Values.
 
@@ -67,7 +73,8 @@ decimal_tree long (pos n) = token_tree (kind.Number n false long)
 decimal_tree long (negsuc n) = unary 0 mark.Minus (token_tree (kind.Number (suc n) false long))
 
 abbrev pub long_tree : ℤ → tree.Expr
-long_tree n = if int_eq n (negsuc 9223372036854775807) then token_tree (kind.Number 9223372036854775808 true false) else decimal_tree true n
+long_tree n = if int_eq n (negsuc 9223372036854775807) then token_tree (kind.Number 9223372036854775808 true false)
+    else decimal_tree true n
 
 abbrev pub backing_tree : Backing → ℤ → tree.Expr
 backing_tree backing.Byte n = decimal_tree false n
@@ -103,7 +110,8 @@ brace_trees S b (Const-F.Members cs) = map (λ c. value_tree S b c) cs
 brace_trees S b _ = []
 
 abbrev pub initial_tree : List Decl → AidlType → Const → tree.Init
-initial_tree S t c = if is_one t.shape then single (value_tree S t.base c) else braces 0 (brace_trees S t.base (out-Const c))
+initial_tree S t c = if is_one t.shape then single (value_tree S t.base c)
+    else braces 0 (brace_trees S t.base (out-Const c))
 
 -- Annotations.
 
@@ -116,7 +124,15 @@ flag_trees text true = plain_tree text ∷ []
 
 -- `@nullable(heap=true)`
 abbrev pub heap_tree : tree.Annot
-heap_tree = record { offset = 0; name = name_tree (ident (codes "nullable")); params = record { offset = 0; name = Some (name_tree (ident (codes "heap"))); value = single (token_tree (kind.Word word.True)) } ∷ [] }
+heap_tree = record {
+  offset = 0;
+  name = name_tree (ident (codes "nullable"));
+  params = record {
+    offset = 0;
+    name = Some (name_tree (ident (codes "heap")));
+    value = single (token_tree (kind.Word word.True));
+  } ∷ [];
+}
 
 abbrev pub nullable_trees : Bool → Bool → List tree.Annot
 nullable_trees false heap = []
@@ -128,22 +144,43 @@ mark_trees t = nullable_trees t.nullable t.heap ++ flag_trees (codes "utf8InCpp"
 
 -- `@Backing(type="B")`
 abbrev pub backed_tree : Backing → tree.Annot
-backed_tree b = record { offset = 0; name = name_tree (ident (codes "Backing")); params = record { offset = 0; name = Some (name_tree (ident (codes "type"))); value = single (token_tree (kind.Str (backing_text b))) } ∷ [] }
+backed_tree b = record {
+  offset = 0;
+  name = name_tree (ident (codes "Backing"));
+  params = record {
+    offset = 0;
+    name = Some (name_tree (ident (codes "type")));
+    value = single (token_tree (kind.Str (backing_text b)));
+  } ∷ [];
+}
 
 abbrev pub backing_trees : Kind → List tree.Annot
 backing_trees (Enum b es) = backed_tree b ∷ []
 backing_trees _ = []
 
 abbrev pub annotation_trees : Decl → List tree.Annot
-annotation_trees d = backing_trees d.kind ++ (flag_trees (codes "FixedSize") d.fixed ++ flag_trees (codes "VintfStability") d.vintf)
+annotation_trees d = backing_trees d.kind
+    ++ (flag_trees (codes "FixedSize") d.fixed ++ flag_trees (codes "VintfStability") d.vintf)
 
 -- Members.
 
 abbrev pub field_tree : List Decl → Field → tree.Field
-field_tree S f = record { offset = 0; annots = mark_trees f.ty; ty = type_tree f.ty.shape (base_name S f.ty.base); name = name_tree f.name; initial = map_option (λ c. initial_tree S f.ty c) f.initial }
+field_tree S f = record {
+  offset = 0;
+  annots = mark_trees f.ty;
+  ty = type_tree f.ty.shape (base_name S f.ty.base);
+  name = name_tree f.name;
+  initial = map_option (λ c. initial_tree S f.ty c) f.initial;
+}
 
 abbrev pub constant_tree : List Decl → Constant → tree.Constant
-constant_tree S c = record { offset = 0; annots = []; ty = type_tree shape.One (base_name S c.ty); name = name_tree c.name; value = value_tree S c.ty c.value }
+constant_tree S c = record {
+  offset = 0;
+  annots = [];
+  ty = type_tree shape.One (base_name S c.ty);
+  name = name_tree c.name;
+  value = value_tree S c.ty c.value;
+}
 
 abbrev pub enumerator_tree : Backing → Enumerator → tree.Enumerator
 enumerator_tree b e = record { offset = 0; name = name_tree e.name; value = Some (backing_tree b e.value) }
@@ -154,7 +191,13 @@ way_tree direction.Out = ways.Out
 way_tree direction.InOut = ways.InOut
 
 abbrev pub arg_tree : List Decl → Arg → tree.Arg
-arg_tree S a = record { offset = 0; annots = mark_trees a.ty; way = Some (way_tree a.way); ty = type_tree a.ty.shape (base_name S a.ty.base); name = name_tree a.name }
+arg_tree S a = record {
+  offset = 0;
+  annots = mark_trees a.ty;
+  way = Some (way_tree a.way);
+  ty = type_tree a.ty.shape (base_name S a.ty.base);
+  name = name_tree a.name;
+}
 
 abbrev pub returned_annots : Option AidlType → List tree.Annot
 returned_annots None = []
@@ -165,7 +208,15 @@ returned_tree S None = None
 returned_tree S (Some t) = Some (type_tree t.shape (base_name S t.base))
 
 abbrev pub method_tree : List Decl → Method → tree.Method
-method_tree S m = record { offset = 0; annots = returned_annots m.result; oneway = m.oneway; returned = returned_tree S m.result; name = name_tree m.name; args = map (λ a. arg_tree S a) m.args; id = Some (record { kind = kind.Number m.id false false; offset = 0 }) }
+method_tree S m = record {
+  offset = 0;
+  annots = returned_annots m.result;
+  oneway = m.oneway;
+  returned = returned_tree S m.result;
+  name = name_tree m.name;
+  args = map (λ a. arg_tree S a) m.args;
+  id = Some (record { kind = kind.Number m.id false false; offset = 0 });
+}
 
 -- Declarations.
 
@@ -186,7 +237,8 @@ body_tree S (Enum b es) ms = enum (map (λ e. enumerator_tree b e) es)
 
 -- a declaration, with the declarations that stand last in it
 abbrev pub decl_tree : List Decl → Decl → tree.Members → tree.Decl
-decl_tree S d last = decl 0 (annotation_trees d) (name_tree (ident (last_part d.name.0))) (body_tree S d.kind (constants_before S d last))
+decl_tree S d last = decl 0 (annotation_trees d) (name_tree (ident (last_part d.name.0)))
+    (body_tree S d.kind (constants_before S d last))
 
 abbrev pub decl_before : List Decl → Option Decl → tree.Members → tree.Members → tree.Members
 decl_before S None last ms = ms
@@ -195,7 +247,8 @@ decl_before S (Some d) last ms = nested (decl_tree S d last) ms
 -- the declarations inside one, with so many levels of further ones in them
 abbrev pub nested_trees : List Decl → ℕ → ℕ → tree.Members
 nested_trees S zero n = none
-nested_trees S (suc levels) n = each_before (λ m ms. decl_before S (slice_get S m) (nested_trees S levels m) ms) (inside S n) none
+nested_trees S (suc levels) n =
+    each_before (λ m ms. decl_before S (slice_get S m) (nested_trees S levels m) ms) (inside S n) none
 
 abbrev pub package_tree : List Ident → Option DottedTree
 package_tree [] = None
@@ -203,4 +256,9 @@ package_tree (i ∷ is) = Some (dotted_tree (i ∷ is))
 
 -- the file of a top-level declaration
 abbrev pub file_tree : List Decl → ℕ × Decl → tree.File
-file_tree S x = record { offset = 0; «package» = package_tree (without_last x.1.name.0); imports = []; declared = decl_tree S x.1 (nested_trees S (length S) x.0) }
+file_tree S x = record {
+  offset = 0;
+  «package» = package_tree (without_last x.1.name.0);
+  imports = [];
+  declared = decl_tree S x.1 (nested_trees S (length S) x.0);
+}

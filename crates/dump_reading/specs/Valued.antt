@@ -18,6 +18,9 @@ kind_at files outcomes number e = kind_of files outcomes e.file number (backing_
 
 -- of constants, of initializers of fields, and of enumerators
 pub record HasValues (files : List Source) (outcomes : Outcomes) (number : ℕ) (e : Entry) (d : Decl) : Type 0 where
-  pub constants : map (λ c. c.value) (constants_in files outcomes e.file number (members (body e.tree))) ≡ map (λ c. c.value) d.constants
-  pub initials : map (λ f. f.initial) (fields_of (kind_at files outcomes number e)) ≡ map (λ f. f.initial) (fields_of d.kind)
-  pub enumerators : map (λ x. x.value) (enumerators_of (kind_at files outcomes number e)) ≡ map (λ x. x.value) (enumerators_of d.kind)
+  pub constants : map (λ c. c.value) (constants_in files outcomes e.file number (members (body e.tree)))
+      ≡ map (λ c. c.value) d.constants
+  pub initials : map (λ f. f.initial) (fields_of (kind_at files outcomes number e))
+      ≡ map (λ f. f.initial) (fields_of d.kind)
+  pub enumerators : map (λ x. x.value) (enumerators_of (kind_at files outcomes number e))
+      ≡ map (λ x. x.value) (enumerators_of d.kind)

@@ -26,7 +26,7 @@ pub struct FolderStore<'a, R: Files> {
 
 impl<'a, R: Files> FolderStore<'a, R> {
     /// The files that the runtime reaches, with no fault counted. What the names name may be a link, and so may each folder on
-    /// the way to it; below them a listing leaves links out, and a write follows none. It takes no memory.
+    /// the way to it; below them a listing leaves links out, and a write follows none.
     pub fn new(runtime: &'a R, names: &'a [String]) -> FolderStore<'a, R>
         ensures { result.faults ≡ 0 }
     {

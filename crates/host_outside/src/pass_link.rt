@@ -17,7 +17,7 @@ pub struct PassLink {
 }
 
 impl PassLink {
-    /// The link, with no fault counted. It takes no memory.
+    /// The link, with no fault counted.
     pub fn new() -> PassLink
         ensures { result.faults ≡ 0 }
     {

@@ -13,7 +13,7 @@ pub struct StdoutSink<'a, R: Print> {
 }
 
 impl<'a, R: Print> StdoutSink<'a, R> {
-    /// The standard output of the runtime, with no fault counted. It takes no memory.
+    /// The standard output of the runtime, with no fault counted.
     pub fn new(runtime: &'a R) -> StdoutSink<'a, R>
         ensures { result.faults ≡ 0 }
     {

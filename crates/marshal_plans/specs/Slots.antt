@@ -16,7 +16,8 @@ pub record Slot : Type 0 where
 -- the arguments of method m of interface n, from position k on
 abbrev pub argument_slots : ℕ → ℕ → ℕ → List Arg → List Slot
 argument_slots n m k [] = []
-argument_slots n m k (a ∷ rest) = record { interface = n; method = m; place = Some k; ty = a.ty } ∷ argument_slots n m (suc k) rest
+argument_slots n m k (a ∷ rest) =
+    record { interface = n; method = m; place = Some k; ty = a.ty } ∷ argument_slots n m (suc k) rest
 
 -- a result that isn't void
 abbrev pub result_slots : ℕ → ℕ → Option AidlType → List Slot

@@ -1,6 +1,7 @@
--- When plans stand for a schema and extra types (own). S is the schema's declarations, `types` has one type for each item of the
--- plans, and an id stands for the type at its number.
-use Rattle.std.specs.Prelude.{◌≡◌, ℕ, true, List, [], ◌∷◌, length, take, drop, Option, Some, None, slice_get, MatchBool, Bool}
+-- When plans stand for a schema and extra types (own). S is the schema's declarations, `types` has one type for
+-- each item of the plans, and an id stands for the type at its number.
+use Rattle.std.specs.Prelude.{◌≡◌, ℕ, true, List, [], ◌∷◌, length, take, drop, Option, Some, None, slice_get}
+use Rattle.std.specs.Prelude.{MatchBool, Bool}
 use Rattle.aidl_schema.specs.declared.schema.AidlType.{AidlType}
 use Rattle.aidl_schema.specs.declared.schema.Decl.{Decl}
 use Rattle.aidl_schema.specs.declared.schema.Field.{Field}
@@ -39,8 +40,8 @@ entries_of entries first count = take count (drop first entries)
 abbrev pub AreEntriesOf : List AidlType → List PlanField → ℕ → List Field → Type 0
 AreEntriesOf types entries first fs = OneForOne (λ f g. IsEntryOf types f g) fs (entries_of entries first (length fs))
 
--- The item of a type of shape one, by what its base means: a word, a long, a text, a record of the fields, or an alternative of
--- them.
+-- The item of a type of shape one, by what its base means: a word, a long, a text, a record of the fields, or an
+-- alternative of them.
 abbrev pub IsOneItem : List AidlType → List PlanField → Bool → Form → PlanItem → Type 0
 IsOneItem types entries nullable form.truth i = i ≡ Word Truth
 IsOneItem types entries nullable form.byte i = i ≡ Word Byte
@@ -48,17 +49,21 @@ IsOneItem types entries nullable form.char i = i ≡ Word Char
 IsOneItem types entries nullable form.int i = i ≡ Word Int
 IsOneItem types entries nullable form.long i = i ≡ Long
 IsOneItem types entries nullable form.text i = i ≡ Text nullable
-IsOneItem types entries nullable (form.parcelable fs) i = (first : ℕ) × (i ≡ Rec nullable first (length fs)) × AreEntriesOf types entries first fs
-IsOneItem types entries nullable (form.union fs) i = (first : ℕ) × (i ≡ Alt nullable first (length fs)) × AreEntriesOf types entries first fs
+IsOneItem types entries nullable (form.parcelable fs) i = (first : ℕ) × (i ≡ Rec nullable first (length fs))
+    × AreEntriesOf types entries first fs
+IsOneItem types entries nullable (form.union fs) i = (first : ℕ) × (i ≡ Alt nullable first (length fs))
+    × AreEntriesOf types entries first fs
 IsOneItem types entries nullable form.nothing i = ⊥
 
 -- The item of any other type: raw bytes, or a sequence whose element stands for the type of an element.
 abbrev pub IsManyItem : List Decl → List AidlType → AidlType → PlanItem → Type 0
-IsManyItem S types t i = MatchBool (is_raw S t) (i ≡ Raw t.nullable) ((e : PlanId) × (i ≡ Seq t.nullable e) × StandsFor types e (elem S t))
+IsManyItem S types t i = MatchBool (is_raw S t) (i ≡ Raw t.nullable) ((e : PlanId) × (i ≡ Seq t.nullable e)
+    × StandsFor types e (elem S t))
 
 -- The item is that of the type.
 abbrev pub IsItemOf : List Decl → List AidlType → List PlanField → AidlType → PlanItem → Type 0
-IsItemOf S types entries t i = MatchBool (is_one t.shape) (IsOneItem types entries t.nullable (form_of S t.base) i) (IsManyItem S types t i)
+IsItemOf S types entries t i =
+    MatchBool (is_one t.shape) (IsOneItem types entries t.nullable (form_of S t.base) i) (IsManyItem S types t i)
 
 -- where the entries of an item begin
 abbrev pub first_of : PlanItem → Option ℕ
@@ -68,7 +73,8 @@ first_of _ = None
 
 -- The start is that of an argument or a result: of the same place, and its item stands for the type.
 abbrev pub IsStartOf : List AidlType → Slot → PlanStart → Type 0
-IsStartOf types s start = (start.interface ≡ s.interface) × (start.method ≡ s.method) × (start.place ≡ s.place) × StandsFor types start.item s.ty
+IsStartOf types s start = (start.interface ≡ s.interface) × (start.method ≡ s.method) × (start.place ≡ s.place)
+    × StandsFor types start.item s.ty
 
 -- Each type at an item is one of the schema.
 abbrev pub AreTypesOf : List Decl → List AidlType → Type 0
@@ -76,8 +82,10 @@ AreTypesOf S types = (k : ℕ) (t : AidlType) → slice_get types k ≡ Some t �
 
 -- Two items of one declaration have the same first entry.
 abbrev pub ShareEntries : List AidlType → List PlanItem → Type 0
-ShareEntries types items = (j k : ℕ) (t u : AidlType) (h i : PlanItem) → slice_get types j ≡ Some t → slice_get types k ≡ Some u
-    → slice_get items j ≡ Some h → slice_get items k ≡ Some i → t.shape ≡ u.shape → t.base ≡ u.base → first_of h ≡ first_of i
+ShareEntries types items = (j k : ℕ) (t u : AidlType) (h i : PlanItem) → slice_get types j ≡ Some t
+    → slice_get types k ≡ Some u
+    → slice_get items j ≡ Some h → slice_get items k ≡ Some i → t.shape ≡ u.shape → t.base ≡ u.base
+    → first_of h ≡ first_of i
 
 -- Plans stand for a schema and extra types, where the items have these types.
 pub record StandFor (S : List Decl) (extra types : List AidlType) (plans : Plans) : Type 0 where

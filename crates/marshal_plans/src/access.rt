@@ -5,14 +5,14 @@ ghost use Rattle.marshal_plans.specs.Standing.{entries_of};
 use crate::plans::{PlanField, PlanId, PlanItem, Plans};
 
 impl Plans {
-    /// The item of an id, None of a number of no item. It takes no memory.
+    /// The item of an id, None of a number of no item.
     pub fn item(&self, id: PlanId) -> Option<PlanItem>
         ensures { result ≡ slice_get self.now.items id.0 }
     {
         self.items.as_slice().get(id.0).copied()
     }
 
-    /// So many fields from a first one on, as many as are there. It takes no memory.
+    /// So many fields from a first one on, as many as are there.
     pub fn entries(&self, first: usize, count: usize) -> &[PlanField]
         ensures { result.now ≡ entries_of self.now.fields first count }
     {

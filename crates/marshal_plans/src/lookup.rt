@@ -8,7 +8,7 @@ use std::cmp::Ordering;
 
 impl Plans {
     /// The id of an argument of a method, by the numbers of the interface and the method and the argument's position, found by
-    /// halving. It takes no memory.
+    /// halving.
     pub fn argument(&self, interface: u32, method: u32, k: u32) -> PlanId
         requires { HasArgument self.now interface method k }
         // It is that of the start of this place.
@@ -23,7 +23,7 @@ impl Plans {
         }
     }
 
-    /// The id of the result of a method, None exactly where the method is void, found by halving. It takes no memory.
+    /// The id of the result of a method, None exactly where the method is void, found by halving.
     pub fn result(&self, interface: u32, method: u32) -> Option<PlanId>
         requires { HasMethod self.now interface method }
         // It is that of the start of this place, and None where there is none.
@@ -38,7 +38,7 @@ impl Plans {
         )
     }
 
-    /// The id of an extra type. It takes no memory.
+    /// The id of an extra type.
     pub fn extra(&self, k: u32) -> PlanId
         requires { k < length self.now.extras }
         ensures at { slice_get self.now.extras k ≡ Some result }

@@ -9,7 +9,8 @@ use Rattle.aidl_schema.specs.Same.{same_text}
 
 -- its name in UTF-8 is one of the two (the compiler's generated methods)
 abbrev pub is_reserved : Method → Bool
-is_reserved m = same_text (encode_utf8_all m.name.0) (codes "getInterfaceVersion") || same_text (encode_utf8_all m.name.0) (codes "getInterfaceHash")
+is_reserved m = same_text (encode_utf8_all m.name.0) (codes "getInterfaceVersion")
+    || same_text (encode_utf8_all m.name.0) (codes "getInterfaceHash")
 
 -- the position of the first such method; None where there is none
 abbrev pub position_reserved : List Method → Option ℕ

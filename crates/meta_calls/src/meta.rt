@@ -63,7 +63,7 @@ impl<'a, 'b, F> Model for MetaService<'a, 'b, F> {
 
 impl<'a, 'b, F> MetaService<'a, 'b, F> {
     /// A service over one of an interface of a schema that reads strictly, with the version of the interface, from 1 to 9,999, and its hash
-    /// of 40 hexadecimal digits. It takes no memory.
+    /// of 40 hexadecimal digits.
     pub fn new(
         schema: &'a Schema,
         interface: u32,

@@ -5,7 +5,7 @@ ghost use Rattle.meta_calls.specs.Reserved as meant;
 use aidl_schema::{Method, Schema, law_valid, methods_at};
 
 /// The position of the first method of an interface that is named `getInterfaceVersion` or `getInterfaceHash`, the names of the methods
-/// that AOSP's compiler generates beside those of a file. None exactly where no method has one of them. It takes no memory.
+/// that AOSP's compiler generates beside those of a file. None exactly where no method has one of them.
 pub fn reserved_method(schema: &Schema, interface: u32) -> Option<u32>
     ensures { result ≡ meant.reserved_method schema.now.decls interface }
 {

@@ -14,12 +14,15 @@ use Rattle.declared_names.specs.Declarations.{Entry, declarations}
 -- Names with a meaning of their own.
 
 abbrev pub left_out : List (List ℕ)
-left_out = codes "float" ∷ codes "double" ∷ codes "IBinder" ∷ codes "FileDescriptor" ∷ codes "ParcelFileDescriptor" ∷ codes "ParcelableHolder" ∷ codes "Map" ∷ codes "CharSequence" ∷ []
+left_out = codes "float" ∷ codes "double" ∷ codes "IBinder" ∷ codes "FileDescriptor" ∷ codes "ParcelFileDescriptor"
+    ∷ codes "ParcelableHolder" ∷ codes "Map" ∷ codes "CharSequence" ∷ []
 
 -- the built-in types, the list word and the left-out names
 abbrev pub meaning_words : List (List ℕ × Resolved)
-meaning_words = (codes "boolean", Builtin built_in.Boolean) ∷ (codes "byte", Builtin built_in.Byte) ∷ (codes "char", Builtin built_in.Char)
-    ∷ (codes "int", Builtin built_in.Int) ∷ (codes "long", Builtin built_in.Long) ∷ (codes "String", Builtin built_in.Text) ∷ (codes "List", ListWord)
+meaning_words = (codes "boolean", Builtin built_in.Boolean) ∷ (codes "byte", Builtin built_in.Byte)
+    ∷ (codes "char", Builtin built_in.Char)
+    ∷ (codes "int", Builtin built_in.Int) ∷ (codes "long", Builtin built_in.Long)
+    ∷ (codes "String", Builtin built_in.Text) ∷ (codes "List", ListWord)
     ∷ map (λ word. (word, LeftOut)) left_out
 
 -- the meaning of the first of these words that the text is
@@ -46,7 +49,8 @@ number_of entries name = position_from (λ e. same e.name name) 0 entries
 abbrev pub enclosing : List Entry → ℕ → Option ℕ → List (List Ident)
 enclosing entries zero scope = []
 enclosing entries (suc levels) None = []
-enclosing entries (suc levels) (Some number) = elim (slice_get entries number) [ None ↦ [] | Some e ↦ e.name ∷ enclosing entries levels e.outer ]
+enclosing entries (suc levels) (Some number) =
+    elim (slice_get entries number) [ None ↦ [] | Some e ↦ e.name ∷ enclosing entries levels e.outer ]
 
 -- the imports whose last part is the name's first part, with the name's other parts
 abbrev pub imported : List DottedTree → List Ident → List (List Ident)
@@ -57,12 +61,14 @@ imported imports (a ∷ rest) = map (λ i. i.name.0 ++ rest) (filter (λ i. same
 -- declaration's name with it; each import that ends in its first part, with its other parts; the package with it.
 abbrev pub candidates : List Entry → Source → ℕ → List Ident → List (List Ident)
 candidates entries file scope name =
-    name ∷ map (λ around. around ++ name) (enclosing entries (length entries) (Some scope)) ++ imported file.tree.imports name ++ (parts_of file.tree.«package» ++ name) ∷ []
+    name ∷ map (λ around. around ++ name) (enclosing entries (length entries) (Some scope))
+    ++ imported file.tree.imports name ++ (parts_of file.tree.«package» ++ name) ∷ []
 
 -- the first of some names that is declared
 abbrev pub first_declared : List Entry → List (List Ident) → Option Resolved
 first_declared entries [] = None
-first_declared entries (c ∷ more) = elim (number_of entries c) [ None ↦ first_declared entries more | Some number ↦ Some (Declared number) ]
+first_declared entries (c ∷ more) =
+    elim (number_of entries c) [ None ↦ first_declared entries more | Some number ↦ Some (Declared number) ]
 
 -- what stands first, or else what stands second
 abbrev pub or_else : {A : Type 0} → Option A → Option A → Option A
@@ -71,8 +77,10 @@ or_else (Some x) other = Some x
 
 -- what a name means in a file, by its own or as a declaration
 abbrev pub meaning_in_file : List Entry → Source → ℕ → List Ident → Option Resolved
-meaning_in_file entries file scope name = or_else (own_meaning name) (first_declared entries (candidates entries file scope name))
+meaning_in_file entries file scope name =
+    or_else (own_meaning name) (first_declared entries (candidates entries file scope name))
 
 -- what a name means in the file with that number, below the declaration with the number `scope`
 abbrev pub resolved : List Source → ℕ → ℕ → List Ident → Option Resolved
-resolved files number scope name = elim (slice_get files number) [ None ↦ None | Some file ↦ meaning_in_file (declarations files) file scope name ]
+resolved files number scope name =
+    elim (slice_get files number) [ None ↦ None | Some file ↦ meaning_in_file (declarations files) file scope name ]

@@ -20,7 +20,7 @@ pub enum Known {
 }
 
 impl Known {
-    /// Whether a meaning is known. It takes no memory.
+    /// Whether a meaning is known.
     pub fn is_told(self) -> bool
         ensures { result ≡ is_told self }
     {
@@ -56,7 +56,7 @@ impl<'a> Model for Asked<'a> {
 }
 
 impl<'a> Asked<'a> {
-    /// No answers yet. It takes no memory.
+    /// No answers yet.
     pub fn new(alloc: Global) -> Asked<'a>
         ensures { result ≡ [] }
     {
@@ -66,7 +66,7 @@ impl<'a> Asked<'a> {
         }
     }
 
-    /// What is known of a name in the file with a number. It takes no memory.
+    /// What is known of a name in the file with a number.
     pub fn known(&self, file: u32, name: &[Ident]) -> Known
         ensures { IsSaid self.now file name.now result }
     {

@@ -60,7 +60,7 @@ impl<'r, 'a> Asking<'r, 'a> {
         Ok(Asking { resolver, asked })
     }
 
-    /// The declarations of the files in the order of their numbers. It takes no memory.
+    /// The declarations of the files in the order of their numbers.
     pub fn found(&self) -> &'r [Found<'a>]
         ensures all { map entry_of result.now ≡ declarations (map source_of self.now) }
         ensures count { length result.now ≤ 16384 }
@@ -68,7 +68,7 @@ impl<'r, 'a> Asking<'r, 'a> {
         self.resolver.declarations().as_slice()
     }
 
-    /// What a name means in a file, below the declaration with the number `scope`. It takes no memory.
+    /// What a name means in a file, below the declaration with the number `scope`.
     pub fn resolve(&self, file: u32, scope: u32, name: &[Ident]) -> Option<Resolved>
         ensures { result ≡ resolved (map source_of self.now) file scope name.now }
     {

@@ -12,7 +12,7 @@ use aidl_base::Ident;
 use declared_names::{Declarations, End, mark_back, with_part};
 
 /// What a name means through imports: by the first with which it is declared, of those that end in its first part. Asked
-/// are the declarations whose names end in it. It takes no memory.
+/// are the declarations whose names end in it.
 pub fn behind(
     declared: &ByEnd<'_, '_>,
     imports: &WholeNames<'_, '_>,

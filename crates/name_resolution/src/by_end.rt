@@ -44,14 +44,14 @@ impl<'d, 'a> ByEnd<'d, 'a> {
         Ok(ByEnd { declarations, ends })
     }
 
-    /// The declarations. It takes no memory.
+    /// The declarations.
     pub fn declarations(&self) -> &'d Declarations<'a>
         ensures { result.now ≡ self.now }
     {
         self.declarations
     }
 
-    /// The ends of their names. It takes no memory.
+    /// The ends of their names.
     pub fn ends(&self) -> &Ends
         ensures { result.now ≡ ends_of (map entry_of self.now) }
     {

@@ -38,7 +38,7 @@ impl<'a, 'b> Model for ByName<'a, 'b> {
 
 impl<'a, 'b> ByName<'a, 'b> {
     /// What a name means through the imports. Asked are those with its first part, or the declarations whose names end in
-    /// it, whichever are fewer. It takes no memory.
+    /// it, whichever are fewer.
     pub fn means(&self, declared: &ByEnd<'_, '_>, name: &[Ident]) -> Option<Resolved>
         ensures { result ≡ meant_through self.now (map entry_of declared.now) name.now }
     {
@@ -55,7 +55,7 @@ impl<'a, 'b> ByName<'a, 'b> {
         }
     }
 
-    /// Whether several imports have the first part of a name as their last one, as far as marks tell. It takes no memory.
+    /// Whether several imports have the first part of a name as their last one, as far as marks tell.
     pub fn is_shared(&self, name: &[Ident]) -> bool
         ensures { result ≡ is_shared self.now name.now }
     {

@@ -46,7 +46,7 @@ impl<'a> Model for Imports<'a> {
 }
 
 impl<'a> Imports<'a> {
-    /// The imports that are kept. It takes no memory.
+    /// The imports that are kept.
     pub fn kept(&self) -> &[&'a DottedTree]
         ensures { map (λ d. d.now) result.now ≡ self.now }
     {
@@ -69,7 +69,7 @@ impl<'a> Imports<'a> {
         self.table.next(place)
     }
 
-    /// Whether fewer of them have a part as their last one than ends have a mark, as far as marks tell. It takes no memory.
+    /// Whether fewer of them have a part as their last one than ends have a mark, as far as marks tell.
     pub fn are_fewer(&self, part: &Ident, ends: &Ends, mark: u64) -> bool
         ensures { result ≡ is_rarer (mark_of (part.now ∷ []))
             (map mark_of_last self.now) mark (map (λ e. e.mark) ends.now) }
@@ -77,7 +77,7 @@ impl<'a> Imports<'a> {
         is_rarer(&self.table, with_part(0, part), ends.table(), mark)
     }
 
-    /// Whether several of them have a part as their last one, as far as marks tell. It takes no memory.
+    /// Whether several of them have a part as their last one, as far as marks tell.
     pub fn is_shared(&self, part: &Ident) -> bool
         ensures { result ≡ is_twice (mark_of (part.now ∷ [])) (map mark_of_last self.now) }
     {
@@ -174,8 +174,7 @@ fn is_at_number(imports: &[&DottedTree], number: usize, name: &[Ident]) -> bool
     }
 }
 
-/// What a name means through imports: by the first with which it is declared, of those that end in its first part. It takes
-/// no memory.
+/// What a name means through imports: by the first with which it is declared, of those that end in its first part.
 pub fn in_imports(
     declarations: &Declarations<'_>,
     imports: &Imports<'_>,
@@ -210,7 +209,7 @@ fn in_imports_of(
     None
 }
 
-/// Through one import, where it ends in the name's first part. It takes no memory.
+/// Through one import, where it ends in the name's first part.
 pub fn through(
     declarations: &Declarations<'_>,
     import: &DottedTree,

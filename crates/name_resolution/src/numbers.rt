@@ -8,8 +8,7 @@ use crate::meaning::Resolved;
 use aidl_base::Ident;
 use declared_names::{Declarations, is_joined, with_parts};
 
-/// The number of the first declaration whose canonical name is a front, which has this mark, with a back behind it. It
-/// takes no memory.
+/// The number of the first declaration whose canonical name is a front, which has this mark, with a back behind it.
 pub fn number_of(
     declarations: &Declarations<'_>,
     mark: u64,
@@ -30,7 +29,7 @@ pub fn number_of(
     None
 }
 
-/// What a front with a back behind it is declared as. It takes no memory.
+/// What a front with a back behind it is declared as.
 pub fn declared(
     declarations: &Declarations<'_>,
     mark: u64,

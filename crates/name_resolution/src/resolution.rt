@@ -77,21 +77,21 @@ impl<'a> Resolver<'a> {
         })
     }
 
-    /// The files. It takes no memory.
+    /// The files.
     pub fn files(&self) -> &'a [ParsedFile]
         ensures { result.now ≡ self.now.0 }
     {
         self.files
     }
 
-    /// The declarations of the files. It takes no memory.
+    /// The declarations of the files.
     pub fn declarations(&self) -> &Declarations<'a>
         ensures { map entry_of result.now ≡ declarations_of (map source_of self.now.0) }
     {
         &self.declarations
     }
 
-    /// The imports of each file that are kept. It takes no memory.
+    /// The imports of each file that are kept.
     pub fn imports(&self) -> &[Imports<'a>]
         ensures same { result.now ≡ self.now.1 }
         ensures meant { map meant_through self.now.1 ≡ map meant_in (map source_of self.now.0) }
@@ -99,7 +99,7 @@ impl<'a> Resolver<'a> {
         self.imports.as_slice()
     }
 
-    /// What a name means in a file, below the declaration with the number `scope`. It takes no memory.
+    /// What a name means in a file, below the declaration with the number `scope`.
     pub fn resolve(&self, file: u32, scope: u32, name: &[Ident]) -> Option<Resolved>
         ensures { result ≡ resolved (map source_of self.now.0) file scope name.now }
     {
@@ -108,7 +108,7 @@ impl<'a> Resolver<'a> {
 }
 
 /// What a name means in the file with that number, below the declaration with the number `scope`, if so much is known of
-/// what it means through imports. It takes no memory.
+/// what it means through imports.
 pub fn resolved(
     resolver: &Resolver<'_>,
     known: Known,
@@ -234,7 +234,7 @@ fn own_meaning(name: &[Ident]) -> Option<Resolved>
     }
 }
 
-/// The meaning of a built-in type, of the list word or of a left-out name. It takes no memory.
+/// The meaning of a built-in type, of the list word or of a left-out name.
 #[tactic(auto, unfolding(crate::specs::Resolution::meaning_of_word))]
 pub fn meaning_of_word(word: &str) -> Option<Resolved>
     ensures { result ≡ meaning_of_word word.now }

@@ -46,14 +46,14 @@ impl<'a, 'b> WholeNames<'a, 'b> {
         Ok(WholeNames { imports, table })
     }
 
-    /// The imports. It takes no memory.
+    /// The imports.
     pub fn as_slice(&self) -> &'a [&'b DottedTree]
         ensures { result.now ≡ self.now }
     {
         self.imports
     }
 
-    /// The place of the first import with a whole name. It takes no memory.
+    /// The place of the first import with a whole name.
     pub fn place_of(&self, name: &[Ident]) -> Option<usize>
         ensures { result ≡ place_of self.now name.now }
     {

@@ -26,7 +26,8 @@ NoneStopsBefore [] = Unit {0}
 NoneStopsBefore (p ∷ []) = Unit {0}
 NoneStopsBefore (p ∷ q ∷ ps) = (status_in p.kind ≡ None) × NoneStopsBefore (q ∷ ps)
 
--- what is left once values of these types were read strictly, one after the other; or the status of the first that isn't read
+-- what is left once values of these types were read strictly, one after the other; or the status of the first that
+-- isn't read
 abbrev pub read_each : List Decl → List AidlType → List ℕ → Result (List ℕ) ℤ
 read_each S [] b = Ok b
 read_each S (t ∷ ts) b = read_of Strict S 64 t false b >>= λ x. read_each S ts x.1
@@ -50,4 +51,5 @@ AreOfValues (p ∷ ps) = (is_of_value p.kind ≡ true) × AreOfValues ps
 -- parts of values, and behind them what is left, where anything is; or a stop with the status
 abbrev pub EndsBy : List Part → Result (List ℕ) ℤ → Type 0
 EndsBy parts (Ok rest) = (values : List Part) × AreOfValues values × (parts ≡ values ++ part_of_some [] kind.Left rest)
-EndsBy parts (Err status) = (values : List Part) × AreOfValues values × (path wrong : List ℕ) × (parts ≡ values ++ part path (kind.Stop status) wrong)
+EndsBy parts (Err status) = (values : List Part) × AreOfValues values × (path wrong : List ℕ)
+    × (parts ≡ values ++ part path (kind.Stop status) wrong)

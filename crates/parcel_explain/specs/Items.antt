@@ -1,7 +1,9 @@
--- *Items of a reading*: what the bytes of a parcel are, part by part, up to the first wrong item (own; docs/EXPLAIN.md). The parts are those that a
--- value is spelled of, and what is read is what the strict profile reads. S is the schema's declarations, d the composite levels left, t the type, b the
--- bytes up to the limit; `inside` says that a record is being read; `path` is that of the value, and `note` notes a part of a value.
-use Rattle.std.specs.Prelude.{ℕ, zero, suc, ◌+◌, Bool, true, false, if◌then◌else◌, List, [], ◌∷◌, ◌++◌, length, drop, Option, Some, None, Result, Ok, Err, codes}
+-- *Items of a reading*: what the bytes of a parcel are, part by part, up to the first wrong item (own;
+-- docs/EXPLAIN.md). The parts are those that a value is spelled of, and what is read is what the strict profile
+-- reads. S is the schema's declarations, d the composite levels left, t the type, b the bytes up to the limit;
+-- `inside` says that a record is being read; `path` is that of the value, and `note` notes a part of a value.
+use Rattle.std.specs.Prelude.{ℕ, zero, suc, ◌+◌, Bool, true, false, if◌then◌else◌, List, [], ◌∷◌, ◌++◌, length}
+use Rattle.std.specs.Prelude.{drop, Option, Some, None, Result, Ok, Err, codes}
 use Rattle.std.specs.Fmt.{decimal}
 use Rattle.aidl_base.specs.declared.profile.Profile.TheVariants.{Strict}
 use Rattle.aidl_base.specs.Readings.{Read, truth_at, byte_at, char_at, word_at, long_at}
@@ -59,7 +61,8 @@ elements_items note path k (suc n) b = do
 -- what follows a count
 abbrev pub counted_items : Bool → (List ℕ → List ℕ → Notes) → List ℕ → Bool → Option ℕ → List ℕ → Notes
 counted_items raw note path inside None b = no_more b
-counted_items raw note path inside (Some n) b = if raw then bytes_item path b (raw_at Strict n inside b) else elements_items note path 0 n b
+counted_items raw note path inside (Some n) b = if raw then bytes_item path b (raw_at Strict n inside b)
+    else elements_items note path 0 n b
 
 -- an array or a List
 unfoldable pub sequence_items : Bool → Bool → Bool → (List ℕ → List ℕ → Notes) → List ℕ → Bool → List ℕ → Notes
@@ -87,7 +90,8 @@ body_items note path fs inside b = do
   tail_item path rest.1 z.0.1
 
 -- a parcelable
-unfoldable pub record_items : Bool → Bool → (AidlType → List ℕ → List ℕ → Notes) → List ℕ → List Field → Bool → List ℕ → Notes
+unfoldable pub record_items : Bool → Bool → (AidlType → List ℕ → List ℕ → Notes) → List ℕ → List Field
+    → Bool → List ℕ → Notes
 record_items left nullable note path fs inside b = do
   m ← item path kind.Marker (λ c. value_marker_at left nullable inside c) b
   if m.0 then body_items note path fs inside m.1 else no_more m.1
@@ -99,7 +103,8 @@ chosen_items note path fs inside b = do
   note f.0.ty (below path f.0.name.0) f.1
 
 -- a union
-unfoldable pub union_items : Bool → Bool → (AidlType → List ℕ → List ℕ → Notes) → List ℕ → List Field → Bool → List ℕ → Notes
+unfoldable pub union_items : Bool → Bool → (AidlType → List ℕ → List ℕ → Notes) → List ℕ → List Field
+    → Bool → List ℕ → Notes
 union_items left nullable note path fs inside b = do
   m ← item path kind.Marker (λ c. value_marker_at left nullable inside c) b
   if m.0 then chosen_items note path fs inside m.1 else no_more m.1
@@ -116,8 +121,10 @@ one_items left note nullable path form.char inside b = value_item path (λ c. ch
 one_items left note nullable path form.int inside b = value_item path (λ c. word_at inside c) b
 one_items left note nullable path form.long inside b = value_item path (λ c. long_at inside c) b
 one_items left note nullable path form.text inside b = text_items nullable path inside b
-one_items left note nullable path (form.parcelable fs) inside b = record_items left nullable (λ u q c. note u q true c) path fs inside b
-one_items left note nullable path (form.union fs) inside b = union_items left nullable (λ u q c. note u q inside c) path fs inside b
+one_items left note nullable path (form.parcelable fs) inside b =
+    record_items left nullable (λ u q c. note u q true c) path fs inside b
+one_items left note nullable path (form.union fs) inside b =
+    union_items left nullable (λ u q c. note u q inside c) path fs inside b
 one_items left note nullable path form.nothing inside b = no_items path
 
 -- one level
@@ -150,7 +157,8 @@ parts_of S ts b = let x = values_items S 0 ts b in x.parts ++ last_part (drop (l
 -- parts as items, from an offset in bytes on
 abbrev pub placed : ℕ → List Part → List Item
 placed n [] = []
-placed n (p ∷ ps) = record { offset = n; length = length p.bytes; path = p.path; kind = p.kind } ∷ placed (n + length p.bytes) ps
+placed n (p ∷ ps) =
+    record { offset = n; length = length p.bytes; path = p.path; kind = p.kind } ∷ placed (n + length p.bytes) ps
 
 -- the items of a parcel's bytes, each with its offset
 abbrev pub explained : List Decl → List AidlType → List ℕ → List Item

@@ -49,7 +49,7 @@ impl<'a> Model for ParcelPlans<'a> {
 }
 
 impl<'a> ParcelPlans<'a> {
-    /// The plans, with no defaults yet. It takes no memory.
+    /// The plans, with no defaults yet.
     pub fn new(alloc: Global, plans: &'a Plans) -> ParcelPlans<'a>
         ensures { result ≡ plans.now }
     {
@@ -59,14 +59,14 @@ impl<'a> ParcelPlans<'a> {
         }
     }
 
-    /// The item of an id. It takes no memory.
+    /// The item of an id.
     pub fn item(&self, id: PlanId) -> Option<PlanItem>
         ensures { result ≡ slice_get self.now.items id.0 }
     {
         self.plans.item(id)
     }
 
-    /// The fields of a parcelable or union. It takes no memory.
+    /// The fields of a parcelable or union.
     pub fn entries(&self, span: Span) -> &'a [PlanField]
         ensures { result.now ≡ entries_of self.now.fields span.first span.count }
     {

@@ -36,7 +36,7 @@ pub trait Packed: Wire {
     // an element as data
     ghost seen: { Self → Data };
 
-    /// The elements of a row. It takes no memory.
+    /// The elements of a row.
     fn elements(row: Row<Self>) -> Elements
         ensures { datas result ≡ map seen row };
 }

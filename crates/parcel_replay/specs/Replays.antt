@@ -28,7 +28,8 @@ Replays S i not_trace r = r ≡ NotTrace
 Replays S i too_large r = r ≡ TooLarge
 Replays S i (request code b) r = (a : Answered) × (r ≡ Got a) × Answers IsUnscripted S i a (stub Strict S i code b)
 
--- A refusal's status isn't 0. Where the handler was called, the method is the one that has the code, and what it saw has the types of its arguments.
+-- A refusal's status isn't 0. Where the handler was called, the method is the one that has the code, and what it
+-- saw has the types of its arguments.
 abbrev pub IsLawful : List Decl → ℕ → ℕ → Result Received ℤ → Type 0
 IsLawful S i code (Err status) = status ≢ pos 0
 IsLawful S i code (Ok (left m)) = Unit {0}

@@ -1,5 +1,6 @@
 -- What a line of a trace says (own): a request that was carried, as `run --trace` prints it. A line is bytes.
-use Rattle.std.specs.Prelude.{ℕ, ◌+◌, ◌==◌, nat_lt, Bool, if◌then◌else◌, List, [], length, take, drop, Option, Some, None, option_map, codes, bytes_eq}
+use Rattle.std.specs.Prelude.{ℕ, ◌+◌, ◌==◌, nat_lt, Bool, if◌then◌else◌, List, [], length, take, drop, Option, Some}
+use Rattle.std.specs.Prelude.{None, option_map, codes, bytes_eq}
 use Rattle.std.specs.List.{position}
 use Rattle.std.specs.Result.{result_ok}
 use Rattle.aidl_base.specs.declared.limit.LimitName.TheVariants.{ParcelBytes}
@@ -23,7 +24,8 @@ code_of word = number_within 0 4294967295 word
 
 -- bytes: two hexadecimal digits each, in either case, or `-` for none
 unfoldable pub bytes_of : List ℕ → Option (List ℕ)
-bytes_of word = if bytes_eq word (codes "-") then Some [] else (if length word == 0 then None else result_ok (decode_of word))
+bytes_of word = if bytes_eq word (codes "-") then Some []
+    else (if length word == 0 then None else result_ok (decode_of word))
 
 -- the code and the bytes that were delivered, of `CODE SENT DELIVERED` with single blanks
 unfoldable pub request_of : List ℕ → Option (ℕ × List ℕ)
@@ -35,7 +37,8 @@ request_of text = do
   delivered ← bytes_of second.1
   Some (code, delivered)
 
--- a line that is no request's; one that isn't of the form; one whose parcel is too long; or the code and the bytes that were delivered
+-- a line that is no request's; one that isn't of the form; one whose parcel is too long; or the code and the bytes
+-- that were delivered
 pub data Traced : Type 0 where
   other not_trace too_large : Traced
   request : (code : ℕ) → (delivered : List ℕ) → Traced

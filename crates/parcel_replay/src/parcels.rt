@@ -10,7 +10,7 @@ use aidl_base::{LimitName, OutOfMemory};
 use hex::FromHexError;
 use std::alloc::Global;
 
-/// Whether a word is bytes: two hexadecimal digits each, in either case, or `-` for none. It takes no memory.
+/// Whether a word is bytes: two hexadecimal digits each, in either case, or `-` for none.
 #[tactic(auto, unfolding(crate::specs::Traced::bytes_of), using(crate::proofs::Digits::pairs_decode))]
 pub fn is_parcel(word: &[u8]) -> bool
     ensures { result ≡ is_some (traced.bytes_of word.now) }
@@ -45,7 +45,7 @@ fn is_digit(byte: u8) -> bool
     byte.is_ascii_hexdigit()
 }
 
-/// Whether a word of bytes stands for more than a parcel has, 1,048,576. It takes no memory.
+/// Whether a word of bytes stands for more than a parcel has, 1,048,576.
 pub fn is_too_large(word: &[u8]) -> bool
     ensures { (bytes : List ℕ) → traced.bytes_of word.now ≡ Some bytes
         → result ≡ nat_lt (limit_number ParcelBytes) (length bytes) }

@@ -6,7 +6,7 @@ ghost use Rattle.parcel_replay.specs.Traced as traced;
 use crate::parcels::is_parcel;
 use decimal_words::number_within;
 
-/// The code, and the word of the bytes that were delivered, of `CODE SENT DELIVERED` with single blanks. It takes no memory.
+/// The code, and the word of the bytes that were delivered, of `CODE SENT DELIVERED` with single blanks.
 #[tactic(auto, unfolding(crate::specs::Traced::request_of))]
 pub fn request_of(text: &[u8]) -> Option<(u32, &[u8])>
     ensures { option_map {U = ℕ × Option (List ℕ)} (λ p. (p.0, traced.bytes_of p.1.now)) result
@@ -22,7 +22,7 @@ pub fn request_of(text: &[u8]) -> Option<(u32, &[u8])>
     }
 }
 
-/// What stands behind `request `, where a line begins so. It takes no memory.
+/// What stands behind `request `, where a line begins so.
 pub fn request_text(line: &[u8]) -> Option<&[u8]>
     ensures { MatchOption result (traced.is_request line.now
         ≡ false) (λ text. (traced.is_request line.now ≡ true) × (text.now ≡ drop 8 line.now)) }
@@ -30,7 +30,7 @@ pub fn request_text(line: &[u8]) -> Option<&[u8]>
     line.strip_prefix(b"request ".as_slice())
 }
 
-/// The code of a request's line; of any other line maybe None. It takes no memory.
+/// The code of a request's line; of any other line maybe None.
 pub fn recorded_code(line: &[u8]) -> Option<u32>
     ensures { (code : ℕ) (b : List ℕ) → traced.traced line.now ≡ traced.request code b
         → result ≡ Some code }

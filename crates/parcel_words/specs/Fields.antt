@@ -9,14 +9,16 @@ ends_of zero end outer = []
 ends_of (suc n) end outer = end ∷ ends_of n (slice_index outer n) outer
 
 abbrev pub place_of : Inside → Place
-place_of a = record { profile = a.profile; bytes = a.bytes.now; position = a.position; ends = ends_of a.open a.end a.outer }
+place_of a =
+    record { profile = a.profile; bytes = a.bytes.now; position = a.position; ends = ends_of a.open a.end a.outer }
 
 -- each end is within the one around it, and the outermost is that of the bytes
 abbrev pub IsNested : ℕ → ℕ → List ℕ → ℕ → Type 0
 IsNested zero end outer len = end ≡ len
 IsNested (suc n) end outer len = (end ≤ slice_index outer n) × IsNested n (slice_index outer n) outer len
 
--- The position is within the limit, and the limit within the bytes. At most 64 records are open, each within the one around it.
+-- The position is within the limit, and the limit within the bytes. At most 64 records are open, each within the
+-- one around it.
 pub record IsPlace (a : Inside) : Type 0 where
   pub passed : a.position ≤ a.end
   pub within : a.end ≤ length a.bytes.now

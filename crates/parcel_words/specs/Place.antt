@@ -1,5 +1,6 @@
 -- Where a reader of words stands.
-use Rattle.std.specs.Prelude.{◌≡◌, ℕ, ◌+◌, ◌-◌, Bool, true, false, List, [], ◌∷◌, length, take, drop, Ok, Err, refl, nat_lt, if◌then◌else◌}
+use Rattle.std.specs.Prelude.{◌≡◌, ℕ, ◌+◌, ◌-◌, Bool, true, false, List, [], ◌∷◌, length, take, drop, Ok, Err, refl}
+use Rattle.std.specs.Prelude.{nat_lt, if◌then◌else◌}
 use Rattle.std.specs.Coded.{Coded, code_by, coded×, coded_ℕ, coded_bool, coded_list}
 use Rattle.std.proofs.Common.{ap}
 use Rattle.aidl_base.specs.declared.profile.Profile.{Profile}
@@ -28,9 +29,12 @@ profile_back Lenient = refl
 
 -- a place is stored as the tuple of its fields
 abbrev pub place_code : Coded Place
-place_code = code_by (Bool × (List ℕ × (ℕ × List ℕ))) (coded× coded_bool (coded× (coded_list coded_ℕ) (coded× coded_ℕ (coded_list coded_ℕ))))
-    (λ p. (is_strict p.profile, (p.bytes, (p.position, p.ends)))) (λ q. record { profile = strict_or_lenient q.0; bytes = q.1.0; position = q.1.1.0; ends = q.1.1.1 })
-    (λ p. ap (λ (x : Profile). record { profile = x; bytes = p.bytes; position = p.position; ends = p.ends }) (profile_back p.profile))
+place_code = code_by (Bool × (List ℕ × (ℕ × List ℕ)))
+    (coded× coded_bool (coded× (coded_list coded_ℕ) (coded× coded_ℕ (coded_list coded_ℕ))))
+    (λ p. (is_strict p.profile, (p.bytes, (p.position, p.ends))))
+    (λ q. record { profile = strict_or_lenient q.0; bytes = q.1.0; position = q.1.1.0; ends = q.1.1.1 })
+    (λ p. ap (λ (x : Profile). record { profile = x; bytes = p.bytes; position = p.position; ends = p.ends })
+    (profile_back p.profile))
 
 -- the reader's limit: the end of the innermost open record, or else that of the bytes (own)
 abbrev pub limit_of : List ℕ → ℕ → ℕ
@@ -77,7 +81,8 @@ size_at inside b = do
 
 -- the place after the size word, in the record of that size
 abbrev pub opened : Place → ℕ → Place
-opened p size = record { profile = p.profile; bytes = p.bytes; position = p.position + 4; ends = (p.position + size) ∷ p.ends }
+opened p size =
+    record { profile = p.profile; bytes = p.bytes; position = p.position + 4; ends = (p.position + size) ∷ p.ends }
 
 -- a size word stands at the old place, and the new one is in its record
 abbrev pub Enters : Place → Place → Type 0

@@ -13,7 +13,8 @@ pub record Written : Type 0 where
 
 -- it is stored as the tuple of its fields
 abbrev pub written_code : Coded Written
-written_code = code_by (List ℕ × ℕ) (coded× (coded_list coded_ℕ) coded_ℕ) (λ w. (w.bytes, w.room)) (λ q. record { bytes = q.0; room = q.1 }) (λ _. refl)
+written_code = code_by (List ℕ × ℕ) (coded× (coded_list coded_ℕ) coded_ℕ) (λ w. (w.bytes, w.room))
+    (λ q. record { bytes = q.0; room = q.1 }) (λ _. refl)
 
 -- after these bytes too
 abbrev pub with_bytes : Written → List ℕ → Written

@@ -22,7 +22,7 @@ impl ReadFault {
     ghost use Rattle.parcel_words.specs.Taken.{status_of};
 
     /// The status number (libutils, Errors.h): NOT_ENOUGH_DATA, UNEXPECTED_NULL or BAD_VALUE. None for want of memory
-    /// and for nothing else. It takes no memory.
+    /// and for nothing else.
     pub fn status(&self) -> Option<i32>
         ensures { result ≡ status_of self.now }
     {

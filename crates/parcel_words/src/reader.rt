@@ -40,7 +40,7 @@ impl<'a> Model for WordReader<'a> {
 }
 
 impl<'a> WordReader<'a> {
-    /// A reader by the profile at the start of the bytes, with no record open. It takes no memory.
+    /// A reader by the profile at the start of the bytes, with no record open.
     pub fn new(profile: Profile, bytes: &'a [u8]) -> WordReader<'a>
         ensures { result ≡ record {
           profile = profile;
@@ -68,7 +68,7 @@ impl<'a> WordReader<'a> {
         self.position
     }
 
-    /// Whether the reader's profile takes an item, by whether it is as it would be written. It takes no memory.
+    /// Whether the reader's profile takes an item, by whether it is as it would be written.
     pub fn permits(&self, as_written: bool) -> bool
         ensures { result ≡ permits self.now.profile as_written }
     {
@@ -76,7 +76,7 @@ impl<'a> WordReader<'a> {
     }
 
     /// Takes a word, four bytes, as a signed number. It refuses exactly a word that passes the limit: by `NotEnough`
-    /// where no record is open, by `BadValue` where one is. It takes no memory.
+    /// where no record is open, by `BadValue` where one is.
     pub fn word(&mut self) -> Result<i32, ReadFault>
         ensures taken { Takes (λ n. n) result (here word_at self.old) (left self.new) }
         ensures passed { OnOk result (self.new ≡ moved self.old 4) }
@@ -88,7 +88,7 @@ impl<'a> WordReader<'a> {
         Ok(number)
     }
 
-    /// Takes a long, eight bytes, as a signed number. It refuses as `word` does, and takes no memory.
+    /// Takes a long, eight bytes, as a signed number. It refuses as `word` does.
     pub fn long(&mut self) -> Result<i64, ReadFault>
         ensures taken { Takes (λ n. n) result (here long_at self.old) (left self.new) }
         ensures passed { OnOk result (self.new ≡ moved self.old 8) }
@@ -104,7 +104,7 @@ impl<'a> WordReader<'a> {
     }
 
     /// Takes `count` raw bytes with their padding, and answers them without it. It refuses as `word` does, and by
-    /// `BadValue` where the item is inside the limit and the profile doesn't permit its padding. It takes no memory.
+    /// `BadValue` where the item is inside the limit and the profile doesn't permit its padding.
     #[tactic(auto, unfolding(aidl_base::specs::Readings::raw_at))]
     pub fn raw(&mut self, count: usize) -> Result<&'a [u8], ReadFault>
         ensures taken { Takes (λ x. x.now) result
@@ -126,7 +126,7 @@ impl<'a> WordReader<'a> {
     }
 
     /// Takes a count, where None is null. It refuses as `word` does; by `UnexpectedNull` a count of
-    /// -1 unless it may be null; and by `BadValue` another negative one. It takes no memory.
+    /// -1 unless it may be null; and by `BadValue` another negative one.
     #[tactic(auto, unfolding(aidl_base::specs::Readings::count_at))]
     pub fn count(&mut self, nullable: bool) -> Result<Option<usize>, ReadFault>
         ensures taken { Takes (λ n. n) result
@@ -174,7 +174,7 @@ impl<'a> WordReader<'a> {
     }
 
     /// Takes a size word and opens its record. It refuses a word that passes the limit as `word` does, a size below 4
-    /// or no multiple of 4 by `BadValue`, and a size that passes the limit as an item that does. It takes no memory.
+    /// or no multiple of 4 by `BadValue`, and a size that passes the limit as an item that does.
     pub fn enter(&mut self) -> Result<(), ReadFault>
         requires { length self.old.ends < 64 }
         ensures entered { OnOk result (Enters self.old self.new) }
@@ -205,7 +205,7 @@ impl<'a> WordReader<'a> {
         self.end = self.outer[self.open];
     }
 
-    /// Goes back by so many bytes, for a caller that refuses what it has begun. It takes no memory.
+    /// Goes back by so many bytes, for a caller that refuses what it has begun.
     pub(crate) fn go_back(&mut self, count: usize)
         requires { count ≤ self.old.position }
         ensures { self.new ≡ moved_back self.old count }
@@ -260,7 +260,7 @@ impl<'a> WordReader<'a> {
         Ok(&rest[..size])
     }
 
-    /// The next word, which is not passed. It refuses as `word` does, and takes no memory.
+    /// The next word, which is not passed. It refuses as `word` does.
     pub(crate) fn next_word(&self) -> Result<i32, ReadFault>
         ensures { Takes (λ n. n) result (here word_at self.now) (drop 4 (left self.now)) }
     {
@@ -286,7 +286,7 @@ impl<'a> WordReader<'a> {
         Ok(size)
     }
 
-    /// Goes on by so many bytes of those that are left. It takes no memory.
+    /// Goes on by so many bytes of those that are left.
     pub(crate) fn pass(&mut self, count: usize)
         requires { count ≤ length (left self.old) }
         ensures passed { self.new ≡ moved self.old count }

@@ -14,8 +14,7 @@ use crate::writer::WordWriter;
 use aidl_base::Row;
 use std::alloc::Global;
 
-/// The number of bytes of the spelling of a sequence, its count included, or `usize::MAX` where they are more. It
-/// takes no memory.
+/// The number of bytes of the spelling of a sequence, its count included, or `usize::MAX` where they are more.
 pub fn sequence_length<W: Wire>(items: &[W]) -> usize
     ensures { result ≡ min (length (spell_sequence W.spelling items.now)) usize.MAX }
 {
@@ -26,7 +25,7 @@ pub fn sequence_length<W: Wire>(items: &[W]) -> usize
     len
 }
 
-/// Appends the number of items as a word, and the items. It takes no memory.
+/// Appends the number of items as a word, and the items.
 pub fn put_sequence<W: Wire>(items: &[W], to: &mut WordWriter)
     requires few { length items.now ≤ 2147483647 }
     requires can { All W.can_put items.now }

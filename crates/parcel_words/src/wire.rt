@@ -30,11 +30,11 @@ pub trait Wire: Sized + Drop {
     // the value at the front of bytes by a profile, where a record is open or none is
     ghost reading: { Profile → Bool → List ℕ → Read Self };
 
-    /// The number of bytes of the spelling, or `usize::MAX` where they are more. It takes no memory.
+    /// The number of bytes of the spelling, or `usize::MAX` where they are more.
     fn length(&self) -> usize
         ensures { result ≡ min (length (spelling self.now)) usize.MAX };
 
-    /// Appends the spelling. It takes no memory.
+    /// Appends the spelling.
     fn put(&self, to: &mut WordWriter)
         requires can { can_put self.now }
         requires room { length (spelling self.now) ≤ to.old.room }

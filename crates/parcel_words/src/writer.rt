@@ -44,7 +44,7 @@ impl WordWriter {
         })
     }
 
-    /// Appends a word, four bytes. It takes no memory.
+    /// Appends a word, four bytes.
     pub fn word(&mut self, n: i32)
         requires { 4 ≤ self.old.room }
         ensures { self.new ≡ with_bytes self.old (word n) }
@@ -52,7 +52,7 @@ impl WordWriter {
         self.append(&n.to_le_bytes());
     }
 
-    /// Appends a long, eight bytes. It takes no memory.
+    /// Appends a long, eight bytes.
     pub fn long(&mut self, n: i64)
         requires { 8 ≤ self.old.room }
         ensures { self.new ≡ with_bytes self.old (long_word n) }
@@ -60,7 +60,7 @@ impl WordWriter {
         self.append(&n.to_le_bytes());
     }
 
-    /// Appends the count of a text's units or of a sequence's items, a word. It takes no memory.
+    /// Appends the count of a text's units or of a sequence's items, a word.
     pub fn count(&mut self, count: usize)
         requires few { count < 2 ^ 31 }
         requires room { 4 ≤ self.old.room }
@@ -69,7 +69,7 @@ impl WordWriter {
         self.word(count as i32);
     }
 
-    /// Appends a text as the count of its UTF-16 units and its block, or null as the word -1. It takes no memory.
+    /// Appends a text as the count of its UTF-16 units and its block, or null as the word -1.
     pub fn text(&mut self, text: Option<&str>)
         requires few { length (units (scalars text)) ≤ 2147483647 }
         requires room { length (spell_nullable_text (nullable_scalars text)) ≤ self.old.room }
@@ -86,7 +86,7 @@ impl WordWriter {
         }
     }
 
-    /// Appends raw bytes and their padding, without a count. It takes no memory.
+    /// Appends raw bytes and their padding, without a count.
     pub fn raw(&mut self, bytes: &[u8])
         requires { length (pad bytes.now) ≤ self.old.room }
         ensures { self.new ≡ with_bytes self.old (pad bytes.now) }
@@ -95,7 +95,7 @@ impl WordWriter {
         self.padding(bytes.len());
     }
 
-    /// Appends one raw byte. It takes no memory.
+    /// Appends one raw byte.
     pub fn byte(&mut self, n: u8)
         requires { 0 < self.old.room }
         ensures { self.new ≡ with_bytes self.old (n ∷ []) }
@@ -103,7 +103,7 @@ impl WordWriter {
         self.append(&[n]);
     }
 
-    /// Appends the padding of an item of so many bytes. It takes no memory.
+    /// Appends the padding of an item of so many bytes.
     pub fn padding(&mut self, len: usize)
         requires { padding len ≤ self.old.room }
         ensures { self.new ≡ with_bytes self.old (replicate (padding len) 0) }
@@ -111,8 +111,7 @@ impl WordWriter {
         self.append(&[0; 3][..padding_of(len)]);
     }
 
-    /// Begins a record: appends a size word, which `close_record` sets, and answers the position of it, in bytes. It
-    /// takes no memory.
+    /// Begins a record: appends a size word, which `close_record` sets, and answers the position of it, in bytes.
     pub fn open_record(&mut self) -> usize
         requires { 4 ≤ self.old.room }
         ensures start { result ≡ length self.old.bytes }
@@ -124,7 +123,7 @@ impl WordWriter {
     }
 
     /// Ends the record that began at the position: sets its size word to the number of bytes from there on, itself
-    /// counted (as a generated `writeToParcel` does). It takes no memory.
+    /// counted (as a generated `writeToParcel` does).
     pub fn close_record(&mut self, start: usize)
         requires whole { start + 4 ≤ length self.old.bytes }
         requires small { length self.old.bytes - start < 2 ^ 31 }
@@ -134,7 +133,7 @@ impl WordWriter {
         self.bytes[start..start + 4].copy_from_slice(&size.to_le_bytes());
     }
 
-    /// The bytes written. It takes no memory.
+    /// The bytes written.
     pub fn finish(self) -> Vec<u8>
         ensures { result.items ≡ self.bytes }
     {

@@ -15,7 +15,8 @@ FitsSome plans id v = (S : List Decl) × (t : AidlType) × IsOf plans id S t × 
 
 -- The same, and there is room for so many bytes, which spell it.
 abbrev pub FitsRoom : Plans → PlanId → Data → ℕ → Type 0
-FitsRoom plans id v room = (S : List Decl) × (t : AidlType) × IsOf plans id S t × Fits S t v × (length (spell S t v) < 2 ^ 31) × (length (spell S t v) ≤ room)
+FitsRoom plans id v room = (S : List Decl) × (t : AidlType) × IsOf plans id S t × Fits S t v
+    × (length (spell S t v) < 2 ^ 31) × (length (spell S t v) ≤ room)
 
 -- P holds of each schema and type for which the id stands, and which the value fits.
 abbrev pub OfEachFit : Plans → PlanId → Data → (List Decl → AidlType → Type 0) → Type 0

@@ -13,7 +13,7 @@ use marshal_plans::{PlanField, PlanId, PlanItem, Plans};
 use parcel_words::Wire;
 
 /// The number of bytes that spell a value of the type that the id stands for, or `most` where they are more: counting stops there.
-/// It takes no memory.
+///
 pub fn spelled_length(plans: &Plans, id: PlanId, value: &Value, most: usize) -> usize
     requires { FitsSome plans.now id (view value.now) }
     ensures { OfEachFit plans.now id (view value.now) (λ S t. result

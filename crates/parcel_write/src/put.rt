@@ -15,7 +15,7 @@ use aidl_values::{Element, Elements, Fields, Value};
 use marshal_plans::{PlanField, PlanId, PlanItem, Plans};
 use parcel_words::{Wire, WordWriter};
 
-/// Appends the bytes that spell a value of the type that the id stands for. It takes no memory.
+/// Appends the bytes that spell a value of the type that the id stands for.
 pub fn put_value(plans: &Plans, id: PlanId, value: &Value, to: &mut WordWriter)
     requires { FitsRoom plans.now id (view value.now) to.old.room }
     ensures { OfEachFit plans.now id (view value.now) (λ S t. to.new

@@ -14,4 +14,5 @@ Viable tokens = (more : List Token) × HasTree (tokens ++ more)
 
 -- The first k tokens are viable, and either they are all or the first k + 1 aren't.
 abbrev pub IsFaultPlace : List Token → ℕ → Type 0
-IsFaultPlace tokens k = Viable (take k tokens) × ((k ≡ length tokens) ⊎ ((k < length tokens) × (Viable (take (k + 1) tokens) → ⊥)))
+IsFaultPlace tokens k = Viable (take k tokens)
+    × ((k ≡ length tokens) ⊎ ((k < length tokens) × (Viable (take (k + 1) tokens) → ⊥)))

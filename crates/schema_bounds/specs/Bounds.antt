@@ -14,11 +14,13 @@ ReachesCycle S n = (m : ℕ) × ((n ≡ m) ⊎ Reaches S n m) × IsTrue (holds_i
 
 -- the same as a test
 abbrev pub reaches_cycle : List Decl → ℕ → Bool
-reaches_cycle S n = holds_itself S n || list_any (λ m. reaches_within (length S) S n m && holds_itself S m) (range_with_len 0 (length S))
+reaches_cycle S n = holds_itself S n
+    || list_any (λ m. reaches_within (length S) S n m && holds_itself S m) (range_with_len 0 (length S))
 
 -- E22 comes before E23, and E23 is judged where no cycle is reached.
 abbrev pub bound_by : Bool → Bool → Bool → Bound
-bound_by holds reaches small = if holds then HoldsItself else (if reaches then Within else (if small then Within else TooLarge))
+bound_by holds reaches small = if holds then HoldsItself
+    else (if reaches then Within else (if small then Within else TooLarge))
 
 -- the rule that a declaration breaks
 abbrev pub bound : List Decl → ℕ → Bound

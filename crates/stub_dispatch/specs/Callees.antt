@@ -12,4 +12,5 @@ pub record MethodOf : Type 0 where
 -- stored as the tuple of its fields
 abbrev pub method_code : Coded Decl → Coded MethodOf
 method_code decl = code_by (List Decl × (ℕ × ℕ)) (coded× (coded_list decl) (coded× coded_ℕ coded_ℕ))
-    (λ m. (m.decls, (m.interface, m.method))) (λ q. record { decls = q.0; interface = q.1.0; method = q.1.1 }) (λ _. refl)
+    (λ m. (m.decls, (m.interface, m.method)))
+    (λ q. record { decls = q.0; interface = q.1.0; method = q.1.1 }) (λ _. refl)

@@ -64,7 +64,7 @@ fn sum_with(sum: usize, arg: &Arg, value: &Value) -> usize
     sum + opened_length(arg, value)
 }
 
-// How many items an `out` argument starts with, and 0 of any other argument. It takes no memory.
+// How many items an `out` argument starts with, and 0 of any other argument.
 fn opened_length(arg: &Arg, value: &Value) -> usize
     ensures { result ≡ opened_length arg.now (view value.now) }
 {

@@ -10,7 +10,7 @@ ghost use Rattle.wire_model.specs.Calls.{arguments, method_at, result_type};
 use aidl_schema::{AidlType, Arg, Direction, Method, Schema, law_valid, methods_at};
 use marshal_plans::{PlanId, Plans};
 
-/// The method with a number of an interface. It takes no memory.
+/// The method with a number of an interface.
 pub fn method_of(schema: &Schema, interface: u32, method: u32) -> &Method
     requires { method < length (methods_at schema.now.decls interface) }
     ensures { method_at schema.now.decls interface method ≡ Some result.now }
@@ -30,7 +30,7 @@ pub fn law_planned(schema: &Schema, plans: &Plans, interface: u32, method: u32)
     law_valid(schema);
 }
 
-/// The id of an argument, by its position. It takes no memory.
+/// The id of an argument, by its position.
 pub fn argument_id(
     _schema: &Schema,
     plans: &Plans,
@@ -45,7 +45,7 @@ pub fn argument_id(
     plans.argument(interface, method, k)
 }
 
-/// The id of a method's result, None of a void method. It takes no memory.
+/// The id of a method's result, None of a void method.
 pub fn result_id(
     _schema: &Schema,
     plans: &Plans,
@@ -59,7 +59,7 @@ pub fn result_id(
     plans.result(interface, method)
 }
 
-/// Whether an argument of a way comes back with the reply. It takes no memory.
+/// Whether an argument of a way comes back with the reply.
 pub fn comes_back(way: Direction) -> bool
     ensures { result ≡ not (is_in_way way) }
 {

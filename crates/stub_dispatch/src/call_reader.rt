@@ -37,7 +37,7 @@ impl<'a> Model for CallReader<'a> {
 }
 
 impl<'a> CallReader<'a> {
-    /// A reader by the profile at the start of the bytes. It takes no memory.
+    /// A reader by the profile at the start of the bytes.
     pub fn new(profile: Profile, bytes: &'a [u8]) -> CallReader<'a>
         ensures { result ≡ record { profile = profile; bytes = bytes.now } }
     {
@@ -48,14 +48,14 @@ impl<'a> CallReader<'a> {
         }
     }
 
-    /// The bytes that are left. It takes no memory.
+    /// The bytes that are left.
     pub fn rest(&self) -> &'a [u8]
         ensures { result.now ≡ self.now.bytes }
     {
         &self.all[self.from.position()..]
     }
 
-    /// Passes eight bytes. It takes no memory.
+    /// Passes eight bytes.
     pub fn pass_eight(&mut self) -> Result<(), ReadFault>
         ensures taken { Takes (λ _. take 8 self.old.bytes) result
             (bytes_at 8 false self.old.bytes) self.new.bytes }
@@ -65,7 +65,7 @@ impl<'a> CallReader<'a> {
         Ok(())
     }
 
-    /// A word. It takes no memory.
+    /// A word.
     pub fn word(&mut self) -> Result<i32, ReadFault>
         ensures taken { Takes (λ n. n) result (word_at false self.old.bytes) self.new.bytes }
         ensures same { OnOk result (self.new.profile ≡ self.old.profile) }
@@ -73,7 +73,7 @@ impl<'a> CallReader<'a> {
         self.from.word()
     }
 
-    /// A count, where None is null. It takes no memory.
+    /// A count, where None is null.
     pub fn count(&mut self, nullable: bool) -> Result<Option<usize>, ReadFault>
         ensures taken { Takes (λ n. n) result
             (count_at nullable false self.old.bytes) self.new.bytes }

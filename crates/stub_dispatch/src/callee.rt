@@ -46,7 +46,7 @@ impl<'a> Model for Callee<'a> {
 }
 
 impl<'a> Callee<'a> {
-    /// The method at a position of an interface. It takes no memory.
+    /// The method at a position of an interface.
     pub fn new(side: &Side<'a>, interface: u32, method: u32) -> Callee<'a>
         requires { method < length (methods_at side.now interface) }
         ensures { result ≡ record { decls = side.now; interface = interface; method = method } }
@@ -59,21 +59,21 @@ impl<'a> Callee<'a> {
         }
     }
 
-    /// Its schema. It takes no memory.
+    /// Its schema.
     pub fn schema(&self) -> &'a Schema
         ensures { result.now.decls ≡ self.now.decls }
     {
         self.schema
     }
 
-    /// The number of its interface. It takes no memory.
+    /// The number of its interface.
     pub fn interface(&self) -> u32
         ensures { result ≡ self.now.interface }
     {
         self.interface
     }
 
-    /// Its position in its interface. It takes no memory.
+    /// Its position in its interface.
     pub fn method(&self) -> u32
         ensures is { result ≡ self.now.method }
         ensures there { self.now.method < length (methods_at self.now.decls self.now.interface) }
@@ -81,14 +81,14 @@ impl<'a> Callee<'a> {
         self.method
     }
 
-    /// How it is declared. It takes no memory.
+    /// How it is declared.
     pub fn declared(&self) -> &'a Method
         ensures { method_at self.now.decls self.now.interface self.now.method ≡ Some result.now }
     {
         method_of(self.schema, self.interface, self.method)
     }
 
-    /// Its arguments, with their plans. It takes no memory.
+    /// Its arguments, with their plans.
     pub(crate) fn arguments(&self) -> PlannedArguments<'a>
         ensures { result ≡ record {
           decls = self.now.decls;
@@ -102,7 +102,7 @@ impl<'a> Callee<'a> {
         PlannedArguments::new(self.schema, self.plans, self.interface, self.method, args)
     }
 
-    /// The type of its result, with the plan of it, None of a void method. It takes no memory.
+    /// The type of its result, with the plan of it, None of a void method.
     pub(crate) fn result(&self) -> Option<PlannedType<'a>>
         ensures { result ≡ option_map (λ ty. let of : TypeOf = record {
           decls = self.now.decls;

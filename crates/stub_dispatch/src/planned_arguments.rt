@@ -32,14 +32,14 @@ impl<'a> Model for PlannedArgument<'a> {
 }
 
 impl<'a> PlannedArgument<'a> {
-    /// How it is declared. It takes no memory.
+    /// How it is declared.
     pub fn declared(&self) -> &'a Arg
         ensures { result.now ≡ self.now.arg }
     {
         self.arg
     }
 
-    /// Its type. It takes no memory.
+    /// Its type.
     pub fn ty(&self) -> &PlannedType<'a>
         ensures { result.now ≡ record { decls = self.now.decls; ty = self.now.arg.ty } }
     {
@@ -76,7 +76,7 @@ impl<'a> Model for PlannedArguments<'a> {
 }
 
 impl<'a> PlannedArguments<'a> {
-    /// All arguments of a method. It takes no memory.
+    /// All arguments of a method.
     pub fn new(
         schema: &'a Schema,
         plans: &'a Plans,
@@ -97,7 +97,7 @@ impl<'a> PlannedArguments<'a> {
         }
     }
 
-    /// The first one, and those behind it; None where there is none. It takes no memory.
+    /// The first one, and those behind it; None where there is none.
     pub fn first(&self) -> Option<(PlannedArgument<'a>, PlannedArguments<'a>)>
         ensures { BeginsWith self.now result }
     {

@@ -44,7 +44,7 @@ impl<'a> Model for PlannedType<'a> {
 }
 
 impl<'a> PlannedType<'a> {
-    /// A type, by an id that stands for it. It takes no memory.
+    /// A type, by an id that stands for it.
     pub fn new(schema: &'a Schema, plans: &'a Plans, ty: AidlType, id: PlanId) -> PlannedType<'a>
         requires { IsOf plans.now id schema.now.decls ty }
         ensures { result ≡ record { decls = schema.now.decls; ty = ty } }
@@ -57,7 +57,7 @@ impl<'a> PlannedType<'a> {
         }
     }
 
-    /// The number of bytes that spell a value, or `most` where they are more. It takes no memory.
+    /// The number of bytes that spell a value, or `most` where they are more.
     pub fn length(&self, value: &Value, most: usize) -> usize
         requires { Fits self.now.decls self.now.ty (view value.now) }
         ensures { result ≡ min
@@ -66,7 +66,7 @@ impl<'a> PlannedType<'a> {
         spelled_length(self.plans, self.id, value, most)
     }
 
-    /// Appends the bytes that spell a value. It takes no memory.
+    /// Appends the bytes that spell a value.
     pub fn put(&self, value: &Value, to: &mut WordWriter)
         requires fits { Fits self.now.decls self.now.ty (view value.now) }
         requires small { length (spell self.now.decls self.now.ty (view value.now)) < 2 ^ 31 }

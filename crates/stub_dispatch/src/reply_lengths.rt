@@ -13,7 +13,7 @@ use aidl_base::Text;
 use aidl_values::{Answer, Value};
 use parcel_words::Wire;
 
-/// The number of bytes of a reply, or `most` where they are more: counting stops there. It takes no memory.
+/// The number of bytes of a reply, or `most` where they are more: counting stops there.
 pub fn reply_length(callee: &Callee<'_>, answer: &Answer, most: usize) -> usize
     requires { IsAnswer callee.now.decls callee.now.interface callee.now.method
         (answer_of answer.now) }
@@ -50,7 +50,7 @@ pub fn returned_length(
     (len + rest).saturating_add(4).min(most)
 }
 
-// The number of bytes of a result, or `most` where they are more; 0 of a void method. It takes no memory.
+// The number of bytes of a result, or `most` where they are more; 0 of a void method.
 fn result_length(callee: &Callee<'_>, value: &Option<Value>, most: usize) -> usize
     requires { ResultFits callee.now.decls (result_type
         callee.now.decls callee.now.interface callee.now.method) (optional_view value.now) }
@@ -66,7 +66,7 @@ fn result_length(callee: &Callee<'_>, value: &Option<Value>, most: usize) -> usi
     }
 }
 
-// The number of bytes of the outs of the arguments from one on, or `most` where they are more. It takes no memory.
+// The number of bytes of the outs of the arguments from one on, or `most` where they are more.
 #[tactic(auto, using(crate::proofs::lemmas::Parts::each_count))]
 fn outs_length(args: &PlannedArguments<'_>, values: &[Value], most: usize) -> usize
     requires { EachFits args.now.decls (outs_of args.now.args) (views values.now) }
@@ -90,7 +90,7 @@ fn outs_length(args: &PlannedArguments<'_>, values: &[Value], most: usize) -> us
     }
 }
 
-/// The number of bytes of the reply of an exception, or `usize::MAX` where they are more. It takes no memory.
+/// The number of bytes of the reply of an exception, or `usize::MAX` where they are more.
 #[tactic(auto, using(crate::proofs::lemmas::Parts::exception_count))]
 pub fn exception_length(code: i32, message: &Text, error: i32) -> usize
     ensures { result ≡ min (length (spell_exception code message.now error)) usize.MAX }

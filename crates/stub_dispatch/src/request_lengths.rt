@@ -10,7 +10,7 @@ use crate::token::token_length;
 use aidl_schema::{Direction, is_array};
 use aidl_values::Value;
 
-/// The number of bytes of a request, or `most` where they are more: counting stops there. It takes no memory.
+/// The number of bytes of a request, or `most` where they are more: counting stops there.
 pub fn request_length(callee: &Callee<'_>, args: &[Value], most: usize) -> usize
     requires { ArgumentsFit callee.now.decls
         (arguments callee.now.decls callee.now.interface callee.now.method) (views args.now) }

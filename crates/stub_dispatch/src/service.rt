@@ -42,7 +42,7 @@ impl<'a, 'b, F> Model for Service<'a, 'b, F> {
 
 impl<'a, 'b, F> Service<'a, 'b, F> {
     /// A service of an interface, by its number, that reads by a profile. What it needs of its handler is said where it is called, at
-    /// `transact`. A number of no interface has no methods, so each request is refused. It takes no memory.
+    /// `transact`. A number of no interface has no methods, so each request is refused.
     pub fn new(
         side: &'a Side<'b>,
         profile: Profile,

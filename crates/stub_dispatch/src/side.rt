@@ -30,7 +30,7 @@ impl<'a> Model for Side<'a> {
 }
 
 impl<'a> Side<'a> {
-    /// A side of a schema. It takes no memory.
+    /// A side of a schema.
     pub fn new(schema: &'a Schema, plans: &'a Plans) -> Side<'a>
         requires plans { ArePlansOf plans.now schema.now.decls }
         ensures { result ≡ schema.now.decls }
@@ -38,14 +38,14 @@ impl<'a> Side<'a> {
         Side { schema, plans }
     }
 
-    /// Its schema. It takes no memory.
+    /// Its schema.
     pub fn schema(&self) -> &'a Schema
         ensures { result.now.decls ≡ self.now }
     {
         self.schema
     }
 
-    /// Its plans. It takes no memory.
+    /// Its plans.
     pub fn plans(&self) -> &'a Plans
         ensures { ArePlansOf result.now self.now }
     {

@@ -21,7 +21,7 @@ use std::alloc::Global;
 // The header word of a token, `SYST`.
 const HEADER: i32 = 0x5359_5354;
 
-/// The number of bytes of an interface's token, or `usize::MAX` where they are more. It takes no memory.
+/// The number of bytes of an interface's token, or `usize::MAX` where they are more.
 #[tactic(auto, using(crate::proofs::Names::token_count))]
 pub fn token_length(schema: &Schema, interface: u32) -> usize
     ensures { result ≡ min (length (token (descriptor schema.now.decls interface))) usize.MAX }
@@ -30,7 +30,7 @@ pub fn token_length(schema: &Schema, interface: u32) -> usize
     (units / 2 + 2).saturating_mul(4).saturating_add(12)
 }
 
-/// Appends the token of a name. It takes no memory.
+/// Appends the token of a name.
 pub fn put_token(name: &Text, to: &mut WordWriter)
     requires small { length (token name.now) < 2 ^ 31 }
     requires room { length (token name.now) ≤ to.old.room }

@@ -11,4 +11,5 @@ is_long f = nat_lt 262144 (length f.bytes)
 
 -- the limit that is passed by more than 4,096 files, or else by a file that is long
 abbrev pub oversized : List SourceFile → Option LimitName
-oversized files = if nat_lt 4096 (length files) then Some limit.Files else (if list_any is_long files then Some limit.FileBytes else None)
+oversized files = if nat_lt 4096 (length files) then Some limit.Files
+    else (if list_any is_long files then Some limit.FileBytes else None)

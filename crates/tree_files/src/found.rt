@@ -27,7 +27,7 @@ pub struct Found {
 }
 
 impl Found {
-    /// What is found of no file. It takes no memory.
+    /// What is found of no file.
     pub fn nothing(alloc: Global) -> Found
         ensures { Stands [] result }
     {
@@ -99,7 +99,7 @@ impl Found {
         }
     }
 
-    /// The files parsed, or the first refusal. It takes no memory.
+    /// The files parsed, or the first refusal.
     pub fn answer(self) -> Result<Row<ParsedFile>, FilesFault>
         ensures ok { IfOk result (λ parsed. (files : List SourceFile)
             → oversized files ≡ None → Stands files self → AreParsed files parsed) }

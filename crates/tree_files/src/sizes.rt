@@ -5,7 +5,7 @@ ghost use Rattle.tree_files.specs.Sizes.{oversized, is_long};
 
 use aidl_base::{LimitName, SourceFile};
 
-/// The limit that the number of files passes, or else that the bytes of one file pass. It takes no memory.
+/// The limit that the number of files passes, or else that the bytes of one file pass.
 pub fn oversized(files: &[SourceFile]) -> Option<LimitName>
     ensures limit { result ≡ oversized files.now }
     ensures few { IfNone result (length files.now ≤ 4096) }

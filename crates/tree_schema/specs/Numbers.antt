@@ -1,4 +1,5 @@
--- The order of a schema's declarations: by the bytes of their canonical names (own). And the number that each has there.
+-- The order of a schema's declarations: by the bytes of their canonical names (own). And the number that each has
+-- there.
 use Rattle.std.specs.Prelude.{ℕ, nat_eq, Bool, List, [], ◌∷◌, Option}
 use Rattle.std.specs.Cmp.Lexicographic.{slice_cmp}
 use Rattle.std.specs.List.{fold, enumerate_from, position_from}
@@ -19,7 +20,8 @@ bytes_of e = encode_utf8_all (dotted e.name)
 abbrev pub order : Numbered → Numbered → Ordering
 order x y = slice_cmp nat_cmp (bytes_of x.1) (bytes_of y.1)
 
--- A declaration at its place among others. It would stand for another with its name; that none has an earlier one's is E2.
+-- A declaration at its place among others. It would stand for another with its name; that none has an earlier one's
+-- is E2.
 abbrev pub put : List Numbered → Numbered → List Numbered
 put [] x = x ∷ []
 put (y ∷ more) x = match_ordering (order x y) (x ∷ y ∷ more) (x ∷ more) (y ∷ put more x)

@@ -26,16 +26,25 @@ use Rattle.type_uses.specs.Ids.{id_of}
 -- a field, which may be one after the first of a union
 abbrev pub field_in : List Source → Outcomes → ℕ → ℕ → Bool → tree.Field → Field
 field_in files outcomes file scope later f =
-    record { name = f.name.name; ty = type_of files file scope f.annots f.ty; initial = initial_of files outcomes file scope later f.ty f.initial }
+    record {
+      name = f.name.name;
+      ty = type_of files file scope f.annots f.ty;
+      initial = initial_of files outcomes file scope later f.ty f.initial;
+    }
 
 -- the fields among members; `later` says that a field of a union stands before them
 abbrev pub fields_in : List Source → Outcomes → ℕ → ℕ → Bool → Bool → List Member → List Field
 fields_in files outcomes file scope in_union later [] = []
-fields_in files outcomes file scope in_union later (field f ∷ ms) = field_in files outcomes file scope later f ∷ fields_in files outcomes file scope in_union (later || in_union) ms
-fields_in files outcomes file scope in_union later (constant c ∷ ms) = fields_in files outcomes file scope in_union later ms
-fields_in files outcomes file scope in_union later (method m ∷ ms) = fields_in files outcomes file scope in_union later ms
-fields_in files outcomes file scope in_union later (enumerator e ∷ ms) = fields_in files outcomes file scope in_union later ms
-fields_in files outcomes file scope in_union later (nested d ∷ ms) = fields_in files outcomes file scope in_union later ms
+fields_in files outcomes file scope in_union later (field f ∷ ms) =
+    field_in files outcomes file scope later f ∷ fields_in files outcomes file scope in_union (later || in_union) ms
+fields_in files outcomes file scope in_union later (constant c ∷ ms) =
+    fields_in files outcomes file scope in_union later ms
+fields_in files outcomes file scope in_union later (method m ∷ ms) =
+    fields_in files outcomes file scope in_union later ms
+fields_in files outcomes file scope in_union later (enumerator e ∷ ms) =
+    fields_in files outcomes file scope in_union later ms
+fields_in files outcomes file scope in_union later (nested d ∷ ms) =
+    fields_in files outcomes file scope in_union later ms
 
 -- `in`, `out` or `inout`; an argument without one goes in
 abbrev pub way_of : Option WayTree → Direction
@@ -45,7 +54,8 @@ way_of (Some way.Out) = direction.Out
 way_of (Some way.InOut) = direction.InOut
 
 abbrev pub arg_in : List Source → ℕ → ℕ → tree.Arg → Arg
-arg_in files file scope a = record { name = a.name.name; way = way_of a.way; ty = type_of files file scope a.annots a.ty }
+arg_in files file scope a =
+    record { name = a.name.name; way = way_of a.way; ty = type_of files file scope a.annots a.ty }
 
 -- An id in the schema. For one above the last, which E19 refuses, 0 stands.
 abbrev pub kept_id : ℕ → ℕ
@@ -54,7 +64,14 @@ kept_id id = if nat_le id 16777114 then id else 0
 -- A method. It is oneway by itself or by its interface. Its annotations are those of its result.
 abbrev pub method_with : List Source → ℕ → ℕ → Bool → ℕ → tree.Method → Method
 method_with files file scope oneway id m =
-    record { name = m.name.name; id = id; oneway = m.oneway || oneway; result = map_option (type_of files file scope m.annots) m.returned; args = map (arg_in files file scope) m.args }
+    record {
+      name = m.name.name;
+      id = id;
+      oneway = m.oneway || oneway;
+      result = map_option
+          (type_of files file scope m.annots) m.returned;
+      args = map (arg_in files file scope) m.args;
+    }
 
 -- a method with the id that is written or given by its position
 abbrev pub method_in : List Source → ℕ → ℕ → Bool → ℕ → tree.Method → Method
@@ -75,7 +92,11 @@ enumerator_in files outcomes file e = record { name = e.name.name; value = enume
 
 -- A constant has a base alone: E20 refuses what isn't of shape one.
 abbrev pub constant_in : List Source → Outcomes → ℕ → ℕ → tree.Constant → Constant
-constant_in files outcomes file scope c = record { name = c.name.name; ty = (type_of files file scope c.annots c.ty).base; value = constant_value files outcomes file c.value }
+constant_in files outcomes file scope c = record {
+  name = c.name.name;
+  ty = (type_of files file scope c.annots c.ty).base;
+  value = constant_value files outcomes file c.value;
+}
 
 abbrev pub bytes_of : Constant → List ℕ
 bytes_of c = encode_utf8_all c.name.0
@@ -90,7 +111,8 @@ put (d ∷ more) c = match_ordering (order c d) (c ∷ d ∷ more) (c ∷ more) 
 
 abbrev pub listed_constants : List Source → Outcomes → ℕ → ℕ → List Member → List Constant
 listed_constants files outcomes file scope [] = []
-listed_constants files outcomes file scope (constant c ∷ ms) = constant_in files outcomes file scope c ∷ listed_constants files outcomes file scope ms
+listed_constants files outcomes file scope (constant c ∷ ms) =
+    constant_in files outcomes file scope c ∷ listed_constants files outcomes file scope ms
 listed_constants files outcomes file scope (field f ∷ ms) = listed_constants files outcomes file scope ms
 listed_constants files outcomes file scope (method m ∷ ms) = listed_constants files outcomes file scope ms
 listed_constants files outcomes file scope (enumerator e ∷ ms) = listed_constants files outcomes file scope ms

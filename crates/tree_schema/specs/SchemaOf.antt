@@ -25,10 +25,13 @@ backing_in _ = backing.Byte
 
 -- what a declaration with a number in the trees declares, an enum with a backing
 abbrev pub kind_with : List Source → Outcomes → ℕ → ℕ → Backing → Body → Kind
-kind_with files outcomes file number backing (parcelable ms) = Parcelable (fields_in files outcomes file number false false (listed ms))
-kind_with files outcomes file number backing (union ms) = Union (fields_in files outcomes file number true false (listed ms))
+kind_with files outcomes file number backing (parcelable ms) =
+    Parcelable (fields_in files outcomes file number false false (listed ms))
+kind_with files outcomes file number backing (union ms) =
+    Union (fields_in files outcomes file number true false (listed ms))
 kind_with files outcomes file number backing (enum es) = Enum backing (map (enumerator_in files outcomes file) es)
-kind_with files outcomes file number backing (interface oneway ms) = Interface (methods_in files file number oneway 0 (listed ms))
+kind_with files outcomes file number backing (interface oneway ms) =
+    Interface (methods_in files file number oneway 0 (listed ms))
 
 -- an enum has the backing that constants see
 abbrev pub kind_of : List Source → Outcomes → ℕ → ℕ → Wanted → Body → Kind

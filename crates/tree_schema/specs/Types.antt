@@ -31,7 +31,8 @@ abbrev pub base_of_number : Option ℕ → Base
 base_of_number None = base.Int
 base_of_number (Some number) = base.Named number
 
--- The base that a name means. The list word and a left-out name are none: E16 and E5 refuse them, and int stands for them.
+-- The base that a name means. The list word and a left-out name are none: E16 and E5 refuse them, and int stands
+-- for them.
 abbrev pub base_of : List Entry → Resolved → Base
 base_of entries (Builtin b) = base_of_builtin b
 base_of entries (Declared number) = base_of_number (number_of entries number)
@@ -40,7 +41,8 @@ base_of entries LeftOut = base.Int
 
 -- a type with the flags that its annotations give
 abbrev pub flagged : List Annot → Base → Shape → AidlType
-flagged annots b s = record { base = b; shape = s; nullable = is_nullable annots; heap = is_heap annots; utf8 = is_utf8 annots }
+flagged annots b s =
+    record { base = b; shape = s; nullable = is_nullable annots; heap = is_heap annots; utf8 = is_utf8 annots }
 
 -- For a type that E16 refuses an array of int stands: E22 and E23 take it as a sequence.
 abbrev pub typed : List Entry → List Annot → tree.Shape → AidlType

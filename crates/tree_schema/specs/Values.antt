@@ -36,7 +36,12 @@ or_zero None = roll-Const (Const-F.Number (pos 0))
 or_zero (Some c) = c
 
 abbrev pub whole : Const → ℤ
-whole c = elim (out-Const c) [ Const-F.Truth b ↦ pos 0 | Const-F.Number z ↦ z | Const-F.Text x ↦ pos 0 | Const-F.Members cs ↦ pos 0 ]
+whole c = elim (out-Const c) [
+  | Const-F.Truth b ↦ pos 0
+  | Const-F.Number z ↦ z
+  | Const-F.Text x ↦ pos 0
+  | Const-F.Members cs ↦ pos 0
+]
 
 abbrev pub constant_value : List Source → Outcomes → ℕ → Expr → Const
 constant_value files outcomes file e = or_zero (value_at files outcomes file (offset_of e))
@@ -47,11 +52,13 @@ enumerator_value files outcomes file e = whole (or_zero (value_at files outcomes
 -- the value of an expression; of a brace list the values of its members
 abbrev pub initial_value : List Source → Outcomes → ℕ → Init → Const
 initial_value files outcomes file (single e) = constant_value files outcomes file e
-initial_value files outcomes file (braces offset es) = roll-Const (Const-F.Members (map (λ e. constant_value files outcomes file e) es))
+initial_value files outcomes file (braces offset es) =
+    roll-Const (Const-F.Members (map (λ e. constant_value files outcomes file e) es))
 
--- The initializer of a field, which may be one after the first of a union. One that E21 refuses, or whose field's type E16
--- refuses, isn't there.
+-- The initializer of a field, which may be one after the first of a union. One that E21 refuses, or whose field's
+-- type E16 refuses, isn't there.
 abbrev pub initial_of : List Source → Outcomes → ℕ → ℕ → Bool → TypeTree → Option Init → Option Const
 initial_of files outcomes file scope later ty None = None
 initial_of files outcomes file scope later ty (Some init) =
-    if is_unjudged (declarations files) later (shape_in files file scope ty) init then None else Some (initial_value files outcomes file init)
+    if is_unjudged (declarations files) later (shape_in files file scope ty) init then None
+    else Some (initial_value files outcomes file init)

@@ -9,7 +9,7 @@ use aidl_schema::Backing;
 use aidl_syntax::{AnnotTree, DeclTree, ExprKind, ExprTree, InitTree, TokenKind};
 use type_shapes::{backing_annot, type_param};
 
-/// The type that spells the values of an enum: that of its annotation `@Backing`, or else byte. It takes no memory.
+/// The type that spells the values of an enum: that of its annotation `@Backing`, or else byte.
 pub fn backing_of(tree: &DeclTree) -> Backing
     ensures { result ≡ meant.backing_in (constants.backing_of (decl_of tree.now)) }
 {

@@ -9,8 +9,7 @@ use crate::tree::Tree;
 use aidl_schema::Base;
 use name_resolution::{BuiltinName, Resolved};
 
-/// The base in the schema that a name means. For the list word and for a left-out name int stands: E16 and E5 refuse them. It takes no
-/// memory.
+/// The base in the schema that a name means. For the list word and for a left-out name int stands: E16 and E5 refuse them.
 pub fn base_of(tree: &Tree<'_, '_>, name: Resolved) -> Base
     requires numbers { HasNumbers tree.now }
     ensures { result ≡ meant.base_of (declarations (files_of tree.now)) name }
@@ -44,7 +43,7 @@ fn base_of_number(number: Option<u32>) -> Base
     }
 }
 
-/// The number in the schema of the declaration that has a number in the trees. It takes no memory.
+/// The number in the schema of the declaration that has a number in the trees.
 pub fn number_of(tree: &Tree<'_, '_>, number: u32) -> Option<u32>
     requires numbers { HasNumbers tree.now }
     ensures { result ≡ numbers.number_of (declarations (files_of tree.now)) number }

@@ -13,7 +13,7 @@ use type_shapes::{Shape as TreeShape, shape_of};
 use type_uses::kept_of;
 
 /// The type in the schema that a type of a file is, where names are looked up in `scope`, and behind annotations (AOSP, "AIDL
-/// language", "Types"). For one that E16 refuses an array of int stands. It takes no memory.
+/// language", "Types"). For one that E16 refuses an array of int stands.
 pub fn type_of(scope: &Scope<'_, '_>, annots: &[AnnotTree], ty: &TypeTree) -> AidlType
     requires scope { IsDeclared scope.now }
     requires numbers { HasNumbers scope.now.tree }

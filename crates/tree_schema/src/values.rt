@@ -98,7 +98,7 @@ pub fn constant_value(
     }
 }
 
-/// The value of an enumerator, and 0 where it has none. It takes no memory.
+/// The value of an enumerator, and 0 where it has none.
 pub fn enumerator_value(tree: &Tree<'_, '_>, file: u32, enumerator: &EnumeratorTree) -> i64
     requires items { HasItems tree.now }
     ensures { result ≡ meant.enumerator_value

@@ -1,4 +1,5 @@
--- The rules on what a declaration holds (own), each as the list of its breaches. Files and places are the trees', bounds the schema's.
+-- The rules on what a declaration holds (own), each as the list of its breaches. Files and places are the trees',
+-- bounds the schema's.
 use Rattle.std.specs.Prelude.{ℕ, nat_eq, List, [], ◌∷◌, if◌then◌else◌}
 use Rattle.std.specs.List.{slice_index_or}
 use Rattle.aidl_base.specs.declared.breach.Breach.{Breach}
@@ -25,7 +26,8 @@ bound_at bounds n = slice_index_or bounds n Within
 
 -- a breach at the name of the declaration with a number, where its bound breaks the rule
 abbrev pub broken_at : ℕ → (ℕ → Bound) → ℕ → Numbered → List Breach
-broken_at rule bound_of n x = if nat_eq (rule_of (bound_of n)) rule then breach rule x.1.file (declared_name x.1.tree).offset ∷ [] else []
+broken_at rule bound_of n x = if nat_eq (rule_of (bound_of n)) rule
+    then breach rule x.1.file (declared_name x.1.tree).offset ∷ [] else []
 
 -- those of the trees' declarations, which the schema has in the same order
 unfoldable pub broken : ℕ → List Source → List Decl → List Breach
@@ -35,7 +37,7 @@ broken rule files S = in_each (broken_at rule (bound S)) 0 (sorted (declarations
 abbrev pub HoldsItself : List Source → List Decl → List Breach
 HoldsItself files S = broken 22 files S
 
--- E23 DefaultTooLarge: a parcelable or union that reaches no cycle of containment has a default of depth above 32 or of more than 512
--- nodes.
+-- E23 DefaultTooLarge: a parcelable or union that reaches no cycle of containment has a default of depth above 32
+-- or of more than 512 nodes.
 abbrev pub DefaultTooLarge : List Source → List Decl → List Breach
 DefaultTooLarge files S = broken 23 files S

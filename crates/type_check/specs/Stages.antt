@@ -32,6 +32,8 @@ types_broken files S = in_order (unsorted files ++ (HoldsItself files S ++ Defau
 -- These are the breaches of the first stage that has one.
 pub data AreBreaches (files : List Source) (rows : List Breach) : Type 0 where
   of_names : rows ≡ names_broken files → rows ≢ [] → AreBreaches files rows
-  of_constants : names_broken files ≡ [] → (outcomes : List Outcome) → AreOutcomes files outcomes → rows ≡ constants_broken files outcomes → rows ≢ [] → AreBreaches files rows
-  of_types : names_broken files ≡ [] → (outcomes : List Outcome) → AreOutcomes files outcomes → constants_broken files outcomes ≡ []
+  of_constants : names_broken files ≡ [] → (outcomes : List Outcome) → AreOutcomes files outcomes
+      → rows ≡ constants_broken files outcomes → rows ≢ [] → AreBreaches files rows
+  of_types : names_broken files ≡ [] → (outcomes : List Outcome) → AreOutcomes files outcomes
+      → constants_broken files outcomes ≡ []
       → rows ≡ types_broken files (schema_by files outcomes) → rows ≢ [] → AreBreaches files rows

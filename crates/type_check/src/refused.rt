@@ -10,7 +10,7 @@ use crate::fault::CheckFault;
 use aidl_names::NameFault;
 use tree_files::FilesFault;
 
-/// What is answered where the files aren't parsed. It takes no memory.
+/// What is answered where the files aren't parsed.
 pub fn of_files(fault: FilesFault) -> CheckFault
     ensures { (sources : List SourceFile) → files.IsRefusal sources fault
         → IsRefusal sources result }
@@ -23,7 +23,7 @@ pub fn of_files(fault: FilesFault) -> CheckFault
     }
 }
 
-/// What is answered where the names are refused. It takes no memory.
+/// What is answered where the names are refused.
 pub fn of_names(fault: NameFault) -> CheckFault
     ensures { (trees : List Source) → names.IsRefusal trees fault → IsRefusalOfTrees trees result }
 {

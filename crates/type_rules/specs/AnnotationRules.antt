@@ -1,5 +1,6 @@
 -- The check rules on annotations, each as the list of its breaches in a declaration (own in number and wording).
-use Rattle.std.specs.Prelude.{ℕ, Bool, true, false, not, ◌&&◌, ◌||◌, if◌then◌else◌, List, [], ◌∷◌, ◌++◌, map, Option, Some, None}
+use Rattle.std.specs.Prelude.{ℕ, Bool, true, false, not, ◌&&◌, ◌||◌, if◌then◌else◌, List, [], ◌∷◌, ◌++◌, map}
+use Rattle.std.specs.Prelude.{Option, Some, None}
 use Rattle.std.specs.List.{find, flat_map}
 use Rattle.aidl_base.specs.declared.breach.Breach.{Breach}
 use Rattle.aidl_syntax.specs.Trees.{Param, Annot}
@@ -15,8 +16,8 @@ use Rattle.type_uses.specs.Parameters.{literal_of, is_backing_word}
 use Rattle.type_uses.specs.Annotations.{row_of, stand_of_body, may_stand, takes, is_kept}
 use Rattle.type_uses.specs.TypeUses.{TypeUse, annotations_of, stand_of}
 
--- E13 BadAnnotation: an annotation isn't in the table, stands where its row doesn't allow it, has parameters that its row doesn't
--- give, or is a kept one whose name an earlier annotation of the same list has.
+-- E13 BadAnnotation: an annotation isn't in the table, stands where its row doesn't allow it, has parameters that
+-- its row doesn't give, or is a kept one whose name an earlier annotation of the same list has.
 
 -- an earlier annotation has its name
 abbrev pub is_again : List Annot → Annot → Bool
@@ -36,10 +37,11 @@ bad_annotations file s annots = map (λ a. breach 13 file a.offset) (after_earli
 
 -- at the declaration, and at the types that it uses
 abbrev pub BadAnnotation : Entry → List TypeUse → List Breach
-BadAnnotation e uses = bad_annotations e.file (stand_of_body (body e.tree)) (annots_of e.tree) ++ flat_map (λ u. bad_annotations e.file (stand_of u) (annotations_of u)) uses
+BadAnnotation e uses = bad_annotations e.file (stand_of_body (body e.tree)) (annots_of e.tree)
+    ++ flat_map (λ u. bad_annotations e.file (stand_of u) (annotations_of u)) uses
 
--- E15 BadBacking: an enum's first `Backing` annotation has no parameter `type`, or its first such parameter is none of the strings
--- "byte", "int" and "long".
+-- E15 BadBacking: an enum's first `Backing` annotation has no parameter `type`, or its first such parameter is none
+-- of the strings "byte", "int" and "long".
 
 abbrev pub names_backing : Option Param → Bool
 names_backing None = false

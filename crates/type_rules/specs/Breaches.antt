@@ -16,7 +16,8 @@ use Rattle.type_rules.specs.TypeRules.{BadConstant}
 -- those of a declaration, by the types that it uses
 unfoldable pub broken_by : List Entry → Entry → List TypeUse → List Breach
 broken_by entries e uses =
-    BadAnnotation e uses ++ BadNullable entries e uses ++ BadBacking e ++ BadShape e uses ++ BadDirection entries e uses ++ BadOneway e uses ++ BadId e uses
+    BadAnnotation e uses ++ BadNullable entries e uses ++ BadBacking e ++ BadShape e uses
+    ++ BadDirection entries e uses ++ BadOneway e uses ++ BadId e uses
     ++ BadConstant e uses ++ BadField entries e uses ++ NotFixed entries e uses
 
 -- those of the declaration with a number

@@ -1,5 +1,6 @@
 -- The check rules on fields, each as the list of its breaches in a declaration (own in number and wording).
-use Rattle.std.specs.Prelude.{ℕ, Bool, true, false, not, ◌&&◌, ◌||◌, if◌then◌else◌, List, [], ◌∷◌, ◌++◌, Option, Some, None}
+use Rattle.std.specs.Prelude.{ℕ, Bool, true, false, not, ◌&&◌, ◌||◌, if◌then◌else◌, List, [], ◌∷◌, ◌++◌, Option}
+use Rattle.std.specs.Prelude.{Some, None}
 use Rattle.std.specs.List.{list_any}
 use Rattle.aidl_base.specs.declared.breach.Breach.{Breach}
 use Rattle.aidl_syntax.specs.Trees.{Init, Body}
@@ -15,10 +16,10 @@ use Rattle.type_uses.specs.TypeUses.{TypeUse, of_field, name_place, is_field}
 use Rattle.type_uses.specs.Bases.{is_fixed_entry, is_fixed_base, is_refused}
 use Rattle.type_rules.specs.Filters.{broken_where}
 
--- E21 BadField: a brace list on shape one; an expression on another shape; a brace list with members for a sequence of parcelables or
--- unions; an initializer on a field of shape one whose base is a parcelable or union; an initializer on a union's field other than
--- the first; a union without a field. A type that E16 refuses has no breach. All but the last are the initializers that have no
--- outcome for their form.
+-- E21 BadField: a brace list on shape one; an expression on another shape; a brace list with members for a sequence
+-- of parcelables or unions; an initializer on a field of shape one whose base is a parcelable or union; an
+-- initializer on a union's field other than the first; a union without a field. A type that E16 refuses has no
+-- breach. All but the last are the initializers that have no outcome for their form.
 
 abbrev pub is_bad_initial : List Entry → Bool → Shape → Option Init → Bool
 is_bad_initial entries later t None = false
@@ -32,7 +33,8 @@ is_bad_field entries later _ = false
 abbrev pub bad_fields : List Entry → ℕ → Bool → Bool → List TypeUse → List Breach
 bad_fields entries file in_union later [] = []
 bad_fields entries file in_union later (u ∷ uses) =
-    (if is_bad_field entries later u then breach 21 file (name_place u) ∷ [] else []) ++ bad_fields entries file in_union (later || (in_union && is_field u)) uses
+    (if is_bad_field entries later u then breach 21 file (name_place u) ∷ [] else [])
+    ++ bad_fields entries file in_union (later || (in_union && is_field u)) uses
 
 abbrev pub is_union_body : Body → Bool
 is_union_body (union ms) = true
@@ -48,8 +50,8 @@ empty_union e uses = if is_empty_union e uses then breach 21 e.file (declared_na
 abbrev pub BadField : List Entry → Entry → List TypeUse → List Breach
 BadField entries e uses = empty_union e uses ++ bad_fields entries e.file (is_union_body (body e.tree)) false uses
 
--- E24 NotFixed: a declaration with `@FixedSize` has a field that isn't of shape one, is nullable, or has a base other than a primitive,
--- an enum, or a parcelable or union with `@FixedSize`. A type that E16 refuses has no breach.
+-- E24 NotFixed: a declaration with `@FixedSize` has a field that isn't of shape one, is nullable, or has a base
+-- other than a primitive, an enum, or a parcelable or union with `@FixedSize`. A type that E16 refuses has no breach.
 
 abbrev pub has_fixed_size : List Entry → Shape → Bool
 has_fixed_size entries (shape.One r) = is_fixed_base entries r

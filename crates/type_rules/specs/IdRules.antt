@@ -10,8 +10,8 @@ use Rattle.declared_names.specs.Numbered.{after_earlier}
 use Rattle.type_uses.specs.TypeUses.{TypeUse, methods_in}
 use Rattle.type_uses.specs.Ids.{number_of, is_id, has_id}
 
--- E19 BadId: a method has no id while another method of its interface has one; an id is no decimal without suffix from 0 to
--- 16777114; an id is that of an earlier method. Ids are compared by their values.
+-- E19 BadId: a method has no id while another method of its interface has one; an id is no decimal without suffix
+-- from 0 to 16777114; an id is that of an earlier method. Ids are compared by their values.
 
 abbrev pub has_value : ℕ → Option Token → Bool
 has_value id None = false

@@ -10,7 +10,8 @@ use Rattle.type_uses.specs.TypeUses.{TypeUse, of_method, name_place}
 use Rattle.type_rules.specs.Filters.{broken_where}
 use Rattle.type_rules.specs.TypeRules.{is_outward}
 
--- E18 BadOneway: a method that is oneway, by itself or by its interface, returns a value or has an `out` or `inout` argument.
+-- E18 BadOneway: a method that is oneway, by itself or by its interface, returns a value or has an `out` or `inout`
+-- argument.
 
 abbrev pub is_oneway_body : Body → Bool
 is_oneway_body (interface oneway ms) = oneway

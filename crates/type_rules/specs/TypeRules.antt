@@ -1,5 +1,6 @@
 -- The check rules on types, each as the list of its breaches in a declaration (own in number and wording).
-use Rattle.std.specs.Prelude.{ℕ, Bool, true, false, not, ◌&&◌, ◌||◌, if◌then◌else◌, List, map, Option, Some, None, is_none}
+use Rattle.std.specs.Prelude.{ℕ, Bool, true, false, not, ◌&&◌, ◌||◌, if◌then◌else◌, List, map, Option, Some, None}
+use Rattle.std.specs.Prelude.{is_none}
 use Rattle.std.specs.List.{filter, flat_map}
 use Rattle.aidl_base.specs.declared.breach.Breach.{Breach}
 use Rattle.aidl_syntax.specs.declared.tree.WayTree.{WayTree}
@@ -12,12 +13,14 @@ use Rattle.type_shapes.specs.declared.shape.Shape.{Shape}
 use Rattle.type_shapes.specs.declared.shape.Shape.TheVariants as shape
 use Rattle.type_shapes.specs.Types.{is_composite}
 use Rattle.type_uses.specs.Kept.{is_nullable_annot, is_heap_annot}
-use Rattle.type_uses.specs.TypeUses.{TypeUse, of_field, of_constant, of_method, of_argument, annotations_of, name_place, type_place}
+use Rattle.type_uses.specs.TypeUses.{TypeUse, of_field, of_constant, of_method, of_argument, annotations_of}
+use Rattle.type_uses.specs.TypeUses.{name_place, type_place}
 use Rattle.type_uses.specs.Bases.{is_one_composite, is_one_scalar, is_refused, is_refused_result}
 use Rattle.type_rules.specs.Filters.{broken_where}
 
--- E14 BadNullable, of fields, arguments and methods: `@nullable` on a type of shape one whose base is a primitive or an enum, or on
--- void; `heap=true` elsewhere than on a field of shape one whose base is a parcelable or union. A type that E16 refuses has no breach.
+-- E14 BadNullable, of fields, arguments and methods: `@nullable` on a type of shape one whose base is a primitive
+-- or an enum, or on void; `heap=true` elsewhere than on a field of shape one whose base is a parcelable or union. A
+-- type that E16 refuses has no breach.
 
 abbrev pub result_refuses_nullable : List Entry → Option Shape → Bool
 result_refuses_nullable entries None = true
@@ -40,17 +43,19 @@ is_bad_nullable nullable heap a = (nullable && is_nullable_annot a) || (heap && 
 
 -- in a list of annotations, where `@nullable` is refused, and where `heap=true` is
 abbrev pub bad_nullables : ℕ → Bool → Bool → List Annot → List Breach
-bad_nullables file nullable heap annots = map (λ a. breach 14 file a.offset) (filter (is_bad_nullable nullable heap) annots)
+bad_nullables file nullable heap annots =
+    map (λ a. breach 14 file a.offset) (filter (is_bad_nullable nullable heap) annots)
 
 -- of a use of a type
 abbrev pub bad_nullables_of : List Entry → ℕ → TypeUse → List Breach
-bad_nullables_of entries file u = bad_nullables file (refuses_nullable entries u) (refuses_heap entries u) (annotations_of u)
+bad_nullables_of entries file u =
+    bad_nullables file (refuses_nullable entries u) (refuses_heap entries u) (annotations_of u)
 
 abbrev pub BadNullable : List Entry → Entry → List TypeUse → List Breach
 BadNullable entries e uses = flat_map (bad_nullables_of entries e.file) uses
 
--- E16 BadShape: `List` without an element; an element on another name; a `List` with `[]`; a `List` element other than String, a
--- parcelable or a union.
+-- E16 BadShape: `List` without an element; an element on another name; a `List` with `[]`; a `List` element other
+-- than String, a parcelable or a union.
 
 abbrev pub is_bad_shape : TypeUse → Bool
 is_bad_shape (of_field f t) = is_refused t
@@ -61,8 +66,8 @@ is_bad_shape (of_argument a t) = is_refused t
 abbrev pub BadShape : Entry → List TypeUse → List Breach
 BadShape e uses = broken_where is_bad_shape 16 type_place e.file uses
 
--- E17 BadDirection: an argument of array or List shape, or of a parcelable or union, without a direction; any other argument with
--- `out` or `inout`. A type that E16 refuses has no breach.
+-- E17 BadDirection: an argument of array or List shape, or of a parcelable or union, without a direction; any other
+-- argument with `out` or `inout`. A type that E16 refuses has no breach.
 
 -- `out` or `inout`
 abbrev pub is_outward : Option WayTree → Bool

@@ -26,4 +26,5 @@ pub record IsUnbroken (entries : List Entry) (e : Entry) (uses : List TypeUse) :
 
 -- so it is in each declaration of the tree
 abbrev pub AreUnbroken : List Source → Type 0
-AreUnbroken files = (n : ℕ) (e : Entry) → slice_get (declarations files) n ≡ Some e → IsUnbroken (declarations files) e (type_uses files n e)
+AreUnbroken files = (n : ℕ) (e : Entry) → slice_get (declarations files) n ≡ Some e
+    → IsUnbroken (declarations files) e (type_uses files n e)

@@ -1,5 +1,5 @@
--- The rules that look at each use of a type by itself, in any declaration: the number of each, its place and its test; the declaration
--- may be an interface that is oneway.
+-- The rules that look at each use of a type by itself, in any declaration: the number of each, its place and its
+-- test; the declaration may be an interface that is oneway.
 use Rattle.std.specs.Prelude.{ℕ, Bool, List}
 use Rattle.declared_names.specs.Declarations.{Entry}
 use Rattle.type_rules.specs.declared.use_rules.UseRule.{UseRule}

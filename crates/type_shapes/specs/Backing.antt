@@ -14,7 +14,8 @@ use Rattle.const_values.specs.declared.wanted.Wanted.TheVariants as wanted
 
 -- what the words `int` and `long` say; `byte` and any other word say byte
 abbrev pub backing_of_word : List ℕ → Wanted
-backing_of_word word = if bytes_eq word (codes "int") then wanted.Int else (if bytes_eq word (codes "long") then wanted.Long else wanted.Byte)
+backing_of_word word = if bytes_eq word (codes "int") then wanted.Int
+    else (if bytes_eq word (codes "long") then wanted.Long else wanted.Byte)
 
 abbrev pub backing_of_text : List ℕ → Wanted
 backing_of_text text = backing_of_word (encode_utf8_all text)
@@ -58,7 +59,7 @@ backing_by (Some a) = backing_of_annot a
 abbrev pub annots_of : Decl → List Annot
 annots_of (decl offset annots n inner) = annots
 
--- byte, unless the first parameter `type` of the first `Backing` annotation is one of the string tokens "byte", "int" and
--- "long"
+-- byte, unless the first parameter `type` of the first `Backing` annotation is one of the string tokens "byte",
+-- "int" and "long"
 abbrev pub backing_of : Decl → Wanted
 backing_of d = backing_by (find is_backing (annots_of d))

@@ -16,7 +16,8 @@ abbrev pub refuses_single : List Entry → Shape → Bool
 refuses_single entries (shape.One r) = is_composite entries r
 refuses_single entries _ = true
 
--- A type takes no such brace list: a single value and a type that E16 refuses take none, and a sequence of parcelables or unions only the empty one.
+-- A type takes no such brace list: a single value and a type that E16 refuses take none, and a sequence of
+-- parcelables or unions only the empty one.
 abbrev pub refuses_braces : List Entry → Shape → Bool → Bool
 refuses_braces entries (shape.One r) some = true
 refuses_braces entries (shape.Array r) some = is_composite entries r && some
@@ -27,7 +28,7 @@ abbrev pub misfits : List Entry → Shape → Init → Bool
 misfits entries t (single e) = refuses_single entries t
 misfits entries t (braces offset es) = refuses_braces entries t (is_some_list es)
 
--- The initializer of a field has no outcome: the field isn't the first of a union, or its type is one that E16 refuses, or the
--- form of the initializer doesn't fit the type.
+-- The initializer of a field has no outcome: the field isn't the first of a union, or its type is one that E16
+-- refuses, or the form of the initializer doesn't fit the type.
 abbrev pub is_unjudged : List Entry → Bool → Shape → Init → Bool
 is_unjudged entries later_in_union t init = later_in_union || misfits entries t init

@@ -1,4 +1,5 @@
--- What a type is, by what names mean, and which value is wanted of a constant of it (AOSP, "AIDL language", "Types"; E16 is own).
+-- What a type is, by what names mean, and which value is wanted of a constant of it (AOSP, "AIDL language",
+-- "Types"; E16 is own).
 use Rattle.std.specs.Prelude.{ℕ, Bool, true, false, if◌then◌else◌, List, Option, Some, None}
 use Rattle.std.specs.List.{slice_get}
 use Rattle.aidl_syntax.specs.declared.tree.DottedTree.{DottedTree}
@@ -33,7 +34,8 @@ is_composite_body (enum es) = false
 is_composite_body (interface oneway ms) = false
 
 abbrev pub is_composite_number : List Entry → ℕ → Bool
-is_composite_number entries number = elim (slice_get entries number) [ None ↦ false | Some e ↦ is_composite_body (body e.tree) ]
+is_composite_number entries number =
+    elim (slice_get entries number) [ None ↦ false | Some e ↦ is_composite_body (body e.tree) ]
 
 -- a parcelable or a union
 abbrev pub is_composite : List Entry → Resolved → Bool

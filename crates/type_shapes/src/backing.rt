@@ -10,7 +10,7 @@ use aidl_syntax::{
 };
 use const_values::Wanted;
 
-/// The value that is wanted of an enum's enumerators: its backing, as constants see it. It takes no memory.
+/// The value that is wanted of an enum's enumerators: its backing, as constants see it.
 pub fn backing_of(tree: &DeclTree) -> Wanted
     ensures { result ≡ meant.backing_of (decl_of tree.now) }
 {
@@ -20,7 +20,7 @@ pub fn backing_of(tree: &DeclTree) -> Wanted
     }
 }
 
-/// The first annotation `Backing`. It takes no memory.
+/// The first annotation `Backing`.
 pub fn backing_annot(annots: &[AnnotTree]) -> Option<&AnnotTree>
     ensures { map_option (λ a. annot_of a.now) result
         ≡ find meant.is_backing (map annot_of annots.now) }
@@ -42,7 +42,7 @@ fn backing_of_annot(annot: &AnnotTree) -> Wanted
     }
 }
 
-/// The first parameter `type`. It takes no memory.
+/// The first parameter `type`.
 pub fn type_param(params: &[ParamTree]) -> Option<&ParamTree>
     ensures { map_option (λ p. param_of p.now) result
         ≡ find meant.is_type (map param_of params.now) }
@@ -55,7 +55,7 @@ pub fn type_param(params: &[ParamTree]) -> Option<&ParamTree>
     None
 }
 
-/// Whether a parameter is called `type`, by its name. It takes no memory.
+/// Whether a parameter is called `type`, by its name.
 pub fn is_type(name: &Option<NameTree>) -> bool
     ensures { result ≡ meant.is_type_name name.now }
 {

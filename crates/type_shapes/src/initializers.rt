@@ -8,8 +8,7 @@ use crate::shape::{Shape, is_composite};
 use aidl_syntax::InitTree;
 use declared_names::Found;
 
-/// Whether the initializer of a field, which may be one after the first of a union, has no outcome for its form. It takes no
-/// memory.
+/// Whether the initializer of a field, which may be one after the first of a union, has no outcome for its form.
 pub fn is_unjudged(found: &[Found<'_>], later: bool, shape: Shape, init: &InitTree) -> bool
     ensures { result ≡ meant.is_unjudged (map entry_of found.now) later shape (init_of init.now) }
 {

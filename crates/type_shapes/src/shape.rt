@@ -28,8 +28,7 @@ pub enum Shape {
     Refused,
 }
 
-/// What a type is in a file, below the declaration with the number `scope` (AOSP, "AIDL language", "Types"; E16: own). It takes
-/// no memory.
+/// What a type is in a file, below the declaration with the number `scope` (AOSP, "AIDL language", "Types"; E16: own).
 pub fn shape_of(names: &Names<'_>, file: u32, scope: u32, ty: &TypeTree) -> Shape
     requires { IsScope (map source_of names.now) file scope }
     ensures { result ≡ meant.shaped (declarations (map source_of names.now))
@@ -107,7 +106,7 @@ fn is_list_element(found: &[Found<'_>], base: Resolved) -> bool
     }
 }
 
-/// Whether a base is a parcelable or a union. It takes no memory.
+/// Whether a base is a parcelable or a union.
 pub fn is_composite(found: &[Found<'_>], base: Resolved) -> bool
     ensures { result ≡ meant.is_composite (map entry_of found.now) base }
 {

@@ -11,7 +11,7 @@ use const_values::Wanted;
 use declared_names::Found;
 use name_resolution::{BuiltinName, Resolved};
 
-/// The value that is wanted of one expression for a type; `found` are the declarations of the tree. It takes no memory.
+/// The value that is wanted of one expression for a type; `found` are the declarations of the tree.
 pub fn wanted_one(found: &[Found<'_>], shape: Shape) -> Wanted
     ensures { result ≡ meant.wanted_one (map entry_of found.now) shape }
 {
@@ -21,7 +21,7 @@ pub fn wanted_one(found: &[Found<'_>], shape: Shape) -> Wanted
     }
 }
 
-/// The value that is wanted of a member of a brace list for a type. It takes no memory.
+/// The value that is wanted of a member of a brace list for a type.
 pub fn wanted_element(found: &[Found<'_>], shape: Shape) -> Wanted
     ensures { result ≡ meant.wanted_element (map entry_of found.now) shape }
 {
@@ -66,7 +66,7 @@ fn wanted_of_number(found: &[Found<'_>], number: u32) -> Wanted
     }
 }
 
-/// Whether the declaration with a number is an enum. It takes no memory.
+/// Whether the declaration with a number is an enum.
 pub fn is_enum(found: &[Found<'_>], number: u32) -> bool
     ensures { result ≡ meant.is_enum (map entry_of found.now) number }
 {
@@ -76,7 +76,7 @@ pub fn is_enum(found: &[Found<'_>], number: u32) -> bool
     }
 }
 
-/// Whether a declaration is an enum. It takes no memory.
+/// Whether a declaration is an enum.
 pub fn is_enum_tree(tree: &DeclTree) -> bool
     ensures { result ≡ meant.is_enum_body (body (decl_of tree.now)) }
 {

@@ -1,5 +1,5 @@
--- The table of annotations: their names, where each may stand, and which parameters it may have (AOSP, "Annotations in AIDL"; which
--- are kept and which are dropped: own).
+-- The table of annotations: their names, where each may stand, and which parameters it may have (AOSP, "Annotations
+-- in AIDL"; which are kept and which are dropped: own).
 use Rattle.std.specs.Prelude.{ℕ, Bool, true, false, not, if◌then◌else◌, codes, List, [], ◌∷◌, map, Option, Some, None}
 use Rattle.std.specs.Str.{bytes_eq}
 use Rattle.aidl_syntax.specs.Trees.{Param, Annot, Body}
@@ -18,13 +18,17 @@ use Rattle.type_uses.specs.Parameters.{is_heap, is_type_string}
 
 -- the annotations that say nothing here
 abbrev pub dropped : List (List ℕ)
-dropped = codes "JavaDerive" ∷ codes "RustDerive" ∷ codes "JavaOnlyImmutable" ∷ codes "Hide" ∷ codes "SuppressWarnings" ∷ codes "SensitiveData"
-    ∷ codes "JavaPassthrough" ∷ codes "JavaDefault" ∷ codes "JavaDelegator" ∷ codes "JavaSuppressLint" ∷ codes "UnsupportedAppUsage"
-    ∷ codes "EnforcePermission" ∷ codes "RequiresNoPermission" ∷ codes "PermissionManuallyEnforced" ∷ codes "PropagateAllowBlocking" ∷ []
+dropped = codes "JavaDerive" ∷ codes "RustDerive" ∷ codes "JavaOnlyImmutable" ∷ codes "Hide"
+    ∷ codes "SuppressWarnings" ∷ codes "SensitiveData"
+    ∷ codes "JavaPassthrough" ∷ codes "JavaDefault" ∷ codes "JavaDelegator" ∷ codes "JavaSuppressLint"
+    ∷ codes "UnsupportedAppUsage"
+    ∷ codes "EnforcePermission" ∷ codes "RequiresNoPermission" ∷ codes "PermissionManuallyEnforced"
+    ∷ codes "PropagateAllowBlocking" ∷ []
 
 -- the names of the table
 abbrev pub rows : List (List ℕ × Annotation)
-rows = (codes "nullable", row.Nullable) ∷ (codes "utf8InCpp", row.Utf8InCpp) ∷ (codes "Backing", row.Backing) ∷ (codes "FixedSize", row.FixedSize)
+rows = (codes "nullable", row.Nullable) ∷ (codes "utf8InCpp", row.Utf8InCpp) ∷ (codes "Backing", row.Backing)
+    ∷ (codes "FixedSize", row.FixedSize)
     ∷ (codes "VintfStability", row.VintfStability) ∷ map (λ name. (name, row.Dropped)) dropped
 
 -- the row of the first of these names that the text is
@@ -58,8 +62,8 @@ is_text_based (shape.Array r) = is_text r
 is_text_based (shape.List r) = is_text r
 is_text_based shape.Refused = true
 
--- Where each row allows an annotation: a field, an argument or a return type, void among them; a type whose base is String; an enum; a
--- parcelable or a union; a declaration; anywhere.
+-- Where each row allows an annotation: a field, an argument or a return type, void among them; a type whose base is
+-- String; an enum; a parcelable or a union; a declaration; anywhere.
 abbrev pub may_stand : Annotation → Stand → Bool
 may_stand row.Nullable (stand.Type t) = true
 may_stand row.Nullable stand.Void = true

@@ -27,7 +27,8 @@ is_fixed_number entries number = elim (slice_get entries number) [ None ↦ fals
 
 -- a primitive, an enum, or a parcelable or union with `@FixedSize`
 abbrev pub is_fixed_base : List Entry → Resolved → Bool
-is_fixed_base entries (Declared number) = is_scalar entries (Declared number) || (is_composite entries (Declared number) && is_fixed_number entries number)
+is_fixed_base entries (Declared number) = is_scalar entries (Declared number)
+    || (is_composite entries (Declared number) && is_fixed_number entries number)
 is_fixed_base entries r = is_scalar entries r
 
 -- a type that E16 refuses

@@ -28,7 +28,8 @@ abbrev pub id_by : ℕ → Option Token → ℕ
 id_by position None = position
 id_by position (Some t) = number_of t
 
--- the id of the method at a 0-based position: the number written, or else the position, since then no method of the interface has one
+-- the id of the method at a 0-based position: the number written, or else the position, since then no method of the
+-- interface has one
 abbrev pub id_of : ℕ → Method → ℕ
 id_of position m = id_by position m.id
 

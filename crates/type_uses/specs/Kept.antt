@@ -1,5 +1,5 @@
--- What is kept of a list of annotations: by their names, whatever else their parameters are (own). The backing of an enum is
--- `backing_of` of type_shapes.
+-- What is kept of a list of annotations: by their names, whatever else their parameters are (own). The backing of
+-- an enum is `backing_of` of type_shapes.
 use Rattle.std.specs.Prelude.{ℕ, Bool, ◌&&◌, codes, List}
 use Rattle.std.specs.List.{list_any}
 use Rattle.std.specs.Str.{bytes_eq}
@@ -37,4 +37,10 @@ abbrev pub is_vintf : List Annot → Bool
 is_vintf annots = list_any (is_called (codes "VintfStability")) annots
 
 abbrev pub kept_of : List Annot → Kept
-kept_of annots = record { nullable = is_nullable annots; heap = is_heap annots; utf8 = is_utf8 annots; fixed = is_fixed annots; vintf = is_vintf annots }
+kept_of annots = record {
+  nullable = is_nullable annots;
+  heap = is_heap annots;
+  utf8 = is_utf8 annots;
+  fixed = is_fixed annots;
+  vintf = is_vintf annots;
+}

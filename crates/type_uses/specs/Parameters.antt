@@ -1,5 +1,5 @@
--- What the parameters of an annotation say. A value counts where it is a single literal token alone: no parentheses, no operator,
--- no braces (own).
+-- What the parameters of an annotation say. A value counts where it is a single literal token alone: no
+-- parentheses, no operator, no braces (own).
 use Rattle.std.specs.Prelude.{ℕ, Bool, true, false, ◌&&◌, ◌||◌, codes, List, Option, Some, None}
 use Rattle.std.specs.Str.{bytes_eq, encode_utf8_all}
 use Rattle.aidl_base.specs.declared.reserved.Reserved.TheVariants as word

@@ -1,4 +1,5 @@
--- Where a declaration uses types: its fields, its constants, what its methods return and their arguments, each with what the type is.
+-- Where a declaration uses types: its fields, its constants, what its methods return and their arguments, each with
+-- what the type is.
 use Rattle.std.specs.Prelude.{ℕ, Bool, true, false, List, [], ◌∷◌, map, Option, Some, None}
 use Rattle.std.specs.List.{flat_map}
 use Rattle.aidl_syntax.specs.declared.tree.TypeTree.{TypeTree}

@@ -19,7 +19,7 @@ pub enum Annotation {
     Dropped,
 }
 
-/// The row of an annotation, by its name. It takes no memory.
+/// The row of an annotation, by its name.
 pub fn row_of(annot: &AnnotTree) -> Option<Annotation>
     ensures { result ≡ meant.row_of (annot_of annot.now) }
 {
@@ -47,7 +47,7 @@ fn row_of_name(name: &str) -> Option<Annotation>
 }
 
 impl Annotation {
-    /// Whether the row allows it there. It takes no memory.
+    /// Whether the row allows it there.
     pub fn may_stand(self, stand: Stand) -> bool
         ensures { result ≡ meant.may_stand self stand }
     {
@@ -65,7 +65,7 @@ impl Annotation {
         }
     }
 
-    /// Whether the row gives these parameters. It takes no memory.
+    /// Whether the row gives these parameters.
     pub fn takes(self, params: &[ParamTree]) -> bool
         ensures { result ≡ meant.takes self (map param_of params.now) }
     {
@@ -87,7 +87,7 @@ impl Annotation {
         }
     }
 
-    /// Whether it is kept. It takes no memory.
+    /// Whether it is kept.
     pub fn is_kept(self) -> bool
         ensures { result ≡ meant.is_kept self }
     {

@@ -8,7 +8,7 @@ use declared_names::Found;
 use name_resolution::Resolved;
 use type_shapes::{Shape, is_composite, is_enum};
 
-// Each takes no memory; `found` are the declarations of the tree.
+// `found` are the declarations of the tree.
 
 /// Whether a base is a primitive or an enum.
 pub fn is_scalar(found: &[Found<'_>], base: Resolved) -> bool

@@ -5,8 +5,7 @@ ghost use Rattle.type_uses.specs.Ids as meant;
 
 use aidl_syntax::{MethodTree, Token, TokenKind};
 
-/// The id of the method at a 0-based position among those of its interface: the number written, or else the position. It takes no
-/// memory.
+/// The id of the method at a 0-based position among those of its interface: the number written, or else the position.
 pub fn id_of(position: u64, method: &MethodTree) -> u64
     ensures { result ≡ meant.id_of position (method_of method.now) }
 {
@@ -16,7 +15,7 @@ pub fn id_of(position: u64, method: &MethodTree) -> u64
     }
 }
 
-/// The value of a number, whatever its spelling. It takes no memory.
+/// The value of a number, whatever its spelling.
 pub fn number_of(token: &Token) -> u64
     ensures { result ≡ meant.number_of token.now }
 {
@@ -26,7 +25,7 @@ pub fn number_of(token: &Token) -> u64
     }
 }
 
-/// Whether it is a decimal without suffix from 0 to 16777114. It takes no memory.
+/// Whether it is a decimal without suffix from 0 to 16777114.
 pub fn is_id(token: &Token) -> bool
     ensures { result ≡ meant.is_id token.now }
 {

@@ -22,7 +22,7 @@ pub struct Kept {
     pub vintf: bool,
 }
 
-/// What is kept of a list of annotations, by their names (own). It takes no memory.
+/// What is kept of a list of annotations, by their names (own).
 pub fn kept_of(annots: &[AnnotTree]) -> Kept
     ensures { result ≡ meant.kept_of (map annot_of annots.now) }
 {
@@ -35,14 +35,14 @@ pub fn kept_of(annots: &[AnnotTree]) -> Kept
     }
 }
 
-/// Whether `@nullable` stands there. It takes no memory.
+/// Whether `@nullable` stands there.
 pub fn is_nullable(annots: &[AnnotTree]) -> bool
     ensures { result ≡ meant.is_nullable (map annot_of annots.now) }
 {
     has_called(annots, "nullable")
 }
 
-/// Whether `@FixedSize` stands there. It takes no memory.
+/// Whether `@FixedSize` stands there.
 pub fn is_fixed(annots: &[AnnotTree]) -> bool
     ensures { result ≡ meant.is_fixed (map annot_of annots.now) }
 {
@@ -77,14 +77,14 @@ fn is_heap(annots: &[AnnotTree]) -> bool
     false
 }
 
-/// Whether it is a `@nullable` with `heap=true`. It takes no memory.
+/// Whether it is a `@nullable` with `heap=true`.
 pub fn is_heap_annot(annot: &AnnotTree) -> bool
     ensures { result ≡ meant.is_heap_annot (annot_of annot.now) }
 {
     is_nullable_annot(annot) && has_heap_true(annot.params.as_slice())
 }
 
-/// Whether it is a `@nullable`. It takes no memory.
+/// Whether it is a `@nullable`.
 pub fn is_nullable_annot(annot: &AnnotTree) -> bool
     ensures { result ≡ meant.is_nullable_annot (annot_of annot.now) }
 {

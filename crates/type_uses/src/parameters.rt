@@ -58,7 +58,7 @@ fn is_string(kind: Option<&TokenKind>) -> bool
     }
 }
 
-/// Whether a value is one of the strings "byte", "int" and "long". It takes no memory.
+/// Whether a value is one of the strings "byte", "int" and "long".
 pub fn is_backing_word(init: &InitTree) -> bool
     ensures { result ≡ meant.is_backing_word (meant.literal_of (init_of init.now)) }
 {
@@ -83,7 +83,7 @@ fn is_heap_name(name: &Option<NameTree>) -> bool
     }
 }
 
-/// Whether one of the parameters is `heap=true`. It takes no memory.
+/// Whether one of the parameters is `heap=true`.
 pub fn has_heap_true(params: &[ParamTree]) -> bool
     ensures { result ≡ list_any meant.is_heap_true (map param_of params.now) }
 {
@@ -101,14 +101,14 @@ fn is_heap_true(param: &ParamTree) -> bool
     is_heap_name(&param.name) && is_true_word(literal_of(&param.value))
 }
 
-/// Whether a parameter is `heap=true` or `heap=false`. It takes no memory.
+/// Whether a parameter is `heap=true` or `heap=false`.
 pub fn is_heap(param: &ParamTree) -> bool
     ensures { result ≡ meant.is_heap (param_of param.now) }
 {
     is_heap_name(&param.name) && is_truth_word(literal_of(&param.value))
 }
 
-/// Whether a parameter is `type` with a string. It takes no memory.
+/// Whether a parameter is `type` with a string.
 pub fn is_type_string(param: &ParamTree) -> bool
     ensures { result ≡ meant.is_type_string (param_of param.now) }
 {

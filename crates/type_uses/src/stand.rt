@@ -25,7 +25,7 @@ pub enum Stand {
     Interface,
 }
 
-/// Where the annotations of a declaration stand. It takes no memory.
+/// Where the annotations of a declaration stand.
 pub fn stand_of_tree(tree: &DeclTree) -> Stand
     ensures { result ≡ meant.stand_of_body (body (decl_of tree.now)) }
 {
@@ -43,7 +43,7 @@ fn stand_of_body(body: &BodyTree) -> Stand
     }
 }
 
-/// Whether the base of a type is String, or E16 refuses the type. It takes no memory.
+/// Whether the base of a type is String, or E16 refuses the type.
 pub fn is_text_based(shape: Shape) -> bool
     ensures { result ≡ meant.is_text_based shape }
 {
@@ -55,7 +55,7 @@ pub fn is_text_based(shape: Shape) -> bool
     }
 }
 
-/// Whether a base is String. It takes no memory.
+/// Whether a base is String.
 pub fn is_text(base: Resolved) -> bool
     ensures { result ≡ meant.is_text base }
 {

@@ -18,7 +18,7 @@ pub enum TypeUseRef<'a> {
     Argument(&'a ArgTree, Shape),
 }
 
-/// The annotations before it; those before a method are of what it returns. It takes no memory.
+/// The annotations before it; those before a method are of what it returns.
 pub fn annotations_of<'a>(used: TypeUseRef<'a>) -> &'a [AnnotTree]
     ensures { map annot_of result.now ≡ meant.annotations_of (seen_use used.entry) }
 {
@@ -30,7 +30,7 @@ pub fn annotations_of<'a>(used: TypeUseRef<'a>) -> &'a [AnnotTree]
     }
 }
 
-/// Where these stand. It takes no memory.
+/// Where these stand.
 pub fn stand_of(used: TypeUseRef<'_>) -> Stand
     ensures { result ≡ meant.stand_of (seen_use used.entry) }
 {
@@ -43,7 +43,7 @@ pub fn stand_of(used: TypeUseRef<'_>) -> Stand
     }
 }
 
-/// The place of its name. It takes no memory.
+/// The place of its name.
 pub fn name_place(used: TypeUseRef<'_>) -> u32
     ensures { result ≡ meant.name_place (seen_use used.entry) }
 {
@@ -55,7 +55,7 @@ pub fn name_place(used: TypeUseRef<'_>) -> u32
     }
 }
 
-/// The place of the type; 0 where a method returns void. It takes no memory.
+/// The place of the type; 0 where a method returns void.
 pub fn type_place(used: TypeUseRef<'_>) -> u32
     ensures { result ≡ meant.type_place (seen_use used.entry) }
 {
@@ -76,7 +76,7 @@ fn place_of_returned(ty: &Option<TypeTree>) -> u32
     }
 }
 
-/// Whether it is a field. It takes no memory.
+/// Whether it is a field.
 pub fn is_field(used: TypeUseRef<'_>) -> bool
     ensures { result ≡ meant.is_field (seen_use used.entry) }
 {

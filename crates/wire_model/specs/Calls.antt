@@ -71,8 +71,8 @@ outs_of xs = map (λ a. a.ty) (filter (λ a. not (is_in_way a.way)) xs)
 abbrev pub out_types : List Decl → ℕ → ℕ → List AidlType
 out_types S i m = outs_of (arguments S i m)
 
--- what a handler answers, and what a client makes of its reply; of an answer that fits, and of what a client reads, `error` is 0 unless the
--- code is that of a service's own exception
+-- what a handler answers, and what a client makes of its reply; of an answer that fits, and of what a client reads,
+-- `error` is 0 unless the code is that of a service's own exception
 pub data AnswerData : Type 0 where
   returned : (result : Option Data) → (outs : Items) → AnswerData
   exception : (code : ℤ) → (message : List ℕ) → (error : ℤ) → AnswerData

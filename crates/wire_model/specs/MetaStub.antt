@@ -1,6 +1,7 @@
--- *MetaStub*: what is made of a request by a service that also answers for the version and the hash of its interface (the compiler's
--- generated `getInterfaceVersion` and `getInterfaceHash`; that the token and bytes left over are looked at there is own).
--- S is a schema's declarations, i the number of an interface, code and b the code and the bytes of a request. All is read strictly.
+-- *MetaStub*: what is made of a request by a service that also answers for the version and the hash of its
+-- interface (the compiler's generated `getInterfaceVersion` and `getInterfaceHash`; that the token and bytes left
+-- over are looked at there is own). S is a schema's declarations, i the number of an interface, code and b the code
+-- and the bytes of a request. All is read strictly.
 use Rattle.std.specs.Prelude.{ℕ, ℤ, pos, ◌==◌, if◌then◌else◌, List, [], ◌∷◌, ◌++◌, Option, Some, None, Result, Ok}
 use Rattle.aidl_base.specs.declared.profile.Profile.TheVariants.{Strict}
 use Rattle.aidl_base.specs.Words.{word}
@@ -22,10 +23,11 @@ hash_code = 16777214
 -- what a code asks for: the version as a word, or the hash as a String; nothing where it is neither code
 abbrev pub told_of : ℕ → List ℕ → ℕ → Option (List ℕ)
 told_of version hash code =
-    if code == version_code then Some (word (pos version)) else if code == hash_code then Some (spell_text hash) else None
+    if code == version_code then Some (word (pos version))
+    else if code == hash_code then Some (spell_text hash) else None
 
--- the reply to one of the two codes, by the bytes after the token: the status 0 and what is told; where bytes are left, that of `left`,
--- which has the same bytes for every method that isn't oneway
+-- the reply to one of the two codes, by the bytes after the token: the status 0 and what is told; where bytes are
+-- left, that of `left`, which has the same bytes for every method that isn't oneway
 abbrev pub own_reply : List Decl → ℕ → List ℕ → List ℕ → List ℕ
 own_reply S i item [] = word (pos 0) ++ item
 own_reply S i item (x ∷ rest) = reply S i 0 unread

@@ -1,6 +1,8 @@
--- *Outcome*: what comes of a call between two schemas of which one is a legal evolution of the other, without a word of bytes (own).
--- A is the client's declarations, i and m the interface and the method of the call, B the server's declarations.
-use Rattle.std.specs.Prelude.{◌≡◌, ◌⊎◌, ℕ, ℤ, true, List, [], ◌∷◌, Option, Some, None, option_map, Result, Ok, if◌then◌else◌}
+-- *Outcome*: what comes of a call between two schemas of which one is a legal evolution of the other, without a
+-- word of bytes (own). A is the client's declarations, i and m the interface and the method of the call, B the
+-- server's declarations.
+use Rattle.std.specs.Prelude.{◌≡◌, ◌⊎◌, ℕ, ℤ, true, List, [], ◌∷◌, Option, Some, None, option_map, Result, Ok}
+use Rattle.std.specs.Prelude.{if◌then◌else◌}
 use Rattle.std.specs.List.{position}
 use Rattle.aidl_schema.specs.declared.schema.AidlType.{AidlType}
 use Rattle.aidl_schema.specs.declared.schema.Arg.{Arg}
@@ -12,7 +14,8 @@ use Rattle.aidl_schema.specs.Names.{name_of, methods_of}
 use Rattle.aidl_schema.specs.Same.{same_text}
 use Rattle.aidl_schema.specs.Unbroken.{Has}
 use Rattle.aidl_values.specs.Data.{Data, Items, none, item}
-use Rattle.wire_model.specs.Calls.{AnswerData, returned, exception, descriptor, method_at, arguments, result_type, out_types, is_oneway, is_out}
+use Rattle.wire_model.specs.Calls.{AnswerData, returned, exception, descriptor, method_at, arguments, result_type}
+use Rattle.wire_model.specs.Calls.{out_types, is_oneway, is_out}
 use Rattle.wire_model.specs.ReadOf.{◌>>=◌}
 use Rattle.wire_model.specs.Receiver.{Received, called, opening, opened_arguments, or_status}
 use Rattle.wire_model.specs.Requests.{sent_length}
@@ -25,7 +28,8 @@ OneFollows A B = (broken A B ≡ []) ⊎ (broken B A ≡ [])
 
 -- No code of an interface that both have is that of a oneway method in one and of a two-way method in the other.
 abbrev pub SameWays : List Decl → List Decl → Type 0
-SameWays A B = (d e : Decl) (v w : Method) → Has A d → Has B e → same_name d e ≡ true → Has (methods_of d.kind) v → Has (methods_of e.kind) w → v.id ≡ w.id → v.oneway ≡ w.oneway
+SameWays A B = (d e : Decl) (v w : Method) → Has A d → Has B e → same_name d e ≡ true → Has (methods_of d.kind) v
+    → Has (methods_of e.kind) w → v.id ≡ w.id → v.oneway ≡ w.oneway
 
 -- the number of the declaration of a name
 abbrev pub declared_as : List Decl → List ℕ → Option ℕ
@@ -38,7 +42,8 @@ method_like (Some v) ws = position (λ w. same_method v w) ws
 
 -- the call is one of method n of the server's interface j: these have the names of the client's
 abbrev pub Reaches : List Decl → ℕ → ℕ → List Decl → ℕ → ℕ → Type 0
-Reaches A i m B j n = (declared_as B (descriptor A i) ≡ Some j) × (method_like (method_at A i m) (methods_at B j) ≡ Some n)
+Reaches A i m B j n = (declared_as B (descriptor A i) ≡ Some j)
+    × (method_like (method_at A i m) (methods_at B j) ≡ Some n)
 
 -- what the handler sees of an argument: the view of an `in` or `inout` one, the opening of an `out` one
 abbrev pub view_argument : List Decl → Arg → List Decl → Arg → Data → Option Data
@@ -54,8 +59,10 @@ view_arguments A [] B ys vs = Some none
 -- what the interface j of the server receives: the position of its method, and what the handler sees
 unfoldable pub seen_call : List Decl → ℕ → ℕ → List Decl → ℕ → Items → Result (ℕ × Items) ℤ
 seen_call A i m B j args = do
-  n ← or_status unknown_transaction (method_like (method_at A i m) (methods_at B j))  -- UNKNOWN_TRANSACTION: B lacks the method
-  saw ← or_status bad_value (view_arguments A (arguments A i m) B (arguments B j n) args)  -- BAD_VALUE: an argument has no view
+  -- UNKNOWN_TRANSACTION: B lacks the method
+  n ← or_status unknown_transaction (method_like (method_at A i m) (methods_at B j))
+  -- BAD_VALUE: an argument has no view
+  saw ← or_status bad_value (view_arguments A (arguments A i m) B (arguments B j n) args)
   Ok (n, saw)
 
 -- the same as what a stub receives
@@ -78,7 +85,8 @@ view_result B (Some t) A (Some u) None = Some None
 view_result B (Some t) A None r = Some None
 view_result B None A u r = Some None
 
--- what the client has of the answer of the server's method: the same exception, or the views from B to A of the result and of the outs
+-- what the client has of the answer of the server's method: the same exception, or the views from B to A of the
+-- result and of the outs
 abbrev pub seen_answer : List Decl → ℕ → ℕ → List Decl → ℕ → ℕ → AnswerData → Result AnswerData ℤ
 seen_answer B j n A i m (exception code message error) = Ok (exception code message error)
 seen_answer B j n A i m (returned result outs) = do
@@ -98,7 +106,9 @@ outcome A i m B args answer = do
   seen ← seen_call A i m B j args
   Ok (if is_oneway B j seen.0 then oneway seen.1 else done seen.1 (seen_answer B j seen.0 A i m answer))
 
--- within one schema: the handler sees what was sent, with the openings of the `out` arguments, and the client has what was answered
+-- within one schema: the handler sees what was sent, with the openings of the `out` arguments, and the client has
+-- what was answered
 abbrev pub outcome_within : List Decl → ℕ → ℕ → Items → AnswerData → Done
 outcome_within S i m args answer =
-    if is_oneway S i m then oneway (opened_arguments S (arguments S i m) args) else done (opened_arguments S (arguments S i m) args) (Ok answer)
+    if is_oneway S i m then oneway (opened_arguments S (arguments S i m) args)
+    else done (opened_arguments S (arguments S i m) args) (Ok answer)

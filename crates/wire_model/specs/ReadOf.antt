@@ -1,7 +1,8 @@
 -- Reading as a plain function: the value and the bytes after it, or the status of the first wrong item (own).
--- It is proved to be what Reads and Stop say. p is the profile, S the schema's declarations, d the composite levels left, t the type,
--- b the bytes up to the limit; `inside` says that a record is being read.
-use Rattle.std.specs.Prelude.{ℕ, zero, suc, ◌-◌, ℤ, pos, negsuc, Bool, true, false, List, [], ◌∷◌, map, Option, Some, None, slice_get, Result, Ok, Err, if◌then◌else◌}
+-- It is proved to be what Reads and Stop say. p is the profile, S the schema's declarations, d the composite levels
+-- left, t the type, b the bytes up to the limit; `inside` says that a record is being read.
+use Rattle.std.specs.Prelude.{ℕ, zero, suc, ◌-◌, ℤ, pos, negsuc, Bool, true, false, List, [], ◌∷◌, map, Option}
+use Rattle.std.specs.Prelude.{Some, None, slice_get, Result, Ok, Err, if◌then◌else◌}
 use Rattle.std.specs.Int.{w8, cast_signed}
 use Rattle.aidl_base.specs.declared.profile.Profile.{Profile}
 pub use Rattle.aidl_base.specs.Readings.{Read, ◌>>=◌, bytes_at, word_at, long_at, truth_at, byte_at, char_at, size_of}
@@ -83,7 +84,8 @@ body_at inside b = do
   z ← size_of w.0
   bytes_at (z - 4) inside w.1
 
--- a field of a record of which the bytes b are left: its default where none are; `initial` gives a field's default, `read` reads a field
+-- a field of a record of which the bytes b are left: its default where none are; `initial` gives a field's default,
+-- `read` reads a field
 abbrev pub field_at : {F : Type 0} → (F → Data) → (F → List ℕ → Read Data) → F → List ℕ → Read Data
 field_at initial read f [] = Ok (initial f, [])
 field_at initial read f (x ∷ b) = read f (x ∷ b)
@@ -104,7 +106,8 @@ body_value_at initial read fs inside b = do
   Ok (rec vs, inner.1)
 
 -- a parcelable
-unfoldable pub record_at : {F : Type 0} → Profile → Bool → Bool → (F → Data) → (F → List ℕ → Read Data) → List F → Bool → List ℕ → Read Data
+unfoldable pub record_at : {F : Type 0} → Profile → Bool → Bool → (F → Data) → (F → List ℕ → Read Data) → List F
+    → Bool → List ℕ → Read Data
 record_at p left nullable initial read fs inside b = do
   m ← marker_at p nullable inside b
   marked_at left (λ c. body_value_at initial read fs inside c) m.0 m.1
@@ -133,26 +136,31 @@ tagged_at read fs inside b = do
   Ok (alt k.0 v.0, v.1)
 
 -- a union
-unfoldable pub union_at : {F : Type 0} → Profile → Bool → Bool → (F → List ℕ → Read Data) → List F → Bool → List ℕ → Read Data
+unfoldable pub union_at : {F : Type 0} → Profile → Bool → Bool → (F → List ℕ → Read Data) → List F → Bool
+    → List ℕ → Read Data
 union_at p left nullable read fs inside b = do
   m ← marker_at p nullable inside b
   marked_at left (λ c. tagged_at read fs inside c) m.0 m.1
 
 -- one value that is no sequence, by what its type means
 -- (`readBool`, `readByte`, `readChar`, `readInt32`, `readInt64`, `readString16`)
-abbrev pub one_at : Profile → Bool → (Field → Data) → (AidlType → Bool → List ℕ → Read Data) → Bool → Form → Bool → List ℕ → Read Data
+abbrev pub one_at : Profile → Bool → (Field → Data) → (AidlType → Bool → List ℕ → Read Data) → Bool → Form → Bool
+    → List ℕ → Read Data
 one_at p left initial read nullable form.truth inside b = read_as truth (truth_at p inside b)
 one_at p left initial read nullable form.byte inside b = read_as number (byte_at p inside b)
 one_at p left initial read nullable form.char inside b = read_as char_data (char_at p inside b)
 one_at p left initial read nullable form.int inside b = read_as number (word_at inside b)
 one_at p left initial read nullable form.long inside b = read_as number (long_at inside b)
 one_at p left initial read nullable form.text inside b = read_as text_data (text_at p nullable inside b)
-one_at p left initial read nullable (form.parcelable fs) inside b = record_at p left nullable initial (λ f b. read f.ty true b) fs inside b
-one_at p left initial read nullable (form.union fs) inside b = union_at p left nullable (λ f b. read f.ty inside b) fs inside b
+one_at p left initial read nullable (form.parcelable fs) inside b =
+    record_at p left nullable initial (λ f b. read f.ty true b) fs inside b
+one_at p left initial read nullable (form.union fs) inside b =
+    union_at p left nullable (λ f b. read f.ty inside b) fs inside b
 one_at p left initial read nullable form.nothing inside b = Err bad_value
 
 -- one level; `read` reads its parts
-abbrev pub read_by : Profile → List Decl → Bool → (AidlType → Bool → List ℕ → Read Data) → AidlType → Bool → List ℕ → Read Data
+abbrev pub read_by : Profile → List Decl → Bool → (AidlType → Bool → List ℕ → Read Data) → AidlType → Bool
+    → List ℕ → Read Data
 read_by p S left read t inside b = if is_one t.shape
     then one_at p left (λ f. initial_in S f) read t.nullable (form_of S t.base) inside b
     else array_at p left (is_raw S t) t.nullable (λ b. read (elem S t) inside b) inside b

@@ -1,8 +1,10 @@
 -- Which bytes are a reading of which value (own).
 -- p is the profile, S the schema's declarations, d the composite levels left, t the type.
-use Rattle.std.specs.Prelude.{◌≡◌, ℕ, zero, suc, ◌+◌, ◌%◌, ◌^◌, ◌<◌, ℤ, pos, true, List, [], ◌∷◌, ◌++◌, length, Some, slice_get, ◌⊎◌, MatchBool}
+use Rattle.std.specs.Prelude.{◌≡◌, ℕ, zero, suc, ◌+◌, ◌%◌, ◌^◌, ◌<◌, ℤ, pos, true, List, [], ◌∷◌, ◌++◌, length}
+use Rattle.std.specs.Prelude.{Some, slice_get, ◌⊎◌, MatchBool}
 use Rattle.aidl_base.specs.declared.profile.Profile.{Profile}
-use Rattle.aidl_base.specs.Profiles.{is_truth_word, truth_of, is_byte_word, byte_of, is_char_word, char_of, IsWord, IsPadded, IsTextBlock}
+use Rattle.aidl_base.specs.Profiles.{is_truth_word, truth_of, is_byte_word, byte_of, is_char_word, char_of, IsWord}
+use Rattle.aidl_base.specs.Profiles.{IsPadded, IsTextBlock}
 use Rattle.aidl_base.specs.Words.{word, units}
 use Rattle.aidl_schema.specs.declared.schema.Decl.{Decl}
 use Rattle.aidl_schema.specs.declared.schema.Field.{Field}
@@ -21,7 +23,8 @@ Readings = AidlType → List ℕ → Data → Type 0
 -- readings of the items, one after the other; `PartReads` says what one item's reading is
 abbrev pub EachReads : (List ℕ → Data → Type 0) → List ℕ → Items → Type 0
 EachReads PartReads b none = b ≡ []
-EachReads PartReads b (item v vs) = (front rest : List ℕ) × (b ≡ front ++ rest) × PartReads front v × EachReads PartReads rest vs
+EachReads PartReads b (item v vs) = (front rest : List ℕ) × (b ≡ front ++ rest) × PartReads front v
+    × EachReads PartReads rest vs
 
 -- readings of the first fields; then the end, where each later field has its default, or after the last field any rest
 abbrev pub FieldsRead : List Decl → Readings → List Field → List ℕ → Items → Type 0
@@ -50,17 +53,22 @@ IsMarker p b = IsWord (λ w. is_truth_word p w) truth_of b true
 abbrev pub Reads : Profile → List Decl → ℕ → AidlType → List ℕ → Data → Type 0
 Reads p S d t b (truth x) = HasType S t (truth x) × IsWord (λ w. is_truth_word p w) truth_of b x
 Reads p S d t b (number n) = HasType S t (number n) × NumberReads p (form_of S t.base) b n
-Reads p S d t b (text x) = HasType S t (text x) × (length (units x) < 2 ^ 31) × (rest : List ℕ) × (b ≡ word (pos (length (units x))) ++ rest) × IsTextBlock p x rest
+Reads p S d t b (text x) = HasType S t (text x) × (length (units x) < 2 ^ 31) × (rest : List ℕ)
+    × (b ≡ word (pos (length (units x))) ++ rest) × IsTextBlock p x rest
 Reads p S d t b null = HasType S t null × (b ≡ spell S t null)
 Reads p S zero t b (seq vs) = ⊥
 Reads p S zero t b (rec vs) = ⊥
 Reads p S zero t b (alt k v) = ⊥
-Reads p S (suc d) t b (seq vs) = HasType S t (seq vs) × (count vs < 2 ^ 31) × (rest : List ℕ) × (b ≡ word (pos (count vs)) ++ rest)
-    × MatchBool (is_raw S t) (IsPadded p (raw_bytes vs) rest) (EachReads (λ front v. Reads p S d (elem S t) front v) rest vs)
+Reads p S (suc d) t b (seq vs) = HasType S t (seq vs) × (count vs < 2 ^ 31) × (rest : List ℕ)
+    × (b ≡ word (pos (count vs)) ++ rest)
+    × MatchBool (is_raw S t) (IsPadded p (raw_bytes vs) rest)
+    (EachReads (λ front v. Reads p S d (elem S t) front v) rest vs)
 Reads p S (suc d) t b (rec vs) = HasType S t (rec vs) × (fs : List Field) × (form_of S t.base ≡ form.parcelable fs)
-    × (marker rest : List ℕ) × (b ≡ marker ++ rest) × IsMarker p marker × BodyReads S (λ u front v. Reads p S d u front v) fs rest vs
+    × (marker rest : List ℕ) × (b ≡ marker ++ rest) × IsMarker p marker
+    × BodyReads S (λ u front v. Reads p S d u front v) fs rest vs
 Reads p S (suc d) t b (alt k v) = HasType S t (alt k v) × (fs : List Field) × (form_of S t.base ≡ form.union fs)
-    × (f : Field) × (slice_get fs k ≡ Some f) × (marker rest : List ℕ) × (b ≡ marker ++ (word (pos k) ++ rest)) × IsMarker p marker
+    × (f : Field) × (slice_get fs k ≡ Some f) × (marker rest : List ℕ)
+    × (b ≡ marker ++ (word (pos k) ++ rest)) × IsMarker p marker
     × Reads p S d f.ty rest v
 
 -- some front of the bytes is a reading of some value

@@ -1,7 +1,9 @@
--- *The receiver*: what a stub makes of a request, and a client of a reply (libbinder, Parcel.cpp: `enforceInterface`, Status.cpp:
--- `readFromParcel`; the compiler's generated stub and proxy; the bound on lengths, and the order where nothing else says it, are own).
--- p is the profile of reading, S a schema's declarations, i the number of an interface, m the position of its method, b the bytes.
-use Rattle.std.specs.Prelude.{ℕ, zero, suc, ◌+◌, nat_le, ℤ, pos, negsuc, Bool, false, ◌&&◌, ◌||◌, if◌then◌else◌, List, [], ◌∷◌, Option, Some, None, Result, Ok, Err}
+-- *The receiver*: what a stub makes of a request, and a client of a reply (libbinder, Parcel.cpp:
+-- `enforceInterface`, Status.cpp: `readFromParcel`; the compiler's generated stub and proxy; the bound on lengths,
+-- and the order where nothing else says it, are own). p is the profile of reading, S a schema's declarations, i the
+-- number of an interface, m the position of its method, b the bytes.
+use Rattle.std.specs.Prelude.{ℕ, zero, suc, ◌+◌, nat_le, ℤ, pos, negsuc, Bool, false, ◌&&◌, ◌||◌, if◌then◌else◌}
+use Rattle.std.specs.Prelude.{List, [], ◌∷◌, Option, Some, None, Result, Ok, Err}
 use Rattle.std.specs.Ordering.{int_eq}
 use Rattle.aidl_base.specs.declared.profile.Profile.{Profile}
 use Rattle.aidl_base.specs.Readings.{bytes_at, word_at}
@@ -14,7 +16,8 @@ use Rattle.aidl_schema.specs.Same.{same_text}
 use Rattle.aidl_schema.specs.Types.{is_array, elem}
 use Rattle.aidl_values.specs.Data.{Data, null, seq, Items, none, item, count}
 use Rattle.aidl_values.specs.Default.{zero_within}
-use Rattle.wire_model.specs.Calls.{AnswerData, returned, exception, descriptor, arguments, result_type, out_types, is_out}
+use Rattle.wire_model.specs.Calls.{AnswerData, returned, exception, descriptor, arguments, result_type, out_types}
+use Rattle.wire_model.specs.Calls.{is_out}
 use Rattle.wire_model.specs.ReadOf.{Read, ◌>>=◌, read_of}
 use Rattle.wire_model.specs.Requests.{sent_length, service_specific}
 use Rattle.wire_model.specs.Status.{bad_value, unknown_transaction, bad_type}
@@ -64,7 +67,8 @@ opening S t n = if is_array t.shape then array_opening S t n else zero_in S t
 abbrev pub opened_arguments : List Decl → List Arg → Items → Items
 opened_arguments S [] vs = none
 opened_arguments S (a ∷ xs) none = none
-opened_arguments S (a ∷ xs) (item v vs) = item (if is_out a.way then opening S a.ty (sent_length v) else v) (opened_arguments S xs vs)
+opened_arguments S (a ∷ xs) (item v vs) =
+    item (if is_out a.way then opening S a.ty (sent_length v) else v) (opened_arguments S xs vs)
 
 -- The lengths of a request add up to at most 65,536; `sum` is that of the lengths before this one.
 abbrev pub within_sum : ℕ → Option ℕ → Result (Option ℕ) ℤ
@@ -122,10 +126,12 @@ abbrev pub or_status : {A : Type 0} → ℤ → Option A → Result A ℤ
 or_status s None = Err s
 or_status s (Some x) = Ok x
 
--- *Stub*: what is received, or the transport status of the first refusal (own: a generated stub replies to UNEXPECTED_NULL by exception -4)
+-- *Stub*: what is received, or the transport status of the first refusal (own: a generated stub replies to
+-- UNEXPECTED_NULL by exception -4)
 unfoldable pub stub : Profile → List Decl → ℕ → ℕ → List ℕ → Result Received ℤ
 stub p S i code b = do
-  m ← or_status unknown_transaction (position_of_code (methods_at S i) code)  -- UNKNOWN_TRANSACTION: no method has the code
+  -- UNKNOWN_TRANSACTION: no method has the code
+  m ← or_status unknown_transaction (position_of_code (methods_at S i) code)
   rest ← token_at p (descriptor S i) b  -- BAD_TYPE: the bytes don't begin with the token
   saw ← arguments_at p S 0 (arguments S i m) rest  -- the status of the first argument that stops
   Ok (received m saw.0 saw.1)  -- bytes are left over; or else the method is called

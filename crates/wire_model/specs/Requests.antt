@@ -1,7 +1,8 @@
--- *Requests and replies*: the bytes of a call's request and of its reply (the compiler's generated proxy and stub; libbinder,
--- Parcel.cpp: `writeInterfaceToken`, Status.cpp: `writeToParcel`; a token's first two words and the bound on lengths are own).
--- S is a schema's declarations, i the number of an interface, m the position of its method.
-use Rattle.std.specs.Prelude.{◌≡◌, ℕ, ◌+◌, ◌≤◌, ℤ, pos, negsuc, false, if◌then◌else◌, List, [], ◌∷◌, ◌++◌, length, Option, Some, None, IsTrue, MatchBool, FitsSigned, codes}
+-- *Requests and replies*: the bytes of a call's request and of its reply (the compiler's generated proxy and stub;
+-- libbinder, Parcel.cpp: `writeInterfaceToken`, Status.cpp: `writeToParcel`; a token's first two words and the
+-- bound on lengths are own). S is a schema's declarations, i the number of an interface, m the position of its method.
+use Rattle.std.specs.Prelude.{◌≡◌, ℕ, ◌+◌, ◌≤◌, ℤ, pos, negsuc, false, if◌then◌else◌, List, [], ◌∷◌, ◌++◌, length}
+use Rattle.std.specs.Prelude.{Option, Some, None, IsTrue, MatchBool, FitsSigned, codes}
 use Rattle.std.specs.Int.{w32}
 use Rattle.std.specs.Ordering.{int_eq}
 use Rattle.std.specs.Str.{all_scalars}
@@ -13,7 +14,8 @@ use Rattle.aidl_schema.specs.declared.schema.Decl.{Decl}
 use Rattle.aidl_schema.specs.Types.{is_array}
 use Rattle.aidl_values.specs.Data.{Data, null, number, Items, none, item}
 use Rattle.aidl_values.specs.Fits.{Fits}
-use Rattle.wire_model.specs.Calls.{AnswerData, returned, exception, descriptor, arguments, result_type, out_types, is_out}
+use Rattle.wire_model.specs.Calls.{AnswerData, returned, exception, descriptor, arguments, result_type, out_types}
+use Rattle.wire_model.specs.Calls.{is_out}
 use Rattle.wire_model.specs.Spell.{spell, spell_text}
 
 -- *Token*: the policy word, the work source -1, the header `SYST`, and the descriptor
@@ -29,9 +31,11 @@ abbrev pub spell_length : Option ℕ → List ℕ
 spell_length None = word (negsuc 0)
 spell_length (Some n) = word (pos n)
 
--- An argument's part of a request: an `in` or `inout` one is spelled, of an `out` array the length, of another `out` one nothing.
+-- An argument's part of a request: an `in` or `inout` one is spelled, of an `out` array the length, of another
+-- `out` one nothing.
 abbrev pub argument_part : List Decl → Arg → Data → List ℕ
-argument_part S a v = if is_out a.way then (if is_array a.ty.shape then spell_length (sent_length v) else []) else spell S a.ty v
+argument_part S a v = if is_out a.way
+    then (if is_array a.ty.shape then spell_length (sent_length v) else []) else spell S a.ty v
 
 abbrev pub argument_parts : List Decl → List Arg → Items → List ℕ
 argument_parts S [] vs = []
@@ -50,7 +54,8 @@ IsLength t _ = ⊥
 
 -- a value for an `in` or `inout` argument, a length for an `out` array, null for any other `out` one
 abbrev pub ArgumentFits : List Decl → Arg → Data → Type 0
-ArgumentFits S a v = MatchBool (is_out a.way) (MatchBool (is_array a.ty.shape) (IsLength a.ty v) (v ≡ null)) (Fits S a.ty v)
+ArgumentFits S a v =
+    MatchBool (is_out a.way) (MatchBool (is_array a.ty.shape) (IsLength a.ty v) (v ≡ null)) (Fits S a.ty v)
 
 abbrev pub ArgumentsFit : List Decl → List Arg → Items → Type 0
 ArgumentsFit S [] none = Unit {0}
@@ -96,10 +101,13 @@ service_specific = negsuc 7
 abbrev pub spell_error : ℤ → ℤ → List ℕ
 spell_error code error = if int_eq code service_specific then word error else []
 
--- *Reply*: the status 0 with the result and the outs; or an exception with its message, a stack-trace size 0 and the error
+-- *Reply*: the status 0 with the result and the outs; or an exception with its message, a stack-trace size 0 and
+-- the error
 abbrev pub reply : List Decl → ℕ → ℕ → AnswerData → List ℕ
-reply S i m (returned result outs) = word (pos 0) ++ (spell_result S (result_type S i m) result ++ spell_each S (out_types S i m) outs)
-reply S i m (exception code message error) = word code ++ (spell_text message ++ (word (pos 0) ++ spell_error code error))
+reply S i m (returned result outs) = word (pos 0)
+    ++ (spell_result S (result_type S i m) result ++ spell_each S (out_types S i m) outs)
+reply S i m (exception code message error) = word code
+    ++ (spell_text message ++ (word (pos 0) ++ spell_error code error))
 
 -- what is answered where bytes of a request are left over: EX_BAD_PARCELABLE with this message (own)
 abbrev pub unread : AnswerData

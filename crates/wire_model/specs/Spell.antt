@@ -49,7 +49,8 @@ union_fields (form.union fs) = fs
 union_fields _ = []
 
 abbrev mutual
-  -- what is there of a parcelable or union begins with the marker 1 (`writeParcelable`); a union has its tag and no size (own)
+  -- what is there of a parcelable or union begins with the marker 1 (`writeParcelable`); a union has its tag and no
+  -- size (own)
   pub spell : List Decl → AidlType → Data → List ℕ
   spell S t (truth b) = spell_truth b
   spell S t (number n) = spell_number (form_of S t.base) n
@@ -57,7 +58,8 @@ abbrev mutual
   spell S t null = spell_null S t
   spell S t (seq vs) = word (pos (count vs)) ++ (if is_raw S t then pad (raw_bytes vs) else spell_items S (elem S t) vs)
   spell S t (rec vs) = word (pos 1) ++ body (spell_fields S (parcelable_fields (form_of S t.base)) vs)
-  spell S t (alt k v) = word (pos 1) ++ word (pos k) ++ spell S (type_of_field (slice_get (union_fields (form_of S t.base)) k)) v
+  spell S t (alt k v) = word (pos 1) ++ word (pos k)
+      ++ spell S (type_of_field (slice_get (union_fields (form_of S t.base)) k)) v
 
   -- the elements of a sequence, in order (Parcel.h: `unsafeWriteTypedVector`)
   pub spell_items : List Decl → AidlType → Items → List ℕ

@@ -1,5 +1,6 @@
--- *Unknown tag*: what hinders a view (own). A union tag is unknown to the receiver where its union has no field of the tag's name.
--- A is the sender's declarations and t its type, B the receiver's and u its type. What stands below a field that the receiver drops isn't looked at.
+-- *Unknown tag*: what hinders a view (own). A union tag is unknown to the receiver where its union has no field of
+-- the tag's name. A is the sender's declarations and t its type, B the receiver's and u its type. What stands below
+-- a field that the receiver drops isn't looked at.
 use Rattle.std.specs.Prelude.{ℕ, Bool, true, false, ◌||◌, if◌then◌else◌, List, [], ◌∷◌, Option, Some, None, slice_get}
 use Rattle.std.specs.List.{list_any}
 use Rattle.aidl_schema.specs.declared.schema.AidlType.{AidlType}
@@ -24,16 +25,18 @@ unless_named None unknown = true
 unless_named (Some p) unknown = unknown p.1
 
 abbrev mutual
-  -- Null, a truth value, a number and a text have no tag. A sequence has an unknown one where an element has one, a record where for one of
-  -- the receiver's fields the sender's field of its name has one. An alternative has one where the receiver has no field of its
-  -- field's name, or inside.
+  -- Null, a truth value, a number and a text have no tag. A sequence has an unknown one where an element has one, a
+  -- record where for one of the receiver's fields the sender's field of its name has one. An alternative has one
+  -- where the receiver has no field of its field's name, or inside.
   pub has_unknown_tag : List Decl → AidlType → List Decl → AidlType → Data → Bool
   has_unknown_tag A t B u null = false
   has_unknown_tag A t B u (truth b) = false
   has_unknown_tag A t B u (number n) = false
   has_unknown_tag A t B u (text x) = false
   has_unknown_tag A t B u (seq vs) = have_unknown_tag A (elem A t) B (elem B u) vs
-  has_unknown_tag A t B u (rec vs) = list_any (λ g. named_has_unknown_tag A (parcelable_fields (form_of A t.base)) B g vs) (parcelable_fields (form_of B u.base))
+  has_unknown_tag A t B u (rec vs) =
+      list_any (λ g. named_has_unknown_tag A (parcelable_fields (form_of A t.base)) B g vs)
+      (parcelable_fields (form_of B u.base))
   has_unknown_tag A t B u (alt k v) =
       in_tag (slice_get (union_fields (form_of A t.base)) k) (λ f.
       unless_named (field_named 0 f.name.0 (union_fields (form_of B u.base))) (λ g.
@@ -44,25 +47,29 @@ abbrev mutual
   have_unknown_tag A t B u none = false
   have_unknown_tag A t B u (item v vs) = has_unknown_tag A t B u v || have_unknown_tag A t B u vs
 
-  -- the value of the sender's field that has the name of the receiver's field g; where it has no such field there is none
+  -- the value of the sender's field that has the name of the receiver's field g; where it has no such field there
+  -- is none
   pub named_has_unknown_tag : List Decl → List Field → List Decl → Field → Items → Bool
   named_has_unknown_tag A fs B g none = false
   named_has_unknown_tag A [] B g (item v vs) = false
-  named_has_unknown_tag A (f ∷ fs) B g (item v vs) = if same_text f.name.0 g.name.0 then has_unknown_tag A f.ty B g.ty v else named_has_unknown_tag A fs B g vs
+  named_has_unknown_tag A (f ∷ fs) B g (item v vs) = if same_text f.name.0 g.name.0
+      then has_unknown_tag A f.ty B g.ty v else named_has_unknown_tag A fs B g vs
 
 -- one of the arguments of a call; of an `out` one no value is sent
 abbrev pub argument_has_unknown_tag : List Decl → Arg → List Decl → Arg → Data → Bool
 argument_has_unknown_tag A a B b v = if is_out a.way then false else has_unknown_tag A a.ty B b.ty v
 
 abbrev pub arguments_have_unknown_tag : List Decl → List Arg → List Decl → List Arg → Items → Bool
-arguments_have_unknown_tag A (a ∷ xs) B (b ∷ ys) (item v vs) = argument_has_unknown_tag A a B b v || arguments_have_unknown_tag A xs B ys vs
+arguments_have_unknown_tag A (a ∷ xs) B (b ∷ ys) (item v vs) =
+    argument_has_unknown_tag A a B b v || arguments_have_unknown_tag A xs B ys vs
 arguments_have_unknown_tag A (a ∷ xs) B (b ∷ ys) none = false
 arguments_have_unknown_tag A (a ∷ xs) B [] vs = false
 arguments_have_unknown_tag A [] B ys vs = false
 
 -- one of the values of these types
 abbrev pub values_have_unknown_tag : List Decl → List AidlType → List Decl → List AidlType → Items → Bool
-values_have_unknown_tag B (t ∷ ts) A (u ∷ us) (item v vs) = has_unknown_tag B t A u v || values_have_unknown_tag B ts A us vs
+values_have_unknown_tag B (t ∷ ts) A (u ∷ us) (item v vs) =
+    has_unknown_tag B t A u v || values_have_unknown_tag B ts A us vs
 values_have_unknown_tag B (t ∷ ts) A (u ∷ us) none = false
 values_have_unknown_tag B (t ∷ ts) A [] vs = false
 values_have_unknown_tag B [] A us vs = false
@@ -74,10 +81,12 @@ result_has_unknown_tag B (Some t) A (Some u) None = false
 result_has_unknown_tag B (Some t) A None r = false
 result_has_unknown_tag B None A u r = false
 
--- of a call of method m of the client's interface i, which is method n of the server's interface j: the server doesn't know a tag in what is sent
+-- of a call of method m of the client's interface i, which is method n of the server's interface j: the server
+-- doesn't know a tag in what is sent
 abbrev pub is_unknown_sent : List Decl → ℕ → ℕ → List Decl → ℕ → ℕ → Items → Bool
 is_unknown_sent A i m B j n args = arguments_have_unknown_tag A (arguments A i m) B (arguments B j n) args
 
 -- the client doesn't know one in the result, or in what comes back of an `out` or `inout` argument
 abbrev pub is_unknown_answered : List Decl → ℕ → ℕ → List Decl → ℕ → ℕ → Option Data → Items → Bool
-is_unknown_answered A i m B j n result outs = result_has_unknown_tag B (result_type B j n) A (result_type A i m) result || values_have_unknown_tag B (out_types B j n) A (out_types A i m) outs
+is_unknown_answered A i m B j n result outs = result_has_unknown_tag B (result_type B j n) A (result_type A i m)
+    result || values_have_unknown_tag B (out_types B j n) A (out_types A i m) outs

@@ -1,6 +1,8 @@
 -- *View*: what a value is to the receiver, whose schema may be older or newer than the sender's (own).
--- A is the sender's declarations and t its type, B the receiver's and u its type. None: there is nothing that it could be.
-use Rattle.std.specs.Prelude.{ℕ, suc, Bool, true, false, ◌&&◌, ◌==◌, List, [], ◌∷◌, Option, Some, None, slice_get, option_map, if◌then◌else◌}
+-- A is the sender's declarations and t its type, B the receiver's and u its type. None: there is nothing that it
+-- could be.
+use Rattle.std.specs.Prelude.{ℕ, suc, Bool, true, false, ◌&&◌, ◌==◌, List, [], ◌∷◌, Option, Some, None, slice_get}
+use Rattle.std.specs.Prelude.{option_map, if◌then◌else◌}
 use Rattle.aidl_schema.specs.declared.schema.Decl.{Decl}
 use Rattle.aidl_schema.specs.declared.schema.Field.{Field}
 use Rattle.aidl_schema.specs.declared.schema.AidlType.{AidlType}
@@ -58,9 +60,10 @@ in_place None F = None
 in_place (Some p) F = F p.0 p.1
 
 abbrev mutual
-  -- Null, a truth value, a number and a text are themselves, and a sequence is the views of its elements. A record has for
-  -- each field of the receiver the view of the sender's field of the same name, or the default where the sender has none; a
-  -- field that the receiver lacks is dropped. An alternative is that of the receiver's field of the same name.
+  -- Null, a truth value, a number and a text are themselves, and a sequence is the views of its elements. A record
+  -- has for each field of the receiver the view of the sender's field of the same name, or the default where the
+  -- sender has none; a field that the receiver lacks is dropped. An alternative is that of the receiver's field of
+  -- the same name.
   pub view_of : List Decl → AidlType → List Decl → AidlType → Data → Option Data
   view_of A t B u null = when (agree A t B u) (Some null)
   view_of A t B u (truth b) = when (agree A t B u) (Some (truth b))
@@ -68,7 +71,8 @@ abbrev mutual
   view_of A t B u (text x) = when (agree A t B u) (Some (text x))
   view_of A t B u (seq vs) = when (agree A t B u) (option_map seq (view_items A (elem A t) B (elem B u) vs))
   view_of A t B u (rec vs) = when (agree A t B u) (option_map rec
-      (each_field (λ g. or_initial (view_named A (parcelable_fields (form_of A t.base)) B g vs) (initial_in B g)) (parcelable_fields (form_of B u.base))))
+      (each_field (λ g. or_initial (view_named A (parcelable_fields (form_of A t.base)) B g vs) (initial_in B g))
+      (parcelable_fields (form_of B u.base))))
   view_of A t B u (alt k v) = when (agree A t B u)
       (in_field (slice_get (union_fields (form_of A t.base)) k) (λ f.
       in_place (field_named 0 f.name.0 (union_fields (form_of B u.base))) (λ j g.
@@ -83,4 +87,5 @@ abbrev mutual
   pub view_named : List Decl → List Field → List Decl → Field → Items → Option (Option Data)
   view_named A fs B g none = None
   view_named A [] B g (item v vs) = None
-  view_named A (f ∷ fs) B g (item v vs) = if same_text f.name.0 g.name.0 then Some (view_of A f.ty B g.ty v) else view_named A fs B g vs
+  view_named A (f ∷ fs) B g (item v vs) = if same_text f.name.0 g.name.0 then Some (view_of A f.ty B g.ty v)
+      else view_named A fs B g vs

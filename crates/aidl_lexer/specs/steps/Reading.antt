@@ -1,5 +1,7 @@
 -- Cutting bytes into tokens as a function on lists, one definition for each function of the code.
-use Rattle.std.specs.Prelude.{◌<◌, ◌≤◌, ◌+◌, ◌-◌, ℕ, zero, suc, Bool, true, false, ◌&&◌, ◌||◌, if◌then◌else◌, ◌==◌, nat_le, nat_lt, List, [], ◌∷◌, ◌++◌, length, take, drop, Option, Some, None, Result, Ok, Err}
+use Rattle.std.specs.Prelude.{◌<◌, ◌≤◌, ◌+◌, ◌-◌, ℕ, zero, suc, Bool, true, false, ◌&&◌, ◌||◌, if◌then◌else◌, ◌==◌}
+use Rattle.std.specs.Prelude.{nat_le, nat_lt, List, [], ◌∷◌, ◌++◌, length, take, drop, Option, Some, None, Result}
+use Rattle.std.specs.Prelude.{Ok, Err}
 use Rattle.std.specs.Char.{is_ascii_digit, is_ascii_hexdigit}
 use Rattle.std.specs.List.{prefix_len}
 use Rattle.aidl_base.specs.declared.reserved.Reserved.{Reserved}
@@ -48,7 +50,8 @@ suffix_of (b ∷ []) = if b == 76 || b == 108 then Some true else None
 suffix_of (b ∷ c ∷ bytes) = None
 
 abbrev pub decimal_of : List ℕ → Option ℕ
-decimal_of body = if begins (λ b. b == 48) body && nat_lt 1 (length body) then None else long_of (up_to 18446744073709551615 (value_from 10 0 body))
+decimal_of body = if begins (λ b. b == 48) body && nat_lt 1 (length body) then None
+    else long_of (up_to 18446744073709551615 (value_from 10 0 body))
 
 abbrev pub hexadecimal_of : List ℕ → Option ℕ
 hexadecimal_of digits = if nat_lt 0 (length digits) then up_to 18446744073709551615 (value_from 16 0 digits) else None
@@ -59,11 +62,13 @@ numeral hexadecimal (Some bits) None = None
 numeral hexadecimal None suffix = None
 
 unfoldable pub decimal_by : List ℕ → Option TokenKind
-decimal_by text = numeral false (decimal_of (take (prefix_len is_ascii_digit text) text)) (suffix_of (drop (prefix_len is_ascii_digit text) text))
+decimal_by text = numeral false (decimal_of (take (prefix_len is_ascii_digit text) text))
+    (suffix_of (drop (prefix_len is_ascii_digit text) text))
 
 -- of what follows `0x`
 unfoldable pub hexadecimal_by : List ℕ → Option TokenKind
-hexadecimal_by text = numeral true (hexadecimal_of (take (prefix_len is_ascii_hexdigit text) text)) (suffix_of (drop (prefix_len is_ascii_hexdigit text) text))
+hexadecimal_by text = numeral true (hexadecimal_of (take (prefix_len is_ascii_hexdigit text) text))
+    (suffix_of (drop (prefix_len is_ascii_hexdigit text) text))
 
 abbrev pub is_hexadecimal : ℕ → ℕ → Bool
 is_hexadecimal a x = a == 48 && (x == 120 || x == 88)
@@ -87,11 +92,13 @@ number_at bytes = number_by (take (prefix_len is_word_byte bytes) bytes)
 
 unfoldable pub character_at : List ℕ → Front
 character_at [] = front.Fault reason.OpenLiteral
-character_at (c ∷ bytes) = if is_inside 39 c && begins (λ b. b == 39) bytes then front.Token (kind.Character c) 3 else front.Fault reason.OpenLiteral
+character_at (c ∷ bytes) = if is_inside 39 c && begins (λ b. b == 39) bytes then front.Token (kind.Character c) 3
+    else front.Fault reason.OpenLiteral
 
 unfoldable pub string_at : List ℕ → Front
 string_at bytes = let n = prefix_len (is_inside 34) bytes in
-    if begins (λ b. b == 34) (drop n bytes) then front.Token (kind.Str (take n bytes)) (n + 2) else front.Fault reason.OpenLiteral
+    if begins (λ b. b == 34) (drop n bytes) then front.Token (kind.Str (take n bytes)) (n + 2)
+    else front.Fault reason.OpenLiteral
 
 -- comments
 

@@ -1,5 +1,6 @@
 -- Readers of declarations and files.
-use Rattle.std.specs.Prelude.{ℕ, ◌-◌, zero, suc, Bool, true, false, if◌then◌else◌, List, [], ◌∷◌, length, Option, Some, None}
+use Rattle.std.specs.Prelude.{ℕ, ◌-◌, zero, suc, Bool, true, false, if◌then◌else◌, List, [], ◌∷◌, length, Option}
+use Rattle.std.specs.Prelude.{Some, None}
 use Rattle.aidl_base.specs.declared.reserved.Reserved.{Reserved}
 use Rattle.aidl_base.specs.declared.reserved.Reserved.TheVariants as word
 use Rattle.aidl_syntax.specs.declared.token.Symbol.TheVariants as mark
@@ -13,7 +14,8 @@ use Rattle.aidl_syntax.specs.Trees.Decl.{decl}
 use Rattle.aidl_syntax.specs.Trees.Body.{parcelable, union, enum, interface}
 use Rattle.aidl_syntax.specs.Trees.Members.{none, field, constant, method, nested}
 use Rattle.expr_parser.specs.Reading.{Read, dotted, ◌>>=◌}
-use Rattle.aidl_parser.specs.steps.Parts.{word_of, begins, begins_word, worded, both, alter, second, upto, placed, maybe, many}
+use Rattle.aidl_parser.specs.steps.Parts.{word_of, begins, begins_word, worded, both, alter, second, upto, placed}
+use Rattle.aidl_parser.specs.steps.Parts.{maybe, many}
 use Rattle.aidl_parser.specs.steps.Types.{ident}
 use Rattle.aidl_parser.specs.steps.Inits.{annots_at, trailing}
 use Rattle.aidl_parser.specs.steps.Members.{field_at, constant_at, method_at, oneway_at}
@@ -40,26 +42,39 @@ abbrev pub field_made : ℕ → List Annot → TypeTree × (NameTree × Option I
 field_made o annots x ms = field (record { offset = o; annots = annots; ty = x.0; name = x.1.0; initial = x.1.1 }) ms
 
 abbrev pub constant_made : ℕ → List Annot → TypeTree × (NameTree × Expr) → Members → Members
-constant_made o annots x ms = constant (record { offset = o; annots = annots; ty = x.0; name = x.1.0; value = x.1.1 }) ms
+constant_made o annots x ms =
+    constant (record { offset = o; annots = annots; ty = x.0; name = x.1.0; value = x.1.1 }) ms
 
-abbrev pub method_made : ℕ → List Annot → Bool × (Option TypeTree × (NameTree × (List Arg × Option Token))) → Members → Members
-method_made o annots x ms = method (record { offset = o; annots = annots; oneway = x.0; returned = x.1.0; name = x.1.1.0; args = x.1.1.1.0; id = x.1.1.1.1 }) ms
+abbrev pub method_made : ℕ → List Annot
+    → Bool × (Option TypeTree × (NameTree × (List Arg × Option Token))) → Members → Members
+method_made o annots x ms = method (record {
+  offset = o;
+  annots = annots;
+  oneway = x.0;
+  returned = x.1.0;
+  name = x.1.1.0;
+  args = x.1.1.1.0;
+  id = x.1.1.1.1;
+}) ms
 
 abbrev pub nested_made : Decl → Members → Members
 nested_made d ms = nested d ms
 
 -- what follows a member's annotations, as what it puts before other members
-unfoldable pub member_by : (ℕ → List Annot → List Token → Read Decl) → ℕ → Bool → ℕ → List Annot → List Token → Read (Members → Members)
+unfoldable pub member_by : (ℕ → List Annot → List Token → Read Decl) → ℕ → Bool → ℕ → List Annot → List Token
+    → Read (Members → Members)
 member_by declare n inside o annots ts =
     if begins_word word.Const ts then alter (constant_made o annots) (constant_at n) ts
     else (if begins_decl ts then alter nested_made (declare o annots) ts
     else (if inside then alter (method_made o annots) (method_at n) ts
     else alter (field_made o annots) (field_at n) ts))
 
-abbrev pub member_behind : (ℕ → List Annot → List Token → Read Decl) → ℕ → Bool → ℕ → List Annot × List Token → Read (Members → Members)
+abbrev pub member_behind : (ℕ → List Annot → List Token → Read Decl) → ℕ → Bool → ℕ → List Annot × List Token
+    → Read (Members → Members)
 member_behind declare n inside o a = member_by declare n inside o a.0 a.1
 
-unfoldable pub member_with : (ℕ → List Annot → List Token → Read Decl) → ℕ → Bool → List Token → Read (Members → Members)
+unfoldable pub member_with : (ℕ → List Annot → List Token → Read Decl) → ℕ → Bool → List Token
+    → Read (Members → Members)
 member_with declare n inside ts = annots_at n ts >>= member_behind declare n inside (first ts)
 
 abbrev pub joined : (Members → Members) → Members × List Token → Read Members
@@ -71,7 +86,8 @@ members_behind more m = more m.1 >>= joined m.0
 -- members up to a closing brace, at most n
 abbrev pub members_by : (List Token → Read (Members → Members)) → ℕ → List Token → Read Members
 members_by mem zero ts = if begins mark.CloseBrace ts then Some (none, ts) else None
-members_by mem (suc k) ts = if begins mark.CloseBrace ts then Some (none, ts) else mem ts >>= members_behind (members_by mem k)
+members_by mem (suc k) ts = if begins mark.CloseBrace ts then Some (none, ts)
+    else mem ts >>= members_behind (members_by mem k)
 
 -- members that were read before
 abbrev pub with_members : (Members → Members) → Read Members → Read Members
@@ -112,7 +128,8 @@ declared o annots x = decl o annots x.0 x.1
 -- a declaration, behind its annotations
 unfoldable pub decl_at : ℕ → ℕ → List Annot → List Token → Read Decl
 decl_at zero o annots ts = None
-decl_at (suc n) o annots ts = alter (declared o annots) (body_by (λ inside us. members_by (λ vs. member_with (λ p annots ws. decl_at n p annots ws) (suc n) inside vs) (suc n) us) (suc n)) ts
+decl_at (suc n) o annots ts = alter (declared o annots) (body_by (λ inside us. members_by
+    (λ vs. member_with (λ p annots ws. decl_at n p annots ws) (suc n) inside vs) (suc n) us) (suc n)) ts
 
 abbrev pub member_at : ℕ → Bool → List Token → Read (Members → Members)
 member_at n inside ts = member_with (λ p annots ws. decl_at (n - 1) p annots ws) n inside ts
@@ -138,7 +155,8 @@ unfoldable pub imports_at : ℕ → List Token → Read (List DottedTree)
 imports_at n = many n (begins_word word.Import) (named_at word.Import)
 
 unfoldable pub file_at : ℕ → List Token → Read File
-file_at n = placed file_made (both (maybe (begins_word word.Package) (named_at word.Package)) (both (imports_at n) (top_at n)))
+file_at n = placed file_made
+    (both (maybe (begins_word word.Package) (named_at word.Package)) (both (imports_at n) (top_at n)))
 
 abbrev pub ended_by : File → List Token → Option File
 ended_by f [] = Some f

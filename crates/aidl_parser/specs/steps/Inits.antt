@@ -7,7 +7,8 @@ use Rattle.aidl_syntax.specs.Trees.{Expr, Init, Param, Annot}
 use Rattle.aidl_syntax.specs.Trees.Init.{single, braces}
 use Rattle.aidl_syntax.specs.Productions as form
 use Rattle.expr_parser.specs.Reading.{Read, mark_of, name_of, expr}
-use Rattle.aidl_parser.specs.steps.Parts.{is_symbol, begins, quoted, both, alter, fore, behind, upto, placed, maybe, many, listed}
+use Rattle.aidl_parser.specs.steps.Parts.{is_symbol, begins, quoted, both, alter, fore, behind, upto, placed, maybe}
+use Rattle.aidl_parser.specs.steps.Parts.{many, listed}
 use Rattle.aidl_parser.specs.steps.Types.{ident}
 
 abbrev pub expr_at : ℕ → List Token → Read Expr

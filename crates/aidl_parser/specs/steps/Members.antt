@@ -7,7 +7,8 @@ use Rattle.aidl_syntax.specs.declared.tree.NameTree.{NameTree}
 use Rattle.aidl_syntax.specs.declared.tree.TypeTree.{TypeTree}
 use Rattle.aidl_syntax.specs.Trees.{Expr, Init, Arg}
 use Rattle.expr_parser.specs.Reading.{Read}
-use Rattle.aidl_parser.specs.steps.Parts.{begins, begins_word, worded, both, alter, second, behind, upto, maybe, as_some}
+use Rattle.aidl_parser.specs.steps.Parts.{begins, begins_word, worded, both, alter, second, behind, upto, maybe}
+use Rattle.aidl_parser.specs.steps.Parts.{as_some}
 use Rattle.aidl_parser.specs.steps.Types.{ident, as_true, type_at}
 use Rattle.aidl_parser.specs.steps.Inits.{expr_at, init_at, maybe_listed}
 use Rattle.aidl_parser.specs.steps.Items.{arg_at, number_at}
@@ -49,4 +50,5 @@ id_at = behind mark.Equal number_at
 
 -- ["oneway"] (type | "void") ident "(" [arg {"," arg}] ")" ["=" number] ";"
 unfoldable pub method_at : ℕ → List Token → Read (Bool × (Option TypeTree × (NameTree × (List Arg × Option Token))))
-method_at n = both oneway_at (both returned_at (both ident (both (args_at n) (upto (maybe (begins mark.Equal) id_at) mark.Semicolon))))
+method_at n = both oneway_at
+    (both returned_at (both ident (both (args_at n) (upto (maybe (begins mark.Equal) id_at) mark.Semicolon))))

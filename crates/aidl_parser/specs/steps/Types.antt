@@ -26,7 +26,8 @@ as_true x = true
 
 -- ["[" "]"]
 unfoldable pub array : List Token → Read Bool
-array ts = if begins mark.OpenBracket ts then alter as_true (both (quoted mark.OpenBracket) (quoted mark.CloseBracket)) ts else Some (false, ts)
+array ts = if begins mark.OpenBracket ts
+    then alter as_true (both (quoted mark.OpenBracket) (quoted mark.CloseBracket)) ts else Some (false, ts)
 
 abbrev pub typed : ℕ → DottedTree × (Option DottedTree × Bool) → TypeTree
 typed o x = record { offset = o; name = x.0; element = x.1.0; array = x.1.1 }

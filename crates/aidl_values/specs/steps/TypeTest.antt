@@ -43,7 +43,8 @@ abbrev mutual
   has_type_of S t (text x) = is_one t.shape && is_text_form (form_of S t.base) && all_scalars x
   has_type_of S t (seq vs) = not (is_one t.shape) && all_have_type S (elem S t) vs
   has_type_of S t (rec vs) = is_one t.shape && of_parcelable (form_of S t.base) (λ fs. fields_have_type S fs vs)
-  has_type_of S t (alt k v) = is_one t.shape && of_union (form_of S t.base) (λ fs. of_field (slice_get fs k) (λ u. has_type_of S u v))
+  has_type_of S t (alt k v) =
+      is_one t.shape && of_union (form_of S t.base) (λ fs. of_field (slice_get fs k) (λ u. has_type_of S u v))
 
   -- each item has the type
   pub all_have_type : List Decl → AidlType → Items → Bool

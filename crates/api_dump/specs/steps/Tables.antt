@@ -1,5 +1,6 @@
 -- The table of what stands in each declaration, as the code builds it.
-use Rattle.std.specs.Prelude.{◌≡◌, ℕ, ◌<◌, List, [], map, length, ◌++◌, slice_get, Option, Some, None, if◌then◌else◌, ◌∷◌, is_none}
+use Rattle.std.specs.Prelude.{◌≡◌, ℕ, ◌<◌, List, [], map, length, ◌++◌, slice_get, Option, Some, None}
+use Rattle.std.specs.Prelude.{if◌then◌else◌, ◌∷◌, is_none}
 use Rattle.std.specs.List.{filter, enumerate_from}
 use Rattle.aidl_schema.specs.declared.schema.Decl.{Decl}
 use Rattle.aidl_schema.specs.Names.{is_inside}

@@ -1,5 +1,6 @@
 -- What the steps before a freezing answer.
-use Rattle.std.specs.Prelude.{◌≡◌, ◌≢◌, ℕ, ◌+◌, ◌≤◌, ◌<◌, ◌⊎◌, ◌&&◌, Bool, true, false, List, [], ◌∷◌, map, Some, Result, Ok, Err, bytes_eq}
+use Rattle.std.specs.Prelude.{◌≡◌, ◌≢◌, ℕ, ◌+◌, ◌≤◌, ◌<◌, ◌⊎◌, ◌&&◌, Bool, true, false, List, [], ◌∷◌, map, Some}
+use Rattle.std.specs.Prelude.{Result, Ok, Err, bytes_eq}
 use Rattle.aidl_base.specs.declared.limit.LimitName.TheVariants as limit
 use Rattle.aidl_base.specs.declared.source_file.SourceFile.{SourceFile}
 use Rattle.aidl_schema.specs.declared.schema.Decl.{Decl}
@@ -19,7 +20,8 @@ use Rattle.api_freeze.specs.Freeze.{Forbids, MayFollow, Ready, RefusedAs, latest
 abbrev pub Compares : ℕ → List Decl → List Decl → Result (Unit {0}) FreezeFault → Type 0
 Compares number old S (Ok x) = (dump_text old ≢ dump_text S) × (broken old S ≡ [])
 Compares number old S (Err (fault.Unchanged version)) = (version ≡ number) × (dump_text old ≡ dump_text S)
-Compares number old S (Err (fault.Incompatible rows)) = (dump_text old ≢ dump_text S) × (map break_of rows ≡ broken old S) × (rows ≢ [])
+Compares number old S (Err (fault.Incompatible rows)) = (dump_text old ≢ dump_text S)
+    × (map break_of rows ≡ broken old S) × (rows ≢ [])
 Compares number old S (Err fault.OutOfMemory) = Unit {0}
 Compares number old S (Err _) = ⊥
 
@@ -52,7 +54,8 @@ Prepares vs S (Err e) = RefusedAs vs S e
 -- the number and the limits of the next version after so many
 abbrev pub Numbers : List Decl → ℕ → List SourceFile → Result Next FreezeFault → Type 0
 Numbers S count files (Ok n) = (count + 1 ≤ 9999) × (n.number ≡ count + 1) × (n.files ≡ files) × IsSchemaOf files S
-Numbers S count files (Err (fault.Limit l)) = ((9999 < count + 1) × (l ≡ record { which = limit.Versions })) ⊎ ((count + 1 ≤ 9999) × IsRefusal files (check.Limit l))
+Numbers S count files (Err (fault.Limit l)) = ((9999 < count + 1) × (l ≡ record { which = limit.Versions }))
+    ⊎ ((count + 1 ≤ 9999) × IsRefusal files (check.Limit l))
 Numbers S count files (Err fault.OutOfMemory) = Unit {0}
 Numbers S count files (Err _) = ⊥
 

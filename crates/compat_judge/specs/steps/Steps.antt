@@ -8,7 +8,9 @@ use Rattle.aidl_base.specs.declared.name.Ident.{Ident}
 use Rattle.aidl_schema.specs.declared.schema.Decl.{Decl}
 use Rattle.aidl_schema.specs.declared.schema.Method.{Method}
 use Rattle.aidl_schema.specs.Same.{same_text}
-use Rattle.aidl_schema.specs.Broken.{Break, Place, Rule, of_rule, place_if, C1, C4, C5, C6, C7, C8, C9, C10, C11, C12, C13, C14, C15, C16, C17, C18, C19, if_found, broken_by, in_both, same_method, same_name}
+use Rattle.aidl_schema.specs.Broken.{Break, Place, Rule, of_rule, place_if, C1, C4, C5, C6, C7, C8, C9, C10, C11}
+use Rattle.aidl_schema.specs.Broken.{C12, C13, C14, C15, C16, C17, C18, C19, if_found, broken_by, in_both}
+use Rattle.aidl_schema.specs.Broken.{same_method, same_name}
 use Rattle.aidl_schema.specs.Names.{methods_of}
 use Rattle.compat_judge.specs.declared.findings.Finding.{Finding}
 use Rattle.compat_judge.specs.declared.sides.Common.{Common}
@@ -32,7 +34,8 @@ both_of c = (c.before.now, c.after.now)
 
 -- They are the methods that both declarations have by their names.
 abbrev pub AreCommon : List Common → Pair → Type 0
-AreCommon common p = map both_of common ≡ in_both same_method (methods_of p.before.now.kind) (methods_of p.after.now.kind)
+AreCommon common p =
+    map both_of common ≡ in_both same_method (methods_of p.before.now.kind) (methods_of p.after.now.kind)
 
 -- the texts of some names
 abbrev pub names_of : List (Bor Ident) → List (List ℕ)

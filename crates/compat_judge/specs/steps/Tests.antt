@@ -7,7 +7,8 @@ use Rattle.aidl_schema.specs.declared.schema.Method.{Method}
 use Rattle.aidl_schema.specs.declared.schema.Arg.{Arg}
 use Rattle.aidl_schema.specs.Containment.{fields_of}
 use Rattle.aidl_schema.specs.Same.{base_code, same_text, same_bool, same}
-use Rattle.aidl_schema.specs.Broken.{kind_code, way_code, same_const, same_default, default_in, has_composite_default, same_marks, same_result, same_result_marks}
+use Rattle.aidl_schema.specs.Broken.{kind_code, way_code, same_const, same_default, default_in}
+use Rattle.aidl_schema.specs.Broken.{has_composite_default, same_marks, same_result, same_result_marks}
 use Rattle.compat_judge.specs.declared.differences.MethodTest.{MethodTest}
 use Rattle.compat_judge.specs.declared.differences.MethodTest.TheVariants as method
 use Rattle.compat_judge.specs.declared.differences.ArgumentTest.{ArgumentTest}
@@ -30,14 +31,16 @@ argument_breaks argument.Marks old new a b = not (same_marks a.ty b.ty)
 abbrev pub field_breaks : FieldTest → List Decl → List Decl → Field → Field → Bool
 field_breaks field.Names old new f g = not (same_text f.name.0 g.name.0)
 field_breaks field.Types old new f g = not (same old f.ty new g.ty)
-field_breaks field.Defaults old new f g = same old f.ty new g.ty && (not (has_composite_default old f.ty || has_composite_default new g.ty) && not (same_default (default_in old f) (default_in new g)))
+field_breaks field.Defaults old new f g = same old f.ty new g.ty && (not (has_composite_default old f.ty
+    || has_composite_default new g.ty) && not (same_default (default_in old f) (default_in new g)))
 field_breaks field.Alternatives old new f g = not (same_text f.name.0 g.name.0) || not (same old f.ty new g.ty)
 field_breaks field.Marks old new f g = not (same_marks f.ty g.ty)
 
 -- `@FixedSize` of a parcelable or union stands in one schema alone; or in both, and new has more fields
 abbrev pub fixed_breaks : Decl → Decl → Bool
 fixed_breaks d e = (kind_code d.kind == 1 || kind_code d.kind == 2)
-    && (not (same_bool d.fixed e.fixed) || ((d.fixed && e.fixed) && nat_lt (length (fields_of d.kind)) (length (fields_of e.kind))))
+    && (not (same_bool d.fixed e.fixed)
+    || ((d.fixed && e.fixed) && nat_lt (length (fields_of d.kind)) (length (fields_of e.kind))))
 
 -- A constant's type and value are the same.
 abbrev pub keeps_constant : Constant → Constant → Bool

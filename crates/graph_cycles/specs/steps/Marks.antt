@@ -1,5 +1,6 @@
 -- What the searches keep, and what a certificate says.
-use Rattle.std.specs.Prelude.{◌≡◌, ℕ, zero, suc, ◌+◌, ◌<◌, ◌≤◌, ◌⊎◌, Bool, true, false, List, [], ◌∷◌, length, slice_index}
+use Rattle.std.specs.Prelude.{◌≡◌, ℕ, zero, suc, ◌+◌, ◌<◌, ◌≤◌, ◌⊎◌, Bool, true, false, List, [], ◌∷◌, length}
+use Rattle.std.specs.Prelude.{slice_index}
 use Rattle.graph_cycles.specs.Paths.{IsEdge, Leads, flag, targets}
 
 -- each node that is marked is on a cycle
@@ -14,7 +15,8 @@ AfterRoots next roots xs = (n : ℕ) → flag xs n ≡ true → Leads next (slic
 abbrev pub BeforeRoots : (ℕ → List ℕ) → List ℕ → List Bool → Type 0
 BeforeRoots next roots xs = (n : ℕ) → flag xs n ≡ true → Leads next n (slice_index roots n)
 
--- There are roots from which paths lead to the nodes that are marked first, and to which paths lead from those marked second.
+-- There are roots from which paths lead to the nodes that are marked first, and to which paths lead from those
+-- marked second.
 abbrev pub HaveRoots : (ℕ → List ℕ) → List Bool → List Bool → Type 0
 HaveRoots next after before = (roots : List ℕ) × AfterRoots next roots after × BeforeRoots next roots before
 
@@ -28,7 +30,8 @@ IsOrLeads next m n = (m ≡ n) ⊎ Leads next m n
 
 -- No edge leads to a higher rank, and none that leaves a node without a mark to its own rank.
 abbrev pub IsCertificate : (ℕ → List ℕ) → List ℕ → List Bool → Type 0
-IsCertificate next ranks xs = (m n : ℕ) → IsEdge next m n → (slice_index ranks n ≤ slice_index ranks m) × (flag xs m ≡ false → slice_index ranks n < slice_index ranks m)
+IsCertificate next ranks xs = (m n : ℕ) → IsEdge next m n
+    → (slice_index ranks n ≤ slice_index ranks m) × (flag xs m ≡ false → slice_index ranks n < slice_index ranks m)
 
 -- an edge that leaves m or a marked node leads to a marked node, or to none that has a flag
 abbrev pub IsClosed : (ℕ → List ℕ) → ℕ → List Bool → Type 0

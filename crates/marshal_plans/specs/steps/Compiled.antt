@@ -58,7 +58,8 @@ sequence_after nullable a = pushed a.plans (Seq nullable a.id)
 -- with the item of a type
 abbrev pub added : List Decl → List ℕ → Plans → AidlType → Added
 added S firsts p t = if is_one t.shape then pushed p (single S firsts t)
-    else (if is_raw S t then pushed p (Raw t.nullable) else sequence_after t.nullable (pushed p (single S firsts (elem S t))))
+    else (if is_raw S t then pushed p (Raw t.nullable)
+    else sequence_after t.nullable (pushed p (single S firsts (elem S t))))
 
 -- with the entry of a field whose item was added
 abbrev pub entered : Added → Option Const → Plans
@@ -76,12 +77,16 @@ with_decls S firsts p (d ∷ ds) = with_decls S firsts (with_fields S firsts p (
 
 -- with the start of an argument or result whose item was added
 abbrev pub started : Added → ℕ → ℕ → Option ℕ → Plans
-started a n m place = record a.plans { starts = a.plans.starts ++ record { interface = n; method = m; place = place; item = a.id } ∷ [] }
+started a n m place = record a.plans {
+  starts = a.plans.starts
+      ++ record { interface = n; method = m; place = place; item = a.id } ∷ [];
+}
 
 -- with those of arguments from position k on
 abbrev pub with_arguments : List Decl → List ℕ → ℕ → ℕ → ℕ → Plans → List Arg → Plans
 with_arguments S firsts n m k p [] = p
-with_arguments S firsts n m k p (a ∷ rest) = with_arguments S firsts n m (suc k) (started (added S firsts p a.ty) n m (Some k)) rest
+with_arguments S firsts n m k p (a ∷ rest) =
+    with_arguments S firsts n m (suc k) (started (added S firsts p a.ty) n m (Some k)) rest
 
 -- with that of a result
 abbrev pub with_result : List Decl → List ℕ → ℕ → ℕ → Plans → Option AidlType → Plans
@@ -99,7 +104,8 @@ with_methods S firsts n m p (w ∷ ws) = with_methods S firsts n (suc m) (with_m
 -- with those of declarations from number n on
 abbrev pub with_interfaces : List Decl → List ℕ → ℕ → Plans → List Decl → Plans
 with_interfaces S firsts n p [] = p
-with_interfaces S firsts n p (d ∷ ds) = with_interfaces S firsts (suc n) (with_methods S firsts n 0 p (methods_of d.kind)) ds
+with_interfaces S firsts n p (d ∷ ds) =
+    with_interfaces S firsts (suc n) (with_methods S firsts n 0 p (methods_of d.kind)) ds
 
 -- with the id of an extra type whose item was added
 abbrev pub extended : Added → Plans

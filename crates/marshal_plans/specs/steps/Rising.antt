@@ -15,7 +15,8 @@ place_order None None = Equal
 
 -- how a start stands to a place
 abbrev pub order_to : ℕ → ℕ → Option ℕ → PlanStart → Ordering
-order_to n m place s = ordering_then (nat_cmp s.interface n) (ordering_then (nat_cmp s.method m) (place_order s.place place))
+order_to n m place s =
+    ordering_then (nat_cmp s.interface n) (ordering_then (nat_cmp s.method m) (place_order s.place place))
 
 -- The starts stand in the order by which they are compared to this place.
 abbrev pub AreRising : List PlanStart → ℕ → ℕ → Option ℕ → Type 0

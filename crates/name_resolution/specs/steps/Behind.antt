@@ -16,7 +16,8 @@ through es first rest i = first_declared es (imported (i ∷ []) (first ∷ rest
 
 -- through the import at a place
 abbrev pub through_at : List Entry → Ident → List Ident → List (Bor DottedTree) → ℕ → Option Resolved
-through_at es first rest imports place = elim (slice_get imports place) [ None ↦ None | Some i ↦ through es first rest i.now ]
+through_at es first rest imports place =
+    elim (slice_get imports place) [ None ↦ None | Some i ↦ through es first rest i.now ]
 
 -- the first import with a whole name
 abbrev pub place_of : List (Bor DottedTree) → List Ident → Option ℕ
@@ -29,19 +30,23 @@ without name back = take (length name - back) name
 -- this place, where the name means something through the import there
 abbrev pub if_through : List Entry → Ident → List Ident → List (Bor DottedTree) → Option ℕ → Option ℕ
 if_through es first rest imports None = None
-if_through es first rest imports (Some place) = if is_some (through_at es first rest imports place) then Some place else None
+if_through es first rest imports (Some place) = if is_some (through_at es first rest imports place)
+    then Some place else None
 
 -- where a declared name leads, which may end in the whole name: the import that has what stands before the other parts
 abbrev pub led : List Entry → Ident → List Ident → List (Bor DottedTree) → List Ident → Option ℕ
-led es first rest imports declared = if_through es first rest imports (place_of imports (without declared (length rest)))
+led es first rest imports declared =
+    if_through es first rest imports (place_of imports (without declared (length rest)))
 
 -- where that of the declaration with a number leads
 abbrev pub led_by : List Entry → Ident → List Ident → List (Bor DottedTree) → ℕ → Option ℕ
-led_by es first rest imports number = elim (slice_get es number) [ None ↦ None | Some e ↦ led es first rest imports e.name ]
+led_by es first rest imports number =
+    elim (slice_get es number) [ None ↦ None | Some e ↦ led es first rest imports e.name ]
 
 -- where the end at a place leads
 abbrev pub led_at : List Entry → Ident → List Ident → List (Bor DottedTree) → List End → ℕ → Option ℕ
-led_at es first rest imports ends place = elim (slice_get ends place) [ None ↦ None | Some e ↦ led_by es first rest imports e.owner ]
+led_at es first rest imports ends place =
+    elim (slice_get ends place) [ None ↦ None | Some e ↦ led_by es first rest imports e.owner ]
 
 -- the earlier of two places
 abbrev pub earlier : Option ℕ → Option ℕ → Option ℕ

@@ -1,5 +1,7 @@
--- Defaults by plans, as plain functions on the items: those of the types for which the plans stand (proofs/Defaults.antt).
-use Rattle.std.specs.Prelude.{ℕ, zero, suc, pos, false, if◌then◌else◌, List, [], ◌∷◌, map, Option, Some, None, slice_get}
+-- Defaults by plans, as plain functions on the items: those of the types for which the plans stand
+-- (proofs/Defaults.antt).
+use Rattle.std.specs.Prelude.{ℕ, zero, suc, pos, false, if◌then◌else◌, List, [], ◌∷◌, map, Option, Some, None}
+use Rattle.std.specs.Prelude.{slice_get}
 use Rattle.aidl_values.specs.Data.{Data, null, truth, number, text, seq, rec, alt, Items, none}
 use Rattle.aidl_values.specs.Default.{initial_or}
 use Rattle.aidl_values.specs.View.{items_of}
@@ -38,13 +40,16 @@ item_default of_id entries (Some Long) = number (pos 0)
 item_default of_id entries (Some (Text nullable)) = if nullable then null else text []
 item_default of_id entries (Some (Raw nullable)) = if nullable then null else seq none
 item_default of_id entries (Some (Seq nullable element)) = if nullable then null else seq none
-item_default of_id entries (Some (Rec nullable first count)) = if nullable then null else rec (entry_defaults of_id (entries_of entries first count))
-item_default of_id entries (Some (Alt nullable first count)) = if nullable then null else first_default of_id (entries_of entries first count)
+item_default of_id entries (Some (Rec nullable first count)) = if nullable then null
+    else rec (entry_defaults of_id (entries_of entries first count))
+item_default of_id entries (Some (Alt nullable first count)) = if nullable then null
+    else first_default of_id (entries_of entries first count)
 
 -- of an id, by fuel, of which each level of parts takes one
 unfoldable pub plan_default : ℕ → Plans → PlanId → Data
 plan_default zero plans id = item_default (λ u. null) plans.fields (slice_get plans.items id.0)
-plan_default (suc fuel) plans id = item_default (λ u. plan_default fuel plans u) plans.fields (slice_get plans.items id.0)
+plan_default (suc fuel) plans id =
+    item_default (λ u. plan_default fuel plans u) plans.fields (slice_get plans.items id.0)
 
 -- of a part of what has n levels
 abbrev pub plan_default_parts : ℕ → Plans → PlanId → Data

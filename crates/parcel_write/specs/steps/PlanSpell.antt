@@ -1,5 +1,7 @@
--- Spelling by plans, as plain functions on the items: the spelling by the types for which the plans stand (proofs/SameSpellings.antt).
-use Rattle.std.specs.Prelude.{ℕ, ◌<◌, ◌^◌, ℤ, pos, negsuc, Bool, true, false, if◌then◌else◌, List, [], ◌∷◌, ◌++◌, Option, Some, None, slice_get, FitsSigned, MatchBool}
+-- Spelling by plans, as plain functions on the items: the spelling by the types for which the plans stand
+-- (proofs/SameSpellings.antt).
+use Rattle.std.specs.Prelude.{ℕ, ◌<◌, ◌^◌, ℤ, pos, negsuc, Bool, true, false, if◌then◌else◌, List, [], ◌∷◌, ◌++◌}
+use Rattle.std.specs.Prelude.{Option, Some, None, slice_get, FitsSigned, MatchBool}
 use Rattle.std.specs.Int.{w32}
 use Rattle.aidl_base.specs.Words.{word, long_word, pad}
 use Rattle.aidl_values.specs.Data.{Data, null, truth, number, text, seq, rec, alt, Items, none, item, count}
@@ -60,9 +62,12 @@ abbrev mutual
   plan_spell plans id (number n) = number_by (item_of plans id) n
   plan_spell plans id (text x) = spell_text x
   plan_spell plans id null = word (null_word_by (item_of plans id))
-  plan_spell plans id (seq vs) = word (pos (count vs)) ++ (if is_raw_item (item_of plans id) then pad (raw_bytes vs) else plan_spell_items plans (element_of (item_of plans id)) vs)
-  plan_spell plans id (rec vs) = word (pos 1) ++ body (plan_spell_entries plans (record_entries plans.fields (item_of plans id)) vs)
-  plan_spell plans id (alt k v) = word (pos 1) ++ word (pos k) ++ plan_spell plans (id_of_entry (slice_get (union_entries plans.fields (item_of plans id)) k)) v
+  plan_spell plans id (seq vs) = word (pos (count vs)) ++ (if is_raw_item (item_of plans id) then pad (raw_bytes vs)
+      else plan_spell_items plans (element_of (item_of plans id)) vs)
+  plan_spell plans id (rec vs) = word (pos 1)
+      ++ body (plan_spell_entries plans (record_entries plans.fields (item_of plans id)) vs)
+  plan_spell plans id (alt k v) = word (pos 1) ++ word (pos k)
+      ++ plan_spell plans (id_of_entry (slice_get (union_entries plans.fields (item_of plans id)) k)) v
 
   -- the elements of a sequence
   pub plan_spell_items : Plans → PlanId → Items → List ℕ
@@ -82,15 +87,18 @@ SuitsNumber (Some Long) n = Unit {0}
 SuitsNumber _ n = FitsSigned w32 n
 
 abbrev mutual
-  -- The value is such that it can be written by the item: its numbers fit, tags are small, and a record has a value for each field.
+  -- The value is such that it can be written by the item: its numbers fit, tags are small, and a record has a value
+  -- for each field.
   pub Suits : Plans → PlanId → Data → Type 0
   Suits plans id (truth b) = Unit {0}
   Suits plans id (number n) = SuitsNumber (item_of plans id) n
   Suits plans id (text x) = Unit {0}
   Suits plans id null = Unit {0}
-  Suits plans id (seq vs) = MatchBool (is_raw_item (item_of plans id)) (AreByteValues vs) (EachSuits plans (element_of (item_of plans id)) vs)
+  Suits plans id (seq vs) = MatchBool (is_raw_item (item_of plans id)) (AreByteValues vs)
+      (EachSuits plans (element_of (item_of plans id)) vs)
   Suits plans id (rec vs) = EntriesSuit plans (record_entries plans.fields (item_of plans id)) vs
-  Suits plans id (alt k v) = (k < 2 ^ 31) × Suits plans (id_of_entry (slice_get (union_entries plans.fields (item_of plans id)) k)) v
+  Suits plans id (alt k v) = (k < 2 ^ 31)
+      × Suits plans (id_of_entry (slice_get (union_entries plans.fields (item_of plans id)) k)) v
 
   pub EachSuits : Plans → PlanId → Items → Type 0
   EachSuits plans id none = Unit {0}

@@ -1,4 +1,5 @@
--- Expressions, and what they initialize. For each part and the terminal that it begins with: what is expected behind it.
+-- Expressions, and what they initialize. For each part and the terminal that it begins with: what is expected
+-- behind it.
 use Rattle.std.specs.Prelude.{List, [], ◌∷◌, Option, Some, None}
 use Rattle.parse_places.specs.declared.terminal.Terminal.{Terminal}
 use Rattle.parse_places.specs.declared.terminal.Terminal.TheVariants as terminal

@@ -6,7 +6,8 @@ use Rattle.parse_places.specs.contracts.terminal.Terminal as terminals
 use Rattle.parse_places.specs.declared.terminal.Terminal.{Terminal}
 use Rattle.parse_places.specs.declared.terminal.Terminal.TheVariants as terminal
 use Rattle.parse_places.specs.declared.expected.Expected.{Expected}
-use Rattle.parse_places.specs.declared.expected.Expected.TheVariants.{Token, Once, Maybe, Many, Commas, MaybeListed, CommasTrailing, MaybeTrailing}
+use Rattle.parse_places.specs.declared.expected.Expected.TheVariants.{Token, Once, Maybe, Many, Commas, MaybeListed}
+use Rattle.parse_places.specs.declared.expected.Expected.TheVariants.{CommasTrailing, MaybeTrailing}
 use Rattle.parse_places.specs.steps.Rows.{row}
 
 unfoldable pub same_terminal : Terminal → Terminal → Bool
@@ -44,7 +45,8 @@ skips (CommasTrailing x) = true
 skips (MaybeTrailing x) = true
 
 -- a move where there is one; else what may be left out is, and the rest of the stack moves
-abbrev pub move_or_skip : Option (List Expected) → Bool → List Expected → Option (List Expected) → Option (List Expected)
+abbrev pub move_or_skip : Option (List Expected) → Bool → List Expected → Option (List Expected)
+    → Option (List Expected)
 move_or_skip (Some es) skipped stack rest = Some (es ++ stack)
 move_or_skip None true stack rest = rest
 move_or_skip None false stack rest = None

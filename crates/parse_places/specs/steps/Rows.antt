@@ -5,10 +5,12 @@ use Rattle.parse_places.specs.declared.expected.Part.{Part}
 use Rattle.parse_places.specs.declared.expected.Part.TheVariants as part
 use Rattle.parse_places.specs.declared.expected.Expected.{Expected}
 use Rattle.parse_places.specs.steps.Names.{package_row, import_row, dot_name_row, type_row, element_row, array_row}
-use Rattle.parse_places.specs.steps.Expressions.{operand_row, operation_row, expression_row, initializer_row, initial_row, value_row, id_row}
+use Rattle.parse_places.specs.steps.Expressions.{operand_row, operation_row, expression_row, initializer_row}
+use Rattle.parse_places.specs.steps.Expressions.{initial_row, value_row, id_row}
 use Rattle.parse_places.specs.steps.Annotations.{annotation_row, parameters_row, parameter_row, parameter_rest_row}
 use Rattle.parse_places.specs.steps.Declarations.{enumerator_row, body_row, member_rest_row, member_row}
-use Rattle.parse_places.specs.steps.Methods.{argument_rest_row, argument_row, oneway_rest_row, interface_member_rest_row, interface_member_row}
+use Rattle.parse_places.specs.steps.Methods.{argument_rest_row, argument_row, oneway_rest_row}
+use Rattle.parse_places.specs.steps.Methods.{interface_member_rest_row, interface_member_row}
 
 unfoldable pub row : Part → Terminal → Option (List Expected)
 row part.Package c = package_row c

@@ -1,5 +1,6 @@
 -- A graph with one node more, the hub: each node on a cycle leads to it, and it leads to all.
-use Rattle.std.specs.Prelude.{◌≡◌, ℕ, ◌<◌, Bool, if◌then◌else◌, List, [], ◌∷◌, ◌++◌, map, length, ◌⊎◌, Option, Some, None}
+use Rattle.std.specs.Prelude.{◌≡◌, ℕ, ◌<◌, Bool, if◌then◌else◌, List, [], ◌∷◌, ◌++◌, map, length, ◌⊎◌, Option, Some}
+use Rattle.std.specs.Prelude.{None}
 use Rattle.std.specs.List.{range_with_len}
 use Rattle.graph_cycles.specs.Paths.{IsEdge, Leads, flag, targets}
 
@@ -9,7 +10,8 @@ hub_if on hub = if on then hub ∷ [] else []
 
 -- the rows with the hub behind them
 abbrev pub with_hub : List (List ℕ) → List Bool → List (List ℕ)
-with_hub G on = map (λ n. targets G n ++ hub_if (flag on n) (length G)) (range_with_len 0 (length G)) ++ range_with_len 0 (length G) ∷ []
+with_hub G on = map (λ n. targets G n ++ hub_if (flag on n) (length G)) (range_with_len 0 (length G))
+    ++ range_with_len 0 (length G) ∷ []
 
 -- a node is on a cycle, or a path leads from it to one that is
 abbrev pub LeadsToCycle : (ℕ → List ℕ) → ℕ → Type 0

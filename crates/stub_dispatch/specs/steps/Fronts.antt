@@ -15,7 +15,8 @@ joined (item v vs) ws = item v (joined vs ws)
 abbrev pub after : Items → Read Items → Read Items
 after front reading = reading >>= λ x. Ok (joined front x.0, x.1)
 
--- The items read before with those read now, and the bytes that are left, are what the reading gives, or the refusal is.
+-- The items read before with those read now, and the bytes that are left, are what the reading gives, or the
+-- refusal is.
 abbrev pub Continues : {A : Type 0} → Items → Items → Result A ReadFault → Read Items → List ℕ → Type 0
 Continues old new (Ok x) reading rest = after old reading ≡ Ok (new, rest)
 Continues old new (Err fault) reading rest = RefusesIfMemory fault reading

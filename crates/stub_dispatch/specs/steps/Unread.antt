@@ -11,5 +11,6 @@ pub record Unread : Type 0 where
   pub bytes : List ℕ
 
 abbrev pub unread_code : Coded Unread
-unread_code = code_by (Bool × List ℕ) (coded× coded_bool (coded_list coded_ℕ)) (λ u. (is_strict u.profile, u.bytes)) (λ q. record { profile = strict_or_lenient q.0; bytes = q.1 })
+unread_code = code_by (Bool × List ℕ) (coded× coded_bool (coded_list coded_ℕ)) (λ u. (is_strict u.profile, u.bytes))
+    (λ q. record { profile = strict_or_lenient q.0; bytes = q.1 })
     (λ u. ap (λ (p : Profile). record { profile = p; bytes = u.bytes }) (profile_back u.profile))

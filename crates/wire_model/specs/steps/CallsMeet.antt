@@ -21,9 +21,11 @@ pub record MethodsAgree (A : List Decl) (v : Method) (B : List Decl) (w : Method
   pub arguments : ArgumentsAgree A v.args B w.args
   pub result : same_result A v.result B w.result ≡ true
 
--- Interfaces of one name: what a method of one name is in both; and the id of a method that the other lacks is nobody's there.
+-- Interfaces of one name: what a method of one name is in both; and the id of a method that the other lacks is
+-- nobody's there.
 pub record InterfacesAgree (A : List Decl) (d : Decl) (B : List Decl) (e : Decl) : Type 0 where
-  pub common : (v w : Method) → Has (methods_of d.kind) v → Has (methods_of e.kind) w → same_method v w ≡ true → MethodsAgree A v B w
+  pub common : (v w : Method) → Has (methods_of d.kind) v → Has (methods_of e.kind) w → same_method v w ≡ true
+      → MethodsAgree A v B w
   pub lacking : (v w : Method) → Has (methods_of d.kind) v → Has (methods_of e.kind) w
       → ((x : Method) → Has (methods_of e.kind) x → same_method v x ≡ false) → v.id ≡ w.id → ⊥
 

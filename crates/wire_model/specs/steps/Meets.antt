@@ -1,4 +1,5 @@
--- What two schemas have in common where no evolution rule is broken from the one to the other: what is sent by A can be read by B.
+-- What two schemas have in common where no evolution rule is broken from the one to the other: what is sent by A
+-- can be read by B.
 use Rattle.std.specs.Prelude.{◌≡◌, ℕ, ◌≤◌, true, false, List, [], ◌∷◌, length}
 use Rattle.aidl_schema.specs.declared.schema.Decl.{Decl}
 use Rattle.aidl_schema.specs.declared.schema.Field.{Field}

@@ -38,16 +38,21 @@ the_items_listed X row = list-listed X row
 
 -- what the struct holds: a vector of what is held
 abbrev fields : Former {0}
-fields = via (vec.the_former this Global) Inside (λ X row. row.items) (λ X vector. record { items = vector }) (λ X row. refl) (λ X vector. refl)
+fields = via (vec.the_former this Global) Inside (λ X row. row.items) (λ X vector. record { items = vector })
+    (λ X row. refl) (λ X vector. refl)
 
 module _ (R S : RattleType) (h : R.Denot → S.Denot) where
   -- at two types of items that are laid out alike, rows are laid out alike
-  pub the_places : Alike R S h → Alike (contract_of.the_row R) (contract_of.the_row S) ((the_former this).map R.Denot S.Denot h)
-  the_places alike = view_places fields (list this) view (λ X Y k u. refl) (λ X u. refl) R.Denot S.Denot h (contract_of.the_row R).coded (contract_of.the_row S).coded
+  pub the_places : Alike R S h
+      → Alike (contract_of.the_row R) (contract_of.the_row S) ((the_former this).map R.Denot S.Denot h)
+  the_places alike = view_places fields (list this) view (λ X Y k u. refl) (λ X u. refl) R.Denot S.Denot h
+      (contract_of.the_row R).coded (contract_of.the_row S).coded
       (invariant R.Denot) (invariant S.Denot) (λ u p q. refl) (λ u p q. refl) (λ u e. tt) (λ u e. tt)
       (over (inside_of.the_row R)) (over (inside_of.the_row S))
-      (struct_places (inside_of.the_type R) (inside_of.the_type S) (vec.mapped h, tt) _ (λ d. refl) refl (laid _ _ _ (vec.the_places heap.the_row ghosts R S h alike), tt))
+      (struct_places (inside_of.the_type R) (inside_of.the_type S) (vec.mapped h, tt) _ (λ d. refl) refl
+      (laid _ _ _ (vec.the_places heap.the_row ghosts R S h alike), tt))
 
   -- and are stored alike in ghost data
-  pub the_codes_placed : Recodes R S h → Recodes (contract_of.the_row R) (contract_of.the_row S) ((the_former this).map R.Denot S.Denot h)
+  pub the_codes_placed : Recodes R S h
+      → Recodes (contract_of.the_row R) (contract_of.the_row S) ((the_former this).map R.Denot S.Denot h)
   the_codes_placed recodes row = sym (code_map R.coded.code S.coded.code h (λ x. sym (recodes x)) row)
