@@ -5,6 +5,7 @@ valgrind --tool=callgrind crates/aidl/out/aidl encode 'int[]' /tmp/values/ints.j
 valgrind --tool=callgrind crates/aidl/out/aidl encode 'byte[]' /tmp/values/bytes.json
 valgrind --tool=callgrind crates/aidl/out/aidl encode String /tmp/values/text.json
 valgrind --tool=callgrind crates/aidl/out/aidl encode --tree /tmp/values/tree 'm.P[]' /tmp/values/records.json
+valgrind --tool=callgrind crates/aidl/out/aidl encode --tree /tmp/values/enum 'm.E[]' /tmp/values/names.json
 
 What `encode` prints is the file for `decode` of the same type. The parcels of records `m.W` of 511 ints that leave out all fields, or all but the first:
 
@@ -40,6 +41,9 @@ def values(folder):
     records = [{"a": k, "b": k * 1_000_003, "c": f"record {k}"} for k in range(20_000)]
     put(f"{folder}/records.json", json.dumps([records], **compact))
     put(f"{folder}/tree/m/P.aidl", "package m; parcelable P { int a; long b; String c; }")
+    put(f"{folder}/names.json", json.dumps([[f"e{k * 7919 % 4000}" for k in range(100_000)]], **compact))
+    names = ", ".join(f"e{k}" for k in range(4000))
+    put(f"{folder}/enum/m/E.aidl", f'package m; @Backing(type="int") enum E {{ {names} }}')
 
 
 def short_records(folder):
