@@ -1,8 +1,9 @@
 -- Which calls are made of a store: to read, by what it tells, or to write (own).
-use Rattle.std.specs.Prelude.{◌≡◌, ℕ, ◌⊎◌, List, Option, None, Some, Contains}
-use Rattle.aidl_outside.specs.Faults.{StoreCall, listing as lists, reading, writing}
-use Rattle.aidl_outside.specs.Files.{Files, listing, path_below}
-use Rattle.aidl_outside.specs.Told.{Tells}
+use Rattle.std.specs.Prelude.{◌≡◌, ℕ, ◌⊎◌, List, Option, Contains}
+use Rattle.aidl_base.specs.declared.limit.LimitName.{LimitName}
+use Rattle.aidl_base.specs.Limits.{limit_number}
+use Rattle.aidl_outside.specs.Faults.{StoreCall, reading, writing}
+use Rattle.aidl_outside.specs.Files.{Files, path_below}
 
 abbrev pub Asks : Type 1
 Asks = Option Files → StoreCall → Type 0
@@ -10,24 +11,14 @@ Asks = Option Files → StoreCall → Type 0
 abbrev pub AsksNothing : Asks
 AsksNothing kept call = ⊥
 
--- the file at a path is read
-abbrev pub AsksFile : List ℕ → Asks
-AsksFile path kept call = call ≡ reading path
+-- the file at a path is read, up to this limit and one byte more
+abbrev pub AsksFile : LimitName → List ℕ → Asks
+AsksFile which path kept call = call ≡ reading path (limit_number which)
 
--- a file at one of some paths below a folder is read
-abbrev pub AsksThese : List ℕ → List (List ℕ) → StoreCall → Type 0
-AsksThese folder paths call = (path : List ℕ) × (call ≡ reading (path_below folder path)) × Contains paths path
-
--- a root is listed, and a file that is listed below it is read
-abbrev pub AsksBelow : List ℕ → Asks
-AsksBelow root kept call = (call ≡ lists root)
-    ⊎ ((path : List ℕ) × (call ≡ reading (path_below root path))
-    × Tells kept (λ files. Contains (listing root files) path))
-
--- the same below a root that may be given
-abbrev pub AsksOptional : Option (List ℕ) → Asks
-AsksOptional None = AsksNothing
-AsksOptional (Some root) = AsksBelow root
+-- so is a file at one of some paths below a folder
+abbrev pub AsksThese : LimitName → List ℕ → List (List ℕ) → StoreCall → Type 0
+AsksThese which folder paths call =
+    (path : List ℕ) × (call ≡ reading (path_below folder path) (limit_number which)) × Contains paths path
 
 -- these calls and those
 infixr 5 ◌also◌

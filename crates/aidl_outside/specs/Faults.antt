@@ -14,10 +14,11 @@ pub record Faults (Call : Type 0) : Type 0 where
   pub count : ℕ
   pub last : Option Call
 
--- a call of a store, by its path; a call of a sink is the bytes that it puts, and one of a link the parcel
+-- A call of a store, by its path; of a reading also how many bytes are asked for, and one more tells that a file is
+-- longer. A call of a sink is the bytes that it puts, and one of a link the parcel.
 pub data StoreCall : Type 0 where
   listing : (root : List ℕ) → StoreCall
-  reading : (path : List ℕ) → StoreCall
+  reading : (path : List ℕ) → (most : ℕ) → StoreCall
   writing : (path : List ℕ) → StoreCall
 
 -- so many, and which call failed last isn't told

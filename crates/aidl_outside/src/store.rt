@@ -53,7 +53,7 @@ pub trait Store {
         ensures unchanged { kept self.new ≡ kept self.old }
         ensures cause { StoreCause (fault_record self.old) (fault_record self.new) result }
         ensures failed_call { IfStoreFailed result
-            (FailedIn (fault_record self.new) (λ call. call ≡ reading path.now)) }
+            (FailedIn (fault_record self.new) (λ call. call ≡ reading path.now most)) }
         ensures never_falls { (fault_record self.old).count ≤ (fault_record self.new).count };
 
     /// Sets the file at a path. After `Failed` that one path may hold any bytes or nothing, and all others stay.

@@ -1,5 +1,6 @@
 -- Which call of a store failed, of those that versions take (own).
 use Rattle.std.specs.Prelude.{◌≡◌, ℕ, ◌⊎◌, List, ◌∷◌, Result, Ok, Err, Contains, codes}
+use Rattle.aidl_base.specs.declared.limit.LimitName.TheVariants.{FileBytes}
 use Rattle.aidl_outside.specs.Asks.{Asks, AsksThese}
 use Rattle.aidl_outside.specs.Faults.{FailedIn, StoreCall, StoreFaults, listing as lists}
 use Rattle.aidl_outside.specs.Files.{Files, listing}
@@ -9,9 +10,9 @@ use Rattle.api_versions.specs.declared.fault.VersionsFault.TheVariants as fault
 use Rattle.api_versions.specs.Folders.{Folder}
 use Rattle.api_versions.specs.Versions.{folders_in, present, version_folder}
 
--- of the folder of a version a source, or the `.hash`, is read
+-- of the folder of a version a source, or the `.hash`, is read, up to the limit `file-bytes` and one byte more
 abbrev pub AsksFolder : List ℕ → Folder → StoreCall → Type 0
-AsksFolder api f = AsksThese (version_folder api f.number) (codes ".hash" ∷ f.sources)
+AsksFolder api f = AsksThese FileBytes (version_folder api f.number) (codes ".hash" ∷ f.sources)
 
 -- of one of some folders
 abbrev pub AsksFolders : List ℕ → List Folder → StoreCall → Type 0

@@ -1,6 +1,7 @@
 //! One file of a store, up to the limit on its bytes.
 ghost use Rattle.std.specs.Prelude.{◌≡◌, List, ℕ, Option};
 ghost use Rattle.std.specs.Option.{option_map};
+ghost use Rattle.aidl_base.specs.declared.limit.LimitName.TheVariants.{FileBytes};
 ghost use Rattle.aidl_outside.specs.Asks.{AsksFile};
 ghost use Rattle.aidl_outside.specs.Files.{path_below};
 ghost use Rattle.aidl_outside.specs.Told.{Tells};
@@ -24,7 +25,8 @@ pub fn load_below<S: Store>(
         (λ files. Gives (file_at files (path_below folder.now path.now)) result) }
     ensures unchanged { S.kept store.new ≡ S.kept store.old }
     ensures cause { ReadCause (S.fault_record store.old) (S.fault_record store.new) result }
-    ensures failed { FailedCall (AsksFile (path_below folder.now path.now) (S.kept store.old))
+    ensures failed { FailedCall
+        (AsksFile FileBytes (path_below folder.now path.now) (S.kept store.old))
         (S.fault_record store.new) result }
 {
     match path_below(alloc, folder, path) {
@@ -42,7 +44,7 @@ fn load<S: Store>(
     ensures told { Tells (S.kept store.old) (λ files. Gives (file_at files path.now) result) }
     ensures unchanged { S.kept store.new ≡ S.kept store.old }
     ensures cause { ReadCause (S.fault_record store.old) (S.fault_record store.new) result }
-    ensures failed { FailedCall (AsksFile path.now (S.kept store.old))
+    ensures failed { FailedCall (AsksFile FileBytes path.now (S.kept store.old))
         (S.fault_record store.new) result }
 {
     match store.read(alloc, path, LimitName::FileBytes.number() as usize) {

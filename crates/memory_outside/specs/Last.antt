@@ -13,7 +13,7 @@ use Rattle.memory_outside.specs.declared.tamper_link.TamperLink.{TamperLink}
 
 abbrev pub call_seen : FailedCall → outside.StoreCall
 call_seen (Listing root) = outside.listing (string_bytes root)
-call_seen (Reading path) = outside.reading (string_bytes path)
+call_seen (Reading path most) = outside.reading (string_bytes path) most
 call_seen (Writing path) = outside.writing (string_bytes path)
 
 abbrev pub parcel_seen : FailedParcel → outside_parcel.Parcel

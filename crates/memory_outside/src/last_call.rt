@@ -8,11 +8,11 @@ use aidl_base::{OutOfMemory, Row};
 use aidl_outside::Way;
 use std::alloc::Global;
 
-/// A call of a store, by its path.
+/// A call of a store, by its path; of a reading also how many bytes were asked for at the most.
 #[derive(Drop)]
 pub enum FailedCall {
     Listing(String),
-    Reading(String),
+    Reading(String, usize),
     Writing(String),
 }
 
@@ -31,11 +31,11 @@ pub fn listing(alloc: Global, root: &str) -> Result<FailedCall, OutOfMemory>
     Ok(FailedCall::Listing(String::from_str(alloc, root)?))
 }
 
-/// A reading of a path.
-pub fn reading(alloc: Global, path: &str) -> Result<FailedCall, OutOfMemory>
-    ensures { IfOk result (λ call. call_seen call ≡ reading path.now) }
+/// A reading of at most so many bytes at a path.
+pub fn reading(alloc: Global, path: &str, most: usize) -> Result<FailedCall, OutOfMemory>
+    ensures { IfOk result (λ call. call_seen call ≡ reading path.now most) }
 {
-    Ok(FailedCall::Reading(String::from_str(alloc, path)?))
+    Ok(FailedCall::Reading(String::from_str(alloc, path)?, most))
 }
 
 /// A writing of a path.

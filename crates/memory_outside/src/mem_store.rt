@@ -159,16 +159,16 @@ impl Store for MemStore {
         ensures unchanged { store_files self.new ≡ store_files self.old }
         ensures cause { StoreCause (store_faults self.old) (store_faults self.new) result }
         ensures failed_call { IfStoreFailed result
-            (FailedIn (store_faults self.new) (λ call. call ≡ reading path.now)) }
+            (FailedIn (store_faults self.new) (λ call. call ≡ reading path.now most)) }
         ensures told { IfStoreFailed result
-            ((store_faults self.new).last ≡ Some (reading path.now)) }
+            ((store_faults self.new).last ≡ Some (reading path.now most)) }
         ensures never_falls { faults_of self.old ≤ faults_of self.new }
         ensures failed { StoreFails (fails_next (store_failures self.old)) result }
         ensures counts { store_failures self.new
             ≡ counted (store_failed result) (store_failures self.old) }
     {
         if self.failures.fails_now() {
-            return match reading(alloc, path) {
+            return match reading(alloc, path, most) {
                 Ok(call) => {
                     self.failures.add_fault();
                     self.last = Some(call);

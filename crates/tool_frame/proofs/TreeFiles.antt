@@ -11,14 +11,13 @@ use Rattle.aidl_base.specs.declared.source_file.SourceFile.{SourceFile}
 use Rattle.aidl_base.specs.Limits.{limit_number}
 use Rattle.aidl_base.specs.Results.{◌>>=◌}
 use Rattle.aidl_outside.specs.Asks.{AsksFile}
-use Rattle.aidl_outside.specs.Entries.{path_of}
 use Rattle.aidl_outside.specs.Faults.{FailedIn, StoreCall, StoreFaults}
 use Rattle.aidl_outside.specs.Files.{Files, path_below}
 use Rattle.aidl_outside.specs.Told.{Tells}
 use Rattle.tool_frame.specs.Answer.{Found}
 use Rattle.tool_frame.specs.Asks.{AreNoneLong, AsksInOrder, AsksTree, IsNextSource}
 use Rattle.tool_frame.specs.Refusals.{file_at}
-use Rattle.tool_frame.specs.Trees.{TreeFile, few, file_seen, files_at, file_found, is_source, sources_below}
+use Rattle.tool_frame.specs.Trees.{few, files_at, file_found, is_source, sources_below}
 use Rattle.tool_frame.specs.steps.Trees.{onto, so_far}
 use Rattle.aidl_outside.proofs.lemmas.Asked.{next_among}
 use Rattle.aidl_outside.proofs.lemmas.Failing.{failed_as}
@@ -34,25 +33,21 @@ module _ {X Y : Type 0} (seen : X → Y) (test : Y → Bool) where
   kept_seen [] = refl
   kept_seen (x ∷ xs) = kept_first (test (seen x)) x (filter (λ y. test (seen y)) xs) (filter test (map seen xs)) (kept_seen xs)
 
--- a file by its path and its bytes
-pub seen_as : (file : SourceFile) (path bytes : List ℕ) → path_of file ≡ path → file.bytes ≡ bytes → file_seen file ≡ record { path = path; bytes = bytes }
-seen_as file path bytes is_path is_bytes = rw (is_path, is_bytes) refl
-
 -- a first list and the others
-abbrev pub with_first : Found (List TreeFile) → Found (List TreeFile) → Found (List TreeFile)
+abbrev pub with_first : Found (List SourceFile) → Found (List SourceFile) → Found (List SourceFile)
 with_first first others = first >>= λ files. others >>= λ more. Ok (files ++ more)
 
 -- the first were added
-pub onto_more : (before now : List SourceFile) (first others : Found (List TreeFile)) → onto before first ≡ Ok (map file_seen now) → onto before (with_first first others) ≡ onto now others
+pub onto_more : (before now : List SourceFile) (first others : Found (List SourceFile)) → onto before first ≡ Ok now → onto before (with_first first others) ≡ onto now others
 onto_more before now (Ok files) (Ok more) h =
-    let same : map file_seen before ++ files ≡ map file_seen now = cc in
-    ap Ok (sym (append_assoc (map file_seen before) files more) ∙ ap (λ l. l ++ more) same)
+    let same : before ++ files ≡ now = cc in
+    ap Ok (sym (append_assoc before files more) ∙ ap (λ l. l ++ more) same)
 onto_more before now (Ok files) (Err answer) h = refl
 onto_more before now (Err answer) others h = absurd (cc)
 
 module _ (root : List ℕ) where
   -- the file at a path, of what is told
-  abbrev pub found_at : Files → List ℕ → Found (List TreeFile)
+  abbrev pub found_at : Files → List ℕ → Found (List SourceFile)
   found_at files path = file_found path (file_at FileBytes files (path_below root path))
 
   -- one path more
@@ -69,19 +64,19 @@ module _ (root : List ℕ) where
   -- no path is left
   pub steps_done : (kept : Option Files) (left : List (String Global)) (all : List (List ℕ)) (now : List SourceFile) → length left ≡ 0
       → Tells kept (λ files. onto now (files_at files root (map string_bytes left)) ≡ files_at files root all)
-      → Tells kept (λ files. Ok (map file_seen now) ≡ files_at files root all)
+      → Tells kept (λ files. Ok now ≡ files_at files root all)
   steps_done kept [] all now none so_all =
-      tells kept (λ files. onto now (Ok []) ≡ files_at files root all) _ (λ files same. ap Ok (sym (append-nil (map file_seen now))) ∙ same) so_all
+      tells kept (λ files. onto now (Ok []) ≡ files_at files root all) _ (λ files same. ap Ok (sym (append-nil now)) ∙ same) so_all
   steps_done kept (path ∷ left) all now none so_all = absurd (cc)
 
 -- the files at some paths, and then those at others
-with_first_again : (first second third : Found (List TreeFile)) → with_first first (with_first second third) ≡ with_first (with_first first second) third
+with_first_again : (first second third : Found (List SourceFile)) → with_first first (with_first second third) ≡ with_first (with_first first second) third
 with_first_again (Ok xs) (Ok ys) (Ok zs) = ap Ok (sym (append_assoc xs ys zs))
 with_first_again (Ok xs) (Ok ys) (Err answer) = refl
 with_first_again (Ok xs) (Err answer) third = refl
 with_first_again (Err answer) second third = refl
 
-with_none : (found : Found (List TreeFile)) → found ≡ with_first (Ok []) found
+with_none : (found : Found (List SourceFile)) → found ≡ with_first (Ok []) found
 with_none (Ok files) = refl
 with_none (Err answer) = refl
 
@@ -92,28 +87,28 @@ module _ (root : List ℕ) (files : Files) where
       ap (with_first (found_at root files path)) (files_append before after) ∙ with_first_again (found_at root files path) (files_at files root before) (files_at files root after)
 
   -- one file more
-  one_more : (before now : List SourceFile) (done : List (List ℕ)) (path : List ℕ) → onto before (found_at root files path) ≡ Ok (map file_seen now) → files_at files root done ≡ Ok (map file_seen before)
-      → files_at files root (done ++ path ∷ []) ≡ Ok (map file_seen now)
+  one_more : (before now : List SourceFile) (done : List (List ℕ)) (path : List ℕ) → onto before (found_at root files path) ≡ Ok now → files_at files root done ≡ Ok before
+      → files_at files root (done ++ path ∷ []) ≡ Ok now
   one_more before now done path next so_far =
       files_append done (path ∷ [])
       ∙ ap (λ found. with_first found (with_first (found_at root files path) (Ok []))) so_far
-      ∙ with_first_again (Ok (map file_seen before)) (found_at root files path) (Ok [])
+      ∙ with_first_again (Ok before) (found_at root files path) (Ok [])
       ∙ ap (λ found. with_first found (Ok [])) next
-      ∙ ap Ok (append-nil (map file_seen now))
+      ∙ ap Ok (append-nil now)
 
 -- none so far is too long
 pub passed_more : {A : Type 0} (root : List ℕ) (here kept : Option Files) (done : List (List ℕ)) (path : List ℕ) (before now : List SourceFile) (step : Result A Limit) (x : A) → here ≡ kept → step ≡ Ok x
     → Tells here (λ files. onto before (found_at root files path) ≡ so_far now step)
-    → Tells kept (λ files. files_at files root done ≡ Ok (map file_seen before))
-    → Tells kept (λ files. files_at files root (done ++ path ∷ []) ≡ Ok (map file_seen now))
+    → Tells kept (λ files. files_at files root done ≡ Ok before)
+    → Tells kept (λ files. files_at files root (done ++ path ∷ []) ≡ Ok now)
 passed_more root here kept done path before now step x same went told passed =
-    tells_both kept (λ files. onto before (found_at root files path) ≡ so_far now step) (λ files. files_at files root done ≡ Ok (map file_seen before)) _
+    tells_both kept (λ files. onto before (found_at root files path) ≡ so_far now step) (λ files. files_at files root done ≡ Ok before) _
     (λ files next before_it. one_more root files before now done path (next ∙ ap (so_far now) went) before_it)
     (subst (λ k. Tells k (λ files. onto before (found_at root files path) ≡ so_far now step)) same told) passed
 
 -- the next file is asked for where none before it is too long
-pub asks_in_order : (root path : List ℕ) (paths done left after : List (List ℕ)) (here kept : Option Files) (found : List TreeFile) → paths ≡ done ++ left → left ≡ path ∷ after
-    → Tells kept (λ files. files_at files root done ≡ Ok found) → (call : StoreCall) → AsksFile (path_below root path) here call → AsksInOrder root paths kept call
+pub asks_in_order : (root path : List ℕ) (paths done left after : List (List ℕ)) (here kept : Option Files) (found : List SourceFile) → paths ≡ done ++ left → left ≡ path ∷ after
+    → Tells kept (λ files. files_at files root done ≡ Ok found) → (call : StoreCall) → AsksFile FileBytes (path_below root path) here call → AsksInOrder root paths kept call
 asks_in_order root path paths done left after here kept found all next passed call is =
     (done, after, path, all ∙ ap (λ ps. done ++ ps) next, is, tells kept _ _ (λ files same. (found, same)) passed)
 

@@ -4,3 +4,4 @@ pub mod EarlyEnds
 pub mod Endings
 pub mod Halts
 pub mod Writings
+pub mod Asked

@@ -41,10 +41,11 @@ FailedAt are_meant (Some files) now call =
     (made rest : List Write) × (w : Write) × are_meant files (made ++ w ∷ rest)
     × ChangesOnly (Some (written made files)) now w.path × (call ≡ writing w.path)
 
--- The call of the store that failed is one that the command makes: one that it asks, before any write, or the next
--- write.
+-- The call of the store that failed is one that the command makes: one that it asks, before any write, or, of a
+-- command that may write, the next write.
 abbrev pub StopsAtStore : Meaning → Option Files → Option Files → StoreCall → Type 0
-StopsAtStore m before now call = (m.asks before call × (now ≡ before)) ⊎ FailedAt m.writes before now call
+StopsAtStore m before now call = (m.asks before call × (now ≡ before))
+    ⊎ ((m.may_write ≡ true) × FailedAt m.writes before now call)
 
 -- The parcels that were carried: those that the log gained, each the one that was due, and delivered as it was sent
 -- by a faithful link.

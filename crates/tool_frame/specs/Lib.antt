@@ -16,3 +16,5 @@ pub mod Results
 pub mod Ends
 pub mod Prints
 pub mod Courses
+pub mod Due
+pub mod Outside

@@ -11,8 +11,9 @@ use Rattle.aidl_outside.specs.Parcel.{Parcel, parcel_of}
 -- The calls that it makes to read from the store. The files that it writes, in order, one list of them or none. The
 -- parcel that is due after those that were carried, by what was delivered; None where no more is. And its answers,
 -- one or none: while a parcel is due, the text of an answer is what is printed before that one is carried. A
--- command either never carries, whatever the files are, or may.
+-- command either never writes, whatever the files are, or may, and so it is with carrying.
 pub record Meaning : Type 1 where
+  pub may_write : Bool
   pub may_carry : Bool
   pub asks : Asks
   pub writes : Files → List Write → Type 0
@@ -22,6 +23,7 @@ pub record Meaning : Type 1 where
 -- a command that doesn't carry, by what it asks the store, what it writes, and what its answers are over the files
 abbrev pub writes_by : Asks → (Files → List Write → Type 0) → (Files → Answer → Type 0) → Meaning
 writes_by asks writes answers = record {
+  may_write = true;
   may_carry = false;
   asks = asks;
   writes = writes;
@@ -31,12 +33,13 @@ writes_by asks writes answers = record {
 
 -- a command that neither writes nor carries, by what it asks the store, and what its answers are over the files
 abbrev pub reads_by : Asks → (Files → Answer → Type 0) → Meaning
-reads_by asks answers = writes_by asks (λ files made. made ≡ []) answers
+reads_by asks answers = record (writes_by asks (λ files made. made ≡ []) answers) { may_write = false }
 
 -- A command that first writes and then carries, by what it asks the store, what it writes, and the courses that it
 -- may take: one of them, or none. The last two go by the files that the store told before.
 abbrev pub does_by : Asks → (Files → List Write → Type 0) → (Files → Course → Type 0) → Meaning
 does_by asks writes takes = record {
+  may_write = true;
   may_carry = true;
   asks = asks;
   writes = writes;
@@ -46,7 +49,7 @@ does_by asks writes takes = record {
 
 -- a command that carries and writes nothing
 abbrev pub carries_by : Asks → (Files → Course → Type 0) → Meaning
-carries_by asks takes = does_by asks (λ files made. made ≡ []) takes
+carries_by asks takes = record (does_by asks (λ files made. made ≡ []) takes) { may_write = false }
 
 -- each entry is of the parcel that was due after those before it
 abbrev pub AreDue : (List Carried → Option Parcel → Type 0) → List Carried → List Carried → Type 0

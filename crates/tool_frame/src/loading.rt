@@ -25,7 +25,7 @@ pub fn load_existing<S: Store>(
     store: &mut S,
 ) -> Result<Result<Vec<u8>, Limit>, Halt>
     ensures { let seen = store_seen S.Store in
-        Loads (AsksFile path.now) held (λ files. there path.now (file_at which files path.now))
+        Loads (AsksFile which path.now) held (λ files. there path.now (file_at which files path.now))
         (seen store.old) (seen store.new) result }
 {
     let file = load(alloc, which, path, store)?;
@@ -47,7 +47,7 @@ pub fn load<S: Store>(
     ensures unchanged { S.kept store.new ≡ S.kept store.old }
     ensures cause { StoreCause (S.fault_record store.old) (S.fault_record store.new) result }
     ensures failed { IfStoreFailed result
-        (FailedIn (S.fault_record store.new) (AsksFile path.now (S.kept store.old))) }
+        (FailedIn (S.fault_record store.new) (AsksFile which path.now (S.kept store.old))) }
 {
     match store.read(alloc, path, which.number() as usize) {
         Ok(file) => Ok(file_held(which, file)),

@@ -1,9 +1,8 @@
 //! Loading the sources of a tree, or refusing the limit that they pass.
-ghost use Rattle.std.specs.Prelude.{map};
 ghost use Rattle.tool_frame.specs.Asks.{AsksTree};
 ghost use Rattle.tool_frame.specs.Halts.{Loads};
 ghost use Rattle.tool_frame.specs.Seen.{store_seen};
-ghost use Rattle.tool_frame.specs.Trees.{file_seen, tree_at};
+ghost use Rattle.tool_frame.specs.Trees.{tree_at};
 
 use crate::halt::Halt;
 use crate::steps::files_of;
@@ -19,7 +18,7 @@ pub fn load_sources<S: Store>(
     store: &mut S,
 ) -> Result<Row<SourceFile>, Halt>
     ensures { let seen = store_seen S.Store in
-        Loads (AsksTree root.now) (map file_seen) (λ files. tree_at files root.now)
+        Loads (AsksTree root.now) (λ sources. sources) (λ files. tree_at files root.now)
         (seen store.old) (seen store.new) result }
 {
     let tree = load_tree(alloc, root, store)?;

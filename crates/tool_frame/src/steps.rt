@@ -1,7 +1,7 @@
 //! Steps that may end a command early: a file that isn't there, or a limit that is passed.
-ghost use Rattle.std.specs.Prelude.{◌≡◌, map};
+ghost use Rattle.std.specs.Prelude.{◌≡◌};
 ghost use Rattle.tool_frame.specs.Refusals as step;
-ghost use Rattle.tool_frame.specs.Trees.{file_seen, tree_seen};
+ghost use Rattle.tool_frame.specs.Trees.{tree_seen};
 ghost use Rattle.tool_frame.specs.Results.{Finds, held, loaded};
 
 use crate::loading::within_limit;
@@ -45,7 +45,7 @@ pub fn files_of(
     alloc: Global,
     tree: Result<Row<SourceFile>, Limit>,
 ) -> Result<Row<SourceFile>, Early>
-    ensures { Finds (λ files. map file_seen files) result (tree_seen tree) }
+    ensures { Finds (λ files. files) result (tree_seen tree) }
 {
     match tree {
         Ok(files) => Ok(files),

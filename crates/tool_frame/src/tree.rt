@@ -1,6 +1,7 @@
 //! Loading the `.aidl` files of a tree from a store, within the limits on their number and their bytes.
 ghost use Rattle.std.specs.Prelude.{◌≡◌, ◌++◌, ◌∷◌, [], All, IfOk, OnOk, map, string_bytes, true};
 ghost use Rattle.std.specs.List.{filter};
+ghost use Rattle.std.specs.Str.{chars};
 ghost use Rattle.aidl_base.specs.declared.limit.LimitName.TheVariants.{FileBytes};
 ghost use Rattle.aidl_outside.specs.Asks.{AsksFile};
 ghost use Rattle.aidl_outside.specs.Causes.{StoreCause};
@@ -9,7 +10,7 @@ ghost use Rattle.aidl_outside.specs.Files.{path_below};
 ghost use Rattle.aidl_outside.specs.Told.{Tells};
 ghost use Rattle.tool_frame.specs.Asks.{AsksInOrder, AsksTree};
 ghost use Rattle.tool_frame.specs.Refusals.{file_at};
-ghost use Rattle.tool_frame.specs.Trees.{AreShort, file_found, file_seen, files_at, is_source, sources_below, tree_at, tree_seen};
+ghost use Rattle.tool_frame.specs.Trees.{AreShort, file_found, files_at, is_source, sources_below, tree_at, tree_seen};
 ghost use Rattle.tool_frame.specs.Results.{IsShort, loaded};
 ghost use Rattle.tool_frame.specs.steps.Trees.{onto, so_far};
 
@@ -115,7 +116,7 @@ fn load_next<S: Store>(
     ensures unchanged { S.kept store.new ≡ S.kept store.old }
     ensures cause { StoreCause (S.fault_record store.old) (S.fault_record store.new) result }
     ensures failed { IfStoreFailed result (FailedIn (S.fault_record store.new)
-        (AsksFile (path_below root.now (string_bytes path)) (S.kept store.old))) }
+        (AsksFile FileBytes (path_below root.now (string_bytes path)) (S.kept store.old))) }
 {
     let file = load_below(alloc, root, path.as_str(), store)?;
     match push_loaded(files, path, file) {
@@ -136,8 +137,8 @@ fn load_below<S: Store>(
     ensures short { IfOk result (IsShort FileBytes) }
     ensures unchanged { S.kept store.new ≡ S.kept store.old }
     ensures cause { StoreCause (S.fault_record store.old) (S.fault_record store.new) result }
-    ensures failed { IfStoreFailed result (FailedIn
-        (S.fault_record store.new) (AsksFile (path_below root.now path.now) (S.kept store.old))) }
+    ensures failed { IfStoreFailed result (FailedIn (S.fault_record store.new)
+        (AsksFile FileBytes (path_below root.now path.now) (S.kept store.old))) }
 {
     match path_below(alloc, root, path) {
         Ok(whole) => load(alloc, LimitName::FileBytes, whole.as_str(), store),
@@ -166,7 +167,7 @@ fn push_loaded(
 }
 
 fn source_file(path: String, bytes: Vec<u8>) -> SourceFile
-    ensures { file_seen result ≡ record { path = string_bytes path; bytes = bytes.items } }
+    ensures { result ≡ record { path = chars (string_bytes path); bytes = bytes.items } }
 {
     SourceFile {
         path: Text::from_string(path),

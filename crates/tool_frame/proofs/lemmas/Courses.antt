@@ -1,5 +1,5 @@
 -- How a run of a command ends that carries, by how its course ran; and courses step by step.
-use Rattle.std.proofs.Common.{◌≡◌, ℕ, List, [], ◌∷◌, ◌++◌, Option, Some, None, refl, sym, ap, ◌∙◌, subst, arith, inl, inr, append_assoc, append-nil}
+use Rattle.std.proofs.Common.{◌≡◌, ℕ, Bool, false, List, [], ◌∷◌, ◌++◌, Option, Some, None, refl, sym, ap, ◌∙◌, subst, arith, inl, inr, append_assoc, append-nil}
 use Rattle.std.specs.Prelude.{◌≢◌, ◌⊎◌}
 use Rattle.std.proofs.lemmas.List.Elements.{All-append}
 use Rattle.aidl_outside.specs.declared.link.Carried.{Carried}
@@ -13,7 +13,7 @@ use Rattle.tool_frame.specs.declared.verdict.Verdict.TheVariants.{Done}
 use Rattle.tool_frame.specs.Answer.{Answer, after_text}
 use Rattle.tool_frame.specs.Course.{Course, prints, ends, at_once, due_after, answer_after}
 use Rattle.tool_frame.specs.Ended.{Ended, WroteAll, WroteSome, CarriedThese, CutsAnswer, EndsAsMeant, PutsFront, StopsAtCarry, StopsAtStore}
-use Rattle.tool_frame.specs.Meaning.{AreDue, carries_by, CarriesNothing, does_by}
+use Rattle.tool_frame.specs.Meaning.{AreDue, carries_by, CarriesNothing, does_by, Meaning}
 use Rattle.aidl_outside.specs.Parcel.{Parcel}
 use Rattle.tool_frame.specs.Seen.{Seen}
 use Rattle.tool_frame.specs.Verdict.{exit_of, IsVerdict}
@@ -70,40 +70,44 @@ some_of_all : (writes : Files → List Write → Type 0) (before now : Option Fi
 some_of_all writes None now same = same
 some_of_all writes (Some files) now (made, meant, e) = inr (made, [], subst (λ ws. writes files ws) (sym (append-nil made)) meant, e)
 
+-- a command that first writes, if it may, and then carries
+abbrev pub does : Bool → Asks → (Files → List Write → Type 0) → (Files → Course → Type 0) → Meaning
+does may_write asks writes takes = record (does_by asks writes takes) { may_write = may_write }
+
 -- The writes were made, and the run ended as its course did.
-module _ (asks : Asks) (writes : Files → List Write → Type 0) (takes : Files → Course → Type 0) (course : Course) (kept : Option Files) (before now : Seen) (exit : ℕ)
+module _ (may_write : Bool) (asks : Asks) (writes : Files → List Write → Type 0) (takes : Files → Course → Type 0) (course : Course) (kept : Option Files) (before now : Seen) (exit : ℕ)
     (wrote : WroteAll writes before.kept kept) (is : Tells before.kept (λ files. takes files course)) (ran : RanCourse course (record before { kept = kept }) now exit) where
-  told_ends : IsVerdict exit → Tells before.kept (EndsAsMeant (does_by asks writes takes) before now exit)
+  told_ends : IsVerdict exit → Tells before.kept (EndsAsMeant (does may_write asks writes takes) before now exit)
   told_ends verdict = tells before.kept _ _ (λ files taken. as_meant asks writes takes files course taken kept before now exit (ran.answer verdict)) is
 
   complete_by : IsCourseExit exit → (Rose before.sink_faults now.sink_faults → ⊥) → (Rose before.link_faults now.link_faults → ⊥)
-      → (exit ≡ 5) ⊎ (IsVerdict exit × Tells before.kept (EndsAsMeant (does_by asks writes takes) before now exit))
+      → (exit ≡ 5) ⊎ (IsVerdict exit × Tells before.kept (EndsAsMeant (does may_write asks writes takes) before now exit))
   complete_by (inl verdict) no_sink no_link = inr (verdict, told_ends verdict)
   complete_by (inr (inl four)) no_sink no_link = absurd (no_sink (ran.sink_fault four))
   complete_by (inr (inr (inl five))) no_sink no_link = inl five
   complete_by (inr (inr (inr six))) no_sink no_link = absurd (no_link (ran.link_fault six))
 
-  never_quiet : CarriesNothing (does_by asks writes takes) ⊎ (exit ≡ 3) → now.log ≡ before.log
+  never_quiet : CarriesNothing (does may_write asks writes takes) ⊎ (exit ≡ 3) → now.log ≡ before.log
   never_quiet (inl quiet) = cc
   never_quiet (inr three) = absurd (not_three exit ran.exits three)
 
-  never_carried : CarriesNothing (does_by asks writes takes) → exit ≢ 6
+  never_carried : CarriesNothing (does may_write asks writes takes) → exit ≢ 6
   never_carried quiet = λ six. cc
 
   -- a piece that was due of the course
   cut : FailedIn now.sink_faults (CutsCourse course (record before { kept = kept }) now)
-      → FailedIn now.sink_faults (λ piece. (piece ≢ []) × Tells before.kept (CutsAnswer (does_by asks writes takes) before now piece))
+      → FailedIn now.sink_faults (λ piece. (piece ≢ []) × Tells before.kept (CutsAnswer (does may_write asks writes takes) before now piece))
   cut failed = failed_as now.sink_faults _ _ (λ piece due. (due.2.6, tells before.kept _ _ (λ files taken. cuts asks writes takes files course taken kept before now piece due) is)) failed
 
   -- the parcel that was due of the course
   stopped : FailedIn now.link_faults (StopsCourse course (record before { kept = kept }) now)
-      → FailedIn now.link_faults (λ parcel. Tells before.kept (StopsAtCarry (does_by asks writes takes) before now parcel))
+      → FailedIn now.link_faults (λ parcel. Tells before.kept (StopsAtCarry (does may_write asks writes takes) before now parcel))
   stopped failed = failed_as now.link_faults _ _ (λ parcel due. tells before.kept _ _ (λ files taken. stops asks writes takes files course taken kept before now parcel due) is) failed
 
   all : WroteAll writes before.kept now.kept
   all = subst (λ k. WroteAll writes before.kept k) (sym ran.kept) wrote
 
-  pub ended_done : Ended (does_by asks writes takes) before now exit
+  pub ended_done : Ended (does may_write asks writes takes) before now exit
   ended_done = record {
     exits = widened exit ran.exits;
     store_fault = λ three. absurd (not_three exit ran.exits three);
@@ -129,12 +133,12 @@ module _ (asks : Asks) (writes : Files → List Write → Type 0) (takes : Files
 -- The same of a command that writes nothing.
 pub ended_carried : (asks : Asks) (takes : Files → Course → Type 0) (course : Course) (before now : Seen) (exit : ℕ) → Tells before.kept (λ files. takes files course) → RanCourse course before now exit
     → Ended (carries_by asks takes) before now exit
-ended_carried asks takes course before now exit is ran = ended_done asks Nothing takes course before.kept before now exit (all_written before.kept) is ran
+ended_carried asks takes course before now exit is ran = ended_done false asks Nothing takes course before.kept before now exit (all_written before.kept) is ran
 
 -- The run ended before its course began: a call of the store failed, or memory was wanted.
-module _ (asks : Asks) (writes : Files → List Write → Type 0) (takes : Files → Course → Type 0) (before now : Seen) (exit : ℕ)
+module _ (may_write : Bool) (asks : Asks) (writes : Files → List Write → Type 0) (takes : Files → Course → Type 0) (before now : Seen) (exit : ℕ)
     (exits : (exit ≡ 3) ⊎ (exit ≡ 5)) (fault : exit ≡ 3 → Rose before.store_faults now.store_faults) (good : exit ≢ 3 → now.store_faults ≡ before.store_faults)
-    (due : exit ≡ 3 → FailedIn now.store_faults (StopsAtStore (does_by asks writes takes) before.kept now.kept)) (some : exit ≡ 5 → WroteSome writes before.kept now.kept)
+    (due : exit ≡ 3 → FailedIn now.store_faults (StopsAtStore (does may_write asks writes takes) before.kept now.kept)) (some : exit ≡ 5 → WroteSome writes before.kept now.kept)
     (told : now.told ≡ before.told) (sink : now.sink_faults ≡ before.sink_faults)
     (log : now.log ≡ before.log) (link : now.link_faults ≡ before.link_faults) (nature : now.is_faithful ≡ before.is_faithful) where
   no_end : (exit ≡ 3) ⊎ (exit ≡ 5) → IsVerdict exit ⊎ ((exit ≡ 4) ⊎ (exit ≡ 6)) → ⊥
@@ -149,14 +153,14 @@ module _ (asks : Asks) (writes : Files → List Write → Type 0) (takes : Files
   early_exits (inl three) = inr (inl three)
   early_exits (inr five) = inr (inr (inr (inl five)))
 
-  early_complete : (exit ≡ 3) ⊎ (exit ≡ 5) → (Rose before.store_faults now.store_faults → ⊥) → (exit ≡ 5) ⊎ (IsVerdict exit × Tells before.kept (EndsAsMeant (does_by asks writes takes) before now exit))
+  early_complete : (exit ≡ 3) ⊎ (exit ≡ 5) → (Rose before.store_faults now.store_faults → ⊥) → (exit ≡ 5) ⊎ (IsVerdict exit × Tells before.kept (EndsAsMeant (does may_write asks writes takes) before now exit))
   early_complete (inl three) no_store = absurd (no_store (fault three))
   early_complete (inr five) no_store = inl five
 
-  nothing : (files : Files) → CarriedThese (does_by asks writes takes) files before now []
+  nothing : (files : Files) → CarriedThese (does may_write asks writes takes) files before now []
   nothing files = (subst (λ l. Adds before.log l []) (sym log) (nothing_carried before.log), tt, λ faithful k entry none. absurd (omega arith))
 
-  pub ended_before : Ended (does_by asks writes takes) before now exit
+  pub ended_before : Ended (does may_write asks writes takes) before now exit
   ended_before = record {
     exits = early_exits exits;
     store_fault = fault;
@@ -186,7 +190,7 @@ pub ended_early : (asks : Asks) (takes : Files → Course → Type 0) (before no
     → now.kept ≡ before.kept → now.told ≡ before.told → now.sink_faults ≡ before.sink_faults
     → now.log ≡ before.log → now.link_faults ≡ before.link_faults → now.is_faithful ≡ before.is_faithful → Ended (carries_by asks takes) before now exit
 ended_early asks takes before now exit exits fault good due kept told sink log link nature =
-    ended_before asks Nothing takes before now exit exits fault good (λ three. failed_as now.store_faults _ _ (λ call is. inl (is, kept)) (due three))
+    ended_before false asks Nothing takes before now exit exits fault good (λ three. failed_as now.store_faults _ _ (λ call is. inl (is, kept)) (due three))
     (λ five. subst (λ k. WroteSome Nothing before.kept k) (sym kept) (some_written before.kept)) told sink log link nature
 
 -- it was delivered as it was sent

@@ -199,7 +199,7 @@ module _ (less more : Files → Acts) (files : Files) (wider : (made : List Writ
   stops_more : (asks wide : Asks) (now : Option Files) (call : StoreCall) → (asks (Some files) call → wide (Some files) call)
       → StopsAtStore (acts_by asks less) (Some files) now call → StopsAtStore (acts_by wide more) (Some files) now call
   stops_more asks wide now call also (inl (is, same)) = inl (also is, same)
-  stops_more asks wide now call also (inr failed) = inr (failed_more now call failed)
+  stops_more asks wide now call also (inr (may, failed)) = inr (may, failed_more now call failed)
 
   told_more : (asks wide : Asks) (now : Option Files) (faults : StoreFaults) (answered : Result Printed Halt)
       → ((call : StoreCall) → asks (Some files) call → wide (Some files) call) → ActsAs asks less (Some files) now faults answered → ActsAs wide more (Some files) now faults answered

@@ -1,16 +1,15 @@
 -- What the steps to a tree give.
-use Rattle.std.specs.Prelude.{List, ◌++◌, map, Result, Ok, Err}
+use Rattle.std.specs.Prelude.{List, ◌++◌, Result, Ok, Err}
 use Rattle.aidl_base.specs.declared.limit.Limit.{Limit}
 use Rattle.aidl_base.specs.declared.source_file.SourceFile.{SourceFile}
 use Rattle.aidl_base.specs.Results.{◌>>=◌}
 use Rattle.tool_frame.specs.Answer.{Found, limit_passed}
-use Rattle.tool_frame.specs.Trees.{TreeFile, file_seen}
 
 -- the files so far, or the limit that the last step passed
-abbrev pub so_far : {A : Type 0} → List SourceFile → Result A Limit → Found (List TreeFile)
-so_far files (Ok step) = Ok (map file_seen files)
+abbrev pub so_far : {A : Type 0} → List SourceFile → Result A Limit → Found (List SourceFile)
+so_far files (Ok step) = Ok files
 so_far files (Err limit) = Err (limit_passed limit.which)
 
 -- the files so far, and then those that are found
-abbrev pub onto : List SourceFile → Found (List TreeFile) → Found (List TreeFile)
-onto files found = found >>= λ more. Ok (map file_seen files ++ more)
+abbrev pub onto : List SourceFile → Found (List SourceFile) → Found (List SourceFile)
+onto files found = found >>= λ more. Ok (files ++ more)

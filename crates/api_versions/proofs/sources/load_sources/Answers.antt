@@ -1,6 +1,8 @@
 use Rattle.std.proofs.Common.{◌≡◌, ◌∙◌, [], ◌∷◌, ◌++◌, append_assoc, Ok, ap, sym, subst, map, string_bytes}
 use Rattle.std.proofs.lemmas.Result.{err_from_is_err_and}
 use Rattle.std.proofs.lemmas.Str.{encodes-chars, IsUtf8-string_bytes}
+use Rattle.aidl_base.specs.declared.limit.LimitName.TheVariants.{FileBytes}
+use Rattle.aidl_base.specs.Limits.{limit_number}
 use Rattle.aidl_outside.specs.Faults.{reading}
 use Rattle.aidl_outside.specs.Files.{path_below}
 use Rattle.aidl_outside.specs.Told.{Tells}
@@ -35,6 +37,6 @@ pub returns-in_err-file-clause-failed : goal.returns-in_err-file-clause-failed
 returns-in_err-file-clause-failed g c =
     let q = err_from_is_err_and c.from_residual.result c.from_residual.ensures.1 in
     rw (q.1, q.2) (refusal_as _ _ (g.S.Store.fault_record c.load_below.new.store) c.in_err-file.field-0.0
-    (λ call is. asks_next c.args.folder.now (string_bytes c.in-Some.path) (map string_bytes c.args.paths.items) c.loop-path.invariant.left.0 _ _ (g.S.Store.kept c.loop-path.store)
-    c.loop-path.invariant.left.1 (ap (map string_bytes) c.in-Some.ensures.steps.0) call (subst (λ p. call ≡ reading (path_below c.args.folder.now p)) c.as_str.ensures.value is))
+    (λ call is. asks_next FileBytes c.args.folder.now (string_bytes c.in-Some.path) (map string_bytes c.args.paths.items) c.loop-path.invariant.left.0 _ _ (g.S.Store.kept c.loop-path.store)
+    c.loop-path.invariant.left.1 (ap (map string_bytes) c.in-Some.ensures.steps.0) call (subst (λ p. call ≡ reading (path_below c.args.folder.now p) (limit_number FileBytes)) c.as_str.ensures.value is))
     c.in_err-file.ensures.failed)

@@ -1,9 +1,8 @@
-use Rattle.std.proofs.Common.{sym, ◌∙◌, map}
+use Rattle.std.proofs.Common.{sym, ◌∙◌}
 use Rattle.std.proofs.lemmas.Result.{err_from_is_err_and}
 use Rattle.std.specs.Prelude.{List, Result}
 use Rattle.aidl_base.specs.declared.limit.Limit.{Limit}
 use Rattle.aidl_base.specs.declared.source_file.SourceFile.{SourceFile}
-use Rattle.tool_frame.specs.Trees.{file_seen}
 use Rattle.tool_frame.proofs.lemmas.Halts.{early_finds, gets_fault, known_early, known_last}
 use Rattle.tool_frame.proofs.sources.load_sources.Goals as goal
 
@@ -17,7 +16,7 @@ returns-in_err-files g c =
     let q = err_from_is_err_and c.from_residual-in_err-files.result c.from_residual-in_err-files.ensures.1 in
     let load = c.in_ok-tree.ensures in
     rw (q.1, q.2) (known_early _ _ _ _ _ _ c.in_err-files.field-0.0
-    (λ files same. early_finds (map file_seen) _ _ _ (λ a passed. sym same ∙ passed) c.in_err-files.ensures)
+    (λ files same. early_finds (λ sources. sources) _ _ _ (λ a passed. sym same ∙ passed) c.in_err-files.ensures)
     (record { told = load.tree; unchanged = load.unchanged; good = load.cause }))
 
 pub returns : goal.returns
