@@ -10,10 +10,7 @@ use aidl_base::{OutOfMemory, Profile, Row};
 use aidl_values::{Answer, Value};
 use call_scripts::{Call, Target};
 use std::alloc::Global;
-use stub_dispatch::{Answered, Service, Side, not_scripted};
-
-/// UNKNOWN_TRANSACTION: the server lacks the interface.
-pub const UNKNOWN_TRANSACTION: i32 = -74;
+use stub_dispatch::{Answered, Service, Side, UNKNOWN_TRANSACTION, not_scripted};
 
 // What the server answers a request with a code: its interface's service, whose handler answers by the line.
 #[tactic(auto, using(crate::proofs::Unscripted::scripted_fits, crate::proofs::Served::serves))]

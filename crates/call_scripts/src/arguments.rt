@@ -20,9 +20,7 @@ use aidl_values::Value;
 use json_values::Fault;
 use serde_json::{Number, Value as Json};
 use std::alloc::Global;
-
-// The most that the lengths of `out` arrays may add up to.
-const MOST: u64 = 65_536;
+use stub_dispatch::MOST_ITEMS;
 
 // The entries of `args`, one for each argument: a value, or for an `out` argument the length of its array or null. It refuses exactly by
 // the rules of *Script* (own), the first entry first.
@@ -163,7 +161,7 @@ fn length_from(
     ensures length { IfOk result (λ v. IsLengthWithin false sum (view v)) }
 {
     match number.as_u64() {
-        Some(n) if n <= MOST - sum => Ok(Value::Number(n as i64)),
+        Some(n) if n <= MOST_ITEMS as u64 - sum => Ok(Value::Number(n as i64)),
         None if number.is_f64() => Err(refusal(alloc, RefusedName::WrongShape, Place::Entry(k))),
         _ => Err(refusal(alloc, RefusedName::OutOfRange, Place::Entry(k))),
     }

@@ -21,7 +21,7 @@ use crate::laws::law_types;
 use crate::line::{check_keys, member_of};
 use crate::names::{Named, method_meant};
 use crate::refused::{Place, Refused, RefusedName, refusal};
-use aidl_base::{OutOfMemory, Row, Text};
+use aidl_base::{LimitName, OutOfMemory, Row, Text};
 use aidl_schema::Schema;
 use aidl_values::{Answer, Value};
 use json_values::Fault;
@@ -166,7 +166,7 @@ fn sent_from(
     let callee = Callee::new(side, named.interface, named.method);
     let declared = callee.declared();
     let args = args_from(alloc, callee.schema(), declared.args.as_slice(), json)?;
-    if is_small(request_length(&callee, args.as_slice(), SENT_BYTES + 1)) {
+    if is_small(request_length(&callee, args.as_slice(), sent_bytes() + 1)) {
         Ok(args)
     } else {
         Err(refusal(alloc, RefusedName::TooLarge, Place::Args))
@@ -174,13 +174,17 @@ fn sent_from(
 }
 
 // A parcel that is sent has at most so many bytes.
-const SENT_BYTES: usize = 1_048_576;
+fn sent_bytes() -> usize
+    ensures { result ≡ 1048576 }
+{
+    LimitName::ParcelBytes.number() as usize
+}
 
 // Whether so many bytes may be sent.
 fn is_small(length: usize) -> bool
     ensures { result ≡ nat_le length 1048576 }
 {
-    length <= SENT_BYTES
+    length <= sent_bytes()
 }
 
 // The server's method and its answer. Where it lacks the method `json` isn't looked at.
@@ -218,7 +222,7 @@ fn answered(
         callee.now.decls callee.now.interface callee.now.method t) }
 {
     let answer = answer_from(alloc, callee, json)?;
-    if is_small(reply_length(callee, &answer, SENT_BYTES + 1)) {
+    if is_small(reply_length(callee, &answer, sent_bytes() + 1)) {
         let method = callee.method();
         Ok(Target { method, answer })
     } else {

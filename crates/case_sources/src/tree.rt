@@ -71,7 +71,7 @@ fn parsed_file(alloc: Global, file: &SourceFile) -> Result<Option<ParsedFile>, O
     ensures { IfOk result (λ tree. IfSome tree IsOfBytes) }
 {
     let bytes = file.bytes.as_slice();
-    if bytes.len() > 262_144 {
+    if bytes.len() > LimitName::FileBytes.number() as usize {
         return Ok(None);
     }
     let path = file.path.try_clone(alloc)?;

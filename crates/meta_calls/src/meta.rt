@@ -17,16 +17,13 @@ use aidl_values::{Answer, Value};
 use parcel_words::{Wire, WordWriter};
 use std::alloc::Global;
 use std::marker::Model;
-use stub_dispatch::{Answered, Service, after_token, descriptor_of, unread_bytes};
+use stub_dispatch::{Answered, BAD_TYPE, Service, after_token, descriptor_of, unread_bytes};
 
 /// The transaction code of the version: that of a method with the id 16777214, which AOSP's compiler gives `getInterfaceVersion`.
 pub const VERSION_CODE: u32 = 16_777_215;
 
 /// The transaction code of the hash: that of a method with the id 16777213, which AOSP's compiler gives `getInterfaceHash`.
 pub const HASH_CODE: u32 = 16_777_214;
-
-/// BAD_TYPE, the status of a request that doesn't begin with the token.
-const BAD_TYPE: i32 = -2_147_483_647;
 
 /// A service, with the version and the hash of its interface. Contracts see it as the service inside, the version, and the hash.
 #[derive(Drop)]

@@ -7,14 +7,12 @@ ghost use Rattle.parcel_words.specs.Taken.{TakesIfMemory};
 ghost use Rattle.wire_model.specs.Receiver.{array_opening, array_opening_at, length_at, opening, opening_at, repeated};
 
 use crate::call_reader::CallReader;
+use crate::status::MOST_ITEMS;
 use aidl_base::{OutOfMemory, Row};
 use aidl_schema::{AidlType, Form, Schema, element, form_in, is_array, law_valid};
 use aidl_values::{Elements, Value, default_of};
 use parcel_words::ReadFault;
 use std::alloc::Global;
-
-/// The sum of the lengths of the `out` arrays of one request is at most this.
-pub const MOST_ITEMS: usize = 65_536;
 
 /// What an `out` argument starts as, by the length that is sent of it: an array as so many default values, or null where there is no
 /// length; any other argument as a default value, whatever the length is.

@@ -9,26 +9,31 @@ use aidl_schema::{Arg, Schema};
 use marshal_plans::Plans;
 use std::marker::Model;
 
-/// An argument of a method, with the plan of its type. Contracts see it as the schema's declarations and the argument.
+/// An argument of a method, with the plans that have one of its type. Contracts see it as the schema's declarations and the argument.
 #[derive(Drop)]
 pub struct PlannedArgument<'a> {
+    schema: &'a Schema,
+    plans: &'a Plans,
+    interface: u32,
+    method: u32,
+    place: u32,
     arg: &'a Arg,
-    ty: PlannedType<'a>,
 }
 
 impl<'a> Model for PlannedArgument<'a> {
-    ghost use Rattle.std.specs.Prelude.{◌≡◌};
     ghost use Rattle.aidl_schema.specs.contracts.schema.Arg as declared;
     ghost use Rattle.aidl_schema.specs.contracts.schema.Decl as decl;
+    ghost use Rattle.stub_dispatch.specs.steps.Arguments.{IsPlanned};
     ghost use Rattle.stub_dispatch.specs.steps.Planned.{ArgumentOf, argument_code};
 
     ghost Value = { ArgumentOf };
 
     ghost coded = { argument_code decl.the_row.coded declared.the_row.coded };
 
-    ghost view = { λ of. record { decls = of.ty.decls; arg = of.arg.now } };
+    ghost view = { λ of. record { decls = of.schema.now.decls; arg = of.arg.now } };
 
-    ghost invariant = { λ of. of.ty.ty ≡ of.arg.now.ty };
+    ghost invariant = { λ of. IsPlanned of.plans.now
+        of.schema.now.decls of.interface of.method of.place of.arg.now };
 }
 
 impl<'a> PlannedArgument<'a> {
@@ -39,11 +44,13 @@ impl<'a> PlannedArgument<'a> {
         self.arg
     }
 
-    /// Its type.
-    pub fn ty(&self) -> &PlannedType<'a>
-        ensures { result.now ≡ record { decls = self.now.decls; ty = self.now.arg.ty } }
+    /// Its type, with the plan of it, which is looked up here.
+    pub fn ty(&self) -> PlannedType<'a>
+        ensures { result ≡ record { decls = self.now.decls; ty = self.now.arg.ty } }
     {
-        &self.ty
+        let (schema, plans, arg) = (self.schema, self.plans, self.arg);
+        let id = argument_id(schema, plans, self.interface, self.method, self.place, arg);
+        PlannedType::new(schema, plans, arg.ty, id)
     }
 }
 
@@ -106,8 +113,14 @@ impl<'a> PlannedArguments<'a> {
         match args {
             [] => None,
             [arg, others @ ..] => {
-                let id = argument_id(schema, plans, self.interface, self.method, self.first, arg);
-                let ty = PlannedType::new(schema, plans, arg.ty, id);
+                let first = PlannedArgument {
+                    schema,
+                    plans,
+                    interface: self.interface,
+                    method: self.method,
+                    place: self.first,
+                    arg,
+                };
                 let others = PlannedArguments {
                     schema,
                     plans,
@@ -116,7 +129,7 @@ impl<'a> PlannedArguments<'a> {
                     first: self.first + 1,
                     args: others,
                 };
-                Some((PlannedArgument { arg, ty }, others))
+                Some((first, others))
             }
         }
     }

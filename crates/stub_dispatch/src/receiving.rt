@@ -9,6 +9,7 @@ use crate::arguments::arguments_from;
 use crate::call_reader::CallReader;
 use crate::callee::Callee;
 use crate::side::Side;
+use crate::status::{BAD_TYPE, UNKNOWN_TRANSACTION};
 use crate::token::{begins_with, descriptor_of};
 use aidl_base::{OutOfMemory, Profile, Row};
 use aidl_schema::method_of_code;
@@ -23,12 +24,6 @@ pub enum Receipt {
     Left { method: u32 },
     Called { method: u32, saw: Row<Value> },
 }
-
-/// UNKNOWN_TRANSACTION: no method has the code.
-pub const UNKNOWN_TRANSACTION: i32 = -74;
-
-/// BAD_TYPE: the request doesn't begin with the token.
-pub const BAD_TYPE: i32 = -2_147_483_647;
 
 /// What a stub makes of the bytes of a request with a code: exactly what is received, or the transport status of the refusal that
 /// comes first.

@@ -12,6 +12,9 @@ use crate::call::comes_back;
 use crate::call_reader::CallReader;
 use crate::callee::Callee;
 use crate::planned_arguments::PlannedArguments;
+use crate::status::{
+    NOTED_HEADER, PARCELABLE_EXCEPTION, REPLY_HEADER, SERVICE_SPECIFIC, TRANSACTION_FAILED,
+};
 use aidl_base::{OutOfMemory, Profile, Row, Text};
 use aidl_values::{Answer, Value};
 use parcel_words::ReadFault;
@@ -143,7 +146,10 @@ fn status_from(
 fn is_refused(status: i32) -> bool
     ensures { result ≡ is_refused_status status }
 {
-    status == -9 || status == -127 || status == -128 || status == -129
+    status == PARCELABLE_EXCEPTION
+        || status == NOTED_HEADER
+        || status == REPLY_HEADER
+        || status == TRANSACTION_FAILED
 }
 
 // The rest of an exception.
@@ -235,6 +241,3 @@ fn outs_from(
         }
     }
 }
-
-/// EX_SERVICE_SPECIFIC, a service's own exception, which alone has an error word.
-pub const SERVICE_SPECIFIC: i32 = -8;

@@ -8,7 +8,7 @@ ghost use Rattle.wire_model.specs.Requests.{EachFits, IsAnswer, ResultFits, repl
 use crate::call::comes_back;
 use crate::callee::Callee;
 use crate::planned_arguments::PlannedArguments;
-use crate::replies::SERVICE_SPECIFIC;
+use crate::status::SERVICE_SPECIFIC;
 use aidl_base::Text;
 use aidl_values::{Answer, Value};
 use parcel_words::Wire;

@@ -11,8 +11,8 @@ ghost use Rattle.wire_model.specs.Requests.{AnswerFits, EachFits, ResultFits, re
 use crate::call::comes_back;
 use crate::callee::Callee;
 use crate::planned_arguments::PlannedArguments;
-use crate::replies::SERVICE_SPECIFIC;
 use crate::reply_lengths::{exception_length, returned_length};
+use crate::status::{BAD_PARCELABLE, SERVICE_SPECIFIC};
 use aidl_base::{OutOfMemory, Row, Text};
 use aidl_schema::{Schema, methods_at};
 use aidl_values::{Answer, Value};
@@ -70,9 +70,6 @@ fn unread_message(alloc: Global) -> Result<Text, OutOfMemory>
 {
     Text::from_str(alloc, "unread argument bytes")
 }
-
-/// EX_BAD_PARCELABLE, the exception of a request with bytes left over.
-pub const BAD_PARCELABLE: i32 = -2;
 
 // Whether a method is oneway.
 fn is_oneway(schema: &Schema, interface: u32, method: u32) -> bool

@@ -3,12 +3,10 @@ ghost use Rattle.std.specs.Prelude.{◌≡◌, codes, IfOk};
 ghost use Rattle.stub_dispatch.specs.Unscripted.{not_scripted};
 ghost use Rattle.wire_model.specs.Calls.{answer_of};
 
+use crate::status::ILLEGAL_STATE;
 use aidl_base::{OutOfMemory, Text};
 use aidl_values::Answer;
 use std::alloc::Global;
-
-/// EX_ILLEGAL_STATE, the exception where no answer is written down.
-pub const ILLEGAL_STATE: i32 = -5;
 
 /// The answer of a method for which none is written down: the exception EX_ILLEGAL_STATE, `not scripted` (own). It fits every method.
 pub fn not_scripted(alloc: Global) -> Result<Answer, OutOfMemory>

@@ -12,7 +12,7 @@ use Rattle.aidl_values.specs.declared.value.Fields.TheVariants.{Whole}
 use Rattle.aidl_values.specs.declared.value.Value.{Value, Rec}
 use Rattle.aidl_values.proofs.lemmas.Views.{fields_whole, view_of_rec}
 use Rattle.aidl_values.specs.Sound.{initial_in}
-use Rattle.wire_model.specs.View.{item_first, each_field, view_of, view_items, view_named, field_named, in_field, in_place, or_initial}
+use Rattle.wire_model.specs.View.{◌>>=◌, item_first, each_field, view_of, view_items, view_named, field_named, or_initial}
 use Rattle.value_views.specs.steps.Places.{below, place_named}
 use Rattle.value_views.specs.steps.Seen.{onto, with_seen, field_view}
 use Rattle.value_views.proofs.Named.{named_there, seen_beyond, seen_nowhere, seen_there, unnamed}
@@ -70,10 +70,10 @@ next_field F gs j g lt is = ap (each_field F) (drop_at gs j g lt is)
 -- the view of an alternative, by its parts
 module _ (A B : List Decl) (sent : Option Field) (f : Field) (at : sent ≡ Some f) (v : Data) (fields : List Field) where
   abbrev alternative_of : Option Field → Option Data
-  alternative_of o = in_field o (λ f. in_place (field_named 0 f.name.0 fields) (λ j g. option_map (alt j) (view_of A f.ty B g.ty v)))
+  alternative_of o = (o >>= (λ f. field_named 0 f.name.0 fields >>= (λ q. option_map (alt q.0) (view_of A f.ty B q.1.ty v))))
 
   abbrev placed_at : Option (ℕ × Field) → Option Data
-  placed_at o = in_place o (λ j g. option_map (alt j) (view_of A f.ty B g.ty v))
+  placed_at o = (o >>= (λ q. option_map (alt q.0) (view_of A f.ty B q.1.ty v)))
 
   pub alternative : (fs : List Field) (k : ℕ) (g : Field) (o : Option Data) → fs ≡ fields → Some k ≡ place_named f.name.0 fields → k < length fields → g ≡ get_or fs k g → view_of A f.ty B g.ty v ≡ o
       → option_map (alt k) o ≡ alternative_of sent

@@ -9,6 +9,7 @@ ghost use Rattle.wire_model.specs.Spell.{parcelable_fields, union_fields};
 ghost use Rattle.aidl_schema.specs.Broken.{kind_code};
 ghost use Rattle.aidl_schema.specs.Types.{elem, form_of};
 ghost use Rattle.aidl_schema.specs.Same as same;
+ghost use Rattle.wire_model.specs.View.{◌>>=◌ as and_then};
 ghost use Rattle.wire_model.specs.View as meant;
 
 use crate::named_fields::NamedFields;
@@ -209,10 +210,10 @@ fn view_alternative(
     value: &Value,
 ) -> Result<Option<Value>, OutOfMemory>
     ensures { IfOk result (λ o. option_map view o
-        ≡ meant.in_field (option_copied sent.entry) (λ f. meant.in_place
-        (meant.field_named 0 f.name.0 (union_fields (form_of receiver.now base)))
-        (λ j g. option_map
-        (alt j) (meant.view_of sender.now f.ty receiver.now g.ty (view value.now))))) }
+        ≡ and_then (option_copied sent.entry) (λ f.
+        and_then (meant.field_named 0 f.name.0 (union_fields (form_of receiver.now base)))
+        (λ place. option_map (alt place.0)
+        (meant.view_of sender.now f.ty receiver.now place.1.ty (view value.now))))) }
 {
     let Some(field) = sent else {
         return Ok(None);

@@ -2,7 +2,7 @@
 -- `enforceInterface`, Status.cpp: `readFromParcel`; the compiler's generated stub and proxy; the bound on lengths,
 -- and the order where nothing else says it, are own). p is the profile of reading, S a schema's declarations, i the
 -- number of an interface, m the position of its method, b the bytes.
-use Rattle.std.specs.Prelude.{ℕ, zero, suc, ◌+◌, nat_le, ℤ, pos, negsuc, Bool, false, ◌&&◌, ◌||◌, if◌then◌else◌}
+use Rattle.std.specs.Prelude.{ℕ, zero, suc, ◌+◌, nat_le, ℤ, pos, Bool, false, ◌&&◌, ◌||◌, if◌then◌else◌}
 use Rattle.std.specs.Prelude.{List, [], ◌∷◌, Option, Some, None, Result, Ok, Err}
 use Rattle.std.specs.Ordering.{int_eq}
 use Rattle.aidl_base.specs.declared.profile.Profile.{Profile}
@@ -19,8 +19,9 @@ use Rattle.aidl_values.specs.Default.{zero_within}
 use Rattle.wire_model.specs.Calls.{AnswerData, returned, exception, descriptor, arguments, result_type, out_types}
 use Rattle.wire_model.specs.Calls.{is_out}
 use Rattle.wire_model.specs.ReadOf.{Read, ◌>>=◌, read_of}
-use Rattle.wire_model.specs.Requests.{sent_length, service_specific}
-use Rattle.wire_model.specs.Status.{bad_value, unknown_transaction, bad_type}
+use Rattle.wire_model.specs.Requests.{sent_length}
+use Rattle.wire_model.specs.Status.{bad_value, unknown_transaction, bad_type, service_specific, parcelable_exception}
+use Rattle.wire_model.specs.Status.{noted_header, reply_header, transaction_failed}
 
 -- The token
 
@@ -179,7 +180,8 @@ exception_at p code b = do
 
 -- the words of a parcelable exception, of headers and of a failed transaction, which no reply of this kind has
 abbrev pub is_refused_status : ℤ → Bool
-is_refused_status w = int_eq w (negsuc 8) || (int_eq w (negsuc 126) || (int_eq w (negsuc 127) || int_eq w (negsuc 128)))
+is_refused_status w = int_eq w parcelable_exception
+    || (int_eq w noted_header || (int_eq w reply_header || int_eq w transaction_failed))
 
 -- after the status word
 abbrev pub status_at : Profile → List Decl → Option AidlType → List AidlType → ℤ → List ℕ → Read AnswerData

@@ -1,7 +1,7 @@
 -- *Requests and replies*: the bytes of a call's request and of its reply (the compiler's generated proxy and stub;
 -- libbinder, Parcel.cpp: `writeInterfaceToken`, Status.cpp: `writeToParcel`; a token's first two words and the
 -- bound on lengths are own). S is a schema's declarations, i the number of an interface, m the position of its method.
-use Rattle.std.specs.Prelude.{◌≡◌, ℕ, ◌+◌, ◌≤◌, ℤ, pos, negsuc, false, if◌then◌else◌, List, [], ◌∷◌, ◌++◌, length}
+use Rattle.std.specs.Prelude.{◌≡◌, ℕ, ◌+◌, ◌≤◌, ℤ, pos, false, if◌then◌else◌, List, [], ◌∷◌, ◌++◌, length}
 use Rattle.std.specs.Prelude.{Option, Some, None, IsTrue, MatchBool, FitsSigned, codes}
 use Rattle.std.specs.Int.{w32}
 use Rattle.std.specs.Ordering.{int_eq}
@@ -17,10 +17,12 @@ use Rattle.aidl_values.specs.Fits.{Fits}
 use Rattle.wire_model.specs.Calls.{AnswerData, returned, exception, descriptor, arguments, result_type, out_types}
 use Rattle.wire_model.specs.Calls.{is_out}
 use Rattle.wire_model.specs.Spell.{spell, spell_text}
+use Rattle.wire_model.specs.Status.{bad_parcelable, minus}
+pub use Rattle.wire_model.specs.Status.{service_specific}
 
 -- *Token*: the policy word, the work source -1, the header `SYST`, and the descriptor
 abbrev pub token : List ℕ → List ℕ
-token name = word (pos 0x80000000) ++ (word (negsuc 0) ++ (word (pos 0x53595354) ++ spell_text name))
+token name = word (pos 0x80000000) ++ (word (minus 1) ++ (word (pos 0x53595354) ++ spell_text name))
 
 -- the length that stands for an `out` array, where None is null
 abbrev pub sent_length : Data → Option ℕ
@@ -28,7 +30,7 @@ sent_length (number (pos n)) = Some n
 sent_length _ = None
 
 abbrev pub spell_length : Option ℕ → List ℕ
-spell_length None = word (negsuc 0)
+spell_length None = word (minus 1)
 spell_length (Some n) = word (pos n)
 
 -- An argument's part of a request: an `in` or `inout` one is spelled, of an `out` array the length, of another
@@ -94,10 +96,6 @@ spell_result S (Some t) (Some v) = spell S t v
 spell_result S (Some t) None = []
 spell_result S None r = []
 
--- EX_SERVICE_SPECIFIC, a service's own exception, which alone has an error word
-abbrev pub service_specific : ℤ
-service_specific = negsuc 7
-
 abbrev pub spell_error : ℤ → ℤ → List ℕ
 spell_error code error = if int_eq code service_specific then word error else []
 
@@ -111,7 +109,7 @@ reply S i m (exception code message error) = word code
 
 -- what is answered where bytes of a request are left over: EX_BAD_PARCELABLE with this message (own)
 abbrev pub unread : AnswerData
-unread = exception (negsuc 1) (codes "unread argument bytes") (pos 0)
+unread = exception bad_parcelable (codes "unread argument bytes") (pos 0)
 
 -- a value exactly where the method isn't void
 abbrev pub ResultFits : List Decl → Option AidlType → Option Data → Type 0
@@ -129,7 +127,7 @@ EachFits S (t ∷ ts) (item v vs) = Fits S t v × EachFits S ts vs
 
 -- a code from -8 to -1, a text, and an `int` that is 0 unless the code is -8
 pub record ExceptionFits (code : ℤ) (message : List ℕ) (error : ℤ) : Type 0 where
-  pub known : IsTrue (is_between (negsuc 7) (negsuc 0) code)
+  pub known : IsTrue (is_between service_specific (minus 1) code)
   pub scalars : IsTrue (all_scalars message)
   pub int : FitsSigned w32 error
   pub no_error : int_eq code service_specific ≡ false → error ≡ pos 0

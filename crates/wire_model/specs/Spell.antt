@@ -1,5 +1,5 @@
 -- The bytes that spell a value. S is the schema's declarations, t the type. Words, `pad` and `block` are aidl_base's.
-use Rattle.std.specs.Prelude.{ℕ, ◌+◌, ℤ, pos, negsuc, if◌then◌else◌, List, [], ◌∷◌, ◌++◌, length, slice_get}
+use Rattle.std.specs.Prelude.{ℕ, ◌+◌, ℤ, pos, if◌then◌else◌, List, [], ◌∷◌, ◌++◌, length, slice_get}
 use Rattle.std.specs.Int.{w8, cast_unsigned}
 use Rattle.aidl_base.specs.Words.{word, long_word, pad}
 pub use Rattle.aidl_base.specs.Spellings.{spell_truth, spell_text}
@@ -9,6 +9,7 @@ use Rattle.aidl_schema.specs.declared.schema.AidlType.{AidlType}
 use Rattle.aidl_schema.specs.Types.{Form, form_of, is_one, is_raw, elem, type_of_field}
 use Rattle.aidl_schema.specs.Types as form
 use Rattle.aidl_values.specs.Data.{Data, null, truth, number, text, seq, rec, alt, Items, none, item, count}
+use Rattle.wire_model.specs.Status.{minus}
 
 -- byte, char, int and an enum of byte or int (`writeByte`, `writeChar`, `writeInt32`): a word;
 -- long and an enum of long (`writeInt64`): eight bytes, which need no alignment to 8
@@ -21,10 +22,10 @@ spell_number _ n = word n
 abbrev pub null_word : Form → ℤ
 null_word (form.parcelable fs) = pos 0
 null_word (form.union fs) = pos 0
-null_word _ = negsuc 0
+null_word _ = minus 1
 
 abbrev pub spell_null : List Decl → AidlType → List ℕ
-spell_null S t = word (if is_one t.shape then null_word (form_of S t.base) else negsuc 0)
+spell_null S t = word (if is_one t.shape then null_word (form_of S t.base) else minus 1)
 
 -- an array of byte or of an enum of byte (`writeByteVector`): each element is one raw byte
 abbrev pub raw_byte : Data → ℕ

@@ -28,11 +28,18 @@ abbrev pub when : Bool → Option Data → Option Data
 when true v = v
 when false v = None
 
+-- the first, and then what is made of it; None if there is none of either
+infixl 10 ◌>>=◌
+abbrev pub ◌>>=◌ : {A B : Type 0} → Option A → (A → Option B) → Option B
+None >>= F = None
+Some x >>= F = F x
+
 -- one item after another; None if either is
 abbrev pub item_first : Option Data → Option Items → Option Items
-item_first None vs = None
-item_first (Some v) None = None
-item_first (Some v) (Some vs) = Some (item v vs)
+item_first first others = do
+  v ← first
+  vs ← others
+  Some (item v vs)
 
 -- one item for each of the receiver's fields; None if one of them is
 abbrev pub each_field : (Field → Option Data) → List Field → Option Items
@@ -49,16 +56,6 @@ abbrev pub field_named : ℕ → List ℕ → List Field → Option (ℕ × Fiel
 field_named n name [] = None
 field_named n name (f ∷ fs) = if same_text name f.name.0 then Some (n, f) else field_named (suc n) name fs
 
--- of a field, where there is one
-abbrev pub in_field : Option Field → (Field → Option Data) → Option Data
-in_field None F = None
-in_field (Some f) F = F f
-
--- of a field and its position, where there is one
-abbrev pub in_place : Option (ℕ × Field) → (ℕ → Field → Option Data) → Option Data
-in_place None F = None
-in_place (Some p) F = F p.0 p.1
-
 abbrev mutual
   -- Null, a truth value, a number and a text are themselves, and a sequence is the views of its elements. A record
   -- has for each field of the receiver the view of the sender's field of the same name, or the default where the
@@ -73,10 +70,10 @@ abbrev mutual
   view_of A t B u (rec vs) = when (agree A t B u) (option_map rec
       (each_field (λ g. or_initial (view_named A (parcelable_fields (form_of A t.base)) B g vs) (initial_in B g))
       (parcelable_fields (form_of B u.base))))
-  view_of A t B u (alt k v) = when (agree A t B u)
-      (in_field (slice_get (union_fields (form_of A t.base)) k) (λ f.
-      in_place (field_named 0 f.name.0 (union_fields (form_of B u.base))) (λ j g.
-      option_map (alt j) (view_of A f.ty B g.ty v))))
+  view_of A t B u (alt k v) = when (agree A t B u) (do
+    f ← slice_get (union_fields (form_of A t.base)) k
+    place ← field_named 0 f.name.0 (union_fields (form_of B u.base))
+    option_map (alt place.0) (view_of A f.ty B place.1.ty v))
 
   -- of each element
   pub view_items : List Decl → AidlType → List Decl → AidlType → Items → Option Items

@@ -1,5 +1,5 @@
 -- What is read of bytes has few levels more than were left: `law_depth`.
-use Rattle.std.proofs.Common.{◌≡◌, ℕ, zero, suc, ◌+◌, ◌≤◌, max, Bool, true, false, List, [], ◌∷◌, length, inl, inr, refl, ap, arith}
+use Rattle.std.proofs.Common.{◌≡◌, ℕ, zero, suc, ◌+◌, ◌≤◌, Bool, true, false, List, [], ◌∷◌, inl, inr, refl, ap, arith}
 use Rattle.std.specs.Prelude.{MatchBool}
 use Rattle.aidl_base.specs.declared.profile.Profile.{Profile}
 use Rattle.aidl_base.specs.Profiles.{IsPadded}
@@ -13,7 +13,7 @@ use Rattle.aidl_schema.specs.Types as form
 use Rattle.aidl_values.specs.Data.{Data, null, truth, number, text, seq, rec, alt, Items, none, item, depth_of, greatest}
 use Rattle.aidl_values.specs.Default.{IsZero}
 use Rattle.aidl_values.specs.HasType.{HaveType}
-use Rattle.aidl_values.specs.Sound.{initial_in, HaveDefaults}
+use Rattle.aidl_values.specs.Sound.{HaveDefaults}
 use Rattle.wire_model.specs.Reads.{Readings, Reads, EachReads, FieldsRead}
 use Rattle.wire_model.specs.Spell.{raw_bytes}
 use Rattle.wire_model.proofs.again.All.{are_bytes}

@@ -1,5 +1,5 @@
 -- A view is what a value is seen as: `law_seen_as`.
-use Rattle.std.proofs.Common.{◌≡◌, ℕ, Bool, true, false, List, [], ◌∷◌, Option, Some, None, option_map, slice_get, refl, subst}
+use Rattle.std.proofs.Common.{◌≡◌, Bool, true, false, List, [], ◌∷◌, Option, Some, None, option_map, slice_get, refl, subst}
 use Rattle.aidl_schema.specs.declared.schema.AidlType.{AidlType}
 use Rattle.aidl_schema.specs.declared.schema.Arg.{Arg}
 use Rattle.aidl_schema.specs.declared.schema.Decl.{Decl}
@@ -12,7 +12,7 @@ use Rattle.wire_model.specs.Calls.{is_out}
 use Rattle.wire_model.specs.Outcome.{view_argument, view_arguments, view_result, view_values}
 use Rattle.wire_model.specs.SeenAs.{ArgumentSeenAs, ArgumentsSeenAs, EachFieldHas, EachSeenAs, FieldSeenAs, OutsSeenAs, ResultSeenAs, SeenAs}
 use Rattle.wire_model.specs.Spell.{parcelable_fields, union_fields}
-use Rattle.wire_model.specs.View.{agree, each_field, field_named, in_field, in_place, item_first, or_initial, view_items, view_named, view_of, when}
+use Rattle.wire_model.specs.View.{◌>>=◌, agree, each_field, field_named, item_first, or_initial, view_items, view_named, view_of, when}
 
 -- what is there when agreed, of the one type
 when_is : (b : Bool) (o : Option Data) (w : Data) → when b o ≡ Some w → o ≡ Some w
@@ -49,14 +49,10 @@ fields_have F P each (g ∷ gs) (item w ws) e =
     let others : p.1 ≡ ws = let all : item w ws ≡ item p.0 p.1 = p.4 in cc in
     (each g w (subst (λ x. F g ≡ Some x) first p.2), fields_have F P each gs ws (subst (λ xs. each_field F gs ≡ Some xs) others p.3))
 
--- of the field of a tag
-tag_is : (o : Option Field) (F : Field → Option Data) (w : Data) → in_field o F ≡ Some w → (f : Field) × (o ≡ Some f) × (F f ≡ Some w)
-tag_is None F w e = cc
-tag_is (Some f) F w e = (f, refl, e)
-
-place_is : (o : Option (ℕ × Field)) (F : ℕ → Field → Option Data) (w : Data) → in_place o F ≡ Some w → (p : ℕ × Field) × (o ≡ Some p) × (F p.0 p.1 ≡ Some w)
-place_is None F w e = cc
-place_is (Some p) F w e = (p, refl, e)
+-- of the first of two
+first_is : {X : Type 0} (o : Option X) (F : X → Option Data) (w : Data) → (o >>= F) ≡ Some w → (x : X) × (o ≡ Some x) × (F x ≡ Some w)
+first_is None F w e = cc
+first_is (Some x) F w e = (x, refl, e)
 
 module _ (A B : List Decl) where
   mutual
@@ -76,10 +72,10 @@ module _ (A B : List Decl) where
         (m.0, m.2, fields_have F (λ g x. FieldSeenAs A fs B g vs x) (λ g x h. field_seen_as fs g vs x h) gs m.0 m.1)
     seen_as t u (alt k v) w e =
         let gs = union_fields (form_of B u.base) in
-        let F : Field → Option Data = λ f. in_place (field_named 0 f.name.0 gs) (λ j g. option_map (alt j) (view_of A f.ty B g.ty v)) in
-        let tag = tag_is (slice_get (union_fields (form_of A t.base)) k) F w (when_is (agree A t B u) (in_field (slice_get (union_fields (form_of A t.base)) k) F) w e) in
+        let F : Field → Option Data = λ f. (field_named 0 f.name.0 gs >>= (λ q. option_map (alt q.0) (view_of A f.ty B q.1.ty v))) in
+        let tag = first_is (slice_get (union_fields (form_of A t.base)) k) F w (when_is (agree A t B u) (slice_get (union_fields (form_of A t.base)) k >>= F) w e) in
         let f = tag.0 in
-        let place = place_is (field_named 0 f.name.0 gs) (λ j g. option_map (alt j) (view_of A f.ty B g.ty v)) w tag.2 in
+        let place = first_is (field_named 0 f.name.0 gs) (λ q. option_map (alt q.0) (view_of A f.ty B q.1.ty v)) w tag.2 in
         let p = place.0 in
         let m = mapped (alt p.0) (view_of A f.ty B p.1.ty v) w place.2 in
         (f, tag.1, p.0, p.1, place.1, m.0, m.2, seen_as f.ty p.1.ty v m.0 m.1)

@@ -20,7 +20,7 @@ use Rattle.wire_model.specs.Spell.{spell, spell_items, spell_fields, raw_bytes, 
 use Rattle.wire_model.specs.Status.{bad_value}
 use Rattle.wire_model.specs.Reads.{Reads}
 use Rattle.wire_model.specs.Stop.{Stop, SequenceStop, RecordStop, UnionStop, TagStop, Begins, HasSize, first_word, fields_bytes}
-use Rattle.wire_model.specs.View.{agree, when, in_field, in_place, field_named, view_of, view_items, item_first}
+use Rattle.wire_model.specs.View.{◌>>=◌, agree, when, field_named, view_of, view_items, item_first}
 use Rattle.wire_model.specs.steps.Meets.{FormsMeet, Meets}
 use Rattle.wire_model.proofs.Forms.{raw_form}
 use Rattle.wire_model.proofs.lemmas.spelled.Reads.{number_spelled, units_small, items_small}
@@ -137,15 +137,15 @@ module _ (p : Profile) (A B : List Decl) (meets : Meets A B) where
   -- what the receiver has at a tag of the sender's union
   tag_of : (d : ℕ) (t u : AidlType) (gs : List Field) (k : ℕ) (f : Field) (v : Data) → same A t B u ≡ true → is_one t.shape ≡ true → form_of B u.base ≡ form.union gs → k < 2 ^ 31 → Tagged p A B gs 0 k f
       → ((g : Field) → same A f.ty B g.ty ≡ true → ReadsOrStops p B d g.ty (spell A f.ty v) (view_of A f.ty B g.ty v))
-      → ReadsOrStops p B (suc d) u (word (pos 1) ++ (word (pos k) ++ spell A f.ty v)) (in_place (field_named 0 f.name.0 gs) (λ j g. option_map (alt j) (view_of A f.ty B g.ty v)))
+      → ReadsOrStops p B (suc d) u (word (pos 1) ++ (word (pos k) ++ spell A f.ty v)) (field_named 0 f.name.0 gs >>= (λ q. option_map (alt q.0) (view_of A f.ty B q.1.ty v)))
   tag_of d t u gs k f v is one there lt (inl h) law =
       let g = h.0 in
       let at : 0 + k ≡ k = omega arith in
-      let found : in_place (field_named 0 f.name.0 gs) (λ j g. option_map (alt j) (view_of A f.ty B g.ty v)) ≡ option_map (alt k) (view_of A f.ty B g.ty v) = rw (h.2, at) refl in
+      let found : (field_named 0 f.name.0 gs >>= (λ q. option_map (alt q.0) (view_of A f.ty B q.1.ty v))) ≡ option_map (alt k) (view_of A f.ty B g.ty v) = rw (h.2, at) refl in
       subst (λ o. ReadsOrStops p B (suc d) u (word (pos 1) ++ (word (pos k) ++ spell A f.ty v)) o) (sym found)
       (known p B d u gs k g (spell A f.ty v) (view_of A f.ty B g.ty v) (one_too t u is one) there h.1 lt (law g h.3))
   tag_of d t u gs k f v is one there lt (inr h) law =
-      let found : in_place (field_named 0 f.name.0 gs) (λ j g. option_map (alt j) (view_of A f.ty B g.ty v)) ≡ None = rw h.1 refl in
+      let found : (field_named 0 f.name.0 gs >>= (λ q. option_map (alt q.0) (view_of A f.ty B q.1.ty v))) ≡ None = rw h.1 refl in
       subst (λ o. ReadsOrStops p B (suc d) u (word (pos 1) ++ (word (pos k) ++ spell A f.ty v)) o) (sym found)
       (unknown p B d u gs k (spell A f.ty v) (one_too t u is one) there h.0 lt)
 
@@ -181,18 +181,18 @@ module _ (p : Profile) (A B : List Decl) (meets : Meets A B) where
       let spelled : spell A t (alt k v) ≡ word (pos 1) ++ (word (pos k) ++ spell A f.ty v) =
       ap (λ gs. word (pos 1) ++ (word (pos k) ++ spell A (type_of_field (slice_get (union_fields gs) k)) v)) h.2
       ∙ ap (λ o. word (pos 1) ++ (word (pos k) ++ spell A (type_of_field o) v)) h.4 in
-      let seen : in_field (slice_get (union_fields (form_of A t.base)) k) (λ f. in_place (field_named 0 f.name.0 (union_fields (form_of B u.base))) (λ j g. option_map (alt j) (view_of A f.ty B g.ty v)))
-      ≡ in_place (field_named 0 f.name.0 gs) (λ j g. option_map (alt j) (view_of A f.ty B g.ty v)) =
-      ap (λ x. in_field (slice_get (union_fields x) k) (λ f. in_place (field_named 0 f.name.0 (union_fields (form_of B u.base))) (λ j g. option_map (alt j) (view_of A f.ty B g.ty v)))) h.2
-      ∙ ap (λ o. in_field o (λ f. in_place (field_named 0 f.name.0 (union_fields (form_of B u.base))) (λ j g. option_map (alt j) (view_of A f.ty B g.ty v)))) h.4
-      ∙ ap (λ x. in_place (field_named 0 f.name.0 (union_fields x)) (λ j g. option_map (alt j) (view_of A f.ty B g.ty v))) meet.1 in
+      let seen : (slice_get (union_fields (form_of A t.base)) k >>= (λ f. (field_named 0 f.name.0 (union_fields (form_of B u.base))) >>= (λ q. option_map (alt q.0) (view_of A f.ty B q.1.ty v))))
+      ≡ (field_named 0 f.name.0 gs >>= (λ q. option_map (alt q.0) (view_of A f.ty B q.1.ty v))) =
+      ap (λ x. (slice_get (union_fields x) k >>= (λ f. (field_named 0 f.name.0 (union_fields (form_of B u.base))) >>= (λ q. option_map (alt q.0) (view_of A f.ty B q.1.ty v))))) h.2
+      ∙ ap (λ o. (o >>= (λ f. field_named 0 f.name.0 (union_fields (form_of B u.base)) >>= (λ q. option_map (alt q.0) (view_of A f.ty B q.1.ty v))))) h.4
+      ∙ ap (λ x. (field_named 0 f.name.0 (union_fields x) >>= (λ q. option_map (alt q.0) (view_of A f.ty B q.1.ty v)))) meet.1 in
       let sum = length-append (word (pos 1) ++ word (pos k)) (spell A f.ty v) in
       let fits' : length (spell A f.ty v) ≤ 1048576 = omega (arith, ap length spelled) in
       let few : length fs ≤ 4096 = meet.2.few in
       let lt : k < 2 ^ 31 = omega (arith, slice_get_within fs k f h.4) in
       let read = tag_of d t u gs k f v is h.0 meet.1 lt (tagged p A B fs gs k 0 f meet.2.common meet.2.distinct h.4) (λ g same. law g same fits') in
       agreed (suc d) t u (spell A t (alt k v)) _ is
-      (subst (λ b. ReadsOrStops p B (suc d) u b (in_field (slice_get (union_fields (form_of A t.base)) k) (λ f. in_place (field_named 0 f.name.0 (union_fields (form_of B u.base))) (λ j g. option_map (alt j) (view_of A f.ty B g.ty v))))) (sym spelled)
+      (subst (λ b. ReadsOrStops p B (suc d) u b (slice_get (union_fields (form_of A t.base)) k >>= (λ f. (field_named 0 f.name.0 (union_fields (form_of B u.base))) >>= (λ q. option_map (alt q.0) (view_of A f.ty B q.1.ty v))))) (sym spelled)
       (subst (λ o. ReadsOrStops p B (suc d) u (word (pos 1) ++ (word (pos k) ++ spell A f.ty v)) o) (sym seen) read))
 
   pub view_reads : (d : ℕ) (t u : AidlType) (v : Data) → same A t B u ≡ true → HasType A t v → depth_of v ≤ d → length (spell A t v) ≤ 1048576

@@ -10,7 +10,7 @@ use Rattle.aidl_schema.specs.Types.{form_of, elem}
 use Rattle.aidl_values.specs.Data.{Data, null, truth, number, text, seq, rec, alt, Items, none, item}
 use Rattle.aidl_values.specs.HasType.{HasType, HaveType, FieldsHaveType}
 use Rattle.wire_model.specs.Spell.{parcelable_fields, union_fields}
-use Rattle.wire_model.specs.View.{agree, when, in_field, in_place, field_named, item_first, view_of, view_items}
+use Rattle.wire_model.specs.View.{◌>>=◌, agree, when, field_named, item_first, view_of, view_items}
 use Rattle.wire_model.specs.steps.Meets.{AreDistinct, FieldsAgree, FormsMeet, Meets}
 use Rattle.wire_model.proofs.viewed.Alike.{elem_is}
 use Rattle.wire_model.proofs.viewed.Parts.{others, first_seen, seen_fields, Tagged, tagged}
@@ -50,9 +50,9 @@ module _ (S : List Decl) (meets : Meets S S) where
         let same_fields : meet.0 ≡ fs = sym (ap union_fields meet.1) ∙ mine in
         let found = tag_same fs k f h.4 (tagged Strict S S fs fs k 0 f (subst (λ gs. FieldsAgree S fs S gs) same_fields meet.2.common) meet.2.distinct h.4) in
         agreed t _ is
-        ∙ ap (λ xs. in_field (slice_get xs k) (λ f. in_place (field_named 0 f.name.0 xs) (λ j g. option_map (alt j) (view_of S f.ty S g.ty v)))) mine
-        ∙ ap (λ o. in_field o (λ f. in_place (field_named 0 f.name.0 fs) (λ j g. option_map (alt j) (view_of S f.ty S g.ty v)))) h.4
-        ∙ ap (λ o. in_place o (λ j g. option_map (alt j) (view_of S f.ty S g.ty v))) found.0
+        ∙ ap (λ xs. (slice_get xs k >>= (λ f. field_named 0 f.name.0 xs >>= (λ q. option_map (alt q.0) (view_of S f.ty S q.1.ty v))))) mine
+        ∙ ap (λ o. (o >>= (λ f. field_named 0 f.name.0 fs >>= (λ q. option_map (alt q.0) (view_of S f.ty S q.1.ty v))))) h.4
+        ∙ ap (λ o. (o >>= (λ q. option_map (alt q.0) (view_of S f.ty S q.1.ty v)))) found.0
         ∙ ap (option_map (alt k)) (view_same f.ty v found.1 h.5)
 
     items_same : (t : AidlType) (vs : Items) → same S t S t ≡ true → HaveType S t vs → view_items S t S t vs ≡ Some vs

@@ -15,7 +15,7 @@ use Rattle.wire_model.proofs.viewed.Alike.{elem_is}
 use Rattle.wire_model.proofs.viewed.Parts.{each_initial, others, first_seen, seen_fields, Tagged, tagged}
 use Rattle.wire_model.specs.Spell.{parcelable_fields, union_fields}
 use Rattle.wire_model.specs.Unknown.{has_unknown_tag, have_unknown_tag, in_tag, named_has_unknown_tag, unless_named}
-use Rattle.wire_model.specs.View.{agree, when, in_field, in_place, field_named, item_first, view_of, view_items}
+use Rattle.wire_model.specs.View.{◌>>=◌, agree, when, field_named, item_first, view_of, view_items}
 use Rattle.wire_model.specs.steps.Meets.{AreDistinct, FieldsAgree, FormsMeet, IsAbsent, Meets}
 
 -- one item before others
@@ -56,7 +56,7 @@ module _ (A B : List Decl) where
 
   -- of the field of a tag, by whether the receiver has one of its name
   by_tag : (gs : List Field) (k : ℕ) (f : Field) (v : Data) → Tagged Strict A B gs 0 k f → ((g : Field) → same A f.ty B g.ty ≡ true → IsLaw f.ty g.ty v)
-      → is_none (in_place (field_named 0 f.name.0 gs) (λ j g. option_map (alt j) (view_of A f.ty B g.ty v))) ≡ unless_named (field_named 0 f.name.0 gs) (λ g. has_unknown_tag A f.ty B g.ty v)
+      → is_none (field_named 0 f.name.0 gs >>= (λ q. option_map (alt q.0) (view_of A f.ty B q.1.ty v))) ≡ unless_named (field_named 0 f.name.0 gs) (λ g. has_unknown_tag A f.ty B g.ty v)
   by_tag gs k f v (inl h) law =
       rw h.2 (none_mapped (alt (0 + k)) (view_of A f.ty B h.0.ty v) ∙ law h.0 h.3)
   by_tag gs k f v (inr h) law = rw h.1 refl
@@ -90,8 +90,8 @@ module _ (A B : List Decl) where
           let field : slice_get (union_fields (form_of A t.base)) k ≡ Some f = ap (λ x. slice_get (union_fields x) k) h.2 ∙ h.4 in
           let his : union_fields (form_of B u.base) ≡ gs = ap union_fields meet.1 in
           agreed t u _ is
-          ∙ ap (λ o. is_none (in_field o (λ f. in_place (field_named 0 f.name.0 (union_fields (form_of B u.base))) (λ j g. option_map (alt j) (view_of A f.ty B g.ty v))))) field
-          ∙ ap (λ ys. is_none (in_place (field_named 0 f.name.0 ys) (λ j g. option_map (alt j) (view_of A f.ty B g.ty v)))) his
+          ∙ ap (λ o. is_none (o >>= (λ f. field_named 0 f.name.0 (union_fields (form_of B u.base)) >>= (λ q. option_map (alt q.0) (view_of A f.ty B q.1.ty v))))) field
+          ∙ ap (λ ys. is_none (field_named 0 f.name.0 ys >>= (λ q. option_map (alt q.0) (view_of A f.ty B q.1.ty v)))) his
           ∙ by_tag gs k f v (tagged Strict A B fs gs k 0 f meet.2.common meet.2.distinct h.4) (λ g same. view_none f.ty g.ty v same h.5)
           ∙ sym (ap (λ o. in_tag o (λ f. unless_named (field_named 0 f.name.0 (union_fields (form_of B u.base))) (λ g. has_unknown_tag A f.ty B g.ty v))) field
           ∙ ap (λ ys. unless_named (field_named 0 f.name.0 ys) (λ g. has_unknown_tag A f.ty B g.ty v)) his)
