@@ -1,18 +1,20 @@
 -- What one turn of a loop over members adds.
-use Rattle.std.proofs.Common.{◌≡◌, ℕ, zero, suc, ◌+◌, ◌<◌, min, Bool, true, List, [], ◌∷◌, ◌++◌, map, length, take, drop, get_or, Option, Some, None, refl, sym, ap, ◌∙◌, subst, arith, is_some, add-one, cond}
+use Rattle.std.proofs.Common.{◌≡◌, ℕ, zero, suc, ◌+◌, ◌<◌, min, Bool, true, List, [], ◌∷◌, ◌++◌, map, length, take, get_or, Option, Some, None, refl, sym, ap, ◌∙◌, subst, arith, is_some}
 use Rattle.std.specs.List.{find, flat_map, zip, enumerate_from, position_from}
 use Rattle.std.proofs.lemmas.List.{append-nil}
 use Rattle.std.proofs.lemmas.List.Concat.{flat_map-append}
 use Rattle.std.specs.Borrow.{Bor}
 use Rattle.std.specs.Fmt.{decimal}
 use Rattle.std.specs.Option.{option_copied}
-use Rattle.std.specs.Str.{bytes_eq, encode_utf8_all}
+use Rattle.std.specs.Str.{encode_utf8_all}
+use Rattle.std.proofs.lemmas.Iterator.Adapters.{position_from-zero}
 use Rattle.aidl_base.specs.declared.name.Ident.{Ident}
 use Rattle.aidl_schema.specs.declared.schema.Arg.{Arg}
 use Rattle.aidl_schema.specs.declared.schema.Decl.{Decl}
 use Rattle.aidl_schema.specs.declared.schema.Method.{Method}
 use Rattle.aidl_schema.specs.Broken.{Break, argument, in_both, is_there_and, member, of_rule, place_if, same_method, whole, with_found}
 use Rattle.aidl_schema.specs.Same.{same_text}
+use Rattle.name_tables.specs.Places.{has_name, place_in}
 use Rattle.compat_judge.specs.declared.sides.Common.{Common}
 use Rattle.compat_judge.specs.steps.Steps.{both_of, break_if, item_at, place_of, places_among}
 use Rattle.compat_judge.proofs.Found.{same_text_sym}
@@ -107,32 +109,15 @@ module _ (ms ws : List Method) where
       h ∙ sym (in_both_more i x lt is ∙ ap (λ o. in_both same_method (take i ms) ws ++ with_found x o) none ∙ append-nil (in_both same_method (take i ms) ws))
 
 -- the place of a name by its bytes
-pub place_by_bytes : (k : ℕ) (texts : List (List ℕ)) (x : List ℕ) → position_from (λ y. bytes_eq (encode_utf8_all x) (encode_utf8_all y)) k texts ≡ position_from (λ y. same_text x y) k texts
-place_by_bytes k [] x = refl
-place_by_bytes k (y ∷ texts) x = rw (same_encoded x y, place_by_bytes (k + 1) texts x) refl
+place_by_name : {M : Type 0} (called : M → Ident) (k : ℕ) (ms : List M) (x : List ℕ)
+    → position_from (λ m. has_name called (encode_utf8_all x) m) k ms ≡ position_from (λ y. same_text x y) k (map (λ m. (called m).0) ms)
+place_by_name called k [] x = refl
+place_by_name called k (m ∷ ms) x = rw (same_encoded ((called m).0) x, same_text_sym ((called m).0) x, place_by_name called (k + 1) ms x) refl
 
-drop_at : {X : Type 0} (xs : List X) (j : ℕ) (x : X) → j < length xs → x ≡ get_or xs j x → drop j xs ≡ x ∷ drop (suc j) xs
-drop_at [] j x lt e = absurd (omega arith)
-drop_at (y ∷ xs) zero x lt e = ap (λ z. z ∷ xs) (sym e)
-drop_at (y ∷ xs) (suc j) x lt e = drop_at xs j x (omega arith) e
-
--- a name in front of those whose places are known
-pub table_step : (names : List (List ℕ)) (i j : ℕ) (x bytes q : List ℕ) (old : Option ℕ) → i ≡ j + 1 → j < length names → x ≡ get_or names j x → bytes ≡ encode_utf8_all x
-    → old ≡ position_from (λ y. bytes_eq q (encode_utf8_all y)) i (drop i names) → cond (bytes_eq bytes q) (Some j) old ≡ position_from (λ y. bytes_eq q (encode_utf8_all y)) j (drop j names)
-table_step names i j x bytes q old next lt is b h =
-    let at : drop j names ≡ x ∷ drop i names = drop_at names j x lt is ∙ ap (λ k. x ∷ drop k names) (sym (next ∙ add-one j)) in
-    ap (λ t. cond t (Some j) old) (ap (λ z. bytes_eq z q) b ∙ same_text_sym (encode_utf8_all x) q)
-    ∙ ap (λ o. cond (bytes_eq q (encode_utf8_all x)) (Some j) o) (h ∙ ap (λ k. position_from (λ y. bytes_eq q (encode_utf8_all y)) k (drop i names)) next)
-    ∙ sym (ap (position_from (λ y. bytes_eq q (encode_utf8_all y)) j) at)
-
-pub map-through : {X Y Z : Type 0} (f : X → Z) (g : Y → Z) (h : X → Y) → ((x : X) → f x ≡ g (h x)) → (xs : List X) → map f xs ≡ map g (map h xs)
-map-through f g h same [] = refl
-map-through f g h same (x ∷ xs) = ap (λ y. y ∷ map f xs) (same x) ∙ ap (λ ys. g (h x) ∷ ys) (map-through f g h same xs)
+pub placed_by_name : {M : Type 0} (called : M → Ident) (ms : List M) (bytes x : List ℕ) → bytes ≡ encode_utf8_all x → place_in called bytes ms ≡ place_of (map (λ m. (called m).0) ms) x
+placed_by_name called ms bytes x e =
+    ap (λ q. place_in called q ms) e ∙ position_from-zero (λ m. has_name called (encode_utf8_all x) m) ms ∙ place_by_name called 0 ms x
 
 pub mapped_more : {X Y : Type 0} (f : X → Y) (xs : List X) (i : ℕ) (x : X) (y : Y) (now further : List Y) → now ≡ map f (take i xs) → i < length xs → x ≡ get_or xs i x → y ≡ f x → further ≡ now ++ y ∷ [] → further ≡ map f (take (i + 1) xs)
 mapped_more f xs i x y now further h lt is same e =
     e ∙ ap (λ z. z ++ y ∷ []) h ∙ ap (λ z. map f (take i xs) ++ z ∷ []) same ∙ sym (map-push f (take i xs) x) ∙ ap (map f) (sym (take_further xs i x lt is))
-
-pub places_named : {X : Type 0} (name : X → List ℕ) (xs ys : List X) (texts others : List (List ℕ)) → texts ≡ map name xs → others ≡ map name ys → map (λ x. place_of others x) texts ≡ places_among name xs ys
-places_named name xs ys texts others e f =
-    ap (λ zs. map (λ x. place_of zs x) texts) f ∙ ap (map (λ x. place_of (map name ys) x)) e ∙ sym (map-through (λ x. place_of (map name ys) (name x)) (λ x. place_of (map name ys) x) name (λ x. refl) xs)

@@ -5,14 +5,14 @@ ghost use Rattle.std.specs.Ordering.{int_eq};
 ghost use Rattle.aidl_schema.specs.Broken.{C3, C17, C18, in_both, is_there_and, of_rule, same_method};
 ghost use Rattle.aidl_schema.specs.Names.{enumerators_of, methods_of};
 ghost use Rattle.compat_judge.specs.steps.Shapes.{in_lost_constants, in_lost_enumerators};
-ghost use Rattle.compat_judge.specs.steps.Steps.{both_of, breaks_at, names_of, places_among};
+ghost use Rattle.compat_judge.specs.steps.Steps.{both_of, breaks_at, places_among};
 ghost use Rattle.compat_judge.specs.steps.Tests.{keeps_constant};
 
 use crate::consts::same_const;
 use crate::findings::Findings;
 use crate::lookup::{at_place, places_of};
 use crate::sides::{Common, Pair};
-use aidl_base::{Ident, OutOfMemory};
+use aidl_base::OutOfMemory;
 use aidl_schema::{Constant, Enumerator, Kind, Method, methods_of, same_base_code};
 use std::alloc::Global;
 
@@ -24,78 +24,6 @@ pub fn enumerators_of(kind: &Kind) -> &[Enumerator]
         Kind::Enum(_, enumerators) => enumerators.as_slice(),
         _ => &[],
     }
-}
-
-/// Where the names of methods stand among others.
-pub fn method_places(
-    alloc: Global,
-    olds: &[Method],
-    news: &[Method],
-) -> Result<Vec<Option<usize>>, OutOfMemory>
-    ensures { IfOk result (λ places. places.items
-        ≡ places_among (λ x. x.name.0) olds.now news.now) }
-{
-    let names = method_names(alloc, olds)?;
-    let others = method_names(alloc, news)?;
-    places_of(alloc, names.as_slice(), others.as_slice())
-}
-
-fn method_names(alloc: Global, items: &[Method]) -> Result<Vec<&Ident>, OutOfMemory>
-    ensures { IfOk result (λ names. names_of names.items ≡ map (λ x. x.name.0) items.now) }
-{
-    let mut names = Vec::with_capacity(alloc, items.len())?;
-    for item in items {
-        names.push(&item.name)?;
-    }
-    Ok(names)
-}
-
-// The same of enumerators.
-fn enumerator_places(
-    alloc: Global,
-    olds: &[Enumerator],
-    news: &[Enumerator],
-) -> Result<Vec<Option<usize>>, OutOfMemory>
-    ensures { IfOk result (λ places. places.items
-        ≡ places_among (λ x. x.name.0) olds.now news.now) }
-{
-    let names = enumerator_names(alloc, olds)?;
-    let others = enumerator_names(alloc, news)?;
-    places_of(alloc, names.as_slice(), others.as_slice())
-}
-
-fn enumerator_names(alloc: Global, items: &[Enumerator]) -> Result<Vec<&Ident>, OutOfMemory>
-    ensures { IfOk result (λ names. names_of names.items ≡ map (λ x. x.name.0) items.now) }
-{
-    let mut names = Vec::with_capacity(alloc, items.len())?;
-    for item in items {
-        names.push(&item.name)?;
-    }
-    Ok(names)
-}
-
-// The same of constants.
-fn constant_places(
-    alloc: Global,
-    olds: &[Constant],
-    news: &[Constant],
-) -> Result<Vec<Option<usize>>, OutOfMemory>
-    ensures { IfOk result (λ places. places.items
-        ≡ places_among (λ x. x.name.0) olds.now news.now) }
-{
-    let names = constant_names(alloc, olds)?;
-    let others = constant_names(alloc, news)?;
-    places_of(alloc, names.as_slice(), others.as_slice())
-}
-
-fn constant_names(alloc: Global, items: &[Constant]) -> Result<Vec<&Ident>, OutOfMemory>
-    ensures { IfOk result (λ names. names_of names.items ≡ map (λ x. x.name.0) items.now) }
-{
-    let mut names = Vec::with_capacity(alloc, items.len())?;
-    for item in items {
-        names.push(&item.name)?;
-    }
-    Ok(names)
 }
 
 /// The methods that both have by their names, each beside the other.
@@ -143,7 +71,7 @@ pub fn c17(pair: &Pair<'_>, found: &mut Findings) -> Result<(), OutOfMemory>
 {
     let xs = enumerators_of(&pair.before.kind);
     let ys = enumerators_of(&pair.after.kind);
-    let places = enumerator_places(found.alloc(), xs, ys)?;
+    let places = places_of(found.alloc(), xs, ys)?;
     lost_enumerators(pair, xs, ys, places.as_slice(), found)
 }
 
@@ -180,7 +108,7 @@ pub fn c18(pair: &Pair<'_>, found: &mut Findings) -> Result<(), OutOfMemory>
 {
     let cs = pair.before.constants.as_slice();
     let ks = pair.after.constants.as_slice();
-    let places = constant_places(found.alloc(), cs, ks)?;
+    let places = places_of(found.alloc(), cs, ks)?;
     lost_constants(pair, cs, ks, places.as_slice(), found)
 }
 

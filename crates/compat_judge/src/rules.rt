@@ -11,7 +11,8 @@ use crate::fields::{
     fields_with_default, has_fields, parcelable_fields, same_backing, union_fields,
 };
 use crate::findings::Findings;
-use crate::members::{c3, c17, c18, common_methods, method_places};
+use crate::lookup::places_of;
+use crate::members::{c3, c17, c18, common_methods};
 use crate::shapes::{at_additions, at_arguments, at_fields, at_methods};
 use crate::sides::{Common, Pair};
 use aidl_base::OutOfMemory;
@@ -37,7 +38,7 @@ fn broken_inside(pair: &Pair<'_>, found: &mut Findings) -> Result<(), OutOfMemor
 {
     let ms = methods_of(&pair.before.kind);
     let ws = methods_of(&pair.after.kind);
-    let places = method_places(found.alloc(), ms, ws)?;
+    let places = places_of(found.alloc(), ms, ws)?;
     let common = common_methods(found.alloc(), ms, ws, places.as_slice())?;
     c3(pair, ms, places.as_slice(), found)?;
     interface_rules(pair, common.as_slice(), found)?;

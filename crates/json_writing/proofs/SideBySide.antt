@@ -1,5 +1,5 @@
 -- Numbers that lie side by side, one by one.
-use Rattle.std.proofs.Common.{◌≡◌, ℕ, zero, suc, ◌+◌, ◌<◌, ℤ, pos, negsuc, Bool, false, true, List, [], ◌∷◌, ◌++◌, None, length, get_or, drop, map, refl, sym, ap, ◌∙◌, append_assoc, add-zero, arith}
+use Rattle.std.proofs.Common.{◌≡◌, ℕ, zero, suc, ◌+◌, ◌*◌, ◌/◌, ◌%◌, ◌<◌, ℤ, pos, negsuc, Bool, false, true, List, [], ◌∷◌, ◌++◌, None, length, get_or, drop, map, refl, sym, ap, subst, ◌∙◌, append_assoc, add-zero, arith}
 use Rattle.std.proofs.lemmas.List.{drop_more}
 use Rattle.std.specs.Fmt.{decimal, signed_decimal}
 use Rattle.std.specs.Int.{w8, cast_signed}
@@ -14,7 +14,7 @@ use Rattle.aidl_values.specs.declared.value.Elements.TheVariants.{Bytes, Chars, 
 use Rattle.aidl_values.proofs.lemmas.Views.{datas_bytes, datas_chars, datas_ints, datas_longs}
 use Rattle.json_writing.specs.Json.{json_items, json_number}
 use Rattle.json_writing.specs.Named.{enumerators_of}
-use Rattle.json_writing.specs.steps.Numbers.{AreByteTexts, row_of_texts, text_of_byte}
+use Rattle.json_writing.specs.steps.Numbers.{AreTexts, row_of_texts, text_of_byte, text_of_pair}
 
 -- one number more
 pub text_more : {X : Type 0} (f : X → List ℕ) (xs : List X) (i : ℕ) (x other : X) (later : Bool) (start old divided new : List ℕ) → i < length xs → x ≡ get_or xs i other → divided ≡ old ++ comma_if later
@@ -60,19 +60,40 @@ module _ (S : List Decl) (t : AidlType) (unnamed : enumerators_of S t.base ≡ N
   pub longs_text : (es : Elements) (ns : List ℤ) → es ≡ Longs ns → row_of_texts false (map signed_decimal ns) ≡ items_text false (json_items S t (items_of (datas es)))
   longs_text es ns is = as_text es ns (ap datas is ∙ datas_longs ns)
 
--- the text of one byte more
-pub texts_more : (b n : ℕ) (ts : List ArrayString) (t : ArrayString) → b + length ts ≡ n → AreByteTexts b ts → t.bytes ≡ 44 ∷ text_of_byte n → AreByteTexts b (ts ++ t ∷ [])
-texts_more b n [] t at all is = (is ∙ ap (λ k. 44 ∷ text_of_byte k) (sym at ∙ add-zero b), tt)
-texts_more b n (s ∷ ts) t at all is = (all.0, texts_more (suc b) n ts t (omega (arith, at)) all.1 is)
+module _ (f : ℕ → List ℕ) where
+  -- one text more
+  pub texts_more : (b n : ℕ) (ts : List ArrayString) (t : ArrayString) → b + length ts ≡ n → AreTexts f b ts → t.bytes ≡ f n → AreTexts f b (ts ++ t ∷ [])
+  texts_more b n [] t at all is = (is ∙ ap f (sym at ∙ add-zero b), tt)
+  texts_more b n (s ∷ ts) t at all is = (all.0, texts_more (suc b) n ts t (omega (arith, at)) all.1 is)
 
-text_from : (b : ℕ) (ts : List ArrayString) (i : ℕ) (t : ArrayString) → AreByteTexts b ts → i < length ts → (get_or ts i t).bytes ≡ 44 ∷ text_of_byte (b + i)
-text_from b [] i t all lies = absurd (omega (arith, lies))
-text_from b (s ∷ ts) zero t all lies = all.0 ∙ ap (λ k. 44 ∷ text_of_byte k) (sym (add-zero b))
-text_from b (s ∷ ts) (suc i) t all lies = text_from (suc b) ts i t all.1 (omega (arith, lies)) ∙ ap (λ k. 44 ∷ text_of_byte k) (omega arith)
+  text_from : (b : ℕ) (ts : List ArrayString) (i : ℕ) (t : ArrayString) → AreTexts f b ts → i < length ts → (get_or ts i t).bytes ≡ f (b + i)
+  text_from b [] i t all lies = absurd (omega (arith, lies))
+  text_from b (s ∷ ts) zero t all lies = all.0 ∙ ap f (sym (add-zero b))
+  text_from b (s ∷ ts) (suc i) t all lies = text_from (suc b) ts i t all.1 (omega (arith, lies)) ∙ ap f (omega arith)
 
--- the text of a byte
-pub text_at : (ts : List ArrayString) (i : ℕ) (t : ArrayString) → AreByteTexts 0 ts → i < length ts → t ≡ get_or ts i t → t.bytes ≡ 44 ∷ text_of_byte i
-text_at ts i t all lies is = ap (λ (s : ArrayString). s.bytes) is ∙ text_from 0 ts i t all lies ∙ ap (λ k. 44 ∷ text_of_byte k) (omega arith)
+  -- the text of a number
+  pub text_at : (ts : List ArrayString) (i : ℕ) (t : ArrayString) → AreTexts f 0 ts → i < length ts → t ≡ get_or ts i t → t.bytes ≡ f i
+  text_at ts i t all lies is = ap (λ (s : ArrayString). s.bytes) is ∙ text_from 0 ts i t all lies ∙ ap f (omega arith)
+
+-- the texts of two bytes, one behind the other
+pub both_texts : (n : ℕ) (a b : List ℕ) → a ≡ 44 ∷ text_of_byte (n / 256) → b ≡ 44 ∷ text_of_byte (n % 256) → a ++ b ≡ text_of_pair n
+both_texts n a b first second = ap (λ (x : List ℕ). x ++ b) first ∙ ap (λ (x : List ℕ). (44 ∷ text_of_byte (n / 256)) ++ x) second
+
+-- two bytes more
+pub two_more : (bs : List ℕ) (i a b : ℕ) (start old new : List ℕ) → 2 * i + 2 < length bs → a ≡ get_or bs (2 * i + 1) 0 → b ≡ get_or bs (2 * i + 2) 0 → b < 256
+    → new ≡ old ++ text_of_pair (256 * a + b) → old ++ row_of_texts true (map text_of_byte (drop (2 * i + 1) bs)) ≡ start
+    → new ++ row_of_texts true (map text_of_byte (drop (2 * (i + 1) + 1) bs)) ≡ start
+two_more bs i a b start old new lies first second small put so_far =
+    let high : (256 * a + b) / 256 ≡ a = omega arith in
+    let low : (256 * a + b) % 256 ≡ b = omega arith in
+    let mid = (old ++ 44 ∷ []) ++ text_of_byte a in
+    let one = text_more text_of_byte bs (2 * i + 1) a 0 true start old (old ++ 44 ∷ []) mid (omega (arith, lies)) first refl refl so_far in
+    let next : 2 * i + 1 + 1 ≡ 2 * i + 2 = omega arith in
+    let after : 2 * i + 2 + 1 ≡ 2 * (i + 1) + 1 = omega arith in
+    let pair : text_of_pair (256 * a + b) ≡ (44 ∷ text_of_byte a) ++ (44 ∷ text_of_byte b) = rw (high, low) refl in
+    let parts : new ≡ (mid ++ 44 ∷ []) ++ text_of_byte b = put ∙ ap (λ (x : List ℕ). old ++ x) pair ∙ simp append_assoc refl in
+    let behind : mid ++ row_of_texts true (map text_of_byte (drop (2 * i + 2) bs)) ≡ start = subst (λ k. mid ++ row_of_texts true (map text_of_byte (drop k bs)) ≡ start) next one in
+    subst (λ k. new ++ row_of_texts true (map text_of_byte (drop k bs)) ≡ start) after (text_more text_of_byte bs (2 * i + 2) b 0 true start mid (mid ++ 44 ∷ []) new lies second refl parts behind)
 
 -- the first byte, and those behind it
 pub first_text : (bs old mid : List ℕ) → 0 < length bs → mid ≡ old ++ text_of_byte (get_or bs 0 0) → mid ++ row_of_texts true (map text_of_byte (drop 1 bs)) ≡ old ++ row_of_texts false (map text_of_byte bs)

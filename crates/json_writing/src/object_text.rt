@@ -36,9 +36,9 @@ pub fn push_record(
 {
     let fields = printer.fields(ty.base);
     let row = printer.row(alloc, ty.base)?;
-    text.push_str("{")?;
+    text.push('{')?;
     push_members(alloc, printer, fields, row.as_slice(), values, text)?;
-    text.push_str("}")?;
+    text.push('}')?;
     Ok(())
 }
 

@@ -140,9 +140,6 @@ impl<'a> JsonPrinter<'a> {
             (string_bytes text.new ≡ string_bytes text.old ++ compact_text
             (json_number (enumerators_of self.old base) n)) }
     {
-        if !matches!(base, Base::Named(_)) {
-            return push_digits(n, &mut self.digits, text);
-        }
         match self.names.name(alloc, base, n)? {
             Some(name) => push_quoted(alloc, name.0.as_str(), text),
             None => push_digits(n, &mut self.digits, text),

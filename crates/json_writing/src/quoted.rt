@@ -39,9 +39,9 @@ fn push_plain(quoted: &str, text: &mut String) -> Result<(), OutOfMemory>
     ensures { OnOk result (string_bytes text.new
         ≡ string_bytes text.old ++ compact_text (string quoted.now)) }
 {
-    text.push_str("\"")?;
+    text.push('"')?;
     text.push_str(quoted)?;
-    text.push_str("\"")?;
+    text.push('"')?;
     Ok(())
 }
 

@@ -3,9 +3,9 @@ ghost use Rattle.std.specs.Prelude.{◌≡◌};
 ghost use Rattle.aidl_base.specs.declared.name.Ident.{Ident};
 
 use aidl_base::Ident;
-use aidl_schema::{Enumerator, Field};
+use aidl_schema::{Constant, Enumerator, Field, Method};
 
-/// What has a name: an enumerator or a field.
+/// What has a name: an enumerator, a field, a method or a constant.
 pub trait Called {
     ghost called: { Self → Ident };
 
@@ -24,6 +24,22 @@ impl Called for Enumerator {
 
 impl Called for Field {
     ghost called = { λ field. field.name };
+
+    fn name(&self) -> &Ident {
+        &self.name
+    }
+}
+
+impl Called for Method {
+    ghost called = { λ method. method.name };
+
+    fn name(&self) -> &Ident {
+        &self.name
+    }
+}
+
+impl Called for Constant {
+    ghost called = { λ constant. constant.name };
 
     fn name(&self) -> &Ident {
         &self.name

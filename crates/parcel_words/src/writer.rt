@@ -1,5 +1,6 @@
 //! The writer of a parcel: words, longs, raw bytes, counts, texts and records, behind those that were written before.
-ghost use Rattle.std.specs.Prelude.{◌≡◌, ◌+◌, ◌-◌, ◌^◌, ◌<◌, ◌≤◌, pos, [], ◌∷◌, length, IfOk, replicate};
+ghost use Rattle.std.specs.Prelude.{◌≡◌, ◌+◌, ◌-◌, ◌^◌, ◌<◌, ◌≤◌, pos, [], ◌∷◌, length, map, IfOk, replicate};
+ghost use Rattle.std.specs.Int.{w16, to_le_bytes};
 ghost use Rattle.std.specs.Str.{chars};
 ghost use Rattle.std.specs.Char.Escape.{encode_utf16};
 ghost use Rattle.aidl_base.specs.Words.{word, long_word, pad, padding, units, unit_bytes, block};
@@ -10,6 +11,9 @@ use crate::padding::padding_of;
 use aidl_base::OutOfMemory;
 use std::alloc::Global;
 use std::marker::Model;
+
+// So many units are put at once.
+const MANY: usize = 16;
 
 /// A row of words that is written into room which was taken before. Contracts see the bytes written, and the number
 /// of bytes for which room is left.
@@ -151,8 +155,48 @@ impl WordWriter {
         self.append(&[0; 5][..2 + padding_of(2 * (count + 1))]);
     }
 
-    /// Appends the units of a text.
+    /// Appends the units of a text. Those of ASCII are its bytes.
+    #[tactic(auto, using(crate::proofs::Ascii::ascii_text_units))]
     fn units(&mut self, text: &str)
+        requires { length (unit_bytes (units (chars text.now))) ≤ self.old.room }
+        ensures { self.new ≡ with_bytes self.old (unit_bytes (units (chars text.now))) }
+    {
+        if text.is_ascii() {
+            self.narrow(text.as_bytes());
+        } else {
+            self.characters(text);
+        }
+    }
+
+    /// Appends units below 256, many at once.
+    fn narrow(&mut self, units: &[u8])
+        requires { length (unit_bytes units.now) ≤ self.old.room }
+        ensures { self.new ≡ with_bytes self.old (unit_bytes units.now) }
+    {
+        let mut rest = units;
+        while rest.len() > MANY {
+            let (front, after) = rest.split_at(MANY);
+            self.narrow_few(front);
+            rest = after;
+        }
+        self.narrow_few(rest);
+    }
+
+    /// The same of a few.
+    #[tactic(auto, using(crate::proofs::lemmas::Appends::flattened))]
+    fn narrow_few(&mut self, units: &[u8])
+        requires few { length units.now ≤ 16 }
+        requires room { length (unit_bytes units.now) ≤ self.old.room }
+        ensures { self.new ≡ with_bytes self.old (unit_bytes units.now) }
+    {
+        let mut pairs = [[0; 2]; MANY];
+        let front = &mut pairs[..units.len()];
+        put_pairs(units, front);
+        self.append(front.as_flattened());
+    }
+
+    /// Appends the units of a text, character by character.
+    fn characters(&mut self, text: &str)
         requires { length (unit_bytes (units (chars text.now))) ≤ self.old.room }
         ensures { self.new ≡ with_bytes self.old (unit_bytes (units (chars text.now))) }
     {
@@ -197,8 +241,31 @@ impl WordWriter {
     }
 }
 
+// Puts units below 256 two bytes each.
+fn put_pairs(units: &[u8], pairs: &mut [[u8; 2]])
+    requires { length units.now ≡ length pairs.old }
+    ensures { pairs.new ≡ map (to_le_bytes w16) units.now }
+{
+    for i in 0..units.len() {
+        pairs[i] = u16::from(units[i]).to_le_bytes();
+    }
+}
+
 /// The number of UTF-16 units of a text.
+#[tactic(auto, using(crate::proofs::Ascii::ascii_text_units))]
 pub fn unit_count(text: &str) -> usize
+    ensures count { result ≡ length (units (chars text.now)) }
+    ensures small { result < 2 ^ 63 }
+{
+    if text.is_ascii() {
+        text.len()
+    } else {
+        count_units(text)
+    }
+}
+
+// The same, character by character.
+fn count_units(text: &str) -> usize
     ensures count { result ≡ length (units (chars text.now)) }
     ensures small { result < 2 ^ 63 }
 {

@@ -63,10 +63,11 @@ object_text::push_members-push_member-requires t c =
     )
 
 pub object_text::push_record-returns-clause-text : goal.object_text::push_record-returns-clause-text
+unfolding lib.Utf8.encode
 object_text::push_record-returns-clause-text t c =
     record_text c.args.printer.now c.args.ty (field_datas c.args.values.now) c.row.new.self c.fields-fields.result.now c.in_ok-row.row.value.items c.as_slice.result.now (string_bytes c.args.text.now) _ _ _
     c.requires c.in_ok-row.ensures.row c.in_ok-row.ensures.same c.fields-fields.ensures (c.as_slice.ensures.value ∙ ap (λ v. v.items) c.deref.ensures)
-    c.in_ok-push_str.ensures.bytes c.in_ok-push_members.ensures.text c.in_ok-push_str-2.ensures.bytes
+    c.in_ok-push.ensures.bytes c.in_ok-push_members.ensures.text c.in_ok-push-2.ensures.bytes
 
 pub sequence_text::push_each-push_element-requires : goal.sequence_text::push_each-push_element-requires
 sequence_text::push_each-push_element-requires t c =

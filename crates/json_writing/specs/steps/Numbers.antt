@@ -1,5 +1,5 @@
 -- Numbers that lie side by side, each as its decimal text.
-use Rattle.std.specs.Prelude.{◌≡◌, ℕ, suc, Bool, true, List, [], ◌∷◌, ◌++◌}
+use Rattle.std.specs.Prelude.{◌≡◌, ℕ, suc, ◌/◌, ◌%◌, Bool, true, List, [], ◌∷◌, ◌++◌}
 use Rattle.std.specs.Fmt.{signed_decimal}
 use Rattle.std.specs.Int.{w8, cast_signed}
 use Rattle.serde_json.specs.Written.{comma_if}
@@ -14,7 +14,19 @@ row_of_texts later (x ∷ xs) = comma_if later ++ (x ++ row_of_texts true xs)
 abbrev pub text_of_byte : ℕ → List ℕ
 text_of_byte b = signed_decimal (cast_signed w8 b)
 
+-- texts by number, from one on
+abbrev pub AreTexts : (ℕ → List ℕ) → ℕ → List ArrayString → Type 0
+AreTexts text n [] = Unit {0}
+AreTexts text n (t ∷ ts) = (t.bytes ≡ text n) × AreTexts text (suc n) ts
+
 -- the texts of the bytes from one on, each behind a comma
 abbrev pub AreByteTexts : ℕ → List ArrayString → Type 0
-AreByteTexts b [] = Unit {0}
-AreByteTexts b (t ∷ ts) = (t.bytes ≡ 44 ∷ text_of_byte b) × AreByteTexts (suc b) ts
+AreByteTexts b ts = AreTexts (λ k. 44 ∷ text_of_byte k) b ts
+
+-- of two bytes, each behind a comma
+abbrev pub text_of_pair : ℕ → List ℕ
+text_of_pair n = (44 ∷ text_of_byte (n / 256)) ++ (44 ∷ text_of_byte (n % 256))
+
+-- the texts of the pairs of bytes from one on
+abbrev pub ArePairTexts : ℕ → List ArrayString → Type 0
+ArePairTexts n ts = AreTexts text_of_pair n ts

@@ -1,6 +1,9 @@
 -- Writes, one after the other.
-use Rattle.std.proofs.Common.{◌≡◌, ℕ, zero, suc, ◌+◌, ◌-◌, ◌<◌, ◌≤◌, List, [], ◌∷◌, ◌++◌, length, get_or, take, drop, replicate, refl, sym, ap, ◌∙◌, arith, append_assoc, append-nil, length-append}
+use Rattle.std.proofs.Common.{◌≡◌, ℕ, zero, suc, ◌+◌, ◌-◌, ◌<◌, ◌≤◌, List, [], ◌∷◌, ◌++◌, length, get_or, take, drop, map, replicate, refl, sym, ap, ◌∙◌, arith, append_assoc, append-nil, length-append}
 use Rattle.std.specs.Char.Escape.{encode_utf16}
+use Rattle.std.specs.Int.{w16, to_le_bytes}
+use Rattle.std.specs.List.{flat_map}
+use Rattle.std.proofs.lemmas.List.Folds.{flat_map-map}
 use Rattle.std.proofs.lemmas.List.{at_drop_more}
 use Rattle.std.proofs.lemmas.Bool.{lt-ltb, le-ltb}
 use Rattle.aidl_base.specs.Words.{units, unit_bytes}
@@ -41,6 +44,10 @@ counts_next cs n c count len total h one two e =
     let p = one_unit c in
     let q = two_units c in
     grind (arith, all, e, p, q, one, two)
+
+-- the bytes of units, from the pairs of them
+pub flattened : (us : List ℕ) → flat_map (λ x. x) (map (to_le_bytes w16) us) ≡ unit_bytes us
+flattened us = flat_map-map (λ x. x) (to_le_bytes w16) us
 
 pub five_zeros : (n : ℕ) → n ≤ 5 → take {A = ℕ} n (0 ∷ 0 ∷ 0 ∷ 0 ∷ 0 ∷ []) ≡ replicate n 0
 five_zeros zero le = refl

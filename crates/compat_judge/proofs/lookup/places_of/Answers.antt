@@ -1,16 +1,17 @@
-use Rattle.std.proofs.Common.{◌≡◌, subst, ◌∙◌}
-use Rattle.std.specs.Prelude.{IfOk}
-use Rattle.std.specs.Borrow.{Bor}
+use Rattle.std.proofs.Common.{◌<◌, length, map, ap, ◌∙◌, arith}
+use Rattle.std.specs.Str.{encode_utf8_all}
 use Rattle.aidl_base.specs.declared.name.Ident.{Ident}
-use Rattle.std.specs.Str.{bytes_eq, encode_utf8_all}
-use Rattle.indexmap.specs.IndexMap.{get_by}
-use Rattle.compat_judge.specs.steps.Steps.{names_of, place_of}
-use Rattle.compat_judge.proofs.Walk.{map-through, place_by_bytes}
+use Rattle.name_tables.specs.Places.{place_in}
+use Rattle.compat_judge.specs.steps.Steps.{place_of}
+use Rattle.compat_judge.proofs.Walk.{mapped_more, placed_by_name}
 use Rattle.compat_judge.proofs.lookup.places_of.Goals as goal
 
-pub returns : goal.returns
-returns c =
-    let news = names_of c.args.news.now in
-    let same = map-through (λ (name : Bor Ident). get_by (λ k. bytes_eq (encode_utf8_all name.now.0) k.now) c.in_ok-table.table) (λ x. place_of news x) (λ name. name.now.0)
-    (λ name. c.in_ok-table.ensures (encode_utf8_all name.now.0) ∙ place_by_bytes 0 news name.now.0) c.args.olds.now in
-    subst (λ zs. IfOk c.places_in.result (λ places. places.items ≡ zs)) same c.places_in.ensures
+pub loop-member-preserved : goal.loop-member-preserved
+loop-member-preserved g c =
+    let called = g.M.Called.called in
+    let news = c.args.news.now in
+    let lt : c.loop-member.member-index < length c.args.olds.now = omega arith in
+    let x = c.member-item.result in
+    let placed = c.place.ensures ∙ ap (place_in called c.as_str.result.now) c.in_ok-table.ensures ∙ placed_by_name called news c.as_str.result.now ((called x).0) (c.as_str.ensures.bytes ∙ ap (λ (i : Ident). encode_utf8_all i.0) c.name.ensures) in
+    mapped_more (λ x. place_of (map (λ y. (called y).0) news) ((called x).0)) c.args.olds.now c.loop-member.member-index x c.place.result
+    c.loop-member.places.items c.push.new.self.items c.loop-member.invariant lt c.member-item.is placed c.in_ok-push.ensures.items

@@ -10,6 +10,6 @@ returns c =
     let n = c.cast_signed.result in
     let old = string_bytes c.args.text.now in
     subst (λ (z : List ℕ). OnOk c.push_texts.result (string_bytes c.push_texts.new.text ≡ z))
-    (first_text c.args.bytes.now old (string_bytes c.push_str.new.self) c.requires
+    (c.in_ok-place.ensures.left ∙ first_text c.args.bytes.now old (string_bytes c.push_str.new.self) c.requires
     (c.in_ok-push_str.ensures.bytes ∙ ap (λ (x : List ℕ). old ++ x) (c.format.ensures.text ∙ ap (λ (n : ℤ). signed_decimal n) (to_z-of_z w8 n (omega (arith, ints, c.cast_signed.type_inv)) ∙ c.cast_signed.ensures))))
     c.push_texts.ensures

@@ -11,6 +11,6 @@ loop-i-preserved c =
     let old = string_bytes c.loop-i.text in
     let lies : i < length bs = omega arith in
     let within : b < length c.args.texts.now = omega (arith, c.requires.all, c.type_inv.bytes i) in
-    let here = c.as_str.ensures.value ∙ text_at c.args.texts.now b c.index-texts-bytes.result c.requires.texts within c.index-texts-bytes.is in
+    let here = c.as_str.ensures.value ∙ text_at (λ k. 44 ∷ text_of_byte k) c.args.texts.now b c.index-texts-bytes.result c.requires.texts within c.index-texts-bytes.is in
     let put : string_bytes c.push_str.new.self ≡ (old ++ 44 ∷ []) ++ text_of_byte b = c.in_ok-push_str.ensures.bytes ∙ ap (λ (x : List ℕ). old ++ x) here ∙ sym (append_assoc old (44 ∷ []) (text_of_byte b)) in
     text_more text_of_byte bs i b 0 true _ old (old ++ 44 ∷ []) _ lies refl refl put c.loop-i.invariant

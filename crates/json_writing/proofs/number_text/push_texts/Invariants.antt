@@ -5,4 +5,4 @@ use Rattle.json_writing.proofs.number_text.push_texts.Given as goal
 -- what is left completes the text
 abbrev pub invariant-loop-i : goal.invariant-loop-i
 invariant-loop-i l =
-    string_bytes l.text ++ row_of_texts true (map text_of_byte (drop l.i l.bytes)) ≡ string_bytes l.fn.text ++ row_of_texts true (map text_of_byte (drop 1 l.bytes))
+    string_bytes l.text ++ row_of_texts true (map text_of_byte (drop l.i l.bytes)) ≡ string_bytes l.fn.text ++ row_of_texts true (map text_of_byte (drop l.fn.place l.bytes))

@@ -4,8 +4,9 @@ use Rattle.json_writing.proofs.Rows.{three}
 use Rattle.json_writing.proofs.quoted.push_plain.Goals as goal
 
 pub returns : goal.returns
+unfolding lib.Utf8.encode
 returns c =
     let old = string_bytes c.args.text.now in
     let quoted = c.args.quoted.now in
-    three old (34 ∷ []) quoted (34 ∷ []) _ _ _ c.in_ok-push_str.ensures.bytes c.in_ok-push_str-2.ensures.bytes c.in_ok-push_str-3.ensures.bytes
+    three old (34 ∷ []) quoted (34 ∷ []) _ _ _ c.in_ok-push.ensures.bytes c.in_ok-push_str.ensures.bytes c.in_ok-push-2.ensures.bytes
     ∙ ap (λ (e : List ℕ). old ++ e) (sym (quoted_plain quoted c.requires))
