@@ -29,7 +29,7 @@ use Rattle.wire_model.specs.ReadOf.{Read, ◌>>=◌, there_of, marker_at, marked
 use Rattle.wire_model.specs.Spell.{spell}
 use Rattle.wire_model.specs.Spell as sent
 use Rattle.wire_model.specs.Status.{bad_value}
-use Rattle.wire_model.specs.View.{agree, when, in_field, in_place, field_named, view_of}
+use Rattle.wire_model.specs.View.{◌>>=◌ as and_then, agree, when, field_named, view_of}
 use Rattle.compat_witness.specs.Candidates.{Candidate, AreSmall, Shows}
 use Rattle.compat_witness.specs.Candidates as candidate
 use Rattle.compat_witness.specs.Places.{at_last_dot}
@@ -109,18 +109,18 @@ module _ (A B : List Decl) (t u : AidlType) (fs gs : List Field) (form_a : form_
   -- An alternative that is seen at its own position has its name and type there.
   seen_there : (x y : Data) → view_of A t B u (alt k x) ≡ Some (alt k y) → (same_text f.name.0 g.name.0 ≡ true) × (same A f.ty B g.ty ≡ true)
   seen_there x y e =
-      let placed : List Field → Field → Option Data = λ zs f. in_place (field_named 0 f.name.0 zs) (λ j g. option_map (alt j) (view_of A f.ty B g.ty x)) in
-      let one = (when_is (agree A t B u) (in_field (slice_get (sent.union_fields (form_of A t.base)) k) (placed (sent.union_fields (form_of B u.base)))) (alt k y) e).1 in
-      let two : in_field (slice_get fs k) (placed gs) ≡ Some (alt k y) =
-      subst (λ z. in_field (slice_get (sent.union_fields z) k) (placed gs) ≡ Some (alt k y)) form_a
-      (subst (λ z. in_field (slice_get (sent.union_fields (form_of A t.base)) k) (placed (sent.union_fields z)) ≡ Some (alt k y)) form_b one) in
-      let three : placed gs f ≡ Some (alt k y) = subst (λ o. in_field o (placed gs) ≡ Some (alt k y)) at_f two in
+      let placed : List Field → Field → Option Data = λ zs f. and_then (field_named 0 f.name.0 zs) (λ q. option_map (alt q.0) (view_of A f.ty B q.1.ty x)) in
+      let one = (when_is (agree A t B u) (and_then (slice_get (sent.union_fields (form_of A t.base)) k) (placed (sent.union_fields (form_of B u.base)))) (alt k y) e).1 in
+      let two : and_then (slice_get fs k) (placed gs) ≡ Some (alt k y) =
+      subst (λ z. and_then (slice_get (sent.union_fields z) k) (placed gs) ≡ Some (alt k y)) form_a
+      (subst (λ z. and_then (slice_get (sent.union_fields (form_of A t.base)) k) (placed (sent.union_fields z)) ≡ Some (alt k y)) form_b one) in
+      let three : placed gs f ≡ Some (alt k y) = subst (λ o. and_then o (placed gs) ≡ Some (alt k y)) at_f two in
       by (field_named 0 f.name.0 gs) refl three
     where
       same_place : (j : ℕ) (h : Field) → slice_get gs j ≡ Some h → j ≡ k → h ≡ g
       same_place j h at e = let one : ◌≡◌ {A = Option Field} (Some h) (Some g) = sym at ∙ ap (slice_get gs) e ∙ at_g in cc
 
-      by : (o : Option (ℕ × Field)) → field_named 0 f.name.0 gs ≡ o → in_place o (λ j g. option_map (alt j) (view_of A f.ty B g.ty x)) ≡ Some (alt k y) → (same_text f.name.0 g.name.0 ≡ true) × (same A f.ty B g.ty ≡ true)
+      by : (o : Option (ℕ × Field)) → field_named 0 f.name.0 gs ≡ o → and_then o (λ q. option_map (alt q.0) (view_of A f.ty B q.1.ty x)) ≡ Some (alt k y) → (same_text f.name.0 g.name.0 ≡ true) × (same A f.ty B g.ty ≡ true)
       by None is e = cc
       by (Some q) is e = viewed (view_of A f.ty B q.1.ty x) refl e
         where

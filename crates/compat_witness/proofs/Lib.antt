@@ -22,3 +22,4 @@ mod Reached
 mod Single
 mod Slashes
 mod Spots
+pub mod lemmas

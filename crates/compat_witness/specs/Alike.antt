@@ -4,12 +4,12 @@ use Rattle.std.specs.Prelude.{ℕ, ◌≤◌, false, List, length}
 use Rattle.aidl_schema.specs.declared.schema.Decl.{Decl}
 use Rattle.aidl_schema.specs.Unbroken.{Has}
 use Rattle.aidl_values.specs.Data.{Data, none, item}
-use Rattle.compat_witness.specs.Candidates.{Candidate, request, Counts, Differs, ValuesFit, bytes_of}
+use Rattle.compat_witness.specs.Candidates.{Candidate, request, Counts, Differs, ValuesFit, bytes_of, old_client}
 use Rattle.compat_witness.specs.Reaching.{methods_reaching}
 
 -- the request of a method with one value
 abbrev pub asking : ℕ × ℕ → Data → Candidate
-asking r x = request false r.0 r.1 (item x none)
+asking r x = request old_client r.0 r.1 (item x none)
 
 -- a candidate has at most 1,048,576 bytes, if its values fit
 abbrev pub IsShort : List Decl → List Decl → Candidate → Type 0

@@ -17,8 +17,15 @@ pub data Values : Type 0 where
   arguments : (args : Items) → Values
   answered : (answer : Option AnswerData) → Values
 
--- A request or a reply to a client, with what is sent. The client is old unless `back`; `interface` and `method`
--- are numbers of the client's schema.
+-- the client is old's, and the server new's; or the other way round
+abbrev pub old_client : Bool
+old_client = false
+
+abbrev pub new_client : Bool
+new_client = true
+
+-- A request or a reply to a client, with what is sent. `back` says which client; `interface` and `method` are numbers
+-- of the client's schema.
 pub record Candidate : Type 0 where
   pub back : Bool
   pub interface : ℕ

@@ -18,7 +18,7 @@ use Rattle.aidl_values.specs.Data.{Data, number, seq, rec, alt, Items, none, ite
 use Rattle.wire_model.specs.Calls.{returned, descriptor, is_out}
 use Rattle.wire_model.specs.Outcome.{declared_as}
 use Rattle.wire_model.specs.Receiver.{zero_in}
-use Rattle.compat_witness.specs.Candidates.{Candidate, request, reply}
+use Rattle.compat_witness.specs.Candidates.{Candidate, request, reply, old_client, new_client}
 use Rattle.compat_witness.specs.Places.{at_last_dot, at_slash, Spot, spot_of, spot_like}
 use Rattle.compat_witness.specs.Reaching.{only, methods_reaching, asks, is_plain, are_plain, is_parcelable}
 use Rattle.compat_witness.specs.Reaching.{plain_value, with_value}
@@ -106,9 +106,9 @@ is_record_kind n = (n == 1) || (n == 2)
 abbrev pub ask_C2 : List Decl → ℕ → List Decl → ℕ → Option (List Candidate)
 ask_C2 old k new l = if not (is_empty (methods_reaching old k new))
     then (if (kind_at old k == 3) && is_record_kind (kind_at new l)
-    then Some (asks false (methods_reaching old k new) (number (pos 0) ∷ []))
+    then Some (asks old_client (methods_reaching old k new) (number (pos 0) ∷ []))
     else (if (kind_at new l == 3) && is_record_kind (kind_at old k)
-    then Some (asks true (methods_reaching new l old) (number (pos 0) ∷ []))
+    then Some (asks new_client (methods_reaching new l old) (number (pos 0) ∷ []))
     else None))
     else None
 
@@ -119,7 +119,7 @@ row_C2 old new p = decl_at old p (λ k. decl_at new p (λ l. ask_C2 old k new l)
 -- `ws` are the methods of that interface.
 abbrev pub ask_C3 : Spot → List Method → Option (List Candidate)
 ask_C3 s ws = candidates_if (is_empty s.method.args && not (is_none (position_of_code ws (s.method.id + 1))))
-    (request false s.interface s.position none ∷ [])
+    (request old_client s.interface s.position none ∷ [])
 
 abbrev pub row_C3 : Row
 row_C3 old new p = option_and_then
@@ -127,7 +127,7 @@ row_C3 old new p = option_and_then
 
 -- C4: no arguments in both: a request from old.
 abbrev pub ask_C4 : Spot → Spot → Option (List Candidate)
-ask_C4 s w = candidates_if (are_empty s w) (request false s.interface s.position none ∷ [])
+ask_C4 s w = candidates_if (are_empty s w) (request old_client s.interface s.position none ∷ [])
 
 abbrev pub row_C4 : Row
 row_C4 old new p = in_both old new p ask_C4
@@ -147,8 +147,8 @@ low_result (Some t) = Some (plain_value false t.base)
 -- with z0 or nothing, either way
 abbrev pub low_replies : Spot → Spot → List Candidate
 low_replies s w =
-    reply false s.interface s.position (Some (returned (low_result w.method.result) none))
-    ∷ reply true w.interface w.position (Some (returned (low_result s.method.result) none))
+    reply old_client s.interface s.position (Some (returned (low_result w.method.result) none))
+    ∷ reply new_client w.interface w.position (Some (returned (low_result s.method.result) none))
     ∷ []
 
 abbrev pub is_met_C5 : Spot → Spot → Bool
@@ -178,7 +178,7 @@ is_met_C6 xs ys = (is_empty xs && list_all is_plain_in ys) || (is_empty ys && li
 
 abbrev pub ask_C6 : Spot → Spot → Option (List Candidate)
 ask_C6 s w = candidates_if (is_met_C6 s.method.args w.method.args)
-    (request false s.interface s.position (low_arguments s.method.args) ∷ [])
+    (request old_client s.interface s.position (low_arguments s.method.args) ∷ [])
 
 abbrev pub row_C6 : Row
 row_C6 old new p = in_both old new p ask_C6
@@ -186,7 +186,7 @@ row_C6 old new p = in_both old new p ask_C6
 -- C6 at n.method/k: exactly one argument in both, `in` and plain; the ids are the same: a request from old with z0.
 abbrev pub ask_C6_at : Spot → Spot → Arg → Arg → Option (List Candidate)
 ask_C6_at s w a b = candidates_if (is_plain_in a && is_plain_in b)
-    (request false s.interface s.position (item (plain_value false a.ty.base) none) ∷ [])
+    (request old_client s.interface s.position (item (plain_value false a.ty.base) none) ∷ [])
 
 -- the place is `n.method`
 abbrev pub row_C6_at : Row
@@ -210,11 +210,11 @@ sent_in_out S t = if is_one t.shape then zero_in S t else seq (item (plain_value
 abbrev pub ask_C7 : List Decl → List Decl → Spot → Spot → Arg → Arg → List Candidate
 ask_C7 old new s w a b =
     if is_in_way a.way
-    then reply false s.interface s.position (Some (returned None (item (zero_in new b.ty) none))) ∷ []
+    then reply old_client s.interface s.position (Some (returned None (item (zero_in new b.ty) none))) ∷ []
     else (if is_in_way b.way
-    then reply true w.interface w.position (Some (returned None (item (zero_in old a.ty) none))) ∷ []
-    else (if is_out a.way then request true w.interface w.position (item (sent_in_out new b.ty) none) ∷ []
-    else request false s.interface s.position (item (sent_in_out old a.ty) none) ∷ []))
+    then reply new_client w.interface w.position (Some (returned None (item (zero_in old a.ty) none))) ∷ []
+    else (if is_out a.way then request new_client w.interface w.position (item (sent_in_out new b.ty) none) ∷ []
+    else request old_client s.interface s.position (item (sent_in_out old a.ty) none) ∷ []))
 
 abbrev pub is_met_C7 : List Decl → List Decl → Spot → Spot → Arg → Arg → Bool
 is_met_C7 old new s w a b = (same old a.ty new b.ty && is_sent_back old a.ty new b.ty)
@@ -233,8 +233,8 @@ row_C7_at old new p = option_and_then (λ q. row_C7 old new q.0) (at_slash p)
 
 -- C8: no arguments in both: a reply to the two-way client.
 abbrev pub ask_C8 : Spot → Spot → Option (List Candidate)
-ask_C8 s w = candidates_if (are_empty s w) ((if s.method.oneway then reply true w.interface w.position None
-    else reply false s.interface s.position None) ∷ [])
+ask_C8 s w = candidates_if (are_empty s w) ((if s.method.oneway then reply new_client w.interface w.position None
+    else reply old_client s.interface s.position None) ∷ [])
 
 abbrev pub row_C8 : Row
 row_C8 old new p = in_both old new p ask_C8
@@ -258,7 +258,7 @@ ask_named F old k new l name fs gs = option_and_then (F old k new l fs gs) (posi
 abbrev pub ask_C10 : FieldAsk
 ask_C10 old k new l fs gs x = candidates_if
     (not (is_empty (methods_reaching old k new)) && ((are_plain fs && are_plain gs) && types_agree old fs new gs))
-    (asks false (methods_reaching old k new) (low_then_high old x fs))
+    (asks old_client (methods_reaching old k new) (low_then_high old x fs))
 
 abbrev pub row_C10 : Row
 row_C10 old new p = option_and_then (λ q. decl_at old q.0 (λ k. decl_at new q.0 (λ l.
@@ -282,8 +282,8 @@ is_last x fs = x + 1 == length fs
 -- with z0 in the field at a position, either way
 abbrev pub low_either_way : List Decl → ℕ → List Decl → ℕ → ℕ → List Field → List Field → List Candidate
 low_either_way old k new l x fs gs =
-    asks false (methods_reaching old k new) (rec (with_value old false x fs) ∷ [])
-    ++ asks true (methods_reaching new l old) (rec (with_value new false x gs) ∷ [])
+    asks old_client (methods_reaching old k new) (rec (with_value old false x fs) ∷ [])
+    ++ asks new_client (methods_reaching new l old) (rec (with_value new false x gs) ∷ [])
 
 abbrev pub ask_C11 : FieldAsk
 ask_C11 old k new l fs gs x = candidates_if
@@ -312,7 +312,7 @@ abbrev pub ask_C15 : FieldAsk
 ask_C15 old k new l fs gs x = candidates_if
     (not (is_empty (methods_reaching old k new))
     && ((are_plain fs && are_plain gs) && differ_at old new (slice_get fs x) (slice_get gs x)))
-    (asks false (methods_reaching old k new) (low_alternative x fs ∷ []))
+    (asks old_client (methods_reaching old k new) (low_alternative x fs ∷ []))
 
 abbrev pub row_C15 : Row
 row_C15 old new p = option_and_then (λ q. decl_at old q.0 (λ k. decl_at new q.0 (λ l.
@@ -326,7 +326,8 @@ zero_and_200 = number (pos 0) ∷ number (pos 200) ∷ []
 
 abbrev pub ask_C16 : List Decl → ℕ → List Decl → ℕ → Option (List Candidate)
 ask_C16 old k new l = candidates_if (not (is_empty (methods_reaching old k new)))
-    (asks false (methods_reaching old k new) zero_and_200 ++ asks true (methods_reaching new l old) zero_and_200)
+    (asks old_client (methods_reaching old k new) zero_and_200
+    ++ asks new_client (methods_reaching new l old) zero_and_200)
 
 abbrev pub row_C16 : Row
 row_C16 old new p = decl_at old p (λ k. decl_at new p (λ l. ask_C16 old k new l))

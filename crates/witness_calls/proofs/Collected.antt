@@ -43,23 +43,12 @@ complete seen items whole is e = ap (λ ys. let o : Option Items = Some (views y
 
 -- Outs
 
-out_in : (a : Arg) (o : Option Data) (others : Option Items) → is_in_way a.way ≡ true → out_first a o others ≡ others
-out_in a o others e = rw e refl
-
 out_back : (a : Arg) (o : Option Data) (others : Option Items) → is_in_way a.way ≡ false → out_first a o others ≡ item_first o others
 out_back a o others e = rw e refl
-
--- nothing comes back
-pub puts_nothing : (seen : List Value) (a : Arg) (o : Option Data) → is_in_way a.way ≡ true → Puts seen seen true (out_first a o)
-puts_nothing seen a o e others = ap (with_seen seen) (out_in a o others e)
 
 -- one comes back
 pub puts_one : (old new : List Value) (x : Value) (a : Arg) (o : Option Data) → is_in_way a.way ≡ false → o ≡ Some (view x) → new ≡ old ++ x ∷ [] → Puts old new true (out_first a o)
 puts_one old new x a o e is push others = ap (with_seen old) (out_back a o others e ∙ ap (λ d. item_first d others) is) ∙ put_more old new x others push
-
--- none of what comes back
-pub puts_stop : (seen : List Value) (a : Arg) (o : Option Data) → is_in_way a.way ≡ false → o ≡ None → Puts seen seen false (out_first a o)
-puts_stop seen a o e is others = ap (with_seen seen) (out_back a o others e ∙ ap (λ d. item_first d others) is)
 
 -- what a loop leaves
 

@@ -1,5 +1,5 @@
 -- What a call shows, by its two sides.
-use Rattle.std.proofs.Common.{◌≡◌, ℕ, ◌<◌, zero, suc, Bool, true, false, not, List, [], ◌∷◌, length, Option, Some, None, slice_get, refl, sym, ap, ◌∙◌, subst, arith}
+use Rattle.std.proofs.Common.{◌≡◌, ℕ, ◌+◌, ◌<◌, zero, suc, Bool, true, false, not, List, [], ◌∷◌, length, Option, Some, None, slice_get, refl, sym, ap, ◌∙◌, subst, arith}
 use Rattle.std.specs.Prelude.{ℤ, ◌↔◌, IsTrue, Result, Err}
 use Rattle.aidl_base.specs.declared.profile.Profile.TheVariants.{Strict}
 use Rattle.aidl_schema.specs.declared.schema.Decl.{Decl}
@@ -23,7 +23,7 @@ use Rattle.witness_calls.specs.Comparing.{NamesMethod}
 use Rattle.witness_calls.specs.Seen.{reading_seen}
 use Rattle.witness_calls.specs.Showing.{IsTried, ShowsIt, Tries}
 use Rattle.witness_calls.specs.Counted.{AreCounted, AreWeighed, NoneCount, IsCounted, IsWeighed, IsWeighedBetween, IsWeighedBy}
-use Rattle.witness_calls.specs.steps.Projected.{callee_at}
+use Rattle.witness_calls.specs.steps.Projected.{called_at, callee_at}
 use Rattle.witness_calls.specs.steps.Shown.{IsShownBy, ShowsBy}
 use Rattle.witness_calls.proofs.NoCode.{no_code}
 use Rattle.witness_calls.proofs.Tests.{back_way, fails}
@@ -39,36 +39,6 @@ weighed Fits bytes o spelled sent R p r q counted is same e f =
 
 pub uncounted : (Fits : Type 0) (bytes : List ℕ) (o : Option (List ℕ)) → IsCounted Fits bytes o → o ≡ None → NoneCount Fits bytes
 uncounted Fits bytes o counted is = subst (λ z. IsCounted Fits bytes z) is counted
-
-found : (B : List Decl) (o : Option (ℕ × ℕ)) (s : MethodOf) → callee_at B o ≡ Some s → (o ≡ Some (s.interface, s.method)) × (s.decls ≡ B)
-found B None s e = cc
-found B (Some q) s e =
-    let same : (let of : MethodOf = record { decls = B; interface = q.0; method = q.1 } in of) ≡ s = cc in
-    (ap (λ z. let o : Option (ℕ × ℕ) = Some (z.interface, z.method) in o) same, sym (ap (λ z. z.decls) same))
-
--- a reply by the server's method
-pub reply_weighed : (A : List Decl) (i m : ℕ) (B : List Decl) (answer : Option AnswerData) (to : Option MethodOf) (s : MethodOf) (o : Option Showing)
-    → to ≡ callee_at B (counterpart A i m B) → to ≡ Some s
-    → IsWeighedBy (IsAnswerOf s.decls s.interface s.method answer) (answer_bytes s.decls s.interface s.method answer)
-    (read_reply A i m s.decls s.interface s.method (answer_bytes s.decls s.interface s.method answer)) (projected_reply s.decls s.interface s.method A i m answer) o
-    → IsWeighedBetween A B i m (answered answer) o
-reply_weighed A i m B answer to s o is at h =
-    let f = found B (counterpart A i m B) s (sym is ∙ at) in
-    let here = subst (λ D. IsWeighedBy (IsAnswerOf D s.interface s.method answer) (answer_bytes D s.interface s.method answer)
-    (read_reply A i m D s.interface s.method (answer_bytes D s.interface s.method answer)) (projected_reply D s.interface s.method A i m answer) o) f.1 h in
-    subst (λ q. IsWeighedBy (IsAnswerAt B q answer) (at_method [] (λ j n. answer_bytes B j n answer) q)
-    (at_method no_reply (λ j n. read_reply A i m B j n (answer_bytes B j n answer)) q) (at_method no_reply (λ j n. projected_reply B j n A i m answer) q) o) (sym f.0) here
-
-unnamed : (B : List Decl) (o : Option (ℕ × ℕ)) → callee_at B o ≡ None → o ≡ None
-unnamed B None e = refl
-unnamed B (Some q) e = cc
-
--- a reply that the server lacks the method for
-pub reply_nowhere : (A : List Decl) (i m : ℕ) (B : List Decl) (answer : Option AnswerData) (to : Option MethodOf)
-    → to ≡ callee_at B (counterpart A i m B) → to ≡ None → IsWeighedBetween A B i m (answered answer) None
-reply_nowhere A i m B answer to is at =
-    let none = unnamed B (counterpart A i m B) (sym is ∙ at) in
-    record { nothing = λ fits small. subst (λ q. IsAnswerAt B q answer) none fits }
 
 -- what counts shows what its sides show
 shown_tried : (old new : List Decl) (call : Candidate) (s : Showing) (t : Tried)
@@ -89,22 +59,18 @@ pub weighed_tried : (old new : List Decl) (call : Candidate) (o : Option Showing
 weighed_tried old new call o s t w is h = shown_tried old new call s t (subst (λ z. IsWeighed old new call z) is w) h
 
 -- two sides that are the same, and two that aren't
-pub same_shown : (s : Showing) (t : Tried) (b : Bool) → (IsTrue b ↔ (reading_seen s.read ≡ reading_seen s.projected)) → b ≡ true → t ≡ record { showing = None; short = true } → IsShownBy s t
-same_shown s t b d e is = subst (λ z. IsShownBy s z) (sym is) (record { shows = d.0 e; short = refl })
+pub same_shown : (s : Showing) (b : Bool) → (IsTrue b ↔ (reading_seen s.read ≡ reading_seen s.projected)) → b ≡ true → IsShownBy s (record { showing = None; short = true })
+same_shown s b d e = record { shows = d.0 e; short = refl }
 
 pub other_shown : (s : Showing) (b : Bool) → (IsTrue b ↔ (reading_seen s.read ≡ reading_seen s.projected)) → b ≡ false → IsShownBy s (record { showing = Some s; short = true })
 other_shown s b d e = record { shows = (refl, fails b d e); short = refl }
 
--- what shows nothing
-unknown : (old new : List Decl) (call : Candidate) (t : Tried) (short : Bool) → Tries old new call None → (short ≡ true → IsShort old new call) → t ≡ record { showing = None; short = short } → IsTried old new call t
-unknown old new call t short none few is = subst (λ z. IsTried old new call z) (sym is) (record { tries = none; short = few })
-
 -- what doesn't count shows nothing
-pub none_tried : (old new : List Decl) (call : Candidate) (o : Option Showing) (t : Tried) (fits : Bool) → IsWeighed old new call o → o ≡ None → (fits ≡ false → ValuesFit old new call → ⊥)
-    → t ≡ record { showing = None; short = not fits } → IsTried old new call t
-none_tried old new call o t fits w is misfit nothing =
+pub none_tried : (old new : List Decl) (call : Candidate) (o : Option Showing) (fits : Bool) → IsWeighed old new call o → o ≡ None → (fits ≡ false → ValuesFit old new call → ⊥)
+    → IsTried old new call (record { showing = None; short = not fits })
+none_tried old new call o fits w is misfit =
     let n : IsWeighed old new call None = subst (λ z. IsWeighed old new call z) is w in
-    unknown old new call t (not fits) (λ s. n.nothing s.counts.fits s.counts.small) (λ e h. absurd (misfit (back_way fits e) h)) nothing
+    record { tries = λ s. n.nothing s.counts.fits s.counts.small; short = λ e h. absurd (misfit (back_way fits e) h) }
 
 -- Without a method
 
@@ -122,17 +88,25 @@ refused : (B : List Decl) (j code : ℕ) (b : List ℕ) → position_of_code (me
 unfolding stub
 refused B j code b e = rw e refl
 
-pub nobody_called : (B : List Decl) (j code : ℕ) (b : List ℕ) → None ≡ position_of_code (methods_at B j) code → transport unknown_transaction ≡ side_of (stub Strict B j code b)
-nobody_called B j code b e = sym (ap side_of (refused B j code b (sym e)))
+-- by the interface and the code that were found
+read_in : (A : List Decl) (i m : ℕ) (B : List Decl) (j : ℕ) (v : Method) (b : List ℕ) → Some j ≡ declared_as B (descriptor A i) → method_at A i m ≡ Some v
+    → side_of (stub Strict B j (v.id + 1) b) ≡ read_request A i m B b
+read_in A i m B j v b at is =
+    ap (λ o. side_of (stub Strict B j (code_of o) b)) (sym is) ∙ ap (λ o. side_of (received_by B o (code_of (method_at A i m)) b)) at
+
+pub nobody_called : (A : List Decl) (i m : ℕ) (B : List Decl) (j : ℕ) (v : Method) (b : List ℕ) → Some j ≡ declared_as B (descriptor A i) → method_at A i m ≡ Some v
+    → None ≡ position_of_code (methods_at B j) (v.id + 1) → transport unknown_transaction ≡ read_request A i m B b
+nobody_called A i m B j v b at is e =
+    sym (ap side_of (refused B j (v.id + 1) b (sym e))) ∙ read_in A i m B j v b at is
 
 -- what the method of the code makes of it
-pub somebody_called : (B : List Decl) (j code : ℕ) (b : List ℕ) (n : ℕ) (s : MethodOf) (received : Result Received ℤ) (seen : Side)
-    → Some n ≡ position_of_code (methods_at B j) code → s ≡ record { decls = B; interface = j; method = n }
+pub somebody_called : (A : List Decl) (i m : ℕ) (B : List Decl) (j : ℕ) (v : Method) (b : List ℕ) (n : ℕ) (s : MethodOf) (received : Result Received ℤ) (seen : Side)
+    → Some j ≡ declared_as B (descriptor A i) → method_at A i m ≡ Some v → Some n ≡ position_of_code (methods_at B j) (v.id + 1) → s ≡ record { decls = B; interface = j; method = n }
     → ((q : ℕ) → position_of_code (methods_at s.decls s.interface) q ≡ Some s.method → received ≡ stub Strict s.decls s.interface q b) → seen ≡ side_of received
-    → seen ≡ side_of (stub Strict B j code b)
-somebody_called B j code b n s received seen at is of e =
+    → seen ≡ read_request A i m B b
+somebody_called A i m B j v b n s received seen at is found same of e =
     let By : MethodOf → Type 0 = λ z. (q : ℕ) → position_of_code (methods_at z.decls z.interface) q ≡ Some z.method → received ≡ stub Strict z.decls z.interface q b in
-    e ∙ ap side_of (subst By is of code (sym at))
+    e ∙ ap side_of (subst By same of (v.id + 1) (sym found)) ∙ read_in A i m B j v b at is
 
 lacks : (A : List Decl) (i m : ℕ) (B : List Decl) (j : ℕ) (args : Items) → declared_as B (descriptor A i) ≡ Some j → method_like (method_at A i m) (methods_at B j) ≡ None
     → projected_request A i m B args ≡ transport unknown_transaction
@@ -142,6 +116,46 @@ lacks A i m B j args at e = rw (at, e) refl
 lacks_all : (A : List Decl) (i m : ℕ) (B : List Decl) (args : Items) → declared_as B (descriptor A i) ≡ None → projected_request A i m B args ≡ transport unknown_transaction
 unfolding projected_call
 lacks_all A i m B args at = rw at refl
+
+has : (A : List Decl) (i m : ℕ) (B : List Decl) (j n : ℕ) (args : Items) → declared_as B (descriptor A i) ≡ Some j → method_like (method_at A i m) (methods_at B j) ≡ Some n
+    → projected_request A i m B args ≡ side_of (called_at A i m B j n args)
+unfolding projected_call
+has A i m B j n args at e = rw (at, e) refl
+
+-- what a request is projected to by the counterpart of its method, and without one
+projected_by : (A : List Decl) (i m : ℕ) (B : List Decl) (args : Items)
+    → at_method (transport unknown_transaction) (λ j n. side_of (called_at A i m B j n args)) (counterpart A i m B) ≡ projected_request A i m B args
+projected_by A i m B args = by_declared (declared_as B (descriptor A i)) refl
+  where
+    Q : Option (ℕ × ℕ) → Side
+    Q q = at_method (transport unknown_transaction) (λ j n. side_of (called_at A i m B j n args)) q
+
+    by_method : (j : ℕ) → declared_as B (descriptor A i) ≡ Some j → (o : Option ℕ) → method_like (method_at A i m) (methods_at B j) ≡ o → Q (counterpart A i m B) ≡ projected_request A i m B args
+    by_method j at None e = let none : counterpart A i m B ≡ None = rw (at, e) refl in ap Q none ∙ sym (lacks A i m B j args at e)
+    by_method j at (Some n) e = let one : counterpart A i m B ≡ Some (j, n) = rw (at, e) refl in ap Q one ∙ sym (has A i m B j n args at e)
+
+    by_declared : (o : Option ℕ) → declared_as B (descriptor A i) ≡ o → Q (counterpart A i m B) ≡ projected_request A i m B args
+    by_declared None at = let none : counterpart A i m B ≡ None = rw at refl in ap Q none ∙ sym (lacks_all A i m B args at)
+    by_declared (Some j) at = by_method j at (method_like (method_at A i m) (methods_at B j)) refl
+
+pub nowhere_called : (A : List Decl) (i m : ℕ) (B : List Decl) (args : Items) → None ≡ callee_at B (counterpart A i m B) → transport unknown_transaction ≡ projected_request A i m B args
+nowhere_called A i m B args e = by (counterpart A i m B) e (projected_by A i m B args)
+  where
+    by : (q : Option (ℕ × ℕ)) → None ≡ callee_at B q → at_method (transport unknown_transaction) (λ j n. side_of (called_at A i m B j n args)) q ≡ projected_request A i m B args
+        → transport unknown_transaction ≡ projected_request A i m B args
+    by None e h = h
+    by (Some q) e h = cc
+
+pub called_there : (A : List Decl) (i m : ℕ) (B : List Decl) (args : Items) (s : MethodOf) (seen : Side) → Some s ≡ callee_at B (counterpart A i m B)
+    → seen ≡ side_of (called_at A i m s.decls s.interface s.method args) → seen ≡ projected_request A i m B args
+called_there A i m B args s seen e f = by (counterpart A i m B) e (projected_by A i m B args)
+  where
+    by : (q : Option (ℕ × ℕ)) → Some s ≡ callee_at B q → at_method (transport unknown_transaction) (λ j n. side_of (called_at A i m B j n args)) q ≡ projected_request A i m B args
+        → seen ≡ projected_request A i m B args
+    by None e h = cc
+    by (Some q) e h =
+        let same : s ≡ (let of : MethodOf = record { decls = B; interface = q.0; method = q.1 } in of) = cc in
+        f ∙ ap (λ z. side_of (called_at A i m z.decls z.interface z.method args)) same ∙ h
 
 no_method : (A : List Decl) (i m : ℕ) (B : List Decl) (args : Items) (b : List ℕ) → (m < length (methods_at A i) → ⊥) → read_request A i m B b ≡ projected_request A i m B args
 no_method A i m B args b h = by_declared (declared_as B (descriptor A i)) refl
@@ -170,5 +184,5 @@ nameless old new back i m (arguments args) h = λ s. s.differs (no_method (clien
 nameless old new back i m (answered answer) h = λ s.
     subst (λ o. IsAnswerAt (server_of back old new) o answer) (no_counterpart (client_of back old new) i m (server_of back old new) h) s.counts.fits
 
-pub nothing_named : (old new : List Decl) (call : Candidate) (t : Tried) → (NamesMethod old new call → ⊥) → t ≡ record { showing = None; short = false } → IsTried old new call t
-nothing_named old new call t h is = unknown old new call t false (nameless old new call.back call.interface call.method call.values h) (λ e. cc) is
+pub nothing_named : (old new : List Decl) (call : Candidate) → (NamesMethod old new call → ⊥) → IsTried old new call (record { showing = None; short = false })
+nothing_named old new call h = record { tries = nameless old new call.back call.interface call.method call.values h; short = λ e. cc }

@@ -20,17 +20,14 @@ first_fails b d e = never (λ q. fails b d e q.0)
 pub second : {P Q : Type 0} (a b : Bool) → (IsTrue a ↔ P) → a ≡ true → (IsTrue b ↔ Q) → IsTrue b ↔ (P × Q)
 second a b d e f = (λ h. (d.0 e, f.0 h), λ q. f.1 q.1)
 
--- the other way round
-pub turned : {P : Type 0} (b : Bool) → (IsTrue b ↔ P) → IsTrue (not b) ↔ (P → ⊥)
-turned true d = (λ h p. cc, λ f. absurd (f (d.0 refl)))
-turned false d = (λ h p. fails false d refl p, λ f. refl)
-
 -- what must be false
 pub back_way : (b : Bool) → not b ≡ true → b ≡ false
 back_way true e = cc
 back_way false e = refl
 
--- what isn't so is false
-pub is_not : (a b : Bool) → b ≡ a → IsTrue (not a) ↔ (b ≡ false)
-is_not true b e = (λ h. cc, λ f. let both : true ≡ false = sym e ∙ f in cc)
-is_not false b e = (λ h. e, λ f. refl)
+-- of a test that is to be false and another one
+pub one_way : {Q : Type 0} (b : Bool) → b ≡ true → IsTrue false ↔ ((b ≡ false) × Q)
+one_way b e = never (λ q. let both : true ≡ false = sym e ∙ q.0 in cc)
+
+pub two_way : {Q : Type 0} (b r : Bool) → b ≡ false → (IsTrue r ↔ Q) → IsTrue r ↔ ((b ≡ false) × Q)
+two_way b r e f = (λ h. (e, f.0 h), λ q. f.1 q.1)

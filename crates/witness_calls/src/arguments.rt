@@ -35,8 +35,8 @@ pub fn project_arguments(
 {
     let mut seen = Vec::with_capacity(alloc, wanted.len())?;
     for k in 0..wanted.len() {
-        let argument = argument_at(sent, k);
-        let value = value_at(values, k);
+        let argument = item_at(sent, k);
+        let value = item_at(values, k);
         match project_argument(alloc, ends, argument, &wanted[k], value)? {
             Some(view) => seen.push(view)?,
             None => return Ok(None),
@@ -45,18 +45,11 @@ pub fn project_arguments(
     Ok(Some(Row::from_vec(seen)))
 }
 
-/// The argument at a position.
-pub fn argument_at(args: &[Arg], k: usize) -> Option<&Arg>
-    ensures { option_copied result ≡ slice_get args.now k }
+/// The item at a position.
+pub fn item_at<T>(items: &[T], k: usize) -> Option<&T>
+    ensures { option_copied result ≡ slice_get items.now k }
 {
-    args.get(k)
-}
-
-// The value at a position.
-fn value_at(values: &[Value], k: usize) -> Option<&Value>
-    ensures { option_copied result ≡ slice_get values.now k }
-{
-    values.get(k)
+    items.get(k)
 }
 
 // What it sees of one, where the client may have no argument at its position.

@@ -139,25 +139,16 @@ fn asked_length(arg: &Arg, value: &Value) -> usize
 }
 
 /// Whether an answer is one of a two-way method.
-#[tactic(auto, using(crate::proofs::Tests::first_fails, crate::proofs::Tests::second))]
+#[tactic(auto, using(crate::proofs::Tests::one_way, crate::proofs::Tests::two_way))]
 pub fn is_two_way_answer(server: &VersionMethod<'_, '_>, answer: &Answer) -> bool
     ensures { IsTrue result
         ↔ ((is_oneway server.now.decls server.now.interface server.now.method ≡ false)
         × IsAnswer server.now.decls server.now.interface server.now.method (answer_of answer.now)) }
 {
-    if !is_two_way(server) {
+    if server.declared().oneway {
         return false;
     }
     is_answer(server, answer)
-}
-
-// Whether a method is two-way.
-#[tactic(auto, using(crate::proofs::Tests::is_not))]
-fn is_two_way(server: &VersionMethod<'_, '_>) -> bool
-    ensures { IsTrue result
-        ↔ (is_oneway server.now.decls server.now.interface server.now.method ≡ false) }
-{
-    !server.declared().oneway
 }
 
 // Whether an answer has the result and the outs of a method, or is an exception.

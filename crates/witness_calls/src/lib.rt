@@ -6,7 +6,6 @@ mod call;
 mod ends;
 mod fitting;
 mod named_decl;
-mod names;
 mod outs;
 mod reading;
 mod replies;
@@ -19,7 +18,6 @@ mod weighing;
 
 pub use arguments::is_out;
 pub use call::{Call, Values};
-pub use names::{declared, declared_like};
 pub use reading::Reading;
 pub use showing::{Showing, Tried, try_call};
-pub use version::Version;
+pub use version::{Version, declared};

@@ -1,35 +1,35 @@
 //! A declaration with tables that find its methods.
-ghost use Rattle.std.specs.Prelude.{◌≡◌, ◌+◌, ℕ, List, IfOk, is_none, nat_eq, not};
-ghost use Rattle.std.specs.Str.{bytes_eq};
-ghost use Rattle.indexmap.specs.IndexMap.{get, get_by};
+ghost use Rattle.std.specs.Prelude.{◌≡◌, ◌+◌, ℕ, IfOk, nat_eq};
+ghost use Rattle.indexmap.specs.IndexMap.{get};
 ghost use Rattle.aidl_schema.specs.Find.{position_of_code};
-ghost use Rattle.aidl_schema.specs.Names.{methods_of};
+ghost use Rattle.aidl_schema.specs.Names.{methods_of, name_of};
 ghost use Rattle.witness_calls.specs.Named.{method_named};
-ghost use Rattle.witness_calls.specs.steps.Tables.{id_from, method_from};
+ghost use Rattle.witness_calls.specs.steps.Tables.{id_from};
 
-use aidl_base::OutOfMemory;
+use aidl_base::{OutOfMemory, Text, joined_by_dots};
 use aidl_schema::{Decl, Method, methods_of};
 use indexmap::IndexMap;
+use name_tables::NameTable;
 use std::alloc::Global;
 use std::marker::Model;
 
-/// A declaration with the positions of its methods by their names and by their ids. Contracts see it as the
-/// declaration.
+/// A declaration with its canonical name as one text, and the positions of its methods by their names and by their ids.
+/// Contracts see it as the declaration.
 #[derive(Drop)]
 pub struct NamedDecl<'a> {
     decl: &'a Decl,
-    methods: IndexMap<&'a str, usize>,
+    name: Text,
+    methods: NameTable<'a, Method>,
     ids: IndexMap<u32, usize>,
 }
 
 impl<'a> Model for NamedDecl<'a> {
-    ghost use Rattle.std.specs.Prelude.{◌≡◌, ℕ, List, nat_eq};
-    ghost use Rattle.std.specs.Str.{bytes_eq};
-    ghost use Rattle.indexmap.specs.IndexMap.{get, get_by};
+    ghost use Rattle.std.specs.Prelude.{◌≡◌, ℕ, nat_eq};
+    ghost use Rattle.indexmap.specs.IndexMap.{get};
     ghost use Rattle.aidl_schema.specs.contracts.schema.Decl as declared;
     ghost use Rattle.aidl_schema.specs.declared.schema.Decl.{Decl};
-    ghost use Rattle.aidl_schema.specs.Names.{methods_of};
-    ghost use Rattle.witness_calls.specs.steps.Tables.{id_from, method_from};
+    ghost use Rattle.aidl_schema.specs.Names.{methods_of, name_of};
+    ghost use Rattle.witness_calls.specs.steps.Tables.{id_from};
 
     ghost Value = { Decl };
 
@@ -38,9 +38,9 @@ impl<'a> Model for NamedDecl<'a> {
     ghost view = { λ named. named.decl.now };
 
     ghost invariant = { λ named. record {
-      methods : (q : List ℕ) → get_by (λ k. bytes_eq q k.now) named.methods
-          ≡ method_from q 0 (methods_of named.decl.now.kind);
-      ids : (n : ℕ) → get nat_eq named.ids n ≡ id_from n 0 (methods_of named.decl.now.kind);
+      called : named.name ≡ name_of named.decl.now;
+      members : named.methods ≡ methods_of named.decl.now.kind;
+      numbered : (n : ℕ) → get nat_eq named.ids n ≡ id_from n 0 (methods_of named.decl.now.kind);
     } };
 }
 
@@ -50,17 +50,29 @@ impl<'a> NamedDecl<'a> {
         ensures { IfOk result (λ named. named ≡ decl.now) }
     {
         let members = methods_of(&decl.kind);
-        let methods = methods_by_name(alloc, members)?;
+        let name = joined_by_dots(alloc, decl.name.0.as_slice())?;
+        let methods = NameTable::new(alloc, members)?;
         let ids = methods_by_id(alloc, members)?;
-        Ok(NamedDecl { decl, methods, ids })
+        Ok(NamedDecl {
+            decl,
+            name,
+            methods,
+            ids,
+        })
+    }
+
+    // Its canonical name.
+    pub fn name(&self) -> &Text
+        ensures { result.now ≡ name_of self.now }
+    {
+        &self.name
     }
 
     // The position of the method of a name, which is in UTF-8.
-    #[tactic(auto, using(crate::proofs::Tables::method_found))]
     pub fn method_named(&self, name: &str) -> Option<usize>
         ensures { result ≡ method_named (methods_of self.now.kind) name.now }
     {
-        self.methods.get(name).copied()
+        self.methods.place(name)
     }
 
     // The position of the method of an id.
@@ -70,22 +82,6 @@ impl<'a> NamedDecl<'a> {
     {
         self.ids.get(&id).copied()
     }
-}
-
-// The first position of each name, from the last method on.
-fn methods_by_name<'a>(
-    alloc: Global,
-    methods: &'a [Method],
-) -> Result<IndexMap<&'a str, usize>, OutOfMemory>
-    ensures { IfOk result (λ table. (q : List ℕ)
-        → get_by (λ k. bytes_eq q k.now) table ≡ method_from q 0 methods.now) }
-{
-    let mut table = IndexMap::with_capacity(alloc, methods.len())?;
-    for i in (0..methods.len()).rev() {
-        let method = &methods[i];
-        table.insert(method.name.0.as_str(), i)?;
-    }
-    Ok(table)
 }
 
 // The first position of each id.

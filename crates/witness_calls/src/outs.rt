@@ -10,7 +10,7 @@ ghost use Rattle.wire_model.specs.Calls.{optional_view};
 ghost use Rattle.witness_calls.specs.steps.Collected.{Puts};
 ghost use Rattle.witness_calls.specs.steps.Positions.{left_after, out_seen};
 
-use crate::arguments::{argument_at, some_default};
+use crate::arguments::{item_at, some_default};
 use crate::ends::Ends;
 use aidl_base::{OutOfMemory, Row};
 use aidl_schema::{AidlType, Arg};
@@ -80,7 +80,7 @@ pub fn project_outs(
     let mut seen = Vec::with_capacity(alloc, wanted.len())?;
     let mut left = values;
     for k in 0..wanted.len() {
-        let from = argument_at(sent, k);
+        let from = item_at(sent, k);
         let going = push_out(alloc, ends, from, &wanted[k], left, &mut seen)?;
         if !going {
             return Ok(None);

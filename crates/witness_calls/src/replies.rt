@@ -13,7 +13,6 @@ ghost use Rattle.witness_calls.specs.steps.Projected.{sent_seen};
 
 use crate::ends::Ends;
 use crate::fitting::is_two_way_answer;
-use crate::names::{counterpart, law_method};
 use crate::outs::{project_outs, project_result};
 use crate::reading::Reading;
 use crate::requests::BAD_VALUE;
@@ -36,7 +35,7 @@ pub fn weigh_reply(
     ensures { IfOk result (λ o. IsWeighedBetween client.now.decls server.now client.now.interface client.now.method
         (answered (option_map answer_of answer.now)) o) }
 {
-    match counterpart(alloc, client, server)? {
+    match client.counterpart(server) {
         Some(target) => {
             let weighed = weigh_answer(alloc, client, &target, answer)?;
             Ok(weighed)
@@ -136,7 +135,7 @@ fn read_reply(
     Ok(Reading::Client(got))
 }
 
-// What an answer is to the client's method. An exception is itself.
+// What an answer is to the client's method. An exception is itself; without an answer there are the defaults.
 #[tactic(auto, unfolding(compat_witness::specs::Sides::projected_answer))]
 fn project_answer(
     alloc: Global,
@@ -173,28 +172,16 @@ fn project_answer(
                 error: *error,
             })
         }
-        None => project_nothing(alloc, server, client),
+        None => {
+            let sent = Sent {
+                ty: None,
+                args: &[],
+                value: &None,
+                outs: &[],
+            };
+            project_sent(alloc, server, client, &sent)
+        }
     }
-}
-
-// What a client has without an answer.
-#[tactic(auto, unfolding(compat_witness::specs::Sides::projected_answer))]
-fn project_nothing(
-    alloc: Global,
-    server: &VersionMethod<'_, '_>,
-    client: &VersionMethod<'_, '_>,
-) -> Result<Got, OutOfMemory>
-    ensures { IfOk result (λ got. got_of got
-        ≡ projected_answer server.now.decls server.now.interface server.now.method
-        client.now.decls client.now.interface client.now.method None) }
-{
-    let sent = Sent {
-        ty: None,
-        args: &[],
-        value: &None,
-        outs: &[],
-    };
-    project_sent(alloc, server, client, &sent)
 }
 
 // What is sent back: the type of the result and the arguments of the method, with their values.
@@ -223,7 +210,6 @@ fn project_sent(
         receiver: client.fields(),
     };
     let wanted = client.declared();
-    law_method(client.schema(), client.interface(), client.method(), wanted);
     let seen = project_result(alloc, &ends, sent.ty, wanted.result, sent.value)?;
     match seen {
         Some(result) => {

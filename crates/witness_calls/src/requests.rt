@@ -4,17 +4,14 @@ ghost use Rattle.aidl_values.specs.View.{views};
 ghost use Rattle.compat_witness.specs.Candidates.{arguments};
 ghost use Rattle.compat_witness.specs.Sides.{projected_request, read_request, side_of};
 ghost use Rattle.stub_dispatch.specs.Receipts.{receipt_of};
-ghost use Rattle.wire_model.specs.Calls.{code_at};
-ghost use Rattle.wire_model.specs.Receiver.{stub};
 ghost use Rattle.wire_model.specs.Requests.{ArgsFit, request};
 ghost use Rattle.witness_calls.specs.Seen.{reading_seen};
 ghost use Rattle.witness_calls.specs.Counted.{IsCounted, IsWeighedBetween};
-ghost use Rattle.witness_calls.specs.steps.Projected.{called_at, called_in};
+ghost use Rattle.witness_calls.specs.steps.Projected.{called_at};
 
 use crate::arguments::project_arguments;
 use crate::ends::Ends;
 use crate::fitting::args_fit;
-use crate::names::{declared_like, law_method, method_called, method_like};
 use crate::reading::Reading;
 use crate::showing::Showing;
 use crate::version::Version;
@@ -72,7 +69,7 @@ fn counted_request(
     }
 }
 
-// What the server's interface of that name makes of the bytes.
+// What the server's interface of that name makes of the bytes. Its method is found by the code that the client sends.
 fn read_request(
     alloc: Global,
     client: &VersionMethod<'_, '_>,
@@ -83,24 +80,10 @@ fn read_request(
         ≡ read_request client.now.decls client.now.interface
         client.now.method server.now bytes.now) }
 {
-    match declared_like(alloc, client.schema(), client.interface(), server.schema())? {
-        Some(interface) => read_in(alloc, client, server, interface, bytes),
-        None => Ok(Reading::Transport(UNKNOWN_TRANSACTION)),
-    }
-}
-
-// The same of the server's interface, whose method is found by the code that the client sends.
-fn read_in(
-    alloc: Global,
-    client: &VersionMethod<'_, '_>,
-    server: &Version<'_>,
-    interface: u32,
-    bytes: &[u8],
-) -> Result<Reading, OutOfMemory>
-    ensures { IfOk result (λ r. reading_seen r ≡ side_of (stub Profile.Strict server.now interface
-        (code_at client.now.decls client.now.interface client.now.method) bytes.now)) }
-{
-    match method_called(client, server, interface) {
+    let Some(interface) = client.interface_in(server) else {
+        return Ok(Reading::Transport(UNKNOWN_TRANSACTION));
+    };
+    match server.method_of_id(interface, client.declared().id) {
         Some(method) => {
             let target = server.callee(interface, method);
             let receipt = receive_call(alloc, Profile::Strict, target.callee(), bytes)?;
@@ -122,7 +105,6 @@ fn as_reading(receipt: Receipt) -> Reading
 }
 
 // What the arguments are to the server's method of the same names.
-#[tactic(auto, unfolding(compat_witness::specs::Sides::projected_call))]
 fn project_request(
     alloc: Global,
     client: &VersionMethod<'_, '_>,
@@ -133,29 +115,8 @@ fn project_request(
         ≡ projected_request client.now.decls client.now.interface client.now.method server.now
         (views args.now)) }
 {
-    match declared_like(alloc, client.schema(), client.interface(), server.schema())? {
-        Some(interface) => project_in(alloc, client, server, interface, args),
-        None => Ok(Reading::Transport(UNKNOWN_TRANSACTION)),
-    }
-}
-
-// The same in the server's interface.
-fn project_in(
-    alloc: Global,
-    client: &VersionMethod<'_, '_>,
-    server: &Version<'_>,
-    interface: u32,
-    args: &[Value],
-) -> Result<Reading, OutOfMemory>
-    ensures { IfOk result (λ r. reading_seen r
-        ≡ side_of (called_in client.now.decls
-        client.now.interface client.now.method server.now interface (views args.now))) }
-{
-    match method_like(client, server, interface) {
-        Some(method) => {
-            let target = server.callee(interface, method);
-            project_called(alloc, client, &target, args)
-        }
+    match client.counterpart(server) {
+        Some(target) => project_called(alloc, client, &target, args),
         None => Ok(Reading::Transport(UNKNOWN_TRANSACTION)),
     }
 }
@@ -176,7 +137,6 @@ fn project_called(
         receiver: target.fields(),
     };
     let wanted = target.declared();
-    law_method(target.schema(), target.interface(), target.method(), wanted);
     let sent = client.declared().args.as_slice();
     match project_arguments(alloc, &ends, sent, wanted.args.as_slice(), args)? {
         Some(saw) => Ok(Reading::Called {

@@ -1,5 +1,5 @@
 //! What a call shows.
-ghost use Rattle.std.specs.Prelude.{◌≡◌, None, true, IfOk};
+ghost use Rattle.std.specs.Prelude.{IfOk};
 ghost use Rattle.witness_calls.specs.Showing.{IsTried};
 ghost use Rattle.witness_calls.specs.Seen.{call_seen};
 ghost use Rattle.witness_calls.specs.steps.Shown.{IsShownBy};
@@ -41,21 +41,17 @@ pub fn try_call(
     ensures { IfOk result (λ tried. IsTried old.now new.now (call_seen call.now) tried) }
 {
     if !names_method(old, new, call) {
-        return Ok(shows_nothing(false));
+        return Ok(Tried {
+            showing: None,
+            short: false,
+        });
     }
     match weigh(alloc, old, new, call)? {
         Some(showing) => Ok(shown(showing)),
-        None => Ok(shows_nothing(!may_fit(old, new, call))),
-    }
-}
-
-// What shows nothing.
-fn shows_nothing(short: bool) -> Tried
-    ensures { result ≡ record { showing = None; short = short } }
-{
-    Tried {
-        showing: None,
-        short,
+        None => Ok(Tried {
+            showing: None,
+            short: !may_fit(old, new, call),
+        }),
     }
 }
 
@@ -65,7 +61,10 @@ fn shown(showing: Showing) -> Tried
     ensures { IsShownBy showing result }
 {
     if same_reading(&showing.read, &showing.projected) {
-        return shows_nothing(true);
+        return Tried {
+            showing: None,
+            short: true,
+        };
     }
     Tried {
         showing: Some(showing),

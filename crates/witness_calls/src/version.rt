@@ -1,16 +1,16 @@
-//! A version of a tree: a side of calls, with tables that find methods and fields.
-ghost use Rattle.std.specs.Prelude.{◌≡◌, ◌+◌, ◌<◌, IfOk, length, slice_get};
-ghost use Rattle.std.specs.List.{position};
+//! A version of a tree: a side of calls, with tables that find declarations, methods and fields.
+ghost use Rattle.std.specs.Prelude.{◌≡◌, ◌+◌, ◌<◌, ◌≤◌, IfOk, IfSome, Some, length, slice_get};
 ghost use Rattle.std.specs.Option.{option_copied};
-ghost use Rattle.aidl_schema.specs.Broken.{same_method};
 ghost use Rattle.aidl_schema.specs.Find.{methods_at, position_of_code};
 ghost use Rattle.stub_dispatch.specs.Planned.{ArePlansOf};
+ghost use Rattle.wire_model.specs.Calls.{descriptor};
+ghost use Rattle.wire_model.specs.Outcome as meant;
 ghost use Rattle.witness_calls.specs.Named.{field_named, fields_at, method_named};
 
 use crate::named_decl::NamedDecl;
 use crate::version_method::VersionMethod;
-use aidl_base::OutOfMemory;
-use aidl_schema::{Decl, Method, Schema, methods_at};
+use aidl_base::{OutOfMemory, Text};
+use aidl_schema::{Decl, Method, Schema, find, law_valid, methods_at};
 use marshal_plans::Plans;
 use std::alloc::Global;
 use std::marker::Model;
@@ -71,19 +71,28 @@ impl<'a> Version<'a> {
         self.side.schema()
     }
 
+    // The tables of the fields of its declarations.
+    pub(crate) fn fields(&self) -> &NamedFields<'a>
+        ensures { result.now ≡ self.now }
+    {
+        &self.fields
+    }
+
     /// The method at a position of an interface.
     pub(crate) fn callee(&self, interface: u32, method: u32) -> VersionMethod<'_, 'a>
         requires { method < length (methods_at self.now interface) }
         ensures { result ≡ record { decls = self.now; interface = interface; method = method } }
     {
         let callee = Callee::new(&self.side, interface, method);
-        VersionMethod::new(callee, &self.fields)
+        VersionMethod::new(callee, self)
     }
 
-    /// The methods of an interface; none where the number is of no interface.
+    /// The methods of an interface, at most 4,096; none where the number is of no interface.
     pub fn methods(&self, interface: u32) -> &'a [Method]
-        ensures { result.now ≡ methods_at self.now interface }
+        ensures are { result.now ≡ methods_at self.now interface }
+        ensures few { length result.now ≤ 4096 }
     {
+        law_valid(self.schema());
         methods_at(self.schema(), interface)
     }
 
@@ -94,30 +103,44 @@ impl<'a> Version<'a> {
         self.named.as_slice().get(number as usize)
     }
 
-    /// The position of the method of a name, which is in UTF-8.
-    pub fn method_named(&self, interface: u32, name: &str) -> Option<usize>
-        ensures { result ≡ method_named (methods_at self.now interface) name.now }
+    /// The number of the declaration that has the name of one of another version.
+    pub fn declared_like(&self, other: &Version<'_>, number: u32) -> Option<u32>
+        ensures { result ≡ meant.declared_as self.now (descriptor other.now number) }
     {
-        match self.decl(interface) {
-            Some(decl) => decl.method_named(name),
+        match other.decl(number) {
+            Some(decl) => declared(self.schema(), decl.name()),
+            None => declared(self.schema(), &Text::empty()),
+        }
+    }
+
+    /// The position of the method of a name, which is in UTF-8.
+    pub fn method_named(&self, interface: u32, name: &str) -> Option<u32>
+        ensures is { result ≡ method_named (methods_at self.now interface) name.now }
+        ensures within { IfSome result (λ n. n < length (methods_at self.now interface)) }
+    {
+        law_valid(self.schema());
+        match self.decl(interface)?.method_named(name) {
+            Some(position) => Some(position as u32),
             None => None,
         }
     }
 
     /// The position of the method that has the name of another one.
-    pub fn method_like(&self, interface: u32, method: &Method) -> Option<usize>
-        ensures { result ≡ position (λ w. same_method method.now w)
-            (methods_at self.now interface) }
+    pub fn method_like(&self, interface: u32, method: &Method) -> Option<u32>
+        ensures is { result ≡ meant.method_like (Some method.now) (methods_at self.now interface) }
+        ensures within { IfSome result (λ n. n < length (methods_at self.now interface)) }
     {
         self.method_named(interface, method.name.0.as_str())
     }
 
     /// The position of the method of an id.
-    pub fn method_of_id(&self, interface: u32, id: u32) -> Option<usize>
-        ensures { result ≡ position_of_code (methods_at self.now interface) (id + 1) }
+    pub fn method_of_id(&self, interface: u32, id: u32) -> Option<u32>
+        ensures is { result ≡ position_of_code (methods_at self.now interface) (id + 1) }
+        ensures within { IfSome result (λ n. n < length (methods_at self.now interface)) }
     {
-        match self.decl(interface) {
-            Some(decl) => decl.method_of_id(id),
+        law_valid(self.schema());
+        match self.decl(interface)?.method_of_id(id) {
+            Some(position) => Some(position as u32),
             None => None,
         }
     }
@@ -128,6 +151,13 @@ impl<'a> Version<'a> {
     {
         self.fields.field_named(number, name)
     }
+}
+
+/// The number of the declaration of a name.
+pub fn declared(schema: &Schema, name: &Text) -> Option<u32>
+    ensures { result ≡ meant.declared_as schema.now.decls name.now }
+{
+    find(schema, name.as_str())
 }
 
 // Each declaration with its tables.

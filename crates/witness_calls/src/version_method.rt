@@ -1,19 +1,25 @@
 //! A method of a version.
-ghost use Rattle.std.specs.Prelude.{◌≡◌, ◌<◌, Some, length};
+ghost use Rattle.std.specs.Prelude.{◌≡◌, ◌<◌, Some, length, true};
+ghost use Rattle.std.specs.List.{list_all};
 ghost use Rattle.aidl_schema.specs.Find.{methods_at};
+ghost use Rattle.aidl_schema.specs.Methods.{is_passed_type, is_result_type};
 ghost use Rattle.stub_dispatch.specs.Callees.{MethodOf};
-ghost use Rattle.wire_model.specs.Calls.{method_at};
+ghost use Rattle.wire_model.specs.Calls.{descriptor, method_at};
+ghost use Rattle.compat_witness.specs.Candidates.{counterpart};
+ghost use Rattle.wire_model.specs.Outcome.{declared_as};
+ghost use Rattle.witness_calls.specs.steps.Projected.{callee_at};
 
-use aidl_schema::{Method, Schema};
+use crate::version::Version;
+use aidl_schema::{Method, Schema, law_valid};
 use std::marker::Model;
 use stub_dispatch::Callee;
 use value_views::NamedFields;
 
-/// A method of a version, with the tables that find the fields of its declarations. Contracts see it as the method.
+/// A method of a version. Contracts see it as the method.
 #[derive(Drop)]
 pub struct VersionMethod<'v, 'a> {
     callee: Callee<'a>,
-    fields: &'v NamedFields<'a>,
+    version: &'v Version<'a>,
 }
 
 impl<'v, 'a> Model for VersionMethod<'v, 'a> {
@@ -27,16 +33,16 @@ impl<'v, 'a> Model for VersionMethod<'v, 'a> {
 
     ghost view = { λ method. method.callee };
 
-    ghost invariant = { λ method. method.fields.now ≡ method.callee.decls };
+    ghost invariant = { λ method. method.version.now ≡ method.callee.decls };
 }
 
 impl<'v, 'a> VersionMethod<'v, 'a> {
-    // A method with the tables of its declarations.
-    pub fn new(callee: Callee<'a>, fields: &'v NamedFields<'a>) -> VersionMethod<'v, 'a>
-        requires { fields.now ≡ callee.decls }
+    // A method with its version.
+    pub fn new(callee: Callee<'a>, version: &'v Version<'a>) -> VersionMethod<'v, 'a>
+        requires { version.now ≡ callee.decls }
         ensures { result ≡ callee.entry }
     {
-        VersionMethod { callee, fields }
+        VersionMethod { callee, version }
     }
 
     // The method as a callee.
@@ -46,11 +52,11 @@ impl<'v, 'a> VersionMethod<'v, 'a> {
         &self.callee
     }
 
-    // The tables of its declarations.
+    // The tables of the fields of its declarations.
     pub fn fields(&self) -> &'v NamedFields<'a>
         ensures { result.now ≡ self.now.decls }
     {
-        self.fields
+        self.version.fields()
     }
 
     // Its schema.
@@ -60,11 +66,21 @@ impl<'v, 'a> VersionMethod<'v, 'a> {
         self.callee.schema()
     }
 
-    // The number of its interface.
-    pub fn interface(&self) -> u32
-        ensures { result ≡ self.now.interface }
+    // The number of the server's declaration of the name that its interface has.
+    pub fn interface_in(&self, server: &Version<'_>) -> Option<u32>
+        ensures { result ≡ declared_as server.now (descriptor self.now.decls self.now.interface) }
     {
-        self.callee.interface()
+        server.declared_like(self.version, self.callee.interface())
+    }
+
+    // The server's method that has the names of this one.
+    pub fn counterpart<'s, 'b>(&self, server: &'s Version<'b>) -> Option<VersionMethod<'s, 'b>>
+        ensures { result ≡ callee_at server.now
+            (counterpart self.now.decls self.now.interface self.now.method server.now) }
+    {
+        let interface = self.interface_in(server)?;
+        let method = server.method_like(interface, self.declared())?;
+        Some(server.callee(interface, method))
     }
 
     // Its position in its interface.
@@ -75,10 +91,13 @@ impl<'v, 'a> VersionMethod<'v, 'a> {
         self.callee.method()
     }
 
-    // How it is declared.
+    // How it is declared, with the types that a valid schema has.
     pub fn declared(&self) -> &'a Method
-        ensures { method_at self.now.decls self.now.interface self.now.method ≡ Some result.now }
+        ensures is { method_at self.now.decls self.now.interface self.now.method ≡ Some result.now }
+        ensures passed { list_all (λ a. is_passed_type self.now.decls a.ty) result.now.args ≡ true }
+        ensures returned { is_result_type self.now.decls result.now.result ≡ true }
     {
+        law_valid(self.schema());
         self.callee.declared()
     }
 }

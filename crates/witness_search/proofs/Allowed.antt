@@ -1,25 +1,34 @@
 -- A reason is given only where the law of witnesses gives no call.
-use Rattle.std.proofs.Common.{◌≡◌, List, Some, subst}
+use Rattle.std.proofs.Common.{◌≡◌, zero, suc, List, [], ◌∷◌, Some, None, Result, Ok, Err, inl, inr, sym, subst}
 use Rattle.aidl_schema.specs.declared.schema.Decl.{Decl}
 use Rattle.aidl_schema.specs.Broken.{Break}
 use Rattle.compat_witness.specs.Candidates.{AreSmall, Candidate, Shows}
 use Rattle.compat_witness.specs.Rows.{Row}
-use Rattle.witness_search.specs.IsWitness.{IsAllowed, IsOf, IsOfRow, IsWitness, those_of}
+use Rattle.witness_calls.specs.Showing.{IsShown}
+use Rattle.witness_search.specs.IsWitness.{IsAllowed, IsFirstShown, IsOf, IsOfRow, IsWitness, those_of}
 use Rattle.witness_search.specs.RowsByRule.{row_of}
+use Rattle.witness_search.specs.declared.shown.NoCall.{NoCall}
 use Rattle.witness_search.specs.declared.shown.NoCall.TheVariants.{OutsideWire, NoCandidate}
-use Rattle.witness_search.specs.declared.shown.Shown.{Shown}
-use Rattle.witness_search.specs.declared.shown.Shown.TheVariants.{Found, Reason}
-use Rattle.witness_search.proofs.Firsts.{none_found}
 
 -- the law of witnesses of an entry
 abbrev pub ShowsWhereMet : Break → List Decl → List Decl → Type 0
 ShowsWhereMet b old new = (row : Row) → row_of b.0 ≡ Some row → (cs : List Candidate) → row old new b.1 ≡ Some cs → AreSmall old new cs → Shows old new cs
 
-module _ (old new : List Decl) (b : Break) (law : ShowsWhereMet b old new) where
-  pub allowed : (shown : Shown) → IsWitness old new b shown → IsAllowed old new b shown
-  allowed (Found w) is = tt
-  allowed (Reason OutsideWire) is = λ row e cs at small.
-      subst (λ o. IsOf old new b.1 o (Reason OutsideWire)) e is
-  allowed (Reason NoCandidate) is = λ row e cs at small.
-      let of_row : IsOfRow old new (those_of (row old new b.1)) (Reason NoCandidate) = subst (λ o. IsOf old new b.1 o (Reason NoCandidate)) e is in
-      none_found old new cs (subst (λ o. IsOfRow old new (those_of o) (Reason NoCandidate)) at of_row) (law row e cs at small)
+module _ (old new : List Decl) where
+  -- Where the law of a row holds, one is found.
+  none_found : (cs : List Candidate) → IsFirstShown old new cs None → Shows old new cs → ⊥
+  none_found [] h x = cc
+  none_found (c ∷ cs) (inl h) x = let e = h.0 in cc
+  none_found (c ∷ cs) (inr h) (x, (zero, e), counts, differs) =
+      let one : c ≡ x = cc in
+      h.0 (subst (IsShown old new) (sym one) (record { counts = counts; differs = differs }))
+  none_found (c ∷ cs) (inr h) (x, (suc k, e), counts, differs) = none_found cs h.1 (x, (k, e), counts, differs)
+
+  module _ (b : Break) (law : ShowsWhereMet b old new) where
+    pub allowed : (found : Result Candidate NoCall) → IsWitness old new b found → IsAllowed old new b found
+    allowed (Ok c) is = tt
+    allowed (Err OutsideWire) is = λ row e cs at small.
+        subst (λ o. IsOf old new b.1 o (Err OutsideWire)) e is
+    allowed (Err NoCandidate) is = λ row e cs at small.
+        let of_row : IsOfRow old new (those_of (row old new b.1)) (Err NoCandidate) = subst (λ o. IsOf old new b.1 o (Err NoCandidate)) e is in
+        none_found cs (subst (λ o. IsOfRow old new (those_of o) (Err NoCandidate)) at of_row) (law row e cs at small)

@@ -6,14 +6,14 @@ use Rattle.aidl_schema.specs.declared.schema.Decl.{Decl}
 use Rattle.aidl_values.specs.Data.{none, item}
 use Rattle.aidl_values.specs.View.{view}
 use Rattle.aidl_values.specs.declared.value.Value.{Value}
-use Rattle.compat_witness.specs.Candidates.{Candidate, Shows, client_of, request, server_of}
+use Rattle.compat_witness.specs.Candidates.{Candidate, client_of, request, server_of}
 use Rattle.compat_witness.specs.Reaching.{asks, methods_reaching}
-use Rattle.witness_calls.specs.Showing.{IsShown}
 use Rattle.witness_calls.proofs.lemmas.Drops.{drop_at}
-use Rattle.witness_search.specs.First.{IsFirst}
-use Rattle.witness_search.specs.Asked.{group_seen, group_with, groups_seen, method_seen}
+use Rattle.witness_search.specs.steps.First.{IsFirst}
+use Rattle.witness_search.specs.Asked.{candidates_seen, group_seen, method_seen, part_seen, parts_seen}
 use Rattle.witness_search.specs.declared.candidates.Group.{Group}
-use Rattle.witness_search.specs.declared.candidates.Groups.{Groups}
+use Rattle.witness_search.specs.declared.candidates.Candidates.{Candidates}
+use Rattle.witness_search.specs.declared.candidates.Part.{Part}
 use Rattle.witness_search.specs.declared.candidates.Reach.{Reach}
 use Rattle.witness_search.specs.declared.shown.Witness.{Witness}
 use Rattle.witness_search.specs.steps.Requests.{request_of, requests_of}
@@ -28,15 +28,6 @@ module _ (old new : List Decl) where
   sooner [] ds w h = cc
   sooner (c ∷ cs) ds w (inl h) = inl h
   sooner (c ∷ cs) ds w (inr h) = inr (h.0, sooner cs ds w h.1)
-
-  -- Where the law of a row holds, one is found.
-  pub none_found : (cs : List Candidate) → IsFirst old new cs None → Shows old new cs → ⊥
-  none_found [] h x = cc
-  none_found (c ∷ cs) (inl h) x = h
-  none_found (c ∷ cs) (inr h) (x, (zero, e), counts, differs) =
-      let one : c ≡ x = cc in
-      h.0 (subst (IsShown old new) (sym one) (record { counts = counts; differs = differs }))
-  none_found (c ∷ cs) (inr h) (x, (suc k, e), counts, differs) = none_found cs h.1 (x, (k, e), counts, differs)
 
   -- a list of lists, of which some are left
   module _ {X : Type 0} (F : X → List Candidate) (xs : List X) (j : ℕ) (x : X) (lt : j < length xs) (is : x ≡ get_or xs j x) where
@@ -84,17 +75,17 @@ pub of_group : (old new : List Decl) (g : Group) (vs : List Value) (rs : List Re
 of_group old new g vs rs e are =
     ap (λ ws. flat_map (requests_of g.back ws) rs) e ∙ of_methods g.back g.values rs ∙ ap (λ ms. asks g.back ms (map view g.values)) are
 
--- one or two groups
+-- one part or two
 module _ (old new : List Decl) where
-  pub groups_found : (g : Groups) (w : Witness) → IsFirst old new (group_seen old new g.first) (Some w) → IsFirst old new (groups_seen old new g) (Some w)
-  groups_found g w h = by g.second
+  pub part_found : (g : Candidates) (w : Witness) → IsFirst old new (part_seen old new g.first) (Some w) → IsFirst old new (candidates_seen old new g) (Some w)
+  part_found g w h = by g.second
     where
-      by : (o : Option Group) → IsFirst old new (group_with old new g.first o) (Some w)
+      by : (o : Option Part) → IsFirst old new (parts_seen old new g.first o) (Some w)
       by None = h
-      by (Some k) = sooner old new (group_seen old new g.first) (group_seen old new k) w h
+      by (Some k) = sooner old new (part_seen old new g.first) (part_seen old new k) w h
 
-  pub groups_later : (g : Groups) (k : Group) → g.second ≡ Some k → IsFirst old new (group_seen old new g.first) None → (r : Option Witness) → IsFirst old new (group_seen old new k) r → IsFirst old new (groups_seen old new g) r
-  groups_later g k is h r q = subst (λ o. IsFirst old new (group_with old new g.first o) r) (sym is) (later old new (group_seen old new g.first) (group_seen old new k) h r q)
+  pub part_later : (g : Candidates) (k : Part) → g.second ≡ Some k → IsFirst old new (part_seen old new g.first) None → (r : Option Witness) → IsFirst old new (part_seen old new k) r → IsFirst old new (candidates_seen old new g) r
+  part_later g k is h r q = subst (λ o. IsFirst old new (parts_seen old new g.first o) r) (sym is) (later old new (part_seen old new g.first) (part_seen old new k) h r q)
 
-  pub groups_alone : (g : Groups) → g.second ≡ None → IsFirst old new (group_seen old new g.first) None → IsFirst old new (groups_seen old new g) None
-  groups_alone g is h = subst (λ o. IsFirst old new (group_with old new g.first o) None) (sym is) h
+  pub part_alone : (g : Candidates) → g.second ≡ None → IsFirst old new (part_seen old new g.first) None → IsFirst old new (candidates_seen old new g) None
+  part_alone g is h = subst (λ o. IsFirst old new (parts_seen old new g.first o) None) (sym is) h

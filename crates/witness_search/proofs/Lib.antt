@@ -1,5 +1,6 @@
 mod Allowed
-mod Cuts
+mod FieldRows
+mod FirstShown
 mod Firsts
 mod Halves
 mod Letters
@@ -11,3 +12,4 @@ mod RecordParts
 mod SentBack
 mod Spots
 mod Trials
+pub mod lemmas

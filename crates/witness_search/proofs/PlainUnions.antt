@@ -1,5 +1,5 @@
 -- What the tables know of a union is whether all its alternatives are plain.
-use Rattle.std.proofs.Common.{◌≡◌, ℕ, zero, suc, Bool, List, [], ◌∷◌, refl, sym, ap, ◌∙◌}
+use Rattle.std.proofs.Common.{◌≡◌, ℕ, zero, suc, Bool, List, [], ◌∷◌, refl, ap, ◌∙◌}
 use Rattle.std.specs.Prelude.{◌&&◌}
 use Rattle.aidl_schema.specs.declared.schema.Decl.{Decl}
 use Rattle.compat_witness.specs.Reaching.{are_plain}
@@ -17,9 +17,3 @@ pub both_plain : (old new : List Decl) (t : ReachTables) (k l : ℕ) (b : Bool) 
 both_plain old new t k l b tables e =
     e ∙ ap (λ c. c && plain_at t.plain_news.items l) (ap (λ bs. plain_at bs k) tables.olds ∙ at_number old k)
     ∙ ap (λ c. are_plain (alternatives_in old k) && c) (ap (λ bs. plain_at bs l) tables.news ∙ at_number new l)
-
-pub plain_as : (A B old new : List Decl) (k l : ℕ) (b : Bool) → A ≡ old → B ≡ new → b ≡ (are_plain (alternatives_in old k) && are_plain (alternatives_in new l))
-    → b ≡ (are_plain (alternatives_in A k) && are_plain (alternatives_in B l))
-plain_as A B old new k l b e f r =
-    r ∙ ap (λ S. are_plain (alternatives_in S k) && are_plain (alternatives_in new l)) (sym e)
-    ∙ ap (λ S. are_plain (alternatives_in A k) && are_plain (alternatives_in S l)) (sym f)

@@ -19,13 +19,11 @@ use Rattle.aidl_schema.specs.Same.{base_code, decl_of, same, same_base, same_boo
 use Rattle.compat_witness.specs.Candidates.{client_of, server_of}
 use Rattle.compat_witness.specs.Places.{Spot, spot_like}
 use Rattle.compat_witness.specs.Reaching.{are_alike, has_argument, is_at, methods_reaching, number_of, only, reaches, reaching_in}
-use Rattle.compat_witness.specs.Rows.{is_empty}
 use Rattle.witness_search.specs.Asked.{method_seen}
 use Rattle.witness_search.specs.ReachTables.{AreReachTables, row_at, row_of}
-use Rattle.witness_search.specs.declared.both.Both.{Both}
 use Rattle.witness_search.specs.declared.candidates.Reach.{Reach}
 use Rattle.witness_search.specs.declared.pair.ReachTables.{ReachTables}
-use Rattle.witness_search.specs.steps.Reached.{IsReached, one_at, reached_from, reached_in}
+use Rattle.witness_search.specs.steps.Reached.{one_at, reached_from, reached_in}
 
 -- what stands at a position, and what is left there
 pub there : {X : Type 0} (xs : List X) (i : ℕ) → i < length xs → (x : X) × (slice_get xs i ≡ Some x) × (drop i xs ≡ x ∷ drop (suc i) xs)
@@ -218,11 +216,6 @@ table_rows A B items slice new rest n k same count whole empty added = by (below
         ∙ ap (map method_seen) (no_row new k (omega arith)) ∙ sym (beyond A k B le)
 
 -- Of two versions
-
--- whether a method of old reaches a declaration of both, by their schemas
-pub reached_as : (b : Both) (old new : List Decl) → b.old.now.decls ≡ old → b.new.now.decls ≡ new → b.reached ≡ not (is_empty (methods_reaching old b.k new)) → IsReached b
-reached_as b old new e f r =
-    r ∙ ap (λ A. not (is_empty (methods_reaching A b.k new))) (sym e) ∙ ap (λ B. not (is_empty (methods_reaching b.old.now.decls b.k B))) (sym f)
 
 -- the methods that the tables have, of new and of old
 pub reached_back : (old new : List Decl) (t : ReachTables) (back : Bool) (k : ℕ) (row : List Reach) → AreReachTables old new t → back ≡ true → row ≡ row_at t.back.items k

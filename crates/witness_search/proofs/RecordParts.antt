@@ -18,10 +18,10 @@ use Rattle.aidl_values.specs.declared.value.Value.{Value}
 use Rattle.compat_witness.specs.Reaching.{initials, plain_value, with_value}
 use Rattle.compat_witness.specs.Rows.{alternatives_in, alternatives_of_decl, fields_of_decl, is_last, low_arguments, names_agree, types_agree}
 use Rattle.witness_calls.specs.Named.{field_named, fields_at, fields_of_decl as all_fields}
-use Rattle.witness_search.specs.declared.records.FieldRow.{FieldRow}
-use Rattle.witness_search.specs.declared.records.FieldRow.TheVariants as field
+use Rattle.witness_search.specs.declared.fields.Members.{Members}
+use Rattle.witness_search.specs.declared.fields.Members.TheVariants.{Fields, Alternatives}
 use Rattle.witness_search.specs.steps.Records.{part, parts}
-use Rattle.witness_search.specs.steps.Rows as steps
+use Rattle.witness_search.specs.steps.Fields.{members_in}
 
 module _ (S : List Decl) (high : Bool) where
   initials_are : (fs : List Field) → items_of (map (λ g. part S high false g) fs) ≡ initials S fs
@@ -131,20 +131,19 @@ of_union (Parcelable fs) = inl refl
 of_union (Union fs) = inr refl
 of_union (Enum b es) = inl refl
 
-some_or_none : (row : FieldRow) (S : List Decl) (k : ℕ) → (steps.fields_at row S k ≡ []) ⊎ (steps.fields_at row S k ≡ fields_at S k)
-some_or_none field.C10 S k = elim (slice_get S k) as (λ o. (fields_of_decl o ≡ []) ⊎ (fields_of_decl o ≡ all_fields o)) [ None ↦ inl refl | Some d ↦ of_parcelable d.kind ]
-some_or_none field.C11 S k = elim (slice_get S k) as (λ o. (fields_of_decl o ≡ []) ⊎ (fields_of_decl o ≡ all_fields o)) [ None ↦ inl refl | Some d ↦ of_parcelable d.kind ]
-some_or_none field.C15 S k = elim (slice_get S k) as (λ o. (alternatives_of_decl o ≡ []) ⊎ (alternatives_of_decl o ≡ all_fields o)) [ None ↦ inl refl | Some d ↦ of_union d.kind ]
+some_or_none : (members : Members) (S : List Decl) (k : ℕ) → (members_in members S k ≡ []) ⊎ (members_in members S k ≡ fields_at S k)
+some_or_none Fields S k = elim (slice_get S k) as (λ o. (fields_of_decl o ≡ []) ⊎ (fields_of_decl o ≡ all_fields o)) [ None ↦ inl refl | Some d ↦ of_parcelable d.kind ]
+some_or_none Alternatives S k = elim (slice_get S k) as (λ o. (alternatives_of_decl o ≡ []) ⊎ (alternatives_of_decl o ≡ all_fields o)) [ None ↦ inl refl | Some d ↦ of_union d.kind ]
 
-pub no_field : (row : FieldRow) (S : List Decl) (k : ℕ) (q : List ℕ) (fs : List Field) → fs ≡ steps.fields_at row S k → length fs ≡ 0 → None ≡ field_named (steps.fields_at row S k) q
-no_field row S k q [] is none = ap (λ gs. field_named gs q) is
-no_field row S k q (f ∷ fs) is none = absurd (omega arith)
+pub no_field : (members : Members) (S : List Decl) (k : ℕ) (q : List ℕ) (fs : List Field) → fs ≡ members_in members S k → length fs ≡ 0 → None ≡ field_named (members_in members S k) q
+no_field members S k q [] is none = ap (λ gs. field_named gs q) is
+no_field members S k q (f ∷ fs) is none = absurd (omega arith)
 
-pub some_field : (row : FieldRow) (S : List Decl) (k : ℕ) (q : List ℕ) (fs : List Field) (o : Option ℕ) → fs ≡ steps.fields_at row S k → length fs ≢ 0 → o ≡ field_named (fields_at S k) q
-    → o ≡ field_named (steps.fields_at row S k) q
-some_field row S k q fs o is some e = by (some_or_none row S k)
+pub some_field : (members : Members) (S : List Decl) (k : ℕ) (q : List ℕ) (fs : List Field) (o : Option ℕ) → fs ≡ members_in members S k → length fs ≢ 0 → o ≡ field_named (fields_at S k) q
+    → o ≡ field_named (members_in members S k) q
+some_field members S k q fs o is some e = by (some_or_none members S k)
   where
-    by : ((steps.fields_at row S k ≡ []) ⊎ (steps.fields_at row S k ≡ fields_at S k)) → o ≡ field_named (steps.fields_at row S k) q
+    by : ((members_in members S k ≡ []) ⊎ (members_in members S k ≡ fields_at S k)) → o ≡ field_named (members_in members S k) q
     by (inl none) = absurd (some (ap length (is ∙ none)))
     by (inr all) = e ∙ ap (λ gs. field_named gs q) (sym all)
 

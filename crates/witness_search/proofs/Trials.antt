@@ -15,7 +15,7 @@ use Rattle.witness_calls.specs.declared.call.Call.{Call}
 use Rattle.witness_calls.specs.declared.showing.Showing.{Showing}
 use Rattle.witness_calls.specs.declared.showing.Tried.{Tried}
 use Rattle.witness_search.specs.Asked.{method_seen}
-use Rattle.witness_search.specs.First.{IsFirst}
+use Rattle.witness_search.specs.steps.First.{IsFirst}
 use Rattle.witness_search.specs.declared.candidates.Reach.{Reach}
 use Rattle.witness_search.specs.declared.first.Trial.{Trial}
 use Rattle.witness_search.specs.steps.Requests.{requests_of}

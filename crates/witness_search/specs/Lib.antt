@@ -1,6 +1,6 @@
 pub mod Asked
-pub mod First
 pub mod IsWitness
 pub mod ReachTables
 pub mod RowsByRule
+pub mod Seen
 pub mod steps

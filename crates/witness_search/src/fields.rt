@@ -1,50 +1,58 @@
-//! The fields of a place in both versions, and records of values for them.
+//! The fields of a declaration, and records of values for them.
 ghost use Rattle.std.specs.Prelude.{◌≡◌, ◌<◌, length, IfOk, if◌then◌else◌};
 ghost use Rattle.aidl_values.specs.Sound.{initial_in};
 ghost use Rattle.aidl_values.specs.Data.{rec};
 ghost use Rattle.aidl_values.specs.View.{view, views};
 ghost use Rattle.compat_witness.specs.Reaching as reaching;
 ghost use Rattle.compat_witness.specs.Rows as rows;
-ghost use Rattle.aidl_schema.specs.Broken.{union_fields};
+ghost use Rattle.witness_search.specs.ReachTables.{plain_unions};
+ghost use Rattle.witness_search.specs.steps.Fields.{members_in, members_of};
 ghost use Rattle.witness_search.specs.steps.Records.{part};
 
-use crate::plain::plain_value;
+use crate::plain::{are_plain, plain_value};
 use aidl_base::{OutOfMemory, Row};
-use aidl_schema::{Field, Kind, Schema, same_text, same_type};
+use aidl_schema::{Decl, Field, Kind, Schema, same_text, same_type};
 use aidl_values::{Fields, Value, initial_of};
 use std::alloc::Global;
+use witness_calls::Version;
 
-/// The fields of the parcelable of a number; none of another kind.
-pub fn fields_in(schema: &Schema, number: u32) -> &[Field]
-    ensures { result.now ≡ rows.fields_in schema.now.decls number }
+/// The members of a declaration among which a row looks: the fields of a parcelable, or those of a union.
+#[derive(Clone, Copy)]
+pub enum Members {
+    Fields,
+    Alternatives,
+}
+
+/// The members of the declaration of a number; none of another kind.
+pub fn members_in<'a>(version: &Version<'a>, members: Members, number: u32) -> &'a [Field]
+    ensures { result.now ≡ members_in members version.now number }
 {
-    match schema.decls.as_slice().get(number as usize) {
-        Some(decl) => match &decl.kind {
-            Kind::Parcelable(fields) => fields.as_slice(),
-            _ => &[],
-        },
+    match version.schema().decls.as_slice().get(number as usize) {
+        Some(decl) => members_of(members, &decl.kind),
         None => &[],
     }
 }
 
-/// The fields of the union of a number; none of another kind.
-pub fn alternatives_in(schema: &Schema, number: u32) -> &[Field]
-    ensures { result.now ≡ rows.alternatives_in schema.now.decls number }
-{
-    match schema.decls.as_slice().get(number as usize) {
-        Some(decl) => union_fields(&decl.kind),
-        None => &[],
-    }
-}
-
-/// The alternatives of a union; none of another kind.
-pub fn union_fields(kind: &Kind) -> &[Field]
-    ensures { result.now ≡ union_fields kind.now }
+// The members of a declaration of a kind.
+fn members_of(members: Members, kind: &Kind) -> &[Field]
+    ensures { result.now ≡ members_of members kind.now }
 {
     match kind {
-        Kind::Union(fields) => fields.as_slice(),
+        Kind::Parcelable(fields) if matches!(members, Members::Fields) => fields.as_slice(),
+        Kind::Union(fields) if matches!(members, Members::Alternatives) => fields.as_slice(),
         _ => &[],
     }
+}
+
+/// For each of some declarations whether all alternatives are plain, if it is a union.
+pub fn plain_unions(alloc: Global, decls: &[Decl]) -> Result<Vec<bool>, OutOfMemory>
+    ensures { IfOk result (λ plain. plain.items ≡ plain_unions decls.now) }
+{
+    let mut plain = Vec::with_capacity(alloc, decls.len())?;
+    for decl in decls {
+        plain.push(are_plain(members_of(Members::Alternatives, &decl.kind)))?;
+    }
+    Ok(plain)
 }
 
 /// Whether the types at each position below both counts are the same.
@@ -92,14 +100,7 @@ pub fn with_value(
         let value = value_at(alloc, schema, high, i == position, &fields[i])?;
         values.push(value)?;
     }
-    Ok(record_of(Row::from_vec(values)))
-}
-
-// The record of the values of all fields.
-fn record_of(values: Row<Value>) -> Value
-    ensures { view result ≡ rec (views values) }
-{
-    Value::Rec(Fields::Whole(values))
+    Ok(Value::Rec(Fields::Whole(Row::from_vec(values))))
 }
 
 // z0 or z1 of a field where it is meant, and its default elsewhere.

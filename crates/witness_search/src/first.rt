@@ -1,15 +1,13 @@
-//! The first call that is shown, among calls and among groups of requests.
-ghost use Rattle.std.specs.Prelude.{◌≡◌, ◌∷◌, ◌&&◌, [], IfOk, Some, false, map};
+//! The first candidate that is shown.
+ghost use Rattle.std.specs.Prelude.{◌≡◌, ◌∷◌, ◌&&◌, [], IfOk, Some, false};
 ghost use Rattle.std.specs.List.{flat_map};
-ghost use Rattle.compat_witness.specs.Candidates.{client_of, server_of};
-ghost use Rattle.compat_witness.specs.Reaching.{methods_reaching};
 ghost use Rattle.witness_calls.specs.Seen.{call_seen};
-ghost use Rattle.witness_search.specs.Asked.{calls_seen, group_seen, groups_seen, method_seen};
-ghost use Rattle.witness_search.specs.First.{IsFirst};
+ghost use Rattle.witness_search.specs.Asked.{candidates_seen, group_seen, part_seen};
+ghost use Rattle.witness_search.specs.steps.First.{IsFirst};
 ghost use Rattle.witness_search.specs.steps.Requests.{request_of, requests_of};
 ghost use Rattle.witness_search.specs.steps.Trials.{AreShownAlike, IsFirstTrial};
 
-use crate::candidates::{Calls, Group, Groups, Reach, one_value};
+use crate::candidates::{Candidates, Group, Part, Reach, one_value};
 use crate::pair::Pair;
 use crate::shown::Witness;
 use aidl_base::OutOfMemory;
@@ -18,30 +16,38 @@ use compat_witness::law_alike;
 use std::alloc::Global;
 use witness_calls::{Call, Tried, Values, try_call};
 
-/// The first of these calls that is shown, None where none is.
-pub fn first_call(
+/// The first of these candidates that is shown, None where none is.
+#[tactic(auto, using(crate::proofs::Firsts::part_found, crate::proofs::Firsts::part_later, crate::proofs::Firsts::part_alone))]
+pub fn first_shown(
     alloc: Global,
     pair: &Pair<'_, '_>,
-    calls: Calls,
+    candidates: Candidates,
 ) -> Result<Option<Witness>, OutOfMemory>
-    ensures { IfOk result (λ found. IsFirst pair.now.old pair.now.new (calls_seen calls) found) }
+    ensures { IfOk result (λ found. IsFirst pair.now.old pair.now.new
+        (candidates_seen pair.now.old pair.now.new candidates) found) }
 {
-    let Calls { first, second } = calls;
-    match found_by(alloc, pair, first)? {
+    let Candidates { first, second } = candidates;
+    match first_of(alloc, pair, first)? {
         Some(found) => Ok(Some(found)),
         None => match second {
-            Some(call) => found_by(alloc, pair, call),
+            Some(part) => first_of(alloc, pair, part),
             None => Ok(None),
         },
     }
 }
 
-// The call where it is shown.
-fn found_by(alloc: Global, pair: &Pair<'_, '_>, call: Call) -> Result<Option<Witness>, OutOfMemory>
-    ensures { IfOk result (λ found. IsFirst pair.now.old pair.now.new (call_seen call ∷ []) found) }
+// The first of a part that is shown.
+fn first_of(alloc: Global, pair: &Pair<'_, '_>, part: Part) -> Result<Option<Witness>, OutOfMemory>
+    ensures { IfOk result (λ found. IsFirst pair.now.old pair.now.new
+        (part_seen pair.now.old pair.now.new part) found) }
 {
-    let Trial { found, short: _ } = try_one(alloc, pair, call)?;
-    Ok(found)
+    match part {
+        Part::Call(call) => {
+            let Trial { found, short: _ } = try_one(alloc, pair, call)?;
+            Ok(found)
+        }
+        Part::Requests(group) => first_of_group(alloc, pair, &group),
+    }
 }
 
 /// What trials of calls came to: the first that is shown, and where none is, whether it is known that none is too long.
@@ -73,29 +79,7 @@ fn found_one(witness: Witness) -> Trial
     }
 }
 
-/// The first request of these groups that is shown, None where none is.
-#[tactic(auto, using(crate::proofs::Firsts::groups_found, crate::proofs::Firsts::groups_later, crate::proofs::Firsts::groups_alone))]
-pub fn first_request(
-    alloc: Global,
-    pair: &Pair<'_, '_>,
-    groups: &Groups,
-) -> Result<Option<Witness>, OutOfMemory>
-    ensures { IfOk result (λ found.
-        IsFirst pair.now.old pair.now.new (groups_seen pair.now.old pair.now.new groups.now) found) }
-{
-    match first_of_group(alloc, pair, &groups.first)? {
-        Some(found) => Ok(Some(found)),
-        None => match &groups.second {
-            Some(group) => {
-                let found = first_of_group(alloc, pair, group)?;
-                Ok(found)
-            }
-            None => Ok(None),
-        },
-    }
-}
-
-// The first request of a group that is shown.
+// The first request of a group that is shown. The methods that reach its declaration show all or none by one value.
 fn first_of_group(
     alloc: Global,
     pair: &Pair<'_, '_>,
@@ -104,23 +88,13 @@ fn first_of_group(
     ensures { IfOk result (λ found.
         IsFirst pair.now.old pair.now.new (group_seen pair.now.old pair.now.new group.now) found) }
 {
-    let methods = reaching_methods(pair, group);
-    let values = group.values.as_slice();
-    first_of_methods(alloc, pair, group.back, methods, values)
-}
-
-// The methods that reach the declaration of a group. By one value they show all or none.
-fn reaching_methods<'t>(pair: &'t Pair<'_, '_>, group: &Group) -> &'t [Reach]
-    ensures are { map method_seen result.now
-        ≡ methods_reaching (client_of group.now.back pair.now.old pair.now.new) group.now.number
-        (server_of group.now.back pair.now.old pair.now.new) }
-    ensures alike { AreShownAlike pair.now.old pair.now.new group.now.back result.now }
-{
     let before = pair.old.schema();
     let after = pair.new.schema();
     law_alike(before, after);
     law_alike(after, before);
-    pair.reaching(group.back, group.number)
+    let methods = pair.reaching(group.back, group.number);
+    let values = group.values.as_slice();
+    first_of_methods(alloc, pair, group.back, methods, values)
 }
 
 // The first request of these methods that is shown. After one of whose requests none is too long no other one is tried.
@@ -189,19 +163,13 @@ fn try_request(
     ensures { IfOk result (λ trial.
         IsFirstTrial pair.now.old pair.now.new (request_of back reach.now value.now ∷ []) trial) }
 {
-    let call = request_of(alloc, back, reach, value)?;
-    try_one(alloc, pair, call)
-}
-
-fn request_of(alloc: Global, back: bool, reach: &Reach, value: &Value) -> Result<Call, OutOfMemory>
-    ensures { IfOk result (λ call. call_seen call ≡ request_of back reach.now value.now) }
-{
     let copy = value.try_clone(alloc)?;
     let args = one_value(alloc, copy)?;
-    Ok(Call {
+    let call = Call {
         back,
         interface: reach.interface,
         method: reach.method,
         values: Values::Arguments(args),
-    })
+    };
+    try_one(alloc, pair, call)
 }

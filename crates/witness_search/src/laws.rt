@@ -5,8 +5,7 @@ ghost use Rattle.aidl_schema.specs.Unbroken.{Has};
 ghost use Rattle.compat_judge.specs.Seen.{seen};
 ghost use Rattle.compat_witness.specs.Candidates.{AreSmall, Candidate, Shows};
 ghost use Rattle.compat_witness.specs.Rows.{Row};
-ghost use Rattle.witness_search.specs.RowsByRule.{row_C6_both};
-ghost use Rattle.witness_search.specs.RowsByRule.{row_of};
+ghost use Rattle.witness_search.specs.RowsByRule.{row_C6_both, row_of};
 
 use aidl_base::Text;
 use aidl_schema::Schema;

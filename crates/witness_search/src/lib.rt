@@ -1,29 +1,22 @@
 //! Witnesses: of each broken rule the first call that shows it, among those that the rule's row in the table gives at its place.
 //!
-//! C2 and C16 stand in `declarations`, C3, C4 and C8 in `unanswered`, C5 in `results`, C6 in `counts`, C7 in `ways`, C10, C11 and C15 in `records`. `search`
-//! asks the row of an entry's rule, and `first` tries its calls; `pair` has the two versions, and `reaching` finds the methods that reach each
-//! declaration.
+//! C2 and C16 stand in `declarations`, C3 to C6 and C8 in `methods`, C7 in `ways`, C10, C11 and C15 in `records`. `search` asks the row of an
+//! entry's rule, and `first` tries its candidates; `pair` has the two versions, and `reaching` finds the methods that reach each declaration.
 #![tactic(auto)]
 
-mod both;
 mod candidates;
-mod counts;
 mod declarations;
 mod fields;
 mod first;
 mod laws;
 mod methods;
 mod pair;
-mod places;
 mod plain;
 mod reaching;
 mod records;
-mod results;
 mod search;
 mod shown;
 mod spot;
-mod unanswered;
-mod unions;
 mod ways;
 
 pub use laws::law_shown;

@@ -7,8 +7,8 @@ ghost use Rattle.witness_search.specs.Asked.{method_seen};
 ghost use Rattle.witness_search.specs.ReachTables.{AreReachTables, plain_at, row_at};
 
 use crate::candidates::Reach;
+use crate::fields::plain_unions;
 use crate::reaching::reach_table;
-use crate::unions::plain_unions;
 use aidl_base::{OutOfMemory, Row};
 use std::alloc::Global;
 use witness_calls::Version;

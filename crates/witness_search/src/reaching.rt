@@ -2,7 +2,6 @@
 ghost use Rattle.std.specs.Prelude.{◌≡◌, ◌==◌, ◌&&◌, ◌≤◌, ℕ, [], length, if◌then◌else◌, IfOk, None, OnOk, Some};
 ghost use Rattle.std.specs.Option.{option_copied};
 ghost use Rattle.aidl_schema.specs.Broken.{is_there_and};
-ghost use Rattle.aidl_schema.specs.Find.{methods_at};
 ghost use Rattle.compat_witness.specs.Reaching as meant;
 ghost use Rattle.witness_search.specs.ReachTables.{IsReachTable, row_at};
 ghost use Rattle.witness_search.specs.steps.Reached.{AreAdded, IsAdded, IsNamed, reached_from, reached_in};
@@ -13,7 +12,7 @@ use crate::spot::{only, spot_in};
 use aidl_base::{OutOfMemory, Row};
 use aidl_schema::{Arg, Base, Method, law_valid, same_type};
 use std::alloc::Global;
-use witness_calls::{Version, declared_like};
+use witness_calls::Version;
 
 /// For each declaration of the client its methods that reach it: each has the same id in both versions and this one argument, which is
 /// `in`, one value of the declaration and never null. They are in the order of interfaces and methods.
@@ -25,7 +24,7 @@ pub fn reach_table(
     ensures { IfOk result (λ rows. IsReachTable client.now server.now rows.items) }
 {
     let mut rows = empty_rows(alloc, client.schema().decls.as_slice().len())?;
-    add_all(alloc, client, server, rows.as_mut_slice())?;
+    add_all(client, server, rows.as_mut_slice())?;
     Ok(rows)
 }
 
@@ -43,7 +42,6 @@ fn empty_rows(alloc: Global, count: usize) -> Result<Vec<Row<Reach>>, OutOfMemor
 
 // Adds the methods of all interfaces to the rows of what they reach.
 fn add_all(
-    alloc: Global,
     client: &Version<'_>,
     server: &Version<'_>,
     rows: &mut [Row<Reach>],
@@ -55,14 +53,13 @@ fn add_all(
     law_valid(schema);
     let decls = schema.decls.as_slice();
     for i in 0..decls.len() {
-        add_reaching(alloc, client, server, i as u32, rows)?;
+        add_reaching(client, server, i as u32, rows)?;
     }
     Ok(())
 }
 
 // Adds the methods of one interface.
 fn add_reaching(
-    alloc: Global,
     client: &Version<'_>,
     server: &Version<'_>,
     interface: u32,
@@ -75,9 +72,9 @@ fn add_reaching(
         client,
         server,
         interface,
-        named: declared_like(alloc, client.schema(), interface, server.schema())?,
+        named: server.declared_like(client, interface),
     };
-    add_methods(&ends, few_methods(client, interface), rows)
+    add_methods(&ends, client.methods(interface), rows)
 }
 
 // Adds these methods.
@@ -103,15 +100,6 @@ fn add_methods(
         add(rows, number, reach)?;
     }
     Ok(())
-}
-
-// The methods of an interface, which are at most 4,096.
-fn few_methods<'a>(version: &Version<'a>, interface: u32) -> &'a [Method]
-    ensures is { result.now ≡ methods_at version.now interface }
-    ensures few { length result.now ≤ 4096 }
-{
-    law_valid(version.schema());
-    version.methods(interface)
 }
 
 /// An interface of the client, the server, and the number of the server's declaration of that name.
@@ -144,13 +132,8 @@ fn declaration_reached(ends: &Ends<'_>, method: &Method) -> Option<u32>
 {
     let arg = only(method.args.as_slice())?;
     match arg.ty.base {
-        Base::Named(number) => {
-            if has_argument(ends, method, arg) {
-                Some(number)
-            } else {
-                None
-            }
-        }
+        Base::Named(number) if has_argument(ends, method, arg) => Some(number),
+        Base::Named(_) => None,
         Base::Boolean | Base::Byte | Base::Char | Base::Int | Base::Long | Base::Text => None,
     }
 }

@@ -1,216 +1,186 @@
 //! The rows of a field: C10, one of a parcelable whose name differs, C11, one whose type differs, and C15, one of a union.
 ghost use Rattle.std.specs.Option.{option_copied};
-ghost use Rattle.std.specs.Prelude.{◌≡◌, ◌&&◌, ◌<◌, IfOk, false, length, option_map, take};
+ghost use Rattle.std.specs.Prelude.{◌≡◌, ◌&&◌, ◌<◌, IfOk, IfSome, false, length, slice_get, take};
 ghost use Rattle.aidl_values.specs.Data.{alt};
 ghost use Rattle.aidl_schema.specs.Types.{type_of_field};
 ghost use Rattle.aidl_values.specs.View.{view};
 ghost use Rattle.compat_witness.specs.Reaching.{are_plain, plain_value};
 ghost use Rattle.compat_witness.specs.Rows as rows;
-ghost use Rattle.witness_search.specs.Asked.{groups_seen};
-ghost use Rattle.witness_search.specs.steps.Reached.{IsReached};
+ghost use Rattle.witness_search.specs.steps.Fields.{IsWithin, field_by_bytes, field_of, members_in};
+ghost use Rattle.witness_search.specs.steps.Gives.{GivesRow};
 ghost use Rattle.witness_search.specs.steps.Named.{field_named};
-ghost use Rattle.witness_search.specs.steps.Rows as steps;
 
-use crate::both::{Both, group_of, one_group};
-use crate::candidates::{Groups, one_value, two_values};
-use crate::fields::{alternatives_in, fields_in, names_agree, types_agree, with_value};
+use crate::candidates::{Candidates, alone, one_request, two_requests};
+use crate::fields::{Members, members_in, names_agree, types_agree, with_value};
 use crate::pair::Pair;
-use crate::places::at_last_dot;
 use crate::plain::{are_plain, low_value};
+use crate::spot::at_last_dot;
 use aidl_base::{OutOfMemory, Text};
 use aidl_schema::{Base, Field, Schema, find, law_valid, same_text, same_type};
 use aidl_values::Value;
 use std::alloc::Global;
 use witness_calls::Version;
 
-/// A row of a field.
+/// A field of a declaration of both versions: the numbers of that, and the field's position in old.
 #[derive(Clone, Copy)]
-pub enum FieldRow {
-    C10,
-    C11,
-    C15,
+pub struct FieldPlace {
+    pub old: u32,
+    pub new: u32,
+    pub position: usize,
 }
 
-/// The requests of a row at a place that names a field; None where its condition isn't met.
-pub fn field_groups(
-    alloc: Global,
-    row: FieldRow,
-    pair: &Pair<'_, '_>,
-    place: &Text,
-) -> Result<Option<Groups>, OutOfMemory>
-    ensures { IfOk result (λ groups. option_map (groups_seen pair.now.old pair.now.new) groups
-        ≡ steps.field_row row pair.now.old pair.now.new place.now) }
-{
-    groups_named(alloc, row, pair, place.as_str())
-}
+impl Pair<'_, '_> {
+    /// C10: requests with z0, then z1, in that field and defaults elsewhere.
+    #[tactic(auto, using(crate::proofs::FieldRows::none_c10, crate::proofs::FieldRows::some_c10))]
+    pub fn asked_c10(&self, alloc: Global, place: &Text) -> Result<Option<Candidates>, OutOfMemory>
+        ensures { IfOk result (GivesRow rows.row_C10 self.now place.now) }
+    {
+        let Some(at) = field_of(self, Members::Fields, place) else {
+            return Ok(None);
+        };
+        let olds = members_in(&self.old, Members::Fields, at.old);
+        let news = members_in(&self.new, Members::Fields, at.new);
+        if !self.is_reached(at.old) || !is_met_c10(self, olds, news) {
+            return Ok(None);
+        }
+        let low = with_value(alloc, self.old.schema(), false, at.position, olds)?;
+        let high = with_value(alloc, self.old.schema(), true, at.position, olds)?;
+        let part = two_requests(alloc, false, at.old, low, high)?;
+        Ok(Some(alone(part)))
+    }
 
-// The same by the bytes of the place.
-#[tactic(auto, using(crate::proofs::Reaches::reached_as, crate::proofs::PlainUnions::plain_as))]
-fn groups_named(
-    alloc: Global,
-    row: FieldRow,
-    pair: &Pair<'_, '_>,
-    place: &str,
-) -> Result<Option<Groups>, OutOfMemory>
-    ensures { IfOk result (λ groups. option_map (groups_seen pair.now.old pair.now.new) groups
-        ≡ steps.field_row_named row pair.now.old pair.now.new place.now) }
-{
-    let Some((name, field)) = at_last_dot(place) else {
-        return Ok(None);
-    };
-    let before = pair.old.schema();
-    let after = pair.new.schema();
-    let Some(k) = find(before, name) else {
-        return Ok(None);
-    };
-    let Some(l) = find(after, name) else {
-        return Ok(None);
-    };
-    let Some(position) = field_at(row, &pair.old, k, field) else {
-        return Ok(None);
-    };
-    let both = Both {
-        old: before,
-        k,
-        new: after,
-        l,
-        reached: pair.is_reached(k),
-    };
-    match row {
-        FieldRow::C10 => asked_c10(alloc, &both, position),
-        FieldRow::C11 => asked_c11(alloc, &both, position),
-        FieldRow::C15 => asked_c15(alloc, &both, pair.are_plain(k, l), position),
+    /// C11: requests with z0 in that field and defaults elsewhere, either way.
+    #[tactic(auto, using(crate::proofs::FieldRows::none_c11, crate::proofs::FieldRows::some_c11))]
+    pub fn asked_c11(&self, alloc: Global, place: &Text) -> Result<Option<Candidates>, OutOfMemory>
+        ensures { IfOk result (GivesRow rows.row_C11 self.now place.now) }
+    {
+        let Some(at) = field_of(self, Members::Fields, place) else {
+            return Ok(None);
+        };
+        let olds = members_in(&self.old, Members::Fields, at.old);
+        let news = members_in(&self.new, Members::Fields, at.new);
+        if !self.is_reached(at.old) || !is_met_c11(self, at.position, olds, news) {
+            return Ok(None);
+        }
+        let forth = with_value(alloc, self.old.schema(), false, at.position, olds)?;
+        let first = one_request(alloc, false, at.old, forth)?;
+        let back = with_value(alloc, self.new.schema(), false, at.position, news)?;
+        let second = one_request(alloc, true, at.new, back)?;
+        Ok(Some(Candidates {
+            first,
+            second: Some(second),
+        }))
+    }
+
+    /// C15: a request with that tag and z0.
+    #[tactic(auto, using(crate::proofs::FieldRows::none_c15, crate::proofs::FieldRows::some_c15))]
+    pub fn asked_c15(&self, alloc: Global, place: &Text) -> Result<Option<Candidates>, OutOfMemory>
+        ensures { IfOk result (GivesRow rows.row_C15 self.now place.now) }
+    {
+        let Some(at) = field_of(self, Members::Alternatives, place) else {
+            return Ok(None);
+        };
+        if !self.is_reached(at.old) || !is_met_c15(self, at) {
+            return Ok(None);
+        }
+        let value = low_alternative(alloc, &self.old, at)?;
+        let part = one_request(alloc, false, at.old, value)?;
+        Ok(Some(alone(part)))
     }
 }
 
-// The position of the field of a name among those.
-#[tactic(auto, using(crate::proofs::RecordParts::no_field, crate::proofs::RecordParts::some_field))]
-fn field_at(row: FieldRow, version: &Version<'_>, number: u32, name: &str) -> Option<usize>
-    ensures { result ≡ field_named (steps.fields_at row version.now number) name.now }
+// The field that a place names among these members of its declaration.
+fn field_of(pair: &Pair<'_, '_>, members: Members, place: &Text) -> Option<FieldPlace>
+    ensures is { result ≡ field_of members pair.now.old pair.now.new place.now }
+    ensures within { IfSome result (IsWithin members pair.now.old) }
 {
-    if fields_at(row, version.schema(), number).len() == 0 {
+    field_by_bytes(pair, members, place.as_str())
+}
+
+// The same by the bytes of the place.
+fn field_by_bytes(pair: &Pair<'_, '_>, members: Members, place: &str) -> Option<FieldPlace>
+    ensures is { result ≡ field_by_bytes members pair.now.old pair.now.new place.now }
+    ensures within { IfSome result (IsWithin members pair.now.old) }
+{
+    let (name, field) = at_last_dot(place)?;
+    let old = find(pair.old.schema(), name)?;
+    let new = find(pair.new.schema(), name)?;
+    let position = position_in(&pair.old, members, old, field)?;
+    Some(FieldPlace { old, new, position })
+}
+
+// The position of the field of a name among the members of a declaration.
+#[tactic(auto, using(crate::proofs::RecordParts::no_field, crate::proofs::RecordParts::some_field))]
+fn position_in(version: &Version<'_>, members: Members, number: u32, name: &str) -> Option<usize>
+    ensures { result ≡ field_named (members_in members version.now number) name.now }
+{
+    if members_in(version, members, number).len() == 0 {
         return None;
     }
     version.field_named(number, name)
 }
 
-// The fields among which a row looks.
-fn fields_at(row: FieldRow, schema: &Schema, number: u32) -> &[Field]
-    ensures { result.now ≡ steps.fields_at row schema.now.decls number }
-{
-    match row {
-        FieldRow::C10 | FieldRow::C11 => fields_in(schema, number),
-        FieldRow::C15 => alternatives_in(schema, number),
-    }
-}
-
-// C10: requests with z0, then z1, in that field and defaults elsewhere.
-fn asked_c10(
-    alloc: Global,
-    both: &Both<'_, '_>,
-    position: usize,
-) -> Result<Option<Groups>, OutOfMemory>
-    requires { IsReached both.now }
-    ensures { IfOk result (λ groups.
-        option_map (groups_seen both.now.old.now.decls both.now.new.now.decls) groups
-        ≡ rows.ask_C10 both.now.old.now.decls both.now.k both.now.new.now.decls both.now.l
-        (rows.fields_in both.now.old.now.decls both.now.k)
-        (rows.fields_in both.now.new.now.decls both.now.l) position) }
-{
-    let olds = fields_in(both.old, both.k);
-    let news = fields_in(both.new, both.l);
-    if !both.reached || !is_met_c10(both, olds, news) {
-        return Ok(None);
-    }
-    let low = with_value(alloc, both.old, false, position, olds)?;
-    let high = with_value(alloc, both.old, true, position, olds)?;
-    let values = two_values(alloc, low, high)?;
-    Ok(Some(one_group(both, false, values)))
-}
-
 // All fields are plain in both, and types agree at each position below both counts.
-fn is_met_c10(both: &Both<'_, '_>, olds: &[Field], news: &[Field]) -> bool
+fn is_met_c10(pair: &Pair<'_, '_>, olds: &[Field], news: &[Field]) -> bool
     ensures { result ≡ ((are_plain olds.now && are_plain news.now)
-        && rows.types_agree both.now.old.now.decls olds.now both.now.new.now.decls news.now) }
+        && rows.types_agree pair.now.old olds.now pair.now.new news.now) }
 {
-    (are_plain(olds) && are_plain(news)) && types_agree(both.old, olds, both.new, news)
-}
-
-// C11: requests with z0 in that field and defaults elsewhere, either way.
-fn asked_c11(
-    alloc: Global,
-    both: &Both<'_, '_>,
-    position: usize,
-) -> Result<Option<Groups>, OutOfMemory>
-    requires reached { IsReached both.now }
-    requires there { position < length (rows.fields_in both.now.old.now.decls both.now.k) }
-    ensures { IfOk result (λ groups.
-        option_map (groups_seen both.now.old.now.decls both.now.new.now.decls) groups
-        ≡ rows.ask_C11 both.now.old.now.decls both.now.k both.now.new.now.decls both.now.l
-        (rows.fields_in both.now.old.now.decls both.now.k)
-        (rows.fields_in both.now.new.now.decls both.now.l) position) }
-{
-    let olds = fields_in(both.old, both.k);
-    let news = fields_in(both.new, both.l);
-    if !both.reached || !is_met_c11(both, position, olds, news) {
-        return Ok(None);
-    }
-    let forth = with_value(alloc, both.old, false, position, olds)?;
-    let back = with_value(alloc, both.new, false, position, news)?;
-    Ok(Some(Groups {
-        first: group_of(both, false, one_value(alloc, forth)?),
-        second: Some(group_of(both, true, one_value(alloc, back)?)),
-    }))
+    (are_plain(olds) && are_plain(news))
+        && types_agree(pair.old.schema(), olds, pair.new.schema(), news)
 }
 
 // All fields are plain in both, have the same names, and but for the last the same types.
 #[tactic(auto, using(crate::proofs::RecordParts::not_last, crate::proofs::RecordParts::at_last))]
-fn is_met_c11(both: &Both<'_, '_>, position: usize, olds: &[Field], news: &[Field]) -> bool
+fn is_met_c11(pair: &Pair<'_, '_>, position: usize, olds: &[Field], news: &[Field]) -> bool
     requires { position < length olds.now }
     ensures { result ≡ ((are_plain olds.now && are_plain news.now)
         && (rows.names_agree olds.now news.now
         && (rows.is_last position olds.now
-        && rows.types_agree both.now.old.now.decls (take position olds.now)
-        both.now.new.now.decls news.now))) }
+        && rows.types_agree pair.now.old (take position olds.now) pair.now.new news.now))) }
 {
     if position + 1 != olds.len() {
         return false;
     }
     (are_plain(olds) && are_plain(news))
-        && (names_agree(olds, news) && types_agree(both.old, &olds[..position], both.new, news))
+        && (names_agree(olds, news)
+            && types_agree(
+                pair.old.schema(),
+                &olds[..position],
+                pair.new.schema(),
+                news,
+            ))
 }
 
-// C15: a request with that tag and z0. It is known whether all alternatives of both are plain.
-fn asked_c15(
-    alloc: Global,
-    both: &Both<'_, '_>,
-    plain: bool,
-    position: usize,
-) -> Result<Option<Groups>, OutOfMemory>
-    requires reached { IsReached both.now }
-    requires plain { plain ≡ (are_plain (rows.alternatives_in both.now.old.now.decls both.now.k)
-        && are_plain (rows.alternatives_in both.now.new.now.decls both.now.l)) }
-    requires there { position < length (rows.alternatives_in both.now.old.now.decls both.now.k) }
-    ensures { IfOk result (λ groups.
-        option_map (groups_seen both.now.old.now.decls both.now.new.now.decls) groups
-        ≡ rows.ask_C15 both.now.old.now.decls both.now.k both.now.new.now.decls both.now.l
-        (rows.alternatives_in both.now.old.now.decls both.now.k)
-        (rows.alternatives_in both.now.new.now.decls both.now.l) position) }
+// All alternatives are plain in both, and names or types differ at that position.
+fn is_met_c15(pair: &Pair<'_, '_>, at: FieldPlace) -> bool
+    ensures { result ≡ ((are_plain (rows.alternatives_in pair.now.old at.old)
+        && are_plain (rows.alternatives_in pair.now.new at.new))
+        && rows.differ_at pair.now.old pair.now.new
+        (slice_get (rows.alternatives_in pair.now.old at.old) at.position)
+        (slice_get (rows.alternatives_in pair.now.new at.new) at.position)) }
 {
-    let olds = alternatives_in(both.old, both.k);
-    let news = alternatives_in(both.new, both.l);
-    let before = olds.get(position);
-    if !both.reached || !(plain && differ_at(both, before, news.get(position))) {
-        return Ok(None);
-    }
-    let tag = small_position(both.old, both.k, position);
-    let value = low_alternative(alloc, tag, before)?;
-    let values = one_value(alloc, value)?;
-    Ok(Some(one_group(both, false, values)))
+    let before = members_in(&pair.old, Members::Alternatives, at.old).get(at.position);
+    let after = members_in(&pair.new, Members::Alternatives, at.new).get(at.position);
+    pair.are_plain(at.old, at.new) && differ_at(pair, before, after)
+}
+
+// z0 in the alternative at a position.
+fn low_alternative(
+    alloc: Global,
+    version: &Version<'_>,
+    at: FieldPlace,
+) -> Result<Value, OutOfMemory>
+    requires { at.position < length (rows.alternatives_in version.now at.old) }
+    ensures { IfOk result (λ value. view value
+        ≡ rows.low_alternative at.position (rows.alternatives_in version.now at.old)) }
+{
+    let tag = small_position(version.schema(), at.old, at.position);
+    let field = members_in(version, Members::Alternatives, at.old).get(at.position);
+    low_in(alloc, tag, field)
 }
 
 // z0 in the alternative of a tag.
-fn low_alternative(alloc: Global, tag: u32, field: Option<&Field>) -> Result<Value, OutOfMemory>
+fn low_in(alloc: Global, tag: u32, field: Option<&Field>) -> Result<Value, OutOfMemory>
     ensures { IfOk result (λ value. view value
         ≡ alt tag (plain_value false (type_of_field (option_copied field.entry)).base)) }
 {
@@ -223,14 +193,15 @@ fn low_alternative(alloc: Global, tag: u32, field: Option<&Field>) -> Result<Val
 }
 
 // Whether names or types differ, where both are there.
-fn differ_at(both: &Both<'_, '_>, before: Option<&Field>, after: Option<&Field>) -> bool
-    ensures { result ≡ rows.differ_at both.now.old.now.decls both.now.new.now.decls
+fn differ_at(pair: &Pair<'_, '_>, before: Option<&Field>, after: Option<&Field>) -> bool
+    ensures { result ≡ rows.differ_at pair.now.old pair.now.new
         (option_copied before.entry) (option_copied after.entry) }
 {
     match before {
         Some(f) => match after {
             Some(g) => {
-                !(same_text(&f.name.0, &g.name.0) && same_type(both.old, f.ty, both.new, g.ty))
+                !(same_text(&f.name.0, &g.name.0)
+                    && same_type(pair.old.schema(), f.ty, pair.new.schema(), g.ty))
             }
             None => false,
         },
@@ -238,7 +209,7 @@ fn differ_at(both: &Both<'_, '_>, before: Option<&Field>, after: Option<&Field>)
     }
 }
 
-// A position of a field is small.
+// A position of an alternative is small.
 fn small_position(schema: &Schema, number: u32, position: usize) -> u32
     requires { position < length (rows.alternatives_in schema.now.decls number) }
     ensures { result ≡ position }

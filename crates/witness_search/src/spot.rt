@@ -1,20 +1,32 @@
-//! The methods of a place, in both versions, and their arguments.
-ghost use Rattle.std.specs.Prelude.{◌≡◌, ◌<◌, List, ℕ, IfOk, Some, length, option_map};
+//! The parts of a place, its method in both versions, and the arguments of that.
+ghost use Rattle.std.specs.Prelude.{◌≡◌, List, ℕ, Some, option_map};
 ghost use Rattle.std.specs.Option.{option_copied};
 ghost use Rattle.std.specs.Str.{encode_utf8_all};
 ghost use Rattle.aidl_schema.specs.Find.{methods_at};
-ghost use Rattle.compat_witness.specs.Places.{spot_at, spot_like, spot_of};
+ghost use Rattle.compat_witness.specs.Places.{at_last_dot, at_slash, spot_at, spot_like, spot_of};
 ghost use Rattle.compat_witness.specs.Reaching.{only};
 ghost use Rattle.compat_witness.specs.Rows.{are_empty, both_only, is_empty};
 ghost use Rattle.wire_model.specs.Outcome.{method_like};
 ghost use Rattle.witness_search.specs.steps.Seen.{spot_seen};
 ghost use Rattle.witness_search.specs.steps.Named.{spot_named};
 
-use crate::places::at_last_dot;
-use aidl_base::OutOfMemory;
-use aidl_schema::{Arg, Method, find, law_valid};
-use std::alloc::Global;
-use witness_calls::{Version, declared_like};
+use crate::pair::Pair;
+use aidl_schema::{Arg, Method, find};
+use witness_calls::Version;
+
+/// What stands before the last dot of a place, and what stands behind it.
+pub fn at_last_dot(place: &str) -> Option<(&str, &str)>
+    ensures { option_map (λ p. (p.0.now, p.1.now)) result ≡ at_last_dot place.now }
+{
+    place.rsplit_once('.')
+}
+
+/// What stands before the first slash of a place, and what stands behind it.
+pub fn at_slash(place: &str) -> Option<(&str, &str)>
+    ensures { option_map (λ p. (p.0.now, p.1.now)) result ≡ at_slash place.now }
+{
+    place.split_once('/')
+}
 
 /// A method, the number of its interface, and its position there.
 #[derive(Clone, Copy)]
@@ -41,21 +53,13 @@ fn spot_named<'a>(version: &Version<'a>, place: &str) -> Option<Spot<'a>>
     spot_at(version, number, version.method_named(number, method))
 }
 
-/// The server's method that has the names of a method of the client's interface.
-pub fn spot_like<'a>(
-    alloc: Global,
-    client: &Version<'_>,
-    interface: u32,
-    method: &Method,
-    server: &Version<'a>,
-) -> Result<Option<Spot<'a>>, OutOfMemory>
-    ensures { IfOk result (λ spot. option_map spot_seen spot
-        ≡ spot_like client.now interface method.now server.now) }
+/// The method of new that has the names of one of old.
+pub fn spot_like<'n>(pair: &Pair<'_, 'n>, before: &Spot<'_>) -> Option<Spot<'n>>
+    ensures { option_map spot_seen result
+        ≡ spot_like pair.now.old before.now.interface before.now.method.now pair.now.new }
 {
-    match declared_like(alloc, client.schema(), interface, server.schema())? {
-        Some(number) => Ok(spot_in(server, number, method)),
-        None => Ok(None),
-    }
+    let number = pair.new.declared_like(&pair.old, before.interface)?;
+    spot_in(&pair.new, number, before.method)
 }
 
 /// The method of an interface that has the name of another one.
@@ -67,24 +71,16 @@ pub fn spot_in<'a>(server: &Version<'a>, number: u32, method: &Method) -> Option
 }
 
 // The method at a position of an interface.
-fn spot_at<'a>(version: &Version<'a>, interface: u32, position: Option<usize>) -> Option<Spot<'a>>
+fn spot_at<'a>(version: &Version<'a>, interface: u32, position: Option<u32>) -> Option<Spot<'a>>
     ensures { option_map spot_seen result ≡ spot_at version.now interface position }
 {
     let position = position?;
-    let method = version.methods(interface).get(position)?;
+    let method = version.methods(interface).get(position as usize)?;
     Some(Spot {
         interface,
-        position: small_position(version, interface, position),
+        position,
         method,
     })
-}
-
-fn small_position(version: &Version<'_>, interface: u32, position: usize) -> u32
-    requires { position < length (methods_at version.now interface) }
-    ensures { result ≡ position }
-{
-    law_valid(version.schema());
-    position as u32
 }
 
 /// The one argument of each, where their ids are the same.

@@ -1,60 +1,66 @@
 //! The row of C7, an argument whose direction differs.
-ghost use Rattle.std.specs.Prelude.{◌≡◌, ◌∷◌, [], IfOk, None, Some, option_map, true};
-ghost use Rattle.aidl_schema.specs.Types.{form_of, is_type};
+ghost use Rattle.std.specs.Prelude.{◌≡◌, ◌∷◌, [], List, ℕ, IfOk, None, Some, true};
+ghost use Rattle.std.specs.Str.{encode_utf8_all};
+ghost use Rattle.aidl_schema.specs.Types.{is_type};
 ghost use Rattle.aidl_values.specs.Data.{item, none};
 ghost use Rattle.aidl_values.specs.View.{view};
 ghost use Rattle.wire_model.specs.Calls.{returned};
 ghost use Rattle.wire_model.specs.Receiver.{zero_in};
-ghost use Rattle.compat_witness.specs.Candidates.{reply, request};
-ghost use Rattle.compat_witness.specs.Reaching.{is_parcelable};
-ghost use Rattle.compat_witness.specs.Rows.{ask_C7, asked_C7, is_met_C7, is_sent_back, of_only, sent_in_out};
+ghost use Rattle.compat_witness.specs.Candidates.{reply};
+ghost use Rattle.compat_witness.specs.Rows.{ask_C7, is_met_C7, is_sent_back, row_C7, row_C7_at, sent_in_out};
 ghost use Rattle.witness_calls.specs.Seen.{call_seen};
-ghost use Rattle.witness_search.specs.Asked.{calls_seen};
+ghost use Rattle.witness_search.specs.steps.Gives.{GivesRow};
 ghost use Rattle.witness_search.specs.steps.Seen.{spot_seen};
 
-use crate::candidates::{Calls, one_call, one_value, reply_by, request_by};
+use crate::candidates::{Candidates, Part, alone, one_value, reply_by, request_by};
+use crate::pair::Pair;
 use crate::plain::{is_in_way, is_named, low_value};
-use crate::spot::{Spot, both_only};
-use aidl_base::OutOfMemory;
-use aidl_schema::{AidlType, Arg, Base, Form, Schema, Shape, form_in, same_type};
+use crate::spot::{Spot, at_slash, both_only, spot_like, spot_of};
+use aidl_base::{OutOfMemory, Text};
+use aidl_schema::{AidlType, Arg, Form, Schema, Shape, form_in, same_type};
 use aidl_values::{Answer, Elements, Value, default_of};
 use std::alloc::Global;
-use witness_calls::{Call, is_out};
+use witness_calls::{Call, Version, is_out};
 
-/// C7: where one direction is `in`, a reply to that client with the default of the out; else a request from the version that has
-/// `inout`, with the default, or with an array of one z0.
-pub fn asked_c7(
-    alloc: Global,
-    old: &Schema,
-    new: &Schema,
-    before: &Spot<'_>,
-    after: &Spot<'_>,
-) -> Result<Option<Calls>, OutOfMemory>
-    ensures { IfOk result (λ calls. option_map calls_seen calls
-        ≡ of_only (asked_C7 old.now.decls new.now.decls)
-        (spot_seen before.now) (spot_seen after.now)) }
-{
-    match both_only(before, after) {
-        Some(args) if is_met(old, new, before, after, args) => {
-            let call = ask(alloc, old, new, before, after, args)?;
-            Ok(Some(one_call(call)))
+impl Pair<'_, '_> {
+    /// C7, at an argument: where one direction is `in`, a reply to that client with the default of the out; else a request from the version
+    /// that has `inout`, with the default, or with an array of one z0.
+    pub fn asked_c7(&self, alloc: Global, place: &Text) -> Result<Option<Candidates>, OutOfMemory>
+        ensures { IfOk result (GivesRow row_C7_at self.now place.now) }
+    {
+        match at_slash(place.as_str()) {
+            Some((method, _)) => self.c7_of_method(alloc, method),
+            None => Ok(None),
         }
-        _ => Ok(None),
+    }
+
+    // The same by the method of the place.
+    fn c7_of_method(&self, alloc: Global, place: &str) -> Result<Option<Candidates>, OutOfMemory>
+        ensures { (p : List ℕ) → place.now ≡ encode_utf8_all p
+            → IfOk result (GivesRow row_C7 self.now p) }
+    {
+        let Some(before) = spot_of(&self.old, place) else {
+            return Ok(None);
+        };
+        let Some(after) = spot_like(self, &before) else {
+            return Ok(None);
+        };
+        match both_only(&before, &after) {
+            Some(args) if is_met(self, &before, &after, args) => {
+                let call = call_back(alloc, self, &before, &after, args)?;
+                Ok(Some(alone(Part::Call(call))))
+            }
+            _ => Ok(None),
+        }
     }
 }
 
 // The same type, which can be sent back; two-way and void in both.
-fn is_met(
-    old: &Schema,
-    new: &Schema,
-    before: &Spot<'_>,
-    after: &Spot<'_>,
-    args: (&Arg, &Arg),
-) -> bool
-    ensures { result
-        ≡ is_met_C7 old.now.decls new.now.decls (spot_seen before.now) (spot_seen after.now)
+fn is_met(pair: &Pair<'_, '_>, before: &Spot<'_>, after: &Spot<'_>, args: (&Arg, &Arg)) -> bool
+    ensures { result ≡ is_met_C7 pair.now.old pair.now.new (spot_seen before.now) (spot_seen after.now)
         args.entry.0.now args.entry.1.now }
 {
+    let (old, new) = (pair.old.schema(), pair.new.schema());
     (same_type(old, args.0.ty, new, args.1.ty) && is_sent_back(old, args.0.ty, new, args.1.ty))
         && (!(before.method.oneway || after.method.oneway)
             && (before.method.result.is_none() && after.method.result.is_none()))
@@ -68,44 +74,41 @@ fn is_sent_back(old: &Schema, t: AidlType, new: &Schema, u: AidlType) -> bool
         return false;
     }
     match t.shape {
-        Shape::One => is_parcelable(old, t.base) && is_parcelable(new, u.base),
+        Shape::One => {
+            matches!(form_in(old, t.base), Form::Parcelable(_))
+                && matches!(form_in(new, u.base), Form::Parcelable(_))
+        }
         Shape::Array => !is_named(t.base),
         Shape::List => false,
     }
 }
 
-fn is_parcelable(schema: &Schema, base: Base) -> bool
-    ensures { result ≡ is_parcelable (form_of schema.now.decls base) }
-{
-    matches!(form_in(schema, base), Form::Parcelable(_))
-}
-
 // The call of the row. What can be sent back is a type of both schemas.
-#[tactic(auto, using(crate::proofs::SentBack::old_type, crate::proofs::SentBack::new_type))]
-fn ask(
+fn call_back(
     alloc: Global,
-    old: &Schema,
-    new: &Schema,
+    pair: &Pair<'_, '_>,
     before: &Spot<'_>,
     after: &Spot<'_>,
     args: (&Arg, &Arg),
 ) -> Result<Call, OutOfMemory>
-    requires { is_met_C7 old.now.decls new.now.decls (spot_seen before.now) (spot_seen after.now)
+    requires { is_met_C7 pair.now.old pair.now.new (spot_seen before.now) (spot_seen after.now)
         args.0.now args.1.now ≡ true }
     ensures { IfOk result (λ call. call_seen call ∷ []
-        ≡ ask_C7 old.now.decls new.now.decls (spot_seen before.now) (spot_seen after.now)
+        ≡ ask_C7 pair.now.old pair.now.new (spot_seen before.now) (spot_seen after.now)
         args.entry.0.now args.entry.1.now) }
 {
     if is_in_way(args.0.way) {
-        return default_reply(alloc, false, before, new, args.1.ty);
+        return default_reply(alloc, false, before, &pair.new, args.1.ty);
     }
     if is_in_way(args.1.way) {
-        return default_reply(alloc, true, after, old, args.0.ty);
+        return default_reply(alloc, true, after, &pair.old, args.0.ty);
     }
     if is_out(args.0.way) {
-        return default_request(alloc, true, after, new, args.1.ty);
+        let value = sent_in_out(alloc, &pair.new, args.1.ty)?;
+        return Ok(request_by(true, after, one_value(alloc, value)?));
     }
-    default_request(alloc, false, before, old, args.0.ty)
+    let value = sent_in_out(alloc, &pair.old, args.0.ty)?;
+    Ok(request_by(false, before, one_value(alloc, value)?))
 }
 
 // A reply with the default of an out.
@@ -113,43 +116,27 @@ fn default_reply(
     alloc: Global,
     back: bool,
     client: &Spot<'_>,
-    server: &Schema,
+    server: &Version<'_>,
     ty: AidlType,
 ) -> Result<Call, OutOfMemory>
-    requires { is_type server.now.decls ty ≡ true }
+    requires { is_type server.now ty ≡ true }
     ensures { IfOk result (λ call. call_seen call
         ≡ reply back client.now.interface client.now.position
-        (Some (returned None (item (zero_in server.now.decls ty) none)))) }
+        (Some (returned None (item (zero_in server.now ty) none)))) }
 {
-    let value = default_of(alloc, server, &ty)?;
+    let value = default_of(alloc, server.schema(), &ty)?;
     let outs = one_value(alloc, value)?;
     let answer = Answer::Returned { result: None, outs };
     Ok(reply_by(back, client, Some(answer)))
 }
 
-// A request with the default, or with an array of one z0.
-fn default_request(
-    alloc: Global,
-    back: bool,
-    client: &Spot<'_>,
-    schema: &Schema,
-    ty: AidlType,
-) -> Result<Call, OutOfMemory>
-    requires { is_type schema.now.decls ty ≡ true }
-    ensures { IfOk result (λ call. call_seen call
-        ≡ request back client.now.interface client.now.position
-        (item (sent_in_out schema.now.decls ty) none)) }
-{
-    let value = sent_in_out(alloc, schema, ty)?;
-    Ok(request_by(back, client, one_value(alloc, value)?))
-}
-
-fn sent_in_out(alloc: Global, schema: &Schema, ty: AidlType) -> Result<Value, OutOfMemory>
-    requires { is_type schema.now.decls ty ≡ true }
-    ensures { IfOk result (λ value. view value ≡ sent_in_out schema.now.decls ty) }
+// The default, or an array of one z0.
+fn sent_in_out(alloc: Global, version: &Version<'_>, ty: AidlType) -> Result<Value, OutOfMemory>
+    requires { is_type version.now ty ≡ true }
+    ensures { IfOk result (λ value. view value ≡ sent_in_out version.now ty) }
 {
     match ty.shape {
-        Shape::One => default_of(alloc, schema, &ty),
+        Shape::One => default_of(alloc, version.schema(), &ty),
         Shape::Array | Shape::List => {
             let values = one_value(alloc, low_value(ty.base))?;
             Ok(Value::Seq(Elements::Values(values)))

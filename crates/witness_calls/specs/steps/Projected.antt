@@ -18,11 +18,6 @@ abbrev pub called_at : List Decl → ℕ → ℕ → List Decl → ℕ → ℕ �
 called_at A i m B j n args = or_status bad_value (projected_arguments A (arguments A i m) B (arguments B j n) args)
     >>= λ saw. Ok (called n saw)
 
--- by the server's interface
-abbrev pub called_in : List Decl → ℕ → ℕ → List Decl → ℕ → Items → Result Received ℤ
-called_in A i m B j args = or_status unknown_transaction (method_like (method_at A i m) (methods_at B j)) >>=
-    λ n. called_at A i m B j n args
-
 -- a method by its numbers
 abbrev pub callee_at : List Decl → Option (ℕ × ℕ) → Option MethodOf
 callee_at B o = option_map (λ q. let of : MethodOf = record { decls = B; interface = q.0; method = q.1 } in of) o

@@ -1,17 +1,13 @@
 -- Which methods reach a declaration, interface by interface, and the table of them. A is the client's declarations,
 -- B the server's, k the number of the declaration in A.
-use Rattle.std.specs.Prelude.{◌≡◌, ℕ, ◌+◌, ◌<◌, Bool, true, false, not, if◌then◌else◌, List, [], ◌∷◌, ◌++◌, length}
+use Rattle.std.specs.Prelude.{◌≡◌, ℕ, ◌+◌, ◌<◌, Bool, if◌then◌else◌, List, [], ◌∷◌, ◌++◌, length}
 use Rattle.std.specs.Prelude.{map, Option}
 use Rattle.aidl_schema.specs.declared.schema.Decl.{Decl}
 use Rattle.aidl_schema.specs.declared.schema.Method.{Method}
 use Rattle.aidl_schema.specs.Find.{methods_at}
-use Rattle.aidl_values.specs.Data.{Data}
-use Rattle.compat_witness.specs.Candidates.{Candidate}
-use Rattle.compat_witness.specs.Reaching.{asks, is_at, methods_reaching, reaches}
-use Rattle.compat_witness.specs.Rows.{is_empty}
+use Rattle.compat_witness.specs.Reaching.{is_at, reaches}
 use Rattle.witness_search.specs.Asked.{method_seen}
 use Rattle.witness_search.specs.ReachTables.{row_at}
-use Rattle.witness_search.specs.declared.both.Both.{Both}
 use Rattle.witness_search.specs.declared.candidates.Reach.{Reach}
 use Rattle.witness_search.specs.declared.reaching.Ends.{Ends}
 use Rattle.wire_model.specs.Calls.{descriptor}
@@ -42,12 +38,3 @@ IsAdded r number old new = (k : ℕ) → k < length old → row_at new k ≡ row
 abbrev pub AreAdded : (ℕ → List (ℕ × ℕ)) → List (List Reach) → List (List Reach) → Type 0
 AreAdded more old new = (k : ℕ) → k < length old
     → map method_seen (row_at new k) ≡ map method_seen (row_at old k) ++ more k
-
--- it is known whether a method of old reaches a declaration of both schemas
-abbrev pub IsReached : Both → Type 0
-IsReached b = b.reached ≡ not (is_empty (methods_reaching b.old.now.decls b.k b.new.now.decls))
-
--- requests with these values of the methods that reach it, of old or of new
-abbrev pub asked_by : Both → Bool → List Data → List Candidate
-asked_by b false values = asks false (methods_reaching b.old.now.decls b.k b.new.now.decls) values
-asked_by b true values = asks true (methods_reaching b.new.now.decls b.l b.old.now.decls) values

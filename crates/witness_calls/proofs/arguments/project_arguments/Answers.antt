@@ -18,8 +18,8 @@ loop-k-preserved c =
     let b = c.index-wanted-k.result in
     let next = next_argument A c.args.sent.now B c.args.wanted.now c.args.values.now k b c.loop-k-test.true c.index-wanted-k.is in
     let is : argument_seen A (slice_get c.args.sent.now k) B b (option_map view (slice_get c.args.values.now k)) ≡ Some (view c.in-Some.view) =
-    ap (λ z. argument_seen A z B b (option_map view (slice_get c.args.values.now k))) (sym c.argument_at-argument.ensures)
-    ∙ ap (λ z. argument_seen A (option_copied c.argument_at-argument.result) B b (option_map view z)) (sym c.value_at-value.ensures)
+    ap (λ z. argument_seen A z B b (option_map view (slice_get c.args.values.now k))) (sym c.item_at-argument.ensures)
+    ∙ ap (λ z. argument_seen A (option_copied c.item_at-argument.result) B b (option_map view z)) (sym c.item_at-value.ensures)
     ∙ sym c.in_ok-view.ensures ∙ ap (option_map view) c.in-Some.is in
     collected c.loop-k.seen.items c.push.new.self.items c.in-Some.view _ _ _ _ is c.in_ok-push-in-Some.ensures.items next c.loop-k.invariant
 
@@ -31,8 +31,8 @@ returns-in-None c =
     let b = c.index-wanted-k.result in
     let next = next_argument A c.args.sent.now B c.args.wanted.now c.args.values.now k b c.loop-k-test.true c.index-wanted-k.is in
     let is : argument_seen A (slice_get c.args.sent.now k) B b (option_map view (slice_get c.args.values.now k)) ≡ None =
-    ap (λ z. argument_seen A z B b (option_map view (slice_get c.args.values.now k))) (sym c.argument_at-argument.ensures)
-    ∙ ap (λ z. argument_seen A (option_copied c.argument_at-argument.result) B b (option_map view z)) (sym c.value_at-value.ensures)
+    ap (λ z. argument_seen A z B b (option_map view (slice_get c.args.values.now k))) (sym c.item_at-argument.ensures)
+    ∙ ap (λ z. argument_seen A (option_copied c.item_at-argument.result) B b (option_map view z)) (sym c.item_at-value.ensures)
     ∙ sym c.in_ok-view.ensures ∙ ap (option_map view) c.in-None.is in
     stopped c.loop-k.seen.items _ _ _ _ is next c.loop-k.invariant
 

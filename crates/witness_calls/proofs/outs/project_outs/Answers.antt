@@ -11,14 +11,14 @@ use Rattle.witness_calls.proofs.outs.project_outs.Goals as goal
 pub returns-then-not-going : goal.returns-then-not-going
 returns-then-not-going c =
     outs_stop c.args.ends.now.sender.now c.args.sent.now c.args.ends.now.receiver.now c.args.wanted.now (views c.loop-k.left.now) c.loop-k.k c.index-wanted-k.result
-    (option_copied c.argument_at-from.result) c.loop-k.seen.items c.push_out.new.seen.items c.in_ok-going.going _ c.loop-k-test.true c.index-wanted-k.is
-    c.argument_at-from.ensures c.in_ok-going.ensures c.if-not-going.true c.loop-k.invariant
+    (option_copied c.item_at-from.result) c.loop-k.seen.items c.push_out.new.seen.items c.in_ok-going.going _ c.loop-k-test.true c.index-wanted-k.is
+    c.item_at-from.ensures c.in_ok-going.ensures c.if-not-going.true c.loop-k.invariant
 
 pub loop-k-preserved : goal.loop-k-preserved
 loop-k-preserved c =
     outs_on c.args.ends.now.sender.now c.args.sent.now c.args.ends.now.receiver.now c.args.wanted.now (views c.loop-k.left.now) (views c.values_after-left.result.now) c.loop-k.k c.index-wanted-k.result
-    (option_copied c.argument_at-from.result) c.loop-k.seen.items c.push_out.new.seen.items c.in_ok-going.going _ c.loop-k-test.true c.index-wanted-k.is
-    c.argument_at-from.ensures c.values_after-left.ensures c.in_ok-going.ensures c.if-not-going.false c.loop-k.invariant
+    (option_copied c.item_at-from.result) c.loop-k.seen.items c.push_out.new.seen.items c.in_ok-going.going _ c.loop-k-test.true c.index-wanted-k.is
+    c.item_at-from.ensures c.values_after-left.ensures c.in_ok-going.ensures c.if-not-going.false c.loop-k.invariant
 
 pub returns : goal.returns
 returns c =

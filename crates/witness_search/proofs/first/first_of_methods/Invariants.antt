@@ -1,6 +1,6 @@
 use Rattle.std.proofs.Common.{drop, Option}
 use Rattle.std.specs.List.{flat_map}
-use Rattle.witness_search.specs.First.{IsFirst}
+use Rattle.witness_search.specs.steps.First.{IsFirst}
 use Rattle.witness_search.specs.declared.shown.Witness.{Witness}
 use Rattle.witness_search.specs.steps.Requests.{requests_of}
 use Rattle.witness_search.proofs.first.first_of_methods.Given as goal

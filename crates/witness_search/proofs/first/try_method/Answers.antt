@@ -1,7 +1,7 @@
 use Rattle.std.proofs.Common.{List, [], ◌∷◌, ◌∙◌, sym, subst}
 use Rattle.aidl_values.specs.declared.value.Value.{Value}
 use Rattle.compat_witness.specs.Candidates.{Candidate}
-use Rattle.witness_search.specs.First.{IsFirst}
+use Rattle.witness_search.specs.steps.First.{IsFirst}
 use Rattle.witness_search.specs.steps.Requests.{request_of}
 use Rattle.witness_search.proofs.Firsts.{not_there}
 use Rattle.witness_search.proofs.Trials.{both_are, short_there}

@@ -1,6 +1,6 @@
 use Rattle.std.proofs.Common.{◌≡◌, drop, true, Option, [], ◌∷◌}
 use Rattle.std.specs.List.{flat_map}
-use Rattle.witness_search.specs.First.{IsFirst}
+use Rattle.witness_search.specs.steps.First.{IsFirst}
 use Rattle.witness_search.specs.declared.shown.Witness.{Witness}
 use Rattle.witness_search.specs.steps.Requests.{request_of}
 use Rattle.witness_search.specs.steps.Trials.{AllShort}

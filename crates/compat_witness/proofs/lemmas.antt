@@ -1,0 +1,4 @@
+-- Lemmas for the crates above.
+pub mod Decided
+pub mod Laws
+pub mod SameSides

@@ -1,9 +1,0 @@
-use Rattle.std.proofs.Common.{◌≡◌, ℕ, List, drop}
-use Rattle.std.specs.Str.{bytes_eq}
-use Rattle.indexmap.specs.IndexMap.{get_by}
-use Rattle.witness_calls.specs.steps.Tables.{method_from}
-use Rattle.witness_calls.proofs.named_decl.methods_by_name.Given as goal
-
--- the methods from i on
-abbrev pub invariant-loop-i : goal.invariant-loop-i
-invariant-loop-i l = (q : List ℕ) → get_by (λ k. bytes_eq q k.now) l.table ≡ method_from q l.i (drop l.i l.methods)
