@@ -7,17 +7,18 @@ use Rattle.aidl_outside.specs.Told.{Adds, Tells}
 use Rattle.aidl_schema.specs.Broken.{broken}
 use Rattle.aidl_schema.specs.declared.schema.Decl.{Decl}
 use Rattle.aidl_tool.specs.Between.{CallRun}
-use Rattle.aidl_tool.specs.Headline.{Headline, IsCallsText, IsChecked}
-use Rattle.aidl_tool.specs.steps.Tags.{SchemasGive}
+use Rattle.aidl_tool.specs.Headline.{Headline}
+use Rattle.run_command.specs.Running.{IsCallsText, neither}
+use Rattle.tree_commands.specs.Opens.{IsChecked}
+use Rattle.run_command.specs.Tags.{SchemasGive}
 use Rattle.aidl_tool.proofs.Phrases.{answered_known, answered_unknown, each, lacking, sent_known, sent_unknown}
-use Rattle.parcel_output.specs.Decode.{profile_of}
-use Rattle.run_output.specs.CallLines.{lines_of}
-use Rattle.run_output.specs.Projected.{projected_text}
-use Rattle.run_output.specs.Running.{neither}
+use Rattle.parcel_commands.specs.Decode.{profile_of}
+use Rattle.run_command.specs.CallLines.{lines_of}
+use Rattle.run_command.specs.Projected.{projected_text}
 use Rattle.tool_frame.specs.Seen.{Seen}
 use Rattle.tool_frame.specs.Verdict.{IsVerdict}
 use Rattle.tool_words.specs.Command.{Command, judge, run}
-use Rattle.tree_output.specs.Judged.{judged}
+use Rattle.tree_commands.specs.Judged.{judged}
 use Rattle.wire_model.specs.Outcome.{OneFollows}
 
 module _ (before now : Seen) (exit : ℕ) (files : Files) where

@@ -7,10 +7,10 @@ use Rattle.aidl_tool.specs.Between.{IsCallAt, PutsAt, text_before}
 use Rattle.call_runner.specs.Runs.{projected}
 use Rattle.call_scripts.specs.Calls.{CallData}
 use Rattle.call_scripts.specs.Script.{script}
-use Rattle.run_output.specs.CallLines.{lines_of}
-use Rattle.run_output.specs.LineText.{line_text}
-use Rattle.run_output.specs.Projected.{line_carried, named_methods, projected_piece, projected_text}
-use Rattle.run_output.specs.Trace.{trace_text}
+use Rattle.run_command.specs.CallLines.{lines_of}
+use Rattle.run_command.specs.LineText.{line_text}
+use Rattle.run_command.specs.Projected.{line_carried, named_methods, projected_piece, projected_text}
+use Rattle.run_command.specs.Trace.{trace_text}
 use Rattle.tool_frame.specs.Seen.{Seen}
 
 module _ (p : Profile) (trace : Bool) (A B : List Decl) where

@@ -7,12 +7,12 @@ use Rattle.aidl_values.specs.Data.{Data, Items}
 use Rattle.aidl_tool.proofs.Lacking.{both_there, has_seen, known_answered, nothing, one_missing, something, unknown_answered, unknown_method, unviewed}
 use Rattle.aidl_tool.proofs.LineAt.{puts_at}
 use Rattle.aidl_tool.specs.Between.{AnswerSeen, Answered, ArgumentsSeen, HasSeen, IsCallAt, IsKnownAnswered, IsKnownSent, IsUnknownAnswered, IsUnknownSent, LacksMethod, PutsAt}
-use Rattle.aidl_tool.specs.steps.Tags.{SchemasGive}
+use Rattle.run_command.specs.Tags.{SchemasGive}
 use Rattle.call_runner.specs.Lines.{LineData, done, transport}
 use Rattle.call_runner.specs.Runs.{answer_by, projected}
 use Rattle.call_scripts.specs.Calls.{CallData, CallFits, TargetData, TargetFits, method_of_server}
-use Rattle.run_output.specs.CallLines.{lines_of}
-use Rattle.run_output.specs.Projected.{projected_text}
+use Rattle.run_command.specs.CallLines.{lines_of}
+use Rattle.run_command.specs.Projected.{projected_text}
 use Rattle.tool_frame.specs.Seen.{Seen}
 use Rattle.wire_model.proofs.lemmas.Seen.{arguments_seen_as, outs_seen_as, result_seen_as}
 use Rattle.wire_model.specs.Calls.{returned, arguments, out_types, result_type}

@@ -1,3 +1,3 @@
 -- What follows of the schemas that trees have.
 pub mod JudgesOne
-pub mod RunsOne
+pub mod RunsKept

@@ -5,5 +5,6 @@ pub mod Freezing
 pub mod Making
 pub mod Meanings
 pub mod Versions
+pub mod Witnessing
 pub mod Words
 pub mod WordsFit

@@ -2,39 +2,29 @@
 -- A is the schema of CLIENT, B that of SERVER; lines are counted from 0, and the line of a calls file at k prints
 -- the number k + 1.
 use Rattle.std.specs.Prelude.{◌≡◌, ℕ, ◌+◌, Bool, true, false, ◌⊎◌, List, ◌++◌, Option, Some, None, Ok, slice_get, take}
-use Rattle.aidl_base.specs.declared.limit.LimitName.TheVariants.{TextBytes}
 use Rattle.aidl_base.specs.declared.profile.Profile.{Profile}
 use Rattle.aidl_outside.specs.Files.{Files}
 use Rattle.aidl_outside.specs.Told.{Adds}
 use Rattle.aidl_schema.specs.Find.{methods_at}
 use Rattle.aidl_schema.specs.declared.schema.Decl.{Decl}
-use Rattle.aidl_tool.specs.Acting.{HasSchema}
 use Rattle.aidl_values.specs.Data.{Data, Items}
 use Rattle.call_runner.specs.Lines.{LineData, refused, transport, oneway, done}
 use Rattle.call_scripts.specs.Calls.{CallData}
 use Rattle.call_scripts.specs.Script.{script}
-use Rattle.parcel_output.specs.Decode.{profile_of}
-use Rattle.run_output.specs.CallLines.{lines_of, within_lines}
-use Rattle.run_output.specs.LineText.{line_text}
-use Rattle.run_output.specs.Projected.{line_carried, named_methods, projected_text}
-use Rattle.run_output.specs.Trace.{trace_text}
-use Rattle.tool_frame.specs.Refusals.{file_at}
+use Rattle.parcel_commands.specs.Decode.{profile_of}
+use Rattle.run_command.specs.CallLines.{lines_of}
+use Rattle.run_command.specs.LineText.{line_text}
+use Rattle.run_command.specs.Projected.{line_carried, named_methods, projected_text}
+use Rattle.run_command.specs.Running.{IsCallsText}
+use Rattle.run_command.specs.Trace.{trace_text}
 use Rattle.tool_frame.specs.Seen.{Seen}
-use Rattle.tool_frame.specs.Trees.{tree_at}
 use Rattle.tool_frame.specs.Verdict.{IsVerdict}
 use Rattle.tool_words.specs.Command.{Command, run}
+use Rattle.tree_commands.specs.Opens.{IsChecked}
 use Rattle.wire_model.specs.Calls.{returned, arguments, descriptor, is_oneway, method_at, out_types, result_type}
 use Rattle.wire_model.specs.Outcome.{OneFollows, declared_as, method_like}
 use Rattle.wire_model.specs.SeenAs.{ArgumentsSeenAs, OutsSeenAs, ResultSeenAs}
 use Rattle.wire_model.specs.Unknown.{is_unknown_answered, is_unknown_sent}
-
--- *Checked tree*: the files below a root have this schema.
-abbrev pub IsChecked : Files → List ℕ → List Decl → Type 0
-IsChecked files root S = HasSchema (tree_at files root) S
-
--- the text of a calls file that is there and passes no limit
-abbrev pub IsCallsText : Files → List ℕ → List ℕ → Type 0
-IsCallsText files calls text = (file_at TextBytes files calls ≡ Some (Ok text)) × (within_lines text ≡ Ok text)
 
 -- The words are those of `run` over two checked trees, of which one may follow the other, and a calls file; the
 -- link delivers what was sent; and the run came to a verdict.

@@ -8,21 +8,21 @@ use Rattle.aidl_outside.specs.Told.{Adds}
 use Rattle.aidl_schema.specs.Broken.{broken}
 use Rattle.aidl_schema.specs.declared.schema.Decl.{Decl}
 use Rattle.aidl_values.specs.Data.{Data, Items}
-pub use Rattle.aidl_tool.specs.Between.{IsCallsText, IsChecked}
+use Rattle.run_command.specs.Running.{IsCallsText, neither}
+use Rattle.tree_commands.specs.Opens.{IsChecked}
 use Rattle.aidl_tool.specs.Between.{AnswerSeen, Answered, ArgumentsSeen, CallRun, HasSeen, IsKnownAnswered}
 use Rattle.aidl_tool.specs.Between.{IsKnownSent, IsUnknownAnswered, IsUnknownSent, LacksMethod, Prints}
 use Rattle.call_runner.specs.Lines.{transport, done}
 use Rattle.call_runner.specs.Runs.{projected}
-use Rattle.parcel_output.specs.Decode.{profile_of}
-use Rattle.run_output.specs.CallLines.{lines_of}
-use Rattle.run_output.specs.Projected.{projected_text}
-use Rattle.run_output.specs.Running.{neither}
+use Rattle.parcel_commands.specs.Decode.{profile_of}
+use Rattle.run_command.specs.CallLines.{lines_of}
+use Rattle.run_command.specs.Projected.{projected_text}
 use Rattle.tool_frame.specs.declared.exit.Exit.TheVariants.{Done, Negative}
 use Rattle.tool_frame.specs.Exit.{number_of}
 use Rattle.tool_frame.specs.Seen.{Seen}
 use Rattle.tool_frame.specs.Verdict.{IsVerdict}
 use Rattle.tool_words.specs.Command.{Command, judge, run}
-use Rattle.tree_output.specs.Judged.{judged}
+use Rattle.tree_commands.specs.Judged.{judged}
 use Rattle.wire_model.specs.Calls.{returned}
 use Rattle.wire_model.specs.Outcome.{OneFollows, Reaches}
 use Rattle.wire_model.specs.Status.{bad_value, unknown_transaction}

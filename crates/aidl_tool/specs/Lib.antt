@@ -1,17 +1,6 @@
-pub mod Acting
 pub mod Between
-pub mod Due
-pub mod Asking
 pub mod Headline
-pub mod InTree
-pub mod Making
 pub mod Meant
 pub mod OneMeaning
 pub mod OneRun
-pub mod Outside
-pub mod Replaying
-pub mod Running
 pub mod SomeMeaning
-pub mod Tasks
-pub mod Witnessing
-pub mod steps

@@ -1,47 +1,27 @@
 -- What the words mean. They are unknown where they are in no row of the table of commands.
 use Rattle.std.specs.Prelude.{ℕ, List, Option, Some, None}
-use Rattle.aidl_base.specs.declared.source_file.SourceFile.{SourceFile}
-use Rattle.aidl_outside.specs.Files.{Files}
 use Rattle.tool_words.specs.Command.{Command, decode, encode, check, dump, explain, freeze, judge, rehash, run}
 use Rattle.tool_words.specs.Command.{verify, replay, ask, make, witness}
 use Rattle.tool_words.specs.Rows.{command_of}
 use Rattle.api_versions.specs.Asks.{AsksVersions}
-use Rattle.parcel_output.specs.Decode.{profile_of}
+use Rattle.parcel_commands.specs.Decode.{profile_of}
 use Rattle.tool_frame.specs.Acts.{acts_by}
-use Rattle.tool_frame.specs.Answer.{Answer}
 use Rattle.tool_frame.specs.Asks.{AsksOptional, AsksTree}
 use Rattle.tool_frame.specs.Meaning.{Meant, carries_by, reads_by}
 use Rattle.tool_frame.specs.Meaning.Meant.{unknown, means}
-use Rattle.tool_frame.specs.Trees.{OverTree, tree_at}
-use Rattle.tree_output.specs.Checked.{IsCheckAnswer}
-use Rattle.tree_output.specs.Judged.{IsJudgeAnswer}
-use Rattle.api_versions.specs.Versions.{versions_at}
-use Rattle.version_output.specs.Verified.{IsVerified}
-use Rattle.aidl_tool.specs.Asking.{AskAnswers}
-use Rattle.aidl_tool.specs.Acting.{DumpActs, FreezeActs, RehashActs}
-use Rattle.aidl_tool.specs.Due.{AsksCheckedThen, AsksFileThen, AsksTreeThen}
-use Rattle.aidl_tool.specs.Replaying.{ReplayAnswers}
-use Rattle.aidl_tool.specs.Making.{makes}
-use Rattle.aidl_tool.specs.Running.{RunTakes}
-use Rattle.aidl_tool.specs.Tasks.{TaskAnswers}
-use Rattle.aidl_tool.specs.declared.tasks.Task.TheVariants.{Decode, Encode, Explain}
-use Rattle.aidl_tool.specs.Witnessing.{WitnessAnswers}
-
--- `check TREE`
-abbrev pub CheckAnswers : List ℕ → Files → Answer → Type 0
-CheckAnswers root files = OverTree (tree_at files root) (IsCheckAnswer root)
-
--- once the files of OLD pass no limit: the limits of NEW's files, and then all else
-abbrev pub JudgesSecond : List ℕ → List ℕ → Files → List SourceFile → Answer → Type 0
-JudgesSecond old new files olds = OverTree (tree_at files new) (λ news. IsJudgeAnswer old olds new news)
-
--- `judge OLD NEW`: the limits of OLD's files, and of NEW's; then all else
-abbrev pub JudgeAnswers : List ℕ → List ℕ → Files → Answer → Type 0
-JudgeAnswers old new files = OverTree (tree_at files old) (JudgesSecond old new files)
-
--- `verify API`
-abbrev pub VerifyAnswers : List ℕ → Files → Answer → Type 0
-VerifyAnswers api files = IsVerified (versions_at files api)
+use Rattle.tree_commands.specs.Checked.{CheckAnswers}
+use Rattle.tree_commands.specs.Judged.{JudgeAnswers}
+use Rattle.version_commands.specs.Verified.{VerifyAnswers}
+use Rattle.ask_command.specs.Asked.{AskAnswers}
+use Rattle.version_commands.specs.Acting.{DumpActs, FreezeActs, RehashActs}
+use Rattle.tree_commands.specs.Opens.{AsksCheckedThen}
+use Rattle.tool_frame.specs.Due.{AsksFileThen, AsksTreeThen}
+use Rattle.replay_command.specs.Replaying.{ReplayAnswers}
+use Rattle.make_command.specs.Making.{makes}
+use Rattle.run_command.specs.Running.{RunTakes}
+use Rattle.parcel_commands.specs.Tasks.{TaskAnswers}
+use Rattle.parcel_commands.specs.declared.tasks.Task.TheVariants.{Decode, Encode, Explain}
+use Rattle.witness_command.specs.Witnessed.{WitnessAnswers}
 
 -- the meaning of a command
 abbrev pub meaning : Command → Meant

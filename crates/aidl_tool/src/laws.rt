@@ -1,11 +1,10 @@
 //! Laws of what the words of the program mean: over the same files it is one thing at the most, so that runs agree, and one at the least.
 ghost use Rattle.std.specs.Prelude.{ℕ, List, map, string_bytes};
-ghost use Rattle.aidl_tool.specs.Acting.{DumpActs, FreezeActs, RehashActs};
+ghost use Rattle.version_commands.specs.Acting.{DumpActs, FreezeActs, RehashActs};
 ghost use Rattle.aidl_tool.specs.Meant.{meant};
 ghost use Rattle.aidl_tool.specs.OneMeaning.{IsOneAct, MeansOne};
 ghost use Rattle.aidl_tool.specs.OneRun.{RunsAgree};
-ghost use Rattle.aidl_tool.specs.SomeMeaning.{CommandMeansSome};
-ghost use Rattle.tool_words.specs.Rows.{command_of};
+ghost use Rattle.aidl_tool.specs.SomeMeaning.{MeansSome};
 
 /// A law of the definitions: over the same files words have one list of writes, one parcel that is due next after the same
 /// parcels, and one answer, at the most. So what `aidl` leaves where nothing failed is the one text, the one list of writes and
@@ -29,8 +28,8 @@ pub fn law_one_run(words: &[String])
     law_one_meaning(words);
 }
 
-/// A law of the definitions: over files whose paths are texts the words of a command other than `witness` have a list of writes, and
-/// after any parcels a parcel that is due next or none, and an answer. So no definition of what they mean is empty.
+/// A law of the definitions: over any files words that are a command have a list of writes, and after any parcels a parcel that is due next or
+/// none, and an answer. So no definition of what they mean is empty.
 pub fn law_some_meaning()
-    ensures { (words : List (List ℕ)) → CommandMeansSome (command_of words) }
+    ensures { (words : List (List ℕ)) → MeansSome (meant words) }
 {}

@@ -3,28 +3,24 @@ ghost use Rattle.std.specs.Prelude.{◌≡◌, Some, map, string_bytes};
 ghost use Rattle.aidl_outside.specs.Told.{Tells};
 ghost use Rattle.tool_words.specs.Rows as table;
 ghost use Rattle.tool_words.specs.Seen.{command_seen};
-ghost use Rattle.aidl_tool.specs.Outside.{seen_of};
+ghost use Rattle.tool_frame.specs.Outside.{seen_of};
 ghost use Rattle.aidl_tool.specs.Headline.{Headline};
 ghost use Rattle.aidl_tool.specs.Meant.{meaning, meant};
 ghost use Rattle.tool_frame.specs.Ended.{Ran};
 ghost use Rattle.tool_frame.specs.Exit.{number_of};
 
-use crate::asking::ask;
-use crate::checking::check;
-use crate::dumping::dump;
-use crate::freezing::freeze;
-use crate::judging::judge;
-use crate::making::make;
-use crate::rehashing::rehash;
-use crate::replaying::replay;
-use crate::running::run;
-use crate::tasks::{Task, run_task};
-use crate::verifying::verify;
-use crate::witnessing::witness;
 use aidl_outside::{Link, Sink, Store};
+use ask_command::ask;
+use make_command::make;
+use parcel_commands::{Task, run_task};
+use replay_command::replay;
+use run_command::run;
 use std::alloc::Global;
 use tool_frame::{Exit, refuse};
 use tool_words::{Command, command_of};
+use tree_commands::{check, judge};
+use version_commands::{dump, freeze, rehash, verify};
+use witness_command::witness;
 
 /// Runs the program on its words, those after the program's own name. The answer is the exit status, `Exit` lists them all.
 pub fn aidl<S: Store, K: Sink, L: Link>(
@@ -64,7 +60,7 @@ fn run_words<S: Store, K: Sink, L: Link>(
         (seen store.old sink.old link.old) (seen store.new sink.new link.new) (number_of result)) }
 {
     match command_of(words) {
-        None => refuse(alloc, store, sink, link),
+        None => refuse(alloc, sink),
         Some(command) => carry_out(alloc, command, store, sink, link),
     }
 }
@@ -93,20 +89,19 @@ fn carry_out<S: Store, K: Sink, L: Link>(
             file,
             store,
             sink,
-            link,
         ),
-        Command::Encode { file } => run_task(alloc, Task::Encode, file, store, sink, link),
-        Command::Check { tree } => check(alloc, tree, store, sink, link),
-        Command::Dump { tree, out } => dump(alloc, tree, out, store, sink, link),
-        Command::Freeze { tree, api } => freeze(alloc, tree, api, store, sink, link),
-        Command::Judge { old, new } => judge(alloc, old, new, store, sink, link),
+        Command::Encode { file } => run_task(alloc, Task::Encode, file, store, sink),
+        Command::Check { tree } => check(alloc, tree, store, sink),
+        Command::Dump { tree, out } => dump(alloc, tree, out, store, sink),
+        Command::Freeze { tree, api } => freeze(alloc, tree, api, store, sink),
+        Command::Judge { old, new } => judge(alloc, old, new, store, sink),
         Command::Run { words } => run(alloc, words, store, sink, link),
-        Command::Witness { old, new } => witness(alloc, old, new, store, sink, link),
-        Command::Verify { api } => verify(alloc, api, store, sink, link),
-        Command::Ask { words } => ask(alloc, words, store, sink, link),
-        Command::Rehash { api } => rehash(alloc, api, store, sink, link),
-        Command::Explain { file } => run_task(alloc, Task::Explain, file, store, sink, link),
-        Command::Replay { words } => replay(alloc, words, store, sink, link),
+        Command::Witness { old, new } => witness(alloc, old, new, store, sink),
+        Command::Verify { api } => verify(alloc, api, store, sink),
+        Command::Ask { words } => ask(alloc, words, store, sink),
+        Command::Rehash { api } => rehash(alloc, api, store, sink),
+        Command::Explain { file } => run_task(alloc, Task::Explain, file, store, sink),
+        Command::Replay { words } => replay(alloc, words, store, sink),
         Command::Make { count, out } => make(alloc, count, out, store, sink, link),
     }
 }

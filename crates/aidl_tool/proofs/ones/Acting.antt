@@ -4,7 +4,7 @@ use Rattle.std.specs.Prelude.{Result}
 use Rattle.aidl_outside.specs.Files.{Files}
 use Rattle.aidl_outside.specs.Writes.{Write}
 use Rattle.aidl_schema.specs.declared.schema.Decl.{Decl}
-use Rattle.aidl_tool.specs.Acting.{BySchema, DumpActs, FreezeActs, RehashActs}
+use Rattle.version_commands.specs.Acting.{BySchema, DumpActs, FreezeActs, RehashActs}
 use Rattle.aidl_tool.specs.OneMeaning.{IsOneAct}
 use Rattle.api_freeze.specs.Rehash.{rehash_at, rehash_writes}
 use Rattle.api_versions.specs.Versions.{versions_at}
@@ -13,12 +13,12 @@ use Rattle.api_freeze.specs.declared.fault.RehashFault.TheVariants as fault
 use Rattle.tool_frame.specs.Acts.{Acts, Only, Unwritten}
 use Rattle.tool_frame.specs.Answer.{Answer}
 use Rattle.tool_frame.specs.Trees.{tree_at}
-use Rattle.tree_output.proofs.lemmas.OneByTree.{by_tree}
+use Rattle.tree_commands.proofs.lemmas.OneByTree.{by_tree}
 use Rattle.aidl_tool.proofs.ones.Unread.{one_unread}
 use Rattle.aidl_tool.proofs.ones.Freezing.{freezes_one}
-use Rattle.version_output.specs.Dumped.{Dumps}
-use Rattle.version_output.specs.Frozen.{Freezes}
-use Rattle.version_output.specs.Rehashed.{IsUnhashed, Rehashes}
+use Rattle.version_commands.specs.Dumped.{Dumps}
+use Rattle.version_commands.specs.Frozen.{Freezes}
+use Rattle.version_commands.specs.Rehashed.{IsUnhashed, Rehashes}
 
 -- two acts are the same
 abbrev SameActs : List Write → List Write → Answer → Answer → Type 0

@@ -6,28 +6,26 @@ use Rattle.aidl_base.specs.declared.source_file.SourceFile.{SourceFile}
 use Rattle.aidl_outside.specs.Files.{Files}
 use Rattle.aidl_schema.specs.Broken.{broken}
 use Rattle.aidl_schema.specs.declared.schema.Decl.{Decl}
-use Rattle.aidl_tool.specs.Asking.{AskAnswers, AsksFile, AsksHash, AsksOver, AsksParcel, AsksVersion, Words}
-use Rattle.aidl_tool.specs.InTree.{Checked, InTree}
-use Rattle.aidl_tool.specs.Meant.{CheckAnswers, JudgeAnswers, JudgesSecond, VerifyAnswers}
-use Rattle.aidl_tool.specs.Tasks.{TaskAnswers, TaskOver, answer_for, bytes_for}
-use Rattle.aidl_tool.specs.declared.tasks.Task.{Task}
-use Rattle.aidl_tool.specs.Replaying.{ReplayAnswers, ReplaysFile, ReplaysLoaded, trace_within}
+use Rattle.ask_command.specs.Asked.{AskAnswers, AsksFile, AsksHash, AsksOver, AsksParcel, AsksVersion, Words, ask_answer}
+use Rattle.tree_commands.specs.InTree.{Checked, InTree}
+use Rattle.tree_commands.specs.Checked.{CheckAnswers, IsCheckAnswer, accepted}
+use Rattle.tree_commands.specs.Judged.{JudgeAnswers, JudgesSecond, IsJudgeAnswer, IsSecondAnswer, judged}
+use Rattle.version_commands.specs.Verified.{VerifyAnswers, IsVerified}
+use Rattle.parcel_commands.specs.Tasks.{TaskAnswers, TaskOver, answer_for, bytes_for}
+use Rattle.parcel_commands.specs.declared.tasks.Task.{Task}
+use Rattle.replay_command.specs.Replaying.{ReplayAnswers, ReplaysFile, ReplaysLoaded, replay_answer}
 use Rattle.api_versions.specs.Versions.{version_folder, versions_at}
 use Rattle.api_versions.specs.declared.fault.VersionsFault.{VersionsFault}
 use Rattle.api_versions.specs.declared.fault.VersionsFault.TheVariants as fault
 use Rattle.api_versions.specs.declared.version.Version.{Version}
-use Rattle.ask_output.specs.Asked.{ask_answer}
-use Rattle.ask_output.specs.Versions.{version_found, whole_found}
-use Rattle.parcel_output.specs.Refusals.{parcel_of}
-use Rattle.replay_output.specs.Replaying.{replay_answer}
+use Rattle.ask_command.specs.Versions.{version_found, whole_found}
+use Rattle.parcel_commands.specs.Refusals.{parcel_of}
+use Rattle.run_command.specs.CallLines.{lines_held}
 use Rattle.tool_frame.specs.Answer.{Answer, AsAnswer, Found, Then}
 use Rattle.tool_frame.specs.Refusals.{file_at, there}
-use Rattle.tool_frame.specs.Trees.{OverTree, TreeFile, tree_at}
-use Rattle.tree_output.specs.Checked.{IsCheckAnswer, accepted}
-use Rattle.tree_output.specs.Judged.{IsJudgeAnswer, IsSecondAnswer, judged}
-use Rattle.tree_output.proofs.lemmas.OneByTree.{by_files, by_found, by_over}
+use Rattle.tool_frame.specs.Trees.{OverTree, tree_at}
+use Rattle.tree_commands.proofs.lemmas.OneByTree.{by_files, by_found, by_over}
 use Rattle.version_lines.specs.Lines.{bad_versions}
-use Rattle.version_output.specs.Verified.{IsVerified}
 use Rattle.aidl_tool.proofs.ones.Unread.{one_unread}
 
 abbrev Same : Answer → Answer → Type 0
@@ -43,7 +41,7 @@ then_one next one found = by_found Same AsAnswer AsAnswer one_refusal next next 
 
 -- over the files of a tree
 pub over_one : (next : List SourceFile → Answer → Type 0) → ((files : List SourceFile) (a b : Answer) → next files a → next files b → a ≡ b)
-    → (tree : Found (List TreeFile)) (a b : Answer) → OverTree tree next a → OverTree tree next b → a ≡ b
+    → (tree : Found (List SourceFile)) (a b : Answer) → OverTree tree next a → OverTree tree next b → a ≡ b
 over_one next one tree = by_over Same AsAnswer AsAnswer one_refusal next next one tree
 
 -- by the schema of files
@@ -100,7 +98,7 @@ one_replay server interface trace files =
     (λ held. over_one (ReplaysLoaded server interface held)
     (λ sources. then_one (λ text. Checked server sources (λ S answer. answer ≡ replay_answer S interface text))
     (λ text. checked_one (λ S answer. answer ≡ replay_answer S interface text) (λ S a b h k. h ∙ sym k) server sources)
-    (trace_within held))
+    (lines_held held))
     (tree_at files server))
     (there trace (file_at TextBytes files trace))
 

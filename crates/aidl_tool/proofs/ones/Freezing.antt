@@ -21,34 +21,21 @@ use Rattle.std.specs.Fmt.{decimal}
 use Rattle.std.specs.List.{flat_map}
 use Rattle.std.specs.Prelude.{codes}
 use Rattle.tool_frame.specs.Answer.{Answer, after_text, line}
-use Rattle.tool_frame.specs.Trees.{TreeFile, file_seen}
-use Rattle.tree_output.specs.Faults.{refused}
-use Rattle.tree_output.specs.Judged.{break_line}
-use Rattle.tree_output.proofs.lemmas.OneAnswer.{never_both, one_fault_answer, one_refusal, one_schema}
-use Rattle.tree_output.proofs.lemmas.OneByTree.{same_files}
+use Rattle.tree_commands.specs.Faults.{refused}
+use Rattle.tree_commands.specs.Judged.{break_line}
+use Rattle.tree_commands.proofs.lemmas.OneAnswer.{never_both, one_fault_answer, one_refusal, one_schema}
+use Rattle.tree_commands.proofs.lemmas.OneByTree.{same_files}
 use Rattle.type_check.specs.declared.fault.CheckFault.{CheckFault}
 use Rattle.type_check.specs.declared.fault.CheckFault.TheVariants as check
 use Rattle.type_check.specs.Checked.{IsSchemaOf}
 use Rattle.type_check.specs.Refusals.{IsRefusal}
 use Rattle.aidl_tool.proofs.ones.Unread.{one_unread}
-use Rattle.version_output.specs.Frozen.{Freezes, FreezesNext, IsUnfrozen, RefusesNext, frozen}
+use Rattle.version_commands.specs.Frozen.{Freezes, FreezesNext, IsUnfrozen, RefusesNext, frozen}
 
 -- The dump of a schema is one list of files.
 
-as_tree : (f g : SourceFile) → seen f ≡ seen g → file_seen f ≡ file_seen g
-as_tree f g e = ap (λ (p : File). let t : TreeFile = record { path = p.0; bytes = p.1 } in t) e
-
-as_trees : (fs gs : List SourceFile) → map seen fs ≡ map seen gs → map file_seen fs ≡ map file_seen gs
-as_trees [] [] e = refl
-as_trees (f ∷ fs) [] e = cc
-as_trees [] (g ∷ gs) e = cc
-as_trees (f ∷ fs) (g ∷ gs) e =
-    let first : seen f ≡ seen g = cc in
-    let others : map seen fs ≡ map seen gs = cc in
-    ap (λ t. t ∷ map file_seen fs) (as_tree f g first) ∙ ap (λ ts. file_seen g ∷ ts) (as_trees fs gs others)
-
 one_dumped : (S : List Decl) (fs gs : List SourceFile) → IsDump S fs → IsDump S gs → fs ≡ gs
-one_dumped S fs gs d e = same_files fs gs (as_trees fs gs (d ∙ sym e))
+one_dumped S fs gs d e = same_files seen (λ f g e. (ap (λ (p : File). p.0) e, ap (λ (p : File). p.1) e)) fs gs (d ∙ sym e)
 
 -- What is printed of one refusal is one answer.
 

@@ -1,5 +1,5 @@
 -- What the words mean is one thing at the most.
-use Rattle.std.proofs.Common.{◌≡◌, ℕ, Bool, List, [], ◌∷◌, map, Option, Some, None, refl, sym, ap, ◌∙◌, subst}
+use Rattle.std.proofs.Common.{◌≡◌, ℕ, Bool, List, [], Option, Some, None, sym, ap, ◌∙◌, subst}
 use Rattle.aidl_base.specs.declared.source_file.SourceFile.{SourceFile}
 use Rattle.aidl_base.specs.declared.profile.Profile.{Profile}
 use Rattle.aidl_outside.specs.Asks.{Asks}
@@ -8,25 +8,24 @@ use Rattle.aidl_outside.specs.Writes.{Write}
 use Rattle.aidl_schema.specs.declared.schema.Decl.{Decl}
 use Rattle.aidl_base.specs.declared.limit.LimitName.TheVariants.{TextBytes}
 use Rattle.aidl_tool.specs.Meant.{meaning, meant_by}
-use Rattle.aidl_tool.specs.Making.{AreMade, MakeTakes, new_root, old_root}
+use Rattle.make_command.specs.Making.{AreMade, MakeTakes, new_root, old_root, make_course}
 use Rattle.aidl_tool.specs.OneMeaning.{IsOne, IsOneAct, MeansOne}
-use Rattle.aidl_tool.specs.Running.{RunTakes, RunsLoaded, TakesChecked, TakesOver, TakesThen, calls_within}
-use Rattle.aidl_tool.specs.declared.tasks.Task.TheVariants.{Decode, Encode, Explain}
+use Rattle.run_command.specs.Running.{RunTakes, RunsLoaded, TakesChecked, TakesOver, TakesThen, run_course}
+use Rattle.parcel_commands.specs.declared.tasks.Task.TheVariants.{Decode, Encode, Explain}
 use Rattle.aidl_tool.proofs.ones.Acting.{one_dump, one_freeze, one_rehash}
 use Rattle.aidl_tool.proofs.ones.Answers.{one_ask, one_check, one_judge, one_replay, one_task, one_verify}
 use Rattle.aidl_tool.proofs.ones.Witnessing.{one_witness}
-use Rattle.make_output.specs.Making.{make_course}
-use Rattle.parcel_output.specs.Decode.{profile_of}
-use Rattle.run_output.specs.Running.{run_course}
+use Rattle.parcel_commands.specs.Decode.{profile_of}
+use Rattle.run_command.specs.CallLines.{lines_held}
 use Rattle.tool_frame.specs.Acts.{Acts, acts_by}
 use Rattle.tool_frame.specs.Answer.{Answer, Found}
 use Rattle.tool_frame.specs.Course.{AtOnce, Course, answer_after, due_after}
-use Rattle.tool_frame.specs.Meaning.{does_by, reads_by}
+use Rattle.tool_frame.specs.Meaning.{carries_by, does_by, reads_by}
 use Rattle.tool_frame.specs.Refusals.{file_at, there}
-use Rattle.tool_frame.specs.Trees.{TreeFile, file_seen, tree_at}
+use Rattle.tool_frame.specs.Trees.{tree_at}
 use Rattle.tool_words.specs.Command.{Command, decode, encode, check, dump, freeze, verify, rehash, judge, witness, run, make, ask, explain, replay}
-use Rattle.tree_make.specs.Made.{File, calls_text, file_seen as made_seen, new_files, old_files}
-use Rattle.tree_output.proofs.lemmas.OneByTree.{by_files, by_found, by_over, same_files}
+use Rattle.tree_make.specs.Made.{File, calls_text, file_seen, new_files, old_files}
+use Rattle.tree_commands.proofs.lemmas.OneByTree.{by_files, by_found, by_over, same_files}
 
 -- of a command that reads
 one_reading : (asks : Asks) (answers : Files → Answer → Type 0) → ((files : Files) (a b : Answer) → answers files a → answers files b → a ≡ b) → IsOne (reads_by asks answers)
@@ -54,6 +53,12 @@ one_doing asks writes takes wrote one = record {
   answers = λ files entries a b h k. h.2 ∙ ap (λ c. answer_after c entries) (one files h.0 k.0 h.1 k.1) ∙ sym k.2;
 }
 
+-- of a command that carries and writes nothing
+one_carrying : (asks : Asks) (takes : Files → Course → Type 0) → ((files : Files) (c d : Course) → takes files c → takes files d → c ≡ d) → IsOne (carries_by asks takes)
+one_carrying asks takes one =
+    let all = one_doing asks (λ files made. made ≡ []) takes (λ files v w h k. h ∙ sym k) one in
+    record { writes = all.writes; due = all.due; answers = all.answers }
+
 abbrev Same : Course → Course → Type 0
 Same c d = c ≡ d
 
@@ -67,7 +72,7 @@ takes_then next one found = by_found Same AtOnce AtOnce at_once_one next next on
 
 -- over the files of a tree
 takes_over : (next : List SourceFile → Course → Type 0) → ((files : List SourceFile) (c d : Course) → next files c → next files d → c ≡ d)
-    → (tree : Found (List TreeFile)) (c d : Course) → TakesOver tree next c → TakesOver tree next d → c ≡ d
+    → (tree : Found (List SourceFile)) (c d : Course) → TakesOver tree next c → TakesOver tree next d → c ≡ d
 takes_over next one tree = by_over Same AtOnce AtOnce at_once_one next next one tree
 
 -- by the schema of files
@@ -84,7 +89,7 @@ takes_both course first second olds news =
     (λ A. takes_checked (λ B x. x ≡ course A B) (λ B c d h k. h ∙ sym k) second news) first olds
 
 -- `run [--trace] [--lenient] CLIENT SERVER CALLS`
-one_run : (p : Profile) (trace : Bool) (client server calls : List ℕ) (files : Files) (c d : Course)
+pub one_run : (p : Profile) (trace : Bool) (client server calls : List ℕ) (files : Files) (c d : Course)
     → RunTakes p trace client server calls files c → RunTakes p trace client server calls files d → c ≡ d
 one_run p trace client server calls files =
     takes_then (λ held. TakesOver (tree_at files client) (λ olds. TakesOver (tree_at files server) (λ news. RunsLoaded p trace client olds server news held)))
@@ -92,26 +97,14 @@ one_run p trace client server calls files =
     (λ olds. takes_over (λ news. RunsLoaded p trace client olds server news held)
     (λ news. takes_then (λ text. TakesChecked client olds (λ A. TakesChecked server news (λ B c. c ≡ run_course p A B trace text)))
     (λ text. takes_both (λ A B. run_course p A B trace text) client server olds news)
-    (calls_within held))
+    (lines_held held))
     (tree_at files server))
     (tree_at files client))
     (there calls (file_at TextBytes files calls))
 
 -- files with the same paths and bytes
-as_tree : (f g : SourceFile) → made_seen f ≡ made_seen g → file_seen f ≡ file_seen g
-as_tree f g e = ap (λ (m : File). let t : TreeFile = record { path = m.path; bytes = m.bytes } in t) e
-
-as_trees : (fs gs : List SourceFile) → map made_seen fs ≡ map made_seen gs → map file_seen fs ≡ map file_seen gs
-as_trees [] [] e = refl
-as_trees (f ∷ fs) [] e = cc
-as_trees [] (g ∷ gs) e = cc
-as_trees (f ∷ fs) (g ∷ gs) e =
-    let first : made_seen f ≡ made_seen g = cc in
-    let others : map made_seen fs ≡ map made_seen gs = cc in
-    ap (λ t. t ∷ map file_seen fs) (as_tree f g first) ∙ ap (λ ts. file_seen g ∷ ts) (as_trees fs gs others)
-
 one_made : (made : List File) (fs gs : List SourceFile) → AreMade fs made → AreMade gs made → fs ≡ gs
-one_made made fs gs h k = same_files fs gs (as_trees fs gs (h ∙ sym k))
+one_made made fs gs h k = same_files file_seen (λ f g e. (ap (λ (m : File). m.path) e, ap (λ (m : File). m.bytes) e)) fs gs (h ∙ sym k)
 
 -- `make N OUT`
 one_make : (n : ℕ) (out : List ℕ) (c d : Course) → MakeTakes n out c → MakeTakes n out d → c ≡ d
@@ -133,7 +126,7 @@ one_meaning (dump tree out) = one_acting _ _ (one_dump tree out)
 one_meaning (freeze tree api) = one_acting _ _ (one_freeze tree api)
 one_meaning (rehash api) = one_acting _ _ (one_rehash api)
 one_meaning (run trace lenient client server calls) =
-    one_doing _ _ _ (λ files v w h k. h ∙ sym k) (one_run (profile_of lenient) trace client server calls)
+    one_carrying _ _ (one_run (profile_of lenient) trace client server calls)
 one_meaning (witness old new) = one_reading _ _ (one_witness old new)
 one_meaning (make count out) = one_doing _ _ _ (λ files v w h k. h ∙ sym k) (λ files. one_make count out)
 one_meaning (ask api version interface code file) = one_reading _ _ (one_ask (record { api = api; version = version; interface = interface; code = code }) file)

@@ -1,38 +1,40 @@
 -- `judge` answers by the one schema that each tree has.
 use Rattle.std.proofs.Common.{◌≡◌, ℕ, List, [], ◌∷◌, Option, Some, None, Ok, Err, refl, ap, ◌∙◌, subst, inr}
 use Rattle.std.specs.Prelude.{◌≢◌}
+use Rattle.aidl_base.specs.declared.source_file.SourceFile.{SourceFile}
 use Rattle.aidl_outside.specs.Asks.{Asks}
 use Rattle.aidl_outside.specs.Files.{Files}
 use Rattle.aidl_outside.specs.Told.{Adds, Tells}
 use Rattle.aidl_outside.proofs.lemmas.Telling.{tells}
 use Rattle.aidl_schema.specs.Broken.{Break, broken}
 use Rattle.aidl_schema.specs.declared.schema.Decl.{Decl}
-use Rattle.aidl_tool.specs.Acting.{HasSchema}
-use Rattle.aidl_tool.specs.Headline.{Headline, IsChecked}
-use Rattle.aidl_tool.specs.Meant.{JudgeAnswers}
+use Rattle.tree_commands.specs.Opens.{HasSchema}
+use Rattle.aidl_tool.specs.Headline.{Headline}
+use Rattle.tree_commands.specs.Opens.{IsChecked}
+use Rattle.tree_commands.specs.Judged.{JudgeAnswers}
 use Rattle.aidl_tool.proofs.Kept.{JudgeKeeps, headline}
 use Rattle.aidl_tool.proofs.ones.Answers.{one_judge}
 use Rattle.tool_frame.specs.Answer.{Answer, Found}
 use Rattle.tool_frame.specs.Ended.{Ended, EndsAsMeant}
 use Rattle.tool_frame.specs.Meaning.{reads_by}
 use Rattle.tool_frame.specs.Seen.{Seen}
-use Rattle.tool_frame.specs.Trees.{OverTree, TreeFile, tree_at}
+use Rattle.tool_frame.specs.Trees.{OverTree, tree_at}
 use Rattle.tool_frame.specs.Verdict.{IsVerdict, exit_of}
 use Rattle.tool_words.specs.Command.{judge}
-use Rattle.tree_output.specs.Judged.{IsJudgeAnswer, judged}
+use Rattle.tree_commands.specs.Judged.{IsJudgeAnswer, judged}
 
 -- the judge's answer by the schemas of two trees is one that is meant
-judged_by : (old new : List ℕ) (first second : Found (List TreeFile)) (A B : List Decl) → HasSchema first A → HasSchema second B
+judged_by : (old new : List ℕ) (first second : Found (List SourceFile)) (A B : List Decl) → HasSchema first A → HasSchema second B
     → OverTree first (λ olds. OverTree second (λ news. IsJudgeAnswer old olds new news)) (judged (broken A B))
-judged_by old new (Ok tree) (Ok other) A B (olds, are, a) (news, have, b) = (olds, are, (news, have, inr (A, a, inr (B, b, refl))))
-judged_by old new (Ok tree) (Err passed) A B a b = absurd b
+judged_by old new (Ok olds) (Ok news) A B a b = inr (A, a, inr (B, b, refl))
+judged_by old new (Ok olds) (Err passed) A B a b = absurd b
 judged_by old new (Err passed) second A B a b = absurd a
 
 broken_exit : (bs : List Break) → bs ≢ [] → exit_of (judged bs).verdict ≡ 1
 broken_exit [] some = absurd (some refl)
 broken_exit (b ∷ bs) some = refl
 
-tells_if : (kept : Option Files) (V : Type 0) (P : Files → Type 0) → (V → Tells kept P) → Tells kept (λ files. V → P files)
+pub tells_if : (kept : Option Files) (V : Type 0) (P : Files → Type 0) → (V → Tells kept P) → Tells kept (λ files. V → P files)
 tells_if None V P h = tt
 tells_if (Some files) V P h = h
 

@@ -6,11 +6,12 @@ use Rattle.aidl_outside.specs.Asks.{Asks}
 use Rattle.aidl_outside.specs.Files.{Files}
 use Rattle.aidl_outside.specs.Writes.{Write}
 use Rattle.aidl_schema.specs.declared.schema.Decl.{Decl}
-use Rattle.aidl_tool.specs.Acting.{BySchema, DumpActs}
-use Rattle.aidl_tool.specs.Asking.{AskAnswers, AsksFile, AsksHash, AsksOver, AsksParcel, AsksVersion, Words}
-use Rattle.aidl_tool.specs.Meant.{VerifyAnswers, meaning}
-use Rattle.aidl_tool.specs.SomeMeaning.{HaveTexts, IsSome, MeansSome}
-use Rattle.aidl_tool.proofs.some.ByTree.{HasSources, by_files, by_found, fault_answered, sources_of}
+use Rattle.version_commands.specs.Acting.{BySchema, DumpActs}
+use Rattle.ask_command.specs.Asked.{AskAnswers, AsksFile, AsksHash, AsksOver, AsksParcel, AsksVersion, Words, ask_answer}
+use Rattle.version_commands.specs.Verified.{VerifyAnswers, IsVerified, verified}
+use Rattle.aidl_tool.specs.Meant.{meaning}
+use Rattle.aidl_tool.specs.SomeMeaning.{IsSome, MeansSome}
+use Rattle.aidl_tool.proofs.some.ByTree.{by_files, by_found, fault_answered}
 use Rattle.aidl_tool.proofs.some.Meanings.{answered, some_reading}
 use Rattle.aidl_tool.proofs.some.Versions.{IsReading, Reads, all_read}
 use Rattle.api_freeze.specs.Rehash.{numbers_or, rehash_at, rehash_by, rehash_writes, stale_numbers}
@@ -20,13 +21,12 @@ use Rattle.api_versions.specs.Whole.{first_torn}
 use Rattle.api_versions.specs.declared.whole.Torn.{Torn}
 use Rattle.api_versions.specs.declared.fault.VersionsFault.{VersionsFault}
 use Rattle.api_versions.specs.declared.version.Version.{Version}
-use Rattle.ask_output.specs.Asked.{ask_answer}
-use Rattle.ask_output.specs.Versions.{version_found, whole_found}
-use Rattle.parcel_output.specs.Refusals.{parcel_of}
+use Rattle.ask_command.specs.Versions.{version_found, whole_found}
+use Rattle.parcel_commands.specs.Refusals.{parcel_of}
 use Rattle.tool_frame.specs.Acts.{Acts, acts_by}
 use Rattle.tool_frame.specs.Answer.{Answer, AsAnswer, Found, Then, limit_passed}
 use Rattle.tool_frame.specs.Refusals.{file_at, there}
-use Rattle.tool_frame.specs.Trees.{TreeFile, tree_at}
+use Rattle.tool_frame.specs.Trees.{tree_at}
 use Rattle.tool_words.specs.Command.{ask, dump, rehash, verify}
 use Rattle.type_check.specs.declared.fault.CheckFault.{CheckFault}
 use Rattle.type_check.specs.declared.fault.CheckFault.TheVariants as check_fault
@@ -34,34 +34,32 @@ use Rattle.type_check.specs.Checked.{IsSchemaOf}
 use Rattle.type_check.specs.Refusals.{IsRefusal}
 use Rattle.type_check.proofs.lemmas.SomeAnswer.{checked-or-refused}
 use Rattle.version_lines.specs.Lines.{IsUnread, bad_versions, torn}
-use Rattle.version_output.specs.Dumped.{dump_writes}
-use Rattle.version_output.specs.Rehashed.{IsUnhashed, Rehashes, rehashed}
-use Rattle.version_output.specs.Verified.{IsVerified, verified}
+use Rattle.version_commands.specs.Dumped.{dump_writes}
+use Rattle.version_commands.specs.Rehashed.{IsUnhashed, Rehashes, rehashed}
 
 abbrev pub Act : Acts → Type 0
 Act acts = (made : List Write) × (answer : Answer) × acts made answer
 
 -- of a command that writes
-pub some_acting : (asks : Asks) (acts : Files → Acts) → ((files : Files) → HaveTexts files → Act (acts files)) → IsSome (acts_by asks acts)
+pub some_acting : (asks : Asks) (acts : Files → Acts) → ((files : Files) → Act (acts files)) → IsSome (acts_by asks acts)
 some_acting asks acts some = record {
-  writes = λ files texts. let x = some files texts in (x.0, (x.1, x.2));
-  due = λ files texts entries. (None, refl);
-  answers = λ files texts entries. let x = some files texts in (x.1, (x.0, x.2));
+  writes = λ files. let x = some files in (x.0, (x.1, x.2));
+  due = λ files entries. (None, refl);
+  answers = λ files entries. let x = some files in (x.1, (x.0, x.2));
 }
 
 module _ (root : List ℕ) (next : List Decl → Acts) (goes : (S : List Decl) (sources : List SourceFile) → IsSchemaOf sources S → Act (next S)) where
-  by_answer : (found : List TreeFile) (h : HasSources (Ok found))
-      → ((schema : List Decl) × IsSchemaOf h.0 schema) ⊎ ((e : CheckFault) × (e ≢ check_fault.OutOfMemory) × IsRefusal h.0 e) → Act (BySchema root (Ok found) next)
-  by_answer found h (inl s) = let x = goes s.0 h.0 s.1 in (x.0, x.1, (h.0, h.1, inr (s.0, s.1, x.2)))
-  by_answer found h (inr r) = let a = fault_answered root h.0 r.0 r.1 r.2 in ([], a.0, (h.0, h.1, inl (a.0, (r.0, r.2, a.1), (refl, refl))))
+  by_answer : (sources : List SourceFile)
+      → ((schema : List Decl) × IsSchemaOf sources schema) ⊎ ((e : CheckFault) × (e ≢ check_fault.OutOfMemory) × IsRefusal sources e) → Act (BySchema root (Ok sources) next)
+  by_answer sources (inl s) = let x = goes s.0 sources s.1 in (x.0, x.1, inr (s.0, s.1, x.2))
+  by_answer sources (inr r) = let a = fault_answered root sources r.0 r.1 r.2 in ([], a.0, inl (a.0, (r.0, r.2, a.1), (refl, refl)))
 
-  pub by_schema : (tree : Found (List TreeFile)) → HasSources tree → Act (BySchema root tree next)
-  by_schema (Ok found) h = by_answer found h (checked-or-refused h.0)
-  by_schema (Err passed) h = ([], passed, (refl, refl))
+  pub by_schema : (tree : Found (List SourceFile)) → Act (BySchema root tree next)
+  by_schema (Ok sources) = by_answer sources (checked-or-refused sources)
+  by_schema (Err passed) = ([], passed, (refl, refl))
 
-some_dump : (root out : List ℕ) (files : Files) → HaveTexts files → Act (DumpActs root out files)
-some_dump root out files texts =
-    by_schema root _ (λ S sources is. (dump_writes out S, _, (refl, refl))) (tree_at files root) (sources_of files root (texts root))
+some_dump : (root out : List ℕ) (files : Files) → Act (DumpActs root out files)
+some_dump root out files = by_schema root _ (λ S sources is. (dump_writes out S, _, (refl, refl))) (tree_at files root)
 
 -- `verify API`
 pub unread : (e : VersionsFault) → IsReading e → (a : Answer) × IsUnread e a
@@ -118,14 +116,14 @@ some_rehash writes (Ok numbers) h = (writes, rehashed (length numbers), (refl, r
 some_rehash writes (Err e) h = ([], h.0, (refl, h.1))
 
 pub means_rehash : (api : List ℕ) → MeansSome (meaning (rehash api))
-means_rehash api = some_acting _ _ (λ files texts. some_rehash (rehash_writes files api) (rehash_at files api) (hashed (versions_at files api) (all_read files api)))
+means_rehash api = some_acting _ _ (λ files. some_rehash (rehash_writes files api) (rehash_at files api) (hashed (versions_at files api) (all_read files api)))
 
 pub means_verify : (api : List ℕ) → MeansSome (meaning (verify api))
-means_verify api = some_reading _ _ (λ files texts. some_verify api files)
+means_verify api = some_reading _ _ (λ files. some_verify api files)
 
 pub means_dump : (tree out : List ℕ) → MeansSome (meaning (dump tree out))
 means_dump tree out = some_acting _ _ (some_dump tree out)
 
 pub means_ask : (api : List ℕ) (version : ℕ) (interface : List ℕ) (code : ℕ) (path : List ℕ) → MeansSome (meaning (ask api version interface code path))
 means_ask api version interface code path =
-    some_reading _ _ (λ files texts. some_ask (record { api = api; version = version; interface = interface; code = code }) path files)
+    some_reading _ _ (λ files. some_ask (record { api = api; version = version; interface = interface; code = code }) path files)

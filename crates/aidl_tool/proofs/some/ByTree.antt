@@ -1,30 +1,21 @@
--- Each tree of files whose paths are texts has an answer, where each schema and each refusal gives one.
-use Rattle.std.proofs.Common.{◌≡◌, ◌≢◌, ℕ, zero, suc, ◌⊎◌, Bool, true, false, List, [], ◌∷◌, ◌++◌, length, map, Option, Some, None, Ok, Err, if◌then◌else◌, inl, inr, refl, ap, ◌∙◌}
+-- Each tree of files has an answer, where each schema and each refusal gives one.
+use Rattle.std.proofs.Common.{◌≢◌, ℕ, zero, suc, ◌⊎◌, List, [], ◌∷◌, ◌++◌, Some, None, Ok, Err, inl, inr, refl}
 use Rattle.std.specs.List.{All, flat_map, slice_get}
-use Rattle.std.specs.Prelude.{nat_lt}
-use Rattle.std.specs.Str.{chars}
 use Rattle.std.proofs.lemmas.List.Elements.{All-head, All-tail, All-weaker}
-use Rattle.aidl_base.specs.Limits.{limit_number}
-use Rattle.aidl_base.specs.Results.{◌>>=◌}
-use Rattle.aidl_base.specs.declared.limit.LimitName.TheVariants as limit
 use Rattle.aidl_base.specs.declared.source_file.SourceFile.{SourceFile}
-use Rattle.aidl_outside.specs.Files.{Files, path_below}
 use Rattle.aidl_syntax.specs.declared.token.Token.{Token}
 use Rattle.aidl_syntax.specs.Tokens.{Tokens}
 use Rattle.aidl_schema.specs.declared.schema.Decl.{Decl}
 use Rattle.parse_places.specs.Viable.{HasTree, IsFaultPlace}
 use Rattle.tree_files.specs.Files.{HasLimit, HasTokens}
 use Rattle.tool_frame.specs.Answer.{Answer, Found, FoundThen, Refusing, limit_passed}
-use Rattle.tool_frame.specs.Refusals.{file_at}
-use Rattle.tool_frame.specs.Trees.{AreFiles, Over, TreeFile, file_found, file_seen, files_at, sources_below, tree_at}
 use Rattle.type_check.specs.declared.fault.CheckFault.{CheckFault}
 use Rattle.type_check.specs.declared.fault.CheckFault.TheVariants as fault
 use Rattle.type_check.specs.Checked.{IsSchemaOf}
 use Rattle.type_check.specs.Refusals.{IsRefusal}
-use Rattle.tree_output.specs.ByTree.{ByFiles}
-use Rattle.tree_output.specs.Faults.{AreSyntaxLines, IsAnswerOf, IsLineOf, IsSyntaxLine, refused}
-use Rattle.tree_output.specs.Lines.{breach_line, lex_line, place_line}
-use Rattle.aidl_tool.specs.SomeMeaning.{IsText}
+use Rattle.tree_commands.specs.ByTree.{ByFiles}
+use Rattle.tree_commands.specs.Faults.{AreSyntaxLines, IsAnswerOf, IsLineOf, IsSyntaxLine, refused}
+use Rattle.tree_commands.specs.Lines.{breach_line, lex_line, place_line}
 use Rattle.parse_places.proofs.Viability.{tree_or_place}
 use Rattle.type_check.proofs.lemmas.SomeAnswer.{checked-or-refused}
 
@@ -73,42 +64,3 @@ module _ {A : Type 0} (Refuses : Refusing A) (refuses : (refusal : Answer) → (
   pub by_found : {X : Type 0} (found : Found X) (next : X → A → Type 0) → ((x : X) → (y : A) × next x y) → (y : A) × FoundThen Refuses found next y
   by_found (Ok x) next goes = goes x
   by_found (Err refusal) next goes = refuses refusal
-
--- the files of a tree are sources, where it passes no limit
-abbrev pub HasSources : Found (List TreeFile) → Type 0
-HasSources (Ok found) = (sources : List SourceFile) × AreFiles sources found
-HasSources (Err passed) = Unit {0}
-
-module _ {A : Type 0} (Refuses : Refusing A) (refuses : (refusal : Answer) → (x : A) × Refuses refusal x) where
-  pub by_over : (tree : Found (List TreeFile)) (next : List SourceFile → A → Type 0) → HasSources tree → ((sources : List SourceFile) → (x : A) × next sources x) → (x : A) × Over Refuses tree next x
-  by_over (Ok found) next h goes = let x = goes h.0 in (x.0, (h.0, h.1, x.1))
-  by_over (Err passed) next h goes = refuses passed
-
--- The sources of a tree.
-module _ (files : Files) (root : List ℕ) where
-  one_more : (path bytes : List ℕ) (others : List TreeFile) → IsText path → (sources : List SourceFile) → map file_seen sources ≡ others
-      → map file_seen (record { path = chars path; bytes = bytes } ∷ sources) ≡ record { path = path; bytes = bytes } ∷ others
-  one_more path bytes others t sources e =
-      ap (λ (z : List ℕ). let f : TreeFile = record { path = z; bytes = bytes } in f ∷ map file_seen sources) t
-      ∙ ap (λ zs. let f : TreeFile = record { path = path; bytes = bytes } in f ∷ zs) e
-
-  step : (path : List ℕ) (o : Option (Found (List ℕ))) (r : Found (List TreeFile)) → IsText path → HasSources r
-      → HasSources (file_found path o >>= (λ first. r >>= (λ others. Ok (first ++ others))))
-  step path None (Ok others) t h = h
-  step path None (Err passed) t h = tt
-  step path (Some (Ok bytes)) (Ok others) t h = (record { path = chars path; bytes = bytes } ∷ h.0, one_more path bytes others t h.0 h.1)
-  step path (Some (Ok bytes)) (Err passed) t h = tt
-  step path (Some (Err passed)) r t h = tt
-
-  sources_in : (paths : List (List ℕ)) → All IsText paths → HasSources (files_at files root paths)
-  sources_in [] all = ([], refl)
-  sources_in (path ∷ paths) all =
-      step path (file_at limit.FileBytes files (path_below root path)) (files_at files root paths) (All-head IsText path paths all) (sources_in paths (All-tail IsText path paths all))
-
-  by_number : (paths : List (List ℕ)) → All IsText paths → (b : Bool)
-      → HasSources ((if b then Err (limit_passed limit.Files) else Ok paths) >>= files_at files root)
-  by_number paths all true = tt
-  by_number paths all false = sources_in paths all
-
-  pub sources_of : All IsText (sources_below root files) → HasSources (tree_at files root)
-  sources_of all = by_number (sources_below root files) all (nat_lt (limit_number limit.Files) (length (sources_below root files)))

@@ -6,7 +6,7 @@ use Rattle.aidl_schema.specs.Valid.{IsValid}
 use Rattle.aidl_tool.specs.Meant.{meaning}
 use Rattle.aidl_tool.specs.SomeMeaning.{MeansSome}
 use Rattle.aidl_tool.proofs.some.Acting.{Act, by_schema, some_acting, unread}
-use Rattle.aidl_tool.proofs.some.ByTree.{fault_answered, sources_of}
+use Rattle.aidl_tool.proofs.some.ByTree.{fault_answered}
 use Rattle.aidl_tool.proofs.some.Versions.{Reads, all_read}
 use Rattle.api_freeze.specs.Freeze.{Forbids, Ready, RefusedAs, hash_digits, latest, next, version_writes}
 use Rattle.api_freeze.specs.declared.fault.FreezeFault.{FreezeFault}
@@ -22,14 +22,14 @@ use Rattle.std.specs.Prelude.{codes, map, ◌++◌}
 use Rattle.tool_frame.specs.Answer.{Answer, after_text, limit_passed, line, negative}
 use Rattle.tool_frame.specs.Trees.{tree_at}
 use Rattle.tool_words.specs.Command.{freeze}
-use Rattle.tree_output.specs.Faults.{refused}
-use Rattle.tree_output.specs.Judged.{break_line}
+use Rattle.tree_commands.specs.Faults.{refused}
+use Rattle.tree_commands.specs.Judged.{break_line}
 use Rattle.type_check.specs.declared.fault.CheckFault.{CheckFault}
 use Rattle.type_check.specs.declared.fault.CheckFault.TheVariants as check
 use Rattle.type_check.specs.Refusals.{IsRefusal}
 use Rattle.type_check.proofs.lemmas.ValidOf.{schema_valid}
 use Rattle.version_lines.specs.Lines.{torn}
-use Rattle.version_output.specs.Frozen.{Freezes, IsUnfrozen, IsUnreadable, frozen}
+use Rattle.version_commands.specs.Frozen.{Freezes, IsUnfrozen, IsUnreadable, frozen}
 
 -- what is printed of a refusal
 module _ (api : List ℕ) (S : List Decl) where
@@ -67,5 +67,5 @@ module _ (api : List ℕ) (S : List Decl) where
 
 pub means_freeze : (tree api : List ℕ) → MeansSome (meaning (freeze tree api))
 means_freeze tree api =
-    some_acting _ _ (λ files texts.
-    by_schema tree _ (λ S sources is. freezes api S (schema_valid sources S is) (versions_at files api) (all_read files api)) (tree_at files tree) (sources_of files tree (texts tree)))
+    some_acting _ _ (λ files.
+    by_schema tree _ (λ S sources is. freezes api S (schema_valid sources S is) (versions_at files api) (all_read files api)) (tree_at files tree))

@@ -13,18 +13,21 @@ use Rattle.std.proofs.lemmas.Fmt.{IsAscii-decimal_wide}
 use Rattle.std.proofs.lemmas.List.Elements.{All-append, All-cons, All-head, All-nil, All-tail}
 use Rattle.std.proofs.lemmas.Str.{IsAscii-append, chars-IsAscii, encodes-IsAscii}
 use Rattle.aidl_base.specs.declared.source_file.SourceFile.{SourceFile}
-use Rattle.aidl_tool.specs.Making.{AreMade, MakeTakes, make_writes, new_root, old_root}
+use Rattle.make_command.specs.Making.{AreMade, MakeTakes, make_writes, new_root, old_root, make_course}
 use Rattle.aidl_tool.specs.Meant.{meaning}
-use Rattle.aidl_tool.specs.Running.{TakesChecked}
-use Rattle.aidl_tool.specs.SomeMeaning.{IsText, MeansSome}
+use Rattle.run_command.specs.Running.{TakesChecked}
+use Rattle.aidl_tool.specs.SomeMeaning.{MeansSome}
 use Rattle.aidl_tool.proofs.some.ByTree.{by_files}
 use Rattle.aidl_tool.proofs.some.Meanings.{taken}
-use Rattle.make_output.specs.Making.{make_course}
 use Rattle.tool_frame.specs.Course.{AtOnce, Course, answer_after, due_after}
 use Rattle.tool_words.specs.Command.{make}
 use Rattle.tree_make.specs.Made.{File, calls_text, file_of, file_seen, files_of, filled, in_order, path_of, put}
 use Rattle.tree_make.specs.declared.texts.Part.{Part}
 use Rattle.tree_make.specs.declared.texts.Part.TheVariants.{OldRecord, OldInterface, NewRecord, NewInterface}
+
+-- the bytes are those of a text
+abbrev IsText : List ℕ → Type 0
+IsText bytes = encode_utf8_all (chars bytes) ≡ bytes
 
 -- bytes below 128
 abbrev small : List ℕ → Bool
@@ -118,7 +121,7 @@ pub means_make : (count : ℕ) (out : List ℕ) → count ≤ 1000 → MeansSome
 means_make count out le =
     let c = some_make count out le in
     record {
-      writes = λ files texts. (make_writes count out, refl);
-      due = λ files texts entries. (due_after c.0 entries, (c.0, c.1, refl));
-      answers = λ files texts entries. (answer_after c.0 entries, (c.0, c.1, refl));
+      writes = λ files. (make_writes count out, refl);
+      due = λ files entries. (due_after c.0 entries, (c.0, c.1, refl));
+      answers = λ files entries. (answer_after c.0 entries, (c.0, c.1, refl));
     }

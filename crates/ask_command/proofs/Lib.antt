@@ -1,0 +1,3 @@
+mod Hashes
+mod Unscripted
+mod AskSteps

@@ -1,0 +1,3 @@
+-- What the code's steps do, for inner contracts: no contract of a function that the crate exports cites it.
+pub mod Answered
+pub mod Asking

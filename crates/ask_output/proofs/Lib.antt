@@ -1,2 +1,0 @@
-mod Hashes
-mod Unscripted

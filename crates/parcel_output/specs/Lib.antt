@@ -1,9 +1,0 @@
-pub mod Decode
-pub mod Encode
-pub mod Endings
-pub mod Explain
-pub mod HexadecimalFile
-pub mod JsonFile
-pub mod Refusals
-pub mod steps
-pub mod Types

@@ -1,6 +1,0 @@
--- What the code's steps do, for inner contracts: no contract of a function that the crate exports cites it.
-pub mod Items
-pub mod Planned
-pub mod Refusing
-pub mod Spelled
-pub mod Types

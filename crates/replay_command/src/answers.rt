@@ -1,0 +1,108 @@
+//! The lines of what is answered.
+ghost use Rattle.std.specs.Prelude.{◌≡◌, ◌++◌, codes, option_map, OnOk, string_bytes};
+ghost use Rattle.aidl_values.specs.View.{views};
+ghost use Rattle.replay_command.specs.Replaying.{called_line, refused_line, transport_line};
+ghost use Rattle.replay_command.specs.steps.Answered.{answered_line, AreThere, IsSeenBy};
+ghost use Rattle.run_command.specs.LineText.{saw_text};
+
+use aidl_base::{OutOfMemory, Row};
+use aidl_values::Value;
+use call_runner::Methods;
+use run_command::{SidePrinter, push_saw};
+use std::alloc::Global;
+use std::fmt::Write;
+use stub_dispatch::Answered;
+
+/// Adds the line of a request that isn't read again, with the name of the refusal.
+pub fn push_refused(number: usize, name: &str, out: &mut String) -> Result<(), OutOfMemory>
+    ensures { OnOk result (string_bytes out.new
+        ≡ string_bytes out.old ++ refused_line number name.now) }
+{
+    out.push_str("{\"line\":")?;
+    write!(out, "{number},\"refused\":\"{name}\"")?;
+    out.push_str("}\n")?;
+    Ok(())
+}
+
+/// Adds the line of what a service answers: the status with which it refuses the request, or else what its handler saw, by the types
+/// of the methods.
+pub fn push_answered(
+    alloc: Global,
+    printer: &mut SidePrinter<'_>,
+    methods: Option<Methods>,
+    number: usize,
+    answered: &Answered,
+    out: &mut String,
+) -> Result<(), OutOfMemory>
+    requires there { AreThere printer.old methods }
+    requires typed { IsSeenBy printer.old methods answered.now.saw }
+    ensures same { printer.new ≡ printer.old }
+    ensures text { OnOk result (string_bytes out.new
+        ≡ string_bytes out.old ++ answered_line printer.old methods number answered.now) }
+{
+    if answered.transport == 0 {
+        push_called(alloc, printer, methods, number, &answered.saw, out)
+    } else {
+        push_transport(number, answered.transport, out)
+    }
+}
+
+fn push_transport(number: usize, status: i32, out: &mut String) -> Result<(), OutOfMemory>
+    ensures { OnOk result (string_bytes out.new
+        ≡ string_bytes out.old ++ transport_line number status) }
+{
+    out.push_str("{\"line\":")?;
+    write!(out, "{number},\"transport\":{status}")?;
+    out.push_str("}\n")?;
+    Ok(())
+}
+
+fn push_called(
+    alloc: Global,
+    printer: &mut SidePrinter<'_>,
+    methods: Option<Methods>,
+    number: usize,
+    saw: &Option<Row<Value>>,
+    out: &mut String,
+) -> Result<(), OutOfMemory>
+    requires there { AreThere printer.old methods }
+    requires typed { IsSeenBy printer.old methods saw.now }
+    ensures same { printer.new ≡ printer.old }
+    ensures text { OnOk result (string_bytes out.new
+        ≡ string_bytes out.old ++ called_line number
+        (saw_text printer.old methods (option_map views saw.now))) }
+{
+    out.push_str("{\"line\":")?;
+    write!(out, "{number},\"saw\":")?;
+    push_seen(alloc, printer, methods, saw, out)?;
+    out.push_str(",\"transport\":0}\n")?;
+    Ok(())
+}
+
+// Adds what the handler saw, null where it wasn't called.
+fn push_seen(
+    alloc: Global,
+    printer: &mut SidePrinter<'_>,
+    methods: Option<Methods>,
+    saw: &Option<Row<Value>>,
+    out: &mut String,
+) -> Result<(), OutOfMemory>
+    requires there { AreThere printer.old methods }
+    requires typed { IsSeenBy printer.old methods saw.now }
+    ensures same { printer.new ≡ printer.old }
+    ensures text { OnOk result (string_bytes out.new
+        ≡ string_bytes out.old ++ saw_text printer.old methods (option_map views saw.now)) }
+{
+    match methods {
+        Some(methods) => push_saw(alloc, printer, methods, saw, out),
+        None => push_unseen(saw, out),
+    }
+}
+
+fn push_unseen(_saw: &Option<Row<Value>>, out: &mut String) -> Result<(), OutOfMemory>
+    requires { _saw.now ≡ None }
+    ensures { OnOk result (string_bytes out.new ≡ string_bytes out.old ++ codes "null") }
+{
+    out.push_str("null")?;
+    Ok(())
+}

@@ -1,0 +1,5 @@
+-- Laws of this crate's definitions that crates above cite.
+pub mod Lines
+pub mod CourseEnds
+pub mod RunsOne
+pub mod Takes

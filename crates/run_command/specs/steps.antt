@@ -1,0 +1,4 @@
+-- What the code's steps do, for inner contracts: no contract of a function that the crate exports cites it.
+pub mod Steps
+pub mod Preparing
+pub mod Running

@@ -1,0 +1,4 @@
+-- Laws of this crate's definitions that crates above cite.
+pub mod OneAnswer
+pub mod OneByTree
+pub mod Reading

@@ -1,0 +1,11 @@
+pub mod RuleNames
+pub mod Lines
+pub mod Faults
+pub mod ByTree
+pub mod Checked
+pub mod Judged
+pub mod steps
+pub mod Results
+pub mod Both
+pub mod InTree
+pub mod Opens

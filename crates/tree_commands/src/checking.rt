@@ -1,0 +1,90 @@
+//! The command `check`, and the schema of a tree for each command that needs it, or what is printed of its refusal.
+ghost use Rattle.tool_frame.specs.Outside.{LinkSeen, seen_beside};
+ghost use Rattle.tree_commands.specs.Checked.{CheckAnswers, IsCheckAnswer, accepted};
+ghost use Rattle.tool_frame.specs.Asks.{AsksTree};
+ghost use Rattle.tool_frame.specs.Ended.{Ended};
+ghost use Rattle.tool_frame.specs.Exit.{number_of};
+ghost use Rattle.tool_frame.specs.Halts.{Reads};
+ghost use Rattle.tool_frame.specs.Meaning.{reads_by};
+ghost use Rattle.tool_frame.specs.Seen.{store_seen};
+ghost use Rattle.std.specs.Prelude.{◌≡◌, ◌++◌, codes, IfOk, IfErr, string_bytes};
+ghost use Rattle.std.specs.Fmt.{decimal};
+ghost use Rattle.tool_frame.specs.Answer.{line};
+ghost use Rattle.tree_commands.specs.Faults.{IsFaultAnswer};
+ghost use Rattle.tool_frame.specs.Results.{Gives, GivesOne};
+ghost use Rattle.tree_commands.specs.Results.{EndsBy};
+ghost use Rattle.type_check.specs.Checked.{IsSchemaOf};
+
+use crate::faults::fault_answer;
+use aidl_base::{OutOfMemory, Row, SourceFile};
+use aidl_outside::{Sink, Store};
+use aidl_schema::Schema;
+use std::alloc::Global;
+use std::fmt::Write;
+use tool_frame::{Early, Exit, Halt, Printed, Verdict, end, load_sources};
+
+/// Runs `check TREE`. The answer is the exit.
+pub fn check<S: Store, K: Sink>(alloc: Global, root: &str, store: &mut S, sink: &mut K) -> Exit
+    ensures { let seen = seen_beside S.Store K.Sink in (others : LinkSeen)
+        → Ended (reads_by (AsksTree root.now) (CheckAnswers root.now))
+        (seen store.old sink.old others) (seen store.new sink.new others) (number_of result) }
+{
+    let answered = check_root(alloc, root, store);
+    end(alloc, answered, sink)
+}
+
+// What is answered of the tree below a root.
+fn check_root<S: Store>(alloc: Global, root: &str, store: &mut S) -> Result<Printed, Halt>
+    ensures { let seen = store_seen S.Store in
+        Reads (AsksTree root.now) (CheckAnswers root.now) (seen store.old) (seen store.new) result }
+{
+    let files = load_sources(alloc, root, store)?;
+    let printed = check_answer(alloc, root, files)?;
+    Ok(printed)
+}
+
+/// The schema of the files of a tree with a root. Where the tree isn't checked it answers what is printed of it: with exit 1 one
+/// line per fault, `PATH:OFFSET: ` and `lex NUMBER NAME`, `syntax` or a rule with its name, PATH being the root, `/` and the
+/// file's path, OFFSET bytes from the file's start; or with exit 7 the limit that is passed. Memory may be wanted.
+pub fn check_tree(alloc: Global, root: &str, files: Row<SourceFile>) -> Result<Schema, Early>
+    ensures ok { IfOk result (λ schema. IsSchemaOf files schema.decls) }
+    ensures err { IfErr result (EndsBy (IsFaultAnswer root.now files)) }
+{
+    let sources = files.as_slice();
+    match type_check::check(alloc, sources) {
+        Ok(schema) => Ok(schema),
+        Err(fault) => Err(fault_answer(alloc, root, sources, fault)),
+    }
+}
+
+/// What `check` prints of the files of a tree with a root: `ok N types`, N the number of declarations; or what is printed of a
+/// tree that isn't checked. Memory may be wanted.
+pub fn check_answer(alloc: Global, root: &str, files: Row<SourceFile>) -> Result<Printed, Early>
+    ensures { GivesOne result (IsCheckAnswer root.now files) }
+{
+    match check_tree(alloc, root, files) {
+        Ok(schema) => accepted(alloc, &schema),
+        Err(early) => Err(early),
+    }
+}
+
+// What is printed of a tree that is checked.
+fn accepted(alloc: Global, schema: &Schema) -> Result<Printed, Early>
+    ensures { Gives result (accepted schema.now.decls) }
+{
+    let text = count_line(alloc, schema.decls.len())?;
+    Ok(Printed {
+        text,
+        verdict: Verdict::Done,
+    })
+}
+
+// The line of a number of declarations.
+fn count_line(alloc: Global, count: usize) -> Result<String, OutOfMemory>
+    ensures { IfOk result (λ text.
+        string_bytes text ≡ line (codes "ok " ++ decimal count ++ codes " types")) }
+{
+    let mut text = String::new(alloc);
+    writeln!(text, "ok {count} types")?;
+    Ok(text)
+}

@@ -1,0 +1,138 @@
+//! The command `judge`: the evolution rules that a new tree breaks, or that it breaks none.
+ghost use Rattle.std.specs.Prelude.{◌≡◌, ◌++◌, codes, IfOk, OnOk, map, string_bytes};
+ghost use Rattle.tool_frame.specs.Due.{AsksTreeThen};
+ghost use Rattle.tool_frame.specs.Outside.{LinkSeen, seen_beside};
+ghost use Rattle.tree_commands.specs.Judged.{JudgeAnswers, IsJudgeAnswer, IsSecondAnswer, break_line, judged};
+ghost use Rattle.tool_frame.specs.Asks.{AsksTree};
+ghost use Rattle.tool_frame.specs.Ended.{Ended};
+ghost use Rattle.tool_frame.specs.Exit.{number_of};
+ghost use Rattle.tool_frame.specs.Halts.{Reads};
+ghost use Rattle.tool_frame.specs.Meaning.{reads_by};
+ghost use Rattle.tool_frame.specs.Seen.{store_seen};
+ghost use Rattle.std.specs.List.{flat_map};
+ghost use Rattle.aidl_schema.specs.Broken.{broken};
+ghost use Rattle.compat_judge.specs.Seen.{seen};
+ghost use Rattle.tool_frame.specs.Answer.{line};
+ghost use Rattle.tool_frame.specs.Results.{Gives, GivesOne};
+
+use crate::checking::check_tree;
+use crate::loading::load_both;
+use aidl_base::{OutOfMemory, Row, SourceFile};
+use aidl_outside::{Sink, Store};
+use aidl_schema::Schema;
+use compat_judge::Broken;
+use std::alloc::Global;
+use std::fmt::Write;
+use tool_frame::{Early, Exit, Halt, Printed, Verdict, end};
+
+/// Runs `judge OLD NEW`. The answer is the exit.
+pub fn judge<S: Store, K: Sink>(
+    alloc: Global,
+    old: &str,
+    new: &str,
+    store: &mut S,
+    sink: &mut K,
+) -> Exit
+    ensures { let seen = seen_beside S.Store K.Sink in (others : LinkSeen)
+        → Ended (reads_by (AsksTreeThen old.now (AsksTree new.now)) (JudgeAnswers old.now new.now))
+        (seen store.old sink.old others) (seen store.new sink.new others) (number_of result) }
+{
+    let answered = judge_roots(alloc, old, new, store);
+    end(alloc, answered, sink)
+}
+
+// What is answered of the trees below two roots.
+fn judge_roots<S: Store>(
+    alloc: Global,
+    old: &str,
+    new: &str,
+    store: &mut S,
+) -> Result<Printed, Halt>
+    ensures { let seen = store_seen S.Store in
+        Reads (AsksTreeThen old.now (AsksTree new.now)) (JudgeAnswers old.now new.now)
+        (seen store.old) (seen store.new) result }
+{
+    let (olds, news) = load_both(alloc, old, new, store)?;
+    let printed = judge_answer(alloc, old, olds, new, news)?;
+    Ok(printed)
+}
+
+/// What `judge` prints of the files of two trees with their roots: what is printed of the first where it isn't checked, and else
+/// of the second; `yes`; or with exit 1 one line `C10 PLACE` per broken evolution rule. Memory may be wanted.
+pub fn judge_answer(
+    alloc: Global,
+    old_root: &str,
+    old_files: Row<SourceFile>,
+    new_root: &str,
+    new_files: Row<SourceFile>,
+) -> Result<Printed, Early>
+    ensures { GivesOne result (IsJudgeAnswer old_root.now old_files new_root.now new_files) }
+{
+    match check_tree(alloc, old_root, old_files) {
+        Ok(old) => judge_second(alloc, &old, new_root, new_files),
+        Err(early) => Err(early),
+    }
+}
+
+// What is printed once the first tree is checked.
+fn judge_second(
+    alloc: Global,
+    old: &Schema,
+    new_root: &str,
+    new_files: Row<SourceFile>,
+) -> Result<Printed, Early>
+    ensures { GivesOne result (IsSecondAnswer old.now.decls new_root.now new_files) }
+{
+    match check_tree(alloc, new_root, new_files) {
+        Ok(new) => judge_schemas(alloc, old, &new),
+        Err(early) => Err(early),
+    }
+}
+
+// What is printed of two schemas.
+fn judge_schemas(alloc: Global, old: &Schema, new: &Schema) -> Result<Printed, Early>
+    ensures { Gives result (judged (broken old.now.decls new.now.decls)) }
+{
+    let rows = compat_judge::judge(alloc, old, new)?;
+    if rows.len() == 0 {
+        let text = yes_line(alloc)?;
+        return Ok(Printed {
+            text,
+            verdict: Verdict::Done,
+        });
+    }
+    let text = judge_lines(alloc, rows.as_slice())?;
+    Ok(Printed {
+        text,
+        verdict: Verdict::Negative,
+    })
+}
+
+fn yes_line(alloc: Global) -> Result<String, OutOfMemory>
+    ensures { IfOk result (λ text. string_bytes text ≡ line (codes "yes")) }
+{
+    let text = String::from_str(alloc, "yes\n")?;
+    Ok(text)
+}
+
+/// The lines of broken evolution rules, `C10 PLACE` each.
+pub fn judge_lines(alloc: Global, rows: &[Broken]) -> Result<String, OutOfMemory>
+    ensures { IfOk result (λ text. string_bytes text ≡ flat_map break_line (map seen rows.now)) }
+{
+    let mut text = String::new(alloc);
+    for row in rows {
+        push_break(row, &mut text)?;
+    }
+    Ok(text)
+}
+
+/// Adds the line of a broken evolution rule, `C10 PLACE`.
+pub fn push_break(row: &Broken, text: &mut String) -> Result<(), OutOfMemory>
+    ensures { OnOk result (string_bytes text.new
+        ≡ string_bytes text.old ++ break_line (seen row.now)) }
+{
+    let rule = row.rule;
+    let place = row.place.as_str();
+    writeln!(text, "C{rule} {place}")?;
+    Ok(())
+}

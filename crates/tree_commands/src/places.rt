@@ -1,0 +1,96 @@
+//! The lines of files without a tree, each with the offset of its syntax fault.
+ghost use Rattle.std.specs.Prelude.{◌≡◌, ◌≤◌, length, IfOk, OnOk, string_bytes};
+ghost use Rattle.std.specs.List.{All};
+ghost use Rattle.aidl_syntax.specs.Tokens.{Tokens};
+ghost use Rattle.tree_commands.specs.Faults.{AreSyntaxLines, IsSyntaxLine};
+ghost use Rattle.tree_commands.specs.Lines as meant;
+ghost use Rattle.tree_commands.specs.steps.Adding.{Adds, AddsLine};
+
+use crate::lines::push_syntax;
+use aidl_base::{OutOfMemory, SourceFile};
+use aidl_lexer::lex;
+use aidl_syntax::Token;
+use parse_places::fault_place;
+use std::alloc::Global;
+
+/// The lines of the files with these 0-based numbers, for whose tokens no tree stands, among the files of a tree with a root:
+/// `PATH:OFFSET: syntax`.
+pub fn syntax_lines(
+    alloc: Global,
+    root: &str,
+    files: &[SourceFile],
+    numbers: &[u32],
+) -> Result<String, OutOfMemory>
+    requires { All (λ f. length f.bytes ≤ 262144) files.now }
+    ensures { IfOk result (λ text.
+        AreSyntaxLines root.now files.now numbers.now (string_bytes text)) }
+{
+    let mut text = String::new(alloc);
+    for number in numbers {
+        push_line(alloc, root, files, *number, &mut text)?;
+    }
+    Ok(text)
+}
+
+// Adds the line of the file with a number.
+fn push_line(
+    alloc: Global,
+    root: &str,
+    files: &[SourceFile],
+    number: u32,
+    text: &mut String,
+) -> Result<(), OutOfMemory>
+    requires { All (λ f. length f.bytes ≤ 262144) files.now }
+    ensures { OnOk result
+        (AddsLine root.now files.now number (string_bytes text.old) (string_bytes text.new)) }
+{
+    match files.get(number as usize) {
+        Some(file) => push_fault(alloc, root, file, text),
+        None => Ok(()),
+    }
+}
+
+// Adds the line of a file of at most 262,144 bytes that has tokens: only memory may be wanting where they are taken again.
+fn push_fault(
+    alloc: Global,
+    root: &str,
+    file: &SourceFile,
+    text: &mut String,
+) -> Result<(), OutOfMemory>
+    requires { length file.now.bytes ≤ 262144 }
+    ensures { OnOk result
+        (Adds (IsSyntaxLine root.now file.now) (string_bytes text.old) (string_bytes text.new)) }
+{
+    match lex(alloc, file.bytes.as_slice()) {
+        Ok(tokens) => push_place(alloc, root, file, tokens.as_slice(), text),
+        Err(_) => Err(OutOfMemory),
+    }
+}
+
+// Adds the line of a file with these tokens.
+fn push_place(
+    alloc: Global,
+    root: &str,
+    file: &SourceFile,
+    tokens: &[Token],
+    text: &mut String,
+) -> Result<(), OutOfMemory>
+    requires { Tokens file.now.bytes tokens.now }
+    ensures { OnOk result
+        (Adds (IsSyntaxLine root.now file.now) (string_bytes text.old) (string_bytes text.new)) }
+{
+    match fault_place(alloc, tokens)? {
+        Some(place) => push_syntax(root, file, offset_at(file, tokens, place), text),
+        None => Ok(()),
+    }
+}
+
+// The offset of the token with a number, and the file's length behind the last.
+fn offset_at(file: &SourceFile, tokens: &[Token], place: usize) -> usize
+    ensures { result ≡ meant.offset_at file.now tokens.now place }
+{
+    match tokens.get(place) {
+        Some(token) => token.offset as usize,
+        None => file.bytes.len(),
+    }
+}

@@ -1,0 +1,5 @@
+mod Behind
+mod ReadBack
+mod Acting
+mod VerifySteps
+mod Versions

@@ -1,0 +1,10 @@
+use Rattle.std.proofs.Common.{refl}
+use Rattle.version_commands.specs.Acting.{RehashActs}
+use Rattle.tool_frame.proofs.lemmas.Writings.{ended_wrote}
+use Rattle.tool_frame.specs.Exit.{number_of}
+use Rattle.version_commands.proofs.rehashing.rehash.Goals as goal
+
+pub returns : goal.returns
+returns g c = λ others.
+    let answered = c.rehash_versions-answered.ensures in
+    ended_wrote _ (RehashActs c.args.api.now) _ _ refl refl refl (number_of c.end.result) _ answered.cause answered.acts c.end.ensures

@@ -1,6 +1,0 @@
-pub mod Ends
-pub mod Rehashed
-pub mod Verified
-pub mod Dumped
-pub mod Frozen
-pub mod Seen
