@@ -66,11 +66,12 @@ def picture():
     stands = [{place[it] for crate in crates for it in below(crate) if it in place} - {number} for number, (_, crates) in enumerate(LAYERS)]
     yield "```mermaid"
     yield "flowchart BT"
-    for number, (title, crates) in enumerate(LAYERS):
-        yield f'    L{number}["{title} ({len(crates)})"]'
+    names = [chr(ord("A") + number) for number in range(len(LAYERS))]
+    for name, (title, crates) in zip(names, LAYERS):
+        yield f'    {name}["{title} ({len(crates)})"]'
     for number, lower in enumerate(stands):
         direct = [it for it in sorted(lower) if not any(it in stands[other] for other in lower)]
-        yield from (f"    L{number} --> L{it}" for it in direct)
+        yield from (f"    {names[number]} --> {names[it]}" for it in direct)
     yield "```"
 
 
