@@ -3,7 +3,7 @@ use Rattle.std.proofs.Common.{◌≡◌, ℕ, zero, suc, ◌+◌, ◌<◌, ◌�
 use Rattle.std.specs.Prelude.{◌==◌, if◌then◌else◌}
 use Rattle.std.specs.List.{All}
 use Rattle.std.proofs.lemmas.Bool.Decides.{nat_tests}
-use Rattle.std.proofs.lemmas.List.Elements.{All-append, All-cons, All-head, All-nil, All-tail}
+use Rattle.std.proofs.lemmas.List.Elements.{All-cons, All-head, All-nil, All-tail}
 use Rattle.std.specs.List.{range_with_len}
 use Rattle.std.proofs.lemmas.List.FromFn.{length-range_with_len}
 use Rattle.aidl_values.specs.Given.{given_at, overlaid}
@@ -124,12 +124,3 @@ first_below n = let e : 0 + n ≡ n = omega arith in subst (λ m. AreBelow m (ra
 
 pub first_many : (n : ℕ) → length (range_with_len 0 n) ≡ n
 first_many n = length-range_with_len 0 n
-
--- one more is below the next
-pub below_more : (ps : List ℕ) (n : ℕ) → AreBelow n ps → AreBelow (n + 1) (ps ++ n ∷ [])
-below_more ps n low =
-    let last : n < n + 1 = omega arith in
-    All-append (λ q. q < n + 1) ps (n ∷ []) (further_below ps n (n + 1) (omega arith) low) (All-cons (λ q. q < n + 1) n [] last (All-nil (λ q. q < n + 1)))
-
-pub below_next : (ps : List ℕ) (n : ℕ) → AreBelow n ps → AreBelow (n + 1) ps
-below_next ps n low = further_below ps n (n + 1) (omega arith) low

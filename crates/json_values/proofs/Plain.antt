@@ -59,19 +59,6 @@ plain_part step S zero t j v some is = absurd (omega (arith, some))
 plain_part step S (suc d) t j v some is =
     ap (λ a. within step a) (sym (from_json_of-by S d t j) ∙ is S (is_level_left d) (λ f. default_of S d f) (λ u k. part_from S d u k))
 
-one_truth : (S : List Decl) (left : Bool) (default : Field → Answer value.Data) (read : AidlType → json.Data → Answer value.Data) (b : Base) (x : Bool) → b ≡ base.Boolean
-    → one_from left default read (enumerators_of S b) (form_of S b) (json.boolean x) ≡ Ok (value.truth x)
-one_truth S left default read base.Boolean x is = refl
-one_truth S left default read base.Byte x is = cc
-one_truth S left default read base.Char x is = cc
-one_truth S left default read base.Int x is = cc
-one_truth S left default read base.Long x is = cc
-one_truth S left default read base.Text x is = cc
-one_truth S left default read (base.Named d) x is = cc
-
-pub plain_truth : (t : AidlType) (x : Bool) → is_one t.shape ≡ true → t.base ≡ base.Boolean → IsPlain t (json.boolean x) (value.truth x)
-plain_truth t x one is S left default read = rw (and_right t.nullable false refl, one) (one_truth S left default read t.base x is)
-
 module _ (t : AidlType) (js : List Json) where
   -- one element more
   pub plain_more : (S : List Decl) (d k : ℕ) (j : Json) (ds : List value.Data) (v : value.Data) → 0 < d → k < length js → get_or js k j ≡ j → IsPlain t (json_view j) v

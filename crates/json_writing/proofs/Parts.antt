@@ -1,18 +1,21 @@
 -- The values of a record, place by place.
-use Rattle.std.proofs.Common.{◌≡◌, ◌<◌, ℕ, zero, suc, false, List, [], ◌∷◌, ◌++◌, length, drop, get_or, refl, sym, ap, subst, ◌∙◌, arith}
+use Rattle.std.proofs.Common.{◌≡◌, ◌<◌, ℕ, zero, suc, false, List, [], ◌∷◌, ◌++◌, Some, length, drop, get_or, option_map, slice_get, string_bytes, refl, sym, ap, subst, ◌∙◌, arith}
+use Rattle.std.proofs.lemmas.List.Elements.{All-head, All-tail}
+use Rattle.std.proofs.lemmas.Option.{same_Some}
+use Rattle.std.specs.List.{All}
 use Rattle.serde_json.specs.Data as json
 use Rattle.serde_json.specs.Written.{compact_text, members_text}
 use Rattle.aidl_schema.specs.declared.schema.Decl.{Decl}
 use Rattle.aidl_schema.specs.declared.schema.Field.{Field}
 use Rattle.aidl_schema.specs.declared.schema.AidlType.{AidlType}
-use Rattle.aidl_values.specs.Data.{Data, rec}
+use Rattle.aidl_values.specs.Data.{Data, null, rec}
 use Rattle.aidl_values.specs.HasType.{HasType, FieldsHaveType}
 use Rattle.aidl_values.specs.View.{items_of}
 use Rattle.json_writing.specs.Json.{fields_of_type, json_of, json_members}
 use Rattle.json_writing.specs.Named.{bytes_of, fields_in}
 use Rattle.json_writing.specs.ValueText.{value_text}
 use Rattle.json_writing.specs.declared.members.Member.{Member}
-use Rattle.json_writing.specs.steps.Members.{IsRow, members_from, row_text}
+use Rattle.json_writing.specs.steps.Members.{IsOf, IsRow, IsTyped, members_from, part_text, row_text}
 use Rattle.json_writing.specs.steps.Parts.{parts, part_at}
 use Rattle.json_writing.proofs.Rows.{three}
 
@@ -36,50 +39,40 @@ module _ (S : List Decl) where
   pub members_by_part : (fs : List Field) (vs : List Data) → FieldsHaveType S fs (items_of vs) → members_from (part_at S fs vs) 0 fs ≡ json_members S fs (items_of vs)
   members_by_part fs vs typed = from_place (parts S fs vs) 0 fs vs typed refl
 
-  pub part_is : (fs : List Field) (vs : List Data) (i : ℕ) (f : Field) (v : Data) → FieldsHaveType S fs (items_of vs) → i < length fs
-      → part_at S fs vs i ≡ json_of S (get_or fs i f).ty (get_or vs i v)
-  part_is [] vs i f v typed lies = absurd (omega (arith, lies))
-  part_is (g ∷ fs) [] i f v typed lies = elim typed [ ]
-  part_is (g ∷ fs) (w ∷ vs) zero f v typed lies = refl
-  part_is (g ∷ fs) (w ∷ vs) (suc i) f v typed lies = part_is fs vs i f v typed.1 (omega (arith, lies))
+  -- the value at a place has the type of the field there, by which it is written
+  at_place : (fs : List Field) (vs : List Data) (i : ℕ) (t : AidlType) → FieldsHaveType S fs (items_of vs) → option_map (λ (f : Field). f.ty) (slice_get fs i) ≡ Some t
+      → (i < length vs) × HasType S t (get_or vs i null) × (part_at S fs vs i ≡ json_of S t (get_or vs i null))
+  at_place [] vs i t typed is = cc
+  at_place (f ∷ fs) [] i t typed is = elim typed [ ]
+  at_place (f ∷ fs) (v ∷ vs) zero t typed is =
+      let same : f.ty ≡ t = same_Some f.ty t is in (omega arith, subst (λ (u : AidlType). HasType S u v) same typed.0, ap (λ (u : AidlType). json_of S u v) same)
+  at_place (f ∷ fs) (v ∷ vs) (suc i) t typed is = let below = at_place fs vs i t typed.1 is in (omega (arith, below.0), below.1, below.2)
 
-  pub part_typed : (fs : List Field) (vs : List Data) (i : ℕ) (f : Field) (v : Data) → FieldsHaveType S fs (items_of vs) → i < length fs
-      → HasType S (get_or fs i f).ty (get_or vs i v)
-  part_typed [] vs i f v typed lies = absurd (omega (arith, lies))
-  part_typed (g ∷ fs) [] i f v typed lies = elim typed [ ]
-  part_typed (g ∷ fs) (w ∷ vs) zero f v typed lies = typed.0
-  part_typed (g ∷ fs) (w ∷ vs) (suc i) f v typed lies = part_typed fs vs i f v typed.1 (omega (arith, lies))
+  -- each member's value has the member's type
+  pub row_typed : (fs : List Field) (vs : List Data) (row : List Member) → FieldsHaveType S fs (items_of vs) → All (IsOf fs) row → All (IsTyped S vs) row
+  row_typed fs vs row typed of k d lies = let here = at_place fs vs (get_or row k d).place (get_or row k d).ty typed (of k d lies) in (here.0, here.1)
 
-  -- a value for each field
-  pub as_many : (fs : List Field) (vs : List Data) → FieldsHaveType S fs (items_of vs) → length vs ≡ length fs
-  as_many [] [] typed = refl
-  as_many [] (v ∷ vs) typed = elim typed [ ]
-  as_many (f ∷ fs) [] typed = elim typed [ ]
-  as_many (f ∷ fs) (v ∷ vs) typed = ap suc (as_many fs vs typed.1)
-
-  -- the one at a place, as the code has it
-  pub part_here : (fs : List Field) (vs : List Data) (i : ℕ) (f : Field) (v : Data) → FieldsHaveType S fs (items_of vs) → i < length fs → f ≡ get_or fs i f → v ≡ get_or vs i v
-      → json_of S f.ty v ≡ part_at S fs vs i
-  part_here fs vs i f v typed lies here there =
-      ap (λ (g : Field). json_of S g.ty v) here ∙ ap (λ (w : Data). json_of S (get_or fs i f).ty w) there ∙ sym (part_is fs vs i f v typed lies)
-
-  pub typed_here : (fs : List Field) (vs : List Data) (i : ℕ) (f : Field) (v : Data) → FieldsHaveType S fs (items_of vs) → i < length fs → f ≡ get_or fs i f → v ≡ get_or vs i v
-      → HasType S f.ty v
-  typed_here fs vs i f v typed lies here there =
-      subst (λ (g : Field). HasType S g.ty v) (sym here) (subst (λ (w : Data). HasType S (get_or fs i f).ty w) (sym there) (part_typed fs vs i f v typed lies))
+  -- and by it the row is written
+  pub row_written : (fs : List Field) (vs : List Data) (row : List Member) → FieldsHaveType S fs (items_of vs) → All (IsOf fs) row
+      → row_text (part_text S vs) row ≡ row_text (λ m. compact_text (part_at S fs vs m.place)) row
+  row_written fs vs [] typed of = refl
+  row_written fs vs (m ∷ row) typed of =
+      let here = at_place fs vs m.place m.ty typed (All-head (IsOf fs) m row of) in
+      ap (λ (x : List ℕ). string_bytes m.key ++ (x ++ row_text (part_text S vs) row)) (sym (ap compact_text here.2))
+      ∙ ap (λ (x : List ℕ). string_bytes m.key ++ (compact_text (part_at S fs vs m.place) ++ x)) (row_written fs vs row typed (All-tail (IsOf fs) m row of))
 
 -- A record's text, by a row of its members.
 module _ (S : List Decl) (t : AidlType) (vs : List Data) where
-  typed_fields : HasType S t (rec (items_of vs)) → FieldsHaveType S (fields_of_type S t) (items_of vs)
+  pub typed_fields : HasType S t (rec (items_of vs)) → FieldsHaveType S (fields_of_type S t) (items_of vs)
   typed_fields typed = subst (λ (fs : List Field). FieldsHaveType S fs (items_of vs)) (sym (ap fields_in typed.2)) typed.3
 
-  pub record_text : (later : List Decl) (fs : List Field) (row given : List Member) (old opened filled closed : List ℕ) → HasType S t (rec (items_of vs)) → IsRow (fields_of_type S t) row
-      → later ≡ S → fs ≡ fields_of_type S t → given ≡ row → opened ≡ old ++ 123 ∷ [] → filled ≡ opened ++ row_text (λ i. compact_text (part_at later fs vs i)) given → closed ≡ filled ++ 125 ∷ []
+  pub record_text : (later : List Decl) (row given : List Member) (old opened filled closed : List ℕ) → HasType S t (rec (items_of vs)) → IsRow (fields_of_type S t) row
+      → later ≡ S → given ≡ row → opened ≡ old ++ 123 ∷ [] → filled ≡ opened ++ row_text (part_text later vs) given → closed ≡ filled ++ 125 ∷ []
       → closed ≡ old ++ value_text S t (rec (items_of vs))
-  record_text later fs row given old opened filled closed typed is same of_type as_given opens fills closes =
+  record_text later row given old opened filled closed typed is same as_given opens fills closes =
       let all = fields_of_type S t in
-      three old (123 ∷ []) (row_text (λ i. compact_text (part_at later fs vs i)) given) (125 ∷ []) opened filled closed opens fills closes
-      ∙ ap (λ (z : List Decl). old ++ 123 ∷ (row_text (λ i. compact_text (part_at z fs vs i)) given ++ 125 ∷ [])) same
-      ∙ ap (λ (z : List Field). old ++ 123 ∷ (row_text (λ i. compact_text (part_at S z vs i)) given ++ 125 ∷ [])) of_type
-      ∙ ap (λ (z : List Member). old ++ 123 ∷ (row_text (λ i. compact_text (part_at S all vs i)) z ++ 125 ∷ [])) as_given
+      three old (123 ∷ []) (row_text (part_text later vs) given) (125 ∷ []) opened filled closed opens fills closes
+      ∙ ap (λ (z : List Decl). old ++ 123 ∷ (row_text (part_text z vs) given ++ 125 ∷ [])) same
+      ∙ ap (λ (z : List Member). old ++ 123 ∷ (row_text (part_text S vs) z ++ 125 ∷ [])) as_given
+      ∙ ap (λ (z : List ℕ). old ++ 123 ∷ (z ++ 125 ∷ [])) (row_written S all vs row (typed_fields typed) is.1)
       ∙ ap (λ (z : List ℕ). old ++ 123 ∷ z) (is.0 (λ i. part_at S all vs i) ∙ ap (members_text false) (members_by_part S all vs (typed_fields typed)))

@@ -1,6 +1,9 @@
 -- Rows of members: the fields by their names, and the text that a row prints.
-use Rattle.std.proofs.Common.{◌≡◌, ◌+◌, ◌<◌, ℕ, zero, suc, false, true, Bool, List, [], ◌∷◌, ◌++◌, length, drop, get_or, add-one, Ordering, Less, Equal, Greater, string_bytes, refl, sym, ap, subst, ◌∙◌, append_assoc, arith}
+use Rattle.std.proofs.Common.{◌≡◌, ◌+◌, ◌<◌, ℕ, false, true, Bool, List, [], ◌∷◌, ◌++◌, length, drop, get_or, add-one, Ordering, Less, Equal, Greater, option_map, slice_get, Some, string_bytes, refl, sym, ap, subst, ◌∙◌, append_assoc}
 use Rattle.std.proofs.lemmas.List.{append-nil, drop_more}
+use Rattle.std.proofs.lemmas.List.Elements.{All-push}
+use Rattle.std.proofs.lemmas.Option.{slice_get_read}
+use Rattle.std.specs.List.{All}
 use Rattle.std.specs.Borrow.{Bor}
 use Rattle.std.specs.BTreeMap.{insert_entry}
 use Rattle.std.specs.Cmp.Lexicographic.{slice_cmp}
@@ -10,7 +13,7 @@ use Rattle.serde_json.specs.Written.{comma_if, compact_text, members_text}
 use Rattle.aidl_schema.specs.declared.schema.Field.{Field}
 use Rattle.json_writing.specs.Named.{bytes_of}
 use Rattle.json_writing.specs.declared.members.Member.{Member}
-use Rattle.json_writing.specs.steps.Members.{AreWithin, members_from, row_text}
+use Rattle.json_writing.specs.steps.Members.{IsOf, members_from, row_text}
 use Rattle.json_writing.specs.steps.Places.{LieWithin, Placed, members_at}
 
 -- the fields from a place on
@@ -52,45 +55,42 @@ entered fs i f name later now lies is called new rest = (
 
 -- the row so far, and the fields that are left
 abbrev pub InOrder : List Field → List Member → Bool → List Placed → Type 0
-InOrder fs row later rest = ((part : ℕ → Data) → row_text (λ i. compact_text (part i)) row ++ members_text later (members_at part rest) ≡ members_text false (members_from part 0 fs))
-    × AreWithin (length fs) row × LieWithin (length fs) rest
+InOrder fs row later rest = ((part : ℕ → Data) → row_text (λ m. compact_text (part m.place)) row ++ members_text later (members_at part rest) ≡ members_text false (members_from part 0 fs))
+    × All (IsOf fs) row × LieWithin (length fs) rest
 
-row_text-more : (text : ℕ → List ℕ) (row : List Member) (m : Member) → row_text text (row ++ m ∷ []) ≡ row_text text row ++ (string_bytes m.key ++ text m.place)
-row_text-more text [] m = ap (λ (e : List ℕ). string_bytes m.key ++ e) (append-nil (text m.place))
+row_text-more : (text : Member → List ℕ) (row : List Member) (m : Member) → row_text text (row ++ m ∷ []) ≡ row_text text row ++ (string_bytes m.key ++ text m)
+row_text-more text [] m = ap (λ (e : List ℕ). string_bytes m.key ++ e) (append-nil (text m))
 row_text-more text (x ∷ row) m =
-    ap (λ (e : List ℕ). string_bytes x.key ++ (text x.place ++ e)) (row_text-more text row m)
-    ∙ sym (append_assoc (string_bytes x.key) (text x.place ++ row_text text row) (string_bytes m.key ++ text m.place)
-    ∙ ap (λ (e : List ℕ). string_bytes x.key ++ e) (append_assoc (text x.place) (row_text text row) (string_bytes m.key ++ text m.place)))
+    ap (λ (e : List ℕ). string_bytes x.key ++ (text x ++ e)) (row_text-more text row m)
+    ∙ sym (append_assoc (string_bytes x.key) (text x ++ row_text text row) (string_bytes m.key ++ text m)
+    ∙ ap (λ (e : List ℕ). string_bytes x.key ++ e) (append_assoc (text x) (row_text text row) (string_bytes m.key ++ text m)))
 
 regroup : (row comma key part others : List ℕ) → (row ++ ((comma ++ (key ++ 58 ∷ [])) ++ part)) ++ others ≡ row ++ (comma ++ (key ++ 58 ∷ (part ++ others)))
 regroup row comma key part others = simp append_assoc refl
 
-pub within_more : (n : ℕ) (row : List Member) (m : Member) → AreWithin n row → m.place < n → AreWithin n (row ++ m ∷ [])
-within_more n [] m all lies = (lies, tt)
-within_more n (x ∷ row) m all lies = (all.0, within_more n row m all.1 lies)
+-- the field that comes next is one of the fields
+pub lies_next : (fs : List Field) (es rest : List Placed) (e : Placed) → es ≡ e ∷ rest → LieWithin (length fs) es → e.1 < length fs
+lies_next fs es rest e is lies = (subst (LieWithin (length fs)) is lies).0
 
--- one member more
-pub went_on : (fs : List Field) (row now : List Member) (later : Bool) (es rest : List Placed) (e : Placed) (m : Member) → es ≡ e ∷ rest → now ≡ row ++ m ∷ []
-    → string_bytes m.key ≡ comma_if later ++ (compact_text (string e.0.now) ++ 58 ∷ []) → m.place ≡ e.1 → InOrder fs row later es → InOrder fs now true rest
-went_on fs row now later es rest e m is new key place so_far =
-    let left : LieWithin (length fs) (e ∷ rest) = subst (LieWithin (length fs)) is so_far.2 in (
+-- one member more, of a field
+pub went_on : (fs : List Field) (row now : List Member) (later : Bool) (es rest : List Placed) (e : Placed) (f : Field) (m : Member) → es ≡ e ∷ rest → now ≡ row ++ m ∷ []
+    → f ≡ get_or fs e.1 f → string_bytes m.key ≡ comma_if later ++ (compact_text (string e.0.now) ++ 58 ∷ []) → m.place ≡ e.1 → m.ty ≡ f.ty → InOrder fs row later es → InOrder fs now true rest
+went_on fs row now later es rest e f m is new here key place typed so_far =
+    let left : LieWithin (length fs) (e ∷ rest) = subst (LieWithin (length fs)) is so_far.2 in
+    let there : slice_get fs e.1 ≡ Some f = slice_get_read fs (length fs) e.1 f refl left.0 here in
+    let of : IsOf fs m = ap (λ i. option_map (λ (g : Field). g.ty) (slice_get fs i)) place ∙ ap (option_map (λ (g : Field). g.ty)) there ∙ ap Some (sym typed) in (
       λ part.
-          let text : ℕ → List ℕ = λ i. compact_text (part i) in
+          let text : Member → List ℕ = λ x. compact_text (part x.place) in
           let others = members_text true (members_at part rest) in
           ap (λ r. row_text text r ++ others) new ∙ ap (λ (t : List ℕ). t ++ others) (row_text-more text row m)
-          ∙ ap (λ (k : List ℕ). (row_text text row ++ (k ++ text m.place)) ++ others) key
-          ∙ ap (λ (i : ℕ). (row_text text row ++ ((comma_if later ++ (compact_text (string e.0.now) ++ 58 ∷ [])) ++ text i)) ++ others) place
-          ∙ regroup (row_text text row) (comma_if later) (compact_text (string e.0.now)) (text e.1) others
+          ∙ ap (λ (k : List ℕ). (row_text text row ++ (k ++ text m)) ++ others) key
+          ∙ ap (λ (i : ℕ). (row_text text row ++ ((comma_if later ++ (compact_text (string e.0.now) ++ 58 ∷ [])) ++ compact_text (part i))) ++ others) place
+          ∙ regroup (row_text text row) (comma_if later) (compact_text (string e.0.now)) (compact_text (part e.1)) others
           ∙ sym (ap (λ all. row_text text row ++ members_text later (members_at part all)) is) ∙ so_far.0 part,
-      subst (AreWithin (length fs)) (sym new) (within_more (length fs) row m so_far.1 (subst (λ (i : ℕ). i < length fs) (sym place) left.0)),
+      subst (All (IsOf fs)) (sym new) (All-push (IsOf fs) row m so_far.1 of),
       left.1,
     )
 
 -- three pieces behind a text
 pub three : (old a b c x y z : List ℕ) → x ≡ old ++ a → y ≡ x ++ b → z ≡ y ++ c → z ≡ old ++ (a ++ (b ++ c))
 three old a b c x y z first second third = rw (third, second, first) (simp append_assoc refl)
-
-pub within_at : (n : ℕ) (row : List Member) (i : ℕ) (m : Member) → AreWithin n row → i < length row → (get_or row i m).place < n
-within_at n [] i m all lies = absurd (omega (arith, lies))
-within_at n (x ∷ row) zero m all lies = all.0
-within_at n (x ∷ row) (suc i) m all lies = within_at n row i m all.1 (omega (arith, lies))

@@ -8,16 +8,17 @@ ghost use Rattle.json_writing.specs.steps.Places.{ArePlaced};
 use crate::quoted::push_quoted;
 use crate::value_text::push_comma_if;
 use aidl_base::OutOfMemory;
-use aidl_schema::Field;
+use aidl_schema::{AidlType, Field};
 use std::alloc::Global;
 use std::collections::BTreeMap;
 
-// A member of a record's object: its key in quotes with the colon, and the comma before it where one stands there; and the
-// place of its field.
+// A member of a record's object: its key in quotes with the colon, and the comma before it where one stands there; and
+// the place and the type of its field.
 #[derive(Drop)]
 pub struct Member {
     pub key: String,
     pub place: usize,
+    pub ty: AidlType,
 }
 
 // The members of a record's object by its fields, in the order of their keys.
@@ -53,20 +54,28 @@ fn in_order(
     let mut row = Vec::with_capacity(alloc, fields.len())?;
     let mut later = false;
     for (name, place) in places.iter() {
-        row.push(member_of(alloc, later, name, *place)?)?;
+        let ty = fields[*place].ty;
+        row.push(member_of(alloc, later, name, *place, ty)?)?;
         later = true;
     }
     Ok(row)
 }
 
-fn member_of(alloc: Global, later: bool, name: &str, place: usize) -> Result<Member, OutOfMemory>
+fn member_of(
+    alloc: Global,
+    later: bool,
+    name: &str,
+    place: usize,
+    ty: AidlType,
+) -> Result<Member, OutOfMemory>
     ensures key { IfOk result (λ member. string_bytes member.key
         ≡ comma_if later ++ (compact_text (string name.now) ++ 58 ∷ [])) }
     ensures place { IfOk result (λ member. member.place ≡ place) }
+    ensures ty { IfOk result (λ member. member.ty ≡ ty) }
 {
     let mut key = String::new(alloc);
     push_comma_if(later, &mut key)?;
     push_quoted(alloc, name, &mut key)?;
     key.push_str(":")?;
-    Ok(Member { key, place })
+    Ok(Member { key, place, ty })
 }

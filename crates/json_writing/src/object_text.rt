@@ -1,15 +1,15 @@
 //! The JSON objects of parcelables and unions.
-ghost use Rattle.std.specs.Prelude.{◌≡◌, ◌<◌, ◌++◌, ◌∷◌, [], OnOk, length, slice_get, string_bytes};
+ghost use Rattle.std.specs.List.{All};
+ghost use Rattle.std.specs.Prelude.{◌≡◌, ◌++◌, ◌∷◌, [], OnOk, slice_get, string_bytes};
 ghost use Rattle.serde_json.specs.Data.{object, member, no_members};
 ghost use Rattle.serde_json.specs.Written.{compact_text};
 ghost use Rattle.aidl_values.specs.Data.{alt, rec};
-ghost use Rattle.aidl_values.specs.HasType.{HasType, FieldsHaveType};
+ghost use Rattle.aidl_values.specs.HasType.{HasType};
 ghost use Rattle.aidl_values.specs.View.{field_datas, items_of, view};
 ghost use Rattle.json_writing.specs.Json.{json_of};
 ghost use Rattle.json_writing.specs.Named.{bytes_of};
 ghost use Rattle.json_writing.specs.ValueText.{value_text};
-ghost use Rattle.json_writing.specs.steps.Members.{AreWithin, row_text};
-ghost use Rattle.json_writing.specs.steps.Parts.{part_at};
+ghost use Rattle.json_writing.specs.steps.Members.{IsTyped, part_text, row_text};
 
 use crate::members::Member;
 use crate::printer::JsonPrinter;
@@ -34,10 +34,9 @@ pub fn push_record(
     ensures text { OnOk result (string_bytes text.new
         ≡ string_bytes text.old ++ value_text printer.old ty (rec (items_of (field_datas values.now)))) }
 {
-    let fields = printer.fields(ty.base);
     let row = printer.row(alloc, ty.base)?;
     text.push('{')?;
-    push_members(alloc, printer, fields, row.as_slice(), values, text)?;
+    push_members(alloc, printer, row.as_slice(), values, text)?;
     text.push('}')?;
     Ok(())
 }
@@ -46,19 +45,17 @@ pub fn push_record(
 fn push_members(
     alloc: Global,
     printer: &mut JsonPrinter<'_>,
-    fields: &[Field],
     row: &[Member],
     values: &Fields,
     text: &mut String,
 ) -> Result<(), OutOfMemory>
-    requires typed { FieldsHaveType printer.old fields.now (items_of (field_datas values.now)) }
-    requires within { AreWithin (length fields.now) row.now }
+    requires typed { All (IsTyped printer.old (field_datas values.now)) row.now }
     ensures same { printer.new ≡ printer.old }
     ensures text { OnOk result (string_bytes text.new ≡ string_bytes text.old
-        ++ row_text (λ i. compact_text (part_at printer.old fields.now (field_datas values.now) i)) row.now) }
+        ++ row_text (part_text printer.old (field_datas values.now)) row.now) }
 {
     for member in row {
-        push_member(alloc, printer, fields, member, values, text)?;
+        push_member(alloc, printer, member, values, text)?;
     }
     Ok(())
 }
@@ -67,21 +64,17 @@ fn push_members(
 fn push_member(
     alloc: Global,
     printer: &mut JsonPrinter<'_>,
-    fields: &[Field],
     member: &Member,
     values: &Fields,
     text: &mut String,
 ) -> Result<(), OutOfMemory>
-    requires typed { FieldsHaveType printer.old fields.now (items_of (field_datas values.now)) }
-    requires within { member.now.place < length fields.now }
+    requires typed { IsTyped printer.old (field_datas values.now) member.now }
     ensures same { printer.new ≡ printer.old }
     ensures text { OnOk result (string_bytes text.new ≡ string_bytes text.old
-        ++ (string_bytes member.now.key ++ compact_text
-        (part_at printer.old fields.now (field_datas values.now) member.now.place))) }
+        ++ (string_bytes member.now.key ++ part_text printer.old (field_datas values.now) member.now)) }
 {
     text.push_str(member.key.as_str())?;
-    let field = &fields[member.place];
-    push_value(alloc, printer, field.ty, values.get(member.place), text)
+    push_value(alloc, printer, member.ty, values.get(member.place), text)
 }
 
 // Adds a union: the one field that a tag names.

@@ -224,12 +224,12 @@ fn items_from(
     ensures on { OnOk result (MovesOn from.old from.new) }
     ensures same { plans.new ≡ plans.old }
 {
-    let mut values = Row::new(alloc);
+    let mut values = Vec::new(alloc);
     for _ in 0..count {
         let value = value_from(alloc, plans, element, levels - 1, from)?;
         values.push(value)?;
     }
-    Ok(values)
+    Ok(Row::from_vec(values))
 }
 
 /// Reads a parcelable.
@@ -308,17 +308,17 @@ fn fields_from(
     ensures on { OnOk result (MovesOn from.old from.new) }
     ensures same { plans.new ≡ plans.old }
 {
-    let mut values = Row::new(alloc);
+    let mut values = Vec::new(alloc);
     for field in plans.entries(span) {
         if from.at_end() {
             let row = plans.defaults_of(alloc, span)?;
-            let record = first_fields(alloc, values, row)?;
+            let record = first_fields(alloc, Row::from_vec(values), row)?;
             return Ok(record);
         }
         let value = value_from(alloc, plans, field.item, levels - 1, from)?;
         values.push(value)?;
     }
-    Ok(Value::Rec(Fields::Whole(values)))
+    Ok(Value::Rec(Fields::Whole(Row::from_vec(values))))
 }
 
 /// A record of the values of its first fields, and the defaults of those behind them.

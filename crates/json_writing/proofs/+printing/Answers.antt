@@ -1,72 +1,73 @@
 use Rattle.std.proofs.Common.{◌≡◌, ◌<◌, ◌++◌, ℕ, false, List, map, length, string_bytes, sym, ap, subst, ◌∙◌, append_assoc, arith, rules}
 use Rattle.std.specs.Fmt.{decimal, signed_decimal}
 use Rattle.std.specs.Prelude.{OnOk}
-use Rattle.serde_json.specs.Data.{Data}
-use Rattle.serde_json.specs.Written.{compact_text}
 use Rattle.aidl_schema.specs.declared.schema.Decl.{Decl}
-use Rattle.aidl_values.specs.HasType.{FieldsHaveType}
-use Rattle.aidl_values.specs.View.{datas, field_datas, items_of, view, view_element}
+use Rattle.aidl_values.specs.Data as value
+use Rattle.aidl_values.specs.Data.{null}
+use Rattle.aidl_values.specs.HasType.{HasType}
+use Rattle.aidl_values.specs.View.{datas, field_datas, view, view_element}
 use Rattle.aidl_values.proofs.lemmas.Depths.{no_deeper}
-use Rattle.aidl_values.proofs.lemmas.Nexts.{item_at}
+use Rattle.std.proofs.lemmas.Option.{get_or_from_slice_get}
+use Rattle.json_writing.specs.Json.{fields_of_type}
 use Rattle.json_writing.specs.ValueText.{value_text}
-use Rattle.json_writing.specs.declared.members.Member.{Member}
+use Rattle.std.specs.List.{All}
 use Rattle.json_writing.specs.steps.Numbers.{row_of_texts, text_of_byte}
 use Rattle.json_writing.proofs.Elements.{element_more, element_typed}
-use Rattle.json_writing.proofs.Parts.{as_many, part_here, record_text, typed_here}
-use Rattle.json_writing.proofs.Rows.{within_at}
+use Rattle.json_writing.proofs.Parts.{record_text, row_typed, typed_fields}
+use Rattle.json_writing.specs.steps.Members.{IsTyped, value_at}
 use Rattle.json_writing.proofs.SideBySide.{bytes_text, chars_text, ints_text, longs_text}
 use Rattle.json_writing.proofs.+printing.Goals as goal
-
-pub object_text::push_member-get-requires : goal.object_text::push_member-get-requires
-object_text::push_member-get-requires t c =
-    let many = as_many c.args.printer.now c.args.fields.now (field_datas c.args.values.now) c.requires.typed in
-    omega (arith, many, c.requires.within)
 
 pub object_text::push_member-push_value-requires : goal.object_text::push_member-push_value-requires
 object_text::push_member-push_value-requires t c =
     let ds = field_datas c.args.values.now in
-    let i = c.args.member.now.place in
+    let m = c.args.member.now in
     let d = view c.get.result.now in
-    let below = no_deeper ds i d c.get.ensures in
-    let there = item_at ds i d c.get.ensures in (
-      omega (arith, below, c.decreases),
-      typed_here c.args.printer.now c.args.fields.now ds i c.index-fields-member.result d c.requires.typed c.requires.within c.index-fields-member.is there,
-    )
+    let below = no_deeper ds m.place d c.get.ensures in
+    let there : value_at ds m ≡ d = get_or_from_slice_get ds m.place d null c.get.ensures in
+    (omega (arith, below, c.decreases), subst (λ (v : value.Data). HasType c.args.printer.now m.ty v) there c.requires.typed.1)
 
 pub object_text::push_member-returns-clause-text : goal.object_text::push_member-returns-clause-text
 object_text::push_member-returns-clause-text t c =
     let S = c.args.printer.now in
-    let fs = c.args.fields.now in
     let ds = field_datas c.args.values.now in
-    let i = c.args.member.now.place in
-    let key = string_bytes c.args.member.now.key in
+    let m = c.args.member.now in
+    let key = string_bytes m.key in
     let old = string_bytes c.args.text.now in
-    let f = c.index-fields-member.result in
     let d = view c.get.result.now in
-    let there = item_at ds i d c.get.ensures in
-    let part = value_text S f.ty d in
+    let there : value_at ds m ≡ d = get_or_from_slice_get ds m.place d null c.get.ensures in
+    let part = value_text S m.ty d in
     subst (λ (z : List ℕ). OnOk c.push_value.result (string_bytes c.push_value.new.text ≡ z))
     (ap (λ (z : List ℕ). z ++ part) (c.in_ok-push_str.ensures.bytes ∙ ap (λ (z : List ℕ). old ++ z) c.as_str.ensures.value) ∙ append_assoc old key part
-    ∙ ap (λ (j : Data). old ++ (key ++ compact_text j)) (part_here S fs ds i f d c.requires.typed c.requires.within c.index-fields-member.is there))
+    ∙ ap (λ (v : value.Data). old ++ (key ++ value_text S m.ty v)) (sym there))
     c.push_value.ensures.text
 
 pub object_text::push_members-push_member-requires : goal.object_text::push_members-push_member-requires
 object_text::push_members-push_member-requires t c =
-    let fs = c.args.fields.now in
+    let ds = field_datas c.args.values.now in
     let row = c.args.row.now in
     let lies : c.loop-member.member-index < length row = omega arith in (
       search rules,
-      (
-        subst (λ (S : List Decl). FieldsHaveType S fs (items_of (field_datas c.args.values.now))) (sym c.loop-member.invariant.same) c.requires.typed,
-        subst (λ (m : Member). m.place < length fs) (sym c.member-item.is) (within_at (length fs) row c.loop-member.member-index c.member-item.result c.requires.within lies),
-      ),
+      subst (λ (S : List Decl). IsTyped S ds c.member-item.result) (sym c.loop-member.invariant.same)
+          (subst (IsTyped c.args.printer.now ds) (sym c.member-item.is) (c.requires.typed c.loop-member.member-index c.member-item.result lies)),
+    )
+
+pub object_text::push_record-push_members-requires : goal.object_text::push_record-push_members-requires
+object_text::push_record-push_members-requires t c =
+    let S = c.args.printer.now in
+    let ds = field_datas c.args.values.now in
+    let row = c.in_ok-row.row.value.items in
+    let all : All (IsTyped S ds) row = row_typed S (fields_of_type S c.args.ty) ds row (typed_fields S c.args.ty ds c.requires) c.in_ok-row.ensures.row.1 in (
+      search rules,
+      subst (λ (z : List Decl). All (IsTyped z ds) c.as_slice.result.now) (sym c.in_ok-row.ensures.same)
+          (subst (All (IsTyped S ds)) (sym (c.as_slice.ensures.value ∙ ap (λ v. v.items) c.deref.ensures)) all),
     )
 
 pub object_text::push_record-returns-clause-text : goal.object_text::push_record-returns-clause-text
 unfolding lib.Utf8.encode
 object_text::push_record-returns-clause-text t c =
-    record_text c.args.printer.now c.args.ty (field_datas c.args.values.now) c.row.new.self c.fields-fields.result.now c.in_ok-row.row.value.items c.as_slice.result.now (string_bytes c.args.text.now) _ _ _
-    c.requires c.in_ok-row.ensures.row c.in_ok-row.ensures.same c.fields-fields.ensures (c.as_slice.ensures.value ∙ ap (λ v. v.items) c.deref.ensures)
+    record_text c.args.printer.now c.args.ty (field_datas c.args.values.now) c.row.new.self c.in_ok-row.row.value.items c.as_slice.result.now (string_bytes c.args.text.now) _ _ _
+    c.requires c.in_ok-row.ensures.row c.in_ok-row.ensures.same (c.as_slice.ensures.value ∙ ap (λ v. v.items) c.deref.ensures)
     c.in_ok-push.ensures.bytes c.in_ok-push_members.ensures.text c.in_ok-push-2.ensures.bytes
 
 pub sequence_text::push_each-push_element-requires : goal.sequence_text::push_each-push_element-requires

@@ -1,10 +1,9 @@
 use Rattle.std.proofs.Common.{◌≡◌, ◌+◌, ◌*◌, ◌++◌, false, drop, string_bytes}
-use Rattle.serde_json.specs.Written.{compact_text, items_text}
+use Rattle.serde_json.specs.Written.{items_text}
 use Rattle.aidl_values.specs.Data.{depth_of, greatest}
 use Rattle.aidl_values.specs.View.{datas, field_datas, items_of, view, view_element}
 use Rattle.json_writing.specs.Json.{json_items}
-use Rattle.json_writing.specs.steps.Members.{row_text}
-use Rattle.json_writing.specs.steps.Parts.{part_at}
+use Rattle.json_writing.specs.steps.Members.{part_text, row_text}
 use Rattle.json_writing.proofs.+printing.Given as goal
 
 -- what is left completes the text
@@ -19,8 +18,8 @@ invariant-sequence_text::push_each-loop-i l = record {
 abbrev pub invariant-object_text::push_members-loop-member : goal.invariant-object_text::push_members-loop-member
 invariant-object_text::push_members-loop-member l = record {
   same : l.printer ≡ l.fn.printer;
-  text : string_bytes l.text ++ row_text (λ i. compact_text (part_at l.fn.printer l.fields (field_datas l.values) i)) (drop l.member-index l.row)
-      ≡ string_bytes l.fn.text ++ row_text (λ i. compact_text (part_at l.fn.printer l.fields (field_datas l.values) i)) l.row;
+  text : string_bytes l.text ++ row_text (part_text l.fn.printer (field_datas l.values)) (drop l.member-index l.row)
+      ≡ string_bytes l.fn.text ++ row_text (part_text l.fn.printer (field_datas l.values)) l.row;
 }
 
 -- a value takes more steps than the list of its parts, and the list than each of them

@@ -1,10 +1,10 @@
-use Rattle.std.proofs.Common.{◌≡◌, ◌++◌, ◌∷◌, [], ◌+◌, ◌-◌, ℕ, List, Ok, true, refl, sym, ap, ◌∙◌, subst, rules, arith, length, map}
+use Rattle.std.proofs.Common.{◌≡◌, ◌++◌, ◌∷◌, [], ◌+◌, ◌-◌, ℕ, List, Ok, true, refl, sym, ap, ◌∙◌, subst, rules, arith, length, map, drop}
 use Rattle.std.proofs.lemmas.Result.{err_from_is_err_and}
 use Rattle.std.proofs.lemmas.List.{length_push, map_push}
 use Rattle.marshal_plans.specs.declared.plans.PlanItem.TheVariants.{Word, Long}
 use Rattle.marshal_plans.specs.declared.plans.WordKind.TheVariants.{Truth, Char, Int}
 use Rattle.aidl_values.specs.Data.{Data, rec}
-use Rattle.aidl_values.specs.View.{items_of, view}
+use Rattle.aidl_values.specs.View.{items_of, view, views}
 use Rattle.marshal_plans.specs.declared.plans.PlanField.{PlanField}
 use Rattle.marshal_plans.specs.Standing.{entries_of}
 use Rattle.marshal_plans.specs.declared.plans.Plans.{Plans}
@@ -66,7 +66,7 @@ items_from-returns-in_err-value-clause-taken t c =
     let planned = subst (λ (Q : Plans). RefusesIfMemory e (plan_read c.loop.from.profile Q (c.args.levels - 1) c.args.element (is_inside c.loop.from) (left c.loop.from))) c.loop.invariant.same c.in_err-value.ensures.taken in
     let as_read = subst (λ q. RefusesIfMemory e (plan_read q P (c.args.levels - 1) c.args.element (is_inside c.loop.from) (left c.loop.from))) profile planned in
     let failed = subst (λ b. RefusesIfMemory e (plan_read p.profile P (c.args.levels - 1) c.args.element b (left c.loop.from))) inside as_read in
-    rw (q.1, q.2) (ends (λ b. plan_parts p.profile P c.args.levels c.args.element (is_inside p) b) (map view c.loop.values) c.args.count c.loop.counter (left c.loop.from) _ c.loop.invariant.read e c.loop-test.true (subst (RefusesIfMemory e) (sym here) failed))
+    rw (q.1, q.2) (ends (λ b. plan_parts p.profile P c.args.levels c.args.element (is_inside p) b) (map view c.loop.values.items) c.args.count c.loop.counter (left c.loop.from) _ c.loop.invariant.read e c.loop-test.true (subst (RefusesIfMemory e) (sym here) failed))
 
 pub items_from-loop-preserved : goal.items_from-loop-preserved
 items_from-loop-preserved t c =
@@ -79,16 +79,17 @@ items_from-loop-preserved t c =
     let planned = subst (λ (Q : Plans). plan_read c.loop.from.profile Q (c.args.levels - 1) c.args.element (is_inside c.loop.from) (left c.loop.from) ≡ Ok (view v, left c.value_from.new.from)) c.loop.invariant.same c.in_ok-value.ensures.taken in
     let as_read = subst (λ q. plan_read q P (c.args.levels - 1) c.args.element (is_inside c.loop.from) (left c.loop.from) ≡ Ok (view v, left c.value_from.new.from)) profile planned in
     let found = subst (λ b. plan_read p.profile P (c.args.levels - 1) c.args.element b (left c.loop.from) ≡ Ok (view v, left c.value_from.new.from)) inside as_read in
-    let more : map view c.push.new.self ≡ map view c.loop.values ++ view v ∷ [] = rw c.in_ok-push.ensures.ok (map_push _ c.loop.values v) in
+    let more : map view c.push.new.self.items ≡ map view c.loop.values.items ++ view v ∷ [] = rw c.in_ok-push.ensures.items (map_push _ c.loop.values.items v) in
     rw more (record {
-      read = goes_on (λ b. plan_parts p.profile P c.args.levels c.args.element (is_inside p) b) (map view c.loop.values) c.args.count c.loop.counter (left c.loop.from) _ c.loop.invariant.read (view v) (left c.value_from.new.from) c.loop-test.true (here ∙ found);
+      read = goes_on (λ b. plan_parts p.profile P c.args.levels c.args.element (is_inside p) b) (map view c.loop.values.items) c.args.count c.loop.counter (left c.loop.from) _ c.loop.invariant.read (view v) (left c.value_from.new.from) c.loop-test.true (here ∙ found);
       on = on_and_on p c.loop.from c.value_from.new.from c.loop.invariant.on c.in_ok-value.ensures.on;
       same = c.value_from.ensures.same ∙ c.loop.invariant.same;
     })
 
 pub items_from-returns-clause-taken : goal.items_from-returns-clause-taken
 items_from-returns-clause-taken t c =
-    is_done (λ b. plan_parts c.args.from.now.profile c.args.plans.now c.args.levels c.args.element (is_inside c.args.from.now) b) (map view c.loop.values) c.args.count c.loop.counter (left c.loop.from) _ c.loop.invariant.read c.loop-test.false
+    is_done (λ b. plan_parts c.args.from.now.profile c.args.plans.now c.args.levels c.args.element (is_inside c.args.from.now) b) (map view c.loop.values.items) c.args.count c.loop.counter (left c.loop.from) _ c.loop.invariant.read c.loop-test.false
+    ∙ ap (λ vs. Ok (views vs, left c.loop.from)) (sym c.from_vec.ensures)
 
 pub fields_from-returns-in_err-value-clause-taken : goal.fields_from-returns-in_err-value-clause-taken
 fields_from-returns-in_err-value-clause-taken t c =
@@ -106,7 +107,7 @@ fields_from-returns-in_err-value-clause-taken t c =
     let part = subst (λ b. RefusesIfMemory e (plan_read p.profile P (c.args.levels - 1) g.item b (left here))) inside by_profile in
     let as_field = field_there (λ g. initial_by_plan P g) (λ g b. plan_parts p.profile P c.args.levels g.item true b) g (left here) c.if-at_end.ensures.none_left.1
     ∙ plan_parts-below p.profile P c.args.levels g.item true (left here) c.requires.some in
-    let failed = field_ends (λ g. initial_by_plan P g) (λ g b. plan_parts p.profile P c.args.levels g.item true b) (map view c.loop-field.values) gs c.loop-field.field-index (left here) _ c.loop-field.invariant.read
+    let failed = field_ends (λ g. initial_by_plan P g) (λ g b. plan_parts p.profile P c.args.levels g.item true b) (map view c.loop-field.values.items) gs c.loop-field.field-index (left here) _ c.loop-field.invariant.read
     g e c.loop-field-test.true c.field-item.is (subst (RefusesIfMemory e) (sym as_field) part) in
     rw (q.1, q.2) (subst (λ (fs : List PlanField). RefusesIfMemory e (fields_at (λ g. initial_by_plan P g) (λ g b. plan_parts p.profile P c.args.levels g.item true b) fs (left p))) c.entries-field-items.ensures failed)
 
@@ -125,11 +126,11 @@ fields_from-loop-field-preserved t c =
     let part = subst (λ b. plan_read p.profile P (c.args.levels - 1) g.item b (left here) ≡ Ok (view v, left next)) inside by_profile in
     let as_field = field_there (λ g. initial_by_plan P g) (λ g b. plan_parts p.profile P c.args.levels g.item true b) g (left here) c.if-at_end.ensures.none_left.1
     ∙ plan_parts-below p.profile P c.args.levels g.item true (left here) c.requires.some in
-    let items = c.in_ok-push.ensures.ok in
-    let more : map view c.push.new.self ≡ map view c.loop-field.values ++ view v ∷ [] = rw items (map_push _ c.loop-field.values v) in
-    let many : length c.push.new.self ≡ c.loop-field.field-index + 1 = ap length items ∙ length_push c.loop-field.values v ∙ ap (λ n. n + 1) c.loop-field.invariant.many in
+    let items = c.in_ok-push.ensures.items in
+    let more : map view c.push.new.self.items ≡ map view c.loop-field.values.items ++ view v ∷ [] = rw items (map_push _ c.loop-field.values.items v) in
+    let many : length c.push.new.self.items ≡ c.loop-field.field-index + 1 = ap length items ∙ length_push c.loop-field.values.items v ∙ ap (λ n. n + 1) c.loop-field.invariant.many in
     record {
-      read = rw more (field_on (λ g. initial_by_plan P g) (λ g b. plan_parts p.profile P c.args.levels g.item true b) (map view c.loop-field.values) c.entries-field-items.result.now c.loop-field.field-index (left here) _
+      read = rw more (field_on (λ g. initial_by_plan P g) (λ g b. plan_parts p.profile P c.args.levels g.item true b) (map view c.loop-field.values.items) c.entries-field-items.result.now c.loop-field.field-index (left here) _
           c.loop-field.invariant.read g (view v) (left next) c.loop-field-test.true c.field-item.is (as_field ∙ part));
       many = many;
       on = on_and_on p here next c.loop-field.invariant.on c.in_ok-value.ensures.on;
@@ -140,7 +141,8 @@ pub fields_from-first_fields-requires : goal.fields_from-first_fields-requires
 fields_from-first_fields-requires t c =
     let P = c.args.plans.now in
     let made = subst (λ (Q : Plans). map view c.in_ok-row.row.value ≡ map (λ g. initial_by_plan Q g) (entries_of Q.fields c.args.span.first c.args.span.count)) c.loop-field.invariant.same c.in_ok-row.ensures.row in
-    first_fit (λ g. initial_by_plan P g) c.entries-field-items.result.now c.loop-field.values c.in_ok-row.row.value c.loop-field.field-index c.loop-field.invariant.many
+    let many : length c.from_vec.result ≡ c.loop-field.field-index = ap length c.from_vec.ensures ∙ c.loop-field.invariant.many in
+    first_fit (λ g. initial_by_plan P g) c.entries-field-items.result.now c.from_vec.result c.in_ok-row.row.value c.loop-field.field-index many
     (made ∙ ap (λ fs. map (λ g. initial_by_plan P g) fs) (sym c.entries-field-items.ensures)) (omega (arith, c.loop-field-test.true))
 
 pub fields_from-returns-then-at_end-clause-taken : goal.fields_from-returns-then-at_end-clause-taken
@@ -149,12 +151,14 @@ fields_from-returns-then-at_end-clause-taken t c =
     let p = c.args.from.now in
     let gs = c.entries-field-items.result.now in
     let i = c.loop-field.field-index in
-    let vs = c.loop-field.values in
+    let vs = c.from_vec.result in
+    let many : length vs ≡ i = ap length c.from_vec.ensures ∙ c.loop-field.invariant.many in
     let row = c.in_ok-row.row in
     let made = subst (λ (Q : Plans). map view row.value ≡ map (λ g. initial_by_plan Q g) (entries_of Q.fields c.args.span.first c.args.span.count)) c.loop-field.invariant.same c.in_ok-row.ensures.row in
-    let short = c.in_ok-record.ensures ∙ ap (λ ds. rec (items_of ds)) (first_seen (λ g. initial_by_plan P g) gs vs row.value i c.loop-field.invariant.many
-    (made ∙ ap (λ fs. map (λ g. initial_by_plan P g) fs) (sym c.entries-field-items.ensures))) in
-    let read = fields_left (λ g. initial_by_plan P g) (λ g b. plan_parts p.profile P c.args.levels g.item true b) (map view c.loop-field.values) gs i (left c.loop-field.from) _ c.loop-field.invariant.read (c.if-at_end.ensures.none_left.0 refl) in
+    let short = c.in_ok-record.ensures ∙ ap (λ ds. rec (items_of ds)) (first_seen (λ g. initial_by_plan P g) gs vs row.value i many
+    (made ∙ ap (λ fs. map (λ g. initial_by_plan P g) fs) (sym c.entries-field-items.ensures)))
+    ∙ ap (λ xs. rec (items_of (map view xs ++ map (λ g. initial_by_plan P g) (drop i gs)))) c.from_vec.ensures in
+    let read = fields_left (λ g. initial_by_plan P g) (λ g b. plan_parts p.profile P c.args.levels g.item true b) (map view c.loop-field.values.items) gs i (left c.loop-field.from) _ c.loop-field.invariant.read (c.if-at_end.ensures.none_left.0 refl) in
     ap (λ (fs : List PlanField). as_record (fields_at (λ g. initial_by_plan P g) (λ g b. plan_parts p.profile P c.args.levels g.item true b) fs (left p))) (sym c.entries-field-items.ensures)
     ∙ ap as_record read ∙ ap (λ (d : Data). Ok d) (sym short)
 
@@ -162,10 +166,10 @@ pub fields_from-returns-clause-taken : goal.fields_from-returns-clause-taken
 fields_from-returns-clause-taken t c =
     let P = c.args.plans.now in
     let p = c.args.from.now in
-    let read = fields_done (λ g. initial_by_plan P g) (λ g b. plan_parts p.profile P c.args.levels g.item true b) (map view c.loop-field.values) c.entries-field-items.result.now c.loop-field.field-index (left c.loop-field.from) _
+    let read = fields_done (λ g. initial_by_plan P g) (λ g b. plan_parts p.profile P c.args.levels g.item true b) (map view c.loop-field.values.items) c.entries-field-items.result.now c.loop-field.field-index (left c.loop-field.from) _
     c.loop-field.invariant.read c.loop-field-test.false in
     ap (λ (fs : List PlanField). as_record (fields_at (λ g. initial_by_plan P g) (λ g b. plan_parts p.profile P c.args.levels g.item true b) fs (left p))) (sym c.entries-field-items.ensures)
-    ∙ ap as_record read ∙ ap (λ (d : Data). Ok d) (sym (whole_seen c.loop-field.values))
+    ∙ ap as_record read ∙ ap (λ vs. Ok (rec (views vs))) (sym c.from_vec-2.ensures) ∙ ap (λ (d : Data). Ok d) (sym (whole_seen c.from_vec-2.result))
 
 pub body_from-returns-in_err-enter-clause-taken : goal.body_from-returns-in_err-enter-clause-taken
 body_from-returns-in_err-enter-clause-taken t c =

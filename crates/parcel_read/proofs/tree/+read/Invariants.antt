@@ -44,7 +44,7 @@ decreases-tagged_from l = 8 * l.levels + 4
 -- what was read before, and what is still read, are all; and the reader stands between them
 abbrev pub invariant-items_from-loop : goal.invariant-items_from-loop
 invariant-items_from-loop l = record {
-  read : with_items (map view l.values) (each_at (λ b. plan_parts l.initial.from.profile l.initial.plans l.levels l.element (is_inside l.initial.from) b) (l.count - l.counter) (left l.from))
+  read : with_items (map view l.values.items) (each_at (λ b. plan_parts l.initial.from.profile l.initial.plans l.levels l.element (is_inside l.initial.from) b) (l.count - l.counter) (left l.from))
       ≡ each_at (λ b. plan_parts l.initial.from.profile l.initial.plans l.levels l.element (is_inside l.initial.from) b) l.count (left l.initial.from);
   on : MovesOn l.initial.from l.from;
   same : l.plans ≡ l.initial.plans;
@@ -52,9 +52,9 @@ invariant-items_from-loop l = record {
 
 abbrev pub invariant-fields_from-loop-field : goal.invariant-fields_from-loop-field
 invariant-fields_from-loop-field l = record {
-  read : with_front (map view l.values) (fields_at (λ g. initial_by_plan l.initial.plans g) (λ g b. plan_parts l.initial.from.profile l.initial.plans l.levels g.item true b) (drop l.field-index l.field-items) (left l.from))
+  read : with_front (map view l.values.items) (fields_at (λ g. initial_by_plan l.initial.plans g) (λ g b. plan_parts l.initial.from.profile l.initial.plans l.levels g.item true b) (drop l.field-index l.field-items) (left l.from))
       ≡ fields_at (λ g. initial_by_plan l.initial.plans g) (λ g b. plan_parts l.initial.from.profile l.initial.plans l.levels g.item true b) l.field-items (left l.initial.from);
-  many : length l.values ≡ l.field-index;
+  many : length l.values.items ≡ l.field-index;
   on : MovesOn l.initial.from l.from;
   same : l.plans ≡ l.initial.plans;
 }
