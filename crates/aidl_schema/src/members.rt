@@ -1,10 +1,11 @@
-//! The fields and the methods of declarations, by their kinds.
+//! The fields and the methods of declarations, by their kinds, and the ways of arguments.
 ghost use Rattle.std.specs.Prelude.{◌≡◌};
 ghost use Rattle.aidl_schema.specs.Containment.{fields_of};
 ghost use Rattle.aidl_schema.specs.Find.{methods_at};
+ghost use Rattle.aidl_schema.specs.Methods.{is_in_way};
 ghost use Rattle.aidl_schema.specs.Names.{methods_of};
 
-use crate::schema::{Field, Kind, Method, Schema};
+use crate::schema::{Direction, Field, Kind, Method, Schema};
 
 /// The fields of a parcelable or a union; none of another kind.
 pub fn fields_of(kind: &Kind) -> &[Field]
@@ -39,4 +40,11 @@ pub fn methods_at(schema: &Schema, interface: u32) -> &[Method]
         },
         None => &[],
     }
+}
+
+/// Whether an argument of this direction is `in`.
+pub fn is_in_way(way: Direction) -> bool
+    ensures { result ≡ is_in_way way }
+{
+    matches!(way, Direction::In)
 }

@@ -1,9 +1,10 @@
-//! Sameness of texts, bases, types and flags, of one schema and another.
+//! Sameness of texts, bases, types, kinds and flags, of one schema and another.
 ghost use Rattle.std.specs.Prelude.{◌≡◌, ◌==◌};
+ghost use Rattle.aidl_schema.specs.Broken.{kind_code};
 ghost use Rattle.aidl_schema.specs.Same as meant;
 ghost use Rattle.std.specs.Option.{option_copied};
 
-use crate::schema::{AidlType, Base, Decl, Schema, Shape};
+use crate::schema::{AidlType, Base, Decl, Kind, Schema, Shape};
 use aidl_base::{Ident, Text};
 
 /// Whether two texts are the same.
@@ -34,6 +35,13 @@ fn same_decl(d: Option<&Decl>, e: Option<&Decl>) -> bool
         (Some(d), Some(e)) => same_idents(d.name.0.as_slice(), e.name.0.as_slice()),
         _ => false,
     }
+}
+
+/// Whether a base is declared.
+pub fn is_named(base: Base) -> bool
+    ensures { result ≡ meant.is_named base }
+{
+    matches!(base, Base::Named(_))
 }
 
 /// Whether two bases are the same built-in one, or both declared.
@@ -82,6 +90,19 @@ pub fn same_type(old: &Schema, t: AidlType, new: &Schema, u: AidlType) -> bool
 {
     same_base(old, t.base, new, u.base)
         && (same_shape(t.shape, u.shape) && same_flag(t.nullable, u.nullable))
+}
+
+/// Whether two declarations are of one kind.
+pub fn same_kind(a: &Kind, b: &Kind) -> bool
+    ensures { result ≡ (kind_code a.now == kind_code b.now) }
+{
+    match (a, b) {
+        (Kind::Interface(_), Kind::Interface(_)) => true,
+        (Kind::Parcelable(_), Kind::Parcelable(_)) => true,
+        (Kind::Union(_), Kind::Union(_)) => true,
+        (Kind::Enum(_, _), Kind::Enum(_, _)) => true,
+        _ => false,
+    }
 }
 
 /// Whether both are true or both false.

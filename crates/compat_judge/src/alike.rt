@@ -1,53 +1,45 @@
-//! Sameness of results, marks, directions and kinds, between two schemas.
+//! Sameness of results, marks and directions, between two schemas.
 ghost use Rattle.std.specs.Prelude.{◌≡◌, ◌==◌};
 ghost use Rattle.aidl_schema.specs.Broken as broken;
 
-use aidl_schema::{AidlType, Direction, Kind, Schema, same_flag, same_type};
+use aidl_schema::{AidlType, Direction, Schema, same_flag, same_type};
 
 /// Whether both are void or the same type.
-pub fn same_result(old: &Schema, t: Option<AidlType>, new: &Schema, u: Option<AidlType>) -> bool
-    ensures { result ≡ broken.same_result old.now.decls t new.now.decls u }
+pub fn same_result(
+    old: &Schema,
+    before: Option<AidlType>,
+    new: &Schema,
+    after: Option<AidlType>,
+) -> bool
+    ensures { result ≡ broken.same_result old.now.decls before new.now.decls after }
 {
-    match (t, u) {
+    match (before, after) {
         (None, None) => true,
-        (Some(t), Some(u)) => same_type(old, t, new, u),
+        (Some(before), Some(after)) => same_type(old, before, new, after),
         _ => false,
     }
 }
 
 /// Whether `@utf8InCpp` and `heap` are the same.
-pub fn same_marks(t: AidlType, u: AidlType) -> bool
-    ensures { result ≡ broken.same_marks t u }
+pub fn same_marks(before: AidlType, after: AidlType) -> bool
+    ensures { result ≡ broken.same_marks before after }
 {
-    same_flag(t.utf8, u.utf8) && same_flag(t.heap, u.heap)
+    same_flag(before.utf8, after.utf8) && same_flag(before.heap, after.heap)
 }
 
 /// The same of results; void has no marks to compare.
-pub fn same_result_marks(t: Option<AidlType>, u: Option<AidlType>) -> bool
-    ensures { result ≡ broken.same_result_marks t u }
+pub fn same_result_marks(before: Option<AidlType>, after: Option<AidlType>) -> bool
+    ensures { result ≡ broken.same_result_marks before after }
 {
-    match (t, u) {
-        (Some(t), Some(u)) => same_marks(t, u),
+    match (before, after) {
+        (Some(before), Some(after)) => same_marks(before, after),
         _ => true,
     }
 }
 
 /// Whether values go the same way.
-pub fn same_way(a: Direction, b: Direction) -> bool
-    ensures { result ≡ (broken.way_code a == broken.way_code b) }
+pub fn same_way(before: Direction, after: Direction) -> bool
+    ensures { result ≡ (broken.way_code before == broken.way_code after) }
 {
-    a == b
-}
-
-/// Whether two declarations are of one kind.
-pub fn same_kind(a: &Kind, b: &Kind) -> bool
-    ensures { result ≡ (broken.kind_code a.now == broken.kind_code b.now) }
-{
-    match (a, b) {
-        (Kind::Interface(_), Kind::Interface(_)) => true,
-        (Kind::Parcelable(_), Kind::Parcelable(_)) => true,
-        (Kind::Union(_), Kind::Union(_)) => true,
-        (Kind::Enum(_, _), Kind::Enum(_, _)) => true,
-        _ => false,
-    }
+    before == after
 }

@@ -11,33 +11,36 @@ ghost use Rattle.aidl_schema.specs.Types.{form_of};
 
 use aidl_base::{Const, Row, Text};
 use aidl_schema::{
-    AidlType, Base, Enumerator, Field, Form, Kind, Schema, Shape, form_in, same_flag, same_text,
+    AidlType, Base, Enumerator, Field, Form, Kind, Schema, Shape, form_in, is_one_value, same_flag,
+    same_text,
 };
 use std::alloc::Global;
 
 /// Whether two constants are the same.
 #[cycle(constant)]
-pub fn same_const(a: &Const, b: &Const) -> bool
-    ensures { result ≡ broken.same_const a.now b.now }
+pub fn same_const(before: &Const, after: &Const) -> bool
+    ensures { result ≡ broken.same_const before.now after.now }
 {
-    match (a, b) {
-        (Const::Truth(x), Const::Truth(y)) => same_flag(*x, *y),
-        (Const::Number(m), Const::Number(n)) => *m == *n,
-        (Const::Text(x), Const::Text(y)) => same_text(x, y),
-        (Const::Members(xs), Const::Members(ys)) => same_consts(xs.as_slice(), ys.as_slice()),
+    match (before, after) {
+        (Const::Truth(old), Const::Truth(new)) => same_flag(*old, *new),
+        (Const::Number(old), Const::Number(new)) => *old == *new,
+        (Const::Text(old), Const::Text(new)) => same_text(old, new),
+        (Const::Members(olds), Const::Members(news)) => {
+            same_consts(olds.as_slice(), news.as_slice())
+        }
         _ => false,
     }
 }
 
 #[cycle(constant)]
-fn same_consts(a: &[Const], b: &[Const]) -> bool
-    ensures { result ≡ broken.pass_each (map broken.same_const a.now) b.now }
+fn same_consts(olds: &[Const], news: &[Const]) -> bool
+    ensures { result ≡ broken.pass_each (map broken.same_const olds.now) news.now }
 {
-    if a.len() != b.len() {
+    if olds.len() != news.len() {
         return false;
     }
-    for i in 0..a.len() {
-        if !same_const(&a[i], &b[i]) {
+    for i in 0..olds.len() {
+        if !same_const(&olds[i], &news[i]) {
             return false;
         }
     }
@@ -79,34 +82,33 @@ fn default_by<'a>(initial: &'a Option<Const>, zero: &'a Option<Const>) -> Option
     }
 }
 
-fn same_default(a: Option<&Const>, b: Option<&Const>) -> bool
-    ensures { result ≡ broken.same_default (option_copied a.entry) (option_copied b.entry) }
+fn same_default(before: Option<&Const>, after: Option<&Const>) -> bool
+    ensures { result ≡ broken.same_default (option_copied before.entry) (option_copied after.entry) }
 {
-    match (a, b) {
+    match (before, after) {
         (None, None) => true,
-        (Some(c), Some(k)) => same_const(c, k),
+        (Some(old), Some(new)) => same_const(old, new),
         _ => false,
     }
 }
 
 /// Whether two fields have the same default.
-pub fn same_defaults(alloc: Global, old: &Schema, f: &Field, new: &Schema, g: &Field) -> bool
-    ensures { result ≡ broken.same_default (broken.default_in old.now.decls f.now)
-        (broken.default_in new.now.decls g.now) }
+pub fn same_defaults(
+    alloc: Global,
+    old: &Schema,
+    before: &Field,
+    new: &Schema,
+    after: &Field,
+) -> bool
+    ensures { result ≡ broken.same_default (broken.default_in old.now.decls before.now)
+        (broken.default_in new.now.decls after.now) }
 {
-    let zero = zero_in(alloc, old, f.ty);
-    let other = zero_in(alloc, new, g.ty);
+    let zero_before = zero_in(alloc, old, before.ty);
+    let zero_after = zero_in(alloc, new, after.ty);
     same_default(
-        default_by(&f.initial, &zero),
-        default_by(&g.initial, &other),
+        default_by(&before.initial, &zero_before),
+        default_by(&after.initial, &zero_after),
     )
-}
-
-// One value, never null.
-fn is_one_value(ty: AidlType) -> bool
-    ensures { result ≡ broken.is_one_value ty }
-{
-    matches!(ty.shape, Shape::One) && !ty.nullable
 }
 
 fn is_composite(form: &Form<'_>) -> bool
@@ -127,7 +129,7 @@ fn is_enum_without_zero(schema: &Schema, base: Base) -> bool
     ensures { result ≡ broken.is_enum_without_zero schema.now.decls base }
 {
     match base {
-        Base::Named(n) => match schema.decls.as_slice().get(n as usize) {
+        Base::Named(number) => match schema.decls.as_slice().get(number as usize) {
             Some(decl) => lacks_zero(&decl.kind),
             None => false,
         },
@@ -147,7 +149,7 @@ fn lacks_zero(kind: &Kind) -> bool
 fn has_zero(enumerators: &[Enumerator]) -> bool
     ensures { result ≡ list_any (λ x. int_eq x.value (pos 0)) enumerators.now }
 {
-    enumerators.iter().any(|x| x.value == 0)
+    enumerators.iter().any(|enumerator| enumerator.value == 0)
 }
 
 /// Whether a field may not be added at the end of a parcelable: its default is a record or an alternative, or the 0 of an

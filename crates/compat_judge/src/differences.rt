@@ -36,26 +36,38 @@ pub enum FieldTest {
 }
 
 /// Whether the methods differ in what is asked.
-pub fn method_breaks(test: MethodTest, old: &Schema, m: &Method, new: &Schema, w: &Method) -> bool
-    ensures { result ≡ tests.method_breaks test old.now.decls new.now.decls m.now w.now }
+pub fn method_breaks(
+    test: MethodTest,
+    old: &Schema,
+    before: &Method,
+    new: &Schema,
+    after: &Method,
+) -> bool
+    ensures { result ≡ tests.method_breaks test old.now.decls new.now.decls before.now after.now }
 {
     match test {
-        MethodTest::Ids => m.id != w.id,
-        MethodTest::Results => !same_result(old, m.result, new, w.result),
-        MethodTest::Counts => m.args.len() != w.args.len(),
-        MethodTest::Oneway => !same_flag(m.oneway, w.oneway),
-        MethodTest::Marks => !same_result_marks(m.result, w.result),
+        MethodTest::Ids => before.id != after.id,
+        MethodTest::Results => !same_result(old, before.result, new, after.result),
+        MethodTest::Counts => before.args.len() != after.args.len(),
+        MethodTest::Oneway => !same_flag(before.oneway, after.oneway),
+        MethodTest::Marks => !same_result_marks(before.result, after.result),
     }
 }
 
 /// Whether the arguments differ in what is asked.
-pub fn argument_breaks(test: ArgumentTest, old: &Schema, a: &Arg, new: &Schema, b: &Arg) -> bool
-    ensures { result ≡ tests.argument_breaks test old.now.decls new.now.decls a.now b.now }
+pub fn argument_breaks(
+    test: ArgumentTest,
+    old: &Schema,
+    before: &Arg,
+    new: &Schema,
+    after: &Arg,
+) -> bool
+    ensures { result ≡ tests.argument_breaks test old.now.decls new.now.decls before.now after.now }
 {
     match test {
-        ArgumentTest::Types => !same_type(old, a.ty, new, b.ty),
-        ArgumentTest::Ways => !same_way(a.way, b.way),
-        ArgumentTest::Marks => !same_marks(a.ty, b.ty),
+        ArgumentTest::Types => !same_type(old, before.ty, new, after.ty),
+        ArgumentTest::Ways => !same_way(before.way, after.way),
+        ArgumentTest::Marks => !same_marks(before.ty, after.ty),
     }
 }
 
@@ -64,29 +76,29 @@ pub fn field_breaks(
     alloc: Global,
     test: FieldTest,
     old: &Schema,
-    f: &Field,
+    before: &Field,
     new: &Schema,
-    g: &Field,
+    after: &Field,
 ) -> bool
-    ensures { result ≡ tests.field_breaks test old.now.decls new.now.decls f.now g.now }
+    ensures { result ≡ tests.field_breaks test old.now.decls new.now.decls before.now after.now }
 {
     match test {
-        FieldTest::Names => !same_text(&f.name.0, &g.name.0),
-        FieldTest::Types => !same_type(old, f.ty, new, g.ty),
-        FieldTest::Defaults => default_breaks(alloc, old, f, new, g),
+        FieldTest::Names => !same_text(&before.name.0, &after.name.0),
+        FieldTest::Types => !same_type(old, before.ty, new, after.ty),
+        FieldTest::Defaults => default_breaks(alloc, old, before, new, after),
         FieldTest::Alternatives => {
-            !same_text(&f.name.0, &g.name.0) || !same_type(old, f.ty, new, g.ty)
+            !same_text(&before.name.0, &after.name.0) || !same_type(old, before.ty, new, after.ty)
         }
-        FieldTest::Marks => !same_marks(f.ty, g.ty),
+        FieldTest::Marks => !same_marks(before.ty, after.ty),
     }
 }
 
 // Whether the types are the same and the defaults differ, where neither is a record or an alternative.
-fn default_breaks(alloc: Global, old: &Schema, f: &Field, new: &Schema, g: &Field) -> bool
+fn default_breaks(alloc: Global, old: &Schema, before: &Field, new: &Schema, after: &Field) -> bool
     ensures { result ≡ tests.field_breaks FieldTest.Defaults
-        old.now.decls new.now.decls f.now g.now }
+        old.now.decls new.now.decls before.now after.now }
 {
-    same_type(old, f.ty, new, g.ty)
-        && (!(has_composite_default(old, f.ty) || has_composite_default(new, g.ty))
-            && !same_defaults(alloc, old, f, new, g))
+    same_type(old, before.ty, new, after.ty)
+        && (!(has_composite_default(old, before.ty) || has_composite_default(new, after.ty))
+            && !same_defaults(alloc, old, before, new, after))
 }

@@ -53,10 +53,10 @@ pub fn has_fields(kind: &Kind) -> bool
 }
 
 /// Whether the backings of two enums are the same.
-pub fn same_backing(a: &Kind, b: &Kind) -> bool
-    ensures { result ≡ (broken.backing_code a.now == broken.backing_code b.now) }
+pub fn same_backing(before: &Kind, after: &Kind) -> bool
+    ensures { result ≡ (broken.backing_code before.now == broken.backing_code after.now) }
 {
-    backing_code(a) == backing_code(b)
+    backing_code(before) == backing_code(after)
 }
 
 // A number for the backing of an enum.

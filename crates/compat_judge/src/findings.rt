@@ -93,15 +93,15 @@ impl Findings {
         rule: u8,
         name: &Text,
         method: &Ident,
-        k: usize,
+        position: usize,
         broken: bool,
     ) -> Result<(), OutOfMemory>
         ensures { OnOk result (self.new ≡ self.old
             ++ of_rule rule
-            (place_if (name.now ++ (46 ∷ method.now.0) ++ (47 ∷ decimal k)) broken)) }
+            (place_if (name.now ++ (46 ∷ method.now.0) ++ (47 ∷ decimal position)) broken)) }
     {
         if broken {
-            let place = argument_place(self.alloc, name, method, k)?;
+            let place = argument_place(self.alloc, name, method, position)?;
             self.add(rule, place)?;
         }
         Ok(())

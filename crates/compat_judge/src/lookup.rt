@@ -17,7 +17,7 @@ pub fn find_decl<'a>(new: &'a Schema, name: &Text) -> Option<&'a Decl>
 {
     law_valid(new);
     match find(new, name.as_str()) {
-        Some(n) => at_place(new.decls.as_slice(), Some(n as usize)),
+        Some(number) => at_place(new.decls.as_slice(), Some(number as usize)),
         None => None,
     }
 }

@@ -29,16 +29,16 @@ pub fn enumerators_of(kind: &Kind) -> &[Enumerator]
 /// The methods that both have by their names, each beside the other.
 pub fn common_methods<'a>(
     alloc: Global,
-    ms: &'a [Method],
-    ws: &'a [Method],
+    olds: &'a [Method],
+    news: &'a [Method],
     places: &[Option<usize>],
 ) -> Result<Vec<Common<'a>>, OutOfMemory>
-    requires { places.now ≡ places_among (λ m. m.name.0) ms.now ws.now }
-    ensures { IfOk result (λ common. map both_of common.items ≡ in_both same_method ms.now ws.now) }
+    requires { places.now ≡ places_among (λ m. m.name.0) olds.now news.now }
+    ensures { IfOk result (λ common. map both_of common.items ≡ in_both same_method olds.now news.now) }
 {
     let mut common = Vec::new(alloc);
-    for (i, before) in ms.iter().enumerate() {
-        if let Some(after) = at_place(ws, places[i]) {
+    for (i, before) in olds.iter().enumerate() {
+        if let Some(after) = at_place(news, places[i]) {
             common.push(Common { before, after })?;
         }
     }
@@ -48,18 +48,18 @@ pub fn common_methods<'a>(
 /// C3: a method of old isn't in new.
 pub fn c3(
     pair: &Pair<'_>,
-    ms: &[Method],
+    olds: &[Method],
     places: &[Option<usize>],
     found: &mut Findings,
 ) -> Result<(), OutOfMemory>
-    requires old { ms.now ≡ methods_of pair.now.before.now.kind }
+    requires old { olds.now ≡ methods_of pair.now.before.now.kind }
     requires places { places.now ≡ places_among
-        (λ m. m.name.0) ms.now (methods_of pair.now.after.now.kind) }
+        (λ m. m.name.0) olds.now (methods_of pair.now.after.now.kind) }
     ensures { OnOk result (found.new ≡ found.old ++ breaks_at 3 C3 pair.now) }
 {
-    let ws = methods_of(&pair.after.kind);
-    for (i, method) in ms.iter().enumerate() {
-        let kept = at_place(ws, places[i]).is_some();
+    let news = methods_of(&pair.after.kind);
+    for (i, method) in olds.iter().enumerate() {
+        let kept = at_place(news, places[i]).is_some();
         found.member_if(3, pair.name, &method.name, !kept)?;
     }
     Ok(())
@@ -69,35 +69,35 @@ pub fn c3(
 pub fn c17(pair: &Pair<'_>, found: &mut Findings) -> Result<(), OutOfMemory>
     ensures { OnOk result (found.new ≡ found.old ++ breaks_at 17 C17 pair.now) }
 {
-    let xs = enumerators_of(&pair.before.kind);
-    let ys = enumerators_of(&pair.after.kind);
-    let places = places_of(found.alloc(), xs, ys)?;
-    lost_enumerators(pair, xs, ys, places.as_slice(), found)
+    let olds = enumerators_of(&pair.before.kind);
+    let news = enumerators_of(&pair.after.kind);
+    let places = places_of(found.alloc(), olds, news)?;
+    lost_enumerators(pair, olds, news, places.as_slice(), found)
 }
 
 fn lost_enumerators(
     pair: &Pair<'_>,
-    xs: &[Enumerator],
-    ys: &[Enumerator],
+    olds: &[Enumerator],
+    news: &[Enumerator],
     places: &[Option<usize>],
     found: &mut Findings,
 ) -> Result<(), OutOfMemory>
-    requires { places.now ≡ places_among (λ x. x.name.0) xs.now ys.now }
+    requires { places.now ≡ places_among (λ x. x.name.0) olds.now news.now }
     ensures { OnOk result (found.new
-        ≡ found.old ++ of_rule 17 (in_lost_enumerators pair.now xs.now ys.now)) }
+        ≡ found.old ++ of_rule 17 (in_lost_enumerators pair.now olds.now news.now)) }
 {
-    for (i, x) in xs.iter().enumerate() {
-        let kept = is_enumerator_kept(x, at_place(ys, places[i]));
-        found.member_if(17, pair.name, &x.name, !kept)?;
+    for (i, enumerator) in olds.iter().enumerate() {
+        let kept = is_enumerator_kept(enumerator, at_place(news, places[i]));
+        found.member_if(17, pair.name, &enumerator.name, !kept)?;
     }
     Ok(())
 }
 
-fn is_enumerator_kept(x: &Enumerator, y: Option<&Enumerator>) -> bool
-    ensures { result ≡ is_there_and (λ y. int_eq x.now.value y.value) (option_copied y.entry) }
+fn is_enumerator_kept(before: &Enumerator, after: Option<&Enumerator>) -> bool
+    ensures { result ≡ is_there_and (λ y. int_eq before.now.value y.value) (option_copied after.entry) }
 {
-    match y {
-        Some(y) => x.value == y.value,
+    match after {
+        Some(after) => before.value == after.value,
         None => false,
     }
 }
@@ -106,35 +106,37 @@ fn is_enumerator_kept(x: &Enumerator, y: Option<&Enumerator>) -> bool
 pub fn c18(pair: &Pair<'_>, found: &mut Findings) -> Result<(), OutOfMemory>
     ensures { OnOk result (found.new ≡ found.old ++ breaks_at 18 C18 pair.now) }
 {
-    let cs = pair.before.constants.as_slice();
-    let ks = pair.after.constants.as_slice();
-    let places = places_of(found.alloc(), cs, ks)?;
-    lost_constants(pair, cs, ks, places.as_slice(), found)
+    let olds = pair.before.constants.as_slice();
+    let news = pair.after.constants.as_slice();
+    let places = places_of(found.alloc(), olds, news)?;
+    lost_constants(pair, olds, news, places.as_slice(), found)
 }
 
 fn lost_constants(
     pair: &Pair<'_>,
-    cs: &[Constant],
-    ks: &[Constant],
+    olds: &[Constant],
+    news: &[Constant],
     places: &[Option<usize>],
     found: &mut Findings,
 ) -> Result<(), OutOfMemory>
-    requires { places.now ≡ places_among (λ c. c.name.0) cs.now ks.now }
+    requires { places.now ≡ places_among (λ c. c.name.0) olds.now news.now }
     ensures { OnOk result (found.new
-        ≡ found.old ++ of_rule 18 (in_lost_constants pair.now cs.now ks.now)) }
+        ≡ found.old ++ of_rule 18 (in_lost_constants pair.now olds.now news.now)) }
 {
-    for (i, constant) in cs.iter().enumerate() {
-        let kept = is_constant_kept(constant, at_place(ks, places[i]));
+    for (i, constant) in olds.iter().enumerate() {
+        let kept = is_constant_kept(constant, at_place(news, places[i]));
         found.member_if(18, pair.name, &constant.name, !kept)?;
     }
     Ok(())
 }
 
-fn is_constant_kept(c: &Constant, k: Option<&Constant>) -> bool
-    ensures { result ≡ is_there_and (keeps_constant c.now) (option_copied k.entry) }
+fn is_constant_kept(before: &Constant, after: Option<&Constant>) -> bool
+    ensures { result ≡ is_there_and (keeps_constant before.now) (option_copied after.entry) }
 {
-    match k {
-        Some(k) => same_base_code(c.ty, k.ty) && same_const(&c.value, &k.value),
+    match after {
+        Some(after) => {
+            same_base_code(before.ty, after.ty) && same_const(&before.value, &after.value)
+        }
         None => false,
     }
 }

@@ -28,12 +28,12 @@ pub fn argument_place(
     alloc: Global,
     name: &Text,
     method: &Ident,
-    k: usize,
+    position: usize,
 ) -> Result<String, OutOfMemory>
     ensures { IfOk result (λ place. chars (string_bytes place)
-        ≡ name.now ++ (46 ∷ method.now.0) ++ (47 ∷ decimal k)) }
+        ≡ name.now ++ (46 ∷ method.now.0) ++ (47 ∷ decimal position)) }
 {
     let name = name.as_str();
     let method = method.0.as_str();
-    Ok(format!(in alloc; "{name}.{method}/{k}")?)
+    Ok(format!(in alloc; "{name}.{method}/{position}")?)
 }

@@ -5,7 +5,6 @@ ghost use Rattle.compat_judge.specs.steps.Steps.{AreCommon, breaks_at, breaks_in
 ghost use Rattle.compat_judge.specs.steps.Steps.{data_rules, interface_rules, other_rules, parcelable_rules};
 ghost use Rattle.compat_judge.specs.steps.Tests.{fixed_breaks};
 
-use crate::alike::same_kind;
 use crate::differences::{ArgumentTest, FieldTest, MethodTest};
 use crate::fields::{
     fields_with_default, has_fields, parcelable_fields, same_backing, union_fields,
@@ -16,7 +15,7 @@ use crate::members::{c3, c17, c18, common_methods};
 use crate::shapes::{at_additions, at_arguments, at_fields, at_methods};
 use crate::sides::{Common, Pair};
 use aidl_base::OutOfMemory;
-use aidl_schema::{Decl, Field, fields_of, methods_of, same_flag};
+use aidl_schema::{Decl, Field, fields_of, methods_of, same_flag, same_kind};
 
 /// C2 to C19: what a declaration of old and that of its name in new break.
 pub fn broken_by(pair: &Pair<'_>, found: &mut Findings) -> Result<(), OutOfMemory>
@@ -36,11 +35,11 @@ pub fn broken_by(pair: &Pair<'_>, found: &mut Findings) -> Result<(), OutOfMemor
 fn broken_inside(pair: &Pair<'_>, found: &mut Findings) -> Result<(), OutOfMemory>
     ensures { OnOk result (found.new ≡ found.old ++ breaks_in broken.rules pair.now) }
 {
-    let ms = methods_of(&pair.before.kind);
-    let ws = methods_of(&pair.after.kind);
-    let places = places_of(found.alloc(), ms, ws)?;
-    let common = common_methods(found.alloc(), ms, ws, places.as_slice())?;
-    c3(pair, ms, places.as_slice(), found)?;
+    let olds = methods_of(&pair.before.kind);
+    let news = methods_of(&pair.after.kind);
+    let places = places_of(found.alloc(), olds, news)?;
+    let common = common_methods(found.alloc(), olds, news, places.as_slice())?;
+    c3(pair, olds, places.as_slice(), found)?;
     interface_rules(pair, common.as_slice(), found)?;
     data_rules(pair, found)?;
     other_rules(pair, common.as_slice(), found)

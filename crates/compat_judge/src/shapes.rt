@@ -63,11 +63,9 @@ fn at_arguments_of(
 {
     let olds = before.args.as_slice();
     let news = after.args.as_slice();
-    for k in 0..olds.len().min(news.len()) {
-        let a = &olds[k];
-        let b = &news[k];
-        let broken = argument_breaks(test, pair.old, a, pair.new, b);
-        found.argument_if(rule, pair.name, &before.name, k, broken)?;
+    for i in 0..olds.len().min(news.len()) {
+        let broken = argument_breaks(test, pair.old, &olds[i], pair.new, &news[i]);
+        found.argument_if(rule, pair.name, &before.name, i, broken)?;
     }
     Ok(())
 }
@@ -84,11 +82,10 @@ pub fn at_fields(
     ensures { OnOk result (found.new
         ≡ found.old ++ of_rule rule (in_fields test pair.now (zip olds.now news.now))) }
 {
-    for k in 0..olds.len().min(news.len()) {
-        let f = &olds[k];
-        let g = &news[k];
-        let broken = field_breaks(found.alloc(), test, pair.old, f, pair.new, g);
-        found.member_if(rule, pair.name, &f.name, broken)?;
+    for i in 0..olds.len().min(news.len()) {
+        let field = &olds[i];
+        let broken = field_breaks(found.alloc(), test, pair.old, field, pair.new, &news[i]);
+        found.member_if(rule, pair.name, &field.name, broken)?;
     }
     Ok(())
 }

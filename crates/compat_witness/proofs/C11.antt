@@ -44,7 +44,7 @@ use Rattle.compat_witness.specs.Candidates.{Candidate, AreSmall, Shows}
 use Rattle.compat_witness.specs.Candidates as candidate
 use Rattle.compat_witness.specs.Places.{at_last_dot}
 use Rattle.compat_witness.specs.Reaching.{methods_reaching, asks, are_plain, is_plain, plain_value, with_value}
-use Rattle.compat_witness.specs.Rows.{is_empty, decl_at, candidates_if, types_agree, names_agree, fields_of_decl, fields_in, is_last, low_either_way, ask_named, ask_C11, row_C11}
+use Rattle.compat_witness.specs.Rows.{is_empty, decl_at, candidates_if, types_agree, names_agree, fields_of_parcelable, fields_in, is_last, low_either_way, ask_named, ask_C11, row_C11}
 use Rattle.compat_witness.specs.Sides.{read_request, projected_request}
 use Rattle.compat_witness.proofs.Entries.{entry, in_places}
 use Rattle.compat_witness.proofs.C10.{argument_type, parcelable_is}
@@ -374,8 +374,8 @@ module _ (old new : List Decl) (sound_old : IsSound old) (sound_new : IsSound ne
       let w = and_then_is (λ l. ask_named ask_C11 old z.0 new l y.0.1 (fields_in old z.0) (fields_in new l)) (declared_as new y.0.0) cs z.2 in
       let mine = found_decl old apart_old y.0.0 z.0 d e.here named z.1 in
       let his = found_decl new apart_new y.0.0 w.0 e.after found.0 (named ∙ names) w.1 in
-      let in_old : fields_in old z.0 ≡ fs = ap fields_of_decl mine in
-      let in_new : fields_in new w.0 ≡ gs = ap fields_of_decl his in
+      let in_old : fields_in old z.0 ≡ fs = ap fields_of_parcelable mine in
+      let in_new : fields_in new w.0 ≡ gs = ap fields_of_parcelable his in
       let asked' : ask_named ask_C11 old z.0 new w.0 y.0.1 fs gs ≡ Some cs = subst (λ xs. ask_named ask_C11 old z.0 new w.0 y.0.1 fs xs ≡ Some cs) in_new (subst (λ xs. ask_named ask_C11 old z.0 new w.0 y.0.1 xs (fields_in new w.0) ≡ Some cs) in_old w.2) in
       let test = λ (k : ℕ). not (is_empty (methods_reaching old z.0 new)) && ((are_plain fs && are_plain gs) && (names_agree fs gs && (is_last k fs && types_agree old (take k fs) new gs))) in
       let both_asks = λ (k : ℕ). low_either_way old z.0 new w.0 k fs gs in

@@ -118,6 +118,11 @@ pub record Counts (old new : List Decl) (c : Candidate) : Type 0 where
 abbrev pub Differs : List Decl → List Decl → Candidate → Type 0
 Differs old new c = read_side old new c ≡ projected_side old new c → ⊥
 
+-- A candidate shows a broken rule where it counts and its two sides differ.
+pub record IsShown (old new : List Decl) (c : Candidate) : Type 0 where
+  pub counts : Counts old new c
+  pub differs : Differs old new c
+
 -- no candidate whose values fit has more bytes
 abbrev pub AreSmall : List Decl → List Decl → List Candidate → Type 0
 AreSmall old new cs = (c : Candidate) → Has cs c → ValuesFit old new c → length (bytes_of old new c) ≤ 1048576

@@ -65,13 +65,13 @@ abbrev pub are_empty : Spot → Spot → Bool
 are_empty s w = is_empty s.method.args && is_empty w.method.args
 
 -- the fields of a parcelable, and none of another kind
-abbrev pub fields_of_decl : Option Decl → List Field
-fields_of_decl None = []
-fields_of_decl (Some d) = parcelable_fields d.kind
+abbrev pub fields_of_parcelable : Option Decl → List Field
+fields_of_parcelable None = []
+fields_of_parcelable (Some d) = parcelable_fields d.kind
 
 -- the fields of the parcelable of this number
 abbrev pub fields_in : List Decl → ℕ → List Field
-fields_in S k = fields_of_decl (slice_get S k)
+fields_in S k = fields_of_parcelable (slice_get S k)
 
 -- the fields of a union, and none of another kind
 abbrev pub alternatives_of_decl : Option Decl → List Field

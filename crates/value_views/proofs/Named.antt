@@ -12,6 +12,7 @@ use Rattle.aidl_schema.specs.declared.schema.Field.{Field}
 use Rattle.aidl_schema.specs.declared.schema.Kind.{Kind}
 use Rattle.aidl_schema.specs.declared.schema.Kind.TheVariants.{Interface, Parcelable, Union, Enum}
 use Rattle.aidl_schema.specs.Containment.{fields_of}
+use Rattle.aidl_schema.specs.Find.{fields_of_decl}
 use Rattle.aidl_schema.specs.Same.{same_text}
 use Rattle.aidl_schema.specs.Types.{form_of, form_of_decl, form_of_kind}
 use Rattle.aidl_values.specs.Data.{Data}
@@ -19,7 +20,7 @@ use Rattle.aidl_values.specs.View.{items_of}
 use Rattle.wire_model.specs.Spell.{parcelable_fields, union_fields}
 use Rattle.wire_model.specs.View as meant
 use Rattle.wire_model.proofs.lemmas.NamedTexts.{by_bytes, same_position, turned}
-use Rattle.value_views.specs.Named.{field_named, fields_of_decl}
+use Rattle.value_views.specs.Named.{field_named}
 use Rattle.value_views.specs.steps.Places.{fields_of_base, place_named}
 
 -- what a name in UTF-8 finds is what the name finds

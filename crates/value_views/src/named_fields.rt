@@ -1,7 +1,8 @@
 //! A schema with tables that find the fields of its declarations.
 ghost use Rattle.std.specs.Prelude.{◌≡◌, IfOk};
 ghost use Rattle.std.specs.Option.{option_copied};
-ghost use Rattle.value_views.specs.Named.{field_named, fields_at};
+ghost use Rattle.aidl_schema.specs.Find.{fields_at};
+ghost use Rattle.value_views.specs.Named.{field_named};
 ghost use Rattle.value_views.specs.steps.Tables.{field_lists, fields_or_none};
 
 use aidl_base::OutOfMemory;

@@ -1,12 +1,11 @@
 //! What a value is to another version of its type.
-ghost use Rattle.std.specs.Prelude.{◌≡◌, ◌==◌, ◌||◌, true, if◌then◌else◌, option_map, slice_get, IfOk, Some};
+ghost use Rattle.std.specs.Prelude.{◌≡◌, true, if◌then◌else◌, option_map, slice_get, IfOk, Some};
 ghost use Rattle.std.specs.Option.{option_copied};
 ghost use Rattle.aidl_values.specs.Data.{alt, rec, seq};
 ghost use Rattle.aidl_values.specs.Sound.{initial_in};
 ghost use Rattle.aidl_values.specs.View.{datas, field_datas, items_of, view, views};
 ghost use Rattle.value_views.specs.steps.Seen.{AreThemselves, field_view};
 ghost use Rattle.wire_model.specs.Spell.{parcelable_fields, union_fields};
-ghost use Rattle.aidl_schema.specs.Broken.{kind_code};
 ghost use Rattle.aidl_schema.specs.Types.{elem, form_of};
 ghost use Rattle.aidl_schema.specs.Same as same;
 ghost use Rattle.wire_model.specs.View.{◌>>=◌ as and_then};
@@ -15,7 +14,7 @@ ghost use Rattle.wire_model.specs.View as meant;
 use crate::named_fields::NamedFields;
 use crate::places::{parcelable_fields, place_in_union, place_sent, union_fields};
 use aidl_base::{OutOfMemory, Row};
-use aidl_schema::{AidlType, Base, Decl, Field, Kind, element, same_type};
+use aidl_schema::{AidlType, Base, Decl, Field, element, same_kind, same_type};
 use aidl_values::{Elements, Fields, Value, initial_of};
 use std::alloc::Global;
 
@@ -273,18 +272,6 @@ fn same_kinds(d: Option<&Decl>, e: Option<&Decl>) -> bool
 {
     match (d, e) {
         (Some(d), Some(e)) => same_kind(&d.kind, &e.kind),
-        _ => false,
-    }
-}
-
-fn same_kind(a: &Kind, b: &Kind) -> bool
-    ensures { result ≡ (kind_code a.now == kind_code b.now) }
-{
-    match (a, b) {
-        (Kind::Interface(_), Kind::Interface(_)) => true,
-        (Kind::Parcelable(_), Kind::Parcelable(_)) => true,
-        (Kind::Union(_), Kind::Union(_)) => true,
-        (Kind::Enum(_, _), Kind::Enum(_, _)) => true,
         _ => false,
     }
 }

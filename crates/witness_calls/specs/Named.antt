@@ -4,7 +4,7 @@ use Rattle.std.specs.List.{position}
 use Rattle.std.specs.Str.{encode_utf8_all}
 use Rattle.aidl_schema.specs.declared.schema.Method.{Method}
 use Rattle.aidl_schema.specs.Same.{same_text}
-pub use Rattle.value_views.specs.Named.{field_named, fields_of_decl, fields_at}
+pub use Rattle.value_views.specs.Named.{field_named}
 
 -- the position of the method of this name
 abbrev pub method_named : List Method → List ℕ → Option ℕ

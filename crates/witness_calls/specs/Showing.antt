@@ -2,15 +2,10 @@
 use Rattle.std.specs.Prelude.{◌≡◌, true, List, Option, Some, None}
 use Rattle.aidl_schema.specs.declared.schema.Decl.{Decl}
 use Rattle.compat_witness.specs.Alike.{IsShort}
-use Rattle.compat_witness.specs.Candidates.{Candidate, Counts, Differs, bytes_of, read_side, projected_side}
+use Rattle.compat_witness.specs.Candidates.{Candidate, IsShown, bytes_of, read_side, projected_side}
 use Rattle.witness_calls.specs.declared.showing.Showing.{Showing}
 use Rattle.witness_calls.specs.declared.showing.Tried.{Tried}
 use Rattle.witness_calls.specs.Seen.{reading_seen}
-
--- A candidate shows a broken rule where it counts and its two sides differ.
-pub record IsShown (old new : List Decl) (c : Candidate) : Type 0 where
-  pub counts : Counts old new c
-  pub differs : Differs old new c
 
 -- its bytes, what is read of them, and what its values are projected to
 pub record ShowsIt (old new : List Decl) (c : Candidate) (s : Showing) : Type 0 where

@@ -11,10 +11,7 @@ use crate::version_method::VersionMethod;
 use aidl_base::Text;
 use aidl_schema::{AidlType, Arg, Schema, is_array};
 use aidl_values::{Answer, Value, depth, has_type};
-use stub_dispatch::{SERVICE_SPECIFIC, comes_back};
-
-// The most that the lengths of the `out` arrays of a request may add up to.
-const MOST_ITEMS: usize = 65_536;
+use stub_dispatch::{MOST_ITEMS, SERVICE_SPECIFIC, comes_back};
 
 // The greatest depth of a value.
 const MOST_LEVELS: usize = 64;

@@ -15,7 +15,6 @@ use crate::ends::Ends;
 use crate::fitting::is_two_way_answer;
 use crate::outs::{project_outs, project_result};
 use crate::reading::Reading;
-use crate::requests::BAD_VALUE;
 use crate::showing::Showing;
 use crate::version::Version;
 use crate::version_method::VersionMethod;
@@ -23,7 +22,7 @@ use aidl_base::{LimitName, OutOfMemory, Profile, Row};
 use aidl_schema::{AidlType, Arg};
 use aidl_values::{Answer, Value};
 use std::alloc::Global;
-use stub_dispatch::{Got, answer_bytes, read_answer, reply_length};
+use stub_dispatch::{BAD_VALUE, Got, answer_bytes, read_answer, reply_length};
 
 /// The bytes of a reply that counts, with its two sides; None of any other.
 pub fn weigh_reply(
@@ -36,10 +35,7 @@ pub fn weigh_reply(
         (answered (option_map answer_of answer.now)) o) }
 {
     match client.counterpart(server) {
-        Some(target) => {
-            let weighed = weigh_answer(alloc, client, &target, answer)?;
-            Ok(weighed)
-        }
+        Some(target) => weigh_answer(alloc, client, &target, answer),
         None => Ok(None),
     }
 }

@@ -19,13 +19,7 @@ use crate::version_method::VersionMethod;
 use aidl_base::{OutOfMemory, Profile, Row};
 use aidl_values::Value;
 use std::alloc::Global;
-use stub_dispatch::{Receipt, WriteFault, receive_call, request};
-
-/// UNKNOWN_TRANSACTION: the server lacks the interface or the method.
-const UNKNOWN_TRANSACTION: i32 = -74;
-
-/// BAD_VALUE: a value has no view.
-pub const BAD_VALUE: i32 = -22;
+use stub_dispatch::{BAD_VALUE, Receipt, UNKNOWN_TRANSACTION, WriteFault, receive_call, request};
 
 /// The bytes of a request that counts, with its two sides; None of any other.
 pub fn weigh_request(

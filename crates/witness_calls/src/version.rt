@@ -1,11 +1,11 @@
 //! A version of a tree: a side of calls, with tables that find declarations, methods and fields.
 ghost use Rattle.std.specs.Prelude.{◌≡◌, ◌+◌, ◌<◌, ◌≤◌, IfOk, IfSome, Some, length, slice_get};
 ghost use Rattle.std.specs.Option.{option_copied};
-ghost use Rattle.aidl_schema.specs.Find.{methods_at, position_of_code};
+ghost use Rattle.aidl_schema.specs.Find.{fields_at, methods_at, position_of_code};
 ghost use Rattle.stub_dispatch.specs.Planned.{ArePlansOf};
 ghost use Rattle.wire_model.specs.Calls.{descriptor};
 ghost use Rattle.wire_model.specs.Outcome as meant;
-ghost use Rattle.witness_calls.specs.Named.{field_named, fields_at, method_named};
+ghost use Rattle.witness_calls.specs.Named.{field_named, method_named};
 
 use crate::named_decl::NamedDecl;
 use crate::version_method::VersionMethod;

@@ -2,9 +2,8 @@
 use Rattle.std.proofs.Common.{◌≡◌, zero, suc, List, [], ◌∷◌, Some, None, Result, Ok, Err, inl, inr, sym, subst}
 use Rattle.aidl_schema.specs.declared.schema.Decl.{Decl}
 use Rattle.aidl_schema.specs.Broken.{Break}
-use Rattle.compat_witness.specs.Candidates.{AreSmall, Candidate, Shows}
+use Rattle.compat_witness.specs.Candidates.{AreSmall, Candidate, IsShown, Shows}
 use Rattle.compat_witness.specs.Rows.{Row}
-use Rattle.witness_calls.specs.Showing.{IsShown}
 use Rattle.witness_search.specs.IsWitness.{IsAllowed, IsFirstShown, IsOf, IsOfRow, IsWitness, those_of}
 use Rattle.witness_search.specs.RowsByRule.{row_of}
 use Rattle.witness_search.specs.declared.shown.NoCall.{NoCall}

@@ -10,14 +10,15 @@ use Rattle.aidl_schema.specs.declared.schema.Kind.{Kind}
 use Rattle.aidl_schema.specs.declared.schema.Kind.TheVariants.{Interface, Parcelable, Union, Enum}
 use Rattle.aidl_schema.specs.Broken.{parcelable_fields, union_fields}
 use Rattle.aidl_schema.specs.Containment.{fields_of}
+use Rattle.aidl_schema.specs.Find.{fields_at, fields_of_decl}
 use Rattle.aidl_schema.specs.Holds.{AllHold}
 use Rattle.aidl_schema.specs.Same.{same_text}
 use Rattle.aidl_values.specs.Data.{item}
 use Rattle.aidl_values.specs.View.{items_of, view}
 use Rattle.aidl_values.specs.declared.value.Value.{Value}
 use Rattle.compat_witness.specs.Reaching.{initials, plain_value, with_value}
-use Rattle.compat_witness.specs.Rows.{alternatives_in, alternatives_of_decl, fields_of_decl, is_last, low_arguments, names_agree, types_agree}
-use Rattle.witness_calls.specs.Named.{field_named, fields_at, fields_of_decl as all_fields}
+use Rattle.compat_witness.specs.Rows.{alternatives_in, alternatives_of_decl, fields_of_parcelable, is_last, low_arguments, names_agree, types_agree}
+use Rattle.witness_calls.specs.Named.{field_named}
 use Rattle.witness_search.specs.declared.fields.Members.{Members}
 use Rattle.witness_search.specs.declared.fields.Members.TheVariants.{Fields, Alternatives}
 use Rattle.witness_search.specs.steps.Records.{part, parts}
@@ -132,8 +133,8 @@ of_union (Union fs) = inr refl
 of_union (Enum b es) = inl refl
 
 some_or_none : (members : Members) (S : List Decl) (k : ℕ) → (members_in members S k ≡ []) ⊎ (members_in members S k ≡ fields_at S k)
-some_or_none Fields S k = elim (slice_get S k) as (λ o. (fields_of_decl o ≡ []) ⊎ (fields_of_decl o ≡ all_fields o)) [ None ↦ inl refl | Some d ↦ of_parcelable d.kind ]
-some_or_none Alternatives S k = elim (slice_get S k) as (λ o. (alternatives_of_decl o ≡ []) ⊎ (alternatives_of_decl o ≡ all_fields o)) [ None ↦ inl refl | Some d ↦ of_union d.kind ]
+some_or_none Fields S k = elim (slice_get S k) as (λ o. (fields_of_parcelable o ≡ []) ⊎ (fields_of_parcelable o ≡ fields_of_decl o)) [ None ↦ inl refl | Some d ↦ of_parcelable d.kind ]
+some_or_none Alternatives S k = elim (slice_get S k) as (λ o. (alternatives_of_decl o ≡ []) ⊎ (alternatives_of_decl o ≡ fields_of_decl o)) [ None ↦ inl refl | Some d ↦ of_union d.kind ]
 
 pub no_field : (members : Members) (S : List Decl) (k : ℕ) (q : List ℕ) (fs : List Field) → fs ≡ members_in members S k → length fs ≡ 0 → None ≡ field_named (members_in members S k) q
 no_field members S k q [] is none = ap (λ gs. field_named gs q) is

@@ -3,9 +3,8 @@
 use Rattle.std.specs.Prelude.{◌≡◌, ◌⊎◌, List, [], ◌∷◌, Option, Some, None, Result, Ok, Err}
 use Rattle.aidl_schema.specs.declared.schema.Decl.{Decl}
 use Rattle.aidl_schema.specs.Broken.{Break, Place}
-use Rattle.compat_witness.specs.Candidates.{Candidate, AreSmall}
+use Rattle.compat_witness.specs.Candidates.{Candidate, AreSmall, IsShown}
 use Rattle.compat_witness.specs.Rows.{Row}
-use Rattle.witness_calls.specs.Showing.{IsShown}
 use Rattle.witness_search.specs.RowsByRule.{row_of}
 use Rattle.witness_search.specs.declared.shown.NoCall.{NoCall}
 use Rattle.witness_search.specs.declared.shown.NoCall.TheVariants.{OutsideWire, NoCandidate}

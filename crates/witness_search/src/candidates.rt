@@ -1,14 +1,10 @@
 //! The candidates that a row of the table gives at a place, in their order.
-ghost use Rattle.std.specs.Prelude.{◌≡◌, ◌∷◌, [], IfOk, None, option_map};
-ghost use Rattle.aidl_values.specs.View.{views};
-ghost use Rattle.compat_witness.specs.Candidates.{reply, request};
-ghost use Rattle.wire_model.specs.Calls.{answer_of};
-ghost use Rattle.witness_calls.specs.Seen.{call_seen};
-ghost use Rattle.witness_search.specs.declared.candidates.Part.TheVariants.{Requests};
+ghost use Rattle.std.specs.Prelude.{◌≡◌, ◌∷◌, [], IfOk, None};
+ghost use Rattle.witness_search.specs.declared.candidates.Part.TheVariants as parts;
 
 use crate::spot::Spot;
 use aidl_base::{OutOfMemory, Row};
-use aidl_values::{Answer, Value};
+use aidl_values::Value;
 use std::alloc::Global;
 use witness_calls::{Call, Values};
 
@@ -42,29 +38,21 @@ pub struct Reach {
     pub method: u32,
 }
 
-/// A request of a client's method.
-pub fn request_by(back: bool, client: &Spot<'_>, args: Row<Value>) -> Call
-    ensures { call_seen result ≡ request back client.now.interface client.now.position (views args) }
+/// A request of a client's method, or a reply to it.
+pub fn call_by(back: bool, client: &Spot<'_>, values: Values) -> Part
+    ensures { result ≡ parts.Call (record {
+      back = back;
+      interface = client.now.interface;
+      method = client.now.position;
+      values = values;
+    }) }
 {
-    Call {
+    Part::Call(Call {
         back,
         interface: client.interface,
         method: client.position,
-        values: Values::Arguments(args),
-    }
-}
-
-/// A reply to a client's method.
-pub fn reply_by(back: bool, client: &Spot<'_>, answer: Option<Answer>) -> Call
-    ensures { call_seen result
-        ≡ reply back client.now.interface client.now.position (option_map answer_of answer) }
-{
-    Call {
-        back,
-        interface: client.interface,
-        method: client.position,
-        values: Values::Answer(answer),
-    }
+        values,
+    })
 }
 
 /// One part alone.
@@ -93,7 +81,7 @@ pub fn one_request(
     number: u32,
     value: Value,
 ) -> Result<Part, OutOfMemory>
-    ensures { IfOk result (λ part. part ≡ Requests (record { back = back; number = number; values = value ∷ [] })) }
+    ensures { IfOk result (λ part. part ≡ parts.Requests (record { back = back; number = number; values = value ∷ [] })) }
 {
     let values = one_value(alloc, value)?;
     Ok(Part::Requests(Group {
@@ -111,7 +99,7 @@ pub fn two_requests(
     first: Value,
     second: Value,
 ) -> Result<Part, OutOfMemory>
-    ensures { IfOk result (λ part. part ≡ Requests (record { back = back; number = number; values = first ∷ second ∷ [] })) }
+    ensures { IfOk result (λ part. part ≡ parts.Requests (record { back = back; number = number; values = first ∷ second ∷ [] })) }
 {
     let mut values = Row::new(alloc);
     values.push(first)?;

@@ -16,21 +16,21 @@ impl Pair<'_, '_> {
     pub fn asked_c2(&self, alloc: Global, place: &Text) -> Result<Option<Candidates>, OutOfMemory>
         ensures { IfOk result (GivesRow rows.row_C2 self.now place.now) }
     {
-        let Some(k) = declared(self.old.schema(), place) else {
+        let Some(before) = declared(self.old.schema(), place) else {
             return Ok(None);
         };
-        let Some(l) = declared(self.new.schema(), place) else {
+        let Some(after) = declared(self.new.schema(), place) else {
             return Ok(None);
         };
-        if !self.is_reached(k) {
+        if !self.is_reached(before) {
             return Ok(None);
         }
-        if is_enum(&self.old, k) && is_record(&self.new, l) {
-            let part = one_request(alloc, false, k, Value::Number(0))?;
+        if is_enum(&self.old, before) && is_record(&self.new, after) {
+            let part = one_request(alloc, false, before, Value::Number(0))?;
             return Ok(Some(alone(part)));
         }
-        if is_enum(&self.new, l) && is_record(&self.old, k) {
-            let part = one_request(alloc, true, l, Value::Number(0))?;
+        if is_enum(&self.new, after) && is_record(&self.old, before) {
+            let part = one_request(alloc, true, after, Value::Number(0))?;
             return Ok(Some(alone(part)));
         }
         Ok(None)
@@ -40,17 +40,17 @@ impl Pair<'_, '_> {
     pub fn asked_c16(&self, alloc: Global, place: &Text) -> Result<Option<Candidates>, OutOfMemory>
         ensures { IfOk result (GivesRow rows.row_C16 self.now place.now) }
     {
-        let Some(k) = declared(self.old.schema(), place) else {
+        let Some(before) = declared(self.old.schema(), place) else {
             return Ok(None);
         };
-        let Some(l) = declared(self.new.schema(), place) else {
+        let Some(after) = declared(self.new.schema(), place) else {
             return Ok(None);
         };
-        if !self.is_reached(k) {
+        if !self.is_reached(before) {
             return Ok(None);
         }
-        let first = two_requests(alloc, false, k, Value::Number(0), Value::Number(200))?;
-        let second = two_requests(alloc, true, l, Value::Number(0), Value::Number(200))?;
+        let first = two_requests(alloc, false, before, Value::Number(0), Value::Number(200))?;
+        let second = two_requests(alloc, true, after, Value::Number(0), Value::Number(200))?;
         Ok(Some(Candidates {
             first,
             second: Some(second),

@@ -1,5 +1,5 @@
 //! The first candidate that is shown.
-ghost use Rattle.std.specs.Prelude.{◌≡◌, ◌∷◌, ◌&&◌, [], IfOk, Some, false};
+ghost use Rattle.std.specs.Prelude.{◌≡◌, ◌∷◌, [], IfOk, Some, false};
 ghost use Rattle.std.specs.List.{flat_map};
 ghost use Rattle.witness_calls.specs.Seen.{call_seen};
 ghost use Rattle.witness_search.specs.Asked.{candidates_seen, group_seen, part_seen};
@@ -138,18 +138,12 @@ fn try_method(
         if let Some(found) = found {
             return Ok(found_one(found));
         }
-        all_short = are_both(all_short, short);
+        all_short &= short;
     }
     Ok(Trial {
         found: None,
         short: all_short,
     })
-}
-
-fn are_both(first: bool, second: bool) -> bool
-    ensures { result ≡ (first && second) }
-{
-    first && second
 }
 
 // The trial of a method's request with one value.

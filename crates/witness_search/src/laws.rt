@@ -5,9 +5,8 @@ ghost use Rattle.aidl_schema.specs.Unbroken.{Has};
 ghost use Rattle.compat_judge.specs.Seen.{seen};
 ghost use Rattle.compat_witness.specs.Candidates.{AreSmall, Candidate, Shows};
 ghost use Rattle.compat_witness.specs.Rows.{Row};
-ghost use Rattle.witness_search.specs.RowsByRule.{row_C6_both, row_of};
+ghost use Rattle.witness_search.specs.RowsByRule.{row_of};
 
-use aidl_base::Text;
 use aidl_schema::Schema;
 use compat_judge::Broken;
 use compat_witness::{
@@ -29,7 +28,10 @@ pub fn law_shown(old: &Schema, new: &Schema, entry: &Broken)
         3 => law_c3(old, new, place),
         4 => law_c4(old, new, place),
         5 => law_c5(old, new, place),
-        6 => law_c6_both(old, new, place),
+        6 => {
+            law_c6(old, new, place);
+            law_c6_at(old, new, place);
+        }
         7 => law_c7(old, new, place),
         8 => law_c8(old, new, place),
         10 => law_c10(old, new, place),
@@ -38,14 +40,4 @@ pub fn law_shown(old: &Schema, new: &Schema, entry: &Broken)
         16 => law_c16(old, new, place),
         _ => {}
     }
-}
-
-// The law of C6, at a method or at an argument.
-fn law_c6_both(old: &Schema, new: &Schema, place: &Text)
-    requires among { Has (broken old.now.decls new.now.decls) (6, place.now) }
-    ensures { (cs : List Candidate) → row_C6_both old.now.decls new.now.decls place.now ≡ Some cs
-        → AreSmall old.now.decls new.now.decls cs → Shows old.now.decls new.now.decls cs }
-{
-    law_c6(old, new, place);
-    law_c6_at(old, new, place);
 }

@@ -11,7 +11,7 @@ ghost use Rattle.witness_search.specs.RowsByRule.{row_C6_both};
 ghost use Rattle.witness_search.specs.steps.Gives.{GivesRow};
 ghost use Rattle.witness_search.specs.steps.Seen.{spot_seen};
 
-use crate::candidates::{Candidates, Part, alone, one_value, reply_by, request_by};
+use crate::candidates::{Candidates, alone, call_by, one_value};
 use crate::pair::Pair;
 use crate::plain::{is_plain_in, is_plain_result, low_value};
 use crate::spot::{Spot, are_empty, at_slash, both_only, is_empty, spot_like, spot_of};
@@ -19,6 +19,7 @@ use aidl_base::{OutOfMemory, Row, Text};
 use aidl_schema::{AidlType, Arg};
 use aidl_values::{Answer, Value};
 use std::alloc::Global;
+use witness_calls::Values;
 
 impl Pair<'_, '_> {
     /// C3: a request from the old version; None where the method has arguments or new has no method of its id.
@@ -31,7 +32,8 @@ impl Pair<'_, '_> {
             return None;
         }
         self.new.method_of_id(interface, spot.method.id)?;
-        Some(alone(Part::Call(request_by(false, &spot, Row::new(alloc)))))
+        let nothing = Values::Arguments(Row::new(alloc));
+        Some(alone(call_by(false, &spot, nothing)))
     }
 
     /// C4: a request from the old version.
@@ -43,7 +45,8 @@ impl Pair<'_, '_> {
         if !are_empty(&before, &after) {
             return None;
         }
-        Some(alone(Part::Call(request_by(false, &before, Row::new(alloc)))))
+        let nothing = Values::Arguments(Row::new(alloc));
+        Some(alone(call_by(false, &before, nothing)))
     }
 
     /// C5: a reply with z0, or with nothing for void, either way.
@@ -55,11 +58,11 @@ impl Pair<'_, '_> {
         if !is_met_c5(&before, &after) {
             return None;
         }
-        let forth = low_answer(alloc, after.method.result);
-        let back = low_answer(alloc, before.method.result);
+        let forth = Values::Answer(Some(low_answer(alloc, after.method.result)));
+        let back = Values::Answer(Some(low_answer(alloc, before.method.result)));
         Some(Candidates {
-            first: Part::Call(reply_by(false, &before, Some(forth))),
-            second: Some(Part::Call(reply_by(true, &after, Some(back)))),
+            first: call_by(false, &before, forth),
+            second: Some(call_by(true, &after, back)),
         })
     }
 
@@ -89,8 +92,8 @@ impl Pair<'_, '_> {
         if !is_met_c6(args, after.method.args.as_slice()) {
             return Ok(None);
         }
-        let values = low_arguments(alloc, args)?;
-        Ok(Some(alone(Part::Call(request_by(false, &before, values)))))
+        let sent = Values::Arguments(low_arguments(alloc, args)?);
+        Ok(Some(alone(call_by(false, &before, sent))))
     }
 
     // C6 at an argument: a request from the old version with z0.
@@ -106,8 +109,8 @@ impl Pair<'_, '_> {
         };
         match both_only(&before, &after) {
             Some((a, b)) if is_plain_in(a) && is_plain_in(b) => {
-                let values = one_value(alloc, low_value(a.ty.base))?;
-                Ok(Some(alone(Part::Call(request_by(false, &before, values)))))
+                let sent = Values::Arguments(one_value(alloc, low_value(a.ty.base))?);
+                Ok(Some(alone(call_by(false, &before, sent))))
             }
             _ => Ok(None),
         }
@@ -123,9 +126,9 @@ impl Pair<'_, '_> {
             return None;
         }
         if before.method.oneway {
-            return Some(alone(Part::Call(reply_by(true, &after, None))));
+            return Some(alone(call_by(true, &after, Values::Answer(None))));
         }
-        Some(alone(Part::Call(reply_by(false, &before, None))))
+        Some(alone(call_by(false, &before, Values::Answer(None))))
     }
 }
 

@@ -64,12 +64,12 @@ impl<'o, 'n> Pair<'o, 'n> {
 
     /// Whether all alternatives of a union of old and of one of new are plain.
     #[tactic(auto, using(crate::proofs::PlainUnions::both_plain))]
-    pub fn are_plain(&self, k: u32, l: u32) -> bool
-        ensures { result ≡ (are_plain (alternatives_in self.now.old k)
-            && are_plain (alternatives_in self.now.new l)) }
+    pub fn are_plain(&self, before: u32, after: u32) -> bool
+        ensures { result ≡ (are_plain (alternatives_in self.now.old before)
+            && are_plain (alternatives_in self.now.new after)) }
     {
-        plain_at(self.tables.plain_olds.as_slice(), k)
-            && plain_at(self.tables.plain_news.as_slice(), l)
+        plain_at(self.tables.plain_olds.as_slice(), before)
+            && plain_at(self.tables.plain_news.as_slice(), after)
     }
 }
 

@@ -1,14 +1,11 @@
 //! Plain types and their values.
 ghost use Rattle.std.specs.Prelude.{◌≡◌, codes, IfOk, false};
 ghost use Rattle.aidl_values.specs.View.{view};
-ghost use Rattle.aidl_schema.specs.Broken.{is_one_value};
-ghost use Rattle.aidl_schema.specs.Methods.{is_in_way};
-ghost use Rattle.aidl_schema.specs.Same.{is_named};
 ghost use Rattle.compat_witness.specs.Reaching.{are_plain, is_plain, plain_value};
 ghost use Rattle.compat_witness.specs.Rows.{is_plain_in, is_plain_result};
 
 use aidl_base::{OutOfMemory, Text};
-use aidl_schema::{AidlType, Arg, Base, Direction, Field, Shape};
+use aidl_schema::{AidlType, Arg, Base, Field, is_in_way, is_named, is_one_value};
 use aidl_values::Value;
 use std::alloc::Global;
 
@@ -17,20 +14,6 @@ pub fn is_plain(ty: AidlType) -> bool
     ensures { result ≡ is_plain ty }
 {
     is_one_value(ty) && !is_named(ty.base)
-}
-
-/// Whether it is one value, never null.
-pub fn is_one_value(ty: AidlType) -> bool
-    ensures { result ≡ is_one_value ty }
-{
-    matches!(ty.shape, Shape::One) && !ty.nullable
-}
-
-/// Whether a base is declared.
-pub fn is_named(base: Base) -> bool
-    ensures { result ≡ is_named base }
-{
-    matches!(base, Base::Named(_))
 }
 
 /// Whether all types of these fields are plain.
@@ -45,13 +28,6 @@ pub fn is_plain_in(arg: &Arg) -> bool
     ensures { result ≡ is_plain_in arg.now }
 {
     is_in_way(arg.way) && is_plain(arg.ty)
-}
-
-/// Whether an argument of this way is `in`.
-pub fn is_in_way(way: Direction) -> bool
-    ensures { result ≡ is_in_way way }
-{
-    matches!(way, Direction::In)
 }
 
 /// Whether a result is void or plain.

@@ -7,10 +7,9 @@ ghost use Rattle.witness_search.specs.ReachTables.{IsReachTable, row_at};
 ghost use Rattle.witness_search.specs.steps.Reached.{AreAdded, IsAdded, IsNamed, reached_from, reached_in};
 
 use crate::candidates::Reach;
-use crate::plain::{is_in_way, is_one_value};
 use crate::spot::{only, spot_in};
 use aidl_base::{OutOfMemory, Row};
-use aidl_schema::{Arg, Base, Method, law_valid, same_type};
+use aidl_schema::{Arg, Base, Method, is_in_way, is_one_value, law_valid, same_type};
 use std::alloc::Global;
 use witness_calls::Version;
 
@@ -156,16 +155,16 @@ fn has_argument(ends: &Ends<'_>, method: &Method, arg: &Arg) -> bool
 }
 
 // Whether both arguments are `in` and one value of one type, never null.
-fn is_alike(ends: &Ends<'_>, a: &Arg, b: Option<&Arg>) -> bool
+fn is_alike(ends: &Ends<'_>, sent: &Arg, wanted: Option<&Arg>) -> bool
     ensures { result ≡ is_there_and
-        (meant.are_alike ends.now.client.now ends.now.server.now a.now)
-        (option_copied b.entry) }
+        (meant.are_alike ends.now.client.now ends.now.server.now sent.now)
+        (option_copied wanted.entry) }
 {
-    match b {
-        Some(b) => {
-            (is_in_way(a.way) && is_in_way(b.way))
-                && (is_one_value(a.ty)
-                    && same_type(ends.client.schema(), a.ty, ends.server.schema(), b.ty))
+    match wanted {
+        Some(wanted) => {
+            let (client, server) = (ends.client.schema(), ends.server.schema());
+            (is_in_way(sent.way) && is_in_way(wanted.way))
+                && (is_one_value(sent.ty) && same_type(client, sent.ty, server, wanted.ty))
         }
         None => false,
     }

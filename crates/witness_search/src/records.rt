@@ -197,15 +197,12 @@ fn differ_at(pair: &Pair<'_, '_>, before: Option<&Field>, after: Option<&Field>)
     ensures { result ≡ rows.differ_at pair.now.old pair.now.new
         (option_copied before.entry) (option_copied after.entry) }
 {
-    match before {
-        Some(f) => match after {
-            Some(g) => {
-                !(same_text(&f.name.0, &g.name.0)
-                    && same_type(pair.old.schema(), f.ty, pair.new.schema(), g.ty))
-            }
-            None => false,
-        },
-        None => false,
+    match (before, after) {
+        (Some(before), Some(after)) => {
+            !(same_text(&before.name.0, &after.name.0)
+                && same_type(pair.old.schema(), before.ty, pair.new.schema(), after.ty))
+        }
+        _ => false,
     }
 }
 

@@ -117,8 +117,5 @@ pub fn are_empty(before: &Spot<'_>, after: &Spot<'_>) -> bool
 pub fn is_empty(args: &[Arg]) -> bool
     ensures { result ≡ is_empty args.now }
 {
-    match args {
-        [] => true,
-        _ => false,
-    }
+    matches!(args, [])
 }

@@ -1,26 +1,27 @@
 //! The row of C7, an argument whose direction differs.
-ghost use Rattle.std.specs.Prelude.{◌≡◌, ◌∷◌, [], List, ℕ, IfOk, None, Some, true};
+ghost use Rattle.std.specs.Prelude.{◌≡◌, List, ℕ, IfOk, None, Some, true};
 ghost use Rattle.std.specs.Str.{encode_utf8_all};
 ghost use Rattle.aidl_schema.specs.Types.{is_type};
 ghost use Rattle.aidl_values.specs.Data.{item, none};
 ghost use Rattle.aidl_values.specs.View.{view};
 ghost use Rattle.wire_model.specs.Calls.{returned};
 ghost use Rattle.wire_model.specs.Receiver.{zero_in};
-ghost use Rattle.compat_witness.specs.Candidates.{reply};
+ghost use Rattle.compat_witness.specs.Candidates.{answered};
 ghost use Rattle.compat_witness.specs.Rows.{ask_C7, is_met_C7, is_sent_back, row_C7, row_C7_at, sent_in_out};
-ghost use Rattle.witness_calls.specs.Seen.{call_seen};
+ghost use Rattle.witness_calls.specs.Seen.{values_seen};
+ghost use Rattle.witness_search.specs.Asked.{part_seen};
 ghost use Rattle.witness_search.specs.steps.Gives.{GivesRow};
 ghost use Rattle.witness_search.specs.steps.Seen.{spot_seen};
 
-use crate::candidates::{Candidates, Part, alone, one_value, reply_by, request_by};
+use crate::candidates::{Candidates, Part, alone, call_by, one_value};
 use crate::pair::Pair;
-use crate::plain::{is_in_way, is_named, low_value};
+use crate::plain::low_value;
 use crate::spot::{Spot, at_slash, both_only, spot_like, spot_of};
 use aidl_base::{OutOfMemory, Text};
-use aidl_schema::{AidlType, Arg, Form, Schema, Shape, form_in, same_type};
+use aidl_schema::{AidlType, Arg, Form, Schema, Shape, form_in, is_in_way, is_named, same_type};
 use aidl_values::{Answer, Elements, Value, default_of};
 use std::alloc::Global;
-use witness_calls::{Call, Version, is_out};
+use witness_calls::{Values, Version, is_out};
 
 impl Pair<'_, '_> {
     /// C7, at an argument: where one direction is `in`, a reply to that client with the default of the out; else a request from the version
@@ -48,7 +49,7 @@ impl Pair<'_, '_> {
         match both_only(&before, &after) {
             Some(args) if is_met(self, &before, &after, args) => {
                 let call = call_back(alloc, self, &before, &after, args)?;
-                Ok(Some(alone(Part::Call(call))))
+                Ok(Some(alone(call)))
             }
             _ => Ok(None),
         }
@@ -67,18 +68,18 @@ fn is_met(pair: &Pair<'_, '_>, before: &Spot<'_>, after: &Spot<'_>, args: (&Arg,
 }
 
 // Never null, and a parcelable in both or an array of a built-in base.
-fn is_sent_back(old: &Schema, t: AidlType, new: &Schema, u: AidlType) -> bool
-    ensures { result ≡ is_sent_back old.now.decls t new.now.decls u }
+fn is_sent_back(old: &Schema, before: AidlType, new: &Schema, after: AidlType) -> bool
+    ensures { result ≡ is_sent_back old.now.decls before new.now.decls after }
 {
-    if t.nullable {
+    if before.nullable {
         return false;
     }
-    match t.shape {
+    match before.shape {
         Shape::One => {
-            matches!(form_in(old, t.base), Form::Parcelable(_))
-                && matches!(form_in(new, u.base), Form::Parcelable(_))
+            matches!(form_in(old, before.base), Form::Parcelable(_))
+                && matches!(form_in(new, after.base), Form::Parcelable(_))
         }
-        Shape::Array => !is_named(t.base),
+        Shape::Array => !is_named(before.base),
         Shape::List => false,
     }
 }
@@ -90,44 +91,41 @@ fn call_back(
     before: &Spot<'_>,
     after: &Spot<'_>,
     args: (&Arg, &Arg),
-) -> Result<Call, OutOfMemory>
+) -> Result<Part, OutOfMemory>
     requires { is_met_C7 pair.now.old pair.now.new (spot_seen before.now) (spot_seen after.now)
         args.0.now args.1.now ≡ true }
-    ensures { IfOk result (λ call. call_seen call ∷ []
+    ensures { IfOk result (λ call. part_seen pair.now.old pair.now.new call
         ≡ ask_C7 pair.now.old pair.now.new (spot_seen before.now) (spot_seen after.now)
         args.entry.0.now args.entry.1.now) }
 {
     if is_in_way(args.0.way) {
-        return default_reply(alloc, false, before, &pair.new, args.1.ty);
+        let sent = default_reply(alloc, &pair.new, args.1.ty)?;
+        return Ok(call_by(false, before, sent));
     }
     if is_in_way(args.1.way) {
-        return default_reply(alloc, true, after, &pair.old, args.0.ty);
+        let sent = default_reply(alloc, &pair.old, args.0.ty)?;
+        return Ok(call_by(true, after, sent));
     }
     if is_out(args.0.way) {
         let value = sent_in_out(alloc, &pair.new, args.1.ty)?;
-        return Ok(request_by(true, after, one_value(alloc, value)?));
+        let sent = one_value(alloc, value)?;
+        return Ok(call_by(true, after, Values::Arguments(sent)));
     }
     let value = sent_in_out(alloc, &pair.old, args.0.ty)?;
-    Ok(request_by(false, before, one_value(alloc, value)?))
+    let sent = one_value(alloc, value)?;
+    Ok(call_by(false, before, Values::Arguments(sent)))
 }
 
-// A reply with the default of an out.
-fn default_reply(
-    alloc: Global,
-    back: bool,
-    client: &Spot<'_>,
-    server: &Version<'_>,
-    ty: AidlType,
-) -> Result<Call, OutOfMemory>
+// The answer of a void method with the default of an out.
+fn default_reply(alloc: Global, server: &Version<'_>, ty: AidlType) -> Result<Values, OutOfMemory>
     requires { is_type server.now ty ≡ true }
-    ensures { IfOk result (λ call. call_seen call
-        ≡ reply back client.now.interface client.now.position
-        (Some (returned None (item (zero_in server.now ty) none)))) }
+    ensures { IfOk result (λ values. values_seen values
+        ≡ answered (Some (returned None (item (zero_in server.now ty) none)))) }
 {
     let value = default_of(alloc, server.schema(), &ty)?;
     let outs = one_value(alloc, value)?;
     let answer = Answer::Returned { result: None, outs };
-    Ok(reply_by(back, client, Some(answer)))
+    Ok(Values::Answer(Some(answer)))
 }
 
 // The default, or an array of one z0.

@@ -5,8 +5,8 @@ use Rattle.aidl_schema.specs.declared.schema.Base.{Base}
 use Rattle.aidl_schema.specs.declared.schema.Base.TheVariants as base
 use Rattle.aidl_schema.specs.declared.schema.Decl.{Decl}
 use Rattle.aidl_schema.specs.declared.schema.Field.{Field}
+use Rattle.aidl_schema.specs.Find.{fields_at}
 use Rattle.aidl_schema.specs.Same.{same_text}
-use Rattle.value_views.specs.Named.{fields_at}
 
 -- the position of the field of this name
 abbrev pub place_named : List ℕ → List Field → Option ℕ

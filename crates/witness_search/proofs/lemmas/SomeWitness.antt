@@ -7,12 +7,11 @@ use Rattle.aidl_schema.specs.declared.schema.Decl.{Decl}
 use Rattle.aidl_schema.specs.Broken.{Break, Place, broken}
 use Rattle.aidl_schema.specs.Unbroken.{Has}
 use Rattle.aidl_schema.specs.Valid.{IsValid}
-use Rattle.compat_witness.specs.Candidates.{Candidate}
+use Rattle.compat_witness.specs.Candidates.{Candidate, IsShown}
 use Rattle.compat_witness.specs.Rows.{Row}
 use Rattle.compat_witness.proofs.lemmas.Decided.{counts, differs}
 use Rattle.compat_witness.proofs.lemmas.Laws.{IsShownBy, shown_C2, shown_C3, shown_C4, shown_C5, shown_C6, shown_C6_at, shown_C7, shown_C8, shown_C10, shown_C11, shown_C15, shown_C16}
 use Rattle.compat_witness.proofs.lemmas.SameSides.{both_decided}
-use Rattle.witness_calls.specs.Showing.{IsShown}
 use Rattle.witness_search.specs.IsWitness.{IsAllowed, IsFirstShown, IsOf, IsOfRow, IsWitness, those_of}
 use Rattle.witness_search.specs.RowsByRule.{row_C6_both, row_of, table}
 use Rattle.witness_search.specs.declared.shown.NoCall.{NoCall}

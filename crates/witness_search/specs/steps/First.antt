@@ -1,9 +1,9 @@
 -- The first call that is shown, as the code has it.
 use Rattle.std.specs.Prelude.{◌≡◌, List, [], ◌∷◌, Option, Some, None, ◌⊎◌}
 use Rattle.aidl_schema.specs.declared.schema.Decl.{Decl}
-use Rattle.compat_witness.specs.Candidates.{Candidate}
+use Rattle.compat_witness.specs.Candidates.{Candidate, IsShown}
 use Rattle.witness_calls.specs.Seen.{call_seen}
-use Rattle.witness_calls.specs.Showing.{IsShown, ShowsIt}
+use Rattle.witness_calls.specs.Showing.{ShowsIt}
 use Rattle.witness_search.specs.declared.shown.Witness.{Witness}
 
 -- The call is this candidate, and is shown by what stands beside it.

@@ -4,8 +4,7 @@ use Rattle.aidl_schema.specs.declared.schema.Decl.{Decl}
 use Rattle.aidl_schema.specs.Unbroken.{Has}
 use Rattle.aidl_values.specs.Data.{Data, none, item}
 use Rattle.compat_witness.specs.Alike.{IsShort}
-use Rattle.compat_witness.specs.Candidates.{Candidate, request}
-use Rattle.witness_calls.specs.Showing.{IsShown}
+use Rattle.compat_witness.specs.Candidates.{Candidate, IsShown, request}
 use Rattle.witness_search.specs.steps.First.{IsFirst}
 use Rattle.witness_search.specs.declared.candidates.Reach.{Reach}
 use Rattle.witness_search.specs.declared.first.Trial.{Trial}

@@ -6,4 +6,4 @@ use Rattle.compat_judge.proofs.members.c3.Given as goal
 
 abbrev pub invariant-loop-i : goal.invariant-loop-i
 invariant-loop-i l = l.found ≡ l.initial.found
-    ++ flat_map (break_if 3 (λ m. member l.pair.before.now m.name) (λ m. not (is_kept same_method (λ x y. true) l.ws m))) (take l.i l.ms)
+    ++ flat_map (break_if 3 (λ m. member l.pair.before.now m.name) (λ m. not (is_kept same_method (λ x y. true) l.news m))) (take l.i l.olds)

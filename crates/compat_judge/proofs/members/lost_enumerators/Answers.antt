@@ -8,18 +8,18 @@ use Rattle.compat_judge.proofs.members.lost_enumerators.Goals as goal
 
 pub loop-i-preserved : goal.loop-i-preserved
 loop-i-preserved c =
-    let xs = c.args.xs.now in
-    let ys = c.args.ys.now in
-    let x = c.index-xs-i.result in
+    let xs = c.args.olds.now in
+    let ys = c.args.news.now in
+    let x = c.index-olds-i.result in
     let keeps : Enumerator → Enumerator → Bool = (λ x y. int_eq x.value y.value) in
     let lt : c.loop-i.i < length xs = omega arith in
     let kept : c.is_enumerator_kept-kept.result ≡ is_kept same_enumerator keeps ys x =
-    c.is_enumerator_kept-kept.ensures ∙ ap (is_there_and (λ y. keeps x y)) (c.at_place.ensures ∙ kept_at (λ x. x.name.0) xs ys c.args.places.now c.loop-i.i x None c.requires lt c.index-xs-i.is) in
+    c.is_enumerator_kept-kept.ensures ∙ ap (is_there_and (λ y. keeps x y)) (c.at_place.ensures ∙ kept_at (λ x. x.name.0) xs ys c.args.places.now c.loop-i.i x None c.requires lt c.index-olds-i.is) in
     at_member 17 c.args.pair.now.before.now (λ x. x.name) (λ x. not (is_kept same_enumerator keeps ys x)) c.args.found.now xs
-    c.loop-i.found c.member_if.new.self c.loop-i.i x c.args.pair.now.name.now (not c.is_enumerator_kept-kept.result) c.loop-i.invariant lt c.index-xs-i.is c.args.pair.now.named (ap not kept) c.in_ok-member_if.ensures
+    c.loop-i.found c.member_if.new.self c.loop-i.i x c.args.pair.now.name.now (not c.is_enumerator_kept-kept.result) c.loop-i.invariant lt c.index-olds-i.is c.args.pair.now.named (ap not kept) c.in_ok-member_if.ensures
 
 pub returns : goal.returns
 returns c =
     let keeps : Enumerator → Enumerator → Bool = (λ x y. int_eq x.value y.value) in
-    let at : c.loop-i.i ≡ length c.args.xs.now = omega arith in
-    places_all 17 (λ x. member c.args.pair.now.before.now x.name) (λ x. not (is_kept same_enumerator keeps c.args.ys.now x)) c.args.found.now c.args.xs.now c.loop-i.found c.loop-i.i c.loop-i.invariant at
+    let at : c.loop-i.i ≡ length c.args.olds.now = omega arith in
+    places_all 17 (λ x. member c.args.pair.now.before.now x.name) (λ x. not (is_kept same_enumerator keeps c.args.news.now x)) c.args.found.now c.args.olds.now c.loop-i.found c.loop-i.i c.loop-i.invariant at

@@ -7,4 +7,4 @@ use Rattle.compat_judge.proofs.members.lost_enumerators.Given as goal
 
 abbrev pub invariant-loop-i : goal.invariant-loop-i
 invariant-loop-i l = l.found ≡ l.initial.found
-    ++ flat_map (break_if 17 (λ x. member l.pair.before.now x.name) (λ x. not (is_kept same_enumerator (λ x y. int_eq x.value y.value) l.ys x))) (take l.i l.xs)
+    ++ flat_map (break_if 17 (λ x. member l.pair.before.now x.name) (λ x. not (is_kept same_enumerator (λ x y. int_eq x.value y.value) l.news x))) (take l.i l.olds)

@@ -10,9 +10,9 @@ returns c =
     let name = c.as_str-name.ensures in
     let method = c.as_str-method.ensures in
     let front = c.as_str-name.result.now ++ 46 ∷ c.as_str-method.result.now in
-    let small : c.args.k < 2 ^ 64 = omega arith in
+    let small : c.args.position < 2 ^ 64 = omega arith in
     let place : Spells front (c.args.name.now ++ 46 ∷ c.args.method.now.0) =
     marked 46 (lit< tt) _ c.args.name.now _ c.args.method.now.0 (record { bytes = name.bytes; scalars = name.scalars }) (record { bytes = method.bytes; scalars = method.scalars }) in
-    ap chars (c.in_ok-format.ensures.ok ∙ sym (append_assoc c.as_str-name.result.now (46 ∷ c.as_str-method.result.now) (47 ∷ decimal c.args.k)))
-    ∙ read_back (front ++ 47 ∷ decimal c.args.k) ((c.args.name.now ++ 46 ∷ c.args.method.now.0) ++ 47 ∷ decimal c.args.k)
-    (marked 47 (lit< tt) _ _ _ _ place (decimal_spells c.args.k small))
+    ap chars (c.in_ok-format.ensures.ok ∙ sym (append_assoc c.as_str-name.result.now (46 ∷ c.as_str-method.result.now) (47 ∷ decimal c.args.position)))
+    ∙ read_back (front ++ 47 ∷ decimal c.args.position) ((c.args.name.now ++ 46 ∷ c.args.method.now.0) ++ 47 ∷ decimal c.args.position)
+    (marked 47 (lit< tt) _ _ _ _ place (decimal_spells c.args.position small))

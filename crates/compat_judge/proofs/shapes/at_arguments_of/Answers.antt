@@ -7,23 +7,23 @@ use Rattle.compat_judge.proofs.Listing.{places_all}
 use Rattle.compat_judge.proofs.Walk.{at_argument, numbered_at, numbered_length, zip_at, zip_length}
 use Rattle.compat_judge.proofs.shapes.at_arguments_of.Goals as goal
 
-pub loop-k-preserved : goal.loop-k-preserved
-loop-k-preserved c =
+pub loop-i-preserved : goal.loop-i-preserved
+loop-i-preserved c =
     let xs = c.as_slice-olds.result.now in
     let ys = c.as_slice-news.result.now in
     let pairs = zip xs ys in
     let all = enumerate_from 0 pairs in
     let len = zip_length xs ys in
     let whole = numbered_length 0 pairs in
-    let short : c.loop-k.k < length pairs = omega (arith, len) in
-    let lt : c.loop-k.k < length all = omega (arith, whole) in
-    let a = c.index-olds-k.result in
-    let b = c.index-news-k.result in
-    let here = zip_at xs ys c.loop-k.k a b (omega arith) (omega arith) c.index-olds-k.is c.index-news-k.is in
-    let plain : 0 + c.loop-k.k ≡ c.loop-k.k = omega arith in
-    let at = subst (λ (n : ℕ). (n, (a, b)) ≡ get_or all c.loop-k.k (n, (a, b))) plain (numbered_at 0 pairs c.loop-k.k (a, b) short here) in
+    let short : c.loop-i.i < length pairs = omega (arith, len) in
+    let lt : c.loop-i.i < length all = omega (arith, whole) in
+    let a = c.index-olds-i.result in
+    let b = c.index-news-i.result in
+    let here = zip_at xs ys c.loop-i.i a b (omega arith) (omega arith) c.index-olds-i.is c.index-news-i.is in
+    let plain : 0 + c.loop-i.i ≡ c.loop-i.i = omega arith in
+    let at = subst (λ (n : ℕ). (n, (a, b)) ≡ get_or all c.loop-i.i (n, (a, b))) plain (numbered_at 0 pairs c.loop-i.i (a, b) short here) in
     at_argument c.args.rule c.args.pair.now.before.now c.args.before.now.name (λ p. argument_breaks c.args.test c.args.pair.now.old.now.decls c.args.pair.now.new.now.decls p.1.0 p.1.1) c.args.found.now all
-    c.loop-k.found c.argument_if.new.self c.loop-k.k (c.loop-k.k, (a, b)) c.args.pair.now.name.now c.argument_breaks-broken.result c.loop-k.invariant lt at c.args.pair.now.named c.argument_breaks-broken.ensures c.in_ok-argument_if.ensures
+    c.loop-i.found c.argument_if.new.self c.loop-i.i (c.loop-i.i, (a, b)) c.args.pair.now.name.now c.argument_breaks-broken.result c.loop-i.invariant lt at c.args.pair.now.named c.argument_breaks-broken.ensures c.in_ok-argument_if.ensures
 
 pub returns : goal.returns
 returns c =
@@ -31,9 +31,9 @@ returns c =
     let ys = c.as_slice-news.result.now in
     let len = zip_length xs ys in
     let whole = numbered_length 0 (zip xs ys) in
-    let at : c.loop-k.k ≡ length (enumerate_from 0 (zip xs ys)) = omega (arith, len, whole) in
+    let at : c.loop-i.i ≡ length (enumerate_from 0 (zip xs ys)) = omega (arith, len, whole) in
     let breaks : ℕ × (Arg × Arg) → Bool = λ p. argument_breaks c.args.test c.args.pair.now.old.now.decls c.args.pair.now.new.now.decls p.1.0 p.1.1 in
     let place : ℕ × (Arg × Arg) → Place = λ p. argument c.args.pair.now.before.now c.args.before.now.name p.0 in
-    places_all c.args.rule place breaks c.args.found.now (enumerate_from 0 (zip xs ys)) c.loop-k.found c.loop-k.k c.loop-k.invariant at
+    places_all c.args.rule place breaks c.args.found.now (enumerate_from 0 (zip xs ys)) c.loop-i.found c.loop-i.i c.loop-i.invariant at
     ∙ ap (λ zs. c.args.found.now ++ of_rule c.args.rule (places place breaks (enumerate_from 0 (zip zs ys)))) c.as_slice-olds.ensures
     ∙ ap (λ zs. c.args.found.now ++ of_rule c.args.rule (places place breaks (enumerate_from 0 (zip c.args.before.now.args zs)))) c.as_slice-news.ensures

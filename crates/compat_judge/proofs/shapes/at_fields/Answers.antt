@@ -6,23 +6,23 @@ use Rattle.compat_judge.proofs.Listing.{places_all}
 use Rattle.compat_judge.proofs.Walk.{at_member, zip_at, zip_length}
 use Rattle.compat_judge.proofs.shapes.at_fields.Goals as goal
 
-pub loop-k-preserved : goal.loop-k-preserved
-loop-k-preserved c =
+pub loop-i-preserved : goal.loop-i-preserved
+loop-i-preserved c =
     let fs = c.args.olds.now in
     let gs = c.args.news.now in
     let len = zip_length fs gs in
-    let lt : c.loop-k.k < length (zip fs gs) = omega (arith, len) in
-    let f = c.index-olds-k.result in
-    let g = c.index-news-k.result in
+    let lt : c.loop-i.i < length (zip fs gs) = omega (arith, len) in
+    let f = c.index-olds-i.result in
+    let g = c.index-news-i.result in
     at_member c.args.rule c.args.pair.now.before.now (λ p. p.0.name) (λ p. field_breaks c.args.test c.args.pair.now.old.now.decls c.args.pair.now.new.now.decls p.0 p.1) c.args.found.now (zip fs gs)
-    c.loop-k.found c.member_if.new.self c.loop-k.k (f, g) c.args.pair.now.name.now c.field_breaks-broken.result c.loop-k.invariant lt
-    (zip_at fs gs c.loop-k.k f g (omega arith) (omega arith) c.index-olds-k.is c.index-news-k.is) c.args.pair.now.named c.field_breaks-broken.ensures c.in_ok-member_if.ensures
+    c.loop-i.found c.member_if.new.self c.loop-i.i (f, g) c.args.pair.now.name.now c.field_breaks-broken.result c.loop-i.invariant lt
+    (zip_at fs gs c.loop-i.i f g (omega arith) (omega arith) c.index-olds-i.is c.index-news-i.is) c.args.pair.now.named c.field_breaks-broken.ensures c.in_ok-member_if.ensures
 
 pub returns : goal.returns
 returns c =
     let fs = c.args.olds.now in
     let gs = c.args.news.now in
     let len = zip_length fs gs in
-    let at : c.loop-k.k ≡ length (zip fs gs) = omega (arith, len) in
+    let at : c.loop-i.i ≡ length (zip fs gs) = omega (arith, len) in
     places_all c.args.rule (λ p. member c.args.pair.now.before.now p.0.name) (λ p. field_breaks c.args.test c.args.pair.now.old.now.decls c.args.pair.now.new.now.decls p.0 p.1)
-    c.args.found.now (zip fs gs) c.loop-k.found c.loop-k.k c.loop-k.invariant at
+    c.args.found.now (zip fs gs) c.loop-i.found c.loop-i.i c.loop-i.invariant at

@@ -1,5 +1,9 @@
+use Rattle.aidl_schema.proofs.lemmas.Valids.{all_hold, decls_apart}
 use Rattle.compat_witness.proofs.OneValue.{alike}
 use Rattle.compat_witness.proofs.laws.law_alike.Goals as goal
 
 pub returns : goal.returns
-returns c = alike c.args.client.now.decls c.args.server.now.decls c.law_valid.ensures.declarations c.law_valid.ensures.apart
+returns c =
+    let server = c.args.server.now.decls in
+    let valid = c.args.server.now.valid in
+    alike c.args.client.now.decls server (all_hold server valid) (decls_apart server valid)
