@@ -9,6 +9,7 @@ pub mod Spellings
 pub mod Words
 pub mod Reserved
 pub mod Identifiers
+pub mod Blanks
 pub mod Kept
 pub mod KeptParts
 pub mod steps

@@ -9,7 +9,8 @@ use Rattle.aidl_base.specs.declared.reserved.Reserved.{Reserved}
 use Rattle.aidl_syntax.specs.declared.token.Symbol.{Symbol}
 use Rattle.aidl_lexer.specs.declared.fronts.Front.{Front}
 use Rattle.aidl_syntax.specs.declared.token.TokenKind.{TokenKind}
-use Rattle.aidl_syntax.specs.Bytes.{is_blank, is_inside, is_no_newline}
+use Rattle.aidl_base.specs.Blanks.{is_blank}
+use Rattle.aidl_syntax.specs.Bytes.{is_inside, is_no_newline}
 use Rattle.aidl_base.specs.Identifiers.{is_letter, is_word_byte, begins}
 use Rattle.aidl_syntax.specs.Tables.{double_at, single}
 use Rattle.aidl_lexer.specs.steps.Reading.{by_reserved, word_at, by_numeral, number_at, character_at, string_at, close_len, up_by, by_close, by_single, by_double, slash_at, symbol_at, front_of, Moves}

@@ -3,11 +3,12 @@ ghost use Rattle.std.specs.Prelude.{◌≡◌, ◌≤◌, ◌==◌, ◌+◌, len
 ghost use Rattle.std.specs.Char.{is_ascii_digit, is_ascii_hexdigit};
 ghost use Rattle.std.specs.List.{prefix_len};
 ghost use Rattle.aidl_syntax.specs.Bytes as class;
+ghost use Rattle.aidl_base.specs.Blanks.{is_blank};
 ghost use Rattle.aidl_base.specs.Identifiers as identifiers;
 
 // A space, a tab, a carriage return or a newline.
 pub fn is_blank(b: u8) -> bool
-    ensures { result ≡ class.is_blank b }
+    ensures { result ≡ is_blank b }
 {
     b == b' ' || b == b'\t' || b == b'\r' || b == b'\n'
 }

@@ -2,3 +2,4 @@ mod Alike
 pub mod lemmas
 mod Examples
 mod Orders
+mod Spots

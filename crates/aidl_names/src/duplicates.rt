@@ -4,7 +4,7 @@ ghost use Rattle.std.specs.List.{flat_map, list_any};
 ghost use Rattle.aidl_syntax.specs.Trees.{arg_of};
 ghost use Rattle.aidl_syntax.specs.Members.{member_name};
 ghost use Rattle.declared_names.specs.Names.{same};
-ghost use Rattle.aidl_names.specs.Rules.{repeated, repeated_inside, argument_names, taken, is_taken};
+ghost use Rattle.aidl_names.specs.Rules.{breaches_at, repeated, repeated_inside, argument_names, taken, is_taken};
 ghost use Rattle.declared_names.specs.MemberViews.{seen_member};
 ghost use Rattle.declared_names.specs.Entries.{entry_of};
 
@@ -23,7 +23,7 @@ pub fn add_repeated(
     rows: &mut Vec<Breach>,
 ) -> Result<(), OutOfMemory>
     ensures { OnOk result (rows.new.items
-        ≡ rows.old.items ++ flat_map repeated_inside (map entry_of found.now)) }
+        ≡ rows.old.items ++ breaches_at 2 (flat_map repeated_inside (map entry_of found.now))) }
 {
     for f in found {
         add_repeated_inside(alloc, f, rows)?;
@@ -37,7 +37,7 @@ fn add_repeated_inside(
     rows: &mut Vec<Breach>,
 ) -> Result<(), OutOfMemory>
     ensures { OnOk result (rows.new.items
-        ≡ rows.old.items ++ repeated_inside (entry_of found.now)) }
+        ≡ rows.old.items ++ breaches_at 2 (repeated_inside (entry_of found.now))) }
 {
     let all = members(alloc, found.tree)?;
     let names = member_names(alloc, all.as_slice())?;
@@ -52,8 +52,8 @@ fn add_repeated_arguments(
     members: &[MemberRef<'_>],
     rows: &mut Vec<Breach>,
 ) -> Result<(), OutOfMemory>
-    ensures { OnOk result (rows.new.items ≡ rows.old.items ++ flat_map
-        (λ m. repeated file (argument_names m)) (map seen_member members.now)) }
+    ensures { OnOk result (rows.new.items ≡ rows.old.items ++ breaches_at 2 (flat_map
+        (λ m. repeated file (argument_names m)) (map seen_member members.now))) }
 {
     for member in members {
         let names = argument_names(alloc, *member)?;
@@ -108,7 +108,7 @@ fn add_repeated_names(
     rows: &mut Vec<Breach>,
 ) -> Result<(), OutOfMemory>
     ensures { OnOk result (rows.new.items
-        ≡ rows.old.items ++ repeated file (map (λ n. n.now) names.now)) }
+        ≡ rows.old.items ++ breaches_at 2 (repeated file (map (λ n. n.now) names.now))) }
 {
     let mut seen: IndexSet<&str> = IndexSet::new(alloc);
     for n in names {
@@ -121,7 +121,7 @@ fn add_repeated_names(
 /// Adds the breaches of E2 by declarations.
 pub fn add_taken(declarations: &Declarations<'_>, rows: &mut Vec<Breach>) -> Result<(), OutOfMemory>
     ensures { OnOk result (rows.new.items
-        ≡ rows.old.items ++ taken (map entry_of declarations.now)) }
+        ≡ rows.old.items ++ breaches_at 2 (taken (map entry_of declarations.now))) }
 {
     let found = declarations.as_slice();
     for (i, f) in found.iter().enumerate() {

@@ -1,7 +1,7 @@
 //! The breaches of E1 by the paths of files.
 ghost use Rattle.std.specs.Prelude.{◌≡◌, ◌≤◌, ◌++◌, [], ◌∷◌, map, length, IfOk, OnOk, if◌then◌else◌, string_bytes};
 ghost use Rattle.aidl_syntax.specs.Sources.{source_of};
-ghost use Rattle.aidl_names.specs.Rules.{WrongFile, is_wrong_file, path_of};
+ghost use Rattle.aidl_names.specs.Rules.{WrongFile, breaches_at, is_wrong_file, path_of};
 
 use aidl_base::{Breach, Ident, OutOfMemory};
 use aidl_syntax::ParsedFile;
@@ -15,7 +15,8 @@ pub fn add_wrong_files(
     rows: &mut Vec<Breach>,
 ) -> Result<(), OutOfMemory>
     requires { length files.now ≤ 4096 }
-    ensures { OnOk result (rows.new.items ≡ rows.old.items ++ WrongFile (map source_of files.now)) }
+    ensures { OnOk result (rows.new.items
+        ≡ rows.old.items ++ breaches_at 1 (WrongFile (map source_of files.now))) }
 {
     for (i, file) in files.iter().enumerate() {
         if is_wrong_file(alloc, file)? {

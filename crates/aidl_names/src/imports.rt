@@ -2,7 +2,7 @@
 ghost use Rattle.std.specs.Prelude.{◌≡◌, ◌≤◌, ◌<◌, ◌++◌, ◌||◌, map, length, get_or, Some, IfOk, OnOk};
 ghost use Rattle.std.specs.List.{position_from};
 ghost use Rattle.aidl_syntax.specs.Sources.{source_of};
-ghost use Rattle.aidl_names.specs.Rules.{unknown_imports, other_imports};
+ghost use Rattle.aidl_names.specs.Rules.{breaches_at, unknown_imports, other_imports};
 ghost use Rattle.declared_names.specs.Numbered.{in_each};
 ghost use Rattle.declared_names.specs.Marks.{mark_of_last};
 ghost use Rattle.aidl_names.specs.Alike.{is_alike};
@@ -22,8 +22,8 @@ pub fn add_unknown_imports(
     rows: &mut Vec<Breach>,
 ) -> Result<(), OutOfMemory>
     requires files { length files.now ≤ 4096 }
-    ensures { OnOk result (rows.new.items ≡ rows.old.items ++ in_each
-        (unknown_imports (map entry_of declarations.now)) 0 (map source_of files.now)) }
+    ensures { OnOk result (rows.new.items ≡ rows.old.items ++ breaches_at 3 (in_each
+        (unknown_imports (map entry_of declarations.now)) 0 (map source_of files.now))) }
 {
     for (i, file) in files.iter().enumerate() {
         add_unknown(declarations, i as u32, file, rows)?;
@@ -37,8 +37,8 @@ fn add_unknown(
     file: &ParsedFile,
     rows: &mut Vec<Breach>,
 ) -> Result<(), OutOfMemory>
-    ensures { OnOk result (rows.new.items ≡ rows.old.items ++ unknown_imports
-        (map entry_of declarations.now) number (source_of file.now)) }
+    ensures { OnOk result (rows.new.items ≡ rows.old.items ++ breaches_at 3 (unknown_imports
+        (map entry_of declarations.now) number (source_of file.now))) }
 {
     for import in file.tree.imports.as_slice() {
         let unknown = number_of(declarations, 0, &[], import.name.0.as_slice()).is_none();
@@ -55,7 +55,7 @@ pub fn add_other_imports(
 ) -> Result<(), OutOfMemory>
     requires files { length files.now ≤ 4096 }
     ensures { OnOk result (rows.new.items
-        ≡ rows.old.items ++ in_each other_imports 0 (map source_of files.now)) }
+        ≡ rows.old.items ++ breaches_at 2 (in_each other_imports 0 (map source_of files.now))) }
 {
     for (i, file) in files.iter().enumerate() {
         add_others(alloc, i as u32, file, rows)?;
@@ -71,7 +71,7 @@ fn add_others(
     rows: &mut Vec<Breach>,
 ) -> Result<(), OutOfMemory>
     ensures { OnOk result (rows.new.items
-        ≡ rows.old.items ++ other_imports number (source_of file.now)) }
+        ≡ rows.old.items ++ breaches_at 2 (other_imports number (source_of file.now))) }
 {
     let imports = file.tree.imports.as_slice();
     let table = Table::new(alloc, last_marks(alloc, imports)?)?;

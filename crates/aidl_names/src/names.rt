@@ -1,7 +1,8 @@
 //! The names of a tree of files, gathered where no rule is broken.
-ghost use Rattle.std.specs.Prelude.{◌≡◌, ◌≤◌, map, length, IfOk, IfErr};
+ghost use Rattle.std.specs.Prelude.{◌≡◌, ◌≤◌, None, map, length, IfOk, IfErr};
 ghost use Rattle.aidl_names.specs.declared.fault.NameFault.TheVariants as fault;
 ghost use Rattle.aidl_names.specs.Breaches.{breaches};
+ghost use Rattle.aidl_names.specs.Limits as limits;
 ghost use Rattle.aidl_syntax.specs.Sources.{AreOfBytes, source_of};
 ghost use Rattle.declared_names.specs.Declarations.{declarations};
 ghost use Rattle.declared_names.specs.Called.{called_at};
@@ -109,14 +110,7 @@ pub fn gather<'a>(alloc: Global, files: &'a [ParsedFile]) -> Result<Names<'a>, N
     ensures ok { IfOk result (λ names. (names ≡ files.now) × IsAccepted (map source_of files.now)) }
     ensures err { IfErr result (IsRefusal (map source_of files.now)) }
 {
-    let found = match walk(alloc, files) {
-        Ok(found) => found,
-        Err(WalkFault::Full) => return Err(limit(LimitName::Declarations)),
-        Err(WalkFault::OutOfMemory) => return Err(NameFault::OutOfMemory),
-    };
-    if let Some(which) = passed(alloc, found.as_slice())? {
-        return Err(limit(which));
-    }
+    let found = within_limits(alloc, files)?;
     let resolver = Resolver::new(alloc, files, Declarations::new(alloc, found)?)?;
     let rows = breaches(alloc, &resolver)?;
     if rows.len() > 0 {
@@ -124,6 +118,26 @@ pub fn gather<'a>(alloc: Global, files: &'a [ParsedFile]) -> Result<Names<'a>, N
     }
     let members = members_by_name(alloc, resolver.declarations().as_slice())?;
     Ok(Names { resolver, members })
+}
+
+// The declarations of files that pass no limit on them.
+fn within_limits<'a>(alloc: Global, files: &'a [ParsedFile]) -> Result<Vec<Found<'a>>, NameFault>
+    requires { AreOfBytes files.now }
+    ensures found { IfOk result (λ found. map entry_of found.items
+        ≡ declarations (map source_of files.now)) }
+    ensures few { IfOk result (λ found. length found.items ≤ 16384) }
+    ensures passed { IfOk result (λ found. limits.passed (declarations (map source_of files.now)) ≡ None) }
+    ensures err { IfErr result (IsRefusal (map source_of files.now)) }
+{
+    let found = match walk(alloc, files) {
+        Ok(found) => found,
+        Err(WalkFault::Full) => return Err(limit(LimitName::Declarations)),
+        Err(WalkFault::OutOfMemory) => return Err(NameFault::OutOfMemory),
+    };
+    match passed(alloc, found.as_slice())? {
+        None => Ok(found),
+        Some(which) => Err(limit(which)),
+    }
 }
 
 fn limit(which: LimitName) -> NameFault

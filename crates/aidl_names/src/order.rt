@@ -27,10 +27,10 @@ pub fn in_order(alloc: Global, rows: &[Breach]) -> Result<Row<Breach>, OutOfMemo
             rule: row.rule,
         })?;
     }
-    listed(alloc, places)
+    rows_of(alloc, places)
 }
 
-fn listed(alloc: Global, mut places: BTreeSet<Place>) -> Result<Row<Breach>, OutOfMemory>
+fn rows_of(alloc: Global, mut places: BTreeSet<Place>) -> Result<Row<Breach>, OutOfMemory>
     ensures { IfOk result (λ rows. rows ≡ map breach_of places.keys) }
 {
     let mut rows = Vec::with_capacity(alloc, places.len())?;

@@ -3,7 +3,7 @@ ghost use Rattle.std.specs.Prelude.{◌≡◌, ◌++◌, map, OnOk};
 ghost use Rattle.aidl_syntax.specs.Members.{body};
 ghost use Rattle.aidl_syntax.specs.Trees.{decl_of};
 ghost use Rattle.aidl_syntax.specs.Sources.{source_of};
-ghost use Rattle.aidl_names.specs.Rules.{UnknownType, LeftOutType, types_in, types_where, is_left_out, is_interface, is_interface_body};
+ghost use Rattle.aidl_names.specs.Rules.{UnknownType, LeftOutType, breaches_at, types_in, types_where, is_left_out, is_interface, is_interface_body};
 ghost use Rattle.aidl_names.specs.TypeRules.{breaks_of, rule_of};
 ghost use Rattle.declared_names.specs.Entries.{entry_of};
 
@@ -41,8 +41,9 @@ pub fn add_types(
     resolver: &Resolver<'_>,
     rows: &mut Vec<Breach>,
 ) -> Result<(), OutOfMemory>
-    ensures { OnOk result (rows.new.items ≡ rows.old.items ++ UnknownType
-        (map source_of resolver.now.0) ++ LeftOutType (map source_of resolver.now.0)) }
+    ensures { OnOk result (rows.new.items ≡ rows.old.items
+        ++ breaches_at 4 (UnknownType (map source_of resolver.now.0))
+        ++ breaches_at 5 (LeftOutType (map source_of resolver.now.0))) }
 {
     let asking = Asking::new(alloc, !rows.is_empty(), resolver)?;
     add_types_by(alloc, &asking, TypeRule::Unknown, rows)?;
@@ -56,8 +57,8 @@ fn add_types_by(
     rule: TypeRule,
     rows: &mut Vec<Breach>,
 ) -> Result<(), OutOfMemory>
-    ensures { OnOk result (rows.new.items ≡ rows.old.items ++ types_where
-        (breaks_of rule (map source_of asking.now)) (rule_of rule) (map source_of asking.now)) }
+    ensures { OnOk result (rows.new.items ≡ rows.old.items ++ breaches_at (rule_of rule)
+        (types_where (breaks_of rule (map source_of asking.now)) (map source_of asking.now))) }
 {
     let found = asking.found();
     for (i, f) in found.iter().enumerate() {
@@ -75,8 +76,8 @@ fn add_types_in(
     inside: &Found<'_>,
     rows: &mut Vec<Breach>,
 ) -> Result<(), OutOfMemory>
-    ensures { OnOk result (rows.new.items ≡ rows.old.items ++ types_in
-        (breaks_of rule (map source_of asking.now)) (rule_of rule) number (entry_of inside.now)) }
+    ensures { OnOk result (rows.new.items ≡ rows.old.items ++ breaches_at (rule_of rule)
+        (types_in (breaks_of rule (map source_of asking.now)) number (entry_of inside.now))) }
 {
     let names = names_of_types(alloc, inside.tree)?;
     for name in names.as_slice() {

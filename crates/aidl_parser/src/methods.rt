@@ -17,7 +17,7 @@ use expr_parser::ParseFault;
 use std::alloc::Global;
 
 // ["oneway"] (type | "void") ident "(" [arg {"," arg}] ")" ["=" number] ";"
-#[tactic(auto, unfolding(crate::specs::steps::Members::method_at, crate::specs::steps::Members::args_at, crate::specs::steps::Members::id_at))]
+#[tactic(auto, unfolding(crate::specs::steps::Members::method_at, crate::specs::steps::Members::args_at))]
 pub fn method<'a>(
     alloc: Global,
     fuel: usize,
@@ -34,8 +34,7 @@ pub fn method<'a>(
     let (result, rest) = returned(alloc, rest)?;
     let (name, rest) = ident(alloc, rest)?;
     let (args, rest) = in_parens(alloc, fuel, rest)?;
-    let (id, rest) = maybe_behind(alloc, fuel, Symbol::Equal, rest)?;
-    let (_end, rest) = quoted(Symbol::Semicolon, rest)?;
+    let (id, rest) = id_and_end(alloc, fuel, rest)?;
     Ok((
         MemberTree::Method(MethodTree {
             offset,
@@ -48,6 +47,23 @@ pub fn method<'a>(
         }),
         rest,
     ))
+}
+
+// ["=" number] ";"
+#[tactic(auto, unfolding(crate::specs::steps::Members::id_at))]
+fn id_and_end<'a>(
+    alloc: Global,
+    fuel: usize,
+    tokens: &'a [Token],
+) -> Result<(Option<Token>, &'a [Token]), ParseFault>
+    requires { length tokens.now < fuel }
+    ensures gives { Gives (λ x. (x.0, x.1.now)) result (part.upto
+        (part.maybe (part.begins mark.Equal) read.id_at) mark.Semicolon tokens.entry.now) }
+    ensures left { IfOk result (λ x. length x.1.now < length tokens.entry.now) }
+{
+    let (id, rest) = maybe_behind(alloc, fuel, Symbol::Equal, tokens)?;
+    let (_end, rest) = quoted(Symbol::Semicolon, rest)?;
+    Ok((id, rest))
 }
 
 // ["oneway"]

@@ -2,10 +2,6 @@
 use Rattle.std.specs.Prelude.{ℕ, Bool, false, not, ◌&&◌, ◌||◌, ◌==◌, nat_le, List, [], ◌∷◌}
 use Rattle.aidl_base.specs.Identifiers.{begins}
 
--- a space, a tab, a carriage return or a newline
-abbrev pub is_blank : ℕ → Bool
-is_blank b = b == 32 || b == 9 || b == 13 || b == 10
-
 abbrev pub is_no_newline : ℕ → Bool
 is_no_newline b = not (b == 10)
 

@@ -7,7 +7,8 @@ use Rattle.aidl_base.specs.declared.reserved.Reserved.{Reserved}
 use Rattle.aidl_syntax.specs.declared.token.Symbol.{Symbol}
 use Rattle.aidl_syntax.specs.declared.token.TokenKind.{TokenKind}
 use Rattle.aidl_syntax.specs.declared.token.TokenKind.TheVariants as kind
-use Rattle.aidl_syntax.specs.Bytes.{is_blank, is_no_newline, is_inside, has_close, is_comment}
+use Rattle.aidl_base.specs.Blanks.{is_blank}
+use Rattle.aidl_syntax.specs.Bytes.{is_no_newline, is_inside, has_close, is_comment}
 use Rattle.aidl_base.specs.Identifiers.{is_letter, is_word_byte, begins}
 use Rattle.aidl_syntax.specs.Tables.{single, double, double_at}
 use Rattle.aidl_base.specs.Reserved.{reserved_of}

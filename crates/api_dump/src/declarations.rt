@@ -9,7 +9,7 @@ ghost use Rattle.api_dump.specs.Types.{flag};
 
 use crate::lines::{push_constant, push_enumerator, push_field, push_method};
 use crate::names::push_last;
-use aidl_base::OutOfMemory;
+use aidl_base::{OutOfMemory, Reserved};
 use aidl_schema::{Backing, Constant, Decl, Enumerator, Field, Kind, Method};
 
 /// Appends the annotations, the heading and the own lines of a declaration.
@@ -127,13 +127,20 @@ fn push_kind(out: &mut String, kind: &Kind) -> Result<(), OutOfMemory>
     ensures { OnOk result (string_bytes out.new
         ≡ string_bytes out.old ++ text_of (reserved (meant.kind_word kind.now) ∷ space ∷ [])) }
 {
-    match kind {
-        Kind::Interface(_) => out.push_str("interface ")?,
-        Kind::Parcelable(_) => out.push_str("parcelable ")?,
-        Kind::Union(_) => out.push_str("union ")?,
-        Kind::Enum(_, _) => out.push_str("enum ")?,
-    }
+    out.push_str(kind_word(kind).word())?;
+    out.push_str(" ")?;
     Ok(())
+}
+
+fn kind_word(kind: &Kind) -> Reserved
+    ensures { result ≡ meant.kind_word kind.now }
+{
+    match kind {
+        Kind::Interface(_) => Reserved::Interface,
+        Kind::Parcelable(_) => Reserved::Parcelable,
+        Kind::Union(_) => Reserved::Union,
+        Kind::Enum(_, _) => Reserved::Enum,
+    }
 }
 
 // Appends the lines of the members, and then those of the constants.

@@ -8,6 +8,8 @@ ghost use Rattle.aidl_outside.specs.Asks.{AsksNothing, IsWrite};
 ghost use Rattle.aidl_outside.specs.Causes.{StoreCause};
 ghost use Rattle.aidl_outside.specs.Faults.{FailedIn, IfStoreFailed};
 ghost use Rattle.api_freeze.specs.Causes.{Cause, FailedCall};
+ghost use Rattle.api_hash.specs.HashText.{hash_text};
+ghost use Rattle.api_hash.specs.declared.hashing.Recipe.TheVariants.{Two};
 ghost use Rattle.api_versions.specs.Asks.{AsksVersions};
 ghost use Rattle.api_versions.specs.Versions.{versions_at};
 ghost use Rattle.api_versions.specs.Writes.{Left};
@@ -119,16 +121,29 @@ fn due_of(alloc: Global, api: &str, next: Next) -> Result<Due, OutOfMemory>
     let version = next.number;
     let text = hash_text(alloc, next.files.as_slice(), Recipe::Two(version))?;
     let hash = text_of(alloc, without_last(text.as_slice()))?;
-    let folder = version_folder(alloc, api, version)?;
-    let mut writes = file_writes(alloc, folder.as_str(), next.files)?;
-    writes.push(Write {
-        path: hash_path(alloc, api, version)?,
-        bytes: Row::from_vec(text),
-    })?;
+    let writes = next_writes(alloc, api, next, Row::from_vec(text))?;
     Ok(Due {
         frozen: Frozen { version, hash },
         writes,
     })
+}
+
+// The writes of the next version, whose `.hash` has these bytes.
+fn next_writes(
+    alloc: Global,
+    api: &str,
+    next: Next,
+    hash: Row<u8>,
+) -> Result<Vec<Write>, OutOfMemory>
+    requires { hash ≡ hash_text next.files (Two next.number) }
+    ensures { IfOk result (λ writes.
+        map write_seen writes.items ≡ version_writes api.now next.number next.files) }
+{
+    let folder = version_folder(alloc, api, next.number)?;
+    let path = hash_path(alloc, api, next.number)?;
+    let mut writes = file_writes(alloc, folder.as_str(), next.files)?;
+    writes.push(Write { path, bytes: hash })?;
+    Ok(writes)
 }
 
 // A text without its last byte.

@@ -79,11 +79,18 @@ fn add_body<'a>(
         (body_of body.now)) }
 {
     match body {
-        BodyTree::Parcelable(members) => add_members(names, scope, false, members.as_slice(), all),
-        BodyTree::Union(members) => add_members(names, scope, true, members.as_slice(), all),
+        BodyTree::Parcelable(members) => {
+            let in_union = false;
+            add_members(names, scope, in_union, members.as_slice(), all)
+        }
+        BodyTree::Union(members) => {
+            let in_union = true;
+            add_members(names, scope, in_union, members.as_slice(), all)
+        }
         BodyTree::Enum(enumerators) => add_enumerators(scope, backing, enumerators.as_slice(), all),
         BodyTree::Interface { members, .. } => {
-            add_members(names, scope, false, members.as_slice(), all)
+            let in_union = false;
+            add_members(names, scope, in_union, members.as_slice(), all)
         }
     }
 }

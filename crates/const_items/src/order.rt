@@ -30,10 +30,10 @@ fn in_order<'a>(alloc: Global, rows: &[ItemRef<'a>]) -> Result<Vec<ItemRef<'a>>,
     for item in rows {
         places.insert((item.file, item.place), *item)?;
     }
-    listed(alloc, places)
+    items_of(alloc, places)
 }
 
-fn listed<'a>(
+fn items_of<'a>(
     alloc: Global,
     mut places: BTreeMap<(u32, u32), ItemRef<'a>>,
 ) -> Result<Vec<ItemRef<'a>>, OutOfMemory>

@@ -17,13 +17,16 @@ abbrev pub left_out : List (List ℕ)
 left_out = codes "float" ∷ codes "double" ∷ codes "IBinder" ∷ codes "FileDescriptor" ∷ codes "ParcelFileDescriptor"
     ∷ codes "ParcelableHolder" ∷ codes "Map" ∷ codes "CharSequence" ∷ []
 
+abbrev pub left_out_words : List (List ℕ × Resolved)
+left_out_words = map (λ word. (word, LeftOut)) left_out
+
 -- the built-in types, the list word and the left-out names
 abbrev pub meaning_words : List (List ℕ × Resolved)
 meaning_words = (codes "boolean", Builtin built_in.Boolean) ∷ (codes "byte", Builtin built_in.Byte)
     ∷ (codes "char", Builtin built_in.Char)
     ∷ (codes "int", Builtin built_in.Int) ∷ (codes "long", Builtin built_in.Long)
     ∷ (codes "String", Builtin built_in.Text) ∷ (codes "List", ListWord)
-    ∷ map (λ word. (word, LeftOut)) left_out
+    ∷ left_out_words
 
 -- the meaning of the first of these words that the text is
 abbrev pub meaning_in : List (List ℕ × Resolved) → List ℕ → Option Resolved

@@ -2,7 +2,7 @@
 ghost use Rattle.std.specs.Prelude.{◌≡◌, ◌++◌, map, length, IfOk};
 ghost use Rattle.aidl_syntax.specs.Sources.{source_of};
 ghost use Rattle.declared_names.specs.Declarations.{declarations as declarations_of};
-ghost use Rattle.name_resolution.specs.Resolution.{candidates, first_declared, enclosing, meaning_of_word, own_meaning, meaning_in_file, resolved};
+ghost use Rattle.name_resolution.specs.Resolution.{candidates, first_declared, enclosing, left_out_words, meaning_in, meaning_of_word, own_meaning, meaning_in_file, resolved};
 ghost use Rattle.name_resolution.specs.Imports.{meant_through, meant_in};
 ghost use Rattle.declared_names.specs.Entries.{entry_of};
 ghost use Rattle.name_resolution.specs.Asked.{Knows, means};
@@ -247,6 +247,15 @@ pub fn meaning_of_word(word: &str) -> Option<Resolved>
         "long" => Some(Resolved::Builtin(BuiltinName::Long)),
         "String" => Some(Resolved::Builtin(BuiltinName::Text)),
         "List" => Some(Resolved::ListWord),
+        _ => left_out_meaning(word),
+    }
+}
+
+// The meaning of a left-out name.
+fn left_out_meaning(word: &str) -> Option<Resolved>
+    ensures { result ≡ meaning_in left_out_words word.now }
+{
+    match word {
         "float" | "double" | "IBinder" | "FileDescriptor" => Some(Resolved::LeftOut),
         "ParcelFileDescriptor" | "ParcelableHolder" => Some(Resolved::LeftOut),
         "Map" | "CharSequence" => Some(Resolved::LeftOut),

@@ -42,10 +42,10 @@ pub fn draft(
         settled,
         numbers: &numbers,
     };
-    declared_in(alloc, &tree, order.as_slice())
+    declarations_in(alloc, &tree, order.as_slice())
 }
 
-fn declared_in(
+fn declarations_in(
     alloc: Global,
     tree: &Tree<'_, '_>,
     order: &[Placed<'_, '_>],
@@ -58,12 +58,12 @@ fn declared_in(
 {
     let mut decls = Vec::with_capacity(alloc, order.len())?;
     for placed in order {
-        decls.push(declared(alloc, tree, placed)?)?;
+        decls.push(declaration_of(alloc, tree, placed)?)?;
     }
     Ok(Row::from_vec(decls))
 }
 
-fn declared(
+fn declaration_of(
     alloc: Global,
     tree: &Tree<'_, '_>,
     placed: &Placed<'_, '_>,

@@ -50,18 +50,16 @@ fn kind_in(
         scope.now.file scope.now.number backing (body_of body.now)) }
 {
     match body {
-        BodyTree::Parcelable(members) => Ok(Kind::Parcelable(fields_in(
-            alloc,
-            scope,
-            false,
-            members.as_slice(),
-        )?)),
-        BodyTree::Union(members) => Ok(Kind::Union(fields_in(
-            alloc,
-            scope,
-            true,
-            members.as_slice(),
-        )?)),
+        BodyTree::Parcelable(members) => {
+            let in_union = false;
+            let fields = fields_in(alloc, scope, in_union, members.as_slice())?;
+            Ok(Kind::Parcelable(fields))
+        }
+        BodyTree::Union(members) => {
+            let in_union = true;
+            let fields = fields_in(alloc, scope, in_union, members.as_slice())?;
+            Ok(Kind::Union(fields))
+        }
         BodyTree::Enum(enumerators) => Ok(Kind::Enum(
             backing,
             enumerators_in(alloc, &scope.tree, scope.file, enumerators.as_slice())?,

@@ -30,10 +30,10 @@ pub fn in_schema_order<'a, 'b>(
         };
         places.insert(text, placed)?;
     }
-    listed(alloc, places)
+    declarations_of(alloc, places)
 }
 
-fn listed<'a, 'b>(
+fn declarations_of<'a, 'b>(
     alloc: Global,
     mut places: BTreeMap<String, Placed<'a, 'b>>,
 ) -> Result<Vec<Placed<'a, 'b>>, OutOfMemory>

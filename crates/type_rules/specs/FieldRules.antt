@@ -1,25 +1,20 @@
--- The check rules on fields, each as the list of its breaches in a declaration (own in number and wording).
+-- The check rules on fields: the places in a declaration that break them.
 use Rattle.std.specs.Prelude.{ℕ, Bool, true, false, not, ◌&&◌, ◌||◌, if◌then◌else◌, List, [], ◌∷◌, ◌++◌, Option}
 use Rattle.std.specs.Prelude.{Some, None}
 use Rattle.std.specs.List.{list_any}
-use Rattle.aidl_base.specs.declared.breach.Breach.{Breach}
 use Rattle.aidl_syntax.specs.Trees.{Init, Body}
 use Rattle.aidl_syntax.specs.Trees.Body.{union}
 use Rattle.aidl_syntax.specs.Members.{body, declared_name}
 use Rattle.declared_names.specs.Declarations.{Entry}
-use Rattle.aidl_names.specs.Rules.{breach}
 use Rattle.type_shapes.specs.declared.shape.Shape.{Shape}
 use Rattle.type_shapes.specs.declared.shape.Shape.TheVariants as shape
 use Rattle.type_shapes.specs.Initializers.{is_unjudged}
 use Rattle.type_uses.specs.Kept.{is_nullable}
 use Rattle.type_uses.specs.TypeUses.{TypeUse, of_field, name_place, is_field}
 use Rattle.type_uses.specs.Bases.{is_fixed_entry, is_fixed_base, is_refused}
-use Rattle.type_rules.specs.Filters.{broken_where}
+use Rattle.type_rules.specs.Filters.{Rule, broken_where}
 
--- E21 BadField: a brace list on shape one; an expression on another shape; a brace list with members for a sequence
--- of parcelables or unions; an initializer on a field of shape one whose base is a parcelable or union; an
--- initializer on a union's field other than the first; a union without a field. A type that E16 refuses has no
--- breach. All but the last are the initializers that have no outcome for their form.
+-- BadField; all but a union without a field are the initializers that have no outcome for their form
 
 abbrev pub is_bad_initial : List Entry → Bool → Shape → Option Init → Bool
 is_bad_initial entries later t None = false
@@ -30,11 +25,10 @@ abbrev pub is_bad_field : List Entry → Bool → TypeUse → Bool
 is_bad_field entries later (of_field f t) = is_bad_initial entries later t f.initial
 is_bad_field entries later _ = false
 
-abbrev pub bad_fields : List Entry → ℕ → Bool → Bool → List TypeUse → List Breach
-bad_fields entries file in_union later [] = []
-bad_fields entries file in_union later (u ∷ uses) =
-    (if is_bad_field entries later u then breach 21 file (name_place u) ∷ [] else [])
-    ++ bad_fields entries file in_union (later || (in_union && is_field u)) uses
+abbrev pub bad_fields : List Entry → Bool → Bool → List TypeUse → List ℕ
+bad_fields entries in_union later [] = []
+bad_fields entries in_union later (u ∷ uses) = (if is_bad_field entries later u then name_place u ∷ [] else [])
+    ++ bad_fields entries in_union (later || (in_union && is_field u)) uses
 
 abbrev pub is_union_body : Body → Bool
 is_union_body (union ms) = true
@@ -44,14 +38,13 @@ is_union_body _ = false
 abbrev pub is_empty_union : Entry → List TypeUse → Bool
 is_empty_union e uses = is_union_body (body e.tree) && not (list_any is_field uses)
 
-abbrev pub empty_union : Entry → List TypeUse → List Breach
-empty_union e uses = if is_empty_union e uses then breach 21 e.file (declared_name e.tree).offset ∷ [] else []
+abbrev pub empty_union : Entry → List TypeUse → List ℕ
+empty_union e uses = if is_empty_union e uses then (declared_name e.tree).offset ∷ [] else []
 
-abbrev pub BadField : List Entry → Entry → List TypeUse → List Breach
-BadField entries e uses = empty_union e uses ++ bad_fields entries e.file (is_union_body (body e.tree)) false uses
+abbrev pub BadField : Rule
+BadField entries e uses = empty_union e uses ++ bad_fields entries (is_union_body (body e.tree)) false uses
 
--- E24 NotFixed: a declaration with `@FixedSize` has a field that isn't of shape one, is nullable, or has a base
--- other than a primitive, an enum, or a parcelable or union with `@FixedSize`. A type that E16 refuses has no breach.
+-- NotFixed
 
 abbrev pub has_fixed_size : List Entry → Shape → Bool
 has_fixed_size entries (shape.One r) = is_fixed_base entries r
@@ -61,5 +54,5 @@ abbrev pub is_unfixed : List Entry → TypeUse → Bool
 is_unfixed entries (of_field f t) = not (is_refused t) && (is_nullable f.annots || not (has_fixed_size entries t))
 is_unfixed entries _ = false
 
-abbrev pub NotFixed : List Entry → Entry → List TypeUse → List Breach
-NotFixed entries e uses = if is_fixed_entry e then broken_where (is_unfixed entries) 24 name_place e.file uses else []
+abbrev pub NotFixed : Rule
+NotFixed entries e uses = if is_fixed_entry e then broken_where (is_unfixed entries) name_place uses else []

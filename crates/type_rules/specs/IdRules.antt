@@ -1,17 +1,14 @@
--- The check rule on the ids of methods, as the list of its breaches in a declaration (own in number and wording).
+-- The check rule on the ids of methods: the places in a declaration that break it.
 use Rattle.std.specs.Prelude.{ℕ, Bool, false, not, ◌||◌, nat_eq, List, [], map, Option, Some, None}
 use Rattle.std.specs.List.{list_any}
-use Rattle.aidl_base.specs.declared.breach.Breach.{Breach}
 use Rattle.aidl_syntax.specs.declared.token.Token.{Token}
 use Rattle.aidl_syntax.specs.Trees.{Method}
-use Rattle.declared_names.specs.Declarations.{Entry}
-use Rattle.aidl_names.specs.Rules.{breach}
 use Rattle.declared_names.specs.Numbered.{after_earlier}
-use Rattle.type_uses.specs.TypeUses.{TypeUse, methods_in}
+use Rattle.type_uses.specs.TypeUses.{methods_in}
 use Rattle.type_uses.specs.Ids.{number_of, is_id, has_id}
+use Rattle.type_rules.specs.Filters.{Rule}
 
--- E19 BadId: a method has no id while another method of its interface has one; an id is no decimal without suffix
--- from 0 to 16777114; an id is that of an earlier method. Ids are compared by their values.
+-- BadId; ids are compared by their values
 
 abbrev pub has_value : ℕ → Option Token → Bool
 has_value id None = false
@@ -30,8 +27,8 @@ abbrev pub is_bad_id : Bool → List Method → Method → Bool
 is_bad_id some before m = is_bad_token some (is_taken before) m.id
 
 -- of the methods of an interface
-abbrev pub bad_ids : ℕ → List Method → List Breach
-bad_ids file ms = map (λ m. breach 19 file m.name.offset) (after_earlier (is_bad_id (list_any has_id ms)) [] ms)
+abbrev pub bad_ids : List Method → List ℕ
+bad_ids ms = map (λ m. m.name.offset) (after_earlier (is_bad_id (list_any has_id ms)) [] ms)
 
-abbrev pub BadId : Entry → List TypeUse → List Breach
-BadId e uses = bad_ids e.file (methods_in uses)
+abbrev pub BadId : Rule
+BadId entries e uses = bad_ids (methods_in uses)

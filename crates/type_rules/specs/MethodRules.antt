@@ -1,17 +1,14 @@
--- The check rule on methods that are oneway, as the list of its breaches in a declaration (own in number and wording).
-use Rattle.std.specs.Prelude.{Bool, false, ◌&&◌, ◌||◌, List, is_some}
+-- The check rule on methods that are oneway: the places in a declaration that break it.
+use Rattle.std.specs.Prelude.{Bool, false, ◌&&◌, ◌||◌, is_some}
 use Rattle.std.specs.List.{list_any}
-use Rattle.aidl_base.specs.declared.breach.Breach.{Breach}
 use Rattle.aidl_syntax.specs.Trees.{Method, Body}
 use Rattle.aidl_syntax.specs.Trees.Body.{interface}
 use Rattle.aidl_syntax.specs.Members.{body}
-use Rattle.declared_names.specs.Declarations.{Entry}
 use Rattle.type_uses.specs.TypeUses.{TypeUse, of_method, name_place}
-use Rattle.type_rules.specs.Filters.{broken_where}
+use Rattle.type_rules.specs.Filters.{Rule, broken_where}
 use Rattle.type_rules.specs.TypeRules.{is_outward}
 
--- E18 BadOneway: a method that is oneway, by itself or by its interface, returns a value or has an `out` or `inout`
--- argument.
+-- BadOneway
 
 abbrev pub is_oneway_body : Body → Bool
 is_oneway_body (interface oneway ms) = oneway
@@ -25,5 +22,5 @@ abbrev pub is_bad_oneway : Bool → TypeUse → Bool
 is_bad_oneway oneway (of_method m t) = (oneway || m.oneway) && gives_back m
 is_bad_oneway oneway _ = false
 
-abbrev pub BadOneway : Entry → List TypeUse → List Breach
-BadOneway e uses = broken_where (is_bad_oneway (is_oneway_body (body e.tree))) 18 name_place e.file uses
+abbrev pub BadOneway : Rule
+BadOneway entries e uses = broken_where (is_bad_oneway (is_oneway_body (body e.tree))) name_place uses

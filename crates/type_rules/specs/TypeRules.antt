@@ -1,14 +1,12 @@
--- The check rules on types, each as the list of its breaches in a declaration (own in number and wording).
+-- The check rules on types: the places in a declaration that break them.
 use Rattle.std.specs.Prelude.{ℕ, Bool, true, false, not, ◌&&◌, ◌||◌, if◌then◌else◌, List, map, Option, Some, None}
 use Rattle.std.specs.Prelude.{is_none}
 use Rattle.std.specs.List.{filter, flat_map}
-use Rattle.aidl_base.specs.declared.breach.Breach.{Breach}
 use Rattle.aidl_syntax.specs.declared.tree.WayTree.{WayTree}
 use Rattle.aidl_syntax.specs.declared.tree.WayTree.TheVariants as way
 use Rattle.aidl_syntax.specs.Trees.{Annot}
 use Rattle.name_resolution.specs.declared.meaning.Resolved.TheVariants.{Builtin}
 use Rattle.declared_names.specs.Declarations.{Entry}
-use Rattle.aidl_names.specs.Rules.{breach}
 use Rattle.type_shapes.specs.declared.shape.Shape.{Shape}
 use Rattle.type_shapes.specs.declared.shape.Shape.TheVariants as shape
 use Rattle.type_shapes.specs.Types.{is_composite}
@@ -16,11 +14,9 @@ use Rattle.type_uses.specs.Kept.{is_nullable_annot, is_heap_annot}
 use Rattle.type_uses.specs.TypeUses.{TypeUse, of_field, of_constant, of_method, of_argument, annotations_of}
 use Rattle.type_uses.specs.TypeUses.{name_place, type_place}
 use Rattle.type_uses.specs.Bases.{is_one_composite, is_one_scalar, is_refused, is_refused_result}
-use Rattle.type_rules.specs.Filters.{broken_where}
+use Rattle.type_rules.specs.Filters.{Rule, broken_where}
 
--- E14 BadNullable, of fields, arguments and methods: `@nullable` on a type of shape one whose base is a primitive
--- or an enum, or on void; `heap=true` elsewhere than on a field of shape one whose base is a parcelable or union. A
--- type that E16 refuses has no breach.
+-- BadNullable, of fields, arguments and methods
 
 abbrev pub result_refuses_nullable : List Entry → Option Shape → Bool
 result_refuses_nullable entries None = true
@@ -42,20 +38,17 @@ abbrev pub is_bad_nullable : Bool → Bool → Annot → Bool
 is_bad_nullable nullable heap a = (nullable && is_nullable_annot a) || (heap && is_heap_annot a)
 
 -- in a list of annotations, where `@nullable` is refused, and where `heap=true` is
-abbrev pub bad_nullables : ℕ → Bool → Bool → List Annot → List Breach
-bad_nullables file nullable heap annots =
-    map (λ a. breach 14 file a.offset) (filter (is_bad_nullable nullable heap) annots)
+abbrev pub bad_nullables : Bool → Bool → List Annot → List ℕ
+bad_nullables nullable heap annots = map (λ a. a.offset) (filter (is_bad_nullable nullable heap) annots)
 
 -- of a use of a type
-abbrev pub bad_nullables_of : List Entry → ℕ → TypeUse → List Breach
-bad_nullables_of entries file u =
-    bad_nullables file (refuses_nullable entries u) (refuses_heap entries u) (annotations_of u)
+abbrev pub bad_nullables_of : List Entry → TypeUse → List ℕ
+bad_nullables_of entries u = bad_nullables (refuses_nullable entries u) (refuses_heap entries u) (annotations_of u)
 
-abbrev pub BadNullable : List Entry → Entry → List TypeUse → List Breach
-BadNullable entries e uses = flat_map (bad_nullables_of entries e.file) uses
+abbrev pub BadNullable : Rule
+BadNullable entries e uses = flat_map (bad_nullables_of entries) uses
 
--- E16 BadShape: `List` without an element; an element on another name; a `List` with `[]`; a `List` element other
--- than String, a parcelable or a union.
+-- BadShape
 
 abbrev pub is_bad_shape : TypeUse → Bool
 is_bad_shape (of_field f t) = is_refused t
@@ -63,11 +56,10 @@ is_bad_shape (of_constant c t) = is_refused t
 is_bad_shape (of_method m t) = is_refused_result t
 is_bad_shape (of_argument a t) = is_refused t
 
-abbrev pub BadShape : Entry → List TypeUse → List Breach
-BadShape e uses = broken_where is_bad_shape 16 type_place e.file uses
+abbrev pub BadShape : Rule
+BadShape entries e uses = broken_where is_bad_shape type_place uses
 
--- E17 BadDirection: an argument of array or List shape, or of a parcelable or union, without a direction; any other
--- argument with `out` or `inout`. A type that E16 refuses has no breach.
+-- BadDirection
 
 -- `out` or `inout`
 abbrev pub is_outward : Option WayTree → Bool
@@ -85,10 +77,10 @@ abbrev pub is_bad_direction : List Entry → TypeUse → Bool
 is_bad_direction entries (of_argument a t) = is_misdirected entries t a.way
 is_bad_direction entries _ = false
 
-abbrev pub BadDirection : List Entry → Entry → List TypeUse → List Breach
-BadDirection entries e uses = broken_where (is_bad_direction entries) 17 name_place e.file uses
+abbrev pub BadDirection : Rule
+BadDirection entries e uses = broken_where (is_bad_direction entries) name_place uses
 
--- E20 BadConstant: a constant's type isn't boolean, byte, char, int, long or String of shape one.
+-- BadConstant
 
 abbrev pub is_constant_type : Shape → Bool
 is_constant_type (shape.One (Builtin b)) = true
@@ -98,5 +90,5 @@ abbrev pub is_bad_constant : TypeUse → Bool
 is_bad_constant (of_constant c t) = not (is_constant_type t)
 is_bad_constant _ = false
 
-abbrev pub BadConstant : Entry → List TypeUse → List Breach
-BadConstant e uses = broken_where is_bad_constant 20 name_place e.file uses
+abbrev pub BadConstant : Rule
+BadConstant entries e uses = broken_where is_bad_constant name_place uses

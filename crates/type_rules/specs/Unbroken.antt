@@ -11,16 +11,16 @@ use Rattle.type_rules.specs.MethodRules.{BadOneway}
 use Rattle.type_rules.specs.FieldRules.{BadField, NotFixed}
 use Rattle.type_rules.specs.TypeRules.{BadConstant}
 
--- no rule has a breach in the declaration, which uses these types
+-- no place in the declaration, which uses these types, breaks a rule
 pub record IsUnbroken (entries : List Entry) (e : Entry) (uses : List TypeUse) : Type 0 where
-  pub annotations : BadAnnotation e uses ≡ []
+  pub annotations : BadAnnotation entries e uses ≡ []
   pub nullables : BadNullable entries e uses ≡ []
-  pub backing : BadBacking e ≡ []
-  pub shapes : BadShape e uses ≡ []
+  pub backing : BadBacking entries e uses ≡ []
+  pub shapes : BadShape entries e uses ≡ []
   pub directions : BadDirection entries e uses ≡ []
-  pub oneways : BadOneway e uses ≡ []
-  pub ids : BadId e uses ≡ []
-  pub constants : BadConstant e uses ≡ []
+  pub oneways : BadOneway entries e uses ≡ []
+  pub ids : BadId entries e uses ≡ []
+  pub constants : BadConstant entries e uses ≡ []
   pub fields : BadField entries e uses ≡ []
   pub fixed : NotFixed entries e uses ≡ []
 

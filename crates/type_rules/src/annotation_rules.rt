@@ -1,5 +1,5 @@
 //! Annotations that the table of annotations doesn't permit, or that are repeated and kept: the breaches of E13.
-ghost use Rattle.std.specs.Prelude.{◌≡◌, ◌++◌, map, OnOk};
+ghost use Rattle.std.specs.Prelude.{◌≡◌, ◌++◌, [], map, OnOk};
 ghost use Rattle.std.specs.List.{flat_map};
 ghost use Rattle.aidl_syntax.specs.Trees.{annot_of, decl_of};
 ghost use Rattle.aidl_syntax.specs.Members.{body};
@@ -7,6 +7,7 @@ ghost use Rattle.declared_names.specs.Entries.{entry_of};
 ghost use Rattle.type_shapes.specs.Backing.{annots_of};
 ghost use Rattle.type_uses.specs.Annotations.{row_of, stand_of_body};
 ghost use Rattle.type_rules.specs.AnnotationRules as meant;
+ghost use Rattle.type_rules.specs.Filters.{breaches_at};
 ghost use Rattle.type_uses.specs.TypeUses.{annotations_of, stand_of};
 ghost use Rattle.type_uses.specs.TypeUseViews.{seen_use};
 
@@ -18,15 +19,15 @@ use indexmap::IndexSet;
 use std::alloc::Global;
 use type_uses::{Stand, TypeUseRef, annotations_of, row_of, stand_of, stand_of_tree};
 
-/// Adds the breaches of E13 in a declaration, by the types that it uses.
+/// Adds the breaches of E13 in a declaration, by the types that it uses. The rule asks for no other declaration.
 pub fn add_bad_annotations(
     alloc: Global,
     found: &Found<'_>,
     uses: &[TypeUseRef<'_>],
     rows: &mut Vec<Breach>,
 ) -> Result<(), OutOfMemory>
-    ensures { OnOk result (rows.new.items
-        ≡ rows.old.items ++ meant.BadAnnotation (entry_of found.now) (map seen_use uses.now)) }
+    ensures { OnOk result (rows.new.items ≡ rows.old.items ++ breaches_at 13 found.now.file
+        (meant.BadAnnotation [] (entry_of found.now) (map seen_use uses.now))) }
 {
     add_at_declaration(alloc, found.file, found.tree, rows)?;
     add_at_uses(alloc, found.file, uses, rows)
@@ -39,8 +40,8 @@ fn add_at_declaration(
     rows: &mut Vec<Breach>,
 ) -> Result<(), OutOfMemory>
     ensures { OnOk result (rows.new.items ≡ rows.old.items
-        ++ meant.bad_annotations file (stand_of_body (body (decl_of tree.now)))
-        (annots_of (decl_of tree.now))) }
+        ++ breaches_at 13 file (meant.bad_annotations (stand_of_body (body (decl_of tree.now)))
+        (annots_of (decl_of tree.now)))) }
 {
     add_in_list(
         alloc,
@@ -58,8 +59,8 @@ fn add_at_uses(
     rows: &mut Vec<Breach>,
 ) -> Result<(), OutOfMemory>
     ensures { OnOk result (rows.new.items ≡ rows.old.items
-        ++ flat_map (λ u. meant.bad_annotations file (stand_of u) (annotations_of u))
-        (map seen_use uses.now)) }
+        ++ breaches_at 13 file (flat_map (λ u. meant.bad_annotations (stand_of u) (annotations_of u))
+        (map seen_use uses.now))) }
 {
     for used in uses {
         add_in_list(alloc, file, stand_of(*used), annotations_of(*used), rows)?;
@@ -76,7 +77,7 @@ fn add_in_list(
     rows: &mut Vec<Breach>,
 ) -> Result<(), OutOfMemory>
     ensures { OnOk result (rows.new.items
-        ≡ rows.old.items ++ meant.bad_annotations file stand (map annot_of annots.now)) }
+        ≡ rows.old.items ++ breaches_at 13 file (meant.bad_annotations stand (map annot_of annots.now))) }
 {
     let mut seen: IndexSet<&str> = IndexSet::new(alloc);
     for annot in annots {

@@ -1,10 +1,11 @@
 //! Fields whose initializer doesn't fit their type or can't be there, and unions without a field: the breaches of E21.
 ghost use Rattle.std.specs.Prelude.{◌≡◌, ◌++◌, ◌&&◌, false, map, OnOk};
 ghost use Rattle.std.specs.List.{list_any};
-ghost use Rattle.aidl_syntax.specs.Trees.{body_of, decl_of, init_of, map_option};
+ghost use Rattle.aidl_syntax.specs.Trees.{decl_of, init_of, map_option};
 ghost use Rattle.aidl_syntax.specs.Members.{body};
 ghost use Rattle.declared_names.specs.Entries.{entry_of};
 ghost use Rattle.type_rules.specs.FieldRules as meant;
+ghost use Rattle.type_rules.specs.Filters.{breaches_at};
 ghost use Rattle.type_uses.specs.TypeUses as typed;
 ghost use Rattle.type_uses.specs.TypeUseViews.{seen_use};
 
@@ -22,8 +23,8 @@ pub fn add_bad_fields(
     uses: &[TypeUseRef<'_>],
     rows: &mut Vec<Breach>,
 ) -> Result<(), OutOfMemory>
-    ensures { OnOk result (rows.new.items ≡ rows.old.items
-        ++ meant.BadField (map entry_of all.now) (entry_of found.now) (map seen_use uses.now)) }
+    ensures { OnOk result (rows.new.items ≡ rows.old.items ++ breaches_at 21 found.now.file
+        (meant.BadField (map entry_of all.now) (entry_of found.now) (map seen_use uses.now))) }
 {
     let in_union = is_union_tree(found.tree);
     let empty = in_union && !has_field(uses);
@@ -34,13 +35,7 @@ pub fn add_bad_fields(
 fn is_union_tree(tree: &DeclTree) -> bool
     ensures { result ≡ meant.is_union_body (body (decl_of tree.now)) }
 {
-    is_union_body(&tree.body)
-}
-
-fn is_union_body(body: &BodyTree) -> bool
-    ensures { result ≡ meant.is_union_body (body_of body.now) }
-{
-    match body {
+    match &tree.body {
         BodyTree::Union(_) => true,
         _ => false,
     }
@@ -64,8 +59,8 @@ fn add_in_uses(
     uses: &[TypeUseRef<'_>],
     rows: &mut Vec<Breach>,
 ) -> Result<(), OutOfMemory>
-    ensures { OnOk result (rows.new.items ≡ rows.old.items
-        ++ meant.bad_fields (map entry_of all.now) file in_union false (map seen_use uses.now)) }
+    ensures { OnOk result (rows.new.items ≡ rows.old.items ++ breaches_at 21 file
+        (meant.bad_fields (map entry_of all.now) in_union false (map seen_use uses.now))) }
 {
     let mut later = false;
     for used in uses {

@@ -7,7 +7,7 @@ ghost use Rattle.type_uses.specs.Kept as kept;
 ghost use Rattle.type_uses.specs.Bases as bases;
 ghost use Rattle.type_uses.specs.Bases.{is_fixed_entry};
 ghost use Rattle.type_rules.specs.FieldRules as meant;
-ghost use Rattle.type_rules.specs.Filters.{broken_where};
+ghost use Rattle.type_rules.specs.Filters.{breaches_at, broken_where};
 ghost use Rattle.type_uses.specs.TypeUses as typed;
 ghost use Rattle.type_uses.specs.TypeUseViews.{seen_use};
 
@@ -52,9 +52,9 @@ pub fn add_not_fixed(
     uses: &[TypeUseRef<'_>],
     rows: &mut Vec<Breach>,
 ) -> Result<(), OutOfMemory>
-    ensures { OnOk result (rows.new.items ≡ rows.old.items
-        ++ meant.NotFixed (map entry_of marked.now.all.now)
-        (entry_of found.now) (map seen_use uses.now)) }
+    ensures { OnOk result (rows.new.items ≡ rows.old.items ++ breaches_at 24 found.now.file
+        (meant.NotFixed (map entry_of marked.now.all.now) (entry_of found.now)
+        (map seen_use uses.now))) }
 {
     if is_fixed_tree(found.tree) {
         add_in_uses(marked, found.file, uses, rows)?;
@@ -68,9 +68,9 @@ fn add_in_uses(
     uses: &[TypeUseRef<'_>],
     rows: &mut Vec<Breach>,
 ) -> Result<(), OutOfMemory>
-    ensures { OnOk result (rows.new.items ≡ rows.old.items
-        ++ broken_where (meant.is_unfixed (map entry_of marked.now.all.now))
-        24 typed.name_place file (map seen_use uses.now)) }
+    ensures { OnOk result (rows.new.items ≡ rows.old.items ++ breaches_at 24 file
+        (broken_where (meant.is_unfixed (map entry_of marked.now.all.now)) typed.name_place
+        (map seen_use uses.now))) }
 {
     for used in uses {
         let broken = is_unfixed(marked, *used);

@@ -5,6 +5,7 @@ ghost use Rattle.indexmap.specs.IndexSet.{contains};
 ghost use Rattle.aidl_syntax.specs.Trees.{method_of};
 ghost use Rattle.type_uses.specs.Ids as meant;
 ghost use Rattle.type_rules.specs.IdRules as rules;
+ghost use Rattle.type_rules.specs.Filters.{breaches_at};
 ghost use Rattle.type_uses.specs.TypeUses as typed;
 ghost use Rattle.type_uses.specs.TypeUseViews.{seen_use};
 
@@ -22,8 +23,8 @@ pub fn add_bad_ids(
     uses: &[TypeUseRef<'_>],
     rows: &mut Vec<Breach>,
 ) -> Result<(), OutOfMemory>
-    ensures { OnOk result (rows.new.items
-        ≡ rows.old.items ++ rules.bad_ids file (typed.methods_in (map seen_use uses.now))) }
+    ensures { OnOk result (rows.new.items ≡ rows.old.items
+        ++ breaches_at 19 file (rules.bad_ids (typed.methods_in (map seen_use uses.now)))) }
 {
     let methods = methods_in(alloc, uses)?;
     add_in_list(alloc, file, methods.as_slice(), rows)
@@ -69,8 +70,8 @@ fn add_in_list(
     methods: &[&MethodTree],
     rows: &mut Vec<Breach>,
 ) -> Result<(), OutOfMemory>
-    ensures { OnOk result (rows.new.items
-        ≡ rows.old.items ++ rules.bad_ids file (map (λ m. method_of m.now) methods.now)) }
+    ensures { OnOk result (rows.new.items ≡ rows.old.items
+        ++ breaches_at 19 file (rules.bad_ids (map (λ m. method_of m.now) methods.now))) }
 {
     let some = has_ids(methods);
     let mut taken: IndexSet<u64> = IndexSet::new(alloc);

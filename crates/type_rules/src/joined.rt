@@ -1,6 +1,6 @@
 //! The breaches of E13 to E21 and E24 in all declarations of a tree, joined and sorted.
 ghost use Rattle.std.specs.Prelude.{◌≡◌, ◌≤◌, ◌++◌, map, length, IfOk, OnOk};
-ghost use Rattle.aidl_syntax.specs.Trees.{body_of, decl_of};
+ghost use Rattle.aidl_syntax.specs.Trees.{decl_of};
 ghost use Rattle.aidl_syntax.specs.Members.{body};
 ghost use Rattle.declared_names.specs.Declarations.{declarations};
 ghost use Rattle.aidl_names.specs.Refusals.{IsScope};
@@ -111,13 +111,7 @@ fn add_broken(
 fn is_oneway_tree(tree: &DeclTree) -> bool
     ensures { result ≡ methods.is_oneway_body (body (decl_of tree.now)) }
 {
-    is_oneway_body(&tree.body)
-}
-
-fn is_oneway_body(body: &BodyTree) -> bool
-    ensures { result ≡ methods.is_oneway_body (body_of body.now) }
-{
-    match body {
+    match &tree.body {
         BodyTree::Interface { oneway, .. } => *oneway,
         _ => false,
     }

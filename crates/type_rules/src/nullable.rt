@@ -3,6 +3,7 @@ ghost use Rattle.std.specs.Prelude.{◌≡◌, ◌++◌, map, OnOk};
 ghost use Rattle.std.specs.List.{flat_map};
 ghost use Rattle.aidl_syntax.specs.Trees.{annot_of};
 ghost use Rattle.declared_names.specs.Entries.{entry_of};
+ghost use Rattle.type_rules.specs.Filters.{breaches_at};
 ghost use Rattle.type_rules.specs.TypeRules as meant;
 ghost use Rattle.type_uses.specs.TypeUses.{annotations_of};
 ghost use Rattle.type_uses.specs.TypeUseViews.{seen_use};
@@ -24,9 +25,8 @@ pub fn add_bad_nullables(
     uses: &[TypeUseRef<'_>],
     rows: &mut Vec<Breach>,
 ) -> Result<(), OutOfMemory>
-    ensures { OnOk result (rows.new.items ≡ rows.old.items
-        ++ flat_map (meant.bad_nullables_of (map entry_of found.now) file)
-        (map seen_use uses.now)) }
+    ensures { OnOk result (rows.new.items ≡ rows.old.items ++ breaches_at 14 file
+        (flat_map (meant.bad_nullables_of (map entry_of found.now)) (map seen_use uses.now))) }
 {
     for used in uses {
         let nullable = refuses_nullable(found, *used);
@@ -44,8 +44,8 @@ fn add_in_list(
     annots: &[AnnotTree],
     rows: &mut Vec<Breach>,
 ) -> Result<(), OutOfMemory>
-    ensures { OnOk result (rows.new.items
-        ≡ rows.old.items ++ meant.bad_nullables file nullable heap (map annot_of annots.now)) }
+    ensures { OnOk result (rows.new.items ≡ rows.old.items
+        ++ breaches_at 14 file (meant.bad_nullables nullable heap (map annot_of annots.now))) }
 {
     for annot in annots {
         let broken = is_bad_nullable(nullable, heap, annot);

@@ -3,7 +3,7 @@ ghost use Rattle.std.specs.Prelude.{◌≡◌, ◌++◌, map, OnOk};
 ghost use Rattle.std.specs.List.{list_any};
 ghost use Rattle.aidl_syntax.specs.Trees.{arg_of, method_of};
 ghost use Rattle.declared_names.specs.Entries.{entry_of};
-ghost use Rattle.type_rules.specs.Filters.{broken_where};
+ghost use Rattle.type_rules.specs.Filters.{breaches_at, broken_where};
 ghost use Rattle.type_rules.specs.UseRules as meant;
 ghost use Rattle.type_rules.specs.TypeRules as types;
 ghost use Rattle.type_rules.specs.MethodRules as methods;
@@ -64,10 +64,9 @@ pub fn add_where(
     uses: &[TypeUseRef<'_>],
     rows: &mut Vec<Breach>,
 ) -> Result<(), OutOfMemory>
-    ensures { OnOk result (rows.new.items ≡ rows.old.items
-        ++ broken_where (meant.breaks_of rule (map entry_of found.now) oneway)
-        (meant.rule_of rule) (meant.place_of rule) file
-        (map seen_use uses.now)) }
+    ensures { OnOk result (rows.new.items ≡ rows.old.items ++ breaches_at (meant.rule_of rule) file
+        (broken_where (meant.breaks_of rule (map entry_of found.now) oneway) (meant.place_of rule)
+        (map seen_use uses.now))) }
 {
     for used in uses {
         let broken = breaks(found, oneway, rule, *used);

@@ -1,6 +1,6 @@
 //! The shape of a type that is written in a file, and which bases are parcelables or unions.
 ghost use Rattle.std.specs.Prelude.{◌≡◌, map};
-ghost use Rattle.aidl_syntax.specs.Trees.{body_of, decl_of};
+ghost use Rattle.aidl_syntax.specs.Trees.{decl_of};
 ghost use Rattle.aidl_syntax.specs.Members.{body};
 ghost use Rattle.declared_names.specs.Declarations.{declarations};
 ghost use Rattle.aidl_names.specs.Refusals.{IsScope};
@@ -128,13 +128,7 @@ fn is_composite_number(found: &[Found<'_>], number: u32) -> bool
 fn is_composite_tree(tree: &DeclTree) -> bool
     ensures { result ≡ meant.is_composite_body (body (decl_of tree.now)) }
 {
-    is_composite_body(&tree.body)
-}
-
-fn is_composite_body(body: &BodyTree) -> bool
-    ensures { result ≡ meant.is_composite_body (body_of body.now) }
-{
-    match body {
+    match &tree.body {
         BodyTree::Parcelable(_) => true,
         BodyTree::Union(_) => true,
         BodyTree::Enum(_) => false,

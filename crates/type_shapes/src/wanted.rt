@@ -1,6 +1,6 @@
 //! The value that a constant expression is to have, by the type that it stands for.
 ghost use Rattle.std.specs.Prelude.{◌≡◌, map};
-ghost use Rattle.aidl_syntax.specs.Trees.{body_of, decl_of};
+ghost use Rattle.aidl_syntax.specs.Trees.{decl_of};
 ghost use Rattle.aidl_syntax.specs.Members.{body};
 ghost use Rattle.declared_names.specs.Entries.{entry_of};
 ghost use Rattle.type_shapes.specs.Types as meant;
@@ -80,13 +80,7 @@ pub fn is_enum(found: &[Found<'_>], number: u32) -> bool
 pub fn is_enum_tree(tree: &DeclTree) -> bool
     ensures { result ≡ meant.is_enum_body (body (decl_of tree.now)) }
 {
-    is_enum_body(&tree.body)
-}
-
-fn is_enum_body(body: &BodyTree) -> bool
-    ensures { result ≡ meant.is_enum_body (body_of body.now) }
-{
-    match body {
+    match &tree.body {
         BodyTree::Enum(_) => true,
         _ => false,
     }

@@ -16,20 +16,26 @@ use Rattle.type_uses.specs.declared.stand.Stand.{Stand}
 use Rattle.type_uses.specs.declared.stand.Stand.TheVariants as stand
 use Rattle.type_uses.specs.Parameters.{is_heap, is_type_string}
 
+-- those that speak of the platform: of its interfaces, permissions and calls
+abbrev pub of_platform : List (List ℕ)
+of_platform = codes "UnsupportedAppUsage"
+    ∷ codes "EnforcePermission" ∷ codes "RequiresNoPermission" ∷ codes "PermissionManuallyEnforced"
+    ∷ codes "PropagateAllowBlocking" ∷ []
+
 -- the annotations that say nothing here
 abbrev pub dropped : List (List ℕ)
 dropped = codes "JavaDerive" ∷ codes "RustDerive" ∷ codes "JavaOnlyImmutable" ∷ codes "Hide"
     ∷ codes "SuppressWarnings" ∷ codes "SensitiveData"
-    ∷ codes "JavaPassthrough" ∷ codes "JavaDefault" ∷ codes "JavaDelegator" ∷ codes "JavaSuppressLint"
-    ∷ codes "UnsupportedAppUsage"
-    ∷ codes "EnforcePermission" ∷ codes "RequiresNoPermission" ∷ codes "PermissionManuallyEnforced"
-    ∷ codes "PropagateAllowBlocking" ∷ []
+    ∷ codes "JavaPassthrough" ∷ codes "JavaDefault" ∷ codes "JavaDelegator" ∷ codes "JavaSuppressLint" ∷ of_platform
+
+abbrev pub rows_of : List (List ℕ) → List (List ℕ × Annotation)
+rows_of names = map (λ name. (name, row.Dropped)) names
 
 -- the names of the table
 abbrev pub rows : List (List ℕ × Annotation)
 rows = (codes "nullable", row.Nullable) ∷ (codes "utf8InCpp", row.Utf8InCpp) ∷ (codes "Backing", row.Backing)
     ∷ (codes "FixedSize", row.FixedSize)
-    ∷ (codes "VintfStability", row.VintfStability) ∷ map (λ name. (name, row.Dropped)) dropped
+    ∷ (codes "VintfStability", row.VintfStability) ∷ rows_of dropped
 
 -- the row of the first of these names that the text is
 abbrev pub row_in : List (List ℕ × Annotation) → List ℕ → Option Annotation

@@ -36,10 +36,29 @@ fn row_of_name(name: &str) -> Option<Annotation>
         "Backing" => Some(Annotation::Backing),
         "FixedSize" => Some(Annotation::FixedSize),
         "VintfStability" => Some(Annotation::VintfStability),
+        _ => dropped_row(name),
+    }
+}
+
+// The row of an annotation that says nothing here.
+fn dropped_row(name: &str) -> Option<Annotation>
+    ensures { result ≡ meant.row_in (meant.rows_of meant.dropped) name.now }
+{
+    match name {
         "JavaDerive" | "RustDerive" | "JavaOnlyImmutable" | "Hide" => Some(Annotation::Dropped),
         "SuppressWarnings" | "SensitiveData" => Some(Annotation::Dropped),
         "JavaPassthrough" | "JavaDefault" | "JavaDelegator" => Some(Annotation::Dropped),
-        "JavaSuppressLint" | "UnsupportedAppUsage" => Some(Annotation::Dropped),
+        "JavaSuppressLint" => Some(Annotation::Dropped),
+        _ => platform_row(name),
+    }
+}
+
+// The row of one that speaks of the platform.
+fn platform_row(name: &str) -> Option<Annotation>
+    ensures { result ≡ meant.row_in (meant.rows_of meant.of_platform) name.now }
+{
+    match name {
+        "UnsupportedAppUsage" => Some(Annotation::Dropped),
         "EnforcePermission" | "RequiresNoPermission" => Some(Annotation::Dropped),
         "PermissionManuallyEnforced" | "PropagateAllowBlocking" => Some(Annotation::Dropped),
         _ => None,

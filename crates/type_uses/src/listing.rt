@@ -96,12 +96,12 @@ fn add_method<'a>(
         ≡ map seen_use uses.old.items ++ meant.of_method_tree
         (shape_in (map source_of names.now) file number) (method_of method.now)) }
 {
-    let returned = returned(names, file, number, &method.result);
-    uses.push(TypeUseRef::Method(method, returned))?;
+    let result = result_shape(names, file, number, &method.result);
+    uses.push(TypeUseRef::Method(method, result))?;
     add_arguments(names, file, number, method.args.as_slice(), uses)
 }
 
-fn returned(names: &Names<'_>, file: u32, number: u32, ty: &Option<TypeTree>) -> Option<Shape>
+fn result_shape(names: &Names<'_>, file: u32, number: u32, ty: &Option<TypeTree>) -> Option<Shape>
     requires { IsScope (map source_of names.now) file number }
     ensures { result ≡ map_option (shape_in (map source_of names.now) file number) ty.now }
 {

@@ -1,6 +1,6 @@
 //! The places where annotations may stand.
 ghost use Rattle.std.specs.Prelude.{◌≡◌};
-ghost use Rattle.aidl_syntax.specs.Trees.{body_of, decl_of};
+ghost use Rattle.aidl_syntax.specs.Trees.{decl_of};
 ghost use Rattle.aidl_syntax.specs.Members.{body};
 ghost use Rattle.type_uses.specs.Annotations as meant;
 
@@ -29,13 +29,7 @@ pub enum Stand {
 pub fn stand_of_tree(tree: &DeclTree) -> Stand
     ensures { result ≡ meant.stand_of_body (body (decl_of tree.now)) }
 {
-    stand_of_body(&tree.body)
-}
-
-fn stand_of_body(body: &BodyTree) -> Stand
-    ensures { result ≡ meant.stand_of_body (body_of body.now) }
-{
-    match body {
+    match &tree.body {
         BodyTree::Parcelable(_) => Stand::Composite,
         BodyTree::Union(_) => Stand::Composite,
         BodyTree::Enum(_) => Stand::Enum,

@@ -8,7 +8,8 @@ use Rattle.aidl_syntax.specs.declared.token.Symbol.{Symbol}
 use Rattle.aidl_syntax.specs.declared.token.Symbol.TheVariants as mark
 use Rattle.aidl_syntax.specs.declared.token.TokenKind.{TokenKind}
 use Rattle.aidl_syntax.specs.declared.token.TokenKind.TheVariants as kind
-use Rattle.aidl_syntax.specs.Bytes.{is_blank, is_inside, is_no_newline, has_close, is_comment}
+use Rattle.aidl_base.specs.Blanks.{is_blank}
+use Rattle.aidl_syntax.specs.Bytes.{is_inside, is_no_newline, has_close, is_comment}
 use Rattle.aidl_base.specs.Identifiers.{is_letter, is_word_byte, begins}
 use Rattle.aidl_syntax.specs.Tables.{double, single, doubles, singles, double_in, single_in, double_at}
 use Rattle.aidl_syntax.specs.Numbers.{value_from, IsDecimal, is_suffix, IsNumeral}

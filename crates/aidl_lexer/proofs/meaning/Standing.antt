@@ -7,7 +7,8 @@ use Rattle.aidl_syntax.specs.declared.token.Symbol.{Symbol}
 use Rattle.aidl_syntax.specs.declared.token.Symbol.TheVariants as mark
 use Rattle.aidl_syntax.specs.declared.token.TokenKind.{TokenKind}
 use Rattle.aidl_syntax.specs.declared.token.TokenKind.TheVariants as kind
-use Rattle.aidl_syntax.specs.Bytes.{is_blank, is_inside, is_no_newline, has_close}
+use Rattle.aidl_base.specs.Blanks.{is_blank}
+use Rattle.aidl_syntax.specs.Bytes.{is_inside, is_no_newline, has_close}
 use Rattle.aidl_base.specs.Identifiers.{is_letter, is_word_byte, begins}
 use Rattle.aidl_syntax.specs.Tables.{double, single, double_at}
 use Rattle.aidl_syntax.specs.Forms.{IsNumber, IsDigitRun, IsCharacter, IsString}

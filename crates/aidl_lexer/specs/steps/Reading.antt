@@ -10,7 +10,8 @@ use Rattle.aidl_syntax.specs.declared.token.Symbol.TheVariants as mark
 use Rattle.aidl_syntax.specs.declared.token.Token.{Token}
 use Rattle.aidl_syntax.specs.declared.token.TokenKind.{TokenKind}
 use Rattle.aidl_syntax.specs.declared.token.TokenKind.TheVariants as kind
-use Rattle.aidl_syntax.specs.Bytes.{is_blank, is_inside, is_no_newline}
+use Rattle.aidl_base.specs.Blanks.{is_blank}
+use Rattle.aidl_syntax.specs.Bytes.{is_inside, is_no_newline}
 use Rattle.aidl_base.specs.Identifiers.{is_letter, is_word_byte, begins}
 use Rattle.aidl_syntax.specs.Tables.{double_at, single}
 use Rattle.aidl_base.specs.Reserved.{reserved_of}

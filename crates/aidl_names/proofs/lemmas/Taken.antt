@@ -2,6 +2,7 @@
 use Rattle.std.proofs.Common.{◌≡◌, ◌<◌, ◌+◌, ℕ, Bool, true, false, ◌||◌, List, [], ◌∷◌, ◌++◌, map, length, take, refl, sym, ◌∙◌, ap, subst, not, get_or, add-one, append_assoc, Bor, if◌then◌else◌}
 use Rattle.std.specs.List.{list_any, flat_map}
 use Rattle.std.specs.Str.{bytes_eq}
+use Rattle.std.proofs.lemmas.List.{map-append}
 use Rattle.std.proofs.lemmas.List.Folds.{list_any-append}
 use Rattle.std.proofs.lemmas.Slice.Eq.{bytes_eq-Decides}
 use Rattle.aidl_syntax.specs.declared.tree.DeclTree.{DeclTree}
@@ -10,7 +11,7 @@ use Rattle.aidl_syntax.specs.Trees.{decl_of}
 use Rattle.aidl_base.specs.declared.breach.Breach.{Breach}
 use Rattle.aidl_syntax.specs.Members.{Member, members, member_name, body, declared_name}
 use Rattle.declared_names.specs.Declarations.{Entry}
-use Rattle.aidl_names.specs.Rules.{is_named_again, repeated, repeated_inside, argument_names}
+use Rattle.aidl_names.specs.Rules.{Spot, breach, breaches_at, is_named_again, repeated, repeated_inside, argument_names}
 use Rattle.declared_names.proofs.lemmas.Earlier.{take-next}
 use Rattle.declared_names.specs.Names.{text}
 use Rattle.declared_names.proofs.lemmas.Trees.{seen_decl}
@@ -68,8 +69,10 @@ seen-more test keys new v names i n h w e lt is seen =
 
 -- the breaches inside a declaration: of its members, and of the arguments of each
 pub inside_added : (e : Entry) (rows next all : List Breach) (names : List NameTree) (ms : List Member) → ms ≡ members (body e.tree) → names ≡ map member_name ms
-    → next ≡ rows ++ repeated e.file names → all ≡ next ++ flat_map (λ m. repeated e.file (argument_names m)) ms → all ≡ rows ++ repeated_inside e
+    → next ≡ rows ++ breaches_at 2 (repeated e.file names) → all ≡ next ++ breaches_at 2 (flat_map (λ m. repeated e.file (argument_names m)) ms) → all ≡ rows ++ breaches_at 2 (repeated_inside e)
 inside_added e rows next all names ms m n p q =
-    q ∙ ap (λ z. z ++ flat_map (λ m. repeated e.file (argument_names m)) ms) p ∙ append_assoc rows (repeated e.file names) _
-    ∙ ap (λ z. rows ++ (repeated e.file z ++ flat_map (λ m. repeated e.file (argument_names m)) ms)) n
-    ∙ ap (λ z. rows ++ (repeated e.file (map member_name z) ++ flat_map (λ m. repeated e.file (argument_names m)) z)) m
+    let others = flat_map (λ m. repeated e.file (argument_names m)) ms in
+    q ∙ ap (λ z. z ++ breaches_at 2 others) p ∙ append_assoc rows (breaches_at 2 (repeated e.file names)) (breaches_at 2 others)
+    ∙ ap (λ z. rows ++ z) (sym (map-append (λ (s : Spot). breach 2 s.0 s.1) (repeated e.file names) others))
+    ∙ ap (λ z. rows ++ breaches_at 2 (repeated e.file z ++ others)) n
+    ∙ ap (λ z. rows ++ breaches_at 2 (repeated e.file (map member_name z) ++ flat_map (λ m. repeated e.file (argument_names m)) z)) m

@@ -1,10 +1,9 @@
 -- The dump of a valid schema reads back as this schema, or passes a limit.
-use Rattle.std.proofs.Common.{◌≢◌, ◌⊎◌, ℕ, List, map, inl, inr, refl, subst, sym, ap, ◌∙◌}
-use Rattle.std.specs.List.{flat_map}
+use Rattle.std.proofs.Common.{◌≢◌, ◌⊎◌, ℕ, List, ◌++◌, map, inl, inr, refl, subst, sym, ap, ◌∙◌}
 use Rattle.aidl_base.specs.declared.limit.Limit.{Limit}
 use Rattle.aidl_base.specs.declared.source_file.SourceFile.{SourceFile}
 use Rattle.aidl_names.specs.Refusals.{IsAccepted}
-use Rattle.aidl_names.specs.Rules.{LeftOutType, UnknownImport, UnknownType, WrongFile, other_imports, repeated_inside, taken}
+use Rattle.aidl_names.specs.Rules.{other_imports, taken}
 use Rattle.aidl_schema.specs.declared.schema.Decl.{Decl}
 use Rattle.aidl_schema.specs.Valid.{IsValid}
 use Rattle.aidl_schema.proofs.lemmas.Valids.{all_hold, decls_apart, few_decls, names_ascend}
@@ -62,8 +61,9 @@ module _ (S : List Decl) (valid : IsValid S) where
       let enums = enums_bare S valid.enums in
       let f = files_stand S hold sources h in (
         passed_none S hold sorted apart valid.members valid.limits enums few sources entries,
-        nothing (WrongFile sources) (flat_map repeated_inside (declarations sources)) (taken (declarations sources)) (in_each other_imports 0 sources) (UnknownImport sources) (UnknownType sources) (LeftOutType sources) f.0
-            (inside_none S hold sorted apart valid.members valid.limits enums few sources entries) (taken_none S hold sorted apart valid.members valid.limits enums few sources entries) f.2 f.1
+        nothing sources f.0
+            (ap (λ spots. spots ++ taken (declarations sources) ++ in_each other_imports 0 sources) (inside_none S hold sorted apart valid.members valid.limits enums few sources entries)
+            ∙ ap (λ spots. spots ++ in_each other_imports 0 sources) (taken_none S hold sorted apart valid.members valid.limits enums few sources entries) ∙ f.2) f.1
             (unknown_none S hold sorted apart valid.members valid.limits enums few sources entries) (left_out_none S hold sorted apart valid.members valid.limits enums few sources entries),
       )
 

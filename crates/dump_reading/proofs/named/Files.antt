@@ -5,7 +5,6 @@ use Rattle.std.proofs.lemmas.Bool.{and_from}
 use Rattle.std.specs.List.{flat_map, filter}
 use Rattle.std.specs.Str.{bytes_eq, encode_utf8_all}
 use Rattle.aidl_base.specs.declared.name.Ident.{Ident}
-use Rattle.aidl_base.specs.declared.breach.Breach.{Breach}
 use Rattle.aidl_syntax.specs.declared.tree.DottedTree.{DottedTree}
 use Rattle.aidl_syntax.specs.Trees as tree
 use Rattle.aidl_syntax.specs.Trees.{map_option}
@@ -58,6 +57,9 @@ module _ (S : List Decl) (x : ℕ × Decl) (t : tree.File) (e : bare_file t ≡ 
 
 -- Paths.
 
+abbrev spot_of : ℕ → ℕ → rules.Spot
+spot_of file offset = (file, offset)
+
 pub bytes_same : (xs : List ℕ) → bytes_eq xs xs ≡ true
 bytes_same [] = refl
 bytes_same (x ∷ xs) = and_from (nat_eq x x) (bytes_eq xs xs) (eq-eqb x x refl) (bytes_same xs)
@@ -92,9 +94,9 @@ module _ (S : List Decl) (H : AllHold S) where
   no_wrong_file n [] [] h = refl
   no_wrong_file n [] (s ∷ ss) h = absurd h
   no_wrong_file n (f ∷ fs) [] h = refl
-  no_wrong_file n (f ∷ fs) (s ∷ ss) h = ap (λ t. (if t then rules.breach 1 n 0 ∷ [] else []) ++ in_each wrong_file (n + 1) ss) (right_file f s h.0) ∙ no_wrong_file (n + 1) fs ss h.1
+  no_wrong_file n (f ∷ fs) (s ∷ ss) h = ap (λ t. (if t then spot_of n 0 ∷ [] else []) ++ in_each wrong_file (n + 1) ss) (right_file f s h.0) ∙ no_wrong_file (n + 1) fs ss h.1
 
-  pub no_import : (find : ℕ → Source → List Breach) → ((n : ℕ) (s : Source) → s.tree.imports ≡ [] → find n s ≡ []) → (n : ℕ) (fs : List File) (ss : List Source) → AreSources S fs ss → in_each find n ss ≡ []
+  pub no_import : (find : ℕ → Source → List rules.Spot) → ((n : ℕ) (s : Source) → s.tree.imports ≡ [] → find n s ≡ []) → (n : ℕ) (fs : List File) (ss : List Source) → AreSources S fs ss → in_each find n ss ≡ []
   no_import find none n [] [] h = refl
   no_import find none n [] (s ∷ ss) h = absurd h
   no_import find none n (f ∷ fs) [] h = refl
@@ -105,6 +107,6 @@ module _ (S : List Decl) (H : AllHold S) where
   pub files_stand : (ss : List Source) → AreSources S (dump_text S) ss → (WrongFile ss ≡ []) × (UnknownImport ss ≡ []) × (in_each other_imports 0 ss ≡ [])
   files_stand ss h = (
     no_wrong_file 0 (dump_text S) ss h,
-    no_import (unknown_imports (declarations ss)) (λ n s e. ap (λ is. map (λ i. rules.breach 3 n i.offset) (filter (λ i. is_none (number_of (declarations ss) i.name.0)) is)) e) 0 (dump_text S) ss h,
-    no_import other_imports (λ n s e. ap (λ is. map (λ i. rules.breach 2 n i.offset) (after_earlier rules.is_other_import [] is)) e) 0 (dump_text S) ss h,
+    no_import (unknown_imports (declarations ss)) (λ n s e. ap (λ is. map (λ i. spot_of n i.offset) (filter (λ i. is_none (number_of (declarations ss) i.name.0)) is)) e) 0 (dump_text S) ss h,
+    no_import other_imports (λ n s e. ap (λ is. map (λ i. spot_of n i.offset) (after_earlier rules.is_other_import [] is)) e) 0 (dump_text S) ss h,
   )

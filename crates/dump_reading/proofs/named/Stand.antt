@@ -26,7 +26,7 @@ use Rattle.declared_names.specs.Declarations.{Entry, declarations}
 use Rattle.name_resolution.specs.Resolution.{meaning_of_word}
 use Rattle.aidl_base.specs.declared.limit.LimitName.TheVariants as limit
 use Rattle.aidl_names.specs.Limits.{has_many_members, has_long_method, is_long_method, passed}
-use Rattle.aidl_names.specs.Rules.{breach, is_named_again, repeated, argument_names, repeated_inside, is_taken, taken, types_in, is_unknown, is_left_out, UnknownType, LeftOutType}
+use Rattle.aidl_names.specs.Rules.{Spot, is_named_again, repeated, argument_names, repeated_inside, is_taken, taken, types_in, is_unknown, is_left_out, UnknownType, LeftOutType}
 use Rattle.declared_names.specs.TypeNames.{names_of_type, names_of_returned, type_names}
 use Rattle.declared_names.specs.Numbered.{in_each, after_earlier}
 use Rattle.name_resolution.specs.Resolution.{resolved}
@@ -297,6 +297,9 @@ named_own S (Parcelable fs) h = all_mapped S has_argument_names (λ f. field (fi
 named_own S (Union fs) h = all_mapped S has_argument_names (λ f. field (field_tree S f)) fs (λ k f e. refl)
 named_own S (Enum b es) h = all_mapped S has_argument_names (λ x. enumerator (enumerator_tree b x)) es (λ k x e. refl)
 
+abbrev spot_of : ℕ → ℕ → Spot
+spot_of file offset = (file, offset)
+
 module _ (S : List Decl) (H : AllHold S) (sorted : IsStrictlySortedBy (slice_cmp nat_cmp) (map name_of S)) (A : AreApart name_of S) (named : has_members S ≡ true) (limits : is_within_limits S ≡ true)
     (enums : (n : ℕ) (d : Decl) → slice_get S n ≡ Some d → is_enum d.kind ≡ true → d.constants ≡ []) (few : length S ≤ 16384) (files : List Source) (are : AreEntries S files (walks S) (declarations files)) where
   -- what stands inside the body of the entry of a declaration
@@ -332,8 +335,8 @@ module _ (S : List Decl) (H : AllHold S) (sorted : IsStrictlySortedBy (slice_cmp
         let args = (and_parts (list_all (λ m. are_names (schema.argument_names m)) (methods_of h.declared.kind)) (are_ascending (constant_names h.declared)) two.1).0 in
         let texts : map key (map member_name (members (body e.tree))) ≡ member_names S w h.declared = map_twice key member_name text_of (λ m. refl) (members (body e.tree)) ∙ names_are in
         let all = pass has_argument_names argument_names_bare (named_own S h.declared.kind args) (all_mapped S has_argument_names (λ c. constant (constant_tree S c)) h.declared.constants (λ k c f. refl)) (λ t. refl) in
-        ap (λ ns. map (λ n. breach 2 e.file n.offset) ns ++ flat_map (λ m. repeated e.file (argument_names m)) (members (body e.tree))) (names_once (map member_name (members (body e.tree))) (ap are_names texts ∙ two.0))
-        ∙ flat_none (λ m. repeated e.file (argument_names m)) (members (body e.tree)) (λ k m f. ap (λ ns. map (λ n. breach 2 e.file n.offset) ns) (names_once (argument_names m) (each_passes has_argument_names (members (body e.tree)) all k m f)))
+        ap (λ ns. map (λ n. spot_of e.file n.offset) ns ++ flat_map (λ m. repeated e.file (argument_names m)) (members (body e.tree))) (names_once (map member_name (members (body e.tree))) (ap are_names texts ∙ two.0))
+        ∙ flat_none (λ m. repeated e.file (argument_names m)) (members (body e.tree)) (λ k m f. ap (λ ns. map (λ n. spot_of e.file n.offset) ns) (names_once (argument_names m) (each_passes has_argument_names (members (body e.tree)) all k m f)))
 
     -- E4 and E5
     types_fine : (number : ℕ) → list_all (has_fine_types S (is_fine S H sorted A files are e.file number) (base_fine S H sorted A files are e.file number h.source h.placed) (list_fine S H sorted A files are e.file number h.source h.placed)) (members (body e.tree)) ≡ true
@@ -343,9 +346,9 @@ module _ (S : List Decl) (H : AllHold S) (sorted : IsStrictlySortedBy (slice_cmp
         let d = H w h.declared h.at in
         pass (has_fine_types S fine a b) (λ m. ap (list_all fine) (type_names_bare m)) (own_fine S fine a b h.declared.kind d.field_types d.method_types) (constants_fine S fine a b h.declared.constants d.values) (λ t. refl)
 
-    found_none : (number rule : ℕ) (test : ℕ → ℕ → List Ident → Bool) → ((is : List Ident) → is_fine S H sorted A files are e.file number is ≡ true → test e.file number is ≡ false) → types_in test rule number e ≡ []
-    found_none number rule test h =
-        ap (λ ds. map (λ d. breach rule e.file d.offset) ds) (filter_flat (λ d. test e.file number d.name.0) type_names (members (body e.tree)) (λ k m f.
+    found_none : (number : ℕ) (test : ℕ → ℕ → List Ident → Bool) → ((is : List Ident) → is_fine S H sorted A files are e.file number is ≡ true → test e.file number is ≡ false) → types_in test number e ≡ []
+    found_none number test h =
+        ap (λ ds. map (λ d. spot_of e.file d.offset) ds) (filter_flat (λ d. test e.file number d.name.0) type_names (members (body e.tree)) (λ k m f.
         filter_fine (is_fine S H sorted A files are e.file number) (test e.file number) h (type_names m) (each_passes _ (members (body e.tree)) (types_fine number) k m f)))
 
     few_members : has_many_members e ≡ false
@@ -365,7 +368,7 @@ module _ (S : List Decl) (H : AllHold S) (sorted : IsStrictlySortedBy (slice_cmp
   -- E2, of declarations
   pub taken_none : taken (declarations files) ≡ []
   taken_none =
-      ap (λ es. map (λ e. breach 2 e.file (declared_name e.tree).offset) es) (after_none is_taken [] (declarations files) (λ k e at.
+      ap (λ es. map (λ e. spot_of e.file (declared_name e.tree).offset) es) (after_none is_taken [] (declarations files) (λ k e at.
       let r = are.each k e at in
       ap (λ b. b || is_some (meaning_of_word (text (declared_name e.tree).name))) (any_none (λ d. same d.name e.name) (take k (declarations files)) (λ j f there.
       let t = take_at (declarations files) k j f there in let lt = t.0 in
@@ -382,11 +385,11 @@ module _ (S : List Decl) (H : AllHold S) (sorted : IsStrictlySortedBy (slice_cmp
 
   pub unknown_none : UnknownType files ≡ []
   unknown_none = each_none _ 0 (declarations files) (λ k e at. let r = are.each k e at in
-      found_none r.0 e r.2 (0 + k) 4 (λ file scope is. is_unknown (resolved files file scope is)) (λ is h. (left_false (is_unknown (resolved files e.file (0 + k) is)) (is_left_out (declarations files) (resolved files e.file (0 + k) is)) h).0))
+      found_none r.0 e r.2 (0 + k) (λ file scope is. is_unknown (resolved files file scope is)) (λ is h. (left_false (is_unknown (resolved files e.file (0 + k) is)) (is_left_out (declarations files) (resolved files e.file (0 + k) is)) h).0))
 
   pub left_out_none : LeftOutType files ≡ []
   left_out_none = each_none _ 0 (declarations files) (λ k e at. let r = are.each k e at in
-      found_none r.0 e r.2 (0 + k) 5 (λ file scope is. is_left_out (declarations files) (resolved files file scope is)) (λ is h. (left_false (is_unknown (resolved files e.file (0 + k) is)) (is_left_out (declarations files) (resolved files e.file (0 + k) is)) h).1))
+      found_none r.0 e r.2 (0 + k) (λ file scope is. is_left_out (declarations files) (resolved files file scope is)) (λ is h. (left_false (is_unknown (resolved files e.file (0 + k) is)) (is_left_out (declarations files) (resolved files e.file (0 + k) is)) h).1))
 
   pub passed_none : passed (declarations files) ≡ None
   passed_none =

@@ -16,7 +16,6 @@ use Rattle.aidl_syntax.specs.Members.Member.{field, constant, method, enumerator
 use Rattle.name_resolution.specs.declared.meaning.Resolved.{Resolved}
 use Rattle.aidl_syntax.specs.Sources.{Source}
 use Rattle.declared_names.specs.Declarations.{Entry, declarations}
-use Rattle.aidl_names.specs.Rules.{breach}
 use Rattle.type_shapes.specs.declared.shape.Shape as types
 use Rattle.type_shapes.specs.Initializers.{is_unjudged, is_some_list}
 use Rattle.type_shapes.specs.Types.{is_composite, shape_in}
@@ -72,12 +71,12 @@ not_field entries later (of_constant c t) h = refl
 not_field entries later (of_method m t) h = refl
 not_field entries later (of_argument a t) h = refl
 
-others_pass : (entries : List Entry) (file : ℕ) (in_union later : Bool) (us : List TypeUse) → list_all is_other us ≡ true → bad_fields entries file in_union later us ≡ []
-others_pass entries file in_union later [] h = refl
-others_pass entries file in_union later (u ∷ us) h =
+others_pass : (entries : List Entry) (in_union later : Bool) (us : List TypeUse) → list_all is_other us ≡ true → bad_fields entries in_union later us ≡ []
+others_pass entries in_union later [] h = refl
+others_pass entries in_union later (u ∷ us) h =
     let two = and_parts (is_other u) (list_all is_other us) h in
-    ap (λ b. (if b then breach 21 file (name_place u) ∷ [] else []) ++ bad_fields entries file in_union (later || (in_union && is_field u)) us) (not_field entries later u two.0)
-    ∙ others_pass entries file in_union (later || (in_union && is_field u)) us two.1
+    ap (λ b. (if b then name_place u ∷ [] else []) ++ bad_fields entries in_union (later || (in_union && is_field u)) us) (not_field entries later u two.0)
+    ∙ others_pass entries in_union (later || (in_union && is_field u)) us two.1
 
 -- An initializer has the form that its type wants.
 init_free : (S : List Decl) (entries : List Entry) (t : AidlType) (c : Const) → is_initializer_of S t c ≡ true → (r : Resolved) → is_composite entries r ≡ containment.is_composite (form_of S t.base) → (i : Init) → bare_init i ≡ initial_tree S t c
@@ -126,14 +125,14 @@ module _ (S : List Decl) (H : AllHold S) (sorted : IsStrictlySortedBy (slice_cmp
 
   -- E21, of the fields of a body
   pub fields_pass : (in_union later : Bool) (fs : List Field) → AreFields S in_union later fs → (more : List Member) → list_all is_no_field more ≡ true → (ms : List Member) → map bare_member ms ≡ map (λ f. field (field_tree S f)) fs ++ more
-      → bad_fields (declarations files) file in_union later (of_members (shape_in files file scope) ms) ≡ []
-  fields_pass in_union later [] h more free ms e = others_pass (declarations files) file in_union later (of_members (shape_in files file scope) ms) (all_other (shape_in files file scope) ms (sym (all_bare is_no_field field_bare ms) ∙ ap (list_all is_no_field) e ∙ free))
+      → bad_fields (declarations files) in_union later (of_members (shape_in files file scope) ms) ≡ []
+  fields_pass in_union later [] h more free ms e = others_pass (declarations files) in_union later (of_members (shape_in files file scope) ms) (all_other (shape_in files file scope) ms (sym (all_bare is_no_field field_bare ms) ∙ ap (list_all is_no_field) e ∙ free))
   fields_pass in_union later (f ∷ fs) h more free [] e = cc
   fields_pass in_union later (f ∷ fs) h more free (field x ∷ ms) e =
       let here : bare_field x ≡ field_tree S f = cc in let others : map bare_member ms ≡ map (λ f. field (field_tree S f)) fs ++ more = cc in
       let us = of_members (shape_in files file scope) ms in
-      ap (λ b. (if b then breach 21 file x.name.offset ∷ [] else []) ++ bad_fields (declarations files) file in_union (later || (in_union && true)) us) (initial_fine later f h.0 h.1 h.2 x here)
-      ∙ ap (λ l. bad_fields (declarations files) file in_union l us) (now_later later in_union) ∙ fields_pass in_union (later || in_union) fs h.3 more free ms others
+      ap (λ b. (if b then x.name.offset ∷ [] else []) ++ bad_fields (declarations files) in_union (later || (in_union && true)) us) (initial_fine later f h.0 h.1 h.2 x here)
+      ∙ ap (λ l. bad_fields (declarations files) in_union l us) (now_later later in_union) ∙ fields_pass in_union (later || in_union) fs h.3 more free ms others
   fields_pass in_union later (f ∷ fs) h more free (constant x ∷ ms) e = cc
   fields_pass in_union later (f ∷ fs) h more free (method x ∷ ms) e = cc
   fields_pass in_union later (f ∷ fs) h more free (enumerator x ∷ ms) e = cc

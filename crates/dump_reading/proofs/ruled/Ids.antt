@@ -10,7 +10,6 @@ use Rattle.aidl_syntax.specs.Trees.{map_option}
 use Rattle.aidl_syntax.specs.Trees.Members.{none}
 use Rattle.aidl_syntax.specs.Members.{Member, listed, members}
 use Rattle.aidl_syntax.specs.Members.Member.{field, constant, method, enumerator, nested}
-use Rattle.aidl_names.specs.Rules.{breach}
 use Rattle.type_shapes.specs.declared.shape.Shape.{Shape}
 use Rattle.type_uses.specs.Ids.{number_of, is_id, is_id_kind, number_of_kind, has_id}
 use Rattle.type_uses.specs.TypeUses.{TypeUse, of_arg, of_members, methods_at, methods_in}
@@ -128,8 +127,8 @@ differ m n h = by (nat_eq m n) refl where
   by false e = e
   by true e = absurd (h (grind (arith, nat_tests)))
 
-pub ids_fine : (S : List Decl) (file : ℕ) (ys : List tree.Method) (ms : List Method) → map bare_method ys ≡ map (λ m. method_tree S m) ms → AreApart (λ m. m.id) ms → OfEach ms (λ m. m.id ≤ last_id) → bad_ids file ys ≡ []
-ids_fine S file ys ms e apart few = ap (map (λ m. breach 19 file m.name.offset)) (after_none (is_bad_id (list_any has_id ys)) [] ys (λ k y at.
+pub ids_fine : (S : List Decl) (ys : List tree.Method) (ms : List Method) → map bare_method ys ≡ map (λ m. method_tree S m) ms → AreApart (λ m. m.id) ms → OfEach ms (λ m. m.id ≤ last_id) → bad_ids ys ≡ []
+ids_fine S ys ms e apart few = ap (map (λ m. m.name.offset)) (after_none (is_bad_id (list_any has_id ys)) [] ys (λ k y at.
     let b = beside S ys ms e k y at in let m = b.0 in
     let t = token_is y.id m.id (ap (λ z. z.id) b.2) in
     let good : is_id t.0 ≡ true = ap is_id_kind t.2 ∙ small m.id (few k m b.1) in

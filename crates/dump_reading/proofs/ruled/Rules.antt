@@ -4,7 +4,6 @@ use Rattle.std.specs.List.{list_all, list_any, find, flat_map}
 use Rattle.std.specs.Cmp.Lexicographic.{slice_cmp}
 use Rattle.std.specs.List.Sorted.{IsStrictlySortedBy}
 use Rattle.std.specs.Ordering.{nat_cmp}
-use Rattle.aidl_base.specs.declared.breach.Breach.{Breach}
 use Rattle.aidl_syntax.specs.declared.token.TokenKind.TheVariants as kind
 use Rattle.aidl_syntax.specs.declared.tree.TypeTree.{TypeTree}
 use Rattle.aidl_syntax.specs.Trees as tree
@@ -17,7 +16,6 @@ use Rattle.aidl_syntax.specs.Members.Member.{field, constant, method, enumerator
 use Rattle.aidl_syntax.specs.Sources.{Source}
 use Rattle.declared_names.specs.Declarations.{Entry, declarations}
 use Rattle.aidl_names.specs.Breaches.{in_order}
-use Rattle.aidl_names.specs.Rules.{breach}
 use Rattle.type_shapes.specs.Backing.{annots_of, is_backing, is_type}
 use Rattle.type_shapes.specs.declared.shape.Shape as types
 use Rattle.type_shapes.specs.Types.{is_enum_body, shape_in}
@@ -25,15 +23,15 @@ use Rattle.type_uses.specs.Annotations.{stand_of_body}
 use Rattle.type_uses.specs.Bases.{is_fixed_entry}
 use Rattle.type_uses.specs.Parameters.{literal_of, is_backing_word}
 use Rattle.type_uses.specs.TypeUses.{TypeUse, of_members, type_uses, is_field, annotations_of, stand_of, name_place, type_place}
-use Rattle.type_rules.specs.AnnotationRules.{bad_annotations, BadBacking, bad_backing, names_backing}
-use Rattle.type_rules.specs.FieldRules.{BadField, bad_fields, is_union_body, NotFixed, is_unfixed}
-use Rattle.type_rules.specs.TypeRules.{BadConstant, is_bad_constant}
+use Rattle.type_rules.specs.AnnotationRules.{bad_annotations, bad_backing, names_backing}
+use Rattle.type_rules.specs.FieldRules.{bad_fields, is_union_body, is_unfixed}
 use Rattle.type_rules.specs.Filters.{broken_where}
-use Rattle.type_rules.specs.IdRules.{BadId, bad_ids}
-use Rattle.type_rules.specs.MethodRules.{BadOneway, is_oneway_body, is_bad_oneway}
-use Rattle.type_rules.specs.TypeRules.{BadNullable, BadShape, BadDirection, bad_nullables_of, is_bad_shape, is_bad_direction}
-use Rattle.type_rules.specs.Breaches.{broken_by, broken_in, unsorted, breaches}
+use Rattle.type_rules.specs.IdRules.{bad_ids}
+use Rattle.type_rules.specs.MethodRules.{is_oneway_body, is_bad_oneway}
+use Rattle.type_rules.specs.TypeRules.{bad_nullables_of, is_bad_constant, is_bad_shape, is_bad_direction}
+use Rattle.type_rules.specs.Breaches.{broken_in, unsorted, breaches}
 use Rattle.type_rules.specs.Unbroken.{IsUnbroken, AreUnbroken}
+use Rattle.type_rules.proofs.lemmas.Nothing.{none_by}
 use Rattle.tree_schema.proofs.lemmas.walked.Placed.{Each}
 use Rattle.aidl_schema.specs.declared.schema.Decl.{Decl}
 use Rattle.aidl_schema.specs.declared.schema.Field.{Field}
@@ -86,21 +84,21 @@ param_named b (p ∷ ps) e =
       by backing.Int = refl
       by backing.Long = refl
 
-backing_named : (b : Backing) (file : ℕ) (annots more : List Annot) → map bare_annot annots ≡ backed_tree b ∷ more → bad_backing file (find is_backing annots) ≡ []
+backing_named : (b : Backing) (annots more : List Annot) → map bare_annot annots ≡ backed_tree b ∷ more → bad_backing (find is_backing annots) ≡ []
 unfolding lib.Utf8.encode
-backing_named b file [] more e = cc
-backing_named b file (a ∷ annots) more e =
+backing_named b [] more e = cc
+backing_named b (a ∷ annots) more e =
     let is : bare_annot a ≡ backed_tree b = cc in
     let called_so : is_backing a ≡ true = ap is_backing is in
-    ap (λ t. bad_backing file (cond t (Some a) (find is_backing annots))) called_so
-    ∙ ap (λ t. if not t then breach 15 file a.offset ∷ [] else []) (param_named b a.params (ap (λ x. x.params) is))
+    ap (λ t. bad_backing (cond t (Some a) (find is_backing annots))) called_so
+    ∙ ap (λ t. if not t then a.offset ∷ [] else []) (param_named b a.params (ap (λ x. x.params) is))
 
-backing_fine : (k : Kind) (f v : Bool) (file : ℕ) (annots : List Annot) → map bare_annot annots ≡ flags k f v → (c : Bool) → (c ≡ true → is_enum k ≡ true) → (if c then bad_backing file (find is_backing annots) else []) ≡ []
-backing_fine k f v file annots e false h = refl
-backing_fine (Enum b es) f v file annots e true h = backing_named b file annots _ e
-backing_fine (Interface ms) f v file annots e true h = let is = h refl in cc
-backing_fine (Parcelable fs) f v file annots e true h = let is = h refl in cc
-backing_fine (Union fs) f v file annots e true h = let is = h refl in cc
+backing_fine : (k : Kind) (f v : Bool) (annots : List Annot) → map bare_annot annots ≡ flags k f v → (c : Bool) → (c ≡ true → is_enum k ≡ true) → (if c then bad_backing (find is_backing annots) else []) ≡ []
+backing_fine k f v annots e false h = refl
+backing_fine (Enum b es) f v annots e true h = backing_named b annots _ e
+backing_fine (Interface ms) f v annots e true h = let is = h refl in cc
+backing_fine (Parcelable fs) f v annots e true h = let is = h refl in cc
+backing_fine (Union fs) f v annots e true h = let is = h refl in cc
 
 -- What a body is, by its kind.
 
@@ -132,7 +130,7 @@ module _ (S : List Decl) (H : AllHold S) (sorted : IsStrictlySortedBy (slice_cmp
     rest_free : list_all is_no_field (map (λ c. constant (constant_tree S c)) d.constants ++ listed last) ≡ true
     rest_free = all_join is_no_field (map (λ c. constant (constant_tree S c)) d.constants) (listed last) (all_mapped S is_no_field (λ c. constant (constant_tree S c)) d.constants (λ k c e. refl)) inner
 
-    none_bad : (t : tree.Body) → list_all is_no_field (members t) ≡ true → (in_union : Bool) → bad_fields (declarations files) file in_union false (of_members sh (members t)) ≡ []
+    none_bad : (t : tree.Body) → list_all is_no_field (members t) ≡ true → (in_union : Bool) → bad_fields (declarations files) in_union false (of_members sh (members t)) ≡ []
     none_bad t h in_union = fields_pass S H sorted A files are file scope s in_file in_union false [] tt (map bare_member (members t)) (by (members t) h) (members t) refl where
       by : (ms : List Member) → list_all is_no_field ms ≡ true → list_all is_no_field (map bare_member ms) ≡ true
       by [] h = refl
@@ -156,9 +154,9 @@ module _ (S : List Decl) (H : AllHold S) (sorted : IsStrictlySortedBy (slice_cmp
     first_field (f ∷ fs) more (nested x ∷ ms) h e = cc
 
     -- E21
-    body_fields : (b : Breach) (k : Kind) → (may_enclose k ≡ false → (d.constants ≡ []) × (last ≡ none)) → list_all (λ f. is_field_type S f) (fields_of k) ≡ true → list_all (λ f. has_initializer_of S f.ty f.initial) (fields_of k) ≡ true → is_union_whole k ≡ true
+    body_fields : (b : ℕ) (k : Kind) → (may_enclose k ≡ false → (d.constants ≡ []) × (last ≡ none)) → list_all (λ f. is_field_type S f) (fields_of k) ≡ true → list_all (λ f. has_initializer_of S f.ty f.initial) (fields_of k) ≡ true → is_union_whole k ≡ true
         → (t : tree.Body) → bare_body t ≡ body_tree S k (constants_before S d last)
-        → ((if is_union_body t && not (list_any is_field (of_members sh (members t))) then b ∷ [] else []) ≡ []) × (bad_fields (declarations files) file (is_union_body t) false (of_members sh (members t)) ≡ [])
+        → ((if is_union_body t && not (list_any is_field (of_members sh (members t))) then b ∷ [] else []) ≡ []) × (bad_fields (declarations files) (is_union_body t) false (of_members sh (members t)) ≡ [])
     body_fields b (Parcelable fs) bare ft fv un (parcelable ms) e =
         (refl, fields_pass S H sorted A files are file scope s in_file false false fs (free_fields S fs ft fv) _ rest_free (listed ms) (sym (members_bare (parcelable ms)) ∙ ap members e ∙ members_written S d (Parcelable fs) last bare))
     body_fields b (Union fs) bare ft fv un (union ms) e =
@@ -167,7 +165,7 @@ module _ (S : List Decl) (H : AllHold S) (sorted : IsStrictlySortedBy (slice_cmp
           fields_pass S H sorted A files are file scope s in_file true false fs (union_fields S fs ft fv un) _ rest_free (listed ms) written,
         )
     body_fields b (Interface xs) bare ft fv un (interface oneway ms) e = (refl, interface_fields) where
-      interface_fields : bad_fields (declarations files) file false false (of_members sh (listed ms)) ≡ []
+      interface_fields : bad_fields (declarations files) false false (of_members sh (listed ms)) ≡ []
       interface_fields = fields_pass S H sorted A files are file scope s in_file false false [] tt _ (all_join is_no_field (map (λ m. method (method_tree S m)) xs) _ (all_mapped S is_no_field (λ m. method (method_tree S m)) xs (λ k x q. refl)) rest_free) (listed ms)
           (sym (members_bare (interface oneway ms)) ∙ ap members e ∙ members_written S d (Interface xs) last bare)
     body_fields b (Enum w xs) bare ft fv un (enum es) e = (refl, none_bad (enum es) (enumerators_free es) false)
@@ -184,9 +182,9 @@ module _ (S : List Decl) (H : AllHold S) (sorted : IsStrictlySortedBy (slice_cmp
     body_fields b (Union fs) bare ft fv un (parcelable ms) e = cc
     body_fields b (Union fs) bare ft fv un (enum ys) e = cc
 
-  broken_none : (fixed : Bool) (file : ℕ) (test : TypeUse → Bool) (rule : ℕ) (place : TypeUse → ℕ) (us : List TypeUse) → Each (λ u. IsFineUse (declarations files) file fixed u) us → ((u : TypeUse) → IsFineUse (declarations files) file fixed u → test u ≡ false)
-      → broken_where test rule place file us ≡ []
-  broken_none fixed file test rule place us each h = ap (map (λ u. breach rule file (place u))) (filter_each (λ u. IsFineUse (declarations files) file fixed u) test h us each)
+  broken_none : (fixed : Bool) (test : TypeUse → Bool) (place : TypeUse → ℕ) (us : List TypeUse) → Each (λ u. IsFineUse (declarations files) fixed u) us → ((u : TypeUse) → IsFineUse (declarations files) fixed u → test u ≡ false)
+      → broken_where test place us ≡ []
+  broken_none fixed test place us each h = ap (map place) (filter_each (λ u. IsFineUse (declarations files) fixed u) test h us each)
 
   -- the rules, in the entry of a declaration
   entry_unbroken : (w j : ℕ) (e : Entry) → IsEntry S files (walks S) w e → IsUnbroken (declarations files) e (type_uses files j e)
@@ -200,45 +198,34 @@ module _ (S : List Decl) (H : AllHold S) (sorted : IsStrictlySortedBy (slice_cmp
       let each = uses_fine S H sorted A files are e.file j h.source h.placed d.fixed w d v sized last bare inner t written in
       let by_kind = stands_by S d.kind (constants_before S d last) t written in
       let annots : map bare_annot (annots_of e.tree) ≡ flags d.kind d.fixed d.vintf = annots_bare e.tree ∙ ap annots_of h.written in
-      let fields = body_fields e.file j h.source h.placed d last free (breach 21 e.file (declared_name e.tree).offset) d.kind bare v.field_types v.initializers v.union t written in
+      let fields = body_fields e.file j h.source h.placed d last free (declared_name e.tree).offset d.kind bare v.field_types v.initializers v.union t written in
       record {
-        annotations = ap (λ xs. xs ++ flat_map (λ u. bad_annotations e.file (stand_of u) (annotations_of u)) us) (ap (λ q. bad_annotations e.file q (annots_of e.tree)) by_kind.0 ∙ ap (map (λ a. breach 13 e.file a.offset)) (flags_fine d.kind d.fixed d.vintf (λ on. (fixed_kind S d v.fixed on).0) (annots_of e.tree) annots))
-            ∙ flat_each (λ u. IsFineUse (declarations files) e.file d.fixed u) (λ u. bad_annotations e.file (stand_of u) (annotations_of u)) (λ u f. f.annotations) us each;
-        nullables = flat_each (λ u. IsFineUse (declarations files) e.file d.fixed u) (bad_nullables_of (declarations files) e.file) (λ u f. f.nullables) us each;
-        backing = backing_fine d.kind d.fixed d.vintf e.file (annots_of e.tree) annots (is_enum_body t) by_kind.2;
-        shapes = broken_none d.fixed e.file is_bad_shape 16 type_place us each (λ u f. f.shaped);
-        directions = broken_none d.fixed e.file (is_bad_direction (declarations files)) 17 name_place us each (λ u f. f.direction);
-        oneways = ap (λ b. broken_where (is_bad_oneway b) 18 name_place e.file us) by_kind.1 ∙ broken_none d.fixed e.file (is_bad_oneway false) 18 name_place us each (λ u f. f.oneway);
-        ids = ap (bad_ids e.file) (among_uses (shape_in files e.file j) (members t)) ∙ ids_fine S e.file (among (members t)) (methods_of d.kind) (methods_written S d last bare inner t written) v.ids v.small_ids;
-        constants = broken_none d.fixed e.file is_bad_constant 20 name_place us each (λ u f. f.constant);
-        fields = ap (λ xs. xs ++ bad_fields (declarations files) e.file (is_union_body t) false us) fields.0 ∙ fields.1;
+        annotations = ap (λ xs. xs ++ flat_map (λ u. bad_annotations (stand_of u) (annotations_of u)) us) (ap (λ q. bad_annotations q (annots_of e.tree)) by_kind.0 ∙ ap (map (λ a. a.offset)) (flags_fine d.kind d.fixed d.vintf (λ on. (fixed_kind S d v.fixed on).0) (annots_of e.tree) annots))
+            ∙ flat_each (λ u. IsFineUse (declarations files) d.fixed u) (λ u. bad_annotations (stand_of u) (annotations_of u)) (λ u f. f.annotations) us each;
+        nullables = flat_each (λ u. IsFineUse (declarations files) d.fixed u) (bad_nullables_of (declarations files)) (λ u f. f.nullables) us each;
+        backing = backing_fine d.kind d.fixed d.vintf (annots_of e.tree) annots (is_enum_body t) by_kind.2;
+        shapes = broken_none d.fixed is_bad_shape type_place us each (λ u f. f.shaped);
+        directions = broken_none d.fixed (is_bad_direction (declarations files)) name_place us each (λ u f. f.direction);
+        oneways = ap (λ b. broken_where (is_bad_oneway b) name_place us) by_kind.1 ∙ broken_none d.fixed (is_bad_oneway false) name_place us each (λ u f. f.oneway);
+        ids = ap bad_ids (among_uses (shape_in files e.file j) (members t)) ∙ ids_fine S (among (members t)) (methods_of d.kind) (methods_written S d last bare inner t written) v.ids v.small_ids;
+        constants = broken_none d.fixed is_bad_constant name_place us each (λ u f. f.constant);
+        fields = ap (λ xs. xs ++ bad_fields (declarations files) (is_union_body t) false us) fields.0 ∙ fields.1;
         fixed = by (is_fixed_entry e) (λ on. sym (fixed_entry S H sorted A files are w e h) ∙ on) us each;
       } where
-        by : (b : Bool) → (b ≡ true → h.declared.fixed ≡ true) → (us : List TypeUse) → Each (λ u. IsFineUse (declarations files) e.file h.declared.fixed u) us
-            → (if b then broken_where (is_unfixed (declarations files)) 24 name_place e.file us else []) ≡ []
+        by : (b : Bool) → (b ≡ true → h.declared.fixed ≡ true) → (us : List TypeUse) → Each (λ u. IsFineUse (declarations files) h.declared.fixed u) us
+            → (if b then broken_where (is_unfixed (declarations files)) name_place us else []) ≡ []
         by false on us each = refl
-        by true on us each = broken_none h.declared.fixed e.file (is_unfixed (declarations files)) 24 name_place us each (λ u f. f.unfixed (on refl))
+        by true on us each = broken_none h.declared.fixed (is_unfixed (declarations files)) name_place us each (λ u f. f.unfixed (on refl))
 
   pub all_unbroken : AreUnbroken files
   all_unbroken n e at = let r = are.each n e at in entry_unbroken r.0 n e r.2
 
   -- so no breach is listed
   pub none_found : unsorted files ≡ []
-  unfolding unsorted broken_in broken_by
+  unfolding unsorted broken_in
   none_found = each_none (broken_in files) 0 (declarations files) (λ k e at.
       let is : 0 + k ≡ k = omega arith in
-      let u = all_unbroken k e at in let es = declarations files in let us = type_uses files k e in
-      subst (λ (n : ℕ). broken_in files n e ≡ []) (sym is)
-      (ap (λ xs. xs ++ BadNullable es e us ++ BadBacking e ++ BadShape e us ++ BadDirection es e us ++ BadOneway e us ++ BadId e us ++ BadConstant e us ++ BadField es e us ++ NotFixed es e us) u.annotations
-      ∙ ap (λ xs. xs ++ BadBacking e ++ BadShape e us ++ BadDirection es e us ++ BadOneway e us ++ BadId e us ++ BadConstant e us ++ BadField es e us ++ NotFixed es e us) u.nullables
-      ∙ ap (λ xs. xs ++ BadShape e us ++ BadDirection es e us ++ BadOneway e us ++ BadId e us ++ BadConstant e us ++ BadField es e us ++ NotFixed es e us) u.backing
-      ∙ ap (λ xs. xs ++ BadDirection es e us ++ BadOneway e us ++ BadId e us ++ BadConstant e us ++ BadField es e us ++ NotFixed es e us) u.shapes
-      ∙ ap (λ xs. xs ++ BadOneway e us ++ BadId e us ++ BadConstant e us ++ BadField es e us ++ NotFixed es e us) u.directions
-      ∙ ap (λ xs. xs ++ BadId e us ++ BadConstant e us ++ BadField es e us ++ NotFixed es e us) u.oneways
-      ∙ ap (λ xs. xs ++ BadConstant e us ++ BadField es e us ++ NotFixed es e us) u.ids
-      ∙ ap (λ xs. xs ++ BadField es e us ++ NotFixed es e us) u.constants
-      ∙ ap (λ xs. xs ++ NotFixed es e us) u.fields
-      ∙ u.fixed))
+      subst (λ (n : ℕ). broken_in files n e ≡ []) (sym is) (none_by (declarations files) e (type_uses files k e) (all_unbroken k e at)))
 
   pub none_listed : breaches files ≡ []
   none_listed = ap in_order none_found

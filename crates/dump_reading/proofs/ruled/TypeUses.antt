@@ -61,7 +61,7 @@ filter_each P test h (x ∷ xs) e = ap (λ b. cond b (x ∷ filter test xs) (fil
 module _ (S : List Decl) (H : AllHold S) (sorted : IsStrictlySortedBy (slice_cmp nat_cmp) (map name_of S)) (A : AreApart name_of S) (files : List Source) (are : AreEntries S files (walks S) (declarations files))
     (file scope : ℕ) (s : Source) (in_file : slice_get files file ≡ Some s) (fixed : Bool) where
   abbrev pub Fine : TypeUse → Type 0
-  Fine u = IsFineUse (declarations files) file fixed u
+  Fine u = IsFineUse (declarations files) fixed u
 
   -- the uses in a member
   abbrev AreFine : Member → Type 0

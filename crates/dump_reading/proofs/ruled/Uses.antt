@@ -11,7 +11,6 @@ use Rattle.aidl_syntax.specs.Trees.{Annot, map_option}
 use Rattle.name_resolution.specs.declared.meaning.Resolved.{Resolved}
 use Rattle.aidl_syntax.specs.Sources.{Source}
 use Rattle.declared_names.specs.Declarations.{Entry, declarations}
-use Rattle.aidl_names.specs.Rules.{breach}
 use Rattle.type_shapes.specs.Types.{shape_in}
 use Rattle.type_uses.specs.declared.stand.Stand.TheVariants as stand
 use Rattle.type_uses.specs.Annotations.{is_text_based}
@@ -55,9 +54,9 @@ use Rattle.dump_reading.proofs.ruled.Marks.{marks, nullable_kept, marks_fine, nu
 use Rattle.dump_reading.proofs.ruled.Bases.{IsBase, IsTyped, scalar_is, text_base, constant_base, fixed_base, typed_here}
 
 -- It breaks none of E13, E14, E16, E17, E18 and E20, and not E24 either where that looks at it.
-pub record IsFineUse (entries : List Entry) (file : ℕ) (fixed : Bool) (u : TypeUse) : Type 0 where
-  pub annotations : bad_annotations file (stand_of u) (annotations_of u) ≡ []
-  pub nullables : bad_nullables_of entries file u ≡ []
+pub record IsFineUse (entries : List Entry) (fixed : Bool) (u : TypeUse) : Type 0 where
+  pub annotations : bad_annotations (stand_of u) (annotations_of u) ≡ []
+  pub nullables : bad_nullables_of entries u ≡ []
   pub shaped : is_bad_shape u ≡ false
   pub direction : is_bad_direction entries u ≡ false
   pub oneway : is_bad_oneway false u ≡ false
@@ -134,21 +133,21 @@ module _ (S : List Decl) (H : AllHold S) (sorted : IsStrictlySortedBy (slice_cmp
     by shape.Array g = refl
     by shape.List g = refl
 
-  annotations_fine : (t : AidlType) → is_whole_type S t ≡ true → (ty : TypeTree) (d : Typed t ty) (annots : List Annot) → map bare_annot annots ≡ marks t.nullable t.heap t.utf8 → bad_annotations file (stand.Type (shape_of t.shape d.0)) annots ≡ []
-  annotations_fine t h ty d annots e = ap (map (λ a. breach 13 file a.offset)) (marks_fine (shape_of t.shape d.0) t.nullable t.heap t.utf8 (utf8_text t h d.0 d.2) annots e)
+  annotations_fine : (t : AidlType) → is_whole_type S t ≡ true → (ty : TypeTree) (d : Typed t ty) (annots : List Annot) → map bare_annot annots ≡ marks t.nullable t.heap t.utf8 → bad_annotations (stand.Type (shape_of t.shape d.0)) annots ≡ []
+  annotations_fine t h ty d annots e = ap (map (λ a. a.offset)) (marks_fine (shape_of t.shape d.0) t.nullable t.heap t.utf8 (utf8_text t h d.0 d.2) annots e)
 
   nullables_fine : (t : AidlType) → is_whole_type S t ≡ true → (ty : TypeTree) (d : Typed t ty) (no_heap : Bool) → (t.heap ≡ true → no_heap ≡ false) → (annots : List Annot) → map bare_annot annots ≡ marks t.nullable t.heap t.utf8
-      → bad_nullables file (is_one_scalar entries (shape_of t.shape d.0)) no_heap annots ≡ []
+      → bad_nullables (is_one_scalar entries (shape_of t.shape d.0)) no_heap annots ≡ []
   nullables_fine t h ty d no_heap k annots e =
-      ap (map (λ a. breach 14 file a.offset)) (nulls_fine (is_one_scalar entries (shape_of t.shape d.0)) no_heap t.nullable t.heap t.utf8 (nullable_free t (type_of_whole t h) d.0 d.2) k annots e)
+      ap (map (λ a. a.offset)) (nulls_fine (is_one_scalar entries (shape_of t.shape d.0)) no_heap t.nullable t.heap t.utf8 (nullable_free t (type_of_whole t h) d.0 d.2) k annots e)
 
   no_heap : {P : Type 0} (t : AidlType) → not t.heap ≡ true → t.heap ≡ true → P
   no_heap t h k = let is : false ≡ true = ap not (sym k) ∙ h in cc
 
   -- Fields.
 
-  pub field_fine : (fixed : Bool) (f : Field) → is_field_type S f ≡ true → (fixed ≡ true → valid.has_fixed_size S f.ty ≡ true) → (x : tree.Field) → bare_field x ≡ field_tree S f → IsFineUse entries file fixed (of_field x (shape_in files file scope x.ty))
-  field_fine fixed f h fx x e = subst (λ t. IsFineUse entries file fixed (of_field x t)) (sym d.1) (record {
+  pub field_fine : (fixed : Bool) (f : Field) → is_field_type S f ≡ true → (fixed ≡ true → valid.has_fixed_size S f.ty ≡ true) → (x : tree.Field) → bare_field x ≡ field_tree S f → IsFineUse entries fixed (of_field x (shape_in files file scope x.ty))
+  field_fine fixed f h fx x e = subst (λ t. IsFineUse entries fixed (of_field x t)) (sym d.1) (record {
     annotations = annotations_fine f.ty two.0 x.ty d x.annots marks_are;
     nullables = nullables_fine f.ty two.0 x.ty d _ heap_free x.annots marks_are;
     shaped = not_refused f.ty.shape d.0;
@@ -193,10 +192,10 @@ module _ (S : List Decl) (H : AllHold S) (sorted : IsStrictlySortedBy (slice_cmp
 
   -- Constants.
 
-  pub constant_fine : (fixed : Bool) (c : Constant) → has_value S c ≡ true → (x : tree.Constant) → bare_constant x ≡ constant_tree S c → IsFineUse entries file fixed (of_constant x (shape_in files file scope x.ty))
-  constant_fine fixed c h x e = subst (λ t. IsFineUse entries file fixed (of_constant x t)) (sym d.1) (record {
-    annotations = ap (bad_annotations file stand.Constant) bare;
-    nullables = ap (bad_nullables file false false) bare;
+  pub constant_fine : (fixed : Bool) (c : Constant) → has_value S c ≡ true → (x : tree.Constant) → bare_constant x ≡ constant_tree S c → IsFineUse entries fixed (of_constant x (shape_in files file scope x.ty))
+  constant_fine fixed c h x e = subst (λ t. IsFineUse entries fixed (of_constant x t)) (sym d.1) (record {
+    annotations = ap (bad_annotations stand.Constant) bare;
+    nullables = ap (bad_nullables false false) bare;
     shaped = refl;
     direction = refl;
     oneway = refl;
@@ -223,8 +222,8 @@ module _ (S : List Decl) (H : AllHold S) (sorted : IsStrictlySortedBy (slice_cmp
 
   -- Arguments.
 
-  pub argument_fine : (fixed : Bool) (a : Arg) → is_passed_type S a.ty ≡ true → has_way S a ≡ true → (x : tree.Arg) → bare_arg x ≡ arg_tree S a → IsFineUse entries file fixed (of_argument x (shape_in files file scope x.ty))
-  argument_fine fixed a h way x e = subst (λ t. IsFineUse entries file fixed (of_argument x t)) (sym d.1) (record {
+  pub argument_fine : (fixed : Bool) (a : Arg) → is_passed_type S a.ty ≡ true → has_way S a ≡ true → (x : tree.Arg) → bare_arg x ≡ arg_tree S a → IsFineUse entries fixed (of_argument x (shape_in files file scope x.ty))
+  argument_fine fixed a h way x e = subst (λ t. IsFineUse entries fixed (of_argument x t)) (sym d.1) (record {
     annotations = annotations_fine a.ty two.0 x.ty d x.annots marks_are;
     nullables = nullables_fine a.ty two.0 x.ty d _ (no_heap a.ty two.1) x.annots marks_are;
     shaped = not_refused a.ty.shape d.0;
@@ -255,7 +254,7 @@ module _ (S : List Decl) (H : AllHold S) (sorted : IsStrictlySortedBy (slice_cmp
   -- Methods.
 
   pub method_fine : (fixed : Bool) (m : Method) → is_result_type S m.result ≡ true → (m.oneway ≡ true → (m.result ≡ None) × (list_all (λ a. is_in_way a.way) m.args ≡ true)) → (x : tree.Method) → bare_method x ≡ method_tree S m
-      → IsFineUse entries file fixed (of_method x (map_option (shape_in files file scope) x.returned))
+      → IsFineUse entries fixed (of_method x (map_option (shape_in files file scope) x.returned))
   method_fine fixed m h way x e = by m.result h (ap (λ y. y.returned) e) (ap (λ y. y.annots) e) where
     way_free : is_bad_oneway false (of_method x (map_option (shape_in files file scope) x.returned)) ≡ false
     way_free = ap (λ b. b && gives_back x) (ap (λ y. y.oneway) e) ∙ go m.oneway refl where
@@ -266,13 +265,13 @@ module _ (S : List Decl) (H : AllHold S) (sorted : IsStrictlySortedBy (slice_cmp
           let none_back : x.returned ≡ None = no_type x.returned (ap (λ y. y.returned) e ∙ ap (returned_tree S) w.0) in
           ap (λ o. is_some o || list_any (λ a. is_outward a.way) x.args) none_back ∙ args_inward S x.args m.args (ap (λ y. y.args) e) w.1
 
-    by : (o : Option AidlType) → is_result_type S o ≡ true → map_option bare_type x.returned ≡ returned_tree S o → map bare_annot x.annots ≡ returned_annots o → IsFineUse entries file fixed (of_method x (map_option (shape_in files file scope) x.returned))
+    by : (o : Option AidlType) → is_result_type S o ≡ true → map_option bare_type x.returned ≡ returned_tree S o → map bare_annot x.annots ≡ returned_annots o → IsFineUse entries fixed (of_method x (map_option (shape_in files file scope) x.returned))
     by None g r n =
         let bare = none_bare x.annots n in let back = no_type x.returned r in
         let shape_none : map_option (shape_in files file scope) x.returned ≡ None = ap (map_option (shape_in files file scope)) back in
-        subst (λ t. is_bad_oneway false (of_method x t) ≡ false → IsFineUse entries file fixed (of_method x t)) (sym shape_none) (λ w. record {
-          annotations = ap (bad_annotations file stand.Void) bare;
-          nullables = ap (bad_nullables file true true) bare;
+        subst (λ t. is_bad_oneway false (of_method x t) ≡ false → IsFineUse entries fixed (of_method x t)) (sym shape_none) (λ w. record {
+          annotations = ap (bad_annotations stand.Void) bare;
+          nullables = ap (bad_nullables true true) bare;
           shaped = refl;
           direction = refl;
           oneway = w;
@@ -284,7 +283,7 @@ module _ (S : List Decl) (H : AllHold S) (sorted : IsStrictlySortedBy (slice_cmp
         let ty = the_type x.returned (type_tree t.shape (base_name S t.base)) r in
         let d = typed_here S H sorted A files are file scope s in_file t (type_of_whole t two.0) ty.0 ty.2 in
         let shape_some : map_option (shape_in files file scope) x.returned ≡ Some (shape_of t.shape d.0) = ap (map_option (shape_in files file scope)) ty.1 ∙ ap Some d.1 in
-        subst (λ q. is_bad_oneway false (of_method x q) ≡ false → IsFineUse entries file fixed (of_method x q)) (sym shape_some) (λ w. record {
+        subst (λ q. is_bad_oneway false (of_method x q) ≡ false → IsFineUse entries fixed (of_method x q)) (sym shape_some) (λ w. record {
           annotations = annotations_fine t two.0 ty.0 d x.annots n;
           nullables = nullables_fine t two.0 ty.0 d _ (no_heap t two.1) x.annots n;
           shaped = not_refused t.shape d.0;

@@ -113,12 +113,12 @@ module _ (files : List Source) (outcomes : Outcomes) (named : are_named files �
     fixed_at x at h =
         let all = fine x.0 x.1 at in
         let uses = type_uses files x.0 x.1 in
-        let own = both_empty (bad_annotations x.1.file (stand_of_body (body x.1.tree)) (annots_of x.1.tree)) (flat_map (λ u. bad_annotations x.1.file (stand_of u) (annotations_of u)) uses) all.annotations in
-        let stands = stands-well x.1.file (stand_of_body (body x.1.tree)) (annots_of x.1.tree) (codes "FixedSize") row.FixedSize unfold_fixed own.0 h in
+        let own = both_empty (bad_annotations (stand_of_body (body x.1.tree)) (annots_of x.1.tree)) (flat_map (λ u. bad_annotations (stand_of u) (annotations_of u)) uses) all.annotations in
+        let stands = stands-well (stand_of_body (body x.1.tree)) (annots_of x.1.tree) (codes "FixedSize") row.FixedSize unfold_fixed own.0 h in
         let kind = fixed_kind files outcomes x.1.file x.0 (backing_of x.1.tree) (body x.1.tree) stands in
-        let none : broken_where (is_unfixed (declarations files)) 24 name_place x.1.file uses ≡ [] =
-        ap (λ b. if b then broken_where (is_unfixed (declarations files)) 24 name_place x.1.file uses else []) (sym h) ∙ all.fixed in
-        let each = each-from_at (λ u. is_unfixed (declarations files) u ≡ false) uses (λ n u there. where-passes (is_unfixed (declarations files)) 24 name_place x.1.file uses n u none there) in
+        let none : broken_where (is_unfixed (declarations files)) name_place uses ≡ [] =
+        ap (λ b. if b then broken_where (is_unfixed (declarations files)) name_place uses else []) (sym h) ∙ all.fixed in
+        let each = each-from_at (λ u. is_unfixed (declarations files) u ≡ false) uses (λ n u there. where-passes (is_unfixed (declarations files)) name_place uses n u none there) in
         let oneway = is_oneway_body (body x.1.tree) in
         let whole = each-both (IsFineMember files x.1.file x.0 oneway) (λ m. Each (λ u. is_unfixed (declarations files) u ≡ false) (of_member (shape_in files x.1.file x.0) m)) (members (body x.1.tree))
         (members-fine files unbroken fine x.0 x.1 at) (each-flat (λ u. is_unfixed (declarations files) u ≡ false) (of_member (shape_in files x.1.file x.0)) (members (body x.1.tree)) each) in

@@ -19,7 +19,6 @@ use Rattle.aidl_syntax.specs.Members.{members, listed, body}
 use Rattle.aidl_names.specs.Breaches.{breaches}
 use Rattle.declared_names.specs.Declarations.{Entry, declarations}
 use Rattle.aidl_names.specs.Limits.{passed, has_many_members, has_long_method}
-use Rattle.aidl_names.specs.Rules.{breach}
 use Rattle.declared_names.specs.Numbered.{after_earlier}
 use Rattle.aidl_syntax.specs.Sources.{Source}
 use Rattle.const_values.specs.declared.wanted.Wanted.{Wanted}
@@ -109,7 +108,7 @@ module _ (files : List Source) (outcomes : Outcomes) (named : are_named files �
     by false is g = rw (inward w g) refl
 
   module _ (file scope : ℕ) (oneway : Bool) where
-    ways_hold : (args : List Arg) → Each (IsFine (declarations files) file oneway) (map (of_arg (shape_in files file scope)) args)
+    ways_hold : (args : List Arg) → Each (IsFine (declarations files) oneway) (map (of_arg (shape_in files file scope)) args)
         → list_all (λ a. has_way (schema_of files outcomes) a) (map (arg_in files file scope) args) ≡ true
     ways_hold [] h = refl
     ways_hold (a ∷ args) h = rw (way_holds a.annots (shape_in files file scope a.ty) a.way h.0.directed h.0.shaped, ways_hold args h.1) refl
@@ -143,7 +142,7 @@ module _ (files : List Source) (outcomes : Outcomes) (named : are_named files �
         let few = none-at has_many_members (declarations files) x.0 x.1 (few_members (declarations files) within) at in
         let le : length (members (body x.1.tree)) ≤ 4096 = grind (arith, nat_tests) in
         let uses_here = uses.methods_in (type_uses files x.0 x.1) in
-        let none = none-mapped (λ (m : Method). breach 19 x.1.file m.name.offset) (after_earlier (is_bad_id (list_any has_id uses_here)) [] uses_here) (fine x.0 x.1 at).ids in
+        let none = none-mapped (λ (m : Method). m.name.offset) (after_earlier (is_bad_id (list_any has_id uses_here)) [] uses_here) (fine x.0 x.1 at).ids in
         let numbers = body_ids x.1.file x.0 (backing_of x.1.tree) (body x.1.tree) le none in
         let ways = each-method files outcomes x.1.file x.0 P most (λ m. list_all (λ a. has_way (schema_of files outcomes) a) m.args) (backing_of x.1.tree) (body x.1.tree)
         (λ m before lt h. ways_hold x.1.file x.0 oneway m.args h.0.1) (omega arith) all in

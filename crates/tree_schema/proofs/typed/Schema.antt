@@ -115,15 +115,15 @@ module _ (files : List Source) (outcomes : Outcomes) (named : are_named files �
   heap_holds annots shape.Refused refused none true e = cc
 
   module _ (file scope : ℕ) (oneway : Bool) where
-    text_at : (t : Shape) (annots : List Annot) → bad_annotations file (stand.Type t) annots ≡ [] → is_utf8 annots ≡ true → is_text_based t ≡ true
-    text_at t annots e h = stands-well file (stand.Type t) annots (codes "utf8InCpp") row.Utf8InCpp unfold_utf8 e h
+    text_at : (t : Shape) (annots : List Annot) → bad_annotations (stand.Type t) annots ≡ [] → is_utf8 annots ≡ true → is_text_based t ≡ true
+    text_at t annots e h = stands-well (stand.Type t) annots (codes "utf8InCpp") row.Utf8InCpp unfold_utf8 e h
 
     pub field-typed : (f : tree.Field) (later : Bool) → IsFineMember files file scope oneway (field f) → is_field_type (schema_of files outcomes) (field_in files outcomes file scope later f) ≡ true
     field-typed f later h =
         let t = shape_in files file scope f.ty in
         let sound = shape-sound files file scope f.ty h.1 in
         let fine = h.0.0 in
-        let no = no-nullable file (is_one_scalar (declarations files) t) (not (is_refused t) && not (is_one_composite (declarations files) t)) f.annots fine.nullables in
+        let no = no-nullable (is_one_scalar (declarations files) t) (not (is_refused t) && not (is_one_composite (declarations files) t)) f.annots fine.nullables in
         let ty = typed (declarations files) f.annots t in
         let whole = whole-type f.annots t sound fine.shaped no.0 (text_at t f.annots fine.annotations) in
         let heap : (not ty.heap || may_be_on_heap (schema_of files outcomes) ty) ≡ true =
@@ -131,16 +131,16 @@ module _ (files : List Source) (outcomes : Outcomes) (named : are_named files �
         joined_true (is_whole_type (schema_of files outcomes) ty) (not ty.heap || may_be_on_heap (schema_of files outcomes) ty) whole heap
 
     -- the type of an argument or of a result
-    passed_type : (annots : List Annot) (t : Shape) → is_sound (declarations files) t ≡ true → is_refused t ≡ false → bad_nullables file (is_one_scalar (declarations files) t) (not (is_refused t)) annots ≡ []
-        → bad_annotations file (stand.Type t) annots ≡ [] → is_passed_type (schema_of files outcomes) (typed (declarations files) annots t) ≡ true
+    passed_type : (annots : List Annot) (t : Shape) → is_sound (declarations files) t ≡ true → is_refused t ≡ false → bad_nullables (is_one_scalar (declarations files) t) (not (is_refused t)) annots ≡ []
+        → bad_annotations (stand.Type t) annots ≡ [] → is_passed_type (schema_of files outcomes) (typed (declarations files) annots t) ≡ true
     passed_type annots t sound refused nullables annotations =
-        let no = no-nullable file (is_one_scalar (declarations files) t) (not (is_refused t)) annots nullables in
+        let no = no-nullable (is_one_scalar (declarations files) t) (not (is_refused t)) annots nullables in
         let ty = typed (declarations files) annots t in
         let whole = whole-type annots t sound refused no.0 (text_at t annots annotations) in
         let heap : not ty.heap ≡ true = ap not (heap_is (declarations files) annots t ∙ no.1 (ap not refused)) in
         joined_true (is_whole_type (schema_of files outcomes) ty) (not ty.heap) whole heap
 
-    args_typed : (args : List Arg) → Each (IsFine (declarations files) file oneway) (map (of_arg (shape_in files file scope)) args) → list_any (is_left files file scope) (flat_map (λ a. names_of_type a.ty) args) ≡ false
+    args_typed : (args : List Arg) → Each (IsFine (declarations files) oneway) (map (of_arg (shape_in files file scope)) args) → list_any (is_left files file scope) (flat_map (λ a. names_of_type a.ty) args) ≡ false
         → list_all (λ a. is_passed_type (schema_of files outcomes) a.ty) (map (arg_in files file scope) args) ≡ true
     args_typed [] h names = refl
     args_typed (a ∷ args) h names =
@@ -148,7 +148,7 @@ module _ (files : List Source) (outcomes : Outcomes) (named : are_named files �
         let here = passed_type a.annots (shape_in files file scope a.ty) (shape-sound files file scope a.ty two.0) h.0.shaped h.0.nullables h.0.annotations in
         rw (here, args_typed args h.1 two.1) refl
 
-    result_typed : (m : tree.Method) (o : Option TypeTree) → IsFine (declarations files) file oneway (of_method m (map_option (shape_in files file scope) o))
+    result_typed : (m : tree.Method) (o : Option TypeTree) → IsFine (declarations files) oneway (of_method m (map_option (shape_in files file scope) o))
         → list_any (is_left files file scope) (names_of_returned o) ≡ false
         → is_result_type (schema_of files outcomes) (map_option (λ ty. typed (declarations files) m.annots (shape_in files file scope ty)) o) ≡ true
     result_typed m None fine names = refl

@@ -11,7 +11,7 @@ use Rattle.aidl_names.specs.Breaches.{breaches}
 use Rattle.declared_names.specs.Declarations.{Entry, declarations}
 use Rattle.declared_names.specs.Names.{text}
 use Rattle.name_resolution.specs.Resolution.{resolved}
-use Rattle.aidl_names.specs.Rules.{breach, is_left_out, types_in}
+use Rattle.aidl_names.specs.Rules.{is_left_out, types_in}
 use Rattle.declared_names.specs.TypeNames.{type_names}
 use Rattle.declared_names.specs.Numbered.{in_each, after_earlier}
 use Rattle.aidl_syntax.specs.Sources.{Source}
@@ -113,9 +113,9 @@ some_nullable nullable heap (a ∷ annots) h =
     )
 
 -- where `@nullable` is refused there is none, and where `heap=true` is there is none
-pub no-nullable : (file : ℕ) (nullable heap : Bool) (annots : List Annot) → bad_nullables file nullable heap annots ≡ []
+pub no-nullable : (nullable heap : Bool) (annots : List Annot) → bad_nullables nullable heap annots ≡ []
     → (nullable ≡ true → list_any is_nullable_annot annots ≡ false) × (heap ≡ true → list_any is_heap_annot annots ≡ false)
-no-nullable file nullable heap annots e = some_nullable nullable heap annots (none-found (λ (a : Annot). breach 14 file a.offset) (is_bad_nullable nullable heap) annots e)
+no-nullable nullable heap annots e = some_nullable nullable heap annots (none-found (λ (a : Annot). a.offset) (is_bad_nullable nullable heap) annots e)
 
 -- what is on the heap is nullable
 pub heap-nullable : (annots : List Annot) → list_any is_heap_annot annots ≡ true → list_any is_nullable_annot annots ≡ true
@@ -131,11 +131,11 @@ may_by true a b h = refl
 may_by false a b h = cc
 
 -- an annotation of a row stands where its row allows it
-pub stands-well : (file : ℕ) (s : Stand) (annots : List Annot) (name : List ℕ) (r : Annotation) → row_of_name name ≡ Some r
-    → bad_annotations file s annots ≡ [] → list_any (is_called name) annots ≡ true → may_stand r s ≡ true
-stands-well file s annots name r row e h =
+pub stands-well : (s : Stand) (annots : List Annot) (name : List ℕ) (r : Annotation) → row_of_name name ≡ Some r
+    → bad_annotations s annots ≡ [] → list_any (is_called name) annots ≡ true → may_stand r s ≡ true
+stands-well s annots name r row e h =
     let one = some-at (is_called name) annots h in
-    let none = none-mapped (λ (a : Annot). breach 13 file a.offset) (after_earlier (is_bad_annotation s) [] annots) e in
+    let none = none-mapped (λ (a : Annot). a.offset) (after_earlier (is_bad_annotation s) [] annots) e in
     let fails = each-fails (is_bad_annotation s) [] annots none one.0 one.1 one.2 in
     let named : text one.1.name.name ≡ name = same_text_is (text one.1.name.name) name one.3 in
     let at : row_of_name (text one.1.name.name) ≡ Some r = ap row_of_name named ∙ row in
@@ -146,9 +146,9 @@ stands-well file s annots name r row e h =
 -- Uses of types
 
 -- the use breaks none of the rules
-pub record IsFine (entries : List Entry) (file : ℕ) (oneway : Bool) (u : TypeUse) : Type 0 where
-  pub annotations : bad_annotations file (stand_of u) (annotations_of u) ≡ []  -- E13
-  pub nullables : bad_nullables_of entries file u ≡ []  -- E14
+pub record IsFine (entries : List Entry) (oneway : Bool) (u : TypeUse) : Type 0 where
+  pub annotations : bad_annotations (stand_of u) (annotations_of u) ≡ []  -- E13
+  pub nullables : bad_nullables_of entries u ≡ []  -- E14
   pub shaped : is_bad_shape u ≡ false  -- E16
   pub directed : is_bad_direction entries u ≡ false  -- E17
   pub sent : is_bad_oneway oneway u ≡ false  -- E18
@@ -160,40 +160,40 @@ is_left files file scope d = is_left_out (declarations files) (resolved files fi
 
 -- the member's uses break none of the rules, and its types' names not E5
 abbrev pub IsFineMember : List Source → ℕ → ℕ → Bool → Member → Type 0
-IsFineMember files file scope oneway m = Each (IsFine (declarations files) file oneway) (of_member (shape_in files file scope) m) × (list_any (is_left files file scope) (type_names m) ≡ false)
+IsFineMember files file scope oneway m = Each (IsFine (declarations files) oneway) (of_member (shape_in files file scope) m) × (list_any (is_left files file scope) (type_names m) ≡ false)
 
 -- each use passes, where a rule that looks at each by itself has no breach
-pub where-passes : (test : TypeUse → Bool) (rule : ℕ) (place : TypeUse → ℕ) (file : ℕ) (uses : List TypeUse) (n : ℕ) (u : TypeUse) → broken_where test rule place file uses ≡ [] → slice_get uses n ≡ Some u → test u ≡ false
-where-passes test rule place file uses n u e at = any-at test uses n u (none-found (λ u. breach rule file (place u)) test uses e) at
+pub where-passes : (test : TypeUse → Bool) (place : TypeUse → ℕ) (uses : List TypeUse) (n : ℕ) (u : TypeUse) → broken_where test place uses ≡ [] → slice_get uses n ≡ Some u → test u ≡ false
+where-passes test place uses n u e at = any-at test uses n u (none-found place test uses e) at
 
 module _ (files : List Source) (unbroken : breaches files ≡ []) (fine : AreUnbroken files) (k : ℕ) (e : Entry) (at : slice_get (declarations files) k ≡ Some e) where
   abbrev uses : List TypeUse
   uses = type_uses files k e
 
-  use_fine : (n : ℕ) (u : TypeUse) → slice_get uses n ≡ Some u → IsFine (declarations files) e.file (is_oneway_body (body e.tree)) u
+  use_fine : (n : ℕ) (u : TypeUse) → slice_get uses n ≡ Some u → IsFine (declarations files) (is_oneway_body (body e.tree)) u
   use_fine n u there =
       let all = fine k e at in
       record {
-        annotations = each_empty (λ v. bad_annotations e.file (stand_of v) (annotations_of v)) uses u (both_empty _ (flat_map (λ v. bad_annotations e.file (stand_of v) (annotations_of v)) uses) all.annotations).1 (n, there);
-        nullables = each_empty (bad_nullables_of (declarations files) e.file) uses u all.nullables (n, there);
-        shaped = where-passes is_bad_shape 16 _ e.file uses n u all.shapes there;
-        directed = where-passes (is_bad_direction (declarations files)) 17 _ e.file uses n u all.directions there;
-        sent = where-passes (is_bad_oneway (is_oneway_body (body e.tree))) 18 _ e.file uses n u all.oneways there;
-        constant = where-passes is_bad_constant 20 _ e.file uses n u all.constants there;
+        annotations = each_empty (λ v. bad_annotations (stand_of v) (annotations_of v)) uses u (both_empty _ (flat_map (λ v. bad_annotations (stand_of v) (annotations_of v)) uses) all.annotations).1 (n, there);
+        nullables = each_empty (bad_nullables_of (declarations files)) uses u all.nullables (n, there);
+        shaped = where-passes is_bad_shape _ uses n u all.shapes there;
+        directed = where-passes (is_bad_direction (declarations files)) _ uses n u all.directions there;
+        sent = where-passes (is_bad_oneway (is_oneway_body (body e.tree))) _ uses n u all.oneways there;
+        constant = where-passes is_bad_constant _ uses n u all.constants there;
       }
 
   names_fine : list_any (is_left files e.file k) (flat_map type_names (members (body e.tree))) ≡ false
   names_fine =
       let test = λ (file scope : ℕ) (name : List _). is_left_out (declarations files) (resolved files file scope name) in
-      let none = none_in_each (types_in test 5) 0 (declarations files) k e (none-broken files unbroken).4 at in
+      let none = none_in_each (types_in test) 0 (declarations files) k e (none-broken files unbroken).4 at in
       let zero_on : 0 + k ≡ k = omega arith in
-      let here : types_in test 5 k e ≡ [] = subst (λ (j : ℕ). types_in test 5 j e ≡ []) zero_on none in
-      none-found (λ (d : DottedTree). breach 5 e.file d.offset) (is_left files e.file k) (flat_map type_names (members (body e.tree))) here
+      let here : types_in test k e ≡ [] = subst (λ (j : ℕ). types_in test j e ≡ []) zero_on none in
+      none-found (λ (d : DottedTree). (e.file, d.offset)) (is_left files e.file k) (flat_map type_names (members (body e.tree))) here
 
   -- each member of a declaration
   pub members-fine : Each (IsFineMember files e.file k (is_oneway_body (body e.tree))) (members (body e.tree))
   members-fine =
-      let P = IsFine (declarations files) e.file (is_oneway_body (body e.tree)) in
+      let P = IsFine (declarations files) (is_oneway_body (body e.tree)) in
       let each = each-from_at P uses use_fine in
       each-both (λ m. Each P (of_member (shape_in files e.file k) m)) (λ m. list_any (is_left files e.file k) (type_names m) ≡ false) (members (body e.tree))
       (each-flat P (of_member (shape_in files e.file k)) (members (body e.tree)) each)

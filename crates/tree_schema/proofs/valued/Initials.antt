@@ -4,7 +4,6 @@ use Rattle.std.specs.List.{list_any, list_all}
 use Rattle.std.specs.Ordering.{int_eq}
 use Rattle.std.proofs.lemmas.Option.{slice_get_within}
 use Rattle.std.proofs.lemmas.Bool.Decides.{Decides-int_eq}
-use Rattle.aidl_base.specs.declared.breach.Breach.{Breach}
 use Rattle.aidl_base.specs.declared.constant.Const.{Const, out-Const, roll-Const, out-roll-Const}
 use Rattle.aidl_base.specs.declared.constant.Const.TheOpen.{Const-F}
 use Rattle.aidl_base.specs.declared.constant.Const.TheVariants as value
@@ -25,7 +24,6 @@ use Rattle.name_resolution.specs.declared.meaning.Resolved.{Resolved}
 use Rattle.name_resolution.specs.declared.meaning.Resolved.TheVariants.{Builtin, ListWord, LeftOut, Declared}
 use Rattle.aidl_names.specs.Breaches.{breaches}
 use Rattle.declared_names.specs.Declarations.{Entry, declarations}
-use Rattle.aidl_names.specs.Rules.{breach}
 use Rattle.aidl_syntax.specs.Sources.{Source}
 use Rattle.const_values.specs.declared.wanted.Wanted.{Wanted}
 use Rattle.const_values.specs.declared.wanted.Wanted.TheVariants as wanted
@@ -183,11 +181,11 @@ module _ (files : List Source) (outcomes : Outcomes) (named : are_named files �
       fields_fit in_union later (enumerator e ∷ ms) h = fields_fit in_union later ms h
       fields_fit in_union later (nested d ∷ ms) h = fields_fit in_union later ms h
 
-      some_by : (b : Bool) (x : Breach) → (if not b then x ∷ [] else []) ≡ [] → b ≡ true
+      some_by : (b : Bool) (x : ℕ) → (if not b then x ∷ [] else []) ≡ [] → b ≡ true
       some_by true x e = refl
       some_by false x e = cc
 
-      body_fits : (w : Wanted) (b : Body) (x : Breach) → (if is_union_body b && not (list_any is_field (uses.of_members (shape_in files file scope) (members b))) then x ∷ [] else []) ≡ []
+      body_fits : (w : Wanted) (b : Body) (x : ℕ) → (if is_union_body b && not (list_any is_field (uses.of_members (shape_in files file scope) (members b))) then x ∷ [] else []) ≡ []
           → Each (Stands files) (of_body files file scope w b)
           → (list_all (λ f. has_initializer_of (schema_of files outcomes) f.ty f.initial) (fields_of (kind_of files outcomes file scope w b)) && is_union_whole (kind_of files outcomes file scope w b)) ≡ true
       body_fits w (parcelable ms) x u h = rw (fields_fit false false (listed ms) h) refl
@@ -201,8 +199,8 @@ module _ (files : List Source) (outcomes : Outcomes) (named : are_named files �
       initializers_at : (x : Numbered) → slice_get (declarations files) x.0 ≡ Some x.1 → has_decl_initializers (schema_of files outcomes) (declared files outcomes x) ≡ true
       initializers_at x at =
           let uses_here = type_uses files x.0 x.1 in
-          let whole = both_empty (empty_union x.1 uses_here) (bad_fields (declarations files) x.1.file (is_union_body (body x.1.tree)) false uses_here) (fine x.0 x.1 at).fields in
-          body_fits x.1.file x.0 (backing_of x.1.tree) (body x.1.tree) (breach 21 x.1.file (declared_name x.1.tree).offset) whole.0 (stands x.0 x.1 at)
+          let whole = both_empty (empty_union x.1 uses_here) (bad_fields (declarations files) (is_union_body (body x.1.tree)) false uses_here) (fine x.0 x.1 at).fields in
+          body_fits x.1.file x.0 (backing_of x.1.tree) (body x.1.tree) (declared_name x.1.tree).offset whole.0 (stands x.0 x.1 at)
 
       -- Rule 6 of a valid schema.
       pub initializers-hold : IsTrue (has_initializers (schema_of files outcomes))

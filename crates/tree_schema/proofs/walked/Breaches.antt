@@ -10,11 +10,11 @@ use Rattle.aidl_schema.proofs.lemmas.Places.{both_empty, each_empty}
 use Rattle.aidl_schema.proofs.lemmas.Sames.{same_text_refl, same_text_is}
 use Rattle.aidl_syntax.specs.declared.tree.NameTree.{NameTree}
 use Rattle.aidl_syntax.specs.Members.{Member, members, body, member_name, declared_name}
-use Rattle.aidl_names.specs.Breaches.{breaches, in_order, put, order}
+use Rattle.aidl_names.specs.Breaches.{breaches, in_order, put, order, rules}
 use Rattle.declared_names.specs.Declarations.{Entry, declarations}
 use Rattle.declared_names.specs.Names.{text, same}
 use Rattle.name_resolution.specs.Resolution.{meaning_of_word}
-use Rattle.aidl_names.specs.Rules.{WrongFile, Duplicate, UnknownImport, UnknownType, LeftOutType, repeated, repeated_inside, argument_names, taken, is_named_again, is_taken, other_imports, breach}
+use Rattle.aidl_names.specs.Rules.{Rule, Spot, breaches_at, WrongFile, Duplicate, UnknownImport, UnknownType, LeftOutType, repeated, repeated_inside, argument_names, taken, is_named_again, is_taken, other_imports, breach}
 use Rattle.declared_names.specs.Numbered.{after_earlier, in_each}
 use Rattle.aidl_syntax.specs.Sources.{Source}
 use Rattle.tree_schema.proofs.lemmas.walked.Totals.{total, total-append, is_that}
@@ -36,19 +36,26 @@ pub none-in_order : (bs : List Breach) → in_order bs ≡ [] → bs ≡ []
 none-in_order [] e = refl
 none-in_order (b ∷ bs) e = absurd (fold_some (put [] b) bs (put_some [] b) e)
 
--- E1 to E5, each
-pub none-broken : (files : List Source) → breaches files ≡ [] → (WrongFile files ≡ []) × (Duplicate files ≡ []) × (UnknownImport files ≡ []) × (UnknownType files ≡ []) × (LeftOutType files ≡ [])
-none-broken files e =
-    let all = none-in_order (WrongFile files ++ Duplicate files ++ UnknownImport files ++ UnknownType files ++ LeftOutType files) e in
-    let one = both_empty (WrongFile files ++ Duplicate files ++ UnknownImport files ++ UnknownType files) (LeftOutType files) all in
-    let two = both_empty (WrongFile files ++ Duplicate files ++ UnknownImport files) (UnknownType files) one.0 in
-    let three = both_empty (WrongFile files ++ Duplicate files) (UnknownImport files) two.0 in
-    let four = both_empty (WrongFile files) (Duplicate files) three.0 in
-    (four.0, four.1, three.1, two.1, one.1)
-
 no_map : {X Y : Type 0} (f : X → Y) (xs : List X) → map f xs ≡ [] → xs ≡ []
 no_map f [] e = refl
 no_map f (x ∷ xs) e = cc
+
+-- of a list of rules each has no spot
+abbrev HaveNoSpot : List Source → List (ℕ × Rule) → Type 0
+HaveNoSpot files [] = Unit {0}
+HaveNoSpot files (r ∷ rs) = (r.1 files ≡ []) × HaveNoSpot files rs
+
+all_unbroken : (files : List Source) (rs : List (ℕ × Rule)) → flat_map (λ r. breaches_at r.0 (r.1 files)) rs ≡ [] → HaveNoSpot files rs
+all_unbroken files [] e = tt
+all_unbroken files (r ∷ rs) e =
+    let two = both_empty (breaches_at r.0 (r.1 files)) (flat_map (λ (r : ℕ × Rule). breaches_at r.0 (r.1 files)) rs) e in
+    (no_map (λ (s : Spot). breach r.0 s.0 s.1) (r.1 files) two.0, all_unbroken files rs two.1)
+
+-- E1 to E5, each
+pub none-broken : (files : List Source) → breaches files ≡ [] → (WrongFile files ≡ []) × (Duplicate files ≡ []) × (UnknownImport files ≡ []) × (UnknownType files ≡ []) × (LeftOutType files ≡ [])
+none-broken files e =
+    let all = all_unbroken files rules (none-in_order (flat_map (λ r. breaches_at r.0 (r.1 files)) rules) e) in
+    (all.0, all.1.0, all.1.1.0, all.1.1.1.0, all.1.1.1.1.0)
 
 no_one : {X : Type 0} (b : Bool) (x : X) → (if b then x ∷ [] else []) ≡ [] → b ≡ false
 no_one true x e = cc
@@ -117,7 +124,7 @@ all_fine (x ∷ xs) = all_fine xs
 -- no repeated name, so each comes once
 pub names-once : (file : ℕ) (names : List NameTree) → repeated file names ≡ [] → (t : List ℕ) → total (λ n. is_that t (name_text n)) names ≤ 1
 names-once file names e t =
-    let none = no_map (λ n. breach 2 file n.offset) (after_earlier is_named_again [] names) e in
+    let none = no_map (λ n. (file, n.offset)) (after_earlier is_named_again [] names) e in
     let le = each-once is_named_again name_text (λ n. true)
     (λ before x f g h. any-shown name_text (λ n. true) (λ m. bytes_eq (text x.name) (text m.name)) (name_text x) (λ y g s. same_bytes (name_text x) (name_text y) s) before f h)
     [] names refl (all_fine names) none t (omega arith) in
@@ -130,7 +137,7 @@ module _ (files : List Source) (unbroken : breaches files ≡ []) where
 
   -- no declaration has the name of an earlier one
   pub no-taken : after_earlier is_taken [] (declarations files) ≡ []
-  no-taken = no_map (λ d. breach 2 d.file (declared_name d.tree).offset) (after_earlier is_taken [] (declarations files)) duplicates.1
+  no-taken = no_map (λ d. (d.file, (declared_name d.tree).offset)) (after_earlier is_taken [] (declarations files)) duplicates.1
 
   module _ (k : ℕ) (e : Entry) (at : slice_get (declarations files) k ≡ Some e) where
     inside_parts : (repeated e.file (map member_name (members (body e.tree))) ≡ []) × (flat_map (λ m. repeated e.file (argument_names m)) (members (body e.tree)) ≡ [])

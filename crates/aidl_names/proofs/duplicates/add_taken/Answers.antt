@@ -4,8 +4,9 @@ use Rattle.aidl_syntax.specs.Members.{declared_name}
 use Rattle.declared_names.specs.Declarations.{Entry}
 use Rattle.aidl_names.specs.Rules.{breach, is_taken}
 use Rattle.declared_names.specs.Entries.{entry_of}
-use Rattle.declared_names.proofs.lemmas.Earlier.{goes_on, earlier-next, read-map, one_if}
+use Rattle.declared_names.proofs.lemmas.Earlier.{goes_on, read-map, one_if}
 use Rattle.name_resolution.proofs.lemmas.Places.{there}
+use Rattle.aidl_names.proofs.Spots.{earlier_spot-next}
 use Rattle.aidl_names.proofs.lemmas.Taken.{seen_name}
 use Rattle.aidl_names.proofs.duplicates.add_taken.Goals as goal
 
@@ -17,5 +18,5 @@ loop-i-preserved c =
     (c.in_ok-add_if.ensures ∙ ap (λ b. c.loop-i.rows.items ++ one_if b (breach 2 c.index-found-i.result.file c.index-found-i.result.tree.now.name.offset)) c.is_taken.ensures
     ∙ ap (λ (n : NameTree). c.loop-i.rows.items ++ one_if (is_taken (take c.loop-i.i (map entry_of c.args.declarations.now)) (entry_of c.index-found-i.result)) (breach 2 c.index-found-i.result.file n.offset))
     (sym (seen_name c.index-found-i.result.tree.now)))
-    (earlier-next (λ (e : Entry). breach 2 e.file (declared_name e.tree).offset) is_taken (map entry_of c.args.declarations.now) c.loop-i.i (entry_of c.index-found-i.result) rd.0 rd.1)
+    (earlier_spot-next 2 (λ (e : Entry). (e.file, (declared_name e.tree).offset)) is_taken (map entry_of c.args.declarations.now) c.loop-i.i (entry_of c.index-found-i.result) rd.0 rd.1)
     c.loop-i.invariant

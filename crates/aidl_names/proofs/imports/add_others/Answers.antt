@@ -2,15 +2,16 @@ use Rattle.std.proofs.Common.{◌≡◌, ◌<◌, ◌++◌, length, ◌||◌, []
 use Rattle.std.proofs.lemmas.List.{get_or_default}
 use Rattle.aidl_syntax.specs.declared.tree.DottedTree.{DottedTree}
 use Rattle.declared_names.specs.Names.{same}
-use Rattle.aidl_names.specs.Rules.{breach, is_other_import}
+use Rattle.aidl_names.specs.Rules.{breach, breaches_at, is_other_import}
 use Rattle.declared_names.specs.Numbered.{after_earlier}
-use Rattle.declared_names.proofs.lemmas.Earlier.{goes_on, earlier-next, one_if}
+use Rattle.declared_names.proofs.lemmas.Earlier.{goes_on, one_if}
+use Rattle.aidl_names.proofs.Spots.{earlier_spot-next}
 use Rattle.aidl_names.proofs.Alike.{memo-begins, memo-next, other-is}
 use Rattle.aidl_names.proofs.imports.add_others.Goals as goal
 
 pub loop-i-init : goal.loop-i-init
 loop-i-init c = record {
-  all = ap (λ (z : List DottedTree). c.args.rows.now.items ++ map (λ i. breach 2 c.args.number i.offset) (after_earlier is_other_import [] z)) c.as_slice-imports.ensures;
+  all = ap (λ (z : List DottedTree). c.args.rows.now.items ++ breaches_at 2 (map (λ i. (c.args.number, i.offset)) (after_earlier is_other_import [] z))) c.as_slice-imports.ensures;
   memo = memo-begins _ c.in_ok-differ.differ.items (c.in_ok-differ.ensures.items_if_clones_equal (λ y e. e));
 }
 
@@ -31,7 +32,7 @@ loop-i-preserved c =
       all = goes_on c.loop-i.rows.items c.add_if.new.rows.items _ _ _ _
           (c.in_ok-add_if.ensures ∙ ap (λ b. c.loop-i.rows.items ++ one_if b (breach 2 c.args.number x.offset))
           (o ∙ other-is imports c.loop-i.differ.items c.loop-i.i c.first_place-first.result x f (omega arith) c.index-imports-i.is c.first_place-first.ensures.first c.first_place-first.ensures.within c.index-imports-first.is c.loop-i.invariant.memo))
-          (earlier-next (λ (i : DottedTree). breach 2 c.args.number i.offset) is_other_import imports c.loop-i.i x (omega arith) c.index-imports-i.is)
+          (earlier_spot-next 2 (λ (i : DottedTree). (c.args.number, i.offset)) is_other_import imports c.loop-i.i x (omega arith) c.index-imports-i.is)
           c.loop-i.invariant.all;
       memo = memo-next imports c.loop-i.differ.items c.loop-i.i c.first_place-first.result x f c.either-other.result (omega arith) c.index-imports-i.is c.first_place-first.ensures.first c.index-imports-first.is c.loop-i.invariant.memo o;
     }

@@ -1,8 +1,7 @@
 use Rattle.std.proofs.Common.{◌≡◌, ◌++◌, map, drop, is_none}
 use Rattle.std.specs.List.{filter}
-use Rattle.aidl_syntax.specs.Sources.{source_of}
 use Rattle.name_resolution.specs.Resolution.{number_of}
-use Rattle.aidl_names.specs.Rules.{breach, unknown_imports}
+use Rattle.aidl_names.specs.Rules.{breach}
 use Rattle.declared_names.specs.Entries.{entry_of}
 use Rattle.aidl_names.proofs.imports.add_unknown.Given as goal
 
@@ -10,4 +9,4 @@ use Rattle.aidl_names.proofs.imports.add_unknown.Given as goal
 abbrev pub invariant-loop-import : goal.invariant-loop-import
 invariant-loop-import l =
     l.rows.items ++ map (λ i. breach 3 l.number i.offset) (filter (λ i. is_none (number_of (map entry_of l.declarations) i.name.0)) (drop l.import-index l.file.tree.imports))
-    ≡ l.fn.rows.items ++ unknown_imports (map entry_of l.declarations) l.number (source_of l.file)
+    ≡ l.fn.rows.items ++ map (λ i. breach 3 l.number i.offset) (filter (λ i. is_none (number_of (map entry_of l.declarations) i.name.0)) l.file.tree.imports)

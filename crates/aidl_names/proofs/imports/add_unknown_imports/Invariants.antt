@@ -1,6 +1,6 @@
 use Rattle.std.proofs.Common.{◌≡◌, ◌++◌, map, drop}
 use Rattle.aidl_syntax.specs.Sources.{source_of}
-use Rattle.aidl_names.specs.Rules.{unknown_imports}
+use Rattle.aidl_names.specs.Rules.{breaches_at, unknown_imports}
 use Rattle.declared_names.specs.Numbered.{in_each}
 use Rattle.declared_names.specs.Entries.{entry_of}
 use Rattle.aidl_names.proofs.imports.add_unknown_imports.Given as goal
@@ -8,5 +8,5 @@ use Rattle.aidl_names.proofs.imports.add_unknown_imports.Given as goal
 -- the breaches so far and those that are left are all
 abbrev pub invariant-loop-i : goal.invariant-loop-i
 invariant-loop-i l =
-    l.rows.items ++ in_each (unknown_imports (map entry_of l.declarations)) l.i (map source_of (drop l.i l.files))
-    ≡ l.fn.rows.items ++ in_each (unknown_imports (map entry_of l.declarations)) 0 (map source_of l.files)
+    l.rows.items ++ breaches_at 3 (in_each (unknown_imports (map entry_of l.declarations)) l.i (map source_of (drop l.i l.files)))
+    ≡ l.fn.rows.items ++ breaches_at 3 (in_each (unknown_imports (map entry_of l.declarations)) 0 (map source_of l.files))

@@ -11,7 +11,6 @@ use Rattle.aidl_syntax.specs.Members.{Member, members, listed, body}
 use Rattle.aidl_syntax.specs.Members.Member.{field, constant, method, enumerator, nested}
 use Rattle.aidl_names.specs.Breaches.{breaches}
 use Rattle.declared_names.specs.Declarations.{Entry, declarations}
-use Rattle.aidl_names.specs.Rules.{breach}
 use Rattle.declared_names.specs.Numbered.{in_each}
 use Rattle.aidl_syntax.specs.Sources.{Source}
 use Rattle.const_values.specs.declared.wanted.Wanted.{Wanted}
@@ -100,27 +99,27 @@ module _ (files : List Source) (file scope : ℕ) where
       let judged : u ≡ false = ap (λ b. not b && u) (sym refused) ∙ h in
       init_judged (shape_in files file scope ty) u i judged
 
-  args_pass : (in_union later : Bool) (args : List Arg) (rest : List TypeUse) → bad_fields (declarations files) file in_union later (map (of_arg (shape_in files file scope)) args ++ rest) ≡ []
-      → bad_fields (declarations files) file in_union later rest ≡ []
+  args_pass : (in_union later : Bool) (args : List Arg) (rest : List TypeUse) → bad_fields (declarations files) in_union later (map (of_arg (shape_in files file scope)) args ++ rest) ≡ []
+      → bad_fields (declarations files) in_union later rest ≡ []
   args_pass in_union later [] rest h = h
   args_pass in_union later (a ∷ args) rest h =
-      args_pass in_union later args rest (subst (λ b. bad_fields (declarations files) file in_union b (map (of_arg (shape_in files file scope)) args ++ rest) ≡ []) (not_later later in_union) h)
+      args_pass in_union later args rest (subst (λ b. bad_fields (declarations files) in_union b (map (of_arg (shape_in files file scope)) args ++ rest) ≡ []) (not_later later in_union) h)
 
   members_judged : (oneway in_union later : Bool) (ms : List Member) → Each (IsFineMember files file scope oneway) ms
-      → bad_fields (declarations files) file in_union later (uses.of_members (shape_in files file scope) ms) ≡ [] → Each IsJudged (of_members files file scope in_union later ms)
+      → bad_fields (declarations files) in_union later (uses.of_members (shape_in files file scope) ms) ≡ [] → Each IsJudged (of_members files file scope in_union later ms)
   members_judged oneway in_union later [] h bad = tt
   members_judged oneway in_union later (field f ∷ ms) h bad =
       let sh = shape_in files file scope in
-      let two = no_one (is_bad_field (declarations files) later (uses.of_field f (sh f.ty))) (breach 21 file f.name.offset) (bad_fields (declarations files) file in_union (later || (in_union && true)) (uses.of_members sh ms)) bad in
-      let rest = subst (λ b. bad_fields (declarations files) file in_union b (uses.of_members sh ms) ≡ []) (now_later later in_union) two.1 in
+      let two = no_one (is_bad_field (declarations files) later (uses.of_field f (sh f.ty))) f.name.offset (bad_fields (declarations files) in_union (later || (in_union && true)) (uses.of_members sh ms)) bad in
+      let rest = subst (λ b. bad_fields (declarations files) in_union b (uses.of_members sh ms) ≡ []) (now_later later in_union) two.1 in
       each_join IsJudged (of_field files file scope later f) (of_members files file scope in_union (later || in_union) ms) (initial_judged later f.ty f.initial h.0.0.0.shaped two.0)
       (members_judged oneway in_union (later || in_union) ms h.1 rest)
   members_judged oneway in_union later (constant c ∷ ms) h bad =
-      let rest = subst (λ b. bad_fields (declarations files) file in_union b (uses.of_members (shape_in files file scope) ms) ≡ []) (not_later later in_union) bad in
+      let rest = subst (λ b. bad_fields (declarations files) in_union b (uses.of_members (shape_in files file scope) ms) ≡ []) (not_later later in_union) bad in
       (refl, members_judged oneway in_union later ms h.1 rest)
   members_judged oneway in_union later (method m ∷ ms) h bad =
       let sh = shape_in files file scope in
-      let args = subst (λ b. bad_fields (declarations files) file in_union b (map (of_arg sh) m.args ++ uses.of_members sh ms) ≡ []) (not_later later in_union) bad in
+      let args = subst (λ b. bad_fields (declarations files) in_union b (map (of_arg sh) m.args ++ uses.of_members sh ms) ≡ []) (not_later later in_union) bad in
       members_judged oneway in_union later ms h.1 (args_pass in_union later m.args (uses.of_members sh ms) args)
   members_judged oneway in_union later (enumerator e ∷ ms) h bad = members_judged oneway in_union later ms h.1 bad
   members_judged oneway in_union later (nested d ∷ ms) h bad = members_judged oneway in_union later ms h.1 bad
@@ -130,7 +129,7 @@ module _ (files : List Source) (file scope : ℕ) where
   enumerators_judged w before (e ∷ es) = (refl, enumerators_judged w (Some (place_of e)) es)
 
   body_judged : (oneway : Bool) (w : Wanted) (b : Body) → Each (IsFineMember files file scope oneway) (members b)
-      → bad_fields (declarations files) file (is_union_body b) false (uses.of_members (shape_in files file scope) (members b)) ≡ [] → Each IsJudged (of_body files file scope w b)
+      → bad_fields (declarations files) (is_union_body b) false (uses.of_members (shape_in files file scope) (members b)) ≡ [] → Each IsJudged (of_body files file scope w b)
   body_judged oneway w (parcelable ms) h bad = members_judged oneway false false (listed ms) h bad
   body_judged oneway w (union ms) h bad = members_judged oneway true false (listed ms) h bad
   body_judged oneway w (interface way ms) h bad = members_judged oneway false false (listed ms) h bad
@@ -140,7 +139,7 @@ module _ (files : List Source) (unbroken : breaches files ≡ []) (fine : AreUnb
   entry_judged : (n : ℕ) (e : Entry) → slice_get (declarations files) n ≡ Some e → Each IsJudged (of_entry files n e)
   entry_judged n e at =
       let uses_here = uses.type_uses files n e in
-      let fields = both_empty (empty_union e uses_here) (bad_fields (declarations files) e.file (is_union_body (body e.tree)) false uses_here) (fine n e at).fields in
+      let fields = both_empty (empty_union e uses_here) (bad_fields (declarations files) (is_union_body (body e.tree)) false uses_here) (fine n e at).fields in
       body_judged files e.file n (is_oneway_body (body e.tree)) (backing_of e.tree) (body e.tree) (members-fine files unbroken fine n e at) fields.1
 
   -- no item is left unjudged for its form

@@ -1,6 +1,6 @@
 use Rattle.std.proofs.Common.{◌≡◌, ◌++◌, map, length}
 use Rattle.tree_schema.specs.TreeViews.{numbered_of}
-use Rattle.tree_schema.proofs.order.listed.Given as goal
+use Rattle.tree_schema.proofs.order.declarations_of.Given as goal
 
 -- those that are listed and those that are left are all
 abbrev pub invariant-places : goal.invariant-places

@@ -5,11 +5,11 @@ use Rattle.declared_names.specs.Declarations.{declarations}
 use Rattle.declared_names.specs.Entries.{entry_of}
 use Rattle.tree_schema.specs.TreeViews.{files_of, numbered_of}
 use Rattle.tree_schema.proofs.lemmas.named.Numbers.{sorted-there}
-use Rattle.tree_schema.proofs.drafting.declared_in.Goals as goal
+use Rattle.tree_schema.proofs.drafting.declarations_in.Goals as goal
 
 -- the number is that of the declaration
-pub declared-requires-clause-scope : goal.declared-requires-clause-scope
-declared-requires-clause-scope c =
+pub declaration_of-requires-clause-scope : goal.declaration_of-requires-clause-scope
+declaration_of-requires-clause-scope c =
     let placed = c.placed-item.result in
     let at = c.loop-placed.placed-index in (
       entry_of placed.found.now,

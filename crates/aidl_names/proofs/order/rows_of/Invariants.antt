@@ -1,6 +1,6 @@
 use Rattle.std.proofs.Common.{◌≡◌, ◌++◌, map, length}
 use Rattle.aidl_names.specs.Places.{breach_of}
-use Rattle.aidl_names.proofs.order.listed.Given as goal
+use Rattle.aidl_names.proofs.order.rows_of.Given as goal
 
 -- those that are listed and those that are left are all
 abbrev pub invariant-places : goal.invariant-places

@@ -1,7 +1,7 @@
 use Rattle.std.proofs.Common.{◌≡◌, ◌++◌, map, length}
 use Rattle.const_items.specs.ItemViews.{item_of}
 use Rattle.const_items.proofs.Orders.{seen}
-use Rattle.const_items.proofs.order.listed.Given as goal
+use Rattle.const_items.proofs.order.items_of.Given as goal
 
 -- those that are listed and those that are left are all
 abbrev pub invariant-places : goal.invariant-places

@@ -1,7 +1,7 @@
 use Rattle.std.proofs.Common.{◌≡◌, ◌++◌, map, drop}
 use Rattle.tree_schema.specs.SchemaOf.{declared}
 use Rattle.tree_schema.specs.TreeViews.{files_of, numbered_of, outcomes_of}
-use Rattle.tree_schema.proofs.drafting.declared_in.Given as goal
+use Rattle.tree_schema.proofs.drafting.declarations_in.Given as goal
 
 -- the declarations so far and those that are left are all
 abbrev pub invariant-loop-placed : goal.invariant-loop-placed
