@@ -5,6 +5,7 @@ use Rattle.std.proofs.lemmas.List.Elements.{All-head, All-tail}
 use Rattle.aidl_outside.specs.declared.link.Carried.{Carried}
 use Rattle.aidl_outside.specs.declared.link.Way.{Way}
 use Rattle.aidl_outside.specs.Files.{Files}
+use Rattle.aidl_outside.specs.Carries.{AreFaithful}
 use Rattle.aidl_outside.specs.Parcel.{Parcel, parcel_of}
 use Rattle.aidl_outside.specs.Told.{Adds, Tells}
 use Rattle.aidl_outside.specs.Writes.{written}
@@ -32,7 +33,7 @@ Alike [] ds = Unit {0}
 Alike (c ∷ es) [] = Unit {0}
 Alike (c ∷ es) (d ∷ ds) = (parcel_of c ≡ parcel_of d → c.delivered ≡ d.delivered) × Alike es ds
 
-faithful_alike : (es ds : List Carried) → All (λ (e : Carried). e.delivered ≡ e.sent) es → All (λ (e : Carried). e.delivered ≡ e.sent) ds → Alike es ds
+faithful_alike : (es ds : List Carried) → AreFaithful es → AreFaithful ds → Alike es ds
 faithful_alike [] ds h k = tt
 faithful_alike (c ∷ es) [] h k = tt
 faithful_alike (c ∷ es) (d ∷ ds) h k = (

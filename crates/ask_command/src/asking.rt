@@ -6,7 +6,7 @@ ghost use Rattle.ask_command.specs.steps.Asking.{AreAsked, IsUnasked, all_of};
 ghost use Rattle.api_versions.specs.Asks.{AsksVersions};
 ghost use Rattle.tool_frame.specs.Ended.{Ended};
 ghost use Rattle.tool_frame.specs.Exit.{number_of};
-ghost use Rattle.tool_frame.specs.Halts.{Gets, Reads};
+ghost use Rattle.tool_frame.specs.Halts.{Gets, Prints};
 ghost use Rattle.tool_frame.specs.Meaning.{reads_by};
 ghost use Rattle.tool_frame.specs.Results.{Finds, GivesOne, held, Gives};
 ghost use Rattle.tool_frame.specs.Seen.{store_seen};
@@ -48,7 +48,7 @@ pub fn ask<S: Store, K: Sink>(
 // What is answered of the file of the request and the versions of API.
 fn ask_api<S: Store>(alloc: Global, asked: AskWords<'_>, store: &mut S) -> Result<Printed, Halt>
     ensures { let seen = store_seen S.Store in let asked = asked.entry in
-        Reads (AsksFileThen asked.path.now (AsksVersions asked.api.now))
+        Prints (AsksFileThen asked.path.now (AsksVersions asked.api.now))
         (AskAnswers (words_seen asked) asked.path.now) (seen store.old) (seen store.new) result }
 {
     let file = load_existing(alloc, LimitName::TextBytes, asked.path, store)?;

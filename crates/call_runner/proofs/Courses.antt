@@ -4,7 +4,7 @@ use Rattle.std.proofs.lemmas.List.Elements.{All-nil, All-cons, All-head, All-tai
 use Rattle.aidl_base.specs.declared.profile.Profile.{Profile}
 use Rattle.aidl_outside.specs.declared.link.Carried.{Carried}
 use Rattle.aidl_outside.specs.declared.link.Way.TheVariants.{Reply}
-use Rattle.aidl_outside.specs.Carries.{entry as carried_entry}
+use Rattle.aidl_outside.specs.Carries.{AreFaithful, entry as carried_entry}
 use Rattle.aidl_outside.specs.Faults.{FailedIn, LinkFaults}
 use Rattle.aidl_outside.specs.Parcel.{parcel_of}
 use Rattle.aidl_outside.specs.Told.{Adds}
@@ -13,7 +13,7 @@ use Rattle.call_runner.specs.declared.exchange.Exchange.{Exchange}
 use Rattle.call_runner.specs.declared.line.RunFault.{RunFault}
 use Rattle.call_runner.specs.declared.line.RunFault.TheVariants.{LinkFault, OutOfMemory}
 use Rattle.call_runner.specs.Lines.{call_code, entries, received_at, reply_at, reply_entries, reply_sent, request_entry}
-use Rattle.call_runner.specs.Runs.{AreFaithful, IsFirst, IsReplied, Stops}
+use Rattle.call_runner.specs.Runs.{IsFirst, IsReplied, Stops}
 use Rattle.call_runner.specs.steps.Exchanges.{IsExchange, WhereLinkFailed, carried_of, delivered_of, listed}
 use Rattle.call_runner.specs.steps.Served.{IsServed}
 use Rattle.call_scripts.specs.Calls.{CallData}

@@ -1,9 +1,10 @@
 -- What `run_line` answers: by the script of its line and what the link delivered (own). p is the profile of
 -- reading, A is CLIENT's declarations and B SERVER's.
-use Rattle.std.specs.Prelude.{◌≡◌, ℕ, ◌<◌, ℤ, Bool, true, List, [], ◌∷◌, ◌++◌, length, All, Option, Some, None}
+use Rattle.std.specs.Prelude.{◌≡◌, ℕ, ◌<◌, ℤ, Bool, true, List, [], ◌∷◌, ◌++◌, length, Option, Some, None}
 use Rattle.std.specs.Prelude.{option_map, Result, Ok, Err}
 use Rattle.aidl_base.specs.declared.profile.Profile.{Profile}
 use Rattle.aidl_outside.specs.declared.link.Carried.{Carried}
+use Rattle.aidl_outside.specs.Carries.{AreFaithful}
 use Rattle.aidl_outside.specs.Causes.{Rose}
 use Rattle.aidl_outside.specs.Faults.{FailedIn, LinkFaults}
 use Rattle.aidl_outside.specs.Parcel.{Parcel, parcel_of}
@@ -52,10 +53,6 @@ LineRuns p A B (Err why) run = (run.carried ≡ []) × (line_data run.out ≡ re
 LineRuns p A B (Ok c) run = (b r : List ℕ) × (run.carried ≡ entries p A B c b r)
     × (line_data run.out ≡ line_of p A B c b r)
     × (run.methods ≡ methods_by c c.server (received p A B c b))
-
--- each parcel was delivered as it was sent
-abbrev pub AreFaithful : List Carried → Type 0
-AreFaithful entries = All (λ (entry : Carried). entry.delivered ≡ entry.sent) entries
 
 -- it is the first of these that were to be carried
 abbrev pub IsFirst : List Carried → Parcel → Type 0

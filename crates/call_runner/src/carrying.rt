@@ -1,10 +1,10 @@
 //! Parcels of a call on their way over a link.
 ghost use Rattle.std.specs.Prelude.{◌≡◌, [], true, option_map, IfOk};
-ghost use Rattle.aidl_outside.specs.Carries.{entry};
+ghost use Rattle.aidl_outside.specs.Carries.{AreFaithful, entry};
 ghost use Rattle.aidl_outside.specs.Faults.{FailedIn};
 ghost use Rattle.aidl_outside.specs.Parcel.{parcel, parcel_of};
 ghost use Rattle.call_runner.specs.Lines.{reply_entries, request_entry};
-ghost use Rattle.call_runner.specs.Runs.{AreFaithful, IsFirst, RunCause};
+ghost use Rattle.call_runner.specs.Runs.{IsFirst, RunCause};
 ghost use Rattle.call_runner.specs.steps.Exchanges.{AddsListed, AddsOne, CanBeSent, IfLinkFailed, delivered_of, listed};
 ghost use Rattle.call_scripts.specs.Calls.{call_of};
 ghost use Rattle.wire_model.specs.Calls.{code_at, method_at};

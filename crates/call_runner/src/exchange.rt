@@ -1,7 +1,8 @@
 //! The carries of a call: its request, and the reply where the server sends one.
 ghost use Rattle.std.specs.Prelude.{◌≡◌, true, Ok, IfErr, IfOk};
+ghost use Rattle.aidl_outside.specs.Carries.{AreFaithful};
 ghost use Rattle.aidl_outside.specs.Told.{Adds};
-ghost use Rattle.call_runner.specs.Runs.{AreFaithful, RunCause, Stops};
+ghost use Rattle.call_runner.specs.Runs.{RunCause, Stops};
 ghost use Rattle.call_runner.specs.steps.Exchanges.{IsExchange, carried_of};
 ghost use Rattle.call_scripts.specs.Calls.{CallFits, call_of};
 

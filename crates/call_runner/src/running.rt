@@ -1,7 +1,8 @@
 //! A line of a calls file run between a client and a server over a link.
 ghost use Rattle.std.specs.Prelude.{◌≡◌, true, Ok, IfErr, IfOk};
+ghost use Rattle.aidl_outside.specs.Carries.{AreFaithful};
 ghost use Rattle.aidl_outside.specs.Told.{Adds};
-ghost use Rattle.call_runner.specs.Runs.{AreFaithful, AreNamed, IsTyped, LineRuns, RunCause, Stops, line_data, projected, within_one};
+ghost use Rattle.call_runner.specs.Runs.{AreNamed, IsTyped, LineRuns, RunCause, Stops, line_data, projected, within_one};
 ghost use Rattle.call_runner.specs.steps.Exchanges.{IsExchange, carried_of, delivered_of};
 ghost use Rattle.call_scripts.specs.Calls.{CallFits, call_of};
 ghost use Rattle.call_scripts.specs.Script.{script};

@@ -12,18 +12,19 @@ use Rattle.aidl_outside.specs.Writes.{ChangesOnly, Sets, Write, Writes, written}
 use Rattle.aidl_schema.specs.declared.schema.Decl.{Decl}
 use Rattle.make_command.specs.declared.command.Laid.{Laid}
 use Rattle.make_command.specs.Making.{MakeTakes, file_write, make_writes, new_root, old_root, make_course}
-use Rattle.run_command.specs.Running.{Takes, TakesChecked}
+use Rattle.run_command.specs.Running.{Takes}
 use Rattle.make_command.specs.steps.Laying.{IsLaid, TakesLaid, laid_writes}
 use Rattle.run_command.specs.steps.Running.{RanSome, TakesEarly}
 use Rattle.run_command.proofs.lemmas.CourseEnds.{alone}
-use Rattle.run_command.proofs.lemmas.Takes.{early_checked}
+use Rattle.run_command.proofs.lemmas.Takes.{early_both}
 use Rattle.api_versions.specs.Writes.{Left, Wrote}
 use Rattle.api_versions.specs.Writes as versions
-use Rattle.tree_commands.specs.Faults.{IsFaultAnswer}
+use Rattle.tree_commands.specs.Both.{IsFaultOfOne}
+use Rattle.tree_commands.specs.ByTree.{ByBoth}
 use Rattle.tree_commands.specs.Results.{EndsBy}
 use Rattle.type_check.specs.Checked.{IsSchemaOf}
 use Rattle.tool_frame.specs.declared.printed.Early.{Early}
-use Rattle.tool_frame.specs.Course.{Course}
+use Rattle.tool_frame.specs.Course.{AtOnce, Course}
 use Rattle.tool_frame.specs.Ended.{Ended, FailedAt, WroteAll, WroteSome}
 use Rattle.tool_frame.specs.Meaning.{does_by}
 use Rattle.tool_frame.specs.Seen.{Seen}
@@ -131,28 +132,28 @@ module _ (n : ℕ) (out : List ℕ) (l : Laid) (is : IsLaid n out l) where
   same_writes = rw (is.calls_path, is.calls, is.new_root, is.news, is.old_root, is.olds) refl
 
   pub takes_made : (course : Course) → TakesLaid l course → MakeTakes n out course
-  takes_made course h =
-      let by_root : TakesChecked (new_root out) l.news (λ B. TakesChecked (string_bytes l.old_root) l.olds (λ A c. c ≡ make_course A B l.calls)) course =
-      subst (λ (r : List ℕ). TakesChecked r l.news (λ B. TakesChecked (string_bytes l.old_root) l.olds (λ A c. c ≡ make_course A B l.calls)) course) is.new_root h in
-      let by_both : TakesChecked (new_root out) l.news (λ B. TakesChecked (old_root out) l.olds (λ A c. c ≡ make_course A B l.calls)) course =
-      subst (λ (r : List ℕ). TakesChecked (new_root out) l.news (λ B. TakesChecked r l.olds (λ A c. c ≡ make_course A B l.calls)) course) is.old_root by_root in
-      (l.news, l.olds, is.news, is.olds, subst (λ (t : List ℕ). TakesChecked (new_root out) l.news (λ B. TakesChecked (old_root out) l.olds (λ A c. c ≡ make_course A B t)) course) is.calls by_both)
+  takes_made course h = (
+    l.news,
+    l.olds,
+    is.news,
+    is.olds,
+    subst (λ (t : List ℕ). ByBoth AtOnce (new_root out) l.news (old_root out) l.olds (λ B A c. c ≡ make_course A B t) course) is.calls
+        (subst (λ (r : List ℕ). ByBoth AtOnce (new_root out) l.news r l.olds (λ B A c. c ≡ make_course A B l.calls) course) is.old_root
+        (subst (λ (r : List ℕ). ByBoth AtOnce r l.news (string_bytes l.old_root) l.olds (λ B A c. c ≡ make_course A B l.calls) course) is.new_root h)),
+  )
 
 -- What is done of what was laid out.
 module _ (l : Laid) where
-  -- the newer tree isn't checked
-  pub newer_ends : (early : Early) → EndsBy (IsFaultAnswer (string_bytes l.new_root) l.news) early → (course : Course) → TakesEarly early course → TakesLaid l course
-  newer_ends early is course e =
-      early_checked (string_bytes l.new_root) l.news (λ B. TakesChecked (string_bytes l.old_root) l.olds (λ A c. c ≡ make_course A B l.calls)) early is course e
+  -- one of the trees isn't checked, whose roots are these
+  pub one_ends : (early : Early) (newer older : List ℕ) → newer ≡ string_bytes l.new_root → older ≡ string_bytes l.old_root → EndsBy (IsFaultOfOne newer l.news older l.olds) early
+      → (course : Course) → TakesEarly early course → TakesLaid l course
+  one_ends early newer older new old is course e =
+      early_both (string_bytes l.new_root) (string_bytes l.old_root) l.news l.olds (λ B A c. c ≡ make_course A B l.calls) early
+      (subst (λ (r : List ℕ). EndsBy (IsFaultOfOne r l.news (string_bytes l.old_root) l.olds) early) new (subst (λ (r : List ℕ). EndsBy (IsFaultOfOne newer l.news r l.olds) early) old is)) course e
 
-  module _ (B : List Decl) (b : IsSchemaOf l.news B) where
-    -- the older one isn't
-    pub older_ends : (early : Early) → EndsBy (IsFaultAnswer (string_bytes l.old_root) l.olds) early → (course : Course) → TakesEarly early course → TakesLaid l course
-    older_ends early is course e = inr (B, b, early_checked (string_bytes l.old_root) l.olds (λ A c. c ≡ make_course A B l.calls) early is course e)
-
-    -- both are
-    pub both_ends : (A : List Decl) → IsSchemaOf l.olds A → (course : Course) → course ≡ make_course A B l.calls → TakesLaid l course
-    both_ends A a course e = inr (B, b, inr (A, a, e))
+  -- both are
+  pub both_ends : (A B : List Decl) → IsSchemaOf l.news B → IsSchemaOf l.olds A → (course : Course) → course ≡ make_course A B l.calls → TakesLaid l course
+  both_ends A B b a course e = inr (B, b, inr (A, a, e))
 
 -- How it ends, of writes that are meant whatever the files were.
 module _ (ws : List Write) (takes : Takes) (before now : Seen) where

@@ -8,10 +8,11 @@ use Rattle.aidl_schema.specs.Broken.{Break, broken}
 use Rattle.aidl_schema.specs.declared.schema.Decl.{Decl}
 use Rattle.call_scripts.specs.Script.{script}
 use Rattle.run_command.specs.CallLines.{lines_of}
-use Rattle.run_command.specs.Running.{line_course, Takes, TakesChecked}
+use Rattle.run_command.specs.Running.{line_course, Takes}
 use Rattle.tool_frame.specs.Answer.{Answer, line}
-use Rattle.tool_frame.specs.Course.{Course, at_once}
+use Rattle.tool_frame.specs.Course.{AtOnce, Course, at_once}
 use Rattle.tool_frame.specs.declared.verdict.Verdict.TheVariants.{Done}
+use Rattle.tree_commands.specs.ByTree.{ByBoth}
 use Rattle.tree_commands.specs.Judged.{judged}
 use Rattle.make_command.specs.Tally.{Counts, counted, nothing}
 use Rattle.aidl_base.specs.declared.source_file.SourceFile.{SourceFile}
@@ -91,8 +92,7 @@ AreMade sources files = map file_seen sources ≡ files
 -- by the schemas of the files that were written; where a tree isn't checked, that is printed at once
 abbrev pub MakeTakes : ℕ → List ℕ → Takes
 MakeTakes n out course = (news olds : List SourceFile) × AreMade news (new_files n) × AreMade olds (old_files n)
-    × TakesChecked (new_root out) news
-    (λ B. TakesChecked (old_root out) olds (λ A c. c ≡ make_course A B (calls_text n))) course
+    × ByBoth AtOnce (new_root out) news (old_root out) olds (λ B A c. c ≡ make_course A B (calls_text n)) course
 
 -- `make N OUT`
 abbrev pub makes : ℕ → List ℕ → Meaning

@@ -20,7 +20,7 @@ use aidl_outside::{Link, Sink, Store, StoreFault, path_below};
 use run_command::Prepared;
 use std::alloc::Global;
 use tool_frame::{Early, Exit, print};
-use tree_commands::check_tree;
+use tree_commands::check_both;
 
 /// Runs `make N OUT`: writes two trees of N parcelables and N interfaces each and a calls file, checks both trees, judges the newer one
 /// after the older one, and runs the calls from the newer to the older one. The answer is the exit.
@@ -202,8 +202,7 @@ fn check_laid(alloc: Global, laid: Laid) -> Result<Prepared, Early>
     } = laid;
     let newer = new_root.as_str();
     let older = old_root.as_str();
-    let client = check_tree(alloc, newer, news)?;
-    let server = check_tree(alloc, older, olds)?;
+    let (client, server) = check_both(alloc, newer, news, older, olds)?;
     Ok(Prepared {
         text: calls.into_vec(),
         client,

@@ -7,7 +7,8 @@ use Rattle.std.proofs.lemmas.Bool.{eqb-true, or_cases}
 use Rattle.hex.specs.Hex.{◌>>=◌, decode_of, decode_pairs, digit_or_error, hex_digit_value}
 use Rattle.hex.specs.declared.error.FromHexError.{FromHexError}
 use Rattle.hex.specs.declared.error.FromHexError.TheVariants.{OddLength}
-use Rattle.parcel_commands.specs.HexadecimalFile.{hexadecimal, is_blank}
+use Rattle.aidl_base.specs.Blanks.{is_blank}
+use Rattle.parcel_commands.specs.HexadecimalFile.{hexadecimal}
 
 without_blanks : List ℕ → List ℕ
 without_blanks = filter (λ b. not (is_blank b))

@@ -6,4 +6,3 @@ mod NamedBases
 mod Planned
 mod ReadValues
 mod WriteValues
-mod TaskSteps

@@ -4,7 +4,8 @@ ghost use Rattle.std.specs.List.{filter};
 ghost use Rattle.std.specs.Option.{option_map};
 ghost use Rattle.std.specs.Result.{result_ok};
 ghost use Rattle.hex.specs.Hex.{decode_of};
-ghost use Rattle.parcel_commands.specs.HexadecimalFile.{hexadecimal, is_blank};
+ghost use Rattle.aidl_base.specs.Blanks.{is_blank};
+ghost use Rattle.parcel_commands.specs.HexadecimalFile.{hexadecimal};
 
 use aidl_base::OutOfMemory;
 use hex::FromHexError;

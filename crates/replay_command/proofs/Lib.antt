@@ -1,2 +1,1 @@
 mod Replayed
-mod ReplaySteps

@@ -8,17 +8,13 @@ use Rattle.aidl_schema.specs.Find.{interface_named}
 use Rattle.parcel_replay.specs.Traced.{Traced, other, not_trace, too_large, request, traced}
 use Rattle.run_command.specs.CallLines.{lines_of, lines_held}
 use Rattle.run_command.specs.LineText.{called_text, values_text}
-use Rattle.tool_frame.specs.Answer.{◌>>=◌, Answer, Found, line, negative, Then}
+use Rattle.tool_frame.specs.Answer.{◌>>=◌, Answer, Found, line, negative}
 use Rattle.tool_frame.specs.declared.verdict.Verdict.TheVariants.{Done}
 use Rattle.wire_model.specs.Calls.{arguments}
 use Rattle.wire_model.specs.Receiver.{Received, left, called, stub}
 use Rattle.wire_model.specs.Typed.{types_of}
-use Rattle.aidl_base.specs.declared.limit.LimitName.TheVariants.{TextBytes}
-use Rattle.aidl_base.specs.declared.source_file.SourceFile.{SourceFile}
 use Rattle.aidl_outside.specs.Files.{Files}
-use Rattle.tree_commands.specs.InTree.{Checked}
-use Rattle.tool_frame.specs.Refusals.{file_at, there}
-use Rattle.tool_frame.specs.Trees.{OverTree, tree_at}
+use Rattle.tree_commands.specs.InTree.{OfFile}
 
 -- a request's line that isn't read again, with the name of the refusal
 abbrev pub refused_line : ℕ → List ℕ → List ℕ
@@ -61,16 +57,7 @@ abbrev pub replay_answer : List Decl → List ℕ → List ℕ → Answer
 replay_answer S name trace = interface_found name (interface_named S name) >>=
     λ i. record { text = replayed_text S i 1 (lines_of trace); verdict = Done }
 
--- once all is loaded: the limits of TRACE; all else of SERVER; `no interface`, and then the lines
-abbrev pub ReplaysLoaded : List ℕ → List ℕ → Found (List ℕ) → List SourceFile → Answer → Type 0
-ReplaysLoaded server interface held sources =
-    Then (lines_held held) (λ text. Checked server sources (λ S answer. answer ≡ replay_answer S interface text))
-
--- of a file that is there: the limits of SERVER's files; then all else
-abbrev pub ReplaysFile : List ℕ → List ℕ → Files → Found (List ℕ) → Answer → Type 0
-ReplaysFile server interface files held = OverTree (tree_at files server) (ReplaysLoaded server interface held)
-
--- `replay SERVER INTERFACE TRACE`
+-- `replay SERVER INTERFACE TRACE`: the limits of TRACE refuse its bytes
 abbrev pub ReplayAnswers : List ℕ → List ℕ → List ℕ → Files → Answer → Type 0
-ReplayAnswers server interface trace files =
-    Then (there trace (file_at TextBytes files trace)) (ReplaysFile server interface files)
+ReplayAnswers server interface trace =
+    OfFile lines_held (Some server) trace (λ text S answer. answer ≡ replay_answer S interface text)

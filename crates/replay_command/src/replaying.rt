@@ -5,7 +5,7 @@ ghost use Rattle.replay_command.specs.Replaying.{ReplayAnswers, replay_answer, r
 ghost use Rattle.tool_frame.specs.Asks.{AsksTree};
 ghost use Rattle.tool_frame.specs.Ended.{Ended};
 ghost use Rattle.tool_frame.specs.Exit.{number_of};
-ghost use Rattle.tool_frame.specs.Halts.{Reads};
+ghost use Rattle.tool_frame.specs.Halts.{Prints};
 ghost use Rattle.tool_frame.specs.Meaning.{reads_by};
 ghost use Rattle.tool_frame.specs.Seen.{store_seen};
 ghost use Rattle.std.specs.Prelude.{◌≡◌, ◌++◌, IfOk, OnOk, string_bytes};
@@ -13,16 +13,16 @@ ghost use Rattle.run_command.specs.CallLines.{lines_of};
 ghost use Rattle.tool_frame.specs.Results.{Gives};
 
 use crate::lines::push_line;
-use aidl_base::{LimitName, OutOfMemory};
+use aidl_base::OutOfMemory;
 use aidl_outside::{Sink, Store};
 use aidl_schema::{Schema, interface_named};
 use marshal_plans::compile;
 use run_command::{Line, SidePrinter, cut, lines_loaded};
 use std::alloc::Global;
 use stub_dispatch::Side;
-use tool_frame::{Early, Exit, Halt, Printed, Verdict, end, load_existing, load_sources, refusal};
+use tool_frame::{Early, Exit, Halt, Printed, Verdict, end, refusal};
 use tool_words::ReplayWords;
-use tree_commands::check_tree;
+use tree_commands::{load_in_tree, schema_in};
 
 /// Runs `replay SERVER INTERFACE TRACE`. The answer is the exit.
 pub fn replay<S: Store, K: Sink>(
@@ -47,14 +47,13 @@ fn replay_trace<S: Store>(
     store: &mut S,
 ) -> Result<Printed, Halt>
     ensures { let seen = store_seen S.Store in let asked = asked.entry in
-        Reads (AsksFileThen asked.trace.now (AsksTree asked.server.now))
+        Prints (AsksFileThen asked.trace.now (AsksTree asked.server.now))
         (ReplayAnswers asked.server.now asked.interface.now asked.trace.now)
         (seen store.old) (seen store.new) result }
 {
-    let file = load_existing(alloc, LimitName::TextBytes, asked.trace, store)?;
-    let files = load_sources(alloc, asked.server, store)?;
+    let (file, tree) = load_in_tree(alloc, asked.trace, Some(asked.server), store)?;
     let trace = lines_loaded(alloc, file)?;
-    let schema = check_tree(alloc, asked.server, files)?;
+    let schema = schema_in(alloc, tree)?;
     let printed = replay_answer(alloc, &schema, asked.interface, trace.as_slice())?;
     Ok(printed)
 }

@@ -6,7 +6,7 @@ use Rattle.aidl_base.specs.declared.profile.Profile.{Profile}
 use Rattle.aidl_outside.specs.Faults.{SinkFaults}
 use Rattle.aidl_outside.specs.declared.link.Carried.{Carried}
 use Rattle.aidl_outside.specs.declared.link.Way.TheVariants.{Reply}
-use Rattle.aidl_outside.specs.Carries.{entry}
+use Rattle.aidl_outside.specs.Carries.{AreFaithful, entry}
 use Rattle.aidl_outside.specs.Told.{Adds}
 use Rattle.aidl_schema.specs.declared.schema.Decl.{Decl}
 use Rattle.aidl_schema.specs.Broken.{Break}
@@ -16,7 +16,7 @@ use Rattle.call_runner.specs.declared.line.LineOut.{LineOut}
 use Rattle.call_runner.specs.declared.line.LineOut.TheVariants as out
 use Rattle.call_runner.specs.declared.line.LineRun.{LineRun}
 use Rattle.call_runner.specs.declared.line.Methods.{Methods}
-use Rattle.call_runner.specs.Runs.{AreFaithful, AreNamed, IsTyped, LineRuns, NamesOf, line_data, projected}
+use Rattle.call_runner.specs.Runs.{AreNamed, IsTyped, LineRuns, NamesOf, line_data, projected}
 use Rattle.call_scripts.specs.Calls.{CallData, TargetData}
 use Rattle.call_scripts.specs.Script.{script}
 use Rattle.run_command.specs.CallLines.{lines_of}

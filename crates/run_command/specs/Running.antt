@@ -26,8 +26,8 @@ use Rattle.aidl_base.specs.declared.limit.LimitName.TheVariants.{TextBytes}
 use Rattle.aidl_base.specs.declared.source_file.SourceFile.{SourceFile}
 use Rattle.aidl_outside.specs.Files.{Files}
 use Rattle.tool_frame.specs.Refusals.{file_at, there}
-use Rattle.tool_frame.specs.Trees.{Over, tree_at}
-use Rattle.tree_commands.specs.ByTree.{ByFiles}
+use Rattle.tool_frame.specs.Trees.{tree_at}
+use Rattle.tree_commands.specs.ByTree.{ByBoth, OverBoth}
 
 -- what is put of a line in one piece: the trace lines of what was carried, where they are asked for, and then its own
 abbrev pub piece : List Decl → List Decl → Bool → ℕ → List Carried → Option Methods → LineData → List ℕ
@@ -93,14 +93,6 @@ Takes = Course → Type 0
 abbrev pub TakesThen : {A : Type 0} → Found A → (A → Takes) → Takes
 TakesThen found next course = FoundThen AtOnce found next course
 
--- over the files of a tree, or the limit that they pass
-abbrev pub TakesOver : Found (List SourceFile) → (List SourceFile → Takes) → Takes
-TakesOver tree next course = Over AtOnce tree next course
-
--- by the schema of files
-abbrev pub TakesChecked : List ℕ → List SourceFile → (List Decl → Takes) → Takes
-TakesChecked root files next course = ByFiles AtOnce root files next course
-
 -- the text of a calls file that is there and passes no limit
 abbrev pub IsCallsText : Files → List ℕ → List ℕ → Type 0
 IsCallsText files calls text = (file_at TextBytes files calls ≡ Some (Ok text)) × (within_lines text ≡ Ok text)
@@ -108,13 +100,13 @@ IsCallsText files calls text = (file_at TextBytes files calls ≡ Some (Ok text)
 -- once all is loaded: the limits of CALLS; all else of CLIENT, and of SERVER; then the judge and the lines
 abbrev pub RunsLoaded : Profile → Bool → List ℕ → List SourceFile → List ℕ → List SourceFile → Found (List ℕ) → Takes
 RunsLoaded p trace client olds server news held =
-    TakesThen (lines_held held) (λ text. TakesChecked client olds
-    (λ A. TakesChecked server news (λ B course. course ≡ run_course p A B trace text)))
+    TakesThen (lines_held held)
+    (λ text. ByBoth AtOnce client olds server news (λ A B course. course ≡ run_course p A B trace text))
 
 -- `run [--trace] [--lenient] CLIENT SERVER CALLS`: `no file`; the limits of CLIENT's files, and of SERVER's; then
 -- all else
 abbrev pub RunTakes : Profile → Bool → List ℕ → List ℕ → List ℕ → Files → Takes
 RunTakes p trace client server calls files =
-    TakesThen (there calls (file_at TextBytes files calls)) (λ held.
-    TakesOver (tree_at files client) (λ olds.
-    TakesOver (tree_at files server) (λ news. RunsLoaded p trace client olds server news held)))
+    TakesThen (there calls (file_at TextBytes files calls))
+    (λ held. OverBoth AtOnce (tree_at files client) (tree_at files server)
+    (λ olds news. RunsLoaded p trace client olds server news held))

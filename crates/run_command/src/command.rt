@@ -27,7 +27,7 @@ use call_scripts::law_script_fits;
 use std::alloc::Global;
 use tool_frame::{Exit, Halt, end, load_existing};
 use tool_words::RunWords;
-use tree_commands::{check_tree, load_both};
+use tree_commands::{check_both, load_both};
 use wire_model::law_call_none;
 
 /// Runs `run [--trace] [--lenient] CLIENT SERVER CALLS`. The answer is the exit.
@@ -78,8 +78,7 @@ fn prepare<S: Store>(alloc: Global, asked: RunWords<'_>, store: &mut S) -> Resul
     let file = load_existing(alloc, LimitName::TextBytes, asked.calls, store)?;
     let (olds, news) = load_both(alloc, asked.client, asked.server, store)?;
     let text = lines_loaded(alloc, file)?;
-    let client = check_tree(alloc, asked.client, olds)?;
-    let server = check_tree(alloc, asked.server, news)?;
+    let (client, server) = check_both(alloc, asked.client, olds, asked.server, news)?;
     Ok(Prepared {
         text,
         client,

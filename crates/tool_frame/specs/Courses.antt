@@ -1,6 +1,7 @@
 -- How a run of one course goes: what it left of the outside, which told its files or not (own).
-use Rattle.std.specs.Prelude.{◌≡◌, ◌≢◌, ℕ, ◌⊎◌, Bool, true, List, [], ◌++◌, Option, Some, None, All}
+use Rattle.std.specs.Prelude.{◌≡◌, ◌≢◌, ℕ, ◌⊎◌, Bool, true, List, [], ◌++◌, Option, Some, None}
 use Rattle.aidl_outside.specs.declared.link.Carried.{Carried}
+use Rattle.aidl_outside.specs.Carries.{AreFaithful}
 use Rattle.aidl_outside.specs.Causes.{Rose}
 use Rattle.aidl_outside.specs.Faults.{FailedIn, LinkFaults, SinkFaults, untold}
 use Rattle.aidl_outside.specs.Told.{Adds, AddsFront}
@@ -17,10 +18,6 @@ use Rattle.tool_frame.specs.Verdict.{exit_of, IsVerdict}
 -- the parcel that a course has due after some entries
 abbrev pub due_in : Course → List Carried → Option Parcel → Type 0
 due_in course entries parcel = parcel ≡ due_after course entries
-
--- each parcel was delivered as it was sent
-abbrev pub AreFaithful : List Carried → Type 0
-AreFaithful entries = All (λ (entry : Carried). entry.delivered ≡ entry.sent) entries
 
 -- The parcels that were carried: those that the log gained, each the one that was due, and delivered as it was sent
 -- by a faithful link.

@@ -80,12 +80,16 @@ StopsAtCarry m before now parcel files = (entries : List Carried) × CarriedThes
     × (answer : Answer) × m.answers files entries answer
     × Adds before.told now.told answer.text
 
+-- the exits of words with a meaning: a verdict, or why there is none
+abbrev pub IsExit : ℕ → Type 0
+IsExit exit = IsVerdict exit ⊎ ((exit ≡ number_of StoreFailed)
+    ⊎ ((exit ≡ number_of SinkFailed) ⊎ ((exit ≡ number_of OutOfMemory) ⊎ (exit ≡ number_of LinkFailed))))
+
 pub record Ended (m : Meaning) (before now : Seen) (exit : ℕ) : Type 0 where
   -- the exits; that of the store, the sink or the link comes only where its count of faults rose, and after any
   -- other exit its faults are as they were; that of the link never comes where nothing is carried; and the link is
   -- as faithful as before
-  pub exits : IsVerdict exit ⊎ ((exit ≡ number_of StoreFailed)
-      ⊎ ((exit ≡ number_of SinkFailed) ⊎ ((exit ≡ number_of OutOfMemory) ⊎ (exit ≡ number_of LinkFailed))))
+  pub exits : IsExit exit
   pub store_fault : exit ≡ number_of StoreFailed → Rose before.store_faults now.store_faults
   pub store_good : exit ≢ number_of StoreFailed → now.store_faults ≡ before.store_faults
   pub sink_fault : exit ≡ number_of SinkFailed → Rose before.sink_faults now.sink_faults

@@ -62,5 +62,5 @@ Loads asks view found before now result =
     Gets asks (λ files x. found files ≡ Ok (view x)) (λ files a. found files ≡ Err a) before now result
 
 -- what is printed, also where it is a refusal, is an answer that is meant by the files
-abbrev pub Reads : Asks → (Files → Answer → Type 0) → StoreSeen → StoreSeen → Result Printed Halt → Type 0
-Reads asks means before now result = Gets asks (λ files p. means files (printed p)) means before now result
+abbrev pub Prints : Asks → (Files → Answer → Type 0) → StoreSeen → StoreSeen → Result Printed Halt → Type 0
+Prints asks means before now result = Gets asks (λ files p. means files (printed p)) means before now result

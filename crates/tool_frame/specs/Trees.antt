@@ -10,7 +10,7 @@ use Rattle.aidl_base.specs.Limits.{limit_number}
 use Rattle.aidl_base.specs.Results.{◌>>=◌}
 use Rattle.aidl_outside.specs.Files.{Files, listing, path_below}
 use Rattle.tool_words.specs.Entries.{ends_with}
-use Rattle.tool_frame.specs.Answer.{Answer, AsAnswer, Found, FoundThen, Refusing, limit_passed}
+use Rattle.tool_frame.specs.Answer.{Found, limit_passed}
 use Rattle.tool_frame.specs.Refusals.{file_at}
 
 -- the path is that of a file of AIDL
@@ -54,11 +54,3 @@ tree_seen (Err limit) = Err (limit_passed limit.which)
 -- no file passes the limit `file-bytes`
 abbrev pub AreShort : List SourceFile → Type 0
 AreShort files = All (λ (file : SourceFile). length file.bytes ≤ limit_number limit.FileBytes) files
-
--- what comes of the tree below a root: of the limit that its files pass, or of these
-abbrev pub Over : {A : Type 0} → Refusing A → Found (List SourceFile) → (List SourceFile → A → Type 0) → A → Type 0
-Over Refuses tree next x = FoundThen Refuses tree next x
-
--- what is answered over it
-abbrev pub OverTree : Found (List SourceFile) → (List SourceFile → Answer → Type 0) → Answer → Type 0
-OverTree tree next answer = Over AsAnswer tree next answer

@@ -21,6 +21,11 @@ ends_with Is Good (Ok text) early h good is = ends_as Is early (refused (string_
 ends_with Is Good (Err fault) early h good is = subst (EndsBy Is) (sym h) tt
 
 -- by what implies it
+pub ends_more : (Is Also : Answer → Type 0) (early : Early) → ((a : Answer) → Is a → Also a) → EndsBy Is early → EndsBy Also early
+ends_more Is Also (Answered p) more h = more _ h
+ends_more Is Also OutOfMemory more h = tt
+
+-- the same of what is given
 pub gives_more : (Is Also : Answer → Type 0) (early : Early) → ((a : Answer) → Is a → Also a) → EndsBy Is early → GivesOne (Err early) Also
 gives_more Is Also (Answered p) more h = more _ h
 gives_more Is Also OutOfMemory more h = tt
@@ -30,8 +35,3 @@ pub gives_as : (Is : Answer → Type 0) (result : Result Printed Early) (answer 
 gives_as Is (Ok p) answer h is = subst Is (sym h) is
 gives_as Is (Err (Answered p)) answer h is = subst Is (sym h) is
 gives_as Is (Err OutOfMemory) answer h is = tt
-
-pub gives_also : (Is Also : Answer → Type 0) (result : Result Printed Early) → ((a : Answer) → Is a → Also a) → GivesOne result Is → GivesOne result Also
-gives_also Is Also (Ok p) more h = more _ h
-gives_also Is Also (Err (Answered p)) more h = more _ h
-gives_also Is Also (Err OutOfMemory) more h = tt

@@ -4,8 +4,8 @@ use Rattle.std.specs.Fmt.{decimal}
 use Rattle.aidl_base.specs.declared.source_file.SourceFile.{SourceFile}
 use Rattle.aidl_outside.specs.Files.{Files}
 use Rattle.aidl_schema.specs.declared.schema.Decl.{Decl}
-use Rattle.tool_frame.specs.Answer.{Answer, AsAnswer, done}
-use Rattle.tool_frame.specs.Trees.{OverTree, tree_at}
+use Rattle.tool_frame.specs.Answer.{Answer, AsAnswer, done, Then}
+use Rattle.tool_frame.specs.Trees.{tree_at}
 use Rattle.tree_commands.specs.ByTree.{ByFiles}
 
 -- `ok N types`, N the number of declarations
@@ -18,4 +18,4 @@ IsCheckAnswer root files answer = ByFiles AsAnswer root files (λ schema a. a �
 
 -- `check TREE`
 abbrev pub CheckAnswers : List ℕ → Files → Answer → Type 0
-CheckAnswers root files = OverTree (tree_at files root) (IsCheckAnswer root)
+CheckAnswers root files = Then (tree_at files root) (IsCheckAnswer root)

@@ -8,4 +8,5 @@ pub mod steps
 pub mod Results
 pub mod Both
 pub mod InTree
+pub mod Named
 pub mod Opens

@@ -5,10 +5,10 @@ use Rattle.aidl_outside.specs.Asks.{Asks, ◌also◌}
 use Rattle.aidl_outside.specs.Files.{Files}
 use Rattle.aidl_schema.specs.declared.schema.Decl.{Decl}
 use Rattle.aidl_schema.specs.declared.schema.Schema.{Schema}
-use Rattle.tool_frame.specs.Answer.{Answer, Found}
+use Rattle.tool_frame.specs.Answer.{Answer, Found, Then}
 use Rattle.tool_frame.specs.Asks.{AsksTree}
 use Rattle.tool_frame.specs.Due.{AsksWhere}
-use Rattle.tool_frame.specs.Trees.{OverTree, tree_at}
+use Rattle.tool_frame.specs.Trees.{tree_at}
 use Rattle.tree_commands.specs.Faults.{IsFaultAnswer}
 use Rattle.type_check.specs.Checked.{IsSchemaOf}
 
@@ -31,7 +31,7 @@ AsksCheckedThen root next = AsksTree root also AsksWhere (HasOne root) next
 
 -- why a tree with a root isn't checked: the limit that its files pass, or what refuses these
 abbrev pub Unchecked : List ℕ → Found (List SourceFile) → Answer → Type 0
-Unchecked root tree = OverTree tree (IsFaultAnswer root)
+Unchecked root tree = Then tree (IsFaultAnswer root)
 
 -- its schema
 abbrev pub IsOpened : List ℕ → Files → Schema → Type 0

@@ -1,10 +1,11 @@
 //! The command `check`, and the schema of a tree for each command that needs it, or what is printed of its refusal.
 ghost use Rattle.tool_frame.specs.Outside.{LinkSeen, seen_beside};
+ghost use Rattle.tree_commands.specs.Both.{IsFaultOfOne};
 ghost use Rattle.tree_commands.specs.Checked.{CheckAnswers, IsCheckAnswer, accepted};
 ghost use Rattle.tool_frame.specs.Asks.{AsksTree};
 ghost use Rattle.tool_frame.specs.Ended.{Ended};
 ghost use Rattle.tool_frame.specs.Exit.{number_of};
-ghost use Rattle.tool_frame.specs.Halts.{Reads};
+ghost use Rattle.tool_frame.specs.Halts.{Prints};
 ghost use Rattle.tool_frame.specs.Meaning.{reads_by};
 ghost use Rattle.tool_frame.specs.Seen.{store_seen};
 ghost use Rattle.std.specs.Prelude.{◌≡◌, ◌++◌, codes, IfOk, IfErr, string_bytes};
@@ -36,7 +37,7 @@ pub fn check<S: Store, K: Sink>(alloc: Global, root: &str, store: &mut S, sink: 
 // What is answered of the tree below a root.
 fn check_root<S: Store>(alloc: Global, root: &str, store: &mut S) -> Result<Printed, Halt>
     ensures { let seen = store_seen S.Store in
-        Reads (AsksTree root.now) (CheckAnswers root.now) (seen store.old) (seen store.new) result }
+        Prints (AsksTree root.now) (CheckAnswers root.now) (seen store.old) (seen store.new) result }
 {
     let files = load_sources(alloc, root, store)?;
     let printed = check_answer(alloc, root, files)?;
@@ -55,6 +56,23 @@ pub fn check_tree(alloc: Global, root: &str, files: Row<SourceFile>) -> Result<S
         Ok(schema) => Ok(schema),
         Err(fault) => Err(fault_answer(alloc, root, sources, fault)),
     }
+}
+
+/// The schemas of the files of two trees with their roots, or what is printed of the first tree that isn't checked. Memory may be
+/// wanted.
+pub fn check_both(
+    alloc: Global,
+    first: &str,
+    olds: Row<SourceFile>,
+    second: &str,
+    news: Row<SourceFile>,
+) -> Result<(Schema, Schema), Early>
+    ensures ok { IfOk result (λ both. IsSchemaOf olds both.0.decls × IsSchemaOf news both.1.decls) }
+    ensures err { IfErr result (EndsBy (IsFaultOfOne first.now olds second.now news)) }
+{
+    let old = check_tree(alloc, first, olds)?;
+    let new = check_tree(alloc, second, news)?;
+    Ok((old, new))
 }
 
 /// What `check` prints of the files of a tree with a root: `ok N types`, N the number of declarations; or what is printed of a

@@ -2,22 +2,21 @@
 ghost use Rattle.std.specs.Prelude.{◌≡◌, ◌++◌, codes, IfOk, OnOk, map, string_bytes};
 ghost use Rattle.tool_frame.specs.Due.{AsksTreeThen};
 ghost use Rattle.tool_frame.specs.Outside.{LinkSeen, seen_beside};
-ghost use Rattle.tree_commands.specs.Judged.{JudgeAnswers, IsJudgeAnswer, IsSecondAnswer, break_line, judged};
+ghost use Rattle.tree_commands.specs.Judged.{JudgeAnswers, break_line, judged};
 ghost use Rattle.tool_frame.specs.Asks.{AsksTree};
 ghost use Rattle.tool_frame.specs.Ended.{Ended};
 ghost use Rattle.tool_frame.specs.Exit.{number_of};
-ghost use Rattle.tool_frame.specs.Halts.{Reads};
+ghost use Rattle.tool_frame.specs.Halts.{Prints};
 ghost use Rattle.tool_frame.specs.Meaning.{reads_by};
 ghost use Rattle.tool_frame.specs.Seen.{store_seen};
 ghost use Rattle.std.specs.List.{flat_map};
 ghost use Rattle.aidl_schema.specs.Broken.{broken};
 ghost use Rattle.compat_judge.specs.Seen.{seen};
-ghost use Rattle.tool_frame.specs.Answer.{line};
-ghost use Rattle.tool_frame.specs.Results.{Gives, GivesOne};
+ghost use Rattle.tool_frame.specs.Answer.{done, line};
+ghost use Rattle.tool_frame.specs.Results.{Gives};
 
-use crate::checking::check_tree;
-use crate::loading::load_both;
-use aidl_base::{OutOfMemory, Row, SourceFile};
+use crate::opening::open_both;
+use aidl_base::OutOfMemory;
 use aidl_outside::{Sink, Store};
 use aidl_schema::Schema;
 use compat_judge::Broken;
@@ -49,62 +48,37 @@ fn judge_roots<S: Store>(
     store: &mut S,
 ) -> Result<Printed, Halt>
     ensures { let seen = store_seen S.Store in
-        Reads (AsksTreeThen old.now (AsksTree new.now)) (JudgeAnswers old.now new.now)
+        Prints (AsksTreeThen old.now (AsksTree new.now)) (JudgeAnswers old.now new.now)
         (seen store.old) (seen store.new) result }
 {
-    let (olds, news) = load_both(alloc, old, new, store)?;
-    let printed = judge_answer(alloc, old, olds, new, news)?;
+    let (older, newer) = open_both(alloc, old, new, store)?;
+    let printed = judge_schemas(alloc, &older, &newer)?;
     Ok(printed)
 }
 
-/// What `judge` prints of the files of two trees with their roots: what is printed of the first where it isn't checked, and else
-/// of the second; `yes`; or with exit 1 one line `C10 PLACE` per broken evolution rule. Memory may be wanted.
-pub fn judge_answer(
-    alloc: Global,
-    old_root: &str,
-    old_files: Row<SourceFile>,
-    new_root: &str,
-    new_files: Row<SourceFile>,
-) -> Result<Printed, Early>
-    ensures { GivesOne result (IsJudgeAnswer old_root.now old_files new_root.now new_files) }
-{
-    match check_tree(alloc, old_root, old_files) {
-        Ok(old) => judge_second(alloc, &old, new_root, new_files),
-        Err(early) => Err(early),
-    }
-}
-
-// What is printed once the first tree is checked.
-fn judge_second(
-    alloc: Global,
-    old: &Schema,
-    new_root: &str,
-    new_files: Row<SourceFile>,
-) -> Result<Printed, Early>
-    ensures { GivesOne result (IsSecondAnswer old.now.decls new_root.now new_files) }
-{
-    match check_tree(alloc, new_root, new_files) {
-        Ok(new) => judge_schemas(alloc, old, &new),
-        Err(early) => Err(early),
-    }
-}
-
-// What is printed of two schemas.
+// What is printed of two schemas: `yes`, or with exit 1 one line `C10 PLACE` per broken evolution rule.
 fn judge_schemas(alloc: Global, old: &Schema, new: &Schema) -> Result<Printed, Early>
     ensures { Gives result (judged (broken old.now.decls new.now.decls)) }
 {
     let rows = compat_judge::judge(alloc, old, new)?;
     if rows.len() == 0 {
-        let text = yes_line(alloc)?;
-        return Ok(Printed {
-            text,
-            verdict: Verdict::Done,
-        });
+        return answer_yes(alloc);
     }
     let text = judge_lines(alloc, rows.as_slice())?;
     Ok(Printed {
         text,
         verdict: Verdict::Negative,
+    })
+}
+
+/// The line `yes`, with exit 0.
+pub fn answer_yes(alloc: Global) -> Result<Printed, Early>
+    ensures { Gives result (done (codes "yes")) }
+{
+    let text = yes_line(alloc)?;
+    Ok(Printed {
+        text,
+        verdict: Verdict::Done,
     })
 }
 

@@ -5,7 +5,7 @@ ghost use Rattle.version_commands.specs.steps.Verifying.{AreVersions, IsRefused}
 ghost use Rattle.api_versions.specs.Asks.{AsksVersions};
 ghost use Rattle.tool_frame.specs.Ended.{Ended};
 ghost use Rattle.tool_frame.specs.Exit.{number_of};
-ghost use Rattle.tool_frame.specs.Halts.{Gets, Reads};
+ghost use Rattle.tool_frame.specs.Halts.{Gets, Prints};
 ghost use Rattle.tool_frame.specs.Meaning.{reads_by};
 ghost use Rattle.tool_frame.specs.Seen.{store_seen};
 ghost use Rattle.std.specs.Prelude.{◌≡◌, ◌++◌, true, IfOk, OnOk, string_bytes};
@@ -36,7 +36,7 @@ pub fn verify<S: Store, K: Sink>(alloc: Global, api: &str, store: &mut S, sink: 
 // What is answered of the versions of an API.
 fn verify_versions<S: Store>(alloc: Global, api: &str, store: &mut S) -> Result<Printed, Halt>
     ensures { let seen = store_seen S.Store in
-        Reads (AsksVersions api.now) (VerifyAnswers api.now)
+        Prints (AsksVersions api.now) (VerifyAnswers api.now)
         (seen store.old) (seen store.new) result }
 {
     let versions = load_versions(alloc, api, store)?;

@@ -7,5 +7,4 @@ mod sides;
 mod values;
 mod witnessing;
 
-pub use values::{push_value, push_values};
 pub use witnessing::witness;

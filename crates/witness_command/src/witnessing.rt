@@ -1,30 +1,29 @@
 //! The command `witness`: the evolution rules that a new tree breaks, each with a call that shows it or the reason why none is shown.
 ghost use Rattle.tool_frame.specs.Due.{AsksTreeThen};
 ghost use Rattle.tool_frame.specs.Outside.{LinkSeen, seen_beside};
-ghost use Rattle.witness_command.specs.Witnessed.{WitnessAnswers, IsListed, IsSecondAnswer, IsWitnessAnswer, IsWitnessed};
+ghost use Rattle.witness_command.specs.Witnessed.{WitnessAnswers, IsListed, IsWitnessed};
 ghost use Rattle.tool_frame.specs.Asks.{AsksTree};
 ghost use Rattle.tool_frame.specs.Ended.{Ended};
 ghost use Rattle.tool_frame.specs.Exit.{number_of};
-ghost use Rattle.tool_frame.specs.Halts.{Reads};
+ghost use Rattle.tool_frame.specs.Halts.{Prints};
 ghost use Rattle.tool_frame.specs.Meaning.{reads_by};
 ghost use Rattle.tool_frame.specs.Seen.{store_seen};
-ghost use Rattle.std.specs.Prelude.{◌≡◌, codes, IfOk, map, string_bytes};
+ghost use Rattle.std.specs.Prelude.{◌≡◌, IfOk, map, string_bytes};
 ghost use Rattle.aidl_schema.specs.Broken.{broken};
 ghost use Rattle.compat_judge.specs.Seen.{seen};
 ghost use Rattle.stub_dispatch.specs.Planned.{ArePlansOf};
-ghost use Rattle.tool_frame.specs.Answer.{done, line};
-ghost use Rattle.tool_frame.specs.Results.{Gives, GivesOne};
+ghost use Rattle.tool_frame.specs.Results.{GivesOne};
 ghost use Rattle.witness_command.specs.Entries.{AreEntries};
 
 use crate::entries::entry_lines;
-use aidl_base::{OutOfMemory, Row, SourceFile};
+use aidl_base::OutOfMemory;
 use aidl_outside::{Sink, Store};
 use aidl_schema::Schema;
 use compat_judge::{Broken, judge};
 use marshal_plans::{Plans, compile};
 use std::alloc::Global;
 use tool_frame::{Early, Exit, Halt, Printed, Verdict, end};
-use tree_commands::{check_tree, load_both};
+use tree_commands::{answer_yes, open_both};
 use witness_calls::Version;
 use witness_search::Pair;
 
@@ -52,47 +51,15 @@ fn witness_roots<S: Store>(
     store: &mut S,
 ) -> Result<Printed, Halt>
     ensures { let seen = store_seen S.Store in
-        Reads (AsksTreeThen old.now (AsksTree new.now)) (WitnessAnswers old.now new.now)
+        Prints (AsksTreeThen old.now (AsksTree new.now)) (WitnessAnswers old.now new.now)
         (seen store.old) (seen store.new) result }
 {
-    let (olds, news) = load_both(alloc, old, new, store)?;
-    let printed = witness_answer(alloc, old, olds, new, news)?;
+    let (older, newer) = open_both(alloc, old, new, store)?;
+    let printed = answer_of_schemas(alloc, &older, &newer)?;
     Ok(printed)
 }
 
-/// What `witness` prints of the files of two trees with their roots: what is printed of the first where it isn't checked, and else
-/// of the second; `yes`; or with exit 1 the lines of each broken evolution rule, in the judge's order (own). Memory may be wanted.
-pub fn witness_answer(
-    alloc: Global,
-    old_root: &str,
-    old_files: Row<SourceFile>,
-    new_root: &str,
-    new_files: Row<SourceFile>,
-) -> Result<Printed, Early>
-    ensures { GivesOne result (IsWitnessAnswer old_root.now old_files new_root.now new_files) }
-{
-    match check_tree(alloc, old_root, old_files) {
-        Ok(old) => answer_of_second(alloc, &old, new_root, new_files),
-        Err(early) => Err(early),
-    }
-}
-
-// What is printed once the first tree is checked.
-fn answer_of_second(
-    alloc: Global,
-    old: &Schema,
-    new_root: &str,
-    new_files: Row<SourceFile>,
-) -> Result<Printed, Early>
-    ensures { GivesOne result (IsSecondAnswer old.now.decls new_root.now new_files) }
-{
-    match check_tree(alloc, new_root, new_files) {
-        Ok(new) => answer_of_schemas(alloc, old, &new),
-        Err(early) => Err(early),
-    }
-}
-
-// What is printed of two schemas.
+// What is printed of two schemas: `yes`, or with exit 1 the lines of each broken evolution rule, in the judge's order (own).
 fn answer_of_schemas(alloc: Global, old: &Schema, new: &Schema) -> Result<Printed, Early>
     ensures { GivesOne result
         (IsWitnessed old.now.decls new.now.decls (broken old.now.decls new.now.decls)) }
@@ -102,23 +69,6 @@ fn answer_of_schemas(alloc: Global, old: &Schema, new: &Schema) -> Result<Printe
         [] => answer_yes(alloc),
         some => answer_no(alloc, old, new, some),
     }
-}
-
-fn answer_yes(alloc: Global) -> Result<Printed, Early>
-    ensures { Gives result (done (codes "yes")) }
-{
-    let text = yes_line(alloc)?;
-    Ok(Printed {
-        text,
-        verdict: Verdict::Done,
-    })
-}
-
-fn yes_line(alloc: Global) -> Result<String, OutOfMemory>
-    ensures { IfOk result (λ text. string_bytes text ≡ line (codes "yes")) }
-{
-    let text = String::from_str(alloc, "yes\n")?;
-    Ok(text)
 }
 
 // The lines of what is broken, with exit 1.

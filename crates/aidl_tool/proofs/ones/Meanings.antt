@@ -10,7 +10,7 @@ use Rattle.aidl_base.specs.declared.limit.LimitName.TheVariants.{TextBytes}
 use Rattle.aidl_tool.specs.Meant.{meaning, meant_by}
 use Rattle.make_command.specs.Making.{AreMade, MakeTakes, new_root, old_root, make_course}
 use Rattle.aidl_tool.specs.OneMeaning.{IsOne, IsOneAct, MeansOne}
-use Rattle.run_command.specs.Running.{RunTakes, RunsLoaded, TakesChecked, TakesOver, TakesThen, run_course}
+use Rattle.run_command.specs.Running.{RunTakes, RunsLoaded, TakesThen, run_course}
 use Rattle.parcel_commands.specs.declared.tasks.Task.TheVariants.{Decode, Encode, Explain}
 use Rattle.aidl_tool.proofs.ones.Acting.{one_dump, one_freeze, one_rehash}
 use Rattle.aidl_tool.proofs.ones.Answers.{one_ask, one_check, one_judge, one_replay, one_task, one_verify}
@@ -25,7 +25,8 @@ use Rattle.tool_frame.specs.Refusals.{file_at, there}
 use Rattle.tool_frame.specs.Trees.{tree_at}
 use Rattle.tool_words.specs.Command.{Command, decode, encode, check, dump, freeze, verify, rehash, judge, witness, run, make, ask, explain, replay}
 use Rattle.tree_make.specs.Made.{File, calls_text, file_seen, new_files, old_files}
-use Rattle.tree_commands.proofs.lemmas.OneByTree.{by_files, by_found, by_over, same_files}
+use Rattle.tree_commands.proofs.lemmas.OneByTree.{by_both_files, by_found, by_over_both, same_files}
+use Rattle.tree_commands.specs.ByTree.{ByBoth, OverBoth}
 
 -- of a command that reads
 one_reading : (asks : Asks) (answers : Files → Answer → Type 0) → ((files : Files) (a b : Answer) → answers files a → answers files b → a ≡ b) → IsOne (reads_by asks answers)
@@ -70,36 +71,21 @@ takes_then : {X : Type 0} (next : X → Course → Type 0) → ((x : X) (c d : C
     → (found : Found X) (c d : Course) → TakesThen found next c → TakesThen found next d → c ≡ d
 takes_then next one found = by_found Same AtOnce AtOnce at_once_one next next one found
 
--- over the files of a tree
-takes_over : (next : List SourceFile → Course → Type 0) → ((files : List SourceFile) (c d : Course) → next files c → next files d → c ≡ d)
-    → (tree : Found (List SourceFile)) (c d : Course) → TakesOver tree next c → TakesOver tree next d → c ≡ d
-takes_over next one tree = by_over Same AtOnce AtOnce at_once_one next next one tree
-
--- by the schema of files
-takes_checked : (next : List Decl → Course → Type 0) → ((S : List Decl) (c d : Course) → next S c → next S d → c ≡ d)
-    → (root : List ℕ) (files : List SourceFile) (c d : Course) → TakesChecked root files next c → TakesChecked root files next d → c ≡ d
-takes_checked next one root files = by_files Same AtOnce AtOnce at_once_one next next one root files
-
 -- by the schemas of two trees, of which there is one course
 takes_both : (course : List Decl → List Decl → Course) (first second : List ℕ) (olds news : List SourceFile) (c d : Course)
-    → TakesChecked first olds (λ A. TakesChecked second news (λ B x. x ≡ course A B)) c
-    → TakesChecked first olds (λ A. TakesChecked second news (λ B x. x ≡ course A B)) d → c ≡ d
-takes_both course first second olds news =
-    takes_checked (λ A. TakesChecked second news (λ B x. x ≡ course A B))
-    (λ A. takes_checked (λ B x. x ≡ course A B) (λ B c d h k. h ∙ sym k) second news) first olds
+    → ByBoth AtOnce first olds second news (λ A B x. x ≡ course A B) c → ByBoth AtOnce first olds second news (λ A B x. x ≡ course A B) d → c ≡ d
+takes_both course = by_both_files Same AtOnce AtOnce at_once_one (λ A B x. x ≡ course A B) (λ A B x. x ≡ course A B) (λ A B c d h k. h ∙ sym k)
 
 -- `run [--trace] [--lenient] CLIENT SERVER CALLS`
 pub one_run : (p : Profile) (trace : Bool) (client server calls : List ℕ) (files : Files) (c d : Course)
     → RunTakes p trace client server calls files c → RunTakes p trace client server calls files d → c ≡ d
 one_run p trace client server calls files =
-    takes_then (λ held. TakesOver (tree_at files client) (λ olds. TakesOver (tree_at files server) (λ news. RunsLoaded p trace client olds server news held)))
-    (λ held. takes_over (λ olds. TakesOver (tree_at files server) (λ news. RunsLoaded p trace client olds server news held))
-    (λ olds. takes_over (λ news. RunsLoaded p trace client olds server news held)
-    (λ news. takes_then (λ text. TakesChecked client olds (λ A. TakesChecked server news (λ B c. c ≡ run_course p A B trace text)))
+    takes_then (λ held. OverBoth AtOnce (tree_at files client) (tree_at files server) (λ olds news. RunsLoaded p trace client olds server news held))
+    (λ held. by_over_both Same AtOnce AtOnce at_once_one (λ olds news. RunsLoaded p trace client olds server news held) (λ olds news. RunsLoaded p trace client olds server news held)
+    (λ olds news. takes_then (λ text. ByBoth AtOnce client olds server news (λ A B c. c ≡ run_course p A B trace text))
     (λ text. takes_both (λ A B. run_course p A B trace text) client server olds news)
     (lines_held held))
-    (tree_at files server))
-    (tree_at files client))
+    (tree_at files client) (tree_at files server))
     (there calls (file_at TextBytes files calls))
 
 -- files with the same paths and bytes
@@ -110,9 +96,9 @@ one_made made fs gs h k = same_files file_seen (λ f g e. (ap (λ (m : File). m.
 one_make : (n : ℕ) (out : List ℕ) (c d : Course) → MakeTakes n out c → MakeTakes n out d → c ≡ d
 one_make n out c d (news, olds, new, old, h) (others, older, newer, oldest, k) =
     takes_both (λ B A. make_course A B (calls_text n)) (new_root out) (old_root out) others older c d
-    (subst (λ (fs : List SourceFile). TakesChecked (new_root out) fs (λ B. TakesChecked (old_root out) older (λ A c. c ≡ make_course A B (calls_text n))) c)
+    (subst (λ (fs : List SourceFile). ByBoth AtOnce (new_root out) fs (old_root out) older (λ B A c. c ≡ make_course A B (calls_text n)) c)
     (one_made (new_files n) news others new newer)
-    (subst (λ (fs : List SourceFile). TakesChecked (new_root out) news (λ B. TakesChecked (old_root out) fs (λ A c. c ≡ make_course A B (calls_text n))) c)
+    (subst (λ (fs : List SourceFile). ByBoth AtOnce (new_root out) news (old_root out) fs (λ B A c. c ≡ make_course A B (calls_text n)) c)
     (one_made (old_files n) olds older old oldest) h))
     k
 

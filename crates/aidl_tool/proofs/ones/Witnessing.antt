@@ -3,12 +3,11 @@ use Rattle.std.proofs.Common.{◌≡◌, ℕ, List, [], ◌∷◌, ◌++◌, Opt
 use Rattle.aidl_outside.specs.Files.{Files}
 use Rattle.aidl_schema.specs.Broken.{Break, broken}
 use Rattle.aidl_schema.specs.declared.schema.Decl.{Decl}
-use Rattle.witness_command.specs.Witnessed.{WitnessAnswers, WitnessesSecond, IsSecondAnswer, IsWitnessAnswer, IsWitnessed}
-use Rattle.aidl_tool.proofs.ones.Answers.{checked_one, over_one}
+use Rattle.witness_command.specs.Witnessed.{WitnessAnswers, IsWitnessed}
+use Rattle.aidl_tool.proofs.ones.Answers.{in_both_one}
 use Rattle.compat_witness.specs.Candidates.{Candidate}
 use Rattle.compat_witness.specs.Rows.{Row}
 use Rattle.tool_frame.specs.Answer.{Answer}
-use Rattle.tool_frame.specs.Trees.{tree_at}
 use Rattle.tree_commands.specs.Faults.{refused}
 use Rattle.tree_commands.specs.Judged.{break_line}
 use Rattle.witness_command.specs.Entries.{AreEntries, IsEntry, shown_lines}
@@ -53,9 +52,4 @@ module _ (old new : List Decl) where
 
 -- `witness OLD NEW`
 pub one_witness : (old new : List ℕ) (files : Files) (a b : Answer) → WitnessAnswers old new files a → WitnessAnswers old new files b → a ≡ b
-one_witness old new files =
-    over_one (WitnessesSecond old new files)
-    (λ olds. over_one (λ news. IsWitnessAnswer old olds new news)
-    (λ news. checked_one (λ A. IsSecondAnswer A new news) (λ A. checked_one (λ B. IsWitnessed A B (broken A B)) (λ B. one_witnessed A B (broken A B)) new news) old olds)
-    (tree_at files new))
-    (tree_at files old)
+one_witness old new = in_both_one (λ A B. IsWitnessed A B (broken A B)) (λ A B. one_witnessed A B (broken A B)) old new

@@ -8,27 +8,19 @@ use Rattle.aidl_outside.specs.Told.{Adds, Tells}
 use Rattle.aidl_outside.proofs.lemmas.Telling.{tells}
 use Rattle.aidl_schema.specs.Broken.{Break, broken}
 use Rattle.aidl_schema.specs.declared.schema.Decl.{Decl}
-use Rattle.tree_commands.specs.Opens.{HasSchema}
 use Rattle.aidl_tool.specs.Headline.{Headline}
 use Rattle.tree_commands.specs.Opens.{IsChecked}
 use Rattle.tree_commands.specs.Judged.{JudgeAnswers}
 use Rattle.aidl_tool.proofs.Kept.{JudgeKeeps, headline}
 use Rattle.aidl_tool.proofs.ones.Answers.{one_judge}
-use Rattle.tool_frame.specs.Answer.{Answer, Found}
+use Rattle.tool_frame.specs.Answer.{Answer}
 use Rattle.tool_frame.specs.Ended.{Ended, EndsAsMeant}
 use Rattle.tool_frame.specs.Meaning.{reads_by}
 use Rattle.tool_frame.specs.Seen.{Seen}
-use Rattle.tool_frame.specs.Trees.{OverTree, tree_at}
+use Rattle.tree_commands.proofs.lemmas.Reading.{in_both_checked}
 use Rattle.tool_frame.specs.Verdict.{IsVerdict, exit_of}
 use Rattle.tool_words.specs.Command.{judge}
-use Rattle.tree_commands.specs.Judged.{IsJudgeAnswer, judged}
-
--- the judge's answer by the schemas of two trees is one that is meant
-judged_by : (old new : List ℕ) (first second : Found (List SourceFile)) (A B : List Decl) → HasSchema first A → HasSchema second B
-    → OverTree first (λ olds. OverTree second (λ news. IsJudgeAnswer old olds new news)) (judged (broken A B))
-judged_by old new (Ok olds) (Ok news) A B a b = inr (A, a, inr (B, b, refl))
-judged_by old new (Ok olds) (Err passed) A B a b = absurd b
-judged_by old new (Err passed) second A B a b = absurd a
+use Rattle.tree_commands.specs.Judged.{judged}
 
 broken_exit : (bs : List Break) → bs ≢ [] → exit_of (judged bs).verdict ≡ 1
 broken_exit [] some = absurd (some refl)
@@ -51,7 +43,7 @@ module _ (asks : Asks) (old new : List ℕ) (before now : Seen) (exit : ℕ) whe
   }
     where
       one : (A B : List Decl) → IsChecked files old A → IsChecked files new B → (answer : Answer) → JudgeAnswers old new files answer → answer ≡ judged (broken A B)
-      one A B a b answer is = one_judge old new files answer (judged (broken A B)) is (judged_by old new (tree_at files old) (tree_at files new) A B a b)
+      one A B a b answer is = one_judge old new files answer (judged (broken A B)) is (in_both_checked old new files (λ A B answer. answer ≡ judged (broken A B)) (judged (broken A B)) A B a b refl)
 
       exits : (A B : List Decl) → IsChecked files old A → IsChecked files new B → IsVerdict exit → exit ≡ exit_of (judged (broken A B)).verdict
       exits A B a b verdict = let e = ends verdict in e.5 ∙ ap (λ (x : Answer). exit_of x.verdict) (one A B a b e.3 e.4)

@@ -13,7 +13,7 @@ use Rattle.type_check.specs.declared.fault.CheckFault.{CheckFault}
 use Rattle.type_check.specs.declared.fault.CheckFault.TheVariants as fault
 use Rattle.type_check.specs.Checked.{IsSchemaOf}
 use Rattle.type_check.specs.Refusals.{IsRefusal}
-use Rattle.tree_commands.specs.ByTree.{ByFiles}
+use Rattle.tree_commands.specs.ByTree.{ByBoth, ByFiles, OverBoth}
 use Rattle.tree_commands.specs.Faults.{AreSyntaxLines, IsAnswerOf, IsLineOf, IsSyntaxLine, refused}
 use Rattle.tree_commands.specs.Lines.{breach_line, lex_line, place_line}
 use Rattle.parse_places.proofs.Viability.{tree_or_place}
@@ -64,3 +64,13 @@ module _ {A : Type 0} (Refuses : Refusing A) (refuses : (refusal : Answer) → (
   pub by_found : {X : Type 0} (found : Found X) (next : X → A → Type 0) → ((x : X) → (y : A) × next x y) → (y : A) × FoundThen Refuses found next y
   by_found (Ok x) next goes = goes x
   by_found (Err refusal) next goes = refuses refusal
+
+  -- over the files of two trees
+  pub by_over_both : (first second : Found (List SourceFile)) (next : List SourceFile → List SourceFile → A → Type 0) → ((olds news : List SourceFile) → (y : A) × next olds news y)
+      → (y : A) × OverBoth Refuses first second next y
+  by_over_both first second next goes = by_found first (λ olds. FoundThen Refuses second (next olds)) (λ olds. by_found second (next olds) (goes olds))
+
+  -- by the schemas of the files of two trees
+  pub by_both : (old new : List ℕ) (olds news : List SourceFile) (next : List Decl → List Decl → A → Type 0) → ((S T : List Decl) → (x : A) × next S T x)
+      → (x : A) × ByBoth Refuses old olds new news next x
+  by_both old new olds news next goes = by_files old Refuses refuses olds (λ S. ByFiles Refuses new news (next S)) (λ S. by_files new Refuses refuses news (next S) (goes S))

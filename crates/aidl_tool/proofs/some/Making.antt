@@ -15,9 +15,8 @@ use Rattle.std.proofs.lemmas.Str.{IsAscii-append, chars-IsAscii, encodes-IsAscii
 use Rattle.aidl_base.specs.declared.source_file.SourceFile.{SourceFile}
 use Rattle.make_command.specs.Making.{AreMade, MakeTakes, make_writes, new_root, old_root, make_course}
 use Rattle.aidl_tool.specs.Meant.{meaning}
-use Rattle.run_command.specs.Running.{TakesChecked}
 use Rattle.aidl_tool.specs.SomeMeaning.{MeansSome}
-use Rattle.aidl_tool.proofs.some.ByTree.{by_files}
+use Rattle.aidl_tool.proofs.some.ByTree.{by_both}
 use Rattle.aidl_tool.proofs.some.Meanings.{taken}
 use Rattle.tool_frame.specs.Course.{AtOnce, Course, answer_after, due_after}
 use Rattle.tool_words.specs.Command.{make}
@@ -113,8 +112,7 @@ some_make : (n : ℕ) (out : List ℕ) → n ≤ 1000 → (course : Course) × M
 some_make n out le =
     let news = some_made NewInterface NewRecord n le in
     let olds = some_made OldInterface OldRecord n le in
-    let course = by_files (new_root out) AtOnce taken news.0 (λ B. TakesChecked (old_root out) olds.0 (λ A c. c ≡ make_course A B (calls_text n))) (λ B.
-    by_files (old_root out) AtOnce taken olds.0 (λ A c. c ≡ make_course A B (calls_text n)) (λ A. (make_course A B (calls_text n), refl))) in
+    let course = by_both AtOnce taken (new_root out) (old_root out) news.0 olds.0 (λ B A c. c ≡ make_course A B (calls_text n)) (λ B A. (make_course A B (calls_text n), refl)) in
     (course.0, (news.0, olds.0, news.1, olds.1, course.1))
 
 pub means_make : (count : ℕ) (out : List ℕ) → count ≤ 1000 → MeansSome (meaning (make count out))

@@ -10,10 +10,10 @@ use Rattle.aidl_schema.specs.declared.schema.Decl.{Decl}
 use Rattle.aidl_tool.specs.Meant.{meaning}
 use Rattle.aidl_tool.specs.SomeMeaning.{MeansSome}
 use Rattle.aidl_tool.proofs.some.ByTree.{fault_answered}
-use Rattle.aidl_tool.proofs.some.Meanings.{some_over, some_reading}
+use Rattle.aidl_tool.proofs.some.Meanings.{some_over_both, some_reading}
 use Rattle.tool_frame.specs.Answer.{Answer, AsAnswer, done}
 use Rattle.tool_words.specs.Command.{witness}
-use Rattle.tree_commands.specs.ByTree.{ByFiles}
+use Rattle.tree_commands.specs.ByTree.{ByBoth, ByFiles}
 use Rattle.tree_commands.specs.Faults.{refused}
 use Rattle.tree_commands.specs.Judged.{break_line}
 use Rattle.type_check.specs.Checked.{IsSchemaOf}
@@ -23,7 +23,7 @@ use Rattle.type_check.specs.declared.fault.CheckFault.TheVariants as fault
 use Rattle.type_check.proofs.lemmas.SomeAnswer.{checked-or-refused}
 use Rattle.type_check.proofs.lemmas.ValidOf.{schema_valid}
 use Rattle.witness_command.specs.Entries.{AreEntries, IsEntry, shown_lines}
-use Rattle.witness_command.specs.Witnessed.{IsSecondAnswer, IsWitnessAnswer, IsWitnessed, WitnessAnswers, WitnessesSecond}
+use Rattle.witness_command.specs.Witnessed.{IsWitnessed, WitnessAnswers}
 use Rattle.witness_search.proofs.lemmas.SomeWitness.{some_witness}
 
 -- Entries between valid schemas.
@@ -55,14 +55,12 @@ module _ (root : List ℕ) (files : List SourceFile) (next : List Decl → Answe
 
 -- `witness OLD NEW`
 module _ (old new : List ℕ) where
-  of_both : (olds news : List SourceFile) → (a : Answer) × IsWitnessAnswer old olds new news a
-  of_both olds news =
-      of_files old olds (λ A. IsSecondAnswer A new news) (λ A valid_old.
-      of_files new news (λ B. IsWitnessed A B (broken A B)) (λ B valid_new.
-      some_witnessed A B valid_old valid_new (broken A B) (λ b h. h)))
-
   some_witnesses : (files : Files) → (a : Answer) × WitnessAnswers old new files a
-  some_witnesses files = some_over files old (WitnessesSecond old new files) (λ olds. some_over files new (λ news. IsWitnessAnswer old olds new news) (λ news. of_both olds news))
+  some_witnesses files =
+      some_over_both files old new (λ olds news. ByBoth AsAnswer old olds new news (λ A B. IsWitnessed A B (broken A B))) (λ olds news.
+      of_files old olds (λ A. ByFiles AsAnswer new news (λ B. IsWitnessed A B (broken A B))) (λ A valid_old.
+      of_files new news (λ B. IsWitnessed A B (broken A B)) (λ B valid_new.
+      some_witnessed A B valid_old valid_new (broken A B) (λ b h. h))))
 
   pub means_witness : MeansSome (meaning (witness old new))
   means_witness = some_reading _ _ some_witnesses

@@ -5,9 +5,11 @@ use Rattle.aidl_outside.specs.Writes.{Write}
 use Rattle.make_command.specs.declared.command.Laid.{Laid}
 use Rattle.run_command.specs.declared.command.Prepared.{Prepared}
 use Rattle.make_command.specs.Making.{AreMade, file_write, new_root, old_root, make_course}
-use Rattle.run_command.specs.Running.{Takes, TakesChecked}
+use Rattle.run_command.specs.Running.{Takes}
 use Rattle.run_command.specs.steps.Running.{TakesEarly}
 use Rattle.tool_frame.specs.declared.printed.Early.{Early}
+use Rattle.tool_frame.specs.Course.{AtOnce}
+use Rattle.tree_commands.specs.ByTree.{ByBoth}
 use Rattle.tree_make.specs.Made.{calls_text, file_seen, new_files, old_files}
 
 -- the texts of a number, and where they are to stand
@@ -29,8 +31,8 @@ laid_writes l = record { path = string_bytes l.calls_path; bytes = l.calls } ∷
 
 -- by what is laid out
 abbrev pub TakesLaid : Laid → Takes
-TakesLaid l = TakesChecked (string_bytes l.new_root) l.news
-    (λ B. TakesChecked (string_bytes l.old_root) l.olds (λ A c. c ≡ make_course A B l.calls))
+TakesLaid l = ByBoth AtOnce (string_bytes l.new_root) l.news (string_bytes l.old_root) l.olds
+    (λ B A c. c ≡ make_course A B l.calls)
 
 -- by the schemas of both trees: the newer one is the client's
 abbrev pub TakesMade : Result Prepared Early → Takes

@@ -4,6 +4,7 @@ use Rattle.std.specs.Prelude.{◌⊎◌, ⊤}
 use Rattle.std.proofs.lemmas.Bool.{eqb-true}
 use Rattle.aidl_base.specs.declared.profile.Profile.{Profile}
 use Rattle.aidl_outside.specs.declared.link.Carried.{Carried}
+use Rattle.aidl_outside.specs.Carries.{AreFaithful}
 use Rattle.aidl_outside.specs.Causes.{Rose}
 use Rattle.aidl_outside.specs.Faults.{LinkFaults, SinkFaults}
 use Rattle.aidl_outside.specs.Told.{Adds}
@@ -27,7 +28,7 @@ use Rattle.tool_frame.specs.Exit.{number_of}
 use Rattle.tool_frame.specs.Meaning.{AreDue}
 use Rattle.aidl_outside.specs.Parcel.{Parcel, parcel_of}
 use Rattle.tool_frame.specs.Seen.{Seen}
-use Rattle.tool_frame.specs.Courses.{due_in, AreFaithful, CarriedBy, ComesTo, RanCourse, Went}
+use Rattle.tool_frame.specs.Courses.{due_in, CarriedBy, ComesTo, RanCourse, Went}
 use Rattle.tool_frame.specs.Prints.{PutsText}
 use Rattle.aidl_outside.proofs.lemmas.Failing.{failed_as}
 use Rattle.tool_frame.proofs.lemmas.Courses.{comes_on, due_front, nothing_told, put_cut, put_went, ran_end, went_ended, went_on}

@@ -11,27 +11,27 @@ use Rattle.aidl_outside.specs.Told.{Tells}
 use Rattle.aidl_outside.proofs.lemmas.Telling.{tells}
 use Rattle.aidl_schema.specs.declared.schema.Decl.{Decl}
 use Rattle.tree_commands.specs.Opens.{HasSchema, IsChecked}
-use Rattle.run_command.specs.Running.{IsCallsText, RunTakes, RunsLoaded, Takes, TakesChecked, TakesOver, TakesThen, run_course}
+use Rattle.run_command.specs.Running.{IsCallsText, RunTakes, RunsLoaded, Takes, TakesThen, run_course}
 use Rattle.run_command.specs.declared.command.Prepared.{Prepared}
-use Rattle.tree_commands.specs.Both.{AreBoth, PassesOne}
+use Rattle.tree_commands.specs.Both.{AreBoth, IsFaultOfOne, PassesOne}
+use Rattle.tree_commands.specs.ByTree.{ByBoth, OverBoth}
 use Rattle.run_command.specs.steps.Preparing.{IsPrepared, IsUnprepared}
 use Rattle.run_command.specs.Tags.{EndsProjected, ProjectsChecked}
 use Rattle.run_command.proofs.lemmas.CourseEnds.{alone}
-use Rattle.tree_commands.proofs.lemmas.Reading.{has_schema}
+use Rattle.tree_commands.proofs.lemmas.Reading.{both_faulty, both_found, both_long, has_schema}
 use Rattle.run_command.specs.CallLines.{lines_held, lines_of, within_lines}
 use Rattle.run_command.specs.Projected.{projected_text}
 use Rattle.tool_frame.specs.declared.halt.Halt.{Halt}
 use Rattle.tool_frame.specs.declared.halt.Halt.TheVariants.{Answered, StoreFailed, OutOfMemory}
-use Rattle.tool_frame.specs.Answer.{Answer, Found}
+use Rattle.tool_frame.specs.Answer.{Answer, Found, Then}
 use Rattle.tool_frame.specs.Ends.{EndsRead}
 use Rattle.tool_frame.specs.Halts.{Gets}
-use Rattle.tool_frame.specs.Course.{Course, at_once}
+use Rattle.tool_frame.specs.Course.{AtOnce, Course, at_once}
 use Rattle.tool_frame.specs.Refusals.{file_at, there}
 use Rattle.tool_frame.specs.Seen.{Seen, StoreSeen}
-use Rattle.tool_frame.specs.Trees.{OverTree, tree_at}
+use Rattle.tool_frame.specs.Trees.{tree_at}
 use Rattle.tool_frame.proofs.lemmas.Endings.{not_verdict}
 use Rattle.tool_frame.proofs.lemmas.Halts.{told_always}
-use Rattle.tree_commands.specs.Faults.{IsFaultAnswer}
 use Rattle.tree_commands.proofs.lemmas.OneAnswer.{never_faulty, one_schema}
 use Rattle.type_check.specs.Checked.{IsSchemaOf}
 
@@ -59,7 +59,7 @@ text_held (Err passed) text e = absurd cc
 -- The course of a run, by the file of its calls and by two trees.
 module _ (p : Profile) (trace : Bool) (client server calls : List ℕ) where
   abbrev RunsOver : Found (List SourceFile) → Found (List SourceFile) → Found (List ℕ) → Takes
-  RunsOver first second held = TakesOver first (λ olds. TakesOver second (λ news. RunsLoaded p trace client olds server news held))
+  RunsOver first second held = OverBoth AtOnce first second (λ olds news. RunsLoaded p trace client olds server news held)
 
   abbrev Runs : Option (Found (List ℕ)) → Found (List SourceFile) → Found (List SourceFile) → Takes
   Runs file first second = TakesThen (there calls file) (RunsOver first second)
@@ -70,24 +70,25 @@ module _ (p : Profile) (trace : Bool) (client server calls : List ℕ) where
   read : (file : Option (Found (List ℕ))) (first second : Found (List SourceFile)) (held : Found (List ℕ)) (course : Course) → there calls file ≡ Ok held → RunsOver first second held course → Runs file first second course
   read file first second held course e h = subst (λ f. TakesThen f (RunsOver first second) course) (sym e) h
 
-  passes : (first second : Found (List SourceFile)) (held : Found (List ℕ)) (a : Answer) → OverTree first (λ olds passed. second ≡ Err passed) a → RunsOver first second held (at_once a)
-  passes (Ok olds) second held a e = subst (λ t. TakesOver t (λ news. RunsLoaded p trace client olds server news held) (at_once a)) (sym e) refl
-  passes (Err passed) second held a e = ap at_once e
+  passes : (first second : Found (List SourceFile)) (held : Found (List ℕ)) (a : Answer) → Then first (λ olds passed. second ≡ Err passed) a → RunsOver first second held (at_once a)
+  passes first second held a h = both_long AtOnce (λ olds news. RunsLoaded p trace client olds server news held) (at_once a) a refl first second h
 
   loaded : (first second : Found (List SourceFile)) (held : Found (List ℕ)) (olds news : List SourceFile) (course : Course) → first ≡ Ok olds → second ≡ Ok news
       → RunsLoaded p trace client olds server news held course → RunsOver first second held course
-  loaded first second held olds news course e f h =
-      subst (λ t. RunsOver t second held course) (sym e) (subst (λ t. TakesOver t (λ files. RunsLoaded p trace client olds server files held) course) (sym f) h)
+  loaded first second held olds news course e f h = both_found AtOnce (λ olds news. RunsLoaded p trace client olds server news held) course first second olds news e f h
 
   module _ (olds news : List SourceFile) (held : Found (List ℕ)) where
     abbrev Checks : List ℕ → Takes
-    Checks text = TakesChecked client olds (λ A. TakesChecked server news (λ B course. course ≡ run_course p A B trace text))
+    Checks text = ByBoth AtOnce client olds server news (λ A B course. course ≡ run_course p A B trace text)
 
     long : (a : Answer) → lines_held held ≡ Err a → RunsLoaded p trace client olds server news held (at_once a)
     long a e = subst (λ t. TakesThen t Checks (at_once a)) (sym e) refl
 
     short : (text : List ℕ) (course : Course) → lines_held held ≡ Ok text → Checks text course → RunsLoaded p trace client olds server news held course
     short text course e h = subst (λ t. TakesThen t Checks course) (sym e) h
+
+    one_faulty : (text : List ℕ) (a : Answer) → IsFaultOfOne client olds server news a → Checks text (at_once a)
+    one_faulty text a is = both_faulty AtOnce client server (λ A B course. course ≡ run_course p A B trace text) (at_once a) olds news a refl is
 
   -- where both trees are checked and the text is there
   takes_by : (file : Option (Found (List ℕ))) (first second : Found (List SourceFile)) (A B : List Decl) (text : List ℕ) → HasSchema first A → HasSchema second B → file ≡ Some (Ok text) → within_lines text ≡ Ok text
@@ -127,7 +128,7 @@ module _ (client server calls : List ℕ) (files : Files) (a : Answer) where
       λ A B text is_a is_b t. never (tree_at files client) (tree_at files server) A B h is_a is_b,
     )
       where
-        never : (first second : Found (List SourceFile)) (A B : List Decl) → OverTree first (λ olds passed. second ≡ Err passed) a → HasSchema first A → HasSchema second B → ⊥
+        never : (first second : Found (List SourceFile)) (A B : List Decl) → Then first (λ olds passed. second ≡ Err passed) a → HasSchema first A → HasSchema second B → ⊥
         never (Ok olds) second A B e is_a is_b = subst (λ t. HasSchema t B) e is_b
         never (Err passed) second A B e is_a is_b = is_a
 
@@ -153,20 +154,16 @@ module _ (client server calls : List ℕ) (files : Files) (a : Answer) where
               let same : ◌≡◌ {A = Option (Found (List ℕ))} (Some held) (Some (Ok text)) = sym (held_there calls (file_at TextBytes files calls) held is_there) ∙ is in cc
 
       module _ (text : List ℕ) (within : lines_held held ≡ Ok text) where
-        -- the client's tree isn't checked
-        pub no_client : IsFaultAnswer client olds a → IsUnprepared client server calls files a
-        no_client is = (
-          λ p trace. taken p trace (at_once a) (short p trace client server calls olds news held text (at_once a) within (inl (a, is, refl))),
-          λ A B t is_a is_b given. never_faulty client olds A a (schema_of (tree_at files client) olds A both.0 is_a) is,
+        -- one of the trees isn't checked
+        pub no_schemas : IsFaultOfOne client olds server news a → IsUnprepared client server calls files a
+        no_schemas is = (
+          λ p trace. taken p trace (at_once a) (short p trace client server calls olds news held text (at_once a) within (one_faulty p trace client server calls olds news held text a is)),
+          λ A B t is_a is_b given. never A B (schema_of (tree_at files client) olds A both.0 is_a) (schema_of (tree_at files server) news B both.1 is_b) is,
         )
-
-        module _ (S : List Decl) (is_client : IsSchemaOf olds S) where
-          -- the server's isn't
-          pub no_server : IsFaultAnswer server news a → IsUnprepared client server calls files a
-          no_server is = (
-            λ p trace. taken p trace (at_once a) (short p trace client server calls olds news held text (at_once a) within (inr (S, is_client, inl (a, is, refl)))),
-            λ A B t is_a is_b given. never_faulty server news B a (schema_of (tree_at files server) news B both.1 is_b) is,
-          )
+          where
+            never : (A B : List Decl) → IsSchemaOf olds A → IsSchemaOf news B → IsFaultOfOne client olds server news a → ⊥
+            never A B is_a is_b (inl (refusal, faulty, same)) = never_faulty client olds A refusal is_a faulty
+            never A B is_a is_b (inr (S, schema, faulty)) = never_faulty server news B a is_b faulty
 
 -- all is prepared
 pub all_prepared : (client server calls : List ℕ) (files : Files) (r : Prepared) (held : Found (List ℕ)) (olds news : List SourceFile) → there calls (file_at TextBytes files calls) ≡ Ok held

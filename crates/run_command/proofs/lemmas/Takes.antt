@@ -3,16 +3,18 @@ use Rattle.std.proofs.Common.{ℕ, List, Option, inl, inr, refl, ap, ◌∙◌, 
 use Rattle.aidl_base.specs.declared.source_file.SourceFile.{SourceFile}
 use Rattle.aidl_outside.specs.Faults.{SinkFaults}
 use Rattle.aidl_schema.specs.declared.schema.Decl.{Decl}
-use Rattle.run_command.specs.Running.{Takes, TakesChecked}
+use Rattle.run_command.specs.Running.{Takes}
 use Rattle.run_command.specs.steps.Running.{RanSome, TakesEarly}
 use Rattle.tool_frame.specs.declared.printed.Early.{Early}
 use Rattle.tool_frame.specs.declared.printed.Early.TheVariants.{Answered, OutOfMemory}
-use Rattle.tool_frame.specs.Course.{Course, at_once}
+use Rattle.tool_frame.specs.Course.{AtOnce, Course, at_once}
 use Rattle.tool_frame.specs.Ends.{PrintsGiven}
 use Rattle.tool_frame.proofs.lemmas.Courses.{ran_printed}
 use Rattle.tool_frame.specs.Seen.{Seen}
 use Rattle.tool_frame.specs.Results.{printed}
-use Rattle.tree_commands.specs.Faults.{IsFaultAnswer}
+use Rattle.tree_commands.specs.Both.{IsFaultOfOne}
+use Rattle.tree_commands.specs.ByTree.{ByBoth}
+use Rattle.tree_commands.proofs.lemmas.Reading.{both_faulty}
 use Rattle.tree_commands.specs.Results.{EndsBy}
 
 -- a course of some is one of others
@@ -27,8 +29,8 @@ printed_early (Answered p) before told faults exit prints = inl (at_once (printe
 printed_early OutOfMemory before told faults exit silent =
     inr (silent.exits, ap (λ t. let s : Seen = record before { told = t; sink_faults = faults } in s) silent.silent ∙ ap (λ n. let s : Seen = record before { sink_faults = n } in s) silent.good)
 
--- a tree that isn't checked is refused
-pub early_checked : (root : List ℕ) (files : List SourceFile) (next : List Decl → Takes) (early : Early) → EndsBy (IsFaultAnswer root files) early
-    → (course : Course) → TakesEarly early course → TakesChecked root files next course
-early_checked root files next (Answered p) is course e = inl (printed p, is, e)
-early_checked root files next OutOfMemory is course e = absurd e
+-- two trees of which one isn't checked are refused
+pub early_both : (first second : List ℕ) (olds news : List SourceFile) (next : List Decl → List Decl → Takes) (early : Early) → EndsBy (IsFaultOfOne first olds second news) early
+    → (course : Course) → TakesEarly early course → ByBoth AtOnce first olds second news next course
+early_both first second olds news next (Answered p) is course e = both_faulty AtOnce first second next course olds news (printed p) e is
+early_both first second olds news next OutOfMemory is course e = absurd e

@@ -5,8 +5,7 @@ use Rattle.std.proofs.lemmas.Str.{cons_from_encodes}
 use Rattle.aidl_base.specs.declared.source_file.SourceFile.{SourceFile}
 use Rattle.aidl_schema.specs.declared.schema.Decl.{Decl}
 use Rattle.tool_frame.specs.Answer.{Answer, Found, FoundThen, Refusing}
-use Rattle.tool_frame.specs.Trees.{Over}
-use Rattle.tree_commands.specs.ByTree.{ByFiles, ByTree}
+use Rattle.tree_commands.specs.ByTree.{ByBoth, ByFiles, ByTree, OverBoth}
 use Rattle.tree_commands.proofs.lemmas.OneAnswer.{never_faulty, one_fault_answer, one_schema}
 
 -- texts with the same bytes are the same
@@ -38,11 +37,6 @@ module _ {A B : Type 0} (R : A → B → Type 0) (P : Refusing A) (Q : Refusing 
   by_found p q goes (Ok z) x y h k = goes z x y h k
   by_found p q goes (Err a) x y h k = refused a x y h k
 
-  -- over the files of a tree
-  pub by_over : (p : List SourceFile → A → Type 0) (q : List SourceFile → B → Type 0) → ((files : List SourceFile) (x : A) (y : B) → p files x → q files y → R x y)
-      → (tree : Found (List SourceFile)) (x : A) (y : B) → Over P tree p x → Over Q tree q y → R x y
-  by_over p q goes tree x y h k = by_found p q goes tree x y h k
-
   -- by the schema of files
   pub by_files : (p : List Decl → A → Type 0) (q : List Decl → B → Type 0) → ((S : List Decl) (x : A) (y : B) → p S x → q S y → R x y)
       → (root : List ℕ) (files : List SourceFile) (x : A) (y : B) → ByFiles P root files p x → ByFiles Q root files q y → R x y
@@ -56,4 +50,24 @@ module _ {A B : Type 0} (R : A → B → Type 0) (P : Refusing A) (Q : Refusing 
   -- by the schema of a tree
   pub by_tree : (p : List Decl → A → Type 0) (q : List Decl → B → Type 0) → ((S : List Decl) (x : A) (y : B) → p S x → q S y → R x y)
       → (root : List ℕ) (tree : Found (List SourceFile)) (x : A) (y : B) → ByTree P root tree p x → ByTree Q root tree q y → R x y
-  by_tree p q goes root tree = by_over (λ files. ByFiles P root files p) (λ files. ByFiles Q root files q) (λ files. by_files p q goes root files) tree
+  by_tree p q goes root tree = by_found (λ files. ByFiles P root files p) (λ files. ByFiles Q root files q) (λ files. by_files p q goes root files) tree
+
+  -- over the files of two trees
+  pub by_over_both : (p : List SourceFile → List SourceFile → A → Type 0) (q : List SourceFile → List SourceFile → B → Type 0)
+      → ((olds news : List SourceFile) (x : A) (y : B) → p olds news x → q olds news y → R x y)
+      → (first second : Found (List SourceFile)) (x : A) (y : B) → OverBoth P first second p x → OverBoth Q first second q y → R x y
+  by_over_both p q goes first second =
+      by_found (λ olds. FoundThen P second (p olds)) (λ olds. FoundThen Q second (q olds)) (λ olds. by_found (p olds) (q olds) (goes olds) second) first
+
+  -- by the schemas of the files of two trees
+  pub by_both_files : (p : List Decl → List Decl → A → Type 0) (q : List Decl → List Decl → B → Type 0) → ((S T : List Decl) (x : A) (y : B) → p S T x → q S T y → R x y)
+      → (old new : List ℕ) (olds news : List SourceFile) (x : A) (y : B) → ByBoth P old olds new news p x → ByBoth Q old olds new news q y → R x y
+  by_both_files p q goes old new olds news =
+      by_files (λ S. ByFiles P new news (p S)) (λ S. ByFiles Q new news (q S)) (λ S. by_files (p S) (q S) (goes S) new news) old olds
+
+  -- by the schemas of two trees
+  pub by_both : (p : List Decl → List Decl → A → Type 0) (q : List Decl → List Decl → B → Type 0) → ((S T : List Decl) (x : A) (y : B) → p S T x → q S T y → R x y)
+      → (old new : List ℕ) (first second : Found (List SourceFile)) (x : A) (y : B)
+      → OverBoth P first second (λ olds news. ByBoth P old olds new news p) x → OverBoth Q first second (λ olds news. ByBoth Q old olds new news q) y → R x y
+  by_both p q goes old new =
+      by_over_both (λ olds news. ByBoth P old olds new news p) (λ olds news. ByBoth Q old olds new news q) (λ olds news. by_both_files p q goes old new olds news)

@@ -1,7 +1,7 @@
 use Rattle.std.proofs.Common.{ℕ, Global, Vec, not, sym, ap, ◌∙◌}
 use Rattle.std.specs.List.{filter}
 use Rattle.std.specs.Option.{option_map}
-use Rattle.parcel_commands.specs.HexadecimalFile.{is_blank}
+use Rattle.aidl_base.specs.Blanks.{is_blank}
 use Rattle.parcel_commands.proofs.Digits.{at_once}
 use Rattle.parcel_commands.proofs.hexadecimal_file.hexadecimal.Goals as goal
 

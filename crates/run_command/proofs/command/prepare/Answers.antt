@@ -5,7 +5,7 @@ use Rattle.aidl_outside.proofs.lemmas.Telling.{tells}
 use Rattle.run_command.specs.declared.command.Prepared.{Prepared}
 use Rattle.tool_frame.proofs.lemmas.Asked.{found_there}
 use Rattle.tree_commands.proofs.lemmas.Reading.{early_by, early_bytes}
-use Rattle.run_command.proofs.lemmas.RunsOne.{all_prepared, no_calls, no_client, no_server, no_text, no_trees}
+use Rattle.run_command.proofs.lemmas.RunsOne.{all_prepared, no_calls, no_schemas, no_text, no_trees}
 use Rattle.tool_frame.specs.Results.{held}
 use Rattle.tool_frame.proofs.lemmas.Halts.{known_early, known_halts, known_last, knows, knows_both, knows_none}
 use Rattle.run_command.proofs.command.prepare.Goals as goal
@@ -38,22 +38,13 @@ returns-in_err-client g c =
     let asked = c.args.asked in
     let q = err_from_is_err_and c.from_residual-in_err-client.result c.from_residual-in_err-client.ensures.1 in
     rw (q.1, q.2) (known_early _ _ _ _ _ _ c.in_err-client.field-0.0
-    (λ files both. early_by c.in_err-client.field-0.0 _ _ (λ a is. no_client asked.client.now asked.server.now asked.calls.now files a (held c.in_ok-file.file) both.0 _ _ both.1 _ c.in_ok-text.ensures is) c.in_err-client.ensures.err)
-    (knows_both _ _ _ _ _ (knows _ _ _ _ _ _ c.in_ok-file.ensures) (knows _ _ _ _ _ _ c.in_ok-olds.ensures)))
-
-pub returns-in_err-server : goal.returns-in_err-server
-returns-in_err-server g c =
-    let asked = c.args.asked in
-    let q = err_from_is_err_and c.from_residual-in_err-server.result c.from_residual-in_err-server.ensures.1 in
-    rw (q.1, q.2) (known_early _ _ _ _ _ _ c.in_err-server.field-0.0
-    (λ files both. early_by c.in_err-server.field-0.0 _ _ (λ a is. no_server asked.client.now asked.server.now asked.calls.now files a (held c.in_ok-file.file) both.0 _ _ both.1 _ c.in_ok-text.ensures _ c.in_ok-client.ensures.ok is)
-    c.in_err-server.ensures.err)
+    (λ files both. early_by c.in_err-client.field-0.0 _ _ (λ a is. no_schemas asked.client.now asked.server.now asked.calls.now files a (held c.in_ok-file.file) both.0 _ _ both.1 _ c.in_ok-text.ensures is) c.in_err-client.ensures.err)
     (knows_both _ _ _ _ _ (knows _ _ _ _ _ _ c.in_ok-file.ensures) (knows _ _ _ _ _ _ c.in_ok-olds.ensures)))
 
 pub returns : goal.returns
 returns g c =
     let asked = c.args.asked in
-    let r : Prepared = record { text = c.in_ok-text.text; client = c.in_ok-client.client; server = c.in_ok-server.server } in
+    let r : Prepared = record { text = c.in_ok-text.text; client = c.in_ok-client.client; server = c.in_ok-client.server } in
     known_last _ _ _ _ _ _ r
-    (λ files both. all_prepared asked.client.now asked.server.now asked.calls.now files r (held c.in_ok-file.file) _ _ both.0 both.1 c.in_ok-text.ensures c.in_ok-client.ensures.ok c.in_ok-server.ensures.ok)
+    (λ files both. all_prepared asked.client.now asked.server.now asked.calls.now files r (held c.in_ok-file.file) _ _ both.0 both.1 c.in_ok-text.ensures c.in_ok-client.ensures.ok.0 c.in_ok-client.ensures.ok.1)
     (knows_both _ _ _ _ _ (knows _ _ _ _ _ _ c.in_ok-file.ensures) (knows _ _ _ _ _ _ c.in_ok-olds.ensures))
