@@ -1,19 +1,20 @@
 //! Bytes in a line of text.
-ghost use Rattle.std.specs.Prelude.{◌≡◌, ◌++◌, OnOk, string_bytes};
+ghost use Rattle.growing_text.specs.Grows.{Grows};
 ghost use Rattle.tool_frame.specs.Shown.{shown};
 
-use aidl_base::OutOfMemory;
+use growing_text::GrowingText;
 use std::alloc::Global;
 
 /// Adds bytes as two lower-case hexadecimal digits each, or `-` for no bytes (own).
-pub fn push_shown(alloc: Global, bytes: &[u8], text: &mut String) -> Result<(), OutOfMemory>
-    ensures { OnOk result (string_bytes text.new ≡ string_bytes text.old ++ shown bytes.now) }
+pub fn push_shown(alloc: Global, bytes: &[u8], text: &mut GrowingText)
+    ensures { Grows text.old text.new (shown bytes.now) }
 {
     if bytes.is_empty() {
-        text.push_str("-")?;
-        return Ok(());
+        text.push_str("-");
+        return;
     }
-    let digits = hex::encode(alloc, bytes)?;
-    text.push_str(digits.as_str())?;
-    Ok(())
+    match hex::encode(alloc, bytes) {
+        Ok(digits) => text.push_str(digits.as_str()),
+        Err(_) => text.lose(),
+    }
 }
