@@ -8,12 +8,22 @@ use std::alloc::Global;
 
 /// The value of a constant or of an initializer. A character is the number of its code, an enumerator that of its
 /// value, and a brace list the row of its members.
-#[derive(Drop)]
 pub enum Const {
     Truth(bool),
     Number(i64),
     Text(Text),
     Members(Row<Const>),
+}
+
+impl Drop for Const {
+    fn drop(self) {
+        match self {
+            Const::Truth(_) => {}
+            Const::Number(_) => {}
+            Const::Text(_) => {}
+            Const::Members(_) => {}
+        }
+    }
 }
 
 impl Const {

@@ -18,8 +18,13 @@ impl Drop for Ident {
 }
 
 /// Identifiers joined by dots, as the name of a package or of a declaration.
-#[derive(Drop)]
 pub struct DottedName(pub Parts);
+
+impl Drop for DottedName {
+    fn drop(self) {
+        let DottedName(_) = self;
+    }
+}
 
 /// The parts of a name joined by dots, as text.
 pub fn joined_by_dots(alloc: Global, parts: &[Ident]) -> Result<Text, OutOfMemory>

@@ -6,9 +6,16 @@ use std::alloc::Global;
 use std::marker::Model;
 
 /// A list of values, which contracts see as that list. A type may hold a row of itself.
-#[derive(Debug, Drop)]
+#[derive(Debug)]
 pub struct Row<T> {
     items: Vec<T>,
+}
+
+// By hand, so that one who drops a row meets one call.
+impl<T: Drop> Drop for Row<T> {
+    fn drop(self) {
+        let Row { items: _ } = self;
+    }
 }
 
 impl<T> Model for Row<T> {
@@ -43,7 +50,8 @@ impl<T> Row<T> {
     pub fn into_vec(self) -> Vec<T>
         ensures { result.items ≡ self }
     {
-        self.items
+        let Row { items } = self;
+        items
     }
 
     /// The items as a slice.

@@ -1,5 +1,5 @@
 //! Texts: UTF-8 that contracts see as Unicode scalars.
-ghost use Rattle.std.specs.Prelude.{◌≡◌, string_bytes, IfOk, true, []};
+ghost use Rattle.std.specs.Prelude.{◌≡◌, string_bytes, length, IfOk, true, []};
 ghost use Rattle.std.specs.Str.{chars, all_scalars, encode_utf8_all};
 
 use crate::OutOfMemory;
@@ -58,6 +58,13 @@ impl Text {
         ensures bytes { result.now ≡ encode_utf8_all self.now }
     {
         self.kept.as_str()
+    }
+
+    /// The number of its Unicode scalars.
+    pub fn char_count(&self) -> usize
+        ensures { result ≡ length self.now }
+    {
+        self.as_str().chars().count()
     }
 
     /// The empty text.

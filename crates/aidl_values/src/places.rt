@@ -9,9 +9,14 @@ use std::alloc::Global;
 use std::marker::Model;
 
 /// Places of fields in ascending order, which contracts see as a list of numbers. Each place takes four bytes.
-#[derive(Drop)]
 pub struct Places {
     row: Vec<u32>,
+}
+
+impl Drop for Places {
+    fn drop(self) {
+        let Places { row: _ } = self;
+    }
 }
 
 impl Model for Places {

@@ -1,13 +1,12 @@
 //! Whether a value has a type of a schema.
 ghost use Rattle.std.specs.Prelude.{◌≡◌, ◌↔◌, IsTrue, slice_get};
-ghost use Rattle.aidl_schema.specs.Types as types;
 ghost use Rattle.aidl_values.specs.Data.{number, truth};
 ghost use Rattle.aidl_values.specs.HasType.{HasType};
 ghost use Rattle.aidl_values.specs.steps.TypeTest.{has_type_of, of_field, all_have_type, fields_have_type};
 ghost use Rattle.aidl_values.specs.View.{datas, field_datas, items_of, view, view_element};
 
 use crate::value::{Element, Elements, Fields, Value};
-use aidl_schema::{AidlType, Field, Form, Schema, Shape, element, form_in, is_in_range};
+use aidl_schema::{AidlType, Field, Form, Schema, element, form_in, is_in_range, is_one};
 
 /// Whether the value has the type. A number fits the range of its type, an enum's that of the backing, and need be
 /// no enumerator. A sequence has elements of the element type, a record one value for each field, and an alternative
@@ -43,12 +42,6 @@ fn is_of(schema: &Schema, ty: AidlType, value: &Value) -> bool
             _ => false,
         },
     }
-}
-
-fn is_one(shape: Shape) -> bool
-    ensures { result ≡ types.is_one shape }
-{
-    matches!(shape, Shape::One)
 }
 
 // Whether a truth value is of a type, which it is whatever it is.

@@ -1,5 +1,5 @@
 //! The concatenation of texts by `+`.
-ghost use Rattle.std.specs.Prelude.{◌≡◌, ◌++◌, length, IfOk};
+ghost use Rattle.std.specs.Prelude.{◌≡◌, ◌++◌, IfOk};
 ghost use Rattle.const_values.specs.Operands.{IsWithin};
 ghost use Rattle.const_values.specs.Seen.{Gives, seen};
 ghost use Rattle.const_values.specs.Texts.{joined};
@@ -14,17 +14,11 @@ pub fn join<'a>(alloc: Global, left: &Text, right: &Text) -> Result<Operand<'a>,
     ensures value { Gives result (joined left.now right.now) }
     ensures within { IfOk result (λ value. IsWithin (seen value)) }
 {
-    if characters(left).saturating_add(characters(right)) <= 4096 {
+    if left.char_count().saturating_add(right.char_count()) <= 4096 {
         Ok(Operand::Text(Words::Joined(both(alloc, left, right)?)))
     } else {
         Err(EvalFault::Fault(ConstFault::Overflow))
     }
-}
-
-fn characters(text: &Text) -> usize
-    ensures { result ≡ length text.now }
-{
-    text.as_str().chars().count()
 }
 
 fn both(alloc: Global, left: &Text, right: &Text) -> Result<Text, OutOfMemory>

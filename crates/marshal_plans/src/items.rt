@@ -1,12 +1,11 @@
 //! The items of types.
 ghost use Rattle.std.specs.Prelude.{◌≡◌, IfOk};
 ghost use Rattle.aidl_schema.specs.Seen.{seen};
-ghost use Rattle.aidl_schema.specs.Types as types;
 ghost use Rattle.marshal_plans.specs.steps.Compiled.{added, first_in, one_item, pushed, single};
 
 use crate::plans::{PlanId, PlanItem, Plans, WordKind};
 use aidl_base::OutOfMemory;
-use aidl_schema::{AidlType, Base, Form, Schema, Shape, element, form_in, is_raw};
+use aidl_schema::{AidlType, Base, Form, Schema, element, form_in, is_one, is_raw};
 
 /// Adds the item of a type, after that of its element where the type is a sequence, and answers its id. `firsts` has where the
 /// entries of each declaration begin.
@@ -46,12 +45,6 @@ fn push(item: PlanItem, plans: &mut Plans) -> Result<PlanId, OutOfMemory>
     let id = PlanId(plans.items.len());
     plans.items.push(item)?;
     Ok(id)
-}
-
-fn is_one(shape: Shape) -> bool
-    ensures { result ≡ types.is_one shape }
-{
-    matches!(shape, Shape::One)
 }
 
 fn single(schema: &Schema, firsts: &[usize], ty: AidlType) -> PlanItem

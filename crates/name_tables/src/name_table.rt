@@ -12,10 +12,18 @@ use std::alloc::Global;
 use std::marker::Model;
 
 /// Members with the first position of each name. Contracts see it as the members.
-#[derive(Drop)]
 pub struct NameTable<'a, M: Called> {
     members: &'a [M],
     places: IndexMap<&'a str, usize>,
+}
+
+impl<M: Called> Drop for NameTable<'_, M> {
+    fn drop(self) {
+        let NameTable {
+            members: _,
+            places: _,
+        } = self;
+    }
 }
 
 impl<'a, M: Called> Model for NameTable<'a, M> {

@@ -1,5 +1,5 @@
 //! The size of a constant, by either measure.
-ghost use Rattle.std.specs.Prelude.{◌≡◌, ◌-◌, ◌<◌, ◌^◌, length, map, min};
+ghost use Rattle.std.specs.Prelude.{◌≡◌, ◌-◌, ◌<◌, ◌^◌, map, min};
 ghost use Rattle.schema_bounds.specs.steps.Measures as measures;
 
 use crate::measure::Measure;
@@ -40,12 +40,6 @@ fn text_size(measure: Measure, top: usize, text: &Text) -> usize
 {
     match measure {
         Measure::Depth => 0,
-        Measure::Nodes => characters(text).saturating_add(1).min(top),
+        Measure::Nodes => text.char_count().saturating_add(1).min(top),
     }
-}
-
-fn characters(text: &Text) -> usize
-    ensures { result ≡ length text.now }
-{
-    text.as_str().chars().count()
 }

@@ -6,7 +6,7 @@ ghost use Rattle.aidl_schema.specs.Types as types;
 ghost use Rattle.schema_bounds.specs.steps.Hubs.{listed};
 
 use aidl_base::{OutOfMemory, Row};
-use aidl_schema::{Base, Decl, Field, Kind, Shape, fields_of};
+use aidl_schema::{Base, Decl, Field, Kind, fields_of, is_one};
 use std::alloc::Global;
 
 /// What each declaration contains, by their numbers.
@@ -44,13 +44,6 @@ fn contained_by(decls: &[Decl], field: &Field) -> Option<u32>
         }
         _ => None,
     }
-}
-
-/// Whether it is a single value.
-pub fn is_one(shape: Shape) -> bool
-    ensures { result ≡ types.is_one shape }
-{
-    matches!(shape, Shape::One)
 }
 
 /// Whether the number is that of a parcelable or union.

@@ -3,10 +3,9 @@ ghost use Rattle.std.specs.Prelude.{◌≡◌, ◌-◌, map, min};
 ghost use Rattle.schema_bounds.specs.steps.Measures as measures;
 
 use crate::const_size::const_size;
-use crate::containment::is_one;
 use crate::measure::Measure;
 use crate::places::number_at;
-use aidl_schema::{AidlType, Base, Field, Kind};
+use aidl_schema::{AidlType, Base, Field, Kind, is_one};
 
 /// The size of a declaration's default by sizes of the declarations' defaults, counted up to where counting stops.
 pub fn kind_size(measure: Measure, sizes: &[usize], kind: &Kind) -> usize

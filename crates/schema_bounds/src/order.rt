@@ -1,11 +1,11 @@
 //! An order of the declarations by the defaults in their defaults, and the sizes that are found in this order.
 
-use crate::containment::{is_composite, is_one};
+use crate::containment::is_composite;
 use crate::kind_size::kind_size;
 use crate::measure::Measure;
 use crate::places::{is_set, number_at, put};
 use aidl_base::{OutOfMemory, Row};
-use aidl_schema::{Base, Decl, Field, Kind, fields_of};
+use aidl_schema::{Base, Decl, Field, Kind, fields_of, is_one};
 use graph_cycles::find_cycles;
 use std::alloc::Global;
 

@@ -5,7 +5,7 @@ ghost use Rattle.aidl_schema.specs.Methods.{is_in_way};
 ghost use Rattle.marshal_plans.specs.Standing.{IsOf};
 ghost use Rattle.stub_dispatch.specs.Planned.{ArePlansOf};
 ghost use Rattle.stub_dispatch.specs.steps.Arguments.{ArePlanned, IsPlanned, IsResultOf, IsResultPlanned};
-ghost use Rattle.wire_model.specs.Calls.{arguments, method_at, result_type};
+ghost use Rattle.wire_model.specs.Calls.{arguments, is_out, method_at, result_type};
 
 use aidl_schema::{AidlType, Arg, Direction, Method, Schema, law_valid, methods_at};
 use marshal_plans::{PlanId, Plans};
@@ -57,6 +57,13 @@ pub fn result_id(
     ensures { IsResultOf plans.now _schema.now.decls _result result }
 {
     plans.result(interface, method)
+}
+
+/// Whether no value of an argument of a way is sent.
+pub fn is_out(way: Direction) -> bool
+    ensures { result ≡ is_out way }
+{
+    matches!(way, Direction::Out)
 }
 
 /// Whether an argument of a way comes back with the reply.

@@ -22,7 +22,7 @@ mod token;
 mod unscripted;
 
 pub use answered::Answered;
-pub use call::{comes_back, method_of};
+pub use call::{comes_back, is_out, method_of};
 pub use callee::Callee;
 pub use openings::opening;
 pub use parcel_write::WriteFault;

@@ -6,17 +6,16 @@ ghost use Rattle.aidl_schema.specs.Methods.{is_passed_type};
 ghost use Rattle.aidl_schema.specs.Types.{is_type};
 ghost use Rattle.aidl_values.specs.View.{view, views};
 ghost use Rattle.compat_witness.specs.Sides.{projected_argument, projected_arguments};
-ghost use Rattle.wire_model.specs.Calls as calls;
 ghost use Rattle.wire_model.specs.Receiver.{zero_in};
 ghost use Rattle.wire_model.specs.Requests.{sent_length};
 ghost use Rattle.witness_calls.specs.steps.Positions.{argument_seen};
 
 use crate::ends::Ends;
 use aidl_base::{OutOfMemory, Row};
-use aidl_schema::{AidlType, Arg, Direction, same_type};
+use aidl_schema::{AidlType, Arg, same_type};
 use aidl_values::{Value, default_of};
 use std::alloc::Global;
-use stub_dispatch::opening;
+use stub_dispatch::{is_out, opening};
 use value_views::{NamedFields, view_value};
 
 /// What the server's method, whose arguments are `wanted`, sees of the arguments `sent`, by position; None where one has no view.
@@ -119,13 +118,6 @@ pub fn some_default(
 {
     let value = default_of(alloc, named.schema(), &ty)?;
     Ok(Some(value))
-}
-
-/// Whether no value of an argument of a way is sent.
-pub fn is_out(way: Direction) -> bool
-    ensures { result ≡ calls.is_out way }
-{
-    matches!(way, Direction::Out)
 }
 
 // The length that stands for an `out` array.

@@ -6,12 +6,11 @@ ghost use Rattle.aidl_values.specs.View.{view, views};
 ghost use Rattle.wire_model.specs.Calls.{answer_of, is_oneway, optional_view, outs_of};
 ghost use Rattle.wire_model.specs.Requests.{ArgsFit, ArgumentFits, ArgumentsFit, EachFits, ExceptionFits, IsAnswer, IsLength, ResultFits, asked_length, sum_of_lengths};
 
-use crate::arguments::is_out;
 use crate::version_method::VersionMethod;
 use aidl_base::Text;
 use aidl_schema::{AidlType, Arg, Schema, is_array};
 use aidl_values::{Answer, Value, depth, has_type};
-use stub_dispatch::{MOST_ITEMS, SERVICE_SPECIFIC, comes_back};
+use stub_dispatch::{MOST_ITEMS, SERVICE_SPECIFIC, comes_back, is_out};
 
 // The greatest depth of a value.
 const MOST_LEVELS: usize = 64;

@@ -16,8 +16,8 @@ mod version;
 mod version_method;
 mod weighing;
 
-pub use arguments::is_out;
 pub use call::{Call, Values};
 pub use reading::Reading;
 pub use showing::{Showing, Tried, try_call};
+pub use stub_dispatch::is_out;
 pub use version::{Version, declared};
