@@ -3,7 +3,6 @@ ghost use Rattle.std.specs.Prelude.{◌≡◌, ◌+◌, ◌≤◌, false, length
 ghost use Rattle.serde_json.specs.View.{view as json_view, items_view, number_view};
 ghost use Rattle.serde_json.specs.Find.{as_integer};
 ghost use Rattle.aidl_values.specs.View.{view, views};
-ghost use Rattle.wire_model.specs.Calls as calls;
 ghost use Rattle.wire_model.specs.Requests as requests;
 ghost use Rattle.wire_model.specs.Requests.{ArgumentFits, ArgumentsFit, sum_of_lengths};
 ghost use Rattle.call_scripts.specs.Arguments as meant;
@@ -15,12 +14,12 @@ ghost use Rattle.aidl_values.specs.Data.{null};
 use crate::line::{is_count, value_from};
 use crate::refused::{Place, RefusedName, refusal};
 use aidl_base::Row;
-use aidl_schema::{Arg, Direction, Schema, is_array};
+use aidl_schema::{Arg, Schema, is_array};
 use aidl_values::Value;
 use json_values::Fault;
 use serde_json::{Number, Value as Json};
 use std::alloc::Global;
-use stub_dispatch::MOST_ITEMS;
+use stub_dispatch::{MOST_ITEMS, is_out};
 
 // The entries of `args`, one for each argument: a value, or for an `out` argument the length of its array or null. It refuses exactly by
 // the rules of *Script* (own), the first entry first.
@@ -121,12 +120,6 @@ fn entry_from(
     } else {
         null_from(alloc, k, json)
     }
-}
-
-fn is_out(way: Direction) -> bool
-    ensures { result ≡ calls.is_out way }
-{
-    matches!(way, Direction::Out)
 }
 
 // The length of an `out` array, or null where it may be null.

@@ -1,19 +1,16 @@
 -- The elements of an array, one by one.
-use Rattle.std.proofs.Common.{◌≡◌, ℕ, ◌+◌, ◌<◌, suc, zero, Bool, true, List, [], ◌∷◌, ◌++◌, Some, length, get_or, slice_get, drop, take, map, refl, sym, ap, subst, ◌∙◌, append_assoc, arith}
+use Rattle.std.proofs.Common.{◌≡◌, ℕ, ◌+◌, ◌<◌, suc, zero, List, [], ◌∷◌, ◌++◌, Some, length, get_or, slice_get, take, map, sym, ap, subst, ◌∙◌, arith}
 use Rattle.std.proofs.lemmas.List.{map-append, map_more}
 use Rattle.std.proofs.lemmas.Option.{slice_get_within, get_or_from_slice_get}
 use Rattle.serde_json.specs.Data as json
 use Rattle.serde_json.specs.View.{view as json_view}
 use Rattle.serde_json.specs.declared.value.Value.{Value as Json}
-use Rattle.serde_json.specs.Written.{comma_if, items_text}
 use Rattle.aidl_schema.specs.declared.schema.Decl.{Decl}
 use Rattle.aidl_schema.specs.declared.schema.AidlType.{AidlType}
 use Rattle.aidl_values.specs.Data.{Data}
 use Rattle.aidl_values.specs.HasType.{HasType, HaveType}
 use Rattle.aidl_values.specs.View.{items_of}
-use Rattle.aidl_values.proofs.lemmas.Nexts.{next_of_rest}
-use Rattle.json_writing.specs.Json.{json_items, json_of}
-use Rattle.json_writing.specs.ValueText.{value_text}
+use Rattle.json_writing.specs.Json.{json_of}
 
 module _ (S : List Decl) (t : AidlType) where
   typed_at : (ds : List Data) (i : ℕ) (d : Data) → HaveType S t (items_of ds) → i < length ds → HasType S t (get_or ds i d)
@@ -25,14 +22,6 @@ module _ (S : List Decl) (t : AidlType) where
   pub element_typed : (later : List Decl) (ds : List Data) (i : ℕ) (d : Data) → later ≡ S → slice_get ds i ≡ Some d → HaveType S t (items_of ds) → HasType later t d
   element_typed later ds i d same here typed =
       subst (λ (z : List Decl). HasType z t d) (sym same) (subst (λ (e : Data). HasType S t e) (get_or_from_slice_get ds i d d here) (typed_at ds i d typed (slice_get_within ds i d here)))
-
-  -- one element more
-  pub element_more : (ds : List Data) (i : ℕ) (d : Data) (later : Bool) (start old divided new : List ℕ) → slice_get ds i ≡ Some d → divided ≡ old ++ comma_if later → new ≡ divided ++ value_text S t d
-      → old ++ items_text later (json_items S t (items_of (drop i ds))) ≡ start → new ++ items_text true (json_items S t (items_of (drop (i + 1) ds))) ≡ start
-  element_more ds i d later start old divided new here comma part so_far =
-      let rest = items_text true (json_items S t (items_of (drop (i + 1) ds))) in
-      let joined : new ++ rest ≡ old ++ (comma_if later ++ (value_text S t d ++ rest)) = rw (part, comma) (simp append_assoc refl) in
-      joined ∙ sym (ap (λ es. old ++ items_text later (json_items S t (items_of es))) (next_of_rest ds i d here)) ∙ so_far
 
   -- one element more, in front of what is left
   pub written_more : (ds : List Data) (i : ℕ) (d : Data) (js new : List Json) (j : Json) → slice_get ds i ≡ Some d → new ≡ js ++ j ∷ [] → json_view j ≡ json_of S t d

@@ -17,7 +17,6 @@ use Rattle.json_writing.specs.ValueText.{value_text}
 use Rattle.json_writing.specs.declared.members.Member.{Member}
 use Rattle.json_writing.specs.steps.Members.{IsOf, IsRow, IsTyped, members_from, part_text, row_text}
 use Rattle.json_writing.specs.steps.Parts.{parts, part_at}
-use Rattle.json_writing.proofs.Rows.{three}
 
 next : (all : List json.Data) (i : ℕ) (x : json.Data) (xs : List json.Data) → drop i all ≡ x ∷ xs → (get_or all i json.null ≡ x) × (drop (suc i) all ≡ xs)
 next [] zero x xs e = cc
@@ -66,13 +65,11 @@ module _ (S : List Decl) (t : AidlType) (vs : List Data) where
   pub typed_fields : HasType S t (rec (items_of vs)) → FieldsHaveType S (fields_of_type S t) (items_of vs)
   typed_fields typed = subst (λ (fs : List Field). FieldsHaveType S fs (items_of vs)) (sym (ap fields_in typed.2)) typed.3
 
-  pub record_text : (later : List Decl) (row given : List Member) (old opened filled closed : List ℕ) → HasType S t (rec (items_of vs)) → IsRow (fields_of_type S t) row
-      → later ≡ S → given ≡ row → opened ≡ old ++ 123 ∷ [] → filled ≡ opened ++ row_text (part_text later vs) given → closed ≡ filled ++ 125 ∷ []
-      → closed ≡ old ++ value_text S t (rec (items_of vs))
-  record_text later row given old opened filled closed typed is same as_given opens fills closes =
+  pub record_text : (later : List Decl) (row given : List Member) → HasType S t (rec (items_of vs)) → IsRow (fields_of_type S t) row → later ≡ S → given ≡ row
+      → 123 ∷ (row_text (part_text later vs) given ++ 125 ∷ []) ≡ value_text S t (rec (items_of vs))
+  record_text later row given typed is same as_given =
       let all = fields_of_type S t in
-      three old (123 ∷ []) (row_text (part_text later vs) given) (125 ∷ []) opened filled closed opens fills closes
-      ∙ ap (λ (z : List Decl). old ++ 123 ∷ (row_text (part_text z vs) given ++ 125 ∷ [])) same
-      ∙ ap (λ (z : List Member). old ++ 123 ∷ (row_text (part_text S vs) z ++ 125 ∷ [])) as_given
-      ∙ ap (λ (z : List ℕ). old ++ 123 ∷ (z ++ 125 ∷ [])) (row_written S all vs row (typed_fields typed) is.1)
-      ∙ ap (λ (z : List ℕ). old ++ 123 ∷ z) (is.0 (λ i. part_at S all vs i) ∙ ap (members_text false) (members_by_part S all vs (typed_fields typed)))
+      ap (λ (z : List Decl). 123 ∷ (row_text (part_text z vs) given ++ 125 ∷ [])) same
+      ∙ ap (λ (z : List Member). 123 ∷ (row_text (part_text S vs) z ++ 125 ∷ [])) as_given
+      ∙ ap (λ (z : List ℕ). 123 ∷ (z ++ 125 ∷ [])) (row_written S all vs row (typed_fields typed) is.1)
+      ∙ ap (λ (z : List ℕ). 123 ∷ z) (is.0 (λ i. part_at S all vs i) ∙ ap (members_text false) (members_by_part S all vs (typed_fields typed)))

@@ -90,7 +90,3 @@ went_on fs row now later es rest e f m is new here key place typed so_far =
       subst (All (IsOf fs)) (sym new) (All-push (IsOf fs) row m so_far.1 of),
       left.1,
     )
-
--- three pieces behind a text
-pub three : (old a b c x y z : List ℕ) → x ≡ old ++ a → y ≡ x ++ b → z ≡ y ++ c → z ≡ old ++ (a ++ (b ++ c))
-three old a b c x y z first second third = rw (third, second, first) (simp append_assoc refl)

@@ -1,6 +1,5 @@
 -- Numbers that lie side by side, one by one.
-use Rattle.std.proofs.Common.{◌≡◌, ℕ, zero, suc, ◌+◌, ◌*◌, ◌/◌, ◌%◌, ◌<◌, ℤ, pos, negsuc, Bool, false, true, List, [], ◌∷◌, ◌++◌, None, length, get_or, drop, map, refl, sym, ap, subst, ◌∙◌, append_assoc, add-zero, arith}
-use Rattle.std.proofs.lemmas.List.{drop_more}
+use Rattle.std.proofs.Common.{◌≡◌, ℕ, zero, suc, ◌+◌, ◌/◌, ◌%◌, ◌<◌, ℤ, pos, negsuc, Bool, false, true, List, [], ◌∷◌, ◌++◌, None, length, get_or, map, refl, sym, ap, ◌∙◌, add-zero, arith}
 use Rattle.std.specs.Fmt.{decimal, signed_decimal}
 use Rattle.std.specs.Int.{w8, cast_signed}
 use Rattle.arrayvec.specs.ArrayString.{ArrayString}
@@ -15,14 +14,6 @@ use Rattle.aidl_values.proofs.lemmas.Views.{datas_bytes, datas_chars, datas_ints
 use Rattle.json_writing.specs.Json.{json_items, json_number}
 use Rattle.json_writing.specs.Named.{enumerators_of}
 use Rattle.json_writing.specs.steps.Numbers.{AreTexts, row_of_texts, text_of_byte, text_of_pair}
-
--- one number more
-pub text_more : {X : Type 0} (f : X → List ℕ) (xs : List X) (i : ℕ) (x other : X) (later : Bool) (start old divided new : List ℕ) → i < length xs → x ≡ get_or xs i other → divided ≡ old ++ comma_if later
-    → new ≡ divided ++ f x → old ++ row_of_texts later (map f (drop i xs)) ≡ start → new ++ row_of_texts true (map f (drop (i + 1) xs)) ≡ start
-text_more f xs i x other later start old divided new lies is comma part so_far =
-    let rest = row_of_texts true (map f (drop (i + 1) xs)) in
-    let joined : new ++ rest ≡ old ++ (comma_if later ++ (f x ++ rest)) = rw (part, comma) (simp append_assoc refl) in
-    joined ∙ sym (ap (λ ys. old ++ row_of_texts later (map f ys)) (drop_more xs i other lies ∙ ap (λ y. y ∷ drop (i + 1) xs) (sym is))) ∙ so_far
 
 -- a number that no enumerator names stands in decimal digits
 in_digits : (n : ℤ) → signed_decimal n ≡ compact_text (json_number None n)
@@ -78,24 +69,3 @@ module _ (f : ℕ → List ℕ) where
 -- the texts of two bytes, one behind the other
 pub both_texts : (n : ℕ) (a b : List ℕ) → a ≡ 44 ∷ text_of_byte (n / 256) → b ≡ 44 ∷ text_of_byte (n % 256) → a ++ b ≡ text_of_pair n
 both_texts n a b first second = ap (λ (x : List ℕ). x ++ b) first ∙ ap (λ (x : List ℕ). (44 ∷ text_of_byte (n / 256)) ++ x) second
-
--- two bytes more
-pub two_more : (bs : List ℕ) (i a b : ℕ) (start old new : List ℕ) → 2 * i + 2 < length bs → a ≡ get_or bs (2 * i + 1) 0 → b ≡ get_or bs (2 * i + 2) 0 → b < 256
-    → new ≡ old ++ text_of_pair (256 * a + b) → old ++ row_of_texts true (map text_of_byte (drop (2 * i + 1) bs)) ≡ start
-    → new ++ row_of_texts true (map text_of_byte (drop (2 * (i + 1) + 1) bs)) ≡ start
-two_more bs i a b start old new lies first second small put so_far =
-    let high : (256 * a + b) / 256 ≡ a = omega arith in
-    let low : (256 * a + b) % 256 ≡ b = omega arith in
-    let mid = (old ++ 44 ∷ []) ++ text_of_byte a in
-    let one = text_more text_of_byte bs (2 * i + 1) a 0 true start old (old ++ 44 ∷ []) mid (omega (arith, lies)) first refl refl so_far in
-    let next : 2 * i + 1 + 1 ≡ 2 * i + 2 = omega arith in
-    let after : 2 * i + 2 + 1 ≡ 2 * (i + 1) + 1 = omega arith in
-    let pair : text_of_pair (256 * a + b) ≡ (44 ∷ text_of_byte a) ++ (44 ∷ text_of_byte b) = rw (high, low) refl in
-    let parts : new ≡ (mid ++ 44 ∷ []) ++ text_of_byte b = put ∙ ap (λ (x : List ℕ). old ++ x) pair ∙ simp append_assoc refl in
-    let behind : mid ++ row_of_texts true (map text_of_byte (drop (2 * i + 2) bs)) ≡ start = subst (λ k. mid ++ row_of_texts true (map text_of_byte (drop k bs)) ≡ start) next one in
-    subst (λ k. new ++ row_of_texts true (map text_of_byte (drop k bs)) ≡ start) after (text_more text_of_byte bs (2 * i + 2) b 0 true start mid (mid ++ 44 ∷ []) new lies second refl parts behind)
-
--- the first byte, and those behind it
-pub first_text : (bs old mid : List ℕ) → 0 < length bs → mid ≡ old ++ text_of_byte (get_or bs 0 0) → mid ++ row_of_texts true (map text_of_byte (drop 1 bs)) ≡ old ++ row_of_texts false (map text_of_byte bs)
-first_text [] old mid lies first = absurd (omega (arith, lies))
-first_text (b ∷ bs) old mid lies first = ap (λ (x : List ℕ). x ++ row_of_texts true (map text_of_byte bs)) first ∙ append_assoc old (text_of_byte b) (row_of_texts true (map text_of_byte bs))

@@ -27,12 +27,23 @@ struct LastRow<R: Drop> {
 }
 
 /// Rows of declarations, each made when it is asked for first, and the one that was asked for last. Contracts see what makes them.
-#[derive(Drop)]
 pub struct DeclRows<M: RowMaker + Drop> {
     maker: M,
     walks: Walks,
     rows: IndexMap<u32, Rc<M::Row>>,
     last: Option<LastRow<M::Row>>,
+}
+
+// By hand, so that one who drops them meets one call.
+impl<M: RowMaker + Drop> Drop for DeclRows<M> {
+    fn drop(self) {
+        let DeclRows {
+            maker: _,
+            walks: _,
+            rows: _,
+            last: _,
+        } = self;
+    }
 }
 
 impl<M: RowMaker + Drop> Model for DeclRows<M> {
@@ -70,13 +81,10 @@ impl<M: RowMaker + Drop> DeclRows<M> {
         ensures same { self.new ≡ self.old }
         ensures row { IfOk result (λ row. M.is_row self.old decl row.value) }
     {
-        if let Some(row) = self.last_row(decl)? {
-            return Ok(row);
+        match &self.last {
+            Some(last) if last.decl == decl => Ok(last.row.clone()?),
+            _ => self.kept_row(alloc, decl),
         }
-        let row = self.kept_row(alloc, decl)?;
-        let last = row.clone()?;
-        self.last = Some(LastRow { decl, row: last });
-        Ok(row)
     }
 
     /// The same; None the first times, in which the members of the declaration are to be gone through one by one.
@@ -88,31 +96,39 @@ impl<M: RowMaker + Drop> DeclRows<M> {
         ensures same { self.new ≡ self.old }
         ensures row { IfOk result (λ o. IfSome o (λ row. M.is_row self.old decl row.value)) }
     {
-        if let Some(row) = self.last_row(decl)? {
-            return Ok(Some(row));
-        }
-        if self.walks.is_walk(decl)? {
+        if !self.is_last(decl) && self.walks.is_walk(decl)? {
             return Ok(None);
         }
         Ok(Some(self.row(alloc, decl)?))
     }
 
-    fn last_row(&self, decl: u32) -> Result<Option<Rc<M::Row>>, OutOfMemory>
-        ensures { IfOk result (λ o. IfSome o (λ row. M.is_row self.now decl row.value)) }
-    {
+    // Whether the row of a declaration is at hand. It is an advice, and no clause binds it.
+    fn is_last(&self, decl: u32) -> bool {
         match &self.last {
-            Some(last) if last.decl == decl => Ok(Some(last.row.clone()?)),
-            _ => Ok(None),
+            Some(last) => last.decl == decl,
+            None => false,
         }
     }
 
+    // The row of a declaration, which is at hand from now on.
     fn kept_row(&mut self, alloc: Global, decl: u32) -> Result<Rc<M::Row>, OutOfMemory>
         ensures same { self.new ≡ self.old }
         ensures row { IfOk result (λ row. M.is_row self.old decl row.value) }
     {
-        if let Some(row) = self.rows.get(&decl) {
-            return Ok(row.clone()?);
-        }
+        let row = match self.rows.get(&decl) {
+            Some(row) => row.clone()?,
+            None => self.new_row(alloc, decl)?,
+        };
+        let last = row.clone()?;
+        self.last = Some(LastRow { decl, row: last });
+        Ok(row)
+    }
+
+    // Makes the row of a declaration and keeps it.
+    fn new_row(&mut self, alloc: Global, decl: u32) -> Result<Rc<M::Row>, OutOfMemory>
+        ensures same { self.new ≡ self.old }
+        ensures row { IfOk result (λ row. M.is_row self.old decl row.value) }
+    {
         let made = Rc::new(alloc, self.maker.make_row(alloc, decl)?)?;
         let row = made.clone()?;
         self.rows.insert(decl, made)?;

@@ -1,5 +1,5 @@
 //! The members of the object of a parcelable, sorted by their keys.
-ghost use Rattle.std.specs.Prelude.{◌≡◌, ◌++◌, ◌∷◌, [], IfOk, length, string_bytes};
+ghost use Rattle.std.specs.Prelude.{◌≡◌, ◌++◌, ◌∷◌, [], IfOk, string_bytes};
 ghost use Rattle.serde_json.specs.Data.{string};
 ghost use Rattle.serde_json.specs.Written.{comma_if, compact_text};
 ghost use Rattle.json_writing.specs.steps.Members.{IsRow};
@@ -9,6 +9,7 @@ use crate::quoted::push_quoted;
 use crate::value_text::push_comma_if;
 use aidl_base::OutOfMemory;
 use aidl_schema::{AidlType, Field};
+use growing_text::GrowingText;
 use std::alloc::Global;
 use std::collections::BTreeMap;
 
@@ -54,28 +55,23 @@ fn in_order(
     let mut row = Vec::with_capacity(alloc, fields.len())?;
     let mut later = false;
     for (name, place) in places.iter() {
-        let ty = fields[*place].ty;
-        row.push(member_of(alloc, later, name, *place, ty)?)?;
+        row.push(Member {
+            key: key_of(alloc, later, name)?,
+            place: *place,
+            ty: fields[*place].ty,
+        })?;
         later = true;
     }
     Ok(row)
 }
 
-fn member_of(
-    alloc: Global,
-    later: bool,
-    name: &str,
-    place: usize,
-    ty: AidlType,
-) -> Result<Member, OutOfMemory>
-    ensures key { IfOk result (λ member. string_bytes member.key
+fn key_of(alloc: Global, later: bool, name: &str) -> Result<String, OutOfMemory>
+    ensures { IfOk result (λ key. string_bytes key
         ≡ comma_if later ++ (compact_text (string name.now) ++ 58 ∷ [])) }
-    ensures place { IfOk result (λ member. member.place ≡ place) }
-    ensures ty { IfOk result (λ member. member.ty ≡ ty) }
 {
-    let mut key = String::new(alloc);
-    push_comma_if(later, &mut key)?;
-    push_quoted(alloc, name, &mut key)?;
-    key.push_str(":")?;
-    Ok(Member { key, place, ty })
+    let mut key = GrowingText::new(alloc);
+    push_comma_if(later, &mut key);
+    push_quoted(alloc, name, &mut key);
+    key.push(':');
+    key.into_string()
 }

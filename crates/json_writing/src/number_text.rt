@@ -1,133 +1,118 @@
 //! The JSON arrays of numbers that lie side by side and that no enumerator names.
-ghost use Rattle.std.specs.Prelude.{◌≡◌, ◌+◌, ◌*◌, ◌<◌, ◌≤◌, ◌++◌, false, true, IfOk, OnOk, drop, length, map, string_bytes};
+ghost use Rattle.std.specs.Prelude.{◌≡◌, ◌≤◌, false, true, drop, length, map};
+ghost use Rattle.growing_text.specs.Grows.{Grows};
+ghost use Rattle.json_writing.specs.steps.Completes.{Completes};
 ghost use Rattle.json_writing.specs.steps.Numbers.{AreByteTexts, ArePairTexts, row_of_texts, text_of_byte};
 
 use crate::byte_texts::{BYTES, PAIRS, texts_of_bytes, texts_of_pairs};
 use crate::value_text::push_comma_if;
-use aidl_base::OutOfMemory;
 use arrayvec::ArrayString;
+use growing_text::GrowingText;
 use itoa::{Buffer, Integer};
 use std::alloc::Global;
 
 // Adds numbers and the bracket behind them: a buffer of digits for all.
-pub fn push_numbers<I: Integer>(numbers: &[I], text: &mut String) -> Result<(), OutOfMemory>
-    ensures { OnOk result (string_bytes text.new
-        ≡ string_bytes text.old ++ row_of_texts false (map I.text numbers.now)) }
+pub fn push_numbers<I: Integer>(numbers: &[I], text: &mut GrowingText)
+    ensures { Grows text.old text.new (row_of_texts false (map I.text numbers.now)) }
 {
     let mut digits = Buffer::new();
     let mut later = false;
     for number in numbers {
-        push_comma_if(later, text)?;
-        text.push_str(digits.format(*number))?;
+        push_comma_if(later, text);
+        text.push_str(digits.format(*number));
         later = true;
     }
-    text.push_str("]")?;
-    Ok(())
+    text.push(']');
 }
 
-// Adds bytes, which are signed, and the bracket behind them: many by a table of their texts.
-pub fn push_bytes(alloc: Global, bytes: &[u8], text: &mut String) -> Result<(), OutOfMemory>
-    ensures { OnOk result (string_bytes text.new
-        ≡ string_bytes text.old ++ row_of_texts false (map text_of_byte bytes.now)) }
+// Adds bytes, which are signed, and the bracket behind them.
+pub fn push_bytes(alloc: Global, bytes: &[u8], text: &mut GrowingText)
+    ensures { Grows text.old text.new (row_of_texts false (map text_of_byte bytes.now)) }
 {
-    if bytes.len() > BYTES {
-        push_many_bytes(alloc, bytes, text)
-    } else {
-        push_few_bytes(bytes, text)
+    match bytes.split_first() {
+        Some((first, others)) => {
+            text.push_str(Buffer::new().format(first.cast_signed()));
+            push_others(alloc, others, text);
+        }
+        None => text.push(']'),
     }
 }
 
-fn push_few_bytes(bytes: &[u8], text: &mut String) -> Result<(), OutOfMemory>
-    ensures { OnOk result (string_bytes text.new
-        ≡ string_bytes text.old ++ row_of_texts false (map text_of_byte bytes.now)) }
+// Adds the bytes behind the first one: many by a table of their texts, if memory is there for it.
+fn push_others(alloc: Global, bytes: &[u8], text: &mut GrowingText)
+    ensures { Grows text.old text.new (row_of_texts true (map text_of_byte bytes.now)) }
+{
+    if bytes.len() < BYTES {
+        return push_few(bytes, text);
+    }
+    match texts_of_bytes(alloc) {
+        Ok(texts) => {
+            let place = push_pairs(alloc, texts.as_slice(), bytes, text);
+            push_texts(texts.as_slice(), &bytes[place..], text);
+        }
+        Err(_) => push_few(bytes, text),
+    }
+}
+
+fn push_few(bytes: &[u8], text: &mut GrowingText)
+    ensures { Grows text.old text.new (row_of_texts true (map text_of_byte bytes.now)) }
 {
     let mut digits = Buffer::new();
-    let mut later = false;
     for byte in bytes {
-        push_comma_if(later, text)?;
-        text.push_str(digits.format(byte.cast_signed()))?;
-        later = true;
+        text.push(',');
+        text.push_str(digits.format(byte.cast_signed()));
     }
-    text.push_str("]")?;
-    Ok(())
+    text.push(']');
 }
 
-fn push_many_bytes(alloc: Global, bytes: &[u8], text: &mut String) -> Result<(), OutOfMemory>
-    requires { 0 < length bytes.now }
-    ensures { OnOk result (string_bytes text.new
-        ≡ string_bytes text.old ++ row_of_texts false (map text_of_byte bytes.now)) }
-{
-    let texts = texts_of_bytes(alloc)?;
-    let mut digits = Buffer::new();
-    text.push_str(digits.format(bytes[0].cast_signed()))?;
-    let place = push_pairs(alloc, texts.as_slice(), bytes, text)?;
-    push_texts(texts.as_slice(), bytes, place, text)
-}
-
-// Adds the bytes behind the first one two by two, where they are so many that a table of pairs is worth its making. The answer is
-// the place of the first byte that is left.
+// Adds bytes two by two, where they are so many that a table of pairs is worth its making, if memory is there for it. The answer
+// is the place of the first byte that is left.
 fn push_pairs(
     alloc: Global,
     texts: &[ArrayString<8>],
     bytes: &[u8],
-    text: &mut String,
-) -> Result<usize, OutOfMemory>
+    text: &mut GrowingText,
+) -> usize
     requires all { length texts.now ≡ 256 }
     requires texts { AreByteTexts 0 texts.now }
-    requires some { 0 < length bytes.now }
-    ensures place { IfOk result (λ place. place ≤ length bytes.now) }
-    ensures left { IfOk result (λ place.
-        string_bytes text.new ++ row_of_texts true (map text_of_byte (drop place bytes.now))
-        ≡ string_bytes text.old ++ row_of_texts true (map text_of_byte (drop 1 bytes.now))) }
+    ensures place { result ≤ length bytes.now }
+    ensures left { Completes text.old text.new
+        (row_of_texts true (map text_of_byte (drop result bytes.now)))
+        (row_of_texts true (map text_of_byte bytes.now)) }
 {
     if bytes.len() / 4 < PAIRS {
-        return Ok(1);
+        return 0;
     }
-    let pairs = texts_of_pairs(alloc, PAIRS, texts)?;
-    let count = (bytes.len() - 1) / 2;
-    push_twos(pairs.as_slice(), bytes, count, text)?;
-    Ok(2 * count + 1)
+    match texts_of_pairs(alloc, PAIRS, texts) {
+        Ok(pairs) => push_twos(pairs.as_slice(), bytes, text),
+        Err(_) => 0,
+    }
 }
 
-// Adds so many pairs of bytes behind the first byte.
-fn push_twos(
-    pairs: &[ArrayString<16>],
-    bytes: &[u8],
-    count: usize,
-    text: &mut String,
-) -> Result<(), OutOfMemory>
+fn push_twos(pairs: &[ArrayString<16>], bytes: &[u8], text: &mut GrowingText) -> usize
     requires all { length pairs.now ≡ 65536 }
     requires texts { ArePairTexts 0 pairs.now }
-    requires within { 2 * count < length bytes.now }
-    ensures { OnOk result
-        (string_bytes text.new ++ row_of_texts true (map text_of_byte (drop (2 * count + 1) bytes.now))
-        ≡ string_bytes text.old ++ row_of_texts true (map text_of_byte (drop 1 bytes.now))) }
+    ensures place { result ≤ length bytes.now }
+    ensures left { Completes text.old text.new
+        (row_of_texts true (map text_of_byte (drop result bytes.now)))
+        (row_of_texts true (map text_of_byte bytes.now)) }
 {
+    let count = bytes.len() / 2;
     for i in 0..count {
-        let first = bytes[2 * i + 1];
-        let second = bytes[2 * i + 2];
-        let pair = BYTES * first as usize + second as usize;
-        text.push_str(pairs[pair].as_str())?;
+        let pair = BYTES * bytes[2 * i] as usize + bytes[2 * i + 1] as usize;
+        text.push_str(pairs[pair].as_str());
     }
-    Ok(())
+    2 * count
 }
 
-// Adds the bytes from a place on by the texts of all bytes.
-fn push_texts(
-    texts: &[ArrayString<8>],
-    bytes: &[u8],
-    place: usize,
-    text: &mut String,
-) -> Result<(), OutOfMemory>
+// Adds bytes by the texts of all bytes, and the bracket.
+fn push_texts(texts: &[ArrayString<8>], bytes: &[u8], text: &mut GrowingText)
     requires all { length texts.now ≡ 256 }
     requires texts { AreByteTexts 0 texts.now }
-    requires within { place ≤ length bytes.now }
-    ensures { OnOk result (string_bytes text.new
-        ≡ string_bytes text.old ++ row_of_texts true (map text_of_byte (drop place bytes.now))) }
+    ensures { Grows text.old text.new (row_of_texts true (map text_of_byte bytes.now)) }
 {
-    for i in place..bytes.len() {
-        text.push_str(texts[bytes[i] as usize].as_str())?;
+    for byte in bytes {
+        text.push_str(texts[*byte as usize].as_str());
     }
-    text.push_str("]")?;
-    Ok(())
+    text.push(']');
 }

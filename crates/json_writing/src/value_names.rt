@@ -58,49 +58,17 @@ impl<'a> ValueNames<'a> {
         ensures name { IfOk result (λ name. json_named (option_map (λ i. i.now) name) n
             ≡ json_number (enumerators_of self.old base) n) }
     {
-        match enumerators_in(self.schema, base) {
-            Some(enumerators) => self.name_among(alloc, base, enumerators, n),
-            None => Ok(None),
-        }
-    }
-
-    // The same, by the enumerators of the base.
-    fn name_among(
-        &mut self,
-        alloc: Global,
-        base: Base,
-        enumerators: &'a [Enumerator],
-        n: i64,
-    ) -> Result<Option<&'a Ident>, OutOfMemory>
-        requires { enumerators_of self.old base ≡ Some enumerators.now }
-        ensures same { self.new ≡ self.old }
-        ensures name { IfOk result (λ name. json_named (option_map (λ i. i.now) name) n
-            ≡ json_among enumerators.now n) }
-    {
+        let Some(enumerators) = enumerators_in(self.schema, base) else {
+            return Ok(None);
+        };
         match base {
             Base::Named(decl) if enumerators.len() > WALKS => {
-                self.name_of_many(alloc, decl, enumerators, n)
+                match self.tables.row_after_walks(alloc, decl)? {
+                    Some(table) => Ok(table.name(n)),
+                    None => Ok(first_name(enumerators, n)),
+                }
             }
             _ => Ok(first_name(enumerators, n)),
-        }
-    }
-
-    // The same, of a large enum: from its table, which is made here after so many walks.
-    fn name_of_many(
-        &mut self,
-        alloc: Global,
-        decl: u32,
-        enumerators: &'a [Enumerator],
-        n: i64,
-    ) -> Result<Option<&'a Ident>, OutOfMemory>
-        requires { enumerators_of self.old (base.Named decl) ≡ Some enumerators.now }
-        ensures same { self.new ≡ self.old }
-        ensures name { IfOk result (λ name. json_named (option_map (λ i. i.now) name) n
-            ≡ json_among enumerators.now n) }
-    {
-        match self.tables.row_after_walks(alloc, decl)? {
-            Some(table) => Ok(table.name(n)),
-            None => Ok(first_name(enumerators, n)),
         }
     }
 }

@@ -1,4 +1,4 @@
-use Rattle.std.proofs.Common.{sym, ap, ◌∙◌}
+use Rattle.std.proofs.Common.{refl, sym, ap}
 use Rattle.aidl_schema.specs.declared.schema.Field.{Field}
 use Rattle.json_writing.specs.steps.Places.{Placed}
 use Rattle.json_writing.proofs.Rows.{lies_next, went_on}
@@ -14,6 +14,6 @@ loop-name-preserved c =
     let e : Placed = (c.in-Some.name.now, c.in-Some.place.now) in (
       tt,
       tt,
-      went_on c.args.fields.now c.loop-name.row.items c.push.new.self.items c.loop-name.later c.loop-name.name-iterator c.next.new.self e c.index-fields-place.result c.in_ok-member_of.field-0 c.in-Some.ensures.steps
-          c.in_ok-push.ensures.items c.index-fields-place.is c.in_ok-member_of.ensures.key c.in_ok-member_of.ensures.place (c.in_ok-member_of.ensures.ty ∙ ap (λ (f : Field). f.ty) (sym c.index-fields-place.is)) c.loop-name.invariant.2,
+      went_on c.args.fields.now c.loop-name.row.items c.push.new.self.items c.loop-name.later c.loop-name.name-iterator c.next.new.self e c.index-fields-place.result _ c.in-Some.ensures.steps
+          c.in_ok-push.ensures.items c.index-fields-place.is c.in_ok-key_of.ensures refl (ap (λ (f : Field). f.ty) (sym c.index-fields-place.is)) c.loop-name.invariant.2,
     )
