@@ -1,5 +1,5 @@
+mod Adding
 mod Compared
-mod Chains
 mod Found
 mod Listing
 mod PlaceTexts

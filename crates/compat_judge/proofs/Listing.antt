@@ -1,11 +1,14 @@
 -- Loops over lists that add what each item breaks.
-use Rattle.std.proofs.Common.{◌≡◌, ℕ, suc, ◌+◌, ◌-◌, ◌<◌, ◌≤◌, Bool, true, false, List, [], ◌∷◌, ◌++◌, map, length, take, get_or, Option, Some, None, slice_get, refl, sym, ap, ◌∙◌, subst, arith, append_assoc}
+use Rattle.std.proofs.Common.{◌≡◌, ℕ, suc, ◌+◌, ◌-◌, ◌<◌, ◌≤◌, Bool, true, false, List, [], ◌∷◌, ◌++◌, map, length, take, get_or, Option, Some, None, slice_get, refl, sym, ap, ◌∙◌, subst, arith}
 use Rattle.std.specs.List.{find, flat_map, position_from}
 use Rattle.std.proofs.lemmas.List.{append-nil}
 use Rattle.std.proofs.lemmas.List.Concat.{flat_map-append}
 use Rattle.aidl_base.proofs.lemmas.Lists.{take_further, take_to_end}
-use Rattle.aidl_schema.specs.Broken.{Break, Place, of_rule, places}
-use Rattle.compat_judge.specs.steps.Steps.{break_if, item_at, place_of}
+use Rattle.aidl_schema.specs.Broken.{Break, Place, if_found, is_there_and, of_rule, place_if, places, with_found}
+use Rattle.compat_judge.specs.declared.findings.Findings.{Findings}
+use Rattle.compat_judge.specs.steps.Adds.{Adds}
+use Rattle.compat_judge.specs.steps.Steps.{break_if, item_at}
+use Rattle.compat_judge.proofs.Adding.{adds_as, adds_both, of_rule-append}
 use Rattle.aidl_schema.specs.Same.{same_text}
 
 -- the places of a rule, one item after the other
@@ -18,22 +21,17 @@ listed rule place breaks (x ∷ xs) = by (breaks x) refl (listed rule place brea
     by true e rest = rw e (ap (λ r. (rule, place x) ∷ r) rest)
     by false e rest = rw e rest
 
-module _ {X B : Type 0} (R : X → List B) (start : List B) (xs : List X) where
-  -- what has been added after the items before i
-  abbrev pub Added : List B → ℕ → Type 0
-  Added now i = now ≡ start ++ flat_map R (take i xs)
+module _ {X : Type 0} (R : X → List Break) (start : Findings) (xs : List X) where
+  pub added_more : (now further : Findings) (i : ℕ) (x : X) → Adds start now (flat_map R (take i xs)) → i < length xs → x ≡ get_or xs i x → Adds now further (R x) → Adds start further (flat_map R (take (i + 1) xs))
+  added_more now further i x h lt is more =
+      adds_as (ap (λ z. flat_map R (take i xs) ++ z) (sym (append-nil (R x))) ∙ sym (flat_map-append R (take i xs) (x ∷ [])) ∙ ap (flat_map R) (sym (take_further xs i x lt is))) (adds_both h more)
 
-  pub added_more : (now further : List B) (i : ℕ) (x : X) → Added now i → i < length xs → x ≡ get_or xs i x → further ≡ now ++ R x → Added further (i + 1)
-  added_more now further i x h lt is e =
-      e ∙ ap (λ z. z ++ R x) h ∙ append_assoc start (flat_map R (take i xs)) (R x)
-      ∙ ap (λ z. start ++ z) (ap (λ z. flat_map R (take i xs) ++ z) (sym (append-nil (R x))) ∙ sym (flat_map-append R (take i xs) (x ∷ [])) ∙ ap (flat_map R) (sym (take_further xs i x lt is)))
+  pub added_all : (now : Findings) (i : ℕ) → Adds start now (flat_map R (take i xs)) → i ≡ length xs → Adds start now (flat_map R xs)
+  added_all now i h e = adds_as (ap (flat_map R) (take_to_end xs i e)) h
 
-  pub added_all : (now : List B) (i : ℕ) → Added now i → i ≡ length xs → now ≡ start ++ flat_map R xs
-  added_all now i h e = h ∙ ap (λ z. start ++ flat_map R z) (take_to_end xs i e)
-
-module _ {X : Type 0} (rule : ℕ) (place : X → Place) (breaks : X → Bool) (start : List Break) (xs : List X) where
-  pub places_all : (now : List Break) (i : ℕ) → now ≡ start ++ flat_map (break_if rule place breaks) (take i xs) → i ≡ length xs → now ≡ start ++ of_rule rule (places place breaks xs)
-  places_all now i h e = added_all (break_if rule place breaks) start xs now i h e ∙ ap (λ z. start ++ z) (sym (listed rule place breaks xs))
+module _ {X : Type 0} (rule : ℕ) (place : X → Place) (breaks : X → Bool) (start : Findings) (xs : List X) where
+  pub places_all : (now : Findings) (i : ℕ) → Adds start now (flat_map (break_if rule place breaks) (take i xs)) → i ≡ length xs → Adds start now (of_rule rule (places place breaks xs))
+  places_all now i h e = adds_as (sym (listed rule place breaks xs)) (added_all (break_if rule place breaks) start xs now i h e)
 
 -- Look-ups by position.
 
@@ -73,6 +71,10 @@ position-map : {X Y : Type 0} (f : X → Y) (p : Y → Bool) (k : ℕ) (xs : Lis
 position-map f p k [] = refl
 position-map f p k (x ∷ xs) = rw (position-map f p (k + 1) xs) refl
 
+-- where a text stands first among others
+abbrev pub place_of : List (List ℕ) → List ℕ → Option ℕ
+place_of texts x = position_from (λ y. same_text x y) 0 texts
+
 -- what has the name of x
 pub item_named : {X : Type 0} (name : X → List ℕ) (x : X) (ys : List X) → item_at ys (place_of (map name ys) (name x)) ≡ find (λ y. same_text (name x) (name y)) ys
 item_named name x ys = ap (item_at ys) (position-map name (λ y. same_text (name x) y) 0 ys) ∙ item_found (λ y. same_text (name x) (name y)) ys
@@ -81,10 +83,45 @@ pub find-same : {X : Type 0} (p q : X → Bool) → ((x : X) → p x ≡ q x) �
 find-same p q same [] = refl
 find-same p q same (x ∷ xs) = rw (same x, find-same p q same xs) refl
 
-pub of_rule-append : (rule : ℕ) (ps qs : List Place) → of_rule rule (ps ++ qs) ≡ of_rule rule ps ++ of_rule rule qs
-of_rule-append rule [] qs = refl
-of_rule-append rule (p ∷ ps) qs = ap (λ z. (rule, p) ∷ z) (of_rule-append rule ps qs)
-
 pub of_rule-flat : {X : Type 0} (rule : ℕ) (F : X → List Place) (xs : List X) → of_rule rule (flat_map F xs) ≡ flat_map (λ x. of_rule rule (F x)) xs
 of_rule-flat rule F [] = refl
 of_rule-flat rule F (x ∷ xs) = of_rule-append rule (F x) (flat_map F xs) ∙ ap (λ z. of_rule rule (F x) ++ z) (of_rule-flat rule F xs)
+
+-- Members of which each has one beside it, or none.
+
+pub beside_listed : {X : Type 0} (rule : ℕ) (place : X → Place) (breaks : X → X → Bool) (other : X → Option X) (xs : List X)
+    → of_rule rule (places (λ p. place p.0) (λ p. breaks p.0 p.1) (flat_map (λ x. with_found x (other x)) xs)) ≡ flat_map (break_if rule place (λ x. is_there_and (breaks x) (other x))) xs
+beside_listed rule place breaks other [] = refl
+beside_listed {X} rule place breaks other (x ∷ xs) = by (other x) refl (beside_listed rule place breaks other xs)
+  where
+    all : List X → List Break
+    all xs = flat_map (break_if rule place (λ x. is_there_and (breaks x) (other x))) xs
+
+    told : List (X × X) → List Break
+    told both = of_rule rule (places (λ p. place p.0) (λ p. breaks p.0 p.1) both)
+
+    rest : List (X × X)
+    rest = flat_map (λ x. with_found x (other x)) xs
+
+    there : (y : X) (b : Bool) → breaks x y ≡ b → told rest ≡ all xs → told ((x, y) ∷ rest) ≡ of_rule rule (place_if (place x) (breaks x y)) ++ all xs
+    there y true e h = rw e (ap (λ r. (rule, place x) ∷ r) h)
+    there y false e h = rw e h
+
+    by : (o : Option X) → other x ≡ o → told rest ≡ all xs → told (with_found x (other x) ++ rest) ≡ of_rule rule (place_if (place x) (is_there_and (breaks x) (other x))) ++ all xs
+    by None e h = rw e h
+    by (Some y) e h = rw e (there y (breaks x y) refl h)
+
+pub beside_flat : {X B : Type 0} (F : X → X → List B) (other : X → Option X) (xs : List X)
+    → flat_map (λ p. F p.0 p.1) (flat_map (λ x. with_found x (other x)) xs) ≡ flat_map (λ x. if_found (F x) (other x)) xs
+beside_flat F other [] = refl
+beside_flat {X} {B} F other (x ∷ xs) = by (other x) refl (beside_flat F other xs)
+  where
+    rest : List (X × X)
+    rest = flat_map (λ x. with_found x (other x)) xs
+
+    all : List B
+    all = flat_map (λ x. if_found (F x) (other x)) xs
+
+    by : (o : Option X) → other x ≡ o → flat_map (λ p. F p.0 p.1) rest ≡ all → flat_map (λ p. F p.0 p.1) (with_found x (other x) ++ rest) ≡ if_found (F x) (other x) ++ all
+    by None e h = rw e h
+    by (Some y) e h = rw e (ap (λ z. F x y ++ z) h)

@@ -1,6 +1,6 @@
 -- The texts of places.
-use Rattle.std.proofs.Common.{ℕ, suc, ◌<◌, ◌^◌, List, [], ◌∷◌, ◌++◌, refl, sym, ap, ◌∙◌}
-use Rattle.std.specs.Str.{all_scalars, encode_utf8_all, IsAscii}
+use Rattle.std.proofs.Common.{◌≡◌, ℕ, suc, ◌<◌, ◌^◌, List, [], ◌∷◌, ◌++◌, Result, Ok, Err, String, Global, string_bytes, IfOk, refl, sym, ap, ◌∙◌}
+use Rattle.std.specs.Str.{all_scalars, chars, encode_utf8_all, IsAscii}
 use Rattle.std.specs.Fmt.{decimal}
 use Rattle.std.proofs.lemmas.Fmt.{IsAscii-decimal}
 use Rattle.std.proofs.lemmas.Str.{encode_ascii}
@@ -19,3 +19,8 @@ ascii_spells (c ∷ x) h =
 
 pub decimal_spells : (n : ℕ) → n < 2 ^ 64 → Spells (decimal n) (decimal n)
 decimal_spells n lt = ascii_spells (decimal n) (IsAscii-decimal n lt)
+
+-- a text that was made of these bytes reads as what they spell
+pub reads : {E : Type 0} (made : Result (String Global) E) (bytes place : List ℕ) → chars bytes ≡ place → IfOk made (λ text. string_bytes text ≡ bytes) → IfOk made (λ text. chars (string_bytes text) ≡ place)
+reads (Ok text) bytes place is same = ap chars same ∙ is
+reads (Err fault) bytes place is same = tt

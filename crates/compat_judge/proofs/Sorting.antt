@@ -1,5 +1,5 @@
 -- Findings that are sorted and freed of repetitions, as breaks.
-use Rattle.std.proofs.Common.{◌≡◌, ℕ, zero, suc, ◌<◌, Bool, true, ◌&&◌, List, [], ◌∷◌, map, length, get_or, Some, Contains, refl, sym, ap, ◌∙◌, subst, arith}
+use Rattle.std.proofs.Common.{◌≡◌, ℕ, zero, suc, ◌<◌, Bool, true, ◌&&◌, List, [], ◌∷◌, map, length, get_or, Some, Result, Ok, Err, IfOk, Contains, refl, sym, ap, ◌∙◌, subst, arith}
 use Rattle.std.specs.declared.cmp.Ordering.{Ordering}
 use Rattle.std.specs.declared.cmp.Ordering.TheVariants.{Less, Equal, Greater}
 use Rattle.std.specs.Cmp.{IsEquivalence, IsTotalOrder}
@@ -19,7 +19,7 @@ use Rattle.std.proofs.lemmas.List.Sorted.{Contains-permutation, IsPermutation-sy
 use Rattle.aidl_schema.specs.Broken.{Break, break_order, sorted_once}
 use Rattle.aidl_schema.specs.Unbroken.{Has}
 use Rattle.compat_judge.specs.declared.findings.Finding.{Finding}
-use Rattle.compat_judge.specs.steps.Steps.{finding}
+use Rattle.compat_judge.specs.steps.Adds.{finding}
 use Rattle.compat_judge.proofs.SortedOnce.{is_once, ties as break_ties}
 use Rattle.compat_judge.proofs.Utf8Order.{utf8-order}
 
@@ -116,3 +116,8 @@ equal =
       symm = λ x y. tie x y ∙ e.symm x y ∙ sym (tie y x);
       congr = λ x y z h. tie x z ∙ e.congr x y z (sym (tie x y) ∙ h) ∙ sym (tie y z);
     }
+
+-- what holds whatever is answered
+pub beside_ok : {A E : Type 0} (W : Type 0) (P : A → Type 0) (r : Result A E) → W → IfOk r P → IfOk r (λ a. W × P a)
+beside_ok W P (Ok a) w h = (w, h)
+beside_ok W P (Err e) w h = tt

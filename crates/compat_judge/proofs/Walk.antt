@@ -1,8 +1,7 @@
 -- What one turn of a loop over members adds.
 use Rattle.std.proofs.Common.{◌≡◌, ℕ, zero, suc, ◌+◌, ◌<◌, min, Bool, true, List, [], ◌∷◌, ◌++◌, map, length, take, get_or, Option, Some, None, refl, sym, ap, ◌∙◌, subst, arith, is_some}
-use Rattle.std.specs.List.{find, flat_map, zip, enumerate_from, position_from}
-use Rattle.std.proofs.lemmas.List.{append-nil}
-use Rattle.std.proofs.lemmas.List.Concat.{flat_map-append}
+use Rattle.std.specs.List.{flat_map, zip, enumerate_from, position_from}
+use Rattle.std.proofs.lemmas.List.{length-map}
 use Rattle.std.specs.Borrow.{Bor}
 use Rattle.std.specs.Fmt.{decimal}
 use Rattle.std.specs.Option.{option_copied}
@@ -11,31 +10,32 @@ use Rattle.std.proofs.lemmas.Iterator.Adapters.{position_from-zero}
 use Rattle.aidl_base.specs.declared.name.Ident.{Ident}
 use Rattle.aidl_schema.specs.declared.schema.Arg.{Arg}
 use Rattle.aidl_schema.specs.declared.schema.Decl.{Decl}
-use Rattle.aidl_schema.specs.declared.schema.Method.{Method}
-use Rattle.aidl_schema.specs.Broken.{Break, argument, in_both, is_there_and, member, of_rule, place_if, same_method, whole, with_found}
+use Rattle.aidl_schema.specs.Broken.{argument, is_there_and, member, of_rule, place_if, whole}
 use Rattle.aidl_schema.specs.Same.{same_text}
 use Rattle.name_tables.specs.Places.{has_name, place_in}
-use Rattle.compat_judge.specs.declared.sides.Common.{Common}
-use Rattle.compat_judge.specs.steps.Steps.{both_of, break_if, item_at, place_of, places_among}
+use Rattle.compat_judge.specs.declared.findings.Findings.{Findings}
+use Rattle.compat_judge.specs.steps.Adds.{Adds}
+use Rattle.compat_judge.specs.steps.Steps.{break_if}
+use Rattle.compat_judge.proofs.Adding.{adds_as}
 use Rattle.compat_judge.proofs.Found.{same_text_sym}
 use Rattle.aidl_base.proofs.lemmas.Lists.{take_further}
-use Rattle.compat_judge.proofs.Listing.{added_more, item_named}
+use Rattle.compat_judge.proofs.Listing.{added_more, place_of}
 use Rattle.compat_judge.proofs.Utf8Order.{same_encoded}
 
-module _ {X : Type 0} (rule : ℕ) (d : Decl) (ident : X → Ident) (breaks : X → Bool) (start : List Break) (xs : List X) where
-  pub at_member : (now further : List Break) (i : ℕ) (x : X) (name : List ℕ) (b : Bool) → now ≡ start ++ flat_map (break_if rule (λ x. member d (ident x)) breaks) (take i xs)
-      → i < length xs → x ≡ get_or xs i x → name ≡ whole d → b ≡ breaks x → further ≡ now ++ of_rule rule (place_if (name ++ 46 ∷ (ident x).0) b)
-      → further ≡ start ++ flat_map (break_if rule (λ x. member d (ident x)) breaks) (take (i + 1) xs)
-  at_member now further i x name b h lt is named same e =
+module _ {X : Type 0} (rule : ℕ) (d : Decl) (ident : X → Ident) (breaks : X → Bool) (start : Findings) (xs : List X) where
+  pub at_member : (now further : Findings) (i : ℕ) (x : X) (name : List ℕ) (b : Bool) → Adds start now (flat_map (break_if rule (λ x. member d (ident x)) breaks) (take i xs))
+      → i < length xs → x ≡ get_or xs i x → name ≡ whole d → b ≡ breaks x → Adds now further (of_rule rule (place_if (name ++ 46 ∷ (ident x).0) b))
+      → Adds start further (flat_map (break_if rule (λ x. member d (ident x)) breaks) (take (i + 1) xs))
+  at_member now further i x name b h lt is named same more =
       added_more (break_if rule (λ x. member d (ident x)) breaks) start xs now further i x h lt is
-      (e ∙ ap (λ n. now ++ of_rule rule (place_if (n ++ 46 ∷ (ident x).0) b)) named ∙ ap (λ c. now ++ of_rule rule (place_if (member d (ident x)) c)) same)
+      (adds_as (ap (λ n. of_rule rule (place_if (n ++ 46 ∷ (ident x).0) b)) named ∙ ap (λ c. of_rule rule (place_if (member d (ident x)) c)) same) more)
 
-pub at_argument : (rule : ℕ) (d : Decl) (m : Ident) (breaks : ℕ × (Arg × Arg) → Bool) (start : List Break) (xs : List (ℕ × (Arg × Arg))) (now further : List Break) (i : ℕ) (x : ℕ × (Arg × Arg)) (name : List ℕ) (b : Bool)
-    → now ≡ start ++ flat_map (break_if rule (λ p. argument d m p.0) breaks) (take i xs) → i < length xs → x ≡ get_or xs i x → name ≡ whole d → b ≡ breaks x
-    → further ≡ now ++ of_rule rule (place_if ((name ++ 46 ∷ m.0) ++ 47 ∷ decimal x.0) b) → further ≡ start ++ flat_map (break_if rule (λ p. argument d m p.0) breaks) (take (i + 1) xs)
-at_argument rule d m breaks start xs now further i x name b h lt is named same e =
+pub at_argument : (rule : ℕ) (d : Decl) (m : Ident) (breaks : ℕ × (Arg × Arg) → Bool) (start : Findings) (xs : List (ℕ × (Arg × Arg))) (now further : Findings) (i : ℕ) (x : ℕ × (Arg × Arg)) (name : List ℕ) (b : Bool)
+    → Adds start now (flat_map (break_if rule (λ p. argument d m p.0) breaks) (take i xs)) → i < length xs → x ≡ get_or xs i x → name ≡ whole d → b ≡ breaks x
+    → Adds now further (of_rule rule (place_if ((name ++ 46 ∷ m.0) ++ 47 ∷ decimal x.0) b)) → Adds start further (flat_map (break_if rule (λ p. argument d m p.0) breaks) (take (i + 1) xs))
+at_argument rule d m breaks start xs now further i x name b h lt is named same more =
     added_more (break_if rule (λ p. argument d m p.0) breaks) start xs now further i x h lt is
-    (e ∙ ap (λ n. now ++ of_rule rule (place_if ((n ++ 46 ∷ m.0) ++ 47 ∷ decimal x.0) b)) named ∙ ap (λ c. now ++ of_rule rule (place_if (argument d m x.0) c)) same)
+    (adds_as (ap (λ n. of_rule rule (place_if ((n ++ 46 ∷ m.0) ++ 47 ∷ decimal x.0) b)) named ∙ ap (λ c. of_rule rule (place_if (argument d m x.0) c)) same) more)
 
 -- items of lists made of others
 
@@ -71,12 +71,12 @@ pub numbered_length : {X : Type 0} (k : ℕ) (xs : List X) → length (enumerate
 numbered_length k [] = refl
 numbered_length k (x ∷ xs) = ap suc (numbered_length (k + 1) xs)
 
--- what is kept
+-- what stands beside the item at a place
+pub beside_at : {X Y Z : Type 0} (f : Y → Z) (g : X → Z) (ys : List Y) (xs : List X) (i : ℕ) (y : Y) (x : X) → map f ys ≡ map g xs → i < length xs → y ≡ get_or ys i y → x ≡ get_or xs i x → f y ≡ g x
+beside_at f g ys xs i y x e lt is_y is_x = get_mapped f ys i y is_y ∙ ap (λ zs. get_or zs i (f y)) e ∙ get_mapped_any g xs i x (f y) lt is_x
 
-pub kept_at : {X : Type 0} (name : X → List ℕ) (xs ys : List X) (places : List (Option ℕ)) (i : ℕ) (x : X) (d : Option ℕ) → places ≡ places_among name xs ys → i < length xs → x ≡ get_or xs i x
-    → item_at ys (get_or places i d) ≡ find (λ y. same_text (name x) (name y)) ys
-kept_at name xs ys places i x d e lt is =
-    ap (λ ps. item_at ys (get_or ps i d)) e ∙ ap (item_at ys) (get_mapped_any (λ x. place_of (map name ys) (name x)) xs i x d lt is) ∙ item_named name x ys
+pub beside_length : {X Y Z : Type 0} (f : Y → Z) (g : X → Z) (ys : List Y) (xs : List X) → map f ys ≡ map g xs → length ys ≡ length xs
+beside_length f g ys xs e = sym (length-map ys f) ∙ ap length e ∙ length-map xs g
 
 pub there_is : {X : Type 0} (o : Option X) → is_there_and (λ y. true) o ≡ is_some o
 there_is None = refl
@@ -90,24 +90,6 @@ map-push : {X Y : Type 0} (f : X → Y) (xs : List X) (x : X) → map f (xs ++ x
 map-push f [] x = refl
 map-push f (y ∷ xs) x = ap (λ z. f y ∷ z) (map-push f xs x)
 
-module _ (ms ws : List Method) where
-  in_both_more : (i : ℕ) (x : Method) → i < length ms → x ≡ get_or ms i x → in_both same_method (take (i + 1) ms) ws ≡ in_both same_method (take i ms) ws ++ with_found x (find (λ y. same_method x y) ws)
-  in_both_more i x lt is =
-      ap (λ xs. in_both same_method xs ws) (take_further ms i x lt is)
-      ∙ flat_map-append (λ x. with_found x (find (λ y. same_method x y) ws)) (take i ms) (x ∷ [])
-      ∙ ap (λ z. in_both same_method (take i ms) ws ++ z) (append-nil (with_found x (find (λ y. same_method x y) ws)))
-
-  pub common_some : (common further : List Common) (i : ℕ) (c : Common) → map both_of common ≡ in_both same_method (take i ms) ws → i < length ms → c.before.now ≡ get_or ms i c.before.now
-      → find (λ y. same_method c.before.now y) ws ≡ Some c.after.now → further ≡ common ++ c ∷ [] → map both_of further ≡ in_both same_method (take (i + 1) ms) ws
-  common_some common further i c h lt is found e =
-      ap (map both_of) e ∙ map-push both_of common c ∙ ap (λ z. z ++ both_of c ∷ []) h
-      ∙ sym (in_both_more i c.before.now lt is ∙ ap (λ o. in_both same_method (take i ms) ws ++ with_found c.before.now o) found)
-
-  pub common_none : (common : List Common) (i : ℕ) (x : Method) → map both_of common ≡ in_both same_method (take i ms) ws → i < length ms → x ≡ get_or ms i x
-      → find (λ y. same_method x y) ws ≡ None → map both_of common ≡ in_both same_method (take (i + 1) ms) ws
-  common_none common i x h lt is none =
-      h ∙ sym (in_both_more i x lt is ∙ ap (λ o. in_both same_method (take i ms) ws ++ with_found x o) none ∙ append-nil (in_both same_method (take i ms) ws))
-
 -- the place of a name by its bytes
 place_by_name : {M : Type 0} (called : M → Ident) (k : ℕ) (ms : List M) (x : List ℕ)
     → position_from (λ m. has_name called (encode_utf8_all x) m) k ms ≡ position_from (λ y. same_text x y) k (map (λ m. (called m).0) ms)
@@ -118,6 +100,10 @@ pub placed_by_name : {M : Type 0} (called : M → Ident) (ms : List M) (bytes x 
 placed_by_name called ms bytes x e =
     ap (λ q. place_in called q ms) e ∙ position_from-zero (λ m. has_name called (encode_utf8_all x) m) ms ∙ place_by_name called 0 ms x
 
-pub mapped_more : {X Y : Type 0} (f : X → Y) (xs : List X) (i : ℕ) (x : X) (y : Y) (now further : List Y) → now ≡ map f (take i xs) → i < length xs → x ≡ get_or xs i x → y ≡ f x → further ≡ now ++ y ∷ [] → further ≡ map f (take (i + 1) xs)
+mapped_more : {X Y : Type 0} (f : X → Y) (xs : List X) (i : ℕ) (x : X) (y : Y) (now further : List Y) → now ≡ map f (take i xs) → i < length xs → x ≡ get_or xs i x → y ≡ f x → further ≡ now ++ y ∷ [] → further ≡ map f (take (i + 1) xs)
 mapped_more f xs i x y now further h lt is same e =
     e ∙ ap (λ z. z ++ y ∷ []) h ∙ ap (λ z. map f (take i xs) ++ z ∷ []) same ∙ sym (map-push f (take i xs) x) ∙ ap (map f) (sym (take_further xs i x lt is))
+
+pub beside_more : {X Y : Type 0} (f : X → Option Y) (xs : List X) (i : ℕ) (x : X) (a : Option (Bor Y)) (now further : List (Option (Bor Y)))
+    → map option_copied now ≡ map f (take i xs) → i < length xs → x ≡ get_or xs i x → option_copied a ≡ f x → further ≡ now ++ a ∷ [] → map option_copied further ≡ map f (take (i + 1) xs)
+beside_more f xs i x a now further h lt is same e = mapped_more f xs i x (option_copied a) (map option_copied now) (map option_copied further) h lt is same (ap (map option_copied) e ∙ map-push option_copied now a)

@@ -1,11 +1,26 @@
-//! The differences that are asked of two methods, of two arguments and of two fields.
+//! The differences that are asked of two declarations, methods, arguments and fields.
 ghost use Rattle.std.specs.Prelude.{◌≡◌};
+ghost use Rattle.std.specs.Option.{option_copied};
+ghost use Rattle.aidl_schema.specs.Broken.{is_there_and};
 ghost use Rattle.compat_judge.specs.steps.Tests as tests;
 
 use crate::alike::{same_marks, same_result, same_result_marks, same_way};
 use crate::consts::{has_composite_default, same_defaults};
-use aidl_schema::{Arg, Field, Method, Schema, same_flag, same_text, same_type};
+use crate::fields::{parcelable_fields, same_backing, union_fields};
+use aidl_schema::{
+    Arg, Decl, Field, Kind, Method, Schema, fields_of, same_flag, same_text, same_type,
+};
 use std::alloc::Global;
+
+/// What is asked of two declarations of one name.
+#[derive(Clone, Copy)]
+pub enum DeclTest {
+    FewerFields,
+    Fixed,
+    FewerAlternatives,
+    Backings,
+    Stability,
+}
 
 /// What is asked of two methods of one name.
 #[derive(Clone, Copy)]
@@ -35,16 +50,45 @@ pub enum FieldTest {
     Marks,
 }
 
-/// Whether the methods differ in what is asked.
+/// Whether the declarations differ in what is asked.
+pub fn decl_breaks(test: DeclTest, before: &Decl, after: &Decl) -> bool
+    ensures { result ≡ tests.decl_breaks test before.now after.now }
+{
+    match test {
+        DeclTest::FewerFields => parcelable_fields(&after.kind).len()
+            < parcelable_fields(&before.kind).len(),
+        DeclTest::Fixed => is_fixed_broken(before, after),
+        DeclTest::FewerAlternatives => union_fields(&after.kind).len()
+            < union_fields(&before.kind).len(),
+        DeclTest::Backings => !same_backing(&before.kind, &after.kind),
+        DeclTest::Stability => !same_flag(before.vintf, after.vintf),
+    }
+}
+
+// Whether a parcelable or union has `@FixedSize` in one schema alone; or in both, and new has more fields.
+fn is_fixed_broken(before: &Decl, after: &Decl) -> bool
+    ensures { result ≡ tests.decl_breaks DeclTest.Fixed before.now after.now }
+{
+    matches!(before.kind, Kind::Parcelable(_) | Kind::Union(_))
+        && (!same_flag(before.fixed, after.fixed)
+            || ((before.fixed && after.fixed)
+                && fields_of(&before.kind).len() < fields_of(&after.kind).len()))
+}
+
+/// Whether there is a method beside this one, and they differ in what is asked.
 pub fn method_breaks(
     test: MethodTest,
     old: &Schema,
     before: &Method,
     new: &Schema,
-    after: &Method,
+    after: Option<&Method>,
 ) -> bool
-    ensures { result ≡ tests.method_breaks test old.now.decls new.now.decls before.now after.now }
+    ensures { result ≡ is_there_and
+        (tests.method_breaks test old.now.decls new.now.decls before.now) (option_copied after.entry) }
 {
+    let Some(after) = after else {
+        return false;
+    };
     match test {
         MethodTest::Ids => before.id != after.id,
         MethodTest::Results => !same_result(old, before.result, new, after.result),

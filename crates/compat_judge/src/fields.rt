@@ -1,9 +1,10 @@
 //! The fields of a declaration by its kind, and sameness of the backings of enums.
-ghost use Rattle.std.specs.Prelude.{◌≡◌, ◌==◌, ◌||◌, take};
+ghost use Rattle.std.specs.Prelude.{◌≡◌, ◌==◌, take};
 ghost use Rattle.aidl_schema.specs.Broken as broken;
-ghost use Rattle.aidl_schema.specs.Containment as containment;
+ghost use Rattle.compat_judge.specs.steps.Tests as tests;
 
-use aidl_schema::{Backing, Field, Kind};
+use crate::differences::FieldTest;
+use aidl_schema::{Backing, Field, Kind, fields_of};
 
 /// The fields of a parcelable; none of what is no parcelable.
 pub fn parcelable_fields(kind: &Kind) -> &[Field]
@@ -25,8 +26,8 @@ pub fn union_fields(kind: &Kind) -> &[Field]
     }
 }
 
-/// The fields whose defaults are seen: all of a parcelable, the first of a union.
-pub fn fields_with_default(kind: &Kind) -> &[Field]
+// The fields whose defaults are seen: all of a parcelable, the first of a union.
+fn fields_with_default(kind: &Kind) -> &[Field]
     ensures { result.now ≡ broken.fields_with_default kind.now }
 {
     match kind {
@@ -45,11 +46,16 @@ fn first_of(fields: &[Field]) -> &[Field]
     }
 }
 
-/// Whether it is a parcelable or a union.
-pub fn has_fields(kind: &Kind) -> bool
-    ensures { result ≡ ((broken.kind_code kind.now == 1) || (broken.kind_code kind.now == 2)) }
+/// The fields of which a test is asked.
+pub fn fields_asked(test: FieldTest, kind: &Kind) -> &[Field]
+    ensures { result.now ≡ tests.fields_asked test kind.now }
 {
-    matches!(kind, Kind::Parcelable(_) | Kind::Union(_))
+    match test {
+        FieldTest::Names | FieldTest::Types => parcelable_fields(kind),
+        FieldTest::Defaults => fields_with_default(kind),
+        FieldTest::Alternatives => union_fields(kind),
+        FieldTest::Marks => fields_of(kind),
+    }
 }
 
 /// Whether the backings of two enums are the same.

@@ -1,22 +1,23 @@
 //! The findings of the judge, collected on its walk and sorted at its end.
-ghost use Rattle.std.specs.Prelude.{◌≡◌, ◌++◌, [], ◌∷◌, map, IfOk, OnOk, string_bytes, true};
+ghost use Rattle.std.specs.Prelude.{◌≡◌, ◌++◌, [], ◌∷◌, map, IfOk, string_bytes, true, false};
 ghost use Rattle.std.specs.Str.{chars};
 ghost use Rattle.std.specs.Fmt.{decimal};
-ghost use Rattle.aidl_schema.specs.Broken.{of_rule, place_if, sorted_once};
+ghost use Rattle.aidl_schema.specs.Broken.{Place, of_rule, place_if, sorted_once};
 ghost use Rattle.compat_judge.specs.Seen.{seen};
-ghost use Rattle.compat_judge.specs.steps.Steps.{finding};
+ghost use Rattle.compat_judge.specs.steps.Adds.{Adds, finding, found_so_far};
 
 use crate::judging::Broken;
-use crate::places::{argument_place, member_place};
 use aidl_base::{Ident, OutOfMemory, Row, Text};
-use std::alloc::Global;
-use std::marker::Model;
+use std::alloc::{AllocError, Global};
 
-/// What is broken so far, in the order of the walk.
+/// What is broken so far, in the order of the walk. Where memory is wanted for a finding the list isn't whole any more, whatever
+/// is added then, and who takes the findings is told; so no rule has an error of its own.
 #[derive(Drop)]
 pub struct Findings {
-    alloc: Global,
-    rows: Vec<Finding>,
+    pub alloc: Global,
+    pub rows: Vec<Finding>,
+    /// Whether memory was there for each finding.
+    pub is_whole: bool,
 }
 
 /// A place, and the number of the rule that is broken there: findings are sorted in this order.
@@ -26,65 +27,61 @@ pub struct Finding {
     rule: u8,
 }
 
-impl Model for Findings {
-    ghost use Rattle.std.specs.Prelude.{List, map};
-    ghost use Rattle.aidl_schema.specs.Broken.{Break};
-    ghost use Rattle.compat_judge.specs.steps.Steps.{finding};
-
-    ghost Value = { List Break };
-
-    ghost view = { λ found. map finding found.rows.items };
-}
-
 impl Findings {
     pub fn new(alloc: Global) -> Findings
-        ensures { result ≡ [] }
+        ensures whole { result.is_whole ≡ true }
+        ensures empty { found_so_far result ≡ [] }
     {
         Findings {
             alloc,
             rows: Vec::new(alloc),
+            is_whole: true,
         }
     }
 
-    /// The allocator of the findings.
-    pub fn alloc(&self) -> Global {
-        self.alloc
+    /// Memory was wanted for what a rule needs.
+    pub fn lose(&mut self)
+        ensures { self.new.is_whole ≡ false }
+    {
+        self.is_whole = false;
     }
 
-    fn add(&mut self, rule: u8, place: String) -> Result<(), OutOfMemory>
-        ensures { OnOk result (self.new ≡ self.old ++ (rule, chars (string_bytes place)) ∷ []) }
+    // Adds a place that was made, if there was memory for it.
+    fn add(&mut self, rule: u8, made: Result<String, AllocError>)
+        ensures { (place : Place) → IfOk made (λ text. chars (string_bytes text) ≡ place)
+            → Adds self.old self.new ((rule, place) ∷ []) }
     {
-        self.rows.push(Finding { place, rule })?;
-        Ok(())
+        match made {
+            Ok(place) => {
+                if self.rows.push(Finding { place, rule }).is_err() {
+                    self.is_whole = false;
+                }
+            }
+            Err(_) => self.is_whole = false,
+        }
     }
 
     /// Adds the place of a declaration, if it breaks a rule.
-    pub fn name_if(&mut self, rule: u8, name: &Text, broken: bool) -> Result<(), OutOfMemory>
-        ensures { OnOk result (self.new ≡ self.old ++ of_rule rule (place_if name.now broken)) }
+    pub fn name_if(&mut self, rule: u8, name: &Text, broken: bool)
+        ensures { Adds self.old self.new (of_rule rule (place_if name.now broken)) }
     {
         if broken {
-            let place = String::from_str(self.alloc, name.as_str())?;
-            self.add(rule, place)?;
+            let place = String::from_str(self.alloc, name.as_str());
+            self.add(rule, place);
         }
-        Ok(())
     }
 
     /// Adds the place of a member, if it breaks a rule.
-    pub fn member_if(
-        &mut self,
-        rule: u8,
-        name: &Text,
-        member: &Ident,
-        broken: bool,
-    ) -> Result<(), OutOfMemory>
-        ensures { OnOk result (self.new
-            ≡ self.old ++ of_rule rule (place_if (name.now ++ (46 ∷ member.now.0)) broken)) }
+    pub fn member_if(&mut self, rule: u8, name: &Text, member: &Ident, broken: bool)
+        ensures { Adds self.old self.new
+            (of_rule rule (place_if (name.now ++ (46 ∷ member.now.0)) broken)) }
     {
         if broken {
-            let place = member_place(self.alloc, name, member)?;
-            self.add(rule, place)?;
+            let name = name.as_str();
+            let member = member.0.as_str();
+            let place = format!(in self.alloc; "{name}.{member}");
+            self.add(rule, place);
         }
-        Ok(())
     }
 
     /// Adds the place of a method's argument, if it breaks a rule.
@@ -95,25 +92,34 @@ impl Findings {
         method: &Ident,
         position: usize,
         broken: bool,
-    ) -> Result<(), OutOfMemory>
-        ensures { OnOk result (self.new ≡ self.old
-            ++ of_rule rule
+    )
+        ensures { Adds self.old self.new (of_rule rule
             (place_if (name.now ++ (46 ∷ method.now.0) ++ (47 ∷ decimal position)) broken)) }
     {
         if broken {
-            let place = argument_place(self.alloc, name, method, position)?;
-            self.add(rule, place)?;
+            let name = name.as_str();
+            let method = method.0.as_str();
+            let place = format!(in self.alloc; "{name}.{method}/{position}");
+            self.add(rule, place);
         }
-        Ok(())
     }
 
-    /// The findings by the bytes of their places, then by rule, each once.
-    pub fn sorted_once(mut self) -> Result<Row<Broken>, OutOfMemory>
-        ensures { IfOk result (λ rows. map seen rows ≡ sorted_once self) }
+    /// The findings by the bytes of their places, then by rule, each once, where memory was there for each.
+    pub fn sorted_once(self) -> Result<Row<Broken>, OutOfMemory>
+        ensures { IfOk result (λ rows. (self.is_whole ≡ true)
+            × (map seen rows ≡ sorted_once (found_so_far self))) }
     {
-        self.rows.sort_unstable();
-        self.rows.dedup();
-        rows_of(self.alloc, self.rows)
+        let Findings {
+            alloc,
+            mut rows,
+            is_whole,
+        } = self;
+        if !is_whole {
+            return Err(OutOfMemory);
+        }
+        rows.sort_unstable();
+        rows.dedup();
+        rows_of(alloc, rows)
     }
 }
 

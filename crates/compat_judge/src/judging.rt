@@ -1,15 +1,15 @@
 //! The judge: all evolution rules that are broken between two schemas.
-ghost use Rattle.std.specs.Prelude.{◌≡◌, map, IfOk, OnOk, ◌++◌};
+ghost use Rattle.std.specs.Prelude.{◌≡◌, map, IfOk};
 ghost use Rattle.aidl_schema.specs.Broken.{broken};
 ghost use Rattle.compat_judge.specs.Seen.{seen};
+ghost use Rattle.compat_judge.specs.steps.Adds.{Adds};
 ghost use Rattle.compat_judge.specs.steps.Steps.{breaks_of};
 
 use crate::findings::Findings;
 use crate::lookup::find_decl;
-use crate::places::name_place;
 use crate::rules::broken_by;
 use crate::sides::Pair;
-use aidl_base::{OutOfMemory, Row, Text};
+use aidl_base::{OutOfMemory, Row, Text, joined_by_dots};
 use aidl_schema::{Decl, Schema};
 use std::alloc::Global;
 
@@ -34,22 +34,18 @@ pub fn judge(alloc: Global, old: &Schema, new: &Schema) -> Result<Row<Broken>, O
 {
     let mut found = Findings::new(alloc);
     for decl in old.decls.as_slice() {
-        judge_decl(old, decl, new, &mut found)?;
+        judge_decl(old, decl, new, &mut found);
     }
     found.sorted_once()
 }
 
 // What a declaration of old and that of its name in new break.
-fn judge_decl(
-    old: &Schema,
-    decl: &Decl,
-    new: &Schema,
-    found: &mut Findings,
-) -> Result<(), OutOfMemory>
-    ensures { OnOk result (found.new
-        ≡ found.old ++ breaks_of old.now.decls new.now.decls decl.now) }
+fn judge_decl(old: &Schema, decl: &Decl, new: &Schema, found: &mut Findings)
+    ensures { Adds found.old found.new (breaks_of old.now.decls new.now.decls decl.now) }
 {
-    let name = name_place(found.alloc(), &decl.name)?;
+    let Ok(name) = joined_by_dots(found.alloc, decl.name.0.as_slice()) else {
+        return found.lose();
+    };
     match find_decl(new, &name) {
         // C1: it is in old and not in new.
         None => found.name_if(1, &name, true),
@@ -61,7 +57,7 @@ fn judge_decl(
                 after,
                 name: &name,
             };
-            broken_by(&pair, found)
+            broken_by(&pair, found);
         }
     }
 }

@@ -10,7 +10,6 @@ mod judging;
 mod laws;
 mod lookup;
 mod members;
-mod places;
 mod rules;
 mod shapes;
 mod sides;

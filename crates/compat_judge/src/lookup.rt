@@ -1,10 +1,10 @@
-//! Look-ups by name: a declaration in the new schema, and the places of names among others.
-ghost use Rattle.std.specs.Prelude.{◌≡◌, IfOk};
+//! Look-ups by name: a declaration in the new schema, and members of old beside those of new.
+ghost use Rattle.std.specs.Prelude.{◌≡◌, map, IfOk};
 ghost use Rattle.std.specs.List.{find};
 ghost use Rattle.std.specs.Option.{option_copied};
 ghost use Rattle.aidl_schema.specs.Broken.{whole};
 ghost use Rattle.aidl_schema.specs.Same.{same_text};
-ghost use Rattle.compat_judge.specs.steps.Steps.{item_at, places_among};
+ghost use Rattle.compat_judge.specs.steps.Steps.{all_named, item_at};
 
 use aidl_base::{OutOfMemory, Text};
 use aidl_schema::{Decl, Schema, find, law_valid};
@@ -22,8 +22,8 @@ pub fn find_decl<'a>(new: &'a Schema, name: &Text) -> Option<&'a Decl>
     }
 }
 
-/// The item at a place.
-pub fn at_place<T>(items: &[T], place: Option<usize>) -> Option<&T>
+// The item at a place.
+fn at_place<T>(items: &[T], place: Option<usize>) -> Option<&T>
     ensures { option_copied result ≡ item_at items.now place }
 {
     match place {
@@ -32,19 +32,20 @@ pub fn at_place<T>(items: &[T], place: Option<usize>) -> Option<&T>
     }
 }
 
-/// Where the name of each of some members stands first among those of others.
-pub fn places_of<M: Called>(
+/// For each of some members the first of its name among others, if there is one.
+pub fn beside<'a, M: Called>(
     alloc: Global,
     olds: &[M],
-    news: &[M],
-) -> Result<Vec<Option<usize>>, OutOfMemory>
-    ensures { IfOk result (λ places. places.items
-        ≡ places_among (λ x. (M.called x).0) olds.now news.now) }
+    news: &'a [M],
+) -> Result<Vec<Option<&'a M>>, OutOfMemory>
+    ensures { IfOk result (λ afters. map option_copied afters.items
+        ≡ all_named (λ x. (M.called x).0) olds.now news.now) }
 {
+    let mut afters = Vec::with_capacity(alloc, olds.len())?;
     let table = NameTable::new(alloc, news)?;
-    let mut places = Vec::with_capacity(alloc, olds.len())?;
     for member in olds {
-        places.push(table.place(member.name().0.as_str()))?;
+        let place = table.place(member.name().0.as_str());
+        afters.push(at_place(news, place))?;
     }
-    Ok(places)
+    Ok(afters)
 }

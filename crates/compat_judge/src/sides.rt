@@ -1,9 +1,9 @@
-//! What the judge compares: pairs of declarations, and of methods.
-ghost use Rattle.std.specs.Prelude.{◌≡◌, map};
+//! What the judge compares: pairs of declarations.
+ghost use Rattle.std.specs.Prelude.{◌≡◌};
 ghost use Rattle.aidl_schema.specs.Broken.{whole};
 
 use aidl_base::Text;
-use aidl_schema::{Decl, Method, Schema};
+use aidl_schema::{Decl, Schema};
 
 /// A declaration of old and that of its name in new, with the schemas that they stand in. `name` is their canonical name.
 #[derive(Clone, Copy)]
@@ -14,11 +14,4 @@ pub struct Pair<'a> {
     pub after: &'a Decl,
     pub name: &'a Text,
     pub ghost named: { name.now ≡ whole before.now },
-}
-
-/// A method that both have by its name.
-#[derive(Clone, Copy)]
-pub struct Common<'a> {
-    pub before: &'a Method,
-    pub after: &'a Method,
 }
