@@ -1,4 +1,4 @@
-pub mod lemmas
+mod Texts
 mod Packages
 mod Placing
 mod Examples

@@ -1,5 +1,5 @@
 -- A file goes into a table by its path as it goes among files in the order of their paths.
-use Rattle.std.proofs.Common.{◌≡◌, ℕ, ◌+◌, ◌<◌, Bool, true, false, List, [], ◌∷◌, map, length, get_or, drop, is_none, refl, sym, ap, ◌∙◌}
+use Rattle.std.proofs.Common.{◌≡◌, ℕ, suc, ◌+◌, ◌<◌, Bool, true, false, List, [], ◌∷◌, map, length, get_or, drop, drop-cons, add-one, is_none, refl, sym, ap, ◌∙◌}
 use Rattle.std.proofs.Common.{String, Global, string_bytes}
 use Rattle.std.specs.Str.{chars, encode_utf8_all, IsUtf8}
 use Rattle.std.proofs.lemmas.Str.{IsUtf8-had, chars-encodes}
@@ -12,7 +12,6 @@ use Rattle.std.specs.declared.cmp.Ordering.TheVariants.{Less, Equal, Greater}
 use Rattle.aidl_schema.specs.declared.schema.Decl.{Decl}
 use Rattle.api_dump.specs.Dump.{File, file_of, placed}
 use Rattle.api_dump.specs.steps.Tables.{with_file}
-use Rattle.api_dump.proofs.lemmas.Texts.{drop_next}
 
 module _ {K X : Type 0} (key : K → List ℕ) (see : X → List ℕ) (cmp : K → K → Ordering) (by : (a b : K) → cmp a b ≡ slice_cmp nat_cmp (key a) (key b)) where
   abbrev pub both : K × X → File
@@ -29,6 +28,10 @@ module _ {K X : Type 0} (key : K → List ℕ) (see : X → List ℕ) (cmp : K �
       by_order Less h = refl
       by_order Equal h = refl
       by_order Greater h = ap (λ fs. both e ∷ fs) h
+
+-- the items from one on
+drop_next : {X : Type 0} (xs : List X) (i : ℕ) (x : X) → i < length xs → x ≡ get_or xs i x → drop i xs ≡ x ∷ drop (i + 1) xs
+drop_next xs i x lt at = drop-cons xs i x lt ∙ ap (λ y. y ∷ drop (suc i) xs) (sym at) ∙ ap (λ (j : ℕ). x ∷ drop j xs) (sym (add-one i))
 
 -- one more declaration is seen
 pub next_file : (S : List Decl) (i : ℕ) (d : Decl) (files new all : List File) → i < length S → d ≡ get_or S i d → new ≡ with_file S (i, d) files

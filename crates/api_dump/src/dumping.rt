@@ -1,16 +1,17 @@
 //! The files of the canonical dump, each with its path and text.
-ghost use Rattle.std.specs.Prelude.{◌≡◌, ◌≤◌, ◌++◌, length, map, string_bytes, IfOk, OnOk};
+ghost use Rattle.std.specs.Prelude.{◌≡◌, ◌≤◌, length, map, string_bytes, IfOk, OnOk};
+ghost use Rattle.growing_text.specs.Grows.{Grows};
 ghost use Rattle.aidl_schema.specs.Names.{without_last};
 ghost use Rattle.api_dump.specs.Dump as meant;
 ghost use Rattle.api_dump.specs.Pieces.{text_of};
 ghost use Rattle.api_dump.specs.steps.Tables.{IsTable, with_file};
 
-use crate::names::push_dotted;
+use crate::names::{push_dotted, push_slashed};
 use crate::nested::push_declaration;
 use crate::nesting::nesting;
-use crate::paths::push_slashed;
 use aidl_base::{Ident, OutOfMemory, Row, SourceFile, Text};
 use aidl_schema::{Decl, Schema, law_valid};
+use growing_text::GrowingText;
 use std::alloc::Global;
 use std::collections::BTreeMap;
 
@@ -71,13 +72,14 @@ fn add_file(
 fn path_of(alloc: Global, parts: &[Ident]) -> Result<String, OutOfMemory>
     ensures { IfOk result (λ path. string_bytes path ≡ meant.path_of parts.now) }
 {
-    let mut path = String::new(alloc);
-    push_slashed(&mut path, parts)?;
-    path.push_str(".aidl")?;
-    Ok(path)
+    let mut path = GrowingText::new(alloc);
+    push_slashed(parts, &mut path);
+    path.push_str(".aidl");
+    path.into_string()
 }
 
 // The text of the file of a top-level declaration.
+#[tactic(auto, using(crate::proofs::Texts::behind))]
 fn text_of(
     alloc: Global,
     decls: &[Decl],
@@ -90,34 +92,22 @@ fn text_of(
     ensures { IfOk result (λ text. string_bytes text
         ≡ text_of (meant.file_pieces decls.now (number, decl.now))) }
 {
-    let mut text = String::new(alloc);
-    push_package(&mut text, decl.name.0.as_slice())?;
-    push_declaration(&mut text, decls, rows, decls.len(), 0, number)?;
-    Ok(text)
+    let mut text = GrowingText::new(alloc);
+    push_package(decl.name.0.as_slice(), &mut text);
+    push_declaration(decls, rows, decls.len(), 0, number, &mut text);
+    text.into_string()
 }
 
-// Appends the line of the package of a canonical name, where there is one.
-fn push_package(out: &mut String, parts: &[Ident]) -> Result<(), OutOfMemory>
-    ensures { OnOk result (string_bytes out.new
-        ≡ string_bytes out.old ++ text_of (meant.package_line (without_last parts.now))) }
+// Adds the line of the package of a canonical name, where there is one.
+fn push_package(parts: &[Ident], text: &mut GrowingText)
+    ensures { Grows text.old text.new (text_of (meant.package_line (without_last parts.now))) }
 {
     match parts {
-        [] => Ok(()),
-        [front @ .., _] => push_package_line(out, front),
-    }
-}
-
-fn push_package_line(out: &mut String, parts: &[Ident]) -> Result<(), OutOfMemory>
-    ensures { OnOk result (string_bytes out.new
-        ≡ string_bytes out.old ++ text_of (meant.package_line parts.now)) }
-{
-    match parts {
-        [] => Ok(()),
-        [_, ..] => {
-            out.push_str("package ")?;
-            push_dotted(out, parts)?;
-            out.push_str(";\n")?;
-            Ok(())
+        [] | [_] => {}
+        [front @ .., _] => {
+            text.push_str("package ");
+            push_dotted(front, text);
+            text.push_str(";\n");
         }
     }
 }

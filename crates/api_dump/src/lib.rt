@@ -7,7 +7,6 @@ mod lines;
 mod names;
 mod nested;
 mod nesting;
-mod paths;
 mod types;
 mod values;
 

@@ -1,62 +1,63 @@
 //! A declaration in the canonical dump, with the declarations inside it.
-ghost use Rattle.std.specs.Prelude.{◌≡◌, ◌≤◌, ◌<◌, ◌+◌, ◌++◌, length, suc, string_bytes, OnOk};
+ghost use Rattle.std.specs.Prelude.{◌≡◌, ◌≤◌, ◌<◌, ◌+◌, length, suc};
+ghost use Rattle.growing_text.specs.Grows.{Grows};
 ghost use Rattle.api_dump.specs.Declarations as meant;
 ghost use Rattle.api_dump.specs.Pieces.{text_of};
 ghost use Rattle.api_dump.specs.steps.Tables.{IsTable, row_at};
 
 use crate::declarations::{push_closing, push_front};
-use aidl_base::{OutOfMemory, Row};
+use aidl_base::Row;
 use aidl_schema::Decl;
+use growing_text::GrowingText;
 
-/// Appends the declaration of a number, with so many levels of others inside it. `rows` is the table of what stands in each.
+/// Adds the declaration of a number, with so many levels of others inside it. `rows` is the table of what stands in each.
 #[cycle(push_declaration)]
 pub fn push_declaration(
-    out: &mut String,
     decls: &[Decl],
     rows: &[Row<u32>],
     levels: usize,
     depth: usize,
     number: u32,
-) -> Result<(), OutOfMemory>
+    text: &mut GrowingText,
+)
     requires table { IsTable decls.now rows.now }
     requires deep { depth + levels ≤ 4294967296 }
-    ensures { OnOk result (string_bytes out.new
-        ≡ string_bytes out.old ++ text_of (meant.declaration decls.now levels depth number)) }
+    ensures { Grows text.old text.new (text_of
+        (meant.declaration decls.now levels depth number)) }
 {
     match decls.get(number as usize) {
-        None => Ok(()),
+        None => {}
         Some(decl) => {
-            push_front(out, decls, depth, decl)?;
-            push_nested(out, decls, rows, levels, depth, number)?;
-            push_closing(out, depth)?;
-            Ok(())
+            push_front(decls, depth, decl, text);
+            push_nested(decls, rows, levels, depth, number, text);
+            push_closing(depth, text);
         }
     }
 }
 
-// Appends what stands inside the declaration of a number.
+// Adds what stands inside the declaration of a number.
 #[cycle(push_declaration)]
+#[tactic(auto, using(crate::proofs::Texts::behind))]
 fn push_nested(
-    out: &mut String,
     decls: &[Decl],
     rows: &[Row<u32>],
     levels: usize,
     depth: usize,
     number: u32,
-) -> Result<(), OutOfMemory>
+    text: &mut GrowingText,
+)
     requires table { IsTable decls.now rows.now }
     requires deep { depth + levels ≤ 4294967296 }
     requires there { number < length decls.now }
-    ensures { OnOk result (string_bytes out.new ≡ string_bytes out.old ++ text_of
+    ensures { Grows text.old text.new (text_of
         (meant.nested_lines decls.now levels (suc depth) number)) }
 {
     if levels == 0 {
-        return Ok(());
+        return;
     }
     for inner in row_of(rows, number) {
-        push_declaration(out, decls, rows, levels - 1, depth + 1, *inner)?;
+        push_declaration(decls, rows, levels - 1, depth + 1, *inner, text);
     }
-    Ok(())
 }
 
 // The row of a number.

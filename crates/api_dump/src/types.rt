@@ -1,92 +1,69 @@
 //! Types in a canonical dump, with the annotations before them.
-ghost use Rattle.std.specs.Prelude.{◌≡◌, ◌++◌, string_bytes, OnOk, codes, slice_get};
+#![tactic(auto, using(crate::proofs::Texts::behind), unfolding(crate::specs::Pieces::spelling))]
+
+ghost use Rattle.growing_text.specs.Grows.{Grows};
+ghost use Rattle.api_dump.specs.Lines.{whole_type};
 ghost use Rattle.api_dump.specs.Pieces.{dotted, text_of};
 ghost use Rattle.api_dump.specs.Types as meant;
 
 use crate::names::push_dotted;
-use aidl_base::OutOfMemory;
 use aidl_schema::{AidlType, Base, Decl, Shape};
+use growing_text::GrowingText;
 
-/// Appends what stands before a type.
-#[tactic(auto, using(crate::proofs::lemmas::Texts::text_append), unfolding(crate::specs::Pieces::spelling))]
-pub fn push_marks(out: &mut String, ty: &AidlType) -> Result<(), OutOfMemory>
-    ensures { OnOk result (string_bytes out.new
-        ≡ string_bytes out.old ++ text_of (meant.marks ty.now)) }
+/// Adds a type with the annotations before it.
+pub fn push_type(decls: &[Decl], ty: &AidlType, text: &mut GrowingText)
+    ensures { Grows text.old text.new (text_of (whole_type decls.now ty.now)) }
 {
-    push_nullable(out, ty.nullable, ty.heap)?;
-    push_utf8(out, ty.utf8)
+    push_nullable(ty.nullable, ty.heap, text);
+    if ty.utf8 {
+        text.push_str("@utf8InCpp ");
+    }
+    push_shaped(decls, ty, text);
 }
 
-#[tactic(auto, unfolding(crate::specs::Pieces::spelling))]
-fn push_nullable(out: &mut String, is_nullable: bool, heap: bool) -> Result<(), OutOfMemory>
-    ensures { OnOk result (string_bytes out.new
-        ≡ string_bytes out.old ++ text_of (meant.nullable is_nullable heap)) }
+fn push_nullable(is_nullable: bool, heap: bool, text: &mut GrowingText)
+    ensures { Grows text.old text.new (text_of (meant.nullable is_nullable heap)) }
 {
     if is_nullable && heap {
-        out.push_str("@nullable(heap=true) ")?;
+        text.push_str("@nullable(heap=true) ");
     } else if is_nullable {
-        out.push_str("@nullable ")?;
+        text.push_str("@nullable ");
     }
-    Ok(())
 }
 
-#[tactic(auto, unfolding(crate::specs::Pieces::spelling))]
-fn push_utf8(out: &mut String, utf8: bool) -> Result<(), OutOfMemory>
-    ensures { OnOk result (string_bytes out.new
-        ≡ string_bytes out.old ++ text_of (meant.flag (codes "utf8InCpp") utf8)) }
-{
-    if utf8 {
-        out.push_str("@utf8InCpp ")?;
-    }
-    Ok(())
-}
-
-/// Appends a type without what stands before it.
-#[tactic(auto, using(crate::proofs::lemmas::Texts::text_append), unfolding(crate::specs::Pieces::spelling))]
-pub fn push_type(out: &mut String, decls: &[Decl], ty: &AidlType) -> Result<(), OutOfMemory>
-    ensures { OnOk result (string_bytes out.new
-        ≡ string_bytes out.old ++ text_of (meant.plain_type decls.now ty.now)) }
+// Adds a type without what stands before it.
+fn push_shaped(decls: &[Decl], ty: &AidlType, text: &mut GrowingText)
+    ensures { Grows text.old text.new (text_of (meant.plain_type decls.now ty.now)) }
 {
     match ty.shape {
-        Shape::One => push_base(out, decls, ty.base),
+        Shape::One => push_base(decls, ty.base, text),
         Shape::Array => {
-            push_base(out, decls, ty.base)?;
-            out.push_str("[]")?;
-            Ok(())
+            push_base(decls, ty.base, text);
+            text.push_str("[]");
         }
         Shape::List => {
-            out.push_str("List<")?;
-            push_base(out, decls, ty.base)?;
-            out.push_str(">")?;
-            Ok(())
+            text.push_str("List<");
+            push_base(decls, ty.base, text);
+            text.push_str(">");
         }
     }
 }
 
-/// Appends a built-in name, or the canonical name of a declaration.
-#[tactic(auto, unfolding(crate::specs::Pieces::spelling))]
-pub fn push_base(out: &mut String, decls: &[Decl], base: Base) -> Result<(), OutOfMemory>
-    ensures { OnOk result (string_bytes out.new
-        ≡ string_bytes out.old ++ text_of (dotted (meant.base_name decls.now base))) }
+/// Adds a built-in name, or the canonical name of a declaration.
+pub fn push_base(decls: &[Decl], base: Base, text: &mut GrowingText)
+    ensures { Grows text.old text.new (text_of (dotted (meant.base_name decls.now base))) }
 {
     match base {
-        Base::Boolean => out.push_str("boolean")?,
-        Base::Byte => out.push_str("byte")?,
-        Base::Char => out.push_str("char")?,
-        Base::Int => out.push_str("int")?,
-        Base::Long => out.push_str("long")?,
-        Base::Text => out.push_str("String")?,
-        Base::Named(number) => push_declared(out, decls, number)?,
-    }
-    Ok(())
-}
-
-fn push_declared(out: &mut String, decls: &[Decl], number: u32) -> Result<(), OutOfMemory>
-    ensures { OnOk result (string_bytes out.new ≡ string_bytes out.old ++ text_of
-        (dotted (meant.declared_name (slice_get decls.now number)))) }
-{
-    match decls.get(number as usize) {
-        Some(decl) => push_dotted(out, decl.name.0.as_slice()),
-        None => Ok(()),
+        Base::Boolean => text.push_str("boolean"),
+        Base::Byte => text.push_str("byte"),
+        Base::Char => text.push_str("char"),
+        Base::Int => text.push_str("int"),
+        Base::Long => text.push_str("long"),
+        Base::Text => text.push_str("String"),
+        Base::Named(number) => {
+            if let Some(decl) = decls.get(number as usize) {
+                push_dotted(decl.name.0.as_slice(), text);
+            }
+        }
     }
 }

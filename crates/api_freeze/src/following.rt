@@ -93,11 +93,7 @@ fn fit(alloc: Global, schema: &Schema, files: &[SourceFile]) -> Result<(), Freez
         }
         Err(FilesFault::Limit(limit)) => Err(FreezeFault::Limit(limit)),
         Err(FilesFault::OutOfMemory) => Err(FreezeFault::OutOfMemory),
-        Err(FilesFault::Lex(_)) => {
-            law_dump_parses(schema);
-            unreachable!()
-        }
-        Err(FilesFault::Syntax(_)) => {
+        Err(FilesFault::Lex(_) | FilesFault::Syntax(_)) => {
             law_dump_parses(schema);
             unreachable!()
         }

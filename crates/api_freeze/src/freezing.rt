@@ -175,6 +175,6 @@ fn file_write(alloc: Global, folder: &str, file: SourceFile) -> Result<Write, Ou
     let path = path_below(alloc, folder, file.path.as_str())?;
     Ok(Write {
         path,
-        bytes: file.bytes,
+        bytes: file.into_bytes(),
     })
 }

@@ -1,12 +1,12 @@
 //! The outcomes of constant expressions and their breaches, as text.
 
-use crate::names::{comma, shown_breaches};
+use crate::names::{comma, push_breaches};
 use aidl_base::{Const, OutOfMemory};
 use aidl_names::{NameFault, Names};
 use aidl_syntax::ParsedFile;
 use const_eval::{Outcome, Settled, breaches, eval_all};
-use std::alloc::{AllocError, Global};
-use std::fmt::Write;
+use growing_text::GrowingText;
+use std::alloc::Global;
 
 /// The outcomes of the items of a tree in order, and behind them its breaches, if it has some.
 pub fn shown_constants(
@@ -26,37 +26,36 @@ fn shown_settled(
     files: &[ParsedFile],
     settled: &Settled<'_>,
 ) -> Result<String, OutOfMemory> {
-    let mut text = shown_outcomes(alloc, settled)?;
+    let mut text = GrowingText::new(alloc);
+    push_outcomes(settled, &mut text);
     let broken = breaches(alloc, settled)?;
     if broken.len() > 0 {
-        text.push_str("; ")?;
-        text.push_str(shown_breaches(alloc, files, broken.as_slice())?.as_str())?;
+        text.push_str("; ");
+        push_breaches(files, broken.as_slice(), &mut text);
     }
-    Ok(text)
+    text.into_string()
 }
 
-fn shown_outcomes(alloc: Global, settled: &Settled<'_>) -> Result<String, OutOfMemory> {
-    let mut text = String::new(alloc);
+fn push_outcomes(settled: &Settled<'_>, text: &mut GrowingText) {
     for item in settled.items() {
-        comma(&mut text)?;
+        comma(text);
         match settled.init_at(item.file, item.place) {
-            Some(init) => push_outcome(&mut text, settled.outcome(init))?,
-            None => text.push_str("no item")?,
+            Some(init) => push_outcome(settled.outcome(init), text),
+            None => text.push_str("no item"),
         }
     }
-    Ok(text)
 }
 
-fn push_outcome(text: &mut String, outcome: &Outcome) -> Result<(), AllocError> {
+fn push_outcome(outcome: &Outcome, text: &mut GrowingText) {
     match outcome {
-        Outcome::Given(value) => push_value(text, value),
+        Outcome::Given(value) => push_value(value, text),
         Outcome::Fault(fault) => write!(text, "{fault:?}"),
         Outcome::Unjudged => text.push_str("unjudged"),
     }
 }
 
 /// Adds a value as it is written.
-pub fn push_value(text: &mut String, value: &Const) -> Result<(), AllocError> {
+pub fn push_value(value: &Const, text: &mut GrowingText) {
     match value {
         Const::Number(n) => write!(text, "{n}"),
         Const::Truth(b) => write!(text, "{b}"),

@@ -1,8 +1,10 @@
 //! The value of a file's first constant as text.
 
+use crate::constants::push_value;
 use aidl_base::{Const, OutOfMemory};
 use aidl_syntax::{BodyTree, ConstantTree, DottedTree, ExprTree, FileTree, MemberTree, TypeTree};
 use const_values::{ConstFault, EvalFault, Meanings, Operand, Wanted, evaluate, fit};
+use growing_text::GrowingText;
 use std::alloc::Global;
 
 // No name has a meaning.
@@ -54,11 +56,13 @@ fn of_constant(alloc: Global, constant: &ConstantTree) -> Result<String, OutOfMe
     let Some(wanted) = wanted_by(&constant.ty) else {
         return Ok(String::from_str(alloc, "another type")?);
     };
+    let mut text = GrowingText::new(alloc);
     match value_for(alloc, wanted, &constant.value) {
-        Ok(value) => shown(alloc, &Ok(value)),
-        Err(EvalFault::Fault(fault)) => shown(alloc, &Err(fault)),
-        Err(EvalFault::OutOfMemory) => Err(OutOfMemory),
+        Ok(value) => push_value(&value, &mut text),
+        Err(EvalFault::Fault(fault)) => write!(text, "fault {} {fault:?}", fault.number()),
+        Err(EvalFault::OutOfMemory) => text.lose(),
     }
+    text.into_string()
 }
 
 fn value_for(alloc: Global, wanted: Wanted, value: &ExprTree) -> Result<Const, EvalFault> {
@@ -71,14 +75,4 @@ fn wanted_by(ty: &TypeTree) -> Option<Wanted> {
         [name] => wanted_of(name.0.as_str()),
         _ => None,
     }
-}
-
-fn shown(alloc: Global, outcome: &Result<Const, ConstFault>) -> Result<String, OutOfMemory> {
-    Ok(match outcome {
-        Ok(Const::Number(n)) => format!(in alloc; "{n}")?,
-        Ok(Const::Truth(b)) => format!(in alloc; "{b}")?,
-        Ok(Const::Text(text)) => format!(in alloc; "\"{}\"", text.as_str())?,
-        Ok(Const::Members(_)) => String::from_str(alloc, "a list")?,
-        Err(fault) => format!(in alloc; "fault {} {fault:?}", fault.number())?,
-    })
 }

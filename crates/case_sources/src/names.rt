@@ -3,14 +3,15 @@ ghost use Rattle.std.specs.Prelude.{map};
 ghost use Rattle.aidl_syntax.specs.Sources.{source_of};
 ghost use Rattle.aidl_names.specs.Refusals.{IsScope};
 
+use crate::outcome::limit;
 use crate::type_names::type_names;
 use aidl_base::{Breach, DottedName, OutOfMemory};
 use aidl_names::{NameFault, Names};
 use aidl_syntax::ParsedFile;
 use declared_names::Found;
+use growing_text::GrowingText;
 use name_resolution::Resolved;
-use std::alloc::{AllocError, Global};
-use std::fmt::Write;
+use std::alloc::Global;
 
 /// The declarations of a tree in order, each with what the names of its types mean; or its limit; or its breaches, which are
 /// only counted where there are more than eight.
@@ -21,103 +22,106 @@ pub fn shown_names(
 ) -> Result<String, OutOfMemory> {
     match names {
         Ok(names) => shown_declarations(alloc, names),
-        Err(NameFault::Limit(limit)) => {
-            Ok(format!(in alloc; "limit {} {}", limit.which.name(), limit.which.number())?)
-        }
+        Err(NameFault::Limit(passed)) => limit(alloc, passed.which),
         Err(NameFault::Breaches(rows)) => shown_breaches(alloc, files, rows.as_slice()),
         Err(NameFault::OutOfMemory) => Err(OutOfMemory),
     }
 }
 
-/// Each breach with its rule, file and offset; or how many they are, where there are more than eight.
+/// Breaches as text.
 pub fn shown_breaches(
     alloc: Global,
     files: &[ParsedFile],
     rows: &[Breach],
 ) -> Result<String, OutOfMemory> {
-    if rows.len() > 8 {
-        return Ok(format!(in alloc; "{} breaches", rows.len())?);
-    }
-    let mut text = String::new(alloc);
-    for row in rows {
-        comma(&mut text)?;
-        push_breach(&mut text, files, row)?;
-    }
-    Ok(text)
+    let mut text = GrowingText::new(alloc);
+    push_breaches(files, rows, &mut text);
+    text.into_string()
 }
 
-fn push_breach(text: &mut String, files: &[ParsedFile], row: &Breach) -> Result<(), AllocError> {
-    let path = match files.get(row.file as usize) {
-        Some(file) => file.path.as_str(),
-        None => "no file",
-    };
-    write!(text, "E{} {path} {}", row.rule, row.offset)
+/// Adds each breach with its rule, file and offset; or how many they are, where there are more than eight.
+pub fn push_breaches(files: &[ParsedFile], rows: &[Breach], text: &mut GrowingText) {
+    if rows.len() > 8 {
+        write!(text, "{} breaches", rows.len());
+        return;
+    }
+    let mut before = "";
+    for row in rows {
+        let path = match files.get(row.file as usize) {
+            Some(file) => file.path.as_str(),
+            None => "no file",
+        };
+        write!(text, "{before}E{} {path} {}", row.rule, row.offset);
+        before = ", ";
+    }
 }
 
 fn shown_declarations(alloc: Global, names: &Names<'_>) -> Result<String, OutOfMemory> {
-    let mut text = String::new(alloc);
+    let mut text = GrowingText::new(alloc);
     for (i, found) in names.decls().iter().enumerate() {
         let Ok(number) = u32::try_from(i) else {
-            return Ok(text);
+            return text.into_string();
         };
-        comma(&mut text)?;
-        write!(text, "{number} ")?;
-        push_name(&mut text, &found.name)?;
-        push_meanings(alloc, &mut text, names, number, found)?;
+        comma(&mut text);
+        write!(text, "{number} ");
+        push_name(&found.name, &mut text);
+        push_meanings(alloc, names, number, found, &mut text);
     }
-    Ok(text)
+    text.into_string()
 }
 
 /// A comma behind what there is already.
-pub fn comma(text: &mut String) -> Result<(), AllocError> {
-    if !text.is_empty() {
-        text.push_str(", ")?;
+pub fn comma(text: &mut GrowingText) {
+    if !text.text.is_empty() {
+        text.push_str(", ");
     }
-    Ok(())
 }
 
-fn push_name(text: &mut String, name: &DottedName) -> Result<(), AllocError> {
+/// Adds the parts of a name with dots between them.
+pub fn push_name(name: &DottedName, text: &mut GrowingText) {
     let mut before = "";
     for part in name.0.as_slice() {
-        write!(text, "{before}{}", part.0.as_str())?;
+        text.push_str(before);
+        text.push_str(part.0.as_str());
         before = ".";
     }
-    Ok(())
 }
 
-// The names of the types of a declaration, with their meanings, in parentheses, if it has some.
+// Adds the names of the types of a declaration, with their meanings, in parentheses, if it has some.
 fn push_meanings(
     alloc: Global,
-    text: &mut String,
     names: &Names<'_>,
     number: u32,
     found: &Found<'_>,
-) -> Result<(), OutOfMemory>
+    text: &mut GrowingText,
+)
     requires { IsScope (map source_of names.now) found.now.file number }
 {
-    let all = type_names(alloc, found.tree)?;
+    let Ok(all) = type_names(alloc, found.tree) else {
+        text.lose();
+        return;
+    };
     let mut before = " (";
     for name in all.as_slice() {
-        write!(text, "{before}")?;
-        push_name(text, &name.name)?;
+        text.push_str(before);
+        push_name(&name.name, text);
         push_meaning(
-            text,
             names.resolve(found.file, number, name.name.0.as_slice()),
-        )?;
+            text,
+        );
         before = ", ";
     }
-    if before == ", " {
-        text.push_str(")")?;
+    if all.len() > 0 {
+        text.push_str(")");
     }
-    Ok(())
 }
 
-fn push_meaning(text: &mut String, meaning: Option<Resolved>) -> Result<(), AllocError> {
+fn push_meaning(meaning: Option<Resolved>, text: &mut GrowingText) {
     match meaning {
         Some(Resolved::Builtin(word)) => write!(text, "={word:?}"),
-        Some(Resolved::ListWord) => write!(text, "=List"),
-        Some(Resolved::LeftOut) => write!(text, "=left out"),
+        Some(Resolved::ListWord) => text.push_str("=List"),
+        Some(Resolved::LeftOut) => text.push_str("=left out"),
         Some(Resolved::Declared(number)) => write!(text, "={number}"),
-        None => write!(text, "=nothing"),
+        None => text.push_str("=nothing"),
     }
 }

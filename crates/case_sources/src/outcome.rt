@@ -1,7 +1,7 @@
 //! What can be asked of a source text, and the answer as text.
 
 use crate::evaluation::constant_text;
-use crate::outline::Outline;
+use crate::outline::push_file;
 use crate::place::shown_place;
 use crate::tokens::shown_tokens;
 use aidl_base::{LimitName, OutOfMemory};
@@ -9,6 +9,7 @@ use aidl_lexer::{LexFault, lex};
 use aidl_parser::parse;
 use aidl_syntax::{FileTree, Token};
 use expr_parser::ParseFault;
+use growing_text::GrowingText;
 use std::alloc::Global;
 
 /// What is asked of a source text.
@@ -66,14 +67,15 @@ fn of_tree(alloc: Global, kind: Kind, tree: &FileTree) -> Result<String, OutOfMe
         Kind::Value => constant_text(alloc, tree),
         Kind::Acceptance => Ok(String::from_str(alloc, "a tree")?),
         _ => {
-            let mut outline = Outline::new(alloc);
-            outline.file(tree);
-            outline.into_text()
+            let mut text = GrowingText::new(alloc);
+            push_file(tree, &mut text);
+            text.into_string()
         }
     }
 }
 
-fn limit(alloc: Global, which: LimitName) -> Result<String, OutOfMemory> {
+/// A limit that is passed, as text.
+pub fn limit(alloc: Global, which: LimitName) -> Result<String, OutOfMemory> {
     Ok(format!(in alloc; "limit {} {}", which.name(), which.number())?)
 }
 

@@ -1,158 +1,77 @@
-//! Trees as text. Each part stands in parentheses behind the offset of its first token; each name, type
-//! and literal behind its offset and a colon. Where such a thing is a part of its own, its offset as a part stands before
-//! it with a `!`, if the two differ.
+//! Trees as text. Each part stands in parentheses behind the offset of its first token; each name, type and literal behind its offset
+//! and a colon. Where such a thing is a part of its own, its offset as a part stands before it with a `!`, if the two differ.
 
-use aidl_base::{OutOfMemory, Row};
+use crate::names::push_name;
 use aidl_syntax::{
     AnnotTree, ArgTree, BodyTree, ConstantTree, DeclTree, DottedTree, EnumeratorTree, ExprKind,
     ExprTree, FieldTree, FileTree, InitTree, MemberTree, MethodTree, NameTree, ParamTree, Reserved,
     Symbol, Token, TokenKind, TypeTree, WayTree,
 };
-use std::alloc::Global;
-use std::fmt::Write;
+use growing_text::GrowingText;
 
-/// The outline of a tree, or of a part of it.
-#[derive(Drop)]
-pub struct Outline {
-    text: String,
-    // whether memory was there so far
-    is_whole: bool,
+/// Adds a file.
+pub fn push_file(file: &FileTree, text: &mut GrowingText) {
+    begin(file.offset, "file", text);
+    if let Some(package) = &file.package {
+        text.push_str(" package ");
+        push_dotted(package, text);
+    }
+    for import in file.imports.as_slice() {
+        text.push_str(" import ");
+        push_dotted(import, text);
+    }
+    text.push_str(" ");
+    push_decl(&file.decl, text);
+    text.push_str(")");
 }
 
-impl Outline {
-    /// An empty outline.
-    pub fn new(alloc: Global) -> Outline {
-        Outline {
-            text: String::new(alloc),
-            is_whole: true,
-        }
-    }
-
-    /// What was written.
-    pub fn into_text(self) -> Result<String, OutOfMemory> {
-        if self.is_whole {
-            Ok(self.text)
-        } else {
-            Err(OutOfMemory)
-        }
-    }
-
-    fn word(&mut self, word: &str) {
-        if self.text.push_str(word).is_err() {
-            self.is_whole = false;
-        }
-    }
-
-    fn letter(&mut self, letter: char) {
-        if self.text.push(letter).is_err() {
-            self.is_whole = false;
-        }
-    }
-
-    fn offset(&mut self, offset: u32) {
-        if write!(self.text, "{offset}").is_err() {
-            self.is_whole = false;
-        }
-    }
-
-    // An offset that is that of the next part, else both are seen.
-    fn same_offset(&mut self, offset: u32, next: u32) {
-        if offset != next {
-            self.offset(offset);
-            self.word("!");
-        }
-    }
-
-    fn begin(&mut self, offset: u32, word: &str) {
-        self.offset(offset);
-        self.word("(");
-        self.word(word)
-    }
-
-    fn end(&mut self) {
-        self.word(")")
-    }
-
-    fn name(&mut self, name: &NameTree) {
-        self.offset(name.offset);
-        self.word(":");
-        self.word(name.name.0.as_str());
-    }
-
-    fn dotted(&mut self, dotted: &DottedTree) {
-        self.offset(dotted.offset);
-        let mut before = ":";
-        for part in dotted.name.0.as_slice() {
-            self.word(before);
-            self.word(part.0.as_str());
-            before = ".";
-        }
-    }
+// Begins a part, with its first word.
+fn begin(offset: u32, word: &str, text: &mut GrowingText) {
+    write!(text, "{offset}({word}");
 }
 
-// Files and declarations.
-impl Outline {
-    /// A file.
-    pub fn file(&mut self, file: &FileTree) {
-        self.begin(file.offset, "file");
-        if let Some(package) = &file.package {
-            self.word(" package ");
-            self.dotted(package);
-        }
-        for import in file.imports.as_slice() {
-            self.word(" import ");
-            self.dotted(import);
-        }
-        self.word(" ");
-        self.decl(&file.decl);
-        self.end()
-    }
+fn push_dotted(dotted: &DottedTree, text: &mut GrowingText) {
+    write!(text, "{}:", dotted.offset);
+    push_name(&dotted.name, text);
+}
 
-    #[cycle(decl)]
-    fn decl(&mut self, decl: &DeclTree) {
-        self.begin(decl.offset, "");
-        self.annots(&decl.annots);
-        self.word(kind_of(&decl.body));
-        self.word(" ");
-        self.name(&decl.name);
-        self.body(&decl.body);
-        self.end()
+#[cycle(decl)]
+fn push_decl(decl: &DeclTree, text: &mut GrowingText) {
+    begin(decl.offset, "", text);
+    push_annots(decl.annots.as_slice(), text);
+    text.push_str(kind_of(&decl.body));
+    text.push_str(" ");
+    push_label(&decl.name, text);
+    match &decl.body {
+        BodyTree::Parcelable(members) => push_members(members.as_slice(), text),
+        BodyTree::Union(members) => push_members(members.as_slice(), text),
+        BodyTree::Enum(enumerators) => push_enumerators(enumerators.as_slice(), text),
+        BodyTree::Interface { members, .. } => push_members(members.as_slice(), text),
     }
+    text.push_str(")");
+}
 
-    #[cycle(decl)]
-    fn body(&mut self, body: &BodyTree) {
-        match body {
-            BodyTree::Parcelable(members) => self.members(members),
-            BodyTree::Union(members) => self.members(members),
-            BodyTree::Enum(enumerators) => self.enumerators(enumerators),
-            BodyTree::Interface { members, .. } => self.members(members),
-        }
-    }
-
-    #[cycle(decl)]
-    fn members(&mut self, members: &Row<MemberTree>) {
-        for member in members.as_slice() {
-            self.word(" ");
-            self.member(member);
-        }
-    }
-
-    #[cycle(decl)]
-    fn member(&mut self, member: &MemberTree) {
+#[cycle(decl)]
+fn push_members(members: &[MemberTree], text: &mut GrowingText) {
+    for member in members {
+        text.push_str(" ");
         match member {
-            MemberTree::Field(field) => self.field(field),
-            MemberTree::Constant(constant) => self.constant(constant),
-            MemberTree::Method(method) => self.method(method),
-            MemberTree::Nested(decl) => self.decl(decl),
+            MemberTree::Field(field) => push_field(field, text),
+            MemberTree::Constant(constant) => push_constant(constant, text),
+            MemberTree::Method(method) => push_method(method, text),
+            MemberTree::Nested(decl) => push_decl(decl, text),
         }
     }
+}
 
-    fn enumerators(&mut self, enumerators: &Row<EnumeratorTree>) {
-        for enumerator in enumerators.as_slice() {
-            self.word(" ");
-            self.same_offset(enumerator.offset, enumerator.name.offset);
-            self.name(&enumerator.name);
-            self.value(&enumerator.value);
+fn push_enumerators(enumerators: &[EnumeratorTree], text: &mut GrowingText) {
+    for enumerator in enumerators {
+        text.push_str(" ");
+        push_offset(enumerator.offset, enumerator.name.offset, text);
+        push_label(&enumerator.name, text);
+        if let Some(value) = &enumerator.value {
+            text.push_str(" = ");
+            push_expr(value, text);
         }
     }
 }
@@ -167,132 +86,115 @@ fn kind_of(body: &BodyTree) -> &'static str {
     }
 }
 
-// Members.
-impl Outline {
-    fn field(&mut self, field: &FieldTree) {
-        self.begin(field.offset, "");
-        self.annots(&field.annots);
-        self.typed(&field.ty, &field.name);
-        if let Some(initial) = &field.initial {
-            self.word(" = ");
-            self.init(initial);
-        }
-        self.end()
-    }
-
-    fn constant(&mut self, constant: &ConstantTree) {
-        self.begin(constant.offset, "");
-        self.annots(&constant.annots);
-        self.word("const ");
-        self.typed(&constant.ty, &constant.name);
-        self.word(" = ");
-        self.expr(&constant.value);
-        self.end()
-    }
-
-    fn method(&mut self, method: &MethodTree) {
-        self.begin(method.offset, "");
-        self.annots(&method.annots);
-        if method.oneway {
-            self.word("oneway ");
-        }
-        match &method.result {
-            Some(ty) => self.ty(ty),
-            None => self.word("void"),
-        }
-        self.word(" ");
-        self.name(&method.name);
-        for arg in method.args.as_slice() {
-            self.word(" ");
-            self.arg(arg);
-        }
-        if let Some(id) = &method.id {
-            self.word(" = ");
-            self.token(id);
-        }
-        self.end()
-    }
-
-    fn arg(&mut self, arg: &ArgTree) {
-        self.begin(arg.offset, "");
-        self.annots(&arg.annots);
-        self.word(match arg.way {
-            None => "",
-            Some(WayTree::In) => "in ",
-            Some(WayTree::Out) => "out ",
-            Some(WayTree::InOut) => "inout ",
-        });
-        self.typed(&arg.ty, &arg.name);
-        self.end()
-    }
-
-    fn typed(&mut self, ty: &TypeTree, name: &NameTree) {
-        self.ty(ty);
-        self.word(" ");
-        self.name(name)
-    }
-
-    fn ty(&mut self, ty: &TypeTree) {
-        self.same_offset(ty.offset, ty.name.offset);
-        self.dotted(&ty.name);
-        if let Some(element) = &ty.element {
-            self.word("<");
-            self.dotted(element);
-            self.word(">");
-        }
-        if ty.array {
-            self.word("[]");
-        }
+// Adds the offset of a part, if that of the next one in it differs.
+fn push_offset(offset: u32, next: u32, text: &mut GrowingText) {
+    if offset != next {
+        write!(text, "{offset}!");
     }
 }
 
-// Annotations and initializers.
-impl Outline {
-    fn annots(&mut self, annots: &Row<AnnotTree>) {
-        for annot in annots.as_slice() {
-            self.offset(annot.offset);
-            self.word("@");
-            self.name(&annot.name);
-            for param in annot.params.as_slice() {
-                self.word(" ");
-                self.param(param);
-            }
-            self.word(" ");
-        }
-    }
+fn push_label(label: &NameTree, text: &mut GrowingText) {
+    write!(text, "{}:{}", label.offset, label.name.0.as_str());
+}
 
-    fn param(&mut self, param: &ParamTree) {
-        match &param.name {
-            Some(name) => {
-                self.same_offset(param.offset, name.offset);
-                self.name(name);
-                self.word("=");
-            }
-            None => self.same_offset(param.offset, offset_of(&param.value)),
-        }
-        self.init(&param.value)
+fn push_field(field: &FieldTree, text: &mut GrowingText) {
+    begin(field.offset, "", text);
+    push_annots(field.annots.as_slice(), text);
+    push_typed(&field.ty, &field.name, text);
+    if let Some(initial) = &field.initial {
+        text.push_str(" = ");
+        push_init(initial, text);
     }
+    text.push_str(")");
+}
 
-    fn value(&mut self, value: &Option<ExprTree>) {
-        if let Some(value) = value {
-            self.word(" = ");
-            self.expr(value);
-        }
-    }
+fn push_constant(constant: &ConstantTree, text: &mut GrowingText) {
+    begin(constant.offset, "", text);
+    push_annots(constant.annots.as_slice(), text);
+    text.push_str("const ");
+    push_typed(&constant.ty, &constant.name, text);
+    text.push_str(" = ");
+    push_expr(&constant.value, text);
+    text.push_str(")");
+}
 
-    fn init(&mut self, init: &InitTree) {
-        match init {
-            InitTree::Single(expr) => self.expr(expr),
-            InitTree::Braces { offset, items } => {
-                self.begin(*offset, "{}");
-                for item in items.as_slice() {
-                    self.word(" ");
-                    self.expr(item);
-                }
-                self.end()
-            }
-        }
+fn push_method(method: &MethodTree, text: &mut GrowingText) {
+    begin(method.offset, "", text);
+    push_annots(method.annots.as_slice(), text);
+    if method.oneway {
+        text.push_str("oneway ");
     }
+    match &method.result {
+        Some(ty) => push_type(ty, text),
+        None => text.push_str("void"),
+    }
+    text.push_str(" ");
+    push_label(&method.name, text);
+    for arg in method.args.as_slice() {
+        text.push_str(" ");
+        push_arg(arg, text);
+    }
+    if let Some(id) = &method.id {
+        text.push_str(" = ");
+        push_token(id, text);
+    }
+    text.push_str(")");
+}
+
+fn push_arg(arg: &ArgTree, text: &mut GrowingText) {
+    begin(arg.offset, "", text);
+    push_annots(arg.annots.as_slice(), text);
+    text.push_str(match arg.way {
+        None => "",
+        Some(WayTree::In) => "in ",
+        Some(WayTree::Out) => "out ",
+        Some(WayTree::InOut) => "inout ",
+    });
+    push_typed(&arg.ty, &arg.name, text);
+    text.push_str(")");
+}
+
+fn push_typed(ty: &TypeTree, label: &NameTree, text: &mut GrowingText) {
+    push_type(ty, text);
+    text.push_str(" ");
+    push_label(label, text);
+}
+
+fn push_type(ty: &TypeTree, text: &mut GrowingText) {
+    push_offset(ty.offset, ty.name.offset, text);
+    push_dotted(&ty.name, text);
+    if let Some(element) = &ty.element {
+        text.push_str("<");
+        push_dotted(element, text);
+        text.push_str(">");
+    }
+    if ty.array {
+        text.push_str("[]");
+    }
+}
+
+fn push_annots(annots: &[AnnotTree], text: &mut GrowingText) {
+    for annot in annots {
+        write!(text, "{}@", annot.offset);
+        push_label(&annot.name, text);
+        for param in annot.params.as_slice() {
+            text.push_str(" ");
+            push_param(param, text);
+        }
+        text.push_str(" ");
+    }
+}
+
+fn push_param(param: &ParamTree, text: &mut GrowingText) {
+    match &param.name {
+        Some(label) => {
+            push_offset(param.offset, label.offset, text);
+            push_label(label, text);
+            text.push_str("=");
+        }
+        None => push_offset(param.offset, offset_of(&param.value), text),
+    }
+    push_init(&param.value, text);
 }
 
 fn offset_of(init: &InitTree) -> u32 {
@@ -302,81 +204,78 @@ fn offset_of(init: &InitTree) -> u32 {
     }
 }
 
-// Expressions and tokens.
-impl Outline {
-    fn expr(&mut self, expr: &ExprTree) {
-        match &expr.kind {
-            ExprKind::Literal(token) => {
-                self.same_offset(expr.offset, token.offset);
-                self.token(token)
+fn push_init(init: &InitTree, text: &mut GrowingText) {
+    match init {
+        InitTree::Single(expr) => push_expr(expr, text),
+        InitTree::Braces { offset, items } => {
+            begin(*offset, "{}", text);
+            for item in items.as_slice() {
+                text.push_str(" ");
+                push_expr(item, text);
             }
-            ExprKind::Name(name) => {
-                self.same_offset(expr.offset, name.offset);
-                self.dotted(name)
-            }
-            ExprKind::Group(inner) => {
-                self.begin(expr.offset, "() ");
-                self.expr(inner);
-                self.end()
-            }
-            ExprKind::Unary(symbol, operand) => {
-                self.begin(expr.offset, spelled(*symbol));
-                self.word(" ");
-                self.expr(operand);
-                self.end()
-            }
-            ExprKind::Binary(symbol, first, second) => {
-                self.begin(expr.offset, spelled(*symbol));
-                self.word(" ");
-                self.expr(first);
-                self.word(" ");
-                self.expr(second);
-                self.end()
-            }
+            text.push_str(")");
         }
     }
+}
 
-    fn token(&mut self, token: &Token) {
-        self.offset(token.offset);
-        self.word(":");
-        match &token.kind {
-            TokenKind::Name(text) => self.word(text.as_str()),
-            TokenKind::Word(Reserved::True) => self.word("true"),
-            TokenKind::Word(Reserved::False) => self.word("false"),
-            TokenKind::Word(_) => self.word("another word"),
-            TokenKind::Number {
-                bits,
-                hexadecimal,
-                long,
-            } => self.number(*bits, *hexadecimal, *long),
-            TokenKind::Character(code) => self.character(*code),
-            TokenKind::Str(text) => self.string(text.as_str()),
-            TokenKind::Mark(symbol) => self.word(spelled(*symbol)),
+fn push_expr(expr: &ExprTree, text: &mut GrowingText) {
+    match &expr.kind {
+        ExprKind::Literal(token) => {
+            push_offset(expr.offset, token.offset, text);
+            push_token(token, text);
+        }
+        ExprKind::Name(name) => {
+            push_offset(expr.offset, name.offset, text);
+            push_dotted(name, text);
+        }
+        ExprKind::Group(inner) => {
+            begin(expr.offset, "() ", text);
+            push_expr(inner, text);
+            text.push_str(")");
+        }
+        ExprKind::Unary(symbol, operand) => {
+            begin(expr.offset, spelled(*symbol), text);
+            text.push_str(" ");
+            push_expr(operand, text);
+            text.push_str(")");
+        }
+        ExprKind::Binary(symbol, first, second) => {
+            begin(expr.offset, spelled(*symbol), text);
+            text.push_str(" ");
+            push_expr(first, text);
+            text.push_str(" ");
+            push_expr(second, text);
+            text.push_str(")");
         }
     }
+}
 
-    fn character(&mut self, code: u32) {
-        self.word("'");
-        self.letter(char::from_u32(code).unwrap_or('?'));
-        self.word("'");
+fn push_token(token: &Token, text: &mut GrowingText) {
+    write!(text, "{}:", token.offset);
+    match &token.kind {
+        TokenKind::Name(word) => text.push_str(word.as_str()),
+        TokenKind::Word(Reserved::True) => text.push_str("true"),
+        TokenKind::Word(Reserved::False) => text.push_str("false"),
+        TokenKind::Word(_) => text.push_str("another word"),
+        TokenKind::Number {
+            bits,
+            hexadecimal,
+            long,
+        } => push_number(*bits, *hexadecimal, *long, text),
+        TokenKind::Character(code) => { write!(text, "'{}'", char::from_u32(*code).unwrap_or('?')) }
+        TokenKind::Str(words) => write!(text, "\"{}\"", words.as_str()),
+        TokenKind::Mark(symbol) => text.push_str(spelled(*symbol)),
     }
+}
 
-    fn string(&mut self, text: &str) {
-        self.word("\"");
-        self.word(text);
-        self.word("\"");
+fn push_number(bits: u64, hexadecimal: bool, long: bool, text: &mut GrowingText) {
+    if hexadecimal {
+        write!(text, "{bits:#x}");
+    } else {
+        write!(text, "{bits}");
     }
-
-    fn number(&mut self, bits: u64, hexadecimal: bool, long: bool) {
-        let written = if hexadecimal {
-            write!(self.text, "{bits:#x}")
-        } else {
-            write!(self.text, "{bits}")
-        };
-        if written.is_err() {
-            self.is_whole = false;
-        }
-        self.word(if long { "L" } else { "" });
+    if long {
+        text.push_str("L");
     }
 }
 

@@ -1,27 +1,26 @@
 //! The tokens of a source text as text.
 
+use crate::names::comma;
 use aidl_base::OutOfMemory;
 use aidl_syntax::{Token, TokenKind};
-use std::alloc::{AllocError, Global};
-use std::fmt::Write;
+use growing_text::GrowingText;
+use std::alloc::Global;
 
 /// Tokens as text: the offset and the kind of each.
 pub fn shown_tokens(alloc: Global, tokens: &[Token]) -> Result<String, OutOfMemory> {
-    let mut text = String::new(alloc);
+    let mut text = GrowingText::new(alloc);
     for token in tokens {
-        if !text.is_empty() {
-            text.push_str(", ")?;
-        }
-        push_token(&mut text, token)?;
+        comma(&mut text);
+        push_token(token, &mut text);
     }
-    Ok(text)
+    text.into_string()
 }
 
-fn push_token(text: &mut String, token: &Token) -> Result<(), AllocError> {
-    let offset = token.offset;
+fn push_token(token: &Token, text: &mut GrowingText) {
+    write!(text, "{} ", token.offset);
     match &token.kind {
-        TokenKind::Name(name) => write!(text, "{offset} name {}", name.as_str()),
-        TokenKind::Word(word) => write!(text, "{offset} {word:?}"),
+        TokenKind::Name(name) => write!(text, "name {}", name.as_str()),
+        TokenKind::Word(word) => write!(text, "{word:?}"),
         TokenKind::Number {
             bits,
             hexadecimal,
@@ -29,10 +28,10 @@ fn push_token(text: &mut String, token: &Token) -> Result<(), AllocError> {
         } => {
             let base = if *hexadecimal { " hexadecimal" } else { "" };
             let width = if *long { " long" } else { "" };
-            write!(text, "{offset} number {bits}{base}{width}")
+            write!(text, "number {bits}{base}{width}")
         }
-        TokenKind::Character(code) => write!(text, "{offset} character {code}"),
-        TokenKind::Str(string) => write!(text, "{offset} string \"{}\"", string.as_str()),
-        TokenKind::Mark(symbol) => write!(text, "{offset} {symbol:?}"),
+        TokenKind::Character(code) => write!(text, "character {code}"),
+        TokenKind::Str(string) => write!(text, "string \"{}\"", string.as_str()),
+        TokenKind::Mark(symbol) => write!(text, "{symbol:?}"),
     }
 }

@@ -5,6 +5,7 @@ ghost use Rattle.aidl_syntax.specs.Sources.{IsOfBytes, AreOfBytes};
 
 use crate::constants::shown_constants;
 use crate::names::shown_names;
+use crate::outcome::limit;
 use crate::type_breaches::shown_types;
 use aidl_base::{LimitName, OutOfMemory, SourceFile, Text};
 use aidl_lexer::lex;
@@ -26,9 +27,8 @@ pub enum Asked {
 
 /// What comes of a tree of files.
 pub fn answer_of(alloc: Global, asked: Asked, files: &[SourceFile]) -> Result<String, OutOfMemory> {
-    let limit = LimitName::Files;
     if files.len() > 4096 {
-        return Ok(format!(in alloc; "limit {} {}", limit.name(), limit.number())?);
+        return limit(alloc, LimitName::Files);
     }
     match parsed(alloc, files)? {
         Some(files) => {

@@ -13,18 +13,10 @@ pub fn shown_types(
     files: &[ParsedFile],
     names: &Result<Names<'_>, NameFault>,
 ) -> Result<String, OutOfMemory> {
-    match names {
-        Ok(names) => shown_rows(alloc, files, names),
-        Err(_) => shown_names(alloc, files, names),
-    }
-}
-
-fn shown_rows(
-    alloc: Global,
-    files: &[ParsedFile],
-    names: &Names<'_>,
-) -> Result<String, OutOfMemory> {
-    let rows = breaches(alloc, names)?;
+    let Ok(resolved) = names else {
+        return shown_names(alloc, files, names);
+    };
+    let rows = breaches(alloc, resolved)?;
     if rows.len() == 0 {
         return Ok(String::from_str(alloc, "none")?);
     }

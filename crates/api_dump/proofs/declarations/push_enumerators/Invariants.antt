@@ -1,11 +1,12 @@
-use Rattle.std.proofs.Common.{◌≡◌, ◌++◌, drop, string_bytes}
+use Rattle.std.proofs.Common.{◌++◌, take}
 use Rattle.std.specs.List.{flat_map}
+use Rattle.growing_text.specs.Grows.{Grows}
 use Rattle.api_dump.specs.Pieces.{text_of}
 use Rattle.api_dump.specs.Declarations.{indent}
 use Rattle.api_dump.specs.Lines.{enumerator}
 use Rattle.api_dump.proofs.declarations.push_enumerators.Given as goal
 
--- the lines so far, and those that are left
+-- the lines so far
 abbrev pub invariant-loop-each : goal.invariant-loop-each
 invariant-loop-each l =
-    string_bytes l.out ++ text_of (flat_map (λ x. indent l.depth ++ enumerator l.backing x) (drop l.each-index l.items)) ≡ string_bytes l.fn.out ++ text_of (flat_map (λ x. indent l.depth ++ enumerator l.backing x) l.items)
+    Grows l.fn.text l.text (text_of (flat_map (λ x. indent l.depth ++ enumerator l.backing x) (take l.each-index l.items)))

@@ -1,11 +1,12 @@
-use Rattle.std.proofs.Common.{◌≡◌, ◌++◌, drop, string_bytes}
+use Rattle.std.proofs.Common.{◌++◌, take}
 use Rattle.std.specs.List.{flat_map}
+use Rattle.growing_text.specs.Grows.{Grows}
 use Rattle.api_dump.specs.Pieces.{text_of}
 use Rattle.api_dump.specs.Declarations.{indent}
 use Rattle.api_dump.specs.Lines.{field}
 use Rattle.api_dump.proofs.declarations.push_fields.Given as goal
 
--- the lines so far, and those that are left
+-- the lines so far
 abbrev pub invariant-loop-each : goal.invariant-loop-each
 invariant-loop-each l =
-    string_bytes l.out ++ text_of (flat_map (λ x. indent l.depth ++ field l.decls x) (drop l.each-index l.fields)) ≡ string_bytes l.fn.out ++ text_of (flat_map (λ x. indent l.depth ++ field l.decls x) l.fields)
+    Grows l.fn.text l.text (text_of (flat_map (λ x. indent l.depth ++ field l.decls x) (take l.each-index l.fields)))

@@ -1,10 +1,12 @@
-use Rattle.std.proofs.Common.{arith, ◌++◌, refl, string_bytes, length, ◌-◌, sym, subst, ◌≡◌, OnOk}
-use Rattle.api_dump.specs.Pieces.{text_of}
-use Rattle.api_dump.specs.Dump.{package_line}
-use Rattle.api_dump.proofs.lemmas.Texts.{before_last}
+use Rattle.std.proofs.Common.{arith}
+use Rattle.api_dump.specs.Pieces.{spelling}
+use Rattle.api_dump.proofs.Packages.{package_none, package_some}
+use Rattle.api_dump.proofs.Texts.{behind}
 use Rattle.api_dump.proofs.dumping.push_package.Goals as goal
 
+pub returns-in-empty : goal.returns-in-empty
+returns-in-empty c = rw (package_none c.args.parts.now c.in-empty.len_below) (grind (arith, behind))
+
 pub returns-in-len1-up : goal.returns-in-len1-up
-returns-in-len1-up c =
-    subst (λ ps. OnOk c.push_package_line.result (string_bytes c.push_package_line.new.out ≡ string_bytes c.args.out.now ++ text_of (package_line ps)))
-    (sym (before_last c.args.parts.now (length c.args.parts.now - 1) (omega arith) refl)) c.push_package_line.ensures
+unfolding spelling
+returns-in-len1-up c = rw (package_some c.args.parts.now c.in-len1-up.len_at_least) (grind (arith, behind))

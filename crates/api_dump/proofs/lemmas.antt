@@ -1,2 +1,0 @@
--- Laws of this crate's definitions that crates above cite.
-pub mod Texts

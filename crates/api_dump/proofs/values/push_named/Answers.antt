@@ -1,0 +1,10 @@
+use Rattle.std.proofs.Common.{◌≡◌, Some, arith, length, refl, slice_get}
+use Rattle.std.proofs.lemmas.Option.{slice_get_read}
+use Rattle.api_dump.proofs.Texts.{behind}
+use Rattle.api_dump.proofs.values.push_named.Goals as goal
+
+pub returns-in-Some : goal.returns-in-Some
+returns-in-Some c =
+    let S = c.args.decls.now in
+    let there : slice_get S c.args.declared ≡ Some c.in-Some.decl.now = slice_get_read S (length S) c.args.declared c.in-Some.decl.now refl c.in-Some.ensures.lookup.3.0 c.in-Some.ensures.lookup.1 in
+    rw there (grind (arith, behind))
