@@ -3,9 +3,8 @@ use Rattle.std.proofs.Common.{sym, subst, Result, Ok, Err, IfOk, String, Global,
 use Rattle.aidl_base.specs.declared.memory.OutOfMemory.{OutOfMemory as Fault}
 use Rattle.tool_frame.specs.declared.printed.Early.{Early}
 use Rattle.tool_frame.specs.declared.printed.Early.TheVariants.{Answered, OutOfMemory}
-use Rattle.tool_frame.specs.declared.printed.Printed.{Printed}
 use Rattle.tool_frame.specs.Answer.{Answer}
-use Rattle.tool_frame.specs.Results.{EndsAs, Gives, GivesOne}
+use Rattle.tool_frame.specs.Results.{EndsAs}
 use Rattle.tree_commands.specs.Faults.{refused}
 use Rattle.tree_commands.specs.Results.{EndsBy, EndsWith}
 
@@ -24,14 +23,3 @@ ends_with Is Good (Err fault) early h good is = subst (EndsBy Is) (sym h) tt
 pub ends_more : (Is Also : Answer → Type 0) (early : Early) → ((a : Answer) → Is a → Also a) → EndsBy Is early → EndsBy Also early
 ends_more Is Also (Answered p) more h = more _ h
 ends_more Is Also OutOfMemory more h = tt
-
--- the same of what is given
-pub gives_more : (Is Also : Answer → Type 0) (early : Early) → ((a : Answer) → Is a → Also a) → EndsBy Is early → GivesOne (Err early) Also
-gives_more Is Also (Answered p) more h = more _ h
-gives_more Is Also OutOfMemory more h = tt
-
--- with an answer of which this holds
-pub gives_as : (Is : Answer → Type 0) (result : Result Printed Early) (answer : Answer) → Gives result answer → Is answer → GivesOne result Is
-gives_as Is (Ok p) answer h is = subst Is (sym h) is
-gives_as Is (Err (Answered p)) answer h is = subst Is (sym h) is
-gives_as Is (Err OutOfMemory) answer h is = tt

@@ -1,28 +1,27 @@
 //! The command `check`, and the schema of a tree for each command that needs it, or what is printed of its refusal.
 ghost use Rattle.tool_frame.specs.Outside.{LinkSeen, seen_beside};
 ghost use Rattle.tree_commands.specs.Both.{IsFaultOfOne};
-ghost use Rattle.tree_commands.specs.Checked.{CheckAnswers, IsCheckAnswer, accepted};
+ghost use Rattle.tree_commands.specs.Checked.{CheckAnswers, accepted};
 ghost use Rattle.tool_frame.specs.Asks.{AsksTree};
 ghost use Rattle.tool_frame.specs.Ended.{Ended};
 ghost use Rattle.tool_frame.specs.Exit.{number_of};
 ghost use Rattle.tool_frame.specs.Halts.{Prints};
 ghost use Rattle.tool_frame.specs.Meaning.{reads_by};
 ghost use Rattle.tool_frame.specs.Seen.{store_seen};
-ghost use Rattle.std.specs.Prelude.{◌≡◌, ◌++◌, codes, IfOk, IfErr, string_bytes};
-ghost use Rattle.std.specs.Fmt.{decimal};
-ghost use Rattle.tool_frame.specs.Answer.{line};
+ghost use Rattle.std.specs.Prelude.{IfOk, IfErr};
 ghost use Rattle.tree_commands.specs.Faults.{IsFaultAnswer};
-ghost use Rattle.tool_frame.specs.Results.{Gives, GivesOne};
+ghost use Rattle.tool_frame.specs.Results.{Gives};
 ghost use Rattle.tree_commands.specs.Results.{EndsBy};
 ghost use Rattle.type_check.specs.Checked.{IsSchemaOf};
 
 use crate::faults::fault_answer;
-use aidl_base::{OutOfMemory, Row, SourceFile};
+use crate::opening::open;
+use aidl_base::{Row, SourceFile};
 use aidl_outside::{Sink, Store};
 use aidl_schema::Schema;
+use growing_text::GrowingText;
 use std::alloc::Global;
-use std::fmt::Write;
-use tool_frame::{Early, Exit, Halt, Printed, Verdict, end, load_sources};
+use tool_frame::{Early, Exit, Halt, Printed, Verdict, end};
 
 /// Runs `check TREE`. The answer is the exit.
 pub fn check<S: Store, K: Sink>(alloc: Global, root: &str, store: &mut S, sink: &mut K) -> Exit
@@ -34,14 +33,27 @@ pub fn check<S: Store, K: Sink>(alloc: Global, root: &str, store: &mut S, sink: 
     end(alloc, answered, sink)
 }
 
-// What is answered of the tree below a root.
+// What is answered of the tree below a root: what is printed of its schema, or of a tree that isn't checked.
 fn check_root<S: Store>(alloc: Global, root: &str, store: &mut S) -> Result<Printed, Halt>
     ensures { let seen = store_seen S.Store in
         Prints (AsksTree root.now) (CheckAnswers root.now) (seen store.old) (seen store.new) result }
 {
-    let files = load_sources(alloc, root, store)?;
-    let printed = check_answer(alloc, root, files)?;
+    let schema = open(alloc, root, store)?;
+    let printed = accepted(alloc, &schema)?;
     Ok(printed)
+}
+
+// The line of a tree that is checked: `ok N types`, N the number of declarations.
+fn accepted(alloc: Global, schema: &Schema) -> Result<Printed, Early>
+    ensures { Gives result (accepted schema.now.decls) }
+{
+    let count = schema.decls.len();
+    let mut text = GrowingText::new(alloc);
+    writeln!(text, "ok {count} types");
+    Ok(Printed {
+        text: text.into_string()?,
+        verdict: Verdict::Done,
+    })
 }
 
 /// The schema of the files of a tree with a root. Where the tree isn't checked it answers what is printed of it: with exit 1 one
@@ -73,36 +85,4 @@ pub fn check_both(
     let old = check_tree(alloc, first, olds)?;
     let new = check_tree(alloc, second, news)?;
     Ok((old, new))
-}
-
-/// What `check` prints of the files of a tree with a root: `ok N types`, N the number of declarations; or what is printed of a
-/// tree that isn't checked. Memory may be wanted.
-pub fn check_answer(alloc: Global, root: &str, files: Row<SourceFile>) -> Result<Printed, Early>
-    ensures { GivesOne result (IsCheckAnswer root.now files) }
-{
-    match check_tree(alloc, root, files) {
-        Ok(schema) => accepted(alloc, &schema),
-        Err(early) => Err(early),
-    }
-}
-
-// What is printed of a tree that is checked.
-fn accepted(alloc: Global, schema: &Schema) -> Result<Printed, Early>
-    ensures { Gives result (accepted schema.now.decls) }
-{
-    let text = count_line(alloc, schema.decls.len())?;
-    Ok(Printed {
-        text,
-        verdict: Verdict::Done,
-    })
-}
-
-// The line of a number of declarations.
-fn count_line(alloc: Global, count: usize) -> Result<String, OutOfMemory>
-    ensures { IfOk result (λ text.
-        string_bytes text ≡ line (codes "ok " ++ decimal count ++ codes " types")) }
-{
-    let mut text = String::new(alloc);
-    writeln!(text, "ok {count} types")?;
-    Ok(text)
 }

@@ -1,5 +1,6 @@
 //! The command `judge`: the evolution rules that a new tree breaks, or that it breaks none.
-ghost use Rattle.std.specs.Prelude.{◌≡◌, ◌++◌, codes, IfOk, OnOk, map, string_bytes};
+ghost use Rattle.std.specs.Prelude.{◌≡◌, codes, IfOk, map, string_bytes};
+ghost use Rattle.growing_text.specs.Grows.{Grows};
 ghost use Rattle.tool_frame.specs.Due.{AsksTreeThen};
 ghost use Rattle.tool_frame.specs.Outside.{LinkSeen, seen_beside};
 ghost use Rattle.tree_commands.specs.Judged.{JudgeAnswers, break_line, judged};
@@ -12,7 +13,7 @@ ghost use Rattle.tool_frame.specs.Seen.{store_seen};
 ghost use Rattle.std.specs.List.{flat_map};
 ghost use Rattle.aidl_schema.specs.Broken.{broken};
 ghost use Rattle.compat_judge.specs.Seen.{seen};
-ghost use Rattle.tool_frame.specs.Answer.{done, line};
+ghost use Rattle.tool_frame.specs.Answer.{done};
 ghost use Rattle.tool_frame.specs.Results.{Gives};
 
 use crate::opening::open_both;
@@ -20,8 +21,8 @@ use aidl_base::OutOfMemory;
 use aidl_outside::{Sink, Store};
 use aidl_schema::Schema;
 use compat_judge::Broken;
+use growing_text::GrowingText;
 use std::alloc::Global;
-use std::fmt::Write;
 use tool_frame::{Early, Exit, Halt, Printed, Verdict, end};
 
 /// Runs `judge OLD NEW`. The answer is the exit.
@@ -75,38 +76,30 @@ fn judge_schemas(alloc: Global, old: &Schema, new: &Schema) -> Result<Printed, E
 pub fn answer_yes(alloc: Global) -> Result<Printed, Early>
     ensures { Gives result (done (codes "yes")) }
 {
-    let text = yes_line(alloc)?;
+    let mut text = GrowingText::new(alloc);
+    text.push_str("yes\n");
     Ok(Printed {
-        text,
+        text: text.into_string()?,
         verdict: Verdict::Done,
     })
-}
-
-fn yes_line(alloc: Global) -> Result<String, OutOfMemory>
-    ensures { IfOk result (λ text. string_bytes text ≡ line (codes "yes")) }
-{
-    let text = String::from_str(alloc, "yes\n")?;
-    Ok(text)
 }
 
 /// The lines of broken evolution rules, `C10 PLACE` each.
 pub fn judge_lines(alloc: Global, rows: &[Broken]) -> Result<String, OutOfMemory>
     ensures { IfOk result (λ text. string_bytes text ≡ flat_map break_line (map seen rows.now)) }
 {
-    let mut text = String::new(alloc);
+    let mut text = GrowingText::new(alloc);
     for row in rows {
-        push_break(row, &mut text)?;
+        push_break(row, &mut text);
     }
-    Ok(text)
+    text.into_string()
 }
 
 /// Adds the line of a broken evolution rule, `C10 PLACE`.
-pub fn push_break(row: &Broken, text: &mut String) -> Result<(), OutOfMemory>
-    ensures { OnOk result (string_bytes text.new
-        ≡ string_bytes text.old ++ break_line (seen row.now)) }
+pub fn push_break(row: &Broken, text: &mut GrowingText)
+    ensures { Grows text.old text.new (break_line (seen row.now)) }
 {
     let rule = row.rule;
     let place = row.place.as_str();
-    writeln!(text, "C{rule} {place}")?;
-    Ok(())
+    writeln!(text, "C{rule} {place}");
 }

@@ -1,14 +1,13 @@
-//! The printed lines of faults in files: files without tokens, syntax faults and broken check rules.
-ghost use Rattle.std.specs.Prelude.{◌≡◌, ◌++◌, IfOk, OnOk, codes, string_bytes};
-ghost use Rattle.std.specs.Fmt.{decimal};
+//! The printed lines of faults in files: files without tokens, and broken check rules.
+ghost use Rattle.std.specs.Prelude.{◌≡◌, IfOk, string_bytes};
 ghost use Rattle.std.specs.List.{flat_map};
-ghost use Rattle.std.specs.Option.{option_copied};
+ghost use Rattle.growing_text.specs.Grows.{Grows};
 ghost use Rattle.tree_commands.specs.Lines as meant;
 
 use crate::rule_names::rule_name;
 use aidl_base::{Breach, OutOfMemory, SourceFile};
+use growing_text::GrowingText;
 use std::alloc::Global;
-use std::fmt::Write;
 use tree_files::LexBreach;
 
 /// The lines of files without tokens, among the files of a tree with a root: `PATH:OFFSET: lex NUMBER NAME`.
@@ -21,54 +20,28 @@ pub fn lex_lines(
     ensures { IfOk result (λ text.
         string_bytes text ≡ flat_map (meant.lex_line root.now files.now) rows.now) }
 {
-    let mut text = String::new(alloc);
+    let mut text = GrowingText::new(alloc);
     for row in rows {
-        push_lex(root, files, row, &mut text)?;
+        push_lex(root, files, row, &mut text);
     }
-    Ok(text)
+    text.into_string()
 }
 
 // Adds the line of a file without tokens.
-fn push_lex(
-    root: &str,
-    files: &[SourceFile],
-    row: &LexBreach,
-    text: &mut String,
-) -> Result<(), OutOfMemory>
-    ensures { OnOk result (string_bytes text.new
-        ≡ string_bytes text.old ++ meant.lex_line root.now files.now row.now) }
+fn push_lex(root: &str, files: &[SourceFile], row: &LexBreach, text: &mut GrowingText)
+    ensures { Grows text.old text.new (meant.lex_line root.now files.now row.now) }
 {
-    match files.get(row.file as usize) {
-        Some(file) => push_lex_words(
-            root,
-            file,
-            row.fault.offset(),
-            row.fault.number(),
-            row.fault.name(),
-            text,
-        ),
-        None => Ok(()),
+    if let Some(file) = files.get(row.file as usize) {
+        let path = file.path.as_str();
+        let fault = &row.fault;
+        if let (Some(offset), Some(number), Some(name)) = (
+            fault.offset(),
+            fault.number(),
+            fault.name(),
+        ) {
+            writeln!(text, "{root}/{path}:{offset}: lex {number} {name}");
+        }
     }
-}
-
-// Adds the line of a file with the offset, the number and the name of its fault.
-fn push_lex_words(
-    root: &str,
-    file: &SourceFile,
-    offset: Option<u32>,
-    number: Option<u8>,
-    name: Option<&str>,
-    text: &mut String,
-) -> Result<(), OutOfMemory>
-    ensures { OnOk result (string_bytes text.new
-        ≡ string_bytes text.old ++ meant.lex_words root.now file.now offset number
-        (option_copied name.entry)) }
-{
-    let path = file.path.as_str();
-    if let (Some(offset), Some(number), Some(name)) = (offset, number, name) {
-        writeln!(text, "{root}/{path}:{offset}: lex {number} {name}")?;
-    }
-    Ok(())
 }
 
 /// The lines of broken check rules, among the files of a tree with a root: `PATH:OFFSET: E4 UnknownType`.
@@ -81,59 +54,21 @@ pub fn breach_lines(
     ensures { IfOk result (λ text.
         string_bytes text ≡ flat_map (meant.breach_line root.now files.now) rows.now) }
 {
-    let mut text = String::new(alloc);
+    let mut text = GrowingText::new(alloc);
     for row in rows {
-        push_breach(root, files, *row, &mut text)?;
+        push_breach(root, files, *row, &mut text);
     }
-    Ok(text)
+    text.into_string()
 }
 
 // Adds the line of a broken rule.
-fn push_breach(
-    root: &str,
-    files: &[SourceFile],
-    row: Breach,
-    text: &mut String,
-) -> Result<(), OutOfMemory>
-    ensures { OnOk result (string_bytes text.new
-        ≡ string_bytes text.old ++ meant.breach_line root.now files.now row) }
+fn push_breach(root: &str, files: &[SourceFile], row: Breach, text: &mut GrowingText)
+    ensures { Grows text.old text.new (meant.breach_line root.now files.now row) }
 {
-    let name = rule_name(row.rule);
-    match files.get(row.file as usize) {
-        Some(file) => push_rule(root, file, row.offset, row.rule, name, text),
-        None => Ok(()),
+    if let Some(file) = files.get(row.file as usize) {
+        let path = file.path.as_str();
+        let Breach { offset, rule, .. } = row;
+        let name = rule_name(rule);
+        writeln!(text, "{root}/{path}:{offset}: E{rule} {name}");
     }
-}
-
-// Adds the line of a broken rule with a name at an offset of a file.
-fn push_rule(
-    root: &str,
-    file: &SourceFile,
-    offset: u32,
-    rule: u8,
-    name: &str,
-    text: &mut String,
-) -> Result<(), OutOfMemory>
-    ensures { OnOk result (string_bytes text.new
-        ≡ string_bytes text.old ++ meant.line_at root.now file.now offset
-        (codes "E" ++ decimal rule ++ codes " " ++ name.now)) }
-{
-    let path = file.path.as_str();
-    writeln!(text, "{root}/{path}:{offset}: E{rule} {name}")?;
-    Ok(())
-}
-
-/// Adds the line of a syntax fault at an offset in bytes: `PATH:OFFSET: syntax`.
-pub fn push_syntax(
-    root: &str,
-    file: &SourceFile,
-    offset: usize,
-    text: &mut String,
-) -> Result<(), OutOfMemory>
-    ensures { OnOk result (string_bytes text.new
-        ≡ string_bytes text.old ++ meant.line_at root.now file.now offset (codes "syntax")) }
-{
-    let path = file.path.as_str();
-    writeln!(text, "{root}/{path}:{offset}: syntax")?;
-    Ok(())
 }

@@ -1,15 +1,15 @@
 //! The lines of files without a tree, each with the offset of its syntax fault.
-ghost use Rattle.std.specs.Prelude.{◌≡◌, ◌≤◌, length, IfOk, OnOk, string_bytes};
+ghost use Rattle.std.specs.Prelude.{◌≡◌, ◌≤◌, length, IfOk, string_bytes};
 ghost use Rattle.std.specs.List.{All};
 ghost use Rattle.aidl_syntax.specs.Tokens.{Tokens};
 ghost use Rattle.tree_commands.specs.Faults.{AreSyntaxLines, IsSyntaxLine};
 ghost use Rattle.tree_commands.specs.Lines as meant;
 ghost use Rattle.tree_commands.specs.steps.Adding.{Adds, AddsLine};
 
-use crate::lines::push_syntax;
 use aidl_base::{OutOfMemory, SourceFile};
 use aidl_lexer::lex;
 use aidl_syntax::Token;
+use growing_text::GrowingText;
 use parse_places::fault_place;
 use std::alloc::Global;
 
@@ -25,45 +25,24 @@ pub fn syntax_lines(
     ensures { IfOk result (λ text.
         AreSyntaxLines root.now files.now numbers.now (string_bytes text)) }
 {
-    let mut text = String::new(alloc);
+    let mut text = GrowingText::new(alloc);
     for number in numbers {
-        push_line(alloc, root, files, *number, &mut text)?;
+        push_line(alloc, root, files, *number, &mut text);
     }
-    Ok(text)
+    text.into_string()
 }
 
-// Adds the line of the file with a number.
-fn push_line(
-    alloc: Global,
-    root: &str,
-    files: &[SourceFile],
-    number: u32,
-    text: &mut String,
-) -> Result<(), OutOfMemory>
+// Adds the line of the file with a number, which is of at most 262,144 bytes and has tokens: only memory may be wanting where they
+// are taken again.
+fn push_line(alloc: Global, root: &str, files: &[SourceFile], number: u32, text: &mut GrowingText)
     requires { All (λ f. length f.bytes ≤ 262144) files.now }
-    ensures { OnOk result
-        (AddsLine root.now files.now number (string_bytes text.old) (string_bytes text.new)) }
+    ensures { AddsLine root.now files.now number text.old text.new }
 {
-    match files.get(number as usize) {
-        Some(file) => push_fault(alloc, root, file, text),
-        None => Ok(()),
-    }
-}
-
-// Adds the line of a file of at most 262,144 bytes that has tokens: only memory may be wanting where they are taken again.
-fn push_fault(
-    alloc: Global,
-    root: &str,
-    file: &SourceFile,
-    text: &mut String,
-) -> Result<(), OutOfMemory>
-    requires { length file.now.bytes ≤ 262144 }
-    ensures { OnOk result
-        (Adds (IsSyntaxLine root.now file.now) (string_bytes text.old) (string_bytes text.new)) }
-{
-    match lex(alloc, file.bytes.as_slice()) {
-        Ok(tokens) => push_place(alloc, root, file, tokens.as_slice(), text),
-        Err(_) => Err(OutOfMemory),
+    if let Some(file) = files.get(number as usize) {
+        match lex(alloc, file.bytes.as_slice()) {
+            Ok(tokens) => push_place(alloc, root, file, tokens.as_slice(), text),
+            Err(_) => text.lose(),
+        }
     }
 }
 
@@ -73,15 +52,19 @@ fn push_place(
     root: &str,
     file: &SourceFile,
     tokens: &[Token],
-    text: &mut String,
-) -> Result<(), OutOfMemory>
+    text: &mut GrowingText,
+)
     requires { Tokens file.now.bytes tokens.now }
-    ensures { OnOk result
-        (Adds (IsSyntaxLine root.now file.now) (string_bytes text.old) (string_bytes text.new)) }
+    ensures { Adds (IsSyntaxLine root.now file.now) text.old text.new }
 {
-    match fault_place(alloc, tokens)? {
-        Some(place) => push_syntax(root, file, offset_at(file, tokens, place), text),
-        None => Ok(()),
+    match fault_place(alloc, tokens) {
+        Ok(Some(place)) => {
+            let path = file.path.as_str();
+            let offset = offset_at(file, tokens, place);
+            writeln!(text, "{root}/{path}:{offset}: syntax");
+        }
+        Ok(None) => {}
+        Err(_) => text.lose(),
     }
 }
 

@@ -1,5 +1,4 @@
 mod Behind
 mod ReadBack
 mod Acting
-mod VerifySteps
 mod Versions

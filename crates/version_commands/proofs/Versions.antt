@@ -1,44 +1,50 @@
--- The step to the versions of an API, by what they answered.
-use Rattle.std.proofs.Common.{◌≡◌, ℕ, List, Option, Err, sym, subst}
-use Rattle.aidl_outside.specs.Asks.{Asks}
+-- What `verify` answers, by what was read of the versions of an API.
+use Rattle.std.proofs.Common.{◌≡◌, ℕ, List, Option, Ok, Err, sym, subst}
 use Rattle.aidl_outside.specs.Files.{Files}
 use Rattle.aidl_outside.specs.Told.{Tells}
 use Rattle.aidl_outside.proofs.lemmas.Telling.{tells}
-use Rattle.version_commands.specs.steps.Verifying.{IsRefused}
 use Rattle.api_versions.specs.declared.fault.VersionsFault.{VersionsFault}
 use Rattle.api_versions.specs.declared.fault.VersionsFault.TheVariants as fault
+use Rattle.api_versions.specs.declared.version.Version.{Version}
 use Rattle.api_versions.specs.Answers.{ReadFaultCause, Refuses}
-use Rattle.api_versions.specs.Asks.{FaultCall}
+use Rattle.api_versions.specs.Asks.{AsksVersions, FaultCall}
 use Rattle.api_versions.specs.Versions.{versions_at}
 use Rattle.tool_frame.specs.declared.halt.Halt.{Halt}
 use Rattle.tool_frame.specs.declared.halt.Halt.TheVariants.{Answered, StoreFailed, OutOfMemory}
 use Rattle.tool_frame.specs.Answer.{Answer}
-use Rattle.tool_frame.specs.Halts.{Gets}
+use Rattle.tool_frame.specs.Halts.{Prints}
 use Rattle.tool_frame.specs.Results.{printed}
 use Rattle.tool_frame.specs.Seen.{StoreSeen}
 use Rattle.tool_frame.proofs.lemmas.Halts.{told_always}
 use Rattle.version_lines.specs.Lines.{IsUnread}
 use Rattle.version_commands.specs.Ends.{EndsIn, UnreadEnds}
+use Rattle.version_commands.specs.Verified.{IsVerified, VerifyAnswers, verified}
 
-module _ {T : Type 0} (asks : Asks) (Is : Files → T → Type 0) (Ends : Files → Answer → Type 0) (before now : StoreSeen) (unchanged : now.kept ≡ before.kept) where
-  -- a refusal that is printed
-  gets_answer : (Said : Answer → Type 0) (halt : Halt) → now.faults ≡ before.faults → EndsIn Said halt → Tells before.kept (λ files. (a : Answer) → Said a → Ends files a) → Gets asks Is Ends before now (Err halt)
-  gets_answer Said (Answered p) good ends meant = record { said = tells before.kept _ _ (λ files h. h (printed p) ends) meant; unchanged = unchanged; cause = good; failed = tt }
-  gets_answer Said StoreFailed good ends meant = absurd ends
-  gets_answer Said OutOfMemory good ends meant = record { said = told_always before.kept (λ files. tt); unchanged = unchanged; cause = good; failed = tt }
+module _ (api : List ℕ) where
+  -- of versions that were read
+  pub verified_by : (files : Files) (vs : List Version) (a : Answer) → versions_at files api ≡ Ok vs → a ≡ verified vs → VerifyAnswers api files a
+  verified_by files vs a same is = subst (λ given. IsVerified given a) (sym same) is
 
-  pub gets_unread : (e : VersionsFault) (halt : Halt) → Tells before.kept (λ files. (a : Answer) → IsUnread e a → Ends files a) → ReadFaultCause before.faults now.faults e → FaultCall (asks before.kept) now.faults e
-      → UnreadEnds (IsUnread e) e halt → Gets asks Is Ends before now (Err halt)
-  gets_unread (fault.BadVersions missing) halt meant cause call ends = gets_answer (IsUnread (fault.BadVersions missing)) halt cause ends meant
-  gets_unread (fault.Limit limit) halt meant cause call ends = gets_answer (IsUnread (fault.Limit limit)) halt cause ends meant
-  gets_unread fault.ReadFault halt meant cause call ends =
-      subst (λ h. Gets asks Is Ends before now (Err h)) (sym ends) (record { said = told_always before.kept (λ files. tt); unchanged = unchanged; cause = cause; failed = call })
-  gets_unread fault.OutOfMemory halt meant cause call ends =
-      subst (λ h. Gets asks Is Ends before now (Err h)) (sym ends) (record { said = told_always before.kept (λ files. tt); unchanged = unchanged; cause = cause; failed = tt })
+  -- of what refuses them
+  refused_so : (kept : Option Files) (e : VersionsFault) → Tells kept (λ files. Refuses (versions_at files api) e) → Tells kept (λ files. (a : Answer) → IsUnread e a → VerifyAnswers api files a)
+  refused_so kept (fault.BadVersions missing) told = tells kept _ _ (λ files same a is. subst (λ vs. IsVerified vs a) (sym same) is) told
+  refused_so kept (fault.Limit limit) told = tells kept _ _ (λ files same a is. subst (λ vs. IsVerified vs a) (sym same) is) told
+  refused_so kept fault.ReadFault told = told_always kept (λ files a never. absurd never)
+  refused_so kept fault.OutOfMemory told = told_always kept (λ files a never. absurd never)
 
--- the refusal of the files is the one that was answered
-pub refused_so : (api : List ℕ) (kept : Option Files) (e : VersionsFault) → Tells kept (λ files. Refuses (versions_at files api) e) → Tells kept (λ files. (a : Answer) → IsUnread e a → IsRefused api files a)
-refused_so api kept (fault.BadVersions missing) told = tells kept _ _ (λ files same a is. (fault.BadVersions missing, same, is)) told
-refused_so api kept (fault.Limit limit) told = tells kept _ _ (λ files same a is. (fault.Limit limit, same, is)) told
-refused_so api kept fault.ReadFault told = told_always kept (λ files a never. absurd never)
-refused_so api kept fault.OutOfMemory told = told_always kept (λ files a never. absurd never)
+  module _ (before now : StoreSeen) (unchanged : now.kept ≡ before.kept) where
+    -- a refusal that is printed
+    prints_answer : (Said : Answer → Type 0) (halt : Halt) → now.faults ≡ before.faults → EndsIn Said halt → Tells before.kept (λ files. (a : Answer) → Said a → VerifyAnswers api files a)
+        → Prints (AsksVersions api) (VerifyAnswers api) before now (Err halt)
+    prints_answer Said (Answered p) good ends meant = record { said = tells before.kept _ _ (λ files h. h (printed p) ends) meant; unchanged = unchanged; cause = good; failed = tt }
+    prints_answer Said StoreFailed good ends meant = absurd ends
+    prints_answer Said OutOfMemory good ends meant = record { said = told_always before.kept (λ files. tt); unchanged = unchanged; cause = good; failed = tt }
+
+    pub prints_unread : (e : VersionsFault) (halt : Halt) → Tells before.kept (λ files. Refuses (versions_at files api) e) → ReadFaultCause before.faults now.faults e → FaultCall (AsksVersions api before.kept) now.faults e
+        → UnreadEnds (IsUnread e) e halt → Prints (AsksVersions api) (VerifyAnswers api) before now (Err halt)
+    prints_unread (fault.BadVersions missing) halt told cause call ends = prints_answer (IsUnread (fault.BadVersions missing)) halt cause ends (refused_so before.kept (fault.BadVersions missing) told)
+    prints_unread (fault.Limit limit) halt told cause call ends = prints_answer (IsUnread (fault.Limit limit)) halt cause ends (refused_so before.kept (fault.Limit limit) told)
+    prints_unread fault.ReadFault halt told cause call ends =
+        subst (λ h. Prints (AsksVersions api) (VerifyAnswers api) before now (Err h)) (sym ends) (record { said = told_always before.kept (λ files. tt); unchanged = unchanged; cause = cause; failed = call })
+    prints_unread fault.OutOfMemory halt told cause call ends =
+        subst (λ h. Prints (AsksVersions api) (VerifyAnswers api) before now (Err h)) (sym ends) (record { said = told_always before.kept (λ files. tt); unchanged = unchanged; cause = cause; failed = tt })

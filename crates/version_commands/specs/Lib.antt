@@ -5,4 +5,3 @@ pub mod Dumped
 pub mod Frozen
 pub mod Seen
 pub mod Acting
-pub mod steps

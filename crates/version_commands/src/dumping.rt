@@ -7,21 +7,19 @@ ghost use Rattle.tool_frame.specs.Ended.{Ended};
 ghost use Rattle.tool_frame.specs.Exit.{number_of};
 ghost use Rattle.tool_frame.specs.Halts.{HaltCause};
 ghost use Rattle.tool_frame.specs.steps.Acts.{ActsAs};
-ghost use Rattle.std.specs.Prelude.{◌≡◌, ◌++◌, codes, decimal, length, map, IfOk, string_bytes};
-ghost use Rattle.api_dump.specs.Dump.{dump_text, seen};
+ghost use Rattle.std.specs.Prelude.{◌≡◌, map, IfOk};
+ghost use Rattle.api_dump.specs.Dump.{seen};
 ghost use Rattle.api_versions.specs.Seen.{write_seen};
 ghost use Rattle.version_commands.specs.Dumped as meant;
 ghost use Rattle.version_commands.specs.Seen.{IsDue};
-ghost use Rattle.tool_frame.specs.Answer.{line};
-ghost use Rattle.tool_frame.specs.Results.{printed};
 
 use aidl_base::{OutOfMemory, Row, SourceFile};
 use aidl_outside::{Sink, Store, path_below};
 use aidl_schema::Schema;
 use api_versions::{Write, write_all};
 use dump_reading::law_dump_back;
+use growing_text::GrowingText;
 use std::alloc::Global;
-use std::fmt::Write as _;
 use tool_frame::{Exit, Halt, Printed, Verdict, end};
 use tree_commands::open;
 
@@ -70,15 +68,10 @@ pub fn dump_answer(alloc: Global, out: &str, schema: &Schema) -> Result<Due, Out
 {
     law_dump_back(schema);
     let files = api_dump::dump(alloc, schema)?;
-    due_of(alloc, out, files)
-}
-
-fn due_of(alloc: Global, out: &str, files: Row<SourceFile>) -> Result<Due, OutOfMemory>
-    ensures writes { IfOk result (λ due.
-        map write_seen due.writes.items ≡ map (meant.file_write out.now) (map seen files)) }
-    ensures prints { IfOk result (λ due. printed due.printed ≡ meant.wrote (length files)) }
-{
-    let text = count_line(alloc, files.len())?;
+    let count = files.len();
+    let mut text = GrowingText::new(alloc);
+    writeln!(text, "wrote {count} files");
+    let text = text.into_string()?;
     let writes = file_writes(alloc, out, files)?;
     Ok(Due {
         writes,
@@ -87,15 +80,6 @@ fn due_of(alloc: Global, out: &str, files: Row<SourceFile>) -> Result<Due, OutOf
             verdict: Verdict::Done,
         },
     })
-}
-
-fn count_line(alloc: Global, count: usize) -> Result<String, OutOfMemory>
-    ensures { IfOk result (λ text.
-        string_bytes text ≡ line (codes "wrote " ++ decimal count ++ codes " files")) }
-{
-    let mut text = String::new(alloc);
-    writeln!(text, "wrote {count} files")?;
-    Ok(text)
 }
 
 // The writes of some files below a folder.
@@ -116,6 +100,6 @@ fn file_write(alloc: Global, out: &str, file: SourceFile) -> Result<Write, OutOf
     let path = path_below(alloc, out, file.path.as_str())?;
     Ok(Write {
         path,
-        bytes: file.bytes,
+        bytes: file.into_bytes(),
     })
 }

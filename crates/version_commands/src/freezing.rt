@@ -8,17 +8,14 @@ ghost use Rattle.tool_frame.specs.Ended.{Ended};
 ghost use Rattle.tool_frame.specs.Exit.{number_of};
 ghost use Rattle.tool_frame.specs.Halts.{HaltCause};
 ghost use Rattle.tool_frame.specs.steps.Acts.{ActsAs};
-ghost use Rattle.std.specs.Prelude.{◌≡◌, ◌++◌, codes, decimal, IfOk, string_bytes};
 ghost use Rattle.version_commands.specs.Frozen as meant;
-ghost use Rattle.tool_frame.specs.Answer.{line};
 ghost use Rattle.tool_frame.specs.Results.{Gives};
 
 use crate::refusing::freeze_refusal;
-use aidl_base::OutOfMemory;
 use aidl_outside::{Sink, Store};
 use api_freeze::Frozen;
+use growing_text::GrowingText;
 use std::alloc::Global;
-use std::fmt::Write;
 use tool_frame::{Early, Exit, Halt, Printed, Verdict, end};
 use tree_commands::open;
 
@@ -65,18 +62,12 @@ fn freeze_root<S: Store>(
 pub fn freeze_answer(alloc: Global, frozen: &Frozen) -> Result<Printed, Early>
     ensures { Gives result (meant.frozen frozen.now.version frozen.now.hash) }
 {
-    let text = frozen_line(alloc, frozen.version, frozen.hash.as_str())?;
+    let version = frozen.version;
+    let hash = frozen.hash.as_str();
+    let mut text = GrowingText::new(alloc);
+    writeln!(text, "frozen {version} {hash}");
     Ok(Printed {
-        text,
+        text: text.into_string()?,
         verdict: Verdict::Done,
     })
-}
-
-fn frozen_line(alloc: Global, version: u32, hash: &str) -> Result<String, OutOfMemory>
-    ensures { IfOk result (λ text.
-        string_bytes text ≡ line (codes "frozen " ++ decimal version ++ codes " " ++ hash.now)) }
-{
-    let mut text = String::new(alloc);
-    writeln!(text, "frozen {version} {hash}")?;
-    Ok(text)
 }

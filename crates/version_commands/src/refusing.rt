@@ -1,15 +1,10 @@
 //! The printed lines of a refused `freeze`.
-ghost use Rattle.std.specs.Prelude.{◌≡◌, ◌++◌, codes, decimal, map, IfOk, string_bytes};
-ghost use Rattle.std.specs.List.{flat_map};
+ghost use Rattle.std.specs.Prelude.{◌++◌, codes, decimal};
 ghost use Rattle.api_freeze.specs.Freeze.{IsRead};
-ghost use Rattle.api_versions.specs.Versions as path;
-ghost use Rattle.compat_judge.specs.Seen.{seen};
 ghost use Rattle.version_commands.specs.Frozen as meant;
 ghost use Rattle.version_commands.specs.Seen.{Follows};
-ghost use Rattle.tool_frame.specs.Answer.{after_text, line, negative};
-ghost use Rattle.tool_frame.specs.Results.{EndsAs, printed};
-ghost use Rattle.tree_commands.specs.Faults.{refused};
-ghost use Rattle.tree_commands.specs.Judged.{break_line};
+ghost use Rattle.tool_frame.specs.Answer.{line, negative};
+ghost use Rattle.tool_frame.specs.Results.{EndsAs};
 ghost use Rattle.tree_commands.specs.Results as tree;
 ghost use Rattle.type_check.specs.Refusals.{IsRefusal};
 ghost use Rattle.version_commands.specs.Ends.{FreezeEnds};
@@ -18,9 +13,8 @@ use crate::unread::versions_refusal;
 use aidl_base::{OutOfMemory, Row, SourceFile};
 use api_freeze::FreezeFault;
 use api_versions::version_folder;
-use compat_judge::Broken;
+use growing_text::GrowingText;
 use std::alloc::Global;
-use std::fmt::Write;
 use tool_frame::{Early, Halt, Printed, Verdict, limit_passed};
 use tree_commands::{fault_answer, judge_lines};
 use type_check::CheckFault;
@@ -46,7 +40,9 @@ pub fn freeze_refusal(alloc: Global, api: &str, fault: FreezeFault) -> Halt
             fault,
         } => Halt::from(unreadable(alloc, api, version, files, fault)),
         FreezeFault::Unchanged { version } => Halt::from(unchanged(alloc, version)),
-        FreezeFault::Incompatible(rows) => Halt::from(incompatible(alloc, rows)),
+        FreezeFault::Incompatible(rows) => {
+            Halt::from(with_lines(judge_lines(alloc, rows.as_slice())))
+        }
         FreezeFault::Limit(limit) => Halt::from(limit_passed(alloc, limit)),
         FreezeFault::Write(fault) => Halt::from(fault),
         FreezeFault::OutOfMemory => Halt::OutOfMemory,
@@ -57,36 +53,22 @@ pub fn freeze_refusal(alloc: Global, api: &str, fault: FreezeFault) -> Halt
 fn unchanged(alloc: Global, version: u32) -> Early
     ensures { EndsAs result (negative (codes "unchanged " ++ decimal version)) }
 {
-    negative_line(version_line(alloc, "unchanged", version))
+    let mut text = GrowingText::new(alloc);
+    writeln!(text, "unchanged {version}");
+    with_lines(text.into_string())
 }
 
-fn negative_line(text: Result<String, OutOfMemory>) -> Early
-    ensures { tree.EndsWith text result }
+// An end with these lines and exit 1.
+fn with_lines(lines: Result<String, OutOfMemory>) -> Early
+    ensures { tree.EndsWith lines result }
 {
-    match text {
+    match lines {
         Ok(text) => Early::Answered(Printed {
             text,
             verdict: Verdict::Negative,
         }),
         Err(_) => Early::OutOfMemory,
     }
-}
-
-// A word and the number of a version.
-fn version_line(alloc: Global, word: &str, version: u32) -> Result<String, OutOfMemory>
-    ensures { IfOk result (λ text.
-        string_bytes text ≡ line (word.now ++ (codes " " ++ decimal version))) }
-{
-    let mut text = String::new(alloc);
-    writeln!(text, "{word} {version}")?;
-    Ok(text)
-}
-
-// The judge's lines.
-fn incompatible(alloc: Global, rows: Row<Broken>) -> Early
-    ensures { EndsAs result (refused (flat_map break_line (map seen rows))) }
-{
-    negative_line(judge_lines(alloc, rows.as_slice()))
 }
 
 // The lines for the latest version, whose files aren't a checked tree.
@@ -114,30 +96,17 @@ fn unreadable(
 fn behind(alloc: Global, version: u32, faults: Early) -> Early
     ensures { Follows (line (codes "unreadable " ++ decimal version)) faults result }
 {
-    match faults {
-        Early::Answered(printed) => behind_printed(alloc, version, printed),
-        Early::OutOfMemory => Early::OutOfMemory,
-    }
-}
-
-fn behind_printed(alloc: Global, version: u32, faults: Printed) -> Early
-    ensures { EndsAs result
-        (after_text (line (codes "unreadable " ++ decimal version)) (printed faults)) }
-{
-    match text_behind(alloc, version, faults.text.as_str()) {
+    let Early::Answered(faults) = faults else {
+        return Early::OutOfMemory;
+    };
+    let mut text = GrowingText::new(alloc);
+    writeln!(text, "unreadable {version}");
+    text.push_str(faults.text.as_str());
+    match text.into_string() {
         Ok(text) => Early::Answered(Printed {
             text,
             verdict: faults.verdict,
         }),
         Err(_) => Early::OutOfMemory,
     }
-}
-
-fn text_behind(alloc: Global, version: u32, faults: &str) -> Result<String, OutOfMemory>
-    ensures { IfOk result (λ text.
-        string_bytes text ≡ line (codes "unreadable " ++ decimal version) ++ faults.now) }
-{
-    let mut text = version_line(alloc, "unreadable", version)?;
-    text.push_str(faults)?;
-    Ok(text)
 }

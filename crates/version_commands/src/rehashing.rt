@@ -7,18 +7,15 @@ ghost use Rattle.tool_frame.specs.Ended.{Ended};
 ghost use Rattle.tool_frame.specs.Exit.{number_of};
 ghost use Rattle.tool_frame.specs.Halts.{HaltCause};
 ghost use Rattle.tool_frame.specs.steps.Acts.{ActsAs};
-ghost use Rattle.std.specs.Prelude.{◌≡◌, ◌++◌, codes, decimal, IfOk, string_bytes};
-ghost use Rattle.tool_frame.specs.Answer.{line};
 ghost use Rattle.tool_frame.specs.Results.{Gives};
 ghost use Rattle.version_commands.specs.Ends.{RehashEnds};
 ghost use Rattle.version_commands.specs.Rehashed as meant;
 
 use crate::unread::versions_refusal;
-use aidl_base::OutOfMemory;
 use aidl_outside::{Sink, Store};
 use api_freeze::RehashFault;
+use growing_text::GrowingText;
 use std::alloc::Global;
-use std::fmt::Write;
 use tool_frame::{Early, Exit, Halt, Printed, Verdict, end};
 use version_lines::torn_answer;
 
@@ -51,23 +48,16 @@ fn rehash_versions<S: Store>(alloc: Global, api: &str, store: &mut S) -> Result<
 pub fn rehash_answer(alloc: Global, count: usize) -> Result<Printed, Early>
     ensures { Gives result (meant.rehashed count) }
 {
-    let text = count_line(alloc, count)?;
+    let mut text = GrowingText::new(alloc);
+    writeln!(text, "rehashed {count}");
     Ok(Printed {
-        text,
+        text: text.into_string()?,
         verdict: Verdict::Done,
     })
 }
 
-fn count_line(alloc: Global, count: usize) -> Result<String, OutOfMemory>
-    ensures { IfOk result (λ text. string_bytes text ≡ line (codes "rehashed " ++ decimal count)) }
-{
-    let mut text = String::new(alloc);
-    writeln!(text, "rehashed {count}")?;
-    Ok(text)
-}
-
-/// How `rehash` ends where it refuses: with `bad versions missing N`; `torn N missing HASH` or `torn N kept BYTES HASH`; or a limit. Or a call of
-/// the store failed, or memory was wanted.
+/// How `rehash` ends where it refuses: with `bad versions missing N`; `torn N missing HASH` or `torn N kept BYTES HASH`; or a limit. Or a call
+/// of the store failed, or memory was wanted.
 pub fn rehash_refusal(alloc: Global, fault: RehashFault) -> Halt
     ensures { RehashEnds meant.IsUnhashed fault result }
 {

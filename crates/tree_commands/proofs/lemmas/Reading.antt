@@ -4,9 +4,9 @@ use Rattle.std.specs.Prelude.{Vec}
 use Rattle.std.specs.declared.alloc.Global.{Global}
 use Rattle.aidl_base.specs.declared.source_file.SourceFile.{SourceFile}
 use Rattle.aidl_schema.specs.declared.schema.Decl.{Decl}
-use Rattle.tree_commands.specs.Opens.{HasSchema, IsChecked}
+use Rattle.tree_commands.specs.Opens.{HasSchema, IsChecked, Unchecked}
 use Rattle.tree_commands.specs.Both.{InBoth, IsFaultOfOne, IsOneUnchecked}
-use Rattle.tree_commands.specs.ByTree.{ByBoth, OverBoth}
+use Rattle.tree_commands.specs.ByTree.{ByBoth, ByTree, OverBoth}
 use Rattle.aidl_outside.specs.Files.{Files}
 use Rattle.tool_frame.specs.declared.printed.Early.{Early}
 use Rattle.tool_frame.specs.declared.printed.Early.TheVariants as early
@@ -26,6 +26,16 @@ then_found found x next a e h = subst (λ f. Then f next a) (sym e) h
 -- a tree with a schema
 pub has_schema : (tree : Found (List SourceFile)) (files : List SourceFile) (S : List Decl) → tree ≡ Ok files → IsSchemaOf files S → HasSchema tree S
 has_schema tree files S e is = subst (λ t. HasSchema t S) (sym e) is
+
+-- by the schema of a tree
+module _ (root : List ℕ) (next : List Decl → Answer → Type 0) (a : Answer) where
+  pub by_unchecked : (tree : Found (List SourceFile)) → Unchecked root tree a → ByTree AsAnswer root tree next a
+  by_unchecked (Ok files) h = inl (a, h, refl)
+  by_unchecked (Err passed) h = h
+
+  pub by_checked : (tree : Found (List SourceFile)) (S : List Decl) → HasSchema tree S → next S a → ByTree AsAnswer root tree next a
+  by_checked (Ok files) S s h = inr (S, s, h)
+  by_checked (Err passed) S s h = absurd s
 
 -- an early end by one of these answers
 pub early_by : (end : Early) (Is Said : Answer → Type 0) → ((a : Answer) → Is a → Said a) → EndsBy Is end → IfAnswered end Said

@@ -1,6 +1,7 @@
-use Rattle.std.proofs.Common.{length, string_bytes, refl}
+use Rattle.std.proofs.Common.{◌++◌, append_assoc, codes, decimal, length, refl, sym}
 use Rattle.std.proofs.lemmas.Option.{slice_get_read, slice_get_past}
-use Rattle.tree_commands.proofs.Adding.{breach_added, breach_none}
+use Rattle.tree_commands.specs.Lines.{rule_line}
+use Rattle.tree_commands.proofs.Adding.{placed, said, unsaid}
 use Rattle.tree_commands.proofs.lines.push_breach.Goals as goal
 
 pub returns-in-Some : goal.returns-in-Some
@@ -8,10 +9,12 @@ returns-in-Some c =
     let files = c.args.files.now in
     let row = c.args.row in
     let file = c.in-Some.file.now in
-    breach_added c.args.root.now files row file c.push_rule.result (string_bytes c.args.text.now) (string_bytes c.push_rule.new.text) c.rule_name-name.result.now
-    (slice_get_read files (length files) row.file file refl c.in-Some.ensures.lookup.3.0 c.in-Some.ensures.lookup.1) c.rule_name-name.ensures c.push_rule.ensures
+    said (λ f. rule_line c.args.root.now f row.offset row.rule) files row.file file c.args.text.now c.writeln.new.self
+    (slice_get_read files (length files) row.file file refl c.in-Some.ensures.lookup.3.0 c.in-Some.ensures.lookup.1) (rw (← c.rule_name-name.ensures)
+    (placed c.args.root.now file row.offset (codes "E" ++ decimal row.rule ++ codes " " ++ c.rule_name-name.result.now) c.as_str-path.result.now _ c.args.text.now c.writeln.new.self c.as_str-path.ensures.bytes (sym (simp append_assoc)) c.writeln.ensures))
 
-pub returns-in-None : goal.returns-in-None
-returns-in-None c =
+pub returns-in_default : goal.returns-in_default
+returns-in_default c =
     let files = c.args.files.now in
-    breach_none c.args.root.now files c.args.row (string_bytes c.args.text.now) (slice_get_past files c.args.row.file c.in-None.ensures.lookup.3)
+    let row = c.args.row in
+    unsaid (λ f. rule_line c.args.root.now f row.offset row.rule) files row.file c.args.text.now (slice_get_past files row.file c.in_default.ensures.lookup.3)

@@ -1,12 +1,15 @@
-use Rattle.std.proofs.Common.{string_bytes}
-use Rattle.tree_commands.proofs.Adding.{added}
+use Rattle.std.proofs.Common.{codes, refl, Some, None}
+use Rattle.growing_text.proofs.lemmas.Chains.{nothing_grows}
+use Rattle.tree_commands.proofs.Adding.{place_added, placed}
 use Rattle.tree_commands.proofs.places.push_place.Goals as goal
 
-pub returns-in-Some : goal.returns-in-Some
-returns-in-Some c =
-    let root = c.args.root.now in
-    let file = c.args.file.now in
-    let tokens = c.args.tokens.now in
-    let place = c.in-Some.place in
-    added root file tokens place c.push_syntax.result (string_bytes c.args.text.now) (string_bytes c.push_syntax.new.text) c.offset_at.result c.requires
-    c.in_ok-place.field-0 c.in-Some.is c.in_ok-place.ensures.place c.in_ok-place.ensures.only_tree c.offset_at.ensures c.push_syntax.ensures
+pub returns-in-Ok-Some : goal.returns-in-Ok-Some
+returns-in-Ok-Some c =
+    let found = rw c.in-Ok-Some.field-0-is at c.in-Ok-Some.ensures in
+    place_added c.args.root.now c.args.file.now c.args.tokens.now (Some c.in-Ok-Some.place) c.args.text.now c.writeln.new.self c.requires found.place found.only_tree
+    (rw (← c.offset_at-offset.ensures) (placed c.args.root.now c.args.file.now c.offset_at-offset.result (codes "syntax") c.as_str-path.result.now _ c.args.text.now c.writeln.new.self c.as_str-path.ensures.bytes refl c.writeln.ensures))
+
+pub returns-in-Ok-None : goal.returns-in-Ok-None
+returns-in-Ok-None c =
+    let found = rw c.in-Ok-None.field-0-is at c.in-Ok-None.ensures in
+    place_added c.args.root.now c.args.file.now c.args.tokens.now None c.args.text.now c.args.text.now c.requires found.place found.only_tree (nothing_grows c.args.text.now)

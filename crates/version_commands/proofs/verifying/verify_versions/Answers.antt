@@ -1,25 +1,31 @@
-use Rattle.std.proofs.Common.{◌≡◌, subst}
+use Rattle.std.proofs.Common.{◌≡◌, Ok, subst}
 use Rattle.std.proofs.lemmas.Result.{err_from_is_err_and}
-use Rattle.version_commands.proofs.VerifySteps.{unread, verified_by}
+use Rattle.api_versions.specs.Versions.{versions_at}
 use Rattle.tool_frame.specs.Results.{printed}
-use Rattle.tool_frame.proofs.lemmas.Halts.{early_as, known_early, known_halts, known_last, knows, knows_none}
+use Rattle.tool_frame.proofs.lemmas.Halts.{early_as, known_early, known_last}
 use Rattle.version_commands.specs.Verified.{verified}
+use Rattle.version_commands.proofs.Versions.{prints_unread, verified_by}
 use Rattle.version_commands.proofs.verifying.verify_versions.Goals as goal
 
-pub returns-in_err-versions : goal.returns-in_err-versions
-returns-in_err-versions g c =
+pub returns-in_err-printed-in-Ok : goal.returns-in_err-printed-in-Ok
+returns-in_err-printed-in-Ok g c =
     let q = err_from_is_err_and c.from_residual.result c.from_residual.ensures.1 in
-    rw (q.1, q.2) (known_halts _ _ _ _ _ _ _ _ _ _ (knows_none _) c.in_err-versions.field-0.0 (λ call told is. is) (λ files a none refused. unread c.args.api.now files a refused) c.in_err-versions.ensures)
+    let api = c.args.api.now in
+    let vs = c.in-Ok.versions in
+    let early = c.in_err-printed-in-Ok.field-0.0 in
+    rw (q.1, q.2) (known_early _ _ _ _ _ (λ files. versions_at files api ≡ Ok vs) early
+    (λ files found. early_as early _ _ (λ a is. verified_by api files vs a found (subst (λ given. a ≡ verified given) c.as_slice.ensures is)) c.in_err-printed-in-Ok.ensures)
+    (record { told = c.in-Ok.ensures.told; unchanged = c.in-Ok.ensures.unchanged; good = c.in-Ok.ensures.cause }))
 
-pub returns-in_err-printed : goal.returns-in_err-printed
-returns-in_err-printed g c =
-    let q = err_from_is_err_and c.from_residual-in_err-printed.result c.from_residual-in_err-printed.ensures.1 in
-    rw (q.1, q.2) (known_early _ _ _ _ _ _ c.in_err-printed.field-0.0
-    (λ files found. early_as c.in_err-printed.field-0.0 _ _ (λ a is. verified_by c.args.api.now files c.in_ok-versions.versions a found (subst (λ vs. a ≡ verified vs) c.as_slice.ensures is)) c.in_err-printed.ensures)
-    (knows _ _ _ _ _ _ c.in_ok-versions.ensures))
+pub returns-in_ok-printed-in-Ok : goal.returns-in_ok-printed-in-Ok
+returns-in_ok-printed-in-Ok g c =
+    let api = c.args.api.now in
+    let vs = c.in-Ok.versions in
+    let p = c.in_ok-printed-in-Ok.printed in
+    known_last _ _ _ _ _ (λ files. versions_at files api ≡ Ok vs) p
+    (λ files found. verified_by api files vs (printed p) found (subst (λ given. printed p ≡ verified given) c.as_slice.ensures c.in_ok-printed-in-Ok.ensures))
+    (record { told = c.in-Ok.ensures.told; unchanged = c.in-Ok.ensures.unchanged; good = c.in-Ok.ensures.cause })
 
-pub returns : goal.returns
-returns g c =
-    known_last _ _ _ _ _ _ c.in_ok-printed.printed
-    (λ files found. verified_by c.args.api.now files c.in_ok-versions.versions (printed c.in_ok-printed.printed) found
-    (subst (λ vs. printed c.in_ok-printed.printed ≡ verified vs) c.as_slice.ensures c.in_ok-printed.ensures)) (knows _ _ _ _ _ _ c.in_ok-versions.ensures)
+pub returns-in-Err : goal.returns-in-Err
+returns-in-Err g c =
+    prints_unread c.args.api.now _ _ c.in-Err.ensures.unchanged c.in-Err.fault c.versions_refusal.result c.in-Err.ensures.told c.in-Err.ensures.cause c.in-Err.ensures.failed c.versions_refusal.ensures
