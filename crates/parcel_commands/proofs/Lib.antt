@@ -2,6 +2,7 @@ mod Digits
 mod Endings
 mod Entries
 mod HexDigits
+mod ItemLines
 mod NamedBases
 mod Planned
 mod ReadValues

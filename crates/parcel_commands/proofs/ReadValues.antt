@@ -1,7 +1,7 @@
 -- Reading values one after another: what was read before, and what is still read.
-use Rattle.std.proofs.Common.{◌≡◌, ℕ, suc, ◌+◌, ◌<◌, ◌≤◌, List, [], ◌∷◌, ◌++◌, length, get_or, drop, Ok, Err, decimal, refl, sym, ap, ◌∙◌, add-one, append_assoc, append-nil}
+use Rattle.std.proofs.Common.{◌≡◌, ℕ, suc, ◌+◌, ◌<◌, List, [], ◌∷◌, ◌++◌, length, get_or, drop, Ok, Err, decimal, refl, sym, ap, ◌∙◌, add-one, append_assoc}
 use Rattle.std.proofs.lemmas.Bool.{eq-eqb, ne_eqb}
-use Rattle.std.proofs.lemmas.List.{at_drop_more, at_drop_all}
+use Rattle.std.proofs.lemmas.List.{at_drop_more}
 use Rattle.serde_json.specs.Data as json
 use Rattle.serde_json.specs.View.{view as json_view, items_view}
 use Rattle.serde_json.specs.declared.value.Value.{Value as Json}
@@ -10,7 +10,7 @@ use Rattle.aidl_schema.specs.declared.schema.AidlType.{AidlType}
 use Rattle.aidl_values.specs.Data.{Data}
 use Rattle.aidl_values.specs.Fits.{Fits}
 use Rattle.json_values.specs.FromJson.{from_json_of}
-use Rattle.json_values.specs.Refusal.{Answer, Refusal, ◌>>=◌, refuse, within, wrong_shape}
+use Rattle.json_values.specs.Refusal.{Answer, ◌>>=◌, refuse, within, wrong_shape}
 use Rattle.parcel_commands.specs.JsonFile.{AreTyped, elements, values_from, values_of}
 
 -- the values read before, and the answer for the rest
@@ -28,9 +28,6 @@ read_first ds v (Err r) = refl
 
 goes_on : (ds : List Data) (v : Data) (first : Answer Data) (rest : Answer (List Data)) → first ≡ Ok v → onto ds (first_of first rest) ≡ onto (ds ++ v ∷ []) rest
 goes_on ds v first rest is = rw is (read_first ds v rest)
-
-stops : (ds : List Data) (r : Refusal) (first : Answer Data) (rest : Answer (List Data)) → first ≡ Err r → onto ds (first_of first rest) ≡ Err r
-stops ds r first rest is = rw is refl
 
 module _ (S : List Decl) (ts : List AidlType) (js : List Json) where
   -- what is read from a place on
@@ -51,17 +48,6 @@ module _ (S : List Decl) (ts : List AidlType) (js : List Json) where
       here k d j ds short_ts short_js is_j
       ∙ goes_on ds v (within (decimal k) (from_json_of S 64 (get_or ts k d) (json_view j))) (values_from S (suc k) (drop (k + 1) ts) (items_view (drop (k + 1) js))) is
       ∙ ap (λ n. onto (ds ++ v ∷ []) (values_from S n (drop (k + 1) ts) (items_view (drop (k + 1) js)))) (sym (add-one k))
-
-  -- a refusal
-  pub values_stop : (k : ℕ) (d : AidlType) (j : Json) (ds : List Data) (r : Refusal) → k < length ts → k < length js → get_or js k j ≡ j
-      → within (decimal k) (from_json_of S 64 (get_or ts k d) (json_view j)) ≡ Err r → left_at ds k ≡ Err r
-  values_stop k d j ds r short_ts short_js is_j is =
-      here k d j ds short_ts short_js is_j
-      ∙ stops ds r (within (decimal k) (from_json_of S 64 (get_or ts k d) (json_view j))) (values_from S (suc k) (drop (k + 1) ts) (items_view (drop (k + 1) js))) is
-
-  -- all are read
-  pub values_done : (k : ℕ) (ds : List Data) → length ts ≤ k → left_at ds k ≡ Ok ds
-  values_done k ds all = at_drop_all (λ l. onto ds (values_from S k l (items_view (drop k js)))) ts k all ∙ ap Ok (append-nil ds)
 
 -- one value more is typed
 pub typed_more : (S : List Decl) (ts : List AidlType) (t : AidlType) (ds : List Data) (v : Data) → AreTyped S ts ds → Fits S t v → AreTyped S (ts ++ t ∷ []) (ds ++ v ∷ [])

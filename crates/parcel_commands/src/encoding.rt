@@ -1,5 +1,6 @@
 //! What `encode` prints: the bytes of the values of a JSON file as a line of hexadecimal, or a refusal.
-ghost use Rattle.std.specs.Prelude.{◌≡◌, ◌≤◌, ◌<◌, ◌^◌, ℕ, true, List, IfOk, MatchOption, length, map, min, string_bytes};
+ghost use Rattle.std.specs.Prelude.{◌≡◌, ◌≤◌, ◌<◌, ◌^◌, ◌++◌, ℕ, true, List, IfOk, MatchOption, codes, length, map, min};
+ghost use Rattle.std.specs.Fmt.{decimal};
 ghost use Rattle.std.specs.List.{list_all};
 ghost use Rattle.std.specs.Option.{option_map};
 ghost use Rattle.hex.specs.Hex.{encode_lower};
@@ -9,7 +10,7 @@ ghost use Rattle.aidl_values.specs.View.{view};
 ghost use Rattle.json_values.specs.Gives.{refusal_of};
 ghost use Rattle.json_values.specs.JsonText.{parsed_json};
 ghost use Rattle.parcel_words.specs.Written.{with_bytes};
-ghost use Rattle.tool_frame.specs.Answer.{done};
+ghost use Rattle.tool_frame.specs.Answer.{done, negative};
 ghost use Rattle.parcel_commands.specs.Encode.{encode_answer, json_found, reason_name, refused, values_found};
 ghost use Rattle.parcel_commands.specs.JsonFile.{AreTyped, unread_refusal, values_of};
 ghost use Rattle.tool_frame.specs.Refusals.{within};
@@ -18,11 +19,11 @@ ghost use Rattle.parcel_commands.specs.steps.Spelled.{spelled};
 ghost use Rattle.tool_frame.specs.Results.{EndsAs, Finds, Gives, printed};
 
 use crate::json_file::{Unread, values_of};
-use crate::lines::refused_value;
 use crate::steps::known_types;
 use aidl_base::{Limit, LimitName, OutOfMemory};
 use aidl_schema::{AidlType, Schema};
 use aidl_values::Value;
+use growing_text::GrowingText;
 use json_values::{JsonFault, parse_json};
 use marshal_plans::{Plans, compile};
 use parcel_words::WordWriter;
@@ -84,6 +85,22 @@ fn refusal_of(alloc: Global, unread: &Unread) -> Early
             None => Early::OutOfMemory,
         },
         Unread::OutOfMemory => Early::OutOfMemory,
+    }
+}
+
+// The line of a refused value: the refusal's name, the value's 0-based place, and the place in it.
+fn refused_value(alloc: Global, name: &str, place: usize, at: &str) -> Early
+    ensures { EndsAs result
+        (negative (codes "refused " ++ name.now ++ codes " /" ++ decimal place ++ at.now)) }
+{
+    let mut text = GrowingText::new(alloc);
+    writeln!(text, "refused {name} /{place}{at}");
+    match text.into_string() {
+        Ok(text) => Early::Answered(Printed {
+            text,
+            verdict: Verdict::Negative,
+        }),
+        Err(_) => Early::OutOfMemory,
     }
 }
 

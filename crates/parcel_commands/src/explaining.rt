@@ -1,6 +1,7 @@
 //! What `explain` prints: a line for each item of a parcel.
-ghost use Rattle.std.specs.Prelude.{◌≡◌, ◌≤◌, ◌++◌, IfOk, IsAscii, OnOk, codes, length, string_bytes};
+ghost use Rattle.std.specs.Prelude.{◌≡◌, ◌≤◌, ◌++◌, IfOk, codes, length, string_bytes};
 ghost use Rattle.std.specs.List.{flat_map, list_all};
+ghost use Rattle.growing_text.specs.Grows.{Grows};
 ghost use Rattle.parcel_commands.specs.Explain.{bytes_at, explain_answer, is_right, item_line, items_verdict, kind_text, path_text};
 ghost use Rattle.tool_frame.specs.Answer.{line};
 ghost use Rattle.tool_frame.specs.Results.{Gives};
@@ -9,10 +10,10 @@ ghost use Rattle.tool_frame.specs.Shown.{shown};
 use crate::steps::known_types;
 use aidl_base::{OutOfMemory, Text};
 use aidl_schema::Schema;
+use growing_text::GrowingText;
 use itoa::Buffer;
 use parcel_explain::{Item, ItemKind};
 use std::alloc::Global;
-use std::fmt::Write;
 use tool_frame::{Early, Printed, Verdict, push_shown};
 
 /// What `explain` prints of a parcel's bytes, read strictly. It takes at most 1,048,576 bytes.
@@ -36,50 +37,35 @@ fn lines_of(alloc: Global, parcel: &[u8], items: &[Item]) -> Result<String, OutO
         ≡ flat_map (λ i. item_line parcel.now i) items.now) }
 {
     let mut digits = Buffer::new();
-    let mut text = String::new(alloc);
+    let mut text = GrowingText::new(alloc);
     for item in items {
-        push_item(alloc, parcel, item, &mut digits, &mut text)?;
+        push_item(alloc, parcel, item, &mut digits, &mut text);
     }
-    Ok(text)
+    text.into_string()
 }
 
 // Adds the line of an item.
-fn push_item(
-    alloc: Global,
-    parcel: &[u8],
-    item: &Item,
-    digits: &mut Buffer,
-    text: &mut String,
-) -> Result<(), OutOfMemory>
-    ensures { OnOk result (string_bytes text.new
-        ≡ string_bytes text.old ++ item_line parcel.now item.now) }
+fn push_item(alloc: Global, parcel: &[u8], item: &Item, digits: &mut Buffer, text: &mut GrowingText)
+    ensures { Grows text.old text.new (item_line parcel.now item.now) }
 {
-    text.push_str(digits.format(item.offset))?;
-    text.push_str(" ")?;
-    push_bytes(alloc, bytes_at(parcel, item), text)?;
-    text.push_str(" ")?;
-    text.push_str(path_text(&item.path))?;
-    push_kind(item.kind, text)
+    text.push_str(digits.format(item.offset));
+    text.push_str(" ");
+    push_bytes(alloc, bytes_at(parcel, item), text);
+    text.push_str(" ");
+    text.push_str(path_text(&item.path));
+    push_kind(item.kind, text);
 }
 
-// Adds the bytes of an item. Those of a word, as most items are, take no memory of their own.
-fn push_bytes(alloc: Global, bytes: &[u8], text: &mut String) -> Result<(), OutOfMemory>
-    ensures { OnOk result (string_bytes text.new ≡ string_bytes text.old ++ shown bytes.now) }
+// Adds the bytes of an item. Those of a word, as most items are, take no memory of their own. Digits are UTF-8, which is proved and not
+// tested.
+fn push_bytes(alloc: Global, bytes: &[u8], text: &mut GrowingText)
+    ensures { Grows text.old text.new (shown bytes.now) }
 {
     let mut digits = [0; 8];
     match hex::encode_to_slice(bytes, &mut digits) {
-        Ok(()) => push_digits(&digits, text),
+        Ok(()) => text.push_str(unsafe { std::str::from_utf8_unchecked(&digits) }),
         Err(_) => push_shown(alloc, bytes, text),
     }
-}
-
-// Adds ASCII. It is UTF-8, which is proved and not tested.
-fn push_digits(digits: &[u8], text: &mut String) -> Result<(), OutOfMemory>
-    requires { IsAscii digits.now }
-    ensures { OnOk result (string_bytes text.new ≡ string_bytes text.old ++ digits.now) }
-{
-    text.push_str(unsafe { std::str::from_utf8_unchecked(digits) })?;
-    Ok(())
 }
 
 // The bytes of an item.
@@ -99,23 +85,21 @@ fn path_text(path: &Text) -> &str
 }
 
 // Adds a blank, the word of a kind and the newline.
-fn push_kind(kind: ItemKind, text: &mut String) -> Result<(), OutOfMemory>
-    ensures { OnOk result (string_bytes text.new
-        ≡ string_bytes text.old ++ (codes " " ++ line (kind_text kind))) }
+fn push_kind(kind: ItemKind, text: &mut GrowingText)
+    ensures { Grows text.old text.new (codes " " ++ line (kind_text kind)) }
 {
     match kind {
-        ItemKind::Value => text.push_str(" value\n")?,
-        ItemKind::Count => text.push_str(" count\n")?,
-        ItemKind::Block => text.push_str(" text\n")?,
-        ItemKind::Bytes => text.push_str(" bytes\n")?,
-        ItemKind::Marker => text.push_str(" marker\n")?,
-        ItemKind::Size => text.push_str(" size\n")?,
-        ItemKind::Tag => text.push_str(" tag\n")?,
-        ItemKind::Tail => text.push_str(" tail\n")?,
-        ItemKind::Left => text.push_str(" left\n")?,
-        ItemKind::Stop(status) => writeln!(text, " stop {status}")?,
+        ItemKind::Value => text.push_str(" value\n"),
+        ItemKind::Count => text.push_str(" count\n"),
+        ItemKind::Block => text.push_str(" text\n"),
+        ItemKind::Bytes => text.push_str(" bytes\n"),
+        ItemKind::Marker => text.push_str(" marker\n"),
+        ItemKind::Size => text.push_str(" size\n"),
+        ItemKind::Tag => text.push_str(" tag\n"),
+        ItemKind::Tail => text.push_str(" tail\n"),
+        ItemKind::Left => text.push_str(" left\n"),
+        ItemKind::Stop(status) => writeln!(text, " stop {status}"),
     }
-    Ok(())
 }
 
 // How the items end: bytes that are left, and a value that can't be read, are a negative verdict.

@@ -16,13 +16,12 @@ use std::alloc::Global;
 pub fn hexadecimal(alloc: Global, file: Vec<u8>) -> Result<Option<Vec<u8>>, OutOfMemory>
     ensures { IfOk result (λ bytes. option_map (λ v. v.items) bytes ≡ hexadecimal file.items) }
 {
-    match decoded(alloc, line_of(file.as_slice()))? {
-        Some(bytes) => Ok(Some(bytes)),
-        None => {
-            let digits = digits_of(file);
-            decoded(alloc, digits.as_slice())
-        }
+    if let Some(bytes) = decoded(alloc, line_of(file.as_slice()))? {
+        return Ok(Some(bytes));
     }
+    let mut digits = file;
+    digits.retain(|byte| !is_blank(*byte));
+    decoded(alloc, digits.as_slice())
 }
 
 // The file without the newline at its end, where one stands there.
@@ -45,15 +44,6 @@ fn decoded(alloc: Global, digits: &[u8]) -> Result<Option<Vec<u8>>, OutOfMemory>
         Err(FromHexError::OutOfMemory) => Err(OutOfMemory),
         Err(_) => Ok(None),
     }
-}
-
-// The file without its blanks.
-fn digits_of(file: Vec<u8>) -> Vec<u8>
-    ensures { result.items ≡ filter (λ b. not (is_blank b)) file.items }
-{
-    let mut digits = file;
-    digits.retain(|byte| !is_blank(*byte));
-    digits
 }
 
 fn is_blank(byte: u8) -> bool

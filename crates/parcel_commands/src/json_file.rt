@@ -1,10 +1,7 @@
 //! The values that a file of JSON stands for, one for each of some types.
-ghost use Rattle.std.specs.Prelude.{◌≡◌, ◌≤◌, Ok, IfOk, decimal, length, map};
+ghost use Rattle.std.specs.Prelude.{◌≡◌, Ok, IfOk, length, map};
 ghost use Rattle.serde_json.specs.View.{view as json_view, items_view};
-ghost use Rattle.aidl_values.specs.Fits.{Fits};
 ghost use Rattle.aidl_values.specs.View.{view};
-ghost use Rattle.json_values.specs.FromJson.{from_json_of};
-ghost use Rattle.json_values.specs.Refusal.{within};
 ghost use Rattle.parcel_commands.specs.JsonFile.{AreTyped, values_from, values_of};
 ghost use Rattle.parcel_commands.specs.steps.Refusing.{RefusesAs};
 
@@ -82,28 +79,10 @@ fn values_from(
 {
     let mut values = Vec::with_capacity(alloc, types.len())?;
     for i in 0..types.len() {
-        values.push(value_at(alloc, schema, &types[i], i, &items[i])?)?;
+        match from_json(alloc, schema, &types[i], &items[i]) {
+            Ok(value) => values.push(value)?,
+            Err(fault) => return Err(Unread::Value(i, fault)),
+        }
     }
     Ok(values)
-}
-
-// The value of the element at a place.
-fn value_at(
-    alloc: Global,
-    schema: &Schema,
-    ty: &AidlType,
-    place: usize,
-    json: &Json,
-) -> Result<Value, Unread>
-    ensures ok { IfOk result (λ v.
-        within (decimal place) (from_json_of schema.now.decls 64 ty.now (json_view json.now))
-        ≡ Ok (view v)) }
-    ensures fits { IfOk result (λ v. Fits schema.now.decls ty.now (view v)) }
-    ensures refused { RefusesAs result
-        (within (decimal place) (from_json_of schema.now.decls 64 ty.now (json_view json.now))) }
-{
-    match from_json(alloc, schema, ty, json) {
-        Ok(value) => Ok(value),
-        Err(fault) => Err(Unread::Value(place, fault)),
-    }
 }

@@ -8,7 +8,6 @@ mod explaining;
 mod hexadecimal_file;
 mod json_file;
 mod laws;
-mod lines;
 mod steps;
 mod tasks;
 mod types;

@@ -19,18 +19,9 @@ pub fn parcel_of(alloc: Global, file: Result<Vec<u8>, Limit>) -> Result<Vec<u8>,
     ensures small { IfOk result (λ v. length v.items ≤ 1048576) }
 {
     let text = text_of(alloc, file)?;
-    let bytes = bytes_of(alloc, text)?;
-    bytes_within(alloc, LimitName::ParcelBytes, bytes)
-}
-
-// The bytes of a hexadecimal text.
-fn bytes_of(alloc: Global, text: Vec<u8>) -> Result<Vec<u8>, Early>
-    ensures { Finds (λ v. v.items) result (step.bytes_of text.items) }
-{
-    match hexadecimal(alloc, text) {
-        Ok(Some(bytes)) => Ok(bytes),
-        Ok(None) => Err(refusal(alloc, "not hexadecimal", "")),
-        Err(_) => Err(Early::OutOfMemory),
+    match hexadecimal(alloc, text)? {
+        Some(bytes) => bytes_within(alloc, LimitName::ParcelBytes, bytes),
+        None => Err(refusal(alloc, "not hexadecimal", "")),
     }
 }
 

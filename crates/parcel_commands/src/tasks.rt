@@ -1,5 +1,5 @@
 //! The commands over a file of values or bytes with their types: `decode`, `encode` and `explain`.
-ghost use Rattle.std.specs.Prelude.{◌≡◌, IfOk};
+ghost use Rattle.std.specs.Prelude.{IfOk};
 ghost use Rattle.tool_words.specs.Seen.{tree_seen};
 ghost use Rattle.tool_frame.specs.Due.{AsksFileThen};
 ghost use Rattle.tool_frame.specs.Outside.{LinkSeen, seen_beside};

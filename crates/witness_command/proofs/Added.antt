@@ -1,6 +1,9 @@
--- One more entry behind others, and the lines of a call.
-use Rattle.std.proofs.Common.{◌≡◌, ◌∙◌, ◌<◌, ℕ, zero, suc, List, [], ◌∷◌, ◌++◌, map, length, get_or, slice_get, Some, Result, OnOk, refl, sym, ap, subst, append_assoc, arith}
+-- One more entry behind others.
+use Rattle.std.proofs.Common.{◌≡◌, ◌∙◌, ◌<◌, ℕ, zero, suc, List, [], ◌∷◌, ◌++◌, map, length, get_or, slice_get, Some, true, refl, sym, ap, subst, append_assoc, arith, Result, string_bytes}
 use Rattle.std.proofs.lemmas.List.{append-nil}
+use Rattle.growing_text.specs.Grows.{Grows}
+use Rattle.growing_text.specs.declared.GrowingText.{GrowingText}
+use Rattle.growing_text.proofs.lemmas.Chains.{both_grow}
 use Rattle.aidl_schema.specs.Broken.{Break}
 use Rattle.aidl_schema.specs.Unbroken.{Has}
 use Rattle.aidl_schema.specs.declared.schema.Decl.{Decl}
@@ -8,14 +11,9 @@ use Rattle.compat_judge.specs.declared.judging.Broken.{Broken}
 use Rattle.compat_judge.specs.Seen.{seen}
 use Rattle.compat_witness.specs.Candidates.{Candidate}
 use Rattle.tree_commands.specs.Judged.{break_line}
-use Rattle.witness_calls.specs.Showing.{ShowsIt}
-use Rattle.witness_calls.specs.declared.showing.Showing.{Showing}
 use Rattle.witness_search.specs.IsWitness.{IsAllowed, IsWitness}
 use Rattle.witness_search.specs.declared.shown.NoCall.{NoCall}
-use Rattle.witness_command.specs.CallLines.{call_lines}
 use Rattle.witness_command.specs.Entries.{AreEntries, IsEntry, shown_lines}
-use Rattle.witness_command.specs.steps.Adding.{AddsEntry}
-use Rattle.witness_command.proofs.Lines.{on_ok}
 
 module _ (A B : List Decl) where
   lines_more : (b : Break) (before : List Break) (old first : List ℕ) → AreEntries A B before old → IsEntry A B b first → AreEntries A B (before ++ b ∷ []) (old ++ first)
@@ -23,22 +21,19 @@ module _ (A B : List Decl) where
   lines_more b (d ∷ ds) old first h is = (h.0, h.1 ++ first, h.2, lines_more b ds h.1 first h.3 is, ap (λ (z : List ℕ). z ++ first) h.4 ∙ append_assoc h.0 h.1 first)
 
   -- the judge's line, and then what is shown
-  pub entry_added : {X E : Type 0} (b : Break) (shown : Result Candidate NoCall) (old named now : List ℕ) (r : Result X E) → IsWitness A B b shown → IsAllowed A B b shown
-      → named ≡ old ++ break_line b → OnOk r (now ≡ named ++ shown_lines A B shown) → OnOk r (AddsEntry A B b old now)
-  entry_added b shown old named now r is allowed one two =
-      on_ok (now ≡ named ++ shown_lines A B shown) (AddsEntry A B b old now) r
-      (λ e before lines. subst (AreEntries A B (before ++ b ∷ []))
-      (sym (e ∙ ap (λ (z : List ℕ). z ++ shown_lines A B shown) one ∙ append_assoc old (break_line b) (shown_lines A B shown)))
-      (lines_more b before old (break_line b ++ shown_lines A B shown) lines (shown, is, allowed, refl))) two
+  pub shown_behind : (b : Break) (shown found : Result Candidate NoCall) (old named now : GrowingText) → shown ≡ found → Grows old named (break_line b) → Grows named now (shown_lines A B found)
+      → Grows old now (break_line b ++ shown_lines A B shown)
+  shown_behind b shown found old named now is one two =
+      subst (λ (z : Result Candidate NoCall). Grows old now (break_line b ++ shown_lines A B z)) (sym is) (both_grow old named now (break_line b) (shown_lines A B found) one two)
 
-  -- by the schemas of both sides
-  pub shows_as : (C D : List Decl) (c : Candidate) (s : Showing) → C ≡ A → D ≡ B → ShowsIt A B c s → ShowsIt C D c s
-  shows_as C D c s is are h = subst (λ (z : List Decl). ShowsIt z D c s) (sym is) (subst (λ (z : List Decl). ShowsIt A z c s) (sym are) h)
-
-  pub lines_as : {X E : Type 0} (C D : List Decl) (c : Candidate) (old now : List ℕ) (r : Result X E) → C ≡ A → D ≡ B
-      → OnOk r (now ≡ old ++ call_lines C D c) → OnOk r (now ≡ old ++ call_lines A B c)
-  lines_as C D c old now r is are h =
-      subst (λ (z : List Decl). OnOk r (now ≡ old ++ call_lines A z c)) are (subst (λ (z : List Decl). OnOk r (now ≡ old ++ call_lines z D c)) is h)
+  -- the lines of an entry
+  pub entry_added : (b : Break) (before : List Break) (shown : Result Candidate NoCall) (old now : GrowingText) → IsWitness A B b shown → IsAllowed A B b shown
+      → (old.is_whole ≡ true → AreEntries A B before (string_bytes old.text)) → Grows old now (break_line b ++ shown_lines A B shown)
+      → now.is_whole ≡ true → AreEntries A B (before ++ b ∷ []) (string_bytes now.text)
+  entry_added b before shown old now is allowed lines pushed whole =
+      let grown = pushed whole in
+      subst (AreEntries A B (before ++ b ∷ [])) (sym grown.1)
+      (lines_more b before (string_bytes old.text) (break_line b ++ shown_lines A B shown) (lines grown.0) (shown, is, allowed, refl))
 
 -- a row of the judge's is in its list
 has_row : (rows : List Broken) (i : ℕ) (row : Broken) → i < length rows → slice_get (map seen rows) i ≡ Some (seen (get_or rows i row))

@@ -3,4 +3,3 @@ pub mod Entries
 pub mod SideText
 pub mod Texts
 pub mod Witnessed
-pub mod steps

@@ -1,135 +1,71 @@
 //! A side of a call as it stands in a line.
-ghost use Rattle.std.specs.Prelude.{◌≡◌, ◌++◌, OnOk, codes, string_bytes};
-ghost use Rattle.std.specs.Fmt.{signed_decimal};
-ghost use Rattle.aidl_values.specs.View.{views};
+ghost use Rattle.std.specs.Prelude.{◌≡◌};
+ghost use Rattle.growing_text.specs.Grows.{Grows};
 ghost use Rattle.stub_dispatch.specs.Got.{got_of};
 ghost use Rattle.wire_model.specs.Calls.{method_at, optional_view};
 ghost use Rattle.witness_calls.specs.Seen.{reading_seen};
 ghost use Rattle.witness_command.specs.SideText.{client_text, name_at, name_of_method, result_text, side_text};
-ghost use Rattle.witness_command.specs.Texts.{values_text};
 
 use crate::values::{push_value, push_values};
-use aidl_base::OutOfMemory;
 use aidl_schema::{Schema, methods_at};
 use aidl_values::Value;
+use growing_text::GrowingText;
 use std::alloc::Global;
-use std::fmt::Write;
 use stub_dispatch::Got;
 use witness_calls::Reading;
 
 /// Adds a side, whose methods are those of an interface of the server's schema: `transport N`, `left METHOD`, `called METHOD VALUES`,
-/// `returned VALUE VALUES` with `void` for no result, `exception CODE`, `status N` or `no reply`, METHOD being the method's simple name
-/// (own). Memory may be wanted.
+/// what the client has, or `no reply`, METHOD being the method's simple name (own).
 pub fn push_side(
     alloc: Global,
     server: &Schema,
     interface: Option<u32>,
     side: &Reading,
-    text: &mut String,
-) -> Result<(), OutOfMemory>
-    ensures { OnOk result (string_bytes text.new
-        ≡ string_bytes text.old ++ side_text server.now.decls interface (reading_seen side.now)) }
+    text: &mut GrowingText,
+)
+    ensures { Grows text.old text.new
+        (side_text server.now.decls interface (reading_seen side.now)) }
 {
     match side {
-        Reading::Transport(status) => push_status("transport ", status, text),
-        Reading::Left(method) => push_left(server, interface, *method, text),
+        Reading::Transport(status) => write!(text, "transport {status}"),
+        Reading::Left(method) => {
+            let name = name_at(server, interface, *method);
+            write!(text, "left {name}");
+        }
         Reading::Called { method, saw } => {
-            push_called(alloc, server, interface, *method, saw.as_slice(), text)
+            let name = name_at(server, interface, *method);
+            write!(text, "called {name} ");
+            push_values(alloc, saw.as_slice(), text);
         }
         Reading::Client(got) => push_client(alloc, got, text),
-        Reading::NoReply => push_no_reply(text),
+        Reading::NoReply => text.push_str("no reply"),
     }
 }
 
-// Adds a number behind a word.
-fn push_status(word: &str, status: &i32, text: &mut String) -> Result<(), OutOfMemory>
-    ensures { OnOk result (string_bytes text.new
-        ≡ string_bytes text.old ++ (word.now ++ signed_decimal status.now)) }
-{
-    write!(text, "{word}{status}")?;
-    Ok(())
-}
-
-fn push_left(
-    server: &Schema,
-    interface: Option<u32>,
-    method: u32,
-    text: &mut String,
-) -> Result<(), OutOfMemory>
-    ensures { OnOk result (string_bytes text.new
-        ≡ string_bytes text.old ++ (codes "left " ++ name_at server.now.decls interface method)) }
-{
-    let name = name_at(server, interface, method);
-    write!(text, "left {name}")?;
-    Ok(())
-}
-
-fn push_called(
-    alloc: Global,
-    server: &Schema,
-    interface: Option<u32>,
-    method: u32,
-    saw: &[Value],
-    text: &mut String,
-) -> Result<(), OutOfMemory>
-    ensures { OnOk result (string_bytes text.new ≡ string_bytes text.old
-        ++ (codes "called " ++ name_at server.now.decls interface method
-        ++ codes " " ++ values_text (views saw.now))) }
-{
-    let name = name_at(server, interface, method);
-    write!(text, "called {name} ")?;
-    push_values(alloc, saw, text)
-}
-
-fn push_client(alloc: Global, got: &Got, text: &mut String) -> Result<(), OutOfMemory>
-    ensures { OnOk result (string_bytes text.new
-        ≡ string_bytes text.old ++ client_text (got_of got.now)) }
+// Adds what a client has: `returned VALUE VALUES`, `exception CODE` or `status N`.
+fn push_client(alloc: Global, got: &Got, text: &mut GrowingText)
+    ensures { Grows text.old text.new (client_text (got_of got.now)) }
 {
     match got {
-        Got::Returned { result, outs } => push_returned(alloc, result, outs.as_slice(), text),
-        Got::Exception { code, .. } => push_status("exception ", code, text),
-        Got::Failed { status } => push_status("status ", status, text),
+        Got::Returned { result, outs } => {
+            text.push_str("returned ");
+            push_result(alloc, result, text);
+            text.push_str(" ");
+            push_values(alloc, outs.as_slice(), text);
+        }
+        Got::Exception { code, .. } => write!(text, "exception {code}"),
+        Got::Failed { status } => write!(text, "status {status}"),
     }
 }
 
-fn push_returned(
-    alloc: Global,
-    value: &Option<Value>,
-    outs: &[Value],
-    text: &mut String,
-) -> Result<(), OutOfMemory>
-    ensures { OnOk result (string_bytes text.new ≡ string_bytes text.old
-        ++ (codes "returned " ++ result_text (optional_view value.now)
-        ++ codes " " ++ values_text (views outs.now))) }
-{
-    text.push_str("returned ")?;
-    push_result(alloc, value, text)?;
-    text.push_str(" ")?;
-    push_values(alloc, outs, text)
-}
-
-fn push_result(alloc: Global, value: &Option<Value>, text: &mut String) -> Result<(), OutOfMemory>
-    ensures { OnOk result (string_bytes text.new
-        ≡ string_bytes text.old ++ result_text (optional_view value.now)) }
+// Adds a result, and `void` for none.
+fn push_result(alloc: Global, value: &Option<Value>, text: &mut GrowingText)
+    ensures { Grows text.old text.new (result_text (optional_view value.now)) }
 {
     match value {
         Some(value) => push_value(alloc, value, text),
-        None => push_void(text),
+        None => text.push_str("void"),
     }
-}
-
-fn push_void(text: &mut String) -> Result<(), OutOfMemory>
-    ensures { OnOk result (string_bytes text.new ≡ string_bytes text.old ++ codes "void") }
-{
-    text.push_str("void")?;
-    Ok(())
-}
-
-fn push_no_reply(text: &mut String) -> Result<(), OutOfMemory>
-    ensures { OnOk result (string_bytes text.new ≡ string_bytes text.old ++ codes "no reply") }
-{
-    text.push_str("no reply")?;
-    Ok(())
 }
 
 // The simple name of the method at a position of an interface, and nothing where there is none.

@@ -1,13 +1,13 @@
-use Rattle.std.proofs.Common.{false, None, string_bytes, refl, rules, sym, ◌∙◌, subst}
+use Rattle.std.proofs.Common.{false, None, refl, rules, sym, ◌∙◌, subst}
 use Rattle.wire_model.specs.ReadOf.{read_of}
 use Rattle.parcel_commands.specs.steps.Items.{PrintsItem}
 use Rattle.parcel_commands.proofs.Planned.{refused}
 use Rattle.parcel_commands.proofs.decoding.push_item.Goals as goal
 
-pub returns-in_ok-push_status-in-Some : goal.returns-in_ok-push_status-in-Some
-returns-in_ok-push_status-in-Some c =
+pub returns-in-Some : goal.returns-in-Some
+returns-in-Some c =
     let S = c.args.decoder.now.schema.now.decls in
     let t = c.args.ty.now in
     let reading = read_of c.args.decoder.now.profile S 64 t false c.args.bytes.now in
     let is = refused c.in-Err.fault c.in-Some.status reading (sym c.status.ensures ∙ c.in-Some.is) (c.in-Err.ensures.exact S t c.requires) in
-    subst (λ r. PrintsItem S t r (string_bytes c.args.text.now) (string_bytes c.push_status.new.text) None) (sym is) (search rules, refl)
+    subst (λ r. PrintsItem S t r c.args.text.now c.writeln.new.self None) (sym is) (search rules, λ whole. refl)

@@ -1,11 +1,10 @@
-use Rattle.std.proofs.Common.{string_bytes}
 use Rattle.witness_calls.specs.Seen.{call_seen, reading_seen}
 use Rattle.witness_command.proofs.Lines.{between}
 use Rattle.witness_command.proofs.call_lines.push_between.Goals as goal
 
 pub returns : goal.returns
 returns c =
-    let showing = c.args.showing.now in
-    between c.args.client.now.decls c.args.server.now.decls (call_seen c.args.call.now) c.in_ok-name.name c.as_slice.result.now showing.bytes (string_bytes c.args.text.now)
-    (string_bytes c.push_first.new.text) (string_bytes c.push_sides.new.text) (reading_seen showing.read) (reading_seen showing.projected) c.push_sides.result
-    c.in_ok-name.ensures c.as_slice.ensures c.in_ok-push_first.ensures c.push_sides.ensures
+    let showing = c.args.found.now.showing in
+    between c.args.client.now.decls c.args.server.now.decls (call_seen c.args.found.now.call) c.in-Ok.name c.as_slice.result.now showing.bytes c.declared-interface.result (reading_seen showing.read)
+    (reading_seen showing.projected) c.args.text.now c.push_first.new.text c.push_line.new.text c.push_line-2.new.text c.in-Ok.ensures c.declared-interface.ensures c.as_slice.ensures
+    c.push_first.ensures c.push_line.ensures c.push_line-2.ensures

@@ -1,7 +1,8 @@
-use Rattle.std.proofs.Common.{◌+◌, drop, string_bytes, ap, ◌∙◌, arith}
+use Rattle.std.proofs.Common.{◌+◌, ◌++◌, codes, drop, false, ap, arith}
 use Rattle.aidl_values.specs.View.{datas, field_datas, items_of, view, view_element}
 use Rattle.aidl_values.proofs.lemmas.Depths.{no_deeper}
 use Rattle.aidl_values.proofs.lemmas.Nexts.{next_of_rest}
+use Rattle.witness_command.specs.Texts.{parts_text}
 use Rattle.witness_command.proofs.Parts.{part_added}
 use Rattle.witness_command.proofs.values.+showing.Goals as goal
 
@@ -15,8 +16,8 @@ push_sequence-loop-i-preserved t c =
     let ds = datas c.args.elements.now in
     let i = c.loop-i.i in
     let d = view_element c.get-element.result in
-    part_added (string_bytes c.loop-i.text) (string_bytes c.push_comma_if.new.text) (string_bytes c.push_element.new.text) c.loop-i.later d (items_of (drop i ds)) (items_of (drop (i + 1) ds))
-    (ap items_of (next_of_rest ds i d c.get-element.ensures)) c.in_ok-push_comma_if.ensures c.in_ok-push_element.ensures ∙ c.loop-i.invariant
+    part_added c.args.text.now c.loop-i.text c.push_comma_if.new.text c.push_element.new.text c.loop-i.later d (items_of (drop i ds)) (items_of (drop (i + 1) ds))
+    (codes "[" ++ parts_text false (items_of ds)) (ap items_of (next_of_rest ds i d c.get-element.ensures)) c.push_comma_if.ensures c.push_element.ensures c.loop-i.invariant
 
 pub push_record-push_value-requires : goal.push_record-push_value-requires
 push_record-push_value-requires t c =
@@ -28,5 +29,5 @@ push_record-loop-i-preserved t c =
     let ds = field_datas c.args.fields.now in
     let i = c.loop-i.i in
     let d = view c.get.result.now in
-    part_added (string_bytes c.loop-i.text) (string_bytes c.push_comma_if.new.text) (string_bytes c.push_value.new.text) c.loop-i.later d (items_of (drop i ds)) (items_of (drop (i + 1) ds))
-    (ap items_of (next_of_rest ds i d c.get.ensures)) c.in_ok-push_comma_if.ensures c.in_ok-push_value.ensures ∙ c.loop-i.invariant
+    part_added c.args.text.now c.loop-i.text c.push_comma_if.new.text c.push_value.new.text c.loop-i.later d (items_of (drop i ds)) (items_of (drop (i + 1) ds))
+    (codes "{" ++ parts_text false (items_of ds)) (ap items_of (next_of_rest ds i d c.get.ensures)) c.push_comma_if.ensures c.push_value.ensures c.loop-i.invariant

@@ -1,9 +1,9 @@
-use Rattle.std.proofs.Common.{◌≡◌, ◌++◌, codes, false, drop, string_bytes}
+use Rattle.std.proofs.Common.{◌++◌, codes, false, drop}
 use Rattle.aidl_values.specs.View.{views}
 use Rattle.witness_command.specs.Texts.{parts_text}
+use Rattle.witness_command.proofs.Parts.{Completes}
 use Rattle.witness_command.proofs.values.push_values.Given as goal
 
 -- what is left completes the text
 abbrev pub invariant-loop-value : goal.invariant-loop-value
-invariant-loop-value l =
-    string_bytes l.text ++ parts_text l.later (views (drop l.value-index l.values)) ≡ string_bytes l.fn.text ++ (codes "[" ++ parts_text false (views l.values))
+invariant-loop-value l = Completes l.fn.text l.text l.later (views (drop l.value-index l.values)) (codes "[" ++ parts_text false (views l.values))

@@ -3,7 +3,7 @@ use Rattle.aidl_schema.specs.Types.{no_type}
 use Rattle.marshal_plans.specs.declared.plans.PlanId.{PlanId}
 use Rattle.marshal_plans.specs.Standing.{IsOf}
 use Rattle.parcel_commands.proofs.Planned.{as_many, planned_at}
-use Rattle.parcel_commands.proofs.decoding.print_planned.Goals as goal
+use Rattle.parcel_commands.proofs.decoding.push_items.Goals as goal
 
 pub bounds-ids-i : goal.bounds-ids-i
 bounds-ids-i c =

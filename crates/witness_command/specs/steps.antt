@@ -1,2 +1,0 @@
--- What the code's steps do, for inner contracts: no contract of a function that the crate exports cites it.
-pub mod Adding
