@@ -10,7 +10,6 @@ ghost use Rattle.tool_frame.specs.Halts.{Gets, Prints};
 ghost use Rattle.tool_frame.specs.Meaning.{reads_by};
 ghost use Rattle.tool_frame.specs.Results.{Finds, GivesOne, held, Gives};
 ghost use Rattle.tool_frame.specs.Seen.{store_seen};
-ghost use Rattle.std.specs.Prelude.{◌≡◌, IfOk, string_bytes};
 ghost use Rattle.ask_command.specs.Asked as meant;
 ghost use Rattle.meta_calls.specs.Versions.{IsHash, IsVersion};
 
@@ -18,7 +17,7 @@ use crate::answering::{Request, answered};
 use crate::interface::interface_found;
 use crate::printing::answered_text;
 use crate::version::{version_found, whole_found};
-use aidl_base::{Limit, LimitName, OutOfMemory, Row, Text};
+use aidl_base::{Limit, LimitName, Row, Text};
 use aidl_outside::{Sink, Store};
 use aidl_schema::Schema;
 use api_versions::{Version, VersionsFault, version_folder, versions};
@@ -141,27 +140,9 @@ pub fn ask_answer(
         version: asked.version,
         code: asked.code,
     };
-    let text = text_of(alloc, schema, request, hash, bytes)?;
+    let answered = answered(alloc, schema, request, hash, bytes)?;
     Ok(Printed {
-        text,
+        text: answered_text(alloc, schema, interface, asked.code, &answered)?,
         verdict: Verdict::Done,
     })
-}
-
-// The lines of what the service answers.
-fn text_of(
-    alloc: Global,
-    schema: &Schema,
-    request: Request,
-    hash: Text,
-    bytes: &[u8],
-) -> Result<String, OutOfMemory>
-    requires version { IsVersion request.version }
-    requires hash { IsHash hash }
-    ensures { IfOk result (λ text. string_bytes text
-        ≡ meant.asked_text schema.now.decls request.interface request.version hash
-        request.code bytes.now) }
-{
-    let answered = answered(alloc, schema, request, hash, bytes)?;
-    answered_text(alloc, schema, request.interface, request.code, &answered)
 }

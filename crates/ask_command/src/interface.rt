@@ -1,12 +1,11 @@
 //! The interface that is asked: a step that may end the command early.
-ghost use Rattle.std.specs.Prelude.{◌≡◌, ◌++◌, ◌<◌, codes, length, IfOk, string_bytes};
-ghost use Rattle.std.specs.Str.{encode_utf8_all};
-ghost use Rattle.aidl_schema.specs.Find.{methods_at};
+ghost use Rattle.std.specs.Prelude.{◌≡◌, IfOk, string_bytes};
 ghost use Rattle.ask_command.specs.Interfaces as step;
 ghost use Rattle.tool_frame.specs.Results.{EndsAs, Finds};
 
 use aidl_base::OutOfMemory;
 use aidl_schema::{Schema, interface_named, methods_at};
+use growing_text::GrowingText;
 use meta_calls::reserved_method;
 use std::alloc::Global;
 use stub_dispatch::descriptor_of;
@@ -53,10 +52,11 @@ fn full_name(
         string_bytes name ≡ step.full_name schema.now.decls interface method) }
 {
     let descriptor = descriptor_of(alloc, schema, interface)?;
-    let mut name = String::from_str(alloc, descriptor.as_str())?;
-    name.push_str(".")?;
-    name.push_str(method_name(schema, interface, method))?;
-    Ok(name)
+    let mut name = GrowingText::new(alloc);
+    name.push_str(descriptor.as_str());
+    name.push_str(".");
+    name.push_str(method_name(schema, interface, method));
+    name.into_string()
 }
 
 // The name of a method, and no text where it isn't there.

@@ -1,5 +1,6 @@
 //! The three lines of what is answered.
-ghost use Rattle.std.specs.Prelude.{◌≡◌, ◌++◌, codes, option_map, IfOk, OnOk, string_bytes};
+ghost use Rattle.std.specs.Prelude.{◌≡◌, option_map, IfOk, string_bytes};
+ghost use Rattle.growing_text.specs.Grows.{Grows};
 ghost use Rattle.aidl_schema.specs.Find.{methods_at, position_of_code};
 ghost use Rattle.aidl_values.specs.View.{views};
 ghost use Rattle.ask_command.specs.Asked.{reply_text};
@@ -9,9 +10,9 @@ use aidl_base::{OutOfMemory, Row};
 use aidl_schema::{Schema, method_of_code};
 use aidl_values::Value;
 use call_runner::Methods;
+use growing_text::GrowingText;
 use run_command::{SidePrinter, push_saw};
 use std::alloc::Global;
-use std::fmt::Write;
 use stub_dispatch::Answered;
 use tool_frame::push_shown;
 
@@ -27,15 +28,15 @@ pub fn answered_text(
     ensures { IfOk result (λ text.
         string_bytes text ≡ answered_text schema.now.decls interface code answered.now) }
 {
-    let mut text = String::new(alloc);
+    let mut text = GrowingText::new(alloc);
     let transport = answered.transport;
-    writeln!(text, "transport {transport}")?;
-    text.push_str("saw ")?;
-    push_seen(alloc, schema, interface, code, &answered.saw, &mut text)?;
-    text.push_str("\nreply ")?;
-    push_reply(alloc, &answered.reply, &mut text)?;
-    text.push_str("\n")?;
-    Ok(text)
+    writeln!(text, "transport {transport}");
+    text.push_str("saw ");
+    push_seen(alloc, schema, interface, code, &answered.saw, &mut text);
+    text.push_str("\nreply ");
+    push_reply(alloc, &answered.reply, &mut text);
+    text.push_str("\n");
+    text.into_string()
 }
 
 // Adds what the handler saw by the types of the method of a code, or null where it saw nothing.
@@ -45,11 +46,10 @@ fn push_seen(
     interface: u32,
     code: u32,
     saw: &Option<Row<Value>>,
-    text: &mut String,
-) -> Result<(), OutOfMemory>
+    text: &mut GrowingText,
+)
     requires { IsSeenBy schema.now.decls interface code saw.now }
-    ensures { OnOk result (string_bytes text.new
-        ≡ string_bytes text.old ++ saw_of schema.now.decls interface
+    ensures { Grows text.old text.new (saw_of schema.now.decls interface
         (position_of_code (methods_at schema.now.decls interface) code)
         (option_map views saw.now)) }
 {
@@ -62,22 +62,15 @@ fn push_seen(
                 called,
             };
             let mut printer = SidePrinter::new(alloc, schema);
-            push_saw(alloc, &mut printer, methods, saw, text)
+            push_saw(alloc, &mut printer, methods, saw, text);
         }
-        None => push_null(text),
+        None => text.push_str("null"),
     }
 }
 
-fn push_null(text: &mut String) -> Result<(), OutOfMemory>
-    ensures { OnOk result (string_bytes text.new ≡ string_bytes text.old ++ codes "null") }
-{
-    text.push_str("null")?;
-    Ok(())
-}
-
 // Adds the bytes of a reply, or `-` where there is none.
-fn push_reply(alloc: Global, reply: &Option<Row<u8>>, text: &mut String) -> Result<(), OutOfMemory>
-    ensures { OnOk result (string_bytes text.new ≡ string_bytes text.old ++ reply_text reply.now) }
+fn push_reply(alloc: Global, reply: &Option<Row<u8>>, text: &mut GrowingText)
+    ensures { Grows text.old text.new (reply_text reply.now) }
 {
     match reply {
         Some(bytes) => push_shown(alloc, bytes.as_slice(), text),

@@ -1,17 +1,16 @@
 //! The version that is asked, and the hash that it keeps: each a step that may end the command early.
-ghost use Rattle.std.specs.Prelude.{◌≡◌, ◌++◌, ◌==◌, codes, decimal, find, true, IfOk, IfSome, string_bytes};
+ghost use Rattle.std.specs.Prelude.{◌≡◌, ◌==◌, find, true, IfOk, IfSome};
 ghost use Rattle.api_versions.specs.Whole as whole;
 ghost use Rattle.ask_command.specs.Versions as step;
 ghost use Rattle.meta_calls.specs.Versions.{IsHash, IsVersion};
-ghost use Rattle.tool_frame.specs.Answer.{line};
 ghost use Rattle.tool_frame.specs.Results.{EndsAs, Finds};
 ghost use Rattle.version_lines.specs.Lines as lines;
 
 use aidl_base::{OutOfMemory, Row, Text};
 use api_versions::{Version, defined_text, is_whole, text_of};
+use itoa::Buffer;
 use std::alloc::Global;
-use std::fmt::Write;
-use tool_frame::{Early, Printed, Verdict};
+use tool_frame::{Early, refusal};
 use version_lines::{first_forty, torn_answer};
 
 /// The version of a number; `no version N` where there is none.
@@ -50,22 +49,8 @@ fn first_numbered(number: u32, versions: Row<Version>) -> Option<Version>
 fn no_version(alloc: Global, number: u32) -> Early
     ensures { EndsAs result (step.no_version number) }
 {
-    match no_version_line(alloc, number) {
-        Ok(text) => Early::Answered(Printed {
-            text,
-            verdict: Verdict::Negative,
-        }),
-        Err(_) => Early::OutOfMemory,
-    }
-}
-
-fn no_version_line(alloc: Global, number: u32) -> Result<String, OutOfMemory>
-    ensures { IfOk result (λ text.
-        string_bytes text ≡ line (codes "no version " ++ decimal number)) }
-{
-    let mut text = String::new(alloc);
-    writeln!(text, "no version {number}")?;
-    Ok(text)
+    let mut digits = Buffer::new();
+    refusal(alloc, "no version ", digits.format(number))
 }
 
 /// The hash of a version, the 40 digits that its `.hash` keeps; the line `torn` of one that isn't whole.
@@ -85,13 +70,7 @@ fn hash_of(alloc: Global, version: &Version) -> Result<Text, OutOfMemory>
     ensures digits { IfOk result (λ hash. hash ≡ step.hash_of version.now.kept) }
     ensures hash { IfOk result IsHash }
 {
-    digits_of(alloc, &version.kept)
-}
-
-fn digits_of(alloc: Global, kept: &Option<Row<u8>>) -> Result<Text, OutOfMemory>
-    ensures { IfOk result (λ hash. hash ≡ step.hash_of kept.now) }
-{
-    match kept {
+    match &version.kept {
         Some(kept) => text_of(alloc, first_forty(kept.as_slice())),
         None => Ok(Text::empty()),
     }

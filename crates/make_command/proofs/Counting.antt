@@ -1,12 +1,12 @@
 -- Lines that are counted, and what is printed of them.
-use Rattle.std.proofs.Common.{◌≡◌, ℕ, ◌≤◌, List, [], ◌∷◌, length, Option, Some, None, Result, Ok, Err, refl, sym, subst, arith, inl, inr}
+use Rattle.std.proofs.Common.{◌≡◌, ℕ, ◌≤◌, List, [], ◌∷◌, length, Option, Some, None, Result, Ok, Err, sym, subst, arith}
 use Rattle.aidl_base.specs.declared.profile.Profile.{Profile}
 use Rattle.aidl_base.specs.declared.profile.Profile.TheVariants.{Strict}
 use Rattle.aidl_outside.specs.Faults.{SinkFaults}
 use Rattle.aidl_outside.specs.declared.link.Carried.{Carried}
 use Rattle.aidl_schema.specs.declared.schema.Decl.{Decl}
 use Rattle.call_runner.specs.declared.line.LineRun.{LineRun}
-use Rattle.call_runner.specs.Lines.{call_code, reply_entries, reply_sent, request_entry}
+use Rattle.call_runner.specs.Lines.{call_code, reply_entries, reply_sent}
 use Rattle.call_runner.specs.Runs.{LineRuns}
 use Rattle.call_scripts.specs.Calls.{CallData}
 use Rattle.call_scripts.specs.Refusal.{Judged}

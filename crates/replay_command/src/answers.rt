@@ -1,27 +1,26 @@
 //! The lines of what is answered.
-ghost use Rattle.std.specs.Prelude.{◌≡◌, ◌++◌, codes, option_map, OnOk, string_bytes};
+ghost use Rattle.std.specs.Prelude.{◌≡◌, option_map};
+ghost use Rattle.growing_text.specs.Grows.{Grows};
 ghost use Rattle.aidl_values.specs.View.{views};
-ghost use Rattle.replay_command.specs.Replaying.{called_line, refused_line, transport_line};
+ghost use Rattle.replay_command.specs.Replaying.{called_line, refused_line};
 ghost use Rattle.replay_command.specs.steps.Answered.{answered_line, AreThere, IsSeenBy};
 ghost use Rattle.run_command.specs.LineText.{saw_text};
 
-use aidl_base::{OutOfMemory, Row};
+use aidl_base::Row;
 use aidl_values::Value;
 use call_runner::Methods;
+use growing_text::GrowingText;
 use run_command::{SidePrinter, push_saw};
 use std::alloc::Global;
-use std::fmt::Write;
 use stub_dispatch::Answered;
 
 /// Adds the line of a request that isn't read again, with the name of the refusal.
-pub fn push_refused(number: usize, name: &str, out: &mut String) -> Result<(), OutOfMemory>
-    ensures { OnOk result (string_bytes out.new
-        ≡ string_bytes out.old ++ refused_line number name.now) }
+pub fn push_refused(number: usize, name: &str, out: &mut GrowingText)
+    ensures { Grows out.old out.new (refused_line number name.now) }
 {
-    out.push_str("{\"line\":")?;
-    write!(out, "{number},\"refused\":\"{name}\"")?;
-    out.push_str("}\n")?;
-    Ok(())
+    out.push_str("{\"line\":");
+    write!(out, "{number},\"refused\":\"{name}\"");
+    out.push_str("}\n");
 }
 
 /// Adds the line of what a service answers: the status with which it refuses the request, or else what its handler saw, by the types
@@ -32,29 +31,21 @@ pub fn push_answered(
     methods: Option<Methods>,
     number: usize,
     answered: &Answered,
-    out: &mut String,
-) -> Result<(), OutOfMemory>
+    out: &mut GrowingText,
+)
     requires there { AreThere printer.old methods }
     requires typed { IsSeenBy printer.old methods answered.now.saw }
     ensures same { printer.new ≡ printer.old }
-    ensures text { OnOk result (string_bytes out.new
-        ≡ string_bytes out.old ++ answered_line printer.old methods number answered.now) }
+    ensures text { Grows out.old out.new (answered_line printer.old methods number answered.now) }
 {
-    if answered.transport == 0 {
-        push_called(alloc, printer, methods, number, &answered.saw, out)
+    let transport = answered.transport;
+    if transport == 0 {
+        push_called(alloc, printer, methods, number, &answered.saw, out);
     } else {
-        push_transport(number, answered.transport, out)
+        out.push_str("{\"line\":");
+        write!(out, "{number},\"transport\":{transport}");
+        out.push_str("}\n");
     }
-}
-
-fn push_transport(number: usize, status: i32, out: &mut String) -> Result<(), OutOfMemory>
-    ensures { OnOk result (string_bytes out.new
-        ≡ string_bytes out.old ++ transport_line number status) }
-{
-    out.push_str("{\"line\":")?;
-    write!(out, "{number},\"transport\":{status}")?;
-    out.push_str("}\n")?;
-    Ok(())
 }
 
 fn push_called(
@@ -63,20 +54,18 @@ fn push_called(
     methods: Option<Methods>,
     number: usize,
     saw: &Option<Row<Value>>,
-    out: &mut String,
-) -> Result<(), OutOfMemory>
+    out: &mut GrowingText,
+)
     requires there { AreThere printer.old methods }
     requires typed { IsSeenBy printer.old methods saw.now }
     ensures same { printer.new ≡ printer.old }
-    ensures text { OnOk result (string_bytes out.new
-        ≡ string_bytes out.old ++ called_line number
-        (saw_text printer.old methods (option_map views saw.now))) }
+    ensures text { Grows out.old out.new
+        (called_line number (saw_text printer.old methods (option_map views saw.now))) }
 {
-    out.push_str("{\"line\":")?;
-    write!(out, "{number},\"saw\":")?;
-    push_seen(alloc, printer, methods, saw, out)?;
-    out.push_str(",\"transport\":0}\n")?;
-    Ok(())
+    out.push_str("{\"line\":");
+    write!(out, "{number},\"saw\":");
+    push_seen(alloc, printer, methods, saw, out);
+    out.push_str(",\"transport\":0}\n");
 }
 
 // Adds what the handler saw, null where it wasn't called.
@@ -85,24 +74,15 @@ fn push_seen(
     printer: &mut SidePrinter<'_>,
     methods: Option<Methods>,
     saw: &Option<Row<Value>>,
-    out: &mut String,
-) -> Result<(), OutOfMemory>
+    out: &mut GrowingText,
+)
     requires there { AreThere printer.old methods }
     requires typed { IsSeenBy printer.old methods saw.now }
     ensures same { printer.new ≡ printer.old }
-    ensures text { OnOk result (string_bytes out.new
-        ≡ string_bytes out.old ++ saw_text printer.old methods (option_map views saw.now)) }
+    ensures text { Grows out.old out.new (saw_text printer.old methods (option_map views saw.now)) }
 {
     match methods {
         Some(methods) => push_saw(alloc, printer, methods, saw, out),
-        None => push_unseen(saw, out),
+        None => out.push_str("null"),
     }
-}
-
-fn push_unseen(_saw: &Option<Row<Value>>, out: &mut String) -> Result<(), OutOfMemory>
-    requires { _saw.now ≡ None }
-    ensures { OnOk result (string_bytes out.new ≡ string_bytes out.old ++ codes "null") }
-{
-    out.push_str("null")?;
-    Ok(())
 }

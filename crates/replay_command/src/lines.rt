@@ -1,13 +1,14 @@
 //! A line of a trace, and what is printed of it.
-ghost use Rattle.std.specs.Prelude.{◌≡◌, ◌++◌, List, ℕ, OnOk, string_bytes};
+ghost use Rattle.std.specs.Prelude.{◌≡◌, List, ℕ};
+ghost use Rattle.growing_text.specs.Grows.{Grows};
 ghost use Rattle.parcel_replay.specs.Traced.{request, traced};
 ghost use Rattle.replay_command.specs.Replaying.{replayed_line};
 ghost use Rattle.replay_command.specs.steps.Answered.{AreOfCode, AreThere};
 
 use crate::answers::{push_answered, push_refused};
-use aidl_base::OutOfMemory;
 use aidl_schema::{Schema, method_of_code};
 use call_runner::Methods;
+use growing_text::GrowingText;
 use parcel_replay::{Replayed, recorded_code, replay_line};
 use run_command::{Line, SidePrinter};
 use std::alloc::Global;
@@ -21,23 +22,24 @@ pub fn push_line(
     printer: &mut SidePrinter<'_>,
     interface: u32,
     line: &Line<'_>,
-    out: &mut String,
-) -> Result<(), OutOfMemory>
+    out: &mut GrowingText,
+)
     requires { printer.old ≡ side.now }
     ensures same { printer.new ≡ printer.old }
-    ensures text { OnOk result (string_bytes out.new ≡ string_bytes out.old
-        ++ replayed_line side.now interface line.now.number (traced line.now.bytes.now)) }
+    ensures text { Grows out.old out.new
+        (replayed_line side.now interface line.now.number (traced line.now.bytes.now)) }
 {
     let schema = side.schema();
     let number = line.number;
-    match replay_line(alloc, schema, side.plans(), interface, line.bytes)? {
-        Replayed::Other => Ok(()),
-        Replayed::NotTrace => push_refused(number, "NotTrace", out),
-        Replayed::TooLarge => push_refused(number, "TooLarge", out),
-        Replayed::Got(answered) => {
+    match replay_line(alloc, schema, side.plans(), interface, line.bytes) {
+        Ok(Replayed::Other) => {}
+        Ok(Replayed::NotTrace) => push_refused(number, "NotTrace", out),
+        Ok(Replayed::TooLarge) => push_refused(number, "TooLarge", out),
+        Ok(Replayed::Got(answered)) => {
             let methods = recorded_methods(schema, interface, line.bytes);
-            push_answered(alloc, printer, methods, number, &answered, out)
+            push_answered(alloc, printer, methods, number, &answered, out);
         }
+        Err(_) => out.lose(),
     }
 }
 

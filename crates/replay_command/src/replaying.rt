@@ -8,7 +8,7 @@ ghost use Rattle.tool_frame.specs.Exit.{number_of};
 ghost use Rattle.tool_frame.specs.Halts.{Prints};
 ghost use Rattle.tool_frame.specs.Meaning.{reads_by};
 ghost use Rattle.tool_frame.specs.Seen.{store_seen};
-ghost use Rattle.std.specs.Prelude.{◌≡◌, ◌++◌, IfOk, OnOk, string_bytes};
+ghost use Rattle.std.specs.Prelude.{◌≡◌, IfOk, string_bytes};
 ghost use Rattle.run_command.specs.CallLines.{lines_of};
 ghost use Rattle.tool_frame.specs.Results.{Gives};
 
@@ -16,6 +16,7 @@ use crate::lines::push_line;
 use aidl_base::OutOfMemory;
 use aidl_outside::{Sink, Store};
 use aidl_schema::{Schema, interface_named};
+use growing_text::GrowingText;
 use marshal_plans::compile;
 use run_command::{Line, SidePrinter, cut, lines_loaded};
 use std::alloc::Global;
@@ -69,18 +70,15 @@ pub fn replay_answer(
     ensures { Gives result (replay_answer schema.now.decls name.now trace.now) }
 {
     match interface_named(schema, name) {
-        Some(interface) => {
-            let text = replayed_text(alloc, schema, interface, trace)?;
-            Ok(Printed {
-                text,
-                verdict: Verdict::Done,
-            })
-        }
+        Some(interface) => Ok(Printed {
+            text: replayed_text(alloc, schema, interface, trace)?,
+            verdict: Verdict::Done,
+        }),
         None => Err(refusal(alloc, "no interface ", name)),
     }
 }
 
-// The lines that are printed. The plans are made once.
+// The lines that are printed, in order. The plans and the printer are made once.
 fn replayed_text(
     alloc: Global,
     schema: &Schema,
@@ -92,31 +90,16 @@ fn replayed_text(
 {
     let plans = compile(alloc, schema, &[])?;
     let side = Side::new(schema, &plans);
-    let mut text = String::new(alloc);
-    push_lines(alloc, &side, interface, trace, &mut text)?;
-    Ok(text)
-}
-
-// Adds what is printed of each line, in order. The printer is made once.
-fn push_lines(
-    alloc: Global,
-    side: &Side<'_>,
-    interface: u32,
-    trace: &[u8],
-    out: &mut String,
-) -> Result<(), OutOfMemory>
-    ensures { OnOk result (string_bytes out.new
-        ≡ string_bytes out.old ++ replayed_text side.now interface 1 (lines_of trace.now)) }
-{
-    let mut printer = SidePrinter::new(alloc, side.schema());
+    let mut printer = SidePrinter::new(alloc, schema);
+    let mut text = GrowingText::new(alloc);
     let mut rest = trace;
     let mut number = 1;
     while !rest.is_empty() {
         let (bytes, after) = cut(rest);
         let line = Line { number, bytes };
-        push_line(alloc, side, &mut printer, interface, &line, out)?;
+        push_line(alloc, &side, &mut printer, interface, &line, &mut text);
         rest = after;
         number += 1;
     }
-    Ok(())
+    text.into_string()
 }

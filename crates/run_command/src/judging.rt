@@ -1,18 +1,18 @@
 //! The judge on both orders of two schemas.
-ghost use Rattle.std.specs.Prelude.{◌≡◌, ◌++◌, List, [], None, IfOk, OnOk, codes, map, string_bytes};
-ghost use Rattle.std.specs.List.{flat_map};
+ghost use Rattle.std.specs.Prelude.{◌≡◌, None, IfOk, map};
+ghost use Rattle.growing_text.specs.Grows.{Grows};
 ghost use Rattle.aidl_schema.specs.Broken.{broken};
 ghost use Rattle.compat_judge.specs.Seen.{seen};
 ghost use Rattle.run_command.specs.Running.{judged_course, marked, neither};
 ghost use Rattle.run_command.specs.steps.Steps.{course_by};
 ghost use Rattle.tool_frame.specs.Course.{Course};
 ghost use Rattle.tool_frame.specs.Results.{printed};
-ghost use Rattle.tree_commands.specs.Judged.{break_line};
 ghost use Rattle.wire_model.specs.Outcome.{OneFollows};
 
 use aidl_base::OutOfMemory;
 use aidl_schema::Schema;
 use compat_judge::{Broken, judge};
+use growing_text::GrowingText;
 use std::alloc::Global;
 use tool_frame::{Printed, Verdict};
 use tree_commands::push_break;
@@ -47,31 +47,21 @@ pub fn judge_both(
 fn both_printed(alloc: Global, there: &[Broken], back: &[Broken]) -> Result<Printed, OutOfMemory>
     ensures { IfOk result (λ p. printed p ≡ neither (map seen there.now) (map seen back.now)) }
 {
-    let mut text = marked(alloc, "> ", there)?;
-    let others = marked(alloc, "< ", back)?;
-    text.push_str(others.as_str())?;
+    let mut text = GrowingText::new(alloc);
+    push_marked("> ", there, &mut text);
+    push_marked("< ", back, &mut text);
     Ok(Printed {
-        text,
+        text: text.into_string()?,
         verdict: Verdict::Negative,
     })
 }
 
-// The lines of broken rules, each behind a mark.
-fn marked(alloc: Global, mark: &str, rows: &[Broken]) -> Result<String, OutOfMemory>
-    ensures { IfOk result (λ text. string_bytes text ≡ marked mark.now (map seen rows.now)) }
+// Adds the lines of broken rules, each behind a mark.
+fn push_marked(mark: &str, rows: &[Broken], text: &mut GrowingText)
+    ensures { Grows text.old text.new (marked mark.now (map seen rows.now)) }
 {
-    let mut text = String::new(alloc);
     for row in rows {
-        push_marked(mark, row, &mut text)?;
+        text.push_str(mark);
+        push_break(row, text);
     }
-    Ok(text)
-}
-
-// Adds the line of a broken rule, behind a mark.
-fn push_marked(mark: &str, row: &Broken, text: &mut String) -> Result<(), OutOfMemory>
-    ensures { OnOk result
-        (string_bytes text.new ≡ string_bytes text.old ++ (mark.now ++ break_line (seen row.now))) }
-{
-    text.push_str(mark)?;
-    push_break(row, text)
 }

@@ -1,7 +1,6 @@
 //! The command `run`: the judge on both orders of two trees, or a line for each line of a calls file.
 #![tactic(auto)]
 
-mod clients;
 mod command;
 mod cutting;
 mod judging;
@@ -13,8 +12,8 @@ mod running;
 mod session;
 mod values;
 
-pub use clients::push_saw;
 pub use command::{Prepared, run};
 pub use cutting::{Line, cut, lines_loaded};
+pub use objects::push_saw;
 pub use printers::SidePrinter;
 pub use running::both_plans;

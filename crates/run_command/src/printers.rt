@@ -1,14 +1,15 @@
 //! The printers of what a client and a server have, which are kept over all lines.
-ghost use Rattle.std.specs.Prelude.{◌≡◌, ◌++◌, ◌<◌, OnOk, Some, length, string_bytes};
+ghost use Rattle.std.specs.Prelude.{◌≡◌, ◌<◌, Some, length};
+ghost use Rattle.growing_text.specs.Grows.{Grows};
 ghost use Rattle.aidl_schema.specs.Find.{methods_at};
 ghost use Rattle.aidl_values.specs.HasType.{HasType};
 ghost use Rattle.aidl_values.specs.View.{view};
 ghost use Rattle.json_writing.specs.ValueText.{value_text};
 ghost use Rattle.wire_model.specs.Calls.{method_at};
 
-use aidl_base::OutOfMemory;
 use aidl_schema::{AidlType, Method, Schema};
 use aidl_values::Value;
+use growing_text::GrowingText;
 use json_writing::JsonPrinter;
 use std::alloc::Global;
 use std::marker::Model;
@@ -62,14 +63,13 @@ impl<'a> SidePrinter<'a> {
         alloc: Global,
         ty: &AidlType,
         value: &Value,
-        out: &mut String,
-    ) -> Result<(), OutOfMemory>
+        out: &mut GrowingText,
+    )
         requires { HasType self.old ty.now (view value.now) }
         ensures same { self.new ≡ self.old }
-        ensures text { OnOk result (string_bytes out.new
-            ≡ string_bytes out.old ++ value_text self.old ty.now (view value.now)) }
+        ensures text { Grows out.old out.new (value_text self.old ty.now (view value.now)) }
     {
-        self.values.push_value(alloc, ty, value, out)
+        self.values.push_value(alloc, ty, value, out);
     }
 }
 

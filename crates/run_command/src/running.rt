@@ -104,15 +104,9 @@ pub fn both_plans(
     ensures { IfOk result
         (λ plans. ArePlansOf plans.0 client.now.decls × ArePlansOf plans.1 server.now.decls) }
 {
-    let client_plans = plans_of(alloc, client)?;
-    let server_plans = plans_of(alloc, server)?;
+    let client_plans = compile(alloc, client, &[])?;
+    let server_plans = compile(alloc, server, &[])?;
     Ok((client_plans, server_plans))
-}
-
-fn plans_of(alloc: Global, schema: &Schema) -> Result<Plans, OutOfMemory>
-    ensures { IfOk result (λ plans. ArePlansOf plans schema.now.decls) }
-{
-    compile(alloc, schema, &[])
 }
 
 /// Runs the lines of a calls file between a client and a server in their order, and puts each in one piece, after its call has ended.
@@ -137,7 +131,10 @@ pub fn run_lines<K: Sink, L: Link>(
         (projected_text session.now.profile A B session.now.trace 1 (lines_of calls.now))
         (seen sink.old link.old) (seen sink.new link.new) (number_of result) }
 {
-    let mut printers = printers_of(alloc, session);
+    let mut printers = Printers {
+        client: SidePrinter::new(alloc, session.client.schema()),
+        server: SidePrinter::new(alloc, session.server.schema()),
+    };
     let mut rest = calls;
     let mut number = 1;
     while !rest.is_empty() {
@@ -153,17 +150,6 @@ pub fn run_lines<K: Sink, L: Link>(
         number += 1;
     }
     Exit::Done
-}
-
-// The printers of both sides.
-fn printers_of<'a>(alloc: Global, session: &Session<Side<'a>>) -> Printers<'a>
-    ensures client { result.client ≡ session.now.client }
-    ensures server { result.server ≡ session.now.server }
-{
-    Printers {
-        client: SidePrinter::new(alloc, session.client.schema()),
-        server: SidePrinter::new(alloc, session.server.schema()),
-    }
 }
 
 // Runs a line. Where that fails, the answer is the exit with which the run ends.

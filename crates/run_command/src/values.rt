@@ -1,28 +1,30 @@
 //! Values and strings as they stand in a line.
-ghost use Rattle.std.specs.Prelude.{◌≡◌, ◌++◌, codes, OnOk, string_bytes};
-ghost use Rattle.aidl_values.specs.HasType.{HasType};
-ghost use Rattle.aidl_values.specs.View.{view, views};
-ghost use Rattle.json_writing.specs.ValueText.{value_text};
+ghost use Rattle.std.specs.Prelude.{◌≡◌};
+ghost use Rattle.growing_text.specs.Grows.{Grows};
+ghost use Rattle.aidl_values.specs.View.{views};
 ghost use Rattle.run_command.specs.LineText.{others_text, quoted, result_text, values_text};
 ghost use Rattle.wire_model.specs.Calls.{optional_view};
 ghost use Rattle.wire_model.specs.Typed.{EachHasType, IsResult};
 
 use crate::printers::SidePrinter;
-use aidl_base::OutOfMemory;
 use aidl_schema::AidlType;
 use aidl_values::Value;
+use growing_text::GrowingText;
 use serde_json::Value as Json;
 use std::alloc::Global;
 
 /// Adds a text as a JSON string.
 #[tactic(auto, unfolding(crate::specs::LineText::quoted))]
-pub fn push_quoted(alloc: Global, text: &str, out: &mut String) -> Result<(), OutOfMemory>
-    ensures { OnOk result (string_bytes out.new ≡ string_bytes out.old ++ quoted text.now) }
+pub fn push_quoted(alloc: Global, text: &str, out: &mut GrowingText)
+    ensures { Grows out.old out.new (quoted text.now) }
 {
-    let json = Json::try_from_str(alloc, text)?;
-    let written = json.to_string(alloc)?;
-    out.push_str(written.as_str())?;
-    Ok(())
+    match Json::try_from_str(alloc, text) {
+        Ok(json) => match json.to_string(alloc) {
+            Ok(written) => out.push_str(written.as_str()),
+            Err(_) => out.lose(),
+        },
+        Err(_) => out.lose(),
+    }
 }
 
 /// Adds an array of values by their types.
@@ -31,32 +33,24 @@ pub fn push_values(
     printer: &mut SidePrinter<'_>,
     types: &[AidlType],
     values: &[Value],
-    out: &mut String,
-) -> Result<(), OutOfMemory>
+    out: &mut GrowingText,
+)
     requires { EachHasType printer.old types.now (views values.now) }
     ensures same { printer.new ≡ printer.old }
-    ensures text { OnOk result (string_bytes out.new
-        ≡ string_bytes out.old ++ values_text printer.old types.now (views values.now)) }
+    ensures text { Grows out.old out.new (values_text printer.old types.now (views values.now)) }
 {
     match types {
-        [] => push_empty(out),
+        [] => out.push_str("[]"),
         [ty, types @ ..] => match values {
-            [] => push_empty(out),
+            [] => out.push_str("[]"),
             [value, values @ ..] => {
-                push_behind(alloc, "[", printer, ty, value, out)?;
-                push_others(alloc, printer, types, values, out)?;
-                out.push_str("]")?;
-                Ok(())
+                out.push_str("[");
+                printer.push_value(alloc, ty, value, out);
+                push_others(alloc, printer, types, values, out);
+                out.push_str("]");
             }
         },
     }
-}
-
-fn push_empty(out: &mut String) -> Result<(), OutOfMemory>
-    ensures { OnOk result (string_bytes out.new ≡ string_bytes out.old ++ codes "[]") }
-{
-    out.push_str("[]")?;
-    Ok(())
 }
 
 // Adds values by their types, each behind a comma.
@@ -65,41 +59,23 @@ fn push_others(
     printer: &mut SidePrinter<'_>,
     types: &[AidlType],
     values: &[Value],
-    out: &mut String,
-) -> Result<(), OutOfMemory>
+    out: &mut GrowingText,
+)
     requires { EachHasType printer.old types.now (views values.now) }
     ensures same { printer.new ≡ printer.old }
-    ensures text { OnOk result (string_bytes out.new
-        ≡ string_bytes out.old ++ others_text printer.old types.now (views values.now)) }
+    ensures text { Grows out.old out.new (others_text printer.old types.now (views values.now)) }
 {
     match types {
-        [] => Ok(()),
+        [] => {}
         [ty, types @ ..] => match values {
-            [] => Ok(()),
+            [] => {}
             [value, values @ ..] => {
-                push_behind(alloc, ",", printer, ty, value, out)?;
-                push_others(alloc, printer, types, values, out)
+                out.push_str(",");
+                printer.push_value(alloc, ty, value, out);
+                push_others(alloc, printer, types, values, out);
             }
         },
     }
-}
-
-// Adds a value behind a mark.
-fn push_behind(
-    alloc: Global,
-    mark: &str,
-    printer: &mut SidePrinter<'_>,
-    ty: &AidlType,
-    value: &Value,
-    out: &mut String,
-) -> Result<(), OutOfMemory>
-    requires { HasType printer.old ty.now (view value.now) }
-    ensures same { printer.new ≡ printer.old }
-    ensures text { OnOk result (string_bytes out.new ≡ string_bytes out.old
-        ++ (mark.now ++ value_text printer.old ty.now (view value.now))) }
-{
-    out.push_str(mark)?;
-    printer.push_value(alloc, ty, value, out)
 }
 
 /// Adds the result of a method, null for a void one.
@@ -108,26 +84,17 @@ pub fn push_result(
     printer: &mut SidePrinter<'_>,
     ty: Option<AidlType>,
     value: &Option<Value>,
-    out: &mut String,
-) -> Result<(), OutOfMemory>
+    out: &mut GrowingText,
+)
     requires { IsResult printer.old ty (optional_view value.now) }
     ensures same { printer.new ≡ printer.old }
-    ensures text { OnOk result (string_bytes out.new
-        ≡ string_bytes out.old ++ result_text printer.old ty (optional_view value.now)) }
+    ensures text { Grows out.old out.new (result_text printer.old ty (optional_view value.now)) }
 {
     match ty {
         Some(ty) => match value {
             Some(value) => printer.push_value(alloc, &ty, value, out),
-            None => push_null(out),
+            None => out.push_str("null"),
         },
-        None => push_null(out),
+        None => out.push_str("null"),
     }
-}
-
-/// Adds null.
-pub fn push_null(out: &mut String) -> Result<(), OutOfMemory>
-    ensures { OnOk result (string_bytes out.new ≡ string_bytes out.old ++ codes "null") }
-{
-    out.push_str("null")?;
-    Ok(())
 }

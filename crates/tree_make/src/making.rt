@@ -5,6 +5,7 @@ ghost use Rattle.tree_make.specs.Made as meant;
 use crate::numbers::in_order;
 use crate::texts::{Part, path_of, push_calls, text_of};
 use aidl_base::{OutOfMemory, Row, SourceFile, Text};
+use growing_text::GrowingText;
 use std::alloc::Global;
 
 /// The text of a calls file from a newer tree to an older one, and the files of both trees, each with its path relative to the root of
@@ -47,11 +48,11 @@ pub fn make(alloc: Global, count: u32) -> Result<Made, OutOfMemory>
 fn calls(alloc: Global, count: u32) -> Result<String, OutOfMemory>
     ensures { IfOk result (λ text. string_bytes text ≡ meant.calls_text count) }
 {
-    let mut text = String::new(alloc);
+    let mut text = GrowingText::new(alloc);
     for k in 0..count {
-        push_calls(k, &mut text)?;
+        push_calls(k, &mut text);
     }
-    Ok(text)
+    text.into_string()
 }
 
 // All interfaces, and then all parcelables.

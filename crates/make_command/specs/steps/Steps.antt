@@ -1,5 +1,5 @@
 -- What the steps of a run give.
-use Rattle.std.specs.Prelude.{ℕ, ◌≤◌, ◌*◌, ◌^◌, ◌-◌, Bool, List, Option, Some, None, Result, Ok, Err}
+use Rattle.std.specs.Prelude.{Bool, List, Option, Some, None, Result, Ok, Err}
 use Rattle.aidl_outside.specs.Faults.{LinkFaults}
 use Rattle.aidl_outside.specs.declared.link.Carried.{Carried}
 use Rattle.make_command.specs.Tally.{Counts}

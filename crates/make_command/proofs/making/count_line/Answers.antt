@@ -1,4 +1,4 @@
-use Rattle.std.proofs.Common.{List, Err, refl, sym, subst}
+use Rattle.std.proofs.Common.{List, Err, sym, subst}
 use Rattle.aidl_base.specs.declared.profile.Profile.TheVariants.{Strict}
 use Rattle.aidl_schema.specs.declared.schema.Decl.{Decl}
 use Rattle.call_runner.specs.Runs.{RunCause, Stops}

@@ -1,5 +1,7 @@
-use Rattle.std.proofs.Common.{◌≡◌, ◌++◌, append_assoc, append-nil, ap, refl, rules, sym, ◌∙◌}
+use Rattle.std.proofs.Common.{◌++◌, ◌∙◌, append_assoc, ap, refl, string_bytes}
 use Rattle.make_command.proofs.printing.push_counts.Goals as goal
 
 pub returns : goal.returns
-returns c = c.in_ok-writeln.ensures.bytes ∙ simp append_assoc refl
+returns c = λ whole.
+    let grown = c.writeln.ensures whole in
+    (grown.0, grown.1 ∙ ap (λ more. string_bytes c.args.text.now.text ++ more) (simp append_assoc refl))

@@ -39,8 +39,8 @@ loop-rest-init g c =
     record {
       went = went_none whole start;
       completes = λ one faithful later more. more;
-      client = c.printers_of-printers.ensures.client;
-      server = c.printers_of-printers.ensures.server;
+      client = c.new.ensures ∙ c.schema.ensures;
+      server = c.new-2.ensures ∙ c.schema-2.ensures;
       few = omega arith;
     }
 
