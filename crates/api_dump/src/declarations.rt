@@ -3,7 +3,7 @@
 
 ghost use Rattle.std.specs.Prelude.{◌≡◌, ◌≤◌, ◌+◌, ◌++◌};
 ghost use Rattle.std.specs.List.{flat_map};
-ghost use Rattle.growing_text.specs.Grows.{Grows};
+ghost use Rattle.growing.specs.Grows.{Grows};
 ghost use Rattle.api_dump.specs.Declarations as meant;
 ghost use Rattle.api_dump.specs.Lines.{constant, enumerator, field, method};
 ghost use Rattle.api_dump.specs.Pieces.{text_of};
@@ -12,7 +12,7 @@ use crate::lines::{push_constant, push_enumerator, push_field, push_method};
 use crate::names::push_last;
 use aidl_base::Reserved;
 use aidl_schema::{Backing, Constant, Decl, Enumerator, Field, Kind, Method};
-use growing_text::GrowingText;
+use growing::GrowingText;
 
 /// Adds the annotations, the heading and the own lines of a declaration.
 pub fn push_front(decls: &[Decl], depth: usize, decl: &Decl, text: &mut GrowingText)

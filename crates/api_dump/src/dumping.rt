@@ -1,6 +1,6 @@
 //! The files of the canonical dump, each with its path and text.
 ghost use Rattle.std.specs.Prelude.{◌≡◌, ◌≤◌, length, map, string_bytes, IfOk, OnOk};
-ghost use Rattle.growing_text.specs.Grows.{Grows};
+ghost use Rattle.growing.specs.Grows.{Grows};
 ghost use Rattle.aidl_schema.specs.Names.{without_last};
 ghost use Rattle.api_dump.specs.Dump as meant;
 ghost use Rattle.api_dump.specs.Pieces.{text_of};
@@ -11,7 +11,7 @@ use crate::nested::push_declaration;
 use crate::nesting::nesting;
 use aidl_base::{Ident, OutOfMemory, Row, SourceFile, Text};
 use aidl_schema::{Decl, Schema, law_valid};
-use growing_text::GrowingText;
+use growing::GrowingText;
 use std::alloc::Global;
 use std::collections::BTreeMap;
 

@@ -2,7 +2,7 @@
 #![tactic(auto, using(crate::proofs::Texts::behind), unfolding(crate::specs::Pieces::spelling))]
 
 ghost use Rattle.std.specs.Prelude.{◌∷◌, []};
-ghost use Rattle.growing_text.specs.Grows.{Grows};
+ghost use Rattle.growing.specs.Grows.{Grows};
 ghost use Rattle.api_dump.specs.Lines as meant;
 ghost use Rattle.api_dump.specs.Pieces.{joined, reserved, text_of};
 ghost use Rattle.api_dump.specs.Pieces.Piece.{space};
@@ -11,7 +11,7 @@ use crate::names::push_name;
 use crate::types::{push_base, push_type};
 use crate::values::{push_backed, push_initial, push_value};
 use aidl_schema::{Arg, Backing, Constant, Decl, Direction, Enumerator, Field, Method};
-use growing_text::GrowingText;
+use growing::GrowingText;
 
 /// Adds the line of a field.
 pub fn push_field(decls: &[Decl], field: &Field, text: &mut GrowingText)

@@ -2,14 +2,14 @@
 #![tactic(auto, using(crate::proofs::Texts::behind), unfolding(crate::specs::Pieces::spelling))]
 
 ghost use Rattle.std.specs.Prelude.{◌∷◌, []};
-ghost use Rattle.growing_text.specs.Grows.{Grows};
+ghost use Rattle.growing.specs.Grows.{Grows};
 ghost use Rattle.aidl_schema.specs.Names.{last_part};
 ghost use Rattle.api_dump.specs.Dump.{slashed};
 ghost use Rattle.api_dump.specs.Pieces.{dotted, ident, name, text_of};
 ghost use Rattle.api_dump.specs.Pieces.Piece.{space};
 
 use aidl_base::Ident;
-use growing_text::GrowingText;
+use growing::GrowingText;
 
 /// Adds identifiers joined by dots.
 pub fn push_dotted(parts: &[Ident], text: &mut GrowingText)

@@ -1,6 +1,6 @@
 //! A declaration in the canonical dump, with the declarations inside it.
 ghost use Rattle.std.specs.Prelude.{◌≡◌, ◌≤◌, ◌<◌, ◌+◌, length, suc};
-ghost use Rattle.growing_text.specs.Grows.{Grows};
+ghost use Rattle.growing.specs.Grows.{Grows};
 ghost use Rattle.api_dump.specs.Declarations as meant;
 ghost use Rattle.api_dump.specs.Pieces.{text_of};
 ghost use Rattle.api_dump.specs.steps.Tables.{IsTable, row_at};
@@ -8,7 +8,7 @@ ghost use Rattle.api_dump.specs.steps.Tables.{IsTable, row_at};
 use crate::declarations::{push_closing, push_front};
 use aidl_base::Row;
 use aidl_schema::Decl;
-use growing_text::GrowingText;
+use growing::GrowingText;
 
 /// Adds the declaration of a number, with so many levels of others inside it. `rows` is the table of what stands in each.
 #[cycle(push_declaration)]

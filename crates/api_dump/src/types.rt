@@ -1,14 +1,14 @@
 //! Types in a canonical dump, with the annotations before them.
 #![tactic(auto, using(crate::proofs::Texts::behind), unfolding(crate::specs::Pieces::spelling))]
 
-ghost use Rattle.growing_text.specs.Grows.{Grows};
+ghost use Rattle.growing.specs.Grows.{Grows};
 ghost use Rattle.api_dump.specs.Lines.{whole_type};
 ghost use Rattle.api_dump.specs.Pieces.{dotted, text_of};
 ghost use Rattle.api_dump.specs.Types as meant;
 
 use crate::names::push_dotted;
 use aidl_schema::{AidlType, Base, Decl, Shape};
-use growing_text::GrowingText;
+use growing::GrowingText;
 
 /// Adds a type with the annotations before it.
 pub fn push_type(decls: &[Decl], ty: &AidlType, text: &mut GrowingText)

@@ -4,7 +4,7 @@
 ghost use Rattle.std.specs.Prelude.{◌≡◌, ◌++◌, ◌∷◌, [], slice_get};
 ghost use Rattle.std.specs.List.{find};
 ghost use Rattle.std.specs.Ordering.{int_eq};
-ghost use Rattle.growing_text.specs.Grows.{Grows};
+ghost use Rattle.growing.specs.Grows.{Grows};
 ghost use Rattle.aidl_syntax.specs.declared.token.Symbol.TheVariants as mark;
 ghost use Rattle.aidl_schema.specs.Names.{enumerators_of};
 ghost use Rattle.api_dump.specs.Pieces.{joined, sign, text_of};
@@ -13,7 +13,7 @@ ghost use Rattle.api_dump.specs.Values as meant;
 use crate::names::push_dotted;
 use aidl_base::Const;
 use aidl_schema::{AidlType, Backing, Base, Decl, Enumerator, Kind, Shape};
-use growing_text::GrowingText;
+use growing::GrowingText;
 
 /// Adds ` = VALUE`, where there is an initializer.
 pub fn push_initial(decls: &[Decl], ty: &AidlType, initial: &Option<Const>, text: &mut GrowingText)

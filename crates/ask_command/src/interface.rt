@@ -5,7 +5,7 @@ ghost use Rattle.tool_frame.specs.Results.{EndsAs, Finds};
 
 use aidl_base::OutOfMemory;
 use aidl_schema::{Schema, interface_named, methods_at};
-use growing_text::GrowingText;
+use growing::GrowingText;
 use meta_calls::reserved_method;
 use std::alloc::Global;
 use stub_dispatch::descriptor_of;

@@ -1,6 +1,6 @@
 //! The three lines of what is answered.
 ghost use Rattle.std.specs.Prelude.{◌≡◌, option_map, IfOk, string_bytes};
-ghost use Rattle.growing_text.specs.Grows.{Grows};
+ghost use Rattle.growing.specs.Grows.{Grows};
 ghost use Rattle.aidl_schema.specs.Find.{methods_at, position_of_code};
 ghost use Rattle.aidl_values.specs.View.{views};
 ghost use Rattle.ask_command.specs.Asked.{reply_text};
@@ -10,7 +10,7 @@ use aidl_base::{OutOfMemory, Row};
 use aidl_schema::{Schema, method_of_code};
 use aidl_values::Value;
 use call_runner::Methods;
-use growing_text::GrowingText;
+use growing::GrowingText;
 use run_command::{SidePrinter, push_saw};
 use std::alloc::Global;
 use stub_dispatch::Answered;

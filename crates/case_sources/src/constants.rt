@@ -5,7 +5,7 @@ use aidl_base::{Const, OutOfMemory};
 use aidl_names::{NameFault, Names};
 use aidl_syntax::ParsedFile;
 use const_eval::{Outcome, Settled, breaches, eval_all};
-use growing_text::GrowingText;
+use growing::GrowingText;
 use std::alloc::Global;
 
 /// The outcomes of the items of a tree in order, and behind them its breaches, if it has some.

@@ -4,7 +4,7 @@ use crate::constants::push_value;
 use aidl_base::{Const, OutOfMemory};
 use aidl_syntax::{BodyTree, ConstantTree, DottedTree, ExprTree, FileTree, MemberTree, TypeTree};
 use const_values::{ConstFault, EvalFault, Meanings, Operand, Wanted, evaluate, fit};
-use growing_text::GrowingText;
+use growing::GrowingText;
 use std::alloc::Global;
 
 // No name has a meaning.

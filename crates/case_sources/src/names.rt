@@ -9,7 +9,7 @@ use aidl_base::{Breach, DottedName, OutOfMemory};
 use aidl_names::{NameFault, Names};
 use aidl_syntax::ParsedFile;
 use declared_names::Found;
-use growing_text::GrowingText;
+use growing::GrowingText;
 use name_resolution::Resolved;
 use std::alloc::Global;
 

@@ -9,7 +9,7 @@ use aidl_lexer::{LexFault, lex};
 use aidl_parser::parse;
 use aidl_syntax::{FileTree, Token};
 use expr_parser::ParseFault;
-use growing_text::GrowingText;
+use growing::GrowingText;
 use std::alloc::Global;
 
 /// What is asked of a source text.

@@ -7,7 +7,7 @@ use aidl_syntax::{
     ExprTree, FieldTree, FileTree, InitTree, MemberTree, MethodTree, NameTree, ParamTree, Reserved,
     Symbol, Token, TokenKind, TypeTree, WayTree,
 };
-use growing_text::GrowingText;
+use growing::GrowingText;
 
 /// Adds a file.
 pub fn push_file(file: &FileTree, text: &mut GrowingText) {

@@ -3,7 +3,7 @@
 use crate::names::comma;
 use aidl_base::OutOfMemory;
 use aidl_syntax::{Token, TokenKind};
-use growing_text::GrowingText;
+use growing::GrowingText;
 use std::alloc::Global;
 
 /// Tokens as text: the offset and the kind of each.

@@ -21,7 +21,7 @@ use aidl_base::{OutOfMemory, Row};
 use aidl_names::Names;
 use const_items::{Dependence, ItemRef, dependence_of, law_count, number_items};
 use const_values::{ConstFault, EvalFault};
-use graph_cycles::find_cycles;
+use graph_cycles::{find_cycles, is_set, targets_of};
 use std::alloc::Global;
 
 /// The outcome of each item of a tree (own, after AOSP, "AIDL language", "Constants"). Items are judged by their ranks, each that
@@ -149,19 +149,4 @@ fn judged(
         Err(EvalFault::Fault(fault)) => Ok(Outcome::Fault(fault)),
         Err(EvalFault::OutOfMemory) => Err(OutOfMemory),
     }
-}
-
-fn targets_of(edges: &[Row<u32>], node: usize) -> &[u32]
-    ensures { result.now ≡ targets edges.now node }
-{
-    match edges.get(node) {
-        Some(row) => row.as_slice(),
-        None => &[],
-    }
-}
-
-fn is_set(flags: &[bool], at: usize) -> bool
-    ensures { result ≡ flag flags.now at }
-{
-    at < flags.len() && flags[at]
 }

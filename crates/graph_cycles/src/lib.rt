@@ -13,3 +13,4 @@ mod slow;
 
 pub use cycles::{Cycles, find_cycles};
 pub use laws::law_some_cycles;
+pub use marks::{is_set, targets_of};

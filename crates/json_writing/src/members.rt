@@ -9,7 +9,7 @@ use crate::quoted::push_quoted;
 use crate::value_text::push_comma_if;
 use aidl_base::OutOfMemory;
 use aidl_schema::{AidlType, Field};
-use growing_text::GrowingText;
+use growing::GrowingText;
 use std::alloc::Global;
 use std::collections::BTreeMap;
 

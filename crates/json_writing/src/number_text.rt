@@ -1,13 +1,13 @@
 //! The JSON arrays of numbers that lie side by side and that no enumerator names.
 ghost use Rattle.std.specs.Prelude.{◌≡◌, ◌≤◌, false, true, drop, length, map};
-ghost use Rattle.growing_text.specs.Grows.{Grows};
+ghost use Rattle.growing.specs.Grows.{Grows};
 ghost use Rattle.json_writing.specs.steps.Completes.{Completes};
 ghost use Rattle.json_writing.specs.steps.Numbers.{AreByteTexts, ArePairTexts, row_of_texts, text_of_byte};
 
 use crate::byte_texts::{BYTES, PAIRS, texts_of_bytes, texts_of_pairs};
 use crate::value_text::push_comma_if;
 use arrayvec::ArrayString;
-use growing_text::GrowingText;
+use growing::GrowingText;
 use itoa::{Buffer, Integer};
 use std::alloc::Global;
 

@@ -1,7 +1,7 @@
 //! The JSON objects of parcelables and unions.
 ghost use Rattle.std.specs.List.{All};
 ghost use Rattle.std.specs.Prelude.{◌≡◌};
-ghost use Rattle.growing_text.specs.Grows.{Grows};
+ghost use Rattle.growing.specs.Grows.{Grows};
 ghost use Rattle.aidl_values.specs.Data.{alt, rec};
 ghost use Rattle.aidl_values.specs.HasType.{HasType};
 ghost use Rattle.aidl_values.specs.View.{field_datas, items_of, view};
@@ -14,7 +14,7 @@ use crate::printer::JsonPrinter;
 use crate::quoted::push_quoted;
 use aidl_schema::{AidlType, Base};
 use aidl_values::{Fields, Value};
-use growing_text::GrowingText;
+use growing::GrowingText;
 use std::alloc::Global;
 
 // Adds a parcelable: its fields in the order of their names.

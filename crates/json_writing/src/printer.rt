@@ -1,6 +1,6 @@
 //! The state of printing values, and the JSON of a value and of a number.
 ghost use Rattle.std.specs.Prelude.{◌≡◌};
-ghost use Rattle.growing_text.specs.Grows.{Grows};
+ghost use Rattle.growing.specs.Grows.{Grows};
 ghost use Rattle.serde_json.specs.Written.{compact_text};
 ghost use Rattle.aidl_values.specs.HasType.{HasType};
 ghost use Rattle.aidl_values.specs.View.{view};
@@ -17,7 +17,7 @@ use crate::value_names::ValueNames;
 use crate::value_text::push_truth;
 use aidl_schema::{AidlType, Base, Schema};
 use aidl_values::Value;
-use growing_text::GrowingText;
+use growing::GrowingText;
 use itoa::Buffer;
 use std::alloc::Global;
 use std::marker::Model;

@@ -1,12 +1,12 @@
 //! Texts as JSON strings, with or without escapes.
 ghost use Rattle.std.specs.Prelude.{◌≡◌};
 ghost use Rattle.std.specs.List.{list_all};
-ghost use Rattle.growing_text.specs.Grows.{Grows};
+ghost use Rattle.growing.specs.Grows.{Grows};
 ghost use Rattle.serde_json.specs.Data.{string};
 ghost use Rattle.serde_json.specs.Written.{compact_text};
 ghost use Rattle.json_writing.specs.steps.Plain as plain;
 
-use growing_text::GrowingText;
+use growing::GrowingText;
 use serde_json::Value as Json;
 use std::alloc::Global;
 

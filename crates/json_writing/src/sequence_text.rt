@@ -1,6 +1,6 @@
 //! The JSON arrays of arrays and Lists.
 ghost use Rattle.std.specs.Prelude.{◌≡◌, false};
-ghost use Rattle.growing_text.specs.Grows.{Grows};
+ghost use Rattle.growing.specs.Grows.{Grows};
 ghost use Rattle.serde_json.specs.Written.{items_text};
 ghost use Rattle.aidl_values.specs.Data.{seq};
 ghost use Rattle.aidl_values.specs.HasType.{HasType, HaveType};
@@ -14,7 +14,7 @@ use crate::printer::JsonPrinter;
 use crate::value_text::{push_comma_if, push_truth};
 use aidl_schema::{AidlType, element};
 use aidl_values::{Element, Elements};
-use growing_text::GrowingText;
+use growing::GrowingText;
 use std::alloc::Global;
 
 // Adds an array or a List of a type.

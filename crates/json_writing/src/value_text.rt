@@ -1,5 +1,5 @@
 //! The JSON text of a value of any type, and of booleans and the commas between parts.
-ghost use Rattle.growing_text.specs.Grows.{Grows};
+ghost use Rattle.growing.specs.Grows.{Grows};
 ghost use Rattle.serde_json.specs.Data.{boolean};
 ghost use Rattle.serde_json.specs.Written.{comma_if, compact_text};
 ghost use Rattle.aidl_values.specs.HasType.{HasType};
@@ -9,7 +9,7 @@ ghost use Rattle.json_writing.specs.ValueText.{value_text};
 use crate::printer::JsonPrinter;
 use aidl_schema::{AidlType, Schema};
 use aidl_values::Value;
-use growing_text::GrowingText;
+use growing::GrowingText;
 use std::alloc::Global;
 
 /// Adds a value of a type to a text, as compact JSON. It goes into the text piece by piece, with no JSON value between, but

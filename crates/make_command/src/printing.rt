@@ -1,13 +1,13 @@
 //! The four lines that `make` prints.
 ghost use Rattle.std.specs.Prelude.{◌≡◌, []};
 ghost use Rattle.aidl_schema.specs.Broken.{broken};
-ghost use Rattle.growing_text.specs.Grows.{Grows};
+ghost use Rattle.growing.specs.Grows.{Grows};
 ghost use Rattle.make_command.specs.Making as meant;
 ghost use Rattle.tool_frame.specs.Results.{Gives};
 
 use crate::tally::Tally;
 use aidl_schema::Schema;
-use growing_text::GrowingText;
+use growing::GrowingText;
 use std::alloc::Global;
 use tool_frame::{Early, Printed, Verdict};
 

@@ -1,8 +1,8 @@
 -- The line of an item, piece by piece.
 use Rattle.std.proofs.Common.{ℕ, List, ◌++◌, codes, sym, ◌∙◌, subst, append_assoc}
-use Rattle.growing_text.proofs.lemmas.Chains.{both_grow}
-use Rattle.growing_text.specs.declared.GrowingText.{GrowingText}
-use Rattle.growing_text.specs.Grows.{Grows}
+use Rattle.growing.proofs.lemmas.Chains.{both_grow}
+use Rattle.growing.specs.declared.text.GrowingText.{GrowingText}
+use Rattle.growing.specs.Grows.{Grows}
 use Rattle.tool_frame.specs.Answer.{line}
 
 pub item_grown : (offset bytes path kind : List ℕ) (a b c d e f g : GrowingText) → Grows a b offset → Grows b c (codes " ") → Grows c d bytes → Grows d e (codes " ") → Grows e f path

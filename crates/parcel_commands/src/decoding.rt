@@ -11,7 +11,7 @@ ghost use Rattle.tool_frame.specs.Results.{Gives};
 use crate::steps::known_types;
 use aidl_base::Profile;
 use aidl_schema::{AidlType, Schema};
-use growing_text::GrowingText;
+use growing::GrowingText;
 use json_writing::push_value_text;
 use marshal_plans::{PlanId, Plans, compile};
 use parcel_read::read;

@@ -23,7 +23,7 @@ use crate::steps::known_types;
 use aidl_base::{Limit, LimitName, OutOfMemory};
 use aidl_schema::{AidlType, Schema};
 use aidl_values::Value;
-use growing_text::GrowingText;
+use growing::GrowingText;
 use json_values::{JsonFault, parse_json};
 use marshal_plans::{Plans, compile};
 use parcel_words::WordWriter;

@@ -1,7 +1,7 @@
 //! What `explain` prints: a line for each item of a parcel.
 ghost use Rattle.std.specs.Prelude.{◌≡◌, ◌≤◌, ◌++◌, IfOk, codes, length, string_bytes};
 ghost use Rattle.std.specs.List.{flat_map, list_all};
-ghost use Rattle.growing_text.specs.Grows.{Grows};
+ghost use Rattle.growing.specs.Grows.{Grows};
 ghost use Rattle.parcel_commands.specs.Explain.{bytes_at, explain_answer, is_right, item_line, items_verdict, kind_text, path_text};
 ghost use Rattle.tool_frame.specs.Answer.{line};
 ghost use Rattle.tool_frame.specs.Results.{Gives};
@@ -10,7 +10,7 @@ ghost use Rattle.tool_frame.specs.Shown.{shown};
 use crate::steps::known_types;
 use aidl_base::{OutOfMemory, Text};
 use aidl_schema::Schema;
-use growing_text::GrowingText;
+use growing::GrowingText;
 use itoa::Buffer;
 use parcel_explain::{Item, ItemKind};
 use std::alloc::Global;

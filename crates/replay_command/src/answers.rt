@@ -1,6 +1,6 @@
 //! The lines of what is answered.
 ghost use Rattle.std.specs.Prelude.{◌≡◌, option_map};
-ghost use Rattle.growing_text.specs.Grows.{Grows};
+ghost use Rattle.growing.specs.Grows.{Grows};
 ghost use Rattle.aidl_values.specs.View.{views};
 ghost use Rattle.replay_command.specs.Replaying.{called_line, refused_line};
 ghost use Rattle.replay_command.specs.steps.Answered.{answered_line, AreThere, IsSeenBy};
@@ -9,7 +9,7 @@ ghost use Rattle.run_command.specs.LineText.{saw_text};
 use aidl_base::Row;
 use aidl_values::Value;
 use call_runner::Methods;
-use growing_text::GrowingText;
+use growing::GrowingText;
 use run_command::{SidePrinter, push_saw};
 use std::alloc::Global;
 use stub_dispatch::Answered;

@@ -1,6 +1,6 @@
 //! A line of a trace, and what is printed of it.
 ghost use Rattle.std.specs.Prelude.{◌≡◌, List, ℕ};
-ghost use Rattle.growing_text.specs.Grows.{Grows};
+ghost use Rattle.growing.specs.Grows.{Grows};
 ghost use Rattle.parcel_replay.specs.Traced.{request, traced};
 ghost use Rattle.replay_command.specs.Replaying.{replayed_line};
 ghost use Rattle.replay_command.specs.steps.Answered.{AreOfCode, AreThere};
@@ -8,7 +8,7 @@ ghost use Rattle.replay_command.specs.steps.Answered.{AreOfCode, AreThere};
 use crate::answers::{push_answered, push_refused};
 use aidl_schema::{Schema, method_of_code};
 use call_runner::Methods;
-use growing_text::GrowingText;
+use growing::GrowingText;
 use parcel_replay::{Replayed, recorded_code, replay_line};
 use run_command::{Line, SidePrinter};
 use std::alloc::Global;

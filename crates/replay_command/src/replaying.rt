@@ -16,7 +16,7 @@ use crate::lines::push_line;
 use aidl_base::OutOfMemory;
 use aidl_outside::{Sink, Store};
 use aidl_schema::{Schema, interface_named};
-use growing_text::GrowingText;
+use growing::GrowingText;
 use marshal_plans::compile;
 use run_command::{Line, SidePrinter, cut, lines_loaded};
 use std::alloc::Global;

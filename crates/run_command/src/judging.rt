@@ -1,6 +1,6 @@
 //! The judge on both orders of two schemas.
 ghost use Rattle.std.specs.Prelude.{◌≡◌, None, IfOk, map};
-ghost use Rattle.growing_text.specs.Grows.{Grows};
+ghost use Rattle.growing.specs.Grows.{Grows};
 ghost use Rattle.aidl_schema.specs.Broken.{broken};
 ghost use Rattle.compat_judge.specs.Seen.{seen};
 ghost use Rattle.run_command.specs.Running.{judged_course, marked, neither};
@@ -12,7 +12,7 @@ ghost use Rattle.wire_model.specs.Outcome.{OneFollows};
 use aidl_base::OutOfMemory;
 use aidl_schema::Schema;
 use compat_judge::{Broken, judge};
-use growing_text::GrowingText;
+use growing::GrowingText;
 use std::alloc::Global;
 use tool_frame::{Printed, Verdict};
 use tree_commands::push_break;

@@ -2,7 +2,7 @@
 ghost use Rattle.std.specs.Prelude.{◌≡◌, ◌++◌, ◌<◌, Ok, Some, codes, option_map, length};
 ghost use Rattle.std.specs.Fmt.{decimal, signed_decimal};
 ghost use Rattle.std.specs.Str.{encode_utf8_all};
-ghost use Rattle.growing_text.specs.Grows.{Grows};
+ghost use Rattle.growing.specs.Grows.{Grows};
 ghost use Rattle.aidl_schema.specs.Find.{methods_at};
 ghost use Rattle.aidl_values.specs.View.{views};
 ghost use Rattle.stub_dispatch.specs.Got.{got_of};
@@ -19,7 +19,7 @@ use crate::values::{push_quoted, push_result, push_values};
 use aidl_base::{Row, Text};
 use aidl_values::Value;
 use call_runner::{Got, LineOut, LineRun, Methods, Refused};
-use growing_text::GrowingText;
+use growing::GrowingText;
 use itoa::Buffer;
 use std::alloc::Global;
 use stub_dispatch::SERVICE_SPECIFIC;

@@ -1,7 +1,7 @@
 //! What is put of a line in one piece.
 ghost use Rattle.std.specs.Prelude.{◌≡◌, ◌++◌, codes, IfOk, string_bytes};
 ghost use Rattle.std.specs.Fmt.{decimal};
-ghost use Rattle.growing_text.specs.Grows.{Grows};
+ghost use Rattle.growing.specs.Grows.{Grows};
 ghost use Rattle.call_runner.specs.Runs.{IsTyped, line_data};
 ghost use Rattle.run_command.specs.Running.{piece};
 ghost use Rattle.run_command.specs.Trace.{trace_line, trace_text, way_text};
@@ -11,7 +11,7 @@ use crate::printers::Printers;
 use aidl_base::OutOfMemory;
 use aidl_outside::{Carried, Way};
 use call_runner::LineRun;
-use growing_text::GrowingText;
+use growing::GrowingText;
 use std::alloc::Global;
 use tool_frame::push_shown;
 

@@ -1,6 +1,6 @@
 //! The printers of what a client and a server have, which are kept over all lines.
 ghost use Rattle.std.specs.Prelude.{◌≡◌, ◌<◌, Some, length};
-ghost use Rattle.growing_text.specs.Grows.{Grows};
+ghost use Rattle.growing.specs.Grows.{Grows};
 ghost use Rattle.aidl_schema.specs.Find.{methods_at};
 ghost use Rattle.aidl_values.specs.HasType.{HasType};
 ghost use Rattle.aidl_values.specs.View.{view};
@@ -9,7 +9,7 @@ ghost use Rattle.wire_model.specs.Calls.{method_at};
 
 use aidl_schema::{AidlType, Method, Schema};
 use aidl_values::Value;
-use growing_text::GrowingText;
+use growing::GrowingText;
 use json_writing::JsonPrinter;
 use std::alloc::Global;
 use std::marker::Model;

@@ -1,6 +1,6 @@
 //! Values and strings as they stand in a line.
 ghost use Rattle.std.specs.Prelude.{◌≡◌};
-ghost use Rattle.growing_text.specs.Grows.{Grows};
+ghost use Rattle.growing.specs.Grows.{Grows};
 ghost use Rattle.aidl_values.specs.View.{views};
 ghost use Rattle.run_command.specs.LineText.{others_text, quoted, result_text, values_text};
 ghost use Rattle.wire_model.specs.Calls.{optional_view};
@@ -9,7 +9,7 @@ ghost use Rattle.wire_model.specs.Typed.{EachHasType, IsResult};
 use crate::printers::SidePrinter;
 use aidl_schema::AidlType;
 use aidl_values::Value;
-use growing_text::GrowingText;
+use growing::GrowingText;
 use serde_json::Value as Json;
 use std::alloc::Global;
 

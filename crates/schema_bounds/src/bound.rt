@@ -3,11 +3,11 @@ ghost use Rattle.std.specs.Prelude.{◌≡◌, ◌≤◌, length, map, IfOk};
 ghost use Rattle.std.specs.List.{range_with_len};
 ghost use Rattle.schema_bounds.specs.Bounds as meant;
 
-use crate::places::is_set;
 use crate::reach::reach_of;
 use crate::small::small_defaults;
 use aidl_base::OutOfMemory;
 use aidl_schema::Decl;
+use graph_cycles::is_set;
 use std::alloc::Global;
 
 /// Which of the rules on what a declaration holds it breaks.

@@ -3,10 +3,10 @@
 use crate::containment::is_composite;
 use crate::kind_size::kind_size;
 use crate::measure::Measure;
-use crate::places::{is_set, number_at, put};
+use crate::places::{number_at, put};
 use aidl_base::{OutOfMemory, Row};
 use aidl_schema::{Base, Decl, Field, Kind, fields_of, is_one};
-use graph_cycles::find_cycles;
+use graph_cycles::{find_cycles, is_set};
 use std::alloc::Global;
 
 /// The numbers of the declarations, each behind those whose defaults are in its own, and which have a default that holds

@@ -1,13 +1,5 @@
 //! Reading a list at a place that may lie beyond its end, and setting a number of it.
 ghost use Rattle.std.specs.Prelude.{◌≡◌, slice_index_or};
-ghost use Rattle.graph_cycles.specs.Paths.{flag};
-
-/// The flag at a place, and false beyond the last.
-pub fn is_set(flags: &[bool], at: usize) -> bool
-    ensures { result ≡ flag flags.now at }
-{
-    at < flags.len() && flags[at]
-}
 
 /// The number at a place, and the other one beyond the last.
 pub fn number_at(numbers: &[usize], at: usize, other: usize) -> usize

@@ -4,9 +4,8 @@ ghost use Rattle.std.specs.List.{range_with_len};
 ghost use Rattle.graph_cycles.specs.Paths.{TellsCycles, flag, targets};
 ghost use Rattle.schema_bounds.specs.steps.Hubs as hubs;
 
-use crate::places::is_set;
 use aidl_base::{OutOfMemory, Row};
-use graph_cycles::find_cycles;
+use graph_cycles::{find_cycles, is_set, targets_of};
 use std::alloc::Global;
 
 /// Which nodes reach a cycle, by those that lie on one. With a hub, to which each of these leads and which leads to all nodes,
@@ -58,14 +57,4 @@ fn all_below(alloc: Global, end: u32) -> Result<Row<u32>, OutOfMemory>
         row.push(number)?;
     }
     Ok(row)
-}
-
-// The nodes that a node leads to: none beyond the last row.
-fn targets_of(edges: &[Row<u32>], node: usize) -> &[u32]
-    ensures { result.now ≡ targets edges.now node }
-{
-    match edges.get(node) {
-        Some(row) => row.as_slice(),
-        None => &[],
-    }
 }

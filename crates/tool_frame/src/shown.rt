@@ -1,8 +1,8 @@
 //! Bytes in a line of text.
-ghost use Rattle.growing_text.specs.Grows.{Grows};
+ghost use Rattle.growing.specs.Grows.{Grows};
 ghost use Rattle.tool_frame.specs.Shown.{shown};
 
-use growing_text::GrowingText;
+use growing::GrowingText;
 use std::alloc::Global;
 
 /// Adds bytes as two lower-case hexadecimal digits each, or `-` for no bytes (own).

@@ -5,9 +5,9 @@ use Rattle.std.proofs.lemmas.List.{append-nil}
 use Rattle.aidl_base.specs.declared.source_file.SourceFile.{SourceFile}
 use Rattle.aidl_syntax.specs.declared.token.Token.{Token}
 use Rattle.aidl_syntax.specs.Tokens.{Tokens}
-use Rattle.growing_text.specs.declared.GrowingText.{GrowingText}
-use Rattle.growing_text.specs.Grows.{Grows}
-use Rattle.growing_text.proofs.lemmas.Chains.{nothing_grows}
+use Rattle.growing.specs.declared.text.GrowingText.{GrowingText}
+use Rattle.growing.specs.Grows.{Grows}
+use Rattle.growing.proofs.lemmas.Chains.{nothing_grows}
 use Rattle.parse_places.specs.Viable.{HasTree, IsFaultPlace}
 use Rattle.tool_frame.specs.Answer.{line}
 use Rattle.tree_commands.specs.Faults.{AreSyntaxLines, IsLineOf, IsPlace, IsSyntaxLine}

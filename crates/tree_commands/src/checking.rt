@@ -19,7 +19,7 @@ use crate::opening::open;
 use aidl_base::{Row, SourceFile};
 use aidl_outside::{Sink, Store};
 use aidl_schema::Schema;
-use growing_text::GrowingText;
+use growing::GrowingText;
 use std::alloc::Global;
 use tool_frame::{Early, Exit, Halt, Printed, Verdict, end};
 

@@ -1,6 +1,6 @@
 //! The command `judge`: the evolution rules that a new tree breaks, or that it breaks none.
 ghost use Rattle.std.specs.Prelude.{◌≡◌, codes, IfOk, map, string_bytes};
-ghost use Rattle.growing_text.specs.Grows.{Grows};
+ghost use Rattle.growing.specs.Grows.{Grows};
 ghost use Rattle.tool_frame.specs.Due.{AsksTreeThen};
 ghost use Rattle.tool_frame.specs.Outside.{LinkSeen, seen_beside};
 ghost use Rattle.tree_commands.specs.Judged.{JudgeAnswers, break_line, judged};
@@ -21,7 +21,7 @@ use aidl_base::OutOfMemory;
 use aidl_outside::{Sink, Store};
 use aidl_schema::Schema;
 use compat_judge::Broken;
-use growing_text::GrowingText;
+use growing::GrowingText;
 use std::alloc::Global;
 use tool_frame::{Early, Exit, Halt, Printed, Verdict, end};
 

@@ -1,12 +1,12 @@
 //! The printed lines of faults in files: files without tokens, and broken check rules.
 ghost use Rattle.std.specs.Prelude.{◌≡◌, IfOk, string_bytes};
 ghost use Rattle.std.specs.List.{flat_map};
-ghost use Rattle.growing_text.specs.Grows.{Grows};
+ghost use Rattle.growing.specs.Grows.{Grows};
 ghost use Rattle.tree_commands.specs.Lines as meant;
 
 use crate::rule_names::rule_name;
 use aidl_base::{Breach, OutOfMemory, SourceFile};
-use growing_text::GrowingText;
+use growing::GrowingText;
 use std::alloc::Global;
 use tree_files::LexBreach;
 

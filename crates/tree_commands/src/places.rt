@@ -9,7 +9,7 @@ ghost use Rattle.tree_commands.specs.steps.Adding.{Adds, AddsLine};
 use aidl_base::{OutOfMemory, SourceFile};
 use aidl_lexer::lex;
 use aidl_syntax::Token;
-use growing_text::GrowingText;
+use growing::GrowingText;
 use parse_places::fault_place;
 use std::alloc::Global;
 

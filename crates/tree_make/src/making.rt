@@ -5,7 +5,7 @@ ghost use Rattle.tree_make.specs.Made as meant;
 use crate::numbers::in_order;
 use crate::texts::{Part, path_of, push_calls, text_of};
 use aidl_base::{OutOfMemory, Row, SourceFile, Text};
-use growing_text::GrowingText;
+use growing::GrowingText;
 use std::alloc::Global;
 
 /// The text of a calls file from a newer tree to an older one, and the files of both trees, each with its path relative to the root of

@@ -1,10 +1,10 @@
 //! The texts of the files and of the calls, each with a number in it.
 ghost use Rattle.std.specs.Prelude.{◌≡◌, IfOk, string_bytes};
-ghost use Rattle.growing_text.specs.Grows.{Grows};
+ghost use Rattle.growing.specs.Grows.{Grows};
 ghost use Rattle.tree_make.specs.Made as meant;
 
 use aidl_base::OutOfMemory;
-use growing_text::GrowingText;
+use growing::GrowingText;
 use std::alloc::Global;
 
 /// Which file of a number: its parcelable or its interface, of the older tree or of the newer one.

@@ -18,7 +18,7 @@ use aidl_outside::{Sink, Store, path_below};
 use aidl_schema::Schema;
 use api_versions::{Write, write_all};
 use dump_reading::law_dump_back;
-use growing_text::GrowingText;
+use growing::GrowingText;
 use std::alloc::Global;
 use tool_frame::{Exit, Halt, Printed, Verdict, end};
 use tree_commands::open;

@@ -14,7 +14,7 @@ ghost use Rattle.tool_frame.specs.Results.{Gives};
 use crate::refusing::freeze_refusal;
 use aidl_outside::{Sink, Store};
 use api_freeze::Frozen;
-use growing_text::GrowingText;
+use growing::GrowingText;
 use std::alloc::Global;
 use tool_frame::{Early, Exit, Halt, Printed, Verdict, end};
 use tree_commands::open;

@@ -13,7 +13,7 @@ use crate::unread::versions_refusal;
 use aidl_base::{OutOfMemory, Row, SourceFile};
 use api_freeze::FreezeFault;
 use api_versions::version_folder;
-use growing_text::GrowingText;
+use growing::GrowingText;
 use std::alloc::Global;
 use tool_frame::{Early, Halt, Printed, Verdict, limit_passed};
 use tree_commands::{fault_answer, judge_lines};

@@ -14,7 +14,7 @@ ghost use Rattle.version_commands.specs.Rehashed as meant;
 use crate::unread::versions_refusal;
 use aidl_outside::{Sink, Store};
 use api_freeze::RehashFault;
-use growing_text::GrowingText;
+use growing::GrowingText;
 use std::alloc::Global;
 use tool_frame::{Early, Exit, Halt, Printed, Verdict, end};
 use version_lines::torn_answer;

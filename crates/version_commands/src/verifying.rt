@@ -13,7 +13,7 @@ ghost use Rattle.version_commands.specs.Verified as meant;
 use crate::unread::versions_refusal;
 use aidl_outside::{Sink, Store};
 use api_versions::{Version, is_whole, versions};
-use growing_text::GrowingText;
+use growing::GrowingText;
 use std::alloc::Global;
 use tool_frame::{Early, Exit, Halt, Printed, Verdict, end};
 use version_lines::push_version;

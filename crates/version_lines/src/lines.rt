@@ -1,12 +1,12 @@
 //! The line that `verify` prints of a version, and the words for a version that isn't whole.
 ghost use Rattle.std.specs.Prelude.{◌≡◌, take};
-ghost use Rattle.growing_text.specs.Grows.{Grows};
+ghost use Rattle.growing.specs.Grows.{Grows};
 ghost use Rattle.api_versions.specs.Whole as whole;
 ghost use Rattle.version_lines.specs.Lines as meant;
 
 use aidl_base::Row;
 use api_versions::{Version, defined_text, text_of};
-use growing_text::GrowingText;
+use growing::GrowingText;
 use std::alloc::Global;
 use tool_frame::push_shown;
 

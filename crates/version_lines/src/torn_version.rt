@@ -4,7 +4,7 @@ ghost use Rattle.version_lines.specs.Lines as meant;
 
 use crate::lines::push_torn;
 use aidl_base::{Row, Text};
-use growing_text::GrowingText;
+use growing::GrowingText;
 use std::alloc::Global;
 use tool_frame::{Early, Printed, Verdict};
 

@@ -2,7 +2,7 @@
 ghost use Rattle.tool_frame.specs.Results.{EndsAs};
 ghost use Rattle.version_lines.specs.Lines as meant;
 
-use growing_text::GrowingText;
+use growing::GrowingText;
 use std::alloc::Global;
 use tool_frame::{Early, Printed, Verdict};
 

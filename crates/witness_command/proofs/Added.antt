@@ -1,9 +1,9 @@
 -- One more entry behind others.
 use Rattle.std.proofs.Common.{◌≡◌, ◌∙◌, ◌<◌, ℕ, zero, suc, List, [], ◌∷◌, ◌++◌, map, length, get_or, slice_get, Some, true, refl, sym, ap, subst, append_assoc, arith, Result, string_bytes}
 use Rattle.std.proofs.lemmas.List.{append-nil}
-use Rattle.growing_text.specs.Grows.{Grows}
-use Rattle.growing_text.specs.declared.GrowingText.{GrowingText}
-use Rattle.growing_text.proofs.lemmas.Chains.{both_grow}
+use Rattle.growing.specs.Grows.{Grows}
+use Rattle.growing.specs.declared.text.GrowingText.{GrowingText}
+use Rattle.growing.proofs.lemmas.Chains.{both_grow}
 use Rattle.aidl_schema.specs.Broken.{Break}
 use Rattle.aidl_schema.specs.Unbroken.{Has}
 use Rattle.aidl_schema.specs.declared.schema.Decl.{Decl}

@@ -1,8 +1,8 @@
 -- The lines of a call, by what was found of it.
 use Rattle.std.proofs.Common.{◌≡◌, ◌∙◌, ℕ, Bool, List, ◌++◌, Option, codes, sym, ap, subst}
-use Rattle.growing_text.specs.Grows.{Grows}
-use Rattle.growing_text.specs.declared.GrowingText.{GrowingText}
-use Rattle.growing_text.proofs.lemmas.Chains.{both_grow}
+use Rattle.growing.specs.Grows.{Grows}
+use Rattle.growing.specs.declared.text.GrowingText.{GrowingText}
+use Rattle.growing.proofs.lemmas.Chains.{both_grow}
 use Rattle.aidl_schema.specs.declared.schema.Decl.{Decl}
 use Rattle.compat_witness.specs.Candidates.{Candidate, bytes_of, client_of, server_of, read_side}
 use Rattle.compat_witness.specs.Sides.{Side}

@@ -1,7 +1,7 @@
 -- One more part behind others.
 use Rattle.std.proofs.Common.{◌≡◌, ℕ, Bool, true, List, ◌++◌, sym, ap, ◌∙◌, append_assoc, string_bytes}
-use Rattle.growing_text.specs.Grows.{Grows}
-use Rattle.growing_text.specs.declared.GrowingText.{GrowingText}
+use Rattle.growing.specs.Grows.{Grows}
+use Rattle.growing.specs.declared.text.GrowingText.{GrowingText}
 use Rattle.serde_json.specs.Written.{comma_if}
 use Rattle.aidl_values.specs.Data.{Data, Items, item}
 use Rattle.witness_command.specs.Texts.{parts_text, value_text}

@@ -1,6 +1,6 @@
 //! The three lines of a shown call.
 ghost use Rattle.std.specs.Prelude.{◌≡◌};
-ghost use Rattle.growing_text.specs.Grows.{Grows};
+ghost use Rattle.growing.specs.Grows.{Grows};
 ghost use Rattle.witness_calls.specs.Seen.{call_seen, reading_seen, values_seen};
 ghost use Rattle.witness_calls.specs.Showing.{ShowsIt};
 ghost use Rattle.witness_command.specs.CallLines.{call_line, call_lines, heading_text, lines_between, side_line, way_text, word_text};
@@ -8,7 +8,7 @@ ghost use Rattle.witness_command.specs.CallLines.{call_line, call_lines, heading
 use crate::sides::{method_name, push_side};
 use aidl_base::Text;
 use aidl_schema::Schema;
-use growing_text::GrowingText;
+use growing::GrowingText;
 use std::alloc::Global;
 use stub_dispatch::descriptor_of;
 use tool_frame::push_shown;

@@ -1,6 +1,6 @@
 //! The lines of broken evolution rules, each with a call that shows it or the reason why none is shown.
 ghost use Rattle.std.specs.Prelude.{◌≡◌, ◌++◌, IfOk, map, string_bytes};
-ghost use Rattle.growing_text.specs.Grows.{Grows};
+ghost use Rattle.growing.specs.Grows.{Grows};
 ghost use Rattle.aidl_schema.specs.Broken.{broken};
 ghost use Rattle.compat_judge.specs.Seen.{seen};
 ghost use Rattle.tree_commands.specs.Judged.{break_line};
@@ -10,7 +10,7 @@ ghost use Rattle.witness_command.specs.Entries.{AreEntries, shown_lines};
 use crate::call_lines::push_call;
 use aidl_base::OutOfMemory;
 use compat_judge::Broken;
-use growing_text::GrowingText;
+use growing::GrowingText;
 use std::alloc::Global;
 use tree_commands::push_break;
 use witness_search::{NoCall, Pair, Shown, witness};

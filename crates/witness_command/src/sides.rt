@@ -1,6 +1,6 @@
 //! A side of a call as it stands in a line.
 ghost use Rattle.std.specs.Prelude.{◌≡◌};
-ghost use Rattle.growing_text.specs.Grows.{Grows};
+ghost use Rattle.growing.specs.Grows.{Grows};
 ghost use Rattle.stub_dispatch.specs.Got.{got_of};
 ghost use Rattle.wire_model.specs.Calls.{method_at, optional_view};
 ghost use Rattle.witness_calls.specs.Seen.{reading_seen};
@@ -9,7 +9,7 @@ ghost use Rattle.witness_command.specs.SideText.{client_text, name_at, name_of_m
 use crate::values::{push_value, push_values};
 use aidl_schema::{Schema, methods_at};
 use aidl_values::Value;
-use growing_text::GrowingText;
+use growing::GrowingText;
 use std::alloc::Global;
 use stub_dispatch::Got;
 use witness_calls::Reading;

@@ -1,12 +1,12 @@
 //! Values as they stand in a side: by their parts, without their types.
-ghost use Rattle.growing_text.specs.Grows.{Grows};
+ghost use Rattle.growing.specs.Grows.{Grows};
 ghost use Rattle.serde_json.specs.Written.{comma_if};
 ghost use Rattle.aidl_values.specs.Data.{rec, seq};
 ghost use Rattle.aidl_values.specs.View.{datas, field_datas, items_of, view, view_element, views};
 ghost use Rattle.witness_command.specs.Texts.{quoted, value_text, values_text};
 
 use aidl_values::{Element, Elements, Fields, Value};
-use growing_text::GrowingText;
+use growing::GrowingText;
 use serde_json::Value as Json;
 use std::alloc::Global;
 

@@ -1,8 +1,8 @@
 -- What items add to a text.
 use Rattle.std.specs.Prelude.{◌≡◌, ℕ, ℤ, List, ◌++◌, Option, Some, None, Result, Ok, Err, codes, true, string_bytes}
 use Rattle.std.specs.Fmt.{signed_decimal}
-use Rattle.growing_text.specs.declared.GrowingText.{GrowingText}
-use Rattle.growing_text.specs.Grows.{Grows}
+use Rattle.growing.specs.declared.text.GrowingText.{GrowingText}
+use Rattle.growing.specs.Grows.{Grows}
 use Rattle.aidl_schema.specs.declared.schema.Decl.{Decl}
 use Rattle.aidl_schema.specs.declared.schema.AidlType.{AidlType}
 use Rattle.aidl_values.specs.Data.{Data}

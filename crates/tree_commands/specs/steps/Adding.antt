@@ -1,7 +1,7 @@
 -- What a step adds to a text that grows.
 use Rattle.std.specs.Prelude.{◌≡◌, ℕ, ◌++◌, List, [], ◌∷◌, true, string_bytes}
 use Rattle.aidl_base.specs.declared.source_file.SourceFile.{SourceFile}
-use Rattle.growing_text.specs.declared.GrowingText.{GrowingText}
+use Rattle.growing.specs.declared.text.GrowingText.{GrowingText}
 use Rattle.tree_commands.specs.Faults.{AreSyntaxLines}
 
 -- if the text is whole it was so before, and it has more bytes of which this holds

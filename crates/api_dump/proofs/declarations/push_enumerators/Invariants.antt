@@ -1,6 +1,6 @@
 use Rattle.std.proofs.Common.{◌++◌, take}
 use Rattle.std.specs.List.{flat_map}
-use Rattle.growing_text.specs.Grows.{Grows}
+use Rattle.growing.specs.Grows.{Grows}
 use Rattle.api_dump.specs.Pieces.{text_of}
 use Rattle.api_dump.specs.Declarations.{indent}
 use Rattle.api_dump.specs.Lines.{enumerator}

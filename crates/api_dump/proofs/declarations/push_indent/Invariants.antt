@@ -1,4 +1,4 @@
-use Rattle.growing_text.specs.Grows.{Grows}
+use Rattle.growing.specs.Grows.{Grows}
 use Rattle.api_dump.specs.Pieces.{text_of}
 use Rattle.api_dump.specs.Declarations.{indent}
 use Rattle.api_dump.proofs.declarations.push_indent.Given as goal

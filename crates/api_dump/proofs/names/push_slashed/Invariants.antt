@@ -1,7 +1,7 @@
 use Rattle.std.proofs.Common.{◌∷◌, take}
 use Rattle.std.specs.List.{flat_map}
 use Rattle.std.specs.Str.{encode_utf8_all}
-use Rattle.growing_text.specs.Grows.{Grows}
+use Rattle.growing.specs.Grows.{Grows}
 use Rattle.api_dump.proofs.names.push_slashed.Given as goal
 
 -- the others so far

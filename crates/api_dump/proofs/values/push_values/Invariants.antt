@@ -1,7 +1,7 @@
 use Rattle.std.proofs.Common.{◌∷◌, take}
 use Rattle.std.specs.List.{flat_map}
 use Rattle.aidl_syntax.specs.declared.token.Symbol.TheVariants as mark
-use Rattle.growing_text.specs.Grows.{Grows}
+use Rattle.growing.specs.Grows.{Grows}
 use Rattle.api_dump.specs.Pieces.{sign, text_of}
 use Rattle.api_dump.specs.Pieces.Piece.{space}
 use Rattle.api_dump.specs.Values.{value}

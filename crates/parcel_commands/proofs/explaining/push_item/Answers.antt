@@ -1,6 +1,6 @@
 use Rattle.std.proofs.Common.{subst}
 use Rattle.std.specs.Fmt.{decimal}
-use Rattle.growing_text.specs.Grows.{Grows}
+use Rattle.growing.specs.Grows.{Grows}
 use Rattle.tool_frame.specs.Shown.{shown}
 use Rattle.parcel_commands.specs.Explain.{bytes_at, kind_text, path_text}
 use Rattle.parcel_commands.proofs.ItemLines.{item_grown}

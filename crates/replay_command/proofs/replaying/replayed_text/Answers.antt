@@ -13,4 +13,4 @@ returns c =
     let left : List ℕ → List ℕ = λ rest. string_bytes put.text ++ replayed_text S c.args.interface c.loop-side.number (lines_of rest) in
     let none = empty_list c.loop-side.rest.now c.is_empty.result c.is_empty.ensures c.loop-side-test.false in
     IfOk-weaker c.into_string.result (λ text. (put.is_whole ≡ true) × (string_bytes text ≡ string_bytes put.text)) (λ text. string_bytes text ≡ replayed_text S c.args.interface 1 (lines_of c.args.trace.now))
-    (λ text is. is.1 ∙ sym (append-nil (string_bytes put.text)) ∙ ap left (sym none) ∙ c.loop-side.invariant.all is.0) c.into_string.ensures
+    (λ text is. is.1 ∙ sym (append-nil (string_bytes put.text)) ∙ ap left (sym none) ∙ c.loop-side.invariant.all is.0) c.into_string.ensures.text

@@ -1,6 +1,6 @@
 use Rattle.std.proofs.Common.{map, take}
 use Rattle.compat_judge.specs.Seen.{seen}
-use Rattle.growing_text.specs.Grows.{Grows}
+use Rattle.growing.specs.Grows.{Grows}
 use Rattle.run_command.specs.Running.{marked}
 use Rattle.run_command.proofs.judging.push_marked.Given as goal
 

@@ -1,8 +1,8 @@
 use Rattle.std.proofs.Common.{◌++◌, codes, subst, w32}
 use Rattle.std.proofs.lemmas.Int.{to_z-of_z}
 use Rattle.std.specs.Fmt.{signed_decimal}
-use Rattle.growing_text.specs.Grows.{Grows}
-use Rattle.growing_text.proofs.lemmas.Chains.{both_grow}
+use Rattle.growing.specs.Grows.{Grows}
+use Rattle.growing.proofs.lemmas.Chains.{both_grow}
 use Rattle.run_command.specs.LineText.{code_text, opening_text}
 use Rattle.run_command.proofs.objects.push_code.Goals as goal
 

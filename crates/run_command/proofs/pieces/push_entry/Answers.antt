@@ -1,7 +1,7 @@
 use Rattle.std.proofs.Common.{◌++◌, codes, subst}
 use Rattle.std.specs.Fmt.{decimal}
-use Rattle.growing_text.specs.Grows.{Grows}
-use Rattle.growing_text.proofs.lemmas.Chains.{both_grow}
+use Rattle.growing.specs.Grows.{Grows}
+use Rattle.growing.proofs.lemmas.Chains.{both_grow}
 use Rattle.tool_frame.specs.Shown.{shown}
 use Rattle.run_command.specs.Trace.{way_text}
 use Rattle.run_command.proofs.pieces.push_entry.Goals as goal

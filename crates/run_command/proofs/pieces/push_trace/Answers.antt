@@ -3,8 +3,8 @@ use Rattle.std.specs.List.{flat_map}
 use Rattle.std.proofs.lemmas.List.{take_more}
 use Rattle.std.proofs.lemmas.List.Concat.{flat_map-append}
 use Rattle.aidl_outside.specs.declared.link.Carried.{Carried}
-use Rattle.growing_text.specs.Grows.{Grows}
-use Rattle.growing_text.proofs.lemmas.Chains.{both_grow}
+use Rattle.growing.specs.Grows.{Grows}
+use Rattle.growing.proofs.lemmas.Chains.{both_grow}
 use Rattle.run_command.specs.Trace.{trace_line}
 use Rattle.run_command.proofs.pieces.push_trace.Goals as goal
 

@@ -1,6 +1,6 @@
 use Rattle.std.proofs.Common.{take}
 use Rattle.std.specs.List.{flat_map}
-use Rattle.growing_text.specs.Grows.{Grows}
+use Rattle.growing.specs.Grows.{Grows}
 use Rattle.run_command.specs.Trace.{trace_line}
 use Rattle.run_command.proofs.pieces.push_trace.Given as goal
 

@@ -1,5 +1,5 @@
 use Rattle.std.proofs.Common.{codes, refl, Some, None}
-use Rattle.growing_text.proofs.lemmas.Chains.{nothing_grows}
+use Rattle.growing.proofs.lemmas.Chains.{nothing_grows}
 use Rattle.tree_commands.proofs.Adding.{place_added, placed}
 use Rattle.tree_commands.proofs.places.push_place.Goals as goal
 

@@ -1,4 +1,4 @@
-use Rattle.growing_text.proofs.lemmas.Chains.{both_grow}
+use Rattle.growing.proofs.lemmas.Chains.{both_grow}
 use Rattle.tree_make.specs.Made.{filled, get_call, put_call}
 use Rattle.tree_make.proofs.texts.push_calls.Goals as goal
 

@@ -1,5 +1,5 @@
 use Rattle.std.proofs.Common.{◌++◌, codes}
-use Rattle.growing_text.proofs.lemmas.Chains.{both_grow}
+use Rattle.growing.proofs.lemmas.Chains.{both_grow}
 use Rattle.tool_frame.specs.Shown.{shown}
 use Rattle.witness_calls.specs.Seen.{call_seen}
 use Rattle.witness_command.specs.CallLines.{heading_text}

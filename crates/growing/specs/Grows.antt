@@ -1,6 +1,6 @@
 -- What a piece adds to a text that grows.
 use Rattle.std.specs.Prelude.{◌≡◌, ℕ, List, ◌++◌, true, string_bytes}
-use Rattle.growing_text.specs.declared.GrowingText.{GrowingText}
+use Rattle.growing.specs.declared.text.GrowingText.{GrowingText}
 
 -- if the text is whole it was so before, and it has these bytes more
 abbrev pub Grows : GrowingText → GrowingText → List ℕ → Type 0

@@ -1,9 +1,8 @@
 //! Texts that grow piece by piece, and remember a want of memory.
-#![tactic(auto)]
 
-ghost use Rattle.std.specs.Prelude.{◌≡◌, [], false, true, IfOk, IfSome, string_bytes};
+ghost use Rattle.std.specs.Prelude.{◌≡◌, [], false, true, OnOk, OnErr, IfOk, IfSome, string_bytes};
 ghost use Rattle.std.specs.Char.{encode_utf8};
-ghost use Rattle.growing_text.specs.Grows.{Grows};
+ghost use Rattle.growing.specs.Grows.{Grows};
 
 use aidl_base::OutOfMemory;
 use std::alloc::Global;
@@ -37,6 +36,22 @@ impl GrowingText {
         GrowingText {
             text: String::new(alloc),
             is_whole: true,
+        }
+    }
+
+    /// The empty text, with room for so many bytes where memory is there for it.
+    pub fn with_room(alloc: Global, bytes: usize) -> GrowingText
+        ensures empty { string_bytes result.text ≡ [] }
+    {
+        match String::with_capacity(alloc, bytes) {
+            Ok(text) => GrowingText {
+                text,
+                is_whole: true,
+            },
+            Err(_) => GrowingText {
+                text: String::new(alloc),
+                is_whole: false,
+            },
         }
     }
 
@@ -76,8 +91,9 @@ impl GrowingText {
 
     /// The text, where memory was there for each piece.
     pub fn into_string(self) -> Result<String, OutOfMemory>
-        ensures { IfOk result (λ text. (self.is_whole ≡ true)
+        ensures text { IfOk result (λ text. (self.is_whole ≡ true)
             × (string_bytes text ≡ string_bytes self.text)) }
+        ensures refused { OnErr result (self.is_whole ≡ false) }
     {
         let GrowingText { text, is_whole } = self;
         if is_whole { Ok(text) } else { Err(OutOfMemory) }

@@ -1,7 +1,7 @@
 -- Pieces that are added one after the other.
-use Rattle.std.proofs.Common.{◌≡◌, ℕ, List, [], ◌++◌, ◌∙◌, ap, sym, append_assoc, append-nil}
-use Rattle.growing_text.specs.declared.GrowingText.{GrowingText}
-use Rattle.growing_text.specs.Grows.{Grows}
+use Rattle.std.proofs.Common.{ℕ, List, [], ◌++◌, ◌∙◌, ap, sym, append_assoc, append-nil}
+use Rattle.growing.specs.declared.text.GrowingText.{GrowingText}
+use Rattle.growing.specs.Grows.{Grows}
 
 -- a text grows by one piece and then by another
 pub both_grow : (a b c : GrowingText) (p q : List ℕ) → Grows a b p → Grows b c q → Grows a c (p ++ q)
